@@ -1,0 +1,76 @@
+-- Conditions, and when they are true.
+use Rattle.std.specs.Prelude.{◌≡◌, ℕ, Bool, ◌||◌, not, List, Option, Some, None, IsTrue, if◌then◌else◌}
+use Rattle.std.specs.List.{list_all}
+use Rattle.std.specs.Option.{ForSome}
+use Rattle.spv_names.specs.declared.names.Symbol.{Symbol}
+use Rattle.spv_logic.specs.declared.types.TypeId.{TypeId}
+use Rattle.spv_logic.specs.declared.types.Sort.{Sort}
+use Rattle.spv_logic.specs.declared.types.Sort.TheVariants as sort
+use Rattle.spv_logic.specs.declared.types.Shape.{Shape}
+use Rattle.spv_logic.specs.declared.types.Decl.{Decl}
+use Rattle.spv_logic.specs.declared.operators.Head.{Head}
+use Rattle.spv_logic.specs.declared.operators.Head.TheVariants as head
+use Rattle.spv_logic.specs.Values.{Value, truth_of}
+use Rattle.spv_logic.specs.Terms.{Term, eval}
+use Rattle.spv_logic.specs.Sorts.{fits, default_of, declared}
+
+-- the meaning of the declared symbols: the answer of each, by its number, to values
+abbrev pub Meaning : Type 0
+Meaning = ℕ → List Value → Value
+
+-- a valuation: the value of each variable, class and start value, by its head
+abbrev pub Valuation : Type 0
+Valuation = Head → Value
+
+-- hypotheses and a goal
+pub record Sequent : Type 0 where
+  pub given : List Term
+  pub goal : Term
+
+-- ---- what symbols answer
+
+abbrev pub declared_result : Option Decl → Sort
+declared_result None = sort.Int
+declared_result (Some d) = d.result
+
+-- the sort's default in place of a value of another sort
+abbrev pub fitted : List Shape → Sort → Value → Value
+fitted shapes s v = if fits shapes v s then v else default_of shapes s
+
+-- what the declared symbols answer in a world: an answer without the declared sort counts as that sort's default
+abbrev pub answers : List Shape → List Decl → Meaning → Meaning
+answers shapes decls world symbol values =
+    fitted shapes (declared_result (declared decls symbol)) (world symbol values)
+
+-- ---- truth
+
+-- each variable, class and start value has a value of its sort
+pub record IsValuation (shapes : List Shape) (v : Valuation) : Type 0 where
+  pub variables : (x : Symbol) (s : Sort) (n : ℕ) → IsTrue (fits shapes (v (head.Var x s n)) s)
+  pub classes : (t : TypeId) (n : ℕ) → IsTrue (fits shapes (v (head.ClassVar t n)) (sort.Class t))
+  pub starts : (x : Symbol) (s : Sort) → IsTrue (fits shapes (v (head.Start x s)) s)
+
+-- whether a formula is true
+abbrev pub holds : Meaning → Valuation → Term → Bool
+holds symbols v t = truth_of (eval symbols v t)
+
+-- whether the hypotheses, if all true, give a true goal
+abbrev pub follows : Meaning → Valuation → Sequent → Bool
+follows symbols v c = not (list_all (holds symbols v) c.given) || holds symbols v c.goal
+
+-- a condition is true in a world: under every valuation, hypotheses that are all true give a true goal
+abbrev pub TrueIn : List Shape → List Decl → Meaning → Sequent → Type 0
+TrueIn shapes decls world c = (v : Valuation) → IsValuation shapes v → IsTrue (follows (answers shapes decls world) v c)
+
+-- what a state shows: values of some of the names
+abbrev pub View : Type 0
+View = Head → Option Value
+
+-- a valuation gives the names of a view their values there
+abbrev pub Shows : View → Valuation → Type 0
+Shows view v = (h : Head) → ForSome (view h) (λ w. v h ≡ w)
+
+-- a condition is true at two views, at the entry of its routine and now: the same under every valuation that gives their names these values
+abbrev pub TrueAt : List Shape → List Decl → Meaning → Sequent → View → View → Type 0
+TrueAt shapes decls world c entry now =
+    (v : Valuation) → IsValuation shapes v → Shows entry v → Shows now v → IsTrue (follows (answers shapes decls world) v c)

@@ -1,0 +1,4 @@
+pub mod Values
+pub mod Terms
+pub mod Sorts
+pub mod Conditions

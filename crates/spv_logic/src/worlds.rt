@@ -1,0 +1,23 @@
+// What the declared symbols may mean.
+
+/// An interpretation of the declared symbols. It has one meaning and no running member, so no
+/// call can use it: what is claimed for a world is claimed for every one.
+pub trait World {
+    ghost use Rattle.std.specs.Prelude.{ℕ, List};
+    ghost use Rattle.spv_logic.specs.Values.{Value};
+
+    /// The answer of the symbol of this number to these values. An answer that lacks the declared
+    /// sort counts as that sort's default.
+    ghost apply: { ℕ → List Value → Value };
+}
+
+/// The world whose symbols always answer the number 0.
+#[derive(Clone, Copy, Debug)]
+pub struct PlainWorld;
+
+impl World for PlainWorld {
+    ghost use Rattle.std.specs.Prelude.{pos};
+    ghost use Rattle.spv_logic.specs.Values.{Number};
+
+    ghost apply = { λ _ _. Number (pos 0) };
+}

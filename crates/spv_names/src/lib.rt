@@ -1,0 +1,6 @@
+//! Names: texts in upper case, each with a small number that stands for it.
+#![tactic(auto)]
+
+mod names;
+
+pub use names::Symbol;
