@@ -8,6 +8,7 @@ use Rattle.spv_logic.specs.declared.types.Sort.{Sort}
 use Rattle.spv_logic.specs.declared.types.Sort.TheVariants as sort
 use Rattle.spv_logic.specs.declared.types.Shape.{Shape}
 use Rattle.spv_logic.specs.declared.types.Decl.{Decl}
+use Rattle.spv_logic.specs.declared.conditions.Origin.{Origin}
 use Rattle.spv_logic.specs.declared.operators.Head.{Head}
 use Rattle.spv_logic.specs.declared.operators.Head.TheVariants as head
 use Rattle.spv_logic.specs.Values.{Value, truth_of}
@@ -26,6 +27,11 @@ Valuation = Head → Value
 pub record Sequent : Type 0 where
   pub given : List Term
   pub goal : Term
+
+-- a verification condition: a sequent, and where it comes from
+pub record Condition : Type 0 where
+  pub claim : Sequent
+  pub origin : Origin
 
 -- ---- what symbols answer
 

@@ -2,3 +2,5 @@ pub mod Values
 pub mod Terms
 pub mod Sorts
 pub mod Conditions
+pub mod Substitution
+pub mod Laws

@@ -162,8 +162,8 @@ default_within depth shapes (sort.Class t) = ClassOf [] (Number (pos 0)) no_rows
 
 -- 0, FALSE, NIL, the atom 0, and structures of defaults without members
 abbrev pub default_of : List Shape → Sort → Value
-default_of shapes (sort.Class t) = ClassOf [] (default_within (length shapes) shapes (sort_of_type shapes t)) no_rows
-default_of shapes s = default_within (length shapes) shapes s
+default_of shapes (sort.Class t) = ClassOf [] (default_within (suc (length shapes)) shapes (sort_of_type shapes t)) no_rows
+default_of shapes s = default_within (suc (length shapes)) shapes s
 
 -- ---- which lists of shapes are types of a program
 
@@ -215,6 +215,13 @@ shapes_ok shapes =
     list_all (shape_ok shapes) shapes && list_all (λ s. list_all (ends_within (length shapes) shapes) (part_sorts s)) shapes
 
 -- ---- the sorts of terms
+
+-- the sort of a variable
+abbrev pub variable_sort : Head → Sort
+variable_sort (head.Var x s n) = s
+variable_sort (head.ClassVar t n) = sort.Class t
+variable_sort (head.Start x s) = s
+variable_sort _ = sort.Int
 
 abbrev pub sorts_eq : List Sort → List Sort → Bool
 sorts_eq [] [] = true

@@ -148,3 +148,14 @@ abbrev mutual
   pub eval_all : (ℕ → List Value → Value) → (Head → Value) → Terms → List Value
   eval_all symbols v no_terms = []
   eval_all symbols v (terms t ts) = eval symbols v t ∷ eval_all symbols v ts
+
+-- ---- the heads of a term
+
+abbrev mutual
+  -- whether each head in a term passes a test
+  pub heads_pass : (Head → Bool) → Term → Bool
+  heads_pass test (term h ts) = test h && all_heads_pass test ts
+
+  pub all_heads_pass : (Head → Bool) → Terms → Bool
+  all_heads_pass test no_terms = true
+  all_heads_pass test (terms t ts) = heads_pass test t && all_heads_pass test ts

@@ -5,6 +5,7 @@
 #![tactic(auto)]
 
 pub mod conditions;
+pub mod laws;
 pub mod operators;
 pub mod types;
 pub mod worlds;

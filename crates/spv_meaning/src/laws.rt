@@ -1,0 +1,15 @@
+// The theorems on runs, each the contract of a function that does nothing.
+
+ghost use Rattle.spv_logic.specs.Conditions.{Meaning};
+ghost use Rattle.spv_meaning.specs.Laws.{TrueConditionsGiveCorrectIn};
+
+use spv_logic::World;
+
+/// Where the conditions of a well-formed program are true in a world, the program is correct in it:
+/// for every world at once, and for the world of a type.
+pub fn law_conditions<W: World>(world: &W)
+    ensures every_world { (m : Meaning) → TrueConditionsGiveCorrectIn m }
+    ensures this_world { TrueConditionsGiveCorrectIn W.apply }
+{
+    let _ = world;
+}
