@@ -1,3 +1,4 @@
 pub mod Equality
 pub mod Defaults
 pub mod Substitution
+pub mod Sorting

@@ -1,13 +1,13 @@
 -- Facts about values that a reader may want to see said.
-use Rattle.std.specs.Prelude.{◌≡◌, ℕ, false, List, [], ◌∷◌, ℤ, pos, negsuc, IsTrue, ◌↔◌}
+use Rattle.std.specs.Prelude.{◌≡◌, ℕ, false, List, [], ◌∷◌, ℤ, pos, negsuc, Some, IsTrue, ◌↔◌}
 use Rattle.spv_logic.specs.declared.types.Sort.{Sort}
 use Rattle.spv_logic.specs.declared.types.Shape.{Shape}
 use Rattle.spv_logic.specs.declared.types.Decl.{Decl}
 use Rattle.spv_logic.specs.declared.operators.Head.{Head}
 use Rattle.spv_logic.specs.declared.operators.Head.TheVariants.{Div, Mod, Store, SetCell, Extend}
 use Rattle.spv_logic.specs.Values.{Value, Number, Pointer, ArrayOf, AtomOf, no_rows, value_eq, members_of}
-use Rattle.spv_logic.specs.Terms.{Term, worth, term_eq}
-use Rattle.spv_logic.specs.Sorts.{fits, default_of, shapes_ok, declared}
+use Rattle.spv_logic.specs.Terms.{Term, worth, eval, term_eq}
+use Rattle.spv_logic.specs.Sorts.{fits, default_of, shapes_ok, declared, term_sort}
 use Rattle.spv_logic.specs.Conditions.{Meaning, Valuation, IsValuation, answers, declared_result}
 
 -- what an operator gives, whatever symbols answer and variables are
@@ -64,3 +64,8 @@ DefaultsFit = (shapes : List Shape) → IsTrue (shapes_ok shapes) → (s : Sort)
 -- there is a valuation: what is said of every one is not said of none
 abbrev pub SomeValuation : Type 0
 SomeValuation = (shapes : List Shape) → IsTrue (shapes_ok shapes) → (v : Valuation) × IsValuation shapes v
+
+-- in every world, under every valuation, a well sorted term is worth a value of its sort
+abbrev pub TermsHaveTheirSort : Type 0
+TermsHaveTheirSort =
+    (shapes : List Shape) → IsTrue (shapes_ok shapes) → (decls : List Decl) (world : Meaning) (v : Valuation) → IsValuation shapes v → (t : Term) (s : Sort) → term_sort shapes decls t ≡ Some s → IsTrue (fits shapes (eval (answers shapes decls world) v t) s)

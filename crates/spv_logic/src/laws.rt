@@ -1,7 +1,7 @@
 // Facts about the definitions, each the contract of a function that does nothing.
 
 ghost use Rattle.spv_logic.specs.declared.operators.Head.TheVariants.{Car, Cdr};
-ghost use Rattle.spv_logic.specs.Laws.{QuotientTruncates, RemainderHasTheDividendsSign, QuotientByZero, RemainderByZero, DefaultHasNoRow, SetCellLeavesMembers, ExtendAtNilAddsNone, PartsOfAnAtom, OtherSortCountsAsDefault, ValueTestDecides, TermTestDecides, DefaultsFit, SomeValuation};
+ghost use Rattle.spv_logic.specs.Laws.{QuotientTruncates, RemainderHasTheDividendsSign, QuotientByZero, RemainderByZero, DefaultHasNoRow, SetCellLeavesMembers, ExtendAtNilAddsNone, PartsOfAnAtom, OtherSortCountsAsDefault, ValueTestDecides, TermTestDecides, DefaultsFit, SomeValuation, TermsHaveTheirSort};
 
 /// What the operators give where the text of a program leaves it open.
 pub fn law_operators()
@@ -27,4 +27,9 @@ pub fn law_same()
 pub fn law_defaults()
     ensures fit { DefaultsFit }
     ensures valuation { SomeValuation }
+{}
+
+/// What a well sorted term is worth has the term's sort.
+pub fn law_sorts()
+    ensures { TermsHaveTheirSort }
 {}

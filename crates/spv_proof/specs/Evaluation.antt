@@ -1,0 +1,173 @@
+-- The step that evaluates: truth values that facts give, and what follows by the tables of the connectives.
+use Rattle.std.specs.Prelude.{Bool, true, false, ◌&&◌, ◌||◌, not, List, [], ◌∷◌, ◌++◌, Option, Some, None, ℤ, if◌then◌else◌}
+use Rattle.std.specs.Int.RustNames.{int_lt}
+use Rattle.std.specs.Ordering.{int_eq}
+use Rattle.std.specs.List.{list_any, flat_map}
+use Rattle.spv_logic.specs.declared.operators.Head.{Head}
+use Rattle.spv_logic.specs.declared.operators.Head.TheVariants.{Num, Not, And, Or, Implies, Eq, Lt, Le, True, False}
+use Rattle.spv_logic.specs.Values.{bool_eq}
+use Rattle.spv_logic.specs.Terms.{Term, Terms, term, no_terms, terms, term_eq}
+
+-- ---- formulas
+
+abbrev pub negation : Term → Term
+negation t = term Not (terms t no_terms)
+
+abbrev pub equation : Term → Term → Term
+equation s t = term Eq (terms s (terms t no_terms))
+
+abbrev pub below : Term → Term → Term
+below s t = term Lt (terms s (terms t no_terms))
+
+-- what a formula negates
+abbrev pub negated : Term → Option Term
+negated (term Not (terms t no_terms)) = Some t
+negated _ = None
+
+-- the sides of an equation
+abbrev pub sides : Term → Option (Term × Term)
+sides (term Eq (terms s (terms t no_terms))) = Some (s, t)
+sides _ = None
+
+-- ---- truth values that are given
+
+-- the values that the truth of a formula gives: its own, and that of what it negates
+abbrev pub given_negated : Bool → Option Term → List (Term × Bool)
+given_negated b None = []
+given_negated b (Some t) = (t, not b) ∷ []
+
+abbrev pub given_by : Bool → Term → List (Term × Bool)
+given_by b t = (t, b) ∷ given_negated b (negated t)
+
+-- the cited facts are true and the step's formula is false; of two values of one term the first counts
+abbrev pub assignment : List Term → Term → List (Term × Bool)
+assignment cited formula = flat_map (given_by true) cited ++ given_by false formula
+
+abbrev pub assigned : List (Term × Bool) → Term → Option Bool
+assigned [] t = None
+assigned (a ∷ others) t = if term_eq a.0 t then Some a.1 else assigned others t
+
+abbrev pub cites : List Term → Term → Bool
+cites cited t = list_any (term_eq t) cited
+
+-- where a cited fact puts one side below the other, an equation is false
+abbrev pub apart : List Term → Option (Term × Term) → Option Bool
+apart cited None = None
+apart cited (Some st) = if cites cited (below st.0 st.1) || cites cited (below st.1 st.0) then Some false else None
+
+abbrev pub or_else : Option Bool → Option Bool → Option Bool
+or_else None b = b
+or_else (Some a) b = Some a
+
+-- the value that is given to a term
+abbrev pub given_to : List Term → Term → Term → Option Bool
+given_to cited formula t = or_else (assigned (assignment cited formula) t) (apart cited (sides t))
+
+-- ---- truth values that are computed
+
+abbrev pub not_of : Option Bool → Option Bool
+not_of None = None
+not_of (Some a) = Some (not a)
+
+abbrev pub and_of : Option Bool → Option Bool → Option Bool
+and_of (Some false) b = Some false
+and_of (Some true) b = b
+and_of None (Some false) = Some false
+and_of None _ = None
+
+abbrev pub or_of : Option Bool → Option Bool → Option Bool
+or_of a b = not_of (and_of (not_of a) (not_of b))
+
+abbrev pub implied : Option Bool → Option Bool → Option Bool
+implied a b = or_of (not_of a) b
+
+abbrev pub same_of : Option Bool → Option Bool → Option Bool
+same_of None b = None
+same_of (Some a) None = None
+same_of (Some a) (Some b) = Some (bool_eq a b)
+
+-- the first and the second of a list of values
+abbrev pub first_of : List (Option Bool) → Option Bool
+first_of [] = None
+first_of (a ∷ others) = a
+
+abbrev pub second_of : List (Option Bool) → Option Bool
+second_of [] = None
+second_of (a ∷ others) = first_of others
+
+-- the number of a numeral
+abbrev pub numeral : Term → Option ℤ
+numeral (term (Num z) ts) = Some z
+numeral _ = None
+
+abbrev pub compare_known : (ℤ → ℤ → Bool) → Option ℤ → Option ℤ → Option Bool
+compare_known test None y = None
+compare_known test (Some x) None = None
+compare_known test (Some x) (Some y) = Some (test x y)
+
+-- a relation of two numerals
+abbrev pub compare_numerals : (ℤ → ℤ → Bool) → Terms → Option Bool
+compare_numerals test (terms s (terms t no_terms)) = compare_known test (numeral s) (numeral t)
+compare_numerals test _ = None
+
+-- the truth of a relation of two numerals
+abbrev pub numeral_relation : Term → Option Bool
+numeral_relation (term Eq ts) = compare_numerals int_eq ts
+numeral_relation (term Lt ts) = compare_numerals int_lt ts
+numeral_relation (term Le ts) = compare_numerals (λ x y. not (int_lt y x)) ts
+numeral_relation _ = None
+
+abbrev pub all_truths : (Term → Bool) → Terms → Bool
+all_truths is_truth no_terms = true
+all_truths is_truth (terms t ts) = is_truth t && all_truths is_truth ts
+
+-- the value of an equation: of truth values by their values, else of numerals
+abbrev pub equation_value : Bool → List (Option Bool) → Terms → Option Bool
+equation_value true values ts = same_of (first_of values) (second_of values)
+equation_value false values ts = numeral_relation (term Eq ts)
+
+-- the value of a formula of this head, from its arguments' values; `truths` says whether they are all of sort Bool
+abbrev pub combined : Bool → Head → List (Option Bool) → Terms → Option Bool
+combined truths Not values ts = not_of (first_of values)
+combined truths And values ts = and_of (first_of values) (second_of values)
+combined truths Or values ts = or_of (first_of values) (second_of values)
+combined truths Implies values ts = implied (first_of values) (second_of values)
+combined truths Eq values ts = equation_value truths values ts
+combined truths Lt values ts = numeral_relation (term Lt ts)
+combined truths Le values ts = numeral_relation (term Le ts)
+combined truths True values ts = Some true
+combined truths False values ts = Some false
+combined truths _ values ts = None
+
+abbrev mutual
+  -- the computed value of a formula; each argument has its given value, and its computed value where none is given
+  pub computed : (Term → Bool) → (Term → Option Bool) → Term → Option Bool
+  computed is_truth given (term h ts) = combined (all_truths is_truth ts) h (values is_truth given ts) ts
+
+  pub values : (Term → Bool) → (Term → Option Bool) → Terms → List (Option Bool)
+  values is_truth given no_terms = []
+  values is_truth given (terms t ts) = or_else (given t) (computed is_truth given t) ∷ values is_truth given ts
+
+-- ---- the step
+
+abbrev pub opposite : Option Bool → Option Bool → Bool
+opposite None b = false
+opposite (Some a) None = false
+opposite (Some a) (Some b) = not (bool_eq a b)
+
+-- a formula without its outer negation
+abbrev pub bare_or : Option Term → Term → Term
+bare_or None t = t
+bare_or (Some s) t = s
+
+abbrev pub bare : Term → Term
+bare t = bare_or (negated t) t
+
+-- whether a formula's computed value is opposite to its given one
+abbrev pub clashes : (Term → Bool) → (Term → Option Bool) → Term → Bool
+clashes is_truth given t = opposite (computed is_truth given t) (given t)
+
+-- whether a formula follows from cited facts: were it false, one of them or it itself would have two values
+abbrev pub evaluates : (Term → Bool) → List Term → Term → Bool
+evaluates is_truth cited formula =
+    list_any (λ t. clashes is_truth (given_to cited formula) (bare t)) (formula ∷ cited)

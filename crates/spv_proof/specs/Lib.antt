@@ -1,0 +1,4 @@
+pub mod Shape
+pub mod Evaluation
+pub mod Accepted
+pub mod Laws

@@ -1,0 +1,7 @@
+//! Proofs of conditions that anyone can check: what one is, and the checker.
+#![tactic(auto)]
+
+pub mod laws;
+pub mod proofs;
+
+pub use proofs::{Numbers, Proof, ProofNode, Split, Stated, Step, Steps};

@@ -1,0 +1,89 @@
+// Proofs as data.
+
+use spv_logic::TermId;
+use std::marker::Model;
+
+/// Numbers in a proof: of facts, from 1, or of nodes, from 0.
+#[derive(Debug, Drop)]
+pub struct Numbers {
+    pub list: Vec<u32>,
+}
+
+impl Model for Numbers {
+    ghost use Rattle.std.specs.Prelude.{List, ℕ};
+
+    ghost Value = { List ℕ };
+
+    ghost view = { λ n. n.list.items };
+}
+
+/// What an evaluation states.
+#[derive(Clone, Copy, Debug)]
+pub enum Stated {
+    /// That a term has this truth value.
+    Is(TermId, bool),
+    /// That two terms have the same truth value.
+    Same(TermId, TermId),
+}
+
+/// One step of a proof. The facts of a path are numbered from 1; each step but `Contra` adds one.
+#[derive(Debug, Drop)]
+pub enum Step {
+    /// The hypothesis of this number, from 1; for 0, that the goal is false.
+    Given(u32),
+    /// That a term equals itself.
+    Refl(TermId),
+    /// What follows from these facts by the tables of the connectives and the order of numerals.
+    Eval(Stated, Numbers),
+    /// The end of the path: a fact and its negation, or one fact that is never true.
+    Contra(u32, Option<u32>),
+}
+
+/// The steps of a node, in order.
+#[derive(Debug, Drop)]
+pub struct Steps {
+    pub list: Vec<Step>,
+}
+
+impl Model for Steps {
+    ghost use Rattle.std.specs.Prelude.{List};
+    ghost use Rattle.spv_proof.specs.declared.proofs.Step.{Step};
+
+    ghost Value = { List Step };
+
+    ghost view = { λ s. s.list.items };
+}
+
+/// A case split: the atom, and the places of the nodes of its cases.
+#[derive(Debug, Drop)]
+pub struct Split {
+    pub atom: TermId,
+    pub parts: Numbers,
+}
+
+/// A node of a proof: its steps, and where they do not end the path, a split.
+#[derive(Debug, Drop)]
+pub struct ProofNode {
+    pub steps: Steps,
+    pub split: Option<Split>,
+}
+
+/// A proof: a tree of nodes kept as a list, in the order of its text, so that nothing nests with its
+/// depth. The first node is the root, and each other one is a case of exactly one split.
+#[derive(Debug, Drop)]
+pub struct Proof {
+    nodes: Vec<ProofNode>,
+}
+
+impl Model for Proof {
+    ghost use Rattle.std.specs.Prelude.{List, IsTrue};
+    ghost use Rattle.spv_proof.specs.declared.proofs.ProofNode.{ProofNode};
+
+    ghost Value = { List ProofNode };
+
+    ghost use Rattle.spv_proof.specs.Shape.{is_tree};
+
+    ghost view = { λ p. p.nodes.items };
+
+    ghost invariant = { λ p. IsTrue (is_tree p.nodes.items) };
+}
