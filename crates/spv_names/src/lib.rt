@@ -3,4 +3,4 @@
 
 mod names;
 
-pub use names::Symbol;
+pub use names::{Names, Symbol};

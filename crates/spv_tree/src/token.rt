@@ -1,0 +1,172 @@
+//! Tokens: a kind, and the line on which the token begins.
+ghost use Rattle.std.specs.Prelude.{◌≡◌, pos, ◌≤ℤ◌, ℕ};
+
+use spv_names::Symbol;
+use std::marker::Model;
+
+/// A word of the language. The last seven are known and belong to nothing that is accepted.
+#[derive(Clone, Copy, PartialEq, Eq, Debug)]
+pub enum Word {
+    And,
+    Array,
+    Assert,
+    Begin,
+    By,
+    Case,
+    Const,
+    Declare,
+    Div,
+    Do,
+    Downto,
+    Else,
+    End,
+    Entry,
+    Exit,
+    False,
+    For,
+    Forward,
+    From,
+    Function,
+    Global,
+    If,
+    Infer,
+    Initial,
+    Invariant,
+    Mod,
+    New,
+    Nil,
+    Not,
+    Of,
+    Or,
+    Procedure,
+    Program,
+    Record,
+    Repeat,
+    Replace,
+    Then,
+    To,
+    True,
+    Type,
+    Until,
+    Var,
+    Where,
+    While,
+    Packed,
+    Set,
+    File,
+    With,
+    In,
+    Goto,
+    Label,
+}
+
+/// A sign of the language.
+#[derive(Clone, Copy, PartialEq, Eq, Debug)]
+pub enum Sign {
+    /// `+`
+    Plus,
+    /// `-`
+    Minus,
+    /// `*`
+    Star,
+    /// `=`
+    Equal,
+    /// `<>`
+    NotEqual,
+    /// `<`
+    Less,
+    /// `<=`
+    AtMost,
+    /// `>`
+    Greater,
+    /// `>=`
+    AtLeast,
+    /// `(`
+    OpenParenthesis,
+    /// `)`
+    CloseParenthesis,
+    /// `[`
+    OpenBracket,
+    /// `]`
+    CloseBracket,
+    /// `,`
+    Comma,
+    /// `;`
+    Semicolon,
+    /// `:`
+    Colon,
+    /// `:=`
+    Becomes,
+    /// `.`
+    Period,
+    /// `..`
+    Range,
+    /// `^`
+    Caret,
+    /// `#`
+    Hash,
+    /// `->`
+    Arrow,
+}
+
+/// A number as a text spells it: from 0 to 9223372036854775807. It has no sign; that is a token of its own.
+#[derive(Clone, Copy, PartialEq, Eq, Debug)]
+pub struct Numeral {
+    value: i64,
+}
+
+impl Model for Numeral {
+    ghost use Rattle.std.specs.Prelude.{ℕ, ℤ, pos, ◌≤ℤ◌};
+    ghost use Rattle.std.specs.Int.RustNames.{unsigned_abs};
+    ghost use Rattle.std.proofs.Common.{ap};
+    ghost use Rattle.spv_tree.specs.Numeral.{pos-unsigned_abs};
+
+    ghost Value = { ℕ };
+
+    ghost view = { λ n. unsigned_abs n.value };
+
+    ghost invariant = { λ n. pos 0 ≤ℤ n.value };
+
+    ghost inverse = { λ m. record { value = pos m } };
+
+    ghost inverse_ok = { λ n h. ap (λ (z : ℤ). record n { value = z }) (pos-unsigned_abs n.value h) };
+}
+
+impl Numeral {
+    /// The numeral of a value.
+    pub fn new(value: i64) -> Numeral
+        requires { pos 0 ≤ℤ value }
+        ensures { pos result ≡ value }
+    {
+        Numeral { value }
+    }
+
+    /// Its value.
+    pub fn value(self) -> i64
+        ensures { result ≡ pos self }
+    {
+        self.value
+    }
+}
+
+/// What a token is.
+#[derive(Clone, Copy, PartialEq, Eq, Debug)]
+pub enum TokenKind {
+    /// A word of the language.
+    Word(Word),
+    /// A name that is no word.
+    Name(Symbol),
+    /// A number.
+    Number(Numeral),
+    /// A sign.
+    Sign(Sign),
+}
+
+/// A token of a text.
+#[derive(Clone, Copy, PartialEq, Eq, Debug)]
+pub struct Token {
+    /// What it is.
+    pub kind: TokenKind,
+    /// The line of its first byte; the first line of a text is 1.
+    pub line: u32,
+}
