@@ -420,11 +420,12 @@ sorts_eq-true (s ∷ ss) (t ∷ ts) h =
     cc (e, f)
 sorts_eq-true _ _ h = absurd (false≢true h)
 
-record Taken (wanted given : List Sort) (result s : Sort) : Type 0 where
-  wanted_is : wanted ≡ given
-  result_is : result ≡ s
+-- what the sorts of fitting arguments tell
+pub record Taken (wanted given : List Sort) (result s : Sort) : Type 0 where
+  pub wanted_is : wanted ≡ given
+  pub result_is : result ≡ s
 
-taken : (wanted given : List Sort) (result s : Sort) → takes wanted given result ≡ Some s → Taken wanted given result s
+pub taken : (wanted given : List Sort) (result s : Sort) → takes wanted given result ≡ Some s → Taken wanted given result s
 taken wanted given result s h = by_case (sorts_eq wanted given) refl h
   where
     by_case : (b : Bool) → sorts_eq wanted given ≡ b → cond b (Some result) None ≡ Some s → Taken wanted given result s

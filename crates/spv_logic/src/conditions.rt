@@ -1,7 +1,7 @@
 // Where a condition comes from.
 
 /// A term of an arena: its place, from 0.
-#[derive(Clone, Copy, PartialEq, Eq, PartialOrd, Ord, Hash, Debug)]
+#[derive(Clone, Copy, Default, PartialEq, Eq, PartialOrd, Ord, Hash, Debug)]
 pub struct TermId(pub u32);
 
 /// A routine: its place in the text order of the bodies, from 0.

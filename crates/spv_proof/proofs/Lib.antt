@@ -1,1 +1,3 @@
 pub mod Soundness
+pub mod Looks
+pub mod Shown

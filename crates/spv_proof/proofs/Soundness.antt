@@ -23,8 +23,8 @@ use Rattle.spv_logic.proofs.Sorting.{eval-fits}
 use Rattle.spv_proof.specs.declared.proofs.Step.{Step}
 use Rattle.spv_proof.specs.declared.proofs.Step.TheVariants as step
 use Rattle.spv_proof.specs.declared.proofs.ProofNode.{ProofNode}
-use Rattle.spv_proof.specs.Evaluation.{negation, below, negated, sides, given_negated, given_by, assignment, assigned, cites, apart, or_else, given_to, not_of, and_of, or_of, implied, same_of, first_of, second_of, numeral, compare_known, numeral_relation, all_truths, equation_value, combined, computed, values, opposite, bare, clashes, evaluates}
-use Rattle.spv_proof.specs.Accepted.{Effect, Adds, Ends, Fails, is_bool, is_truth, numbered, fact_before, cited, adds_known, stated, evaluated, is_negation_of, contrary, is_false, impossible, ends_if, end_of_one, end_of_two, end_of, effect, no_steps, on_effect, accepts_steps, is_leaf, accepts_nodes, accepts}
+use Rattle.spv_proof.specs.Evaluation.{negation, equation, below, negated, sides, given_negated, given_by, assignment, assigned, cites, apart, or_else, given_to, not_of, and_of, or_of, implied, same_of, first_of, second_of, numeral, compare_known, numeral_relation, all_truths, equation_value, combined, computed, values, opposite, bare, clashes, evaluates}
+use Rattle.spv_proof.specs.Accepted.{Effect, Adds, Ends, Fails, is_bool, is_truth, numbered, fact_before, cited, adds_known, sides_of, exchanged, joined, stated, evaluated, is_negation_of, contrary, is_false, impossible, ends_if, end_of_one, end_of_two, end_of, effect, no_steps, on_effect, accepts_steps, is_leaf, accepts_nodes, accepts}
 
 -- ---- what options tell of truth values
 
@@ -245,47 +245,46 @@ module _ (shapes : List Shape) (ok : shapes_ok shapes ≡ true) (decls : List De
     first_known : Known (firsts ts) (first_of xs)
     second_known : Known (seconds ts) (second_of xs)
 
-  equation_known : (ts : Terms) (xs : List (Option Bool)) (b : Bool) → all_truths (is_truth shapes decls) ts ≡ b → ArgumentsKnown ts xs → (ts ≡ no_terms → xs ≡ []) → ((t : Term) → ts ≡ terms t no_terms → second_of xs ≡ None) → Known (true_in (term Eq ts)) (equation_value b xs ts)
-  equation_known ts xs false e k n m = relation_known (term Eq ts)
-  equation_known no_terms xs true e k n m = ap_known (n refl)
-    where
-      ap_known : xs ≡ [] → Known (true_in (term Eq no_terms)) (same_of (first_of xs) (second_of xs))
-      ap_known none = subst (λ l. Known (true_in (term Eq no_terms)) (same_of (first_of l) (second_of l))) (sym none) (known_none _)
-  equation_known (terms t no_terms) xs true e k n m =
-      subst (λ o. Known (true_in (term Eq (terms t no_terms))) (same_of (first_of xs) o)) (sym (m t refl)) (no_second (first_of xs))
-    where
-      no_second : (o : Option Bool) → Known (true_in (term Eq (terms t no_terms))) (same_of o None)
-      no_second None = known_none _
-      no_second (Some a) = known_none _
-  equation_known (terms s (terms t ts)) xs true e k n m =
+  -- of no argument nothing is known
+  no_first : (given : Term → Option Bool) (ts : Terms) → ts ≡ no_terms → first_of (values (is_truth shapes decls) given ts) ≡ None
+  no_first given ts e = ap (λ us. first_of (values (is_truth shapes decls) given us)) e
+
+  no_second : (given : Term → Option Bool) (ts : Terms) (t : Term) → ts ≡ terms t no_terms → second_of (values (is_truth shapes decls) given ts) ≡ None
+  no_second given ts t e = ap (λ us. second_of (values (is_truth shapes decls) given us)) e
+
+  same_none : (p : Bool) (x : Option Bool) → Known p (same_of x None)
+  same_none p None = known_none p
+  same_none p (Some a) = known_none p
+
+  equation_known : (ts : Terms) (x y : Option Bool) (b : Bool) → all_truths (is_truth shapes decls) ts ≡ b → Known (firsts ts) x → Known (seconds ts) y → (ts ≡ no_terms → x ≡ None) → ((t : Term) → ts ≡ terms t no_terms → y ≡ None) → Known (true_in (term Eq ts)) (equation_value b x y ts)
+  equation_known ts x y false e k l n m = relation_known (term Eq ts)
+  equation_known no_terms x y true e k l n m = subst (λ o. Known (true_in (term Eq no_terms)) (same_of o y)) (sym (n refl)) (known_none _)
+  equation_known (terms t no_terms) x y true e k l n m =
+      subst (λ o. Known (true_in (term Eq (terms t no_terms))) (same_of x o)) (sym (m t refl)) (same_none _ x)
+  equation_known (terms s (terms t ts)) x y true e k l n m =
       let a = truth_worth s (left_true _ _ e) in
       let b = truth_worth t (left_true _ _ (right_true (is_truth shapes decls s) _ e)) in
       let same : true_in (term Eq (terms s (terms t ts))) ≡ bool_eq (true_in s) (true_in t) = ap (λ w. value_eq w (worth_of t)) a ∙ ap (value_eq (Truth (true_in s))) b in
-      subst (λ r. Known r (same_of (first_of xs) (second_of xs))) (sym same) (known_same (true_in s) (true_in t) (first_of xs) (second_of xs) k.first_known k.second_known)
+      subst (λ r. Known r (same_of x y)) (sym same) (known_same (true_in s) (true_in t) x y k l)
 
-  combined_known : (h : Head) (ts : Terms) (xs : List (Option Bool)) (b : Bool) → all_truths (is_truth shapes decls) ts ≡ b → ArgumentsKnown ts xs → (ts ≡ no_terms → xs ≡ []) → ((t : Term) → ts ≡ terms t no_terms → second_of xs ≡ None) → Known (true_in (term h ts)) (combined b h xs ts)
-  combined_known Not ts xs b e k n m = known_not (firsts ts) (first_of xs) k.first_known
-  combined_known And ts xs b e k n m = known_and (firsts ts) (seconds ts) (first_of xs) (second_of xs) k.first_known k.second_known
-  combined_known Or ts xs b e k n m = known_or (firsts ts) (seconds ts) (first_of xs) (second_of xs) k.first_known k.second_known
-  combined_known Implies ts xs b e k n m = known_implied (firsts ts) (seconds ts) (first_of xs) (second_of xs) k.first_known k.second_known
-  combined_known Eq ts xs b e k n m = equation_known ts xs b e k n m
-  combined_known Lt ts xs b e k n m = relation_known (term Lt ts)
-  combined_known Le ts xs b e k n m = relation_known (term Le ts)
-  combined_known True ts xs b e k n m = known_some _ true refl
-  combined_known False ts xs b e k n m = known_some _ false refl
-  combined_known h ts xs b e k n m = known_none (true_in (term h ts))
-
-  no_values : (given : Term → Option Bool) (ts : Terms) → ts ≡ no_terms → values (is_truth shapes decls) given ts ≡ []
-  no_values given ts e = ap (values (is_truth shapes decls) given) e
-
-  one_value : (given : Term → Option Bool) (ts : Terms) (t : Term) → ts ≡ terms t no_terms → second_of (values (is_truth shapes decls) given ts) ≡ None
-  one_value given ts t e = ap (λ us. second_of (values (is_truth shapes decls) given us)) e
+  combined_known : (h : Head) (ts : Terms) (x y : Option Bool) (b : Bool) → all_truths (is_truth shapes decls) ts ≡ b → Known (firsts ts) x → Known (seconds ts) y → (ts ≡ no_terms → x ≡ None) → ((t : Term) → ts ≡ terms t no_terms → y ≡ None) → Known (true_in (term h ts)) (combined b h x y ts)
+  combined_known Not ts x y b e k l n m = known_not (firsts ts) x k
+  combined_known And ts x y b e k l n m = known_and (firsts ts) (seconds ts) x y k l
+  combined_known Or ts x y b e k l n m = known_or (firsts ts) (seconds ts) x y k l
+  combined_known Implies ts x y b e k l n m = known_implied (firsts ts) (seconds ts) x y k l
+  combined_known Eq ts x y b e k l n m = equation_known ts x y b e k l n m
+  combined_known Lt ts x y b e k l n m = relation_known (term Lt ts)
+  combined_known Le ts x y b e k l n m = relation_known (term Le ts)
+  combined_known True ts x y b e k l n m = known_some _ true refl
+  combined_known False ts x y b e k l n m = known_some _ false refl
+  combined_known h ts x y b e k l n m = known_none (true_in (term h ts))
 
   mutual
     -- if each given value is right, each computed one is
     computed_known : (given : Term → Option Bool) → ((t : Term) → Known (true_in t) (given t)) → (t : Term) → Known (true_in t) (computed (is_truth shapes decls) given t)
     computed_known given h (term k ts) =
-        combined_known k ts (values (is_truth shapes decls) given ts) (all_truths (is_truth shapes decls) ts) refl (values_known given h ts) (no_values given ts) (one_value given ts)
+        let args = values_known given h ts in
+        combined_known k ts (first_of (values (is_truth shapes decls) given ts)) (second_of (values (is_truth shapes decls) given ts)) (all_truths (is_truth shapes decls) ts) refl args.first_known args.second_known (no_first given ts) (no_second given ts)
 
     values_known : (given : Term → Option Bool) → ((t : Term) → Known (true_in t) (given t)) → (ts : Terms) → ArgumentsKnown ts (values (is_truth shapes decls) given ts)
     values_known given h no_terms = record { first_known = known_none _; second_known = known_none _ }
@@ -325,6 +324,30 @@ module _ (shapes : List Shape) (ok : shapes_ok shapes ≡ true) (decls : List De
   known_true : (o : Option Term) → ((t : Term) → o ≡ Some t → true_in t ≡ true) → EffectIsRight (adds_known o)
   known_true None h = tt
   known_true (Some t) h = h t refl
+
+  -- the sides of a true equation are worth the same
+  sides_same : (t : Term) (st : Term × Term) → sides t ≡ Some st → true_in t ≡ true → worth_of st.0 ≡ worth_of st.1
+  sides_same t st e h = value_eq-true (worth_of st.0) (worth_of st.1) (sym (equal_sides t st e) ∙ h)
+
+  sides_of_same : (o : Option Term) (st : Term × Term) → sides_of o ≡ Some st → ((t : Term) → o ≡ Some t → true_in t ≡ true) → worth_of st.0 ≡ worth_of st.1
+  sides_of_same None st e h = cc
+  sides_of_same (Some t) st e h = sides_same t st e (h t refl)
+
+  equal_true : (s t : Term) → worth_of s ≡ worth_of t → true_in (equation s t) ≡ true
+  equal_true s t e = ap (λ w. value_eq w (worth_of t)) e ∙ value_eq-refl (worth_of t)
+
+  exchanged_right : (o : Option (Term × Term)) → ((st : Term × Term) → o ≡ Some st → worth_of st.0 ≡ worth_of st.1) → EffectIsRight (exchanged o)
+  exchanged_right None h = tt
+  exchanged_right (Some st) h = equal_true st.1 st.0 (sym (h st refl))
+
+  joined_right : (o p : Option (Term × Term)) → ((st : Term × Term) → o ≡ Some st → worth_of st.0 ≡ worth_of st.1) → ((st : Term × Term) → p ≡ Some st → worth_of st.0 ≡ worth_of st.1) → EffectIsRight (joined o p)
+  joined_right None p h g = tt
+  joined_right (Some st) None h g = tt
+  joined_right (Some st) (Some tu) h g = by_case (term_eq st.1 tu.0) refl
+    where
+      by_case : (b : Bool) → term_eq st.1 tu.0 ≡ b → EffectIsRight (cond b (Adds (equation st.0 tu.1)) Fails)
+      by_case true e = equal_true st.0 tu.1 (h st refl ∙ (ap worth_of (term_eq-true st.1 tu.0 e) ∙ g tu refl))
+      by_case false e = tt
 
   fact_before_true : (o : Option Term) (rest : Option (List Term)) (all : List Term) → fact_before o rest ≡ Some all → ((t : Term) → o ≡ Some t → true_in t ≡ true) → ((ts : List Term) → rest ≡ Some ts → list_all true_in ts ≡ true) → list_all true_in all ≡ true
   fact_before_true None rest all e h g = cc
@@ -397,6 +420,10 @@ module _ (shapes : List Shape) (ok : shapes_ok shapes ≡ true) (decls : List De
     effect_right facts (step.Given zero) h = ap not goal_false
     effect_right facts (step.Given (suc k)) h = known_true (slice_get c.given k) (λ t e. all_get true_in c.given k t given_true e)
     effect_right facts (step.Refl t) h = value_eq-refl (worth_of (at t))
+    effect_right facts (step.Symm i) h = exchanged_right (sides_of (numbered facts i)) (λ st e. sides_of_same (numbered facts i) st e (λ t f. numbered_true facts i t h f))
+    effect_right facts (step.Trans i j) h =
+        joined_right (sides_of (numbered facts i)) (sides_of (numbered facts j)) (λ st e. sides_of_same (numbered facts i) st e (λ t f. numbered_true facts i t h f))
+        (λ st e. sides_of_same (numbered facts j) st e (λ t f. numbered_true facts j t h f))
     effect_right facts (step.Eval s ks) h = evaluated_right (stated (is_truth shapes decls) at s) (cited facts ks) (λ all e. cited_true facts ks all h e)
     effect_right facts (step.Contra i j) h = end_of_right facts i j h
 

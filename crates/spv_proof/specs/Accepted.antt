@@ -12,10 +12,10 @@ use Rattle.spv_logic.specs.Conditions.{Sequent}
 use Rattle.spv_proof.specs.declared.proofs.Stated.{Stated}
 use Rattle.spv_proof.specs.declared.proofs.Stated.TheVariants.{Is, Same}
 use Rattle.spv_proof.specs.declared.proofs.Step.{Step}
-use Rattle.spv_proof.specs.declared.proofs.Step.TheVariants.{Given, Refl, Eval, Contra}
+use Rattle.spv_proof.specs.declared.proofs.Step.TheVariants.{Given, Refl, Symm, Trans, Eval, Contra}
 use Rattle.spv_proof.specs.declared.proofs.ProofNode.{ProofNode}
 use Rattle.spv_proof.specs.declared.proofs.Split.{Split}
-use Rattle.spv_proof.specs.Evaluation.{negation, equation, negated, evaluates, numeral_relation}
+use Rattle.spv_proof.specs.Evaluation.{negation, equation, negated, sides, evaluates, numeral_relation}
 
 -- what a step does on a path: it adds a fact, ends the path, or does not follow
 pub data Effect : Type 0 where
@@ -57,6 +57,21 @@ adds_known (Some t) = Adds t
 abbrev pub given_effect : Sequent → ℕ → Effect
 given_effect c zero = Adds (negation c.goal)
 given_effect c (suc k) = adds_known (slice_get c.given k)
+
+abbrev pub sides_of : Option Term → Option (Term × Term)
+sides_of None = None
+sides_of (Some t) = sides t
+
+-- an equation with its sides exchanged
+abbrev pub exchanged : Option (Term × Term) → Effect
+exchanged None = Fails
+exchanged (Some st) = Adds (equation st.1 st.0)
+
+-- two equations with a shared middle term
+abbrev pub joined : Option (Term × Term) → Option (Term × Term) → Effect
+joined None tu = Fails
+joined (Some st) None = Fails
+joined (Some st) (Some tu) = if term_eq st.1 tu.0 then Adds (equation st.0 tu.1) else Fails
 
 -- the formula that an evaluation states, where the terms in it are of sort Bool
 abbrev pub stated : (Term → Bool) → (TermId → Term) → Stated → Option Term
@@ -107,6 +122,8 @@ end_of facts s (Some k) = end_of_two s (numbered facts k)
 abbrev pub effect : (Term → Bool) → (TermId → Term) → Sequent → List Term → Step → Effect
 effect truth at c facts (Given k) = given_effect c k
 effect truth at c facts (Refl t) = Adds (equation (at t) (at t))
+effect truth at c facts (Symm i) = exchanged (sides_of (numbered facts i))
+effect truth at c facts (Trans i j) = joined (sides_of (numbered facts i)) (sides_of (numbered facts j))
 effect truth at c facts (Eval s ks) = evaluated truth (stated truth at s) (cited facts ks)
 effect truth at c facts (Contra i j) = end_of facts (numbered facts i) j
 

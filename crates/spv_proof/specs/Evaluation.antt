@@ -29,6 +29,11 @@ abbrev pub sides : Term → Option (Term × Term)
 sides (term Eq (terms s (terms t no_terms))) = Some (s, t)
 sides _ = None
 
+-- the sides of a strict order
+abbrev pub lower : Term → Option (Term × Term)
+lower (term Lt (terms s (terms t no_terms))) = Some (s, t)
+lower _ = None
+
 -- ---- truth values that are given
 
 -- the values that the truth of a formula gives: its own, and that of what it negates
@@ -122,27 +127,29 @@ all_truths is_truth no_terms = true
 all_truths is_truth (terms t ts) = is_truth t && all_truths is_truth ts
 
 -- the value of an equation: of truth values by their values, else of numerals
-abbrev pub equation_value : Bool → List (Option Bool) → Terms → Option Bool
-equation_value true values ts = same_of (first_of values) (second_of values)
-equation_value false values ts = numeral_relation (term Eq ts)
+abbrev pub equation_value : Bool → Option Bool → Option Bool → Terms → Option Bool
+equation_value true x y ts = same_of x y
+equation_value false x y ts = numeral_relation (term Eq ts)
 
--- the value of a formula of this head, from its arguments' values; `truths` says whether they are all of sort Bool
-abbrev pub combined : Bool → Head → List (Option Bool) → Terms → Option Bool
-combined truths Not values ts = not_of (first_of values)
-combined truths And values ts = and_of (first_of values) (second_of values)
-combined truths Or values ts = or_of (first_of values) (second_of values)
-combined truths Implies values ts = implied (first_of values) (second_of values)
-combined truths Eq values ts = equation_value truths values ts
-combined truths Lt values ts = numeral_relation (term Lt ts)
-combined truths Le values ts = numeral_relation (term Le ts)
-combined truths True values ts = Some true
-combined truths False values ts = Some false
-combined truths _ values ts = None
+-- the value of a formula of this head over these arguments, whose first two have the values x and y;
+-- `truths` says whether the arguments are all of sort Bool
+abbrev pub combined : Bool → Head → Option Bool → Option Bool → Terms → Option Bool
+combined truths Not x y ts = not_of x
+combined truths And x y ts = and_of x y
+combined truths Or x y ts = or_of x y
+combined truths Implies x y ts = implied x y
+combined truths Eq x y ts = equation_value truths x y ts
+combined truths Lt x y ts = numeral_relation (term Lt ts)
+combined truths Le x y ts = numeral_relation (term Le ts)
+combined truths True x y ts = Some true
+combined truths False x y ts = Some false
+combined truths _ x y ts = None
 
 abbrev mutual
   -- the computed value of a formula; each argument has its given value, and its computed value where none is given
   pub computed : (Term → Bool) → (Term → Option Bool) → Term → Option Bool
-  computed is_truth given (term h ts) = combined (all_truths is_truth ts) h (values is_truth given ts) ts
+  computed is_truth given (term h ts) =
+      combined (all_truths is_truth ts) h (first_of (values is_truth given ts)) (second_of (values is_truth given ts)) ts
 
   pub values : (Term → Bool) → (Term → Option Bool) → Terms → List (Option Bool)
   values is_truth given no_terms = []

@@ -1,4 +1,5 @@
 pub mod Shape
 pub mod Evaluation
 pub mod Accepted
+pub mod Candidates
 pub mod Laws

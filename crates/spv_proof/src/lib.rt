@@ -1,6 +1,7 @@
 //! Proofs of conditions that anyone can check: what one is, and the checker.
 #![tactic(auto)]
 
+pub mod candidates;
 pub mod laws;
 pub mod proofs;
 

@@ -33,6 +33,10 @@ pub enum Step {
     Given(u32),
     /// That a term equals itself.
     Refl(TermId),
+    /// An equation of a fact with its sides exchanged.
+    Symm(u32),
+    /// From an equation of two terms, and one of the second with a third, that of the first with the third.
+    Trans(u32, u32),
     /// What follows from these facts by the tables of the connectives and the order of numerals.
     Eval(Stated, Numbers),
     /// The end of the path: a fact and its negation, or one fact that is never true.

@@ -1,0 +1,5 @@
+pub mod Faults
+pub mod MemorySink
+pub mod MemoryTexts
+pub mod Sink
+pub mod Texts

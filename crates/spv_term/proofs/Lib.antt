@@ -1,0 +1,6 @@
+pub mod SameLemmas
+pub mod ListLemmas
+pub mod NodeLemmas
+pub mod TreeLemmas
+pub mod ArenaLemmas
+pub mod SortLemmas

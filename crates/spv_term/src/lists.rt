@@ -1,0 +1,256 @@
+//! Lists of ids, shapes and declarations, which contracts see as lists.
+ghost use Rattle.std.specs.Prelude.{◌≡◌, ◌<◌, ◌++◌, [], ◌∷◌, length, IsTrue, IfOk, OnOk, OnErr, slice_get, Some};
+ghost use Rattle.spv_logic.specs.Sorts.{shapes_ok};
+
+use smallvec::SmallVec;
+use spv_logic::{Decl, Shape, TermId, TypeId};
+use std::alloc::{AllocError, Global};
+use std::hash::{Hash, Hasher};
+use std::marker::Model;
+
+/// The arguments of a node, in order: up to three of them stand in the node itself.
+#[derive(Debug, Drop)]
+pub struct Arguments {
+    list: SmallVec<TermId, 3>,
+}
+
+impl Model for Arguments {
+    ghost use Rattle.std.specs.Prelude.{List};
+    ghost use Rattle.spv_logic.specs.declared.conditions.TermId.{TermId};
+
+    ghost Value = { List TermId };
+
+    ghost view = { λ a. a.list.items };
+}
+
+impl Arguments {
+    /// A copy of these arguments.
+    pub fn from_slice(alloc: Global, args: &[TermId]) -> Result<Arguments, AllocError>
+        ensures { IfOk result (λ a. a ≡ args.now) }
+    {
+        let list = SmallVec::from_slice(alloc, args)?;
+        Ok(Arguments { list })
+    }
+
+    /// The arguments as a slice.
+    pub fn as_slice(&self) -> &[TermId]
+        ensures { result.now ≡ self.now }
+    {
+        self.list.as_slice()
+    }
+
+    /// How many arguments there are.
+    pub fn len(&self) -> usize
+        ensures { result ≡ length self.now }
+    {
+        self.list.len()
+    }
+
+    /// The argument at a place, from 0.
+    pub fn get(&self, place: usize) -> TermId
+        requires { place < length self.now }
+        ensures { slice_get self.now place ≡ Some result }
+    {
+        self.list.as_slice()[place]
+    }
+}
+
+impl PartialEq for Arguments {
+    ghost use Rattle.std.proofs.Common.{rules};
+    ghost use Rattle.std.specs.Bool.{◌==◌};
+    ghost use Rattle.std.specs.Ordering.{on};
+    ghost use Rattle.std.specs.Cmp.Rules.{comparing};
+    ghost use Rattle.std.specs.Cmp.Lexicographic.{pointwise};
+
+    ghost eq = { pointwise (on (λ t. t.0) ◌==◌) };
+
+    ghost laws = { Prim.search (comparing, rules) };
+
+    fn eq(&self, other: &Arguments) -> bool {
+        self.list.as_slice() == other.list.as_slice()
+    }
+}
+
+impl Eq for Arguments {
+    ghost use Rattle.std.proofs.Common.{rules};
+    ghost use Rattle.std.specs.Cmp.Rules.{comparing};
+
+    ghost laws = { Prim.search (comparing, rules) };
+}
+
+impl Hash for Arguments {
+    ghost use Rattle.std.specs.Cmp.{unsigned_Decides};
+    ghost use Rattle.std.specs.Hash as fed;
+
+    ghost hash_input = { fed.slice (λ t. fed.u32 t.0) };
+
+    ghost respects_eq = { (fed.items_Alike (fed.on_Alike (λ t. t.0) (fed.same_Alike fed.u32 unsigned_Decides))).fed };
+
+    fn hash<H: Hasher>(&self, state: &mut H) {
+        self.list.as_slice().hash(state);
+    }
+}
+
+/// A list of terms of one arena.
+#[derive(Debug, Drop)]
+pub struct TermList {
+    list: Vec<TermId>,
+}
+
+impl Model for TermList {
+    ghost use Rattle.std.specs.Prelude.{List};
+    ghost use Rattle.spv_logic.specs.declared.conditions.TermId.{TermId};
+
+    ghost Value = { List TermId };
+
+    ghost view = { λ a. a.list.items };
+}
+
+impl TermList {
+    /// The empty list.
+    pub fn new(alloc: Global) -> TermList
+        ensures { result ≡ [] }
+    {
+        TermList {
+            list: Vec::new(alloc),
+        }
+    }
+
+    /// The list of the terms of a vector.
+    pub fn from_vec(list: Vec<TermId>) -> TermList
+        ensures { result ≡ list.items }
+    {
+        TermList { list }
+    }
+
+    /// The terms as a slice.
+    pub fn as_slice(&self) -> &[TermId]
+        ensures { result.now ≡ self.now }
+    {
+        self.list.as_slice()
+    }
+
+    /// How many terms there are.
+    pub fn len(&self) -> usize
+        ensures { result ≡ length self.now }
+    {
+        self.list.len()
+    }
+
+    /// Puts a term at the end. For want of memory the list stays as it was.
+    pub fn push(&mut self, term: TermId) -> Result<(), AllocError>
+        ensures ok { OnOk result (self.new ≡ self.old ++ term ∷ []) }
+        ensures err { OnErr result (self.new ≡ self.old) }
+    {
+        self.list.push(term)?;
+        Ok(())
+    }
+}
+
+/// The shapes of a program's types, by their places. Each type that a shape names is there, the
+/// parts of arrays and records have sorts that parts may have, the names of a record's fields
+/// differ, and no type is a part of itself.
+#[derive(Debug, Drop)]
+pub struct Shapes {
+    list: Vec<Shape>,
+}
+
+impl Model for Shapes {
+    ghost use Rattle.std.specs.Prelude.{List, IsTrue};
+    ghost use Rattle.spv_logic.specs.declared.types.Shape.{Shape};
+    ghost use Rattle.spv_logic.specs.Sorts.{shapes_ok};
+
+    ghost Value = { List Shape };
+
+    ghost view = { λ a. a.list.items };
+
+    ghost invariant = { λ a. IsTrue (shapes_ok a.list.items) };
+}
+
+impl Shapes {
+    /// No types.
+    pub fn new(alloc: Global) -> Shapes
+        ensures { result ≡ [] }
+    {
+        Shapes {
+            list: Vec::new(alloc),
+        }
+    }
+
+    /// The shapes of a vector, in its order.
+    pub fn from_vec(list: Vec<Shape>) -> Shapes
+        requires { IsTrue (shapes_ok list.items) }
+        ensures { result ≡ list.items }
+    {
+        Shapes { list }
+    }
+
+    /// The shapes as a slice.
+    pub fn as_slice(&self) -> &[Shape]
+        ensures { result.now ≡ self.now }
+    {
+        self.list.as_slice()
+    }
+
+    /// How many types there are.
+    pub fn len(&self) -> usize
+        ensures { result ≡ length self.now }
+    {
+        self.list.len()
+    }
+
+    /// The shape of a type.
+    pub fn get(&self, t: TypeId) -> &Shape
+        requires { t.0 < length self.now }
+        ensures { slice_get self.now t.0 ≡ Some result.now }
+    {
+        &self.list[t.0 as usize]
+    }
+
+    /// The shapes are types of a program.
+    pub fn law_shapes(&self)
+        ensures { IsTrue (shapes_ok self.now) }
+    {
+        let _list = &self.list;
+    }
+}
+
+/// The declared symbols of a program, in the order of their declaration.
+#[derive(Debug, Drop)]
+pub struct Decls {
+    list: Vec<Decl>,
+}
+
+impl Model for Decls {
+    ghost use Rattle.std.specs.Prelude.{List};
+    ghost use Rattle.spv_logic.specs.declared.types.Decl.{Decl};
+
+    ghost Value = { List Decl };
+
+    ghost view = { λ a. a.list.items };
+}
+
+impl Decls {
+    /// No symbols.
+    pub fn new(alloc: Global) -> Decls
+        ensures { result ≡ [] }
+    {
+        Decls {
+            list: Vec::new(alloc),
+        }
+    }
+
+    /// The symbols of a vector, in its order.
+    pub fn from_vec(list: Vec<Decl>) -> Decls
+        ensures { result ≡ list.items }
+    {
+        Decls { list }
+    }
+
+    /// The symbols as a slice.
+    pub fn as_slice(&self) -> &[Decl]
+        ensures { result.now ≡ self.now }
+    {
+        self.list.as_slice()
+    }
+}
