@@ -1,0 +1,10 @@
+use Rattle.std.proofs.Common.{[], ◌∷◌, sym, ◌∙◌}
+use Rattle.spv_form.proofs.Fronts.{rest_is}
+use Rattle.spv_form.proofs.reading.ends.Goals as goal
+
+pub returns-in_default-clause-absent : goal.returns-in_default-clause-absent
+returns-in_default-clause-absent c h = absurd (c.in_default.ensures.absent tt _ h)
+
+pub returns-in_default-after_sign-clause-absent : goal.returns-in_default-after_sign-clause-absent
+returns-in_default-after_sign-clause-absent c h =
+    absurd (c.in_default-after_sign.ensures.absent tt [] (rest_is _ _ _ _ (sym c.in-Some.ensures.there ∙ h)))

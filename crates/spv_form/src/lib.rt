@@ -1,0 +1,8 @@
+//! The form of program that is read so far: one block of assignments, at most one variable, at most one equation as EXIT.
+#![tactic(auto)]
+
+mod form;
+mod reading;
+
+pub use form::{Assignment, Assignments, Equation, Exit, Form, Formula, KnownNumbers, Side};
+pub use reading::{FormFault, read};
