@@ -63,8 +63,10 @@ same_formula x y ks ls h = by_case x.bracketed y.bracketed refl refl
   where
     close : List TokenKind → List TokenKind
     close rest = kind.Sign sign.CloseParenthesis ∷ rest
+
     both : (b : Bool) → x.bracketed ≡ b → y.bracketed ≡ b → x.equation ≡ y.equation → x ≡ y
     both b e f g = let m : x.bracketed ≡ y.bracketed = e ∙ sym f in λ i. record { bracketed = m i; equation = g i }
+
     by_case : (b c : Bool) → x.bracketed ≡ b → y.bracketed ≡ c → (x ≡ y) × (ks ≡ ls)
     by_case true true e f =
         let k = sym (formula_case x true e (formula_kinds x ks) ks refl) ∙ (h ∙ formula_case y true f (formula_kinds y ls) ls refl) in
@@ -124,8 +126,8 @@ read_more tokens rest next after begun list list' a r semicolon s is = record {
   done = r.done ++ a ∷ [];
   list_is = is ∙ (ap (λ l. l ++ a ∷ []) r.list_is ∙ append_assoc begun r.done (a ∷ []));
   in_front = λ others e.
-    r.in_front (a ∷ others) (semicolon ∙ ap (λ ks. kind.Sign sign.Semicolon ∷ ks) (s.there ∙ ap (assignment_kinds a) e))
-    ∙ ap further_kinds (sym (append_assoc r.done (a ∷ []) others));
+      r.in_front (a ∷ others) (semicolon ∙ ap (λ ks. kind.Sign sign.Semicolon ∷ ks) (s.there ∙ ap (assignment_kinds a) e))
+      ∙ ap further_kinds (sym (append_assoc r.done (a ∷ []) others));
   behind = λ all e. split (r.behind all e);
 }
   where

@@ -1,2 +1,4 @@
 pub mod Fronts
 pub mod Whole
+pub mod Program
+pub mod Numbers

@@ -1,2 +1,4 @@
+pub mod Known
 pub mod Spelled
 pub mod Read
+pub mod Program

@@ -1,7 +1,5 @@
 -- What the reading functions answer, by the kinds that stand at the front.
-use Rattle.std.specs.Prelude.{◌≡◌, ◌≢◌, List, [], ◌∷◌, ◌++◌}
-use Rattle.std.specs.Borrow.{Bor}
-use Rattle.spv_names.specs.declared.names.Symbol.{Symbol}
+use Rattle.std.specs.Prelude.{◌≡◌, List, ◌++◌}
 use Rattle.spv_tree.specs.declared.token.Token.{Token}
 use Rattle.spv_tree.specs.declared.token.TokenKind.{TokenKind}
 use Rattle.spv_form.specs.Spelled.{kinds}

@@ -1,6 +1,11 @@
 // The tree of a program of the form.
 
-use spv_names::Symbol;
+ghost use Rattle.std.specs.Prelude.{◌≡◌};
+ghost use Rattle.spv_names.specs.Names.{IsFolded, place_of};
+ghost use Rattle.spv_form.specs.Known.{known_in};
+ghost use Rattle.spv_form.specs.Program as spec;
+
+use spv_names::{Names, Symbol};
 use spv_tree::Numeral;
 use std::marker::Model;
 
@@ -64,8 +69,6 @@ impl Model for Assignments {
 }
 
 impl Assignments {
-    ghost use Rattle.std.specs.Prelude.{◌≡◌};
-
     /// The statements of a vector, in its order.
     pub fn from_vec(list: Vec<Assignment>) -> Assignments
         ensures { result ≡ list.items }
@@ -88,4 +91,48 @@ pub struct Form {
     pub variable: Option<Symbol>,
     pub exit: Option<Exit>,
     pub body: Assignments,
+}
+
+// The number of a text among names; the number of names where it is not there.
+fn number_of(names: &Names, text: &[u8]) -> u32
+    requires { IsFolded text.now }
+    ensures { result ≡ place_of names.now text.now }
+{
+    match names.find(text) {
+        Some(x) => x.0,
+        None => names.len() as u32,
+    }
+}
+
+/// The numbers of INTEGER, BOOLEAN and LIST among names.
+pub fn known_numbers(names: &Names) -> KnownNumbers
+    ensures { result ≡ known_in names.now }
+{
+    KnownNumbers {
+        integer: number_of(names, b"INTEGER"),
+        boolean: number_of(names, b"BOOLEAN"),
+        list: number_of(names, b"LIST"),
+    }
+}
+
+/// What stands in the place of a side before a statement is run, so that it means there what the
+/// side means after it.
+pub fn before_statement(a: Assignment, s: Side) -> Side
+    ensures { result ≡ spec.before_statement a s }
+{
+    match (a, s) {
+        (Assignment::Assign(x, value), Side::Variable(y)) if x.0 == y.0 => value,
+        _ => s,
+    }
+}
+
+/// What stands in the place of a side before statements are run.
+pub fn before_all(body: &[Assignment], s: Side) -> Side
+    ensures { result ≡ spec.before_all body.now s }
+{
+    let mut side = s;
+    for i in (0..body.len()).rev() {
+        side = before_statement(body[i], side);
+    }
+    side
 }

@@ -4,5 +4,8 @@
 mod form;
 mod reading;
 
-pub use form::{Assignment, Assignments, Equation, Exit, Form, Formula, KnownNumbers, Side};
+pub use form::{
+    Assignment, Assignments, Equation, Exit, Form, Formula, KnownNumbers, Side, before_all,
+    before_statement, known_numbers,
+};
 pub use reading::{FormFault, read};

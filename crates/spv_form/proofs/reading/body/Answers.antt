@@ -1,4 +1,4 @@
-use Rattle.std.proofs.Common.{◌≡◌, [], ◌∷◌, Err, refl, sym, ap, ◌∙◌}
+use Rattle.std.proofs.Common.{◌≡◌, Err, ap}
 use Rattle.std.proofs.lemmas.Result.{err_from_is_err_and}
 use Rattle.spv_form.specs.declared.reading.FormFault.TheVariants.{NotOfForm}
 use Rattle.spv_form.proofs.Fronts.{no_begin, no_body, no_statement, same_statement}
@@ -18,5 +18,5 @@ pub returns-clause-absent : goal.returns-clause-absent
 returns-clause-absent c e all some h =
     let s = c.in_ok-rest.ensures.there in
     no_body c.args.tokens.now c.in-Some.rest.now c.in-Some.ensures.there
-      (λ b others k. c.further.ensures.absent e others (same_statement c.in-Some.rest.now c.in_ok-rest.rest.now s.0 b others (record { there = s.2; no_name = s.3 }) k).1)
-      all h
+    (λ b others k. c.further.ensures.absent e others (same_statement c.in-Some.rest.now c.in_ok-rest.rest.now s.0 b others (record { there = s.2; no_name = s.3 }) k).1)
+    all h

@@ -1,4 +1,4 @@
-use Rattle.std.proofs.Common.{[], ◌∷◌, sym, ◌∙◌}
+use Rattle.std.proofs.Common.{[], sym, ◌∙◌}
 use Rattle.spv_form.proofs.Fronts.{rest_is}
 use Rattle.spv_form.proofs.reading.ends.Goals as goal
 

@@ -10,4 +10,4 @@ returns-in_default-after_sign-clause-absent c e rest h =
 pub returns-in_default-side-clause-absent : goal.returns-in_default-side-clause-absent
 returns-in_default-side-clause-absent c e rest h =
     c.in_default-side.ensures.absent e.right rest
-      (rest_is _ _ _ _ (sym c.in-Some-after_sign.ensures.there ∙ rest_is _ _ _ _ (sym c.in-Some.ensures.there ∙ h)))
+    (rest_is _ _ _ _ (sym c.in-Some-after_sign.ensures.there ∙ rest_is _ _ _ _ (sym c.in-Some.ensures.there ∙ h)))

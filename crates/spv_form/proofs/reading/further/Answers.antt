@@ -1,8 +1,7 @@
-use Rattle.std.proofs.Common.{◌≡◌, [], ◌++◌, Err, refl, sym, ap, ◌∙◌}
+use Rattle.std.proofs.Common.{◌≡◌, [], Err, sym, ap, ◌∙◌}
 use Rattle.std.proofs.lemmas.List.{append-nil}
 use Rattle.std.proofs.lemmas.Result.{err_from_is_err_and}
 use Rattle.std.proofs.lemmas.Bool.{false≢true}
-use Rattle.spv_form.specs.declared.form.Assignment.{Assignment}
 use Rattle.spv_form.specs.declared.reading.FormFault.TheVariants.{NotOfForm}
 use Rattle.spv_form.specs.Spelled.{further_kinds}
 use Rattle.spv_form.proofs.Fronts.{read_more, no_further, no_end}
@@ -22,11 +21,13 @@ loop-next-preserved c =
 
 pub returns-then-ends-clause-there : goal.returns-then-ends-clause-there
 returns-then-ends-clause-there c =
-    let end = c.ends.ensures.there c.if-ends.true in
-    (c.loop-next.invariant.done, c.from_vec.ensures ∙ c.loop-next.invariant.list_is,
-     c.loop-next.invariant.in_front [] end ∙ ap further_kinds (append-nil c.loop-next.invariant.done))
+    let end = c.ends.ensures.there c.if-ends.true in (
+      c.loop-next.invariant.done,
+      c.from_vec.ensures ∙ c.loop-next.invariant.list_is,
+      c.loop-next.invariant.in_front [] end ∙ ap further_kinds (append-nil c.loop-next.invariant.done),
+    )
 
 pub returns-else-ends-clause-absent : goal.returns-else-ends-clause-absent
 returns-else-ends-clause-absent c e all h =
     no_end c.args.tokens.now c.loop-next.rest.now c.args.list.items c.loop-next.list.items c.loop-next.invariant c.in_default.ensures.absent
-      (λ f. false≢true (sym c.if-ends.false ∙ c.ends.ensures.absent f)) all h
+    (λ f. false≢true (sym c.if-ends.false ∙ c.ends.ensures.absent f)) all h

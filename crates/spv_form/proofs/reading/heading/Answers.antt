@@ -8,4 +8,4 @@ returns-in_default-clause-absent c x rest h = c.in_default.ensures.absent tt _ h
 pub returns-in_default-after_sign-clause-absent : goal.returns-in_default-after_sign-clause-absent
 returns-in_default-after_sign-clause-absent c x rest h =
     c.in_default-after_sign.ensures.absent tt rest
-      (rest_is _ _ _ _ (sym c.in-Some-name.ensures.there ∙ rest_is _ _ _ _ (sym c.in-Some.ensures.there ∙ h)))
+    (rest_is _ _ _ _ (sym c.in-Some-name.ensures.there ∙ rest_is _ _ _ _ (sym c.in-Some.ensures.there ∙ h)))
