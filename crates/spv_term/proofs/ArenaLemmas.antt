@@ -298,3 +298,6 @@ module _ (a : Arena) (ok : IsArena a) (h : Head) (ts : List TermId) (below : All
 pub if_made : {P R : TermId → Type 0} {Q : Type 0} (r : Result TermId TermFault) → IfOk r P → OnOk r Q → ((t : TermId) → P t → Q → R t) → IfOk r R
 if_made (Ok t) p q then = then t p q
 if_made (Err e) p q then = tt
+
+-- what a caller of several calls in a row needs: each keeps what the ones before it gave
+pub ruleset growth = (Extends-trans, length-Extends, slice_get-Extends, tree-Extends, trees-Extends, sort_at-Extends, sorts_at-Extends, AllBelow-Extends)

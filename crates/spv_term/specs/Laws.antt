@@ -1,8 +1,8 @@
 -- What is true of every arena.
-use Rattle.std.specs.Prelude.{◌≡◌, ◌<◌, List, map, length, Some, slice_get}
+use Rattle.std.specs.Prelude.{◌≡◌, ◌<◌, List, map, length, Some, slice_get, IsTrue}
 use Rattle.spv_logic.specs.declared.conditions.TermId.{TermId}
 use Rattle.spv_logic.specs.Terms.{eval, worth}
-use Rattle.spv_logic.specs.Sorts.{term_sort}
+use Rattle.spv_logic.specs.Sorts.{term_sort, sort_in_range}
 use Rattle.spv_logic.specs.Conditions.{Meaning, Valuation}
 use Rattle.spv_term.specs.declared.nodes.Node.{Node}
 use Rattle.spv_term.specs.declared.nodes.Condition.{Condition}
@@ -21,6 +21,10 @@ HasOneId a = (t u : TermId) → t.0 < length a.nodes → u.0 < length a.nodes �
 -- each term is well sorted, and its sort is that of its id
 abbrev pub IsWellSorted : Arena → Type 0
 IsWellSorted a = (t : TermId) → t.0 < length a.nodes → term_sort a.shapes a.decls (tree a t) ≡ Some (sort_at a t)
+
+-- the types that the terms' sorts name are there
+abbrev pub NamesTypes : Arena → Type 0
+NamesTypes a = (t : TermId) → t.0 < length a.nodes → IsTrue (sort_in_range a.shapes (sort_at a t))
 
 -- the old ids keep their nodes, trees and sorts, and the conditions over them what they claim
 pub record KeepsOld (old new : Arena) : Type 0 where

@@ -2,7 +2,7 @@
 ghost use Rattle.std.specs.Prelude.{◌≡◌};
 ghost use Rattle.spv_logic.specs.Conditions.{Meaning, answers};
 ghost use Rattle.spv_term.specs.Arena.{Arena, IsArena, Extends};
-ghost use Rattle.spv_term.specs.Laws.{IsWorthOfHeads, HasOneId, IsWellSorted, KeepsOld};
+ghost use Rattle.spv_term.specs.Laws.{IsWorthOfHeads, HasOneId, IsWellSorted, NamesTypes, KeepsOld};
 
 use spv_logic::World;
 
@@ -24,6 +24,11 @@ pub fn law_one_id()
 /// Each term of an arena is well sorted.
 pub fn law_sorted()
     ensures { (a : Arena) → IsArena a → IsWellSorted a }
+{}
+
+/// The types that the sorts of an arena's terms name are there.
+pub fn law_types()
+    ensures { (a : Arena) → IsArena a → NamesTypes a }
 {}
 
 /// An arena that grows keeps what its ids stand for.

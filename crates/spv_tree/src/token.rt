@@ -1,5 +1,5 @@
 //! Tokens: a kind, and the line on which the token begins.
-ghost use Rattle.std.specs.Prelude.{◌≡◌, pos, ◌≤ℤ◌, ℕ};
+ghost use Rattle.std.specs.Prelude.{◌≡◌, pos, ◌≤ℤ◌};
 
 use spv_names::Symbol;
 use std::marker::Model;
@@ -169,4 +169,15 @@ pub struct Token {
     pub kind: TokenKind,
     /// The line of its first byte; the first line of a text is 1.
     pub line: u32,
+}
+
+#[cfg(test)]
+mod tests {
+    use super::*;
+
+    #[test]
+    fn a_numeral_keeps_its_value(rt: HostRuntime) {
+        assert_eq!(rt; Numeral::new(i64::MAX).value(), i64::MAX);
+        assert_eq!(rt; Numeral::new(0).value(), 0);
+    }
 }

@@ -1,0 +1,5 @@
+pub mod Spelling
+pub mod Front
+pub mod Reading
+pub mod Tokens
+pub mod Seen

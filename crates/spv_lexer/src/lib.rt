@@ -1,0 +1,47 @@
+//! The tokens of a text.
+#![tactic(auto)]
+
+ghost use Rattle.std.specs.Prelude.{◌≡◌};
+ghost use Rattle.spv_lexer.specs.declared.LexFault.TheVariants.{Memory};
+
+mod front;
+mod laws;
+mod lexer;
+mod signs;
+mod words;
+
+pub use laws::{law_front, law_gap};
+pub use lexer::tokens;
+use std::alloc::AllocError;
+use thiserror::Error;
+
+/// Why a text is refused. A number is a line; the first line is 1.
+#[derive(Clone, Copy, PartialEq, Eq, Debug, Error)]
+pub enum LexFault {
+    /// A byte outside comments that begins no token.
+    #[error("line {0}: no token begins with this byte")]
+    BadByte(u32),
+    /// A comment that is not closed. The line is that of its opening sign.
+    #[error("line {0}: the comment is not closed")]
+    OpenComment(u32),
+    /// A numeral above 9223372036854775807.
+    #[error("line {0}: the numeral is too large")]
+    NumeralTooLarge(u32),
+    /// A text of more than 4194304 bytes.
+    #[error("the text is too long")]
+    TextTooLong,
+    /// There was no memory left.
+    #[error("out of memory")]
+    Memory,
+}
+
+impl From<AllocError> for LexFault {
+    ghost from_gives = { λ _ fault. fault ≡ Memory };
+
+    fn from(_refused: AllocError) -> LexFault {
+        LexFault::Memory
+    }
+}
+
+#[cfg(test)]
+mod tests;
