@@ -1,12 +1,15 @@
 // Proofs as data.
 
+ghost use Rattle.std.specs.Prelude.{◌≡◌, IsTrue};
+ghost use Rattle.spv_proof.specs.Shape.{is_tree};
+
 use spv_logic::TermId;
 use std::marker::Model;
 
 /// Numbers in a proof: of facts, from 1, or of nodes, from 0.
 #[derive(Debug, Drop)]
 pub struct Numbers {
-    pub list: Vec<u32>,
+    list: Vec<u32>,
 }
 
 impl Model for Numbers {
@@ -15,6 +18,22 @@ impl Model for Numbers {
     ghost Value = { List ℕ };
 
     ghost view = { λ n. n.list.items };
+}
+
+impl Numbers {
+    /// The numbers of a vector, in its order.
+    pub fn from_vec(list: Vec<u32>) -> Numbers
+        ensures { result ≡ list.items }
+    {
+        Numbers { list }
+    }
+
+    /// The numbers as a slice.
+    pub fn as_slice(&self) -> &[u32]
+        ensures { result.now ≡ self.now }
+    {
+        self.list.as_slice()
+    }
 }
 
 /// What an evaluation states.
@@ -46,7 +65,7 @@ pub enum Step {
 /// The steps of a node, in order.
 #[derive(Debug, Drop)]
 pub struct Steps {
-    pub list: Vec<Step>,
+    list: Vec<Step>,
 }
 
 impl Model for Steps {
@@ -56,6 +75,22 @@ impl Model for Steps {
     ghost Value = { List Step };
 
     ghost view = { λ s. s.list.items };
+}
+
+impl Steps {
+    /// The steps of a vector, in its order.
+    pub fn from_vec(list: Vec<Step>) -> Steps
+        ensures { result ≡ list.items }
+    {
+        Steps { list }
+    }
+
+    /// The steps as a slice.
+    pub fn as_slice(&self) -> &[Step]
+        ensures { result.now ≡ self.now }
+    {
+        self.list.as_slice()
+    }
 }
 
 /// A case split: the atom, and the places of the nodes of its cases.
@@ -90,4 +125,22 @@ impl Model for Proof {
     ghost view = { λ p. p.nodes.items };
 
     ghost invariant = { λ p. IsTrue (is_tree p.nodes.items) };
+}
+
+impl Proof {
+    /// The proof of these nodes, the root first and each one followed by its cases.
+    pub fn new(nodes: Vec<ProofNode>) -> Proof
+        requires { IsTrue (is_tree nodes.items) }
+        ensures { result ≡ nodes.items }
+    {
+        Proof { nodes }
+    }
+
+    /// The nodes, the root first.
+    pub fn nodes(&self) -> &[ProofNode]
+        ensures nodes { result.now ≡ self.now }
+        ensures tree { IsTrue (is_tree result.now) }
+    {
+        self.nodes.as_slice()
+    }
 }
