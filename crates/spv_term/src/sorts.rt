@@ -88,7 +88,8 @@ fn symbol_sort(decls: &[Decl], symbol: Symbol) -> Option<Sort>
 /// The sort of a head over arguments that fit it, of which `first` is the first one's sort. Of a head
 /// without arguments, `first` is not looked at.
 pub(crate) fn result_sort(shapes: &[Shape], decls: &[Decl], head: Head, first: Sort) -> Sort
-    ensures { (given : List Sort) (s : Sort) → first ≡ spec.first_sort given → spec.result_sort shapes.now decls.now head given ≡ Some s → result ≡ s }
+    ensures { (given : List Sort) (s : Sort) → first ≡ spec.first_sort given
+        → spec.result_sort shapes.now decls.now head given ≡ Some s → result ≡ s }
 {
     match head {
         Head::Var(_, sort, _) => sort,

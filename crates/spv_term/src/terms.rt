@@ -39,7 +39,8 @@ impl Model for Terms {
 }
 
 impl Terms {
-    /// The arena without terms, for at most `most` of them, over these types and symbols. It takes no memory.
+    /// The arena without terms, for at most `most` of them, over these types and symbols. It takes
+    /// no memory.
     pub fn new(alloc: Global, shapes: Shapes, decls: Decls, most: u32) -> Terms
         requires names { IsTrue (symbols_differ decls) }
         requires types { IsTrue (decls_in_range shapes decls) }
@@ -58,19 +59,25 @@ impl Terms {
     }
 
     /// The term of this head over these terms. A term that is there has the id that it has; a new one
-    /// goes last. `Size` comes exactly where the term is new and there may be no more; after an error
-    /// the arena is as it was.
+    /// goes last. `Size` comes exactly where the term is new and there may be no more, unless there
+    /// is no memory for the node, which is `Memory`. After an error the arena is as it was.
     pub fn make(&mut self, head: Head, args: &[TermId]) -> Result<TermId, TermFault>
         requires args { AllBelow (length self.old.nodes) args.now }
-        requires sorts { IsSome (spec.result_sort self.old.shapes self.old.decls head (sorts_at self.old args.now)) }
+        requires sorts { IsSome
+            (spec.result_sort self.old.shapes self.old.decls head (sorts_at self.old args.now)) }
         requires types { IsTrue (spec.head_in_range self.old.shapes head) }
         requires numeral { IsTrue (spec.numeral_fits head) }
         ensures id { IfOk result (λ t. t.0 ≡ place_of self.old.nodes (node head args.now)) }
-        ensures arena { OnOk result (self.new ≡ record self.old { nodes = with_node self.old.nodes (node head args.now) }) }
-        ensures node { IfOk result (λ t. slice_get self.new.nodes t.0 ≡ Some (node head args.now)) }
+        ensures arena { OnOk result
+            (self.new ≡ record self.old { nodes = with_node self.old.nodes (node head args.now) }) }
+        ensures node { IfOk result
+            (λ t. slice_get self.new.nodes t.0 ≡ Some (node head args.now)) }
         ensures in_range { IfOk result (λ t. t.0 < length self.new.nodes) }
-        ensures tree { IfOk result (λ t. tree self.new t ≡ term head (trees self.old args.now)) }
-        ensures sort { IfOk result (λ t. spec.result_sort self.old.shapes self.old.decls head (sorts_at self.old args.now) ≡ Some (sort_at self.new t)) }
+        ensures tree { IfOk result
+            (λ t. tree self.new t ≡ term head (trees self.old args.now)) }
+        ensures sort { IfOk result
+            (λ t. spec.result_sort self.old.shapes self.old.decls head (sorts_at self.old args.now)
+            ≡ Some (sort_at self.new t)) }
         ensures grows { Extends self.old self.new }
         ensures size { result ≡ Err Size → IsTrue (lacks_room self.old (node head args.now)) }
         ensures full { IsTrue (lacks_room self.old (node head args.now)) → IsErr result }
@@ -88,7 +95,7 @@ impl Terms {
         self.push(node, sort)
     }
 
-    // The node of this head over these terms, which is not yet in the arena.
+    // The node of this head over these terms, apart from the arena.
     fn node_over(&self, head: Head, args: &[TermId]) -> Result<Node, TermFault>
         ensures node { IfOk result (λ n. n ≡ node head args.now) }
         ensures err { IfErr result (λ e. e ≡ Memory) }
@@ -119,7 +126,8 @@ impl Terms {
     fn push(&mut self, node: Node, sort: Sort) -> Result<TermId, TermFault>
         requires new { MayFollow self.old.shapes self.old.decls self.old.nodes node }
         requires room { length self.old.nodes < self.old.most }
-        requires sort { spec.result_sort self.old.shapes self.old.decls node.head (sorts_at self.old node.args) ≡ Some sort }
+        requires sort { spec.result_sort self.old.shapes self.old.decls node.head (sorts_at self.old node.args)
+            ≡ Some sort }
         ensures id { IfOk result (λ t. t.0 ≡ length self.old.nodes) }
         ensures ok { OnOk result (self.new ≡ record self.old { nodes = self.old.nodes ++ node ∷ [] }) }
         ensures err { IfErr result (λ e. e ≡ Memory) }
@@ -146,8 +154,10 @@ impl Terms {
     // The sort of a head over these terms, whose sorts fit it.
     fn sort_over(&self, head: Head, args: &[TermId]) -> Sort
         requires args { AllBelow (length self.now.nodes) args.now }
-        requires sorts { IsSome (spec.result_sort self.now.shapes self.now.decls head (sorts_at self.now args.now)) }
-        ensures { spec.result_sort self.now.shapes self.now.decls head (sorts_at self.now args.now) ≡ Some result }
+        requires sorts { IsSome
+            (spec.result_sort self.now.shapes self.now.decls head (sorts_at self.now args.now)) }
+        ensures { spec.result_sort self.now.shapes self.now.decls head (sorts_at self.now args.now)
+            ≡ Some result }
     {
         let first = self.first_sort(args);
         result_sort(self.shapes.as_slice(), self.decls.as_slice(), head, first)

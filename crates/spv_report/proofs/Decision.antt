@@ -1,0 +1,125 @@
+-- The decision of an equation of sides is right.
+use Rattle.std.proofs.Common.{◌≡◌, ◌≢◌, ℕ, Bool, true, false, cond, ◌&&◌, ◌||◌, List, [], ◌∷◌, ◌++◌, map, ℤ, pos, refl, sym, ap, ◌∙◌, Option, Some, None, IsTrue}
+use Rattle.std.proofs.Common.{arith}
+use Rattle.std.proofs.lemmas.Bool.{false≢true}
+use Rattle.std.proofs.lemmas.Int.{ints}
+use Rattle.std.specs.Ordering.{int_eq}
+use Rattle.std.specs.List.{list_all}
+use Rattle.spv_names.specs.declared.names.Symbol.{Symbol}
+use Rattle.spv_logic.specs.declared.conditions.TermId.{TermId}
+use Rattle.spv_logic.specs.declared.types.Shape.{Shape}
+use Rattle.spv_logic.specs.declared.types.Decl.{Decl}
+use Rattle.spv_logic.specs.declared.types.Sort.TheVariants as sort
+use Rattle.spv_logic.specs.declared.operators.Head.TheVariants as head
+use Rattle.spv_logic.specs.Values.{Value, Number, value_eq}
+use Rattle.spv_logic.specs.Terms.{Term, term, terms, no_terms, term_eq, eval}
+use Rattle.spv_logic.specs.Conditions.{Meaning, Sequent, holds}
+use Rattle.spv_logic.proofs.Equality.{term_eq-true, term_eq-refl, int_eq-true}
+use Rattle.spv_form.specs.declared.form.Side.{Side}
+use Rattle.spv_form.specs.declared.form.Side.TheVariants.{Variable, Number as Numeral}
+use Rattle.spv_form.specs.Program.{side_term}
+use Rattle.spv_proof.specs.Evaluation.{numeral, equation}
+use Rattle.spv_proof.specs.Accepted.{accepts, is_truth}
+use Rattle.spv_report.specs.Tables.{variables_in, atoms_in, number_in, table_valuation, distinct, with_new, Falsifies}
+use Rattle.spv_report.specs.Verdicts.{other_than, rows_for, reflexive_proof}
+
+abbrev only : Term → Sequent
+only goal = record { given = []; goal = goal }
+
+-- ---- numbers
+
+differs : (n : ℤ) → int_eq n (other_than n) ≡ false
+differs n = by_case (int_eq n (pos 0)) refl
+  where
+    by_case : (b : Bool) → int_eq n (pos 0) ≡ b → int_eq n (cond b (pos 1) (pos 0)) ≡ false
+    by_case true e = ap (λ z. int_eq z (pos 1)) (int_eq-true n (pos 0) e)
+    by_case false e = e
+
+differs_back : (n : ℤ) → int_eq (other_than n) n ≡ false
+differs_back n = by_case (int_eq (other_than n) n) refl
+  where
+    by_case : (b : Bool) → int_eq (other_than n) n ≡ b → b ≡ false
+    by_case true e = sym (ap (λ z. int_eq n z) (int_eq-true (other_than n) n e) ∙ same n) ∙ differs n
+      where
+        same : (z : ℤ) → int_eq z z ≡ true
+        same z = grind (arith, ints)
+    by_case false e = refl
+
+-- ---- the table
+
+terms_differ : (s t : Term) → s ≢ t → term_eq s t ≡ false
+terms_differ s t h = by_case (term_eq s t) refl
+  where
+    by_case : (b : Bool) → term_eq s t ≡ b → b ≡ false
+    by_case true e = absurd (h (term_eq-true s t e))
+    by_case false e = refl
+
+own_number : (t : Term) (n : ℤ) (rows : List (Term × ℤ)) → number_in ((t, n) ∷ rows) t ≡ n
+own_number t n rows = ap (λ b. cond b n (number_in rows t)) (term_eq-refl t)
+
+second_number : (s t : Term) (n m : ℤ) → s ≢ t → number_in ((s, n) ∷ (t, m) ∷ []) t ≡ m
+second_number s t n m h = ap (λ b. cond b n (number_in ((t, m) ∷ []) t)) (terms_differ s t h) ∙ own_number t m []
+
+two_distinct : (s t : Term) → s ≢ t → distinct (s ∷ t ∷ []) ≡ s ∷ t ∷ []
+two_distinct s t h = ap (λ b. cond (b || false) (s ∷ []) (s ∷ t ∷ [])) (terms_differ t s (λ e. h (sym e)))
+
+-- an equation of two sides that differ is false in their table
+pub falsified : (shapes : List Shape) (decls : List Decl) (l r : Side) → side_term l ≢ side_term r
+    → Falsifies (is_truth shapes decls) (only (equation (side_term l) (side_term r))) ((equation (side_term l) (side_term r), false) ∷ []) (rows_for (numeral (side_term l)) (numeral (side_term r)) (side_term l) (side_term r))
+falsified shapes decls (Numeral n) (Numeral m) h =
+    let no : int_eq (pos n) (pos m) ≡ false = by_case (int_eq (pos n) (pos m)) refl in
+    record {
+      lists = refl;
+      given_true = λ symbols. refl;
+      goal_false = λ symbols. no;
+      branch_is = λ symbols. ap (λ b. (equation (side_term (Numeral n)) (side_term (Numeral m)), b) ∷ []) (sym no);
+    }
+  where
+    by_case : (b : Bool) → int_eq (pos n) (pos m) ≡ b → b ≡ false
+    by_case true e = absurd (h (ap (λ z. term (head.Num z) no_terms) (int_eq-true (pos n) (pos m) e)))
+    by_case false e = refl
+falsified shapes decls (Numeral n) (Variable y) h =
+    let t = side_term (Variable y) in
+    let no : int_eq (pos n) (number_in ((t, other_than (pos n)) ∷ []) t) ≡ false = ap (int_eq (pos n)) (own_number t (other_than (pos n)) []) ∙ differs (pos n) in
+    record {
+      lists = refl;
+      given_true = λ symbols. refl;
+      goal_false = λ symbols. no;
+      branch_is = λ symbols. ap (λ b. (equation (side_term (Numeral n)) t, b) ∷ []) (sym no);
+    }
+falsified shapes decls (Variable x) (Numeral m) h =
+    let t = side_term (Variable x) in
+    let no : int_eq (number_in ((t, other_than (pos m)) ∷ []) t) (pos m) ≡ false = ap (λ z. int_eq z (pos m)) (own_number t (other_than (pos m)) []) ∙ differs_back (pos m) in
+    record {
+      lists = refl;
+      given_true = λ symbols. refl;
+      goal_false = λ symbols. no;
+      branch_is = λ symbols. ap (λ b. (equation t (side_term (Numeral m)), b) ∷ []) (sym no);
+    }
+falsified shapes decls (Variable x) (Variable y) h =
+    let s = side_term (Variable x) in
+    let t = side_term (Variable y) in
+    let rows : List (Term × ℤ) = (s, pos 0) ∷ (t, pos 1) ∷ [] in
+    let first = own_number s (pos 0) ((t, pos 1) ∷ []) in
+    let second = second_number s t (pos 0) (pos 1) h in
+    let no : int_eq (number_in rows s) (number_in rows t) ≡ false = ap (λ z. int_eq z (number_in rows t)) first ∙ ap (int_eq (pos 0)) second in
+    record {
+      lists = sym (two_distinct s t h);
+      given_true = λ symbols. refl;
+      goal_false = λ symbols. no;
+      branch_is = λ symbols. ap (λ b. (equation s t, b) ∷ []) (sym no);
+    }
+
+-- ---- the proof
+
+-- the proof of an equation of a term with itself is accepted
+pub reflexive_accepted : (shapes : List Shape) (decls : List Decl) (at : TermId → Term) (side : TermId) → IsTrue (accepts shapes decls at (only (equation (at side) (at side))) (reflexive_proof side))
+reflexive_accepted shapes decls at side = rw (term_eq-refl (equation (at side) (at side))) refl
+
+-- ---- rows over ids
+
+pub map-rows : {A B : Type 0} (f : A → B) (x y : Option ℤ) (l r : A) → map (λ (row : A × ℤ). (f row.0, row.1)) (rows_for x y l r) ≡ rows_for x y (f l) (f r)
+map-rows f (Some n) (Some m) l r = refl
+map-rows f (Some n) None l r = refl
+map-rows f None (Some m) l r = refl
+map-rows f None None l r = refl
