@@ -5,4 +5,5 @@ pub mod Readings
 pub mod Progress
 pub mod Tables
 pub mod Joins
+pub mod LongestSign
 pub mod Gaps

@@ -83,7 +83,8 @@ fn comment(text: &[u8], opening: &[u8], closing: &[u8]) -> Front
 
 /// The number that a row of digits spells, if a `Numeral` has it.
 fn decimal(digits: &[u8]) -> Option<Numeral>
-    ensures { result ≡ (if nat_le (decimal_of digits.now) 9223372036854775807 then Some (decimal_of digits.now) else None) }
+    ensures { let n = decimal_of digits.now in
+        result ≡ (if nat_le n 9223372036854775807 then Some n else None) }
 {
     let mut value = 0u64;
     for digit in digits {

@@ -100,7 +100,7 @@ fn read(alloc: Global, text: &[u8], upper: &[u8], names: &mut Names) -> Result<V
     requires few { length names.old < 2143289344 }
     requires short { length text.now ≤ 4194304 }
     requires folded { upper.now ≡ folded text.now }
-    ensures tokens { IfOk result (λ tokens. tokens.items ≡ numbered names.old (reading text.now).tokens) }
+    ensures tokens { IfOk result (λ ts. ts.items ≡ numbered names.old (reading text.now).tokens) }
     ensures whole { OnOk result (IsRead text.now) }
     ensures names { OnOk result (names.new ≡ names_after names.old (reading text.now).tokens) }
     ensures cause { IfErr result (HasCause text.now) }
@@ -129,10 +129,10 @@ pub fn tokens(alloc: Global, text: &[u8], names: &mut Names) -> Result<Vec<Token
     requires { length names.old < 2143289344 }
 
     // A text that is read gives all of its tokens, with its names in the table.
-    ensures tokens { IfOk result (λ tokens. tokens.items ≡ numbered names.old (reading text.now).tokens) }
+    ensures tokens { IfOk result (λ ts. ts.items ≡ numbered names.old (reading text.now).tokens) }
     ensures whole { OnOk result (IsRead text.now) }
     ensures names { OnOk result (names.new ≡ names_after names.old (reading text.now).tokens) }
-    ensures in_table { IfOk result (λ tokens. All (λ t. IsInTable names.new t.kind) tokens.items) }
+    ensures in_table { IfOk result (λ ts. All (λ t. IsInTable names.new t.kind) ts.items) }
 
     // A refusal has its cause in the text, and leaves the table with the names of some first tokens.
     ensures too_long { (result ≡ Err LexFault.TextTooLong) ↔ (4194304 < length text.now) }

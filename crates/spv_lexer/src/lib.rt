@@ -10,7 +10,7 @@ mod lexer;
 mod signs;
 mod words;
 
-pub use laws::{law_front, law_gap};
+pub use laws::{law_front, law_gap, law_longest_sign};
 pub use lexer::tokens;
 use std::alloc::AllocError;
 use thiserror::Error;

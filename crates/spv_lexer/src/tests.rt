@@ -1,4 +1,4 @@
-use crate::{LexFault, law_front, law_gap, tokens};
+use crate::{LexFault, law_front, law_gap, law_longest_sign, tokens};
 use spv_names::Names;
 use spv_tree::{Token, TokenKind};
 use std::alloc::Global;
@@ -43,6 +43,7 @@ fn kinds_of_tokens(rt: HostRuntime) -> Result<(), Fail> {
     }
     law_front();
     law_gap();
+    law_longest_sign();
     Ok(())
 }
 

@@ -18,17 +18,12 @@ pub fn decide(alloc: Global, terms: &Terms, condition: &Condition) -> Result<Ver
     requires { IsPlain terms.now condition.now }
     ensures { IfOk result (IsVerdict terms.now condition.now) }
 {
+    terms.law_arena();
     let (left, right) = sides(terms, condition.goal).unwrap();
     if left == right {
         Ok(Verdict::Proved(reflexive(alloc, left)?))
     } else {
-        Ok(Verdict::Unproved(falsified(
-            alloc,
-            terms,
-            condition.goal,
-            left,
-            right,
-        )?))
+        Ok(Verdict::Unproved(falsified(alloc, terms, condition.goal, left, right)?))
     }
 }
 

@@ -5,5 +5,4 @@ mod decision;
 mod verdict;
 
 pub use decision::decide;
-
 pub use verdict::{Branch, Table, Unproved, Verdict, Verdicts};

@@ -1,27 +1,28 @@
 -- The decision of an equation of sides is right.
-use Rattle.std.proofs.Common.{◌≡◌, ◌≢◌, ℕ, Bool, true, false, cond, ◌&&◌, ◌||◌, List, [], ◌∷◌, ◌++◌, map, ℤ, pos, refl, sym, ap, ◌∙◌, Option, Some, None, IsTrue}
+use Rattle.std.proofs.Common.{◌≡◌, ◌≢◌, Bool, true, false, cond, ◌||◌, List, [], ◌∷◌, map, ℤ, pos, ◌<◌, length, refl, sym, ap, subst, ◌∙◌, Option, Some, None, IsTrue}
 use Rattle.std.proofs.Common.{arith}
-use Rattle.std.proofs.lemmas.Bool.{false≢true}
 use Rattle.std.proofs.lemmas.Int.{ints}
 use Rattle.std.specs.Ordering.{int_eq}
-use Rattle.std.specs.List.{list_all}
-use Rattle.spv_names.specs.declared.names.Symbol.{Symbol}
 use Rattle.spv_logic.specs.declared.conditions.TermId.{TermId}
 use Rattle.spv_logic.specs.declared.types.Shape.{Shape}
 use Rattle.spv_logic.specs.declared.types.Decl.{Decl}
-use Rattle.spv_logic.specs.declared.types.Sort.TheVariants as sort
+use Rattle.spv_logic.specs.declared.operators.Head.{Head}
 use Rattle.spv_logic.specs.declared.operators.Head.TheVariants as head
-use Rattle.spv_logic.specs.Values.{Value, Number, value_eq}
-use Rattle.spv_logic.specs.Terms.{Term, term, terms, no_terms, term_eq, eval}
-use Rattle.spv_logic.specs.Conditions.{Meaning, Sequent, holds}
+use Rattle.spv_logic.specs.Terms.{Term, Terms, term, no_terms, term_eq}
+use Rattle.spv_logic.specs.Conditions.{Sequent}
 use Rattle.spv_logic.proofs.Equality.{term_eq-true, term_eq-refl, int_eq-true}
 use Rattle.spv_form.specs.declared.form.Side.{Side}
 use Rattle.spv_form.specs.declared.form.Side.TheVariants.{Variable, Number as Numeral}
 use Rattle.spv_form.specs.Program.{side_term}
-use Rattle.spv_proof.specs.Evaluation.{numeral, equation}
+use Rattle.spv_proof.specs.Evaluation.{numeral, equation, sides}
+use Rattle.spv_term.specs.declared.nodes.Condition.{Condition}
+use Rattle.spv_term.specs.Arena.{Arena, IsArena, tree, sequent}
+use Rattle.spv_term.proofs.ArenaLemmas.{same_id}
+use Rattle.spv_report.specs.declared.verdict.Unproved.{Unproved}
+use Rattle.spv_proof.specs.Candidates.{pair_of}
 use Rattle.spv_proof.specs.Accepted.{accepts, is_truth}
-use Rattle.spv_report.specs.Tables.{variables_in, atoms_in, number_in, table_valuation, distinct, with_new, Falsifies}
-use Rattle.spv_report.specs.Verdicts.{other_than, rows_for, reflexive_proof}
+use Rattle.spv_report.specs.Tables.{number_in, distinct, Falsifies}
+use Rattle.spv_report.specs.Verdicts.{other_than, rows_for, reflexive_proof, IsPlain, branch_terms, table_terms}
 
 abbrev only : Term → Sequent
 only goal = record { given = []; goal = goal }
@@ -123,3 +124,49 @@ map-rows f (Some n) (Some m) l r = refl
 map-rows f (Some n) None l r = refl
 map-rows f None (Some m) l r = refl
 map-rows f None None l r = refl
+
+-- a term of another head is no numeral
+pub numeral-other : (h : Head) (ts : Terms) → ((z : ℤ) → h ≡ head.Num z → ⊥) → numeral (term h ts) ≡ None
+numeral-other (head.Num z) ts e = absurd (e z refl)
+numeral-other _ ts e = refl
+
+-- ---- the decision over an arena
+
+same_pair : (p q : Term × Term) → Some p ≡ Some q → p ≡ q
+same_pair p q e = cc
+
+firsts_same : (p q : Term × Term) → Some p ≡ Some q → p.0 ≡ q.0
+firsts_same p q e = ap (λ (r : Term × Term). r.0) (same_pair p q e)
+
+seconds_same : (p q : Term × Term) → Some p ≡ Some q → p.1 ≡ q.1
+seconds_same p q e = ap (λ (r : Term × Term). r.1) (same_pair p q e)
+
+module _ (a : Arena) (ok : IsArena a) (c : Condition) (plain : IsPlain a c) (left right : TermId) (found : sides (tree a c.goal) ≡ Some (pair_of a (left, right))) where
+  abbrev left_side : Term
+  left_side = side_term plain.equation.left
+
+  abbrev right_side : Term
+  right_side = side_term plain.equation.right
+
+  left_is : tree a left ≡ left_side
+  left_is = firsts_same (pair_of a (left, right)) (left_side, right_side) (sym found ∙ ap sides plain.goal_is)
+
+  right_is : tree a right ≡ right_side
+  right_is = seconds_same (pair_of a (left, right)) (left_side, right_side) (sym found ∙ ap sides plain.goal_is)
+
+  sequent_is : sequent a c ≡ only (equation left_side right_side)
+  sequent_is =
+      let g = ap (map (tree a)) plain.no_given in
+      let h = plain.goal_is in
+      λ i. record { given = g i; goal = h i }
+
+  pub unproved_right : left.0 < length a.nodes → right.0 < length a.nodes → left ≢ right → (u : Unproved) → u.branch ≡ (c.goal, false) ∷ [] → u.table ≡ rows_for (numeral (tree a left)) (numeral (tree a right)) left right → Falsifies (is_truth a.shapes a.decls) (sequent a c) (branch_terms a u.branch) (table_terms a u.table)
+  unproved_right left_in right_in differ u branch table =
+      let apart : left_side ≢ right_side = λ e. differ (same_id a ok right_side left right left_in right_in (left_is ∙ e) right_is) in
+      let b : branch_terms a u.branch ≡ (equation left_side right_side, false) ∷ [] = ap (branch_terms a) branch ∙ ap (λ t. (t, false) ∷ []) plain.goal_is in
+      let t : table_terms a u.table ≡ rows_for (numeral left_side) (numeral right_side) left_side right_side =
+      ap (table_terms a) table ∙ (map-rows (tree a) (numeral (tree a left)) (numeral (tree a right)) left right ∙ (ap (λ s. rows_for (numeral s) (numeral (tree a right)) s (tree a right)) left_is ∙ ap (λ s. rows_for (numeral left_side) (numeral s) left_side s) right_is)) in
+      subst (λ s. Falsifies (is_truth a.shapes a.decls) s (branch_terms a u.branch) (table_terms a u.table)) (sym sequent_is)
+      (subst (λ l. Falsifies (is_truth a.shapes a.decls) (only (equation left_side right_side)) l (table_terms a u.table)) (sym b)
+      (subst (λ l. Falsifies (is_truth a.shapes a.decls) (only (equation left_side right_side)) ((equation left_side right_side, false) ∷ []) l) (sym t)
+      (falsified a.shapes a.decls plain.equation.left plain.equation.right apart)))
