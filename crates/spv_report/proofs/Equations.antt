@@ -1,6 +1,6 @@
 -- The decision of an equation of sides is right.
-use Rattle.std.proofs.Common.{◌≡◌, ◌≢◌, Bool, true, false, cond, ◌||◌, List, [], ◌∷◌, map, ℤ, pos, ◌<◌, length, refl, sym, ap, subst, ◌∙◌, Option, Some, None, IsTrue}
-use Rattle.std.proofs.Common.{arith}
+use Rattle.std.proofs.Common.{◌≡◌, ◌≢◌, Bool, true, false, cond, ◌||◌, List, [], ◌∷◌, map, ℤ, pos, ◌<◌, length, refl, sym, ap, subst, ◌∙◌, Option, Some, None, IsTrue, IsSome, ℕ, zero, suc, ◌++◌, take}
+use Rattle.std.proofs.Common.{arith, get_or, Result, Ok, Err, IfOk}
 use Rattle.std.proofs.lemmas.Int.{ints}
 use Rattle.std.specs.Ordering.{int_eq}
 use Rattle.spv_logic.specs.declared.conditions.TermId.{TermId}
@@ -8,21 +8,26 @@ use Rattle.spv_logic.specs.declared.types.Shape.{Shape}
 use Rattle.spv_logic.specs.declared.types.Decl.{Decl}
 use Rattle.spv_logic.specs.declared.operators.Head.{Head}
 use Rattle.spv_logic.specs.declared.operators.Head.TheVariants as head
-use Rattle.spv_logic.specs.Terms.{Term, Terms, term, no_terms, term_eq}
+use Rattle.spv_logic.specs.Terms.{Term, Terms, term, no_terms, terms, term_eq}
+use Rattle.spv_logic.specs.Sorts.{result_sort}
+use Rattle.spv_logic.specs.declared.types.Sort.{Sort}
+use Rattle.spv_logic.specs.declared.types.Sort.TheVariants as sort
 use Rattle.spv_logic.specs.Conditions.{Sequent}
 use Rattle.spv_logic.proofs.Equality.{term_eq-true, term_eq-refl, int_eq-true}
 use Rattle.spv_form.specs.declared.form.Side.{Side}
 use Rattle.spv_form.specs.declared.form.Side.TheVariants.{Variable, Number as Numeral}
-use Rattle.spv_form.specs.Program.{side_term}
+use Rattle.spv_form.specs.Program.{side_term, equation_term}
+use Rattle.spv_form.specs.declared.form.Equation.{Equation}
 use Rattle.spv_proof.specs.Evaluation.{numeral, equation, sides}
 use Rattle.spv_term.specs.declared.nodes.Condition.{Condition}
-use Rattle.spv_term.specs.Arena.{Arena, IsArena, tree, sequent}
-use Rattle.spv_term.proofs.ArenaLemmas.{same_id}
+use Rattle.spv_term.specs.Arena.{Arena, IsArena, Extends, tree, trees, sequent}
+use Rattle.spv_term.proofs.ArenaLemmas.{same_id, tree-Extends}
 use Rattle.spv_report.specs.declared.verdict.Unproved.{Unproved}
+use Rattle.spv_report.specs.declared.verdict.Verdict.{Verdict}
 use Rattle.spv_proof.specs.Candidates.{pair_of}
 use Rattle.spv_proof.specs.Accepted.{accepts, is_truth}
 use Rattle.spv_report.specs.Tables.{number_in, distinct, Falsifies}
-use Rattle.spv_report.specs.Verdicts.{other_than, rows_for, reflexive_proof, IsPlain, branch_terms, table_terms}
+use Rattle.spv_report.specs.Verdicts.{IsVerdict, AreVerdicts, other_than, rows_for, reflexive_proof, IsPlain, branch_terms, table_terms}
 
 abbrev only : Term → Sequent
 only goal = record { given = []; goal = goal }
@@ -170,3 +175,35 @@ module _ (a : Arena) (ok : IsArena a) (c : Condition) (plain : IsPlain a c) (lef
       (subst (λ l. Falsifies (is_truth a.shapes a.decls) (only (equation left_side right_side)) l (table_terms a u.table)) (sym b)
       (subst (λ l. Falsifies (is_truth a.shapes a.decls) (only (equation left_side right_side)) ((equation left_side right_side, false) ∷ []) l) (sym t)
       (falsified a.shapes a.decls plain.equation.left plain.equation.right apart)))
+
+-- ---- the term of an equation
+
+-- a later arena keeps the sorts, so an equation of two numbers fits
+pub equation_fits : (shapes : List Shape) (decls : List Decl) (s t : Sort) → s ≡ sort.Int → t ≡ sort.Int → IsSome (result_sort shapes decls head.Eq (s ∷ t ∷ []))
+equation_fits shapes decls s t e f = rw (e, f) refl
+
+pub equation_tree : (a b : Arena) → Extends a b → (left right : TermId) → left.0 < length a.nodes → (e : Equation) → tree a left ≡ side_term e.left → tree b right ≡ side_term e.right → term head.Eq (trees b (left ∷ right ∷ [])) ≡ equation_term e
+equation_tree a b grows left right there e l r =
+    let l' : tree b left ≡ side_term e.left = tree-Extends grows left there ∙ l in
+    λ i. term head.Eq (terms (l' i) (terms (r i) no_terms))
+
+-- ---- verdicts
+
+pub verdicts_more : (a : Arena) (cs : List Condition) (k : ℕ) (vs : List Verdict) (c : Condition) (v : Verdict) → k < length cs → c ≡ get_or cs k c → AreVerdicts a (take k cs) vs → IsVerdict a c v → AreVerdicts a (take (suc k) cs) (vs ++ v ∷ [])
+verdicts_more a [] k vs c v within at right here = absurd (lt-zero within)
+  where
+    lt-zero : k < 0 → ⊥
+    lt-zero h = grind (arith)
+verdicts_more a (d ∷ cs) zero [] c v within at right here = (subst (λ x. IsVerdict a x v) at here, tt)
+verdicts_more a (d ∷ cs) zero (w ∷ vs) c v within at right here = absurd right
+verdicts_more a (d ∷ cs) (suc k) [] c v within at right here = absurd right
+verdicts_more a (d ∷ cs) (suc k) (w ∷ vs) c v within at right here = (right.0, verdicts_more a cs k vs c v below at right.1 here)
+  where
+    below : k < length cs
+    below = grind (arith)
+
+-- ---- made terms
+
+pub is_equation : {F : Type 0} (b : Arena) (r : Result TermId F) {made wanted : Term} → IfOk r (λ t. tree b t ≡ made) → made ≡ wanted → IfOk r (λ t. tree b t ≡ wanted)
+is_equation b (Ok t) is same = is ∙ same
+is_equation b (Err e) is same = tt

@@ -1,12 +1,12 @@
 // The decision of a condition without hypotheses whose goal is an equation of variables and numerals.
 
-ghost use Rattle.std.specs.Prelude.{◌≡◌, ◌<◌, [], ◌∷◌, length, Some, None, false, IfOk};
+ghost use Rattle.std.specs.Prelude.{◌≡◌, ◌<◌, [], ◌∷◌, length, Some, None, false, All, IfOk};
 ghost use Rattle.spv_term.specs.Arena.{tree};
 ghost use Rattle.spv_proof.specs.Evaluation.{numeral};
 ghost use Rattle.spv_report.specs.Verdicts as spec;
-ghost use Rattle.spv_report.specs.Verdicts.{IsVerdict, IsPlain, reflexive_proof, rows_for};
+ghost use Rattle.spv_report.specs.Verdicts.{IsVerdict, AreVerdicts, IsPlain, reflexive_proof, rows_for};
 
-use crate::verdict::{Branch, Table, Unproved, Verdict};
+use crate::verdict::{Branch, Table, Unproved, Verdict, Verdicts};
 use spv_proof::candidates::sides;
 use spv_proof::{Proof, ProofNode, Step, Steps};
 use spv_term::{Condition, Head, TermId, Terms};
@@ -25,6 +25,22 @@ pub fn decide(alloc: Global, terms: &Terms, condition: &Condition) -> Result<Ver
     } else {
         Ok(Verdict::Unproved(falsified(alloc, terms, condition.goal, left, right)?))
     }
+}
+
+/// The verdicts on conditions, in their order.
+pub(crate) fn decide_all(
+    alloc: Global,
+    terms: &Terms,
+    conditions: &[Condition],
+) -> Result<Verdicts, AllocError>
+    requires { All (IsPlain terms.now) conditions.now }
+    ensures { IfOk result (AreVerdicts terms.now conditions.now) }
+{
+    let mut verdicts = Vec::new(alloc);
+    for condition in conditions {
+        verdicts.push(decide(alloc, terms, condition)?)?;
+    }
+    Ok(Verdicts::from_vec(verdicts))
 }
 
 // The proof of an equation of a term with itself.

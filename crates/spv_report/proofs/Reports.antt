@@ -1,0 +1,39 @@
+-- A report without an unproved condition makes its program correct.
+use Rattle.std.proofs.Common.{◌≡◌, Bool, true, false, List, [], ◌∷◌, map, refl, sym, ap, subst, IsTrue}
+use Rattle.std.specs.List.{list_all}
+use Rattle.spv_logic.specs.declared.types.Shape.{Shape}
+use Rattle.spv_logic.specs.declared.types.Decl.{Decl}
+use Rattle.spv_logic.specs.Sorts.{shapes_ok}
+use Rattle.spv_logic.specs.Conditions as logic
+use Rattle.spv_logic.specs.Conditions.{Meaning, TrueIn}
+use Rattle.spv_term.specs.declared.nodes.Condition.{Condition}
+use Rattle.spv_term.specs.Arena.{Arena, tree, sequent}
+use Rattle.spv_meaning.specs.Programs.{well_formed}
+use Rattle.spv_meaning.specs.Rules.{conditions_of, AllTrueIn}
+use Rattle.spv_meaning.specs.Correctness.{Correct}
+use Rattle.spv_meaning.proofs.Rules.{conditions_correct}
+use Rattle.spv_form.specs.Program.{program_of}
+use Rattle.spv_proof.proofs.Soundness.{accepted_true}
+use Rattle.std.proofs.lemmas.Bool.{false≢true}
+use Rattle.spv_report.specs.declared.verdict.Verdict.{Verdict}
+use Rattle.spv_report.specs.declared.verdict.Verdict.TheVariants.{Proved, Unproved}
+use Rattle.spv_report.specs.Verdicts.{IsVerdict, AreVerdicts}
+use Rattle.spv_report.specs.Reports.{Findings, IsReport, claimed, all_proved, ProvedIsCorrectIn}
+
+-- proved conditions are true in every world
+all_true : (a : Arena) (world : Meaning) → shapes_ok a.shapes ≡ true → (cs : List Condition) (vs : List Verdict) → AreVerdicts a cs vs → all_proved vs ≡ true → AllTrueIn a.shapes a.decls world (map (claimed a) cs)
+all_true a world ok [] [] right proved = tt
+all_true a world ok [] (v ∷ vs) right proved = absurd right
+all_true a world ok (c ∷ cs) [] right proved = absurd right
+all_true a world ok (c ∷ cs) (Proved p ∷ vs) right proved =
+    (accepted_true a.shapes a.decls world ok (tree a) (sequent a c) p right.0, all_true a world ok cs vs right.1 proved)
+all_true a world ok (c ∷ cs) (Unproved u ∷ vs) right proved = absurd (false≢true proved)
+
+pub proved_correct : (r : Findings) → IsReport r → (world : Meaning) → ProvedIsCorrectIn r world
+proved_correct r is world proved =
+    let p = program_of r.form in
+    let ok : shapes_ok r.arena.shapes ≡ true = ap shapes_ok is.shapes in
+    let here : AllTrueIn r.arena.shapes r.arena.decls world (map (claimed r.arena) r.conditions) = all_true r.arena world ok r.conditions r.verdicts is.verdicts proved in
+    let there : AllTrueIn [] r.arena.decls world (map (claimed r.arena) r.conditions) = subst (λ shapes. AllTrueIn shapes r.arena.decls world (map (claimed r.arena) r.conditions)) is.shapes here in
+    let all : AllTrueIn [] [] world (map (claimed r.arena) r.conditions) = subst (λ decls. AllTrueIn [] decls world (map (claimed r.arena) r.conditions)) is.decls there in
+    conditions_correct p world is.formed (subst (AllTrueIn [] [] world) is.conditions all)
