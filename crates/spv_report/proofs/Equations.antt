@@ -1,7 +1,8 @@
 -- The decision of an equation of sides is right.
-use Rattle.std.proofs.Common.{◌≡◌, ◌≢◌, Bool, true, false, cond, ◌||◌, List, [], ◌∷◌, map, ℤ, pos, ◌<◌, length, refl, sym, ap, subst, ◌∙◌, Option, Some, None, IsTrue, IsSome, ℕ, zero, suc, ◌++◌, take}
+use Rattle.std.proofs.Common.{◌≡◌, ◌≢◌, Bool, true, false, cond, ◌||◌, List, [], ◌∷◌, map, ℤ, pos, ◌<◌, length, refl, sym, ap, subst, ◌∙◌, Option, Some, None, IsTrue, IsSome, All, ℕ, zero, suc, ◌++◌, take}
 use Rattle.std.proofs.Common.{arith, get_or, Result, Ok, Err, IfOk}
 use Rattle.std.proofs.lemmas.Int.{ints}
+use Rattle.std.proofs.lemmas.List.Elements.{All-nil, All-cons}
 use Rattle.std.specs.Ordering.{int_eq}
 use Rattle.spv_logic.specs.declared.conditions.TermId.{TermId}
 use Rattle.spv_logic.specs.declared.types.Shape.{Shape}
@@ -27,7 +28,7 @@ use Rattle.spv_report.specs.declared.verdict.Verdict.{Verdict}
 use Rattle.spv_proof.specs.Candidates.{pair_of}
 use Rattle.spv_proof.specs.Accepted.{accepts, is_truth}
 use Rattle.spv_report.specs.Tables.{number_in, distinct, Falsifies}
-use Rattle.spv_report.specs.Verdicts.{IsVerdict, AreVerdicts, other_than, rows_for, reflexive_proof, IsPlain, branch_terms, table_terms}
+use Rattle.spv_report.specs.Verdicts.{IsSide, IsEquation, IsUnproved, IsVerdict, AreVerdicts, other_than, rows_for, reflexive_proof, IsPlain, branch_terms, table_terms}
 
 abbrev only : Term → Sequent
 only goal = record { given = []; goal = goal }
@@ -135,6 +136,12 @@ pub numeral-other : (h : Head) (ts : Terms) → ((z : ℤ) → h ≡ head.Num z 
 numeral-other (head.Num z) ts e = absurd (e z refl)
 numeral-other _ ts e = refl
 
+rows_sides : (a : Arena) (x y : Option ℤ) (l r : TermId) → IsSide a l → IsSide a r → All (λ row. IsSide a row.0) (rows_for x y l r)
+rows_sides a (Some n) (Some m) l r left right = All-nil (λ row. IsSide a row.0)
+rows_sides a (Some n) None l r left right = All-cons (λ row. IsSide a row.0) (r, other_than n) [] right (All-nil (λ row. IsSide a row.0))
+rows_sides a None (Some m) l r left right = All-cons (λ row. IsSide a row.0) (l, other_than m) [] left (All-nil (λ row. IsSide a row.0))
+rows_sides a None None l r left right = All-cons (λ row. IsSide a row.0) (l, pos 0) ((r, pos 1) ∷ []) left (All-cons (λ row. IsSide a row.0) (r, pos 1) [] right (All-nil (λ row. IsSide a row.0)))
+
 -- ---- the decision over an arena
 
 same_pair : (p q : Term × Term) → Some p ≡ Some q → p ≡ q
@@ -148,33 +155,42 @@ seconds_same p q e = ap (λ (r : Term × Term). r.1) (same_pair p q e)
 
 module _ (a : Arena) (ok : IsArena a) (c : Condition) (plain : IsPlain a c) (left right : TermId) (found : sides (tree a c.goal) ≡ Some (pair_of a (left, right))) where
   abbrev left_side : Term
-  left_side = side_term plain.equation.left
+  left_side = side_term plain.goal.equation.left
 
   abbrev right_side : Term
-  right_side = side_term plain.equation.right
+  right_side = side_term plain.goal.equation.right
 
   left_is : tree a left ≡ left_side
-  left_is = firsts_same (pair_of a (left, right)) (left_side, right_side) (sym found ∙ ap sides plain.goal_is)
+  left_is = firsts_same (pair_of a (left, right)) (left_side, right_side) (sym found ∙ ap sides plain.goal.tree_is)
 
   right_is : tree a right ≡ right_side
-  right_is = seconds_same (pair_of a (left, right)) (left_side, right_side) (sym found ∙ ap sides plain.goal_is)
+  right_is = seconds_same (pair_of a (left, right)) (left_side, right_side) (sym found ∙ ap sides plain.goal.tree_is)
 
   sequent_is : sequent a c ≡ only (equation left_side right_side)
   sequent_is =
       let g = ap (map (tree a)) plain.no_given in
-      let h = plain.goal_is in
+      let h = plain.goal.tree_is in
       λ i. record { given = g i; goal = h i }
 
-  pub unproved_right : left.0 < length a.nodes → right.0 < length a.nodes → left ≢ right → (u : Unproved) → u.branch ≡ (c.goal, false) ∷ [] → u.table ≡ rows_for (numeral (tree a left)) (numeral (tree a right)) left right → Falsifies (is_truth a.shapes a.decls) (sequent a c) (branch_terms a u.branch) (table_terms a u.table)
+  pub unproved_right : left.0 < length a.nodes → right.0 < length a.nodes → left ≢ right → (u : Unproved) → u.branch ≡ (c.goal, false) ∷ [] → u.table ≡ rows_for (numeral (tree a left)) (numeral (tree a right)) left right → IsUnproved a c u
   unproved_right left_in right_in differ u branch table =
       let apart : left_side ≢ right_side = λ e. differ (same_id a ok right_side left right left_in right_in (left_is ∙ e) right_is) in
-      let b : branch_terms a u.branch ≡ (equation left_side right_side, false) ∷ [] = ap (branch_terms a) branch ∙ ap (λ t. (t, false) ∷ []) plain.goal_is in
+      let b : branch_terms a u.branch ≡ (equation left_side right_side, false) ∷ [] = ap (branch_terms a) branch ∙ ap (λ t. (t, false) ∷ []) plain.goal.tree_is in
       let t : table_terms a u.table ≡ rows_for (numeral left_side) (numeral right_side) left_side right_side =
       ap (table_terms a) table ∙ (map-rows (tree a) (numeral (tree a left)) (numeral (tree a right)) left right ∙ (ap (λ s. rows_for (numeral s) (numeral (tree a right)) s (tree a right)) left_is ∙ ap (λ s. rows_for (numeral left_side) (numeral s) left_side s) right_is)) in
-      subst (λ s. Falsifies (is_truth a.shapes a.decls) s (branch_terms a u.branch) (table_terms a u.table)) (sym sequent_is)
-      (subst (λ l. Falsifies (is_truth a.shapes a.decls) (only (equation left_side right_side)) l (table_terms a u.table)) (sym b)
-      (subst (λ l. Falsifies (is_truth a.shapes a.decls) (only (equation left_side right_side)) ((equation left_side right_side, false) ∷ []) l) (sym t)
-      (falsified a.shapes a.decls plain.equation.left plain.equation.right apart)))
+      record {
+        falsifies =
+            subst (λ s. Falsifies (is_truth a.shapes a.decls) s (branch_terms a u.branch) (table_terms a u.table)) (sym sequent_is)
+            (subst (λ l. Falsifies (is_truth a.shapes a.decls) (only (equation left_side right_side)) l (table_terms a u.table)) (sym b)
+            (subst (λ l. Falsifies (is_truth a.shapes a.decls) (only (equation left_side right_side)) ((equation left_side right_side, false) ∷ []) l) (sym t)
+            (falsified a.shapes a.decls plain.goal.equation.left plain.goal.equation.right apart)));
+        equations = subst (All (λ r. IsEquation a r.0)) (sym branch) (All-cons (λ r. IsEquation a r.0) (c.goal, false) [] plain.goal (All-nil (λ r. IsEquation a r.0)));
+        sides =
+            subst (All (λ r. IsSide a r.0)) (sym table)
+            (rows_sides a (numeral (tree a left)) (numeral (tree a right)) left right
+            (record { side = plain.goal.equation.left; tree_is = left_is; in_range = left_in })
+            (record { side = plain.goal.equation.right; tree_is = right_is; in_range = right_in }));
+      }
 
 -- ---- the term of an equation
 

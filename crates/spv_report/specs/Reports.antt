@@ -1,5 +1,5 @@
 -- Reports, and what each keeps.
-use Rattle.std.specs.Prelude.{◌≡◌, ℕ, Bool, true, false, List, [], All, map, IsTrue}
+use Rattle.std.specs.Prelude.{◌≡◌, ℕ, Bool, true, false, not, List, [], All, map, IsTrue}
 use Rattle.std.specs.List.{list_all}
 use Rattle.spv_logic.specs.Conditions as logic
 use Rattle.spv_logic.specs.Conditions.{Meaning}
@@ -38,6 +38,9 @@ pub record IsReport (r : Findings) : Type 0 where
 abbrev pub is_proved : Verdict → Bool
 is_proved (Proved p) = true
 is_proved (Unproved u) = false
+
+abbrev pub is_unproved : Verdict → Bool
+is_unproved v = not (is_proved v)
 
 abbrev pub all_proved : List Verdict → Bool
 all_proved verdicts = list_all is_proved verdicts

@@ -9,5 +9,5 @@ mod verdict;
 
 pub use decision::decide;
 pub use fault::VerifyFault;
-pub use report::{Report, law_report, verify};
+pub use report::{Report, all_proved, law_report, verify};
 pub use verdict::{Branch, Table, Unproved, Verdict, Verdicts};

@@ -4,7 +4,7 @@ ghost use Rattle.std.specs.Prelude.{◌≡◌, IsTrue, IfOk};
 ghost use Rattle.spv_logic.specs.Conditions.{Meaning};
 ghost use Rattle.spv_meaning.specs.Programs.{well_formed};
 ghost use Rattle.spv_form.specs.Program.{program_of};
-ghost use Rattle.spv_report.specs.Verdicts as spec;
+ghost use Rattle.spv_report.specs.Reports as reports;
 ghost use Rattle.spv_report.specs.Reports.{IsReport, ProvedIsCorrectIn};
 
 use crate::conditions::conditions;
@@ -114,6 +114,15 @@ impl Report {
     {
         let _ = &self.verdicts;
     }
+}
+
+/// Whether every verdict is Proved.
+pub fn all_proved(verdicts: &[Verdict]) -> bool
+    ensures { result ≡ reports.all_proved verdicts.now }
+{
+    verdicts
+        .iter()
+        .all(|verdict| matches!(verdict, Verdict::Proved(_)))
 }
 
 /// Where every condition of a report is proved, its program is correct: in every world at once, and in

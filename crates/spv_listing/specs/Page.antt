@@ -1,0 +1,76 @@
+-- The page of a report.
+use Rattle.std.specs.Prelude.{ℕ, suc, Bool, true, false, List, [], ◌∷◌, ◌++◌, ℤ, map, codes, decimal, signed_decimal, if◌then◌else◌}
+use Rattle.std.specs.List.{flat_map, count_by}
+use Rattle.spv_logic.specs.declared.conditions.Kind.{Kind}
+use Rattle.spv_logic.specs.declared.conditions.Kind.TheVariants as kind
+use Rattle.spv_logic.specs.declared.conditions.Origin.{Origin}
+use Rattle.spv_logic.specs.Terms.{Term}
+use Rattle.spv_logic.specs.Conditions.{Condition}
+use Rattle.spv_proof.specs.Evaluation.{negation}
+use Rattle.spv_term.specs.Arena.{Arena}
+use Rattle.spv_report.specs.declared.verdict.Verdict.{Verdict}
+use Rattle.spv_report.specs.declared.verdict.Verdict.TheVariants.{Proved, Unproved}
+use Rattle.spv_report.specs.Verdicts.{branch_terms, table_terms}
+use Rattle.spv_report.specs.Reports.{Findings, claimed, is_proved, is_unproved, all_proved}
+use Rattle.spv_listing.specs.Printed.{term_text}
+
+-- a line with its end
+abbrev pub line : List ℕ → List ℕ
+line text = text ++ 10 ∷ []
+
+abbrev pub kind_word : Kind → List ℕ
+kind_word kind.Exit = codes "EXIT"
+kind_word kind.Assert = codes "ASSERT"
+kind_word kind.Invariant = codes "INVARIANT"
+kind_word kind.Preserved = codes "PRESERVED"
+kind_word kind.Entry = codes "ENTRY"
+
+-- the heading of the condition with this number; so far each is of the main block
+abbrev pub heading : ℕ → Origin → List ℕ
+heading number origin =
+    codes "CONDITION " ++ decimal number ++ codes " MAIN " ++ kind_word origin.kind ++ codes " LINE " ++ decimal origin.line
+
+abbrev pub given_line : List (List ℕ) → Term → List ℕ
+given_line names t = line (codes "GIVEN " ++ term_text names t)
+
+abbrev pub goal_line : List (List ℕ) → Term → List ℕ
+goal_line names t = line (codes "GOAL " ++ term_text names t)
+
+-- an atom as the table has it
+abbrev pub atom : Term → Bool → Term
+atom t true = t
+atom t false = negation t
+
+abbrev pub branch_line : List (List ℕ) → Term × Bool → List ℕ
+branch_line names row = line (codes "BRANCH " ++ term_text names (atom row.0 row.1))
+
+abbrev pub value_line : List (List ℕ) → Term × ℤ → List ℕ
+value_line names row = line (codes "VALUE " ++ term_text names row.0 ++ codes " " ++ signed_decimal row.1)
+
+abbrev pub verdict_lines : List (List ℕ) → Arena → Verdict → List ℕ
+verdict_lines names a (Proved p) = line (codes "PROVED")
+verdict_lines names a (Unproved u) =
+    line (codes "UNPROVED") ++ flat_map (branch_line names) (branch_terms a u.branch) ++ flat_map (value_line names) (table_terms a u.table)
+
+-- a condition with its verdict
+abbrev pub condition_lines : List (List ℕ) → Arena → ℕ → Condition → Verdict → List ℕ
+condition_lines names a number c v =
+    line (heading number c.origin) ++ flat_map (given_line names) c.claim.given ++ goal_line names c.claim.goal ++ verdict_lines names a v
+
+-- conditions with their verdicts, numbered from this number on
+abbrev pub blocks : List (List ℕ) → Arena → ℕ → List Condition → List Verdict → List ℕ
+blocks names a number (c ∷ cs) (v ∷ vs) = condition_lines names a number c v ++ blocks names a (suc number) cs vs
+blocks names a number _ _ = []
+
+-- how many verdicts of each sort there are
+abbrev pub total : List Verdict → List ℕ
+total verdicts =
+    codes "TOTAL " ++ decimal (count_by is_proved verdicts) ++ codes " PROVED " ++ decimal (count_by is_unproved verdicts) ++ codes " UNPROVED 0 GAVE UP"
+
+abbrev pub result : List Verdict → List ℕ
+result verdicts = if all_proved verdicts then codes "RESULT PROVED" else codes "RESULT UNPROVED"
+
+-- the whole page
+abbrev pub page : Findings → List ℕ
+page r =
+    line (codes "SPV LISTING 1") ++ blocks r.names r.arena 1 (map (claimed r.arena) r.conditions) r.verdicts ++ line (total r.verdicts) ++ line (result r.verdicts)

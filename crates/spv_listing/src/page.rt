@@ -1,0 +1,249 @@
+// The page of a report, line by line.
+
+ghost use Rattle.std.specs.Prelude.{◌≡◌, ◌++◌, [], ◌∷◌, map, All, IfOk, OnOk};
+ghost use Rattle.std.specs.List.{flat_map, count_by};
+ghost use Rattle.spv_report.specs.Verdicts.{IsSide, IsEquation, IsPlain, IsVerdict, IsUnproved, AreVerdicts, branch_terms, table_terms};
+ghost use Rattle.spv_report.specs.Reports.{claimed, is_proved, is_unproved};
+ghost use Rattle.spv_listing.specs.Page as spec;
+ghost use Rattle.spv_listing.specs.Page.{line, heading, goal_line, branch_line, value_line, condition_lines, blocks};
+ghost use Rattle.spv_term.specs.Arena.{tree};
+
+use crate::printed::{push_decimal, push_equation, push_integer, push_negation, push_side};
+use spv_names::Names;
+use spv_report::{Report, Unproved, Verdict};
+use spv_term::{Condition, Kind, Origin, TermId, Terms};
+use std::alloc::{AllocError, Global};
+
+/// The page of a report: a heading, each condition with its goal and its verdict, and the totals. Each
+/// line ends with byte 10.
+pub fn page(alloc: Global, report: &Report) -> Result<Vec<u8>, AllocError>
+    ensures { IfOk result (λ p. p.items ≡ spec.page report.now) }
+{
+    report.law_findings();
+    let mut out = Vec::from_slice(alloc, b"SPV LISTING 1\n")?;
+    push_blocks(
+        &mut out,
+        report.names(),
+        report.terms(),
+        report.conditions(),
+        report.verdicts(),
+    )?;
+    push_total(&mut out, report.verdicts())?;
+    push_result(&mut out, report.verdicts())?;
+    Ok(out)
+}
+
+// Each condition with its verdict, numbered from 1.
+fn push_blocks(
+    out: &mut Vec<u8>,
+    names: &Names,
+    terms: &Terms,
+    conditions: &[Condition],
+    verdicts: &[Verdict],
+) -> Result<(), AllocError>
+    requires plain { All (IsPlain terms.now) conditions.now }
+    requires verdicts { AreVerdicts terms.now conditions.now verdicts.now }
+    ensures { OnOk result (out.new.items ≡ out.old.items ++ blocks names.now terms.now 1 (map (claimed terms.now) conditions.now) verdicts.now) }
+{
+    let mut number = 0;
+    let mut conditions = conditions;
+    let mut verdicts = verdicts;
+    while let ([condition, more @ ..], [verdict, others @ ..]) = (conditions, verdicts) {
+        number += 1;
+        push_condition(out, names, terms, number, condition, verdict)?;
+        conditions = more;
+        verdicts = others;
+    }
+    Ok(())
+}
+
+// A condition with its verdict.
+fn push_condition(
+    out: &mut Vec<u8>,
+    names: &Names,
+    terms: &Terms,
+    number: u64,
+    condition: &Condition,
+    verdict: &Verdict,
+) -> Result<(), AllocError>
+    requires plain { IsPlain terms.now condition.now }
+    requires verdict { IsVerdict terms.now condition.now verdict.now }
+    ensures { OnOk result (out.new.items ≡ out.old.items ++ condition_lines names.now terms.now number (claimed terms.now condition.now) verdict.now) }
+{
+    push_heading(out, number, condition.origin)?;
+    push_goal(out, names, terms, condition.goal)?;
+    match verdict {
+        Verdict::Proved(_) => {
+            out.extend_from_slice(b"PROVED\n")?;
+        }
+        Verdict::Unproved(unproved) => {
+            out.extend_from_slice(b"UNPROVED\n")?;
+            push_branch(out, names, terms, unproved.branch.as_slice())?;
+            push_table(out, names, terms, unproved.table.as_slice())?;
+        }
+    }
+    Ok(())
+}
+
+// The line of a condition's number and origin.
+fn push_heading(out: &mut Vec<u8>, number: u64, origin: Origin) -> Result<(), AllocError>
+    ensures { OnOk result (out.new.items ≡ out.old.items ++ line (heading number origin)) }
+{
+    out.extend_from_slice(b"CONDITION ")?;
+    push_decimal(out, number)?;
+    out.extend_from_slice(b" MAIN ")?;
+    out.extend_from_slice(kind_word(origin.kind))?;
+    out.extend_from_slice(b" LINE ")?;
+    push_decimal(out, origin.line as u64)?;
+    out.push(b'\n')?;
+    Ok(())
+}
+
+// The word for a kind of condition.
+fn kind_word(kind: Kind) -> &'static [u8]
+    ensures { result.now ≡ spec.kind_word kind }
+{
+    match kind {
+        Kind::Exit => b"EXIT",
+        Kind::Assert => b"ASSERT",
+        Kind::Invariant => b"INVARIANT",
+        Kind::Preserved => b"PRESERVED",
+        Kind::Entry => b"ENTRY",
+    }
+}
+
+// The line of a goal.
+fn push_goal(
+    out: &mut Vec<u8>,
+    names: &Names,
+    terms: &Terms,
+    goal: TermId,
+) -> Result<(), AllocError>
+    requires { IsEquation terms.now goal }
+    ensures { OnOk result (out.new.items ≡ out.old.items ++ goal_line names.now (tree terms.now goal)) }
+{
+    out.extend_from_slice(b"GOAL ")?;
+    push_equation(out, names, terms, goal)?;
+    out.push(b'\n')?;
+    Ok(())
+}
+
+// A line for each atom, as the table has it.
+fn push_branch(
+    out: &mut Vec<u8>,
+    names: &Names,
+    terms: &Terms,
+    branch: &[(TermId, bool)],
+) -> Result<(), AllocError>
+    requires { All (λ row. IsEquation terms.now row.0) branch.now }
+    ensures { OnOk result (out.new.items ≡ out.old.items ++ flat_map (branch_line names.now) (branch_terms terms.now branch.now)) }
+{
+    let mut rest = branch;
+    while let [(atom, truth), others @ ..] = rest {
+        push_atom(out, names, terms, *atom, *truth)?;
+        rest = others;
+    }
+    Ok(())
+}
+
+// The line of an atom, as the table has it.
+fn push_atom(
+    out: &mut Vec<u8>,
+    names: &Names,
+    terms: &Terms,
+    atom: TermId,
+    truth: bool,
+) -> Result<(), AllocError>
+    requires { IsEquation terms.now atom }
+    ensures { OnOk result (out.new.items ≡ out.old.items ++ branch_line names.now (tree terms.now atom, truth)) }
+{
+    out.extend_from_slice(b"BRANCH ")?;
+    if truth {
+        push_equation(out, names, terms, atom)?;
+    } else {
+        push_negation(out, names, terms, atom)?;
+    }
+    out.push(b'\n')?;
+    Ok(())
+}
+
+// A line for each row of a table.
+fn push_table(
+    out: &mut Vec<u8>,
+    names: &Names,
+    terms: &Terms,
+    table: &[(TermId, i128)],
+) -> Result<(), AllocError>
+    requires { All (λ row. IsSide terms.now row.0) table.now }
+    ensures { OnOk result (out.new.items ≡ out.old.items ++ flat_map (value_line names.now) (table_terms terms.now table.now)) }
+{
+    let mut rest = table;
+    while let [(side, number), others @ ..] = rest {
+        push_value(out, names, terms, *side, *number)?;
+        rest = others;
+    }
+    Ok(())
+}
+
+// The line of a variable's value.
+fn push_value(
+    out: &mut Vec<u8>,
+    names: &Names,
+    terms: &Terms,
+    side: TermId,
+    number: i128,
+) -> Result<(), AllocError>
+    requires { IsSide terms.now side }
+    ensures { OnOk result (out.new.items ≡ out.old.items ++ value_line names.now (tree terms.now side, number)) }
+{
+    out.extend_from_slice(b"VALUE ")?;
+    push_side(out, names, terms, side)?;
+    out.push(b' ')?;
+    push_integer(out, number)?;
+    out.push(b'\n')?;
+    Ok(())
+}
+
+// How many verdicts are Proved.
+fn count_proved(verdicts: &[Verdict]) -> usize
+    ensures { result ≡ count_by is_proved verdicts.now }
+{
+    verdicts
+        .iter()
+        .filter(|verdict| matches!(verdict, Verdict::Proved(_)))
+        .count()
+}
+
+// How many verdicts are Unproved.
+fn count_unproved(verdicts: &[Verdict]) -> usize
+    ensures { result ≡ count_by is_unproved verdicts.now }
+{
+    verdicts
+        .iter()
+        .filter(|verdict| matches!(verdict, Verdict::Unproved(_)))
+        .count()
+}
+
+// The line of the counts.
+fn push_total(out: &mut Vec<u8>, verdicts: &[Verdict]) -> Result<(), AllocError>
+    ensures { OnOk result (out.new.items ≡ out.old.items ++ line (spec.total verdicts.now)) }
+{
+    out.extend_from_slice(b"TOTAL ")?;
+    push_decimal(out, count_proved(verdicts) as u64)?;
+    out.extend_from_slice(b" PROVED ")?;
+    push_decimal(out, count_unproved(verdicts) as u64)?;
+    out.extend_from_slice(b" UNPROVED 0 GAVE UP\n")?;
+    Ok(())
+}
+
+// The line of the result.
+fn push_result(out: &mut Vec<u8>, verdicts: &[Verdict]) -> Result<(), AllocError>
+    ensures { OnOk result (out.new.items ≡ out.old.items ++ line (spec.result verdicts.now)) }
+{
+    if spv_report::all_proved(verdicts) {
+        out.extend_from_slice(b"RESULT PROVED\n")?;
+    } else {
+        out.extend_from_slice(b"RESULT UNPROVED\n")?;
+    }
+    Ok(())
+}
