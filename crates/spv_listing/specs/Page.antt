@@ -1,6 +1,7 @@
 -- The page of a report.
-use Rattle.std.specs.Prelude.{ℕ, suc, Bool, true, false, List, [], ◌∷◌, ◌++◌, ℤ, map, codes, decimal, signed_decimal, if◌then◌else◌}
+use Rattle.std.specs.Prelude.{ℕ, suc, Bool, true, false, List, [], ◌∷◌, ◌++◌, ℤ, map, codes, decimal, if◌then◌else◌}
 use Rattle.std.specs.List.{flat_map, count_by}
+use Rattle.std.specs.Fmt.{signed_decimal}
 use Rattle.spv_logic.specs.declared.conditions.Kind.{Kind}
 use Rattle.spv_logic.specs.declared.conditions.Kind.TheVariants as kind
 use Rattle.spv_logic.specs.declared.conditions.Origin.{Origin}
@@ -10,6 +11,7 @@ use Rattle.spv_proof.specs.Evaluation.{negation}
 use Rattle.spv_term.specs.Arena.{Arena}
 use Rattle.spv_report.specs.declared.verdict.Verdict.{Verdict}
 use Rattle.spv_report.specs.declared.verdict.Verdict.TheVariants.{Proved, Unproved}
+use Rattle.spv_report.specs.declared.verdict.Unproved.{Unproved as UnprovedBy}
 use Rattle.spv_report.specs.Verdicts.{branch_terms, table_terms}
 use Rattle.spv_report.specs.Reports.{Findings, claimed, is_proved, is_unproved, all_proved}
 use Rattle.spv_listing.specs.Printed.{term_text}
@@ -47,25 +49,35 @@ branch_line names row = line (codes "BRANCH " ++ term_text names (atom row.0 row
 abbrev pub value_line : List (List ℕ) → Term × ℤ → List ℕ
 value_line names row = line (codes "VALUE " ++ term_text names row.0 ++ codes " " ++ signed_decimal row.1)
 
+-- a condition: its heading, its hypotheses and its goal
+abbrev pub claim_lines : List (List ℕ) → ℕ → Condition → List ℕ
+claim_lines names number c =
+    line (heading number c.origin) ++ flat_map (given_line names) c.claim.given ++ goal_line names c.claim.goal
+
+abbrev pub unproved_lines : List (List ℕ) → Arena → UnprovedBy → List ℕ
+unproved_lines names a u =
+    line (codes "UNPROVED") ++ flat_map (branch_line names) (branch_terms a u.branch) ++ flat_map (value_line names) (table_terms a u.table)
+
 abbrev pub verdict_lines : List (List ℕ) → Arena → Verdict → List ℕ
 verdict_lines names a (Proved p) = line (codes "PROVED")
-verdict_lines names a (Unproved u) =
-    line (codes "UNPROVED") ++ flat_map (branch_line names) (branch_terms a u.branch) ++ flat_map (value_line names) (table_terms a u.table)
+verdict_lines names a (Unproved u) = unproved_lines names a u
 
 -- a condition with its verdict
 abbrev pub condition_lines : List (List ℕ) → Arena → ℕ → Condition → Verdict → List ℕ
-condition_lines names a number c v =
-    line (heading number c.origin) ++ flat_map (given_line names) c.claim.given ++ goal_line names c.claim.goal ++ verdict_lines names a v
+condition_lines names a number c v = claim_lines names number c ++ verdict_lines names a v
 
 -- conditions with their verdicts, numbered from this number on
 abbrev pub blocks : List (List ℕ) → Arena → ℕ → List Condition → List Verdict → List ℕ
 blocks names a number (c ∷ cs) (v ∷ vs) = condition_lines names a number c v ++ blocks names a (suc number) cs vs
 blocks names a number _ _ = []
 
--- how many verdicts of each sort there are
+-- the line of these counts; no verdict gives up yet
+abbrev pub counts : ℕ → ℕ → List ℕ
+counts proved unproved = codes "TOTAL " ++ decimal proved ++ codes " PROVED " ++ decimal unproved ++ codes " UNPROVED 0 GAVE UP\n"
+
+-- the line that tells how many verdicts of each sort there are
 abbrev pub total : List Verdict → List ℕ
-total verdicts =
-    codes "TOTAL " ++ decimal (count_by is_proved verdicts) ++ codes " PROVED " ++ decimal (count_by is_unproved verdicts) ++ codes " UNPROVED 0 GAVE UP"
+total verdicts = counts (count_by is_proved verdicts) (count_by is_unproved verdicts)
 
 abbrev pub result : List Verdict → List ℕ
 result verdicts = if all_proved verdicts then codes "RESULT PROVED" else codes "RESULT UNPROVED"
@@ -73,4 +85,4 @@ result verdicts = if all_proved verdicts then codes "RESULT PROVED" else codes "
 -- the whole page
 abbrev pub page : Findings → List ℕ
 page r =
-    line (codes "SPV LISTING 1") ++ blocks r.names r.arena 1 (map (claimed r.arena) r.conditions) r.verdicts ++ line (total r.verdicts) ++ line (result r.verdicts)
+    line (codes "SPV LISTING 1") ++ blocks r.names r.arena 1 (map (claimed r.arena) r.conditions) r.verdicts ++ total r.verdicts ++ line (result r.verdicts)

@@ -1,5 +1,6 @@
 -- How names, numbers and terms are printed.
-use Rattle.std.specs.Prelude.{ℕ, zero, suc, List, [], ◌++◌, slice_index_or, codes, decimal, signed_decimal}
+use Rattle.std.specs.Prelude.{ℕ, zero, suc, List, [], ◌++◌, slice_index_or, codes, decimal}
+use Rattle.std.specs.Fmt.{signed_decimal}
 use Rattle.spv_names.specs.declared.names.Symbol.{Symbol}
 use Rattle.spv_logic.specs.declared.operators.Head.TheVariants.{Var, Num, Eq, Not}
 use Rattle.spv_logic.specs.Terms.{Term, term, no_terms, terms}

@@ -1,7 +1,7 @@
 //! Listings: the page of a report.
 #![tactic(auto)]
 
-mod page;
+mod listing;
 mod printed;
 
-pub use page::page;
+pub use listing::page;

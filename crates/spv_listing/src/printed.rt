@@ -1,7 +1,8 @@
 // Names, numbers and terms as text. Each function adds the text at the end of `out`, or answers for
 // want of memory.
 
-ghost use Rattle.std.specs.Prelude.{◌≡◌, ◌++◌, OnOk, decimal, signed_decimal};
+ghost use Rattle.std.specs.Prelude.{◌≡◌, ◌++◌, OnOk, decimal};
+ghost use Rattle.std.specs.Fmt.{signed_decimal};
 ghost use Rattle.spv_term.specs.Arena.{tree};
 ghost use Rattle.spv_report.specs.Verdicts.{IsSide, IsEquation};
 ghost use Rattle.spv_proof.specs.Evaluation.{negation};

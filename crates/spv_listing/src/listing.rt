@@ -5,7 +5,7 @@ ghost use Rattle.std.specs.List.{flat_map, count_by};
 ghost use Rattle.spv_report.specs.Verdicts.{IsSide, IsEquation, IsPlain, IsVerdict, IsUnproved, AreVerdicts, branch_terms, table_terms};
 ghost use Rattle.spv_report.specs.Reports.{claimed, is_proved, is_unproved};
 ghost use Rattle.spv_listing.specs.Page as spec;
-ghost use Rattle.spv_listing.specs.Page.{line, heading, goal_line, branch_line, value_line, condition_lines, blocks};
+ghost use Rattle.spv_listing.specs.Page.{line, heading, goal_line, branch_line, value_line, claim_lines, unproved_lines, condition_lines, blocks, counts};
 ghost use Rattle.spv_term.specs.Arena.{tree};
 
 use crate::printed::{push_decimal, push_equation, push_integer, push_negation, push_side};
@@ -45,14 +45,16 @@ fn push_blocks(
     requires verdicts { AreVerdicts terms.now conditions.now verdicts.now }
     ensures { OnOk result (out.new.items ≡ out.old.items ++ blocks names.now terms.now 1 (map (claimed terms.now) conditions.now) verdicts.now) }
 {
-    let mut number = 0;
-    let mut conditions = conditions;
-    let mut verdicts = verdicts;
-    while let ([condition, more @ ..], [verdict, others @ ..]) = (conditions, verdicts) {
-        number += 1;
-        push_condition(out, names, terms, number, condition, verdict)?;
-        conditions = more;
-        verdicts = others;
+    for place in 0..conditions.len() {
+        let number = place as u64 + 1;
+        push_condition(
+            out,
+            names,
+            terms,
+            number,
+            &conditions[place],
+            &verdicts[place],
+        )?;
     }
     Ok(())
 }
@@ -70,19 +72,45 @@ fn push_condition(
     requires verdict { IsVerdict terms.now condition.now verdict.now }
     ensures { OnOk result (out.new.items ≡ out.old.items ++ condition_lines names.now terms.now number (claimed terms.now condition.now) verdict.now) }
 {
-    push_heading(out, number, condition.origin)?;
-    push_goal(out, names, terms, condition.goal)?;
+    push_claim(out, names, terms, number, condition)?;
     match verdict {
         Verdict::Proved(_) => {
             out.extend_from_slice(b"PROVED\n")?;
         }
-        Verdict::Unproved(unproved) => {
-            out.extend_from_slice(b"UNPROVED\n")?;
-            push_branch(out, names, terms, unproved.branch.as_slice())?;
-            push_table(out, names, terms, unproved.table.as_slice())?;
-        }
+        Verdict::Unproved(unproved) => push_unproved(out, names, terms, unproved)?,
     }
     Ok(())
+}
+
+// A condition: its number and origin, and its goal.
+fn push_claim(
+    out: &mut Vec<u8>,
+    names: &Names,
+    terms: &Terms,
+    number: u64,
+    condition: &Condition,
+) -> Result<(), AllocError>
+    requires { IsPlain terms.now condition.now }
+    ensures { OnOk result (out.new.items ≡ out.old.items ++ claim_lines names.now number (claimed terms.now condition.now)) }
+{
+    push_heading(out, number, condition.origin)?;
+    push_goal(out, names, terms, condition.goal)
+}
+
+// What shows that a condition was not proved.
+fn push_unproved(
+    out: &mut Vec<u8>,
+    names: &Names,
+    terms: &Terms,
+    unproved: &Unproved,
+) -> Result<(), AllocError>
+    requires equations { All (λ row. IsEquation terms.now row.0) unproved.now.branch }
+    requires sides { All (λ row. IsSide terms.now row.0) unproved.now.table }
+    ensures { OnOk result (out.new.items ≡ out.old.items ++ unproved_lines names.now terms.now unproved.now) }
+{
+    out.extend_from_slice(b"UNPROVED\n")?;
+    push_branch(out, names, terms, unproved.branch.as_slice())?;
+    push_table(out, names, terms, unproved.table.as_slice())
 }
 
 // The line of a condition's number and origin.
@@ -138,10 +166,8 @@ fn push_branch(
     requires { All (λ row. IsEquation terms.now row.0) branch.now }
     ensures { OnOk result (out.new.items ≡ out.old.items ++ flat_map (branch_line names.now) (branch_terms terms.now branch.now)) }
 {
-    let mut rest = branch;
-    while let [(atom, truth), others @ ..] = rest {
-        push_atom(out, names, terms, *atom, *truth)?;
-        rest = others;
+    for row in branch {
+        push_atom(out, names, terms, row.0, row.1)?;
     }
     Ok(())
 }
@@ -177,10 +203,8 @@ fn push_table(
     requires { All (λ row. IsSide terms.now row.0) table.now }
     ensures { OnOk result (out.new.items ≡ out.old.items ++ flat_map (value_line names.now) (table_terms terms.now table.now)) }
 {
-    let mut rest = table;
-    while let [(side, number), others @ ..] = rest {
-        push_value(out, names, terms, *side, *number)?;
-        rest = others;
+    for row in table {
+        push_value(out, names, terms, row.0, row.1)?;
     }
     Ok(())
 }
@@ -224,16 +248,25 @@ fn count_unproved(verdicts: &[Verdict]) -> usize
         .count()
 }
 
-// The line of the counts.
-fn push_total(out: &mut Vec<u8>, verdicts: &[Verdict]) -> Result<(), AllocError>
-    ensures { OnOk result (out.new.items ≡ out.old.items ++ line (spec.total verdicts.now)) }
+// The line of these counts.
+fn push_counts(out: &mut Vec<u8>, proved: u64, unproved: u64) -> Result<(), AllocError>
+    ensures { OnOk result (out.new.items ≡ out.old.items ++ counts proved unproved) }
 {
     out.extend_from_slice(b"TOTAL ")?;
-    push_decimal(out, count_proved(verdicts) as u64)?;
+    push_decimal(out, proved)?;
     out.extend_from_slice(b" PROVED ")?;
-    push_decimal(out, count_unproved(verdicts) as u64)?;
+    push_decimal(out, unproved)?;
     out.extend_from_slice(b" UNPROVED 0 GAVE UP\n")?;
     Ok(())
+}
+
+// The line of the counts of the verdicts.
+fn push_total(out: &mut Vec<u8>, verdicts: &[Verdict]) -> Result<(), AllocError>
+    ensures { OnOk result (out.new.items ≡ out.old.items ++ spec.total verdicts.now) }
+{
+    let proved = count_proved(verdicts) as u64;
+    let unproved = count_unproved(verdicts) as u64;
+    push_counts(out, proved, unproved)
 }
 
 // The line of the result.
