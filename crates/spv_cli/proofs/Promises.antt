@@ -1,0 +1,107 @@
+-- What a run promises follows from what it does.
+use Rattle.std.proofs.Common.{◌≡◌, ◌⊎◌, inl, inr, ℕ, ◌≤◌, ◌<◌, ◌+◌, ◌-◌, ◌^◌, min, Bool, true, false, cond, List, [], ◌∷◌, Option, Some, None, is_some, IfSome, refl, sym, ap, ◌∙◌, subst, arith}
+use Rattle.std.proofs.lemmas.Bool.{false≢true}
+use Rattle.spv_io.specs.Faults.{raised, Rose, DidNotRise}
+use Rattle.spv_io.specs.Sink.{added, AddsPrefix}
+use Rattle.spv_io.specs.Texts.{named}
+use Rattle.spv_logic.specs.Conditions.{Meaning}
+use Rattle.spv_meaning.specs.Correctness.{Correct}
+use Rattle.spv_form.specs.declared.form.Form.{Form}
+use Rattle.spv_form.specs.Program.{program_of}
+use Rattle.spv_report.specs.Reports.{Findings, IsReport, all_proved}
+use Rattle.spv_report.proofs.Reports.{proved_correct}
+use Rattle.spv_listing.specs.Page.{page}
+use Rattle.spv_cli.specs.declared.refusal.Refusal.{Refusal}
+use Rattle.spv_cli.specs.declared.found.Found.{Found}
+use Rattle.spv_cli.specs.declared.found.Found.TheVariants.{ReadFailed, Refusing, Reporting}
+use Rattle.spv_cli.specs.declared.running.Ran.{Ran}
+use Rattle.spv_cli.specs.Output.{words_line, read_fault_line, page_status}
+use Rattle.spv_cli.specs.Refusals.{IsRefused, IsReportOf}
+use Rattle.spv_cli.specs.Runs.{Reading, Writing, IsUnread, IsWritten, IsCut, IsFound, IsOutOfMemory, MayBeRead, HasRunFor, output, status, report}
+use Rattle.spv_cli.specs.Promises.{IsOneOf, IsThere, IsDueFor}
+
+-- ---- what is found, by the status
+
+found_status : (f : Found) → IsOneOf (0 ∷ 1 ∷ 3 ∷ 4 ∷ []) (status f)
+found_status ReadFailed = refl
+found_status (Refusing r) = refl
+found_status (Reporting r) = by_proved (all_proved r.verdicts)
+  where
+    by_proved : (b : Bool) → IsOneOf (0 ∷ 1 ∷ 3 ∷ 4 ∷ []) (cond b 0 1)
+    by_proved true = refl
+    by_proved false = refl
+
+-- another status
+not_of : (numbers : List ℕ) {s t : ℕ} → IsOneOf numbers s → s ≡ t → IsOneOf numbers t
+not_of numbers is e = subst (IsOneOf numbers) e is
+
+there : {X : Type 0} (P : X → Type 0) {o p : Option X} → o ≡ p → IsThere p P → IsThere o P
+there {X} P {o} {p} e h = subst (λ q. IsThere q P) (sym e) h
+
+at_zero : (o : Reading) (file : List ℕ) (f : Found) → IsFound o file f → status f ≡ 0 → IsThere (report f) (λ r. IsReport r × (all_proved r.verdicts ≡ true))
+at_zero o file ReadFailed is e = absurd (false≢true (not_of (4 ∷ []) refl e))
+at_zero o file (Refusing r) is e = absurd (false≢true (not_of (3 ∷ []) refl e))
+at_zero o file (Reporting r) is e = (is.1, by_proved (all_proved r.verdicts) e)
+  where
+    by_proved : (b : Bool) → ◌≡◌ {A = ℕ} (cond b 0 1) 0 → b ≡ true
+    by_proved true e = refl
+    by_proved false e = absurd (false≢true (not_of (1 ∷ []) refl e))
+
+map_there : {X : Type 0} (o : Option X) {P Q : X → Type 0} → IsThere o P → ((x : X) → P x → Q x) → IsThere o Q
+map_there None h f = absurd h
+map_there (Some x) h f = f x h
+
+-- ---- runs, by their cases
+
+module _ (o : Reading) (w : Writing) (ran : Ran) where
+  by_case : (P : Option (List ℕ) → Type 0)
+      → (IsUnread o → ran.report ≡ None → ran.status ≡ 7 → IsWritten w words_line → P None)
+      → (IsUnread o → ran.report ≡ None → ran.status ≡ 5 → IsCut w words_line → P None)
+      → ((file : List ℕ) (f : Found) → IsFound o file f → ran.report ≡ report f → ran.status ≡ status f → IsWritten w (output file f) → P (Some file))
+      → ((file : List ℕ) (f : Found) → IsFound o file f → ran.report ≡ report f → ran.status ≡ 5 → IsCut w (output file f) → P (Some file))
+      → ((file : List ℕ) → IsOutOfMemory o w file ran → P (Some file))
+      → (c : Option (List ℕ)) → HasRunFor c o w ran → P c
+  by_case P none none_cut done done_cut memory None (unread, (empty, inl (s, written))) = none unread empty s written
+  by_case P none none_cut done done_cut memory None (unread, (empty, inr (s, cut))) = none_cut unread empty s cut
+  by_case P none none_cut done done_cut memory (Some file) (inl (f, is, (r, inl (s, written)))) = done file f is r s written
+  by_case P none none_cut done done_cut memory (Some file) (inl (f, is, (r, inr (s, cut)))) = done_cut file f is r s cut
+  by_case P none none_cut done done_cut memory (Some file) (inr m) = memory file m
+
+  -- ---- reports
+
+  pub proved : (c : Option (List ℕ)) → HasRunFor c o w ran → ran.status ≡ 0 → IsThere ran.report (λ r. IsReport r × (all_proved r.verdicts ≡ true))
+  proved = by_case (λ c. ran.status ≡ 0 → IsThere ran.report (λ r. IsReport r × (all_proved r.verdicts ≡ true)))
+      (λ unread none s written e. absurd (false≢true (not_of (7 ∷ []) refl (sym s ∙ e))))
+      (λ unread none s cut e. absurd (false≢true (not_of (5 ∷ []) refl (sym s ∙ e))))
+      (λ file f is r s written e. there (λ r. IsReport r × (all_proved r.verdicts ≡ true)) r (at_zero o file f is (sym s ∙ e)))
+      (λ file f is r s cut e. absurd (false≢true (not_of (5 ∷ []) refl (sym s ∙ e))))
+      (λ file m e. absurd (false≢true (not_of (6 ∷ []) refl (sym m.status ∙ e))))
+
+  pub correct : (world : Meaning) (c : Option (List ℕ)) → HasRunFor c o w ran → ran.status ≡ 0 → IsThere ran.report (λ r. Correct (program_of r.form) world)
+  correct world c has e = map_there ran.report (proved c has e) (λ r h. proved_correct r h.0 world h.1)
+
+  pub page_written : (c : Option (List ℕ)) → HasRunFor c o w ran → IsOneOf (0 ∷ 1 ∷ []) ran.status → IsThere ran.report (λ r. w.written_after ≡ added w.written_before (page r))
+  page_written = by_case (λ c. IsOneOf (0 ∷ 1 ∷ []) ran.status → IsThere ran.report (λ r. w.written_after ≡ added w.written_before (page r)))
+      (λ unread none s written e. absurd (false≢true (not_of (0 ∷ 1 ∷ []) e s)))
+      (λ unread none s cut e. absurd (false≢true (not_of (0 ∷ 1 ∷ []) e s)))
+      (λ file f is r s written e. there (λ r. w.written_after ≡ added w.written_before (page r)) r (found file f (not_of (0 ∷ 1 ∷ []) e s) written.written))
+      (λ file f is r s cut e. absurd (false≢true (not_of (0 ∷ 1 ∷ []) e s)))
+      (λ file m e. absurd (false≢true (not_of (0 ∷ 1 ∷ []) e m.status)))
+    where
+      found : (file : List ℕ) (f : Found) → IsOneOf (0 ∷ 1 ∷ []) (status f) → w.written_after ≡ added w.written_before (output file f) → IsThere (report f) (λ r. w.written_after ≡ added w.written_before (page r))
+      found file ReadFailed e h = absurd (false≢true e)
+      found file (Refusing r) e h = absurd (false≢true e)
+      found file (Reporting r) e h = h
+
+  pub part_written : (c : Option (List ℕ)) → HasRunFor c o w ran → ran.status ≡ 5 → (text : List ℕ) × IsDueFor c o.told o.faults_before o.faults_after ran.report text × AddsPrefix w.written_before w.written_after text
+  part_written = by_case (λ c. ran.status ≡ 5 → (text : List ℕ) × IsDueFor c o.told o.faults_before o.faults_after ran.report text × AddsPrefix w.written_before w.written_after text)
+      (λ unread none s written e. absurd (false≢true (not_of (7 ∷ []) refl (sym s ∙ e))))
+      (λ unread none s cut e. (words_line, subst (λ r. IsDueFor None o.told o.faults_before o.faults_after r words_line) (sym none) refl, cut.prefix))
+      (λ file f is r s written e. absurd (false≢true (not_of (0 ∷ 1 ∷ 3 ∷ 4 ∷ []) (found_status f) (sym s ∙ e))))
+      (λ file f is r s cut e. (output file f, subst (λ p. IsDueFor (Some file) o.told o.faults_before o.faults_after p (output file f)) (sym r) (due file f is), cut.prefix))
+      (λ file m e. absurd (false≢true (not_of (6 ∷ []) refl (sym m.status ∙ e))))
+    where
+      due : (file : List ℕ) (f : Found) → IsFound o file f → IsDueFor (Some file) o.told o.faults_before o.faults_after (report f) (output file f)
+      due file ReadFailed is = inl (refl, is.rose)
+      due file (Refusing r) is = inr (r, is.1, refl)
+      due file (Reporting r) is = refl

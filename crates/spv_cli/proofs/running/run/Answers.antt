@@ -1,0 +1,11 @@
+use Rattle.spv_cli.proofs.Promises.{correct, page_written, part_written}
+use Rattle.spv_cli.proofs.running.run.Goals as goal
+
+pub returns-clause-correct : goal.returns-clause-correct
+returns-clause-correct g c = correct _ _ c.attempt.result g.W.World.apply _ c.attempt.ensures
+
+pub returns-clause-page : goal.returns-clause-page
+returns-clause-page g c = page_written _ _ c.attempt.result _ c.attempt.ensures
+
+pub returns-clause-cut : goal.returns-clause-cut
+returns-clause-cut g c = part_written _ _ c.attempt.result _ c.attempt.ensures

@@ -1,0 +1,5 @@
+pub mod Commands
+pub mod Refusals
+pub mod Output
+pub mod Runs
+pub mod Promises

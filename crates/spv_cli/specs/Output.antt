@@ -1,0 +1,34 @@
+-- What is written.
+use Rattle.std.specs.Prelude.{ℕ, List, ◌++◌, codes, decimal, if◌then◌else◌}
+use Rattle.spv_report.specs.Reports.{Findings, all_proved}
+use Rattle.spv_listing.specs.Page.{page}
+use Rattle.spv_cli.specs.declared.refusal.Refusal.{Refusal}
+use Rattle.spv_cli.specs.declared.refusal.Refusal.TheVariants.{BadByte, OpenComment, NumeralTooLarge, TextTooLong, NotOfForm}
+
+-- the number and the word of a refusal
+abbrev pub reason : Refusal → List ℕ
+reason (BadByte line) = codes "1 BYTE"
+reason (OpenComment line) = codes "2 COMMENT"
+reason (NumeralTooLarge line) = codes "3 NUMERAL"
+reason TextTooLong = codes "4 LENGTH"
+reason NotOfForm = codes "22 FORM"
+
+abbrev pub line_of : Refusal → ℕ
+line_of (BadByte line) = line
+line_of (OpenComment line) = line
+line_of (NumeralTooLarge line) = line
+line_of TextTooLong = 1
+line_of NotOfForm = 1
+
+abbrev pub refusal_line : List ℕ → Refusal → List ℕ
+refusal_line file r = codes "REFUSED " ++ reason r ++ codes " " ++ file ++ codes " LINE " ++ decimal (line_of r) ++ codes "\n"
+
+abbrev pub read_fault_line : List ℕ → List ℕ
+read_fault_line file = codes "READ FAULT " ++ file ++ codes "\n"
+
+abbrev pub words_line : List ℕ
+words_line = codes "WORDS\n"
+
+-- the status of a page
+abbrev pub page_status : Findings → ℕ
+page_status r = if all_proved r.verdicts then 0 else 1

@@ -1,0 +1,91 @@
+// What is found of a command's file, and what is due then.
+
+ghost use Rattle.std.specs.Prelude.{◌≡◌, IfOk, OnErr};
+ghost use Rattle.spv_cli.specs.Runs as spec;
+ghost use Rattle.spv_cli.specs.Runs.{IsFound, MayBeRead};
+
+use crate::output::{read_fault_line, refusal_line};
+use crate::reading::{ReadFault, report_of};
+use crate::refusal::Refusal;
+use spv_io::{TextFault, Texts};
+use spv_report::{Report, all_proved};
+use std::alloc::{AllocError, Global};
+
+/// What is found of a file.
+#[derive(Drop)]
+pub(crate) enum Found {
+    /// It could not be read.
+    ReadFailed,
+    /// Its text is refused.
+    Refusing(Refusal),
+    /// Its text has this report.
+    Reporting(Report),
+}
+
+/// There is no memory.
+#[derive(Clone, Copy)]
+pub(crate) struct NoMemory;
+
+/// The most bytes that are read of a file: one above its limit.
+const MOST_BYTES: usize = 4_194_305;
+
+/// What is found of a file.
+pub(crate) fn find<T: Texts>(alloc: Global, file: &str, texts: &mut T) -> Result<Found, NoMemory>
+    ensures found { IfOk result (IsFound (record {
+      told = T.told texts.old;
+      asked_before = T.asked texts.old;
+      asked_after = T.asked texts.new;
+      faults_before = T.faults texts.old;
+      faults_after = T.faults texts.new;
+    }) file.now) }
+    ensures memory { OnErr result (MayBeRead (record {
+      told = T.told texts.old;
+      asked_before = T.asked texts.old;
+      asked_after = T.asked texts.new;
+      faults_before = T.faults texts.old;
+      faults_after = T.faults texts.new;
+    }) file.now) }
+{
+    let text = match texts.read(file, MOST_BYTES) {
+        Ok(text) => text,
+        Err(TextFault::Failed) => return Ok(Found::ReadFailed),
+        Err(TextFault::Memory) => return Err(NoMemory),
+    };
+    match report_of(alloc, &text) {
+        Ok(report) => Ok(Found::Reporting(report)),
+        Err(ReadFault::Refused(refusal)) => Ok(Found::Refusing(refusal)),
+        Err(ReadFault::Memory) => Err(NoMemory),
+    }
+}
+
+/// What is to be written then.
+pub(crate) fn output(alloc: Global, file: &str, found: &Found) -> Result<Vec<u8>, AllocError>
+    ensures { IfOk result (λ text. text.items ≡ spec.output file.now found.now) }
+{
+    match found {
+        Found::ReadFailed => read_fault_line(alloc, file),
+        Found::Refusing(refusal) => refusal_line(alloc, file, *refusal),
+        Found::Reporting(report) => spv_listing::page(alloc, report),
+    }
+}
+
+/// The status then, where all is written.
+pub(crate) fn status(found: &Found) -> u8
+    ensures { result ≡ spec.status found.now }
+{
+    match found {
+        Found::ReadFailed => 4,
+        Found::Refusing(_) => 3,
+        Found::Reporting(report) => { if all_proved(report.verdicts()) { 0 } else { 1 } }
+    }
+}
+
+/// The report, if one was found.
+pub(crate) fn into_report(found: Found) -> Option<Report>
+    ensures { result ≡ spec.report found }
+{
+    match found {
+        Found::Reporting(report) => Some(report),
+        _ => None,
+    }
+}
