@@ -9,3 +9,6 @@ pub use form::{
     before_statement, known_numbers,
 };
 pub use reading::{FormFault, read};
+
+#[cfg(test)]
+mod tests;

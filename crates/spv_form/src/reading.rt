@@ -15,13 +15,16 @@ use crate::form::{Assignment, Assignments, Equation, Exit, Form, Formula, KnownN
 use spv_names::Symbol;
 use spv_tree::{Sign, Token, TokenKind, Word};
 use std::alloc::{AllocError, Global};
+use thiserror::Error;
 
 /// Why no form was read.
-#[derive(Clone, Copy, PartialEq, Eq, Debug)]
+#[derive(Clone, Copy, PartialEq, Eq, Debug, Error)]
 pub enum FormFault {
     /// The tokens are not of the form.
+    #[error("this program is not of the form that is read")]
     NotOfForm,
-    /// There is no memory for the form.
+    /// There was no memory left for the form.
+    #[error("out of memory")]
     Memory,
 }
 

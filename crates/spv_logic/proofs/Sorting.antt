@@ -46,12 +46,12 @@ row_at-fits shapes e (row i v rows) key d h g =
     by_case true later = left_true _ _ h
     by_case false later = later
 
-after_weaker : (a b : ℤ) (rows : Rows) → int_lt a b ≡ true → ascend_after b rows ≡ true → ascend_after a rows ≡ true
+pub after_weaker : (a b : ℤ) (rows : Rows) → int_lt a b ≡ true → ascend_after b rows ≡ true → ascend_after a rows ≡ true
 after_weaker a b no_rows h g = refl
 after_weaker a b (row i v rows) h g =
     both_true (below_trans a b i h (left_true _ _ g)) (right_true (int_lt b i) _ g)
 
-ascend_from_after : (a : ℤ) (rows : Rows) → ascend_after a rows ≡ true → ascend rows ≡ true
+pub ascend_from_after : (a : ℤ) (rows : Rows) → ascend_after a rows ≡ true → ascend rows ≡ true
 ascend_from_after a no_rows h = refl
 ascend_from_after a (row i v rows) h = right_true (int_lt a i) _ h
 
@@ -190,27 +190,27 @@ with_member-after (suc p) cells h = with_cell-after 0 (suc p) cells (grind (arit
 
 -- ---- the parts of a value of a structure's sort
 
-record ArrayParts (shapes : List Shape) (v : Value) (e : Sort) : Type 0 where
-  other : Value
-  rows : Rows
-  is : v ≡ ArrayOf other rows
-  other_fits : fits shapes other e ≡ true
-  tidy : Tidy shapes e other rows
+pub record ArrayParts (shapes : List Shape) (v : Value) (e : Sort) : Type 0 where
+  pub other : Value
+  pub rows : Rows
+  pub is : v ≡ ArrayOf other rows
+  pub other_fits : fits shapes other e ≡ true
+  pub tidy : Tidy shapes e other rows
 
 record RecordParts (shapes : List Shape) (v : Value) (fields : List Field) : Type 0 where
   rows : Rows
   is : v ≡ RecordOf rows
   fit : fields_fit shapes rows fields ≡ true
 
-record ClassParts (shapes : List Shape) (v : Value) (e : Sort) : Type 0 where
-  cells : List ℕ
-  other : Value
-  rows : Rows
-  is : v ≡ ClassOf cells other rows
-  other_fits : fits shapes other e ≡ true
-  tidy : Tidy shapes e other rows
-  pointers : keys_are_pointers rows ≡ true
-  members : cells_after 0 cells ≡ true
+pub record ClassParts (shapes : List Shape) (v : Value) (e : Sort) : Type 0 where
+  pub cells : List ℕ
+  pub other : Value
+  pub rows : Rows
+  pub is : v ≡ ClassOf cells other rows
+  pub other_fits : fits shapes other e ≡ true
+  pub tidy : Tidy shapes e other rows
+  pub pointers : keys_are_pointers rows ≡ true
+  pub members : cells_after 0 cells ≡ true
 
 no_element : (shapes : List Shape) (a e : Sort) → sort_eq a sort.Int ≡ true → element_sort shapes a ≡ Some e → ⊥
 no_element shapes a e h g = let i = sort_eq-true a sort.Int h in cc (ap (element_sort shapes) i)
@@ -246,7 +246,7 @@ at_fields : (o : Option (List Field)) (fields : List Field) (test : List Field �
 at_fields None fields test g h = cc
 at_fields (Some s) fields test g h = let i : s ≡ fields = cc in ap test (sym i) ∙ h
 
-array_parts : (shapes : List Shape) (v : Value) (a e : Sort) → element_sort shapes a ≡ Some e → fits shapes v a ≡ true → ArrayParts shapes v e
+pub array_parts : (shapes : List Shape) (v : Value) (a e : Sort) → element_sort shapes a ≡ Some e → fits shapes v a ≡ true → ArrayParts shapes v e
 array_parts shapes (Number z) a e g h = absurd (no_element shapes a e h g)
 array_parts shapes (Truth b) a e g h = absurd (no_element_bool shapes a e h g)
 array_parts shapes (Pointer p) a e g h = absurd (no_element_pointer shapes a e h g)
@@ -285,7 +285,7 @@ no_content_list : (shapes : List Shape) (c e : Sort) → is_list c ≡ true → 
 no_content_list shapes sort.List e h g = cc
 no_content_list shapes _ e h g = absurd (false≢true h)
 
-class_parts : (shapes : List Shape) (v : Value) (c e : Sort) → content_sort shapes c ≡ Some e → fits shapes v c ≡ true → ClassParts shapes v e
+pub class_parts : (shapes : List Shape) (v : Value) (c e : Sort) → content_sort shapes c ≡ Some e → fits shapes v c ≡ true → ClassParts shapes v e
 class_parts shapes (Number z) c e g h = absurd (no_content shapes c e sort.Int h refl g)
 class_parts shapes (Truth b) c e g h = absurd (no_content shapes c e sort.Bool h refl g)
 class_parts shapes (Pointer p) c e g h = absurd (no_content_pointer shapes c e h g)
