@@ -1,0 +1,2 @@
+PROGRAM nothing;
+BEGIN END.

@@ -1,0 +1,5 @@
+PROGRAM same;
+VAR x: INTEGER;
+EXIT (* the line of the condition is that of its formula *)
+  (x = x);
+BEGIN END.
