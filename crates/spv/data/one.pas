@@ -1,0 +1,4 @@
+PROGRAM one;
+VAR x: INTEGER;
+EXIT x = 1;
+BEGIN x := 1 END.
