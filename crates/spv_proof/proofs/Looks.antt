@@ -153,6 +153,10 @@ module _ (a : Arena) (ok : IsArena a) (t : TermId) (n : Node) (at : slice_get a.
       let P : TermId → Type 0 = λ u. u.0 < length a.nodes in
       (subst P (sym (at_first n.args o.left x (o.right ∷ []) o.args_are f)) o.left_in, subst P (sym (at_second n.args o.left o.right y [] o.args_are g)) o.right_in)
 
+  pub two_sorts : (o : TwoArguments a ok t n at) (x y : TermId) → slice_get n.args 0 ≡ Some x → slice_get n.args 1 ≡ Some y → sort_at a x ≡ sort_at a y
+  two_sorts o x y f g =
+      ap (sort_at a) (at_first n.args o.left x (o.right ∷ []) o.args_are f) ∙ (o.same_sort ∙ sym (ap (sort_at a) (at_second n.args o.left o.right y [] o.args_are g)))
+
   pub two_are : (o : TwoArguments a ok t n at) (x y : TermId) → slice_get n.args 0 ≡ Some x → slice_get n.args 1 ≡ Some y → n.args ≡ x ∷ y ∷ []
   two_are o x y f g =
       let p = at_first n.args o.left x (o.right ∷ []) o.args_are f in

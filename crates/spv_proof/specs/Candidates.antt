@@ -26,21 +26,15 @@ pair_of a p = (tree a p.0, tree a p.1)
 abbrev pub PairIn : Arena → TermId × TermId → Type 0
 PairIn a p = (p.0.0 < length a.nodes) × (p.1.0 < length a.nodes)
 
--- its terms are in the arena
-abbrev pub IsIn : Arena → Candidate → Type 0
-IsIn a (Known t) = t.0 < length a.nodes
-IsIn a (Negation t) = t.0 < length a.nodes
-IsIn a (Equation s t) = (s.0 < length a.nodes) × (t.0 < length a.nodes)
-
 -- a term of sort Bool
 abbrev pub IsBool : Arena → TermId → Type 0
 IsBool a t = sort_at a t ≡ sort.Bool
 
--- it is of sort Bool, or would be
-abbrev pub IsFormula : Arena → Candidate → Type 0
-IsFormula a (Known t) = IsBool a t
-IsFormula a (Negation t) = IsBool a t
-IsFormula a (Equation s t) = sort_at a s ≡ sort_at a t
+-- its terms are in the arena, and of sorts that its head takes
+abbrev pub MayStand : Arena → Candidate → Type 0
+MayStand a (Known t) = t.0 < length a.nodes
+MayStand a (Negation t) = (t.0 < length a.nodes) × IsBool a t
+MayStand a (Equation s t) = (s.0 < length a.nodes) × (t.0 < length a.nodes) × (sort_at a s ≡ sort_at a t)
 
 -- the terms of a step are in the arena
 abbrev pub StatedIn : Arena → Stated → Type 0

@@ -2,4 +2,8 @@ pub mod Shape
 pub mod Evaluation
 pub mod Accepted
 pub mod Candidates
+pub mod Valued
+pub mod Added
+pub mod Steps
+pub mod Stops
 pub mod Laws

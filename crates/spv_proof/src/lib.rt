@@ -2,7 +2,15 @@
 #![tactic(auto)]
 
 pub mod candidates;
+mod checker;
 pub mod laws;
+mod numerals;
 pub mod proofs;
+mod steps;
+mod tables;
+#[cfg(test)]
+mod tests;
+mod valued;
 
+pub use checker::{CheckStop, check};
 pub use proofs::{Numbers, Proof, ProofNode, Split, Stated, Step, Steps};

@@ -4,6 +4,7 @@ ghost use Rattle.std.specs.Prelude.{◌≡◌, IsTrue};
 ghost use Rattle.spv_proof.specs.Shape.{is_tree};
 
 use spv_logic::TermId;
+use std::alloc::Global;
 use std::marker::Model;
 
 /// Numbers in a proof: of facts, from 1, or of nodes, from 0.
@@ -134,6 +135,11 @@ impl Proof {
         ensures { result ≡ nodes.items }
     {
         Proof { nodes }
+    }
+
+    // Where its memory comes from.
+    pub(crate) fn allocator(&self) -> Global {
+        *self.nodes.allocator()
     }
 
     /// The nodes, the root first.

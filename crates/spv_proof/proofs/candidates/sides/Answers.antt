@@ -1,5 +1,5 @@
 use Rattle.std.proofs.Common.{sym}
-use Rattle.spv_proof.proofs.Looks.{equation_node, sides-equation, two_len, two_len_first, two_in, two_are, no_sides}
+use Rattle.spv_proof.proofs.Looks.{equation_node, sides-equation, two_len, two_len_first, two_in, two_are, two_sorts, no_sides}
 use Rattle.spv_proof.proofs.Shown.{some_in, none_in}
 use Rattle.spv_proof.proofs.candidates.sides.Goals as goal
 
@@ -26,8 +26,15 @@ returns-in-Eq-clause-in_range c =
     let o = equation_node a c.law_arena.ensures c.args.t c.node-node.result.now c.node-node.ensures c.in-Eq.is in
     some_in _ (c.get.result, c.get-in-Eq.result) (two_in a c.law_arena.ensures c.args.t c.node-node.result.now c.node-node.ensures o c.get.result c.get-in-Eq.result c.get.ensures c.get-in-Eq.ensures)
 
+pub returns-in-Eq-clause-sorted : goal.returns-in-Eq-clause-sorted
+returns-in-Eq-clause-sorted c =
+    let a = c.args.terms.now in
+    let o = equation_node a c.law_arena.ensures c.args.t c.node-node.result.now c.node-node.ensures c.in-Eq.is in
+    some_in _ (c.get.result, c.get-in-Eq.result) (two_sorts a c.law_arena.ensures c.args.t c.node-node.result.now c.node-node.ensures o c.get.result c.get-in-Eq.result c.get.ensures c.get-in-Eq.ensures)
+
 pub returns-in_default : goal.returns-in_default
 returns-in_default c = record {
   value = no_sides c.args.terms.now c.law_arena.ensures c.args.t c.node-node.result.now c.node-node.ensures c.in_default.not-Eq;
   in_range = none_in _;
+  sorted = none_in _;
 }
