@@ -5,9 +5,8 @@
 use spv_cli::run;
 use spv_io::{FileTexts, Sink, StdSink};
 use spv_term::PlainWorld;
-use std::env;
-use std::io;
 use std::process::ExitCode;
+use std::{env, io};
 
 /// The status where the words are no command.
 const NO_COMMAND: u8 = 7;
