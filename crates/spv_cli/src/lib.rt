@@ -10,3 +10,8 @@ mod running;
 pub use refusal::Refusal;
 pub use running::{Ran, run};
 pub use spv_report::{Report, law_report};
+
+#[cfg(test)]
+mod outside_tests;
+#[cfg(test)]
+mod tests;

@@ -5,3 +5,6 @@ mod listing;
 mod printed;
 
 pub use listing::page;
+
+#[cfg(test)]
+mod tests;

@@ -11,3 +11,6 @@ pub use decision::decide;
 pub use fault::VerifyFault;
 pub use report::{Report, all_proved, law_report, verify};
 pub use verdict::{Branch, Table, Unproved, Verdict, Verdicts};
+
+#[cfg(test)]
+mod tests;
