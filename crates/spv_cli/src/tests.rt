@@ -19,7 +19,12 @@ pub(crate) struct Outcome {
 }
 
 // Texts with one file, where these reads fail.
-pub(crate) fn texts_of(alloc: Global, file: &str, text: &[u8], fails: &[u64]) -> Result<MemoryTexts, Fail> {
+pub(crate) fn texts_of(
+    alloc: Global,
+    file: &str,
+    text: &[u8],
+    fails: &[u64],
+) -> Result<MemoryTexts, Fail> {
     let mut files = Vec::new(alloc);
     files.push((String::from_str(alloc, file)?, text.to_vec(alloc)?))?;
     Ok(MemoryTexts::new(alloc, files, fails.to_vec(alloc)?))
@@ -54,7 +59,13 @@ fn verified(alloc: Global, file: &str, text: &[u8]) -> Result<Outcome, Fail> {
     outcome_of(alloc, &["spv", "verify", file], &mut texts, &[])
 }
 
-pub(crate) fn assert_outcome(rt: &impl Abort, got: &Outcome, status: u8, has_report: bool, output: &str) {
+pub(crate) fn assert_outcome(
+    rt: &impl Abort,
+    got: &Outcome,
+    status: u8,
+    has_report: bool,
+    output: &str,
+) {
     assert_eq!(rt; got.output.as_slice(), output.as_bytes(), "for {output}");
     assert_eq!(rt; got.status, status, "for {output}");
     assert_eq!(rt; got.has_report, has_report, "for {output}");

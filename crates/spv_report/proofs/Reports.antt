@@ -1,23 +1,17 @@
 -- A report without an unproved condition makes its program correct.
-use Rattle.std.proofs.Common.{◌≡◌, Bool, true, false, List, [], ◌∷◌, map, refl, sym, ap, subst, IsTrue}
-use Rattle.std.specs.List.{list_all}
-use Rattle.spv_logic.specs.declared.types.Shape.{Shape}
-use Rattle.spv_logic.specs.declared.types.Decl.{Decl}
+use Rattle.std.proofs.Common.{◌≡◌, true, List, [], ◌∷◌, map, ap, subst}
 use Rattle.spv_logic.specs.Sorts.{shapes_ok}
-use Rattle.spv_logic.specs.Conditions as logic
-use Rattle.spv_logic.specs.Conditions.{Meaning, TrueIn}
+use Rattle.spv_logic.specs.Conditions.{Meaning}
 use Rattle.spv_term.specs.declared.nodes.Condition.{Condition}
 use Rattle.spv_term.specs.Arena.{Arena, tree, sequent}
-use Rattle.spv_meaning.specs.Programs.{well_formed}
-use Rattle.spv_meaning.specs.Rules.{conditions_of, AllTrueIn}
-use Rattle.spv_meaning.specs.Correctness.{Correct}
+use Rattle.spv_meaning.specs.Rules.{AllTrueIn}
 use Rattle.spv_meaning.proofs.Rules.{conditions_correct}
 use Rattle.spv_form.specs.Program.{program_of}
 use Rattle.spv_proof.proofs.Soundness.{accepted_true}
 use Rattle.std.proofs.lemmas.Bool.{false≢true}
 use Rattle.spv_report.specs.declared.verdict.Verdict.{Verdict}
 use Rattle.spv_report.specs.declared.verdict.Verdict.TheVariants.{Proved, Unproved}
-use Rattle.spv_report.specs.Verdicts.{IsVerdict, AreVerdicts}
+use Rattle.spv_report.specs.Verdicts.{AreVerdicts}
 use Rattle.spv_report.specs.Reports.{Findings, IsReport, claimed, all_proved, ProvedIsCorrectIn}
 
 -- proved conditions are true in every world

@@ -1,4 +1,4 @@
-use Rattle.std.proofs.Common.{◌≡◌, ◌∷◌, [], ◌++◌, List, map, Some, Option, sym, ap, ◌∙◌}
+use Rattle.std.proofs.Common.{◌∷◌, [], ◌++◌, map, sym, ap, ◌∙◌}
 use Rattle.spv_form.specs.Program.{condition_of, conditions_in}
 use Rattle.spv_form.proofs.Program.{conditions_are}
 use Rattle.spv_term.specs.Arena.{Arena}

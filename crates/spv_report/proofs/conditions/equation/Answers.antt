@@ -1,6 +1,5 @@
-use Rattle.std.proofs.Common.{◌≡◌, sym, ap, ◌∙◌, subst, IsSome}
-use Rattle.spv_logic.specs.declared.types.Sort.TheVariants as sort
-use Rattle.spv_term.specs.Arena.{tree, sort_at}
+use Rattle.std.proofs.Common.{◌∙◌}
+use Rattle.spv_term.specs.Arena.{sort_at}
 use Rattle.spv_term.proofs.ArenaLemmas.{sort_at-Extends}
 use Rattle.spv_report.proofs.Equations.{equation_fits, equation_tree, is_equation}
 use Rattle.spv_report.proofs.conditions.equation.Goals as goal
