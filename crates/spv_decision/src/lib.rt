@@ -1,0 +1,6 @@
+//! Verdicts on conditions, and the decision of conditions that are equations of variables and numerals.
+#![tactic(auto)]
+
+mod verdict;
+
+pub use verdict::{Branch, Table, Unproved, Verdict, Verdicts};
