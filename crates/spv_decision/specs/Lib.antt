@@ -1,3 +1,5 @@
 pub mod Tables
 pub mod Forms
 pub mod Verdicts
+pub mod Derivations
+pub mod Forests

@@ -1,6 +1,8 @@
 //! Verdicts on conditions, and the decision of conditions that are equations of variables and numerals.
 #![tactic(auto)]
 
+mod derivation;
+mod forest;
 mod verdict;
 
 pub use verdict::{Branch, Table, Unproved, Verdict, Verdicts};

@@ -1,0 +1,41 @@
+-- Steps on one path, and the facts that they have added.
+use Rattle.std.specs.Prelude.{◌≡◌, ℕ, ◌<◌, List, [], ◌∷◌, ◌++◌, length, Option, Some, None}
+use Rattle.spv_logic.specs.declared.conditions.TermId.{TermId}
+use Rattle.spv_logic.specs.Terms.{Term}
+use Rattle.spv_term.specs.declared.nodes.Condition.{Condition}
+use Rattle.spv_term.specs.Arena.{Arena, tree, sequent}
+use Rattle.spv_proof.specs.declared.proofs.Step.{Step}
+use Rattle.spv_proof.specs.declared.proofs.Step.TheVariants.{Symm, Trans}
+use Rattle.spv_proof.specs.Accepted.{numbered}
+use Rattle.spv_proof.specs.Evaluation.{equation}
+use Rattle.spv_proof.specs.Added.{verdict_of, facts_added}
+
+-- the facts that steps add
+abbrev pub facts : Arena → Condition → List Step → List Term
+facts a c steps = facts_added a c [] steps
+
+-- each step adds a fact, so that what comes behind goes on from these facts
+pub record IsDerivation (a : Arena) (c : Condition) (steps : List Step) : Type 0 where
+  pub follows : (more : List Step) → verdict_of a c [] (steps ++ more) ≡ verdict_of a c (facts a c steps) more
+  pub adds : (more : List Step) → facts a c (steps ++ more) ≡ facts a c steps ++ facts_added a c (facts a c steps) more
+  pub count : length (facts a c steps) ≡ length steps
+
+-- the fact of this number is this formula
+pub record IsFact (a : Arena) (c : Condition) (steps : List Step) (k : ℕ) (t : Term) : Type 0 where
+  pub there : numbered (facts a c steps) k ≡ Some t
+
+-- a link of two terms: none where they are one term, else the number of the fact that they are equal
+abbrev pub Link : Arena → Condition → List Step → TermId → TermId → Option ℕ → Type 0
+Link a c steps p q None = p ≡ q
+Link a c steps p q (Some k) = IsFact a c steps k (equation (tree a p) (tree a q))
+
+-- the steps of the exchanged link
+abbrev pub Turns : List Step → Option ℕ → List Step → Option ℕ → Type 0
+Turns old None new after = (new ≡ old) × (after ≡ None)
+Turns old (Some k) new after = (new ≡ old ++ Symm k ∷ []) × (after ≡ Some (length new))
+
+-- the steps of two links one after the other
+abbrev pub Chains : List Step → Option ℕ → Option ℕ → List Step → Option ℕ → Type 0
+Chains old None j new after = (new ≡ old) × (after ≡ j)
+Chains old (Some i) None new after = (new ≡ old) × (after ≡ Some i)
+Chains old (Some i) (Some j) new after = (new ≡ old ++ Trans i j ∷ []) × (after ≡ Some (length new))

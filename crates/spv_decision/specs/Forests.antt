@@ -1,0 +1,66 @@
+-- Classes of equal terms, as a forest whose roots stand for their trees' terms.
+use Rattle.std.specs.Prelude.{◌≡◌, ◌≢◌, ℕ, ◌<◌, ◌≤◌, ◌+◌, Bool, true, List, [], ◌∷◌, ◌++◌, length, Option, Some, None, ℤ, IsTrue, slice_get, if◌then◌else◌}
+use Rattle.spv_logic.specs.declared.conditions.TermId.{TermId}
+use Rattle.spv_logic.specs.Terms.{Term}
+use Rattle.spv_term.specs.declared.nodes.Condition.{Condition}
+use Rattle.spv_term.specs.Arena.{Arena, tree}
+use Rattle.spv_proof.specs.declared.proofs.Step.{Step}
+use Rattle.spv_proof.specs.Evaluation.{numeral}
+use Rattle.spv_decision.specs.declared.forest.Point.{Point}
+use Rattle.spv_decision.specs.Forms.{is_written}
+use Rattle.spv_decision.specs.Derivations.{IsDerivation, Link, Chains}
+
+abbrev pub rank_of : Option Point → ℕ
+rank_of None = 0
+rank_of (Some x) = x.rank
+
+abbrev pub rank_at : List Point → TermId → ℕ
+rank_at points p = rank_of (slice_get points p.0)
+
+-- the parents of a term lead to this root
+pub data Leads (points : List Point) : TermId → TermId → Type 0 where
+  stays : (p : TermId) (x : Point) → slice_get points p.0 ≡ Some x → x.parent ≡ p → Leads points p p
+  climbs : (p : TermId) (x : Point) (r : TermId) → slice_get points p.0 ≡ Some x → x.parent ≢ p → Leads points x.parent r → Leads points p r
+
+-- the same, with the steps that join the links on the way
+pub data Climbs (points : List Point) : TermId → Option ℕ → List Step → TermId → Option ℕ → List Step → Type 0 where
+  stays : (p : TermId) (x : Point) (k : Option ℕ) (steps : List Step) → slice_get points p.0 ≡ Some x → x.parent ≡ p → Climbs points p k steps p k steps
+  climbs : (p : TermId) (x : Point) (k : Option ℕ) (steps : List Step) (next : Option ℕ) (more : List Step) (r : TermId) (last : Option ℕ) (all : List Step)
+      → slice_get points p.0 ≡ Some x → x.parent ≢ p → Chains steps k x.link more next → Climbs points x.parent next more r last all
+      → Climbs points p k steps r last all
+
+-- a point of a forest: its parent is there, and has a higher rank where it is another one
+pub record IsNode (points : List Point) (merges : ℕ) (p : TermId) (x : Point) : Type 0 where
+  pub parent_in : x.parent.0 < length points
+  pub higher : x.parent ≢ p → x.rank < rank_at points x.parent
+  pub rank : x.rank ≤ merges
+
+pub record IsForest (points : List Point) (merges : ℕ) : Type 0 where
+  pub node : (p : TermId) (x : Point) → slice_get points p.0 ≡ Some x → IsNode points merges p x
+
+-- the number of a numeral that a text can have
+abbrev pub written_number : Option ℤ → Option ℤ
+written_number None = None
+written_number (Some z) = if is_written z then Some z else None
+
+abbrev pub written : Term → Option ℤ
+written t = written_number (numeral t)
+
+-- what a point says of the terms of an arena
+pub record IsPoint (a : Arena) (c : Condition) (points : List Point) (steps : List Step) (p : TermId) (x : Point) : Type 0 where
+  pub link : Link a c steps p x.parent x.link
+  pub numeral : (m : TermId) → x.numeral ≡ Some m → (m.0 < length a.nodes) × ((z : ℤ) × (written (tree a m) ≡ Some z)) × (x.parent ≡ p → Leads points m p)
+
+-- the classes of the terms of an arena: each link is a fact, and the root of a numeral knows it
+pub record AreClasses (a : Arena) (c : Condition) (points : List Point) (merges : ℕ) (steps : List Step) : Type 0 where
+  pub derivation : IsDerivation a c steps
+  pub count : length points ≡ length a.nodes
+  pub forest : IsForest points merges
+  pub point : (p : TermId) (x : Point) → slice_get points p.0 ≡ Some x → IsPoint a c points steps p x
+  pub known : (m : TermId) (z : ℤ) → m.0 < length a.nodes → written (tree a m) ≡ Some z → (r : TermId) → Leads points m r → (x : Point) → slice_get points r.0 ≡ Some x → x.numeral ≡ Some m
+
+-- two terms have one root
+pub record Joined (points : List Point) (p q : TermId) : Type 0 where
+  pub root : TermId
+  pub left : Leads points p root
+  pub right : Leads points q root
