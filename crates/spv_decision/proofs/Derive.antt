@@ -15,8 +15,8 @@ use Rattle.spv_proof.specs.Evaluation.{equation}
 use Rattle.spv_proof.specs.Added.{verdict_of, facts_added}
 use Rattle.spv_proof.specs.Valued.{truth_in}
 use Rattle.spv_decision.specs.declared.forest.Point.{Point}
-use Rattle.spv_decision.specs.Derivations.{facts, IsDerivation, IsFact, Link, Turns, Chains}
-use Rattle.spv_decision.specs.Forests.{Climbs, stays, climbs}
+use Rattle.spv_decision.specs.Derivations.{facts, IsDerivation, IsFact, Link, Turns, Chains, Derives, Linked}
+use Rattle.spv_decision.specs.Forests.{AreLinks, Climbs, stays, climbs}
 
 module _ (a : Arena) (c : Condition) where
   -- what a step does after these steps
@@ -27,18 +27,13 @@ module _ (a : Arena) (c : Condition) where
   pub nothing_derived : IsDerivation a c []
   nothing_derived = record { follows = λ more. refl; adds = λ more. refl; count = refl }
 
-  -- later steps of a path, which keep its facts
-  pub record Derives (old new : List Step) : Type 0 where
-    pub derivation : IsDerivation a c new
-    pub kept : (k : ℕ) (t : Term) → IsFact a c old k t → IsFact a c new k t
-
-  pub Derives-refl : (steps : List Step) → IsDerivation a c steps → Derives steps steps
+  pub Derives-refl : (steps : List Step) → IsDerivation a c steps → Derives a c steps steps
   Derives-refl steps d = record { derivation = d; kept = λ k t h. h }
 
-  pub Derives-trans : (old mid new : List Step) → Derives old mid → Derives mid new → Derives old new
+  pub Derives-trans : (old mid new : List Step) → Derives a c old mid → Derives a c mid new → Derives a c old new
   Derives-trans old mid new d e = record { derivation = e.derivation; kept = λ k t h. e.kept k t (d.kept k t h) }
 
-  pub link_kept : (old new : List Step) → Derives old new → (p q : TermId) (l : Option ℕ) → Link a c old p q l → Link a c new p q l
+  pub link_kept : (old new : List Step) → Derives a c old new → (p q : TermId) (l : Option ℕ) → Link a c old p q l → Link a c new p q l
   link_kept old new d p q None h = h
   link_kept old new d p q (Some k) h = d.kept k (equation (tree a p) (tree a q)) h
 
@@ -69,7 +64,7 @@ module _ (a : Arena) (c : Condition) where
     length_is : length new ≡ suc (length (facts a c old))
     length_is = let h = ap length is in let l = length-append old (s ∷ []) in let n = d.count in omega (arith, h, l, n)
 
-    pub pushed : Derives old new
+    pub pushed : Derives a c old new
     pushed = record {
       derivation = record {
         follows = follows_is;
@@ -84,43 +79,36 @@ module _ (a : Arena) (c : Condition) where
 
   -- ---- links
 
-  pub record Linked (old new : List Step) (p q : TermId) (l : Option ℕ) : Type 0 where
-    pub derives : Derives old new
-    pub link : Link a c new p q l
-
-  pub turned : (old new : List Step) → IsDerivation a c old → (p q : TermId) (l after : Option ℕ) → Link a c old p q l → Turns old l new after → Linked old new q p after
+  pub turned : (old new : List Step) → IsDerivation a c old → (p q : TermId) (l after : Option ℕ) → Link a c old p q l → Turns old l new after → Linked a c old new q p after
   turned old new d p q None after h t =
-      subst (λ steps. Linked old steps q p after) (sym t.0) (subst (Linked old old q p) (sym t.1) (record { derives = Derives-refl old d; link = sym h }))
+      subst (λ steps. Linked a c old steps q p after) (sym t.0) (subst (Linked a c old old q p) (sym t.1) (record { derives = Derives-refl old d; link = sym h }))
   turned old new d p q (Some k) after h t =
       let e : effect_after old (Symm k) ≡ Adds (equation (tree a q) (tree a p)) = ap (λ o. exchanged (sides_of o)) h.there in
-      subst (Linked old new q p) (sym t.1) (record {
+      subst (Linked a c old new q p) (sym t.1) (record {
         derives = pushed old new d (Symm k) (equation (tree a q) (tree a p)) e t.0;
         link = pushed_fact old new d (Symm k) (equation (tree a q) (tree a p)) e t.0;
       })
 
-  pub chained : (old new : List Step) → IsDerivation a c old → (p q r : TermId) (i j after : Option ℕ) → Link a c old p q i → Link a c old q r j → Chains old i j new after → Linked old new p r after
+  pub chained : (old new : List Step) → IsDerivation a c old → (p q r : TermId) (i j after : Option ℕ) → Link a c old p q i → Link a c old q r j → Chains old i j new after → Linked a c old new p r after
   chained old new d p q r None j after g h t =
-      subst (λ steps. Linked old steps p r after) (sym t.0) (subst (Linked old old p r) (sym t.1) (record { derives = Derives-refl old d; link = subst (λ x. Link a c old x r j) (sym g) h }))
+      subst (λ steps. Linked a c old steps p r after) (sym t.0) (subst (Linked a c old old p r) (sym t.1) (record { derives = Derives-refl old d; link = subst (λ x. Link a c old x r j) (sym g) h }))
   chained old new d p q r (Some i) None after g h t =
-      subst (λ steps. Linked old steps p r after) (sym t.0) (subst (Linked old old p r) (sym t.1) (record { derives = Derives-refl old d; link = subst (λ x. Link a c old p x (Some i)) h g }))
+      subst (λ steps. Linked a c old steps p r after) (sym t.0) (subst (Linked a c old old p r) (sym t.1) (record { derives = Derives-refl old d; link = subst (λ x. Link a c old p x (Some i)) h g }))
   chained old new d p q r (Some i) (Some j) after g h t =
       let f : effect_after old (Trans i j) ≡ Adds (equation (tree a p) (tree a r)) =
       ap (λ o. joined (sides_of o) (sides_of (numbered (facts a c old) j))) g.there ∙ (ap (λ o. joined (Some (tree a p, tree a q)) (sides_of o)) h.there
       ∙ ap (λ b. cond b (Adds (equation (tree a p) (tree a r))) Fails) (term_eq-refl (tree a q))) in
-      subst (Linked old new p r) (sym t.1) (record {
+      subst (Linked a c old new p r) (sym t.1) (record {
         derives = pushed old new d (Trans i j) (equation (tree a p) (tree a r)) f t.0;
         link = pushed_fact old new d (Trans i j) (equation (tree a p) (tree a r)) f t.0;
       })
 
   -- the links on the way to a root
-  abbrev pub AreLinks : List Point → List Step → Type 0
-  AreLinks points steps = (p : TermId) (x : Point) → slice_get points p.0 ≡ Some x → Link a c steps p x.parent x.link
-
-  pub links_kept : (points : List Point) (old new : List Step) → Derives old new → AreLinks points old → AreLinks points new
+  pub links_kept : (points : List Point) (old new : List Step) → Derives a c old new → AreLinks a c points old → AreLinks a c points new
   links_kept points old new d h p x at = link_kept old new d p x.parent x.link (h p x at)
 
-  pub climbed : (points : List Point) (steps : List Step) → IsDerivation a c steps → AreLinks points steps → (start p : TermId) (k : Option ℕ) → Link a c steps start p k
-      → (r : TermId) (last : Option ℕ) (all : List Step) → Climbs points p k steps r last all → Linked steps all start r last
+  pub climbed : (points : List Point) (steps : List Step) → IsDerivation a c steps → AreLinks a c points steps → (start p : TermId) (k : Option ℕ) → Link a c steps start p k
+      → (r : TermId) (last : Option ℕ) (all : List Step) → Climbs points p k steps r last all → Linked a c steps all start r last
   climbed points steps d links start p k here r last all (stays q x l ss at root) = record { derives = Derives-refl steps d; link = here }
   climbed points steps d links start p k here r last all (climbs q x l ss next more r' last' all' at other step way) =
       let s = chained steps more d start p x.parent k x.link next here (links p x at) step in

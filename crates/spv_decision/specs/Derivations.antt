@@ -1,12 +1,12 @@
 -- Steps on one path, and the facts that they have added.
-use Rattle.std.specs.Prelude.{◌≡◌, ℕ, ◌<◌, List, [], ◌∷◌, ◌++◌, length, Option, Some, None}
+use Rattle.std.specs.Prelude.{◌≡◌, ℕ, ◌<◌, List, [], ◌∷◌, ◌++◌, length, Option, Some, None, IsTrue}
 use Rattle.spv_logic.specs.declared.conditions.TermId.{TermId}
 use Rattle.spv_logic.specs.Terms.{Term}
 use Rattle.spv_term.specs.declared.nodes.Condition.{Condition}
 use Rattle.spv_term.specs.Arena.{Arena, tree, sequent}
 use Rattle.spv_proof.specs.declared.proofs.Step.{Step}
 use Rattle.spv_proof.specs.declared.proofs.Step.TheVariants.{Symm, Trans}
-use Rattle.spv_proof.specs.Accepted.{numbered}
+use Rattle.spv_proof.specs.Accepted.{numbered, impossible}
 use Rattle.spv_proof.specs.Evaluation.{equation}
 use Rattle.spv_proof.specs.Added.{verdict_of, facts_added}
 
@@ -39,3 +39,25 @@ abbrev pub Chains : List Step → Option ℕ → Option ℕ → List Step → Op
 Chains old None j new after = (new ≡ old) × (after ≡ j)
 Chains old (Some i) None new after = (new ≡ old) × (after ≡ Some i)
 Chains old (Some i) (Some j) new after = (new ≡ old ++ Trans i j ∷ []) × (after ≡ Some (length new))
+
+-- later steps of a path, which keep its facts
+pub record Derives (a : Arena) (c : Condition) (old new : List Step) : Type 0 where
+  pub derivation : IsDerivation a c new
+  pub kept : (k : ℕ) (t : Term) → IsFact a c old k t → IsFact a c new k t
+
+-- later steps, after which there is this link
+pub record Linked (a : Arena) (c : Condition) (old new : List Step) (p q : TermId) (l : Option ℕ) : Type 0 where
+  pub derives : Derives a c old new
+  pub link : Link a c new p q l
+
+-- later steps, after which this fact is this formula
+pub record Stated (a : Arena) (c : Condition) (old new : List Step) (k : ℕ) (t : Term) : Type 0 where
+  pub derives : Derives a c old new
+  pub fact : IsFact a c new k t
+
+-- steps after which this fact ends the path
+pub record Closes (a : Arena) (c : Condition) (steps : List Step) (k : ℕ) : Type 0 where
+  pub derivation : IsDerivation a c steps
+  pub fact : Term
+  pub there : IsFact a c steps k fact
+  pub never : IsTrue (impossible fact)

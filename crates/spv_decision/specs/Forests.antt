@@ -1,5 +1,5 @@
 -- Classes of equal terms, as a forest whose roots stand for their trees' terms.
-use Rattle.std.specs.Prelude.{◌≡◌, ◌≢◌, ℕ, ◌<◌, ◌≤◌, ◌+◌, Bool, true, List, [], ◌∷◌, ◌++◌, length, Option, Some, None, ℤ, IsTrue, slice_get, if◌then◌else◌}
+use Rattle.std.specs.Prelude.{◌≡◌, ◌≢◌, ℕ, ◌<◌, ◌≤◌, ◌+◌, Bool, true, List, [], ◌∷◌, ◌++◌, length, Option, Some, None, ℤ, IsTrue, slice_get, slice_set, nat_lt, if◌then◌else◌}
 use Rattle.spv_logic.specs.declared.conditions.TermId.{TermId}
 use Rattle.spv_logic.specs.Terms.{Term}
 use Rattle.spv_term.specs.declared.nodes.Condition.{Condition}
@@ -29,11 +29,12 @@ pub data Climbs (points : List Point) : TermId → Option ℕ → List Step → 
       → slice_get points p.0 ≡ Some x → x.parent ≢ p → Chains steps k x.link more next → Climbs points x.parent next more r last all
       → Climbs points p k steps r last all
 
--- a point of a forest: its parent is there, and has a higher rank where it is another one
+-- a point of a forest: its parent and its numeral are there, and a parent that is another term has a higher rank
 pub record IsNode (points : List Point) (merges : ℕ) (p : TermId) (x : Point) : Type 0 where
   pub parent_in : x.parent.0 < length points
   pub higher : x.parent ≢ p → x.rank < rank_at points x.parent
   pub rank : x.rank ≤ merges
+  pub numeral_in : (m : TermId) → x.numeral ≡ Some m → m.0 < length points
 
 pub record IsForest (points : List Point) (merges : ℕ) : Type 0 where
   pub node : (p : TermId) (x : Point) → slice_get points p.0 ≡ Some x → IsNode points merges p x
@@ -47,16 +48,20 @@ abbrev pub written : Term → Option ℤ
 written t = written_number (numeral t)
 
 -- what a point says of the terms of an arena
-pub record IsPoint (a : Arena) (c : Condition) (points : List Point) (steps : List Step) (p : TermId) (x : Point) : Type 0 where
-  pub link : Link a c steps p x.parent x.link
-  pub numeral : (m : TermId) → x.numeral ≡ Some m → (m.0 < length a.nodes) × ((z : ℤ) × (written (tree a m) ≡ Some z)) × (x.parent ≡ p → Leads points m p)
+pub record IsPoint (a : Arena) (points : List Point) (p : TermId) (x : Point) : Type 0 where
+  pub numeral : (m : TermId) → x.numeral ≡ Some m → ((z : ℤ) × (written (tree a m) ≡ Some z)) × (x.parent ≡ p → Leads points m p)
+
+-- each link is a fact
+abbrev pub AreLinks : Arena → Condition → List Point → List Step → Type 0
+AreLinks a c points steps = (p : TermId) (x : Point) → slice_get points p.0 ≡ Some x → Link a c steps p x.parent x.link
 
 -- the classes of the terms of an arena: each link is a fact, and the root of a numeral knows it
 pub record AreClasses (a : Arena) (c : Condition) (points : List Point) (merges : ℕ) (steps : List Step) : Type 0 where
   pub derivation : IsDerivation a c steps
   pub count : length points ≡ length a.nodes
   pub forest : IsForest points merges
-  pub point : (p : TermId) (x : Point) → slice_get points p.0 ≡ Some x → IsPoint a c points steps p x
+  pub links : AreLinks a c points steps
+  pub point : (p : TermId) (x : Point) → slice_get points p.0 ≡ Some x → IsPoint a points p x
   pub known : (m : TermId) (z : ℤ) → m.0 < length a.nodes → written (tree a m) ≡ Some z → (r : TermId) → Leads points m r → (x : Point) → slice_get points r.0 ≡ Some x → x.numeral ≡ Some m
 
 -- two terms have one root
@@ -64,3 +69,30 @@ pub record Joined (points : List Point) (p q : TermId) : Type 0 where
   pub root : TermId
   pub left : Leads points p root
   pub right : Leads points q root
+
+-- ---- joining
+
+-- a root that is put below another one
+abbrev pub hung : Point → TermId → Option ℕ → Point
+hung x high link = record x { parent = high; link = link }
+
+abbrev pub one_numeral : Option TermId → Option TermId → Option TermId
+one_numeral None n = n
+one_numeral (Some m) n = Some m
+
+-- a root above another one: it is higher, and has the numeral of one of them
+abbrev pub raised : Point → Point → Point
+raised x y = record y { rank = if nat_lt x.rank y.rank then y.rank else x.rank + 1; numeral = one_numeral y.numeral x.numeral }
+
+-- the points after the one root was put below the other
+abbrev pub Hangs : List Point → TermId → TermId → Option ℕ → List Point → Type 0
+Hangs old low high link new =
+    (x y : Point) → slice_get old low.0 ≡ Some x → slice_get old high.0 ≡ Some y → new ≡ slice_set (slice_set old low.0 (hung x high link)) high.0 (raised x y)
+
+-- a root
+abbrev pub IsRoot : List Point → TermId → Type 0
+IsRoot points p = (x : Point) × (slice_get points p.0 ≡ Some x) × (x.parent ≡ p)
+
+-- what was joined stays so
+abbrev pub KeepsJoined : List Point → List Point → Type 0
+KeepsJoined old new = (p q : TermId) → Joined old p q → Joined new p q
