@@ -1,3 +1,5 @@
 pub mod Trees
 pub mod Derive
 pub mod Merge
+pub mod Bridges
+pub mod Joins

@@ -12,11 +12,9 @@ use Rattle.spv_proof.specs.declared.proofs.Step.{Step}
 use Rattle.spv_decision.specs.declared.forest.Point.{Point}
 use Rattle.spv_decision.specs.Derivations.{Link, Derives}
 use Rattle.spv_decision.specs.Forests.{rank_of, rank_at, Leads, stays, climbs, IsNode, IsForest, IsPoint, AreLinks, AreClasses, Joined, hung, raised, one_numeral, Hangs, IsRoot, KeepsJoined, written}
-use Rattle.spv_decision.proofs.Trees.{same_or_not, slice_got, slice_get-set_same, slice_get-set_other, Leads-one, Leads-root, Leads-of_root, has_root}
+use Rattle.spv_decision.proofs.Trees.{one_of, same_or_not, slice_got, slice_get-set_same, slice_get-set_other, Leads-one, Leads-root, Leads-of_root, has_root}
 use Rattle.spv_decision.proofs.Derive.{links_kept}
 
-one_of : {A : Type 0} (x y : A) → Some x ≡ Some y → x ≡ y
-one_of x y e = cc
 
 -- ---- ranks
 

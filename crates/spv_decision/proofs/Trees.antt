@@ -15,7 +15,7 @@ use Rattle.spv_decision.specs.Forests.{rank_of, rank_at, Leads, stays, climbs, C
 abbrev pub below : List Point → ℕ → TermId → ℕ
 below points merges p = merges - rank_at points p
 
-one_of : {A : Type 0} (x y : A) → Some x ≡ Some y → x ≡ y
+pub one_of : {A : Type 0} (x y : A) → Some x ≡ Some y → x ≡ y
 one_of x y e = cc
 
 pub rank_within : (points : List Point) (merges : ℕ) → IsForest points merges → (p : TermId) → rank_at points p ≤ merges

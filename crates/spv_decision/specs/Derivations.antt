@@ -5,7 +5,7 @@ use Rattle.spv_logic.specs.Terms.{Term}
 use Rattle.spv_term.specs.declared.nodes.Condition.{Condition}
 use Rattle.spv_term.specs.Arena.{Arena, tree, sequent}
 use Rattle.spv_proof.specs.declared.proofs.Step.{Step}
-use Rattle.spv_proof.specs.declared.proofs.Step.TheVariants.{Symm, Trans}
+use Rattle.spv_proof.specs.declared.proofs.Step.TheVariants.{Refl, Symm, Trans}
 use Rattle.spv_proof.specs.Accepted.{numbered, impossible}
 use Rattle.spv_proof.specs.Evaluation.{equation}
 use Rattle.spv_proof.specs.Added.{verdict_of, facts_added}
@@ -39,6 +39,11 @@ abbrev pub Chains : List Step → Option ℕ → Option ℕ → List Step → Op
 Chains old None j new after = (new ≡ old) × (after ≡ j)
 Chains old (Some i) None new after = (new ≡ old) × (after ≡ Some i)
 Chains old (Some i) (Some j) new after = (new ≡ old ++ Trans i j ∷ []) × (after ≡ Some (length new))
+
+-- the steps that state a link as a fact
+abbrev pub States : List Step → TermId → Option ℕ → List Step → ℕ → Type 0
+States old p None new k = (new ≡ old ++ Refl p ∷ []) × (k ≡ length new)
+States old p (Some i) new k = (new ≡ old) × (k ≡ i)
 
 -- later steps of a path, which keep its facts
 pub record Derives (a : Arena) (c : Condition) (old new : List Step) : Type 0 where

@@ -1,14 +1,14 @@
 -- Classes of equal terms, as a forest whose roots stand for their trees' terms.
-use Rattle.std.specs.Prelude.{◌≡◌, ◌≢◌, ℕ, ◌<◌, ◌≤◌, ◌+◌, Bool, true, List, [], ◌∷◌, ◌++◌, length, Option, Some, None, ℤ, IsTrue, slice_get, slice_set, nat_lt, if◌then◌else◌}
+use Rattle.std.specs.Prelude.{◌≡◌, ◌≢◌, ℕ, ◌<◌, ◌≤◌, ◌+◌, Bool, true, List, [], ◌∷◌, ◌++◌, length, Option, Some, None, ℤ, IsTrue, slice_get, slice_set, nat_lt, ◌⊎◌, if◌then◌else◌}
 use Rattle.spv_logic.specs.declared.conditions.TermId.{TermId}
-use Rattle.spv_logic.specs.Terms.{Term}
+use Rattle.spv_logic.specs.declared.operators.Head.TheVariants.{Num}
+use Rattle.spv_logic.specs.Terms.{Term, term, no_terms}
 use Rattle.spv_term.specs.declared.nodes.Condition.{Condition}
 use Rattle.spv_term.specs.Arena.{Arena, tree}
 use Rattle.spv_proof.specs.declared.proofs.Step.{Step}
-use Rattle.spv_proof.specs.Evaluation.{numeral}
 use Rattle.spv_decision.specs.declared.forest.Point.{Point}
 use Rattle.spv_decision.specs.Forms.{is_written}
-use Rattle.spv_decision.specs.Derivations.{IsDerivation, Link, Chains}
+use Rattle.spv_decision.specs.Derivations.{IsDerivation, Link, Turns, Chains}
 
 abbrev pub rank_of : Option Point → ℕ
 rank_of None = 0
@@ -40,12 +40,9 @@ pub record IsForest (points : List Point) (merges : ℕ) : Type 0 where
   pub node : (p : TermId) (x : Point) → slice_get points p.0 ≡ Some x → IsNode points merges p x
 
 -- the number of a numeral that a text can have
-abbrev pub written_number : Option ℤ → Option ℤ
-written_number None = None
-written_number (Some z) = if is_written z then Some z else None
-
 abbrev pub written : Term → Option ℤ
-written t = written_number (numeral t)
+written (term (Num z) no_terms) = if is_written z then Some z else None
+written _ = None
 
 -- what a point says of the terms of an arena
 pub record IsPoint (a : Arena) (points : List Point) (p : TermId) (x : Point) : Type 0 where
@@ -96,3 +93,14 @@ IsRoot points p = (x : Point) × (slice_get points p.0 ≡ Some x) × (x.parent 
 -- what was joined stays so
 abbrev pub KeepsJoined : List Point → List Point → Type 0
 KeepsJoined old new = (p q : TermId) → Joined old p q → Joined new p q
+
+-- two numerals, where both are there
+abbrev pub both_of : Option TermId → Option TermId → Option (TermId × TermId)
+both_of None n = None
+both_of (Some m) None = None
+both_of (Some m) (Some n) = Some (m, n)
+
+-- one of two linked roots is put below the other
+abbrev pub Lowers : List Point → List Step → TermId → TermId → Option ℕ → List Point → List Step → Type 0
+Lowers old before from to link new after =
+    ((after ≡ before) × Hangs old from to link new) ⊎ ((back : Option ℕ) × Turns before link after back × Hangs old to from back new)

@@ -3,3 +3,4 @@ pub mod Forms
 pub mod Verdicts
 pub mod Derivations
 pub mod Forests
+pub mod Joining

@@ -1,9 +1,10 @@
 // Steps that join facts on one path.
 
 ghost use Rattle.std.specs.Prelude.{◌≡◌, ◌++◌, [], ◌∷◌, length, IfOk, OnOk};
-ghost use Rattle.spv_decision.specs.Derivations.{Turns, Chains};
+ghost use Rattle.spv_decision.specs.Derivations.{Turns, Chains, States};
 
 use spv_proof::Step;
+use spv_term::TermId;
 use std::alloc::AllocError;
 
 // Adds a step, and answers its number, which is that of its fact. The numbers of a proof end at
@@ -44,5 +45,19 @@ pub(crate) fn chained(
         (None, link) => Ok(link),
         (link, None) => Ok(link),
         (Some(i), Some(j)) => Ok(Some(add(steps, Step::Trans(i, j))?)),
+    }
+}
+
+// The fact that the ends of a link are equal.
+pub(crate) fn stated(
+    steps: &mut Vec<Step>,
+    left: TermId,
+    link: Option<u32>,
+) -> Result<u32, AllocError>
+    ensures { IfOk result (States steps.old.items left link steps.new.items) }
+{
+    match link {
+        Some(k) => Ok(k),
+        None => add(steps, Step::Refl(left)),
     }
 }

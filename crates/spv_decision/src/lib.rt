@@ -3,6 +3,7 @@
 
 mod derivation;
 mod forest;
+mod joining;
 mod verdict;
 
 pub use verdict::{Branch, Table, Unproved, Verdict, Verdicts};
