@@ -39,9 +39,12 @@ pub record IsNode (points : List Point) (merges : ℕ) (p : TermId) (x : Point) 
 pub record IsForest (points : List Point) (merges : ℕ) : Type 0 where
   pub node : (p : TermId) (x : Point) → slice_get points p.0 ≡ Some x → IsNode points merges p x
 
+abbrev pub written_number : ℤ → Option ℤ
+written_number z = if is_written z then Some z else None
+
 -- the number of a numeral that a text can have
 abbrev pub written : Term → Option ℤ
-written (term (Num z) no_terms) = if is_written z then Some z else None
+written (term (Num z) no_terms) = written_number z
 written _ = None
 
 -- what a point says of the terms of an arena

@@ -4,3 +4,4 @@ pub mod Verdicts
 pub mod Derivations
 pub mod Forests
 pub mod Joining
+pub mod Formulas

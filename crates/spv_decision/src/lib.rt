@@ -3,6 +3,8 @@
 
 mod derivation;
 mod forest;
+mod formulas;
+mod hypotheses;
 mod joining;
 mod verdict;
 
