@@ -158,3 +158,116 @@ module _ (x e : Term) (x_conjunction : is_conjunction x ≡ true) (e_equation : 
         let b : bare x ≡ x = ap (λ o. bare_or o x) (no_negation x x_conjunction) in
         let f : clashes truth given (bare x) ≡ true = ap (clashes truth given) b ∙ (ap (λ v. opposite v (given x)) (whole_false k n) ∙ ap (opposite (Some false)) given_whole) in
         ap (λ b. clashes truth given (bare e) || (b || false)) f ∙ or_last (clashes truth given (bare e))
+
+-- ---- stating a conjunction whose equations are facts
+
+-- whether a term is one of these
+abbrev is_among : List Term → Term → Bool
+is_among es t = list_any (λ e. term_eq e t) es
+
+abbrev AllEquations : List Term → Type 0
+AllEquations es = All (λ e. is_equation e ≡ true) es
+
+true_facts : (es : List Term) → AllEquations es → flat_map (given_by true) es ≡ map (λ e. (e, true)) es
+true_facts [] h = refl
+true_facts (e ∷ es) h =
+    let n = no_negation e (equation_alone e (All-head (λ d. is_equation d ≡ true) e es h)) in
+    ap (λ o. ((e, true) ∷ given_negated true o) ++ flat_map (given_by true) es) n ∙ ap (λ xs. (e, true) ∷ xs) (true_facts es (All-tail (λ d. is_equation d ≡ true) e es h))
+
+assigned_among : (es : List Term) (y t : Term) → assigned (map (λ e. (e, true)) es ++ (y, false) ∷ []) t ≡ cond (is_among es t) (Some true) (cond (term_eq y t) (Some false) None)
+assigned_among [] y t = refl
+assigned_among (e ∷ es) y t = by_case (assigned_among es y t) (term_eq e t)
+  where
+    by_case : assigned (map (λ d. (d, true)) es ++ (y, false) ∷ []) t ≡ cond (is_among es t) (Some true) (cond (term_eq y t) (Some false) None) → (b : Bool) → cond b (Some true) (assigned (map (λ d. (d, true)) es ++ (y, false) ∷ []) t) ≡ cond (b || is_among es t) (Some true) (cond (term_eq y t) (Some false) None)
+    by_case h true = refl
+    by_case h false = h
+
+no_cited_order : (es : List Term) (s u : Term) → AllEquations es → cites es (below s u) ≡ false
+no_cited_order [] s u h = refl
+no_cited_order (e ∷ es) s u h =
+    rw (no_order e s u (equation_alone e (All-head (λ d. is_equation d ≡ true) e es h))) (no_cited_order es s u (All-tail (λ d. is_equation d ≡ true) e es h))
+
+not_among : (es : List Term) (r l : Term) → AllEquations es → is_among es (conjunction r l) ≡ false
+not_among [] r l h = refl
+not_among (e ∷ es) r l h = rw (other e (All-head (λ d. is_equation d ≡ true) e es h)) (not_among es r l (All-tail (λ d. is_equation d ≡ true) e es h))
+  where
+    other : (d : Term) → is_equation d ≡ true → term_eq d (conjunction r l) ≡ false
+    other (term head.Eq ts) g = refl
+    other _ g = absurd (false≢true g)
+
+abbrev pub AllAmong : List Term → List Term → Type 0
+AllAmong es [] = Unit {0}
+AllAmong es (t ∷ ts) = (is_among es t ≡ true) × AllAmong es ts
+
+among_left : (es xs ys : List Term) → AllAmong es (xs ++ ys) → AllAmong es xs
+among_left es [] ys h = tt
+among_left es (x ∷ xs) ys h = (h.0, among_left es xs ys h.1)
+
+among_right : (es xs ys : List Term) → AllAmong es (xs ++ ys) → AllAmong es ys
+among_right es [] ys h = h
+among_right es (x ∷ xs) ys h = among_right es xs ys h.1
+
+among_more : (e : Term) (es ts : List Term) → AllAmong es ts → AllAmong (e ∷ es) ts
+among_more e es [] h = tt
+among_more e es (t ∷ ts) h = (rw h.0 (or_true (term_eq e t)), among_more e es ts h.1)
+  where
+    or_true : (b : Bool) → b || true ≡ true
+    or_true true = refl
+    or_true false = refl
+
+pub among_itself : (es : List Term) → AllAmong es es
+among_itself [] = tt
+among_itself (e ∷ es) = (ap (λ b. b || is_among es e) (term_eq-refl e), among_more e es es (among_itself es))
+
+module _ (es : List Term) (y : Term) (equations : AllEquations es) (y_conjunction : is_conjunction y ≡ true) (truth : Term → Bool) where
+  abbrev given_all : Term → Option Bool
+  given_all = given_to es y
+
+  abbrev value_all : Term → Option Bool
+  value_all t = or_else (given_all t) (computed truth given_all t)
+
+  facts_are : assignment es y ≡ map (λ e. (e, true)) es ++ (y, false) ∷ []
+  facts_are = ap (λ xs. xs ++ given_by false y) (true_facts es equations) ∙ ap (λ o. map (λ e. (e, true)) es ++ ((y, false) ∷ given_negated false o)) (no_negation y y_conjunction)
+
+  apart_all : (o : Option (Term × Term)) → apart es o ≡ None
+  apart_all None = refl
+  apart_all (Some st) = rw (no_cited_order es st.0 st.1 equations, no_cited_order es st.1 st.0 equations) refl
+
+  given_all_is : (t : Term) → given_all t ≡ cond (is_among es t) (Some true) (cond (term_eq y t) (Some false) None)
+  given_all_is t =
+      ap (λ xs. or_else (assigned xs t) (apart es (sides t))) facts_are
+      ∙ (ap (λ o. or_else o (apart es (sides t))) (assigned_among es y t)
+      ∙ (ap (or_else (cond (is_among es t) (Some true) (cond (term_eq y t) (Some false) None))) (apart_all (sides t)) ∙ tail (cond (is_among es t) (Some true) (cond (term_eq y t) (Some false) None))))
+    where
+      tail : (o : Option Bool) → or_else o None ≡ o
+      tail None = refl
+      tail (Some b) = refl
+
+  of_one : (t : Term) → is_among es t ≡ true → value_all t ≡ Some true
+  of_one t g = ap (λ o. or_else o (computed truth given_all t)) (given_all_is t ∙ ap (λ b. cond b (Some true) (cond (term_eq y t) (Some false) None)) g)
+
+  value_true : (z : Term) → size z < size y → AllAmong es (conjuncts z) → value_all z ≡ Some true
+  value_true (term head.And (terms r (terms l no_terms))) small h =
+      by_case (value_true r (omega (arith, small)) (among_left es (conjuncts r) (l ∷ []) h)) (of_one l (among_right es (conjuncts r) (l ∷ []) h).0) (is_among es (conjunction r l)) refl
+    where
+      by_case : value_all r ≡ Some true → value_all l ≡ Some true → (b : Bool) → is_among es (conjunction r l) ≡ b → value_all (conjunction r l) ≡ Some true
+      by_case v w true g = of_one (conjunction r l) g
+      by_case v w false g =
+          ap (λ o. or_else o (and_of (value_all r) (value_all l))) (given_all_is (conjunction r l) ∙ (ap (λ b. cond b (Some true) (cond (term_eq y (conjunction r l)) (Some false) None)) g ∙ ap (λ b. cond b (Some false) None) (smaller_differs (conjunction r l) y small)))
+          ∙ (ap (λ u. and_of u (value_all l)) v ∙ w)
+  value_true (term head.And no_terms) small h = of_one (term head.And no_terms) h.0
+  value_true (term head.And (terms r no_terms)) small h = of_one (term head.And (terms r no_terms)) h.0
+  value_true (term head.And (terms r (terms l (terms m ts)))) small h = of_one (term head.And (terms r (terms l (terms m ts)))) h.0
+  value_true (term _ ts) small h = of_one (term _ ts) h.0
+
+  pub stated_whole : (r l : Term) → y ≡ conjunction r l → AllAmong es (conjuncts y) → evaluates truth es y ≡ true
+  stated_whole r l e h =
+      let s = ap size e in
+      let parts : AllAmong es (conjuncts r ++ l ∷ []) = subst (λ t. AllAmong es (conjuncts t)) e h in
+      let v : value_all r ≡ Some true = value_true r (omega (arith, s)) (among_left es (conjuncts r) (l ∷ []) parts) in
+      let w : value_all l ≡ Some true = of_one l (among_right es (conjuncts r) (l ∷ []) parts).0 in
+      let found : computed truth given_all y ≡ Some true = ap (computed truth given_all) e ∙ (ap (λ u. and_of u (value_all l)) v ∙ w) in
+      let told : given_all y ≡ Some false = given_all_is y ∙ (ap (λ b. cond b (Some true) (cond (term_eq y y) (Some false) None)) (ap (is_among es) e ∙ not_among es r l equations) ∙ ap (λ b. cond b (Some false) None) (term_eq-refl y)) in
+      let b : bare y ≡ y = ap (λ o. bare_or o y) (no_negation y y_conjunction) in
+      let f : clashes truth given_all (bare y) ≡ true = ap (clashes truth given_all) b ∙ (ap (λ u. opposite u (given_all y)) found ∙ ap (opposite (Some true)) told) in
+      ap (λ c. c || list_any (λ t. clashes truth given_all (bare t)) es) f
