@@ -1,5 +1,5 @@
 -- The steps of joining state what they are to state.
-use Rattle.std.proofs.Common.{◌≡◌, ◌≢◌, ℕ, Bool, true, false, ◌<◌, ◌+◌, List, [], ◌∷◌, ◌++◌, length, Option, Some, None, slice_get, Result, Ok, Err, IfOk, refl, sym, ap, subst, ◌∙◌}
+use Rattle.std.proofs.Common.{◌≡◌, ◌≢◌, ℕ, Bool, true, false, ◌<◌, ◌+◌, List, [], ◌∷◌, ◌++◌, length, Option, Some, None, slice_get, Result, Ok, Err, IfOk, OnOk, refl, sym, ap, subst, ◌∙◌}
 use Rattle.spv_logic.specs.declared.conditions.TermId.{TermId}
 use Rattle.spv_logic.specs.Terms.{Term}
 use Rattle.spv_term.specs.declared.nodes.Condition.{Condition}
@@ -19,6 +19,14 @@ use Rattle.spv_decision.proofs.Derive.{climbed, turned, chained, links_kept, lin
 pub if_ok : {T E : Type 0} {P R : T → Type 0} (r : Result T E) → IfOk r P → ((t : T) → P t → R t) → IfOk r R
 if_ok (Ok t) h f = f t h
 if_ok (Err e) h f = tt
+
+pub if_both : {T E : Type 0} {P R : T → Type 0} {Q : Type 0} (r : Result T E) → OnOk r Q → IfOk r P → ((t : T) → Q → P t → R t) → IfOk r R
+if_both (Ok t) g h f = f t g h
+if_both (Err e) g h f = tt
+
+pub if_on : {T E : Type 0} {Q R : Type 0} (r : Result T E) → OnOk r Q → (Q → R) → OnOk r R
+if_on (Ok t) h f = f h
+if_on (Err e) h f = tt
 
 -- a link as a fact
 pub stated_link : (a : Arena) (c : Condition) (old new : List Step) → IsDerivation a c old → (p q : TermId) (link : Option ℕ) (k : ℕ) → Link a c old p q link → States old p link new k → Stated a c old new k (equation (tree a p) (tree a q))

@@ -86,7 +86,7 @@ or_last : (a : Bool) → a || (true || false) ≡ true
 or_last true = refl
 or_last false = refl
 
-equation_alone : (e : Term) → is_equation e ≡ true → is_conjunction e ≡ true
+pub equation_alone : (e : Term) → is_equation e ≡ true → is_conjunction e ≡ true
 equation_alone (term head.Eq ts) h = h
 equation_alone _ h = absurd (false≢true h)
 
@@ -162,10 +162,10 @@ module _ (x e : Term) (x_conjunction : is_conjunction x ≡ true) (e_equation : 
 -- ---- stating a conjunction whose equations are facts
 
 -- whether a term is one of these
-abbrev is_among : List Term → Term → Bool
+abbrev pub is_among : List Term → Term → Bool
 is_among es t = list_any (λ e. term_eq e t) es
 
-abbrev AllEquations : List Term → Type 0
+abbrev pub AllEquations : List Term → Type 0
 AllEquations es = All (λ e. is_equation e ≡ true) es
 
 true_facts : (es : List Term) → AllEquations es → flat_map (given_by true) es ≡ map (λ e. (e, true)) es

@@ -6,3 +6,7 @@ pub mod Joins
 pub mod Nodes
 pub mod Conjuncts
 pub mod Evaluating
+pub mod Stating
+pub mod Equations
+pub mod Assuming
+pub mod Ending

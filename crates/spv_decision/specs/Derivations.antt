@@ -66,3 +66,9 @@ pub record Closes (a : Arena) (c : Condition) (steps : List Step) (k : ℕ) : Ty
   pub fact : Term
   pub there : IsFact a c steps k fact
   pub never : IsTrue (impossible fact)
+
+-- the facts of these numbers are these formulas
+abbrev pub AreFacts : Arena → Condition → List Step → List ℕ → List Term → Type 0
+AreFacts a c steps [] [] = Unit {0}
+AreFacts a c steps (k ∷ ks) (t ∷ ts) = IsFact a c steps k t × AreFacts a c steps ks ts
+AreFacts a c steps _ _ = ⊥

@@ -107,3 +107,16 @@ both_of (Some m) (Some n) = Some (m, n)
 abbrev pub Lowers : List Point → List Step → TermId → TermId → Option ℕ → List Point → List Step → Type 0
 Lowers old before from to link new after =
     ((after ≡ before) × Hangs old from to link new) ⊎ ((back : Option ℕ) × Turns before link after back × Hangs old to from back new)
+
+-- ---- the start
+
+abbrev pub own_numeral : TermId → Option ℤ → Option TermId
+own_numeral p None = None
+own_numeral p (Some z) = Some p
+
+-- a term in a tree of its own
+abbrev pub alone : Arena → TermId → Point
+alone a p = record { parent = p; rank = 0; numeral = own_numeral p (written (tree a p)); link = None }
+
+abbrev pub AreAlone : Arena → List Point → Type 0
+AreAlone a points = (p : TermId) → p.0 < length points → slice_get points p.0 ≡ Some (alone a p)

@@ -1,5 +1,6 @@
 -- Conjunctions and equations by their ids.
-use Rattle.std.specs.Prelude.{◌≡◌, ◌≢◌, ℕ, ◌<◌, List, length, IsTrue}
+use Rattle.std.specs.Prelude.{◌≡◌, ◌≢◌, ℕ, ◌<◌, List, length, map, take, All, IsTrue}
+use Rattle.std.specs.List.{Contains, flat_map}
 use Rattle.spv_logic.specs.declared.conditions.TermId.{TermId}
 use Rattle.spv_logic.specs.declared.operators.Head.TheVariants.{And}
 use Rattle.spv_logic.specs.Terms.{Term, term, no_terms, terms}
@@ -9,9 +10,9 @@ use Rattle.spv_proof.specs.declared.proofs.Step.{Step}
 use Rattle.spv_proof.specs.Evaluation.{equation}
 use Rattle.spv_decision.specs.declared.forest.Point.{Point}
 use Rattle.spv_decision.specs.declared.hypotheses.Hypothesis.{Hypothesis}
-use Rattle.spv_decision.specs.Forms.{is_equation, is_conjunction, IsConjunction}
-use Rattle.spv_decision.specs.Derivations.{IsFact}
-use Rattle.spv_decision.specs.Forests.{Joined}
+use Rattle.spv_decision.specs.Forms.{is_side, is_equation, conjuncts, IsConjunction}
+use Rattle.spv_decision.specs.Derivations.{IsDerivation, IsFact}
+use Rattle.spv_decision.specs.Forests.{Leads, Joined}
 
 abbrev pub conjunction : Term → Term → Term
 conjunction rest last = term And (terms rest (terms last no_terms))
@@ -33,6 +34,14 @@ pub record IsEquation (a : Arena) (t : TermId) : Type 0 where
   pub in_range : t.0 < length a.nodes
   pub equation : IsTrue (is_equation (tree a t))
 
+-- the two sides of an equation in the arena
+pub record AreSides (a : Arena) (t left right : TermId) : Type 0 where
+  pub tree_is : tree a t ≡ equation (tree a left) (tree a right)
+  pub left_in : left.0 < length a.nodes
+  pub right_in : right.0 < length a.nodes
+  pub left_side : IsTrue (is_side (tree a left))
+  pub right_side : IsTrue (is_side (tree a right))
+
 -- an equation of the arena that is a conjunct of this formula
 pub record IsConjunctOf (a : Arena) (formula : Term) (t : TermId) : Type 0 where
   pub equation : IsEquation a t
@@ -49,7 +58,31 @@ pub record IsHypothesis (a : Arena) (c : Condition) (steps : List Step) (h : Hyp
 pub record SidesJoined (a : Arena) (points : List Point) (t : TermId) : Type 0 where
   pub left : TermId
   pub right : TermId
-  pub tree_is : tree a t ≡ equation (tree a left) (tree a right)
-  pub left_in : left.0 < length a.nodes
-  pub right_in : right.0 < length a.nodes
+  pub sides : AreSides a t left right
   pub joined : Joined points left right
+
+-- an equation whose sides have two roots
+pub record SidesApart (a : Arena) (points : List Point) (t : TermId) : Type 0 where
+  pub left : TermId
+  pub right : TermId
+  pub sides : AreSides a t left right
+  pub from : TermId
+  pub to : TermId
+  pub left_leads : Leads points left from
+  pub right_leads : Leads points right to
+  pub differ : from ≢ to
+
+-- one of the equations is such
+pub record OneApart (a : Arena) (points : List Point) (ts : List TermId) : Type 0 where
+  pub equation : TermId
+  pub there : Contains ts equation
+  pub apart : SidesApart a points equation
+
+abbrev pub hypothesis_of : TermId → ℕ → TermId → Hypothesis
+hypothesis_of formula fact equation = record { equation = equation; formula = formula; fact = fact }
+
+-- what is known after so many hypotheses of a condition
+pub record Assumed (a : Arena) (c : Condition) (count : ℕ) (steps : List Step) (hs : List Hypothesis) : Type 0 where
+  pub derivation : IsDerivation a c steps
+  pub all : All (IsHypothesis a c steps) hs
+  pub trees : map (λ h. tree a h.equation) hs ≡ flat_map conjuncts (map (tree a) (take count c.given))

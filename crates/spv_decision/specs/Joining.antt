@@ -1,5 +1,5 @@
 -- What the steps of joining promise, whatever the arena and the condition.
-use Rattle.std.specs.Prelude.{◌≡◌, ◌≢◌, ℕ, ◌<◌, ◌≤◌, ◌+◌, List, Option, Some, None, IsTrue, ℤ}
+use Rattle.std.specs.Prelude.{◌≡◌, ◌≢◌, ℕ, ◌<◌, ◌≤◌, ◌+◌, List, Option, Some, None, All}
 use Rattle.spv_logic.specs.declared.conditions.TermId.{TermId}
 use Rattle.spv_logic.specs.Terms.{Term}
 use Rattle.spv_term.specs.declared.nodes.Condition.{Condition}
@@ -8,6 +8,8 @@ use Rattle.spv_proof.specs.declared.proofs.Step.{Step}
 use Rattle.spv_proof.specs.Evaluation.{equation}
 use Rattle.spv_decision.specs.declared.forest.Point.{Point}
 use Rattle.spv_decision.specs.declared.joining.Bridge.{Bridge}
+use Rattle.spv_decision.specs.declared.hypotheses.Hypothesis.{Hypothesis}
+use Rattle.spv_decision.specs.Formulas.{IsHypothesis, SidesJoined}
 use Rattle.spv_decision.specs.Derivations.{IsDerivation, IsFact, Link, Linked, Stated, Closes, Derives}
 use Rattle.spv_decision.specs.Forests.{Leads, AreLinks, AreClasses, Joined, KeepsJoined}
 
@@ -36,3 +38,18 @@ Joins old merges before from to link new more after None =
     → GoOn a c old new more before after × ((p q : TermId) → Leads old p from → Leads old q to → Joined new p q)
 Joins old merges before from to link new more after (Some k) =
     (a : Arena) (c : Condition) → IsArena a → AreClasses a c old merges before → Link a c before from to link → Closes a c after k
+
+-- an equation is stated, whatever the arena and the condition in which it is a hypothesis
+abbrev pub StatesHypothesis : List Step → Hypothesis → List Step → ℕ → Type 0
+StatesHypothesis old h new k =
+    (a : Arena) (c : Condition) → IsArena a → IsDerivation a c old → IsHypothesis a c old h → Stated a c old new k (tree a h.equation)
+
+-- the sides of a hypothesis are joined; or the path ends by this fact
+abbrev pub Equates : Arena → Condition → Hypothesis → List Point → ℕ → List Step → List Point → ℕ → List Step → Option ℕ → Type 0
+Equates a c h old merges before new more after None = GoOn a c old new more before after × SidesJoined a new h.equation
+Equates a c h old merges before new more after (Some k) = Closes a c after k
+
+-- the sides of each hypothesis are joined; or the path ends by this fact
+abbrev pub EquatesAll : Arena → Condition → List Hypothesis → List Point → ℕ → List Step → List Point → ℕ → List Step → Option ℕ → Type 0
+EquatesAll a c hs old merges before new more after None = GoOn a c old new more before after × All (λ h. SidesJoined a new h.equation) hs
+EquatesAll a c hs old merges before new more after (Some k) = Closes a c after k

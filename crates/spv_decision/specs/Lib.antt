@@ -3,5 +3,6 @@ pub mod Forms
 pub mod Verdicts
 pub mod Derivations
 pub mod Forests
-pub mod Joining
 pub mod Formulas
+pub mod Joining
+pub mod Concluding

@@ -20,6 +20,16 @@ pub(crate) fn add(steps: &mut Vec<Step>, step: Step) -> Result<u32, AllocError>
     Ok(steps.len() as u32)
 }
 
+// A number as the numbers of a proof are. They end at 4294967295, and a larger one is a want of memory.
+pub(crate) fn proof_number(number: usize) -> Result<u32, AllocError>
+    ensures { IfOk result (λ n. n ≡ number) }
+{
+    if number > u32::MAX as usize {
+        return Err(AllocError);
+    }
+    Ok(number as u32)
+}
+
 // The link of two terms with its ends exchanged.
 pub(crate) fn turned(
     steps: &mut Vec<Step>,

@@ -1,12 +1,14 @@
 // Classes of equal terms.
 
 ghost use Rattle.std.specs.Prelude.{◌≡◌, ◌≢◌, ◌<◌, length, None, Some, IfOk, IfSome, IfNone, slice_get};
-ghost use Rattle.spv_decision.specs.Forests.{IsForest, Leads, Climbs};
+ghost use Rattle.spv_decision.specs.Forests.{IsForest, Leads, Climbs, AreAlone};
+ghost use Rattle.spv_decision.specs.Forests as spec;
 
 use crate::derivation::chained;
+use crate::formulas::written;
 use spv_proof::Step;
-use spv_term::TermId;
-use std::alloc::AllocError;
+use spv_term::{TermId, Terms};
+use std::alloc::{AllocError, Global};
 
 /// A term in a tree of equal terms.
 #[derive(Clone, Copy, Debug)]
@@ -81,4 +83,34 @@ pub(crate) fn climbed(
         at = point.parent;
     }
     Ok((at, link))
+}
+
+// A term in a tree of its own.
+fn alone(terms: &Terms, p: TermId) -> Point
+    requires { p.0 < length terms.now.nodes }
+    ensures { result ≡ spec.alone terms.now p }
+{
+    let numeral = match written(terms, p) {
+        Some(_) => Some(p),
+        None => None,
+    };
+    Point {
+        parent: p,
+        rank: 0,
+        numeral,
+        link: None,
+    }
+}
+
+// Each term of an arena in a tree of its own.
+pub(crate) fn start(alloc: Global, terms: &Terms) -> Result<Forest, AllocError>
+    ensures count { IfOk result (λ f. length f.points.items ≡ length terms.now.nodes) }
+    ensures points { IfOk result (λ f. AreAlone terms.now f.points.items) }
+    ensures merges { IfOk result (λ f. f.merges ≡ 0) }
+{
+    let mut points = Vec::new(alloc);
+    for place in 0..terms.len() {
+        points.push(alone(terms, TermId(place)))?;
+    }
+    Ok(Forest { points, merges: 0 })
 }

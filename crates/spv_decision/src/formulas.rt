@@ -4,9 +4,10 @@ ghost use Rattle.std.specs.Prelude.{◌≡◌, ◌≢◌, ◌<◌, ◌++◌, [],
 ghost use Rattle.spv_term.specs.Arena.{tree};
 ghost use Rattle.spv_decision.specs.Forms as forms;
 ghost use Rattle.spv_decision.specs.Forms.{IsConjunction};
-ghost use Rattle.spv_decision.specs.Formulas.{conjunction, AreParts, IsConjunctOf};
+ghost use Rattle.spv_decision.specs.Formulas.{conjunction, AreParts, AreSides, IsEquation, IsConjunctOf};
 ghost use Rattle.spv_decision.specs.Forests as forests;
 
+use spv_proof::candidates::sides;
 use spv_term::{Head, TermId, Terms};
 use std::alloc::{AllocError, Global};
 
@@ -76,4 +77,12 @@ pub(crate) fn conjuncts(
     backward.push(at)?;
     backward.reverse();
     Ok(backward)
+}
+
+// The two sides of an equation.
+pub(crate) fn two_sides(terms: &Terms, equation: TermId) -> (TermId, TermId)
+    requires { IsEquation terms.now equation }
+    ensures { AreSides terms.now equation result.0 result.1 }
+{
+    sides(terms, equation).unwrap()
 }

@@ -40,7 +40,7 @@ pub(crate) fn across(
 }
 
 // The fact that two terms are equal whose roots have this link.
-fn equal(
+pub(crate) fn equal(
     forest: &Forest,
     steps: &mut Vec<Step>,
     left: TermId,

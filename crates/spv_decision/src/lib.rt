@@ -1,7 +1,9 @@
 //! Verdicts on conditions, and the decision of conditions that are equations of variables and numerals.
 #![tactic(auto)]
 
+mod conclusion;
 mod derivation;
+mod equating;
 mod forest;
 mod formulas;
 mod hypotheses;
