@@ -55,7 +55,7 @@ module _ (a : Arena) (points : List Point) (all : AreAlone a points) where
   of_alone : (P : TermId → Point → Type 0) → ((p : TermId) → p.0 < length points → P p (alone a p)) → (p : TermId) (x : Point) → slice_get points p.0 ≡ Some x → P p x
   of_alone P h p x at = subst (P p) (sym (is_alone p x at)) (h p (slice_get_within points p.0 x at))
 
-  own_is : (p m : TermId) (o : Option ℤ) → own_numeral p o ≡ Some m → (p ≡ m) × ((z : ℤ) × (o ≡ Some z))
+  own_is : (p m : TermId) (o : Option ℕ) → own_numeral p o ≡ Some m → (p ≡ m) × ((z : ℕ) × (o ≡ Some z))
   own_is p m None e = absurd (none e)
     where
       none : None ≡ Some m → ⊥
@@ -80,7 +80,7 @@ module _ (a : Arena) (points : List Point) (all : AreAlone a points) where
     count = count;
     forest = start_forest;
     links = of_alone _ (λ p within. refl);
-    point = of_alone _ (λ p within. record { numeral = λ m e. let o = own_is p m (written (tree a p)) e in (subst (λ q. (z : ℤ) × (written (tree a q) ≡ Some z)) o.0 o.1, λ f. subst (λ q. Leads points q p) o.0 (stays p (alone a p) (all p within) refl)) });
+    point = of_alone _ (λ p within. record { numeral = λ m e. let o = own_is p m (written (tree a p)) e in (subst (λ q. (z : ℕ) × (written (tree a q) ≡ Some z)) o.0 o.1, λ f. subst (λ q. Leads points q p) o.0 (stays p (alone a p) (all p within) refl)) });
     known = λ m z within w r way x at.
         let e : m ≡ r = leads_itself m r way in
         let f : x ≡ alone a m = is_alone m x (ap (λ q. slice_get points q.0) e ∙ at) in

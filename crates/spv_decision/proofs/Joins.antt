@@ -1,5 +1,5 @@
 -- Joining two linked roots.
-use Rattle.std.proofs.Common.{◌≡◌, ◌≢◌, ℕ, Bool, true, false, cond, not, ◌<◌, ◌≤◌, ◌+◌, List, [], ◌∷◌, ◌++◌, length, Option, Some, None, slice_get, Result, Ok, Err, IfOk, OnOk, refl, sym, ap, subst, ◌∙◌, ℤ, arith}
+use Rattle.std.proofs.Common.{◌≡◌, ◌≢◌, ℕ, Bool, true, false, cond, not, ◌<◌, ◌≤◌, ◌+◌, List, [], ◌∷◌, ◌++◌, length, Option, Some, None, slice_get, Result, Ok, Err, IfOk, OnOk, refl, sym, ap, subst, ◌∙◌, ℤ, pos, negsuc, nat_lt, ◌^◌, arith}
 use mathlib.Core.Logic.{◌⊎◌, inl, inr}
 use Rattle.std.specs.Ordering.{int_eq}
 use Rattle.std.proofs.lemmas.Bool.{false≢true}
@@ -17,9 +17,8 @@ use Rattle.spv_proof.specs.Accepted.{is_false, impossible}
 use Rattle.spv_proof.specs.Evaluation.{equation, numeral_relation}
 use Rattle.spv_decision.specs.declared.forest.Point.{Point}
 use Rattle.spv_decision.specs.declared.joining.Bridge.{Bridge}
-use Rattle.spv_decision.specs.Forms.{is_written}
 use Rattle.spv_decision.specs.Derivations.{Link, Linked, Stated, Closes, Turns, Derives}
-use Rattle.spv_decision.specs.Forests.{IsForest, IsRoot, Leads, AreClasses, Hangs, Lowers, Joined, KeepsJoined, both_of, written}
+use Rattle.spv_decision.specs.Forests.{IsForest, IsRoot, Leads, AreClasses, Hangs, Lowers, Joined, KeepsJoined, both_of, written, written_number}
 use Rattle.spv_decision.specs.Joining.{GoOn, Joins, StatesEqual}
 use Rattle.spv_decision.proofs.Trees.{one_of, Leads-one}
 use Rattle.spv_decision.proofs.Derive.{turned, Derives-refl}
@@ -27,22 +26,29 @@ use Rattle.spv_decision.proofs.Merge.{new_count, new_forest, new_classes, joined
 
 -- ---- numerals
 
-pub written_is : (t : Term) (z : ℤ) → written t ≡ Some z → t ≡ term (head.Num z) no_terms
-written_is (term (head.Num y) no_terms) z e = ap (λ x. term (head.Num x) no_terms) (by_case (is_written y) refl)
+number_is : (y : ℤ) (n : ℕ) → written_number y ≡ Some n → y ≡ pos n
+number_is (pos m) n e = by_case (nat_lt m (2 ^ 63)) refl
   where
-    by_case : (b : Bool) → is_written y ≡ b → y ≡ z
-    by_case true f = let g : Some y ≡ Some z = ap (λ b. cond b (Some y) None) (sym f) ∙ e in cc
-    by_case false f = let g : None ≡ Some z = ap (λ b. cond b (Some y) None) (sym f) ∙ e in absurd (none g)
+    by_case : (b : Bool) → nat_lt m (2 ^ 63) ≡ b → pos m ≡ pos n
+    by_case true f = let g : Some m ≡ Some n = ap (λ b. cond b (Some m) None) (sym f) ∙ e in ap pos (one_of m n g)
+    by_case false f = let g : None ≡ Some n = ap (λ b. cond b (Some m) None) (sym f) ∙ e in absurd (none g)
       where
-        none : None ≡ Some z → ⊥
+        none : None ≡ Some n → ⊥
         none h = cc
-written_is (term (head.Num y) (terms s ts)) z e = absurd (none e)
+number_is (negsuc m) n e = absurd (none e)
   where
-    none : None ≡ Some z → ⊥
+    none : None ≡ Some n → ⊥
     none h = cc
-written_is (term _ ts) z e = absurd (none e)
+
+pub written_is : (t : Term) (n : ℕ) → written t ≡ Some n → t ≡ term (head.Num (pos n)) no_terms
+written_is (term (head.Num y) no_terms) n e = ap (λ x. term (head.Num x) no_terms) (number_is y n e)
+written_is (term (head.Num y) (terms s ts)) n e = absurd (none e)
   where
-    none : None ≡ Some z → ⊥
+    none : None ≡ Some n → ⊥
+    none h = cc
+written_is (term _ ts) n e = absurd (none e)
+  where
+    none : None ≡ Some n → ⊥
     none h = cc
 
 -- an equation of two different numerals is never true
@@ -98,7 +104,7 @@ module _ (old new : List Point) (merges : ℕ) (before after : List Step) (from 
         derivation = stated.derives.derivation;
         fact = equation (tree a m) (tree a n);
         there = stated.fact;
-        never = never_equal (tree a m) (tree a n) first.0.0 second.0.0 (written_is (tree a m) first.0.0 first.0.1) (written_is (tree a n) second.0.0 second.0.1) trees_differ;
+        never = never_equal (tree a m) (tree a n) (pos first.0.0) (pos second.0.0) (written_is (tree a m) first.0.0 first.0.1) (written_is (tree a n) second.0.0 second.0.1) trees_differ;
       }
 
   not_both : both_of from_root.0.numeral to_root.0.numeral ≡ None → (m n : TermId) → from_root.0.numeral ≡ Some m → to_root.0.numeral ≡ Some n → ⊥

@@ -183,7 +183,7 @@ module _ (old new : List Point) (low high : TermId) (link : Option ℕ) (x y : P
           low_point : IsPoint a new low (hung x high link)
           low_point = record { numeral = λ m e. (((classes.point low x low_at).numeral m e).0, λ f. absurd (differ (sym f))) }
 
-          numeral_of : (m : TermId) (o : Option TermId) → y.numeral ≡ o → one_numeral o x.numeral ≡ Some m → ((z : ℤ) × (written (tree a m) ≡ Some z)) × Leads new m high
+          numeral_of : (m : TermId) (o : Option TermId) → y.numeral ≡ o → one_numeral o x.numeral ≡ Some m → ((z : ℕ) × (written (tree a m) ≡ Some z)) × Leads new m high
           numeral_of m None f e = let n = (classes.point low x low_at).numeral m e in (n.0, leads_high m low (n.1 low_root) refl)
           numeral_of m (Some k) f e = let n = (classes.point high y high_at).numeral m (f ∙ e) in (n.0, leads_on m high (n.1 high_root) (λ g. differ (sym g)))
 
@@ -196,7 +196,7 @@ module _ (old new : List Point) (low high : TermId) (link : Option ℕ) (x y : P
       new_links : AreLinks a c new steps
       new_links = of_kinds (λ p z. Link a c steps p z.parent z.link) linked (classes.links high y high_at) (λ p z g h at. classes.links p z at)
 
-      new_known : (m : TermId) (n : ℤ) → m.0 < length a.nodes → written (tree a m) ≡ Some n → (r : TermId) → Leads new m r → (z : Point) → slice_get new r.0 ≡ Some z → z.numeral ≡ Some m
+      new_known : (m : TermId) (n : ℕ) → m.0 < length a.nodes → written (tree a m) ≡ Some n → (r : TermId) → Leads new m r → (z : Point) → slice_get new r.0 ≡ Some z → z.numeral ≡ Some m
       new_known m n within w r way z at = by_root (has_root old merges forest m (let l = classes.count in omega (arith, l, within)))
         where
           at_high : r ≡ high → one_numeral y.numeral x.numeral ≡ Some m → z.numeral ≡ Some m

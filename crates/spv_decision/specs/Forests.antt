@@ -1,5 +1,5 @@
 -- Classes of equal terms, as a forest whose roots stand for their trees' terms.
-use Rattle.std.specs.Prelude.{◌≡◌, ◌≢◌, ℕ, ◌<◌, ◌≤◌, ◌+◌, Bool, true, List, [], ◌∷◌, ◌++◌, length, Option, Some, None, ℤ, IsTrue, slice_get, slice_set, nat_lt, ◌⊎◌, if◌then◌else◌}
+use Rattle.std.specs.Prelude.{◌≡◌, ◌≢◌, ℕ, ◌<◌, ◌≤◌, ◌+◌, Bool, true, List, [], ◌∷◌, ◌++◌, length, Option, Some, None, ℤ, pos, negsuc, ◌^◌, IsTrue, slice_get, slice_set, nat_lt, ◌⊎◌, if◌then◌else◌}
 use Rattle.spv_logic.specs.declared.conditions.TermId.{TermId}
 use Rattle.spv_logic.specs.declared.operators.Head.TheVariants.{Num}
 use Rattle.spv_logic.specs.Terms.{Term, term, no_terms}
@@ -7,7 +7,6 @@ use Rattle.spv_term.specs.declared.nodes.Condition.{Condition}
 use Rattle.spv_term.specs.Arena.{Arena, tree}
 use Rattle.spv_proof.specs.declared.proofs.Step.{Step}
 use Rattle.spv_decision.specs.declared.forest.Point.{Point}
-use Rattle.spv_decision.specs.Forms.{is_written}
 use Rattle.spv_decision.specs.Derivations.{IsDerivation, Link, Turns, Chains}
 
 abbrev pub rank_of : Option Point → ℕ
@@ -39,17 +38,18 @@ pub record IsNode (points : List Point) (merges : ℕ) (p : TermId) (x : Point) 
 pub record IsForest (points : List Point) (merges : ℕ) : Type 0 where
   pub node : (p : TermId) (x : Point) → slice_get points p.0 ≡ Some x → IsNode points merges p x
 
-abbrev pub written_number : ℤ → Option ℤ
-written_number z = if is_written z then Some z else None
+abbrev pub written_number : ℤ → Option ℕ
+written_number (pos n) = if nat_lt n (2 ^ 63) then Some n else None
+written_number (negsuc n) = None
 
 -- the number of a numeral that a text can have
-abbrev pub written : Term → Option ℤ
+abbrev pub written : Term → Option ℕ
 written (term (Num z) no_terms) = written_number z
 written _ = None
 
 -- what a point says of the terms of an arena
 pub record IsPoint (a : Arena) (points : List Point) (p : TermId) (x : Point) : Type 0 where
-  pub numeral : (m : TermId) → x.numeral ≡ Some m → ((z : ℤ) × (written (tree a m) ≡ Some z)) × (x.parent ≡ p → Leads points m p)
+  pub numeral : (m : TermId) → x.numeral ≡ Some m → ((z : ℕ) × (written (tree a m) ≡ Some z)) × (x.parent ≡ p → Leads points m p)
 
 -- each link is a fact
 abbrev pub AreLinks : Arena → Condition → List Point → List Step → Type 0
@@ -62,7 +62,7 @@ pub record AreClasses (a : Arena) (c : Condition) (points : List Point) (merges 
   pub forest : IsForest points merges
   pub links : AreLinks a c points steps
   pub point : (p : TermId) (x : Point) → slice_get points p.0 ≡ Some x → IsPoint a points p x
-  pub known : (m : TermId) (z : ℤ) → m.0 < length a.nodes → written (tree a m) ≡ Some z → (r : TermId) → Leads points m r → (x : Point) → slice_get points r.0 ≡ Some x → x.numeral ≡ Some m
+  pub known : (m : TermId) (z : ℕ) → m.0 < length a.nodes → written (tree a m) ≡ Some z → (r : TermId) → Leads points m r → (x : Point) → slice_get points r.0 ≡ Some x → x.numeral ≡ Some m
 
 -- two terms have one root
 pub record Joined (points : List Point) (p q : TermId) : Type 0 where
@@ -110,7 +110,7 @@ Lowers old before from to link new after =
 
 -- ---- the start
 
-abbrev pub own_numeral : TermId → Option ℤ → Option TermId
+abbrev pub own_numeral : TermId → Option ℕ → Option TermId
 own_numeral p None = None
 own_numeral p (Some z) = Some p
 

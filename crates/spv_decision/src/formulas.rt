@@ -12,18 +12,18 @@ use spv_term::{Head, TermId, Terms};
 use std::alloc::{AllocError, Global};
 
 // A number, where a text can have it.
-fn as_written(number: i128) -> Option<i128>
+fn as_written(number: i128) -> Option<u64>
     ensures { result ≡ forests.written_number number }
 {
     if (0..1 << 63).contains(&number) {
-        Some(number)
+        Some(number as u64)
     } else {
         None
     }
 }
 
 // The number of a numeral that a text can have.
-pub(crate) fn written(terms: &Terms, t: TermId) -> Option<i128>
+pub(crate) fn written(terms: &Terms, t: TermId) -> Option<u64>
     requires { t.0 < length terms.now.nodes }
     ensures { result ≡ forests.written (tree terms.now t) }
 {
