@@ -10,3 +10,4 @@ pub mod Stating
 pub mod Equations
 pub mod Assuming
 pub mod Ending
+pub mod Numbering

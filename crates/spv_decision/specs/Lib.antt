@@ -6,3 +6,4 @@ pub mod Forests
 pub mod Formulas
 pub mod Joining
 pub mod Concluding
+pub mod Numbers

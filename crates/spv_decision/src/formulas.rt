@@ -1,6 +1,6 @@
 // Conjunctions and equations of an arena.
 
-ghost use Rattle.std.specs.Prelude.{◌≡◌, ◌≢◌, ◌<◌, ◌++◌, [], ◌∷◌, length, map, reverse, All, IfSome, IfNone, IfOk};
+ghost use Rattle.std.specs.Prelude.{◌≡◌, ◌≢◌, ◌<◌, ◌^◌, ◌++◌, [], ◌∷◌, length, map, reverse, All, IfSome, IfNone, IfOk};
 ghost use Rattle.spv_term.specs.Arena.{tree};
 ghost use Rattle.spv_decision.specs.Forms as forms;
 ghost use Rattle.spv_decision.specs.Forms.{IsConjunction};
@@ -13,7 +13,8 @@ use std::alloc::{AllocError, Global};
 
 // A number, where a text can have it.
 fn as_written(number: i128) -> Option<u64>
-    ensures { result ≡ forests.written_number number }
+    ensures number { result ≡ forests.written_number number }
+    ensures bound { IfSome result (λ n. n < 2 ^ 63) }
 {
     if (0..1 << 63).contains(&number) {
         Some(number as u64)
@@ -25,7 +26,8 @@ fn as_written(number: i128) -> Option<u64>
 // The number of a numeral that a text can have.
 pub(crate) fn written(terms: &Terms, t: TermId) -> Option<u64>
     requires { t.0 < length terms.now.nodes }
-    ensures { result ≡ forests.written (tree terms.now t) }
+    ensures number { result ≡ forests.written (tree terms.now t) }
+    ensures bound { IfSome result (λ n. n < 2 ^ 63) }
 {
     terms.law_arena();
     let node = terms.node(t);

@@ -8,6 +8,7 @@ mod forest;
 mod formulas;
 mod hypotheses;
 mod joining;
+mod numbers;
 mod verdict;
 
 pub use verdict::{Branch, Table, Unproved, Verdict, Verdicts};
