@@ -1,6 +1,6 @@
 // Numbers for the terms of an arena: equal terms have one number, and a numeral has its own.
 
-ghost use Rattle.std.specs.Prelude.{◌≡◌, ◌<◌, ◌≤◌, ◌^◌, length, Some, IfOk, IfSome, slice_get};
+ghost use Rattle.std.specs.Prelude.{◌≡◌, ◌<◌, ◌≤◌, ◌^◌, ◌++◌, [], ◌∷◌, length, Some, IfOk, OnOk, IfSome, slice_get};
 ghost use Rattle.spv_term.specs.Arena.{tree};
 ghost use Rattle.spv_decision.specs.Forests as forests;
 ghost use Rattle.spv_decision.specs.Forests.{IsForest};
@@ -68,6 +68,14 @@ fn number(terms: &Terms, forest: &Forest, top: u64, p: TermId) -> i128
     }
 }
 
+// Puts a number at the end.
+fn push(list: &mut Vec<i128>, number: i128) -> Result<(), AllocError>
+    ensures { OnOk result (list.new.items ≡ list.old.items ++ number ∷ []) }
+{
+    list.push(number)?;
+    Ok(())
+}
+
 // The numbers of all terms, by their ids.
 pub(crate) fn numbers(
     alloc: Global,
@@ -81,7 +89,7 @@ pub(crate) fn numbers(
     let top = above_numerals(terms);
     let mut list = Vec::new(alloc);
     for place in 0..terms.len() {
-        list.push(number(terms, forest, top, TermId(place)))?;
+        push(&mut list, number(terms, forest, top, TermId(place)))?;
     }
     Ok(list)
 }

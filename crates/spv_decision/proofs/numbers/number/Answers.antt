@@ -24,7 +24,7 @@ returns-in-Some c =
 pub returns-in-None : goal.returns-in-None
 returns-in-None c =
     let r = Leads-root _ _ _ c.root-root.ensures in
-    let within = slice_get_within _ _ r.0 r.1 in
+    let within = slice_get_within c.args.forest.now.points.items c.root-root.result.0 r.0 r.1 in
     let count = c.requires.count in
     let room = c.law_arena.ensures.room in
     let most = c.law_arena.ensures.most in
