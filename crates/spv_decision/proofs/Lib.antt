@@ -11,3 +11,4 @@ pub mod Equations
 pub mod Assuming
 pub mod Ending
 pub mod Numbering
+pub mod Distinct

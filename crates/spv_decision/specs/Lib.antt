@@ -7,3 +7,4 @@ pub mod Formulas
 pub mod Joining
 pub mod Concluding
 pub mod Numbers
+pub mod Falsifying

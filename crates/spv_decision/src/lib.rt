@@ -4,6 +4,7 @@
 mod conclusion;
 mod derivation;
 mod equating;
+mod falsifying;
 mod forest;
 mod formulas;
 mod hypotheses;
