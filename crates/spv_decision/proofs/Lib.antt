@@ -12,3 +12,5 @@ pub mod Assuming
 pub mod Ending
 pub mod Numbering
 pub mod Distinct
+pub mod Showing
+pub mod Models
