@@ -6,7 +6,7 @@ use Rattle.std.specs.List.{list_any, list_all, flat_map}
 use Rattle.std.proofs.lemmas.Bool.{false≢true}
 use Rattle.std.proofs.lemmas.Bool.Decides.{nat_tests}
 use Rattle.std.proofs.lemmas.List.{append-nil, append_assoc, map-append, length-map, length-append}
-use Rattle.std.proofs.lemmas.List.Elements.{All-nil, All-head, All-tail, All-push, All-append, All-weaker, All-map, at_from_Contains}
+use Rattle.std.proofs.lemmas.List.Elements.{All-nil, All-cons, All-head, All-tail, All-push, All-append, All-weaker, All-map, at_from_Contains}
 use Rattle.std.proofs.lemmas.List.Concat.{flat_map-append}
 use Rattle.std.proofs.lemmas.Option.{slice_get_within}
 use Rattle.std.proofs.lemmas.Int.{ints}
@@ -283,3 +283,169 @@ module _ (a : Arena) (ok : IsArena a) (numbers : List ℤ) where
             or_last : (b : Bool) → list_any (term_eq t) (xs ++ t ∷ []) ≡ true → b || list_any (term_eq t) (xs ++ t ∷ []) ≡ true
             or_last true g = refl
             or_last false g = g
+
+-- ---- lists of truths
+
+all_true : (p : Term → Bool) (f : TermId → Term) (es : List TermId) → All (λ e. p (f e) ≡ true) es → list_all p (map f es) ≡ true
+all_true p f [] h = refl
+all_true p f (e ∷ es) h = λ i. All-head (λ x. p (f x) ≡ true) e es h i && all_true p f es (All-tail (λ x. p (f x) ≡ true) e es h) i
+
+one_false : (p : Term → Bool) (f : TermId → Term) (es : List TermId) (k : ℕ) (d : TermId) → k < length es → p (f (get_or es k d)) ≡ false → list_all p (map f es) ≡ false
+one_false p f [] k d h e = absurd (no h)
+  where
+    no : k < 0 → ⊥
+    no h = grind (arith)
+one_false p f (x ∷ es) zero d h e = ap (λ b. b && list_all p (map f es)) e
+one_false p f (x ∷ es) (suc k) d h e = and_last (p (f x)) (one_false p f es k d (grind (arith)) e)
+  where
+    and_last : (b : Bool) → list_all p (map f es) ≡ false → b && list_all p (map f es) ≡ false
+    and_last true g = g
+    and_last false g = refl
+
+same_number : (z : ℤ) → int_eq z z ≡ true
+same_number z = grind (arith, ints)
+
+two_numbers : (x y : ℤ) → x ≢ y → int_eq x y ≡ false
+two_numbers x y n = by_case (int_eq x y) refl
+  where
+    by_case : (b : Bool) → int_eq x y ≡ b → b ≡ false
+    by_case true e = absurd (n (int_eq-true x y e))
+    by_case false e = refl
+
+get_or-left : (xs ys : List TermId) (k : ℕ) (d : TermId) → k < length xs → get_or (xs ++ ys) k d ≡ get_or xs k d
+get_or-left [] ys k d h = absurd (no h)
+  where
+    no : k < 0 → ⊥
+    no h = grind (arith)
+get_or-left (x ∷ xs) ys zero d h = refl
+get_or-left (x ∷ xs) ys (suc k) d h = get_or-left xs ys k d (grind (arith))
+
+get_or-right : (xs ys : List TermId) (k : ℕ) (d : TermId) → get_or (xs ++ ys) (length xs + k) d ≡ get_or ys k d
+get_or-right [] ys k d = ap (λ n. get_or ys n d) (zero_plus k)
+  where
+    zero_plus : (n : ℕ) → 0 + n ≡ n
+    zero_plus n = omega arith
+get_or-right (x ∷ xs) ys k d = ap (λ n. get_or (x ∷ (xs ++ ys)) n d) (suc_plus (length xs) k) ∙ get_or-right xs ys k d
+  where
+    suc_plus : (m n : ℕ) → suc m + n ≡ suc (m + n)
+    suc_plus m n = omega arith
+
+-- ---- what a model shows
+
+module _ (a : Arena) (ok : IsArena a) (c : Condition) (plain : IsPlain a c) (numbers : List ℤ) (given goal : List TermId) (model : IsModel a numbers given goal)
+    (equations : All (IsEquation a) (given ++ goal)) (given_are : map (tree a) given ≡ flat_map conjuncts (map (tree a) c.given)) (goal_are : map (tree a) goal ≡ conjuncts (tree a c.goal))
+    (u : Unproved) (shown : IsShown a numbers (given ++ goal) u) where
+  abbrev table_rows : List (Term × ℤ)
+  table_rows = rows a ok numbers (distinct_ids shown.variables)
+
+  abbrev formulas : List Term
+  formulas = map (tree a) c.given ++ tree a c.goal ∷ []
+
+  given_conjunctions : All (λ t. is_conjunction t ≡ true) (map (tree a) c.given)
+  given_conjunctions = All-map (λ t. is_conjunction t ≡ true) (tree a) c.given (All-weaker (IsConjunction a) (λ t. is_conjunction (tree a t) ≡ true) (λ t h. h.conjunction) c.given plain.given)
+
+  conjunctions : All (λ t. is_conjunction t ≡ true) formulas
+  conjunctions = All-push (λ t. is_conjunction t ≡ true) (map (tree a) c.given) (tree a c.goal) given_conjunctions plain.goal.conjunction
+
+  all_are : map (tree a) (given ++ goal) ≡ flat_map conjuncts formulas
+  all_are =
+      map-append (tree a) given goal ∙ ((λ i. given_are i ++ goal_are i) ∙ (ap (λ xs. flat_map conjuncts (map (tree a) c.given) ++ xs) (sym (append-nil (conjuncts (tree a c.goal))))
+      ∙ sym (flat_map-append conjuncts (map (tree a) c.given) (tree a c.goal ∷ []))))
+
+  in_range : All (λ t. t.0 < length a.nodes) (given ++ goal)
+  in_range = All-weaker (IsEquation a) (λ t. t.0 < length a.nodes) (λ t h. h.in_range) (given ++ goal) equations
+
+  variables_are : map (tree a) (distinct_ids shown.variables) ≡ variables_in (sequent a c)
+  variables_are =
+      distinct_trees a ok shown.variables shown.are.in_range ∙ (ap distinct shown.are.trees ∙ (ap (λ ts. distinct (flat_map variables_of ts)) all_are
+      ∙ ap distinct (sym (flat_conjuncts variables_of variables_of conjunct_variables formulas conjunctions))))
+
+  atoms_are : map (tree a) (distinct_ids (given ++ goal)) ≡ atoms_in (is_truth a.shapes a.decls) (sequent a c)
+  atoms_are = distinct_trees a ok (given ++ goal) in_range ∙ ap distinct (all_are ∙ sym (flat_atoms a.shapes a.decls formulas conjunctions))
+
+  holds_at : (symbols : Meaning) (k : ℕ) (d left right : TermId) → k < length (given ++ goal) → AreSides a (get_or (given ++ goal) k d) left right
+      → holds symbols (table_valuation table_rows) (tree a (get_or (given ++ goal) k d)) ≡ int_eq (number_at numbers left) (number_at numbers right)
+  holds_at symbols = equation_holds a ok numbers (given ++ goal) shown.variables equations shown.are model.numerals symbols
+
+  balanced_holds : (symbols : Meaning) → All (λ e. holds symbols (table_valuation table_rows) (tree a e) ≡ true) given
+  balanced_holds symbols = λ k d within.
+      let b = model.given_true k d within in
+      let e = get_or-left given goal k d within in
+      let long = length-append given goal in
+      let h = holds_at symbols k d b.left b.right (omega (arith, within, long)) (subst (λ t. AreSides a t b.left b.right) (sym e) b.sides) in
+      ap (λ t. holds symbols (table_valuation table_rows) (tree a t)) (sym e) ∙ (h ∙ (ap (λ z. int_eq z (number_at numbers b.right)) b.same ∙ same_number (number_at numbers b.right)))
+
+  unbalanced_holds : (symbols : Meaning) → holds symbols (table_valuation table_rows) (tree a (get_or goal model.there.0 model.false_one)) ≡ false
+  unbalanced_holds symbols =
+      let k = model.there.0 in
+      let d = model.false_one in
+      let b = model.goal_false in
+      let within : k < length goal = model.there.1 in
+      let e = get_or-right given goal k d in
+      let same : get_or goal k d ≡ d = model.there.2 in
+      let long = length-append given goal in
+      let h = holds_at symbols (length given + k) d b.left b.right (omega (arith, within, long)) (subst (λ t. AreSides a t b.left b.right) (sym (e ∙ same)) b.sides) in
+      ap (λ t. holds symbols (table_valuation table_rows) (tree a t)) (sym e) ∙ (h ∙ two_numbers (number_at numbers b.left) (number_at numbers b.right) b.differ)
+
+  table_is : table_terms a u.table ≡ table_rows
+  table_is = ap (table_terms a) shown.table ∙ map-map (λ r. (tree a r.0, r.1)) (λ v. (v, number_at numbers v)) (distinct_ids shown.variables)
+    where
+      map-map : {A B C : Type 0} (f : B → C) (g : A → B) (xs : List A) → map f (map g xs) ≡ map (λ x. f (g x)) xs
+      map-map f g [] = refl
+      map-map f g (x ∷ xs) = ap (λ ys. f (g x) ∷ ys) (map-map f g xs)
+
+  listed : map (λ r. r.0) table_rows ≡ variables_in (sequent a c)
+  listed = firsts (distinct_ids shown.variables) ∙ variables_are
+    where
+      firsts : (vs : List TermId) → map (λ r. r.0) (rows a ok numbers vs) ≡ map (tree a) vs
+      firsts [] = refl
+      firsts (v ∷ vs) = ap (λ ts. tree a v ∷ ts) (firsts vs)
+
+  given_holds : (symbols : Meaning) → list_all (holds symbols (table_valuation table_rows)) (map (tree a) c.given) ≡ true
+  given_holds symbols =
+      all_holds symbols (table_valuation table_rows) (map (tree a) c.given) given_conjunctions ∙ (ap (list_all (holds symbols (table_valuation table_rows))) (sym given_are)
+      ∙ all_true (holds symbols (table_valuation table_rows)) (tree a) given (balanced_holds symbols))
+
+  goal_fails : (symbols : Meaning) → holds symbols (table_valuation table_rows) (tree a c.goal) ≡ false
+  goal_fails symbols =
+      conjunct_holds symbols (table_valuation table_rows) (tree a c.goal) plain.goal.conjunction ∙ (ap (list_all (holds symbols (table_valuation table_rows))) (sym goal_are)
+      ∙ one_false (holds symbols (table_valuation table_rows)) (tree a) goal model.there.0 model.false_one model.there.1 (unbalanced_holds symbols))
+
+  -- each atom beside its truth in the table
+  truths_hold : (symbols : Meaning) (ts : List TermId) (branch : List (TermId × Bool)) → AreTruths a numbers ts branch
+      → All (λ t. (b : Bool) → IsTruth a numbers t b → b ≡ holds symbols (table_valuation table_rows) (tree a t)) ts
+      → branch_terms a branch ≡ map (λ t. (t, holds symbols (table_valuation table_rows) t)) (map (tree a) ts)
+  truths_hold symbols [] [] h g = refl
+  truths_hold symbols [] (row ∷ branch) h g = absurd h
+  truths_hold symbols (t ∷ ts) [] h g = absurd h
+  truths_hold symbols (t ∷ ts) (row ∷ branch) h g =
+      let e = All-head (λ t. (b : Bool) → IsTruth a numbers t b → b ≡ holds symbols (table_valuation table_rows) (tree a t)) t ts g row.1 h.0.1 in
+      let rest = truths_hold symbols ts branch h.1 (All-tail (λ t. (b : Bool) → IsTruth a numbers t b → b ≡ holds symbols (table_valuation table_rows) (tree a t)) t ts g) in
+      λ i. (tree a (h.0.0 i), e i) ∷ rest i
+
+  each_truth : (symbols : Meaning) → All (λ t. (b : Bool) → IsTruth a numbers t b → b ≡ holds symbols (table_valuation table_rows) (tree a t)) (given ++ goal)
+  each_truth symbols = λ k d within b is. is.is ∙ sym (holds_at symbols k d is.left is.right within is.sides)
+
+  branch_in : (ts : List TermId) (branch : List (TermId × Bool)) → AreTruths a numbers ts branch → All (λ t. t.0 < length a.nodes) ts → All (λ r. r.0.0 < length a.nodes) branch
+  branch_in [] [] h g = All-nil (λ r. r.0.0 < length a.nodes)
+  branch_in [] (row ∷ branch) h g = absurd h
+  branch_in (t ∷ ts) [] h g = absurd h
+  branch_in (t ∷ ts) (row ∷ branch) h g =
+      All-cons (λ r. r.0.0 < length a.nodes) row branch (subst (λ x. x.0 < length a.nodes) (sym h.0.0) (All-head (λ x. x.0 < length a.nodes) t ts g)) (branch_in ts branch h.1 (All-tail (λ x. x.0 < length a.nodes) t ts g))
+
+  falsifies : Falsifies (is_truth a.shapes a.decls) (sequent a c) (branch_terms a u.branch) table_rows
+  falsifies = record {
+    lists = listed;
+    given_true = given_holds;
+    goal_false = goal_fails;
+    branch_is = λ symbols.
+        truths_hold symbols (distinct_ids (given ++ goal)) u.branch shown.branch (distinct_all (λ t. (b : Bool) → IsTruth a numbers t b → b ≡ holds symbols (table_valuation table_rows) (tree a t)) (given ++ goal) (each_truth symbols))
+        ∙ ap (map (λ t. (t, holds symbols (table_valuation table_rows) t))) atoms_are;
+  }
+
+  pub unproved : IsUnproved a c u
+  unproved = record {
+    falsifies = subst (Falsifies (is_truth a.shapes a.decls) (sequent a c) (branch_terms a u.branch)) (sym table_is) falsifies;
+    branch_in_range = branch_in (distinct_ids (given ++ goal)) u.branch shown.branch (distinct_all (λ t. t.0 < length a.nodes) (given ++ goal) in_range);
+    table_in_range = subst (All (λ r. r.0.0 < length a.nodes)) (sym shown.table) (All-map (λ r. r.0.0 < length a.nodes) (λ v. (v, number_at numbers v)) (distinct_ids shown.variables) (distinct_all (λ t. t.0 < length a.nodes) shown.variables shown.are.in_range));
+  }
