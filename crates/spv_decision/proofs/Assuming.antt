@@ -17,7 +17,7 @@ use Rattle.spv_proof.specs.Accepted.{Adds, adds_known}
 use Rattle.spv_decision.specs.declared.forest.Point.{Point}
 use Rattle.spv_decision.specs.declared.hypotheses.Hypothesis.{Hypothesis}
 use Rattle.spv_decision.specs.Forms.{conjuncts, IsConjunction, IsPlain}
-use Rattle.spv_decision.specs.Derivations.{IsFact, Derives}
+use Rattle.spv_decision.specs.Derivations.{IsDerivation, IsFact, Derives}
 use Rattle.spv_decision.specs.Forests.{Leads, stays, climbs, IsForest, AreClasses, AreAlone, alone, own_numeral, written}
 use Rattle.spv_decision.specs.Formulas.{IsConjunctOf, IsHypothesis, hypothesis_of, Assumed}
 use Rattle.spv_decision.proofs.Trees.{one_of}
@@ -74,9 +74,9 @@ module _ (a : Arena) (points : List Point) (all : AreAlone a points) where
   leads_itself p r (stays q x at root) = refl
   leads_itself p r (climbs q x r' at other way) = absurd (other (ap (λ y. y.parent) (is_alone q x at)))
 
-  pub start_classes : (c : Condition) → length points ≡ length a.nodes → AreClasses a c points 0 []
-  start_classes c count = record {
-    derivation = nothing_derived a c;
+  pub start_classes : (c : Condition) (steps : List Step) → IsDerivation a c steps → length points ≡ length a.nodes → AreClasses a c points 0 steps
+  start_classes c steps derivation count = record {
+    derivation = derivation;
     count = count;
     forest = start_forest;
     links = of_alone _ (λ p within. refl);

@@ -2,6 +2,7 @@
 #![tactic(auto)]
 
 mod conclusion;
+mod decision;
 mod derivation;
 mod equating;
 mod falsifying;
@@ -12,4 +13,5 @@ mod joining;
 mod numbers;
 mod verdict;
 
+pub use decision::decide;
 pub use verdict::{Branch, Table, Unproved, Verdict, Verdicts};
