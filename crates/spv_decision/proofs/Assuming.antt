@@ -63,12 +63,14 @@ module _ (a : Arena) (points : List Point) (all : AreAlone a points) where
   own_is p m (Some z) e = (one_of p m e, (z, refl))
 
   pub start_forest : IsForest points 0
-  start_forest = record { node = of_alone _ (λ p within. record {
-    parent_in = within;
-    higher = λ n. absurd (n refl);
-    rank = grind (arith);
-    numeral_in = λ m e. subst (λ q. q.0 < length points) (own_is p m (written (tree a p)) e).0 within;
-  }) }
+  start_forest = record {
+    node = of_alone _ (λ p within. record {
+      parent_in = within;
+      higher = λ n. absurd (n refl);
+      rank = grind (arith);
+      numeral_in = λ m e. subst (λ q. q.0 < length points) (own_is p m (written (tree a p)) e).0 within;
+    });
+  }
 
   leads_itself : (p r : TermId) → Leads points p r → p ≡ r
   leads_itself p r (stays q x at root) = refl

@@ -64,9 +64,9 @@ sides_there a t is o value inside p e =
 module _ (a : Arena) (c : Condition) (h : Hypothesis) (left right : TermId) (sides_are : AreSides a h.equation left right) (old : List Point) (merges : ℕ) (before : List Step) where
   pub already : (r s : TermId) → Leads old left r → Leads old right s → r.0 ≡ s.0 → AreClasses a c old merges before → Equates a c h old merges before old merges before None
   already r s g k e classes = (
-      record { classes = classes; derives = Derives-refl a c before classes.derivation; keeps = λ p q j. j },
-      record { left = left; right = right; sides = sides_are; joined = record { root = r; left = g; right = subst (Leads old right) (sym (id_from r s e)) k } },
-    )
+    record { classes = classes; derives = Derives-refl a c before classes.derivation; keeps = λ p q j. j },
+    record { left = left; right = right; sides = sides_are; joined = record { root = r; left = g; right = subst (Leads old right) (sym (id_from r s e)) k } },
+  )
 
   pub equated : IsArena a → (s1 s2 after : List Step) (fact : ℕ) (b : Bridge) (new : List Point) (more : ℕ) (r : Option ℕ)
       → StatesHypothesis before h s1 fact → IsBridge old s1 left right fact s2 b → Joins old merges s2 b.from b.to b.link new more after r

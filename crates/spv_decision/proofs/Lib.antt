@@ -14,3 +14,4 @@ pub mod Numbering
 pub mod Distinct
 pub mod Showing
 pub mod Models
+pub mod Deciding

@@ -15,7 +15,6 @@ use Rattle.spv_decision.specs.Forests.{rank_of, rank_at, Leads, stays, climbs, I
 use Rattle.spv_decision.proofs.Trees.{one_of, same_or_not, slice_got, slice_get-set_same, slice_get-set_other, Leads-one, Leads-root, Leads-of_root, has_root}
 use Rattle.spv_decision.proofs.Derive.{links_kept}
 
-
 -- ---- ranks
 
 raised_higher : (x y : ℕ) → x < cond (nat_lt x y) y (x + 1)

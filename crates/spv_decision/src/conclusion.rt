@@ -88,11 +88,7 @@ fn state_equations(
 }
 
 // The fact that a conjunction holds, whose equations are these facts.
-fn state_whole(
-    steps: &mut Vec<Step>,
-    formula: TermId,
-    facts: Vec<u32>,
-) -> Result<u32, AllocError>
+fn state_whole(steps: &mut Vec<Step>, formula: TermId, facts: Vec<u32>) -> Result<u32, AllocError>
     ensures { IfOk result (StatesWhole steps.old.items formula facts.items steps.new.items) }
 {
     let numbers = facts.as_slice();

@@ -62,7 +62,5 @@ pub fn decide(alloc: Global, terms: &Terms, condition: &Condition) -> Result<Ver
     }
     let numbers = numbers(alloc, terms, &forest)?;
     let equations = all_equations(alloc, &hypotheses, &goal)?;
-    Ok(Verdict::Unproved(shown(
-        alloc, terms, &numbers, &equations,
-    )?))
+    Ok(Verdict::Unproved(shown(alloc, terms, &numbers, &equations)?))
 }

@@ -31,10 +31,7 @@ pub(crate) fn proof_number(number: usize) -> Result<u32, AllocError>
 }
 
 // The link of two terms with its ends exchanged.
-pub(crate) fn turned(
-    steps: &mut Vec<Step>,
-    link: Option<u32>,
-) -> Result<Option<u32>, AllocError>
+pub(crate) fn turned(steps: &mut Vec<Step>, link: Option<u32>) -> Result<Option<u32>, AllocError>
     ensures { IfOk result (Turns steps.old.items link steps.new.items) }
 {
     match link {

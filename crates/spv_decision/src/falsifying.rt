@@ -41,11 +41,7 @@ fn push_variable(terms: &Terms, list: &mut Vec<TermId>, side: TermId) -> Result<
 }
 
 // The variables of equations, in order and as often as they stand there.
-fn variables(
-    alloc: Global,
-    terms: &Terms,
-    equations: &[TermId],
-) -> Result<Vec<TermId>, AllocError>
+fn variables(alloc: Global, terms: &Terms, equations: &[TermId]) -> Result<Vec<TermId>, AllocError>
     requires { All (IsEquation terms.now) equations.now }
     ensures { IfOk result (λ vs. AreIds terms.now vs.items (flat_map variables_of (map (tree terms.now) equations.now))) }
 {
