@@ -1,6 +1,5 @@
 -- Formulas that are equations of variables and numerals, joined by AND.
-use Rattle.std.specs.Prelude.{◌<◌, ◌^◌, Bool, true, false, ◌&&◌, not, List, [], ◌∷◌, ◌++◌, ℤ, pos, length, All, IsTrue}
-use Rattle.std.specs.Int.RustNames.{int_lt}
+use Rattle.std.specs.Prelude.{◌<◌, ◌^◌, Bool, true, false, ◌&&◌, nat_lt, List, [], ◌∷◌, ◌++◌, ℤ, pos, negsuc, length, All, IsTrue}
 use Rattle.spv_logic.specs.declared.conditions.TermId.{TermId}
 use Rattle.spv_logic.specs.declared.types.Sort.TheVariants as sort
 use Rattle.spv_logic.specs.declared.operators.Head.TheVariants.{Var, Num, Eq, And}
@@ -10,7 +9,8 @@ use Rattle.spv_term.specs.Arena.{Arena, tree}
 
 -- whether a number is one that a text can have
 abbrev pub is_written : ℤ → Bool
-is_written z = not (int_lt z (pos 0)) && int_lt z (pos (2 ^ 63))
+is_written (pos n) = nat_lt n (2 ^ 63)
+is_written (negsuc n) = false
 
 -- whether a term is a variable of integer sort or a numeral of a text
 abbrev pub is_side : Term → Bool
