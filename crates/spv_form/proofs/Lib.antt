@@ -2,3 +2,4 @@ pub mod Fronts
 pub mod Whole
 pub mod Program
 pub mod Numbers
+pub mod Indexed

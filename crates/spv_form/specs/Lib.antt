@@ -1,4 +1,5 @@
 pub mod Known
 pub mod Spelled
 pub mod Read
+pub mod Indexed
 pub mod Program
