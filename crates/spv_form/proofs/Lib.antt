@@ -3,3 +3,4 @@ pub mod Whole
 pub mod Program
 pub mod Numbers
 pub mod Indexed
+pub mod Sizes

@@ -132,7 +132,8 @@ no_condition [] = refl
 no_condition (Empty ∷ others) = no_condition others
 no_condition (Assign x s ∷ others) = ap (before (statement_of (Assign x s))) (no_condition others)
 
-without_replacing : (f : Formula) → formula_term f ≡ term_with (before_all []) f
+-- a formula that nothing is replaced in
+pub without_replacing : (f : Formula) → formula_term f ≡ term_with (before_all []) f
 without_replacing (Plain e) = refl
 without_replacing (Bracketed e others) = refl
 

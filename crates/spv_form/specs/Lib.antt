@@ -3,3 +3,4 @@ pub mod Spelled
 pub mod Read
 pub mod Indexed
 pub mod Program
+pub mod Sizes

@@ -34,10 +34,14 @@ equation_term e = term head.Eq (terms (side_term e.left) (terms (side_term e.rig
 abbrev pub conjunction : Term → Term → Term
 conjunction s t = term head.And (terms s (terms t no_terms))
 
+-- a term and those of further equations, joined by AND from the left
+abbrev pub with_others : (Equation → Term) → Term → List Equation → Term
+with_others of t others = fold (λ s e. conjunction s (of e)) t others
+
 -- the terms of a formula's equations, joined by AND from the left
 abbrev pub joined : (Equation → Term) → Formula → Term
 joined of (Plain e) = of e
-joined of (Bracketed e others) = fold (λ t next. conjunction t (of next)) (of e) others
+joined of (Bracketed e others) = with_others of (of e) others
 
 abbrev pub formula_term : Formula → Term
 formula_term f = joined equation_term f

@@ -1,12 +1,13 @@
 // Reading the form from tokens.
 
-ghost use Rattle.std.specs.Prelude.{◌≡◌, ◌≢◌, ◌∷◌, ◌++◌, [], None, Some, IfNone, IfSome, IfOk, IsTrue, Err};
+ghost use Rattle.std.specs.Prelude.{◌≡◌, ◌≢◌, ◌∷◌, ◌++◌, ◌<◌, [], None, Some, length, IfNone, IfSome, IfOk, IsTrue, Err};
 ghost use Rattle.spv_tree.specs.declared.token.TokenKind.TheVariants as kind;
 ghost use Rattle.spv_tree.specs.declared.token.Word.TheVariants as word;
 ghost use Rattle.spv_tree.specs.declared.token.Sign.TheVariants as sign;
 ghost use Rattle.spv_form.specs.declared.form.Assignment.TheVariants.{Empty, Assign};
 ghost use Rattle.spv_form.specs.declared.reading.FormFault.TheVariants.{NotOfForm};
 ghost use Rattle.spv_form.specs.Spelled.{kinds, all_kinds, heading_kinds, side_kind, equation_kinds, bracketed_kinds, conjunct_kinds, formula_kinds, annotated_kinds, annotation_kinds, further_name_kinds, type_kinds, variables_kinds, assignment_kinds, further_kinds, end_kinds, body_kinds, first_line, lines_at, lines_behind, IsForm};
+ghost use Rattle.spv_form.specs.Sizes.{equations_of_form};
 ghost use Rattle.spv_form.specs.Read.{NoneAt, SomeAt, NotFirst, NoneBefore, OnlyBefore, ReadOnto, OnlyOnto, formula_in, lines_with, IsSpelled, SameForm};
 
 use crate::declared::names_allowed;
@@ -424,6 +425,7 @@ fn program(alloc: Global, tokens: &[Token], known: KnownNumbers) -> Result<Form,
 /// The program of the form that these tokens are. `NotOfForm` comes exactly where there is none.
 pub fn read(alloc: Global, tokens: &[Token], known: KnownNumbers) -> Result<Form, FormFault>
     ensures form { IfOk result (λ f. IsForm known tokens.now f) }
+    ensures few { IfOk result (λ f. equations_of_form f < length tokens.now) }
     ensures not_of_form { result ≡ Err NotOfForm → (f : _) → IsForm known tokens.now f → ⊥ }
 {
     let form = program(alloc, tokens, known)?;
