@@ -69,11 +69,7 @@ fn equation(terms: &mut Terms, equation: Equation) -> Result<TermId, VerifyFault
 }
 
 // A formula's term and that of an equation, joined by AND.
-fn and_equation(
-    terms: &mut Terms,
-    joined: TermId,
-    last: Equation,
-) -> Result<TermId, VerifyFault>
+fn and_equation(terms: &mut Terms, joined: TermId, last: Equation) -> Result<TermId, VerifyFault>
     requires room { length terms.old.nodes + 4 ≤ terms.old.most }
     requires in_range { joined.0 < length terms.old.nodes }
     requires sort { sort_at terms.old joined ≡ sort.Bool }
@@ -143,11 +139,7 @@ fn formula(
 }
 
 // The term of an ENTRY, as the one hypothesis.
-fn hypothesis(
-    alloc: Global,
-    terms: &mut Terms,
-    entry: &Annotation,
-) -> Result<TermList, VerifyFault>
+fn hypothesis(alloc: Global, terms: &mut Terms, entry: &Annotation) -> Result<TermList, VerifyFault>
     requires room { length terms.old.nodes + 4 * equations_in entry.now.formula ≤ terms.old.most }
     ensures trees { IfOk result (λ ts. map (tree terms.new) ts ≡ given_by (Some entry.now)) }
     ensures in_range { IfOk result (AllBelow (length terms.new.nodes)) }
