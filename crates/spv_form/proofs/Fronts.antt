@@ -13,7 +13,7 @@ use Rattle.spv_form.specs.declared.form.Equation.{Equation}
 use Rattle.spv_form.specs.declared.form.Assignment.{Assignment}
 use Rattle.spv_form.specs.declared.form.Assignment.TheVariants.{Empty, Assign}
 use Rattle.spv_form.specs.Spelled.{kinds, all_kinds, side_kind, equation_kinds, bracketed_kinds, conjunct_kinds, further_name_kinds, assignment_kinds, further_kinds, first_line, lines_at, lines_behind}
-use Rattle.spv_form.specs.Read.{NoneAt, SomeAt, ReadOnto}
+use Rattle.spv_form.specs.Read.{NoneAt, SomeAt}
 
 pub rest_is : (k l : TokenKind) (ks ls : List TokenKind) → k ∷ ks ≡ l ∷ ls → ks ≡ ls
 rest_is k l ks ls e = cc
@@ -50,10 +50,6 @@ same_bracketed e f ks ls h =
     let r = same_equation e f _ _ (rest_is _ _ _ _ h) in
     (r.0, rest_is _ _ _ _ r.1)
 
--- an equation without brackets is none in brackets
-pub no_bracket : (e f : Equation) (ks ls : List TokenKind) → equation_kinds e ks ≡ bracketed_kinds f ls → ⊥
-no_bracket e f ks ls h = side_no_bracket e.left (cc)
-
 -- ---- items one after the other
 
 -- what a loop over items has read: some of them, in front of whatever follows
@@ -66,9 +62,6 @@ pub record ReadSoFar {A : Type 0} (spelled : A → List TokenKind → List Token
 all_kinds-append : {A : Type 0} (spelled : A → List TokenKind → List TokenKind) (xs ys : List A) (ks : List TokenKind) → all_kinds spelled (xs ++ ys) ks ≡ all_kinds spelled xs (all_kinds spelled ys ks)
 all_kinds-append spelled [] ys ks = refl
 all_kinds-append spelled (x ∷ xs) ys ks = ap (spelled x) (all_kinds-append spelled xs ys ks)
-
-pub read_none : {A : Type 0} (spelled : A → List TokenKind → List TokenKind) (end : TokenKind) (tokens : List Token) (begun : List A) → ReadSoFar spelled end tokens tokens begun begun
-read_none spelled end tokens begun = record { done = []; list_is = sym (append-nil begun); in_front = refl; behind = λ all ks e. (all, refl, e) }
 
 -- an item at the front, and no other one, whatever further items and whatever end follow
 pub record OneRead {A : Type 0} (spelled : A → List TokenKind → List TokenKind) (end : TokenKind) (rest after : List Token) (a : A) : Type 0 where
@@ -111,9 +104,6 @@ all_read {A} spelled end tokens rest begun list r never all ks e = split (r.behi
     split : {all : List A} → (others : List A) × (all ≡ r.done ++ others) × (kinds rest ≡ all_kinds spelled others (end ∷ ks)) → (list ≡ begun ++ all) × (kinds rest ≡ end ∷ ks)
     split ([], e, f) = (r.list_is ∙ ap (λ l. begun ++ l) (sym (e ∙ append-nil r.done)), f)
     split (b ∷ others, e, f) = absurd (never b _ f)
-
-pub read_onto : {A : Type 0} (spelled : A → List TokenKind → List TokenKind) (end : TokenKind) (tokens rest : List Token) (begun list : List A) → ReadSoFar spelled end tokens rest begun list → ReadOnto spelled tokens rest begun list
-read_onto spelled end tokens rest begun list r = record { more = r.done; list_is = r.list_is; there = r.in_front }
 
 -- ---- statements
 

@@ -7,7 +7,6 @@ use Rattle.std.specs.HashSet.{HashSet, contains}
 use Rattle.spv_names.specs.declared.names.Symbol.{Symbol}
 use Rattle.spv_form.specs.declared.form.KnownNumbers.{KnownNumbers}
 use Rattle.spv_form.specs.declared.form.Side.{Side}
-use Rattle.spv_form.specs.declared.form.Side.TheVariants.{Variable, Number}
 use Rattle.spv_form.specs.declared.form.Assignment.{Assignment}
 use Rattle.spv_form.specs.Spelled.{is_variable, is_known, declaration_allowed}
 use Rattle.spv_form.specs.Indexed.{among, replaced_in}
@@ -70,13 +69,6 @@ module _ (variables : List Symbol) (j i : ℕ) (d : Symbol) (within : j < length
 before_all-append : (xs : List Assignment) (a : Assignment) (s : Side) → before_all (xs ++ a ∷ []) s ≡ before_all xs (before_statement a s)
 before_all-append [] a s = refl
 before_all-append (x ∷ xs) a s = ap (before_statement x) (before_all-append xs a s)
-
-pub nothing_replaced : replaced_in [] ≡ before_all []
-nothing_replaced = fun_ext each
-  where
-    each : (s : Side) → replaced_in [] s ≡ before_all [] s
-    each (Variable x) = refl
-    each (Number n) = refl
 
 -- one statement more at the end
 pub one_replaced : (body : List Assignment) (i : ℕ) (a : Assignment) (old new : List (ℕ × Side)) → i < length body → a ≡ get_or body i a

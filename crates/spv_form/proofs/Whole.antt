@@ -12,8 +12,8 @@ use Rattle.spv_form.specs.declared.form.KnownNumbers.{KnownNumbers}
 use Rattle.spv_form.specs.declared.form.Annotation.{Annotation}
 use Rattle.spv_form.specs.declared.form.Assignment.{Assignment}
 use Rattle.spv_form.specs.declared.form.Form.{Form}
-use Rattle.spv_form.specs.Spelled.{kinds, all_kinds, assignment_kinds, heading_kinds, further_name_kinds, type_kinds, variables_kinds, annotation_kinds, further_kinds, end_kinds, body_kinds, form_kinds, Lines, HasLine, annotation_allowed, formula_allowed, assignment_allowed, is_variable, uses_allowed, declaration_allowed, names_allowed, IsForm}
-use Rattle.spv_form.specs.Read.{NoneAt, NotFirst, formula_in, lines_with, IsSpelled, SameForm}
+use Rattle.spv_form.specs.Spelled.{kinds, all_kinds, assignment_kinds, heading_kinds, further_name_kinds, type_kinds, variables_kinds, annotation_kinds, further_kinds, end_kinds, body_kinds, form_kinds, annotation_allowed, formula_allowed, assignment_allowed, is_variable, uses_allowed, declaration_allowed, names_allowed, IsForm}
+use Rattle.spv_form.specs.Read.{NoneAt, NotFirst, formula_in, IsSpelled, SameForm}
 use Rattle.spv_form.proofs.Fronts.{rest_is, Statement, same_statement}
 
 -- ---- parts that may lack
@@ -99,18 +99,6 @@ parts_of known tokens t1 t2 t3 t4 name variables entry exit p f i =
     let e = p.entry_only f.entry _ (no_entry_behind f.exit f.body) v.1 in
     let x = p.exit_only f.exit _ (no_exit_behind f.body) e.1 in
     record { variables_are = v.0; entry_is = e.0; exit_is = x.0; body_there = x.1 }
-
--- ---- lines
-
-pub entry_line : (entry exit : Option Annotation) (l : Lines) → HasLine (lines_with word.Entry entry (lines_with word.Exit exit l)).entry entry
-entry_line None exit l = tt
-entry_line (Some a) exit l = refl
-
-pub exit_line : (entry exit : Option Annotation) (l : Lines) → HasLine (lines_with word.Entry entry (lines_with word.Exit exit l)).exit exit
-exit_line None None l = tt
-exit_line (Some a) None l = tt
-exit_line None (Some x) l = refl
-exit_line (Some a) (Some x) l = refl
 
 -- ---- names
 

@@ -177,10 +177,7 @@ fn annotated(alloc: Global, tokens: &[Token]) -> Result<(Annotation, &[Token]), 
     ensures lines { IfOk result (λ r. lines_behind tokens.now ≡ lines_behind r.1.now) }
 {
     let line = tokens.first().map_or(1, |t| t.line);
-    let (formula, rest) = match formula(alloc, tokens) {
-        Ok(read) => read,
-        Err(fault) => return Err(fault),
-    };
+    let (formula, rest) = formula(alloc, tokens)?;
     let Some(rest) = after_sign(rest, Sign::Semicolon) else {
         return Err(FormFault::NotOfForm);
     };
@@ -201,10 +198,8 @@ fn annotation(
     let Some(inner) = after_word(tokens, word) else {
         return Ok((None, tokens));
     };
-    match annotated(alloc, inner) {
-        Ok((annotation, rest)) => Ok((Some(annotation), rest)),
-        Err(fault) => Err(fault),
-    }
+    let (annotation, rest) = annotated(alloc, inner)?;
+    Ok((Some(annotation), rest))
 }
 
 // Reads the name at the front onto the list, and answers what follows.
@@ -401,24 +396,16 @@ fn program(alloc: Global, tokens: &[Token], known: KnownNumbers) -> Result<Form,
     let Some((name, rest)) = heading(tokens) else {
         return Err(FormFault::NotOfForm);
     };
-    let (variables, rest) = match variables(alloc, rest, known) {
-        Ok(read) => read,
-        Err(fault) => return Err(fault),
-    };
-    let (entry, rest) = match annotation(alloc, rest, Word::Entry) {
-        Ok(read) => read,
-        Err(fault) => return Err(fault),
-    };
-    let (exit, rest) = match annotation(alloc, rest, Word::Exit) {
-        Ok(read) => read,
-        Err(fault) => return Err(fault),
-    };
+    let (variables, rest) = variables(alloc, rest, known)?;
+    let (entry, rest) = annotation(alloc, rest, Word::Entry)?;
+    let (exit, rest) = annotation(alloc, rest, Word::Exit)?;
+    let body = body(alloc, rest)?;
     Ok(Form {
         name,
         variables,
         entry,
         exit,
-        body: body(alloc, rest)?,
+        body,
     })
 }
 
