@@ -2,3 +2,5 @@ pub mod Fronts
 pub mod Whole
 pub mod Program
 pub mod Numbers
+pub mod Indexed
+pub mod Sizes

@@ -1,107 +1,124 @@
--- Two programs with the same tokens are the same, but for the line of the EXIT.
-use Rattle.std.proofs.Common.{◌≡◌, ◌&&◌, List, [], ◌∷◌, Option, Some, None, refl, sym, ap, ◌∙◌}
-use Rattle.std.specs.Option.{option_map}
+-- Two programs with the same tokens are the same, but for their own names and for lines.
+use Rattle.std.proofs.Common.{◌≡◌, Bool, ◌&&◌, List, [], ◌∷◌, Option, Some, None, refl, sym, ap, ◌∙◌}
 use Rattle.std.specs.List.{list_all}
 use Rattle.spv_names.specs.declared.names.Symbol.{Symbol}
 use Rattle.spv_tree.specs.declared.token.Token.{Token}
 use Rattle.spv_tree.specs.declared.token.TokenKind.{TokenKind}
 use Rattle.spv_tree.specs.declared.token.TokenKind.TheVariants as kind
+use Rattle.spv_tree.specs.declared.token.Word.{Word}
 use Rattle.spv_tree.specs.declared.token.Word.TheVariants as word
+use Rattle.spv_tree.specs.declared.token.Sign.TheVariants as sign
 use Rattle.spv_form.specs.declared.form.KnownNumbers.{KnownNumbers}
-use Rattle.spv_form.specs.declared.form.Formula.{Formula}
-use Rattle.spv_form.specs.declared.form.Exit.{Exit}
+use Rattle.spv_form.specs.declared.form.Annotation.{Annotation}
 use Rattle.spv_form.specs.declared.form.Assignment.{Assignment}
-use Rattle.spv_form.specs.declared.form.Assignment.TheVariants.{Empty, Assign}
 use Rattle.spv_form.specs.declared.form.Form.{Form}
-use Rattle.spv_form.specs.Spelled.{kinds, heading_kinds, variable_kinds, exit_kinds, assignment_kinds, further_kinds, body_kinds, form_kinds, assignment_allowed, exit_allowed, names_allowed, declaration_allowed, IsForm}
-use Rattle.spv_form.specs.Read.{NoneAt}
-use Rattle.spv_form.proofs.Fronts.{rest_is, same_side, same_formula, no_name_further}
+use Rattle.spv_form.specs.Spelled.{kinds, all_kinds, assignment_kinds, heading_kinds, further_name_kinds, type_kinds, variables_kinds, annotation_kinds, further_kinds, end_kinds, body_kinds, form_kinds, annotation_allowed, formula_allowed, assignment_allowed, is_variable, uses_allowed, declaration_allowed, names_allowed, IsForm}
+use Rattle.spv_form.specs.Read.{NoneAt, NotFirst, formula_in, IsSpelled, SameForm}
+use Rattle.spv_form.proofs.Fronts.{rest_is, Statement, same_statement}
 
-same_assignment : (a b : Assignment) (xs bs : List Assignment) → assignment_kinds a (further_kinds xs) ≡ assignment_kinds b (further_kinds bs) → (a ≡ b) × (further_kinds xs ≡ further_kinds bs)
-same_assignment Empty Empty xs bs e = (refl, e)
-same_assignment Empty (Assign y u) xs bs e = absurd (no_name_further xs y _ e)
-same_assignment (Assign x t) Empty xs bs e = absurd (no_name_further bs x _ (sym e))
-same_assignment (Assign x t) (Assign y u) xs bs e = let s = same_side t u (cc) in (cc, cc)
+-- ---- parts that may lack
 
-same_further : (xs bs : List Assignment) → further_kinds xs ≡ further_kinds bs → xs ≡ bs
-same_further [] [] e = refl
-same_further [] (b ∷ bs) e = cc
-same_further (a ∷ xs) [] e = cc
-same_further (a ∷ xs) (b ∷ bs) e =
-    let s = same_assignment a b xs bs (rest_is _ _ _ _ e) in
-    let t = same_further xs bs s.1 in
-    let u = s.0 in
-    cc (t, u)
+-- without its word there is no annotation
+pub no_annotation : (w : Word) (tokens : List Token) → NoneAt (λ (u : Unit {0}) rest. kind.Word w ∷ rest) tokens → (a : Option Annotation) (ks : List TokenKind) → kinds tokens ≡ annotation_kinds w a ks → (None ≡ formula_in a) × (kinds tokens ≡ ks)
+no_annotation w tokens never None ks h = (refl, h)
+no_annotation w tokens never (Some a) ks h = absurd (never tt _ h)
 
-same_body : (xs bs : List Assignment) → body_kinds xs ≡ body_kinds bs → xs ≡ bs
-same_body [] [] e = refl
-same_body [] (b ∷ bs) e = cc
-same_body (a ∷ xs) [] e = cc
-same_body (a ∷ xs) (b ∷ bs) e =
-    let s = same_assignment a b xs bs (rest_is _ _ _ _ e) in
-    let t = same_further xs bs s.1 in
-    let u = s.0 in
-    cc (t, u)
+-- without the word VAR there are no variables
+pub no_variables : (known : KnownNumbers) (tokens : List Token) → NoneAt (λ (u : Unit {0}) rest. kind.Word word.Var ∷ rest) tokens → (xs : List Symbol) (ks : List TokenKind) → kinds tokens ≡ variables_kinds known xs ks → ([] ≡ xs) × (kinds tokens ≡ ks)
+no_variables known tokens never [] ks h = (refl, h)
+no_variables known tokens never (x ∷ others) ks h = absurd (never tt _ h)
 
-abbrev formula_in : Option Exit → Option Formula
-formula_in e = option_map (λ x. x.formula) e
+-- behind the word VAR there are those that the declaration has
+pub variables_of : (known : KnownNumbers) (tokens inner after : List Token) (list : List Symbol) → kinds tokens ≡ kind.Word word.Var ∷ kinds inner
+    → ((x : Symbol) (others : List Symbol) (ks : List TokenKind) → kinds inner ≡ kind.Name x ∷ all_kinds further_name_kinds others (type_kinds known ks) → (list ≡ x ∷ others) × (kinds after ≡ ks))
+    → (xs : List Symbol) (ks : List TokenKind) → NotFirst (kind.Word word.Var) ks → kinds tokens ≡ variables_kinds known xs ks → (list ≡ xs) × (kinds after ≡ ks)
+variables_of known tokens inner after list there only [] ks begins h = absurd (begins _ (sym h ∙ there))
+variables_of known tokens inner after list there only (x ∷ others) ks begins h = only x others ks (rest_is _ _ _ _ (sym there ∙ h))
 
-same_exit : (e f : Option Exit) (ks ls : List TokenKind) → (e ≡ None → (rest : List TokenKind) → ks ≡ kind.Word word.Exit ∷ rest → ⊥) → ((rest : List TokenKind) → ls ≡ kind.Word word.Exit ∷ rest → ⊥) → exit_kinds e ks ≡ exit_kinds f ls → (formula_in e ≡ formula_in f) × (ks ≡ ls)
-same_exit None None ks ls no_k no_l h = (refl, h)
-same_exit None (Some f) ks ls no_k no_l h = absurd (no_k refl _ h)
-same_exit (Some e) None ks ls no_k no_l h = absurd (no_l _ (sym h))
-same_exit (Some e) (Some f) ks ls no_k no_l h =
-    let s = same_formula e.formula f.formula _ _ (rest_is _ _ _ _ h) in
-    (ap Some s.0, rest_is _ _ _ _ s.1)
+-- ---- the block
 
-same_variable : (known : KnownNumbers) (v w : Option Symbol) (ks ls : List TokenKind) → (v ≡ None → (rest : List TokenKind) → ks ≡ kind.Word word.Var ∷ rest → ⊥) → ((rest : List TokenKind) → ls ≡ kind.Word word.Var ∷ rest → ⊥) → variable_kinds known v ks ≡ variable_kinds known w ls → (v ≡ w) × (ks ≡ ls)
-same_variable known None None ks ls no_k no_l h = (refl, h)
-same_variable known None (Some w) ks ls no_k no_l h = absurd (no_k refl _ h)
-same_variable known (Some v) None ks ls no_k no_l h = absurd (no_l _ (sym h))
-same_variable known (Some v) (Some w) ks ls no_k no_l h = (cc, cc)
+-- the statements of a block behind its first one
+pub body_of : (tokens first rest : List Token) (a : Assignment) → kinds tokens ≡ kind.Word word.Begin ∷ kinds first → Statement first rest a → (all : List Assignment) → (all ≡ [] → ⊥) → kinds tokens ≡ body_kinds all → (others : List Assignment) × (all ≡ a ∷ others) × (kinds rest ≡ all_kinds further_kinds others end_kinds)
+body_of tokens first rest a there s [] some h = absurd (some refl)
+body_of tokens first rest a there s (b ∷ others) some h =
+    let same = same_statement first rest a b others (kind.Sign sign.Period ∷ []) s (rest_is _ _ _ _ (sym there ∙ h)) in
+    (others, ap (λ c. c ∷ others) (sym same.0), same.1)
 
-no_exit_in_body : (body : List Assignment) (rest : List TokenKind) → body_kinds body ≡ kind.Word word.Exit ∷ rest → ⊥
-no_exit_in_body [] rest e = cc
-no_exit_in_body (a ∷ xs) rest e = cc
+-- a block begins with its word, and then its first statement
+pub no_body : (tokens rest : List Token) → kinds tokens ≡ kind.Word word.Begin ∷ kinds rest → ((b : Assignment) (others : List Assignment) (ks : List TokenKind) → kinds rest ≡ assignment_kinds b (all_kinds further_kinds others (kind.Word word.End ∷ ks)) → ⊥) → (all : List Assignment) → kinds tokens ≡ body_kinds all → ⊥
+no_body tokens rest there never [] e = cc
+no_body tokens rest there never (b ∷ others) e = never b others _ (rest_is _ _ _ _ (sym there ∙ e))
 
-no_variable_behind : (e : Option Exit) (body : List Assignment) (rest : List TokenKind) → exit_kinds e (body_kinds body) ≡ kind.Word word.Var ∷ rest → ⊥
-no_variable_behind None [] rest h = cc
-no_variable_behind None (a ∷ xs) rest h = cc
-no_variable_behind (Some e) body rest h = cc
+pub no_begin : (tokens : List Token) → NoneAt (λ (u : Unit {0}) rest. kind.Word word.Begin ∷ rest) tokens → (all : List Assignment) → (all ≡ [] → ⊥) → kinds tokens ≡ body_kinds all → ⊥
+no_begin tokens never [] some e = some refl
+no_begin tokens never (b ∷ others) some e = never tt _ e
 
--- the parts that were read, up to the block
-pub record PartsRead (known : KnownNumbers) (tokens t1 t2 t3 : List Token) (name : Symbol) (variable : Option Symbol) (exit : Option Exit) : Type 0 where
+-- ---- what begins with which word
+
+no_exit_behind : (body : List Assignment) → NotFirst (kind.Word word.Exit) (body_kinds body)
+no_exit_behind [] rest e = cc
+no_exit_behind (a ∷ xs) rest e = cc
+
+no_entry_behind : (exit : Option Annotation) (body : List Assignment) → NotFirst (kind.Word word.Entry) (annotation_kinds word.Exit exit (body_kinds body))
+no_entry_behind None [] rest h = cc
+no_entry_behind None (a ∷ xs) rest h = cc
+no_entry_behind (Some e) body rest h = cc
+
+no_var_behind : (entry exit : Option Annotation) (body : List Assignment) → NotFirst (kind.Word word.Var) (annotation_kinds word.Entry entry (annotation_kinds word.Exit exit (body_kinds body)))
+no_var_behind None None [] rest h = cc
+no_var_behind None None (a ∷ xs) rest h = cc
+no_var_behind None (Some e) body rest h = cc
+no_var_behind (Some a) exit body rest h = cc
+
+-- ---- the whole program
+
+-- the parts that were read, up to the block, and that no others were there
+pub record PartsRead (known : KnownNumbers) (tokens t1 t2 t3 t4 : List Token) (name : Symbol) (variables : List Symbol) (entry exit : Option Annotation) : Type 0 where
   pub heading : kinds tokens ≡ heading_kinds name (kinds t1)
-  pub variable_there : kinds t1 ≡ variable_kinds known variable (kinds t2)
-  pub variable_absent : variable ≡ None → NoneAt (λ (u : Unit {0}) rest. kind.Word word.Var ∷ rest) t1
-  pub exit_there : kinds t2 ≡ exit_kinds exit (kinds t3)
-  pub exit_absent : exit ≡ None → NoneAt (λ (u : Unit {0}) rest. kind.Word word.Exit ∷ rest) t2
+  pub variables_only : (xs : List Symbol) (ks : List TokenKind) → NotFirst (kind.Word word.Var) ks → kinds t1 ≡ variables_kinds known xs ks → (variables ≡ xs) × (kinds t2 ≡ ks)
+  pub entry_only : (a : Option Annotation) (ks : List TokenKind) → NotFirst (kind.Word word.Entry) ks → kinds t2 ≡ annotation_kinds word.Entry a ks → (formula_in entry ≡ formula_in a) × (kinds t3 ≡ ks)
+  pub exit_only : (a : Option Annotation) (ks : List TokenKind) → NotFirst (kind.Word word.Exit) ks → kinds t3 ≡ annotation_kinds word.Exit a ks → (formula_in exit ≡ formula_in a) × (kinds t4 ≡ ks)
 
 -- they are those of any program with these tokens
-pub record PartsOf (t3 : List Token) (variable : Option Symbol) (exit : Option Exit) (f : Form) : Type 0 where
-  pub variable_is : variable ≡ f.variable
+pub record PartsOf (t4 : List Token) (variables : List Symbol) (entry exit : Option Annotation) (f : Form) : Type 0 where
+  pub variables_are : variables ≡ f.variables
+  pub entry_is : formula_in entry ≡ formula_in f.entry
   pub exit_is : formula_in exit ≡ formula_in f.exit
-  pub body_there : kinds t3 ≡ body_kinds f.body
+  pub body_there : kinds t4 ≡ body_kinds f.body
 
-pub parts_of : (known : KnownNumbers) (tokens t1 t2 t3 : List Token) (name : Symbol) (variable : Option Symbol) (exit : Option Exit) → PartsRead known tokens t1 t2 t3 name variable exit → (f : Form) → IsForm known tokens f → PartsOf t3 variable exit f
-parts_of known tokens t1 t2 t3 name variable exit p f i =
-    let whole : heading_kinds name (kinds t1) ≡ form_kinds known f = sym p.heading ∙ i.spelled in
-    let behind : kinds t1 ≡ variable_kinds known f.variable (exit_kinds f.exit (body_kinds f.body)) = rest_is _ _ _ _ (rest_is _ _ _ _ (rest_is _ _ _ _ whole)) in
-    let v = same_variable known variable f.variable (kinds t2) _ (λ e rest h. p.variable_absent e tt rest (p.variable_there ∙ (ap (λ w. variable_kinds known w (kinds t2)) e ∙ h))) (no_variable_behind f.exit f.body) (sym p.variable_there ∙ behind) in
-    let x = same_exit exit f.exit (kinds t3) (body_kinds f.body) (λ e rest h. p.exit_absent e tt rest (p.exit_there ∙ (ap (λ w. exit_kinds w (kinds t3)) e ∙ h))) (no_exit_in_body f.body) (sym p.exit_there ∙ v.1) in
-    record { variable_is = v.0; exit_is = x.0; body_there = x.1 }
+-- what follows the heading of any program with these tokens
+pub behind_heading : (known : KnownNumbers) (tokens t1 : List Token) (name : Symbol) → kinds tokens ≡ heading_kinds name (kinds t1) → (f : Form) → IsSpelled known tokens f
+    → kinds t1 ≡ variables_kinds known f.variables (annotation_kinds word.Entry f.entry (annotation_kinds word.Exit f.exit (body_kinds f.body)))
+behind_heading known tokens t1 name there f i =
+    let whole : heading_kinds name (kinds t1) ≡ form_kinds known f = sym there ∙ i.spelled in
+    rest_is _ _ _ _ (rest_is _ _ _ _ (rest_is _ _ _ _ whole))
 
-exits_allowed : (variable : Option Symbol) (e f : Option Exit) → formula_in e ≡ formula_in f → exit_allowed variable e ≡ exit_allowed variable f
-exits_allowed variable None None h = refl
-exits_allowed variable None (Some f) h = cc
-exits_allowed variable (Some e) None h = cc
-exits_allowed variable (Some e) (Some f) h = let k : e.formula ≡ f.formula = cc in ap (λ x. exit_allowed variable (Some (record e { formula = x }))) k
+pub parts_of : (known : KnownNumbers) (tokens t1 t2 t3 t4 : List Token) (name : Symbol) (variables : List Symbol) (entry exit : Option Annotation) → PartsRead known tokens t1 t2 t3 t4 name variables entry exit → (f : Form) → IsSpelled known tokens f → PartsOf t4 variables entry exit f
+parts_of known tokens t1 t2 t3 t4 name variables entry exit p f i =
+    let v = p.variables_only f.variables _ (no_var_behind f.entry f.exit f.body) (behind_heading known tokens t1 name p.heading f i) in
+    let e = p.entry_only f.entry _ (no_entry_behind f.exit f.body) v.1 in
+    let x = p.exit_only f.exit _ (no_exit_behind f.body) e.1 in
+    record { variables_are = v.0; entry_is = e.0; exit_is = x.0; body_there = x.1 }
+
+-- ---- names
+
+pub spelled_of : (known : KnownNumbers) (tokens : List Token) (f : Form) → IsForm known tokens f → IsSpelled known tokens f
+spelled_of known tokens f i = record { spelled = i.spelled; statements = i.statements; entry_line = i.entry_line; exit_line = i.exit_line }
+
+annotations_allowed : (declared : Symbol → Bool) (a b : Option Annotation) → formula_in a ≡ formula_in b → annotation_allowed declared a ≡ annotation_allowed declared b
+annotations_allowed declared None None h = refl
+annotations_allowed declared None (Some b) h = cc
+annotations_allowed declared (Some a) None h = cc
+annotations_allowed declared (Some a) (Some b) h = let k : a.formula ≡ b.formula = cc in ap (formula_allowed declared) k
 
 -- their names are allowed alike
-pub allowed_alike : (known : KnownNumbers) (t3 : List Token) (g f : Form) → PartsOf t3 g.variable g.exit f → kinds t3 ≡ body_kinds g.body → names_allowed known g ≡ names_allowed known f
-allowed_alike known t3 g f p there =
-    let body = same_body g.body f.body (sym there ∙ p.body_there) in
-    let exit = exits_allowed g.variable g.exit f.exit p.exit_is in
-    ap (λ b. declaration_allowed known g.variable && (b && list_all (assignment_allowed g.variable) g.body)) exit
-    ∙ (ap (λ l. declaration_allowed known g.variable && (exit_allowed g.variable f.exit && list_all (assignment_allowed g.variable) l)) body
-    ∙ ap (λ v. declaration_allowed known v && (exit_allowed v f.exit && list_all (assignment_allowed v) f.body)) p.variable_is)
+pub allowed_alike : (known : KnownNumbers) (f g : Form) → SameForm f g → names_allowed known f ≡ names_allowed known g
+allowed_alike known f g s =
+    let declared = is_variable f.variables in
+    let entry = annotations_allowed declared f.entry g.entry s.entry in
+    let exit = annotations_allowed declared f.exit g.exit s.exit in
+    let uses : uses_allowed declared f ≡ uses_allowed declared g =
+    ap (λ b. b && (annotation_allowed declared f.exit && list_all (assignment_allowed declared) f.body)) entry
+    ∙ (ap (λ b. annotation_allowed declared g.entry && (b && list_all (assignment_allowed declared) f.body)) exit
+    ∙ ap (λ l. annotation_allowed declared g.entry && (annotation_allowed declared g.exit && list_all (assignment_allowed declared) l)) s.body) in
+    ap (λ b. declaration_allowed known f.variables && b) uses ∙ ap (λ vs. declaration_allowed known vs && uses_allowed (is_variable vs) g) s.variables

@@ -1,5 +1,5 @@
 -- The form as a program of the definitions, and its condition.
-use Rattle.std.specs.Prelude.{ℕ, List, [], ◌∷◌, Option, Some, None, option_map, pos, nat_eq, if◌then◌else◌}
+use Rattle.std.specs.Prelude.{ℕ, List, [], ◌∷◌, map, fold, Option, Some, None, option_map, pos, nat_eq, if◌then◌else◌}
 use Rattle.spv_names.specs.declared.names.Symbol.{Symbol}
 use Rattle.spv_logic.specs.declared.conditions.Kind.TheVariants as kind
 use Rattle.spv_logic.specs.declared.types.Sort.{Sort}
@@ -12,7 +12,9 @@ use Rattle.spv_meaning.specs.Rules.{term_of}
 use Rattle.spv_form.specs.declared.form.Side.{Side}
 use Rattle.spv_form.specs.declared.form.Side.TheVariants.{Variable, Number}
 use Rattle.spv_form.specs.declared.form.Equation.{Equation}
-use Rattle.spv_form.specs.declared.form.Exit.{Exit}
+use Rattle.spv_form.specs.declared.form.Formula.{Formula}
+use Rattle.spv_form.specs.declared.form.Formula.TheVariants.{Plain, Bracketed}
+use Rattle.spv_form.specs.declared.form.Annotation.{Annotation}
 use Rattle.spv_form.specs.declared.form.Assignment.{Assignment}
 use Rattle.spv_form.specs.declared.form.Assignment.TheVariants.{Empty, Assign}
 use Rattle.spv_form.specs.declared.form.Form.{Form}
@@ -29,6 +31,21 @@ side_term s = term_of (expression_of s)
 abbrev pub equation_term : Equation → Term
 equation_term e = term head.Eq (terms (side_term e.left) (terms (side_term e.right) no_terms))
 
+abbrev pub conjunction : Term → Term → Term
+conjunction s t = term head.And (terms s (terms t no_terms))
+
+-- a term and those of further equations, joined by AND from the left
+abbrev pub with_others : (Equation → Term) → Term → List Equation → Term
+with_others of t others = fold (λ s e. conjunction s (of e)) t others
+
+-- the terms of a formula's equations, joined by AND from the left
+abbrev pub joined : (Equation → Term) → Formula → Term
+joined of (Plain e) = of e
+joined of (Bracketed e others) = with_others of (of e) others
+
+abbrev pub formula_term : Formula → Term
+formula_term f = joined equation_term f
+
 abbrev pub statement_of : Assignment → plain.Statement
 statement_of Empty = plain.Empty
 statement_of (Assign x s) = plain.Assign x.0 (expression_of s)
@@ -38,19 +55,18 @@ abbrev pub block_of : List Assignment → plain.Statement
 block_of [] = plain.Empty
 block_of (a ∷ others) = plain.Sequence (statement_of a) (block_of others)
 
-abbrev pub annotation_of : Exit → plain.Annotation
-annotation_of e = record { formula = equation_term e.formula.equation; line = e.line }
+abbrev pub annotation_of : Annotation → plain.Annotation
+annotation_of a = record { formula = formula_term a.formula; line = a.line }
 
-abbrev pub declared_variables : Option Symbol → List (ℕ × Sort)
-declared_variables None = []
-declared_variables (Some x) = (x.0, sort.Int) ∷ []
+abbrev pub declared_variables : List Symbol → List (ℕ × Sort)
+declared_variables variables = map (λ x. (x.0, sort.Int)) variables
 
 abbrev pub program_of : Form → plain.Program
 program_of f = record {
   shapes = [];
   decls = [];
-  variables = declared_variables f.variable;
-  entry = None;
+  variables = declared_variables f.variables;
+  entry = option_map annotation_of f.entry;
   exit = option_map annotation_of f.exit;
   body = block_of f.body;
 }
@@ -68,16 +84,26 @@ abbrev pub before_all : List Assignment → Side → Side
 before_all [] s = s
 before_all (a ∷ others) s = before_statement a (before_all others s)
 
--- the equation of the EXIT, brought in front of the block
-abbrev pub goal_of : List Assignment → Exit → Equation
-goal_of body e = record { left = before_all body e.formula.equation.left; right = before_all body e.formula.equation.right }
+-- an equation with other sides in the place of its own
+abbrev pub with_sides : (Side → Side) → Equation → Equation
+with_sides replaced e = record { left = replaced e.left; right = replaced e.right }
 
-abbrev pub condition_of : List Assignment → Exit → Condition
-condition_of body e = record {
-  claim = record { given = []; goal = equation_term (goal_of body e) };
-  origin = record { routine = None; kind = kind.Exit; line = e.line };
+-- a formula's term, with other sides in the place of its own
+abbrev pub term_with : (Side → Side) → Formula → Term
+term_with replaced f = joined (λ e. equation_term (with_sides replaced e)) f
+
+-- the formula of ENTRY, where there is one
+abbrev pub given_by : Option Annotation → List Term
+given_by None = []
+given_by (Some a) = formula_term a.formula ∷ []
+
+-- under ENTRY the formula of EXIT, brought in front of the block
+abbrev pub condition_of : Option Annotation → List Assignment → Annotation → Condition
+condition_of entry body a = record {
+  claim = record { given = given_by entry; goal = term_with (before_all body) a.formula };
+  origin = record { routine = None; kind = kind.Exit; line = a.line };
 }
 
-abbrev pub conditions_in : List Assignment → Option Exit → List Condition
-conditions_in body None = []
-conditions_in body (Some e) = condition_of body e ∷ []
+abbrev pub conditions_in : Option Annotation → List Assignment → Option Annotation → List Condition
+conditions_in entry body None = []
+conditions_in entry body (Some a) = condition_of entry body a ∷ []

@@ -3,7 +3,6 @@
 ghost use Rattle.std.specs.Prelude.{◌≡◌};
 ghost use Rattle.spv_names.specs.Names.{IsFolded, place_of};
 ghost use Rattle.spv_form.specs.Known.{known_in};
-ghost use Rattle.spv_form.specs.Program as spec;
 
 use spv_names::{Names, Symbol};
 use spv_tree::Numeral;
@@ -32,16 +31,47 @@ pub struct Equation {
     pub right: Side,
 }
 
-/// A formula: its equation, and whether it stands in brackets.
-#[derive(Clone, Copy, Debug)]
-pub struct Formula {
-    pub bracketed: bool,
-    pub equation: Equation,
+/// Equations, in order.
+#[derive(Debug, Drop)]
+pub struct Equations {
+    list: Vec<Equation>,
 }
 
-/// An EXIT: its formula, and the line of the formula's first token.
-#[derive(Clone, Copy, Debug)]
-pub struct Exit {
+impl Model for Equations {
+    ghost use Rattle.std.specs.Prelude.{List};
+    ghost use Rattle.spv_form.specs.declared.form.Equation.{Equation};
+
+    ghost Value = { List Equation };
+
+    ghost view = { λ e. e.list.items };
+}
+
+impl Equations {
+    /// The equations of a vector, in its order.
+    pub fn from_vec(list: Vec<Equation>) -> Equations
+        ensures { result ≡ list.items }
+    {
+        Equations { list }
+    }
+
+    /// The equations as a slice.
+    pub fn as_slice(&self) -> &[Equation]
+        ensures { result.now ≡ self.now }
+    {
+        self.list.as_slice()
+    }
+}
+
+/// A formula: an equation without brackets, or one in brackets and those behind AND, each in brackets.
+#[derive(Debug, Drop)]
+pub enum Formula {
+    Plain(Equation),
+    Bracketed(Equation, Equations),
+}
+
+/// An ENTRY or an EXIT: its formula, and the line of the formula's first token.
+#[derive(Debug, Drop)]
+pub struct Annotation {
     pub line: u32,
     pub formula: Formula,
 }
@@ -84,12 +114,45 @@ impl Assignments {
     }
 }
 
-/// A program of the form: its name, its variable if it has one, its EXIT if it has one, and its block.
+/// Names, in order.
+#[derive(Debug, Drop)]
+pub struct Symbols {
+    list: Vec<Symbol>,
+}
+
+impl Model for Symbols {
+    ghost use Rattle.std.specs.Prelude.{List};
+    ghost use Rattle.spv_names.specs.declared.names.Symbol.{Symbol};
+
+    ghost Value = { List Symbol };
+
+    ghost view = { λ s. s.list.items };
+}
+
+impl Symbols {
+    /// The names of a vector, in its order.
+    pub fn from_vec(list: Vec<Symbol>) -> Symbols
+        ensures { result ≡ list.items }
+    {
+        Symbols { list }
+    }
+
+    /// The names as a slice.
+    pub fn as_slice(&self) -> &[Symbol]
+        ensures { result.now ≡ self.now }
+    {
+        self.list.as_slice()
+    }
+}
+
+/// A program of the form: its name, its variables, its ENTRY and its EXIT where it has them, and its
+/// block. Without a VAR part there are no variables.
 #[derive(Debug, Drop)]
 pub struct Form {
     pub name: Symbol,
-    pub variable: Option<Symbol>,
-    pub exit: Option<Exit>,
+    pub variables: Symbols,
+    pub entry: Option<Annotation>,
+    pub exit: Option<Annotation>,
     pub body: Assignments,
 }
 
@@ -113,26 +176,4 @@ pub fn known_numbers(names: &Names) -> KnownNumbers
         boolean: number_of(names, b"BOOLEAN"),
         list: number_of(names, b"LIST"),
     }
-}
-
-/// What stands in the place of a side before a statement is run, so that it means there what the
-/// side means after it.
-pub fn before_statement(a: Assignment, s: Side) -> Side
-    ensures { result ≡ spec.before_statement a s }
-{
-    match (a, s) {
-        (Assignment::Assign(x, value), Side::Variable(y)) if x.0 == y.0 => value,
-        _ => s,
-    }
-}
-
-/// What stands in the place of a side before statements are run.
-pub fn before_all(body: &[Assignment], s: Side) -> Side
-    ensures { result ≡ spec.before_all body.now s }
-{
-    let mut side = s;
-    for i in (0..body.len()).rev() {
-        side = before_statement(body[i], side);
-    }
-    side
 }

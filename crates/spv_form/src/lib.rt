@@ -1,14 +1,17 @@
-//! The form of program that is read so far: one block of assignments, at most one variable, at most one equation as EXIT.
+//! The first form of program: one block of assignments, integer variables, and conjunctions of equations as ENTRY and EXIT.
 #![tactic(auto)]
 
+mod declared;
 mod form;
 mod reading;
+mod replacements;
 
 pub use form::{
-    Assignment, Assignments, Equation, Exit, Form, Formula, KnownNumbers, Side, before_all,
-    before_statement, known_numbers,
+    Annotation, Assignment, Assignments, Equation, Equations, Form, Formula, KnownNumbers, Side,
+    Symbols, known_numbers,
 };
 pub use reading::{FormFault, read};
+pub use replacements::Replacements;
 
 #[cfg(test)]
 mod tests;

@@ -7,3 +7,4 @@ pub mod Tables
 pub mod Joins
 pub mod LongestSign
 pub mod Gaps
+pub mod Counts

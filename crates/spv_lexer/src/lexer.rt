@@ -133,6 +133,8 @@ pub fn tokens(alloc: Global, text: &[u8], names: &mut Names) -> Result<Vec<Token
     ensures whole { OnOk result (IsRead text.now) }
     ensures names { OnOk result (names.new ≡ names_after names.old (reading text.now).tokens) }
     ensures in_table { IfOk result (λ ts. All (λ t. IsInTable names.new t.kind) ts.items) }
+    ensures few { IfOk result (λ ts. length ts.items ≤ length text.now) }
+    ensures short { OnOk result (length text.now ≤ 4194304) }
 
     // A refusal has its cause in the text, and leaves the table with the names of some first tokens.
     ensures too_long { (result ≡ Err LexFault.TextTooLong) ↔ (4194304 < length text.now) }

@@ -1,9 +1,10 @@
 //! Pages of programs made by hand.
 
-ghost use Rattle.std.specs.Prelude.{◌≡◌, ◌∷◌, [], IfOk, Some, false};
+ghost use Rattle.std.specs.Prelude.{◌≡◌, ◌∷◌, [], IfOk, None, Some};
+ghost use Rattle.spv_form.specs.declared.form.Formula.TheVariants.{Plain};
 
 use super::*;
-use spv_form::{Assignment, Assignments, Equation, Exit, Form, Formula, Side};
+use spv_form::{Annotation, Assignment, Assignments, Equation, Form, Formula, Side, Symbols};
 use spv_names::{Names, Symbol};
 use spv_report::{Report, verify};
 use spv_tree::Numeral;
@@ -21,27 +22,31 @@ fn names_of(alloc: Global) -> Result<Names, AllocError> {
 }
 
 // EXIT on this line with this equation.
-fn exit_of(line: u32, left: Side, right: Side) -> Option<Exit>
-    ensures { result ≡ Some (record { line = line; formula = record { bracketed = false; equation = record { left = left; right = right } } }) }
+fn exit_of(line: u32, left: Side, right: Side) -> Option<Annotation>
+    ensures { result ≡ Some (record { line = line; formula = Plain (record { left = left; right = right }) }) }
 {
-    Some(Exit {
+    Some(Annotation {
         line,
-        formula: Formula {
-            bracketed: false,
-            equation: Equation { left, right },
-        },
+        formula: Formula::Plain(Equation { left, right }),
     })
 }
 
 // The program ONE with the variable x, this EXIT and one statement.
-fn form_of(alloc: Global, exit: Option<Exit>, statement: Assignment) -> Result<Form, AllocError>
-    ensures { IfOk result (λ f. f ≡ record { name = record { 0 = 0 }; variable = Some (record { 0 = 1 }); exit = exit; body = statement ∷ [] }) }
+fn form_of(
+    alloc: Global,
+    exit: Option<Annotation>,
+    statement: Assignment,
+) -> Result<Form, AllocError>
+    ensures { IfOk result (λ f. f ≡ record { name = record { 0 = 0 }; variables = record { 0 = 1 } ∷ []; entry = None; exit = exit; body = statement ∷ [] }) }
 {
+    let mut variables = Vec::new(alloc);
+    variables.push(X)?;
     let mut body = Vec::new(alloc);
     body.push(statement)?;
     Ok(Form {
         name: Symbol(0),
-        variable: Some(X),
+        variables: Symbols::from_vec(variables),
+        entry: None,
         exit,
         body: Assignments::from_vec(body),
     })

@@ -1,9 +1,10 @@
 //! Reports on programs made by hand: worked proofs and tables, and what a report holds.
 
-ghost use Rattle.std.specs.Prelude.{◌≡◌, ◌∷◌, [], IfOk, Some, false};
+ghost use Rattle.std.specs.Prelude.{◌≡◌, ◌∷◌, [], IfOk, None, Some};
+ghost use Rattle.spv_form.specs.declared.form.Formula.TheVariants.{Plain};
 
 use super::*;
-use spv_form::{Assignment, Assignments, Equation, Exit, Form, Formula, Side};
+use spv_form::{Annotation, Assignment, Assignments, Equation, Form, Formula, Side, Symbols};
 use spv_names::{Names, Symbol};
 use spv_proof::Step;
 use spv_proof::candidates::sides;
@@ -25,27 +26,31 @@ fn names_of(alloc: Global) -> Result<Names, AllocError> {
 }
 
 // EXIT on line 3 with this equation.
-fn exit_of(left: Side, right: Side) -> Option<Exit>
-    ensures { result ≡ Some (record { line = 3; formula = record { bracketed = false; equation = record { left = left; right = right } } }) }
+fn exit_of(left: Side, right: Side) -> Option<Annotation>
+    ensures { result ≡ Some (record { line = 3; formula = Plain (record { left = left; right = right }) }) }
 {
-    Some(Exit {
+    Some(Annotation {
         line: 3,
-        formula: Formula {
-            bracketed: false,
-            equation: Equation { left, right },
-        },
+        formula: Formula::Plain(Equation { left, right }),
     })
 }
 
 // The program ONE with the variable x, this EXIT and one statement.
-fn form_of(alloc: Global, exit: Option<Exit>, statement: Assignment) -> Result<Form, AllocError>
-    ensures { IfOk result (λ f. f ≡ record { name = record { 0 = 0 }; variable = Some (record { 0 = 1 }); exit = exit; body = statement ∷ [] }) }
+fn form_of(
+    alloc: Global,
+    exit: Option<Annotation>,
+    statement: Assignment,
+) -> Result<Form, AllocError>
+    ensures { IfOk result (λ f. f ≡ record { name = record { 0 = 0 }; variables = record { 0 = 1 } ∷ []; entry = None; exit = exit; body = statement ∷ [] }) }
 {
+    let mut variables = Vec::new(alloc);
+    variables.push(X)?;
     let mut body = Vec::new(alloc);
     body.push(statement)?;
     Ok(Form {
         name: Symbol(0),
-        variable: Some(X),
+        variables: Symbols::from_vec(variables),
+        entry: None,
         exit,
         body: Assignments::from_vec(body),
     })

@@ -1,5 +1,5 @@
 use Rattle.std.proofs.Common.{◌∷◌, [], ◌++◌, map, sym, ap, ◌∙◌}
-use Rattle.spv_form.specs.Program.{condition_of, conditions_in}
+use Rattle.spv_form.specs.Program.{conditions_in}
 use Rattle.spv_form.proofs.Program.{conditions_are}
 use Rattle.spv_term.specs.Arena.{Arena}
 use Rattle.spv_report.specs.Reports.{claimed}
@@ -16,13 +16,12 @@ returns-clause-conditions c = elim c.match-form.branch [
       ∙ ap (λ (e : Arena). map (claimed e) (c.new-conditions.result.items ++ w.in_ok-wanted.wanted ∷ [])) w.terms-is
       ∙ ap (λ l. map (claimed w.condition.new.terms) (l ++ w.in_ok-wanted.wanted ∷ [])) c.new-conditions.ensures.items
       ∙ ap (λ x. x ∷ []) w.in_ok-wanted.ensures.claimed
-      ∙ ap (λ body. condition_of body w.in-Some.exit ∷ []) w.as_slice.ensures
-      ∙ ap (conditions_in f.body) (sym w.in-Some.is)
+      ∙ ap (conditions_in f.entry f.body) (sym w.in-Some.is)
       ∙ sym (conditions_are f)
   | in_default w ↦
       let f = c.args.form.now in
       ap (λ v. map (claimed c.match-form.terms) v.items) w.conditions-is
       ∙ ap (map (claimed c.match-form.terms)) c.new-conditions.ensures.items
-      ∙ ap (conditions_in f.body) (sym w.in_default.is)
+      ∙ ap (conditions_in f.entry f.body) (sym w.in_default.is)
       ∙ sym (conditions_are f)
 ]

@@ -1,7 +1,7 @@
 use Rattle.std.proofs.Common.{◌∙◌}
 use Rattle.spv_term.specs.Arena.{sort_at}
 use Rattle.spv_term.proofs.ArenaLemmas.{sort_at-Extends}
-use Rattle.spv_report.proofs.Equations.{equation_fits, equation_tree, is_equation}
+use Rattle.spv_report.proofs.Formulas.{equation_fits, equation_tree, if_same}
 use Rattle.spv_report.proofs.conditions.equation.Goals as goal
 
 pub make-requires-clause-sorts : goal.make-requires-clause-sorts
@@ -14,5 +14,5 @@ make-requires-clause-sorts c =
 
 pub returns-clause-tree : goal.returns-clause-tree
 returns-clause-tree c =
-    is_equation c.make.new.terms c.make.result c.make.ensures.tree
+    if_same c.make.new.terms c.make.result c.make.ensures.tree
     (equation_tree c.side.new.terms c.side-2.new.terms c.in_ok-right.ensures.grows c.in_ok-left.left c.in_ok-right.right c.in_ok-left.ensures.in_range c.args.equation c.in_ok-left.ensures.tree c.in_ok-right.ensures.tree)
