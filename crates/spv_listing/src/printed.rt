@@ -101,7 +101,7 @@ fn word(head: Head) -> &'static [u8]
 }
 
 // A head with its name or number.
-fn push_head(
+pub(crate) fn push_head(
     out: &mut Vec<u8>,
     names: &Names,
     titles: &[Option<Symbol>],
