@@ -68,7 +68,7 @@ fn push_title(
 }
 
 // The word of a head that has no name and no number; of others nothing.
-fn word(head: Head) -> &'static [u8]
+pub(crate) fn word(head: Head) -> &'static [u8]
     ensures { result.now ≡ spec.word head }
 {
     match head {
