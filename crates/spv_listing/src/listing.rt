@@ -1,8 +1,8 @@
 // The page of a report, line by line.
 
-ghost use Rattle.std.specs.Prelude.{◌≡◌, ◌<◌, ◌++◌, [], ◌∷◌, map, length, All, IfOk, OnOk};
+ghost use Rattle.std.specs.Prelude.{◌≡◌, ◌<◌, ◌++◌, map, length, All, IfOk, OnOk};
 ghost use Rattle.std.specs.List.{flat_map, count_by};
-ghost use Rattle.spv_report.specs.Verdicts.{IsPlain, IsVerdict, IsUnproved, AreVerdicts, branch_terms, table_terms};
+ghost use Rattle.spv_report.specs.Verdicts.{IsPlain, IsVerdict, AreVerdicts, branch_terms, table_terms};
 ghost use Rattle.spv_report.specs.Reports.{claimed, is_proved, is_unproved};
 ghost use Rattle.spv_proof.specs.Evaluation.{negation};
 ghost use Rattle.spv_listing.specs.Page as spec;
@@ -16,8 +16,8 @@ use spv_report::{Report, Unproved, Verdict};
 use spv_term::{Condition, Kind, Origin, TermId, Terms};
 use std::alloc::{AllocError, Global};
 
-/// The page of a report: a heading, each condition with its goal and its verdict, and the totals. Each
-/// line ends with byte 10.
+/// The page of a report: a heading, each condition with its hypotheses, its goal and its verdict, and
+/// the totals. Each line ends with byte 10.
 pub fn page(alloc: Global, report: &Report) -> Result<Vec<u8>, AllocError>
     ensures { IfOk result (λ p. p.items ≡ spec.page report.now) }
 {
@@ -88,8 +88,8 @@ fn push_condition(
     Ok(())
 }
 
-// A condition: its number and origin, and its goal.
-fn push_claim(
+// A condition: its number and origin, its hypotheses and its goal.
+pub(crate) fn push_claim(
     out: &mut Vec<u8>,
     names: &Names,
     titles: &[Option<Symbol>],

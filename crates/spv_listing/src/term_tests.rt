@@ -1,13 +1,15 @@
-//! The texts of heads and of terms.
+//! The texts of heads, of terms, and of a condition with hypotheses.
 
 ghost use Rattle.std.specs.Prelude.{◌≡◌, ◌<◌, ◌∷◌, [], length, IfOk};
 ghost use Rattle.spv_logic.specs.declared.types.Sort.TheVariants as sort;
 ghost use Rattle.spv_logic.specs.declared.types.Shape.TheVariants as shape;
 
+use crate::listing::push_claim;
 use crate::printed::{push_head, push_term, word};
 use spv_names::{Names, Symbol};
 use spv_term::{
-    Decl, Decls, Field, Fields, Head, Shape, Shapes, Sort, Sorts, TermFault, TermId, Terms, TypeId,
+    Condition, Decl, Decls, Field, Fields, Head, Kind, Origin, Shape, Shapes, Sort, Sorts,
+    TermFault, TermId, TermList, Terms, TypeId,
 };
 use std::alloc::{AllocError, Global};
 use std::test::Fail;
@@ -235,5 +237,43 @@ fn a_deep_conjunction(rt: HostRuntime) -> Result<(), Fail> {
     let t = conjunction(&mut terms, 1000)?;
     let wanted = conjunction_text(rt.alloc(), 1000)?;
     assert!(rt; is_term(rt.alloc(), &terms, t, wanted.as_slice())?);
+    Ok(())
+}
+
+// The lines of the condition on line 7 that claims the second term wherever the first is true.
+fn claim_of(
+    alloc: Global,
+    terms: &Terms,
+    given: TermId,
+    goal: TermId,
+) -> Result<Vec<u8>, AllocError>
+    requires given { given.0 < length terms.now.nodes }
+    requires goal { goal.0 < length terms.now.nodes }
+{
+    let mut list = Vec::new(alloc);
+    list.push(given)?;
+    let condition = Condition {
+        given: TermList::from_vec(list),
+        goal,
+        origin: Origin {
+            routine: None,
+            kind: Kind::Assert,
+            line: 7,
+        },
+    };
+    let mut out = Vec::new(alloc);
+    push_claim(&mut out, &names_of(alloc)?, &[], terms, 2, &condition)?;
+    Ok(out)
+}
+
+#[test]
+fn a_hypothesis(rt: HostRuntime) -> Result<(), Fail> {
+    let shapes = Shapes::new(rt.alloc());
+    let mut terms = Terms::new(rt.alloc(), shapes, Decls::new(rt.alloc()), 10);
+    let x = terms.make(Head::Var(X, Sort::Bool, 0), &[])?;
+    let goal = terms.make(Head::Not, &[x])?;
+    let found = claim_of(rt.alloc(), &terms, x, goal)?;
+    let wanted = b"CONDITION 2 MAIN ASSERT LINE 7\nGIVEN X\nGOAL (NOT X)\n";
+    assert!(rt; found.as_slice() == wanted.as_slice());
     Ok(())
 }

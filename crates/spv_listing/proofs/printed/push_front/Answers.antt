@@ -1,4 +1,4 @@
-use Rattle.std.proofs.Common.{sym, ◌∙◌, ap, ◌++◌, ◌∷◌, []}
+use Rattle.std.proofs.Common.{sym, ◌∙◌, ap, ◌++◌}
 use Rattle.spv_listing.specs.Printed.{head_text}
 use Rattle.spv_listing.proofs.Texts.{on_ok, begins-alone, begins-bracketed}
 use Rattle.spv_listing.proofs.printed.push_front.Goals as goal

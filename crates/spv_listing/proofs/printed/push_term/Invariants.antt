@@ -1,5 +1,5 @@
-use Rattle.std.proofs.Common.{◌≡◌, ◌++◌}
-use Rattle.spv_listing.specs.Waiting.{rest_texts, steps_left, AreTerms}
+use Rattle.std.proofs.Common.{◌++◌}
+use Rattle.spv_listing.specs.Waiting.{rest_texts, steps_left}
 use Rattle.spv_listing.proofs.Texts.{Reached}
 use Rattle.spv_listing.proofs.printed.push_term.Given as goal
 
