@@ -3,8 +3,8 @@ use Rattle.std.proofs.Common.{◌≡◌, ℕ, zero, suc, ◌<◌, ◌≤◌, ◌
 use Rattle.spv_names.specs.declared.names.Symbol.{Symbol}
 use Rattle.spv_term.specs.declared.nodes.Condition.{Condition}
 use Rattle.spv_term.specs.Arena.{Arena}
-use Rattle.spv_report.specs.declared.verdict.Verdict.{Verdict}
-use Rattle.spv_report.specs.Verdicts.{IsVerdict, AreVerdicts}
+use Rattle.spv_decision.specs.declared.verdict.Verdict.{Verdict}
+use Rattle.spv_decision.specs.Verdicts.{IsVerdict, AreVerdicts}
 use Rattle.spv_report.specs.Reports.{claimed}
 use Rattle.spv_listing.specs.Page.{condition_lines, blocks}
 

@@ -10,10 +10,10 @@ use Rattle.spv_logic.specs.Terms.{Term}
 use Rattle.spv_logic.specs.Conditions.{Condition}
 use Rattle.spv_proof.specs.Evaluation.{negation}
 use Rattle.spv_term.specs.Arena.{Arena}
-use Rattle.spv_report.specs.declared.verdict.Verdict.{Verdict}
-use Rattle.spv_report.specs.declared.verdict.Verdict.TheVariants.{Proved, Unproved}
-use Rattle.spv_report.specs.declared.verdict.Unproved.{Unproved as UnprovedBy}
-use Rattle.spv_report.specs.Verdicts.{branch_terms, table_terms}
+use Rattle.spv_decision.specs.declared.verdict.Verdict.{Verdict}
+use Rattle.spv_decision.specs.declared.verdict.Verdict.TheVariants.{Proved, Unproved}
+use Rattle.spv_decision.specs.declared.verdict.Unproved.{Unproved as UnprovedBy}
+use Rattle.spv_decision.specs.Verdicts.{branch_terms, table_terms}
 use Rattle.spv_report.specs.Reports.{Findings, claimed, is_proved, is_unproved, all_proved}
 use Rattle.spv_listing.specs.Printed.{term_text}
 

@@ -2,7 +2,8 @@
 
 ghost use Rattle.std.specs.Prelude.{◌≡◌, ◌<◌, ◌++◌, map, length, All, IfOk, OnOk};
 ghost use Rattle.std.specs.List.{flat_map, count_by};
-ghost use Rattle.spv_report.specs.Verdicts.{IsPlain, IsVerdict, AreVerdicts, branch_terms, table_terms};
+ghost use Rattle.spv_decision.specs.Forms.{IsPlain};
+ghost use Rattle.spv_decision.specs.Verdicts.{IsVerdict, AreVerdicts, branch_terms, table_terms};
 ghost use Rattle.spv_report.specs.Reports.{claimed, is_proved, is_unproved};
 ghost use Rattle.spv_proof.specs.Evaluation.{negation};
 ghost use Rattle.spv_listing.specs.Page as spec;
@@ -12,7 +13,8 @@ ghost use Rattle.spv_term.specs.Arena.{tree};
 
 use crate::printed::{push_decimal, push_integer, push_term};
 use spv_names::{Names, Symbol};
-use spv_report::{Report, Unproved, Verdict};
+use spv_decision::{Unproved, Verdict};
+use spv_report::Report;
 use spv_term::{Condition, Kind, Origin, TermId, Terms};
 use std::alloc::{AllocError, Global};
 

@@ -1,7 +1,7 @@
 use Rattle.std.proofs.Common.{◌≡◌, ◌++◌, ◌<◌, ◌+◌, ℕ, List, get_or, suc, take, map, sym, ap, ◌∙◌, subst, arith}
 use Rattle.spv_term.specs.declared.nodes.Condition.{Condition}
-use Rattle.spv_report.specs.declared.verdict.Verdict.{Verdict}
-use Rattle.spv_report.specs.Verdicts.{IsVerdict}
+use Rattle.spv_decision.specs.declared.verdict.Verdict.{Verdict}
+use Rattle.spv_decision.specs.Verdicts.{IsVerdict}
 use Rattle.spv_report.specs.Reports.{claimed}
 use Rattle.spv_listing.specs.Page.{blocks, condition_lines}
 use Rattle.spv_listing.proofs.Chains.{then_added, same_length, verdict_at, blocks_more, blocks_all}

@@ -1,6 +1,6 @@
 use Rattle.std.proofs.Common.{◌≡◌, ◌++◌, take}
 use Rattle.std.specs.List.{flat_map}
-use Rattle.spv_report.specs.Verdicts.{branch_terms}
+use Rattle.spv_decision.specs.Verdicts.{branch_terms}
 use Rattle.spv_listing.specs.Page.{branch_line}
 use Rattle.spv_listing.proofs.listing.push_branch.Given as goal
 

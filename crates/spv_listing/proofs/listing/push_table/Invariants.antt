@@ -1,6 +1,6 @@
 use Rattle.std.proofs.Common.{◌≡◌, ◌++◌, take}
 use Rattle.std.specs.List.{flat_map}
-use Rattle.spv_report.specs.Verdicts.{table_terms}
+use Rattle.spv_decision.specs.Verdicts.{table_terms}
 use Rattle.spv_listing.specs.Page.{value_line}
 use Rattle.spv_listing.proofs.listing.push_table.Given as goal
 
