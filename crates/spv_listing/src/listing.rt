@@ -12,8 +12,8 @@ ghost use Rattle.spv_listing.specs.Page.{line, heading, given_line, goal_line, b
 ghost use Rattle.spv_term.specs.Arena.{tree};
 
 use crate::printed::{push_decimal, push_integer, push_term};
-use spv_names::{Names, Symbol};
 use spv_decision::{Unproved, Verdict};
+use spv_names::{Names, Symbol};
 use spv_report::Report;
 use spv_term::{Condition, Kind, Origin, TermId, Terms};
 use std::alloc::{AllocError, Global};
