@@ -1,7 +1,8 @@
 -- The page of a report.
-use Rattle.std.specs.Prelude.{ℕ, suc, Bool, true, false, List, [], ◌∷◌, ◌++◌, ℤ, map, codes, decimal, if◌then◌else◌}
+use Rattle.std.specs.Prelude.{ℕ, suc, Option, Bool, true, false, List, [], ◌∷◌, ◌++◌, ℤ, map, codes, decimal, if◌then◌else◌}
 use Rattle.std.specs.List.{flat_map, count_by}
 use Rattle.std.specs.Fmt.{signed_decimal}
+use Rattle.spv_names.specs.declared.names.Symbol.{Symbol}
 use Rattle.spv_logic.specs.declared.conditions.Kind.{Kind}
 use Rattle.spv_logic.specs.declared.conditions.Kind.TheVariants as kind
 use Rattle.spv_logic.specs.declared.conditions.Origin.{Origin}
@@ -9,10 +10,10 @@ use Rattle.spv_logic.specs.Terms.{Term}
 use Rattle.spv_logic.specs.Conditions.{Condition}
 use Rattle.spv_proof.specs.Evaluation.{negation}
 use Rattle.spv_term.specs.Arena.{Arena}
-use Rattle.spv_report.specs.declared.verdict.Verdict.{Verdict}
-use Rattle.spv_report.specs.declared.verdict.Verdict.TheVariants.{Proved, Unproved}
-use Rattle.spv_report.specs.declared.verdict.Unproved.{Unproved as UnprovedBy}
-use Rattle.spv_report.specs.Verdicts.{branch_terms, table_terms}
+use Rattle.spv_decision.specs.declared.verdict.Verdict.{Verdict}
+use Rattle.spv_decision.specs.declared.verdict.Verdict.TheVariants.{Proved, Unproved}
+use Rattle.spv_decision.specs.declared.verdict.Unproved.{Unproved as UnprovedBy}
+use Rattle.spv_decision.specs.Verdicts.{branch_terms, table_terms}
 use Rattle.spv_report.specs.Reports.{Findings, claimed, is_proved, is_unproved, all_proved}
 use Rattle.spv_listing.specs.Printed.{term_text}
 
@@ -32,44 +33,44 @@ abbrev pub heading : ℕ → Origin → List ℕ
 heading number origin =
     codes "CONDITION " ++ decimal number ++ codes " MAIN " ++ kind_word origin.kind ++ codes " LINE " ++ decimal origin.line
 
-abbrev pub given_line : List (List ℕ) → Term → List ℕ
-given_line names t = line (codes "GIVEN " ++ term_text names t)
+abbrev pub given_line : List (List ℕ) → List (Option Symbol) → Term → List ℕ
+given_line names titles t = line (codes "GIVEN " ++ term_text names titles t)
 
-abbrev pub goal_line : List (List ℕ) → Term → List ℕ
-goal_line names t = line (codes "GOAL " ++ term_text names t)
+abbrev pub goal_line : List (List ℕ) → List (Option Symbol) → Term → List ℕ
+goal_line names titles t = line (codes "GOAL " ++ term_text names titles t)
 
 -- an atom as the table has it
 abbrev pub atom : Term → Bool → Term
 atom t true = t
 atom t false = negation t
 
-abbrev pub branch_line : List (List ℕ) → Term × Bool → List ℕ
-branch_line names row = line (codes "BRANCH " ++ term_text names (atom row.0 row.1))
+abbrev pub branch_line : List (List ℕ) → List (Option Symbol) → Term × Bool → List ℕ
+branch_line names titles row = line (codes "BRANCH " ++ term_text names titles (atom row.0 row.1))
 
-abbrev pub value_line : List (List ℕ) → Term × ℤ → List ℕ
-value_line names row = line (codes "VALUE " ++ term_text names row.0 ++ codes " " ++ signed_decimal row.1)
+abbrev pub value_line : List (List ℕ) → List (Option Symbol) → Term × ℤ → List ℕ
+value_line names titles row = line (codes "VALUE " ++ term_text names titles row.0 ++ codes " " ++ signed_decimal row.1)
 
 -- a condition: its heading, its hypotheses and its goal
-abbrev pub claim_lines : List (List ℕ) → ℕ → Condition → List ℕ
-claim_lines names number c =
-    line (heading number c.origin) ++ flat_map (given_line names) c.claim.given ++ goal_line names c.claim.goal
+abbrev pub claim_lines : List (List ℕ) → List (Option Symbol) → ℕ → Condition → List ℕ
+claim_lines names titles number c =
+    line (heading number c.origin) ++ flat_map (given_line names titles) c.claim.given ++ goal_line names titles c.claim.goal
 
-abbrev pub unproved_lines : List (List ℕ) → Arena → UnprovedBy → List ℕ
-unproved_lines names a u =
-    line (codes "UNPROVED") ++ flat_map (branch_line names) (branch_terms a u.branch) ++ flat_map (value_line names) (table_terms a u.table)
+abbrev pub unproved_lines : List (List ℕ) → List (Option Symbol) → Arena → UnprovedBy → List ℕ
+unproved_lines names titles a u =
+    line (codes "UNPROVED") ++ flat_map (branch_line names titles) (branch_terms a u.branch) ++ flat_map (value_line names titles) (table_terms a u.table)
 
-abbrev pub verdict_lines : List (List ℕ) → Arena → Verdict → List ℕ
-verdict_lines names a (Proved p) = line (codes "PROVED")
-verdict_lines names a (Unproved u) = unproved_lines names a u
+abbrev pub verdict_lines : List (List ℕ) → List (Option Symbol) → Arena → Verdict → List ℕ
+verdict_lines names titles a (Proved p) = line (codes "PROVED")
+verdict_lines names titles a (Unproved u) = unproved_lines names titles a u
 
 -- a condition with its verdict
-abbrev pub condition_lines : List (List ℕ) → Arena → ℕ → Condition → Verdict → List ℕ
-condition_lines names a number c v = claim_lines names number c ++ verdict_lines names a v
+abbrev pub condition_lines : List (List ℕ) → List (Option Symbol) → Arena → ℕ → Condition → Verdict → List ℕ
+condition_lines names titles a number c v = claim_lines names titles number c ++ verdict_lines names titles a v
 
 -- conditions with their verdicts, numbered from this number on
-abbrev pub blocks : List (List ℕ) → Arena → ℕ → List Condition → List Verdict → List ℕ
-blocks names a number (c ∷ cs) (v ∷ vs) = condition_lines names a number c v ++ blocks names a (suc number) cs vs
-blocks names a number _ _ = []
+abbrev pub blocks : List (List ℕ) → List (Option Symbol) → Arena → ℕ → List Condition → List Verdict → List ℕ
+blocks names titles a number (c ∷ cs) (v ∷ vs) = condition_lines names titles a number c v ++ blocks names titles a (suc number) cs vs
+blocks names titles a number _ _ = []
 
 -- the line of these counts; no verdict gives up yet
 abbrev pub counts : ℕ → ℕ → List ℕ
@@ -82,7 +83,7 @@ total verdicts = counts (count_by is_proved verdicts) (count_by is_unproved verd
 abbrev pub result : List Verdict → List ℕ
 result verdicts = if all_proved verdicts then codes "RESULT PROVED" else codes "RESULT UNPROVED"
 
--- the whole page
+-- the whole page; a program of the form has no types
 abbrev pub page : Findings → List ℕ
 page r =
-    line (codes "SPV LISTING 1") ++ blocks r.names r.arena 1 (map (claimed r.arena) r.conditions) r.verdicts ++ total r.verdicts ++ line (result r.verdicts)
+    line (codes "SPV LISTING 1") ++ blocks r.names [] r.arena 1 (map (claimed r.arena) r.conditions) r.verdicts ++ total r.verdicts ++ line (result r.verdicts)

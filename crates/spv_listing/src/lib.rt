@@ -7,4 +7,6 @@ mod printed;
 pub use listing::page;
 
 #[cfg(test)]
+mod term_tests;
+#[cfg(test)]
 mod tests;

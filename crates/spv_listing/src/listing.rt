@@ -1,21 +1,25 @@
 // The page of a report, line by line.
 
-ghost use Rattle.std.specs.Prelude.{◌≡◌, ◌++◌, [], ◌∷◌, map, All, IfOk, OnOk};
+ghost use Rattle.std.specs.Prelude.{◌≡◌, ◌<◌, ◌++◌, map, length, All, IfOk, OnOk};
 ghost use Rattle.std.specs.List.{flat_map, count_by};
-ghost use Rattle.spv_report.specs.Verdicts.{IsSide, IsEquation, IsPlain, IsVerdict, IsUnproved, AreVerdicts, branch_terms, table_terms};
+ghost use Rattle.spv_decision.specs.Forms.{IsPlain};
+ghost use Rattle.spv_decision.specs.Verdicts.{IsVerdict, AreVerdicts, branch_terms, table_terms};
 ghost use Rattle.spv_report.specs.Reports.{claimed, is_proved, is_unproved};
+ghost use Rattle.spv_proof.specs.Evaluation.{negation};
 ghost use Rattle.spv_listing.specs.Page as spec;
-ghost use Rattle.spv_listing.specs.Page.{line, heading, goal_line, branch_line, value_line, claim_lines, unproved_lines, condition_lines, blocks, counts};
+ghost use Rattle.spv_listing.specs.Printed.{term_text};
+ghost use Rattle.spv_listing.specs.Page.{line, heading, given_line, goal_line, branch_line, value_line, claim_lines, unproved_lines, condition_lines, blocks, counts};
 ghost use Rattle.spv_term.specs.Arena.{tree};
 
-use crate::printed::{push_decimal, push_equation, push_integer, push_negation, push_side};
-use spv_names::Names;
-use spv_report::{Report, Unproved, Verdict};
+use crate::printed::{push_decimal, push_integer, push_term};
+use spv_decision::{Unproved, Verdict};
+use spv_names::{Names, Symbol};
+use spv_report::Report;
 use spv_term::{Condition, Kind, Origin, TermId, Terms};
 use std::alloc::{AllocError, Global};
 
-/// The page of a report: a heading, each condition with its goal and its verdict, and the totals. Each
-/// line ends with byte 10.
+/// The page of a report: a heading, each condition with its hypotheses, its goal and its verdict, and
+/// the totals. Each line ends with byte 10.
 pub fn page(alloc: Global, report: &Report) -> Result<Vec<u8>, AllocError>
     ensures { IfOk result (λ p. p.items ≡ spec.page report.now) }
 {
@@ -24,6 +28,7 @@ pub fn page(alloc: Global, report: &Report) -> Result<Vec<u8>, AllocError>
     push_blocks(
         &mut out,
         report.names(),
+        &[],
         report.terms(),
         report.conditions(),
         report.verdicts(),
@@ -37,19 +42,21 @@ pub fn page(alloc: Global, report: &Report) -> Result<Vec<u8>, AllocError>
 fn push_blocks(
     out: &mut Vec<u8>,
     names: &Names,
+    titles: &[Option<Symbol>],
     terms: &Terms,
     conditions: &[Condition],
     verdicts: &[Verdict],
 ) -> Result<(), AllocError>
     requires plain { All (IsPlain terms.now) conditions.now }
     requires verdicts { AreVerdicts terms.now conditions.now verdicts.now }
-    ensures { OnOk result (out.new.items ≡ out.old.items ++ blocks names.now terms.now 1 (map (claimed terms.now) conditions.now) verdicts.now) }
+    ensures { OnOk result (out.new.items ≡ out.old.items ++ blocks names.now titles.now terms.now 1 (map (claimed terms.now) conditions.now) verdicts.now) }
 {
     for place in 0..conditions.len() {
         let number = place as u64 + 1;
         push_condition(
             out,
             names,
+            titles,
             terms,
             number,
             &conditions[place],
@@ -63,6 +70,7 @@ fn push_blocks(
 fn push_condition(
     out: &mut Vec<u8>,
     names: &Names,
+    titles: &[Option<Symbol>],
     terms: &Terms,
     number: u64,
     condition: &Condition,
@@ -70,47 +78,85 @@ fn push_condition(
 ) -> Result<(), AllocError>
     requires plain { IsPlain terms.now condition.now }
     requires verdict { IsVerdict terms.now condition.now verdict.now }
-    ensures { OnOk result (out.new.items ≡ out.old.items ++ condition_lines names.now terms.now number (claimed terms.now condition.now) verdict.now) }
+    ensures { OnOk result (out.new.items ≡ out.old.items ++ condition_lines names.now titles.now terms.now number (claimed terms.now condition.now) verdict.now) }
 {
-    push_claim(out, names, terms, number, condition)?;
+    push_claim(out, names, titles, terms, number, condition)?;
     match verdict {
         Verdict::Proved(_) => {
             out.extend_from_slice(b"PROVED\n")?;
         }
-        Verdict::Unproved(unproved) => push_unproved(out, names, terms, unproved)?,
+        Verdict::Unproved(unproved) => push_unproved(out, names, titles, terms, unproved)?,
     }
     Ok(())
 }
 
-// A condition: its number and origin, and its goal.
-fn push_claim(
+// A condition: its number and origin, its hypotheses and its goal.
+pub(crate) fn push_claim(
     out: &mut Vec<u8>,
     names: &Names,
+    titles: &[Option<Symbol>],
     terms: &Terms,
     number: u64,
     condition: &Condition,
 ) -> Result<(), AllocError>
-    requires { IsPlain terms.now condition.now }
-    ensures { OnOk result (out.new.items ≡ out.old.items ++ claim_lines names.now number (claimed terms.now condition.now)) }
+    requires given { All (λ t. t.0 < length terms.now.nodes) condition.now.given }
+    requires goal { condition.now.goal.0 < length terms.now.nodes }
+    ensures { OnOk result (out.new.items ≡ out.old.items ++ claim_lines names.now titles.now number (claimed terms.now condition.now)) }
 {
     push_heading(out, number, condition.origin)?;
-    push_goal(out, names, terms, condition.goal)
+    push_givens(out, names, titles, terms, condition.given.as_slice())?;
+    push_goal(out, names, titles, terms, condition.goal)
 }
 
 // What shows that a condition was not proved.
 fn push_unproved(
     out: &mut Vec<u8>,
     names: &Names,
+    titles: &[Option<Symbol>],
     terms: &Terms,
     unproved: &Unproved,
 ) -> Result<(), AllocError>
-    requires equations { All (λ row. IsEquation terms.now row.0) unproved.now.branch }
-    requires sides { All (λ row. IsSide terms.now row.0) unproved.now.table }
-    ensures { OnOk result (out.new.items ≡ out.old.items ++ unproved_lines names.now terms.now unproved.now) }
+    requires branch { All (λ row. row.0.0 < length terms.now.nodes) unproved.now.branch }
+    requires table { All (λ row. row.0.0 < length terms.now.nodes) unproved.now.table }
+    ensures { OnOk result (out.new.items ≡ out.old.items ++ unproved_lines names.now titles.now terms.now unproved.now) }
 {
     out.extend_from_slice(b"UNPROVED\n")?;
-    push_branch(out, names, terms, unproved.branch.as_slice())?;
-    push_table(out, names, terms, unproved.table.as_slice())
+    push_branch(out, names, titles, terms, unproved.branch.as_slice())?;
+    push_table(out, names, titles, terms, unproved.table.as_slice())
+}
+
+// The line of each hypothesis.
+fn push_givens(
+    out: &mut Vec<u8>,
+    names: &Names,
+    titles: &[Option<Symbol>],
+    terms: &Terms,
+    given: &[TermId],
+) -> Result<(), AllocError>
+    requires { All (λ t. t.0 < length terms.now.nodes) given.now }
+    ensures { OnOk result (out.new.items ≡ out.old.items ++ flat_map (given_line names.now titles.now) (map (tree terms.now) given.now)) }
+{
+    for t in given {
+        push_given(out, names, titles, terms, *t)?;
+    }
+    Ok(())
+}
+
+// The line of a hypothesis.
+fn push_given(
+    out: &mut Vec<u8>,
+    names: &Names,
+    titles: &[Option<Symbol>],
+    terms: &Terms,
+    t: TermId,
+) -> Result<(), AllocError>
+    requires { t.0 < length terms.now.nodes }
+    ensures { OnOk result (out.new.items ≡ out.old.items ++ given_line names.now titles.now (tree terms.now t)) }
+{
+    out.extend_from_slice(b"GIVEN ")?;
+    push_term(out, names, titles, terms, t)?;
+    out.push(b'\n')?;
+    Ok(())
 }
 
 // The line of a condition's number and origin.
@@ -144,14 +190,15 @@ fn kind_word(kind: Kind) -> &'static [u8]
 fn push_goal(
     out: &mut Vec<u8>,
     names: &Names,
+    titles: &[Option<Symbol>],
     terms: &Terms,
     goal: TermId,
 ) -> Result<(), AllocError>
-    requires { IsEquation terms.now goal }
-    ensures { OnOk result (out.new.items ≡ out.old.items ++ goal_line names.now (tree terms.now goal)) }
+    requires { goal.0 < length terms.now.nodes }
+    ensures { OnOk result (out.new.items ≡ out.old.items ++ goal_line names.now titles.now (tree terms.now goal)) }
 {
     out.extend_from_slice(b"GOAL ")?;
-    push_equation(out, names, terms, goal)?;
+    push_term(out, names, titles, terms, goal)?;
     out.push(b'\n')?;
     Ok(())
 }
@@ -160,15 +207,33 @@ fn push_goal(
 fn push_branch(
     out: &mut Vec<u8>,
     names: &Names,
+    titles: &[Option<Symbol>],
     terms: &Terms,
     branch: &[(TermId, bool)],
 ) -> Result<(), AllocError>
-    requires { All (λ row. IsEquation terms.now row.0) branch.now }
-    ensures { OnOk result (out.new.items ≡ out.old.items ++ flat_map (branch_line names.now) (branch_terms terms.now branch.now)) }
+    requires { All (λ row. row.0.0 < length terms.now.nodes) branch.now }
+    ensures { OnOk result (out.new.items ≡ out.old.items ++ flat_map (branch_line names.now titles.now) (branch_terms terms.now branch.now)) }
 {
     for row in branch {
-        push_atom(out, names, terms, row.0, row.1)?;
+        push_atom(out, names, titles, terms, row.0, row.1)?;
     }
+    Ok(())
+}
+
+// The negation of a formula.
+fn push_negation(
+    out: &mut Vec<u8>,
+    names: &Names,
+    titles: &[Option<Symbol>],
+    terms: &Terms,
+    formula: TermId,
+) -> Result<(), AllocError>
+    requires { formula.0 < length terms.now.nodes }
+    ensures { OnOk result (out.new.items ≡ out.old.items ++ term_text names.now titles.now (negation (tree terms.now formula))) }
+{
+    out.extend_from_slice(b"(NOT ")?;
+    push_term(out, names, titles, terms, formula)?;
+    out.push(b')')?;
     Ok(())
 }
 
@@ -176,18 +241,19 @@ fn push_branch(
 fn push_atom(
     out: &mut Vec<u8>,
     names: &Names,
+    titles: &[Option<Symbol>],
     terms: &Terms,
     atom: TermId,
     truth: bool,
 ) -> Result<(), AllocError>
-    requires { IsEquation terms.now atom }
-    ensures { OnOk result (out.new.items ≡ out.old.items ++ branch_line names.now (tree terms.now atom, truth)) }
+    requires { atom.0 < length terms.now.nodes }
+    ensures { OnOk result (out.new.items ≡ out.old.items ++ branch_line names.now titles.now (tree terms.now atom, truth)) }
 {
     out.extend_from_slice(b"BRANCH ")?;
     if truth {
-        push_equation(out, names, terms, atom)?;
+        push_term(out, names, titles, terms, atom)?;
     } else {
-        push_negation(out, names, terms, atom)?;
+        push_negation(out, names, titles, terms, atom)?;
     }
     out.push(b'\n')?;
     Ok(())
@@ -197,14 +263,15 @@ fn push_atom(
 fn push_table(
     out: &mut Vec<u8>,
     names: &Names,
+    titles: &[Option<Symbol>],
     terms: &Terms,
     table: &[(TermId, i128)],
 ) -> Result<(), AllocError>
-    requires { All (λ row. IsSide terms.now row.0) table.now }
-    ensures { OnOk result (out.new.items ≡ out.old.items ++ flat_map (value_line names.now) (table_terms terms.now table.now)) }
+    requires { All (λ row. row.0.0 < length terms.now.nodes) table.now }
+    ensures { OnOk result (out.new.items ≡ out.old.items ++ flat_map (value_line names.now titles.now) (table_terms terms.now table.now)) }
 {
     for row in table {
-        push_value(out, names, terms, row.0, row.1)?;
+        push_value(out, names, titles, terms, row.0, row.1)?;
     }
     Ok(())
 }
@@ -213,15 +280,16 @@ fn push_table(
 fn push_value(
     out: &mut Vec<u8>,
     names: &Names,
+    titles: &[Option<Symbol>],
     terms: &Terms,
     side: TermId,
     number: i128,
 ) -> Result<(), AllocError>
-    requires { IsSide terms.now side }
-    ensures { OnOk result (out.new.items ≡ out.old.items ++ value_line names.now (tree terms.now side, number)) }
+    requires { side.0 < length terms.now.nodes }
+    ensures { OnOk result (out.new.items ≡ out.old.items ++ value_line names.now titles.now (tree terms.now side, number)) }
 {
     out.extend_from_slice(b"VALUE ")?;
-    push_side(out, names, terms, side)?;
+    push_term(out, names, titles, terms, side)?;
     out.push(b' ')?;
     push_integer(out, number)?;
     out.push(b'\n')?;
