@@ -1,5 +1,5 @@
 -- The three ways in which a decision ends.
-use Rattle.std.proofs.Common.{◌≡◌, ◌≢◌, ℕ, ◌<◌, Bool, true, false, List, [], ◌∷◌, ◌++◌, map, take, length, ◌≤◌, arith, Option, Some, None, All, IsTrue, refl, sym, ap, subst, ◌∙◌, ℤ}
+use Rattle.std.proofs.Common.{◌≡◌, ◌≢◌, ℕ, zero, suc, get_or, ◌<◌, Bool, true, false, List, [], ◌∷◌, ◌++◌, map, take, length, ◌≤◌, arith, Option, Some, None, All, IsTrue, refl, sym, ap, subst, ◌∙◌, ℤ}
 use Rattle.std.specs.List.{flat_map}
 use Rattle.std.proofs.lemmas.List.{take_all}
 use Rattle.std.proofs.lemmas.List.Elements.{All-append, All-map, All-weaker}
@@ -13,8 +13,9 @@ use Rattle.spv_proof.specs.Accepted.{accepts}
 use Rattle.spv_decision.specs.declared.forest.Point.{Point}
 use Rattle.spv_decision.specs.declared.hypotheses.Hypothesis.{Hypothesis}
 use Rattle.spv_decision.specs.declared.verdict.Unproved.{Unproved}
+use Rattle.spv_decision.specs.declared.verdict.Verdict.{Verdict}
 use Rattle.spv_decision.specs.Forms.{conjuncts, IsPlain}
-use Rattle.spv_decision.specs.Verdicts.{IsUnproved}
+use Rattle.spv_decision.specs.Verdicts.{IsUnproved, IsVerdict, AreVerdicts}
 use Rattle.spv_decision.specs.Forests.{AreAlone, AreClasses}
 use Rattle.spv_decision.specs.Formulas.{IsEquation, IsConjunctOf, IsHypothesis, Assumed, SidesJoined, OneApart}
 use Rattle.spv_decision.specs.Joining.{EquatesAll, GoOn}
@@ -86,3 +87,18 @@ shown_equations a c steps n hs given given_is assumed goal parts listed equation
     subst (All (IsEquation a)) (sym (all_is ∙ equations_are)) (All-append (IsEquation a) (map (λ h. h.equation) given) listed
     (All-map (IsEquation a) (λ h. h.equation) given (subst (All (λ h. IsEquation a h.equation)) (sym given_is) (All-weaker (IsHypothesis a c steps) (λ h. IsEquation a h.equation) (λ h is. is.equation) hs assumed.all)))
     (subst (All (IsEquation a)) (sym listed_is) (All-weaker (IsConjunctOf a (tree a c.goal)) (IsEquation a) (λ t is. is.equation) goal parts)))
+
+-- ---- verdicts on conditions in a row
+
+pub verdicts_more : (a : Arena) (cs : List Condition) (k : ℕ) (vs : List Verdict) (c : Condition) (v : Verdict) → k < length cs → c ≡ get_or cs k c → AreVerdicts a (take k cs) vs → IsVerdict a c v → AreVerdicts a (take (suc k) cs) (vs ++ v ∷ [])
+verdicts_more a [] k vs c v within at right here = absurd (lt-zero within)
+  where
+    lt-zero : k < 0 → ⊥
+    lt-zero h = grind (arith)
+verdicts_more a (d ∷ cs) zero [] c v within at right here = (subst (λ x. IsVerdict a x v) at here, tt)
+verdicts_more a (d ∷ cs) zero (w ∷ vs) c v within at right here = absurd right
+verdicts_more a (d ∷ cs) (suc k) [] c v within at right here = absurd right
+verdicts_more a (d ∷ cs) (suc k) (w ∷ vs) c v within at right here = (right.0, verdicts_more a cs k vs c v below at right.1 here)
+  where
+    below : k < length cs
+    below = grind (arith)

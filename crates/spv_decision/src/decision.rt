@@ -1,8 +1,8 @@
 // The decision of conditions whose formulas are equations of variables and numerals joined by AND.
 
-ghost use Rattle.std.specs.Prelude.{◌≡◌, ◌++◌, [], ◌∷◌, map, IfOk, OnOk};
+ghost use Rattle.std.specs.Prelude.{◌≡◌, ◌++◌, map, All, IfOk, OnOk};
 ghost use Rattle.spv_decision.specs.Forms.{IsPlain};
-ghost use Rattle.spv_decision.specs.Verdicts.{IsVerdict};
+ghost use Rattle.spv_decision.specs.Verdicts.{IsVerdict, AreVerdicts};
 
 use crate::conclusion::{are_joined, conclude, end, proof_of};
 use crate::equating::equate_all;
@@ -11,7 +11,7 @@ use crate::forest::start;
 use crate::formulas::conjuncts;
 use crate::hypotheses::{Hypothesis, hypotheses};
 use crate::numbers::numbers;
-use crate::verdict::Verdict;
+use crate::verdict::{Verdict, Verdicts};
 use spv_term::{Condition, TermId, Terms};
 use std::alloc::{AllocError, Global};
 
@@ -63,4 +63,20 @@ pub fn decide(alloc: Global, terms: &Terms, condition: &Condition) -> Result<Ver
     let numbers = numbers(alloc, terms, &forest)?;
     let equations = all_equations(alloc, &hypotheses, &goal)?;
     Ok(Verdict::Unproved(shown(alloc, terms, &numbers, &equations)?))
+}
+
+/// The verdicts on conditions, in their order.
+pub fn decide_all(
+    alloc: Global,
+    terms: &Terms,
+    conditions: &[Condition],
+) -> Result<Verdicts, AllocError>
+    requires { All (IsPlain terms.now) conditions.now }
+    ensures { IfOk result (AreVerdicts terms.now conditions.now) }
+{
+    let mut verdicts = Vec::new(alloc);
+    for condition in conditions {
+        verdicts.push(decide(alloc, terms, condition)?)?;
+    }
+    Ok(Verdicts::from_vec(verdicts))
 }

@@ -13,5 +13,5 @@ mod joining;
 mod numbers;
 mod verdict;
 
-pub use decision::decide;
+pub use decision::{decide, decide_all};
 pub use verdict::{Branch, Table, Unproved, Verdict, Verdicts};

@@ -1,3 +1,2 @@
-pub mod Equations
 pub mod Formulas
 pub mod Reports

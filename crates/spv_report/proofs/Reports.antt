@@ -9,9 +9,9 @@ use Rattle.spv_meaning.proofs.Rules.{conditions_correct}
 use Rattle.spv_form.specs.Program.{program_of}
 use Rattle.spv_proof.proofs.Soundness.{accepted_true}
 use Rattle.std.proofs.lemmas.Bool.{false≢true}
-use Rattle.spv_report.specs.declared.verdict.Verdict.{Verdict}
-use Rattle.spv_report.specs.declared.verdict.Verdict.TheVariants.{Proved, Unproved}
-use Rattle.spv_report.specs.Verdicts.{AreVerdicts}
+use Rattle.spv_decision.specs.declared.verdict.Verdict.{Verdict}
+use Rattle.spv_decision.specs.declared.verdict.Verdict.TheVariants.{Proved, Unproved}
+use Rattle.spv_decision.specs.Verdicts.{AreVerdicts}
 use Rattle.spv_report.specs.Reports.{Findings, IsReport, claimed, all_proved, ProvedIsCorrectIn}
 
 -- proved conditions are true in every world

@@ -10,9 +10,10 @@ use Rattle.spv_meaning.specs.Rules.{conditions_of}
 use Rattle.spv_meaning.specs.Correctness.{Correct}
 use Rattle.spv_form.specs.declared.form.Form.{Form}
 use Rattle.spv_form.specs.Program.{program_of}
-use Rattle.spv_report.specs.declared.verdict.Verdict.{Verdict}
-use Rattle.spv_report.specs.declared.verdict.Verdict.TheVariants.{Proved, Unproved}
-use Rattle.spv_report.specs.Verdicts.{AreVerdicts, IsPlain}
+use Rattle.spv_decision.specs.declared.verdict.Verdict.{Verdict}
+use Rattle.spv_decision.specs.declared.verdict.Verdict.TheVariants.{Proved, Unproved}
+use Rattle.spv_decision.specs.Forms.{IsPlain}
+use Rattle.spv_decision.specs.Verdicts.{AreVerdicts}
 
 -- what contracts see of a report: the program with its names, its conditions over an arena, and the verdicts
 pub record Findings : Type 0 where

@@ -1,16 +1,16 @@
 // A report: what was found out about a program.
 
-ghost use Rattle.std.specs.Prelude.{◌≡◌, IsTrue, IfOk};
+ghost use Rattle.std.specs.Prelude.{◌≡◌, ◌<◌, IsTrue, IfOk};
 ghost use Rattle.spv_logic.specs.Conditions.{Meaning};
 ghost use Rattle.spv_meaning.specs.Programs.{well_formed};
 ghost use Rattle.spv_form.specs.Program.{program_of};
+ghost use Rattle.spv_form.specs.Sizes.{equations_of_form};
 ghost use Rattle.spv_report.specs.Reports as reports;
 ghost use Rattle.spv_report.specs.Reports.{IsReport, ProvedIsCorrectIn};
 
 use crate::conditions::conditions;
-use crate::decision::decide_all;
 use crate::fault::VerifyFault;
-use crate::verdict::{Verdict, Verdicts};
+use spv_decision::{Verdict, Verdicts, decide_all};
 use spv_form::Form;
 use spv_names::Names;
 use spv_term::{Condition, Decls, Shapes, Terms, World};
@@ -56,7 +56,8 @@ const MOST_TERMS: u32 = 4_294_967_295;
 /// The report on a program of the form: its conditions are made backwards through the block, and each
 /// is decided.
 pub fn verify(alloc: Global, names: Names, form: Form) -> Result<Report, VerifyFault>
-    requires { IsTrue (well_formed (program_of form)) }
+    requires formed { IsTrue (well_formed (program_of form)) }
+    requires few { equations_of_form form < 4194304 }
     ensures names { IfOk result (λ r. r.names ≡ names) }
     ensures form { IfOk result (λ r. r.form ≡ form) }
 {

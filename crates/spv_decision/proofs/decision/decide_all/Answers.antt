@@ -1,7 +1,7 @@
 use Rattle.std.proofs.Common.{◌≡◌, ◌+◌, sym, subst, take, suc, arith}
-use Rattle.spv_report.specs.Verdicts.{AreVerdicts}
-use Rattle.spv_report.proofs.Equations.{verdicts_more}
-use Rattle.spv_report.proofs.decision.decide_all.Goals as goal
+use Rattle.spv_decision.specs.Verdicts.{AreVerdicts}
+use Rattle.spv_decision.proofs.Deciding.{verdicts_more}
+use Rattle.spv_decision.proofs.decision.decide_all.Goals as goal
 
 pub loop-condition-preserved : goal.loop-condition-preserved
 loop-condition-preserved c =
