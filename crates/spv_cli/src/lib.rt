@@ -12,6 +12,8 @@ pub use running::{Ran, run};
 pub use spv_report::{Report, law_report};
 
 #[cfg(test)]
+mod form_tests;
+#[cfg(test)]
 mod outside_tests;
 #[cfg(test)]
 mod tests;

@@ -54,7 +54,7 @@ pub(crate) fn outcome_of(
 }
 
 // A run over a file with this text, where nothing fails.
-fn verified(alloc: Global, file: &str, text: &[u8]) -> Result<Outcome, Fail> {
+pub(crate) fn verified(alloc: Global, file: &str, text: &[u8]) -> Result<Outcome, Fail> {
     let mut texts = texts_of(alloc, file, text, &[])?;
     outcome_of(alloc, &["spv", "verify", file], &mut texts, &[])
 }
@@ -97,7 +97,7 @@ fn pages(rt: HostRuntime) -> Result<(), Fail> {
             "PROGRAM u;\nVAR x: INTEGER;\nEXIT (x = 1);\nBEGIN END.",
             1,
             "SPV LISTING 1\nCONDITION 1 MAIN EXIT LINE 3\nGOAL (= X 1)\nUNPROVED\n\
-             BRANCH (NOT (= X 1))\nVALUE X 0\n\
+             BRANCH (NOT (= X 1))\nVALUE X 2\n\
              TOTAL 0 PROVED 1 UNPROVED 0 GAVE UP\nRESULT UNPROVED\n",
         ),
         (

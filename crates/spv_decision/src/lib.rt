@@ -15,3 +15,6 @@ mod verdict;
 
 pub use decision::{decide, decide_all};
 pub use verdict::{Branch, Table, Unproved, Verdict, Verdicts};
+
+#[cfg(test)]
+mod tests;
