@@ -1,16 +1,14 @@
 -- The steps of joining state what they are to state.
-use Rattle.std.proofs.Common.{◌≡◌, ◌≢◌, ℕ, Bool, true, false, ◌<◌, ◌+◌, List, [], ◌∷◌, ◌++◌, length, Option, Some, None, slice_get, Result, Ok, Err, IfOk, OnOk, refl, sym, ap, subst, ◌∙◌}
+use Rattle.std.proofs.Common.{◌≡◌, ℕ, List, Option, Some, None, Result, Ok, Err, IfOk, OnOk, refl, sym, subst}
 use Rattle.spv_logic.specs.declared.conditions.TermId.{TermId}
-use Rattle.spv_logic.specs.Terms.{Term}
 use Rattle.spv_term.specs.declared.nodes.Condition.{Condition}
 use Rattle.spv_term.specs.Arena.{Arena, tree}
 use Rattle.spv_proof.specs.declared.proofs.Step.{Step}
 use Rattle.spv_proof.specs.declared.proofs.Step.TheVariants.{Refl}
 use Rattle.spv_proof.specs.Evaluation.{equation}
 use Rattle.spv_decision.specs.declared.forest.Point.{Point}
-use Rattle.spv_decision.specs.declared.joining.Bridge.{Bridge}
-use Rattle.spv_decision.specs.Derivations.{IsDerivation, IsFact, Link, Linked, Stated, States, Turns, Chains, Derives}
-use Rattle.spv_decision.specs.Forests.{Leads, Climbs, AreLinks}
+use Rattle.spv_decision.specs.Derivations.{IsDerivation, Link, Linked, Stated, States, Turns, Chains}
+use Rattle.spv_decision.specs.Forests.{Climbs, AreLinks}
 use Rattle.spv_decision.specs.Joining.{IsBridge, StatesEqual}
 use Rattle.spv_decision.proofs.Trees.{Leads-Climbs, Leads-one}
 use Rattle.spv_decision.proofs.Derive.{climbed, turned, chained, links_kept, link_kept, Derives-refl, Derives-trans, pushed, pushed_fact}

@@ -1,15 +1,14 @@
 -- The equations that a conjunction joins.
-use Rattle.std.proofs.Common.{◌≡◌, ◌≢◌, ℕ, zero, suc, ◌<◌, ◌≤◌, ◌+◌, Bool, true, false, ◌&&◌, List, [], ◌∷◌, ◌++◌, map, reverse, length, Option, Some, None, All, refl, sym, ap, subst, ◌∙◌, arith}
-use Rattle.std.proofs.lemmas.List.{append-nil, append_assoc, map-append, reverse-append, reverse-reverse}
+use Rattle.std.proofs.Common.{◌≡◌, ℕ, ◌<◌, true, ◌&&◌, List, [], ◌∷◌, ◌++◌, map, reverse, length, All, refl, sym, ap, subst, ◌∙◌, arith}
+use Rattle.std.proofs.lemmas.List.{append-nil, append_assoc, reverse-append}
 use Rattle.std.proofs.lemmas.List.Elements.{All-nil, All-cons, All-push, All-head, All-tail, All-append}
 use Rattle.spv_logic.specs.declared.conditions.TermId.{TermId}
-use Rattle.spv_logic.specs.declared.operators.Head.{Head}
 use Rattle.spv_logic.specs.declared.operators.Head.TheVariants as head
-use Rattle.spv_logic.specs.Terms.{Term, Terms, term, no_terms, terms}
+use Rattle.spv_logic.specs.Terms.{Term, term, no_terms, terms}
 use Rattle.spv_logic.proofs.Equality.{left_true, right_true}
 use Rattle.spv_term.specs.Arena.{Arena, tree}
 use Rattle.spv_decision.specs.Forms.{is_equation, is_conjunction, conjuncts, IsConjunction}
-use Rattle.spv_decision.specs.Formulas.{conjunction, IsConjunct, whole, last, before, AreParts, IsEquation, IsConjunctOf}
+use Rattle.spv_decision.specs.Formulas.{conjunction, IsConjunct, whole, last, before, AreParts, IsConjunctOf}
 
 All-reversed : {X : Type 0} (P : X → Type 0) (xs : List X) → All P xs → All P (reverse xs)
 All-reversed P [] h = h

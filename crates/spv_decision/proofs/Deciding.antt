@@ -1,5 +1,5 @@
 -- The three ways in which a decision ends.
-use Rattle.std.proofs.Common.{◌≡◌, ◌≢◌, ℕ, zero, suc, get_or, ◌<◌, Bool, true, false, List, [], ◌∷◌, ◌++◌, map, take, length, ◌≤◌, arith, Option, Some, None, All, IsTrue, refl, sym, ap, subst, ◌∙◌, ℤ}
+use Rattle.std.proofs.Common.{◌≡◌, ℕ, zero, suc, get_or, ◌<◌, true, List, [], ◌∷◌, ◌++◌, map, take, length, ◌≤◌, arith, Option, Some, None, All, refl, sym, ap, subst, ◌∙◌, ℤ}
 use Rattle.std.specs.List.{flat_map}
 use Rattle.std.proofs.lemmas.List.{take_all}
 use Rattle.std.proofs.lemmas.List.Elements.{All-append, All-map, All-weaker}
@@ -17,8 +17,8 @@ use Rattle.spv_decision.specs.declared.verdict.Verdict.{Verdict}
 use Rattle.spv_decision.specs.Forms.{conjuncts, IsPlain}
 use Rattle.spv_decision.specs.Verdicts.{IsUnproved, IsVerdict, AreVerdicts}
 use Rattle.spv_decision.specs.Forests.{AreAlone, AreClasses}
-use Rattle.spv_decision.specs.Formulas.{IsEquation, IsConjunctOf, IsHypothesis, Assumed, SidesJoined, OneApart}
-use Rattle.spv_decision.specs.Joining.{EquatesAll, GoOn}
+use Rattle.spv_decision.specs.Formulas.{IsEquation, IsConjunctOf, IsHypothesis, Assumed, OneApart}
+use Rattle.spv_decision.specs.Joining.{EquatesAll}
 use Rattle.spv_decision.specs.Concluding.{Ends}
 use Rattle.spv_decision.specs.Numbers.{AreNumbers}
 use Rattle.spv_decision.specs.Falsifying.{IsShown}

@@ -1,6 +1,5 @@
 -- Ids without repetition.
-use Rattle.std.proofs.Common.{◌≡◌, ◌≢◌, ℕ, zero, suc, ◌<◌, ◌≤◌, ◌+◌, Bool, true, false, cond, ◌||◌, List, [], ◌∷◌, ◌++◌, map, fold, take, length, get_or, Option, Some, None, slice_get, slice_set, nat_eq, All, refl, sym, ap, subst, ◌∙◌, arith, ℤ, pos}
-use Rattle.std.specs.List.{list_any}
+use Rattle.std.proofs.Common.{◌≡◌, ◌≢◌, ℕ, ◌<◌, ◌+◌, Bool, true, false, cond, ◌||◌, List, [], ◌∷◌, ◌++◌, fold, take, length, get_or, slice_set, nat_eq, All, refl, sym, ap, subst, ◌∙◌, arith}
 use Rattle.std.proofs.lemmas.List.{length-set, get_or-set_same, get_or-set_other, take_more}
 use Rattle.std.proofs.lemmas.List.Elements.{All-nil, All-push, All-head, All-tail, All-get_or}
 use Rattle.std.proofs.lemmas.Bool.Decides.{nat_tests}

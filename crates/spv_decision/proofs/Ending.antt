@@ -1,34 +1,32 @@
 -- The steps that prove a goal.
-use Rattle.std.proofs.Common.{◌≡◌, ◌≢◌, ℕ, zero, suc, ◌<◌, ◌≤◌, ◌+◌, Bool, true, false, cond, not, ◌||◌, List, [], ◌∷◌, ◌++◌, map, take, length, get_or, Option, Some, None, slice_get, All, IsTrue, refl, sym, ap, subst, ◌∙◌, arith}
+use Rattle.std.proofs.Common.{◌≡◌, ℕ, suc, ◌<◌, ◌+◌, Bool, true, false, ◌||◌, List, [], ◌∷◌, ◌++◌, map, take, length, get_or, Some, None, refl, sym, ap, subst, ◌∙◌, arith}
 use mathlib.Core.Logic.{◌⊎◌, inl, inr}
 use Rattle.std.proofs.lemmas.Bool.{false≢true}
-use Rattle.std.proofs.lemmas.List.{append-nil, append_assoc, map-append, take_more, take_all, length-append}
-use Rattle.std.proofs.lemmas.List.Elements.{All-nil, All-cons, All-push, All-get_or}
+use Rattle.std.proofs.lemmas.List.{map-append, take_more, length-append}
+use Rattle.std.proofs.lemmas.List.Elements.{All-nil, All-cons, All-push}
 use Rattle.spv_logic.specs.declared.conditions.TermId.{TermId}
-use Rattle.spv_logic.specs.declared.operators.Head.{Head}
 use Rattle.spv_logic.specs.declared.operators.Head.TheVariants as head
-use Rattle.spv_logic.specs.Terms.{Term, Terms, term, terms, no_terms, term_eq}
+use Rattle.spv_logic.specs.Terms.{Term, term, terms, no_terms, term_eq}
 use Rattle.spv_logic.proofs.Equality.{term_eq-refl, left_true, right_true}
 use Rattle.spv_term.specs.declared.nodes.Condition.{Condition}
-use Rattle.spv_term.specs.Arena.{Arena, IsArena, tree, sequent}
+use Rattle.spv_term.specs.Arena.{Arena, IsArena, tree}
 use Rattle.spv_term.proofs.ArenaLemmas.{same_id}
 use Rattle.spv_proof.specs.declared.proofs.Stated.TheVariants.{Is}
 use Rattle.spv_proof.specs.declared.proofs.Step.{Step}
 use Rattle.spv_proof.specs.declared.proofs.Step.TheVariants.{Given, Eval, Contra}
-use Rattle.spv_proof.specs.Accepted.{Effect, Adds, Ends as EndsPath, Fails, effect, end_of_one, end_of_two, numbered, contrary, ends_if, impossible, is_negation_of, on_effect}
+use Rattle.spv_proof.specs.Accepted.{Adds, Ends as EndsPath, end_of_one, end_of_two, numbered, ends_if, impossible, is_negation_of, on_effect}
 use Rattle.spv_proof.specs.Evaluation.{equation, negation, negated}
 use Rattle.spv_proof.specs.Valued.{truth_in}
 use Rattle.spv_proof.specs.Added.{verdict_of}
 use Rattle.spv_decision.specs.declared.forest.Point.{Point}
 use Rattle.spv_decision.specs.Forms.{is_equation, is_conjunction, conjuncts}
-use Rattle.spv_decision.specs.Derivations.{facts, IsDerivation, IsFact, AreFacts, Link, Stated, Derives, Closes}
-use Rattle.spv_decision.specs.Forests.{Leads, AreLinks}
-use Rattle.spv_decision.specs.Formulas.{conjunction, AreSides, IsEquation, SidesJoined}
+use Rattle.spv_decision.specs.Derivations.{facts, IsDerivation, IsFact, AreFacts, Stated, Derives, Closes}
+use Rattle.spv_decision.specs.Forests.{Leads}
+use Rattle.spv_decision.specs.Formulas.{conjunction, AreSides, SidesJoined}
 use Rattle.spv_decision.specs.Joining.{StatesEqual}
 use Rattle.spv_decision.specs.Concluding.{StatesEquation, StatesEquations, StatesWhole, Ends}
 use Rattle.spv_decision.proofs.Trees.{Leads-one}
 use Rattle.spv_decision.proofs.Derive.{effect_after, pushed, pushed_fact, Derives-refl, Derives-trans, links_kept}
-use Rattle.spv_decision.proofs.Conjuncts.{alone}
 use Rattle.spv_decision.proofs.Evaluating.{AllEquations, AllAmong, among_itself, stated_whole}
 use Rattle.spv_decision.proofs.Stating.{evaluation}
 

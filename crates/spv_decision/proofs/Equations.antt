@@ -1,12 +1,11 @@
 -- Joining the sides of hypotheses.
-use Rattle.std.proofs.Common.{◌≡◌, ◌≢◌, ℕ, zero, suc, ◌<◌, ◌≤◌, ◌+◌, Bool, true, false, List, [], ◌∷◌, ◌++◌, map, take, length, get_or, Option, Some, None, slice_get, All, Result, Ok, Err, IfOk, refl, sym, ap, subst, ◌∙◌, arith}
+use Rattle.std.proofs.Common.{◌≡◌, ◌≢◌, ℕ, ◌<◌, ◌+◌, true, List, take, length, get_or, Option, Some, None, All, refl, sym, ap, subst, ◌∙◌}
 use Rattle.std.specs.Option.{option_map, ForSome}
 use Rattle.std.proofs.lemmas.List.Elements.{All-nil, All-more, All-weaker, All-get_or}
 use Rattle.std.proofs.lemmas.Bool.{false≢true}
 use Rattle.spv_logic.specs.declared.conditions.TermId.{TermId}
-use Rattle.spv_logic.specs.declared.operators.Head.{Head}
 use Rattle.spv_logic.specs.declared.operators.Head.TheVariants as head
-use Rattle.spv_logic.specs.Terms.{Term, Terms, term, terms, no_terms}
+use Rattle.spv_logic.specs.Terms.{Term, term, terms, no_terms}
 use Rattle.spv_logic.proofs.Equality.{left_true, right_true}
 use Rattle.spv_term.specs.declared.nodes.Condition.{Condition}
 use Rattle.spv_term.specs.Arena.{Arena, IsArena, tree}
@@ -17,11 +16,11 @@ use Rattle.spv_proof.specs.Evaluation.{equation, sides}
 use Rattle.spv_decision.specs.declared.forest.Point.{Point}
 use Rattle.spv_decision.specs.declared.hypotheses.Hypothesis.{Hypothesis}
 use Rattle.spv_decision.specs.declared.joining.Bridge.{Bridge}
-use Rattle.spv_decision.specs.Forms.{is_side, are_sides, is_equation}
-use Rattle.spv_decision.specs.Derivations.{IsDerivation, IsFact, Link, Linked, Derives, Stated, Closes}
-use Rattle.spv_decision.specs.Forests.{IsRoot, Leads, AreLinks, AreClasses, Joined, KeepsJoined}
+use Rattle.spv_decision.specs.Forms.{is_side, is_equation}
+use Rattle.spv_decision.specs.Derivations.{IsFact, Link, Derives, Closes}
+use Rattle.spv_decision.specs.Forests.{IsRoot, Leads, AreClasses, KeepsJoined}
 use Rattle.spv_decision.specs.Formulas.{AreSides, IsEquation, IsHypothesis, SidesJoined}
-use Rattle.spv_decision.specs.Joining.{IsBridge, Joins, GoOn, StatesHypothesis, Equates, EquatesAll}
+use Rattle.spv_decision.specs.Joining.{IsBridge, Joins, StatesHypothesis, Equates, EquatesAll}
 use Rattle.spv_decision.proofs.Trees.{one_of, Leads-one, Leads-root}
 use Rattle.spv_decision.proofs.Derive.{Derives-refl, Derives-trans, links_kept}
 use Rattle.spv_decision.proofs.Merge.{classes_kept}

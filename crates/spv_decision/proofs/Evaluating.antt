@@ -1,24 +1,20 @@
 -- Evaluations of conjunctions.
-use Rattle.std.proofs.Common.{◌≡◌, ◌≢◌, ℕ, zero, suc, ◌<◌, ◌≤◌, ◌+◌, Bool, true, false, cond, not, ◌&&◌, ◌||◌, List, [], ◌∷◌, ◌++◌, map, length, Option, Some, None, All, refl, sym, ap, subst, ◌∙◌, arith}
+use Rattle.std.proofs.Common.{◌≡◌, ◌≢◌, ℕ, suc, ◌<◌, ◌+◌, Bool, true, false, cond, ◌||◌, List, [], ◌∷◌, ◌++◌, map, Option, Some, None, All, refl, ap, subst, ◌∙◌, arith}
 use mathlib.Core.Logic.{◌⊎◌, inl, inr}
 use Rattle.std.specs.List.{list_any, flat_map}
-use Rattle.std.proofs.lemmas.List.{append-nil}
 use Rattle.std.proofs.lemmas.List.Elements.{All-head, All-tail}
 use Rattle.std.proofs.lemmas.Bool.{false≢true}
-use Rattle.spv_logic.specs.declared.types.Sort.{Sort}
 use Rattle.spv_logic.specs.declared.types.Sort.TheVariants as sort
 use Rattle.spv_logic.specs.declared.types.Shape.{Shape}
 use Rattle.spv_logic.specs.declared.types.Decl.{Decl}
-use Rattle.spv_logic.specs.declared.operators.Head.{Head}
 use Rattle.spv_logic.specs.declared.operators.Head.TheVariants as head
 use Rattle.spv_logic.specs.Terms.{Term, Terms, term, no_terms, terms, term_eq}
-use Rattle.spv_logic.specs.Sorts.{term_sort, term_sorts}
+use Rattle.spv_logic.specs.Sorts.{term_sort}
 use Rattle.spv_logic.proofs.Equality.{term_eq-true, term_eq-refl, left_true, right_true}
 use Rattle.spv_proof.specs.Accepted.{is_truth}
-use Rattle.spv_proof.specs.Evaluation.{negated, sides, below, given_by, given_negated, assignment, assigned, cites, apart, or_else, given_to, and_of, computed, values, all_truths, combined, opposite, bare, bare_or, clashes, evaluates}
-use Rattle.spv_decision.specs.Forms.{is_side, are_sides, is_equation, is_conjunction, conjuncts}
+use Rattle.spv_proof.specs.Evaluation.{negated, sides, below, given_by, given_negated, assignment, assigned, cites, apart, or_else, given_to, and_of, computed, opposite, bare, bare_or, clashes, evaluates}
+use Rattle.spv_decision.specs.Forms.{is_side, is_equation, is_conjunction, conjuncts}
 use Rattle.spv_decision.specs.Formulas.{conjunction, IsConjunct, whole, last, before}
-use Rattle.spv_decision.proofs.Conjuncts.{alone}
 
 -- ---- sizes
 

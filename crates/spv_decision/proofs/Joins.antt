@@ -1,25 +1,20 @@
 -- Joining two linked roots.
-use Rattle.std.proofs.Common.{◌≡◌, ◌≢◌, ℕ, Bool, true, false, cond, not, ◌<◌, ◌≤◌, ◌+◌, List, [], ◌∷◌, ◌++◌, length, Option, Some, None, slice_get, Result, Ok, Err, IfOk, OnOk, refl, sym, ap, subst, ◌∙◌, ℤ, pos, negsuc, nat_lt, ◌^◌, arith}
-use mathlib.Core.Logic.{◌⊎◌, inl, inr}
+use Rattle.std.proofs.Common.{◌≡◌, ◌≢◌, ℕ, Bool, true, false, cond, ◌<◌, ◌+◌, List, length, Option, Some, None, slice_get, refl, sym, ap, subst, ◌∙◌, ℤ, pos, negsuc, nat_lt, ◌^◌, arith}
+use mathlib.Core.Logic.{inl, inr}
 use Rattle.std.specs.Ordering.{int_eq}
-use Rattle.std.proofs.lemmas.Bool.{false≢true}
-use Rattle.std.proofs.lemmas.Option.{slice_get_within}
 use Rattle.spv_logic.specs.declared.conditions.TermId.{TermId}
-use Rattle.spv_logic.specs.declared.operators.Head.{Head}
 use Rattle.spv_logic.specs.declared.operators.Head.TheVariants as head
-use Rattle.spv_logic.specs.Terms.{Term, Terms, term, no_terms, terms}
+use Rattle.spv_logic.specs.Terms.{Term, term, no_terms, terms}
 use Rattle.spv_logic.proofs.Equality.{int_eq-true}
-use Rattle.spv_term.specs.declared.nodes.Condition.{Condition}
-use Rattle.spv_term.specs.Arena.{Arena, IsArena, tree}
+use Rattle.spv_term.specs.Arena.{tree}
 use Rattle.spv_term.proofs.ArenaLemmas.{same_id}
 use Rattle.spv_proof.specs.declared.proofs.Step.{Step}
 use Rattle.spv_proof.specs.Accepted.{is_false, impossible}
 use Rattle.spv_proof.specs.Evaluation.{equation, numeral_relation}
 use Rattle.spv_decision.specs.declared.forest.Point.{Point}
-use Rattle.spv_decision.specs.declared.joining.Bridge.{Bridge}
-use Rattle.spv_decision.specs.Derivations.{Link, Linked, Stated, Closes, Turns, Derives}
-use Rattle.spv_decision.specs.Forests.{IsForest, IsRoot, Leads, AreClasses, Hangs, Lowers, Joined, KeepsJoined, both_of, written, written_number}
-use Rattle.spv_decision.specs.Joining.{GoOn, Joins, StatesEqual}
+use Rattle.spv_decision.specs.Derivations.{Derives}
+use Rattle.spv_decision.specs.Forests.{IsForest, IsRoot, Leads, AreClasses, Lowers, both_of, written, written_number}
+use Rattle.spv_decision.specs.Joining.{Joins, StatesEqual}
 use Rattle.spv_decision.proofs.Trees.{one_of, Leads-one}
 use Rattle.spv_decision.proofs.Derive.{turned, Derives-refl}
 use Rattle.spv_decision.proofs.Merge.{new_count, new_forest, new_classes, joined_on, joined_now, joined_back, classes_kept}

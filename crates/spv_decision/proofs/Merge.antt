@@ -1,5 +1,5 @@
 -- Joining two trees keeps the classes.
-use Rattle.std.proofs.Common.{◌≡◌, ◌≢◌, ℕ, zero, suc, Bool, true, false, cond, nat_lt, ◌<◌, ◌≤◌, ◌+◌, ◌-◌, List, [], ◌∷◌, ◌++◌, length, Option, Some, None, slice_get, slice_set, refl, sym, ap, subst, ◌∙◌, arith, ℤ}
+use Rattle.std.proofs.Common.{◌≡◌, ◌≢◌, ℕ, Bool, true, false, cond, nat_lt, ◌<◌, ◌≤◌, ◌+◌, List, length, Option, Some, None, slice_get, slice_set, refl, sym, ap, subst, ◌∙◌, arith}
 use mathlib.Core.Logic.{◌⊎◌, inl, inr}
 use Rattle.std.proofs.lemmas.List.{length-set}
 use Rattle.std.proofs.lemmas.Option.{slice_get_within}
@@ -11,8 +11,8 @@ use Rattle.spv_term.proofs.NodeLemmas.{id_from}
 use Rattle.spv_proof.specs.declared.proofs.Step.{Step}
 use Rattle.spv_decision.specs.declared.forest.Point.{Point}
 use Rattle.spv_decision.specs.Derivations.{Link, Derives}
-use Rattle.spv_decision.specs.Forests.{rank_of, rank_at, Leads, stays, climbs, IsNode, IsForest, IsPoint, AreLinks, AreClasses, Joined, hung, raised, one_numeral, Hangs, IsRoot, KeepsJoined, written}
-use Rattle.spv_decision.proofs.Trees.{one_of, same_or_not, slice_got, slice_get-set_same, slice_get-set_other, Leads-one, Leads-root, Leads-of_root, has_root}
+use Rattle.spv_decision.specs.Forests.{rank_of, rank_at, Leads, stays, climbs, IsNode, IsForest, IsPoint, AreLinks, AreClasses, Joined, hung, raised, one_numeral, KeepsJoined, written}
+use Rattle.spv_decision.proofs.Trees.{one_of, same_or_not, slice_get-set_same, slice_get-set_other, Leads-one, has_root}
 use Rattle.spv_decision.proofs.Derive.{links_kept}
 
 -- ---- ranks

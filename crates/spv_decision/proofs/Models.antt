@@ -1,14 +1,13 @@
 -- Numbers that make hypotheses true and a goal false make a table that shows it.
-use Rattle.std.proofs.Common.{◌≡◌, ◌≢◌, ℕ, zero, suc, ◌<◌, ◌≤◌, ◌+◌, Bool, true, false, cond, ◌&&◌, ◌||◌, List, [], ◌∷◌, ◌++◌, map, fold, length, get_or, Option, Some, None, slice_get, nat_eq, nat_lt, ◌^◌, All, IsTrue, refl, sym, ap, subst, ◌∙◌, arith, ℤ, pos, negsuc}
+use Rattle.std.proofs.Common.{◌≡◌, ◌≢◌, ℕ, zero, suc, ◌<◌, ◌+◌, Bool, true, false, cond, ◌&&◌, ◌||◌, List, [], ◌∷◌, ◌++◌, map, fold, length, get_or, Some, None, nat_eq, All, refl, sym, ap, subst, ◌∙◌, arith, ℤ, pos, negsuc}
 use mathlib.Core.Logic.{◌⊎◌, inl, inr}
 use Rattle.std.specs.Ordering.{int_eq}
 use Rattle.std.specs.List.{list_any, list_all, flat_map}
 use Rattle.std.proofs.lemmas.Bool.{false≢true}
 use Rattle.std.proofs.lemmas.Bool.Decides.{nat_tests}
-use Rattle.std.proofs.lemmas.List.{append-nil, append_assoc, map-append, length-map, length-append}
-use Rattle.std.proofs.lemmas.List.Elements.{All-nil, All-cons, All-head, All-tail, All-push, All-append, All-weaker, All-map, at_from_Contains}
+use Rattle.std.proofs.lemmas.List.{append-nil, map-append, length-map, length-append}
+use Rattle.std.proofs.lemmas.List.Elements.{All-nil, All-cons, All-head, All-tail, All-push, All-weaker, All-map}
 use Rattle.std.proofs.lemmas.List.Concat.{flat_map-append}
-use Rattle.std.proofs.lemmas.Option.{slice_get_within}
 use Rattle.std.proofs.lemmas.Int.{ints}
 use Rattle.spv_logic.specs.declared.conditions.TermId.{TermId}
 use Rattle.spv_logic.specs.declared.types.Sort.TheVariants as sort
@@ -16,24 +15,23 @@ use Rattle.spv_logic.specs.declared.types.Shape.{Shape}
 use Rattle.spv_logic.specs.declared.types.Decl.{Decl}
 use Rattle.spv_logic.specs.declared.operators.Head.{Head}
 use Rattle.spv_logic.specs.declared.operators.Head.TheVariants as head
-use Rattle.spv_logic.specs.Values.{Value, Number, Truth, value_eq, truth_of}
-use Rattle.spv_logic.specs.Terms.{Term, Terms, term, no_terms, terms, term_eq, eval}
-use Rattle.spv_logic.specs.Conditions.{Meaning, Valuation, Sequent, holds}
+use Rattle.spv_logic.specs.Values.{Number, value_eq}
+use Rattle.spv_logic.specs.Terms.{Term, term, no_terms, terms, term_eq, eval}
+use Rattle.spv_logic.specs.Conditions.{Meaning, Valuation, holds}
 use Rattle.spv_logic.proofs.Equality.{term_eq-true, term_eq-refl, int_eq-true, left_true, right_true}
 use Rattle.spv_term.specs.declared.nodes.Condition.{Condition}
 use Rattle.spv_term.specs.Arena.{Arena, IsArena, tree, sequent}
 use Rattle.spv_term.proofs.ArenaLemmas.{same_id}
 use Rattle.spv_term.proofs.NodeLemmas.{id_from}
 use Rattle.spv_proof.specs.Accepted.{is_truth, is_bool}
-use Rattle.spv_proof.specs.Evaluation.{equation}
 use Rattle.spv_decision.specs.declared.verdict.Unproved.{Unproved}
 use Rattle.spv_decision.specs.Forms.{is_side, is_equation, is_conjunction, conjuncts, IsConjunction, IsPlain}
-use Rattle.spv_decision.specs.Tables.{with_new, distinct, formulas_of, variables_of, variables_in, atoms_of, all_atoms_of, atoms_in, number_in, table_valuation, Falsifies}
+use Rattle.spv_decision.specs.Tables.{with_new, distinct, variables_of, variables_in, atoms_of, all_atoms_of, atoms_in, number_in, table_valuation, Falsifies}
 use Rattle.spv_decision.specs.Verdicts.{branch_terms, table_terms, IsUnproved}
 use Rattle.spv_decision.specs.Forests.{written}
-use Rattle.spv_decision.specs.Formulas.{conjunction, AreSides, IsEquation}
-use Rattle.spv_decision.specs.Numbers.{number_at, IsBalanced, IsUnbalanced, IsModel, has_id, with_new_id, distinct_ids}
-use Rattle.spv_decision.specs.Falsifying.{is_variable_term, AreIds, IsTruth, AreTruths, IsShown}
+use Rattle.spv_decision.specs.Formulas.{AreSides, IsEquation}
+use Rattle.spv_decision.specs.Numbers.{number_at, IsModel, has_id, with_new_id, distinct_ids}
+use Rattle.spv_decision.specs.Falsifying.{AreIds, IsTruth, AreTruths, IsShown}
 use Rattle.spv_decision.proofs.Distinct.{distinct_all}
 use Rattle.spv_decision.proofs.Evaluating.{side_sort}
 

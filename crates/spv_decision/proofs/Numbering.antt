@@ -1,9 +1,8 @@
 -- Numbers by roots make hypotheses true and a goal false.
-use Rattle.std.proofs.Common.{◌≡◌, ◌≢◌, ℕ, zero, suc, ◌<◌, ◌≤◌, ◌+◌, Bool, true, false, List, [], ◌∷◌, ◌++◌, map, length, get_or, Option, Some, None, slice_get, All, refl, sym, ap, subst, ◌∙◌, arith, ℤ, pos}
-use Rattle.std.proofs.lemmas.Option.{slice_get_within, get_or_from_slice_get, slice_get-get_or}
+use Rattle.std.proofs.Common.{◌≡◌, ◌≢◌, ℕ, zero, suc, ◌<◌, ◌+◌, List, [], ◌∷◌, ◌++◌, map, length, Option, Some, None, slice_get, All, refl, sym, ap, subst, ◌∙◌, arith, ℤ, pos}
+use Rattle.std.proofs.lemmas.Option.{slice_get-get_or}
 use Rattle.std.proofs.lemmas.List.Elements.{All-weaker, All-map}
 use Rattle.spv_logic.specs.declared.conditions.TermId.{TermId}
-use Rattle.spv_logic.specs.Terms.{Term}
 use Rattle.spv_term.specs.declared.nodes.Condition.{Condition}
 use Rattle.spv_term.specs.Arena.{Arena, IsArena, tree}
 use Rattle.spv_term.proofs.ArenaLemmas.{same_id}
@@ -11,9 +10,9 @@ use Rattle.spv_term.proofs.NodeLemmas.{id_from}
 use Rattle.spv_proof.specs.declared.proofs.Step.{Step}
 use Rattle.spv_decision.specs.declared.forest.Point.{Point}
 use Rattle.spv_decision.specs.declared.hypotheses.Hypothesis.{Hypothesis}
-use Rattle.spv_decision.specs.Forests.{Leads, IsForest, IsRoot, AreClasses, Joined, written}
-use Rattle.spv_decision.specs.Formulas.{AreSides, SidesJoined, SidesApart, OneApart}
-use Rattle.spv_decision.specs.Numbers.{numeral_number, number_from, IsNumberOf, IsAbove, AreNumbers, number_at, IsBalanced, IsUnbalanced, IsModel}
+use Rattle.spv_decision.specs.Forests.{Leads, IsRoot, AreClasses, Joined, written}
+use Rattle.spv_decision.specs.Formulas.{SidesJoined, OneApart}
+use Rattle.spv_decision.specs.Numbers.{numeral_number, number_from, IsNumberOf, AreNumbers, number_at, IsBalanced, IsModel}
 use Rattle.spv_decision.proofs.Trees.{one_of, Leads-one, Leads-root}
 use Rattle.spv_decision.proofs.Joins.{written_is}
 

@@ -1,5 +1,5 @@
 -- The parts of branches and tables.
-use Rattle.std.proofs.Common.{◌≡◌, ◌≢◌, ℕ, zero, suc, ◌<◌, ◌≤◌, ◌+◌, Bool, true, false, cond, List, [], ◌∷◌, ◌++◌, map, take, length, get_or, Option, Some, None, slice_get, All, Result, Ok, Err, OnOk, refl, sym, ap, subst, ◌∙◌, arith, ℤ}
+use Rattle.std.proofs.Common.{◌≡◌, ℕ, ◌<◌, ◌+◌, Bool, true, false, cond, List, [], ◌∷◌, ◌++◌, map, take, length, get_or, Some, slice_get, All, refl, sym, ap, subst, ◌∙◌, ℤ}
 use Rattle.std.specs.List.{flat_map}
 use Rattle.std.proofs.lemmas.Bool.{false≢true}
 use Rattle.std.proofs.lemmas.List.{append-nil, append_assoc, map-append, take_more}
@@ -9,12 +9,11 @@ use Rattle.spv_logic.specs.declared.conditions.TermId.{TermId}
 use Rattle.spv_logic.specs.declared.types.Sort.TheVariants as sort
 use Rattle.spv_logic.specs.declared.operators.Head.{Head}
 use Rattle.spv_logic.specs.declared.operators.Head.TheVariants as head
-use Rattle.spv_logic.specs.Terms.{Term, Terms, term, no_terms, terms}
+use Rattle.spv_logic.specs.Terms.{Term, term, no_terms}
 use Rattle.spv_logic.specs.Substitution.{is_variable}
 use Rattle.spv_term.specs.declared.nodes.Node.{Node}
-use Rattle.spv_term.specs.Arena.{Arena, IsArena, tree, trees}
+use Rattle.spv_term.specs.Arena.{Arena, IsArena, tree}
 use Rattle.spv_term.proofs.ArenaLemmas.{tree-node}
-use Rattle.spv_proof.specs.Evaluation.{equation}
 use Rattle.spv_decision.specs.Forms.{is_side}
 use Rattle.spv_decision.specs.Tables.{variables_of}
 use Rattle.spv_decision.specs.Formulas.{AreSides}

@@ -1,25 +1,23 @@
 -- Steps that evaluate conjunctions.
-use Rattle.std.proofs.Common.{◌≡◌, ◌≢◌, ℕ, zero, suc, ◌<◌, Bool, true, false, cond, List, [], ◌∷◌, ◌++◌, map, length, Option, Some, None, slice_get, All, refl, sym, ap, subst, ◌∙◌}
+use Rattle.std.proofs.Common.{◌≡◌, ◌≢◌, ℕ, true, cond, List, [], ◌∷◌, ◌++◌, length, Some, None, refl, sym, ap, subst, ◌∙◌}
 use Rattle.spv_logic.specs.declared.conditions.TermId.{TermId}
-use Rattle.spv_logic.specs.Terms.{Term, term, terms, no_terms}
-use Rattle.spv_logic.proofs.Equality.{left_true, right_true}
+use Rattle.spv_logic.specs.Terms.{Term}
 use Rattle.spv_term.specs.declared.nodes.Condition.{Condition}
-use Rattle.spv_term.specs.Arena.{Arena, IsArena, tree, sequent}
+use Rattle.spv_term.specs.Arena.{Arena, tree}
 use Rattle.spv_term.proofs.ArenaLemmas.{same_id}
 use Rattle.spv_term.proofs.NodeLemmas.{id_from}
 use Rattle.spv_proof.specs.declared.proofs.Stated.TheVariants.{Is}
 use Rattle.spv_proof.specs.declared.proofs.Step.{Step}
 use Rattle.spv_proof.specs.declared.proofs.Step.TheVariants.{Eval}
-use Rattle.spv_proof.specs.Accepted.{Effect, Adds, Fails, effect, evaluated, stated, cited, fact_before, numbered}
+use Rattle.spv_proof.specs.Accepted.{Adds, Fails, evaluated, cited, fact_before}
 use Rattle.spv_proof.specs.Evaluation.{evaluates}
 use Rattle.spv_proof.specs.Valued.{truth_in}
 use Rattle.spv_decision.specs.declared.hypotheses.Hypothesis.{Hypothesis}
-use Rattle.spv_decision.specs.Forms.{is_equation, is_conjunction, conjuncts}
-use Rattle.spv_decision.specs.Derivations.{facts, IsDerivation, IsFact, AreFacts, Stated as IsStated}
-use Rattle.spv_decision.specs.Formulas.{conjunction, IsConjunct, IsHypothesis}
+use Rattle.spv_decision.specs.Forms.{is_conjunction}
+use Rattle.spv_decision.specs.Derivations.{facts, IsFact, AreFacts, Stated as IsStated}
 use Rattle.spv_decision.specs.Joining.{StatesHypothesis}
 use Rattle.spv_decision.proofs.Derive.{effect_after, pushed, pushed_fact, Derives-refl}
-use Rattle.spv_decision.proofs.Evaluating.{conjunction_truth, extracted, stated_whole, equation_alone, AllAmong, AllEquations}
+use Rattle.spv_decision.proofs.Evaluating.{conjunction_truth, extracted, equation_alone}
 
 module _ (a : Arena) (c : Condition) (steps : List Step) where
   cited_facts : (ks : List ℕ) (ts : List Term) → AreFacts a c steps ks ts → cited (facts a c steps) ks ≡ Some ts

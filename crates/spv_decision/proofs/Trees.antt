@@ -1,15 +1,13 @@
 -- Ways to roots.
-use Rattle.std.proofs.Common.{◌≡◌, ◌≢◌, ℕ, zero, suc, Bool, true, false, nat_eq, ◌<◌, ◌≤◌, ◌+◌, ◌-◌, List, [], ◌∷◌, ◌++◌, length, Option, Some, None, slice_get, slice_set, refl, sym, ap, subst, ◌∙◌, arith}
+use Rattle.std.proofs.Common.{◌≡◌, ◌≢◌, ℕ, zero, suc, Bool, true, false, nat_eq, ◌<◌, ◌≤◌, ◌-◌, List, [], ◌∷◌, length, Option, Some, None, slice_get, slice_set, refl, sym, ap, subst, ◌∙◌, arith}
 use mathlib.Core.Logic.{◌⊎◌, inl, inr}
-use Rattle.std.proofs.lemmas.Option.{slice_get_within}
 use Rattle.std.proofs.lemmas.Bool.{false≢true}
 use Rattle.std.proofs.lemmas.Bool.Decides.{nat_tests}
 use Rattle.spv_term.proofs.NodeLemmas.{id_from}
 use Rattle.spv_logic.specs.declared.conditions.TermId.{TermId}
 use Rattle.spv_proof.specs.declared.proofs.Step.{Step}
 use Rattle.spv_decision.specs.declared.forest.Point.{Point}
-use Rattle.spv_decision.specs.Derivations.{Chains}
-use Rattle.spv_decision.specs.Forests.{rank_of, rank_at, Leads, stays, climbs, Climbs, IsNode, IsForest, IsRoot}
+use Rattle.spv_decision.specs.Forests.{rank_of, rank_at, Leads, stays, climbs, Climbs, IsForest, IsRoot}
 
 -- how far a term is from the highest rank
 abbrev pub below : List Point → ℕ → TermId → ℕ

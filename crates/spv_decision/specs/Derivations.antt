@@ -1,9 +1,9 @@
 -- Steps on one path, and the facts that they have added.
-use Rattle.std.specs.Prelude.{◌≡◌, ℕ, ◌<◌, List, [], ◌∷◌, ◌++◌, length, Option, Some, None, IsTrue}
+use Rattle.std.specs.Prelude.{◌≡◌, ℕ, List, [], ◌∷◌, ◌++◌, length, Option, Some, None, IsTrue}
 use Rattle.spv_logic.specs.declared.conditions.TermId.{TermId}
 use Rattle.spv_logic.specs.Terms.{Term}
 use Rattle.spv_term.specs.declared.nodes.Condition.{Condition}
-use Rattle.spv_term.specs.Arena.{Arena, tree, sequent}
+use Rattle.spv_term.specs.Arena.{Arena, tree}
 use Rattle.spv_proof.specs.declared.proofs.Step.{Step}
 use Rattle.spv_proof.specs.declared.proofs.Step.TheVariants.{Refl, Symm, Trans}
 use Rattle.spv_proof.specs.Accepted.{numbered, impossible}

@@ -1,5 +1,5 @@
 -- Classes of equal terms, as a forest whose roots stand for their trees' terms.
-use Rattle.std.specs.Prelude.{◌≡◌, ◌≢◌, ℕ, ◌<◌, ◌≤◌, ◌+◌, Bool, true, List, [], ◌∷◌, ◌++◌, length, Option, Some, None, ℤ, pos, negsuc, ◌^◌, IsTrue, slice_get, slice_set, nat_lt, ◌⊎◌, if◌then◌else◌}
+use Rattle.std.specs.Prelude.{◌≡◌, ◌≢◌, ℕ, ◌<◌, ◌≤◌, ◌+◌, List, length, Option, Some, None, ℤ, pos, negsuc, ◌^◌, slice_get, slice_set, nat_lt, ◌⊎◌, if◌then◌else◌}
 use Rattle.spv_logic.specs.declared.conditions.TermId.{TermId}
 use Rattle.spv_logic.specs.declared.operators.Head.TheVariants.{Num}
 use Rattle.spv_logic.specs.Terms.{Term, term, no_terms}

@@ -1,7 +1,6 @@
 -- What the steps of joining promise, whatever the arena and the condition.
-use Rattle.std.specs.Prelude.{◌≡◌, ◌≢◌, ℕ, ◌<◌, ◌≤◌, ◌+◌, List, Option, Some, None, All}
+use Rattle.std.specs.Prelude.{ℕ, List, Option, Some, None, All}
 use Rattle.spv_logic.specs.declared.conditions.TermId.{TermId}
-use Rattle.spv_logic.specs.Terms.{Term}
 use Rattle.spv_term.specs.declared.nodes.Condition.{Condition}
 use Rattle.spv_term.specs.Arena.{Arena, IsArena, tree}
 use Rattle.spv_proof.specs.declared.proofs.Step.{Step}

@@ -1,9 +1,7 @@
 -- Numbers for terms, which are equal where their roots are.
-use Rattle.std.specs.Prelude.{◌≡◌, ◌≢◌, ℕ, ◌<◌, ◌+◌, Bool, List, [], ◌∷◌, ◌++◌, length, map, fold, Option, Some, None, ℤ, pos, All, slice_get, slice_index_or, nat_eq, if◌then◌else◌}
-use Rattle.std.specs.Ordering.{int_eq}
+use Rattle.std.specs.Prelude.{◌≡◌, ◌≢◌, ℕ, ◌<◌, ◌+◌, Bool, List, [], ◌∷◌, ◌++◌, length, fold, Option, Some, None, ℤ, pos, All, slice_get, slice_index_or, nat_eq, if◌then◌else◌}
 use Rattle.std.specs.List.{Contains, list_any}
 use Rattle.spv_logic.specs.declared.conditions.TermId.{TermId}
-use Rattle.spv_logic.specs.Terms.{Term}
 use Rattle.spv_term.specs.Arena.{Arena, tree}
 use Rattle.spv_decision.specs.declared.forest.Point.{Point}
 use Rattle.spv_decision.specs.Forests.{Leads, written}

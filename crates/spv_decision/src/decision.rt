@@ -39,7 +39,7 @@ fn all_equations(
     Ok(list)
 }
 
-/// The verdict on a condition. It is Proved exactly where the goal's equations follow from those of
+/// The verdict on a condition. It is Proved where the goal's equations follow from those of
 /// the hypotheses, or where these equate two numerals: the proof goes from equation to equation.
 /// Else it is Unproved: each class of equal variables has the number of its numeral, or one of its
 /// own above all numerals. There is no third answer.

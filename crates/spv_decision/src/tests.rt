@@ -4,9 +4,7 @@ ghost use Rattle.std.specs.Prelude.{IfOk};
 ghost use Rattle.spv_decision.specs.Forms.{IsPlain};
 
 use super::*;
-use spv_term::{
-    Condition, Decls, Head, Kind, Origin, Shapes, TermFault, TermId, TermList, Terms,
-};
+use spv_term::{Condition, Decls, Head, Kind, Origin, Shapes, TermFault, TermId, TermList, Terms};
 use std::alloc::Global;
 use std::test::Fail;
 

@@ -1,7 +1,7 @@
 use Rattle.std.proofs.Common.{subst}
 use Rattle.std.proofs.lemmas.List.{take_all}
 use Rattle.spv_decision.specs.Concluding.{StatesEquations}
-use Rattle.spv_decision.proofs.Ending.{equations_none, equations_more}
+use Rattle.spv_decision.proofs.Ending.{equations_more}
 use Rattle.spv_decision.proofs.conclusion.state_equations.Goals as goal
 
 pub loop-equation-preserved : goal.loop-equation-preserved

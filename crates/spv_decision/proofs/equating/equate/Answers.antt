@@ -1,5 +1,5 @@
 use Rattle.spv_decision.proofs.Bridges.{if_ok}
-use Rattle.spv_decision.proofs.Equations.{already, equated, roots_are, roots_differ}
+use Rattle.spv_decision.proofs.Equations.{equated, roots_are, roots_differ}
 use Rattle.spv_decision.proofs.equating.equate.Goals as goal
 
 pub join-requires-clause-from : goal.join-requires-clause-from

@@ -1,4 +1,4 @@
-use Rattle.std.proofs.Common.{arith, refl, ◌∙◌, ◌+◌, ◌≤◌, ◌≡◌, length, take, subst, All}
+use Rattle.std.proofs.Common.{arith, refl, ◌∙◌, subst, All}
 use Rattle.std.proofs.lemmas.List.{take_all}
 use Rattle.spv_decision.specs.Formulas.{SidesJoined}
 use Rattle.spv_decision.proofs.Equations.{equated_more, equated_clash}

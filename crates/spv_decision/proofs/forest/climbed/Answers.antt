@@ -1,4 +1,3 @@
-use Rattle.std.proofs.Common.{Some, None}
 use Rattle.spv_decision.specs.Forests.{stays, climbs}
 use Rattle.spv_decision.proofs.Trees.{parent_in, nearer}
 use Rattle.spv_decision.proofs.forest.climbed.Goals as goal

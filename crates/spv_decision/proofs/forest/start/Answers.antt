@@ -1,4 +1,4 @@
-use Rattle.std.proofs.Common.{ap, length, arith, ◌≡◌, ◌+◌, ◌∷◌, []}
+use Rattle.std.proofs.Common.{ap, length, arith, ◌∷◌, []}
 use Rattle.std.proofs.lemmas.List.{length-append}
 use Rattle.spv_decision.proofs.Assuming.{alone_push}
 use Rattle.spv_decision.proofs.forest.start.Goals as goal

@@ -1,4 +1,4 @@
-use Rattle.std.proofs.Common.{◌∙◌, sym, ap, ◌≡◌, ◌≤◌, ◌<◌, length, subst, arith}
+use Rattle.std.proofs.Common.{◌∙◌, sym, ap, length, arith}
 use Rattle.spv_decision.proofs.Nodes.{two_of, parts_there, other_head, other_length}
 use Rattle.spv_decision.proofs.formulas.parts.Goals as goal
 

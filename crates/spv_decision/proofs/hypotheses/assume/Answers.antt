@@ -1,4 +1,4 @@
-use Rattle.std.proofs.Common.{ap, sym, ◌∙◌, ◌++◌, ◌∷◌, [], map, get_or}
+use Rattle.std.proofs.Common.{ap, ◌∙◌, ◌++◌, ◌∷◌, [], map, get_or}
 use Rattle.spv_proof.specs.declared.proofs.Step.TheVariants.{Given}
 use Rattle.spv_decision.specs.Formulas.{hypothesis_of}
 use Rattle.spv_decision.proofs.Bridges.{if_on}
