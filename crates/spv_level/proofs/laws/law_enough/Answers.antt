@@ -1,0 +1,8 @@
+use Rattle.spv_syntax.specs.ProgramKinds.{program_kinds}
+use Rattle.spv_reading.specs.Depths.{program_depth}
+use Rattle.spv_level.proofs.ProgramOver.{program_over}
+use Rattle.spv_level.proofs.Texts.{is_shallow, low_is_read}
+use Rattle.spv_level.proofs.laws.law_enough.Goals as goal
+
+pub returns : goal.returns
+returns c = record { programs = low_is_read (is_shallow program_depth program_kinds program_over) }

@@ -1,0 +1,5 @@
+pub mod Effects
+pub mod Level
+pub mod LeftOut
+pub mod Seen
+pub mod Laws

@@ -1,0 +1,42 @@
+// Facts about the definitions, each the contract of a function that does nothing.
+
+ghost use Rattle.std.specs.Prelude.{◌≡◌, ◌≤◌, List, None};
+ghost use Rattle.spv_tree.specs.declared.token.Token.{Token};
+ghost use Rattle.spv_syntax.specs.FormulaKinds.{formula_kinds, designator_kinds};
+ghost use Rattle.spv_syntax.specs.StatementKinds.{statement_kinds, block_kinds};
+ghost use Rattle.spv_syntax.specs.TypeKinds.{type_kinds};
+ghost use Rattle.spv_syntax.specs.ProgramKinds.{program_kinds};
+ghost use Rattle.spv_syntax.specs.Reads.{kinds};
+ghost use Rattle.spv_reading.specs.Depths.{formula_depth, designator_depth, statement_depth, block_depth, type_depth, program_depth};
+ghost use Rattle.spv_level.specs.Level.{at_first, highest, too_deep};
+ghost use Rattle.spv_level.specs.Laws.{GoesUpBy, IsShallow, LowIsRead};
+
+/// A text is too deep exactly where the level goes above 200 on the way over its tokens.
+pub fn law_level()
+    ensures low { (tokens : List Token) → too_deep tokens ≡ None → highest at_first (kinds tokens) ≤ 200 }
+    ensures none { (tokens : List Token) → highest at_first (kinds tokens) ≤ 200 → too_deep tokens ≡ None }
+{}
+
+/// On the way over a part the level goes up by as many levels as the part has, wherever the part stands.
+pub fn law_depth()
+    ensures formulas { GoesUpBy formula_depth formula_kinds }
+    ensures designators { GoesUpBy designator_depth designator_kinds }
+    ensures statements { GoesUpBy statement_depth statement_kinds }
+    ensures blocks { GoesUpBy block_depth block_kinds }
+    ensures types { GoesUpBy type_depth type_kinds }
+{}
+
+/// So a program that is nowhere too deep has less than 200 levels, and so has each part that stands in a text.
+pub fn law_shallow()
+    ensures formulas { IsShallow formula_depth formula_kinds }
+    ensures designators { IsShallow designator_depth designator_kinds }
+    ensures statements { IsShallow statement_depth statement_kinds }
+    ensures blocks { IsShallow block_depth block_kinds }
+    ensures types { IsShallow type_depth type_kinds }
+    ensures programs { IsShallow program_depth program_kinds }
+{}
+
+/// And where a tree reads a text that is nowhere too deep, 199 levels are enough to find it.
+pub fn law_enough()
+    ensures programs { LowIsRead }
+{}

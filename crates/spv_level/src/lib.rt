@@ -1,0 +1,14 @@
+//! How deep a text goes, and which of its words belong to nothing that is accepted.
+#![tactic(auto)]
+
+mod effects;
+mod laws;
+mod scan;
+mod words;
+
+pub use laws::{law_depth, law_enough, law_level, law_shallow};
+pub use scan::too_deep;
+pub use words::left_out;
+
+#[cfg(test)]
+mod tests;

@@ -1,0 +1,11 @@
+pub mod Readers
+pub mod FormulaReaders
+pub mod StatementReaders
+pub mod TypeReaders
+pub mod DeclarationReaders
+pub mod RoutineReaders
+pub mod Continuing
+pub mod Depths
+pub mod Parts
+pub mod Laws
+pub mod Kinds

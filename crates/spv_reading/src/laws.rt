@@ -1,0 +1,56 @@
+// Facts about the definitions, each the contract of a function that does nothing.
+
+ghost use Rattle.spv_reading.specs.FormulaReaders.{read_formula, read_designator, read_inner};
+ghost use Rattle.spv_reading.specs.StatementReaders.{read_statement, read_block};
+ghost use Rattle.spv_reading.specs.TypeReaders.{read_type};
+ghost use Rattle.spv_reading.specs.Depths.{formula_depth, designator_depth, statement_depth, block_depth, type_depth};
+ghost use Rattle.spv_reading.specs.Kinds.{formulas, designators, statements, blocks, types};
+ghost use Rattle.spv_reading.specs.Laws.{ReadIsSpelled, SpelledIsRead, EnoughLevels, SpelledIsOne, ReadIsTree, TreeIsRead, EnoughLevelsForTrees, OneTree};
+
+/// A formula is read where it is spelled, and no other one.
+pub fn law_formulas()
+    ensures read_is_spelled { ReadIsSpelled formulas read_formula }
+    ensures spelled_is_read { SpelledIsRead formulas formula_depth read_formula }
+    ensures enough_levels { EnoughLevels formulas read_formula }
+    ensures spelled_is_one { SpelledIsOne formulas }
+{}
+
+/// A designator is read where it is spelled, and no other one.
+pub fn law_designators()
+    ensures read_is_spelled { ReadIsSpelled designators (λ n. read_designator (read_inner n)) }
+    ensures spelled_is_read { SpelledIsRead designators designator_depth (λ n. read_designator (read_inner n)) }
+    ensures enough_levels { EnoughLevels designators (λ n. read_designator (read_inner n)) }
+    ensures spelled_is_one { SpelledIsOne designators }
+{}
+
+/// A statement is read where it is spelled, and no other one: an ELSE belongs to the nearest IF that has none.
+pub fn law_statements()
+    ensures read_is_spelled { ReadIsSpelled statements read_statement }
+    ensures spelled_is_read { SpelledIsRead statements statement_depth read_statement }
+    ensures enough_levels { EnoughLevels statements read_statement }
+    ensures spelled_is_one { SpelledIsOne statements }
+{}
+
+/// A block is read where it is spelled, and no other one.
+pub fn law_blocks()
+    ensures read_is_spelled { ReadIsSpelled blocks read_block }
+    ensures spelled_is_read { SpelledIsRead blocks block_depth read_block }
+    ensures enough_levels { EnoughLevels blocks read_block }
+    ensures spelled_is_one { SpelledIsOne blocks }
+{}
+
+/// A type is read where it is spelled, and no other one.
+pub fn law_types()
+    ensures read_is_spelled { ReadIsSpelled types read_type }
+    ensures spelled_is_read { SpelledIsRead types type_depth read_type }
+    ensures enough_levels { EnoughLevels types read_type }
+    ensures spelled_is_one { SpelledIsOne types }
+{}
+
+/// A program is read exactly where a well formed tree reads the tokens, and there is one such tree at most.
+pub fn law_programs()
+    ensures read_is_tree { ReadIsTree }
+    ensures tree_is_read { TreeIsRead }
+    ensures enough_levels { EnoughLevelsForTrees }
+    ensures one_tree { OneTree }
+{}

@@ -1,0 +1,87 @@
+-- A formula is larger than each of its parts.
+use Rattle.std.specs.Prelude.{ℕ, suc, ◌+◌, ◌≤◌, max, List, [], ◌∷◌, Option, Some, None}
+use Rattle.std.specs.declared.boxed.Box.{Box}
+use Rattle.std.specs.Global.{Global}
+use Rattle.std.proofs.Common.{arith}
+use denote.Param.Weighed.{most}
+use Rattle.spv_syntax.specs.declared.operators.Comparison.{Comparison}
+use Rattle.spv_syntax.specs.declared.operators.Adding.{Adding}
+use Rattle.spv_syntax.specs.declared.operators.Multiplying.{Multiplying}
+use Rattle.spv_syntax.specs.declared.formulas.Formula.TheInside as formula
+use Rattle.spv_syntax.specs.declared.formulas.Relation.TheInside as relation
+use Rattle.spv_syntax.specs.declared.formulas.Simple.TheInside as simple
+use Rattle.spv_syntax.specs.declared.formulas.Term.TheInside as term
+use Rattle.spv_syntax.specs.declared.formulas.Factor.TheInside as factor
+use Rattle.spv_syntax.specs.declared.formulas.Designator.TheInside as designator
+use Rattle.spv_syntax.specs.declared.formulas.Selector.TheInside as selector
+use Rattle.spv_syntax.specs.declared.formulas.FactorForm.{FactorForm}
+use Rattle.spv_syntax.specs.declared.formulas.FactorForm.TheVariants.{Number, Truth, Nil, Class, Place, Application, Bracketed, Negation}
+use Rattle.spv_syntax.specs.declared.formulas.SelectorForm.{SelectorForm}
+use Rattle.spv_syntax.specs.declared.formulas.SelectorForm.TheVariants.{Index, Field, Content}
+use Rattle.spv_syntax.specs.declared.formulas.Designator.TheShapes.{weighed-Simple-more-at-2, weighed-Term-more-at-2}
+use Rattle.spv_syntax.specs.declared.formulas.Designator.TheDeep.{deep-FactorForm, deep-SelectorForm, deep-Formula, deep-Relation, deep-Simple, deep-Term, deep-Factor, deep-Designator, deep-Selector}
+use Rattle.spv_syntax.specs.Formulas.{Formula, Relation, Simple, Term, Factor, Selector}
+use Rattle.spv_syntax.specs.FormulaSizes.{more_terms_of, more_factors_of, more_formulas_of, selectors_of, formula_size, conclusion_size, relation_size, right_side_size, simple_size, more_terms_size, term_size, more_factors_size, factor_size, more_formulas_size, selectors_size, selector_size}
+use Rattle.spv_syntax.specs.FormulaViews.{conclusion_of, right_side_of, factor_of, selector_of}
+
+most_terms : (ts : List (Adding × Term)) → most (λ t. weighed-Simple-more-at-2.weight Term (λ u. term_size u + 1) t) ts ≤ more_terms_size (more_terms_of ts) + 1
+most_terms [] = omega arith
+most_terms (t ∷ ts) = omega (arith, most_terms ts)
+
+most_factors : (fs : List (Multiplying × Factor)) → most (λ f. weighed-Term-more-at-2.weight Factor (λ g. factor_size g + 1) f) fs ≤ more_factors_size (more_factors_of fs) + 1
+most_factors [] = omega arith
+most_factors (f ∷ fs) = omega (arith, most_factors fs)
+
+most_formulas : (fs : List Formula) → most (λ f. formula_size f + 1) fs ≤ more_formulas_size (more_formulas_of fs) + 1
+most_formulas [] = omega arith
+most_formulas (f ∷ fs) = omega (arith, most_formulas fs)
+
+most_selectors : (ss : List Selector) → most (λ s. selector_size s + 1) ss ≤ selectors_size (selectors_of ss) + 1
+most_selectors [] = omega arith
+most_selectors (s ∷ ss) = omega (arith, most_selectors ss)
+
+conclusion_falls : (line : ℕ) (left : Relation) (right : Option (Box Formula Global)) →
+    deep-Formula (record { line = line; left = left; right = right }) ≤ suc (relation_size left + conclusion_size (conclusion_of right))
+conclusion_falls line left None = omega arith
+conclusion_falls line left (Some f) = omega arith
+
+pub formula_falls : (a : formula.Inside) → deep-Formula a ≤ suc (relation_size a.left + conclusion_size (conclusion_of a.right))
+formula_falls a = conclusion_falls a.line a.left a.right
+
+right_side_falls : (line : ℕ) (left : Simple) (right : Option (Comparison × Simple)) →
+    deep-Relation (record { line = line; left = left; right = right }) ≤ suc (simple_size left + right_side_size (right_side_of right))
+right_side_falls line left None = omega arith
+right_side_falls line left (Some r) = omega arith
+
+pub relation_falls : (a : relation.Inside) → deep-Relation a ≤ suc (simple_size a.left + right_side_size (right_side_of a.right))
+relation_falls a = right_side_falls a.line a.left a.right
+
+pub simple_falls : (a : simple.Inside) → deep-Simple a ≤ suc (term_size a.first + more_terms_size (more_terms_of a.more.items))
+simple_falls a = omega (arith, most_terms a.more.items)
+
+pub term_falls : (a : term.Inside) → deep-Term a ≤ suc (factor_size a.first + more_factors_size (more_factors_of a.more.items))
+term_falls a = omega (arith, most_factors a.more.items)
+
+form_falls : (line : ℕ) (f : FactorForm) → max (deep-FactorForm f) 0 ≤ factor_size (factor_of line f)
+form_falls line (Number n) = omega arith
+form_falls line (Truth b) = omega arith
+form_falls line Nil = omega arith
+form_falls line (Class x) = omega arith
+form_falls line (Place d) = omega arith
+form_falls line (Application f first more behind) = omega (arith, most_formulas more.items, most_selectors behind.items)
+form_falls line (Bracketed f) = omega arith
+form_falls line (Negation f) = omega arith
+
+pub factor_falls : (a : factor.Inside) → deep-Factor a ≤ factor_size (factor_of a.line a.form)
+factor_falls a = form_falls a.line a.form
+
+pub designator_falls : (a : designator.Inside) → deep-Designator a ≤ suc (selectors_size (selectors_of a.behind.items))
+designator_falls a = omega (arith, most_selectors a.behind.items)
+
+selector_form_falls : (line : ℕ) (s : SelectorForm) → max (deep-SelectorForm s) 0 ≤ selector_size (selector_of line s)
+selector_form_falls line (Index first more) = omega (arith, most_formulas more.items)
+selector_form_falls line (Field x) = omega arith
+selector_form_falls line Content = omega arith
+
+pub selector_falls : (a : selector.Inside) → deep-Selector a ≤ selector_size (selector_of a.line a.form)
+selector_falls a = selector_form_falls a.line a.form

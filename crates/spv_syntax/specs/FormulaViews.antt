@@ -1,0 +1,34 @@
+-- What the code's formulas are as plain data.
+use Rattle.std.specs.Prelude.{ℕ, Option, Some, None}
+use Rattle.std.specs.declared.boxed.Box.{Box}
+use Rattle.std.specs.Global.{Global}
+use Rattle.spv_syntax.specs.declared.operators.Comparison.{Comparison}
+use Rattle.spv_syntax.specs.declared.formulas.FactorForm.{FactorForm}
+use Rattle.spv_syntax.specs.declared.formulas.FactorForm.TheVariants as factor
+use Rattle.spv_syntax.specs.declared.formulas.SelectorForm.{SelectorForm}
+use Rattle.spv_syntax.specs.declared.formulas.SelectorForm.TheVariants as selector
+use Rattle.spv_syntax.specs.Formulas.{Formula, Conclusion, no_conclusion, implies, Simple, RightSide, no_right_side, compared, Factor, number, truth, nil, class, place, application, bracketed, negation, Selector, index, field, content}
+use Rattle.spv_syntax.specs.FormulaSizes.{more_formulas_of, selectors_of}
+
+abbrev pub conclusion_of : Option (Box Formula Global) → Conclusion
+conclusion_of None = no_conclusion
+conclusion_of (Some f) = implies f.value
+
+abbrev pub right_side_of : Option (Comparison × Simple) → RightSide
+right_side_of None = no_right_side
+right_side_of (Some r) = compared r.0 r.1
+
+abbrev pub factor_of : ℕ → FactorForm → Factor
+factor_of line (factor.Number n) = number line n
+factor_of line (factor.Truth b) = truth line b
+factor_of line factor.Nil = nil line
+factor_of line (factor.Class x) = class line x
+factor_of line (factor.Place d) = place line d
+factor_of line (factor.Application f first more behind) = application line f first.value (more_formulas_of more.items) (selectors_of behind.items)
+factor_of line (factor.Bracketed f) = bracketed line f.value
+factor_of line (factor.Negation f) = negation line f.value
+
+abbrev pub selector_of : ℕ → SelectorForm → Selector
+selector_of line (selector.Index first more) = index line first.value (more_formulas_of more.items)
+selector_of line (selector.Field x) = field line x
+selector_of line selector.Content = content line

@@ -1,0 +1,492 @@
+// Formulas.
+
+ghost use Rattle.std.specs.Prelude.{◌≡◌, ◌≤◌, length, OnOk};
+ghost use Rattle.spv_syntax.specs.FormulaKinds.{formula_kinds, relation_kinds, simple_kinds, term_kinds, factor_kinds, designator_kinds, selector_kinds, more_formulas_kinds, selectors_kinds};
+ghost use Rattle.spv_syntax.specs.FormulaSizes.{more_formulas_of, selectors_of};
+ghost use Rattle.spv_syntax.specs.Flat.{AddsAll, AddsFirst};
+
+use crate::flat::Flat;
+use crate::names::Name;
+use crate::operators::{Adding, Comparison, Multiplying, PlusOrMinus};
+use crate::out;
+use spv_tree::{Numeral, Sign, TokenKind, Word};
+use std::alloc::AllocError;
+use std::marker::Model;
+
+/// `relation ["->" formula]`
+#[cycle(formula)]
+#[derive(Drop)]
+pub struct Formula {
+    /// The line of its first token.
+    pub line: u32,
+    /// What stands left of `->`.
+    pub left: Relation,
+    /// What stands right of it, where it is there.
+    pub right: Option<Box<Formula>>,
+}
+
+impl Model for Formula {
+    ghost use Rattle.spv_syntax.specs.Formulas as plain;
+
+    ghost Value = { plain.Formula };
+
+    ghost use Rattle.spv_syntax.specs.Codes.{coded_by};
+    ghost use Rattle.spv_syntax.specs.FormulaCodes.{way_formula};
+
+    ghost coded = { coded_by way_formula };
+
+    ghost use Rattle.spv_syntax.specs.FormulaViews.{conclusion_of};
+
+    ghost view = { λ a. plain.formula a.line a.left (conclusion_of a.right) };
+
+    ghost use Rattle.spv_syntax.specs.FormulaSizes.{formula_size};
+
+    ghost size = { formula_size };
+
+    ghost use Rattle.spv_syntax.specs.FormulaFalls.{formula_falls};
+
+    ghost size_decreases = { λ a h. formula_falls a };
+}
+
+/// `simple [("=" | "<>" | "<" | "<=" | ">" | ">=") simple]`
+#[cycle(formula)]
+#[derive(Drop)]
+pub struct Relation {
+    /// The line of its first token.
+    pub line: u32,
+    /// The left side.
+    pub left: Simple,
+    /// The operator and the right side, where they are there.
+    pub right: Option<(Comparison, Simple)>,
+}
+
+impl Model for Relation {
+    ghost use Rattle.spv_syntax.specs.Formulas as plain;
+
+    ghost Value = { plain.Relation };
+
+    ghost use Rattle.spv_syntax.specs.Codes.{coded_by};
+    ghost use Rattle.spv_syntax.specs.FormulaCodes.{way_relation};
+
+    ghost coded = { coded_by way_relation };
+
+    ghost use Rattle.spv_syntax.specs.FormulaViews.{right_side_of};
+
+    ghost view = { λ a. plain.relation a.line a.left (right_side_of a.right) };
+
+    ghost use Rattle.spv_syntax.specs.FormulaSizes.{relation_size};
+
+    ghost size = { relation_size };
+
+    ghost use Rattle.spv_syntax.specs.FormulaFalls.{relation_falls};
+
+    ghost size_decreases = { λ a h. relation_falls a };
+}
+
+/// `["+" | "-"] term {("+" | "-" | OR) term}`
+#[cycle(formula)]
+#[derive(Drop)]
+pub struct Simple {
+    /// The line of its first token.
+    pub line: u32,
+    /// What stands in front.
+    pub prefix: Option<PlusOrMinus>,
+    /// The first term.
+    pub first: Term,
+    /// The other terms, each with the operator in front of it.
+    pub more: Vec<(Adding, Term)>,
+}
+
+impl Model for Simple {
+    ghost use Rattle.spv_syntax.specs.Formulas as plain;
+
+    ghost Value = { plain.Simple };
+
+    ghost use Rattle.spv_syntax.specs.Codes.{coded_by};
+    ghost use Rattle.spv_syntax.specs.FormulaCodes.{way_simple};
+
+    ghost coded = { coded_by way_simple };
+
+    ghost use Rattle.spv_syntax.specs.FormulaSizes.{more_terms_of};
+
+    ghost view = { λ a. plain.simple a.line a.prefix a.first (more_terms_of a.more.items) };
+
+    ghost use Rattle.spv_syntax.specs.FormulaSizes.{simple_size};
+
+    ghost size = { simple_size };
+
+    ghost use Rattle.spv_syntax.specs.FormulaFalls.{simple_falls};
+
+    ghost size_decreases = { λ a h. simple_falls a };
+}
+
+/// `factor {("*" | DIV | MOD | AND) factor}`
+#[cycle(formula)]
+#[derive(Drop)]
+pub struct Term {
+    /// The line of its first token.
+    pub line: u32,
+    /// The first factor.
+    pub first: Factor,
+    /// The other factors, each with the operator in front of it.
+    pub more: Vec<(Multiplying, Factor)>,
+}
+
+impl Model for Term {
+    ghost use Rattle.spv_syntax.specs.Formulas as plain;
+
+    ghost Value = { plain.Term };
+
+    ghost use Rattle.spv_syntax.specs.Codes.{coded_by};
+    ghost use Rattle.spv_syntax.specs.FormulaCodes.{way_term};
+
+    ghost coded = { coded_by way_term };
+
+    ghost use Rattle.spv_syntax.specs.FormulaSizes.{more_factors_of};
+
+    ghost view = { λ a. plain.term a.line a.first (more_factors_of a.more.items) };
+
+    ghost use Rattle.spv_syntax.specs.FormulaSizes.{term_size};
+
+    ghost size = { term_size };
+
+    ghost use Rattle.spv_syntax.specs.FormulaFalls.{term_falls};
+
+    ghost size_decreases = { λ a h. term_falls a };
+}
+
+/// A number, a truth value, NIL, a class, a place, an application, a formula in brackets or a negation.
+#[cycle(formula)]
+#[derive(Drop)]
+pub struct Factor {
+    /// The line of its first token.
+    pub line: u32,
+    /// What it is.
+    pub form: FactorForm,
+}
+
+/// What a factor is.
+#[cycle(formula)]
+#[derive(Drop)]
+pub enum FactorForm {
+    /// `number`
+    Number(Numeral),
+    /// TRUE or FALSE
+    Truth(bool),
+    /// NIL
+    Nil,
+    /// `"#" name`
+    Class(Name),
+    /// `designator`
+    Place(Designator),
+    /// `name "(" formula {"," formula} ")" {selector}`
+    Application(Name, Box<Formula>, Vec<Formula>, Vec<Selector>),
+    /// `"(" formula ")"`
+    Bracketed(Box<Formula>),
+    /// `NOT factor`
+    Negation(Box<Factor>),
+}
+
+impl Model for Factor {
+    ghost use Rattle.spv_syntax.specs.Formulas as plain;
+
+    ghost Value = { plain.Factor };
+
+    ghost use Rattle.spv_syntax.specs.Codes.{coded_by};
+    ghost use Rattle.spv_syntax.specs.FormulaCodes.{way_factor};
+
+    ghost coded = { coded_by way_factor };
+
+    ghost use Rattle.spv_syntax.specs.FormulaViews.{factor_of};
+
+    ghost view = { λ a. factor_of a.line a.form };
+
+    ghost use Rattle.spv_syntax.specs.FormulaSizes.{factor_size};
+
+    ghost size = { factor_size };
+
+    ghost use Rattle.spv_syntax.specs.FormulaFalls.{factor_falls};
+
+    ghost size_decreases = { λ a h. factor_falls a };
+}
+
+/// `name {selector}`
+#[cycle(formula)]
+#[derive(Drop)]
+pub struct Designator {
+    /// The line of its first token.
+    pub line: u32,
+    /// The name.
+    pub name: Name,
+    /// The selectors, in order.
+    pub behind: Vec<Selector>,
+}
+
+impl Model for Designator {
+    ghost use Rattle.spv_syntax.specs.Formulas as plain;
+
+    ghost Value = { plain.Designator };
+
+    ghost use Rattle.spv_syntax.specs.Codes.{coded_by};
+    ghost use Rattle.spv_syntax.specs.FormulaCodes.{way_designator};
+
+    ghost coded = { coded_by way_designator };
+
+    ghost use Rattle.spv_syntax.specs.FormulaSizes.{selectors_of};
+
+    ghost view = { λ a. plain.designator a.line a.name (selectors_of a.behind.items) };
+
+    ghost use Rattle.spv_syntax.specs.FormulaSizes.{designator_size};
+
+    ghost size = { designator_size };
+
+    ghost use Rattle.spv_syntax.specs.FormulaFalls.{designator_falls};
+
+    ghost size_decreases = { λ a h. designator_falls a };
+}
+
+/// An index, a field, or the content of a pointer.
+#[cycle(formula)]
+#[derive(Drop)]
+pub struct Selector {
+    /// The line of its first token.
+    pub line: u32,
+    /// What it is.
+    pub form: SelectorForm,
+}
+
+/// What a selector is.
+#[cycle(formula)]
+#[derive(Drop)]
+pub enum SelectorForm {
+    /// `"[" formula {"," formula} "]"`
+    Index(Box<Formula>, Vec<Formula>),
+    /// `"." name`
+    Field(Name),
+    /// `"^"`
+    Content,
+}
+
+impl Model for Selector {
+    ghost use Rattle.spv_syntax.specs.Formulas as plain;
+
+    ghost Value = { plain.Selector };
+
+    ghost use Rattle.spv_syntax.specs.Codes.{coded_by};
+    ghost use Rattle.spv_syntax.specs.FormulaCodes.{way_selector};
+
+    ghost coded = { coded_by way_selector };
+
+    ghost use Rattle.spv_syntax.specs.FormulaViews.{selector_of};
+
+    ghost view = { λ a. selector_of a.line a.form };
+
+    ghost use Rattle.spv_syntax.specs.FormulaSizes.{selector_size};
+
+    ghost size = { selector_size };
+
+    ghost use Rattle.spv_syntax.specs.FormulaFalls.{selector_falls};
+
+    ghost size_decreases = { λ a h. selector_falls a };
+}
+
+impl Formula {
+    // Adds its tokens.
+    #[cycle(flat)]
+    #[tactic(auto, using(crate::proofs::Fronts::taken))]
+    pub(crate) fn flat(&self, out: &mut Vec<TokenKind>) -> Result<(), AllocError>
+        ensures all { OnOk result (AddsAll (formula_kinds self.now) out.old.items out.new.items) }
+        ensures first { AddsFirst (formula_kinds self.now) out.old.items out.new.items }
+        ensures longer { length out.old.items ≤ length out.new.items }
+    {
+        self.left.flat(out)?;
+        match &self.right {
+            None => Ok(()),
+            Some(right) => {
+                out::sign(Sign::Arrow, out)?;
+                right.flat(out)?;
+                Ok(())
+            }
+        }
+    }
+}
+
+impl Relation {
+    // Adds its tokens.
+    #[cycle(flat)]
+    #[tactic(auto, using(crate::proofs::Fronts::taken))]
+    pub(crate) fn flat(&self, out: &mut Vec<TokenKind>) -> Result<(), AllocError>
+        ensures all { OnOk result (AddsAll (relation_kinds self.now) out.old.items out.new.items) }
+        ensures first { AddsFirst (relation_kinds self.now) out.old.items out.new.items }
+        ensures longer { length out.old.items ≤ length out.new.items }
+    {
+        self.left.flat(out)?;
+        match &self.right {
+            None => Ok(()),
+            Some((operator, right)) => {
+                out::token(out::comparison(*operator), out)?;
+                right.flat(out)?;
+                Ok(())
+            }
+        }
+    }
+}
+
+impl Simple {
+    // Adds its tokens.
+    #[cycle(flat)]
+    #[tactic(auto, using(crate::proofs::Fronts::taken))]
+    pub(crate) fn flat(&self, out: &mut Vec<TokenKind>) -> Result<(), AllocError>
+        ensures all { OnOk result (AddsAll (simple_kinds self.now) out.old.items out.new.items) }
+        ensures first { AddsFirst (simple_kinds self.now) out.old.items out.new.items }
+        ensures longer { length out.old.items ≤ length out.new.items }
+    {
+        out::prefix(self.prefix, out)?;
+        self.first.flat(out)?;
+        for (operator, term) in &self.more {
+            out::token(out::adding(*operator), out)?;
+            term.flat(out)?;
+        }
+        Ok(())
+    }
+}
+
+impl Term {
+    // Adds its tokens.
+    #[cycle(flat)]
+    #[tactic(auto, using(crate::proofs::Fronts::taken))]
+    pub(crate) fn flat(&self, out: &mut Vec<TokenKind>) -> Result<(), AllocError>
+        ensures all { OnOk result (AddsAll (term_kinds self.now) out.old.items out.new.items) }
+        ensures first { AddsFirst (term_kinds self.now) out.old.items out.new.items }
+        ensures longer { length out.old.items ≤ length out.new.items }
+    {
+        self.first.flat(out)?;
+        for (operator, factor) in &self.more {
+            out::token(out::multiplying(*operator), out)?;
+            factor.flat(out)?;
+        }
+        Ok(())
+    }
+}
+
+impl Factor {
+    // Adds its tokens.
+    #[cycle(flat)]
+    #[tactic(auto, using(crate::proofs::Fronts::taken))]
+    pub(crate) fn flat(&self, out: &mut Vec<TokenKind>) -> Result<(), AllocError>
+        ensures all { OnOk result (AddsAll (factor_kinds self.now) out.old.items out.new.items) }
+        ensures first { AddsFirst (factor_kinds self.now) out.old.items out.new.items }
+        ensures longer { length out.old.items ≤ length out.new.items }
+    {
+        match &self.form {
+            FactorForm::Number(n) => out::token(TokenKind::Number(*n), out),
+            FactorForm::Truth(value) => out::token(out::truth(*value), out),
+            FactorForm::Nil => out::word(Word::Nil, out),
+            FactorForm::Class(x) => {
+                out::sign(Sign::Hash, out)?;
+                out::token(TokenKind::Name(x.symbol), out)?;
+                Ok(())
+            }
+            FactorForm::Place(d) => d.flat(out),
+            FactorForm::Application(f, first, more, behind) => {
+                out::token(TokenKind::Name(f.symbol), out)?;
+                out::sign(Sign::OpenParenthesis, out)?;
+                first.flat(out)?;
+                further(more, out)?;
+                out::sign(Sign::CloseParenthesis, out)?;
+                selectors(behind, out)?;
+                Ok(())
+            }
+            FactorForm::Bracketed(f) => {
+                out::sign(Sign::OpenParenthesis, out)?;
+                f.flat(out)?;
+                out::sign(Sign::CloseParenthesis, out)?;
+                Ok(())
+            }
+            FactorForm::Negation(f) => {
+                out::word(Word::Not, out)?;
+                f.flat(out)?;
+                Ok(())
+            }
+        }
+    }
+}
+
+impl Designator {
+    // Adds its tokens.
+    #[cycle(flat)]
+    #[tactic(auto, using(crate::proofs::Fronts::taken))]
+    pub(crate) fn flat(&self, out: &mut Vec<TokenKind>) -> Result<(), AllocError>
+        ensures all { OnOk result (AddsAll (designator_kinds self.now) out.old.items out.new.items) }
+        ensures first { AddsFirst (designator_kinds self.now) out.old.items out.new.items }
+        ensures longer { length out.old.items ≤ length out.new.items }
+    {
+        out::token(TokenKind::Name(self.name.symbol), out)?;
+        selectors(&self.behind, out)?;
+        Ok(())
+    }
+}
+
+impl Selector {
+    // Adds its tokens.
+    #[cycle(flat)]
+    #[tactic(auto, using(crate::proofs::Fronts::taken))]
+    pub(crate) fn flat(&self, out: &mut Vec<TokenKind>) -> Result<(), AllocError>
+        ensures all { OnOk result (AddsAll (selector_kinds self.now) out.old.items out.new.items) }
+        ensures first { AddsFirst (selector_kinds self.now) out.old.items out.new.items }
+        ensures longer { length out.old.items ≤ length out.new.items }
+    {
+        match &self.form {
+            SelectorForm::Index(first, more) => {
+                out::sign(Sign::OpenBracket, out)?;
+                first.flat(out)?;
+                further(more, out)?;
+                out::sign(Sign::CloseBracket, out)?;
+                Ok(())
+            }
+            SelectorForm::Field(x) => {
+                out::sign(Sign::Period, out)?;
+                out::token(TokenKind::Name(x.symbol), out)?;
+                Ok(())
+            }
+            SelectorForm::Content => out::sign(Sign::Caret, out),
+        }
+    }
+}
+
+// Adds the tokens of formulas, each behind a comma.
+#[cycle(flat)]
+#[tactic(auto, using(crate::proofs::Fronts::taken))]
+fn further(more: &[Formula], out: &mut Vec<TokenKind>) -> Result<(), AllocError>
+    ensures all { OnOk result (AddsAll (more_formulas_kinds (more_formulas_of more.now)) out.old.items out.new.items) }
+    ensures first { AddsFirst (more_formulas_kinds (more_formulas_of more.now)) out.old.items out.new.items }
+    ensures longer { length out.old.items ≤ length out.new.items }
+{
+    for formula in more {
+        out::sign(Sign::Comma, out)?;
+        formula.flat(out)?;
+    }
+    Ok(())
+}
+
+// Adds the tokens of selectors.
+#[cycle(flat)]
+#[tactic(auto, using(crate::proofs::Fronts::taken))]
+fn selectors(behind: &[Selector], out: &mut Vec<TokenKind>) -> Result<(), AllocError>
+    ensures all { OnOk result (AddsAll (selectors_kinds (selectors_of behind.now)) out.old.items out.new.items) }
+    ensures first { AddsFirst (selectors_kinds (selectors_of behind.now)) out.old.items out.new.items }
+    ensures longer { length out.old.items ≤ length out.new.items }
+{
+    for selector in behind {
+        selector.flat(out)?;
+    }
+    Ok(())
+}
+
+impl Flat for Formula {
+    ghost spelled = { formula_kinds };
+
+    fn append(&self, out: &mut Vec<TokenKind>) -> Result<(), AllocError> {
+        self.flat(out)
+    }
+}

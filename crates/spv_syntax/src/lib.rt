@@ -1,0 +1,32 @@
+//! The trees of programs, and their tokens.
+#![tactic(auto)]
+
+mod declarations;
+mod flat;
+mod formulas;
+mod lists;
+mod names;
+mod operators;
+mod out;
+mod program;
+mod routines;
+mod statements;
+mod types;
+
+pub use declarations::{Const, Declarations, NameOrClass, SortName, SymbolText, Typedef, Vars};
+pub use formulas::{
+    Designator, Factor, FactorForm, Formula, Relation, Selector, SelectorForm, Simple, Term,
+};
+pub use lists::{Parts, Several};
+pub use names::{Constant, Name, Scalar};
+pub use operators::{Adding, Comparison, Direction, Multiplying, PlusOrMinus};
+pub use program::Program;
+pub use routines::{
+    Clauses, GlobalGroup, Group, GroupForm, Heading, HeadingForm, Item, Locals, Params,
+    RoutineMark, Start,
+};
+pub use statements::{Arm, Block, Loop, LoopForm, Statement, StatementForm};
+pub use types::{Field, TypeDenoter, TypeForm};
+
+#[cfg(test)]
+mod tests;
