@@ -8,8 +8,8 @@ use crate::flat::{self, Flat};
 use crate::lists::{Parts, Several};
 use crate::names::{Constant, Name};
 use crate::out;
-use spv_tree::{Sign, TokenKind, Word};
 use crate::types::TypeDenoter;
+use spv_tree::{Sign, TokenKind, Word};
 use std::alloc::AllocError;
 
 /// `name "=" constant ";"`

@@ -6,8 +6,8 @@ ghost use Rattle.spv_syntax.specs.TypeKinds.{name_kinds, scalar_kind, constant_k
 use crate::flat::Flat;
 use crate::operators::PlusOrMinus;
 use crate::out;
-use spv_tree::{Numeral, TokenKind};
 use spv_names::Symbol;
+use spv_tree::{Numeral, TokenKind};
 use std::alloc::AllocError;
 
 /// A name, with the line on which it stands.

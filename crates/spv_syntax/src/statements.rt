@@ -10,8 +10,8 @@ use crate::formulas::{Designator, Formula};
 use crate::lists::Several;
 use crate::names::{Constant, Name};
 use crate::operators::Direction;
-use spv_tree::{Sign, TokenKind, Word};
 use crate::{flat, out};
+use spv_tree::{Sign, TokenKind, Word};
 use std::alloc::AllocError;
 use std::marker::Model;
 
