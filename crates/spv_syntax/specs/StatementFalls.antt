@@ -2,6 +2,8 @@
 use Rattle.std.specs.Prelude.{ℕ, suc, ◌+◌, ◌≤◌, max, List, [], ◌∷◌, Option, Some, None}
 use Rattle.std.proofs.Common.{arith}
 use denote.Param.Weighed.{most}
+use Rattle.std.specs.declared.boxed.Box.{Box}
+use Rattle.std.specs.Global.{Global}
 use Rattle.spv_syntax.specs.declared.lists.Several.{Several}
 use Rattle.spv_syntax.specs.declared.names.Constant.{Constant}
 use Rattle.spv_syntax.specs.declared.statements.Statement.TheInside as statement
@@ -43,7 +45,7 @@ statement_falls a = form_falls a.line a.form
 pub block_falls : (a : block.Inside) → deep-Block a ≤ suc (statement_size a.first.value + more_statements_size (more_statements_of a.more.items))
 block_falls a = omega (arith, most_statements a.more.items)
 
-arm_form_falls : (line : ℕ) (a : Option (Several Constant × Statement)) → deep-Arm (record { line = line; form = a }) ≤ arm_size (arm_of line a)
+arm_form_falls : (line : ℕ) (a : Option (Several Constant × Box Statement Global)) → deep-Arm (record { line = line; form = a }) ≤ arm_size (arm_of line a)
 arm_form_falls line None = omega arith
 arm_form_falls line (Some a) = omega arith
 

@@ -3,7 +3,7 @@
 ghost use Rattle.std.specs.Prelude.{◌≡◌, ◌≤◌, length, OnOk};
 ghost use Rattle.spv_syntax.specs.StatementKinds.{arguments_kinds, invariant_kinds, direction_kind, statement_kinds, otherwise_kinds, block_kinds, more_statements_kinds, arm_kinds, more_arms_kinds, loop_kinds};
 ghost use Rattle.spv_syntax.specs.StatementSizes.{more_statements_of, more_arms_of};
-ghost use Rattle.spv_syntax.specs.StatementViews.{otherwise_of};
+ghost use Rattle.spv_syntax.specs.StatementViews.{invariant_of, otherwise_of};
 ghost use Rattle.spv_syntax.specs.Flat.{AddsAll, AddsFirst};
 
 use crate::formulas::{Designator, Formula};
@@ -32,7 +32,7 @@ pub enum StatementForm {
     /// Nothing.
     Empty,
     /// `designator ":=" formula`
-    Assignment(Designator, Formula),
+    Assignment(Designator, Box<Formula>),
     /// `name ["(" formula {"," formula} ")"]`
     Call(Name, Option<Several<Formula>>),
     /// `NEW "(" designator ")"`
@@ -40,13 +40,13 @@ pub enum StatementForm {
     /// `block`
     Block(Block),
     /// `IF formula THEN statement [ELSE statement]`
-    If(Formula, Box<Statement>, Option<Box<Statement>>),
+    If(Box<Formula>, Box<Statement>, Option<Box<Statement>>),
     /// `CASE formula OF arm {";" arm} END`
-    Case(Formula, Box<Arm>, Vec<Arm>),
+    Case(Box<Formula>, Box<Arm>, Vec<Arm>),
     /// `[INVARIANT formula] loop`
-    Loop(Option<Formula>, Box<Loop>),
+    Loop(Option<Box<Formula>>, Box<Loop>),
     /// `ASSERT formula`
-    Assert(Formula),
+    Assert(Box<Formula>),
 }
 
 impl Model for Statement {
@@ -114,7 +114,7 @@ pub struct Arm {
     /// The line of its first token, or of the token that follows.
     pub line: u32,
     /// The labels and the statement, where they are there.
-    pub form: Option<(Several<Constant>, Statement)>,
+    pub form: Option<(Several<Constant>, Box<Statement>)>,
 }
 
 impl Model for Arm {
@@ -155,11 +155,11 @@ pub struct Loop {
 #[derive(Drop)]
 pub enum LoopForm {
     /// `WHILE formula DO statement`
-    While(Formula, Statement),
+    While(Box<Formula>, Box<Statement>),
     /// `REPEAT statement {";" statement} UNTIL formula`
-    Repeat(Statement, Vec<Statement>, Formula),
+    Repeat(Box<Statement>, Vec<Statement>, Box<Formula>),
     /// `FOR name ":=" formula (TO | DOWNTO) formula DO statement`
-    For(Name, Formula, Direction, Formula, Statement),
+    For(Name, Box<Formula>, Direction, Box<Formula>, Box<Statement>),
 }
 
 impl Model for Loop {
@@ -208,9 +208,9 @@ fn arguments(
 
 // Adds the tokens of an INVARIANT, where there is one.
 #[tactic(auto, using(crate::proofs::Fronts::taken))]
-fn invariant(invariant: &Option<Formula>, out: &mut Vec<TokenKind>) -> Result<(), AllocError>
-    ensures all { OnOk result (AddsAll (invariant_kinds invariant.now) out.old.items out.new.items) }
-    ensures first { AddsFirst (invariant_kinds invariant.now) out.old.items out.new.items }
+fn invariant(invariant: &Option<Box<Formula>>, out: &mut Vec<TokenKind>) -> Result<(), AllocError>
+    ensures all { OnOk result (AddsAll (invariant_kinds (invariant_of invariant.now)) out.old.items out.new.items) }
+    ensures first { AddsFirst (invariant_kinds (invariant_of invariant.now)) out.old.items out.new.items }
     ensures longer { length out.old.items ≤ length out.new.items }
 {
     match invariant {

@@ -57,11 +57,12 @@ fn formula(alloc: Global, form: FactorForm) -> Formula {
 }
 
 // `A := TRUE`
-fn assignment(alloc: Global) -> Statement {
-    Statement {
+fn assignment(alloc: Global) -> Result<Statement, AllocError> {
+    let value = Box::new(alloc, formula(alloc, FactorForm::Truth(true)))?;
+    Ok(Statement {
         line: 1,
-        form: StatementForm::Assignment(place(alloc), formula(alloc, FactorForm::Truth(true))),
-    }
+        form: StatementForm::Assignment(place(alloc), value),
+    })
 }
 
 // `BEGIN statement END`
@@ -126,7 +127,7 @@ fn the_sign_of_a_constant(rt: HostRuntime) -> Result<(), Fail> {
     let mut declarations = no_declarations(alloc);
     declarations.constants = Parts::from_vec(constants);
     assert_eq!(rt; declarations.constants.as_slice().len(), 1);
-    let tree = program(alloc, declarations, Vec::new(alloc), assignment(alloc))?;
+    let tree = program(alloc, declarations, Vec::new(alloc), assignment(alloc)?)?;
     let wanted = [
         TokenKind::Word(Word::Const),
         NAME_B,
@@ -153,9 +154,9 @@ fn an_else(rt: HostRuntime) -> Result<(), Fail> {
         form: StatementForm::Call(B, None),
     };
     let form = StatementForm::If(
-        formula(alloc, FactorForm::Nil),
+        Box::new(alloc, formula(alloc, FactorForm::Nil))?,
         Box::new(alloc, then)?,
-        Some(Box::new(alloc, assignment(alloc))?),
+        Some(Box::new(alloc, assignment(alloc)?)?),
     );
     let tree = program(
         alloc,
@@ -215,7 +216,7 @@ fn a_routine_in_a_routine(rt: HostRuntime) -> Result<(), Fail> {
     routines.push(procedure(alloc))?;
     routines.push(procedure(alloc))?;
     routines.push(RoutineMark::Ends(block(alloc, nothing())?))?;
-    routines.push(RoutineMark::Ends(block(alloc, assignment(alloc))?))?;
+    routines.push(RoutineMark::Ends(block(alloc, assignment(alloc)?)?))?;
     let tree = program(alloc, no_declarations(alloc), routines, nothing())?;
     let wanted = [
         TokenKind::Word(Word::Procedure),

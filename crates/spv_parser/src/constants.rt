@@ -1,0 +1,71 @@
+// Constants.
+
+ghost use Rattle.std.specs.Prelude.{◌≡◌, Some, None, IfOk, IsErrAnd};
+ghost use Rattle.spv_reading.specs.Readers as reader;
+ghost use Rattle.spv_reading.specs.FormulaReaders.{prefix_of};
+ghost use Rattle.spv_reading.specs.StatementReaders.{read_scalar, read_constant};
+ghost use Rattle.spv_parser.specs.Faults.{IsSyntax};
+
+use crate::fault::{Fault, unexpected};
+use crate::front::{after, first_line, front};
+use spv_syntax::{Constant, Name, PlusOrMinus, Scalar};
+use spv_tree::{Sign, Token, TokenKind};
+
+// The sign at the front, where there is one.
+pub fn prefix(tokens: &[Token]) -> Option<PlusOrMinus>
+    ensures { result ≡ prefix_of (reader.front tokens.now) }
+{
+    match front(tokens) {
+        Some(TokenKind::Sign(Sign::Plus)) => Some(PlusOrMinus::Plus),
+        Some(TokenKind::Sign(Sign::Minus)) => Some(PlusOrMinus::Minus),
+        _ => None,
+    }
+}
+
+// number | name
+fn scalar(tokens: &[Token]) -> Result<(Scalar, &[Token]), Fault>
+    ensures read { IfOk result (λ r. read_scalar tokens.now ≡ Some (r.0, r.1.now)) }
+    ensures absent { IsErrAnd result IsSyntax → read_scalar tokens.now ≡ None }
+{
+    match tokens {
+        [
+            Token {
+                kind: TokenKind::Number(n),
+                ..
+            },
+            rest @ ..,
+        ] => Ok((Scalar::Number(*n), rest)),
+        [
+            Token {
+                kind: TokenKind::Name(symbol),
+                line,
+            },
+            rest @ ..,
+        ] => {
+            let name = Name {
+                line: *line,
+                symbol: *symbol,
+            };
+            Ok((Scalar::Name(name), rest))
+        }
+        _ => Err(unexpected(tokens)),
+    }
+}
+
+// ["+" | "-"] (number | name)
+pub fn constant(tokens: &[Token]) -> Result<(Constant, &[Token]), Fault>
+    ensures read { IfOk result (λ r. read_constant tokens.now ≡ Some (r.0, r.1.now)) }
+    ensures absent { IsErrAnd result IsSyntax → read_constant tokens.now ≡ None }
+{
+    let line = first_line(tokens);
+    let sign = prefix(tokens);
+    let behind = if sign.is_some() {
+        after(tokens)
+    } else {
+        tokens
+    };
+    match scalar(behind) {
+        Ok((value, rest)) => Ok((Constant { line, sign, value }, rest)),
+        Err(fault) => Err(fault),
+    }
+}

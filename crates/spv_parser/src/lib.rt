@@ -1,0 +1,9 @@
+//! Trees from tokens.
+#![tactic(auto)]
+
+mod constants;
+mod fault;
+mod formulas;
+mod front;
+mod lists;
+mod statements;
