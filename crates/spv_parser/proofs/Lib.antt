@@ -1,3 +1,5 @@
 pub mod Loops
 pub mod Exits
 pub mod FormulaLists
+pub mod Calls
+pub mod StatementLists

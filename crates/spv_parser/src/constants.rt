@@ -3,13 +3,16 @@
 ghost use Rattle.std.specs.Prelude.{◌≡◌, Some, None, IfOk, IsErrAnd};
 ghost use Rattle.spv_reading.specs.Readers as reader;
 ghost use Rattle.spv_reading.specs.FormulaReaders.{prefix_of};
-ghost use Rattle.spv_reading.specs.StatementReaders.{read_scalar, read_constant};
+ghost use Rattle.spv_reading.specs.StatementReaders as spec;
+ghost use Rattle.spv_reading.specs.StatementReaders.{read_scalar, read_constant, read_constants};
 ghost use Rattle.spv_parser.specs.Faults.{IsSyntax};
 
 use crate::fault::{Fault, unexpected};
 use crate::front::{after, first_line, front};
-use spv_syntax::{Constant, Name, PlusOrMinus, Scalar};
+use crate::lists::{Listed, several};
+use spv_syntax::{Constant, Name, PlusOrMinus, Scalar, Several};
 use spv_tree::{Sign, Token, TokenKind};
+use std::alloc::Global;
 
 // The sign at the front, where there is one.
 pub fn prefix(tokens: &[Token]) -> Option<PlusOrMinus>
@@ -68,4 +71,34 @@ pub fn constant(tokens: &[Token]) -> Result<(Constant, &[Token]), Fault>
         Ok((value, rest)) => Ok((Constant { line, sign, value }, rest)),
         Err(fault) => Err(fault),
     }
+}
+
+// Whether a constant begins with the first token.
+pub fn begins_constant(tokens: &[Token]) -> bool
+    ensures { result ≡ spec.begins_constant (reader.front tokens.now) }
+{
+    matches!(
+        front(tokens),
+        Some(
+            TokenKind::Number(_)
+                | TokenKind::Name(_)
+                | TokenKind::Sign(Sign::Plus | Sign::Minus)
+        )
+    )
+}
+
+impl Listed for Constant {
+    ghost reader = { λ n. read_constant };
+
+    fn read(_alloc: Global, _levels: u32, tokens: &[Token]) -> Result<(Constant, &[Token]), Fault> {
+        constant(tokens)
+    }
+}
+
+// constant {"," constant}
+pub fn constants(alloc: Global, tokens: &[Token]) -> Result<(Several<Constant>, &[Token]), Fault>
+    ensures read { IfOk result (λ r. read_constants tokens.now ≡ Some (r.0, r.1.now)) }
+    ensures absent { IsErrAnd result IsSyntax → read_constants tokens.now ≡ None }
+{
+    several(alloc, 0, Sign::Comma, tokens)
 }

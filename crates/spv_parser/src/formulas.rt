@@ -177,7 +177,7 @@ fn relation(alloc: Global, levels: u32, tokens: &[Token]) -> Result<(Relation, &
 
 // relation ["->" formula]
 #[cycle(formula)]
-fn formula(alloc: Global, levels: u32, tokens: &[Token]) -> Result<(Formula, &[Token]), Fault>
+pub fn formula(alloc: Global, levels: u32, tokens: &[Token]) -> Result<(Formula, &[Token]), Fault>
     ensures read { IfOk result (λ r. read_formula levels tokens.now ≡ Some (r.0, r.1.now)) }
     ensures absent { IsErrAnd result IsSyntax → read_formula levels tokens.now ≡ None }
 {

@@ -1,10 +1,12 @@
 //! Trees from tokens.
 #![tactic(auto)]
 
+mod actions;
 mod constants;
 mod factors;
 mod fault;
 mod formulas;
 mod front;
 mod lists;
+mod loops;
 mod statements;

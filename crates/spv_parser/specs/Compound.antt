@@ -1,0 +1,18 @@
+-- Statements behind their first word.
+use Rattle.std.specs.Prelude.{ℕ, Some}
+use Rattle.spv_syntax.specs.Statements.{Statement, compound, assertion}
+use Rattle.spv_reading.specs.Readers.{Reader, and_then}
+use Rattle.spv_reading.specs.FormulaReaders.{read_formula}
+use Rattle.spv_reading.specs.StatementReaders.{read_block_behind, read_repetition, read_lower}
+
+-- statement {";" statement} END, behind BEGIN on this line
+abbrev pub read_compound : ℕ → ℕ → Reader Statement
+read_compound n line tokens = and_then (read_block_behind (read_lower n) line tokens) (λ b rest. Some (compound line b, rest))
+
+-- formula loop, behind INVARIANT on this line
+abbrev pub read_with_invariant : ℕ → ℕ → Reader Statement
+read_with_invariant n line tokens = and_then (read_formula n tokens) (λ f rest. read_repetition (read_lower n) (read_formula n) line (Some f) rest)
+
+-- formula, behind ASSERT on this line
+abbrev pub read_assertion : ℕ → ℕ → Reader Statement
+read_assertion n line tokens = and_then (read_formula n tokens) (λ f rest. Some (assertion line f, rest))
