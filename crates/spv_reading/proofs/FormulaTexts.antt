@@ -1,5 +1,5 @@
 -- A formula that the last period of a text ends: the tokens before it are those of the formula alone.
-use Rattle.std.proofs.Common.{◌≡◌, ℕ, suc, ◌-◌, ◌≤◌, Bool, true, false, ◌&&◌, if◌then◌else◌, List, [], ◌∷◌, ◌++◌, Option, Some, None, length, take, drop, refl, sym, ap, ◌∙◌, subst, arith}
+use Rattle.std.proofs.Common.{◌≡◌, ℕ, ◌-◌, ◌≤◌, Bool, true, false, ◌&&◌, if◌then◌else◌, List, [], ◌∷◌, ◌++◌, Some, None, length, take, drop, refl, sym, ap, ◌∙◌, subst, arith}
 use Rattle.std.proofs.Math.Seq.{take-append_seam, drop-append_seam}
 use Rattle.std.proofs.lemmas.List.{append-nil}
 use Rattle.spv_tree.specs.declared.token.Token.{Token}
@@ -7,8 +7,6 @@ use Rattle.spv_tree.specs.declared.token.TokenKind.{TokenKind}
 use Rattle.spv_tree.specs.declared.token.TokenKind.TheVariants as kind
 use Rattle.spv_tree.specs.declared.token.Word.TheVariants as word
 use Rattle.spv_tree.specs.declared.token.Sign.TheVariants as sign
-use Rattle.spv_syntax.specs.declared.names.Name.{Name}
-use Rattle.spv_syntax.specs.declared.declarations.Declarations.{Declarations}
 use Rattle.spv_syntax.specs.declared.formula_text.FormulaText.{FormulaText}
 use Rattle.spv_syntax.specs.Formulas.{Formula}
 use Rattle.spv_syntax.specs.FormulaKinds.{name_kind, formula_kinds}
@@ -19,9 +17,8 @@ use Rattle.spv_syntax.specs.RuleKinds.{formula_text_kinds}
 use Rattle.spv_syntax.specs.RuleLines.{formula_text_lines}
 use Rattle.spv_syntax.specs.Steps.{Step, begins, passes, first_line, lines_agree}
 use Rattle.spv_syntax.specs.Reads.{kinds}
-use Rattle.spv_reading.specs.Readers.{front, same_kind, is, name, ended}
+use Rattle.spv_reading.specs.Readers.{front, same_kind, is, name}
 use Rattle.spv_reading.specs.FormulaReaders.{read_formula}
-use Rattle.spv_reading.specs.DeclarationReaders.{read_declarations}
 use Rattle.spv_reading.specs.RuleReaders.{before_period, read_inside, read_asserted, read_formula_text}
 use Rattle.spv_reading.specs.Depths.{formula_depth, formula_text_depth}
 use Rattle.spv_reading.specs.Parts.{BeginsWith, Stands, name_part, ended_part, formula_part, formula_text_part}
@@ -33,7 +30,7 @@ use Rattle.spv_reading.proofs.Whole.{Answers, begun_of, if_true, name_complete, 
 use Rattle.spv_reading.proofs.WholeHeads.{kinds_length}
 use Rattle.spv_reading.proofs.FormulaWhole.{formula_complete}
 use Rattle.spv_reading.proofs.DeclarationWhole.{declarations_complete}
-use Rattle.spv_reading.proofs.FormulaFits.{fits, Puts, puts_formula, split_lines}
+use Rattle.spv_reading.proofs.FormulaFits.{fits, puts_formula, split_lines}
 
 -- ---- the last token
 

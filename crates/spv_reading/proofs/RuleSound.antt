@@ -1,5 +1,5 @@
 -- What is read as a rule file is spelled at the front, on its lines.
-use Rattle.std.proofs.Common.{◌≡◌, ℕ, List, [], ◌∷◌, Option, Some, None, refl, ap, ◌∙◌}
+use Rattle.std.proofs.Common.{◌≡◌, ℕ, List, ◌∷◌, Option, Some, refl, ap, ◌∙◌}
 use Rattle.spv_tree.specs.declared.token.Token.{Token}
 use Rattle.spv_tree.specs.declared.token.TokenKind.{TokenKind}
 use Rattle.spv_tree.specs.declared.token.TokenKind.TheVariants as kind
@@ -14,7 +14,7 @@ use Rattle.spv_syntax.specs.ProgramLines.{sort_lines}
 use Rattle.spv_syntax.specs.RuleKinds.{rule_vars_kinds}
 use Rattle.spv_syntax.specs.RuleLines.{premise_lines, rule_lines}
 use Rattle.spv_syntax.specs.Steps.{passes, first_line}
-use Rattle.spv_reading.specs.Readers.{front, after}
+use Rattle.spv_reading.specs.Readers.{front}
 use Rattle.spv_reading.specs.FormulaReaders.{read_formula}
 use Rattle.spv_reading.specs.TypeReaders.{begins_name}
 use Rattle.spv_reading.specs.DeclarationReaders.{read_sort}

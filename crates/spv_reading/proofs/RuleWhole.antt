@@ -1,5 +1,5 @@
 -- Rule files that are spelled are read.
-use Rattle.std.proofs.Common.{◌≡◌, ℕ, suc, ◌+◌, ◌≤◌, true, false, ◌||◌, List, [], ◌∷◌, Option, Some, None, length, refl, ap, ◌∙◌, arith}
+use Rattle.std.proofs.Common.{◌≡◌, ℕ, suc, ◌+◌, ◌≤◌, true, false, ◌||◌, List, [], ◌∷◌, Option, Some, None, length, refl, ap, arith}
 use Rattle.spv_tree.specs.declared.token.Token.{Token}
 use Rattle.spv_tree.specs.declared.token.TokenKind.{TokenKind}
 use Rattle.spv_tree.specs.declared.token.TokenKind.TheVariants as kind
@@ -15,7 +15,7 @@ use Rattle.spv_syntax.specs.Formulas.{Formula}
 use Rattle.spv_syntax.specs.Lists.{each, headed}
 use Rattle.spv_syntax.specs.FormulaKinds.{formula_kinds}
 use Rattle.spv_syntax.specs.FormulaLines.{formula_lines}
-use Rattle.spv_syntax.specs.ProgramKinds.{sort_kinds, declarations_kinds}
+use Rattle.spv_syntax.specs.ProgramKinds.{sort_kinds}
 use Rattle.spv_syntax.specs.ProgramLines.{sort_lines}
 use Rattle.spv_syntax.specs.RuleKinds.{rule_vars_kinds, premise_kinds, rule_form_kinds, rule_kinds, rule_tree_kinds, formula_text_kinds}
 use Rattle.spv_syntax.specs.RuleLines.{premise_lines, rule_form_lines, rule_lines, rule_tree_lines}
@@ -26,7 +26,7 @@ use Rattle.spv_reading.specs.TypeReaders.{begins_name}
 use Rattle.spv_reading.specs.DeclarationReaders.{read_sort}
 use Rattle.spv_reading.specs.RuleReaders.{read_rule_vars, begins_rule, read_premise, rule_on, read_rule_form, read_rule, read_rules}
 use Rattle.spv_reading.specs.Continuing.{continues_formula}
-use Rattle.spv_reading.specs.Depths.{formula_depth, condition_depth, rule_form_depth, rules_depth, rule_tree_depth, formula_text_depth}
+use Rattle.spv_reading.specs.Depths.{condition_depth, rule_form_depth, rules_depth, rule_tree_depth, formula_text_depth}
 use Rattle.spv_reading.specs.Parts.{Stands, sort_part, headed_part, rule_vars_part, rule_part}
 use Rattle.spv_reading.proofs.Whole.{Answers, Complete, Each, begun_of, taken_of, done, then_answers, past_answers, answers_after}
 use Rattle.spv_reading.proofs.WholeHeads.{never, ended_complete, absent, present, each_complete, headed_complete}
