@@ -4,4 +4,5 @@ pub mod StatementClimbs
 pub mod TypeClimbs
 pub mod Over
 pub mod ProgramOver
+pub mod RuleOver
 pub mod Texts

@@ -28,7 +28,7 @@ use Rattle.spv_level.proofs.Over.{Over, GoesOver, IsFlat, over_none, over_both, 
 name_flat : IsFlat name_kinds
 name_flat x c rest = over_token (name_kind x) (λ at. over_none at rest)
 
-names_flat : IsFlat names_kinds
+pub names_flat : IsFlat names_kinds
 names_flat xs c rest = several_flat name_kinds name_flat (kind.Sign sign.Comma) xs c rest
 
 -- ":" name
@@ -36,7 +36,7 @@ typed_flat : (x : Name) (c : Counters) (rest : List TokenKind) → Over c (kind.
 typed_flat x c rest = over_token (kind.Sign sign.Colon) (λ at. name_flat x at rest)
 
 -- a sign behind a part
-signed : (k : TokenKind) (c : Counters) (rest : List TokenKind) → Over c (k ∷ rest) rest 0
+pub signed : (k : TokenKind) (c : Counters) (rest : List TokenKind) → Over c (k ∷ rest) rest 0
 signed k c rest = over_token k (λ at. over_none at rest)
 
 name_or_class_flat : IsFlat name_or_class_kinds
@@ -65,7 +65,7 @@ variables_over : GoesOver (each vars_kinds) variables_depth
 variables_over [] c rest = over_none c rest
 variables_over (v ∷ vs) c rest = over_both (vars_over v c (each vars_kinds vs rest)) (λ at. variables_over vs at rest)
 
-sort_flat : IsFlat sort_kinds
+pub sort_flat : IsFlat sort_kinds
 sort_flat s c rest = name_or_class_flat s.form c rest
 
 sorts_flat : IsFlat sorts_kinds
@@ -77,7 +77,7 @@ symbol_flat : IsFlat symbol_kinds
 symbol_flat s c rest =
     over_token (name_kind s.name) (λ at. over_flat (sorts_flat s.arguments at _) (λ mid. over_token (kind.Sign sign.Colon) (λ next. over_flat (sort_flat s.result next _) (λ last. signed (kind.Sign sign.Semicolon) last rest))))
 
-declarations_over : GoesOver declarations_kinds declarations_depth
+pub declarations_over : GoesOver declarations_kinds declarations_depth
 declarations_over d c rest =
     over_shallower _ (over_flat (over_headed const_kinds (λ xs. 0) (each_flat const_kinds const_flat) (kind.Word word.Const) d.constants c _) (λ at. over_both (over_headed typedef_kinds typedefs_depth typedefs_over (kind.Word word.Type) d.types at _) (λ mid. over_both (over_headed vars_kinds variables_depth variables_over (kind.Word word.Var) d.variables mid _) (λ last. over_headed symbol_kinds (λ xs. 0) (each_flat symbol_kinds symbol_flat) (kind.Word word.Declare) d.symbols last rest)))) (omega arith)
 

@@ -3,10 +3,9 @@ use Rattle.std.proofs.Common.{◌≡◌, ℕ, ◌≤◌, Bool, true, false, if�
 use Rattle.std.proofs.lemmas.Bool.Decides.{nat_tests}
 use Rattle.spv_tree.specs.declared.token.Token.{Token}
 use Rattle.spv_tree.specs.declared.token.TokenKind.{TokenKind}
-use Rattle.spv_syntax.specs.ProgramKinds.{program_kinds}
 use Rattle.spv_syntax.specs.Reads.{kinds}
-use Rattle.spv_reading.specs.Depths.{program_depth}
-use Rattle.spv_reading.proofs.Programs.{tree_is_read}
+use Rattle.spv_reading.specs.Readers.{Reader}
+use Rattle.spv_reading.specs.Laws.{TreeIsRead}
 use Rattle.spv_level.specs.Level.{Counters, at_first, level, past_token, highest, too_deep_from}
 use Rattle.spv_level.specs.Laws.{GoesUpBy, IsShallow, LowIsRead}
 use Rattle.spv_level.proofs.Over.{GoesOver, over_climbs}
@@ -61,7 +60,8 @@ is_shallow depth spelled over before tokens x rest h e =
 pub part_is_shallow : {A : Type 0} (depth : A → ℕ) (spelled : A → List TokenKind → List TokenKind) → ((x : A) (n : ℕ) (others : List ℕ) (rest : List TokenKind) → Climbs n others (spelled x rest) rest (depth x)) → IsShallow depth spelled
 part_is_shallow depth spelled climbs = is_shallow depth spelled (over_climbs spelled depth climbs)
 
-pub low_is_read : IsShallow program_depth program_kinds → LowIsRead
-low_is_read shallow n tokens p l h r =
-    let d = shallow [] tokens p [] h r.spelled in
-    tree_is_read n tokens p (omega (arith, d)) r
+module _ {A : Type 0} (read : ℕ → Reader A) (depth : A → ℕ) (spelled : A → List TokenKind → List TokenKind) (reads : List Token → A → Type 0) where
+  pub low_is_read : TreeIsRead read depth reads → ((tokens : List Token) (x : A) → reads tokens x → kinds tokens ≡ spelled x []) → IsShallow depth spelled → LowIsRead read reads
+  low_is_read is_read is_spelled shallow n tokens x l h r =
+      let d = shallow [] tokens x [] h (is_spelled tokens x r) in
+      is_read n tokens x (omega (arith, d)) r

@@ -2,9 +2,9 @@
 use Rattle.std.specs.Prelude.{◌≡◌, ℕ, ◌+◌, ◌<◌, ◌≤◌, List, None, ◌++◌}
 use Rattle.spv_tree.specs.declared.token.Token.{Token}
 use Rattle.spv_tree.specs.declared.token.TokenKind.{TokenKind}
-use Rattle.spv_syntax.specs.declared.program.Program.{Program}
-use Rattle.spv_syntax.specs.Reads.{kinds, Reads}
-use Rattle.spv_reading.specs.Laws.{IsReading}
+use Rattle.spv_syntax.specs.Reads.{kinds}
+use Rattle.spv_reading.specs.Readers.{Reader}
+use Rattle.spv_reading.specs.Laws.{IsReadingBy}
 use Rattle.spv_level.specs.Level.{Counters, level, highest, too_deep}
 
 -- the way over a part goes up by as many levels as the part has, wherever it stands
@@ -17,5 +17,5 @@ IsShallow {A} depth spelled =
     (before tokens : List Token) (x : A) (rest : List TokenKind) → too_deep (before ++ tokens) ≡ None → kinds tokens ≡ spelled x rest → depth x < 200
 
 -- the tree of a text that is nowhere too deep is read with 199 levels and more
-abbrev pub LowIsRead : Type 0
-LowIsRead = (n : ℕ) (tokens : List Token) (p : Program) → 199 ≤ n → too_deep tokens ≡ None → Reads tokens p → IsReading n tokens p
+abbrev pub LowIsRead : {A : Type 0} → (ℕ → Reader A) → (List Token → A → Type 0) → Type 0
+LowIsRead {A} read reads = (n : ℕ) (tokens : List Token) (x : A) → 199 ≤ n → too_deep tokens ≡ None → reads tokens x → IsReadingBy read n tokens x

@@ -6,8 +6,11 @@ ghost use Rattle.spv_syntax.specs.FormulaKinds.{formula_kinds, designator_kinds}
 ghost use Rattle.spv_syntax.specs.StatementKinds.{statement_kinds, block_kinds};
 ghost use Rattle.spv_syntax.specs.TypeKinds.{type_kinds};
 ghost use Rattle.spv_syntax.specs.ProgramKinds.{program_kinds};
-ghost use Rattle.spv_syntax.specs.Reads.{kinds};
-ghost use Rattle.spv_reading.specs.Depths.{formula_depth, designator_depth, statement_depth, block_depth, type_depth, program_depth};
+ghost use Rattle.spv_syntax.specs.RuleKinds.{rule_tree_kinds, formula_text_kinds};
+ghost use Rattle.spv_syntax.specs.Reads.{kinds, Reads, ReadsRules, ReadsFormulaText};
+ghost use Rattle.spv_reading.specs.RoutineReaders.{read_program};
+ghost use Rattle.spv_reading.specs.RuleReaders.{read_rules, read_formula_text};
+ghost use Rattle.spv_reading.specs.Depths.{formula_depth, designator_depth, statement_depth, block_depth, type_depth, program_depth, rule_tree_depth, formula_text_depth};
 ghost use Rattle.spv_level.specs.Level.{at_first, highest, too_deep};
 ghost use Rattle.spv_level.specs.Laws.{GoesUpBy, IsShallow, LowIsRead};
 
@@ -26,7 +29,7 @@ pub fn law_depth()
     ensures types { GoesUpBy type_depth type_kinds }
 {}
 
-/// So a program that is nowhere too deep has less than 200 levels, and so has each part that stands in a text.
+/// So a text that is nowhere too deep has less than 200 levels, and so has each part that stands in it.
 pub fn law_shallow()
     ensures formulas { IsShallow formula_depth formula_kinds }
     ensures designators { IsShallow designator_depth designator_kinds }
@@ -34,9 +37,21 @@ pub fn law_shallow()
     ensures blocks { IsShallow block_depth block_kinds }
     ensures types { IsShallow type_depth type_kinds }
     ensures programs { IsShallow program_depth program_kinds }
+    ensures rules { IsShallow rule_tree_depth rule_tree_kinds }
+    ensures formula_texts { IsShallow formula_text_depth formula_text_kinds }
 {}
 
-/// And where a tree reads a text that is nowhere too deep, 199 levels are enough to find it.
+/// And where a tree reads a program that is nowhere too deep, 199 levels are enough to find it.
 pub fn law_enough()
-    ensures programs { LowIsRead }
+    ensures programs { LowIsRead read_program Reads }
+{}
+
+/// The same of a rule file.
+pub fn law_enough_rules()
+    ensures rules { LowIsRead read_rules ReadsRules }
+{}
+
+/// The same of a formula text.
+pub fn law_enough_formula_text()
+    ensures formula_texts { LowIsRead read_formula_text ReadsFormulaText }
 {}

@@ -59,7 +59,7 @@ either_answers (either.Class x) s =
     let p = taken_of s in
     answers_after (omega (arith, p.shorter)) (if_true _ (ap (is (kind.Sign sign.Hash)) p.front) refl) (then_answers (name_complete x p.stands) (λ y is_y rest r. done {y = either.Class y} r (ap either.Class is_y)))
 
-sort_complete : (x : SortName) → Complete sort_part never read_sort x
+pub sort_complete : (x : SortName) → Complete sort_part never read_sort x
 sort_complete x tokens spelled steps s e =
     let b = begun_of s in
     then_answers (either_answers x.form b.stands) (λ y is_y rest r. done {y = record { line = first_line tokens; form = y }} r (λ i. record { line = b.line i; form = is_y i }))
@@ -123,16 +123,16 @@ symbol_length x rest =
     omega (arith, sorts_length x.arguments (kind.Sign sign.Colon ∷ sort_kinds x.result (kind.Sign sign.Semicolon ∷ rest)), either_length x.result.form (kind.Sign sign.Semicolon ∷ rest))
 
 pub consts_complete : (xs : List Const) → Complete (headed_part (kind.Word word.Const) const_part) (λ o. is (kind.Word word.Const) o || begins_name o) (headed_by (kind.Word word.Const) begins_name read_const) xs
-consts_complete xs = headed_complete (kind.Word word.Const) const_part begins_name read_const refl (λ x rest. refl) const_length xs (all_consts xs)
+consts_complete xs = headed_complete const_part begins_name read_const (λ x rest. refl) const_length (kind.Word word.Const) refl xs (all_consts xs)
 
 typedefs_complete : (n : ℕ) (xs : List Typedef) → typedefs_depth xs ≤ n → Complete (headed_part (kind.Word word.Type) typedef_part) (λ o. is (kind.Word word.Type) o || begins_name o) (headed_by (kind.Word word.Type) begins_name (read_typedef n)) xs
-typedefs_complete n xs d = headed_complete (kind.Word word.Type) typedef_part begins_name (read_typedef n) refl (λ x rest. refl) (λ x rest. omega (arith, typedef_length x rest)) xs (all_typedefs n xs d)
+typedefs_complete n xs d = headed_complete typedef_part begins_name (read_typedef n) (λ x rest. refl) (λ x rest. omega (arith, typedef_length x rest)) (kind.Word word.Type) refl xs (all_typedefs n xs d)
 
 pub variables_complete : (n : ℕ) (xs : List Vars) → variables_depth xs ≤ n → Complete (headed_part (kind.Word word.Var) vars_part) (λ o. is (kind.Word word.Var) o || begins_name o) (headed_by (kind.Word word.Var) begins_name (read_vars n)) xs
-variables_complete n xs d = headed_complete (kind.Word word.Var) vars_part begins_name (read_vars n) refl (λ x rest. refl) (λ x rest. omega (arith, vars_length x rest)) xs (all_vars n xs d)
+variables_complete n xs d = headed_complete vars_part begins_name (read_vars n) (λ x rest. refl) (λ x rest. omega (arith, vars_length x rest)) (kind.Word word.Var) refl xs (all_vars n xs d)
 
 symbols_complete : (xs : List SymbolText) → Complete (headed_part (kind.Word word.Declare) symbol_part) (λ o. is (kind.Word word.Declare) o || begins_name o) (headed_by (kind.Word word.Declare) begins_name read_symbol) xs
-symbols_complete xs = headed_complete (kind.Word word.Declare) symbol_part begins_name read_symbol refl (λ x rest. refl) symbol_length xs (all_symbols xs)
+symbols_complete xs = headed_complete symbol_part begins_name read_symbol (λ x rest. refl) symbol_length (kind.Word word.Declare) refl xs (all_symbols xs)
 
 both_false : (a b : Bool) → a ≡ false → b ≡ false → (a || b) ≡ false
 both_false a b e f = ap (λ c. c || b) e ∙ f

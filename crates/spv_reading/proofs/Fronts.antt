@@ -33,7 +33,7 @@ passed k (t ∷ tokens) e = record {
   shorter = omega arith;
 }
 
-same_kind-true : (k l : TokenKind) → same_kind k l ≡ true → k ≡ l
+pub same_kind-true : (k l : TokenKind) → same_kind k l ≡ true → k ≡ l
 same_kind-true (kind.Word v) (kind.Word w) h = ap kind.Word (same_true words tt v w h)
 same_kind-true (kind.Sign s) (kind.Sign t) h = ap kind.Sign (same_true signs tt s t h)
 same_kind-true _ _ h = absurd (false≢true h)

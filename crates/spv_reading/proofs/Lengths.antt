@@ -20,14 +20,14 @@ mutual
   conclusion_length no_conclusion rest = omega arith
   conclusion_length (implies f) rest = omega (arith, formula_length f rest)
 
-  relation_length : (r : Relation) (rest : List TokenKind) → suc (relation_depth r + length rest) ≤ length (relation_kinds r rest)
+  pub relation_length : (r : Relation) (rest : List TokenKind) → suc (relation_depth r + length rest) ≤ length (relation_kinds r rest)
   relation_length (relation line left right) rest = omega (arith, simple_length left (right_side_kinds right rest), right_side_length right rest)
 
   right_side_length : (r : RightSide) (rest : List TokenKind) → right_side_depth r + length rest ≤ length (right_side_kinds r rest)
   right_side_length no_right_side rest = omega arith
   right_side_length (compared operator s) rest = omega (arith, simple_length s rest)
 
-  simple_length : (s : Simple) (rest : List TokenKind) → suc (simple_depth s + length rest) ≤ length (simple_kinds s rest)
+  pub simple_length : (s : Simple) (rest : List TokenKind) → suc (simple_depth s + length rest) ≤ length (simple_kinds s rest)
   simple_length (simple line prefix first more) rest =
       omega (arith, term_length first (more_terms_kinds more rest), more_terms_length more rest, prefix_length prefix (term_kinds first (more_terms_kinds more rest)))
 
@@ -35,14 +35,14 @@ mutual
   more_terms_length no_more_terms rest = omega arith
   more_terms_length (more_terms operator t more) rest = omega (arith, term_length t (more_terms_kinds more rest), more_terms_length more rest)
 
-  term_length : (t : Term) (rest : List TokenKind) → suc (term_depth t + length rest) ≤ length (term_kinds t rest)
+  pub term_length : (t : Term) (rest : List TokenKind) → suc (term_depth t + length rest) ≤ length (term_kinds t rest)
   term_length (term line first more) rest = omega (arith, factor_length first (more_factors_kinds more rest), more_factors_length more rest)
 
   more_factors_length : (fs : MoreFactors) (rest : List TokenKind) → more_factors_depth fs + length rest ≤ length (more_factors_kinds fs rest)
   more_factors_length no_more_factors rest = omega arith
   more_factors_length (more_factors operator f more) rest = omega (arith, factor_length f (more_factors_kinds more rest), more_factors_length more rest)
 
-  factor_length : (f : Factor) (rest : List TokenKind) → suc (factor_depth f + length rest) ≤ length (factor_kinds f rest)
+  pub factor_length : (f : Factor) (rest : List TokenKind) → suc (factor_depth f + length rest) ≤ length (factor_kinds f rest)
   factor_length (number line n) rest = omega arith
   factor_length (truth line b) rest = omega arith
   factor_length (nil line) rest = omega arith

@@ -20,4 +20,9 @@ pub mod DeclarationWhole
 pub mod HeadingWhole
 pub mod RoutineLengths
 pub mod RoutineWhole
+pub mod RuleSound
+pub mod RuleWhole
+pub mod FormulaFits
+pub mod FormulaTexts
 pub mod Programs
+pub mod Rules

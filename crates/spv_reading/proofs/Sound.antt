@@ -9,7 +9,7 @@ use Rattle.spv_syntax.specs.Lists.{each, further}
 use Rattle.spv_syntax.specs.Steps.{Step, passes, first_line, lines_agree}
 use Rattle.spv_syntax.specs.Reads.{kinds}
 use Rattle.spv_reading.specs.Readers.{front, after, is, Reader, and_then, past, name_of, name, Next, behind, items_by, items, all_items, several_of, starting, headed_by, optional, ended}
-use Rattle.spv_reading.specs.Parts.{Part, BeginsWith, name_part, led, several_part, headed_part, ended_part}
+use Rattle.spv_reading.specs.Parts.{Part, BeginsWith, name_part, led, several_part, each_part, headed_part, ended_part}
 use Rattle.spv_reading.proofs.Fronts.{Passed, some_is, passed, is-true, begun}
 
 -- P of what is read, if anything is
@@ -159,7 +159,7 @@ several_sound k part item h tokens =
 
 -- ---- parts behind a word
 
-each_list : {A : Type 0} (part : Part A) → IsList [] ◌∷◌ part (record { spelled = each part.spelled; lined = each part.lined })
+pub each_list : {A : Type 0} (part : Part A) → IsList [] ◌∷◌ part (each_part part)
 each_list part = record {
   none_spelled = λ rest. refl;
   none_lined = λ steps. refl;
@@ -167,7 +167,7 @@ each_list part = record {
   add_lined = λ x xs steps. refl;
 }
 
-starting_sound : {A : Type 0} (begins : Option TokenKind → Bool) (part : Part A) (item : Reader A) → ((tokens : List Token) → On (item tokens) (BeginsWith part tokens)) → (tokens : List Token) → OnItem (starting begins item tokens) (BeginsWith part tokens)
+pub starting_sound : {A : Type 0} (begins : Option TokenKind → Bool) (part : Part A) (item : Reader A) → ((tokens : List Token) → On (item tokens) (BeginsWith part tokens)) → (tokens : List Token) → OnItem (starting begins item tokens) (BeginsWith part tokens)
 starting_sound begins part item h tokens = by_test (begins (front tokens))
   where
     by_test : (b : Bool) → OnItem (if b then Some (item tokens) else None) (BeginsWith part tokens)

@@ -6,7 +6,7 @@ use Rattle.spv_syntax.specs.Lists.{each, headed}
 use Rattle.spv_syntax.specs.Steps.{Step, passes}
 use Rattle.spv_syntax.specs.Reads.{kinds}
 use Rattle.spv_reading.specs.Readers.{first, after, is, same_kind, Reader, items, starting, headed_by, optional, ended}
-use Rattle.spv_reading.specs.Parts.{Part, Stands, headed_part, ended_part}
+use Rattle.spv_reading.specs.Parts.{Part, Stands, headed_part, each_part, ended_part}
 use Rattle.spv_reading.proofs.Whole.{Answers, AnswersItem, Complete, CompleteList, Each, front_of, taken_of, if_true, if_false, none_complete, more_complete, left_false, right_false, done, then_answers, past_answers, answers_after}
 
 -- ---- parts that end with a token
@@ -39,7 +39,7 @@ pub headed_ends : {A : Type 0} (p : Option TokenKind → Bool) (k : TokenKind) (
 headed_ends p k spelling [] spelled e f = f
 headed_ends p k spelling (x ∷ xs) spelled e f = e
 
-module _ {A : Type 0} (k : TokenKind) (part : Part A) (begins : Option TokenKind → Bool) (item : Reader A) (same : same_kind k k ≡ true) (starts : (x : A) (spelled : List TokenKind) → begins (first (part.spelled x spelled)) ≡ true) (longer : (x : A) (spelled : List TokenKind) → suc (length spelled) ≤ length (part.spelled x spelled)) where
+module _ {A : Type 0} (part : Part A) (begins : Option TokenKind → Bool) (item : Reader A) (starts : (x : A) (spelled : List TokenKind) → begins (first (part.spelled x spelled)) ≡ true) (longer : (x : A) (spelled : List TokenKind) → suc (length spelled) ≤ length (part.spelled x spelled)) where
   item_answers : (x : A) → Complete part never item x → (tokens : List Token) (spelled : List TokenKind) (steps : List Step) → Stands tokens (part.spelled x spelled) (part.lined x steps) → AnswersItem (starting begins item tokens) x tokens spelled steps
   item_answers x h tokens spelled steps s =
       let a = h tokens spelled steps s refl in
@@ -50,14 +50,15 @@ module _ {A : Type 0} (k : TokenKind) (part : Part A) (begins : Option TokenKind
         shorter = omega (arith, longer x spelled, kinds_length tokens, kinds_length a.rest, ap length s.spelled, ap length a.stands.spelled);
       }
 
-  each_complete : (xs : List A) → Each (Complete part never item) xs → CompleteList (record { spelled = each part.spelled; lined = each part.lined }) begins (items [] ◌∷◌ (starting begins item)) xs
+  pub each_complete : (xs : List A) → Each (Complete part never item) xs → CompleteList (each_part part) begins (items [] ◌∷◌ (starting begins item)) xs
   each_complete [] h n tokens spelled steps l s e = none_complete _ _ _ n s (if_false _ (ap begins (front_of s) ∙ e) refl)
   each_complete (x ∷ xs) h n tokens spelled steps l s e =
       let a = item_answers x h.0 tokens (each part.spelled xs spelled) (each part.lined xs steps) s in
       more_complete _ _ _ n l a (λ m b. each_complete xs h.1 m a.rest spelled steps b a.stands e)
 
-  pub headed_complete : (xs : List A) → Each (Complete part never item) xs → Complete (headed_part k part) (λ o. is k o || begins o) (headed_by k begins item) xs
-  headed_complete [] h tokens spelled steps s e = answers_after (omega arith) (if_false _ (ap (is k) (front_of s) ∙ left_false _ _ e) refl) (done s refl)
-  headed_complete (x ∷ xs) h tokens spelled steps s e =
+  -- the same behind a word
+  pub headed_complete : (k : TokenKind) → same_kind k k ≡ true → (xs : List A) → Each (Complete part never item) xs → Complete (headed_part k part) (λ o. is k o || begins o) (headed_by k begins item) xs
+  headed_complete k same [] h tokens spelled steps s e = answers_after (omega arith) (if_false _ (ap (is k) (front_of s) ∙ left_false _ _ e) refl) (done s refl)
+  headed_complete k same (x ∷ xs) h tokens spelled steps s e =
       let p = taken_of s in
       answers_after (omega (arith, p.shorter)) (if_true _ (ap (is k) p.front ∙ same) refl) (then_answers (h.0 (after tokens) (each part.spelled xs spelled) (each part.lined xs steps) p.stands refl) (λ y is_y mid m. then_answers (each_complete xs h.1 (length mid) mid spelled steps (omega arith) m (right_false (is k (first spelled)) _ e)) (λ ys is_ys rest r. done {y = y ∷ ys} r (cc (is_y, is_ys)))))

@@ -9,6 +9,11 @@ use Rattle.spv_syntax.specs.declared.routines.Clauses.{Clauses}
 use Rattle.spv_syntax.specs.declared.routines.RoutineMark.{RoutineMark}
 use Rattle.spv_syntax.specs.declared.routines.RoutineMark.TheVariants.{Announced, Begins, Ends}
 use Rattle.spv_syntax.specs.declared.program.Program.{Program}
+use Rattle.spv_syntax.specs.declared.rules.RuleForm.{RuleForm}
+use Rattle.spv_syntax.specs.declared.rules.RuleForm.TheVariants.{Replace, Infer}
+use Rattle.spv_syntax.specs.declared.rules.Rule.{Rule}
+use Rattle.spv_syntax.specs.declared.rules.RuleTree.{RuleTree}
+use Rattle.spv_syntax.specs.declared.formula_text.FormulaText.{FormulaText}
 use Rattle.spv_syntax.specs.Statements.{Statement, empty, assignment, call, creation, compound, conditional, selection, repetition, assertion, Otherwise, nothing_otherwise, otherwise, Block, block, MoreStatements, no_more_statements, more_statements, Arm, no_arm, arm, MoreArms, no_more_arms, more_arms, Loop, while_loop, repeat_loop, for_loop}
 use Rattle.spv_syntax.specs.Types.{TypeDenoter, named, range, pointer, array, fields, MoreTypes, no_more_types, more_types, Field, no_field, field as field_of_type, MoreFields, no_more_fields, more_fields}
 use Rattle.spv_syntax.specs.Formulas.{Formula, formula, Conclusion, no_conclusion, implies, Relation, relation, RightSide, no_right_side, compared, Simple, simple, MoreTerms, no_more_terms, more_terms, Term, term, MoreFactors, no_more_factors, more_factors, Factor, number, truth, nil, class, place, application, bracketed, negation, MoreFormulas, no_more_formulas, more_formulas, Designator, designator, Selectors, no_selectors, selectors, Selector, index, field, content}
@@ -149,7 +154,7 @@ variables_depth (v ∷ vs) = max (type_depth v.of) (variables_depth vs)
 abbrev pub declarations_depth : Declarations → ℕ
 declarations_depth d = max (typedefs_depth d.types) (variables_depth d.variables)
 
--- of ENTRY or EXIT, where it is there
+-- of ENTRY, EXIT, WHERE or FROM, where it is there
 abbrev pub condition_depth : Option Formula → ℕ
 condition_depth f = invariant_depth f
 
@@ -169,3 +174,19 @@ routines_depth (m ∷ ms) = max (routine_mark_depth m) (routines_depth ms)
 abbrev pub program_depth : Program → ℕ
 program_depth p =
     max (declarations_depth p.declarations) (max (routines_depth p.routines) (max (condition_depth p.entry) (max (condition_depth p.exit) (block_depth p.block))))
+
+-- ---- rule files and formula texts
+
+abbrev pub rule_form_depth : RuleForm → ℕ
+rule_form_depth (Replace f g h) = max (formula_depth f) (max (formula_depth g) (condition_depth h))
+rule_form_depth (Infer f h) = max (formula_depth f) (condition_depth h)
+
+abbrev pub rules_depth : List Rule → ℕ
+rules_depth [] = 0
+rules_depth (r ∷ rs) = max (rule_form_depth r.form) (rules_depth rs)
+
+abbrev pub rule_tree_depth : RuleTree → ℕ
+rule_tree_depth t = rules_depth t.rules
+
+abbrev pub formula_text_depth : FormulaText → ℕ
+formula_text_depth t = max (declarations_depth t.declarations) (formula_depth t.formula)

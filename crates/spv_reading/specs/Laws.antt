@@ -4,10 +4,8 @@ use Rattle.spv_tree.specs.declared.token.Token.{Token}
 use Rattle.spv_tree.specs.declared.token.TokenKind.{TokenKind}
 use Rattle.spv_syntax.specs.Steps.{Step}
 use Rattle.spv_syntax.specs.declared.program.Program.{Program}
-use Rattle.spv_syntax.specs.Reads.{Reads}
 use Rattle.spv_reading.specs.Readers.{first, Reader}
 use Rattle.spv_reading.specs.RoutineReaders.{read_program, read_whole}
-use Rattle.spv_reading.specs.Depths.{program_depth}
 use Rattle.spv_reading.specs.Parts.{Part, BeginsWith, Stands}
 
 -- a part of a tree: its tokens and lines, what its form does not say by itself, and which tokens go on with it
@@ -51,24 +49,28 @@ abbrev pub SpelledIsOne : {A : Type 0} → Kind A → Type 0
 SpelledIsOne {A} k =
     (tokens : List Token) (x y : A) (spelled others : List TokenKind) (steps further : List Step) → IsSpelled k tokens x spelled steps → IsSpelled k tokens y others further → (x ≡ y) × (spelled ≡ others)
 
--- ---- programs
+-- ---- whole texts, of which `reads` says when a tree is that of the tokens
 
--- with n levels this program is what the tokens are read as, to their end
+-- with n levels this is what the tokens are read as, to their end
+abbrev pub IsReadingBy : {A : Type 0} → (ℕ → Reader A) → ℕ → List Token → A → Type 0
+IsReadingBy read n tokens x = read_whole (read n tokens) ≡ Some x
+
+-- the same of a program
 abbrev pub IsReading : ℕ → List Token → Program → Type 0
-IsReading n tokens p = read_whole (read_program n tokens) ≡ Some p
+IsReading n tokens p = IsReadingBy read_program n tokens p
 
--- what is read as a program is the tree of the tokens
-abbrev pub ReadIsTree : Type 0
-ReadIsTree = (n : ℕ) (tokens : List Token) (p : Program) → IsReading n tokens p → Reads tokens p
+-- what is read as a text is the tree of the tokens
+abbrev pub ReadIsTree : {A : Type 0} → (ℕ → Reader A) → (List Token → A → Type 0) → Type 0
+ReadIsTree {A} read reads = (n : ℕ) (tokens : List Token) (x : A) → IsReadingBy read n tokens x → reads tokens x
 
 -- the tree of the tokens is read, at as many levels as it has
-abbrev pub TreeIsRead : Type 0
-TreeIsRead = (n : ℕ) (tokens : List Token) (p : Program) → program_depth p ≤ n → Reads tokens p → IsReading n tokens p
+abbrev pub TreeIsRead : {A : Type 0} → (ℕ → Reader A) → (A → ℕ) → (List Token → A → Type 0) → Type 0
+TreeIsRead {A} read depth reads = (n : ℕ) (tokens : List Token) (x : A) → depth x ≤ n → reads tokens x → IsReadingBy read n tokens x
 
 -- or at as many levels as there are tokens
-abbrev pub EnoughLevelsForTrees : Type 0
-EnoughLevelsForTrees = (n : ℕ) (tokens : List Token) (p : Program) → length tokens ≤ n → Reads tokens p → IsReading n tokens p
+abbrev pub EnoughLevelsForTrees : {A : Type 0} → (ℕ → Reader A) → (List Token → A → Type 0) → Type 0
+EnoughLevelsForTrees {A} read reads = (n : ℕ) (tokens : List Token) (x : A) → length tokens ≤ n → reads tokens x → IsReadingBy read n tokens x
 
 -- tokens have one tree at most
-abbrev pub OneTree : Type 0
-OneTree = (tokens : List Token) (p q : Program) → Reads tokens p → Reads tokens q → p ≡ q
+abbrev pub OneTree : {A : Type 0} → (List Token → A → Type 0) → Type 0
+OneTree {A} reads = (tokens : List Token) (x y : A) → reads tokens x → reads tokens y → x ≡ y

@@ -4,6 +4,7 @@ pub mod StatementReaders
 pub mod TypeReaders
 pub mod DeclarationReaders
 pub mod RoutineReaders
+pub mod RuleReaders
 pub mod Continuing
 pub mod Depths
 pub mod Parts

@@ -13,6 +13,8 @@ use Rattle.spv_syntax.specs.FormulaLines.{formula_lines, conclusion_lines, relat
 use Rattle.spv_syntax.specs.TypeLines.{name_lines, names_lines, constant_lines, type_lines, more_types_lines, field_lines, more_fields_lines}
 use Rattle.spv_syntax.specs.ProgramKinds.{const_kinds, typedef_kinds, vars_kinds, sort_kinds, symbol_kinds, declarations_kinds, group_kinds, params_kinds, heading_kinds, item_kinds, global_group_kinds, globals_kinds, start_kinds, initial_kinds, entry_kinds, exit_kinds, clauses_kinds, locals_kinds, routine_mark_kinds, routines_kinds, files_kinds, program_kinds}
 use Rattle.spv_syntax.specs.ProgramLines.{const_lines, typedef_lines, vars_lines, sort_lines, symbol_lines, declarations_lines, group_lines, params_lines, heading_lines, item_lines, global_group_lines, globals_lines, start_lines, initial_lines, entry_lines, exit_lines, clauses_lines, locals_lines, routine_mark_lines, routines_lines, files_lines, program_lines}
+use Rattle.spv_syntax.specs.RuleKinds.{rule_vars_kinds, premise_kinds, rule_form_kinds, rule_kinds, rule_tree_kinds, formula_text_kinds}
+use Rattle.spv_syntax.specs.RuleLines.{rule_vars_lines, premise_lines, rule_form_lines, rule_lines, rule_tree_lines, formula_text_lines}
 use Rattle.spv_syntax.specs.Reads.{kinds}
 use Rattle.spv_syntax.specs.declared.lists.Several.{Several}
 use Rattle.spv_syntax.specs.declared.names.Constant.{Constant}
@@ -32,7 +34,12 @@ use Rattle.spv_syntax.specs.declared.routines.Clauses.{Clauses}
 use Rattle.spv_syntax.specs.declared.routines.Locals.{Locals}
 use Rattle.spv_syntax.specs.declared.routines.RoutineMark.{RoutineMark}
 use Rattle.spv_syntax.specs.declared.program.Program.{Program}
-use Rattle.spv_syntax.specs.Lists.{several, headed}
+use Rattle.spv_syntax.specs.declared.rules.RuleVars.{RuleVars}
+use Rattle.spv_syntax.specs.declared.rules.RuleForm.{RuleForm}
+use Rattle.spv_syntax.specs.declared.rules.Rule.{Rule}
+use Rattle.spv_syntax.specs.declared.rules.RuleTree.{RuleTree}
+use Rattle.spv_syntax.specs.declared.formula_text.FormulaText.{FormulaText}
+use Rattle.spv_syntax.specs.Lists.{each, several, headed}
 use Rattle.spv_syntax.specs.Types.{TypeDenoter, MoreTypes, Field, MoreFields}
 use Rattle.spv_syntax.specs.Statements.{Statement, Otherwise, Block, MoreStatements, Arm, MoreArms, Loop}
 use Rattle.spv_syntax.specs.StatementKinds.{constants_kinds, statement_kinds, otherwise_kinds, block_kinds, more_statements_kinds, arm_kinds, more_arms_kinds, loop_kinds}
@@ -169,6 +176,10 @@ more_fields_part = record { spelled = more_fields_kinds; lined = more_fields_lin
 abbrev pub headed_part : {A : Type 0} → TokenKind → Part A → Part (List A)
 headed_part k part = record { spelled = headed k part.spelled; lined = headed passes part.lined }
 
+-- parts one after the other
+abbrev pub each_part : {A : Type 0} → Part A → Part (List A)
+each_part part = record { spelled = each part.spelled; lined = each part.lined }
+
 -- a part and the word or sign that ends it
 abbrev pub ended_part : {A : Type 0} → TokenKind → Part A → Part A
 ended_part k part = record { spelled = λ x rest. part.spelled x (k ∷ rest); lined = λ x steps. part.lined x (passes ∷ steps) }
@@ -240,3 +251,24 @@ files_part = record { spelled = files_kinds; lined = files_lines }
 
 abbrev pub program_part : Part Program
 program_part = record { spelled = program_kinds; lined = program_lines }
+
+-- ---- the parts of rule files and formula texts
+
+abbrev pub rule_vars_part : Part RuleVars
+rule_vars_part = record { spelled = rule_vars_kinds; lined = rule_vars_lines }
+
+-- behind this word
+abbrev pub premise_part : TokenKind → Part (Option Formula)
+premise_part k = record { spelled = premise_kinds k; lined = premise_lines }
+
+abbrev pub rule_form_part : Part RuleForm
+rule_form_part = record { spelled = rule_form_kinds; lined = rule_form_lines }
+
+abbrev pub rule_part : Part Rule
+rule_part = record { spelled = rule_kinds; lined = rule_lines }
+
+abbrev pub rule_tree_part : Part RuleTree
+rule_tree_part = record { spelled = rule_tree_kinds; lined = rule_tree_lines }
+
+abbrev pub formula_text_part : Part FormulaText
+formula_text_part = record { spelled = formula_text_kinds; lined = formula_text_lines }

@@ -162,7 +162,7 @@ module _ (n : ℕ) where
   read_program tokens =
       past (kind.Word word.Program) tokens (λ one. and_then (name one) (λ x two. and_then (ended (kind.Sign sign.Semicolon) read_files two) (λ files three. and_then (read_declarations n three) (λ declarations four. and_then (read_routines four) (λ routines five. and_then (read_condition (kind.Word word.Entry) five) (λ entry six. and_then (read_condition (kind.Word word.Exit) six) (λ exit seven. and_then (ended (kind.Sign sign.Period) (read_block n) seven) (λ block rest. Some (record { line = first_line tokens; name = x; files = files; declarations = declarations; routines = routines; entry = entry; exit = exit; block = block }, rest)))))))))
 
--- a program and nothing behind it
-abbrev pub read_whole : Option (Program × List Token) → Option Program
-read_whole (Some (p, [])) = Some p
+-- what is read and nothing behind it
+abbrev pub read_whole : {A : Type 0} → Option (A × List Token) → Option A
+read_whole (Some (x, [])) = Some x
 read_whole _ = None

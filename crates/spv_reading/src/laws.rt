@@ -1,9 +1,12 @@
 // Facts about the definitions, each the contract of a function that does nothing.
 
+ghost use Rattle.spv_syntax.specs.Reads.{Reads, ReadsRules, ReadsFormulaText};
 ghost use Rattle.spv_reading.specs.FormulaReaders.{read_formula, read_designator, read_inner};
 ghost use Rattle.spv_reading.specs.StatementReaders.{read_statement, read_block};
 ghost use Rattle.spv_reading.specs.TypeReaders.{read_type};
-ghost use Rattle.spv_reading.specs.Depths.{formula_depth, designator_depth, statement_depth, block_depth, type_depth};
+ghost use Rattle.spv_reading.specs.RoutineReaders.{read_program};
+ghost use Rattle.spv_reading.specs.RuleReaders.{read_rules, read_formula_text};
+ghost use Rattle.spv_reading.specs.Depths.{formula_depth, designator_depth, statement_depth, block_depth, type_depth, program_depth, rule_tree_depth, formula_text_depth};
 ghost use Rattle.spv_reading.specs.Kinds.{formulas, designators, statements, blocks, types};
 ghost use Rattle.spv_reading.specs.Laws.{ReadIsSpelled, SpelledIsRead, EnoughLevels, SpelledIsOne, ReadIsTree, TreeIsRead, EnoughLevelsForTrees, OneTree};
 
@@ -49,8 +52,24 @@ pub fn law_types()
 
 /// A program is read exactly where a well formed tree reads the tokens, and there is one such tree at most.
 pub fn law_programs()
-    ensures read_is_tree { ReadIsTree }
-    ensures tree_is_read { TreeIsRead }
-    ensures enough_levels { EnoughLevelsForTrees }
-    ensures one_tree { OneTree }
+    ensures read_is_tree { ReadIsTree read_program Reads }
+    ensures tree_is_read { TreeIsRead read_program program_depth Reads }
+    ensures enough_levels { EnoughLevelsForTrees read_program Reads }
+    ensures one_tree { OneTree Reads }
+{}
+
+/// A rule file is read exactly where a tree reads the tokens, and there is one such tree at most.
+pub fn law_rules()
+    ensures read_is_tree { ReadIsTree read_rules ReadsRules }
+    ensures tree_is_read { TreeIsRead read_rules rule_tree_depth ReadsRules }
+    ensures enough_levels { EnoughLevelsForTrees read_rules ReadsRules }
+    ensures one_tree { OneTree ReadsRules }
+{}
+
+/// A formula text is read exactly where a tree reads the tokens, and there is one such tree at most.
+pub fn law_formula_texts()
+    ensures read_is_tree { ReadIsTree read_formula_text ReadsFormulaText }
+    ensures tree_is_read { TreeIsRead read_formula_text formula_text_depth ReadsFormulaText }
+    ensures enough_levels { EnoughLevelsForTrees read_formula_text ReadsFormulaText }
+    ensures one_tree { OneTree ReadsFormulaText }
 {}

@@ -24,5 +24,7 @@ pub mod FormulaLines
 pub mod TypeLines
 pub mod StatementLines
 pub mod ProgramLines
+pub mod RuleKinds
+pub mod RuleLines
 pub mod Reads
 pub mod Flat

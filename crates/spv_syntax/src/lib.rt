@@ -1,8 +1,9 @@
-//! The trees of programs, and their tokens.
+//! The trees of programs, rule files and formula texts, and their tokens.
 #![tactic(auto)]
 
 mod declarations;
 mod flat;
+mod formula_text;
 mod formulas;
 mod lists;
 mod names;
@@ -10,10 +11,12 @@ mod operators;
 mod out;
 mod program;
 mod routines;
+mod rules;
 mod statements;
 mod types;
 
 pub use declarations::{Const, Declarations, NameOrClass, SortName, SymbolText, Typedef, Vars};
+pub use formula_text::FormulaText;
 pub use formulas::{
     Designator, Factor, FactorForm, Formula, Relation, Selector, SelectorForm, Simple, Term,
 };
@@ -25,6 +28,7 @@ pub use routines::{
     Clauses, GlobalGroup, Group, GroupForm, Heading, HeadingForm, Item, Locals, Params,
     RoutineMark, Start,
 };
+pub use rules::{Rule, RuleForm, RuleTree, RuleVars};
 pub use statements::{Arm, Block, Loop, LoopForm, Statement, StatementForm};
 pub use types::{Field, TypeDenoter, TypeForm};
 

@@ -241,3 +241,119 @@ fn a_routine_in_a_routine(rt: HostRuntime) -> Result<(), Fail> {
     assert!(rt; has_tokens(alloc, &tree, &wanted)?);
     Ok(())
 }
+
+// The formula that is this name.
+fn named(alloc: Global, name: Name) -> Formula {
+    let place = Designator {
+        line: 1,
+        name,
+        behind: Vec::new(alloc),
+    };
+    formula(alloc, FactorForm::Place(place))
+}
+
+// The rule file of this one rule, without variables.
+fn rule_tree(alloc: Global, form: RuleForm) -> Result<RuleTree, AllocError> {
+    let mut rules = Vec::new(alloc);
+    rules.push(Rule { line: 1, form })?;
+    Ok(RuleTree {
+        line: 1,
+        variables: Parts::from_vec(Vec::new(alloc)),
+        rules: Parts::from_vec(rules),
+    })
+}
+
+#[test]
+fn a_rule_with_where(rt: HostRuntime) -> Result<(), Fail> {
+    let alloc = rt.alloc();
+    let limit = formula(alloc, FactorForm::Truth(true));
+    let form = RuleForm::Replace(named(alloc, A), named(alloc, B), Some(limit));
+    let tree = rule_tree(alloc, form)?;
+    let mut out = Vec::new(alloc);
+    tree.flat(&mut out)?;
+    let wanted = [
+        TokenKind::Word(Word::Replace),
+        NAME_A,
+        TokenKind::Word(Word::By),
+        NAME_B,
+        TokenKind::Word(Word::Where),
+        TokenKind::Word(Word::True),
+        SEMICOLON,
+    ];
+    assert!(rt; out.as_slice() == wanted.as_slice());
+    Ok(())
+}
+
+#[test]
+fn a_rule_with_from(rt: HostRuntime) -> Result<(), Fail> {
+    let alloc = rt.alloc();
+    let form = RuleForm::Infer(named(alloc, A), Some(named(alloc, B)));
+    let tree = rule_tree(alloc, form)?;
+    let mut out = Vec::new(alloc);
+    tree.flat(&mut out)?;
+    let wanted = [
+        TokenKind::Word(Word::Infer),
+        NAME_A,
+        TokenKind::Word(Word::From),
+        NAME_B,
+        SEMICOLON,
+    ];
+    assert!(rt; out.as_slice() == wanted.as_slice());
+    Ok(())
+}
+
+#[test]
+fn variables_of_rules(rt: HostRuntime) -> Result<(), Fail> {
+    let alloc = rt.alloc();
+    let mut variables = Vec::new(alloc);
+    variables.push(RuleVars {
+        line: 1,
+        names: Several {
+            first: A,
+            more: Parts::from_vec(Vec::new(alloc)),
+        },
+        sort: SortName {
+            line: 1,
+            form: NameOrClass::Name(B),
+        },
+    })?;
+    let tree = RuleTree {
+        line: 1,
+        variables: Parts::from_vec(variables),
+        rules: Parts::from_vec(Vec::new(alloc)),
+    };
+    let mut out = Vec::new(alloc);
+    tree.flat(&mut out)?;
+    let wanted = [
+        TokenKind::Word(Word::Var),
+        NAME_A,
+        TokenKind::Sign(Sign::Colon),
+        NAME_B,
+        SEMICOLON,
+    ];
+    assert!(rt; out.as_slice() == wanted.as_slice());
+    Ok(())
+}
+
+#[test]
+fn a_formula_text(rt: HostRuntime) -> Result<(), Fail> {
+    let alloc = rt.alloc();
+    let tree = FormulaText {
+        line: 1,
+        name: A,
+        declarations: no_declarations(alloc),
+        formula: named(alloc, B),
+    };
+    let mut out = Vec::new(alloc);
+    tree.flat(&mut out)?;
+    let wanted = [
+        TokenKind::Word(Word::Program),
+        NAME_A,
+        SEMICOLON,
+        TokenKind::Word(Word::Assert),
+        NAME_B,
+        TokenKind::Sign(Sign::Period),
+    ];
+    assert!(rt; out.as_slice() == wanted.as_slice());
+    Ok(())
+}

@@ -2,11 +2,13 @@ use Rattle.spv_syntax.specs.FormulaKinds.{formula_kinds, designator_kinds}
 use Rattle.spv_syntax.specs.StatementKinds.{statement_kinds, block_kinds}
 use Rattle.spv_syntax.specs.TypeKinds.{type_kinds}
 use Rattle.spv_syntax.specs.ProgramKinds.{program_kinds}
-use Rattle.spv_reading.specs.Depths.{formula_depth, designator_depth, statement_depth, block_depth, type_depth, program_depth}
+use Rattle.spv_syntax.specs.RuleKinds.{rule_tree_kinds, formula_text_kinds}
+use Rattle.spv_reading.specs.Depths.{formula_depth, designator_depth, statement_depth, block_depth, type_depth, program_depth, rule_tree_depth, formula_text_depth}
 use Rattle.spv_level.proofs.FormulaClimbs.{formula_climbs, designator_climbs}
 use Rattle.spv_level.proofs.StatementClimbs.{statement_climbs, block_climbs}
 use Rattle.spv_level.proofs.TypeClimbs.{type_climbs}
 use Rattle.spv_level.proofs.ProgramOver.{program_over}
+use Rattle.spv_level.proofs.RuleOver.{rule_tree_over, formula_text_over}
 use Rattle.spv_level.proofs.Texts.{is_shallow, part_is_shallow}
 use Rattle.spv_level.proofs.laws.law_shallow.Goals as goal
 
@@ -27,3 +29,9 @@ returns-clause-types c = part_is_shallow type_depth type_kinds type_climbs
 
 pub returns-clause-programs : goal.returns-clause-programs
 returns-clause-programs c = is_shallow program_depth program_kinds program_over
+
+pub returns-clause-rules : goal.returns-clause-rules
+returns-clause-rules c = is_shallow rule_tree_depth rule_tree_kinds rule_tree_over
+
+pub returns-clause-formula_texts : goal.returns-clause-formula_texts
+returns-clause-formula_texts c = is_shallow formula_text_depth formula_text_kinds formula_text_over
