@@ -1,4 +1,4 @@
-pub mod Loops
+pub mod Turns
 pub mod Exits
 pub mod FormulaLists
 pub mod Calls

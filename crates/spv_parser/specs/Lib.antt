@@ -2,3 +2,4 @@ pub mod Faults
 pub mod Lists
 pub mod Factors
 pub mod Compound
+pub mod Causes

@@ -79,11 +79,7 @@ pub fn begins_constant(tokens: &[Token]) -> bool
 {
     matches!(
         front(tokens),
-        Some(
-            TokenKind::Number(_)
-                | TokenKind::Name(_)
-                | TokenKind::Sign(Sign::Plus | Sign::Minus)
-        )
+        Some(TokenKind::Number(_) | TokenKind::Name(_) | TokenKind::Sign(Sign::Plus | Sign::Minus))
     )
 }
 

@@ -9,4 +9,9 @@ mod formulas;
 mod front;
 mod lists;
 mod loops;
+mod parser;
+mod refused;
 mod statements;
+
+pub use parser::program;
+pub use refused::SyntaxFault;

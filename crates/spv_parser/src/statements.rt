@@ -88,11 +88,7 @@ fn arm(alloc: Global, levels: u32, tokens: &[Token]) -> Result<(Arm, &[Token]), 
 
 // {";" arm}
 #[cycle(statement)]
-fn more_arms(
-    alloc: Global,
-    levels: u32,
-    tokens: &[Token],
-) -> Result<(Vec<Arm>, &[Token]), Fault>
+fn more_arms(alloc: Global, levels: u32, tokens: &[Token]) -> Result<(Vec<Arm>, &[Token]), Fault>
     ensures read { IfOk result (λ r. read_more_arms (read_lower levels) tokens.now ≡ Some (more_arms_of r.0.items, r.1.now)) }
     ensures absent { IsErrAnd result IsSyntax → read_more_arms (read_lower levels) tokens.now ≡ None }
 {

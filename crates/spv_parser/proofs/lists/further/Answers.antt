@@ -2,7 +2,7 @@ use Rattle.std.proofs.Common.{arith, ◌∷◌, [], length, sym, ap, ◌∙◌, 
 use Rattle.spv_tree.specs.declared.token.TokenKind.TheVariants as kind
 use Rattle.spv_reading.specs.Readers.{behind, all_items}
 use Rattle.spv_parser.proofs.Exits.{same_fault}
-use Rattle.spv_parser.proofs.Loops.{going, stopped, turn, failed, over, when_absent, when_there, put-list}
+use Rattle.spv_parser.proofs.Turns.{going, stopped, turn, failed, over, when_absent, when_there, put-list}
 use Rattle.spv_parser.proofs.lists.further.Goals as goal
 
 pub loop-init : goal.loop-init
