@@ -1,5 +1,5 @@
 -- What loops over items have read.
-use Rattle.std.specs.Prelude.{◌≡◌, ℕ, ◌-◌, List, [], ◌∷◌, Option, Some, None}
+use Rattle.std.specs.Prelude.{◌≡◌, ℕ, ◌-◌, List, [], ◌∷◌, Option, Some}
 use Rattle.spv_tree.specs.declared.token.Token.{Token}
 use Rattle.spv_reading.specs.Readers.{Next, and_then, items}
 

@@ -7,3 +7,4 @@ mod formulas;
 mod front;
 mod lists;
 mod statements;
+mod types;
