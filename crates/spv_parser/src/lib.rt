@@ -2,6 +2,7 @@
 #![tactic(auto)]
 
 mod constants;
+mod declarations;
 mod fault;
 mod formulas;
 mod front;

@@ -6,14 +6,14 @@ ghost use Rattle.spv_tree.specs.declared.token.Sign.TheVariants as sign;
 ghost use Rattle.spv_syntax.specs.Types as plain;
 ghost use Rattle.spv_syntax.specs.TypeSizes.{more_types_of, more_fields_of};
 ghost use Rattle.spv_reading.specs.Readers as reader;
-ghost use Rattle.spv_reading.specs.TypeReaders.{read_names, begins_name, read_upper, read_range, read_type_name, read_more_types, read_array, read_field_part, read_more_fields, read_record, read_lower_type, read_type};
+ghost use Rattle.spv_reading.specs.TypeReaders.{read_names, read_upper, read_range, read_type_name, read_more_types, read_array, read_field_part, read_more_fields, read_record, read_lower_type, read_type};
 ghost use Rattle.spv_parser.specs.Faults.{IsSyntax};
 ghost use Rattle.spv_parser.specs.TypeParts.{read_named_field};
 
 use crate::constants::constant;
 use crate::fault::{Fault, unexpected};
 use crate::front::{after, first_line, front, is_sign, name, past_sign, past_word};
-use crate::lists::{Listed, several};
+use crate::lists::{Listed, is_name, several};
 use spv_syntax::{Constant, Field, Name, Scalar, Several, TypeDenoter, TypeForm};
 use spv_tree::{Sign, Token, TokenKind, Word};
 use std::alloc::Global;
@@ -161,13 +161,6 @@ fn array(
     let (elements, rest) = lower_type(alloc, levels, rest)?;
     let form = TypeForm::Array(Box::new(alloc, first)?, more, Box::new(alloc, elements)?);
     Ok((TypeDenoter { line, form }, rest))
-}
-
-// Whether the tokens begin with a name.
-pub fn is_name(tokens: &[Token]) -> bool
-    ensures { result ≡ begins_name (reader.front tokens.now) }
-{
-    matches!(front(tokens), Some(TokenKind::Name(_)))
 }
 
 // names ":" type, one level down
