@@ -3,3 +3,4 @@ pub mod Exits
 pub mod FormulaLists
 pub mod Calls
 pub mod StatementLists
+pub mod TypeLists

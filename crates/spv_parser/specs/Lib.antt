@@ -3,3 +3,4 @@ pub mod Lists
 pub mod Factors
 pub mod Compound
 pub mod Causes
+pub mod TypeParts

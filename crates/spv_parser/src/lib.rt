@@ -3,15 +3,20 @@
 
 mod actions;
 mod constants;
+mod declarations;
 mod factors;
 mod fault;
+mod formula_texts;
 mod formulas;
 mod front;
 mod lists;
 mod loops;
 mod parser;
+mod programs;
 mod refused;
+mod rules;
 mod statements;
+mod types;
 
-pub use parser::program;
+pub use parser::{formula, program, rules};
 pub use refused::SyntaxFault;

@@ -2,13 +2,16 @@
 
 ghost use Rattle.std.specs.Prelude.{◌≡◌, ◌∷◌, ℕ, [], Some, None, IfOk, IsErrAnd};
 ghost use Rattle.spv_tree.specs.declared.token.TokenKind.TheVariants as kind;
-ghost use Rattle.spv_reading.specs.Readers.{Reader, behind, all_items, several_of};
+ghost use Rattle.spv_reading.specs.Readers.{Reader, behind, all_items, several_of, starting, headed_by};
+ghost use Rattle.spv_reading.specs.Readers as reader;
+ghost use Rattle.spv_reading.specs.TypeReaders.{begins_name};
 ghost use Rattle.spv_parser.specs.Faults.{IsSyntax};
+ghost use Rattle.spv_parser.specs.Lists.{first_and};
 
 use crate::fault::Fault;
-use crate::front::{after, is_sign};
+use crate::front::{after, front, is_sign, is_word};
 use spv_syntax::{Parts, Several};
-use spv_tree::{Sign, Token};
+use spv_tree::{Sign, Token, TokenKind, Word};
 use std::alloc::Global;
 
 // A part of which a text has lists. What stands in it inside one another has this many levels at most.
@@ -59,4 +62,54 @@ pub fn several<T: Listed>(
     let (more, rest) = further(alloc, levels, sign, rest)?;
     let more = Parts::from_vec(more);
     Ok((Several { first, more }, rest))
+}
+
+// Whether the tokens begin with a name.
+pub fn is_name(tokens: &[Token]) -> bool
+    ensures { result ≡ begins_name (reader.front tokens.now) }
+{
+    matches!(front(tokens), Some(TokenKind::Name(_)))
+}
+
+// As many parts as begin with a name, behind a first one.
+fn others<T: Listed>(
+    alloc: Global,
+    levels: u32,
+    first: T,
+    tokens: &[Token],
+) -> Result<(Vec<T>, &[Token]), Fault>
+    ensures read { IfOk result (λ r. first_and first (all_items [] ◌∷◌ (starting begins_name (T.reader levels))) tokens.now ≡ Some (r.0.items, r.1.now)) }
+    ensures absent { IsErrAnd result IsSyntax → first_and first (all_items [] ◌∷◌ (starting begins_name (T.reader levels))) tokens.now ≡ None }
+{
+    let mut parts = Vec::new(alloc);
+    parts.push(first)?;
+    let mut rest = tokens;
+    for _ in 0..tokens.len() {
+        if !is_name(rest) {
+            return Ok((parts, rest));
+        }
+        let (part, next) = T::read(alloc, levels, rest)?;
+        parts.push(part)?;
+        rest = next;
+    }
+    Ok((parts, rest))
+}
+
+// Where a word is there, it, at least one part, and as many further ones as begin with a name.
+pub fn headed<T: Listed>(
+    alloc: Global,
+    levels: u32,
+    word: Word,
+    tokens: &[Token],
+) -> Result<(Parts<T>, &[Token]), Fault>
+    ensures read { IfOk result (λ r. headed_by (kind.Word word) begins_name (T.reader levels) tokens.now ≡ Some (r.0, r.1.now)) }
+    ensures absent { IsErrAnd result IsSyntax → headed_by (kind.Word word) begins_name (T.reader levels) tokens.now ≡ None }
+{
+    if !is_word(word, tokens) {
+        let none = Parts::from_vec(Vec::new(alloc));
+        return Ok((none, tokens));
+    }
+    let (first, rest) = T::read(alloc, levels, after(tokens))?;
+    let (parts, rest) = others(alloc, levels, first, rest)?;
+    Ok((Parts::from_vec(parts), rest))
 }

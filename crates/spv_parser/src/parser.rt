@@ -1,19 +1,92 @@
 // The tree of a whole text.
 
-ghost use Rattle.std.specs.Prelude.{IfOk, IfErr};
-ghost use Rattle.spv_syntax.specs.Reads.{Reads};
-ghost use Rattle.spv_parser.specs.Causes.{IsAllowed, HasCause};
+ghost use Rattle.std.specs.Prelude.{◌≡◌, OnOk, IfOk, IfErr, IsErr};
+ghost use Rattle.spv_syntax.specs.Reads.{Reads, ReadsRules, ReadsFormulaText};
+ghost use Rattle.spv_parser.specs.Causes.{IsAllowed, HasCause, IsForbidden, IsRefusalOf};
 
+use crate::fault::Fault;
+use crate::formula_texts::formula_text;
+use crate::programs::whole_program;
 use crate::refused::SyntaxFault;
-use spv_syntax::Program;
+use crate::rules::rule_file;
+use spv_level::{law_enough, law_enough_formula_text, law_enough_rules, left_out, too_deep};
+use spv_reading::{law_formula_texts, law_programs, law_rules};
+use spv_syntax::{FormulaText, Program, RuleTree};
 use spv_tree::Token;
 use std::alloc::Global;
 
-/// The program that these tokens are.
-pub fn program(_alloc: Global, _tokens: &[Token]) -> Result<Program, SyntaxFault>
-    ensures tree { IfOk result (λ p. Reads _tokens.now p) }
-    ensures allowed { IfOk result (λ p. IsAllowed _tokens.now) }
-    ensures cause { IfErr result (HasCause Reads _tokens.now) }
+// As many levels as no text exceeds that is not too deep.
+const LEVELS: u32 = 200;
+
+// Refuses tokens with a word that belongs to nothing that is accepted, and tokens that go too deep.
+fn allowed(alloc: Global, tokens: &[Token]) -> Result<(), SyntaxFault>
+    ensures allowed { OnOk result (IsAllowed tokens.now) }
+    ensures cause { IfErr result (IsForbidden tokens.now) }
 {
-    Err(SyntaxFault::Memory)
+    if let Some((line, word)) = left_out(tokens) {
+        return Err(SyntaxFault::Profile(line, word));
+    }
+    if let Some(line) = too_deep(alloc, tokens)? {
+        return Err(SyntaxFault::TooDeep(line));
+    }
+    Ok(())
+}
+
+// The refusal of tokens of which no part is read for this fault.
+fn refusal(tokens: &[Token], fault: Fault) -> SyntaxFault
+    ensures { IsRefusalOf fault result }
+{
+    match fault {
+        Fault::Memory => SyntaxFault::Memory,
+        Fault::Syntax(Some(line)) => SyntaxFault::Syntax(line),
+        Fault::Syntax(None) => SyntaxFault::Syntax(tokens.last().map_or(1, |token| token.line)),
+    }
+}
+
+/// The program that these tokens are.
+pub fn program(alloc: Global, tokens: &[Token]) -> Result<Program, SyntaxFault>
+    ensures tree { IfOk result (λ p. Reads tokens.now p) }
+    ensures allowed { IfOk result (λ p. IsAllowed tokens.now) }
+    ensures cause { IfErr result (HasCause Reads tokens.now) }
+{
+    law_programs();
+    law_enough();
+    allowed(alloc, tokens)?;
+    match whole_program(alloc, LEVELS, tokens) {
+        Ok((tree, [])) => Ok(tree),
+        Ok((_, [token, ..])) => Err(SyntaxFault::Syntax(token.line)),
+        Err(fault) => Err(refusal(tokens, fault)),
+    }
+}
+
+/// The rules that these tokens are.
+pub fn rules(alloc: Global, tokens: &[Token]) -> Result<RuleTree, SyntaxFault>
+    ensures tree { IfOk result (λ t. ReadsRules tokens.now t) }
+    ensures allowed { IfOk result (λ t. IsAllowed tokens.now) }
+    ensures cause { IfErr result (HasCause ReadsRules tokens.now) }
+{
+    law_rules();
+    law_enough_rules();
+    allowed(alloc, tokens)?;
+    match rule_file(alloc, LEVELS, tokens) {
+        Ok((tree, [])) => Ok(tree),
+        Ok((_, [token, ..])) => Err(SyntaxFault::Syntax(token.line)),
+        Err(fault) => Err(refusal(tokens, fault)),
+    }
+}
+
+/// The formula text that these tokens are.
+pub fn formula(alloc: Global, tokens: &[Token]) -> Result<FormulaText, SyntaxFault>
+    ensures tree { IfOk result (λ t. ReadsFormulaText tokens.now t) }
+    ensures allowed { IfOk result (λ t. IsAllowed tokens.now) }
+    ensures cause { IfErr result (HasCause ReadsFormulaText tokens.now) }
+{
+    law_formula_texts();
+    law_enough_formula_text();
+    allowed(alloc, tokens)?;
+    match formula_text(alloc, LEVELS, tokens) {
+        Ok((tree, [])) => Ok(tree),
+        Ok((_, [token, ..])) => Err(SyntaxFault::Syntax(token.line)),
+        Err(fault) => Err(refusal(tokens, fault)),
+    }
 }

@@ -1,6 +1,4 @@
-use Rattle.std.proofs.Common.{arith, ◌∷◌, [], length, sym, ap, ◌∙◌, Some, ◌≡◌}
-use Rattle.spv_tree.specs.declared.token.TokenKind.TheVariants as kind
-use Rattle.spv_reading.specs.Readers.{behind, all_items}
+use Rattle.std.proofs.Common.{arith, ap, ◌∙◌, Some}
 use Rattle.spv_parser.proofs.Exits.{same_fault}
 use Rattle.spv_parser.proofs.Turns.{going, stopped, turn, failed, over, when_absent, when_there, put-list}
 use Rattle.spv_parser.proofs.lists.further.Goals as goal

@@ -1,0 +1,140 @@
+// Rule files.
+
+ghost use Rattle.std.specs.Prelude.{◌≡◌, ◌∷◌, [], Some, None, IfOk, IsErrAnd};
+ghost use Rattle.spv_tree.specs.declared.token.TokenKind.TheVariants as kind;
+ghost use Rattle.spv_reading.specs.Readers as reader;
+ghost use Rattle.spv_reading.specs.Readers.{all_items, starting};
+ghost use Rattle.spv_reading.specs.RuleReaders.{read_rule_vars, read_premise, read_replace, read_infer, read_rule_form, read_rule, read_rules};
+ghost use Rattle.spv_reading.specs.RuleReaders as spec;
+ghost use Rattle.spv_parser.specs.Faults.{IsSyntax};
+
+use crate::fault::{Fault, unexpected};
+use crate::formulas::formula;
+use crate::front::{after, first_line, front, is_word, past_sign, past_word};
+use crate::lists::{Listed, headed};
+use crate::types::names;
+use spv_syntax::{Formula, Parts, Rule, RuleForm, RuleTree, RuleVars, SortName};
+use spv_tree::{Sign, Token, TokenKind, Word};
+use std::alloc::Global;
+
+// names ":" sort ";"
+impl Listed for RuleVars {
+    ghost reader = { λ n. read_rule_vars };
+
+    fn read(alloc: Global, levels: u32, tokens: &[Token]) -> Result<(RuleVars, &[Token]), Fault> {
+        let line = first_line(tokens);
+        let (names, rest) = names(alloc, tokens)?;
+        let rest = past_sign(Sign::Colon, rest)?;
+        let (sort, rest) = SortName::read(alloc, levels, rest)?;
+        let rest = past_sign(Sign::Semicolon, rest)?;
+        Ok((RuleVars { line, names, sort }, rest))
+    }
+}
+
+// [WHERE formula] or [FROM formula]
+fn premise(
+    alloc: Global,
+    levels: u32,
+    word: Word,
+    tokens: &[Token],
+) -> Result<(Option<Formula>, &[Token]), Fault>
+    ensures read { IfOk result (λ r. read_premise levels (kind.Word word) tokens.now ≡ Some (r.0, r.1.now)) }
+    ensures absent { IsErrAnd result IsSyntax → read_premise levels (kind.Word word) tokens.now ≡ None }
+{
+    if !is_word(word, tokens) {
+        return Ok((None, tokens));
+    }
+    let (read, rest) = formula(alloc, levels, after(tokens))?;
+    Ok((Some(read), rest))
+}
+
+// formula BY formula [WHERE formula], behind REPLACE
+fn replace(alloc: Global, levels: u32, tokens: &[Token]) -> Result<(RuleForm, &[Token]), Fault>
+    ensures read { IfOk result (λ r. read_replace levels tokens.now ≡ Some (r.0, r.1.now)) }
+    ensures absent { IsErrAnd result IsSyntax → read_replace levels tokens.now ≡ None }
+{
+    let (left, rest) = formula(alloc, levels, tokens)?;
+    let rest = past_word(Word::By, rest)?;
+    let (right, rest) = formula(alloc, levels, rest)?;
+    let (condition, rest) = premise(alloc, levels, Word::Where, rest)?;
+    Ok((RuleForm::Replace(left, right, condition), rest))
+}
+
+// formula [FROM formula], behind INFER
+fn infer(alloc: Global, levels: u32, tokens: &[Token]) -> Result<(RuleForm, &[Token]), Fault>
+    ensures read { IfOk result (λ r. read_infer levels tokens.now ≡ Some (r.0, r.1.now)) }
+    ensures absent { IsErrAnd result IsSyntax → read_infer levels tokens.now ≡ None }
+{
+    let (inferred, rest) = formula(alloc, levels, tokens)?;
+    let (condition, rest) = premise(alloc, levels, Word::From, rest)?;
+    Ok((RuleForm::Infer(inferred, condition), rest))
+}
+
+// REPLACE formula BY formula [WHERE formula] | INFER formula [FROM formula]
+fn rule_form(alloc: Global, levels: u32, tokens: &[Token]) -> Result<(RuleForm, &[Token]), Fault>
+    ensures read { IfOk result (λ r. read_rule_form levels tokens.now ≡ Some (r.0, r.1.now)) }
+    ensures absent { IsErrAnd result IsSyntax → read_rule_form levels tokens.now ≡ None }
+{
+    let rest = after(tokens);
+    match front(tokens) {
+        Some(TokenKind::Word(Word::Replace)) => replace(alloc, levels, rest),
+        Some(TokenKind::Word(Word::Infer)) => infer(alloc, levels, rest),
+        _ => Err(unexpected(tokens)),
+    }
+}
+
+// The same with the semicolon that ends it.
+fn rule(alloc: Global, levels: u32, tokens: &[Token]) -> Result<(Rule, &[Token]), Fault>
+    ensures read { IfOk result (λ r. read_rule levels tokens.now ≡ Some (r.0, r.1.now)) }
+    ensures absent { IsErrAnd result IsSyntax → read_rule levels tokens.now ≡ None }
+{
+    let line = first_line(tokens);
+    let (form, rest) = rule_form(alloc, levels, tokens)?;
+    let rest = past_sign(Sign::Semicolon, rest)?;
+    Ok((Rule { line, form }, rest))
+}
+
+// Whether the tokens begin with a rule.
+fn begins_rule(tokens: &[Token]) -> bool
+    ensures { result ≡ spec.begins_rule (reader.front tokens.now) }
+{
+    matches!(
+        front(tokens),
+        Some(TokenKind::Word(Word::Replace | Word::Infer))
+    )
+}
+
+// {rule}
+fn rule_list(alloc: Global, levels: u32, tokens: &[Token]) -> Result<(Vec<Rule>, &[Token]), Fault>
+    ensures read { IfOk result (λ r. all_items [] ◌∷◌ (starting spec.begins_rule (read_rule levels)) tokens.now ≡ Some (r.0.items, r.1.now)) }
+    ensures absent { IsErrAnd result IsSyntax → all_items [] ◌∷◌ (starting spec.begins_rule (read_rule levels)) tokens.now ≡ None }
+{
+    let mut rules = Vec::new(alloc);
+    let mut rest = tokens;
+    for _ in 0..tokens.len() {
+        if !begins_rule(rest) {
+            return Ok((rules, rest));
+        }
+        let (read, next) = rule(alloc, levels, rest)?;
+        rules.push(read)?;
+        rest = next;
+    }
+    Ok((rules, rest))
+}
+
+// [VAR rvars {rvars}] {rule}
+pub fn rule_file(alloc: Global, levels: u32, tokens: &[Token]) -> Result<(RuleTree, &[Token]), Fault>
+    ensures read { IfOk result (λ r. read_rules levels tokens.now ≡ Some (r.0, r.1.now)) }
+    ensures absent { IsErrAnd result IsSyntax → read_rules levels tokens.now ≡ None }
+{
+    let line = first_line(tokens);
+    let (variables, rest) = headed(alloc, levels, Word::Var, tokens)?;
+    let (rules, rest) = rule_list(alloc, levels, rest)?;
+    let rules = Parts::from_vec(rules);
+    let tree = RuleTree {
+        line,
+        variables,
+        rules,
+    };
+    Ok((tree, rest))
+}
