@@ -96,7 +96,7 @@ abbrev pub is_false : Option Bool → Bool
 is_false None = false
 is_false (Some b) = not b
 
--- whether a formula is never true: FALSE, the negation of TRUE, or a false relation of two numerals
+-- whether a formula is never true: FALSE, NOT of TRUE, or what compares two numerals and does not hold
 abbrev pub impossible : Term → Bool
 impossible t =
     term_eq t (term False no_terms) || (term_eq t (negation (term True no_terms)) || is_false (numeral_relation t))

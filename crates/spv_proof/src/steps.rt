@@ -260,7 +260,7 @@ fn is_not_true(terms: &Terms, t: TermId) -> bool
     }
 }
 
-// Whether a term is a false relation of two numerals.
+// Whether a term compares two numerals and does not hold.
 fn is_false_relation(terms: &Terms, t: TermId) -> bool
     requires { t.0 < length terms.now.nodes }
     ensures { result ≡ spec.is_false (evaluation.numeral_relation (tree terms.now t)) }

@@ -312,7 +312,7 @@ fn computed_of(
     }
 }
 
-// Whether a formula without its outer negation has a computed value opposite to its given one.
+// Whether a formula, an outer NOT taken off, is computed as true where it is given as false, or the other way round.
 fn clashes(
     terms: &Terms,
     cited: &[TermId],
