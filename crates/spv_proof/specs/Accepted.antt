@@ -8,6 +8,7 @@ use Rattle.spv_logic.specs.declared.types.Decl.{Decl}
 use Rattle.spv_logic.specs.declared.operators.Head.TheVariants.{True, False}
 use Rattle.spv_logic.specs.Terms.{Term, term, no_terms, sort_eq, term_eq}
 use Rattle.spv_logic.specs.Sorts.{term_sort}
+use Rattle.spv_logic.specs.Formulas.{negation, equation}
 use Rattle.spv_logic.specs.Conditions.{Sequent}
 use Rattle.spv_proof.specs.declared.proofs.Stated.{Stated}
 use Rattle.spv_proof.specs.declared.proofs.Stated.TheVariants.{Is, Same}
@@ -15,7 +16,7 @@ use Rattle.spv_proof.specs.declared.proofs.Step.{Step}
 use Rattle.spv_proof.specs.declared.proofs.Step.TheVariants.{Given, Refl, Symm, Trans, Eval, Contra}
 use Rattle.spv_proof.specs.declared.proofs.ProofNode.{ProofNode}
 use Rattle.spv_proof.specs.declared.proofs.Split.{Split}
-use Rattle.spv_proof.specs.Evaluation.{negation, equation, negated, sides, evaluates, numeral_relation}
+use Rattle.spv_proof.specs.Evaluation.{negated, sides, evaluates, numeral_relation}
 
 -- what a step does on a path: it adds a fact, ends the path, or does not follow
 pub data Effect : Type 0 where
