@@ -12,7 +12,7 @@ use Rattle.spv_report.specs.Reports.{Findings}
 use Rattle.spv_cli.specs.declared.refusal.Refusal.{Refusal}
 use Rattle.spv_cli.specs.declared.refusal.Refusal.TheVariants.{BadByte, OpenComment, NumeralTooLarge, TextTooLong, NotOfForm}
 
--- the text has at most 4194304 bytes
+-- the text is not longer than 4194304 bytes
 abbrev pub IsShort : List ℕ → Type 0
 IsShort text = length text ≤ 4194304
 

@@ -142,9 +142,9 @@ fn attempt<T: Texts, K: Sink>(alloc: Global, words: &[String], texts: &mut T, si
 }
 
 /// Runs `verify FILE`, whose words these are behind the program's name: reads the file, makes and
-/// decides its conditions, and writes the page, or one line that says why there is none. The whole
-/// output is made first, and then written line by line. No member of the world is run: it says for
-/// which meaning of the symbols the program is claimed to be correct.
+/// decides its conditions, and writes the page, or one line that says why there is none. Nothing
+/// is written until all of the output is made, and then a line at a time. No member of the world is
+/// run: it says for which meaning of the symbols the program is claimed to be correct.
 pub fn run<W: World, T: Texts, K: Sink>(
     alloc: Global,
     words: &[String],
@@ -152,7 +152,7 @@ pub fn run<W: World, T: Texts, K: Sink>(
     sink: &mut K,
     world: &W,
 ) -> Ran
-    // Status 7 comes exactly where the words are no command, but for a failed write.
+    // Words that are no command end with 7, and no others do, unless a write fails.
     ensures words_only { result.status ≡ 7 → command_of (map string_bytes words.now) ≡ None }
     ensures words { command_of (map string_bytes words.now) ≡ None → IsOneOf (5 ∷ 7 ∷ []) result.status }
 

@@ -2,9 +2,12 @@
 use Rattle.std.proofs.Common.{◌≡◌, ℕ, zero, suc, ◌<◌, ◌+◌, List, [], ◌∷◌, ◌++◌, map, take, length, get_or, Option, Some, None, slice_get, All, refl, sym, ap, subst, ◌∙◌, arith}
 use mathlib.Core.Logic.{◌⊎◌, inl, inr}
 use Rattle.std.specs.List.{flat_map}
-use Rattle.std.proofs.lemmas.List.{append-nil, append_assoc, map-append, take_more, length-append}
+use Rattle.std.specs.Option.{option_map}
+use Rattle.std.proofs.lemmas.List.{append-nil, map-append, take_more, length-append}
 use Rattle.std.proofs.lemmas.List.Elements.{All-nil, All-append, All-map, All-weaker, All-get_or}
-use Rattle.std.proofs.lemmas.Option.{slice_get_within}
+use Rattle.std.proofs.lemmas.List.Concat.{flat_map-append}
+use Rattle.std.proofs.lemmas.Simd.{map-map}
+use Rattle.std.proofs.lemmas.Option.{slice_get_within, slice_get-get_or, slice_get-map}
 use Rattle.spv_logic.specs.declared.conditions.TermId.{TermId}
 use Rattle.spv_term.specs.declared.nodes.Condition.{Condition}
 use Rattle.spv_term.specs.Arena.{Arena, tree}
@@ -93,22 +96,6 @@ module _ (a : Arena) (points : List Point) (all : AreAlone a points) where
 pub one_more : (n : ℕ) → n + 1 ≡ suc n
 one_more n = omega arith
 
-slice_get-map : {A B : Type 0} (f : A → B) (xs : List A) (i : ℕ) (d : A) → i < length xs → slice_get (map f xs) i ≡ Some (f (get_or xs i d))
-slice_get-map f [] i d h = absurd (no h)
-  where
-    no : i < 0 → ⊥
-    no h = grind (arith)
-slice_get-map f (x ∷ xs) zero d h = refl
-slice_get-map f (x ∷ xs) (suc i) d h = slice_get-map f xs i d (grind (arith))
-
-flat_map-append : {A B : Type 0} (f : A → List B) (xs ys : List A) → flat_map f (xs ++ ys) ≡ flat_map f xs ++ flat_map f ys
-flat_map-append f [] ys = refl
-flat_map-append f (x ∷ xs) ys = ap (λ zs. f x ++ zs) (flat_map-append f xs ys) ∙ sym (append_assoc (f x) (flat_map f xs) (flat_map f ys))
-
-map-map : {A B C : Type 0} (f : B → C) (g : A → B) (xs : List A) → map f (map g xs) ≡ map (λ x. f (g x)) xs
-map-map f g [] = refl
-map-map f g (x ∷ xs) = ap (λ ys. f (g x) ∷ ys) (map-map f g xs)
-
 pub assumed_none : (a : Arena) (c : Condition) → Assumed a c 0 [] []
 assumed_none a c = record { derivation = nothing_derived a c; all = All-nil (IsHypothesis a c []); trees = refl }
 
@@ -122,7 +109,8 @@ module _ (a : Arena) (c : Condition) (plain : IsPlain a c) (given : List TermId)
   formula_is = ap (λ xs. get_or xs place d) given_is
 
   adds : effect_after a c old (Given (suc place)) ≡ Adds (tree a formula)
-  adds = ap adds_known (slice_get-map (tree a) c.given place d within) ∙ ap (λ f. Adds (tree a f)) (sym formula_is)
+  adds =
+      ap adds_known (slice_get-map (tree a) c.given place ∙ ap (option_map (tree a)) (slice_get-get_or c.given place d within)) ∙ ap (λ f. Adds (tree a f)) (sym formula_is)
 
   more : Derives a c old new
   more = pushed a c old new so_far.derivation (Given (suc place)) (tree a formula) adds pushed_is

@@ -1,11 +1,11 @@
 -- The steps of joining state what they are to state.
 use Rattle.std.proofs.Common.{◌≡◌, ℕ, List, Option, Some, None, Result, Ok, Err, IfOk, OnOk, refl, sym, subst}
 use Rattle.spv_logic.specs.declared.conditions.TermId.{TermId}
+use Rattle.spv_logic.specs.Formulas.{equation}
 use Rattle.spv_term.specs.declared.nodes.Condition.{Condition}
 use Rattle.spv_term.specs.Arena.{Arena, tree}
 use Rattle.spv_proof.specs.declared.proofs.Step.{Step}
 use Rattle.spv_proof.specs.declared.proofs.Step.TheVariants.{Refl}
-use Rattle.spv_proof.specs.Evaluation.{equation}
 use Rattle.spv_decision.specs.declared.forest.Point.{Point}
 use Rattle.spv_decision.specs.Derivations.{IsDerivation, Link, Linked, Stated, States, Turns, Chains}
 use Rattle.spv_decision.specs.Forests.{Climbs, AreLinks}

@@ -3,6 +3,7 @@ use Rattle.std.proofs.Common.{◌≡◌, ℕ, zero, suc, get_or, ◌<◌, true, 
 use Rattle.std.specs.List.{flat_map}
 use Rattle.std.proofs.lemmas.List.{take_all}
 use Rattle.std.proofs.lemmas.List.Elements.{All-append, All-map, All-weaker}
+use Rattle.std.proofs.lemmas.Simd.{map-map}
 use Rattle.spv_logic.specs.declared.conditions.TermId.{TermId}
 use Rattle.spv_term.specs.declared.nodes.Condition.{Condition}
 use Rattle.spv_term.specs.Arena.{Arena, IsArena, tree, sequent}
@@ -64,10 +65,6 @@ module _ (a : Arena) (ok : IsArena a) (c : Condition) (plain : IsPlain a c) (n :
         let s : IsShown a numbers (ids ++ listed) u = subst (λ xs. IsShown a xs (ids ++ listed) u) ns_is (subst (λ es. IsShown a ns es u) (all_is ∙ equations_are) shown) in
         unproved a ok c plain numbers ids listed m all_equations given_trees (ap (map (tree a)) listed_is ∙ trees) u s
       where
-        map-map : {A B C : Type 0} (f : B → C) (g : A → B) (xs : List A) → map f (map g xs) ≡ map (λ x. f (g x)) xs
-        map-map f g [] = refl
-        map-map f g (x ∷ xs) = ap (λ ys. f (g x) ∷ ys) (map-map f g xs)
-
         given_trees : map (tree a) (map (λ h. h.equation) given) ≡ flat_map conjuncts (map (tree a) c.given)
         given_trees =
             map-map (tree a) (λ h. h.equation) given ∙ (ap (map (λ h. tree a h.equation)) given_is ∙ (assumed.trees ∙ ap (λ xs. flat_map conjuncts (map (tree a) xs)) (ap (λ k. take k c.given) whole ∙ take_all (length c.given) c.given refl_le)))

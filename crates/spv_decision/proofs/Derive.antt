@@ -4,6 +4,7 @@ use Rattle.std.proofs.lemmas.List.{append_assoc, length-append}
 use Rattle.std.proofs.lemmas.Option.{slice_get_within}
 use Rattle.spv_logic.specs.declared.conditions.TermId.{TermId}
 use Rattle.spv_logic.specs.Terms.{Term}
+use Rattle.spv_logic.specs.Formulas.{equation}
 use Rattle.spv_logic.proofs.Equality.{term_eq-refl}
 use Rattle.spv_term.specs.declared.nodes.Condition.{Condition}
 use Rattle.spv_term.specs.Arena.{Arena, tree, sequent}
@@ -11,7 +12,6 @@ use Rattle.spv_term.proofs.ListLemmas.{slice_get-append_left, slice_get_push}
 use Rattle.spv_proof.specs.declared.proofs.Step.{Step}
 use Rattle.spv_proof.specs.declared.proofs.Step.TheVariants.{Symm, Trans}
 use Rattle.spv_proof.specs.Accepted.{Effect, Adds, Fails, effect, numbered, sides_of, exchanged, joined, on_effect, facts_on_effect, no_steps, accepts_steps, facts_of_steps}
-use Rattle.spv_proof.specs.Evaluation.{equation}
 use Rattle.spv_proof.specs.Added.{verdict_of, facts_added}
 use Rattle.spv_proof.specs.Valued.{truth_in}
 use Rattle.spv_decision.specs.declared.forest.Point.{Point}

@@ -1,6 +1,7 @@
 -- Ids without repetition.
 use Rattle.std.proofs.Common.{◌≡◌, ◌≢◌, ℕ, ◌<◌, ◌+◌, Bool, true, false, cond, ◌||◌, List, [], ◌∷◌, ◌++◌, fold, take, length, get_or, slice_set, nat_eq, All, refl, sym, ap, subst, ◌∙◌, arith}
-use Rattle.std.proofs.lemmas.List.{length-set, get_or-set_same, get_or-set_other, take_more}
+use Rattle.std.proofs.lemmas.List.{length-set, get_or-set_same, get_or-set_other}
+use Rattle.std.proofs.lemmas.List.Sums.{fold_more}
 use Rattle.std.proofs.lemmas.List.Elements.{All-nil, All-push, All-head, All-tail, All-get_or}
 use Rattle.std.proofs.lemmas.Bool.Decides.{nat_tests}
 use Rattle.spv_logic.specs.declared.conditions.TermId.{TermId}
@@ -15,12 +16,12 @@ pub record Seen (marks : List Bool) (ids : List TermId) : Type 0 where
 pub nothing_seen : (marks : List Bool) → All (λ b. b ≡ false) marks → Seen marks []
 nothing_seen marks h = record { mark = λ t within. All-get_or (λ b. b ≡ false) marks t.0 false within h }
 
-has_id-append : (ids : List TermId) (u t : TermId) → has_id (ids ++ u ∷ []) t ≡ has_id ids t || nat_eq u.0 t.0
+or_false : (b : Bool) → b || false ≡ b
+or_false true = refl
+or_false false = refl
+
+pub has_id-append : (ids : List TermId) (u t : TermId) → has_id (ids ++ u ∷ []) t ≡ has_id ids t || nat_eq u.0 t.0
 has_id-append [] u t = or_false (nat_eq u.0 t.0)
-  where
-    or_false : (b : Bool) → b || false ≡ b
-    or_false true = refl
-    or_false false = refl
 has_id-append (v ∷ ids) u t = ap (λ b. nat_eq v.0 t.0 || b) (has_id-append ids u t) ∙ sym (or_assoc (nat_eq v.0 t.0) (has_id ids t) (nat_eq u.0 t.0))
   where
     or_assoc : (x y z : Bool) → (x || y) || z ≡ x || (y || z)
@@ -34,10 +35,6 @@ seen_more marks new ids u within s e = subst (λ ms. Seen ms (ids ++ u ∷ [])) 
     or_true true = refl
     or_true false = refl
 
-    or_false : (b : Bool) → b || false ≡ b
-    or_false true = refl
-    or_false false = refl
-
     by_case : (t : TermId) → t.0 < length marks → (b : Bool) → nat_eq u.0 t.0 ≡ b → get_or (slice_set marks u.0 true) t.0 false ≡ has_id (ids ++ u ∷ []) t
     by_case t h true f =
         let g : u.0 ≡ t.0 = grind (arith, nat_tests) in
@@ -49,13 +46,9 @@ seen_more marks new ids u within s e = subst (λ ms. Seen ms (ids ++ u ∷ [])) 
         no : t.0 ≡ u.0 → nat_eq u.0 t.0 ≡ false → ⊥
         no g f = grind (arith, nat_tests)
 
-fold-push : {A B : Type 0} (f : B → A → B) (xs : List A) (y : A) (b : B) → fold f b (xs ++ y ∷ []) ≡ f (fold f b xs) y
-fold-push f [] y b = refl
-fold-push f (x ∷ xs) y b = fold-push f xs y (f b x)
-
 pub distinct_more : (ids list : List TermId) (i : ℕ) (d : TermId) → i < length ids → list ≡ distinct_ids (take i ids) → distinct_ids (take (i + 1) ids) ≡ with_new_id list (get_or ids i d)
 distinct_more ids list i d within e =
-    ap distinct_ids (take_more ids i d within) ∙ (fold-push with_new_id (take i ids) (get_or ids i d) [] ∙ ap (λ xs. with_new_id xs (get_or ids i d)) (sym e))
+    fold_more with_new_id [] ids i d within ∙ ap (λ xs. with_new_id xs (get_or ids i d)) (sym e)
 
 -- ---- what the distinct ids keep
 

@@ -7,6 +7,7 @@ use Rattle.std.proofs.lemmas.List.Elements.{All-nil, All-cons, All-push}
 use Rattle.spv_logic.specs.declared.conditions.TermId.{TermId}
 use Rattle.spv_logic.specs.declared.operators.Head.TheVariants as head
 use Rattle.spv_logic.specs.Terms.{Term, term, terms, no_terms, term_eq}
+use Rattle.spv_logic.specs.Formulas.{negation, equation, conjunction}
 use Rattle.spv_logic.proofs.Equality.{term_eq-refl, left_true, right_true}
 use Rattle.spv_term.specs.declared.nodes.Condition.{Condition}
 use Rattle.spv_term.specs.Arena.{Arena, IsArena, tree}
@@ -15,14 +16,14 @@ use Rattle.spv_proof.specs.declared.proofs.Stated.TheVariants.{Is}
 use Rattle.spv_proof.specs.declared.proofs.Step.{Step}
 use Rattle.spv_proof.specs.declared.proofs.Step.TheVariants.{Given, Eval, Contra}
 use Rattle.spv_proof.specs.Accepted.{Adds, Ends as EndsPath, end_of_one, end_of_two, numbered, ends_if, impossible, is_negation_of, on_effect}
-use Rattle.spv_proof.specs.Evaluation.{equation, negation, negated}
+use Rattle.spv_proof.specs.Evaluation.{negated}
 use Rattle.spv_proof.specs.Valued.{truth_in}
 use Rattle.spv_proof.specs.Added.{verdict_of}
 use Rattle.spv_decision.specs.declared.forest.Point.{Point}
 use Rattle.spv_decision.specs.Forms.{is_equation, is_conjunction, conjuncts}
 use Rattle.spv_decision.specs.Derivations.{facts, IsDerivation, IsFact, AreFacts, Stated, Derives, Closes}
 use Rattle.spv_decision.specs.Forests.{Leads}
-use Rattle.spv_decision.specs.Formulas.{conjunction, AreSides, SidesJoined}
+use Rattle.spv_decision.specs.Formulas.{AreSides, SidesJoined}
 use Rattle.spv_decision.specs.Joining.{StatesEqual}
 use Rattle.spv_decision.specs.Concluding.{StatesEquation, StatesEquations, StatesWhole, Ends}
 use Rattle.spv_decision.proofs.Trees.{Leads-one}

@@ -5,12 +5,13 @@ use Rattle.std.specs.Ordering.{int_eq}
 use Rattle.spv_logic.specs.declared.conditions.TermId.{TermId}
 use Rattle.spv_logic.specs.declared.operators.Head.TheVariants as head
 use Rattle.spv_logic.specs.Terms.{Term, term, no_terms, terms}
+use Rattle.spv_logic.specs.Formulas.{equation}
 use Rattle.spv_logic.proofs.Equality.{int_eq-true}
 use Rattle.spv_term.specs.Arena.{tree}
 use Rattle.spv_term.proofs.ArenaLemmas.{same_id}
 use Rattle.spv_proof.specs.declared.proofs.Step.{Step}
 use Rattle.spv_proof.specs.Accepted.{is_false, impossible}
-use Rattle.spv_proof.specs.Evaluation.{equation, numeral_relation}
+use Rattle.spv_proof.specs.Evaluation.{numeral_relation}
 use Rattle.spv_decision.specs.declared.forest.Point.{Point}
 use Rattle.spv_decision.specs.Derivations.{Derives}
 use Rattle.spv_decision.specs.Forests.{IsForest, IsRoot, Leads, AreClasses, Lowers, both_of, written, written_number}

@@ -5,9 +5,11 @@ use Rattle.std.specs.Ordering.{int_eq}
 use Rattle.std.specs.List.{list_any, list_all, flat_map}
 use Rattle.std.proofs.lemmas.Bool.{false≢true}
 use Rattle.std.proofs.lemmas.Bool.Decides.{nat_tests}
-use Rattle.std.proofs.lemmas.List.{append-nil, map-append, length-map, length-append}
+use Rattle.std.proofs.lemmas.List.{append-nil, map-append, get_or-map, length-map, length-append}
 use Rattle.std.proofs.lemmas.List.Elements.{All-nil, All-cons, All-head, All-tail, All-push, All-weaker, All-map}
 use Rattle.std.proofs.lemmas.List.Concat.{flat_map-append}
+use Rattle.std.proofs.lemmas.List.Folds.{list_all-append}
+use Rattle.std.proofs.lemmas.Simd.{map-map}
 use Rattle.std.proofs.lemmas.Int.{ints}
 use Rattle.spv_logic.specs.declared.conditions.TermId.{TermId}
 use Rattle.spv_logic.specs.declared.types.Sort.TheVariants as sort
@@ -24,6 +26,7 @@ use Rattle.spv_term.specs.Arena.{Arena, IsArena, tree, sequent}
 use Rattle.spv_term.proofs.ArenaLemmas.{same_id}
 use Rattle.spv_term.proofs.NodeLemmas.{id_from}
 use Rattle.spv_proof.specs.Accepted.{is_truth, is_bool}
+use Rattle.spv_proof.proofs.Same.{and-true}
 use Rattle.spv_decision.specs.declared.verdict.Unproved.{Unproved}
 use Rattle.spv_decision.specs.Forms.{is_side, is_equation, is_conjunction, conjuncts, IsConjunction, IsPlain}
 use Rattle.spv_decision.specs.Tables.{with_new, distinct, variables_of, variables_in, atoms_of, all_atoms_of, atoms_in, number_in, table_valuation, Falsifies}
@@ -32,7 +35,8 @@ use Rattle.spv_decision.specs.Forests.{written}
 use Rattle.spv_decision.specs.Formulas.{AreSides, IsEquation}
 use Rattle.spv_decision.specs.Numbers.{number_at, IsModel, has_id, with_new_id, distinct_ids}
 use Rattle.spv_decision.specs.Falsifying.{AreIds, IsTruth, AreTruths, IsShown}
-use Rattle.spv_decision.proofs.Distinct.{distinct_all}
+use Rattle.spv_decision.proofs.Distinct.{has_id-append, distinct_all}
+use Rattle.spv_decision.proofs.Trees.{nat_same}
 use Rattle.spv_decision.proofs.Evaluating.{side_sort}
 
 -- ---- conjunctions by their conjuncts
@@ -55,22 +59,10 @@ module _ (shapes : List Shape) (decls : List Decl) where
   conjunct_atoms (term head.Eq ts) h = equation_atoms (term head.Eq ts) h
   conjunct_atoms _ h = absurd (false≢true h)
 
-list_all-append : (p : Term → Bool) (xs ys : List Term) → list_all p (xs ++ ys) ≡ list_all p xs && list_all p ys
-list_all-append p [] ys = refl
-list_all-append p (x ∷ xs) ys = ap (λ b. p x && b) (list_all-append p xs ys) ∙ and_assoc (p x) (list_all p xs) (list_all p ys)
-  where
-    and_assoc : (a b c : Bool) → a && (b && c) ≡ (a && b) && c
-    and_assoc true b c = refl
-    and_assoc false b c = refl
-
-and_true : (b : Bool) → b && true ≡ b
-and_true true = refl
-and_true false = refl
-
 conjunct_holds : (symbols : Meaning) (v : Valuation) (t : Term) → is_conjunction t ≡ true → holds symbols v t ≡ list_all (holds symbols v) (conjuncts t)
 conjunct_holds symbols v (term head.And (terms r (terms l no_terms))) h =
-    (λ i. conjunct_holds symbols v r (left_true (is_conjunction r) _ h) i && sym (and_true (holds symbols v l)) i) ∙ sym (list_all-append (holds symbols v) (conjuncts r) (l ∷ []))
-conjunct_holds symbols v (term head.Eq ts) h = sym (and_true (holds symbols v (term head.Eq ts)))
+    (λ i. conjunct_holds symbols v r (left_true (is_conjunction r) _ h) i && sym (and-true (holds symbols v l)) i) ∙ sym (list_all-append (holds symbols v) (conjuncts r) (l ∷ []))
+conjunct_holds symbols v (term head.Eq ts) h = sym (and-true (holds symbols v (term head.Eq ts)))
 conjunct_holds symbols v _ h = absurd (false≢true h)
 
 -- the same for lists of them
@@ -93,9 +85,6 @@ all_holds symbols v (t ∷ ts) h =
 -- ---- ids and terms without repetition
 
 module _ (a : Arena) (ok : IsArena a) where
-  nat_same : (n : ℕ) → nat_eq n n ≡ true
-  nat_same n = grind (arith, nat_tests)
-
   -- terms of ids are one term where the ids are
   same_test : (t u : TermId) → t.0 < length a.nodes → u.0 < length a.nodes → term_eq (tree a t) (tree a u) ≡ nat_eq u.0 t.0
   same_test t u ht hu = by_case (term_eq (tree a t) (tree a u)) refl (nat_eq u.0 t.0) refl
@@ -141,18 +130,6 @@ module _ (a : Arena) (ok : IsArena a) where
       or_right true y e = refl
       or_right false y e = e
 
-      has_append : (xs : List TermId) (u : TermId) → has_id (xs ++ u ∷ []) t ≡ has_id xs t || nat_eq u.0 t.0
-      has_append [] u = or_false (nat_eq u.0 t.0)
-        where
-          or_false : (b : Bool) → b || false ≡ b
-          or_false true = refl
-          or_false false = refl
-      has_append (x ∷ xs) u = ap (λ b. nat_eq x.0 t.0 || b) (has_append xs u) ∙ or_assoc (nat_eq x.0 t.0) (has_id xs t) (nat_eq u.0 t.0)
-        where
-          or_assoc : (x y z : Bool) → x || (y || z) ≡ (x || y) || z
-          or_assoc true y z = refl
-          or_assoc false y z = refl
-
       -- with one more id: what was there, or is that id, is there
       with_one : (seen : List TermId) (u : TermId) → has_id (with_new_id seen u) t ≡ has_id seen t || nat_eq u.0 t.0
       with_one seen u = by_case (has_id seen u) refl (nat_eq u.0 t.0) refl
@@ -170,7 +147,7 @@ module _ (a : Arena) (ok : IsArena a) where
               let g : u.0 ≡ t.0 = grind (arith, nat_tests) in
               ap (has_id seen) (id_from t u (sym g)) ∙ (e ∙ sym (or_true (has_id seen t)))
           by_case true e false f = or_none (has_id seen t)
-          by_case false e d f = has_append seen u ∙ ap (λ b. has_id seen t || b) f
+          by_case false e d f = has_id-append seen u t ∙ ap (λ b. has_id seen t || b) f
 
       from_here : (ts seen : List TermId) → has_id seen t || has_id ts t ≡ true → has_id (fold with_new_id seen ts) t ≡ true
       from_here [] seen g = or_drop (has_id seen t) g
@@ -209,11 +186,6 @@ list_any_flat f q (t ∷ ts) (suc k) d h e = any_right q (f t) (flat_map f ts) (
         or_last : (b : Bool) → list_any q (xs ++ ys) ≡ true → b || list_any q (xs ++ ys) ≡ true
         or_last true g = refl
         or_last false g = g
-
-get_or-map : {A B : Type 0} (f : A → B) (xs : List A) (k : ℕ) (d : A) → k < length xs → get_or (map f xs) k (f d) ≡ f (get_or xs k d)
-get_or-map f [] k d h = refl
-get_or-map f (x ∷ xs) zero d h = refl
-get_or-map f (x ∷ xs) (suc k) d h = get_or-map f xs k d (grind (arith))
 
 -- what a side is
 side_of : (t : Term) → is_side t ≡ true → ((h : Head) × (t ≡ term h no_terms) × (variables_of t ≡ t ∷ []) × ((symbols : Meaning) (v : Valuation) → eval symbols v t ≡ v h)) ⊎ ((n : ℕ) × (t ≡ term (head.Num (pos n)) no_terms) × (written t ≡ Some n))
@@ -260,7 +232,7 @@ module _ (a : Arena) (ok : IsArena a) (numbers : List ℤ) where
             → eval symbols (table_valuation the_table) (tree a p) ≡ Number (number_at numbers p)
         by_case (inl h) =
             let there : list_any (term_eq (tree a p)) (flat_map variables_of (map (tree a) all)) ≡ true =
-            list_any_flat variables_of (term_eq (tree a p)) (map (tree a) all) k (tree a d) (let l = length-map all (tree a) in omega (arith, within, l)) (ap (λ t. list_any (term_eq (tree a p)) (variables_of t)) (get_or-map (tree a) all k d within) ∙ stands h.2) in
+            list_any_flat variables_of (term_eq (tree a p)) (map (tree a) all) k (tree a d) (let l = length-map all (tree a) in omega (arith, within, l)) (ap (λ t. list_any (term_eq (tree a p)) (variables_of t)) (get_or-map (tree a) all k d (tree a d) within) ∙ stands h.2) in
             let has : has_id vs p ≡ true = sym (any_id a ok p vs hp are.in_range) ∙ (ap (list_any (term_eq (tree a p))) are.trees ∙ there) in
             h.3 symbols (table_valuation the_table) ∙ ap Number (ap (number_in the_table) (sym h.1) ∙ number_there (distinct_ids vs) p hp distinct_in (distinct_has a ok vs p has))
         by_case (inr h) = ap (eval symbols (table_valuation the_table)) h.1 ∙ ap Number (sym (numerals p h.0 hp h.2))
@@ -387,10 +359,6 @@ module _ (a : Arena) (ok : IsArena a) (c : Condition) (plain : IsPlain a c) (num
 
   table_is : table_terms a u.table ≡ table_rows
   table_is = ap (table_terms a) shown.table ∙ map-map (λ r. (tree a r.0, r.1)) (λ v. (v, number_at numbers v)) (distinct_ids shown.variables)
-    where
-      map-map : {A B C : Type 0} (f : B → C) (g : A → B) (xs : List A) → map f (map g xs) ≡ map (λ x. f (g x)) xs
-      map-map f g [] = refl
-      map-map f g (x ∷ xs) = ap (λ ys. f (g x) ∷ ys) (map-map f g xs)
 
   listed : map (λ r. r.0) table_rows ≡ variables_in (sequent a c)
   listed = firsts (distinct_ids shown.variables) ∙ variables_are

@@ -4,11 +4,12 @@ use Rattle.spv_logic.specs.declared.conditions.TermId.{TermId}
 use Rattle.spv_logic.specs.declared.operators.Head.{Head}
 use Rattle.spv_logic.specs.declared.operators.Head.TheVariants as head
 use Rattle.spv_logic.specs.Terms.{Term, Terms, term, no_terms, terms}
+use Rattle.spv_logic.specs.Formulas.{conjunction}
 use Rattle.spv_term.specs.declared.nodes.Node.{Node}
 use Rattle.spv_term.specs.Arena.{Arena, IsArena, AllBelow, tree, trees}
 use Rattle.spv_term.proofs.ArenaLemmas.{tree-node, args_before}
 use Rattle.spv_decision.specs.Forests.{written, written_number}
-use Rattle.spv_decision.specs.Formulas.{conjunction, AreParts}
+use Rattle.spv_decision.specs.Formulas.{AreParts}
 
 -- a list of two
 pub two_of : (xs : List TermId) (d : TermId) → 2 ≤ length xs → length xs < 3 → xs ≡ slice_index_or xs 0 d ∷ slice_index_or xs 1 d ∷ []

@@ -61,7 +61,7 @@ module _ {X : Type 0} where
   slice_get-set_other (x ∷ xs) (suc i) zero y h = refl
   slice_get-set_other (x ∷ xs) (suc i) (suc j) y h = slice_get-set_other xs i j y (λ e. h (ap suc e))
 
-nat_same : (n : ℕ) → nat_eq n n ≡ true
+pub nat_same : (n : ℕ) → nat_eq n n ≡ true
 nat_same n = grind (arith, nat_tests)
 
 -- two ids are one or not

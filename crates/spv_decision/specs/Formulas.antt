@@ -2,20 +2,16 @@
 use Rattle.std.specs.Prelude.{◌≡◌, ◌≢◌, ℕ, ◌<◌, List, length, map, take, All, IsTrue}
 use Rattle.std.specs.List.{Contains, flat_map}
 use Rattle.spv_logic.specs.declared.conditions.TermId.{TermId}
-use Rattle.spv_logic.specs.declared.operators.Head.TheVariants.{And}
-use Rattle.spv_logic.specs.Terms.{Term, term, no_terms, terms}
+use Rattle.spv_logic.specs.Terms.{Term}
+use Rattle.spv_logic.specs.Formulas.{equation, conjunction}
 use Rattle.spv_term.specs.declared.nodes.Condition.{Condition}
 use Rattle.spv_term.specs.Arena.{Arena, tree}
 use Rattle.spv_proof.specs.declared.proofs.Step.{Step}
-use Rattle.spv_proof.specs.Evaluation.{equation}
 use Rattle.spv_decision.specs.declared.forest.Point.{Point}
 use Rattle.spv_decision.specs.declared.hypotheses.Hypothesis.{Hypothesis}
 use Rattle.spv_decision.specs.Forms.{is_side, is_equation, conjuncts, IsConjunction}
 use Rattle.spv_decision.specs.Derivations.{IsDerivation, IsFact}
 use Rattle.spv_decision.specs.Forests.{Leads, Joined}
-
-abbrev pub conjunction : Term → Term → Term
-conjunction rest last = term And (terms rest (terms last no_terms))
 
 -- a term is a conjunct of another one: the whole, its last one, or one of the rest
 pub data IsConjunct (e : Term) : Term → Type 0 where

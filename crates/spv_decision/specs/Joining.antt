@@ -1,10 +1,10 @@
 -- What the steps of joining promise, whatever the arena and the condition.
 use Rattle.std.specs.Prelude.{ℕ, List, Option, Some, None, All}
 use Rattle.spv_logic.specs.declared.conditions.TermId.{TermId}
+use Rattle.spv_logic.specs.Formulas.{equation}
 use Rattle.spv_term.specs.declared.nodes.Condition.{Condition}
 use Rattle.spv_term.specs.Arena.{Arena, IsArena, tree}
 use Rattle.spv_proof.specs.declared.proofs.Step.{Step}
-use Rattle.spv_proof.specs.Evaluation.{equation}
 use Rattle.spv_decision.specs.declared.forest.Point.{Point}
 use Rattle.spv_decision.specs.declared.joining.Bridge.{Bridge}
 use Rattle.spv_decision.specs.declared.hypotheses.Hypothesis.{Hypothesis}

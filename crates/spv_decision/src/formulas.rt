@@ -4,7 +4,8 @@ ghost use Rattle.std.specs.Prelude.{◌≡◌, ◌≢◌, ◌<◌, ◌^◌, ◌+
 ghost use Rattle.spv_term.specs.Arena.{tree};
 ghost use Rattle.spv_decision.specs.Forms as forms;
 ghost use Rattle.spv_decision.specs.Forms.{IsConjunction};
-ghost use Rattle.spv_decision.specs.Formulas.{conjunction, AreParts, AreSides, IsEquation, IsConjunctOf};
+ghost use Rattle.spv_logic.specs.Formulas.{conjunction};
+ghost use Rattle.spv_decision.specs.Formulas.{AreParts, AreSides, IsEquation, IsConjunctOf};
 ghost use Rattle.spv_decision.specs.Forests as forests;
 
 use spv_proof::candidates::sides;

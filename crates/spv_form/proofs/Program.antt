@@ -7,6 +7,7 @@ use Rattle.spv_names.specs.declared.names.Symbol.{Symbol}
 use Rattle.spv_logic.specs.declared.types.Sort.TheVariants as sort
 use Rattle.spv_logic.specs.declared.operators.Head.TheVariants as head
 use Rattle.spv_logic.specs.Terms.{Term, term, terms, no_terms, heads_pass}
+use Rattle.spv_logic.specs.Formulas.{conjunction}
 use Rattle.spv_logic.specs.Substitution.{Replacement, substitute}
 use Rattle.spv_logic.proofs.Equality.{left_true, right_true}
 use Rattle.spv_meaning.specs.States.{found}
@@ -24,7 +25,7 @@ use Rattle.spv_form.specs.declared.form.KnownNumbers.{KnownNumbers}
 use Rattle.spv_form.specs.declared.form.Form.{Form}
 use Rattle.spv_form.proofs.Indexed.{nat_eq-sym}
 use Rattle.spv_form.specs.Spelled.{is_variable, side_allowed, equation_allowed, formula_allowed, annotation_allowed, assignment_allowed, declaration_allowed, names_allowed}
-use Rattle.spv_form.specs.Program.{expression_of, side_term, equation_term, statement_of, block_of, conjunction, formula_term, with_sides, term_with, annotation_of, declared_variables, program_of, before_statement, before_all, condition_of, conditions_in}
+use Rattle.spv_form.specs.Program.{expression_of, side_term, equation_term, statement_of, block_of, formula_term, with_sides, term_with, annotation_of, declared_variables, program_of, before_statement, before_all, condition_of, conditions_in}
 
 -- ---- names
 

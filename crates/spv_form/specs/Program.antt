@@ -4,8 +4,8 @@ use Rattle.spv_names.specs.declared.names.Symbol.{Symbol}
 use Rattle.spv_logic.specs.declared.conditions.Kind.TheVariants as kind
 use Rattle.spv_logic.specs.declared.types.Sort.{Sort}
 use Rattle.spv_logic.specs.declared.types.Sort.TheVariants as sort
-use Rattle.spv_logic.specs.declared.operators.Head.TheVariants as head
-use Rattle.spv_logic.specs.Terms.{Term, term, terms, no_terms}
+use Rattle.spv_logic.specs.Terms.{Term}
+use Rattle.spv_logic.specs.Formulas.{equation, conjunction}
 use Rattle.spv_logic.specs.Conditions.{Condition}
 use Rattle.spv_meaning.specs.Programs as plain
 use Rattle.spv_meaning.specs.Rules.{term_of}
@@ -29,10 +29,7 @@ abbrev pub side_term : Side → Term
 side_term s = term_of (expression_of s)
 
 abbrev pub equation_term : Equation → Term
-equation_term e = term head.Eq (terms (side_term e.left) (terms (side_term e.right) no_terms))
-
-abbrev pub conjunction : Term → Term → Term
-conjunction s t = term head.And (terms s (terms t no_terms))
+equation_term e = equation (side_term e.left) (side_term e.right)
 
 -- a term and those of further equations, joined by AND from the left
 abbrev pub with_others : (Equation → Term) → Term → List Equation → Term

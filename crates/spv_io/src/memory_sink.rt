@@ -37,10 +37,10 @@ impl Model for MemorySink {
 }
 
 impl MemorySink {
-    /// A sink that holds at most `capacity` bytes. The writes whose numbers are listed, counted from
-    /// 1, fail after so many bytes, or after all of them where there are fewer; where a number is
-    /// listed twice, its first entry counts. A write past the capacity fails after the bytes that
-    /// fit.
+    /// A sink with room for `capacity` bytes. A write whose number is listed, counted from 1, takes as
+    /// many bytes as the list says for it, or all if it has no more, and fails; where a number is
+    /// listed twice, its first entry counts. A write for which there is too little room takes what
+    /// there is room for, and fails too.
     pub fn new(
         alloc: Global,
         capacity: usize,

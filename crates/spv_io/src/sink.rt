@@ -7,7 +7,7 @@ use crate::Failed;
 
 /// Something that is written piece by piece.
 pub trait Sink {
-    /// All bytes written so far, where the object tells them. An object that tells them goes on
+    /// The bytes written up to now, if the object tells them. An object that tells them goes on
     /// doing so, and one that does not never will.
     ghost written: { Self → Option (List ℕ) };
 

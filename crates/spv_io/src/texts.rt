@@ -17,7 +17,7 @@ pub trait Texts {
     /// How often the outside has failed. The count stays at 18446744073709551615 once it is there.
     ghost faults: { Self → ℕ };
 
-    /// The text of a name, or its first `most` bytes where it is longer.
+    /// The text that has this name, cut off after `most` bytes.
     fn read(&mut self, name: &str, most: usize) -> Result<Vec<u8>, TextFault>
         ensures text { IfOk result (λ bytes. IfSome (told self.old name.now)
             (λ text. bytes.items ≡ take most text)) }

@@ -18,10 +18,10 @@ use thiserror::Error;
 /// Why a text is refused. A number is a line; the first line is 1.
 #[derive(Clone, Copy, PartialEq, Eq, Debug, Error)]
 pub enum LexFault {
-    /// A byte outside comments that begins no token.
+    /// A byte with which no token can begin, and which is in no comment.
     #[error("line {0}: no token begins with this byte")]
     BadByte(u32),
-    /// A comment that is not closed. The line is that of its opening sign.
+    /// A comment without an end. The line is the one it begins on.
     #[error("line {0}: the comment is not closed")]
     OpenComment(u32),
     /// A numeral above 9223372036854775807.

@@ -7,8 +7,8 @@ use Rattle.spv_logic.specs.declared.conditions.Kind.{Kind}
 use Rattle.spv_logic.specs.declared.conditions.Kind.TheVariants as kind
 use Rattle.spv_logic.specs.declared.conditions.Origin.{Origin}
 use Rattle.spv_logic.specs.Terms.{Term}
+use Rattle.spv_logic.specs.Formulas.{negation}
 use Rattle.spv_logic.specs.Conditions.{Condition}
-use Rattle.spv_proof.specs.Evaluation.{negation}
 use Rattle.spv_term.specs.Arena.{Arena}
 use Rattle.spv_decision.specs.declared.verdict.Verdict.{Verdict}
 use Rattle.spv_decision.specs.declared.verdict.Verdict.TheVariants.{Proved, Unproved}

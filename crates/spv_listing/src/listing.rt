@@ -5,7 +5,7 @@ ghost use Rattle.std.specs.List.{flat_map, count_by};
 ghost use Rattle.spv_decision.specs.Forms.{IsPlain};
 ghost use Rattle.spv_decision.specs.Verdicts.{IsVerdict, AreVerdicts, branch_terms, table_terms};
 ghost use Rattle.spv_report.specs.Reports.{claimed, is_proved, is_unproved};
-ghost use Rattle.spv_proof.specs.Evaluation.{negation};
+ghost use Rattle.spv_logic.specs.Formulas.{negation};
 ghost use Rattle.spv_listing.specs.Page as spec;
 ghost use Rattle.spv_listing.specs.Printed.{term_text};
 ghost use Rattle.spv_listing.specs.Page.{line, heading, given_line, goal_line, branch_line, value_line, claim_lines, unproved_lines, condition_lines, blocks, counts};

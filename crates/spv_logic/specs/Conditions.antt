@@ -43,7 +43,7 @@ declared_result (Some d) = d.result
 abbrev pub fitted : List Shape → Sort → Value → Value
 fitted shapes s v = if fits shapes v s then v else default_of shapes s
 
--- what the declared symbols answer in a world: an answer without the declared sort counts as that sort's default
+-- what the declared symbols answer in a world; for an answer of a wrong sort, the default of the declared one
 abbrev pub answers : List Shape → List Decl → Meaning → Meaning
 answers shapes decls world symbol values =
     fitted shapes (declared_result (declared decls symbol)) (world symbol values)
@@ -60,11 +60,11 @@ pub record IsValuation (shapes : List Shape) (v : Valuation) : Type 0 where
 abbrev pub holds : Meaning → Valuation → Term → Bool
 holds symbols v t = truth_of (eval symbols v t)
 
--- whether the hypotheses, if all true, give a true goal
+-- whether the goal is true or a hypothesis is not
 abbrev pub follows : Meaning → Valuation → Sequent → Bool
 follows symbols v c = not (list_all (holds symbols v) c.given) || holds symbols v c.goal
 
--- a condition is true in a world: under every valuation, hypotheses that are all true give a true goal
+-- a condition is true in a world: no valuation makes its goal false and each of its hypotheses true
 abbrev pub TrueIn : List Shape → List Decl → Meaning → Sequent → Type 0
 TrueIn shapes decls world c = (v : Valuation) → IsValuation shapes v → IsTrue (follows (answers shapes decls world) v c)
 
@@ -76,7 +76,8 @@ View = Head → Option Value
 abbrev pub Shows : View → Valuation → Type 0
 Shows view v = (h : Head) → ForSome (view h) (λ w. v h ≡ w)
 
--- a condition is true at two views, at the entry of its routine and now: the same under every valuation that gives their names these values
+-- a condition is true at two views, what showed when its routine began and what shows now:
+-- no valuation that agrees with both makes its goal false and each of its hypotheses true
 abbrev pub TrueAt : List Shape → List Decl → Meaning → Sequent → View → View → Type 0
 TrueAt shapes decls world c entry now =
     (v : Valuation) → IsValuation shapes v → Shows entry v → Shows now v → IsTrue (follows (answers shapes decls world) v c)

@@ -34,7 +34,7 @@ QuotientTruncates = Gives Div (Number (negsuc 6) ∷ Number (pos 2) ∷ []) (Num
 abbrev pub RemainderHasTheDividendsSign : Type 0
 RemainderHasTheDividendsSign = Gives Mod (Number (negsuc 6) ∷ Number (pos 2) ∷ []) (Number (negsuc 0))
 
--- a DIV 0 is 0, and a MOD 0 is a
+-- with the divisor 0, DIV gives 0 and MOD the dividend
 abbrev pub QuotientByZero : Type 0
 QuotientByZero = (a : ℤ) → Gives Div (Number a ∷ Number (pos 0) ∷ []) (Number (pos 0))
 

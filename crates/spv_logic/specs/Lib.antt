@@ -1,5 +1,6 @@
 pub mod Values
 pub mod Terms
+pub mod Formulas
 pub mod Sorts
 pub mod Conditions
 pub mod Substitution

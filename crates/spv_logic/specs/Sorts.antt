@@ -160,7 +160,8 @@ default_within zero shapes (sort.Whole t) = RecordOf no_rows
 default_within (suc depth) shapes (sort.Whole t) = default_of_shape (default_within depth shapes) (shape_at shapes t.0)
 default_within depth shapes (sort.Class t) = ClassOf [] (Number (pos 0)) no_rows
 
--- 0, FALSE, NIL, the atom 0, and structures of defaults without members
+-- the value of a sort where none is given: 0, FALSE, NIL or the atom 0;
+-- a structure holds its parts' defaults, and a class has no cells
 abbrev pub default_of : List Shape → Sort → Value
 default_of shapes (sort.Class t) = ClassOf [] (default_within (suc (length shapes)) shapes (sort_of_type shapes t)) no_rows
 default_of shapes s = default_within (suc (length shapes)) shapes s
@@ -209,7 +210,7 @@ shape_ok shapes (shape.Array s) = may_be_part shapes s
 shape_ok shapes (shape.Record fields) = list_all (λ f. may_be_part shapes f.sort) fields && names_differ fields
 shape_ok shapes _ = true
 
--- whether each shape is right, and no type is a part of itself: as many types deep as there are, all parts end
+-- whether each shape is right, and no type contains itself: as many types deep as there are, all parts end
 abbrev pub shapes_ok : List Shape → Bool
 shapes_ok shapes =
     list_all (shape_ok shapes) shapes && list_all (λ s. list_all (ends_within (length shapes) shapes) (part_sorts s)) shapes
@@ -312,7 +313,7 @@ result_sort shapes decls (head.Nil t) given = takes [] given (sort.Ptr t)
 result_sort shapes decls head.True given = takes [] given sort.Bool
 result_sort shapes decls head.False given = takes [] given sort.Bool
 
--- whether a numeral lies between -(2^127 - 1) and 2^127 - 1
+-- whether a numeral without its sign is below 2^127
 abbrev pub numeral_fits : Head → Bool
 numeral_fits (head.Num z) = nat_lt (unsigned_abs z) (2 ^ 127)
 numeral_fits _ = true

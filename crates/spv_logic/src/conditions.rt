@@ -4,7 +4,7 @@
 #[derive(Clone, Copy, Default, PartialEq, Eq, PartialOrd, Ord, Hash, Debug)]
 pub struct TermId(pub u32);
 
-/// A routine: its place in the text order of the bodies, from 0.
+/// A routine: its place, from 0, in the list of those with a body, as they come in the text.
 #[derive(Clone, Copy, PartialEq, Eq, PartialOrd, Ord, Hash, Debug)]
 pub struct RoutineId(pub u32);
 
@@ -23,8 +23,8 @@ pub enum Kind {
     Entry,
 }
 
-/// Where a condition comes from: its routine (`None` is the main block), its kind, and the line of
-/// the first token of the annotation's formula (for `Entry` of the called name), from 1.
+/// Where a condition comes from: its routine (`None` is the main block), its kind, and a line, from
+/// 1: the one where the annotation's formula begins, or for `Entry` where the called name stands.
 #[derive(Clone, Copy, PartialEq, Eq, Debug)]
 pub struct Origin {
     pub routine: Option<RoutineId>,

@@ -10,7 +10,7 @@ pub enum Head {
     Var(Symbol, Sort, u32),
     /// The cells of a type: 0 for the program's own or the number of a fresh one.
     ClassVar(TypeId, u32),
-    /// The value of a value parameter at the entry of its routine.
+    /// What a value parameter held when its routine was called.
     Start(Symbol, Sort),
     /// A numeral.
     Num(i128),

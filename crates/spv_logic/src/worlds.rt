@@ -6,8 +6,8 @@ pub trait World {
     ghost use Rattle.std.specs.Prelude.{ℕ, List};
     ghost use Rattle.spv_logic.specs.Values.{Value};
 
-    /// The answer of the symbol of this number to these values. An answer that lacks the declared
-    /// sort counts as that sort's default.
+    /// The answer of the symbol of this number to these values. If it is of a wrong sort, the default
+    /// of the declared one is taken for it.
     ghost apply: { ℕ → List Value → Value };
 }
 

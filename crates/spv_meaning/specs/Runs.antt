@@ -21,7 +21,7 @@ pub data End : Type 0 where
   Stopped : Fault → End
   Going : End
 
--- an annotation that was reached, with what showed at the entry of its routine and what shows now
+-- an annotation that was reached, with what showed when its routine began and what shows now
 pub record Met : Type 0 where
   pub formula : Term
   pub entry : View

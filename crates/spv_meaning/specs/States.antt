@@ -6,7 +6,7 @@ use Rattle.spv_logic.specs.Values.{Value, Pointer, ClassOf, no_rows, with_cell, 
 use Rattle.spv_logic.specs.Terms.{class_with}
 use Rattle.spv_logic.specs.Sorts.{default_of, sort_of_type}
 
--- where a place begins: a program variable, the own value of a name in a frame (counted from the oldest), or a cell
+-- where a place begins: a program variable, what a frame (counted from the oldest) keeps under a name, or a cell
 pub data Root : Type 0 where
   ProgramVariable : ℕ → Root
   OwnValue : ℕ → ℕ → Root
@@ -21,7 +21,7 @@ pub record Place : Type 0 where
   pub root : Root
   pub path : List PathStep
 
--- what a name of a routine stands for: a value, or for a VAR parameter a place
+-- what a name of a routine stands for: a place if it is a VAR parameter, else a value
 pub data Binding : Type 0 where
   Holding : Value → Binding
   Referring : Place → Binding

@@ -52,7 +52,7 @@ impl Names {
         self.texts.is_empty()
     }
 
-    /// The number of a text, which goes last if it is new.
+    /// The number of a text. If the table lacks it, it is put at the end.
     pub fn enter(&mut self, text: &[u8]) -> Result<Symbol, AllocError>
         requires room { length self.old < 2147483648 }
         requires folded { IsFolded text.now }

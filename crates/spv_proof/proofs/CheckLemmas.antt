@@ -17,7 +17,7 @@ use Rattle.spv_proof.specs.declared.proofs.Stated.{Stated}
 use Rattle.spv_proof.specs.declared.proofs.Stated.TheVariants.{Is, Same}
 use Rattle.spv_proof.specs.declared.proofs.Step.{Step}
 use Rattle.spv_proof.specs.declared.proofs.Step.TheVariants.{Given, Refl, Symm, Trans, Eval, Contra}
-use Rattle.spv_proof.specs.Evaluation as evaluation
+use Rattle.spv_logic.specs.Formulas as formulas
 use Rattle.spv_proof.specs.Accepted as spec
 use Rattle.spv_proof.specs.Candidates.{IsBool, StatedIn, StepIn, StepsIn, AllFormulas}
 use Rattle.spv_proof.specs.Valued.{truth_in}
@@ -52,9 +52,9 @@ module _ {old new : Arena} (more : Extends old new) where
 
   stated-Extends : (truth : Term → Bool) (s : Stated) → StatedIn old s → spec.stated truth (tree new) s ≡ spec.stated truth (tree old) s
   stated-Extends truth (Is t true) h = ap (λ x. if truth x then Some x else None) (tree-Extends more t h)
-  stated-Extends truth (Is t false) h = ap (λ x. if truth x then Some (evaluation.negation x) else None) (tree-Extends more t h)
+  stated-Extends truth (Is t false) h = ap (λ x. if truth x then Some (formulas.negation x) else None) (tree-Extends more t h)
   stated-Extends truth (Same s t) h =
-      (λ i. if truth (tree-Extends more s h.0 i) && truth (tree-Extends more t h.1 i) then Some (evaluation.equation (tree-Extends more s h.0 i) (tree-Extends more t h.1 i)) else None)
+      (λ i. if truth (tree-Extends more s h.0 i) && truth (tree-Extends more t h.1 i) then Some (formulas.equation (tree-Extends more s h.0 i) (tree-Extends more t h.1 i)) else None)
 
   sequent-Extends : (c : Condition) → AllFormulas old c.given → c.goal.0 < length old.nodes → sequent new c ≡ sequent old c
   sequent-Extends c given goal = (λ i. record { given = map_tree-Extends more c.given (AllBelow-formulas old c.given given) i; goal = tree-Extends more c.goal goal i })
@@ -63,7 +63,7 @@ module _ {old new : Arena} (more : Extends old new) where
   pub effect-Extends : (c : Condition) → AllFormulas old c.given → c.goal.0 < length old.nodes → (facts : List Term) (s : Step) → StepIn old s
       → spec.effect (truth_in new) (tree new) (sequent new c) facts s ≡ spec.effect (truth_in old) (tree old) (sequent old c) facts s
   effect-Extends c given goal facts (Given k) h = ap (λ q. spec.given_effect q k) (sequent-Extends c given goal)
-  effect-Extends c given goal facts (Refl t) h = ap (λ x. spec.Adds (evaluation.equation x x)) (tree-Extends more t h)
+  effect-Extends c given goal facts (Refl t) h = ap (λ x. spec.Adds (formulas.equation x x)) (tree-Extends more t h)
   effect-Extends c given goal facts (Symm i) h = refl
   effect-Extends c given goal facts (Trans i j) h = refl
   effect-Extends c given goal facts (Eval s ks) h =

@@ -3,8 +3,9 @@ use Rattle.std.proofs.Common.{◌≡◌, Bool, true, false, ◌&&◌, refl, sym,
 use Rattle.std.proofs.lemmas.Bool.{false≢true}
 use Rattle.spv_logic.specs.declared.operators.Head.TheVariants.{Not, Eq, Lt}
 use Rattle.spv_logic.specs.Terms.{Term, term, no_terms, terms, term_eq}
+use Rattle.spv_logic.specs.Formulas.{negation, equation, below}
 use Rattle.spv_logic.proofs.Equality.{term_eq-true, term_eq-refl}
-use Rattle.spv_proof.specs.Evaluation.{negation, equation, below, negated, sides, lower}
+use Rattle.spv_proof.specs.Evaluation.{negated, sides, lower}
 use Rattle.spv_proof.proofs.Looks.{term_eq-ids}
 
 pub and-true : (a : Bool) → (a && true) ≡ a

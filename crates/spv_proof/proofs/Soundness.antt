@@ -17,13 +17,14 @@ use Rattle.spv_logic.specs.declared.operators.Head.TheVariants.{Num, Eq, Lt, Le,
 use Rattle.spv_logic.specs.Values.{Value, Number, Truth, value_eq, bool_eq, number_of, truth_of}
 use Rattle.spv_logic.specs.Terms.{Term, Terms, term, no_terms, terms, term_eq, eval, eval_all, first, second}
 use Rattle.spv_logic.specs.Sorts.{shapes_ok, fits, term_sort}
+use Rattle.spv_logic.specs.Formulas.{negation, equation, below}
 use Rattle.spv_logic.specs.Conditions.{Meaning, Valuation, Sequent, IsValuation, TrueIn, answers, holds}
 use Rattle.spv_logic.proofs.Equality.{left_true, right_true, value_eq-true, value_eq-refl, bool_eq-refl, term_eq-true, sort_eq-true}
 use Rattle.spv_logic.proofs.Sorting.{eval-fits}
 use Rattle.spv_proof.specs.declared.proofs.Step.{Step}
 use Rattle.spv_proof.specs.declared.proofs.Step.TheVariants as step
 use Rattle.spv_proof.specs.declared.proofs.ProofNode.{ProofNode}
-use Rattle.spv_proof.specs.Evaluation.{negation, equation, below, negated, sides, given_negated, given_by, assignment, assigned, cites, apart, or_else, given_to, not_of, and_of, or_of, implied, same_of, first_of, second_of, numeral, compare_known, numeral_relation, all_truths, equation_value, combined, computed, values, opposite, bare, clashes, evaluates}
+use Rattle.spv_proof.specs.Evaluation.{negated, sides, given_negated, given_by, assignment, assigned, cites, apart, or_else, given_to, not_of, and_of, or_of, implied, same_of, first_of, second_of, numeral, compare_known, numeral_relation, all_truths, equation_value, combined, computed, values, opposite, bare, clashes, evaluates}
 use Rattle.spv_proof.specs.Accepted.{Effect, Adds, Ends, Fails, is_bool, is_truth, numbered, fact_before, cited, adds_known, sides_of, exchanged, joined, stated, evaluated, is_negation_of, contrary, is_false, impossible, ends_if, end_of_one, end_of_two, end_of, effect, no_steps, on_effect, accepts_steps, is_leaf, accepts_nodes, accepts}
 
 -- ---- what options tell of truth values

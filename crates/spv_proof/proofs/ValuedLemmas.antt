@@ -22,6 +22,7 @@ use Rattle.spv_term.specs.Arena.{Arena, IsArena, AllBelow, tree, trees, sort_at}
 use Rattle.spv_term.proofs.ListLemmas.{slice_get-append_left, slice_get_push}
 use Rattle.spv_term.proofs.ArenaLemmas.{tree-node, args_before, IsWellSorted-arena}
 use Rattle.spv_proof.specs.declared.candidates.Candidate.{Candidate}
+use Rattle.spv_logic.specs.Formulas as formulas
 use Rattle.spv_proof.specs.Evaluation as spec
 use Rattle.spv_proof.specs.Accepted.{is_bool}
 use Rattle.spv_proof.specs.Candidates.{formula_of}
@@ -105,7 +106,7 @@ abbrev pub facts_give : Arena → Candidate → List TermId → Option Bool
 facts_give a t facts = spec.assigned (flat_map (spec.given_by true) (map (tree a) facts)) (formula_of a t)
 
 abbrev pub orders : Arena → TermId → TermId → List TermId → Bool
-orders a s t facts = spec.cites (map (tree a) facts) (spec.below (tree a s) (tree a t))
+orders a s t facts = spec.cites (map (tree a) facts) (formulas.below (tree a s) (tree a t))
 
 abbrev pub are_truths : Arena → List TermId → Bool
 are_truths a ts = spec.all_truths (truth_in a) (trees a ts)

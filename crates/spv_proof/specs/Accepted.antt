@@ -8,6 +8,7 @@ use Rattle.spv_logic.specs.declared.types.Decl.{Decl}
 use Rattle.spv_logic.specs.declared.operators.Head.TheVariants.{True, False}
 use Rattle.spv_logic.specs.Terms.{Term, term, no_terms, sort_eq, term_eq}
 use Rattle.spv_logic.specs.Sorts.{term_sort}
+use Rattle.spv_logic.specs.Formulas.{negation, equation}
 use Rattle.spv_logic.specs.Conditions.{Sequent}
 use Rattle.spv_proof.specs.declared.proofs.Stated.{Stated}
 use Rattle.spv_proof.specs.declared.proofs.Stated.TheVariants.{Is, Same}
@@ -15,7 +16,7 @@ use Rattle.spv_proof.specs.declared.proofs.Step.{Step}
 use Rattle.spv_proof.specs.declared.proofs.Step.TheVariants.{Given, Refl, Symm, Trans, Eval, Contra}
 use Rattle.spv_proof.specs.declared.proofs.ProofNode.{ProofNode}
 use Rattle.spv_proof.specs.declared.proofs.Split.{Split}
-use Rattle.spv_proof.specs.Evaluation.{negation, equation, negated, sides, evaluates, numeral_relation}
+use Rattle.spv_proof.specs.Evaluation.{negated, sides, evaluates, numeral_relation}
 
 -- what a step does on a path: it adds a fact, ends the path, or does not follow
 pub data Effect : Type 0 where
@@ -96,7 +97,7 @@ abbrev pub is_false : Option Bool → Bool
 is_false None = false
 is_false (Some b) = not b
 
--- whether a formula is never true: FALSE, the negation of TRUE, or a false relation of two numerals
+-- whether a formula is never true: FALSE, NOT of TRUE, or what compares two numerals and does not hold
 abbrev pub impossible : Term → Bool
 impossible t =
     term_eq t (term False no_terms) || (term_eq t (negation (term True no_terms)) || is_false (numeral_relation t))

@@ -3,6 +3,7 @@ use Rattle.std.specs.Prelude.{◌≡◌, ◌<◌, List, [], ◌∷◌, length}
 use Rattle.spv_logic.specs.declared.conditions.TermId.{TermId}
 use Rattle.spv_logic.specs.declared.types.Sort.TheVariants as sort
 use Rattle.spv_logic.specs.Terms.{Term}
+use Rattle.spv_logic.specs.Formulas.{negation, equation}
 use Rattle.spv_term.specs.Arena.{Arena, tree, sort_at}
 use Rattle.spv_proof.specs.declared.candidates.Candidate.{Candidate}
 use Rattle.spv_proof.specs.declared.candidates.Candidate.TheVariants.{Known, Negation, Equation}
@@ -11,7 +12,6 @@ use Rattle.spv_proof.specs.declared.proofs.Stated.TheVariants.{Is, Same}
 use Rattle.spv_proof.specs.declared.proofs.Step.{Step}
 use Rattle.spv_proof.specs.declared.proofs.Step.TheVariants.{Refl, Eval}
 use Rattle.spv_proof.specs.declared.proofs.ProofNode.{ProofNode}
-use Rattle.spv_proof.specs.Evaluation.{negation, equation}
 
 -- the formula
 abbrev pub formula_of : Arena → Candidate → Term

@@ -7,17 +7,9 @@ use Rattle.spv_logic.specs.declared.operators.Head.{Head}
 use Rattle.spv_logic.specs.declared.operators.Head.TheVariants.{Num, Not, And, Or, Implies, Eq, Lt, Le, True, False}
 use Rattle.spv_logic.specs.Values.{bool_eq}
 use Rattle.spv_logic.specs.Terms.{Term, Terms, term, no_terms, terms, term_eq}
+use Rattle.spv_logic.specs.Formulas.{below}
 
 -- ---- formulas
-
-abbrev pub negation : Term → Term
-negation t = term Not (terms t no_terms)
-
-abbrev pub equation : Term → Term → Term
-equation s t = term Eq (terms s (terms t no_terms))
-
-abbrev pub below : Term → Term → Term
-below s t = term Lt (terms s (terms t no_terms))
 
 -- what a formula negates
 abbrev pub negated : Term → Option Term

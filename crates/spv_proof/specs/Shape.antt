@@ -15,6 +15,6 @@ in_order place [] (n ∷ nodes) = false
 in_order place (wanted ∷ others) [] = false
 in_order place (wanted ∷ others) (n ∷ nodes) = nat_eq wanted place && in_order (suc place) (parts_of n.split ++ others) nodes
 
--- whether nodes are a tree in the order of its text
+-- whether nodes are a tree, listed as its text has them
 abbrev pub is_tree : List ProofNode → Bool
 is_tree nodes = in_order 0 (0 ∷ []) nodes

@@ -4,6 +4,7 @@ ghost use Rattle.std.specs.Prelude.{◌≡◌, ◌<◌, ◌&&◌, length, IsTrue
 ghost use Rattle.std.specs.Option.{option_map, ForSome};
 ghost use Rattle.spv_logic.specs.Terms.{term_eq};
 ghost use Rattle.spv_term.specs.Arena.{tree, sort_at, IsArena};
+ghost use Rattle.spv_logic.specs.Formulas as formulas;
 ghost use Rattle.spv_proof.specs.Evaluation as spec;
 ghost use Rattle.spv_proof.specs.Candidates.{formula_of, pair_of, MayStand, PairIn};
 
@@ -93,7 +94,7 @@ fn same_terms(terms: &Terms, s: TermId, p: TermId, t: TermId, q: TermId) -> bool
 fn is_negation(terms: &Terms, u: TermId, t: TermId) -> bool
     requires u { u.0 < length terms.now.nodes }
     requires t { t.0 < length terms.now.nodes }
-    ensures { result ≡ term_eq (spec.negation (tree terms.now t)) (tree terms.now u) }
+    ensures { result ≡ term_eq (formulas.negation (tree terms.now t)) (tree terms.now u) }
 {
     match negated(terms, u) {
         Some(inner) => same_term(terms, t, inner),
@@ -107,7 +108,7 @@ fn is_equation(terms: &Terms, u: TermId, s: TermId, t: TermId) -> bool
     requires u { u.0 < length terms.now.nodes }
     requires s { s.0 < length terms.now.nodes }
     requires t { t.0 < length terms.now.nodes }
-    ensures { result ≡ term_eq (spec.equation (tree terms.now s) (tree terms.now t)) (tree terms.now u) }
+    ensures { result ≡ term_eq (formulas.equation (tree terms.now s) (tree terms.now t)) (tree terms.now u) }
 {
     match sides(terms, u) {
         Some((left, right)) => same_terms(terms, s, left, t, right),
@@ -121,7 +122,7 @@ pub(crate) fn is_below(terms: &Terms, u: TermId, s: TermId, t: TermId) -> bool
     requires u { u.0 < length terms.now.nodes }
     requires s { s.0 < length terms.now.nodes }
     requires t { t.0 < length terms.now.nodes }
-    ensures { result ≡ term_eq (spec.below (tree terms.now s) (tree terms.now t)) (tree terms.now u) }
+    ensures { result ≡ term_eq (formulas.below (tree terms.now s) (tree terms.now t)) (tree terms.now u) }
 {
     match lower(terms, u) {
         Some((left, right)) => same_terms(terms, s, left, t, right),
@@ -148,7 +149,7 @@ pub(crate) fn is_term(terms: &Terms, formula: Candidate, u: TermId) -> bool
 fn is_negation_of(terms: &Terms, formula: Candidate, t: TermId) -> bool
     requires formula { MayStand terms.now formula }
     requires t { t.0 < length terms.now.nodes }
-    ensures { result ≡ term_eq (spec.negation (tree terms.now t)) (formula_of terms.now formula) }
+    ensures { result ≡ term_eq (formulas.negation (tree terms.now t)) (formula_of terms.now formula) }
 {
     match formula {
         Candidate::Known(u) => is_negation(terms, u, t),
@@ -164,7 +165,7 @@ fn is_equation_of(terms: &Terms, formula: Candidate, s: TermId, t: TermId) -> bo
     requires s { s.0 < length terms.now.nodes }
     requires t { t.0 < length terms.now.nodes }
     ensures { result
-        ≡ term_eq (spec.equation (tree terms.now s) (tree terms.now t)) (formula_of terms.now formula) }
+        ≡ term_eq (formulas.equation (tree terms.now s) (tree terms.now t)) (formula_of terms.now formula) }
 {
     match formula {
         Candidate::Known(u) => is_equation(terms, u, s, t),

@@ -176,10 +176,10 @@ fn check_nodes(
     }
 }
 
-/// Whether a proof of a condition is accepted. It makes no term but the facts that the proof's steps
-/// add, in their order. `Size` comes exactly where a fact is new and there may be no more terms,
-/// unless there is no memory first, which is `Memory`. After an error the arena may have some of the
-/// facts that come first.
+/// Whether a proof of a condition is accepted. What it makes are the facts of the proof's steps, from
+/// the first step on, and no other term. `Size` comes exactly where a fact is new and there may be
+/// no more terms, unless there is no memory first, which is `Memory`. After an error the arena may
+/// have some of the facts that come first.
 pub fn check(terms: &mut Terms, condition: &Condition, proof: &Proof) -> Result<bool, CheckStop>
     requires given { AllFormulas terms.old condition.now.given }
     requires goal_in { condition.now.goal.0 < length terms.old.nodes }

@@ -46,7 +46,7 @@ pub enum Stated {
     Same(TermId, TermId),
 }
 
-/// One step of a proof. The facts of a path are numbered from 1; each step but `Contra` adds one.
+/// One step of a proof. Each adds a fact, but for `Contra`; the first fact of a path has number 1, and so on.
 #[derive(Debug, Drop)]
 pub enum Step {
     /// The hypothesis of this number, from 1; for 0, that the goal is false.
@@ -108,8 +108,9 @@ pub struct ProofNode {
     pub split: Option<Split>,
 }
 
-/// A proof: a tree of nodes kept as a list, in the order of its text, so that nothing nests with its
-/// depth. The first node is the root, and each other one is a case of exactly one split.
+/// A proof: a tree whose nodes stand in one list, as its text has them. A deep proof is then a long
+/// list, and no value inside a value. The list begins with the root; each other node is a case of
+/// exactly one split.
 #[derive(Debug, Drop)]
 pub struct Proof {
     nodes: Vec<ProofNode>,

@@ -6,6 +6,7 @@ ghost use Rattle.spv_logic.specs.declared.conditions.TermId.{TermId};
 ghost use Rattle.spv_logic.specs.declared.operators.Head.TheVariants as head;
 ghost use Rattle.spv_logic.specs.Terms.{Term, term, no_terms, term_eq};
 ghost use Rattle.spv_term.specs.Arena.{AllBelow, tree, sort_at, sequent};
+ghost use Rattle.spv_logic.specs.Formulas as formulas;
 ghost use Rattle.spv_proof.specs.Evaluation as evaluation;
 ghost use Rattle.spv_proof.specs.Accepted as spec;
 ghost use Rattle.spv_proof.specs.Candidates.{formula_of, pair_of, MayStand, PairIn, IsBool, StatedIn, StepIn, AllFormulas};
@@ -252,7 +253,7 @@ fn is_true(terms: &Terms, t: TermId) -> bool
 // Whether a term is the negation of TRUE.
 fn is_not_true(terms: &Terms, t: TermId) -> bool
     requires { t.0 < length terms.now.nodes }
-    ensures { result ≡ term_eq (tree terms.now t) (evaluation.negation (term head.True no_terms)) }
+    ensures { result ≡ term_eq (tree terms.now t) (formulas.negation (term head.True no_terms)) }
 {
     match negated(terms, t) {
         Some(u) => is_true(terms, u),
@@ -260,7 +261,7 @@ fn is_not_true(terms: &Terms, t: TermId) -> bool
     }
 }
 
-// Whether a term is a false relation of two numerals.
+// Whether a term compares two numerals and does not hold.
 fn is_false_relation(terms: &Terms, t: TermId) -> bool
     requires { t.0 < length terms.now.nodes }
     ensures { result ≡ spec.is_false (evaluation.numeral_relation (tree terms.now t)) }

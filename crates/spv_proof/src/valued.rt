@@ -5,6 +5,7 @@ ghost use Rattle.std.specs.List.{flat_map, list_any};
 ghost use Rattle.std.specs.Option.{option_map, ForSome};
 ghost use Rattle.spv_logic.specs.Terms.{term};
 ghost use Rattle.spv_term.specs.Arena.{AllBelow, tree, trees, IsArena};
+ghost use Rattle.spv_logic.specs.Formulas as formulas;
 ghost use Rattle.spv_proof.specs.Evaluation as spec;
 ghost use Rattle.spv_proof.specs.Candidates.{formula_of, pair_of, IsBool, MayStand, PairIn};
 ghost use Rattle.spv_proof.specs.Valued.{truth_in, given_in, computed_in, value_in, AreComputed};
@@ -66,7 +67,7 @@ fn cites_below(terms: &Terms, cited: &[TermId], s: TermId, t: TermId) -> bool
     requires s { s.0 < length terms.now.nodes }
     requires t { t.0 < length terms.now.nodes }
     ensures { result
-        ≡ spec.cites (map (tree terms.now) cited.now) (spec.below (tree terms.now s) (tree terms.now t)) }
+        ≡ spec.cites (map (tree terms.now) cited.now) (formulas.below (tree terms.now s) (tree terms.now t)) }
 {
     for fact in cited {
         if is_below(terms, *fact, s, t) {
@@ -312,7 +313,7 @@ fn computed_of(
     }
 }
 
-// Whether a formula without its outer negation has a computed value opposite to its given one.
+// Whether a formula, an outer NOT taken off, is computed as true where it is given as false, or the other way round.
 fn clashes(
     terms: &Terms,
     cited: &[TermId],

@@ -12,8 +12,9 @@ use Rattle.spv_logic.specs.declared.types.Shape.{Shape}
 use Rattle.spv_logic.specs.declared.types.Decl.{Decl}
 use Rattle.spv_logic.specs.Sorts.{result_sort}
 use Rattle.spv_logic.specs.Terms.{Term, term, terms, no_terms}
+use Rattle.spv_logic.specs.Formulas.{conjunction}
 use Rattle.spv_form.specs.declared.form.Equation.{Equation}
-use Rattle.spv_form.specs.Program.{side_term, equation_term, conjunction, with_others}
+use Rattle.spv_form.specs.Program.{side_term, equation_term, with_others}
 use Rattle.spv_term.specs.Arena.{Arena, Extends, AllBelow, tree, trees, sort_at}
 use Rattle.spv_term.proofs.ArenaLemmas.{Extends-refl, Extends-trans, length-Extends, tree-Extends}
 use Rattle.spv_decision.specs.Forms.{is_equation, is_conjunction, IsConjunction}

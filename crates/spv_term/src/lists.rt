@@ -149,7 +149,7 @@ impl TermList {
 
 /// The shapes of a program's types, by their places. Each type that a shape names is there, the
 /// parts of arrays and records have sorts that parts may have, the names of a record's fields
-/// differ, and no type is a part of itself.
+/// differ, and no type contains itself.
 #[derive(Debug, Drop)]
 pub struct Shapes {
     list: Vec<Shape>,
