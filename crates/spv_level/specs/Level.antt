@@ -20,7 +20,7 @@ at_first = record { last = 0; others = [] }
 abbrev pub level : Counters → ℕ
 level c = length (c.last ∷ c.others) + sum (c.last ∷ c.others)
 
--- the counters without the last, unless only one is left
+-- the counters without the last, if it is not the only one
 abbrev pub closed : ℕ → List ℕ → Counters
 closed last [] = record { last = last; others = [] }
 closed last (n ∷ others) = record { last = n; others = others }
@@ -41,7 +41,7 @@ abbrev pub highest : Counters → List TokenKind → ℕ
 highest c [] = level c
 highest c (k ∷ kinds) = max (level c) (highest (past_token k c) kinds)
 
--- the line of the first token after which the level exceeds 200
+-- the line of the token with which the level first goes above 200
 abbrev pub too_deep_from : Counters → List Token → Option ℕ
 too_deep_from c [] = None
 too_deep_from c (t ∷ tokens) = if nat_lt 200 (level (past_token t.kind c)) then Some t.line else too_deep_from (past_token t.kind c) tokens

@@ -10,7 +10,7 @@ use spv_tree::{Sign, TokenKind, Word};
 pub enum Effect {
     /// It adds a counter that is 0.
     Opens,
-    /// It removes the last counter, unless only one is left.
+    /// It takes the last counter away, if it is not the only one.
     Closes,
     /// It sets the last counter to 0.
     Restarts,

@@ -37,7 +37,7 @@ fn open(scan: &mut Scan) -> Result<(), AllocError>
     Ok(())
 }
 
-// Removes the last counter, unless only one is left.
+// Takes the last counter away, if it is not the only one.
 fn close(scan: &mut Scan)
     requires counted { IsCounted scan.old }
     ensures counted { IsCounted scan.new }

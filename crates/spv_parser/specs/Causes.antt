@@ -3,6 +3,8 @@ use Rattle.std.specs.Prelude.{◌≡◌, List, Some, None}
 use Rattle.spv_tree.specs.declared.token.Token.{Token}
 use Rattle.spv_level.specs.LeftOut.{left_out}
 use Rattle.spv_level.specs.Level.{too_deep}
+use Rattle.spv_parser.specs.declared.fault.Fault.{Fault}
+use Rattle.spv_parser.specs.declared.fault.Fault.TheVariants as fault
 use Rattle.spv_parser.specs.declared.refused.SyntaxFault.{SyntaxFault}
 use Rattle.spv_parser.specs.declared.refused.SyntaxFault.TheVariants.{Profile, TooDeep, Syntax, Memory}
 
@@ -10,6 +12,19 @@ use Rattle.spv_parser.specs.declared.refused.SyntaxFault.TheVariants.{Profile, T
 pub record IsAllowed (tokens : List Token) : Type 0 where
   pub known : left_out tokens ≡ None
   pub shallow : too_deep tokens ≡ None
+
+-- a left-out word stands there, or the text is too deep; want of memory has no cause in the tokens
+abbrev pub IsForbidden : List Token → SyntaxFault → Type 0
+IsForbidden tokens (Profile line word) = left_out tokens ≡ Some (line, word)
+IsForbidden tokens (TooDeep line) = (left_out tokens ≡ None) × (too_deep tokens ≡ Some line)
+IsForbidden tokens (Syntax line) = ⊥
+IsForbidden tokens Memory = Unit {0}
+
+-- the refusal that a fault of reading becomes
+abbrev pub IsRefusalOf : Fault → SyntaxFault → Type 0
+IsRefusalOf (fault.Syntax place) (Syntax line) = Unit {0}
+IsRefusalOf fault.Memory Memory = Unit {0}
+IsRefusalOf _ _ = ⊥
 
 -- the fault is that of the tokens, where trees of this kind are read so; want of memory has no cause in them
 abbrev pub HasCause : {A : Type 0} → (List Token → A → Type 0) → List Token → SyntaxFault → Type 0

@@ -14,7 +14,7 @@ mod loops;
 mod parser;
 mod programs;
 mod refused;
-mod rules;
+mod rule_files;
 mod statements;
 mod types;
 

@@ -26,7 +26,7 @@ pub fn law_designators()
     ensures spelled_is_one { SpelledIsOne designators }
 {}
 
-/// A statement is read where it is spelled, and no other one: an ELSE belongs to the nearest IF that has none.
+/// A statement is read where it is spelled, and no other one: each ELSE goes with the innermost IF that still lacks one.
 pub fn law_statements()
     ensures read_is_spelled { ReadIsSpelled statements read_statement }
     ensures spelled_is_read { SpelledIsRead statements statement_depth read_statement }

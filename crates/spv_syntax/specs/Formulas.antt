@@ -1,4 +1,4 @@
--- Formulas and designators as plain data: one type for each line of the grammar, its parts in the order of that line,
+-- Formulas and designators as plain data: one type for each line of the grammar, with the parts as that line has them,
 -- behind the line of the text on which it begins.
 use Rattle.std.specs.Prelude.{ℕ, Bool, Option}
 use Rattle.spv_syntax.specs.declared.names.Name.{Name}

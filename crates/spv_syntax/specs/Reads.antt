@@ -14,7 +14,7 @@ use Rattle.spv_syntax.specs.ProgramLines.{program_lines}
 use Rattle.spv_syntax.specs.RuleKinds.{rule_tree_kinds, formula_text_kinds}
 use Rattle.spv_syntax.specs.RuleLines.{rule_tree_lines, formula_text_lines}
 
--- ---- an ELSE belongs to the nearest IF that has none
+-- ---- each ELSE goes with the innermost IF that still lacks one
 
 -- whether a statement ends with an IF that has no ELSE
 abbrev mutual
@@ -43,7 +43,7 @@ abbrev pub may_end : Statement → Otherwise → Bool
 may_end s nothing_otherwise = true
 may_end s (otherwise other) = not (ends_open s)
 
--- whether no IF without ELSE ends the THEN part of an IF with ELSE
+-- whether each IF with an ELSE has a THEN part that does not end with an IF that lacks one
 abbrev mutual
   pub statement_ok : Statement → Bool
   statement_ok (empty line) = true
