@@ -7,5 +7,8 @@ mod fault;
 mod formulas;
 mod front;
 mod lists;
+mod program;
+mod routine_marks;
+mod routines;
 mod statements;
 mod types;
