@@ -4,3 +4,6 @@ pub mod FormulaLists
 pub mod Calls
 pub mod StatementLists
 pub mod TypeLists
+pub mod MarkTurns
+pub mod ProgramParts
+pub mod Wholes

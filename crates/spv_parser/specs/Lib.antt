@@ -4,3 +4,5 @@ pub mod Factors
 pub mod Compound
 pub mod Causes
 pub mod TypeParts
+pub mod RoutineParts
+pub mod Marks

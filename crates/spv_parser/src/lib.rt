@@ -14,6 +14,8 @@ mod loops;
 mod parser;
 mod programs;
 mod refused;
+mod routine_marks;
+mod routines;
 mod rule_files;
 mod statements;
 mod types;

@@ -6,7 +6,7 @@ ghost use Rattle.spv_parser.specs.Causes.{IsAllowed, HasCause, IsForbidden, IsRe
 
 use crate::fault::Fault;
 use crate::formula_texts::formula_text;
-use crate::programs::whole_program;
+use crate::programs::program_at;
 use crate::refused::SyntaxFault;
 use crate::rule_files::rule_file;
 use spv_level::{law_enough, law_enough_formula_text, law_enough_rules, left_out, too_deep};
@@ -52,7 +52,7 @@ pub fn program(alloc: Global, tokens: &[Token]) -> Result<Program, SyntaxFault>
     law_programs();
     law_enough();
     allowed(alloc, tokens)?;
-    match whole_program(alloc, LEVELS, tokens) {
+    match program_at(alloc, LEVELS, tokens) {
         Ok((tree, [])) => Ok(tree),
         Ok((_, [token, ..])) => Err(SyntaxFault::Syntax(token.line)),
         Err(fault) => Err(refusal(tokens, fault)),

@@ -1,18 +1,61 @@
 // Programs.
 
 ghost use Rattle.std.specs.Prelude.{◌≡◌, Some, None, IfOk, IsErrAnd};
-ghost use Rattle.spv_reading.specs.RoutineReaders.{read_program};
+ghost use Rattle.spv_reading.specs.RoutineReaders.{read_files, read_program};
 ghost use Rattle.spv_parser.specs.Faults.{IsSyntax};
 
+use crate::declarations::declarations;
 use crate::fault::Fault;
-use spv_syntax::Program;
-use spv_tree::Token;
+use crate::front::{after, first_line, is_sign, name, past_sign, past_word};
+use crate::routine_marks::{ended_block, routines};
+use crate::routines::condition;
+use crate::types::names;
+use spv_syntax::{Name, Parts, Program, Several};
+use spv_tree::{Sign, Token, Word};
 use std::alloc::Global;
 
-// The program at the front.
-pub fn whole_program(_alloc: Global, _levels: u32, _tokens: &[Token]) -> Result<(Program, &[Token]), Fault>
-    ensures read { IfOk result (λ r. read_program _levels _tokens.now ≡ Some (r.0, r.1.now)) }
-    ensures absent { IsErrAnd result IsSyntax → read_program _levels _tokens.now ≡ None }
+// ["(" names ")"]
+fn files(alloc: Global, tokens: &[Token]) -> Result<(Option<Several<Name>>, &[Token]), Fault>
+    ensures read { IfOk result (λ r. read_files tokens.now ≡ Some (r.0, r.1.now)) }
+    ensures absent { IsErrAnd result IsSyntax → read_files tokens.now ≡ None }
 {
-    Err(Fault::Memory)
+    if !is_sign(Sign::OpenParenthesis, tokens) {
+        return Ok((None, tokens));
+    }
+    let (names, rest) = names(alloc, after(tokens))?;
+    let rest = past_sign(Sign::CloseParenthesis, rest)?;
+    Ok((Some(names), rest))
+}
+
+// PROGRAM name ["(" names ")"] ";" decls {routine} [ENTRY formula ";"] [EXIT formula ";"] block "."
+pub fn program_at(
+    alloc: Global,
+    levels: u32,
+    tokens: &[Token],
+) -> Result<(Program, &[Token]), Fault>
+    ensures read { IfOk result (λ r. read_program levels tokens.now ≡ Some (r.0, r.1.now)) }
+    ensures absent { IsErrAnd result IsSyntax → read_program levels tokens.now ≡ None }
+{
+    let line = first_line(tokens);
+    let rest = past_word(Word::Program, tokens)?;
+    let (name, rest) = name(rest)?;
+    let (files, rest) = files(alloc, rest)?;
+    let rest = past_sign(Sign::Semicolon, rest)?;
+    let (declarations, rest) = declarations(alloc, levels, rest)?;
+    let (routines, rest) = routines(alloc, levels, rest)?;
+    let routines = Parts::from_vec(routines);
+    let (entry, rest) = condition(alloc, levels, Word::Entry, rest)?;
+    let (exit, rest) = condition(alloc, levels, Word::Exit, rest)?;
+    let (block, rest) = ended_block(alloc, levels, Sign::Period, rest)?;
+    let program = Program {
+        line,
+        name,
+        files,
+        declarations,
+        routines,
+        entry,
+        exit,
+        block,
+    };
+    Ok((program, rest))
 }

@@ -1,14 +1,11 @@
 // Types.
 
 ghost use Rattle.std.specs.Prelude.{◌≡◌, Some, None, IfOk, IsErrAnd};
-ghost use Rattle.spv_tree.specs.declared.token.TokenKind.TheVariants as kind;
-ghost use Rattle.spv_tree.specs.declared.token.Sign.TheVariants as sign;
-ghost use Rattle.spv_syntax.specs.Types as plain;
 ghost use Rattle.spv_syntax.specs.TypeSizes.{more_types_of, more_fields_of};
 ghost use Rattle.spv_reading.specs.Readers as reader;
 ghost use Rattle.spv_reading.specs.TypeReaders.{read_names, read_upper, read_range, read_type_name, read_more_types, read_array, read_field_part, read_more_fields, read_record, read_lower_type, read_type};
 ghost use Rattle.spv_parser.specs.Faults.{IsSyntax};
-ghost use Rattle.spv_parser.specs.TypeParts.{read_named_field};
+ghost use Rattle.spv_parser.specs.TypeParts.{read_range_behind, read_pointer, read_named_field};
 
 use crate::constants::constant;
 use crate::fault::{Fault, unexpected};
@@ -54,8 +51,8 @@ fn range_behind(
     low: Constant,
     tokens: &[Token],
 ) -> Result<(TypeDenoter, &[Token]), Fault>
-    ensures read { IfOk result (λ r. reader.past (kind.Sign sign.Range) tokens.now (read_upper line low) ≡ Some (r.0, r.1.now)) }
-    ensures absent { IsErrAnd result IsSyntax → reader.past (kind.Sign sign.Range) tokens.now (read_upper line low) ≡ None }
+    ensures read { IfOk result (λ r. read_range_behind line low tokens.now ≡ Some (r.0, r.1.now)) }
+    ensures absent { IsErrAnd result IsSyntax → read_range_behind line low tokens.now ≡ None }
 {
     let rest = past_sign(Sign::Range, tokens)?;
     upper(line, low, rest)
@@ -95,8 +92,8 @@ fn type_name(first: Name, tokens: &[Token]) -> Result<(TypeDenoter, &[Token]), F
 
 // name, behind "^"
 fn pointer(line: u32, tokens: &[Token]) -> Result<(TypeDenoter, &[Token]), Fault>
-    ensures read { IfOk result (λ r. reader.and_then (reader.name tokens.now) (λ x rest. Some (plain.pointer line x, rest)) ≡ Some (r.0, r.1.now)) }
-    ensures absent { IsErrAnd result IsSyntax → reader.name tokens.now ≡ None }
+    ensures read { IfOk result (λ r. read_pointer line tokens.now ≡ Some (r.0, r.1.now)) }
+    ensures absent { IsErrAnd result IsSyntax → read_pointer line tokens.now ≡ None }
 {
     let (to, rest) = name(tokens)?;
     let form = TypeForm::Pointer(to);

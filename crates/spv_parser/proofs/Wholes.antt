@@ -1,0 +1,47 @@
+-- A whole text: what is read to its end, and what no tree reads.
+use Rattle.std.proofs.Common.{◌≡◌, ℕ, ◌≤◌, List, [], ◌∷◌, length, refl, sym, ap, ◌∙◌, subst, arith}
+use Rattle.std.specs.Prelude.{Option, Some, None}
+use Rattle.spv_tree.specs.declared.token.Token.{Token}
+use Rattle.spv_reading.specs.Readers.{Reader}
+use Rattle.spv_reading.specs.RoutineReaders.{read_whole}
+use Rattle.spv_reading.specs.Laws.{ReadIsTree}
+use Rattle.spv_level.specs.Laws.{LowIsRead}
+use Rattle.spv_parser.specs.declared.fault.Fault.{Fault}
+use Rattle.spv_parser.specs.declared.fault.Fault.TheVariants as fault
+use Rattle.spv_parser.specs.declared.refused.SyntaxFault.{SyntaxFault}
+use Rattle.spv_parser.specs.declared.refused.SyntaxFault.TheVariants.{Profile, TooDeep, Syntax, Memory}
+use Rattle.spv_parser.specs.Faults.{IsSyntax}
+use Rattle.spv_parser.specs.Causes.{IsAllowed, IsForbidden, IsRefusalOf, HasCause}
+
+module _ {A : Type 0} {read : ℕ → Reader A} {reads : List Token → A → Type 0} where
+  -- what is read to the end of the tokens is their tree
+  pub whole_tree : {tokens rest : List Token} {x : A} → ReadIsTree read reads → read 200 tokens ≡ Some (x, rest) → rest ≡ [] → reads tokens x
+  whole_tree {tokens} {rest} {x} law e f = law 200 tokens x (ap read_whole e ∙ ap (λ l. read_whole (Some (x, l))) f)
+
+  left_over : {x : A} (rest : List Token) → 1 ≤ length rest → read_whole (Some (x, rest)) ≡ None
+  left_over [] some = absurd (omega (arith, some))
+  left_over (t ∷ rest) some = refl
+
+  none_whole : {tokens : List Token} → LowIsRead read reads → IsAllowed tokens → read_whole (read 200 tokens) ≡ None → (y : A) → reads tokens y → ⊥
+  none_whole {tokens} law allowed e y r =
+      let found : read_whole (read 200 tokens) ≡ Some y = law 200 tokens y (omega arith) allowed.shallow r in
+      cc (e, found)
+
+  -- where something is left behind what is read, no tree reads the tokens
+  pub none_with_more : {tokens rest : List Token} {x : A} → LowIsRead read reads → IsAllowed tokens → read 200 tokens ≡ Some (x, rest) → 1 ≤ length rest → (y : A) → reads tokens y → ⊥
+  none_with_more {tokens} {rest} {x} law allowed e some = none_whole law allowed (ap read_whole e ∙ left_over rest some)
+
+  -- nor where nothing is read
+  pub none_without : {tokens : List Token} → LowIsRead read reads → IsAllowed tokens → read 200 tokens ≡ None → (y : A) → reads tokens y → ⊥
+  none_without {tokens} law allowed e = none_whole law allowed (ap read_whole e)
+
+  -- so the refusal has its cause
+  pub refused_with_cause : {tokens : List Token} (f : Fault) (r : SyntaxFault) → LowIsRead read reads → IsAllowed tokens → (IsSyntax f → read 200 tokens ≡ None) → IsRefusalOf f r → HasCause reads tokens r
+  refused_with_cause {tokens} (fault.Syntax place) (Syntax line) law allowed e h = (allowed, none_without law allowed (e tt))
+  refused_with_cause {tokens} fault.Memory Memory law allowed e h = tt
+  refused_with_cause {tokens} (fault.Syntax place) (Profile line word) law allowed e h = absurd h
+  refused_with_cause {tokens} (fault.Syntax place) (TooDeep line) law allowed e h = absurd h
+  refused_with_cause {tokens} (fault.Syntax place) Memory law allowed e h = absurd h
+  refused_with_cause {tokens} fault.Memory (Profile line word) law allowed e h = absurd h
+  refused_with_cause {tokens} fault.Memory (TooDeep line) law allowed e h = absurd h
+  refused_with_cause {tokens} fault.Memory (Syntax line) law allowed e h = absurd h
