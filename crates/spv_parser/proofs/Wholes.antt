@@ -1,5 +1,5 @@
 -- A whole text: what is read to its end, and what no tree reads.
-use Rattle.std.proofs.Common.{◌≡◌, ℕ, ◌≤◌, List, [], ◌∷◌, length, refl, sym, ap, ◌∙◌, subst, arith}
+use Rattle.std.proofs.Common.{◌≡◌, ℕ, ◌≤◌, ◌<◌, List, [], ◌∷◌, length, refl, sym, ap, ◌∙◌, subst, arith}
 use Rattle.std.specs.Prelude.{Option, Some, None}
 use Rattle.spv_tree.specs.declared.token.Token.{Token}
 use Rattle.spv_reading.specs.Readers.{Reader}
@@ -13,14 +13,18 @@ use Rattle.spv_parser.specs.declared.refused.SyntaxFault.TheVariants.{Profile, T
 use Rattle.spv_parser.specs.Faults.{IsSyntax}
 use Rattle.spv_parser.specs.Causes.{IsAllowed, IsForbidden, IsRefusalOf, HasCause}
 
-module _ {A : Type 0} {read : ℕ → Reader A} {reads : List Token → A → Type 0} where
-  -- what is read to the end of the tokens is their tree
-  pub whole_tree : {tokens rest : List Token} {x : A} → ReadIsTree read reads → read 200 tokens ≡ Some (x, rest) → rest ≡ [] → reads tokens x
-  whole_tree {tokens} {rest} {x} law e f = law 200 tokens x (ap read_whole e ∙ ap (λ l. read_whole (Some (x, l))) f)
+nothing_left : {A : Type 0} (x : A) (rest : List Token) → length rest < 1 → read_whole (Some (x, rest)) ≡ Some x
+nothing_left x [] none = refl
+nothing_left x (t ∷ rest) none = absurd (omega (arith, none))
 
-  left_over : {x : A} (rest : List Token) → 1 ≤ length rest → read_whole (Some (x, rest)) ≡ None
-  left_over [] some = absurd (omega (arith, some))
-  left_over (t ∷ rest) some = refl
+left_over : {A : Type 0} (x : A) (rest : List Token) → 1 ≤ length rest → read_whole (Some (x, rest)) ≡ None
+left_over x [] some = absurd (omega (arith, some))
+left_over x (t ∷ rest) some = refl
+
+module _ {A : Type 0} (read : ℕ → Reader A) (reads : List Token → A → Type 0) where
+  -- what is read to the end of the tokens is their tree
+  pub whole_tree : {tokens rest : List Token} {x : A} → ReadIsTree read reads → read 200 tokens ≡ Some (x, rest) → length rest < 1 → reads tokens x
+  whole_tree {tokens} {rest} {x} law e none = law 200 tokens x (ap read_whole e ∙ nothing_left x rest none)
 
   none_whole : {tokens : List Token} → LowIsRead read reads → IsAllowed tokens → read_whole (read 200 tokens) ≡ None → (y : A) → reads tokens y → ⊥
   none_whole {tokens} law allowed e y r =
@@ -29,7 +33,7 @@ module _ {A : Type 0} {read : ℕ → Reader A} {reads : List Token → A → Ty
 
   -- where something is left behind what is read, no tree reads the tokens
   pub none_with_more : {tokens rest : List Token} {x : A} → LowIsRead read reads → IsAllowed tokens → read 200 tokens ≡ Some (x, rest) → 1 ≤ length rest → (y : A) → reads tokens y → ⊥
-  none_with_more {tokens} {rest} {x} law allowed e some = none_whole law allowed (ap read_whole e ∙ left_over rest some)
+  none_with_more {tokens} {rest} {x} law allowed e some = none_whole law allowed (ap read_whole e ∙ left_over x rest some)
 
   -- nor where nothing is read
   pub none_without : {tokens : List Token} → LowIsRead read reads → IsAllowed tokens → read 200 tokens ≡ None → (y : A) → reads tokens y → ⊥

@@ -1,16 +1,13 @@
-use Rattle.std.proofs.Common.{rules, ◌≡◌, OnOk, IfOk, IfErr, IsErr, ℕ, ◌+◌, ◌-◌, ◌*◌, ◌<◌, ◌≤◌, length, ◌/◌, ◌%◌, Bool, true, false, nat_eq, nat_lt, List, [], ◌∷◌, ◌++◌, slice_index_or, slice_set, bit_and, bit_or, Fits, w8, w32, w64, Bor, MutBor}
-use Rattle.spv_syntax.specs.Reads.{Reads, ReadsRules, ReadsFormulaText}
-use Rattle.spv_parser.specs.Causes.{IsAllowed, HasCause, IsForbidden, IsRefusalOf}
+use Rattle.spv_syntax.specs.Reads.{ReadsFormulaText}
+use Rattle.spv_reading.specs.RuleReaders.{read_formula_text}
+use Rattle.spv_parser.proofs.Wholes.{whole_tree, none_with_more, refused_with_cause}
 use Rattle.spv_parser.proofs.parser.formula.Goals as goal
 
--- src/parser.rt:79:1
 pub returns-in-Ok-default-empty-clause-tree : goal.returns-in-Ok-default-empty-clause-tree
-returns-in-Ok-default-empty-clause-tree c = ?
+returns-in-Ok-default-empty-clause-tree c = whole_tree read_formula_text ReadsFormulaText c.law_formula_texts.ensures.read_is_tree c.in-Ok-default-empty.ensures.read c.in-Ok-default-empty.len_below
 
--- src/parser.rt:79:1
 pub returns-in-Ok-default-len1-up-clause-cause : goal.returns-in-Ok-default-len1-up-clause-cause
-returns-in-Ok-default-len1-up-clause-cause c = ?
+returns-in-Ok-default-len1-up-clause-cause c = (c.in_ok-allowed.ensures.allowed, none_with_more read_formula_text ReadsFormulaText c.law_enough_formula_text.ensures.formula_texts c.in_ok-allowed.ensures.allowed c.in-Ok-default-len1-up.ensures.read c.in-Ok-default-len1-up.len_at_least)
 
--- src/parser.rt:79:1
 pub returns-in-Err-clause-cause : goal.returns-in-Err-clause-cause
-returns-in-Err-clause-cause c = ?
+returns-in-Err-clause-cause c = refused_with_cause read_formula_text ReadsFormulaText c.in-Err.fault c.refusal.result c.law_enough_formula_text.ensures.formula_texts c.in_ok-allowed.ensures.allowed c.in-Err.ensures.absent c.refusal.ensures
