@@ -1,6 +1,6 @@
 // The tree of a whole text.
 
-ghost use Rattle.std.specs.Prelude.{◌≡◌, OnOk, IfOk, IfErr, IsErr};
+ghost use Rattle.std.specs.Prelude.{◌≤◌, OnOk, IfOk, IfErr};
 ghost use Rattle.spv_syntax.specs.Reads.{Reads, ReadsRules, ReadsFormulaText};
 ghost use Rattle.spv_parser.specs.Causes.{IsAllowed, HasCause, IsForbidden, IsRefusalOf};
 
@@ -43,8 +43,9 @@ fn refusal(tokens: &[Token], fault: Fault) -> SyntaxFault
     }
 }
 
-/// The program that these tokens are.
-pub fn program(alloc: Global, tokens: &[Token]) -> Result<Program, SyntaxFault>
+// The program that these tokens are, with as many levels as any has or more.
+fn program_within(alloc: Global, levels: u32, tokens: &[Token]) -> Result<Program, SyntaxFault>
+    requires enough { 199 ≤ levels }
     ensures tree { IfOk result (λ p. Reads tokens.now p) }
     ensures allowed { IfOk result (λ p. IsAllowed tokens.now) }
     ensures cause { IfErr result (HasCause Reads tokens.now) }
@@ -52,7 +53,33 @@ pub fn program(alloc: Global, tokens: &[Token]) -> Result<Program, SyntaxFault>
     law_programs();
     law_enough();
     allowed(alloc, tokens)?;
-    match program_at(alloc, LEVELS, tokens) {
+    match program_at(alloc, levels, tokens) {
+        Ok((tree, [])) => Ok(tree),
+        Ok((_, [token, ..])) => Err(SyntaxFault::Syntax(token.line)),
+        Err(fault) => Err(refusal(tokens, fault)),
+    }
+}
+
+/// The program that these tokens are.
+pub fn program(alloc: Global, tokens: &[Token]) -> Result<Program, SyntaxFault>
+    ensures tree { IfOk result (λ p. Reads tokens.now p) }
+    ensures allowed { IfOk result (λ p. IsAllowed tokens.now) }
+    ensures cause { IfErr result (HasCause Reads tokens.now) }
+{
+    program_within(alloc, LEVELS, tokens)
+}
+
+// The rules that these tokens are, with as many levels as any has or more.
+fn rules_within(alloc: Global, levels: u32, tokens: &[Token]) -> Result<RuleTree, SyntaxFault>
+    requires enough { 199 ≤ levels }
+    ensures tree { IfOk result (λ t. ReadsRules tokens.now t) }
+    ensures allowed { IfOk result (λ t. IsAllowed tokens.now) }
+    ensures cause { IfErr result (HasCause ReadsRules tokens.now) }
+{
+    law_rules();
+    law_enough_rules();
+    allowed(alloc, tokens)?;
+    match rule_file(alloc, levels, tokens) {
         Ok((tree, [])) => Ok(tree),
         Ok((_, [token, ..])) => Err(SyntaxFault::Syntax(token.line)),
         Err(fault) => Err(refusal(tokens, fault)),
@@ -65,10 +92,20 @@ pub fn rules(alloc: Global, tokens: &[Token]) -> Result<RuleTree, SyntaxFault>
     ensures allowed { IfOk result (λ t. IsAllowed tokens.now) }
     ensures cause { IfErr result (HasCause ReadsRules tokens.now) }
 {
-    law_rules();
-    law_enough_rules();
+    rules_within(alloc, LEVELS, tokens)
+}
+
+// The formula text that these tokens are, with as many levels as any has or more.
+fn formula_within(alloc: Global, levels: u32, tokens: &[Token]) -> Result<FormulaText, SyntaxFault>
+    requires enough { 199 ≤ levels }
+    ensures tree { IfOk result (λ t. ReadsFormulaText tokens.now t) }
+    ensures allowed { IfOk result (λ t. IsAllowed tokens.now) }
+    ensures cause { IfErr result (HasCause ReadsFormulaText tokens.now) }
+{
+    law_formula_texts();
+    law_enough_formula_text();
     allowed(alloc, tokens)?;
-    match rule_file(alloc, LEVELS, tokens) {
+    match formula_text(alloc, levels, tokens) {
         Ok((tree, [])) => Ok(tree),
         Ok((_, [token, ..])) => Err(SyntaxFault::Syntax(token.line)),
         Err(fault) => Err(refusal(tokens, fault)),
@@ -81,12 +118,5 @@ pub fn formula(alloc: Global, tokens: &[Token]) -> Result<FormulaText, SyntaxFau
     ensures allowed { IfOk result (λ t. IsAllowed tokens.now) }
     ensures cause { IfErr result (HasCause ReadsFormulaText tokens.now) }
 {
-    law_formula_texts();
-    law_enough_formula_text();
-    allowed(alloc, tokens)?;
-    match formula_text(alloc, LEVELS, tokens) {
-        Ok((tree, [])) => Ok(tree),
-        Ok((_, [token, ..])) => Err(SyntaxFault::Syntax(token.line)),
-        Err(fault) => Err(refusal(tokens, fault)),
-    }
+    formula_within(alloc, LEVELS, tokens)
 }

@@ -123,7 +123,11 @@ fn rule_list(alloc: Global, levels: u32, tokens: &[Token]) -> Result<(Vec<Rule>,
 }
 
 // [VAR rvars {rvars}] {rule}
-pub fn rule_file(alloc: Global, levels: u32, tokens: &[Token]) -> Result<(RuleTree, &[Token]), Fault>
+pub fn rule_file(
+    alloc: Global,
+    levels: u32,
+    tokens: &[Token],
+) -> Result<(RuleTree, &[Token]), Fault>
     ensures read { IfOk result (λ r. read_rules levels tokens.now ≡ Some (r.0, r.1.now)) }
     ensures absent { IsErrAnd result IsSyntax → read_rules levels tokens.now ≡ None }
 {
