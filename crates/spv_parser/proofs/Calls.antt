@@ -1,6 +1,6 @@
 -- What begins with a name and is no assignment.
-use Rattle.std.proofs.Common.{Bool, false, if◌then◌else◌, ◌≡◌, ◌<◌, ◌≤◌, List, [], ◌∷◌, refl, sym, ap, ◌∙◌, arith, length}
-use Rattle.std.specs.Prelude.{Option, Some, None}
+use Rattle.std.proofs.Common.{false, if◌then◌else◌, ◌≡◌, ◌≤◌, List, [], ◌∷◌, sym, ap, arith, length}
+use Rattle.std.specs.Prelude.{Some, None}
 use Rattle.spv_tree.specs.declared.token.Token.{Token}
 use Rattle.spv_tree.specs.declared.token.TokenKind.TheVariants as kind
 use Rattle.spv_tree.specs.declared.token.Sign.TheVariants as sign

@@ -1,6 +1,6 @@
 -- A whole text: what is read to its end, and what no tree reads.
-use Rattle.std.proofs.Common.{◌≡◌, ℕ, ◌≤◌, ◌<◌, List, [], ◌∷◌, length, refl, sym, ap, ◌∙◌, subst, arith}
-use Rattle.std.specs.Prelude.{Option, Some, None}
+use Rattle.std.proofs.Common.{◌≡◌, ℕ, ◌≤◌, ◌<◌, List, [], ◌∷◌, length, refl, ap, ◌∙◌, arith}
+use Rattle.std.specs.Prelude.{Some, None}
 use Rattle.spv_tree.specs.declared.token.Token.{Token}
 use Rattle.spv_reading.specs.Readers.{Reader}
 use Rattle.spv_reading.specs.RoutineReaders.{read_whole}
@@ -11,7 +11,7 @@ use Rattle.spv_parser.specs.declared.fault.Fault.TheVariants as fault
 use Rattle.spv_parser.specs.declared.refused.SyntaxFault.{SyntaxFault}
 use Rattle.spv_parser.specs.declared.refused.SyntaxFault.TheVariants.{Profile, TooDeep, Syntax, Memory}
 use Rattle.spv_parser.specs.Faults.{IsSyntax}
-use Rattle.spv_parser.specs.Causes.{IsAllowed, IsForbidden, IsRefusalOf, HasCause}
+use Rattle.spv_parser.specs.Causes.{IsAllowed, IsRefusalOf, HasCause}
 
 nothing_left : {A : Type 0} (x : A) (rest : List Token) → length rest < 1 → read_whole (Some (x, rest)) ≡ Some x
 nothing_left x [] none = refl

@@ -5,7 +5,7 @@ use Rattle.spv_tree.specs.declared.token.TokenKind.TheVariants as kind
 use Rattle.spv_tree.specs.declared.token.Sign.TheVariants as sign
 use Rattle.spv_syntax.specs.Formulas.{Formula, Factor, class, negation, Selector, content}
 use Rattle.spv_syntax.specs.Steps.{first_line}
-use Rattle.spv_reading.specs.Readers.{front, after, Reader, nothing, and_then, name}
+use Rattle.spv_reading.specs.Readers.{front, after, Reader, and_then, name}
 use Rattle.spv_reading.specs.FormulaReaders.{read_field, read_index, factor_by, read_inner, read_factor}
 
 -- whether a selector begins with the token

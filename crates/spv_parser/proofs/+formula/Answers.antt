@@ -1,4 +1,4 @@
-use Rattle.std.proofs.Common.{arith, refl, sym, ◌≡◌, ◌∙◌}
+use Rattle.std.proofs.Common.{arith, refl, sym, ◌∙◌}
 use Rattle.spv_reading.specs.FormulaReaders.{read_inner, read_factor, read_term}
 use Rattle.spv_parser.proofs.Exits.{same_fault}
 use Rattle.spv_parser.proofs.Turns.{turn, stopped, failed, over, when_absent, when_there}

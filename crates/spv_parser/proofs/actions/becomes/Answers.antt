@@ -1,4 +1,4 @@
-use Rattle.std.proofs.Common.{arith, length, subst, ap, sym, ◌∙◌, ◌≤◌}
+use Rattle.std.proofs.Common.{length, subst, ◌≤◌}
 use Rattle.spv_reading.specs.FormulaReaders.{read_inner, read_formula}
 use Rattle.spv_parser.proofs.Calls.{no_call}
 use Rattle.spv_parser.proofs.actions.becomes.Goals as goal
