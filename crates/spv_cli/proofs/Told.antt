@@ -1,5 +1,5 @@
 -- A text that is read up to one byte above its limit.
-use Rattle.std.proofs.Common.{◌≡◌, ◌⊎◌, inl, inr, ℕ, ◌≤◌, ◌<◌, List, length, take, min, Option, Some, None, IfSome, sym, ap, ◌∙◌, subst, arith}
+use Rattle.std.proofs.Common.{◌≡◌, inl, inr, ℕ, ◌≤◌, ◌<◌, List, length, take, min, Option, Some, None, IfSome, subst, arith}
 use Rattle.std.proofs.lemmas.List.{take_all, length-take}
 use Rattle.spv_report.specs.Reports.{Findings}
 use Rattle.spv_cli.specs.declared.refusal.Refusal.{Refusal}
@@ -7,7 +7,7 @@ use Rattle.spv_cli.specs.declared.refusal.Refusal.TheVariants.{BadByte, OpenComm
 use Rattle.spv_cli.specs.declared.found.Found.{Found}
 use Rattle.spv_cli.specs.declared.found.Found.TheVariants.{ReadFailed, Refusing, Reporting}
 use Rattle.spv_cli.specs.Refusals.{IsShort, IsRefused, IsReportOf}
-use Rattle.spv_cli.specs.Runs.{Reading, IsUnread, IsRead, IsReadBadly, MayBeRead, IsFound}
+use Rattle.spv_cli.specs.Runs.{Reading, MayBeRead, IsFound}
 
 -- what was read is the whole text, where it is short
 whole : (text : List ℕ) → IsShort (take 4194305 text) → take 4194305 text ≡ text

@@ -10,7 +10,6 @@ use Rattle.spv_level.specs.LeftOut.{left_out}
 use Rattle.spv_level.specs.Level.{too_deep}
 use Rattle.spv_parser.specs.Causes.{IsAllowed}
 use Rattle.spv_form.specs.declared.form.Form.{Form}
-use Rattle.spv_form.specs.declared.form.KnownNumbers.{KnownNumbers}
 use Rattle.spv_form.specs.Known.{known_in}
 use Rattle.spv_form.specs.Spelled.{IsForm}
 use Rattle.spv_report.specs.Reports.{Findings}

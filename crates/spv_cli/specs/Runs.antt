@@ -11,7 +11,6 @@ use Rattle.spv_form.specs.declared.reading.FormFault.{FormFault}
 use Rattle.spv_form.specs.declared.reading.FormFault.TheVariants as form
 use Rattle.spv_report.specs.Reports.{Findings, IsReport}
 use Rattle.spv_listing.specs.Page.{page}
-use Rattle.spv_cli.specs.declared.refusal.Refusal.{Refusal}
 use Rattle.spv_cli.specs.declared.refusal.Refusal.TheVariants as refusal
 use Rattle.spv_cli.specs.declared.reading.ReadFault.{ReadFault}
 use Rattle.spv_cli.specs.declared.reading.ReadFault.TheVariants.{Refused, Memory}
