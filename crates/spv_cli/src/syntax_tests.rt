@@ -1,11 +1,13 @@
 // Texts that are no program of the language, go too deep or have a word that is left out, and programs
 // of the language that are not of the form. Each line is counted by hand.
 use crate::tests::{assert_outcome, verified};
+use std::alloc::Global;
+use std::process::Abort;
 use std::test::Fail;
 
-fn assert_refused(rt: &HostRuntime, text: &[u8], told: &str) -> Result<(), Fail> {
-    let got = verified(rt.alloc(), "a.pas", text)?;
-    let line = format!(in rt.alloc(); "REFUSED {told}\n")?;
+fn assert_refused(rt: &impl Abort, alloc: Global, text: &[u8], told: &str) -> Result<(), Fail> {
+    let got = verified(alloc, "a.pas", text)?;
+    let line = format!(in alloc; "REFUSED {told}\n")?;
     assert_outcome(rt, &got, 3, false, &line);
     Ok(())
 }
@@ -27,7 +29,7 @@ fn no_program(rt: HostRuntime) -> Result<(), Fail> {
         ("\n{ a }\nBEGIN END.\n", "5 SYNTAX a.pas LINE 3"),
     ];
     for (text, told) in table {
-        assert_refused(&rt, text.as_bytes(), told)?;
+        assert_refused(&rt, rt.alloc(), text.as_bytes(), told)?;
     }
     Ok(())
 }
@@ -41,7 +43,7 @@ fn no_end(rt: HostRuntime) -> Result<(), Fail> {
         ("PROGRAM a;\nBEGIN\nEND\n\n", "5 SYNTAX a.pas LINE 3"),
     ];
     for (text, told) in table {
-        assert_refused(&rt, text.as_bytes(), told)?;
+        assert_refused(&rt, rt.alloc(), text.as_bytes(), told)?;
     }
     Ok(())
 }
@@ -52,7 +54,7 @@ fn each_left_out_word(rt: HostRuntime) -> Result<(), Fail> {
     for word in words {
         let text = format!(in rt.alloc(); "PROGRAM a;\nBEGIN {word} 1 END.\n")?;
         let told = format!(in rt.alloc(); "7 PROFILE a.pas LINE 2 {word}")?;
-        assert_refused(&rt, text.as_bytes(), &told)?;
+        assert_refused(&rt, rt.alloc(), text.as_bytes(), &told)?;
     }
     Ok(())
 }
@@ -77,14 +79,14 @@ fn left_out_words_first(rt: HostRuntime) -> Result<(), Fail> {
         ("PROGRAM a; BEGIN GOTO ? END.", "1 BYTE a.pas LINE 1"),
     ];
     for (text, told) in table {
-        assert_refused(&rt, text.as_bytes(), told)?;
+        assert_refused(&rt, rt.alloc(), text.as_bytes(), told)?;
     }
     Ok(())
 }
 
 // An assignment on the first line, and so many opening brackets, each on a line of its own.
-fn in_brackets(rt: &HostRuntime, count: u32) -> Result<Vec<u8>, Fail> {
-    let mut text = b"PROGRAM a; VAR x: INTEGER; BEGIN x :=\n".to_vec(rt.alloc())?;
+fn in_brackets(alloc: Global, count: u32) -> Result<Vec<u8>, Fail> {
+    let mut text = b"PROGRAM a; VAR x: INTEGER; BEGIN x :=\n".to_vec(alloc)?;
     for _ in 0..count {
         text.extend_from_slice(b"(\n")?;
     }
@@ -94,30 +96,30 @@ fn in_brackets(rt: &HostRuntime, count: u32) -> Result<Vec<u8>, Fail> {
 // One level for the text, one for BEGIN and one for each bracket: the 199th bracket makes 201.
 #[test]
 fn too_many_brackets(rt: HostRuntime) -> Result<(), Fail> {
-    let text = in_brackets(&rt, 200)?;
-    assert_refused(&rt, &text, "6 DEPTH a.pas LINE 200")?;
-    let text = in_brackets(&rt, 199)?;
-    assert_refused(&rt, &text, "6 DEPTH a.pas LINE 200")?;
+    let text = in_brackets(rt.alloc(), 200)?;
+    assert_refused(&rt, rt.alloc(), &text, "6 DEPTH a.pas LINE 200")?;
+    let text = in_brackets(rt.alloc(), 199)?;
+    assert_refused(&rt, rt.alloc(), &text, "6 DEPTH a.pas LINE 200")?;
     Ok(())
 }
 
 #[test]
 fn as_many_brackets_as_may_be(rt: HostRuntime) -> Result<(), Fail> {
-    let mut text = in_brackets(&rt, 198)?;
-    assert_refused(&rt, &text, "5 SYNTAX a.pas LINE 199")?;
+    let mut text = in_brackets(rt.alloc(), 198)?;
+    assert_refused(&rt, rt.alloc(), &text, "5 SYNTAX a.pas LINE 199")?;
     text.push(b'x')?;
     text.resize(text.len() + 198, b')')?;
     text.extend_from_slice(b" END.")?;
-    assert_refused(&rt, &text, "22 FORM a.pas LINE 1")?;
+    assert_refused(&rt, rt.alloc(), &text, "22 FORM a.pas LINE 1")?;
     Ok(())
 }
 
 // A left-out word is told before the depth, wherever it stands.
 #[test]
 fn a_left_out_word_in_the_deep(rt: HostRuntime) -> Result<(), Fail> {
-    let mut text = in_brackets(&rt, 200)?;
+    let mut text = in_brackets(rt.alloc(), 200)?;
     text.extend_from_slice(b"\nFile")?;
-    assert_refused(&rt, &text, "7 PROFILE a.pas LINE 203 FILE")?;
+    assert_refused(&rt, rt.alloc(), &text, "7 PROFILE a.pas LINE 203 FILE")?;
     Ok(())
 }
 
@@ -134,7 +136,7 @@ fn programs_of_another_form(rt: HostRuntime) -> Result<(), Fail> {
          INVARIANT x <= 10 WHILE x < 10 DO x := x + 1\nEND.\n",
     ];
     for text in table {
-        assert_refused(&rt, text.as_bytes(), "22 FORM a.pas LINE 1")?;
+        assert_refused(&rt, rt.alloc(), text.as_bytes(), "22 FORM a.pas LINE 1")?;
     }
     Ok(())
 }
