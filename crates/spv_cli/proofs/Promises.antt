@@ -1,23 +1,18 @@
 -- What a run promises follows from what it does.
-use Rattle.std.proofs.Common.{◌≡◌, ◌⊎◌, inl, inr, ℕ, ◌≤◌, ◌<◌, ◌+◌, ◌-◌, ◌^◌, min, Bool, true, false, cond, List, [], ◌∷◌, Option, Some, None, is_some, IfSome, refl, sym, ap, ◌∙◌, subst, arith}
+use Rattle.std.proofs.Common.{◌≡◌, inl, inr, ℕ, Bool, true, false, cond, List, [], ◌∷◌, Option, Some, None, refl, sym, ◌∙◌, subst}
 use Rattle.std.proofs.lemmas.Bool.{false≢true}
-use Rattle.spv_io.specs.Faults.{raised, Rose, DidNotRise}
 use Rattle.spv_io.specs.Sink.{added, AddsPrefix}
-use Rattle.spv_io.specs.Texts.{named}
 use Rattle.spv_logic.specs.Conditions.{Meaning}
 use Rattle.spv_meaning.specs.Correctness.{Correct}
-use Rattle.spv_form.specs.declared.form.Form.{Form}
 use Rattle.spv_form.specs.Program.{program_of}
-use Rattle.spv_report.specs.Reports.{Findings, IsReport, all_proved}
+use Rattle.spv_report.specs.Reports.{IsReport, all_proved}
 use Rattle.spv_report.proofs.Reports.{proved_correct}
 use Rattle.spv_listing.specs.Page.{page}
-use Rattle.spv_cli.specs.declared.refusal.Refusal.{Refusal}
 use Rattle.spv_cli.specs.declared.found.Found.{Found}
 use Rattle.spv_cli.specs.declared.found.Found.TheVariants.{ReadFailed, Refusing, Reporting}
 use Rattle.spv_cli.specs.declared.running.Ran.{Ran}
-use Rattle.spv_cli.specs.Output.{words_line, read_fault_line, page_status}
-use Rattle.spv_cli.specs.Refusals.{IsRefused, IsReportOf}
-use Rattle.spv_cli.specs.Runs.{Reading, Writing, IsUnread, IsWritten, IsCut, IsFound, IsOutOfMemory, MayBeRead, HasRunFor, output, status, report}
+use Rattle.spv_cli.specs.Output.{words_line}
+use Rattle.spv_cli.specs.Runs.{Reading, Writing, IsUnread, IsWritten, IsCut, IsFound, IsOutOfMemory, HasRunFor, output, status, report}
 use Rattle.spv_cli.specs.Promises.{IsOneOf, IsThere, IsDueFor}
 
 -- ---- what is found, by the status

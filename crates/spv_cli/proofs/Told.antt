@@ -1,13 +1,13 @@
 -- A text that is read up to one byte above its limit.
-use Rattle.std.proofs.Common.{◌≡◌, ◌⊎◌, inl, inr, ℕ, ◌≤◌, ◌<◌, List, length, take, min, Option, Some, None, IfSome, sym, ap, ◌∙◌, subst, arith}
+use Rattle.std.proofs.Common.{◌≡◌, inl, inr, ℕ, ◌≤◌, ◌<◌, List, length, take, min, Option, Some, None, IfSome, subst, arith}
 use Rattle.std.proofs.lemmas.List.{take_all, length-take}
 use Rattle.spv_report.specs.Reports.{Findings}
 use Rattle.spv_cli.specs.declared.refusal.Refusal.{Refusal}
-use Rattle.spv_cli.specs.declared.refusal.Refusal.TheVariants.{BadByte, OpenComment, NumeralTooLarge, TextTooLong, NotOfForm}
+use Rattle.spv_cli.specs.declared.refusal.Refusal.TheVariants.{BadByte, OpenComment, NumeralTooLarge, TextTooLong, Syntax, TooDeep, Profile, NotOfForm}
 use Rattle.spv_cli.specs.declared.found.Found.{Found}
 use Rattle.spv_cli.specs.declared.found.Found.TheVariants.{ReadFailed, Refusing, Reporting}
 use Rattle.spv_cli.specs.Refusals.{IsShort, IsRefused, IsReportOf}
-use Rattle.spv_cli.specs.Runs.{Reading, IsUnread, IsRead, IsReadBadly, MayBeRead, IsFound}
+use Rattle.spv_cli.specs.Runs.{Reading, MayBeRead, IsFound}
 
 -- what was read is the whole text, where it is short
 whole : (text : List ℕ) → IsShort (take 4194305 text) → take 4194305 text ≡ text
@@ -30,6 +30,9 @@ refused_whole text (BadByte line) is = subst (λ t. IsRefused t (BadByte line)) 
 refused_whole text (OpenComment line) is = subst (λ t. IsRefused t (OpenComment line)) (whole text is.0) is
 refused_whole text (NumeralTooLarge line) is = subst (λ t. IsRefused t (NumeralTooLarge line)) (whole text is.0) is
 refused_whole text TextTooLong is = longer text is
+refused_whole text (Syntax line) is = subst (λ t. IsRefused t (Syntax line)) (whole text is.0) is
+refused_whole text (TooDeep line) is = subst (λ t. IsRefused t (TooDeep line)) (whole text is.0) is
+refused_whole text (Profile line word) is = subst (λ t. IsRefused t (Profile line word)) (whole text is.0) is
 refused_whole text NotOfForm is = subst (λ t. IsRefused t NotOfForm) (whole text is.0) is
 
 -- a fact about the first bytes is one about the told text

@@ -1,8 +1,7 @@
 -- The words of what a run promises.
 use Rattle.std.specs.Prelude.{◌≡◌, ℕ, ◌⊎◌, List, Option, Some, None, IsTrue, IfSome, nat_eq}
 use Rattle.std.specs.List.{list_any}
-use Rattle.spv_io.specs.Faults.{Rose, DidNotRise}
-use Rattle.spv_io.specs.Sink.{added, AddsPrefix}
+use Rattle.spv_io.specs.Faults.{Rose}
 use Rattle.spv_report.specs.Reports.{Findings}
 use Rattle.spv_listing.specs.Page.{page}
 use Rattle.spv_cli.specs.declared.refusal.Refusal.{Refusal}

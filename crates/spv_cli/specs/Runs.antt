@@ -5,11 +5,12 @@ use Rattle.spv_io.specs.Sink.{added, AddsPrefix}
 use Rattle.spv_io.specs.Texts.{named}
 use Rattle.spv_lexer.specs.declared.LexFault.{LexFault}
 use Rattle.spv_lexer.specs.declared.LexFault.TheVariants as lex
+use Rattle.spv_parser.specs.declared.refused.SyntaxFault.{SyntaxFault}
+use Rattle.spv_parser.specs.declared.refused.SyntaxFault.TheVariants as syntax
 use Rattle.spv_form.specs.declared.reading.FormFault.{FormFault}
 use Rattle.spv_form.specs.declared.reading.FormFault.TheVariants as form
 use Rattle.spv_report.specs.Reports.{Findings, IsReport}
 use Rattle.spv_listing.specs.Page.{page}
-use Rattle.spv_cli.specs.declared.refusal.Refusal.{Refusal}
 use Rattle.spv_cli.specs.declared.refusal.Refusal.TheVariants as refusal
 use Rattle.spv_cli.specs.declared.reading.ReadFault.{ReadFault}
 use Rattle.spv_cli.specs.declared.reading.ReadFault.TheVariants.{Refused, Memory}
@@ -28,6 +29,12 @@ of_lexer (lex.OpenComment line) = Refused (refusal.OpenComment line)
 of_lexer (lex.NumeralTooLarge line) = Refused (refusal.NumeralTooLarge line)
 of_lexer lex.TextTooLong = Refused refusal.TextTooLong
 of_lexer lex.Memory = Memory
+
+abbrev pub of_parser : SyntaxFault → ReadFault
+of_parser (syntax.Profile line word) = Refused (refusal.Profile line word)
+of_parser (syntax.TooDeep line) = Refused (refusal.TooDeep line)
+of_parser (syntax.Syntax line) = Refused (refusal.Syntax line)
+of_parser syntax.Memory = Memory
 
 abbrev pub of_form : FormFault → ReadFault
 of_form form.NotOfForm = Refused refusal.NotOfForm

@@ -104,9 +104,6 @@ fn near_misses(rt: HostRuntime) -> Result<(), Fail> {
         "PROGRAM a; VAR x, integer: INTEGER; BEGIN END.",
         "PROGRAM a; VAR boolean: INTEGER; BEGIN END.",
         "PROGRAM a; VAR list, x: INTEGER; BEGIN END.",
-        "PROGRAM a; VAR x y: INTEGER; BEGIN END.",
-        "PROGRAM a; VAR x, : INTEGER; BEGIN END.",
-        "PROGRAM a; VAR : INTEGER; BEGIN END.",
         "PROGRAM a; VAR x: BOOLEAN; BEGIN END.",
         "PROGRAM a; VAR x: INTEGER; y: INTEGER; BEGIN END.",
         "PROGRAM a; VAR x: INTEGER; ENTRY y = 1; BEGIN END.",
@@ -115,17 +112,31 @@ fn near_misses(rt: HostRuntime) -> Result<(), Fail> {
         "PROGRAM a; VAR x: INTEGER; EXIT x = 1 AND (x = 1); BEGIN END.",
         "PROGRAM a; VAR x: INTEGER; EXIT ((x = 1)); BEGIN END.",
         "PROGRAM a; VAR x: INTEGER; EXIT (x = 1) OR (x = 1); BEGIN END.",
-        "PROGRAM a; VAR x: INTEGER; EXIT (x = 1) AND; BEGIN END.",
         "PROGRAM a; VAR x: INTEGER; EXIT x = -1; BEGIN END.",
-        "PROGRAM a; VAR x: INTEGER; EXIT x = 1; ENTRY x = 1; BEGIN END.",
-        "PROGRAM a; VAR x: INTEGER; ENTRY x = 1; ENTRY x = 1; BEGIN END.",
-        "PROGRAM a; VAR x: INTEGER; ENTRY x = 1 EXIT x = 1; BEGIN END.",
         "PROGRAM a; VAR x: INTEGER; BEGIN y := x END.",
-        "PROGRAM a; VAR x: INTEGER; BEGIN x := 1 END. x",
     ];
     for text in table {
         let got = verified(rt.alloc(), "a.pas", text.as_bytes())?;
         assert_outcome(&rt, &got, 3, false, "REFUSED 22 FORM a.pas LINE 1\n");
+    }
+    Ok(())
+}
+
+#[test]
+fn near_misses_that_are_no_program(rt: HostRuntime) -> Result<(), Fail> {
+    let table = [
+        "PROGRAM a; VAR x y: INTEGER; BEGIN END.",
+        "PROGRAM a; VAR x, : INTEGER; BEGIN END.",
+        "PROGRAM a; VAR : INTEGER; BEGIN END.",
+        "PROGRAM a; VAR x: INTEGER; EXIT (x = 1) AND; BEGIN END.",
+        "PROGRAM a; VAR x: INTEGER; EXIT x = 1; ENTRY x = 1; BEGIN END.",
+        "PROGRAM a; VAR x: INTEGER; ENTRY x = 1; ENTRY x = 1; BEGIN END.",
+        "PROGRAM a; VAR x: INTEGER; ENTRY x = 1 EXIT x = 1; BEGIN END.",
+        "PROGRAM a; VAR x: INTEGER; BEGIN x := 1 END. x",
+    ];
+    for text in table {
+        let got = verified(rt.alloc(), "a.pas", text.as_bytes())?;
+        assert_outcome(&rt, &got, 3, false, "REFUSED 5 SYNTAX a.pas LINE 1\n");
     }
     Ok(())
 }

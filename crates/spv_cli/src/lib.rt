@@ -16,4 +16,6 @@ mod form_tests;
 #[cfg(test)]
 mod outside_tests;
 #[cfg(test)]
+mod syntax_tests;
+#[cfg(test)]
 mod tests;

@@ -5,6 +5,7 @@ ghost use Rattle.spv_cli.specs.Output as spec;
 
 use crate::refusal::Refusal;
 use itoa::Buffer;
+use spv_tree::Word;
 use std::alloc::{AllocError, Global};
 
 // The number and the word of a refusal.
@@ -16,6 +17,9 @@ fn reason(refusal: Refusal) -> &'static [u8]
         Refusal::OpenComment(_) => b"2 COMMENT",
         Refusal::NumeralTooLarge(_) => b"3 NUMERAL",
         Refusal::TextTooLong => b"4 LENGTH",
+        Refusal::Syntax(_) => b"5 SYNTAX",
+        Refusal::TooDeep(_) => b"6 DEPTH",
+        Refusal::Profile(_, _) => b"7 PROFILE",
         Refusal::NotOfForm => b"22 FORM",
     }
 }
@@ -29,7 +33,36 @@ fn line_of(refusal: Refusal) -> u32
         Refusal::OpenComment(line) => line,
         Refusal::NumeralTooLarge(line) => line,
         Refusal::TextTooLong => 1,
+        Refusal::Syntax(line) => line,
+        Refusal::TooDeep(line) => line,
+        Refusal::Profile(line, _) => line,
         Refusal::NotOfForm => 1,
+    }
+}
+
+// A word that is left out, behind a space.
+fn left_out_text(word: Word) -> &'static [u8]
+    ensures { result.now ≡ spec.left_out_text word }
+{
+    match word {
+        Word::Packed => b" PACKED",
+        Word::Set => b" SET",
+        Word::File => b" FILE",
+        Word::With => b" WITH",
+        Word::In => b" IN",
+        Word::Goto => b" GOTO",
+        Word::Label => b" LABEL",
+        _ => b"",
+    }
+}
+
+// What a refusal tells behind its line.
+fn detail(refusal: Refusal) -> &'static [u8]
+    ensures { result.now ≡ spec.detail refusal }
+{
+    match refusal {
+        Refusal::Profile(_, word) => left_out_text(word),
+        _ => b"",
     }
 }
 
@@ -48,6 +81,7 @@ pub(crate) fn refusal_line(
     line.extend_from_slice(file.as_bytes())?;
     line.extend_from_slice(b" LINE ")?;
     line.extend_from_slice(buffer.format(line_of(refusal)).as_bytes())?;
+    line.extend_from_slice(detail(refusal))?;
     line.extend_from_slice(b"\n")?;
     Ok(line)
 }

@@ -1,6 +1,9 @@
 // From the bytes of a text to its report.
 
-ghost use Rattle.std.specs.Prelude.{IfOk, IfErr, ◌≡◌};
+ghost use Rattle.std.specs.Prelude.{IfOk, OnOk, IfErr, ◌≡◌};
+ghost use Rattle.spv_syntax.specs.declared.program.Program.{Program};
+ghost use Rattle.spv_syntax.specs.Reads.{Reads};
+ghost use Rattle.spv_parser.specs.Causes.{IsAllowed, HasCause};
 ghost use Rattle.spv_report.specs.Reports.{IsReport};
 ghost use Rattle.spv_cli.specs.Refusals.{IsReportOf};
 ghost use Rattle.spv_cli.specs.Runs.{IsCause};
@@ -10,7 +13,9 @@ use crate::refusal::Refusal;
 use spv_form::{FormFault, known_numbers};
 use spv_lexer::LexFault;
 use spv_names::Names;
+use spv_parser::SyntaxFault;
 use spv_report::{Report, VerifyFault};
+use spv_tree::Token;
 use std::alloc::Global;
 
 /// Why a text has no report.
@@ -36,6 +41,21 @@ impl From<LexFault> for ReadFault {
     }
 }
 
+impl From<SyntaxFault> for ReadFault {
+    ghost use Rattle.spv_cli.specs.Runs.{of_parser};
+
+    ghost from_gives = { λ fault result. result ≡ of_parser fault };
+
+    fn from(fault: SyntaxFault) -> ReadFault {
+        match fault {
+            SyntaxFault::Profile(line, word) => ReadFault::Refused(Refusal::Profile(line, word)),
+            SyntaxFault::TooDeep(line) => ReadFault::Refused(Refusal::TooDeep(line)),
+            SyntaxFault::Syntax(line) => ReadFault::Refused(Refusal::Syntax(line)),
+            SyntaxFault::Memory => ReadFault::Memory,
+        }
+    }
+}
+
 impl From<FormFault> for ReadFault {
     ghost use Rattle.spv_cli.specs.Runs.{of_form};
 
@@ -57,6 +77,18 @@ impl From<VerifyFault> for ReadFault {
     }
 }
 
+// Refuses tokens that are no program.
+fn check_syntax(alloc: Global, tokens: &[Token]) -> Result<(), SyntaxFault>
+    ensures program { OnOk result ((p : Program) × Reads tokens.now p) }
+    ensures allowed { OnOk result (IsAllowed tokens.now) }
+    ensures cause { IfErr result (HasCause Reads tokens.now) }
+{
+    match spv_parser::program(alloc, tokens) {
+        Ok(_) => Ok(()),
+        Err(fault) => Err(fault),
+    }
+}
+
 /// The report of a text.
 pub(crate) fn report_of(alloc: Global, text: &[u8]) -> Result<Report, ReadFault>
     ensures report { IfOk result (IsReportOf text.now) }
@@ -65,6 +97,7 @@ pub(crate) fn report_of(alloc: Global, text: &[u8]) -> Result<Report, ReadFault>
 {
     let mut names = Names::new(alloc);
     let tokens = spv_lexer::tokens(alloc, text, &mut names)?;
+    check_syntax(alloc, &tokens)?;
     let known = known_numbers(&names);
     let form = spv_form::read(alloc, &tokens, known)?;
     let report = spv_report::verify(alloc, names, form)?;

@@ -1,5 +1,6 @@
 // Why a text is refused.
 
+use spv_tree::Word;
 use thiserror::Error;
 
 /// Why a text is refused. A number is a line; the first line is 1.
@@ -17,7 +18,17 @@ pub enum Refusal {
     /// A text of more than 4194304 bytes.
     #[error("the text is too long")]
     TextTooLong,
-    /// Tokens that are not a program of the form that is read so far.
+    /// Tokens that no program of the language has. The line is that of the first token with which none goes on,
+    /// or of the last token where the text ends too early; it is 1 where there is no token.
+    #[error("line {0}: no program goes on so")]
+    Syntax(u32),
+    /// A text whose level exceeds 200. The line is that of the first token after which it does.
+    #[error("line {0}: the text goes too deep")]
+    TooDeep(u32),
+    /// A word that is known and belongs to nothing that is accepted: the first such word, behind its line.
+    #[error("line {0}: this word belongs to nothing that is accepted")]
+    Profile(u32, Word),
+    /// A program of the language that is not of the form that is accepted so far.
     #[error("the program is not of the form")]
     NotOfForm,
 }

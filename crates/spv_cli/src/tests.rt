@@ -2,6 +2,7 @@
 use crate::{Refusal, law_report, run};
 use spv_io::{MemorySink, MemoryTexts, TextFault, Texts};
 use spv_logic::PlainWorld;
+use spv_tree::Word;
 use std::alloc::Global;
 use std::process::Abort;
 use std::test::Fail;
@@ -130,7 +131,7 @@ fn refused_texts(rt: HostRuntime) -> Result<(), Fail> {
             "PROGRAM one;\nVAR x: INTEGER;\nEXIT x = 1;\nBEGIN x := 9223372036854775808 END.\n",
             "3 NUMERAL one.pas LINE 4",
         ),
-        ("empty.pas", "", "22 FORM empty.pas LINE 1"),
+        ("empty.pas", "", "5 SYNTAX empty.pas LINE 1"),
         (
             "two.pas",
             "PROGRAM two;\nVAR x, y: INTEGER;\nENTRY x = 1;\nEXIT y = 3;\nBEGIN y := x + 1 END.\n",
@@ -139,12 +140,12 @@ fn refused_texts(rt: HostRuntime) -> Result<(), Fail> {
         (
             "a.pas",
             "PROGRAM a; BEGIN 1..9 END.",
-            "22 FORM a.pas LINE 1",
+            "5 SYNTAX a.pas LINE 1",
         ),
         (
             "a.pas",
             "PROGRAM a; BEGIN 1. . END.",
-            "22 FORM a.pas LINE 1",
+            "5 SYNTAX a.pas LINE 1",
         ),
     ];
     for (file, text, told) in table {
@@ -171,6 +172,12 @@ fn printed_refusals(rt: HostRuntime) -> Result<(), Fail> {
             "line 3: the numeral is too large",
         ),
         (Refusal::TextTooLong, "the text is too long"),
+        (Refusal::Syntax(2), "line 2: no program goes on so"),
+        (Refusal::TooDeep(4), "line 4: the text goes too deep"),
+        (
+            Refusal::Profile(5, Word::Set),
+            "line 5: this word belongs to nothing that is accepted",
+        ),
         (Refusal::NotOfForm, "the program is not of the form"),
     ];
     for (refusal, message) in table {

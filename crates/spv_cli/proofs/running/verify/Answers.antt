@@ -1,4 +1,4 @@
-use Rattle.std.proofs.Common.{refl, inl, inr}
+use Rattle.std.proofs.Common.{refl, inr}
 use Rattle.spv_cli.proofs.Told.{reading_of}
 use Rattle.spv_cli.proofs.running.verify.Goals as goal
 

@@ -1,4 +1,4 @@
-use Rattle.std.proofs.Common.{◌≡◌, ◌∙◌, ◌≤◌, ◌+◌, length, rules}
+use Rattle.std.proofs.Common.{◌∙◌, rules}
 use Rattle.spv_io.proofs.Pieces.{on_err}
 use Rattle.spv_cli.proofs.Lines.{more_written, cut_written}
 use Rattle.spv_cli.proofs.running.write_lines.Goals as goal
