@@ -20,11 +20,11 @@ use Rattle.spv_syntax.specs.declared.program.Program.{Program}
 use Rattle.spv_syntax.specs.Formulas as tree
 use Rattle.spv_syntax.specs.Types.{TypeDenoter, named, range, pointer, array, fields}
 use Rattle.spv_syntax.specs.Lists.{further, headed}
-use Rattle.spv_syntax.specs.FormulaKinds.{name_kind, formula_kinds, relation_kinds, simple_kinds, term_kinds, factor_kinds, more_factors_kinds}
-use Rattle.spv_syntax.specs.TypeKinds.{name_kinds, names_kinds, type_kinds}
+use Rattle.spv_syntax.specs.FormulaKinds.{formula_kinds, simple_kinds, term_kinds, factor_kinds, more_factors_kinds}
+use Rattle.spv_syntax.specs.TypeKinds.{name_kinds, type_kinds}
 use Rattle.spv_syntax.specs.StatementKinds.{block_kinds}
-use Rattle.spv_syntax.specs.ProgramKinds.{const_kinds, typedef_kinds, vars_kinds, symbol_kinds, entry_kinds, exit_kinds, routines_kinds, files_kinds, program_kinds}
-use Rattle.spv_syntax.specs.Reads.{kinds, Reads}
+use Rattle.spv_syntax.specs.ProgramKinds.{const_kinds, typedef_kinds, vars_kinds, symbol_kinds, entry_kinds, exit_kinds, routines_kinds, files_kinds}
+use Rattle.spv_syntax.specs.Reads.{Reads}
 use Rattle.spv_form.specs.declared.form.KnownNumbers.{KnownNumbers}
 use Rattle.spv_form.specs.declared.form.Side.{Side}
 use Rattle.spv_form.specs.declared.form.Equation.{Equation}
@@ -33,7 +33,7 @@ use Rattle.spv_form.specs.declared.form.Formula.TheVariants.{Plain, Bracketed}
 use Rattle.spv_form.specs.declared.form.Annotation.{Annotation}
 use Rattle.spv_form.specs.declared.form.Form.{Form}
 use Rattle.spv_form.specs.Sizes.{equations_in, equations_of, equations_of_form}
-use Rattle.spv_form.specs.Trees.{both, all_of, first_of, is_none, is_empty, side_of, only_factor, only_term, term_side, simple_side, formula_term, compared_sides, equation_of, bracketed_equation, conjunct_of, factors_in, conjunction_of, formula_of, line_of, annotation_of, is_integer, symbols_of, group_of, variables_of, is_bare, HasParts}
+use Rattle.spv_form.specs.Trees.{both, all_of, first_of, is_none, is_empty, side_of, only_factor, only_term, term_side, simple_side, formula_term, compared_sides, equation_of, bracketed_equation, conjunct_of, factors_in, conjunction_of, formula_of, line_of, annotation_of, is_integer, symbols_of, variables_of, HasParts}
 use Rattle.spv_form.proofs.Lists.{nothing, some_is}
 
 -- ---- sides

@@ -1,5 +1,5 @@
 -- Which names a program of the form may have.
-use Rattle.std.specs.Prelude.{ℕ, Bool, true, ◌&&◌, ◌||◌, not, List, [], ◌∷◌, Option, Some, None, nat_eq}
+use Rattle.std.specs.Prelude.{Bool, true, ◌&&◌, ◌||◌, not, List, [], ◌∷◌, Option, Some, None, nat_eq}
 use Rattle.std.specs.List.{list_all, list_any}
 use Rattle.spv_names.specs.declared.names.Symbol.{Symbol}
 use Rattle.spv_form.specs.declared.form.KnownNumbers.{KnownNumbers}

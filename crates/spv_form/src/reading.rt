@@ -1,6 +1,6 @@
 // Reading the form from a tree.
 
-ghost use Rattle.std.specs.Prelude.{◌≡◌, ◌<◌, List, [], ◌∷◌, ◌++◌, Some, None, length, option_copied, IfOk, OnOk, Err};
+ghost use Rattle.std.specs.Prelude.{◌≡◌, ◌<◌, List, [], ◌∷◌, ◌++◌, Some, None, length, option_copied, IfOk, OnOk, IfErr, Err};
 ghost use Rattle.std.specs.Option.{option_and_then};
 ghost use Rattle.spv_tree.specs.declared.token.Token.{Token};
 ghost use Rattle.spv_syntax.specs.Reads.{Reads};
@@ -8,7 +8,7 @@ ghost use Rattle.spv_syntax.specs.declared.operators.Comparison.TheVariants.{Equ
 ghost use Rattle.spv_form.specs.declared.form.Equation.{Equation};
 ghost use Rattle.spv_form.specs.declared.form.Assignment.{Assignment};
 ghost use Rattle.spv_form.specs.declared.form.Form.{Form};
-ghost use Rattle.spv_form.specs.declared.fault.FormFault.TheVariants.{NotOfForm};
+ghost use Rattle.spv_form.specs.declared.fault.FormFault.TheVariants.{NotOfForm, Memory};
 ghost use Rattle.spv_form.specs.Sizes.{equations_of_form};
 ghost use Rattle.spv_form.specs.Trees.{all_of, term_side, compared_sides, conjunct_of, conjunction_of, formula_of, annotation_of, symbols_of, body_of, variables_of, group_of, HasParts, IsForm};
 ghost use Rattle.spv_form.specs.Trees as spec;
@@ -161,6 +161,18 @@ fn conjunct(operator: Multiplying, factor: &Factor) -> Option<Equation>
     }
 }
 
+// Adds an equation to the list.
+fn push_equation(equation: Equation, list: &mut Vec<Equation>) -> Result<(), FormFault>
+    ensures there { OnOk result (list.new.items ≡ list.old.items ++ equation ∷ []) }
+    ensures memory { IfErr result (λ fault. fault ≡ Memory) }
+{
+    let Equation { left, right } = equation;
+    match list.push(Equation { left, right }) {
+        Ok(()) => Ok(()),
+        Err(_) => Err(FormFault::Memory),
+    }
+}
+
 // Adds the equation in brackets behind AND to the list.
 fn push_conjunct(
     operator: Multiplying,
@@ -173,10 +185,7 @@ fn push_conjunct(
     let Some(equation) = conjunct(operator, factor) else {
         return Err(FormFault::NotOfForm);
     };
-    match list.push(equation) {
-        Ok(()) => Ok(()),
-        Err(_) => Err(FormFault::Memory),
-    }
+    push_equation(equation, list)
 }
 
 // The equations that stand behind AND.
@@ -267,6 +276,21 @@ fn statement(statement: &Statement) -> Option<Assignment>
     }
 }
 
+// Adds an assignment to the list.
+fn push_assignment(assignment: Assignment, list: &mut Vec<Assignment>) -> Result<(), FormFault>
+    ensures there { OnOk result (list.new.items ≡ list.old.items ++ assignment ∷ []) }
+    ensures memory { IfErr result (λ fault. fault ≡ Memory) }
+{
+    let pushed = match assignment {
+        Assignment::Empty => list.push(Assignment::Empty),
+        Assignment::Assign(x, value) => list.push(Assignment::Assign(x, value)),
+    };
+    match pushed {
+        Ok(()) => Ok(()),
+        Err(_) => Err(FormFault::Memory),
+    }
+}
+
 // Adds the statement of the form that a statement is to the list.
 fn push_statement(s: &Statement, list: &mut Vec<Assignment>) -> Result<(), FormFault>
     ensures there { OnOk result ((a : Assignment) × (spec.statement_of s.now ≡ Some a) × (list.new.items ≡ list.old.items ++ a ∷ [])) }
@@ -275,10 +299,7 @@ fn push_statement(s: &Statement, list: &mut Vec<Assignment>) -> Result<(), FormF
     let Some(assignment) = statement(s) else {
         return Err(FormFault::NotOfForm);
     };
-    match list.push(assignment) {
-        Ok(()) => Ok(()),
-        Err(_) => Err(FormFault::Memory),
-    }
+    push_assignment(assignment, list)
 }
 
 // The statements of the form that a first statement and those behind it are.

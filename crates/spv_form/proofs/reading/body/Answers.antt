@@ -1,4 +1,4 @@
-use Rattle.std.proofs.Common.{◌≡◌, ◌∷◌, Some, None, IfOk, ap, ◌∙◌, subst}
+use Rattle.std.proofs.Common.{◌≡◌, Some, None, IfOk, ap, ◌∙◌, subst}
 use Rattle.spv_form.specs.Trees.{body_of}
 use Rattle.spv_form.proofs.Lists.{body_is}
 use Rattle.spv_form.proofs.reading.body.Goals as goal
