@@ -8,7 +8,7 @@ use Rattle.spv_names.specs.declared.names.Symbol.{Symbol}
 use Rattle.spv_form.specs.declared.form.KnownNumbers.{KnownNumbers}
 use Rattle.spv_form.specs.declared.form.Side.{Side}
 use Rattle.spv_form.specs.declared.form.Assignment.{Assignment}
-use Rattle.spv_form.specs.Spelled.{is_variable, is_known, declaration_allowed}
+use Rattle.spv_form.specs.Names.{is_variable, is_known, declaration_allowed}
 use Rattle.spv_form.specs.Indexed.{among, replaced_in}
 use Rattle.spv_form.specs.Program.{before_statement, before_all}
 

@@ -1,4 +1,4 @@
-pub mod Fronts
+pub mod Lists
 pub mod Whole
 pub mod Program
 pub mod Numbers

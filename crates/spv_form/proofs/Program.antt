@@ -24,7 +24,7 @@ use Rattle.spv_form.specs.declared.form.Assignment.TheVariants.{Empty, Assign}
 use Rattle.spv_form.specs.declared.form.KnownNumbers.{KnownNumbers}
 use Rattle.spv_form.specs.declared.form.Form.{Form}
 use Rattle.spv_form.proofs.Indexed.{nat_eq-sym}
-use Rattle.spv_form.specs.Spelled.{is_variable, side_allowed, equation_allowed, formula_allowed, annotation_allowed, assignment_allowed, declaration_allowed, names_allowed}
+use Rattle.spv_form.specs.Names.{is_variable, side_allowed, equation_allowed, formula_allowed, annotation_allowed, assignment_allowed, declaration_allowed, names_allowed}
 use Rattle.spv_form.specs.Program.{expression_of, side_term, equation_term, statement_of, block_of, formula_term, with_sides, term_with, annotation_of, declared_variables, program_of, before_statement, before_all, condition_of, conditions_in}
 
 -- ---- names

@@ -1,6 +1,6 @@
 pub mod Known
-pub mod Spelled
-pub mod Read
+pub mod Names
+pub mod Trees
 pub mod Indexed
 pub mod Program
 pub mod Sizes

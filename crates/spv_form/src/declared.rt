@@ -2,8 +2,8 @@
 
 ghost use Rattle.std.specs.Prelude.{◌≡◌, ◌||◌, IfOk, IfSome, is_some};
 ghost use Rattle.std.specs.List.{list_all};
-ghost use Rattle.spv_form.specs.Spelled.{is_variable};
-ghost use Rattle.spv_form.specs.Spelled as spec;
+ghost use Rattle.spv_form.specs.Names.{is_variable};
+ghost use Rattle.spv_form.specs.Names as spec;
 ghost use Rattle.spv_form.specs.Indexed.{among};
 
 use crate::form::{Annotation, Assignment, Equation, Form, Formula, KnownNumbers, Side};

@@ -2,15 +2,17 @@
 #![tactic(auto)]
 
 mod declared;
+mod fault;
 mod form;
 mod reading;
 mod replacements;
 
+pub use fault::FormFault;
 pub use form::{
     Annotation, Assignment, Assignments, Equation, Equations, Form, Formula, KnownNumbers, Side,
     Symbols, known_numbers,
 };
-pub use reading::{FormFault, read};
+pub use reading::read;
 pub use replacements::Replacements;
 
 #[cfg(test)]

@@ -1,407 +1,403 @@
-// Reading the form from tokens.
+// Reading the form from a tree.
 
-ghost use Rattle.std.specs.Prelude.{◌≡◌, ◌≢◌, ◌∷◌, ◌++◌, ◌<◌, [], None, Some, length, IfNone, IfSome, IfOk, IsTrue, Err};
-ghost use Rattle.spv_tree.specs.declared.token.TokenKind.TheVariants as kind;
-ghost use Rattle.spv_tree.specs.declared.token.Word.TheVariants as word;
-ghost use Rattle.spv_tree.specs.declared.token.Sign.TheVariants as sign;
-ghost use Rattle.spv_form.specs.declared.form.Assignment.TheVariants.{Empty, Assign};
-ghost use Rattle.spv_form.specs.declared.reading.FormFault.TheVariants.{NotOfForm};
-ghost use Rattle.spv_form.specs.Spelled.{kinds, all_kinds, heading_kinds, side_kind, equation_kinds, bracketed_kinds, conjunct_kinds, formula_kinds, annotated_kinds, annotation_kinds, further_name_kinds, type_kinds, variables_kinds, assignment_kinds, further_kinds, end_kinds, body_kinds, first_line, lines_at, lines_behind, IsForm};
+ghost use Rattle.std.specs.Prelude.{◌≡◌, ◌<◌, List, [], ◌∷◌, ◌++◌, Some, None, length, option_copied, IfOk, OnOk, IfErr, Err};
+ghost use Rattle.std.specs.Option.{option_and_then};
+ghost use Rattle.spv_tree.specs.declared.token.Token.{Token};
+ghost use Rattle.spv_syntax.specs.Reads.{Reads};
+ghost use Rattle.spv_syntax.specs.declared.operators.Comparison.TheVariants.{Equal};
+ghost use Rattle.spv_form.specs.declared.form.Equation.{Equation};
+ghost use Rattle.spv_form.specs.declared.form.Assignment.{Assignment};
+ghost use Rattle.spv_form.specs.declared.form.Form.{Form};
+ghost use Rattle.spv_form.specs.declared.fault.FormFault.TheVariants.{NotOfForm, Memory};
 ghost use Rattle.spv_form.specs.Sizes.{equations_of_form};
-ghost use Rattle.spv_form.specs.Read.{NoneAt, SomeAt, NotFirst, NoneBefore, OnlyBefore, ReadOnto, OnlyOnto, formula_in, lines_with, IsSpelled, SameForm};
+ghost use Rattle.spv_form.specs.Trees.{all_of, term_side, compared_sides, conjunct_of, conjunction_of, formula_of, annotation_of, symbols_of, body_of, variables_of, group_of, HasParts, IsForm};
+ghost use Rattle.spv_form.specs.Trees as spec;
 
 use crate::declared::names_allowed;
+use crate::fault::FormFault;
 use crate::form::{
     Annotation, Assignment, Assignments, Equation, Equations, Form, Formula, KnownNumbers, Side,
     Symbols,
 };
 use spv_names::Symbol;
-use spv_tree::{Sign, Token, TokenKind, Word};
-use std::alloc::Global;
-use thiserror::Error;
+use spv_syntax::{
+    Block, Comparison, Designator, Factor, FactorForm, Multiplying, Name, Program, Relation,
+    Several, Simple, Statement, StatementForm, Term, TypeDenoter, TypeForm, Vars,
+};
+use std::alloc::{AllocError, Global};
 
-/// Why no form was read.
-#[derive(Clone, Copy, PartialEq, Eq, Debug, Error)]
-pub enum FormFault {
-    /// The tokens are not of the form.
-    #[error("this program is not of the form that is read")]
-    NotOfForm,
-    /// There was no memory left for the form.
-    #[error("out of memory")]
-    Memory,
+// The variable that a designator is, where it has no selectors.
+fn variable(designator: &Designator) -> Option<Symbol>
+    ensures { result ≡ spec.variable designator.now }
+{
+    match designator.behind.as_slice() {
+        [] => Some(designator.name.symbol),
+        [_, ..] => None,
+    }
 }
 
-// The tokens behind this word, where they begin with it.
-fn after_word(tokens: &[Token], word: Word) -> Option<&[Token]>
-    ensures there { IfSome result (λ rest. kinds tokens.now ≡ kind.Word word ∷ kinds rest.now) }
-    ensures absent { IfNone result (NoneAt (λ (w : Unit {0}) rest. kind.Word word ∷ rest) tokens.now) }
-    ensures lines { IfSome result (λ rest. lines_behind tokens.now ≡ lines_at (kind.Word word) (first_line rest.now) (lines_behind rest.now)) }
+// The name or number that a factor is.
+fn side(factor: &Factor) -> Option<Side>
+    ensures { result ≡ spec.side_of factor.now }
 {
-    let (first, rest) = tokens.split_first()?;
-    match first.kind {
-        TokenKind::Word(w) if w == word => Some(rest),
+    match &factor.form {
+        FactorForm::Number(n) => Some(Side::Number(*n)),
+        FactorForm::Place(designator) => variable(designator).map(Side::Variable),
         _ => None,
     }
 }
 
-// The tokens behind this sign, where they begin with it.
-fn after_sign(tokens: &[Token], sign: Sign) -> Option<&[Token]>
-    ensures there { IfSome result (λ rest. kinds tokens.now ≡ kind.Sign sign ∷ kinds rest.now) }
-    ensures absent { IfNone result (NoneAt (λ (w : Unit {0}) rest. kind.Sign sign ∷ rest) tokens.now) }
-    ensures lines { IfSome result (λ rest. lines_behind tokens.now ≡ lines_behind rest.now) }
+// The one factor of a term.
+fn only_factor(term: &Term) -> Option<&Factor>
+    ensures { option_copied result ≡ spec.only_factor term.now }
 {
-    let (first, rest) = tokens.split_first()?;
-    if first.kind == TokenKind::Sign(sign) {
-        Some(rest)
-    } else {
-        None
+    match term.more.as_slice() {
+        [] => Some(&term.first),
+        [_, ..] => None,
     }
 }
 
-// The name at the front.
-fn name(tokens: &[Token]) -> Option<(Symbol, &[Token])>
-    ensures there { IfSome result (λ r. kinds tokens.now ≡ kind.Name r.0 ∷ kinds r.1.now) }
-    ensures absent { IfNone result (NoneAt (λ x rest. kind.Name x ∷ rest) tokens.now) }
-    ensures lines { IfSome result (λ r. lines_behind tokens.now ≡ lines_behind r.1.now) }
+// The one term of a sum that has no sign in front.
+fn only_term(simple: &Simple) -> Option<&Term>
+    ensures { option_copied result ≡ spec.only_term simple.now }
 {
-    let (first, rest) = tokens.split_first()?;
-    match first.kind {
-        TokenKind::Name(x) => Some((x, rest)),
+    match simple.prefix {
+        None => match simple.more.as_slice() {
+            [] => Some(&simple.first),
+            [_, ..] => None,
+        },
+        Some(_) => None,
+    }
+}
+
+// The side that a term is.
+fn term_side(term: &Term) -> Option<Side>
+    ensures { result ≡ term_side term.now }
+{
+    match only_factor(term) {
+        Some(factor) => side(factor),
+        None => None,
+    }
+}
+
+// The side that a sum is.
+fn simple_side(simple: &Simple) -> Option<Side>
+    ensures { result ≡ spec.simple_side simple.now }
+{
+    match only_term(simple) {
+        Some(term) => term_side(term),
+        None => None,
+    }
+}
+
+// The one term of a relation that has no right side.
+fn relation_term(relation: &Relation) -> Option<&Term>
+    ensures { option_copied result ≡ spec.relation_term relation.now }
+{
+    match &relation.right {
+        None => only_term(&relation.left),
+        Some(_) => None,
+    }
+}
+
+// The one term of a formula that is no relation.
+fn formula_term(formula: &spv_syntax::Formula) -> Option<&Term>
+    ensures { option_copied result ≡ spec.formula_term formula.now }
+{
+    match &formula.right {
+        None => relation_term(&formula.left),
+        Some(_) => None,
+    }
+}
+
+// The equation between two sides, where both are there.
+fn between(left: Option<Side>, right: Option<Side>) -> Option<Equation>
+    ensures { result ≡ compared_sides Equal left right }
+{
+    let left = left?;
+    let right = right?;
+    Some(Equation { left, right })
+}
+
+// The equation that a relation is.
+fn relation_equation(relation: &Relation) -> Option<Equation>
+    ensures { result ≡ spec.relation_equation relation.now }
+{
+    match &relation.right {
+        Some((Comparison::Equal, right)) => {
+            between(simple_side(&relation.left), simple_side(right))
+        }
         _ => None,
     }
 }
 
-// The side at the front.
-fn side(tokens: &[Token]) -> Option<(Side, &[Token])>
-    ensures there { IfSome result (λ r. kinds tokens.now ≡ side_kind r.0 ∷ kinds r.1.now) }
-    ensures absent { IfNone result (NoneAt (λ s rest. side_kind s ∷ rest) tokens.now) }
-    ensures lines { IfSome result (λ r. lines_behind tokens.now ≡ lines_behind r.1.now) }
+// The equation that a formula is.
+fn equation(formula: &spv_syntax::Formula) -> Option<Equation>
+    ensures { result ≡ spec.equation_of formula.now }
 {
-    let (first, rest) = tokens.split_first()?;
-    match first.kind {
-        TokenKind::Name(x) => Some((Side::Variable(x), rest)),
-        TokenKind::Number(n) => Some((Side::Number(n), rest)),
+    match &formula.right {
+        None => relation_equation(&formula.left),
+        Some(_) => None,
+    }
+}
+
+// The equation in brackets that a factor is.
+fn bracketed(factor: &Factor) -> Option<Equation>
+    ensures { result ≡ spec.bracketed_equation factor.now }
+{
+    match &factor.form {
+        FactorForm::Bracketed(formula) => equation(formula),
         _ => None,
     }
 }
 
-// The equation at the front.
-fn equation(tokens: &[Token]) -> Option<(Equation, &[Token])>
-    ensures there { IfSome result (λ r. kinds tokens.now ≡ equation_kinds r.0 (kinds r.1.now)) }
-    ensures absent { IfNone result (NoneAt equation_kinds tokens.now) }
-    ensures lines { IfSome result (λ r. lines_behind tokens.now ≡ lines_behind r.1.now) }
+// The equation in brackets behind AND.
+fn conjunct(operator: Multiplying, factor: &Factor) -> Option<Equation>
+    ensures { result ≡ conjunct_of (operator, factor.now) }
 {
-    let Some((left, rest)) = side(tokens) else {
-        return None;
-    };
-    let Some(rest) = after_sign(rest, Sign::Equal) else {
-        return None;
-    };
-    let Some((right, rest)) = side(rest) else {
-        return None;
-    };
-    Some((Equation { left, right }, rest))
+    match operator {
+        Multiplying::And => bracketed(factor),
+        _ => None,
+    }
 }
 
-// The equation in brackets at the front.
-fn bracketed(tokens: &[Token]) -> Option<(Equation, &[Token])>
-    ensures there { IfSome result (λ r. kinds tokens.now ≡ bracketed_kinds r.0 (kinds r.1.now)) }
-    ensures absent { IfNone result (NoneAt bracketed_kinds tokens.now) }
-    ensures lines { IfSome result (λ r. lines_behind tokens.now ≡ lines_behind r.1.now) }
+// Adds an equation to the list.
+fn push_equation(equation: Equation, list: &mut Vec<Equation>) -> Result<(), FormFault>
+    ensures there { OnOk result (list.new.items ≡ list.old.items ++ equation ∷ []) }
+    ensures memory { IfErr result (λ fault. fault ≡ Memory) }
 {
-    let Some(rest) = after_sign(tokens, Sign::OpenParenthesis) else {
-        return None;
-    };
-    let Some((equation, rest)) = equation(rest) else {
-        return None;
-    };
-    let Some(rest) = after_sign(rest, Sign::CloseParenthesis) else {
-        return None;
-    };
-    Some((equation, rest))
-}
-
-// Reads the equation in brackets at the front onto the list, and answers what follows.
-fn conjunct<'a>(tokens: &'a [Token], list: &mut Vec<Equation>) -> Result<&'a [Token], FormFault>
-    ensures there { IfOk result (λ rest. (e : _) × (list.new.items ≡ list.old.items ++ e ∷ []) × (kinds tokens.now ≡ bracketed_kinds e (kinds rest.now))) }
-    ensures absent { result ≡ Err NotOfForm → NoneAt bracketed_kinds tokens.now }
-    ensures lines { IfOk result (λ rest. lines_behind tokens.now ≡ lines_behind rest.now) }
-{
-    let Some((equation, rest)) = bracketed(tokens) else {
-        return Err(FormFault::NotOfForm);
-    };
-    match list.push(equation) {
-        Ok(()) => Ok(rest),
+    let Equation { left, right } = equation;
+    match list.push(Equation { left, right }) {
+        Ok(()) => Ok(()),
         Err(_) => Err(FormFault::Memory),
     }
 }
 
-// Reads the equations behind AND at the front onto the list, and answers what follows.
-fn conjuncts<'a>(tokens: &'a [Token], list: &mut Vec<Equation>) -> Result<&'a [Token], FormFault>
-    ensures there { IfOk result (λ rest. ReadOnto conjunct_kinds tokens.now rest.now list.old.items list.new.items) }
-    ensures only { IfOk result (λ rest. OnlyOnto conjunct_kinds (kind.Sign sign.Semicolon) tokens.now rest.now list.old.items list.new.items) }
-    ensures absent { result ≡ Err NotOfForm → NoneBefore (all_kinds conjunct_kinds) (kind.Sign sign.Semicolon) tokens.now }
-    ensures lines { IfOk result (λ rest. lines_behind tokens.now ≡ lines_behind rest.now) }
+// Adds the equation in brackets behind AND to the list.
+fn push_conjunct(
+    operator: Multiplying,
+    factor: &Factor,
+    list: &mut Vec<Equation>,
+) -> Result<(), FormFault>
+    ensures there { OnOk result ((e : Equation) × (conjunct_of (operator, factor.now) ≡ Some e) × (list.new.items ≡ list.old.items ++ e ∷ [])) }
+    ensures absent { result ≡ Err NotOfForm → conjunct_of (operator, factor.now) ≡ None }
 {
-    let mut rest = tokens;
-    while let Some(next) = after_word(rest, Word::And) {
-        rest = conjunct(next, list)?;
-    }
-    Ok(rest)
-}
-
-// The formula at the front, as long as it can be.
-fn formula(alloc: Global, tokens: &[Token]) -> Result<(Formula, &[Token]), FormFault>
-    ensures there { IfOk result (λ r. kinds tokens.now ≡ formula_kinds r.0 (kinds r.1.now)) }
-    ensures only { IfOk result (λ r. OnlyBefore formula_kinds (kind.Sign sign.Semicolon) tokens.now r.0 r.1.now) }
-    ensures absent { result ≡ Err NotOfForm → NoneBefore formula_kinds (kind.Sign sign.Semicolon) tokens.now }
-    ensures lines { IfOk result (λ r. lines_behind tokens.now ≡ lines_behind r.1.now) }
-{
-    let Some((first, rest)) = bracketed(tokens) else {
-        return match equation(tokens) {
-            Some((equation, rest)) => Ok((Formula::Plain(equation), rest)),
-            None => Err(FormFault::NotOfForm),
-        };
-    };
-    let mut others = Vec::new(alloc);
-    let rest = conjuncts(rest, &mut others)?;
-    Ok((Formula::Bracketed(first, Equations::from_vec(others)), rest))
-}
-
-// The formula at the front and a semicolon.
-fn annotated(alloc: Global, tokens: &[Token]) -> Result<(Annotation, &[Token]), FormFault>
-    ensures there { IfOk result (λ r. kinds tokens.now ≡ annotated_kinds r.0 (kinds r.1.now)) }
-    ensures only { IfOk result (λ r. (a : _) (ks : _) → kinds tokens.now ≡ annotated_kinds a ks → (r.0.formula ≡ a.formula) × (kinds r.1.now ≡ ks)) }
-    ensures absent { result ≡ Err NotOfForm → NoneAt annotated_kinds tokens.now }
-    ensures line { IfOk result (λ r. r.0.line ≡ first_line tokens.now) }
-    ensures lines { IfOk result (λ r. lines_behind tokens.now ≡ lines_behind r.1.now) }
-{
-    let line = tokens.first().map_or(1, |t| t.line);
-    let (formula, rest) = formula(alloc, tokens)?;
-    let Some(rest) = after_sign(rest, Sign::Semicolon) else {
+    let Some(equation) = conjunct(operator, factor) else {
         return Err(FormFault::NotOfForm);
     };
-    Ok((Annotation { line, formula }, rest))
+    push_equation(equation, list)
 }
 
-// The annotation behind this word at the front, where the tokens begin with the word.
-fn annotation(
-    alloc: Global,
-    tokens: &[Token],
-    word: Word,
-) -> Result<(Option<Annotation>, &[Token]), FormFault>
-    ensures there { IfOk result (λ r. kinds tokens.now ≡ annotation_kinds word r.0 (kinds r.1.now)) }
-    ensures only { IfOk result (λ r. (a : _) (ks : _) → NotFirst (kind.Word word) ks → kinds tokens.now ≡ annotation_kinds word a ks → (formula_in r.0 ≡ formula_in a) × (kinds r.1.now ≡ ks)) }
-    ensures absent { result ≡ Err NotOfForm → (a : _) (ks : _) → NotFirst (kind.Word word) ks → kinds tokens.now ≡ annotation_kinds word a ks → ⊥ }
-    ensures lines { IfOk result (λ r. lines_behind tokens.now ≡ lines_with word r.0 (lines_behind r.1.now)) }
+// The equations that stand behind AND.
+fn conjuncts(alloc: Global, more: &[(Multiplying, Factor)]) -> Result<Equations, FormFault>
+    ensures all { IfOk result (λ es. all_of conjunct_of more.now ≡ Some es) }
+    ensures absent { result ≡ Err NotOfForm → all_of conjunct_of more.now ≡ None }
 {
-    let Some(inner) = after_word(tokens, word) else {
-        return Ok((None, tokens));
-    };
-    let (annotation, rest) = annotated(alloc, inner)?;
-    Ok((Some(annotation), rest))
+    let mut list = Vec::new(alloc);
+    for (operator, factor) in more {
+        push_conjunct(*operator, factor, &mut list)?;
+    }
+    Ok(Equations::from_vec(list))
 }
 
-// Reads the name at the front onto the list, and answers what follows.
-fn listed_name<'a>(tokens: &'a [Token], list: &mut Vec<Symbol>) -> Result<&'a [Token], FormFault>
-    ensures there { IfOk result (λ rest. (x : _) × (list.new.items ≡ list.old.items ++ x ∷ []) × (kinds tokens.now ≡ kind.Name x ∷ kinds rest.now)) }
-    ensures absent { result ≡ Err NotOfForm → NoneAt (λ x rest. kind.Name x ∷ rest) tokens.now }
-    ensures lines { IfOk result (λ rest. lines_behind tokens.now ≡ lines_behind rest.now) }
+// The equations in brackets that a term is.
+fn conjunction(alloc: Global, term: &Term) -> Result<Formula, FormFault>
+    ensures there { IfOk result (λ f. conjunction_of term.now ≡ Some f) }
+    ensures absent { result ≡ Err NotOfForm → conjunction_of term.now ≡ None }
 {
-    let Some((x, rest)) = name(tokens) else {
+    let Some(first) = bracketed(&term.first) else {
         return Err(FormFault::NotOfForm);
     };
-    match list.push(x) {
-        Ok(()) => Ok(rest),
-        Err(_) => Err(FormFault::Memory),
-    }
+    let others = conjuncts(alloc, &term.more)?;
+    Ok(Formula::Bracketed(first, others))
 }
 
-// Reads the names behind commas at the front onto the list, and answers what follows.
-fn further_names<'a>(tokens: &'a [Token], list: &mut Vec<Symbol>) -> Result<&'a [Token], FormFault>
-    ensures there { IfOk result (λ rest. ReadOnto further_name_kinds tokens.now rest.now list.old.items list.new.items) }
-    ensures only { IfOk result (λ rest. OnlyOnto further_name_kinds (kind.Sign sign.Colon) tokens.now rest.now list.old.items list.new.items) }
-    ensures absent { result ≡ Err NotOfForm → NoneBefore (all_kinds further_name_kinds) (kind.Sign sign.Colon) tokens.now }
-    ensures lines { IfOk result (λ rest. lines_behind tokens.now ≡ lines_behind rest.now) }
+// The formula of the form that a formula is.
+fn formula(alloc: Global, formula: &spv_syntax::Formula) -> Result<Formula, FormFault>
+    ensures there { IfOk result (λ f. formula_of formula.now ≡ Some f) }
+    ensures absent { result ≡ Err NotOfForm → formula_of formula.now ≡ None }
 {
-    let mut rest = tokens;
-    while let Some(next) = after_sign(rest, Sign::Comma) {
-        rest = listed_name(next, list)?;
+    if let Some(equation) = equation(formula) {
+        return Ok(Formula::Plain(equation));
     }
-    Ok(rest)
-}
-
-// What follows a colon, the name INTEGER and a semicolon.
-fn after_type(tokens: &[Token], known: KnownNumbers) -> Option<&[Token]>
-    ensures there { IfSome result (λ rest. kinds tokens.now ≡ type_kinds known (kinds rest.now)) }
-    ensures absent { IfNone result (NoneAt (λ (u : Unit {0}) rest. type_kinds known rest) tokens.now) }
-    ensures lines { IfSome result (λ rest. lines_behind tokens.now ≡ lines_behind rest.now) }
-{
-    let Some(rest) = after_sign(tokens, Sign::Colon) else {
-        return None;
-    };
-    let Some((of, rest)) = name(rest) else {
-        return None;
-    };
-    if of.0 != known.integer {
-        return None;
-    }
-    let Some(rest) = after_sign(rest, Sign::Semicolon) else {
-        return None;
-    };
-    Some(rest)
-}
-
-// Reads the names of a declaration behind its word VAR, and answers what follows its semicolon.
-fn declaration<'a>(
-    tokens: &'a [Token],
-    known: KnownNumbers,
-    list: &mut Vec<Symbol>,
-) -> Result<&'a [Token], FormFault>
-    ensures there { IfOk result (λ rest. (x : _) × (others : _) × (list.new.items ≡ list.old.items ++ x ∷ others) × (kinds tokens.now ≡ kind.Name x ∷ all_kinds further_name_kinds others (type_kinds known (kinds rest.now)))) }
-    ensures only { IfOk result (λ rest. (x : _) (others : _) (ks : _) → kinds tokens.now ≡ kind.Name x ∷ all_kinds further_name_kinds others (type_kinds known ks) → (list.new.items ≡ list.old.items ++ x ∷ others) × (kinds rest.now ≡ ks)) }
-    ensures absent { result ≡ Err NotOfForm → (x : _) (others : _) (ks : _) → kinds tokens.now ≡ kind.Name x ∷ all_kinds further_name_kinds others (type_kinds known ks) → ⊥ }
-    ensures lines { IfOk result (λ rest. lines_behind tokens.now ≡ lines_behind rest.now) }
-{
-    let rest = listed_name(tokens, list)?;
-    let rest = further_names(rest, list)?;
-    match after_type(rest, known) {
-        Some(rest) => Ok(rest),
+    match formula_term(formula) {
+        Some(term) => conjunction(alloc, term),
         None => Err(FormFault::NotOfForm),
     }
 }
 
-// The variables at the front, where the tokens begin with the word VAR; none otherwise.
-fn variables(
+// The annotation of a formula, where there is one.
+fn annotation(
     alloc: Global,
-    tokens: &[Token],
-    known: KnownNumbers,
-) -> Result<(Symbols, &[Token]), FormFault>
-    ensures there { IfOk result (λ r. kinds tokens.now ≡ variables_kinds known r.0 (kinds r.1.now)) }
-    ensures only { IfOk result (λ r. (xs : _) (ks : _) → NotFirst (kind.Word word.Var) ks → kinds tokens.now ≡ variables_kinds known xs ks → (r.0 ≡ xs) × (kinds r.1.now ≡ ks)) }
-    ensures absent { result ≡ Err NotOfForm → (xs : _) (ks : _) → NotFirst (kind.Word word.Var) ks → kinds tokens.now ≡ variables_kinds known xs ks → ⊥ }
-    ensures lines { IfOk result (λ r. lines_behind tokens.now ≡ lines_behind r.1.now) }
+    behind: &Option<spv_syntax::Formula>,
+) -> Result<Option<Annotation>, FormFault>
+    ensures there { IfOk result (λ a. annotation_of behind.now ≡ Some a) }
+    ensures absent { result ≡ Err NotOfForm → annotation_of behind.now ≡ None }
 {
-    let mut list = Vec::new(alloc);
-    let Some(rest) = after_word(tokens, Word::Var) else {
-        return Ok((Symbols::from_vec(list), tokens));
-    };
-    let rest = declaration(rest, known, &mut list)?;
-    Ok((Symbols::from_vec(list), rest))
-}
-// The statement at the front: an assignment where the tokens begin with a name.
-fn assignment(tokens: &[Token]) -> Option<(Assignment, &[Token])>
-    ensures there { IfSome result (λ r. kinds tokens.now ≡ assignment_kinds r.0 (kinds r.1.now)) }
-    ensures no_name { IfSome result (λ r. r.0 ≡ Empty → NoneAt (λ x rest. kind.Name x ∷ rest) tokens.now) }
-    ensures name { IfNone result ((x : _) × SomeAt (λ rest. kind.Name x ∷ rest) tokens.now) }
-    ensures absent { IfNone result ((s : _) → NoneAt (λ x rest. assignment_kinds (Assign x s) rest) tokens.now) }
-{
-    let Some((x, rest)) = name(tokens) else {
-        return Some((Assignment::Empty, tokens));
-    };
-    let Some(rest) = after_sign(rest, Sign::Becomes) else {
-        return None;
-    };
-    let Some((s, rest)) = side(rest) else {
-        return None;
-    };
-    Some((Assignment::Assign(x, s), rest))
+    match behind {
+        None => Ok(None),
+        Some(tree) => {
+            let formula = formula(alloc, tree)?;
+            Ok(Some(Annotation {
+                line: tree.line,
+                formula,
+            }))
+        }
+    }
 }
 
-// Whether the tokens are the end of the program.
-fn ends(tokens: &[Token]) -> bool
-    ensures there { IsTrue result → kinds tokens.now ≡ end_kinds }
-    ensures absent { kinds tokens.now ≡ end_kinds → IsTrue result }
+// The side that a formula is.
+fn formula_side(formula: &spv_syntax::Formula) -> Option<Side>
+    ensures { result ≡ option_and_then term_side (spec.formula_term formula.now) }
 {
-    let Some(rest) = after_word(tokens, Word::End) else {
-        return false;
-    };
-    let Some(rest) = after_sign(rest, Sign::Period) else {
-        return false;
-    };
-    rest.is_empty()
+    match formula_term(formula) {
+        Some(term) => term_side(term),
+        None => None,
+    }
 }
 
-// Reads the statement at the front onto the list, and answers what follows.
-fn statement<'a>(tokens: &'a [Token], list: &mut Vec<Assignment>) -> Result<&'a [Token], FormFault>
-    ensures there { IfOk result (λ rest. (a : _) × (list.new.items ≡ list.old.items ++ a ∷ []) × (kinds tokens.now ≡ assignment_kinds a (kinds rest.now)) × (a ≡ Empty → NoneAt (λ x rest. kind.Name x ∷ rest) tokens.now)) }
-    ensures absent { result ≡ Err NotOfForm → ((x : _) × SomeAt (λ rest. kind.Name x ∷ rest) tokens.now) × ((s : _) → NoneAt (λ x rest. assignment_kinds (Assign x s) rest) tokens.now) }
+// The assignment of a side to a variable.
+fn assignment(designator: &Designator, formula: &spv_syntax::Formula) -> Option<Assignment>
+    ensures { result ≡ spec.assignment_of designator.now formula.now }
 {
-    let Some((statement, rest)) = assignment(tokens) else {
-        return Err(FormFault::NotOfForm);
+    let x = variable(designator)?;
+    let value = formula_side(formula)?;
+    Some(Assignment::Assign(x, value))
+}
+
+// The statement of the form that a statement is.
+fn statement(statement: &Statement) -> Option<Assignment>
+    ensures { result ≡ spec.statement_of statement.now }
+{
+    match &statement.form {
+        StatementForm::Empty => Some(Assignment::Empty),
+        StatementForm::Assignment(designator, formula) => assignment(designator, formula),
+        _ => None,
+    }
+}
+
+// Adds an assignment to the list.
+fn push_assignment(assignment: Assignment, list: &mut Vec<Assignment>) -> Result<(), FormFault>
+    ensures there { OnOk result (list.new.items ≡ list.old.items ++ assignment ∷ []) }
+    ensures memory { IfErr result (λ fault. fault ≡ Memory) }
+{
+    let pushed = match assignment {
+        Assignment::Empty => list.push(Assignment::Empty),
+        Assignment::Assign(x, value) => list.push(Assignment::Assign(x, value)),
     };
-    match list.push(statement) {
-        Ok(()) => Ok(rest),
+    match pushed {
+        Ok(()) => Ok(()),
         Err(_) => Err(FormFault::Memory),
     }
 }
 
-// Reads the statements behind semicolons at the front onto the list, and answers what follows.
-fn further<'a>(tokens: &'a [Token], list: &mut Vec<Assignment>) -> Result<&'a [Token], FormFault>
-    ensures there { IfOk result (λ rest. ReadOnto further_kinds tokens.now rest.now list.old.items list.new.items) }
-    ensures only { IfOk result (λ rest. OnlyOnto further_kinds (kind.Word word.End) tokens.now rest.now list.old.items list.new.items) }
-    ensures absent { result ≡ Err NotOfForm → NoneBefore (all_kinds further_kinds) (kind.Word word.End) tokens.now }
+// Adds the statement of the form that a statement is to the list.
+fn push_statement(s: &Statement, list: &mut Vec<Assignment>) -> Result<(), FormFault>
+    ensures there { OnOk result ((a : Assignment) × (spec.statement_of s.now ≡ Some a) × (list.new.items ≡ list.old.items ++ a ∷ [])) }
+    ensures absent { result ≡ Err NotOfForm → spec.statement_of s.now ≡ None }
 {
-    let mut rest = tokens;
-    while let Some(next) = after_sign(rest, Sign::Semicolon) {
-        rest = statement(next, list)?;
-    }
-    Ok(rest)
-}
-
-// The block, up to the end of the program.
-fn body(alloc: Global, tokens: &[Token]) -> Result<Assignments, FormFault>
-    ensures there { IfOk result (λ body. kinds tokens.now ≡ body_kinds body) }
-    ensures statements { IfOk result (λ body. body ≢ []) }
-    ensures only { IfOk result (λ body. (others : _) → others ≢ [] → kinds tokens.now ≡ body_kinds others → body ≡ others) }
-    ensures absent { result ≡ Err NotOfForm → (body : _) → body ≢ [] → kinds tokens.now ≡ body_kinds body → ⊥ }
-{
-    let Some(rest) = after_word(tokens, Word::Begin) else {
+    let Some(assignment) = statement(s) else {
         return Err(FormFault::NotOfForm);
     };
+    push_assignment(assignment, list)
+}
+
+// The statements of the form that a first statement and those behind it are.
+fn statements(
+    alloc: Global,
+    first: &Statement,
+    more: &[Statement],
+) -> Result<Assignments, FormFault>
+    ensures all { IfOk result (λ list. all_of spec.statement_of (first.now ∷ more.now) ≡ Some list) }
+    ensures absent { result ≡ Err NotOfForm → all_of spec.statement_of (first.now ∷ more.now) ≡ None }
+{
     let mut list = Vec::new(alloc);
-    let rest = statement(rest, &mut list)?;
-    let rest = further(rest, &mut list)?;
-    if ends(rest) {
-        Ok(Assignments::from_vec(list))
-    } else {
-        Err(FormFault::NotOfForm)
+    push_statement(first, &mut list)?;
+    for s in more {
+        push_statement(s, &mut list)?;
+    }
+    Ok(Assignments::from_vec(list))
+}
+
+// The statements of a block.
+fn body(alloc: Global, block: &Block) -> Result<Assignments, FormFault>
+    ensures there { IfOk result (λ body. body_of block.now ≡ Some body) }
+    ensures absent { result ≡ Err NotOfForm → body_of block.now ≡ None }
+{
+    statements(alloc, &block.first, &block.more)
+}
+
+// Whether a type is INTEGER.
+fn is_integer(known: KnownNumbers, of: &TypeDenoter) -> bool
+    ensures { result ≡ spec.is_integer known of.now }
+{
+    match &of.form {
+        TypeForm::Named(x) => x.symbol.0 == known.integer,
+        _ => false,
     }
 }
 
-// The heading: the word PROGRAM, its name and a semicolon.
-fn heading(tokens: &[Token]) -> Option<(Symbol, &[Token])>
-    ensures there { IfSome result (λ r. kinds tokens.now ≡ heading_kinds r.0 (kinds r.1.now)) }
-    ensures absent { IfNone result (NoneAt heading_kinds tokens.now) }
-    ensures lines { IfSome result (λ r. lines_behind tokens.now ≡ lines_behind r.1.now) }
+// The names of a list.
+fn symbols(alloc: Global, names: &Several<Name>) -> Result<Symbols, AllocError>
+    ensures { IfOk result (λ list. list ≡ symbols_of names.now) }
 {
-    let Some(rest) = after_word(tokens, Word::Program) else {
-        return None;
-    };
-    let Some((name, rest)) = name(rest) else {
-        return None;
-    };
-    let Some(rest) = after_sign(rest, Sign::Semicolon) else {
-        return None;
-    };
-    Some((name, rest))
+    let mut list = Vec::new(alloc);
+    list.push(names.first.symbol)?;
+    for name in names.more.as_slice() {
+        list.push(name.symbol)?;
+    }
+    Ok(Symbols::from_vec(list))
 }
 
-// The program that these tokens are, whatever its names.
-fn program(alloc: Global, tokens: &[Token], known: KnownNumbers) -> Result<Form, FormFault>
-    ensures there { IfOk result (λ f. IsSpelled known tokens.now f) }
-    ensures only { IfOk result (λ f. (g : _) → IsSpelled known tokens.now g → SameForm f g) }
-    ensures absent { result ≡ Err NotOfForm → (f : _) → IsSpelled known tokens.now f → ⊥ }
+// The variables of a group.
+fn group(alloc: Global, known: KnownNumbers, vars: &Vars) -> Result<Symbols, FormFault>
+    ensures there { IfOk result (λ list. group_of known vars.now ≡ Some list) }
+    ensures absent { result ≡ Err NotOfForm → group_of known vars.now ≡ None }
 {
-    let Some((name, rest)) = heading(tokens) else {
+    if !is_integer(known, &vars.of) {
         return Err(FormFault::NotOfForm);
-    };
-    let (variables, rest) = variables(alloc, rest, known)?;
-    let (entry, rest) = annotation(alloc, rest, Word::Entry)?;
-    let (exit, rest) = annotation(alloc, rest, Word::Exit)?;
-    let body = body(alloc, rest)?;
+    }
+    let symbols = symbols(alloc, &vars.names)?;
+    Ok(symbols)
+}
+
+// The variables of a program: none, or those of one group.
+fn variables(alloc: Global, known: KnownNumbers, groups: &[Vars]) -> Result<Symbols, FormFault>
+    ensures there { IfOk result (λ list. variables_of known groups.now ≡ Some list) }
+    ensures absent { result ≡ Err NotOfForm → variables_of known groups.now ≡ None }
+{
+    match groups {
+        [] => Ok(Symbols::from_vec(Vec::new(alloc))),
+        [vars] => group(alloc, known, vars),
+        [_, _, ..] => Err(FormFault::NotOfForm),
+    }
+}
+
+// Whether a program has no names behind its own, no routines and no declarations but variables.
+fn is_bare(program: &Program) -> bool
+    ensures { result ≡ spec.is_bare program.now }
+{
+    program.files.is_none()
+        && program.declarations.constants.as_slice().is_empty()
+        && program.declarations.types.as_slice().is_empty()
+        && program.declarations.symbols.as_slice().is_empty()
+        && program.routines.as_slice().is_empty()
+}
+
+// The form that a tree has, whatever its names.
+fn parts(alloc: Global, program: &Program, known: KnownNumbers) -> Result<Form, FormFault>
+    ensures there { IfOk result (λ f. HasParts known program.now f) }
+    ensures absent { result ≡ Err NotOfForm → (f : Form) → HasParts known program.now f → ⊥ }
+{
+    if !is_bare(program) {
+        return Err(FormFault::NotOfForm);
+    }
+    let variables = variables(alloc, known, program.declarations.variables.as_slice())?;
+    let entry = annotation(alloc, &program.entry)?;
+    let exit = annotation(alloc, &program.exit)?;
+    let body = body(alloc, &program.block)?;
     Ok(Form {
-        name,
+        name: program.name.symbol,
         variables,
         entry,
         exit,
@@ -409,16 +405,16 @@ fn program(alloc: Global, tokens: &[Token], known: KnownNumbers) -> Result<Form,
     })
 }
 
-/// The program of the form that these tokens are. `NotOfForm` comes exactly where there is none.
-pub fn read(alloc: Global, tokens: &[Token], known: KnownNumbers) -> Result<Form, FormFault>
-    ensures form { IfOk result (λ f. IsForm known tokens.now f) }
-    ensures few { IfOk result (λ f. equations_of_form f < length tokens.now) }
-    ensures not_of_form { result ≡ Err NotOfForm → (f : _) → IsForm known tokens.now f → ⊥ }
+/// The program of the form that a tree is. `NotOfForm` comes exactly where it is none.
+pub fn read(alloc: Global, program: &Program, known: KnownNumbers) -> Result<Form, FormFault>
+    ensures form { IfOk result (λ f. IsForm known program.now f) }
+    ensures few { IfOk result (λ f. (tokens : List Token) → Reads tokens program.now → equations_of_form f < length tokens) }
+    ensures not_of_form { result ≡ Err NotOfForm → (f : Form) → IsForm known program.now f → ⊥ }
 {
-    let form = program(alloc, tokens, known)?;
-    match names_allowed(alloc, known, &form) {
-        Ok(true) => Ok(form),
-        Ok(false) => Err(FormFault::NotOfForm),
-        Err(_) => Err(FormFault::Memory),
+    let form = parts(alloc, program, known)?;
+    if names_allowed(alloc, known, &form)? {
+        Ok(form)
+    } else {
+        Err(FormFault::NotOfForm)
     }
 }

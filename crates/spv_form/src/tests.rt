@@ -1,12 +1,17 @@
-//! Programs of the form and not of it, as tokens made by hand.
+//! Trees of the form and not of it, made by hand.
 
 use super::*;
 use spv_names::{Names, Symbol};
-use spv_tree::{Numeral, Sign, Token, TokenKind, Word};
-use std::alloc::Global;
+use spv_syntax::{
+    Block, Comparison, Declarations, Designator, Factor, FactorForm, Multiplying, Name, Parts,
+    Program, Relation, Several, Simple, Statement, StatementForm, Term, TypeDenoter, TypeForm,
+    Vars,
+};
+use spv_tree::Numeral;
+use std::alloc::{AllocError, Global};
 use std::test::Fail;
 
-// The names of these programs, and their tokens.
+// The names of these programs.
 const X: Symbol = Symbol(1);
 
 const Y: Symbol = Symbol(3);
@@ -17,67 +22,131 @@ const KNOWN: KnownNumbers = KnownNumbers {
     list: 4,
 };
 
-const ONE: TokenKind = TokenKind::Name(Symbol(0));
+fn name(symbol: Symbol) -> Name {
+    Name { line: 1, symbol }
+}
 
-const NAME_X: TokenKind = TokenKind::Name(X);
-
-const NAME_Y: TokenKind = TokenKind::Name(Y);
-
-const INTEGER: TokenKind = TokenKind::Name(Symbol(2));
-
-const PROGRAM: TokenKind = TokenKind::Word(Word::Program);
-
-const VAR: TokenKind = TokenKind::Word(Word::Var);
-
-const EXIT: TokenKind = TokenKind::Word(Word::Exit);
-
-const BEGIN: TokenKind = TokenKind::Word(Word::Begin);
-
-const END: TokenKind = TokenKind::Word(Word::End);
-
-const SEMICOLON: TokenKind = TokenKind::Sign(Sign::Semicolon);
-
-const COLON: TokenKind = TokenKind::Sign(Sign::Colon);
-
-const EQUAL: TokenKind = TokenKind::Sign(Sign::Equal);
-
-const BECOMES: TokenKind = TokenKind::Sign(Sign::Becomes);
-
-const PERIOD: TokenKind = TokenKind::Sign(Sign::Period);
-
-const PLUS: TokenKind = TokenKind::Sign(Sign::Plus);
-
-const COMMA: TokenKind = TokenKind::Sign(Sign::Comma);
-
-const OPEN: TokenKind = TokenKind::Sign(Sign::OpenParenthesis);
-
-const CLOSE: TokenKind = TokenKind::Sign(Sign::CloseParenthesis);
-
-const ENTRY: TokenKind = TokenKind::Word(Word::Entry);
-
-const AND: TokenKind = TokenKind::Word(Word::And);
-
-// `PROGRAM one;`, `VAR x: INTEGER;`, `BEGIN x := x END.` and `BEGIN END.`
-const HEADING: [TokenKind; 3] = [PROGRAM, ONE, SEMICOLON];
-
-const VARIABLE: [TokenKind; 5] = [VAR, NAME_X, COLON, INTEGER, SEMICOLON];
-
-const BLOCK: [TokenKind; 6] = [BEGIN, NAME_X, BECOMES, NAME_X, END, PERIOD];
-
-const EMPTY_BLOCK: [TokenKind; 3] = [BEGIN, END, PERIOD];
-
-// `VAR x, y: INTEGER;`
-const TWO_VARIABLES: [TokenKind; 7] = [VAR, NAME_X, COMMA, NAME_Y, COLON, INTEGER, SEMICOLON];
-
-// The tokens of lines of such kinds.
-fn tokens_of(alloc: Global, lines: [&[TokenKind]; 4]) -> Result<Vec<Token>, Fail> {
-    let mut tokens = Vec::new(alloc);
-    for (line, kinds) in (1..5).zip(lines) {
-        for kind in kinds {
-            tokens.push(Token { kind: *kind, line })?;
-        }
+fn designator(alloc: Global, x: Symbol) -> Designator {
+    Designator {
+        line: 1,
+        name: name(x),
+        behind: Vec::new(alloc),
     }
-    Ok(tokens)
+}
+
+fn place(alloc: Global, x: Symbol) -> Factor {
+    Factor {
+        line: 1,
+        form: FactorForm::Place(designator(alloc, x)),
+    }
+}
+
+fn one() -> Factor {
+    Factor {
+        line: 1,
+        form: FactorForm::Number(Numeral::new(1)),
+    }
+}
+
+fn simple(alloc: Global, first: Factor, more: Vec<(Multiplying, Factor)>) -> Simple {
+    let first = Term {
+        line: 1,
+        first,
+        more,
+    };
+    Simple {
+        line: 1,
+        prefix: None,
+        first,
+        more: Vec::new(alloc),
+    }
+}
+
+fn formula(left: Simple, right: Option<(Comparison, Simple)>) -> spv_syntax::Formula {
+    let left = Relation {
+        line: 3,
+        left,
+        right,
+    };
+    spv_syntax::Formula {
+        line: 3,
+        left,
+        right: None,
+    }
+}
+
+// A formula that is a factor and nothing more.
+fn alone(alloc: Global, factor: Factor) -> spv_syntax::Formula {
+    formula(simple(alloc, factor, Vec::new(alloc)), None)
+}
+
+// `left = right`
+fn equation(alloc: Global, left: Factor, right: Factor) -> spv_syntax::Formula {
+    formula(
+        simple(alloc, left, Vec::new(alloc)),
+        Some((Comparison::Equal, simple(alloc, right, Vec::new(alloc)))),
+    )
+}
+
+// `( left = right )`
+fn bracketed(alloc: Global, left: Factor, right: Factor) -> Result<Factor, AllocError> {
+    let inside = equation(alloc, left, right);
+    Ok(Factor {
+        line: 3,
+        form: FactorForm::Bracketed(Box::new(alloc, inside)?),
+    })
+}
+
+// `VAR x, others: of;`
+fn variables(alloc: Global, others: &[Symbol], of: Symbol) -> Result<Parts<Vars>, AllocError> {
+    let mut more = Vec::new(alloc);
+    for symbol in others {
+        more.push(name(*symbol))?;
+    }
+    let mut list = Vec::new(alloc);
+    list.push(Vars {
+        line: 1,
+        names: Several {
+            first: name(X),
+            more: Parts::from_vec(more),
+        },
+        of: TypeDenoter {
+            line: 1,
+            form: TypeForm::Named(name(of)),
+        },
+    })?;
+    Ok(Parts::from_vec(list))
+}
+
+// A program with these parts and a block of one statement.
+fn program(
+    alloc: Global,
+    variables: Parts<Vars>,
+    entry: Option<spv_syntax::Formula>,
+    exit: Option<spv_syntax::Formula>,
+    form: StatementForm,
+) -> Result<Program, AllocError> {
+    let first = Statement { line: 4, form };
+    Ok(Program {
+        line: 1,
+        name: name(Symbol(0)),
+        files: None,
+        declarations: Declarations {
+            line: 2,
+            constants: Parts::from_vec(Vec::new(alloc)),
+            types: Parts::from_vec(Vec::new(alloc)),
+            variables,
+            symbols: Parts::from_vec(Vec::new(alloc)),
+        },
+        routines: Parts::from_vec(Vec::new(alloc)),
+        entry,
+        exit,
+        block: Block {
+            line: 4,
+            first: Box::new(alloc, first)?,
+            more: Vec::new(alloc),
+        },
+    })
 }
 
 fn is_one(side: &Side) -> bool {
@@ -86,11 +155,16 @@ fn is_one(side: &Side) -> bool {
 
 #[test]
 fn a_program_with_its_parts(rt: HostRuntime) -> Result<(), Fail> {
-    let one = TokenKind::Number(Numeral::new(1));
-    let exit = [EXIT, NAME_X, EQUAL, one, SEMICOLON];
-    let block = [BEGIN, NAME_X, BECOMES, one, END, PERIOD];
-    let tokens = tokens_of(rt.alloc(), [&HEADING, &VARIABLE, &exit, &block])?;
-    let form = read(rt.alloc(), &tokens, KNOWN)?;
+    let alloc = rt.alloc();
+    let value = Box::new(alloc, alone(alloc, one()))?;
+    let tree = program(
+        alloc,
+        variables(alloc, &[], Symbol(2))?,
+        None,
+        Some(equation(alloc, place(alloc, X), one())),
+        StatementForm::Assignment(designator(alloc, X), value),
+    )?;
+    let form = read(alloc, &tree, KNOWN)?;
     assert_eq!(rt; form.name, Symbol(0));
     assert_eq!(rt; form.variables.as_slice(), [X].as_slice());
     assert!(rt; form.entry.is_none());
@@ -113,12 +187,19 @@ fn a_program_with_its_parts(rt: HostRuntime) -> Result<(), Fail> {
 
 #[test]
 fn two_variables_and_an_entry(rt: HostRuntime) -> Result<(), Fail> {
-    let one = TokenKind::Number(Numeral::new(1));
-    let entry = [
-        ENTRY, OPEN, NAME_X, EQUAL, one, CLOSE, AND, OPEN, NAME_Y, EQUAL, NAME_X, CLOSE, SEMICOLON,
-    ];
-    let tokens = tokens_of(rt.alloc(), [&HEADING, &TWO_VARIABLES, &entry, &EMPTY_BLOCK])?;
-    let form = read(rt.alloc(), &tokens, KNOWN)?;
+    let alloc = rt.alloc();
+    let mut more = Vec::new(alloc);
+    let second = bracketed(alloc, place(alloc, Y), place(alloc, X))?;
+    more.push((Multiplying::And, second))?;
+    let first = bracketed(alloc, place(alloc, X), one())?;
+    let tree = program(
+        alloc,
+        variables(alloc, &[Y], Symbol(2))?,
+        Some(formula(simple(alloc, first, more), None)),
+        None,
+        StatementForm::Empty,
+    )?;
+    let form = read(alloc, &tree, KNOWN)?;
     assert_eq!(rt; form.variables.as_slice(), [X, Y].as_slice());
     let Some(entry) = &form.entry else {
         return Err(Fail::new("no ENTRY"));
@@ -139,96 +220,24 @@ fn two_variables_and_an_entry(rt: HostRuntime) -> Result<(), Fail> {
     Ok(())
 }
 
-#[test]
-fn an_empty_block(rt: HostRuntime) -> Result<(), Fail> {
-    let tokens = tokens_of(rt.alloc(), [&HEADING, &[], &[], &EMPTY_BLOCK])?;
-    let form = read(rt.alloc(), &tokens, KNOWN)?;
-    assert!(rt; form.variables.as_slice().is_empty());
-    assert!(rt; form.entry.is_none() && form.exit.is_none());
-    assert!(rt; matches!(form.body.as_slice(), [Assignment::Empty]));
-    Ok(())
-}
-
-// Whether lines are refused as no program of the form.
-fn is_refused(alloc: Global, lines: [&[TokenKind]; 4]) -> Result<bool, Fail> {
-    let tokens = tokens_of(alloc, lines)?;
-    let fault = read(alloc, &tokens, KNOWN).err();
+// `VAR x, others: of; BEGIN END.`
+fn is_refused(alloc: Global, others: &[Symbol], of: Symbol) -> Result<bool, Fail> {
+    let variables = variables(alloc, others, of)?;
+    let tree = program(alloc, variables, None, None, StatementForm::Empty)?;
+    let fault = read(alloc, &tree, KNOWN).err();
     Ok(fault == Some(FormFault::NotOfForm))
-}
-
-#[test]
-fn refusals(rt: HostRuntime) -> Result<(), Fail> {
-    let alloc = rt.alloc();
-    let sum = [EXIT, NAME_X, EQUAL, NAME_X, PLUS, NAME_X, SEMICOLON];
-    let undeclared = [BEGIN, NAME_X, BECOMES, NAME_Y, END, PERIOD];
-    let no_period = [BEGIN, NAME_X, BECOMES, NAME_X, END];
-    assert!(rt; is_refused(alloc, [&[], &[], &[], &[]])?, "no tokens");
-    assert!(rt;
-        is_refused(alloc, [&HEADING, &VARIABLE, &sum, &BLOCK])?,
-        "a sum"
-    );
-    assert!(rt;
-        is_refused(alloc, [&HEADING, &VARIABLE, &[], &undeclared])?,
-        "an undeclared name"
-    );
-    assert!(rt;
-        is_refused(alloc, [&HEADING, &VARIABLE, &[], &no_period])?,
-        "no period"
-    );
-    assert!(rt;
-        is_refused(alloc, [&HEADING, &VARIABLE, &BLOCK, &[SEMICOLON]])?,
-        "a token behind the period"
-    );
-    assert!(rt;
-        !is_refused(alloc, [&HEADING, &VARIABLE, &[], &BLOCK])?,
-        "no fault"
-    );
-    Ok(())
 }
 
 #[test]
 fn refused_declarations(rt: HostRuntime) -> Result<(), Fail> {
     let alloc = rt.alloc();
-    let integer = [VAR, INTEGER, COLON, INTEGER, SEMICOLON];
-    let twice = [VAR, NAME_X, COMMA, NAME_X, COLON, INTEGER, SEMICOLON];
-    let no_name = [VAR, NAME_X, COMMA, COLON, INTEGER, SEMICOLON];
+    assert!(rt; !is_refused(alloc, &[Y], Symbol(2))?, "no fault");
+    assert!(rt; is_refused(alloc, &[X], Symbol(2))?, "a name twice");
     assert!(rt;
-        is_refused(alloc, [&HEADING, &integer, &[], &EMPTY_BLOCK])?,
+        is_refused(alloc, &[Symbol(2)], Symbol(2))?,
         "INTEGER as a variable"
     );
-    assert!(rt;
-        is_refused(alloc, [&HEADING, &twice, &[], &EMPTY_BLOCK])?,
-        "a name twice"
-    );
-    assert!(rt;
-        is_refused(alloc, [&HEADING, &no_name, &[], &EMPTY_BLOCK])?,
-        "no name behind a comma"
-    );
-    Ok(())
-}
-
-#[test]
-fn refused_formulas(rt: HostRuntime) -> Result<(), Fail> {
-    let alloc = rt.alloc();
-    let no_brackets = [
-        EXIT, NAME_X, EQUAL, NAME_X, AND, NAME_X, EQUAL, NAME_X, SEMICOLON,
-    ];
-    let no_equation = [EXIT, OPEN, NAME_X, EQUAL, NAME_X, CLOSE, AND, SEMICOLON];
-    let two_entries = [
-        ENTRY, NAME_X, EQUAL, NAME_X, SEMICOLON, ENTRY, NAME_X, EQUAL, NAME_X, SEMICOLON,
-    ];
-    assert!(rt;
-        is_refused(alloc, [&HEADING, &VARIABLE, &no_brackets, &BLOCK])?,
-        "AND without brackets"
-    );
-    assert!(rt;
-        is_refused(alloc, [&HEADING, &VARIABLE, &no_equation, &BLOCK])?,
-        "nothing behind AND"
-    );
-    assert!(rt;
-        is_refused(alloc, [&HEADING, &VARIABLE, &two_entries, &BLOCK])?,
-        "two ENTRYs"
-    );
+    assert!(rt; is_refused(alloc, &[], Symbol(4))?, "another type");
     Ok(())
 }
 

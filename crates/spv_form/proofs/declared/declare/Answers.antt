@@ -1,6 +1,6 @@
 use Rattle.std.proofs.Common.{◌≡◌, ◌-◌, ◌<◌, suc, ◌||◌, Bool, true, false, length, drop, get_or, sym, ap, ◌∙◌, arith}
 use Rattle.spv_names.specs.declared.names.Symbol.{Symbol}
-use Rattle.spv_form.specs.Spelled.{is_known, is_variable}
+use Rattle.spv_form.specs.Names.{is_known, is_variable}
 use Rattle.spv_form.proofs.Indexed.{in_front, refused_at, allowed_at, one_declared}
 use Rattle.spv_form.proofs.declared.declare.Goals as goal
 

@@ -1,5 +1,5 @@
 use Rattle.std.proofs.Common.{◌≡◌, drop, true}
-use Rattle.spv_form.specs.Spelled.{is_variable, declaration_allowed}
+use Rattle.spv_form.specs.Names.{is_variable, declaration_allowed}
 use Rattle.spv_form.specs.Indexed.{among}
 use Rattle.spv_form.proofs.declared.declare.Given as goal
 

@@ -1,15 +1,6 @@
-use Rattle.std.proofs.Common.{◌≡◌, length}
-use Rattle.spv_tree.specs.declared.token.TokenKind.TheVariants as kind
-use Rattle.spv_tree.specs.declared.token.Sign.TheVariants as sign
-use Rattle.spv_form.specs.Spelled.{conjunct_kinds, lines_behind}
-use Rattle.spv_form.proofs.Fronts.{ReadSoFar}
+use Rattle.std.proofs.Common.{◌≡◌, Some, take}
+use Rattle.spv_form.specs.Trees.{all_of, conjunct_of}
 use Rattle.spv_form.proofs.reading.conjuncts.Given as goal
 
-abbrev pub invariant-loop-next : goal.invariant-loop-next
-invariant-loop-next l = record {
-  read : ReadSoFar conjunct_kinds (kind.Sign sign.Semicolon) l.initial.rest l.rest l.initial.list.items l.list.items;
-  lines : lines_behind l.initial.rest ≡ lines_behind l.rest;
-}
-
-abbrev pub decreases-loop-next : goal.decreases-loop-next
-decreases-loop-next l = length l.rest
+abbrev pub invariant-loop-operator : goal.invariant-loop-operator
+invariant-loop-operator l = all_of conjunct_of (take l.operator-index l.more) ≡ Some l.list.items
