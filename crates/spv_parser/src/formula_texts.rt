@@ -24,10 +24,21 @@ fn before_period(tokens: &[Token]) -> Option<&[Token]>
     }
 }
 
+// The line of the first token with which no text goes on, of this one and those behind it, behind a whole formula. A period
+// ends the formula, so then it is the one behind it, or else the last of the text.
+pub fn surplus(tokens: &[Token], first: Token, behind: &[Token]) -> u32 {
+    match (first.kind, behind) {
+        (TokenKind::Sign(Sign::Period), [second, ..]) => second.line,
+        (TokenKind::Sign(Sign::Period), []) => tokens.last().map_or(1, |token| token.line),
+        (_, _) => first.line,
+    }
+}
+
 // Why no formula and period stand here, where the tokens do not end with a period.
 fn unended(alloc: Global, levels: u32, tokens: &[Token]) -> Fault {
     match formula(alloc, levels, tokens) {
-        Ok((_, rest)) => unexpected(rest),
+        Ok((_, [])) => unexpected(&[]),
+        Ok((_, [token, behind @ ..])) => Fault::Syntax(Some(surplus(tokens, *token, behind))),
         Err(fault) => fault,
     }
 }

@@ -5,7 +5,7 @@ ghost use Rattle.spv_syntax.specs.Reads.{Reads, ReadsRules, ReadsFormulaText};
 ghost use Rattle.spv_parser.specs.Causes.{IsAllowed, HasCause, IsForbidden, IsRefusalOf};
 
 use crate::fault::Fault;
-use crate::formula_texts::formula_text;
+use crate::formula_texts::{formula_text, surplus};
 use crate::programs::program_at;
 use crate::refused::SyntaxFault;
 use crate::rule_files::rule_file;
@@ -107,7 +107,7 @@ fn formula_within(alloc: Global, levels: u32, tokens: &[Token]) -> Result<Formul
     allowed(alloc, tokens)?;
     match formula_text(alloc, levels, tokens) {
         Ok((tree, [])) => Ok(tree),
-        Ok((_, [token, ..])) => Err(SyntaxFault::Syntax(token.line)),
+        Ok((_, [token, behind @ ..])) => Err(SyntaxFault::Syntax(surplus(tokens, *token, behind))),
         Err(fault) => Err(refusal(tokens, fault)),
     }
 }

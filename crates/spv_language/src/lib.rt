@@ -1,0 +1,10 @@
+//! The reading of the language: from the bytes of a text to its tree.
+#![tactic(auto)]
+
+mod fault;
+mod laws;
+mod reading;
+
+pub use fault::TextFault;
+pub use laws::law_one_tree;
+pub use reading::{formula, program, rules};
