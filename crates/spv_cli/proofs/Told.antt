@@ -6,7 +6,8 @@ use Rattle.spv_cli.specs.declared.refusal.Refusal.{Refusal}
 use Rattle.spv_cli.specs.declared.refusal.Refusal.TheVariants.{BadByte, OpenComment, NumeralTooLarge, TextTooLong, Syntax, TooDeep, Profile, NotOfForm}
 use Rattle.spv_cli.specs.declared.found.Found.{Found}
 use Rattle.spv_cli.specs.declared.found.Found.TheVariants.{ReadFailed, Refusing, Reporting}
-use Rattle.spv_cli.specs.Refusals.{IsShort, IsRefused, IsReportOf}
+use Rattle.spv_language.specs.Texts.{IsShort}
+use Rattle.spv_cli.specs.Refusals.{IsRefused, IsReportOf}
 use Rattle.spv_cli.specs.Runs.{Reading, MayBeRead, IsFound}
 
 -- what was read is the whole text, where it is short
@@ -23,17 +24,17 @@ longer text h = fits (length text) (length (take 4194305 text)) (length-take 419
     fits n m e h = grind (arith)
 
 pub report_whole : (text : List ℕ) (r : Findings) → IsReportOf (take 4194305 text) r → IsReportOf text r
-report_whole text r is = subst (λ t. IsReportOf t r) (whole text is.short) is
+report_whole text r is = subst (λ t. IsReportOf t r) (whole text is.tree.cut.short) is
 
 pub refused_whole : (text : List ℕ) (r : Refusal) → IsRefused (take 4194305 text) r → IsRefused text r
 refused_whole text (BadByte line) is = subst (λ t. IsRefused t (BadByte line)) (whole text is.0) is
 refused_whole text (OpenComment line) is = subst (λ t. IsRefused t (OpenComment line)) (whole text is.0) is
 refused_whole text (NumeralTooLarge line) is = subst (λ t. IsRefused t (NumeralTooLarge line)) (whole text is.0) is
 refused_whole text TextTooLong is = longer text is
-refused_whole text (Syntax line) is = subst (λ t. IsRefused t (Syntax line)) (whole text is.0) is
-refused_whole text (TooDeep line) is = subst (λ t. IsRefused t (TooDeep line)) (whole text is.0) is
-refused_whole text (Profile line word) is = subst (λ t. IsRefused t (Profile line word)) (whole text is.0) is
-refused_whole text NotOfForm is = subst (λ t. IsRefused t NotOfForm) (whole text is.0) is
+refused_whole text (Syntax line) is = subst (λ t. IsRefused t (Syntax line)) (whole text is.0.short) is
+refused_whole text (TooDeep line) is = subst (λ t. IsRefused t (TooDeep line)) (whole text is.0.short) is
+refused_whole text (Profile line word) is = subst (λ t. IsRefused t (Profile line word)) (whole text is.0.short) is
+refused_whole text NotOfForm is = subst (λ t. IsRefused t NotOfForm) (whole text is.0.1.cut.short) is
 
 -- a fact about the first bytes is one about the told text
 pub if_told : (told : Option (List ℕ)) (bytes : List ℕ) (P : List ℕ → Type 0)

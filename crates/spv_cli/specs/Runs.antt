@@ -3,12 +3,10 @@ use Rattle.std.specs.Prelude.{◌≡◌, ℕ, ◌⊎◌, List, Option, Some, Non
 use Rattle.spv_io.specs.Faults.{Rose}
 use Rattle.spv_io.specs.Sink.{added, AddsPrefix}
 use Rattle.spv_io.specs.Texts.{named}
-use Rattle.spv_lexer.specs.declared.LexFault.{LexFault}
-use Rattle.spv_lexer.specs.declared.LexFault.TheVariants as lex
-use Rattle.spv_parser.specs.declared.refused.SyntaxFault.{SyntaxFault}
-use Rattle.spv_parser.specs.declared.refused.SyntaxFault.TheVariants as syntax
-use Rattle.spv_form.specs.declared.reading.FormFault.{FormFault}
-use Rattle.spv_form.specs.declared.reading.FormFault.TheVariants as form
+use Rattle.spv_language.specs.declared.fault.TextFault.{TextFault}
+use Rattle.spv_language.specs.declared.fault.TextFault.TheVariants as text
+use Rattle.spv_form.specs.declared.fault.FormFault.{FormFault}
+use Rattle.spv_form.specs.declared.fault.FormFault.TheVariants as form
 use Rattle.spv_report.specs.Reports.{Findings, IsReport}
 use Rattle.spv_listing.specs.Page.{page}
 use Rattle.spv_cli.specs.declared.refusal.Refusal.TheVariants as refusal
@@ -23,18 +21,15 @@ use Rattle.spv_cli.specs.Refusals.{IsRefused, IsReportOf}
 
 -- ---- faults of reading
 
-abbrev pub of_lexer : LexFault → ReadFault
-of_lexer (lex.BadByte line) = Refused (refusal.BadByte line)
-of_lexer (lex.OpenComment line) = Refused (refusal.OpenComment line)
-of_lexer (lex.NumeralTooLarge line) = Refused (refusal.NumeralTooLarge line)
-of_lexer lex.TextTooLong = Refused refusal.TextTooLong
-of_lexer lex.Memory = Memory
-
-abbrev pub of_parser : SyntaxFault → ReadFault
-of_parser (syntax.Profile line word) = Refused (refusal.Profile line word)
-of_parser (syntax.TooDeep line) = Refused (refusal.TooDeep line)
-of_parser (syntax.Syntax line) = Refused (refusal.Syntax line)
-of_parser syntax.Memory = Memory
+abbrev pub of_text : TextFault → ReadFault
+of_text (text.BadByte line) = Refused (refusal.BadByte line)
+of_text (text.OpenComment line) = Refused (refusal.OpenComment line)
+of_text (text.NumeralTooLarge line) = Refused (refusal.NumeralTooLarge line)
+of_text text.TextTooLong = Refused refusal.TextTooLong
+of_text (text.Profile line word) = Refused (refusal.Profile line word)
+of_text (text.TooDeep line) = Refused (refusal.TooDeep line)
+of_text (text.Syntax line) = Refused (refusal.Syntax line)
+of_text text.Memory = Memory
 
 abbrev pub of_form : FormFault → ReadFault
 of_form form.NotOfForm = Refused refusal.NotOfForm

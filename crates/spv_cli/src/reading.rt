@@ -1,9 +1,6 @@
 // From the bytes of a text to its report.
 
-ghost use Rattle.std.specs.Prelude.{IfOk, OnOk, IfErr, ◌≡◌};
-ghost use Rattle.spv_syntax.specs.declared.program.Program.{Program};
-ghost use Rattle.spv_syntax.specs.Reads.{Reads};
-ghost use Rattle.spv_parser.specs.Causes.{IsAllowed, HasCause};
+ghost use Rattle.std.specs.Prelude.{IfOk, IfErr, ◌≡◌};
 ghost use Rattle.spv_report.specs.Reports.{IsReport};
 ghost use Rattle.spv_cli.specs.Refusals.{IsReportOf};
 ghost use Rattle.spv_cli.specs.Runs.{IsCause};
@@ -11,11 +8,9 @@ ghost use Rattle.spv_cli.specs.declared.reading.ReadFault.TheVariants.{Memory};
 
 use crate::refusal::Refusal;
 use spv_form::{FormFault, known_numbers};
-use spv_lexer::LexFault;
+use spv_language::{TextFault, law_one_tree};
 use spv_names::Names;
-use spv_parser::SyntaxFault;
 use spv_report::{Report, VerifyFault};
-use spv_tree::Token;
 use std::alloc::Global;
 
 /// Why a text has no report.
@@ -25,33 +20,21 @@ pub(crate) enum ReadFault {
     Memory,
 }
 
-impl From<LexFault> for ReadFault {
-    ghost use Rattle.spv_cli.specs.Runs.{of_lexer};
+impl From<TextFault> for ReadFault {
+    ghost use Rattle.spv_cli.specs.Runs.{of_text};
 
-    ghost from_gives = { λ fault result. result ≡ of_lexer fault };
+    ghost from_gives = { λ fault result. result ≡ of_text fault };
 
-    fn from(fault: LexFault) -> ReadFault {
+    fn from(fault: TextFault) -> ReadFault {
         match fault {
-            LexFault::BadByte(line) => ReadFault::Refused(Refusal::BadByte(line)),
-            LexFault::OpenComment(line) => ReadFault::Refused(Refusal::OpenComment(line)),
-            LexFault::NumeralTooLarge(line) => ReadFault::Refused(Refusal::NumeralTooLarge(line)),
-            LexFault::TextTooLong => ReadFault::Refused(Refusal::TextTooLong),
-            LexFault::Memory => ReadFault::Memory,
-        }
-    }
-}
-
-impl From<SyntaxFault> for ReadFault {
-    ghost use Rattle.spv_cli.specs.Runs.{of_parser};
-
-    ghost from_gives = { λ fault result. result ≡ of_parser fault };
-
-    fn from(fault: SyntaxFault) -> ReadFault {
-        match fault {
-            SyntaxFault::Profile(line, word) => ReadFault::Refused(Refusal::Profile(line, word)),
-            SyntaxFault::TooDeep(line) => ReadFault::Refused(Refusal::TooDeep(line)),
-            SyntaxFault::Syntax(line) => ReadFault::Refused(Refusal::Syntax(line)),
-            SyntaxFault::Memory => ReadFault::Memory,
+            TextFault::BadByte(line) => ReadFault::Refused(Refusal::BadByte(line)),
+            TextFault::OpenComment(line) => ReadFault::Refused(Refusal::OpenComment(line)),
+            TextFault::NumeralTooLarge(line) => ReadFault::Refused(Refusal::NumeralTooLarge(line)),
+            TextFault::TextTooLong => ReadFault::Refused(Refusal::TextTooLong),
+            TextFault::Profile(line, word) => ReadFault::Refused(Refusal::Profile(line, word)),
+            TextFault::TooDeep(line) => ReadFault::Refused(Refusal::TooDeep(line)),
+            TextFault::Syntax(line) => ReadFault::Refused(Refusal::Syntax(line)),
+            TextFault::Memory => ReadFault::Memory,
         }
     }
 }
@@ -77,18 +60,6 @@ impl From<VerifyFault> for ReadFault {
     }
 }
 
-// Refuses tokens that are no program.
-fn check_syntax(alloc: Global, tokens: &[Token]) -> Result<(), SyntaxFault>
-    ensures program { OnOk result ((p : Program) × Reads tokens.now p) }
-    ensures allowed { OnOk result (IsAllowed tokens.now) }
-    ensures cause { IfErr result (HasCause Reads tokens.now) }
-{
-    match spv_parser::program(alloc, tokens) {
-        Ok(_) => Ok(()),
-        Err(fault) => Err(fault),
-    }
-}
-
 /// The report of a text.
 pub(crate) fn report_of(alloc: Global, text: &[u8]) -> Result<Report, ReadFault>
     ensures report { IfOk result (IsReportOf text.now) }
@@ -96,10 +67,10 @@ pub(crate) fn report_of(alloc: Global, text: &[u8]) -> Result<Report, ReadFault>
     ensures cause { IfErr result (IsCause text.now) }
 {
     let mut names = Names::new(alloc);
-    let tokens = spv_lexer::tokens(alloc, text, &mut names)?;
-    check_syntax(alloc, &tokens)?;
+    law_one_tree();
+    let program = spv_language::program(alloc, text, &mut names)?;
     let known = known_numbers(&names);
-    let form = spv_form::read(alloc, &tokens, known)?;
+    let form = spv_form::read(alloc, &program, known)?;
     let report = spv_report::verify(alloc, names, form)?;
     report.law_findings();
     Ok(report)

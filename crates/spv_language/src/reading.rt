@@ -1,6 +1,6 @@
 // The tree of a text.
 
-ghost use Rattle.std.specs.Prelude.{◌≡◌, ◌<◌, ◌++◌, ℕ, List, All, length, IfOk, IfErr, OnOk, OnErr};
+ghost use Rattle.std.specs.Prelude.{◌≡◌, ◌<◌, ◌≤◌, ◌++◌, ℕ, List, All, length, IfOk, IfErr, OnOk, OnErr};
 ghost use Rattle.spv_lexer.specs.Tokens.{IsInTable};
 ghost use Rattle.spv_syntax.specs.Reads.{Reads, ReadsRules, ReadsFormulaText};
 ghost use Rattle.spv_language.specs.Texts.{tokens_of, names_with, AreNamesOfSome, IsTreeOf, HasCause};
@@ -18,6 +18,7 @@ pub fn program(alloc: Global, text: &[u8], names: &mut Names) -> Result<Program,
     ensures tree { IfOk result (IsTreeOf Reads names.old text.now) }
     ensures names { OnOk result (names.new ≡ names_with names.old text.now) }
     ensures in_table { OnOk result (All (λ t. IsInTable names.new t.kind) (tokens_of names.old text.now)) }
+    ensures few { OnOk result (length (tokens_of names.old text.now) ≤ 4194304) }
     ensures cause { IfErr result (HasCause Reads names.old text.now) }
     ensures grown { OnErr result (AreNamesOfSome names.old text.now names.new) }
     ensures kept { (more : List (List ℕ)) × (names.new ≡ names.old ++ more) }
@@ -33,6 +34,7 @@ pub fn rules(alloc: Global, text: &[u8], names: &mut Names) -> Result<RuleTree, 
     ensures tree { IfOk result (IsTreeOf ReadsRules names.old text.now) }
     ensures names { OnOk result (names.new ≡ names_with names.old text.now) }
     ensures in_table { OnOk result (All (λ t. IsInTable names.new t.kind) (tokens_of names.old text.now)) }
+    ensures few { OnOk result (length (tokens_of names.old text.now) ≤ 4194304) }
     ensures cause { IfErr result (HasCause ReadsRules names.old text.now) }
     ensures grown { OnErr result (AreNamesOfSome names.old text.now names.new) }
     ensures kept { (more : List (List ℕ)) × (names.new ≡ names.old ++ more) }
@@ -48,6 +50,7 @@ pub fn formula(alloc: Global, text: &[u8], names: &mut Names) -> Result<FormulaT
     ensures tree { IfOk result (IsTreeOf ReadsFormulaText names.old text.now) }
     ensures names { OnOk result (names.new ≡ names_with names.old text.now) }
     ensures in_table { OnOk result (All (λ t. IsInTable names.new t.kind) (tokens_of names.old text.now)) }
+    ensures few { OnOk result (length (tokens_of names.old text.now) ≤ 4194304) }
     ensures cause { IfErr result (HasCause ReadsFormulaText names.old text.now) }
     ensures grown { OnErr result (AreNamesOfSome names.old text.now names.new) }
     ensures kept { (more : List (List ℕ)) × (names.new ≡ names.old ++ more) }
