@@ -1,3 +1,4 @@
 pub mod Lines
 pub mod Told
 pub mod Promises
+pub mod Refused

@@ -7,8 +7,8 @@ use Rattle.spv_lexer.specs.declared.LexFault.{LexFault}
 use Rattle.spv_lexer.specs.declared.LexFault.TheVariants as lex
 use Rattle.spv_parser.specs.declared.refused.SyntaxFault.{SyntaxFault}
 use Rattle.spv_parser.specs.declared.refused.SyntaxFault.TheVariants as syntax
-use Rattle.spv_form.specs.declared.reading.FormFault.{FormFault}
-use Rattle.spv_form.specs.declared.reading.FormFault.TheVariants as form
+use Rattle.spv_tree.specs.declared.token.Token.{Token}
+use Rattle.spv_form.specs.declared.form.KnownNumbers.{KnownNumbers}
 use Rattle.spv_report.specs.Reports.{Findings, IsReport}
 use Rattle.spv_listing.specs.Page.{page}
 use Rattle.spv_cli.specs.declared.refusal.Refusal.TheVariants as refusal
@@ -19,7 +19,7 @@ use Rattle.spv_cli.specs.declared.found.Found.TheVariants.{ReadFailed, Refusing,
 use Rattle.spv_cli.specs.declared.running.Ran.{Ran}
 use Rattle.spv_cli.specs.Commands.{command_of}
 use Rattle.spv_cli.specs.Output.{words_line, read_fault_line, refusal_line, page_status}
-use Rattle.spv_cli.specs.Refusals.{IsRefused, IsReportOf}
+use Rattle.spv_cli.specs.Refusals.{AreRefused, IsRefused, IsReportOf}
 
 -- ---- faults of reading
 
@@ -36,14 +36,15 @@ of_parser (syntax.TooDeep line) = Refused (refusal.TooDeep line)
 of_parser (syntax.Syntax line) = Refused (refusal.Syntax line)
 of_parser syntax.Memory = Memory
 
-abbrev pub of_form : FormFault → ReadFault
-of_form form.NotOfForm = Refused refusal.NotOfForm
-of_form form.Memory = Memory
-
 -- a refusal is one of the text; want of memory has no cause in it
 abbrev pub IsCause : List ℕ → ReadFault → Type 0
 IsCause text (Refused r) = IsRefused text r
 IsCause text Memory = Unit {0}
+
+-- the same of the tokens of a text
+abbrev pub IsTokenCause : KnownNumbers → List Token → ReadFault → Type 0
+IsTokenCause known tokens (Refused r) = AreRefused known tokens r
+IsTokenCause known tokens Memory = Unit {0}
 
 -- ---- what the objects outside tell
 
