@@ -1,5 +1,5 @@
 -- What the tokens of a text are refused for, the text is refused for.
-use Rattle.std.proofs.Common.{◌≡◌, List, ℕ, Result, Ok, Err, IfOk, IfErr, sym, subst}
+use Rattle.std.proofs.Common.{◌≡◌, List, ℕ, Result, Ok, Err, IfErr, sym, subst}
 use Rattle.std.specs.Prelude.{IsErrAnd}
 use Rattle.spv_lexer.specs.Reading.{IsRead}
 use Rattle.spv_form.specs.Known.{known_in}
