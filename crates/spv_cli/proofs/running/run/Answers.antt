@@ -1,4 +1,4 @@
-use Rattle.spv_cli.proofs.Promises.{correct, page_written, part_written}
+use Rattle.spv_cli.proofs.Promises.{correct, page_written, part_written, refused}
 use Rattle.spv_cli.proofs.running.run.Goals as goal
 
 pub returns-clause-correct : goal.returns-clause-correct
@@ -9,3 +9,6 @@ returns-clause-page g c = page_written _ _ c.attempt.result _ c.attempt.ensures
 
 pub returns-clause-cut : goal.returns-clause-cut
 returns-clause-cut g c = part_written _ _ c.attempt.result _ c.attempt.ensures
+
+pub returns-clause-refused : goal.returns-clause-refused
+returns-clause-refused g c = refused _ _ c.attempt.result _ c.attempt.ensures
