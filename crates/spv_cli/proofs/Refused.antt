@@ -11,7 +11,7 @@ use Rattle.spv_form.specs.declared.form.KnownNumbers.{KnownNumbers}
 use Rattle.spv_form.specs.Known.{known_in}
 use Rattle.spv_form.specs.Trees.{IsForm}
 use Rattle.spv_report.specs.Reports.{Findings}
-use Rattle.spv_cli.specs.Refusals.{known_of, IsProgramOf, IsFormOf, IsReportOf}
+use Rattle.spv_cli.specs.Refusals.{known_of, IsProgramOf, IsReportOf}
 use Rattle.spv_cli.specs.Runs.{of_form, IsCause}
 
 module _ (text : List ℕ) (old new : List (List ℕ)) (known : KnownNumbers) (p : Program) (empty : old ≡ []) (names : new ≡ names_with old text) (numbers : known ≡ known_in new) (tree : IsTreeOf Reads old text p) where
