@@ -1,5 +1,5 @@
 -- The names of a text are those of some of its first tokens.
-use Rattle.std.proofs.Common.{◌≡◌, ℕ, List, length, take, Result, Ok, Err, OnErr, sym, ap, arith}
+use Rattle.std.proofs.Common.{◌≡◌, ℕ, List, length, Result, Ok, Err, OnErr, sym, ap, arith}
 use Rattle.std.proofs.lemmas.List.{take_all}
 use Rattle.spv_lexer.specs.Reading.{reading}
 use Rattle.spv_lexer.specs.Tokens.{names_after}
