@@ -18,8 +18,8 @@ pub enum Refusal {
     /// A text of more than 4194304 bytes.
     #[error("the text is too long")]
     TextTooLong,
-    /// Tokens that no program of the language has. The line is that of the first token with which none goes on,
-    /// or of the last token where the text ends too early; it is 1 where there is no token.
+    /// Tokens that no program of the language has. The line is the one at which they go wrong: that of the token
+    /// that fits no program so far, or where there is no such token that of the last one, or 1 without any token.
     #[error("line {0}: no program goes on so")]
     Syntax(u32),
     /// A text whose level exceeds 200. The line is that of the first token after which it does.

@@ -32,8 +32,9 @@ pub enum TextFault {
     /// A text whose level exceeds 200. The line is that of the first token after which it does.
     #[error("line {0}: the text goes too deep")]
     TooDeep(u32),
-    /// A text that no tree reads. The line is that of the first token with which no tree can go on, or of the last token where
-    /// the text ends too early; it is 1 where there is no token. That no tree reads the text is proved, and its line is not.
+    /// A text that no tree reads. The line is the one at which it goes wrong: that of the token that fits no tree so far,
+    /// or where there is no such token that of the last one, or 1 without any token. That no tree reads the text is proved, and
+    /// its line is not.
     #[error("line {0}: no text goes on so")]
     Syntax(u32),
     /// There was no memory left.

@@ -24,7 +24,7 @@ fn before_period(tokens: &[Token]) -> Option<&[Token]>
     }
 }
 
-// The line of the first token with which no text goes on, of this one and those behind it, behind a whole formula. A period
+// The line at which a text goes wrong behind a whole formula, at this token or one of those behind it. A period
 // ends the formula, so then it is the one behind it, or else the last of the text.
 pub fn surplus(tokens: &[Token], first: Token, behind: &[Token]) -> u32 {
     match (first.kind, behind) {

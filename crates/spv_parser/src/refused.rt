@@ -16,8 +16,8 @@ pub enum SyntaxFault {
     /// No such word stands there, and the level of the text exceeds 200. The line is that of the first token after which it does.
     #[error("line {0}: the text goes too deep")]
     TooDeep(u32),
-    /// Neither is so, and no tree reads the tokens. The line is that of the first token with which no tree can go on, or of the
-    /// last token where the text ends too early; it is 1 where there is no token.
+    /// Neither is so, and no tree reads the tokens. The line is the one at which they go wrong: that of the
+    /// token that fits no tree so far, or where there is no such token that of the last one, or 1 without any token.
     #[error("line {0}: no program goes on so")]
     Syntax(u32),
     /// There was no memory left.
