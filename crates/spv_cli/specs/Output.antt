@@ -1,7 +1,7 @@
 -- What is written.
 use Rattle.std.specs.Prelude.{ℕ, List, [], ◌++◌, codes, decimal, if◌then◌else◌}
-use Rattle.spv_tree.specs.declared.token.Word.{Word}
-use Rattle.spv_tree.specs.declared.token.Word.TheVariants.{Packed, Set, File, With, In, Goto, Label}
+use Rattle.spv_tokens.specs.declared.token.Word.{Word}
+use Rattle.spv_tokens.specs.declared.token.Word.TheVariants.{Packed, Set, File, With, In, Goto, Label}
 use Rattle.spv_report.specs.Reports.{Findings, all_proved}
 use Rattle.spv_cli.specs.declared.refusal.Refusal.{Refusal}
 use Rattle.spv_cli.specs.declared.refusal.Refusal.TheVariants.{BadByte, OpenComment, NumeralTooLarge, TextTooLong, Syntax, TooDeep, Profile, NotOfForm}

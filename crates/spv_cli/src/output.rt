@@ -5,7 +5,7 @@ ghost use Rattle.spv_cli.specs.Output as spec;
 
 use crate::refusal::Refusal;
 use itoa::Buffer;
-use spv_tree::Word;
+use spv_tokens::Word;
 use std::alloc::{AllocError, Global};
 
 // The number and the word of a refusal.

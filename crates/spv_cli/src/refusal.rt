@@ -1,6 +1,6 @@
 // Why a text is refused.
 
-use spv_tree::Word;
+use spv_tokens::Word;
 use thiserror::Error;
 
 /// Why a text is refused. A number is a line; the first line is 1.

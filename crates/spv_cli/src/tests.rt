@@ -2,7 +2,7 @@
 use crate::{Refusal, law_report, run};
 use spv_io::{MemorySink, MemoryTexts, TextFault, Texts};
 use spv_logic::PlainWorld;
-use spv_tree::Word;
+use spv_tokens::Word;
 use std::alloc::Global;
 use std::process::Abort;
 use std::test::Fail;

@@ -5,7 +5,7 @@ ghost use Rattle.spv_names.specs.Names.{IsFolded, place_of};
 ghost use Rattle.spv_form.specs.Known.{known_in};
 
 use spv_names::{Names, Symbol};
-use spv_tree::Numeral;
+use spv_tokens::Numeral;
 use std::marker::Model;
 
 /// The numbers of the names that are known from the start; a name that the text does not have has

@@ -2,7 +2,7 @@
 
 ghost use Rattle.std.specs.Prelude.{◌≡◌, ◌<◌, List, [], ◌∷◌, ◌++◌, Some, None, length, option_copied, IfOk, OnOk, IfErr, Err};
 ghost use Rattle.std.specs.Option.{option_and_then};
-ghost use Rattle.spv_tree.specs.declared.token.Token.{Token};
+ghost use Rattle.spv_tokens.specs.declared.token.Token.{Token};
 ghost use Rattle.spv_syntax.specs.Reads.{Reads};
 ghost use Rattle.spv_syntax.specs.declared.operators.Comparison.TheVariants.{Equal};
 ghost use Rattle.spv_form.specs.declared.form.Equation.{Equation};

@@ -2,7 +2,7 @@
 
 use super::*;
 use spv_names::{Names, Symbol};
-use spv_tree::Numeral;
+use spv_tokens::Numeral;
 use std::test::Fail;
 
 const X: Symbol = Symbol(1);

@@ -1,6 +1,6 @@
 -- When a text has a tree, and which fault it has where it has none. `reads` says when tokens have a tree of one kind.
 use Rattle.std.specs.Prelude.{◌≡◌, ℕ, ◌<◌, ◌≤◌, List, Some, None, length, take}
-use Rattle.spv_tree.specs.declared.token.Token.{Token}
+use Rattle.spv_tokens.specs.declared.token.Token.{Token}
 use Rattle.spv_lexer.specs.Front.{bad_byte, open_comment, numeral_too_large}
 use Rattle.spv_lexer.specs.Reading.{reading, IsRead}
 use Rattle.spv_lexer.specs.Tokens.{numbered, names_after}

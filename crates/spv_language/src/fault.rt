@@ -4,7 +4,7 @@ ghost use Rattle.std.specs.Prelude.{◌≡◌};
 
 use spv_lexer::LexFault;
 use spv_parser::SyntaxFault;
-use spv_tree::Word;
+use spv_tokens::Word;
 use thiserror::Error;
 
 /// Why a text has no tree. A number is a line; the first line is 1.

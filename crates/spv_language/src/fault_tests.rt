@@ -3,7 +3,7 @@
 use crate::tests::{formula_fault, program_fault, rules_fault};
 use crate::{TextFault, program};
 use spv_names::Names;
-use spv_tree::Word;
+use spv_tokens::Word;
 use std::alloc::Global;
 use std::test::Fail;
 

@@ -2,7 +2,7 @@
 
 use crate::TextFault;
 use crate::tests::{rules_fault, stay_rules};
-use spv_tree::Word;
+use spv_tokens::Word;
 use std::test::Fail;
 
 #[test]

@@ -3,7 +3,7 @@
 use crate::{TextFault, formula, law_one_tree, program, rules};
 use spv_names::{Names, Symbol};
 use spv_syntax::{FormulaText, Program, RuleTree};
-use spv_tree::TokenKind;
+use spv_tokens::TokenKind;
 use std::alloc::Global;
 use std::test::Fail;
 

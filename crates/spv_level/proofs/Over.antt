@@ -1,6 +1,6 @@
 -- The way over the parts of a program, where what stands behind a part may begin with any counters.
 use Rattle.std.proofs.Common.{ℕ, suc, max, ◌≤◌, List, [], ◌∷◌, arith}
-use Rattle.spv_tree.specs.declared.token.TokenKind.{TokenKind}
+use Rattle.spv_tokens.specs.declared.token.TokenKind.{TokenKind}
 use Rattle.spv_syntax.specs.Lists.{each, further, several, headed}
 use Rattle.spv_level.specs.Level.{Counters, past_token, highest}
 use Rattle.spv_level.proofs.Climbing.{Climbs, level_low}

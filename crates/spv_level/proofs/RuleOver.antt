@@ -1,9 +1,9 @@
 -- The way over the tokens of a rule file or a formula text goes above as many levels as it has.
 use Rattle.std.proofs.Common.{[], ◌∷◌, Some, None, arith}
-use Rattle.spv_tree.specs.declared.token.TokenKind.{TokenKind}
-use Rattle.spv_tree.specs.declared.token.TokenKind.TheVariants as kind
-use Rattle.spv_tree.specs.declared.token.Word.TheVariants as word
-use Rattle.spv_tree.specs.declared.token.Sign.TheVariants as sign
+use Rattle.spv_tokens.specs.declared.token.TokenKind.{TokenKind}
+use Rattle.spv_tokens.specs.declared.token.TokenKind.TheVariants as kind
+use Rattle.spv_tokens.specs.declared.token.Word.TheVariants as word
+use Rattle.spv_tokens.specs.declared.token.Sign.TheVariants as sign
 use Rattle.spv_syntax.specs.declared.rules.RuleForm.TheVariants.{Replace, Infer}
 use Rattle.spv_syntax.specs.Lists.{each}
 use Rattle.spv_syntax.specs.FormulaKinds.{name_kind, formula_kinds}

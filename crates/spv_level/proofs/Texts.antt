@@ -1,8 +1,8 @@
 -- The level of a text, and of the parts that stand in it.
 use Rattle.std.proofs.Common.{◌≡◌, ℕ, ◌≤◌, Bool, true, false, if◌then◌else◌, nat_lt, List, [], ◌∷◌, ◌++◌, Option, Some, None, refl, subst, arith}
 use Rattle.std.proofs.lemmas.Bool.Decides.{nat_tests}
-use Rattle.spv_tree.specs.declared.token.Token.{Token}
-use Rattle.spv_tree.specs.declared.token.TokenKind.{TokenKind}
+use Rattle.spv_tokens.specs.declared.token.Token.{Token}
+use Rattle.spv_tokens.specs.declared.token.TokenKind.{TokenKind}
 use Rattle.spv_syntax.specs.Reads.{kinds}
 use Rattle.spv_reading.specs.Readers.{Reader}
 use Rattle.spv_reading.specs.Laws.{TreeIsRead}

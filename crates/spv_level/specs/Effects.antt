@@ -1,10 +1,10 @@
 -- What tokens do to the counters of which the level of a text is made.
-use Rattle.spv_tree.specs.declared.token.TokenKind.{TokenKind}
-use Rattle.spv_tree.specs.declared.token.TokenKind.TheVariants as kind
-use Rattle.spv_tree.specs.declared.token.Word.{Word}
-use Rattle.spv_tree.specs.declared.token.Word.TheVariants as word
-use Rattle.spv_tree.specs.declared.token.Sign.{Sign}
-use Rattle.spv_tree.specs.declared.token.Sign.TheVariants as sign
+use Rattle.spv_tokens.specs.declared.token.TokenKind.{TokenKind}
+use Rattle.spv_tokens.specs.declared.token.TokenKind.TheVariants as kind
+use Rattle.spv_tokens.specs.declared.token.Word.{Word}
+use Rattle.spv_tokens.specs.declared.token.Word.TheVariants as word
+use Rattle.spv_tokens.specs.declared.token.Sign.{Sign}
+use Rattle.spv_tokens.specs.declared.token.Sign.TheVariants as sign
 use Rattle.spv_level.specs.declared.effects.Effect.{Effect}
 use Rattle.spv_level.specs.declared.effects.Effect.TheVariants.{Opens, Closes, Restarts, Counts, Passes}
 

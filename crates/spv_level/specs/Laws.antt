@@ -1,7 +1,7 @@
 -- What is promised of the level.
 use Rattle.std.specs.Prelude.{◌≡◌, ℕ, ◌+◌, ◌<◌, ◌≤◌, List, None, ◌++◌}
-use Rattle.spv_tree.specs.declared.token.Token.{Token}
-use Rattle.spv_tree.specs.declared.token.TokenKind.{TokenKind}
+use Rattle.spv_tokens.specs.declared.token.Token.{Token}
+use Rattle.spv_tokens.specs.declared.token.TokenKind.{TokenKind}
 use Rattle.spv_syntax.specs.Reads.{kinds}
 use Rattle.spv_reading.specs.Readers.{Reader}
 use Rattle.spv_reading.specs.Laws.{IsReadingBy}

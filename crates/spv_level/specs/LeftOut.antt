@@ -1,10 +1,10 @@
 -- Words that are known and belong to nothing that is accepted.
 use Rattle.std.specs.Prelude.{ℕ, Bool, true, false, if◌then◌else◌, List, [], ◌∷◌, Option, Some, None}
-use Rattle.spv_tree.specs.declared.token.Token.{Token}
-use Rattle.spv_tree.specs.declared.token.TokenKind.{TokenKind}
-use Rattle.spv_tree.specs.declared.token.TokenKind.TheVariants as kind
-use Rattle.spv_tree.specs.declared.token.Word.{Word}
-use Rattle.spv_tree.specs.declared.token.Word.TheVariants as word
+use Rattle.spv_tokens.specs.declared.token.Token.{Token}
+use Rattle.spv_tokens.specs.declared.token.TokenKind.{TokenKind}
+use Rattle.spv_tokens.specs.declared.token.TokenKind.TheVariants as kind
+use Rattle.spv_tokens.specs.declared.token.Word.{Word}
+use Rattle.spv_tokens.specs.declared.token.Word.TheVariants as word
 
 abbrev pub is_left_out : Word → Bool
 is_left_out word.Packed = true

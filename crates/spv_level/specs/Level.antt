@@ -1,8 +1,8 @@
 -- How deep a text goes: the level after each of its tokens.
 use Rattle.std.specs.Prelude.{ℕ, suc, ◌+◌, max, nat_lt, if◌then◌else◌, List, [], ◌∷◌, Option, Some, None, length}
 use Rattle.std.specs.List.{sum}
-use Rattle.spv_tree.specs.declared.token.Token.{Token}
-use Rattle.spv_tree.specs.declared.token.TokenKind.{TokenKind}
+use Rattle.spv_tokens.specs.declared.token.Token.{Token}
+use Rattle.spv_tokens.specs.declared.token.TokenKind.{TokenKind}
 use Rattle.spv_level.specs.declared.effects.Effect.{Effect}
 use Rattle.spv_level.specs.declared.effects.Effect.TheVariants.{Opens, Closes, Restarts, Counts, Passes}
 use Rattle.spv_level.specs.Effects.{effect_of}

@@ -3,7 +3,7 @@
 ghost use Rattle.std.specs.Prelude.{◌≡◌};
 ghost use Rattle.spv_level.specs.Effects.{word_effect, sign_effect, effect_of};
 
-use spv_tree::{Sign, TokenKind, Word};
+use spv_tokens::{Sign, TokenKind, Word};
 
 /// What a token does to the counters.
 #[derive(Clone, Copy, PartialEq, Eq, Debug)]

@@ -1,7 +1,7 @@
 // Facts about the definitions, each the contract of a function that does nothing.
 
 ghost use Rattle.std.specs.Prelude.{◌≡◌, ◌≤◌, List, None};
-ghost use Rattle.spv_tree.specs.declared.token.Token.{Token};
+ghost use Rattle.spv_tokens.specs.declared.token.Token.{Token};
 ghost use Rattle.spv_syntax.specs.FormulaKinds.{formula_kinds, designator_kinds};
 ghost use Rattle.spv_syntax.specs.StatementKinds.{statement_kinds, block_kinds};
 ghost use Rattle.spv_syntax.specs.TypeKinds.{type_kinds};

@@ -7,7 +7,7 @@ ghost use Rattle.spv_level.specs.Level as spec;
 ghost use Rattle.spv_level.specs.Seen.{counters, IsCounted};
 
 use crate::effects::{self, Effect};
-use spv_tree::Token;
+use spv_tokens::Token;
 use std::alloc::{AllocError, Global};
 
 // The level that no text may exceed.

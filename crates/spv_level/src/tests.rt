@@ -2,7 +2,7 @@
 
 use crate::{law_depth, law_enough, law_level, law_shallow, left_out, too_deep};
 use spv_names::Symbol;
-use spv_tree::{Sign, Token, TokenKind, Word};
+use spv_tokens::{Sign, Token, TokenKind, Word};
 use std::alloc::{AllocError, Global};
 use std::test::Fail;
 

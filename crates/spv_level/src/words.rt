@@ -4,7 +4,7 @@ ghost use Rattle.std.specs.Prelude.{◌≡◌};
 ghost use Rattle.spv_level.specs.LeftOut.{left_out_word};
 ghost use Rattle.spv_level.specs.LeftOut as spec;
 
-use spv_tree::{Token, TokenKind, Word};
+use spv_tokens::{Token, TokenKind, Word};
 
 // The left-out word that a token is.
 fn left_out_word(kind: TokenKind) -> Option<Word>

@@ -1,8 +1,8 @@
 -- What the lexer's own answers say, in the words of the definition.
 use Rattle.std.specs.Prelude.{◌≡◌, ℕ, List, [], ◌∷◌, Option, Some, None, take_while}
 use Rattle.std.specs.Char.{is_ascii_alphanumeric}
-use Rattle.spv_tree.specs.declared.token.Token.{Token}
-use Rattle.spv_tree.specs.declared.token.TokenKind.{TokenKind}
+use Rattle.spv_tokens.specs.declared.token.Token.{Token}
+use Rattle.spv_tokens.specs.declared.token.TokenKind.{TokenKind}
 use Rattle.spv_lexer.specs.Spelling.{number, sign}
 use Rattle.spv_lexer.specs.Front.{Front, gap, token, fault, nothing, letters, bad_byte, open_comment, numeral_too_large}
 use Rattle.spv_lexer.specs.Tokens.{kind_of, with_name}

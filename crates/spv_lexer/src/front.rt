@@ -6,7 +6,7 @@ ghost use Rattle.spv_lexer.specs.Front.{is_blank as is_blank_byte, through as by
 ghost use Rattle.spv_lexer.specs.Seen.{front_seen};
 
 use crate::signs::{long_sign, short_sign};
-use spv_tree::{Numeral, Sign};
+use spv_tokens::{Numeral, Sign};
 
 /// What stands at the front of a text. A length is a number of bytes.
 #[derive(Clone, Copy)]

@@ -11,7 +11,7 @@ use crate::LexFault;
 use crate::front::{Front, letters, read_front};
 use crate::words::word_of;
 use spv_names::Names;
-use spv_tree::{Token, TokenKind};
+use spv_tokens::{Token, TokenKind};
 use std::alloc::{AllocError, Global};
 
 /// A piece of a text: a token or a gap between tokens, with its length in bytes.

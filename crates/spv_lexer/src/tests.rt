@@ -1,6 +1,6 @@
 use crate::{LexFault, law_front, law_gap, law_longest_sign, tokens};
 use spv_names::Names;
-use spv_tree::{Token, TokenKind};
+use spv_tokens::{Token, TokenKind};
 use std::alloc::Global;
 use std::fmt::Write;
 use std::test::Fail;

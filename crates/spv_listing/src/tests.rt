@@ -7,7 +7,7 @@ use super::*;
 use spv_form::{Annotation, Assignment, Assignments, Equation, Form, Formula, Side, Symbols};
 use spv_names::{Names, Symbol};
 use spv_report::{Report, verify};
-use spv_tree::Numeral;
+use spv_tokens::Numeral;
 use std::alloc::{AllocError, Global};
 use std::test::Fail;
 

@@ -1,9 +1,9 @@
 -- What begins with a name and is no assignment.
 use Rattle.std.proofs.Common.{false, if◌then◌else◌, ◌≡◌, ◌≤◌, List, [], ◌∷◌, sym, ap, arith, length}
 use Rattle.std.specs.Prelude.{Some, None}
-use Rattle.spv_tree.specs.declared.token.Token.{Token}
-use Rattle.spv_tree.specs.declared.token.TokenKind.TheVariants as kind
-use Rattle.spv_tree.specs.declared.token.Sign.TheVariants as sign
+use Rattle.spv_tokens.specs.declared.token.Token.{Token}
+use Rattle.spv_tokens.specs.declared.token.TokenKind.TheVariants as kind
+use Rattle.spv_tokens.specs.declared.token.Sign.TheVariants as sign
 use Rattle.spv_syntax.specs.declared.names.Name.{Name}
 use Rattle.spv_syntax.specs.Formulas.{Formula, designator, Selector}
 use Rattle.spv_syntax.specs.FormulaSizes.{selectors_of}

@@ -1,7 +1,7 @@
 -- The turns of a loop over items.
 use Rattle.std.proofs.Common.{◌≤◌, Bool, true, false, if◌then◌else◌, ◌≡◌, ℕ, zero, suc, ◌+◌, ◌-◌, ◌<◌, arith, List, [], ◌∷◌, ◌++◌, refl, sym, ap, ◌∙◌, subst}
 use Rattle.std.specs.Prelude.{Option, Some, None, length}
-use Rattle.spv_tree.specs.declared.token.Token.{Token}
+use Rattle.spv_tokens.specs.declared.token.Token.{Token}
 use Rattle.spv_reading.specs.Readers.{Next, and_then, items, items_by, all_items}
 use Rattle.spv_parser.specs.Lists.{put, Going}
 

@@ -1,6 +1,6 @@
 -- Lists of types and of fields, and a type one level down.
 use Rattle.std.proofs.Common.{◌≡◌, ◌-◌, ◌<◌, ℕ, zero, suc, arith, List, [], ◌∷◌, refl, ap}
-use Rattle.spv_tree.specs.declared.token.Token.{Token}
+use Rattle.spv_tokens.specs.declared.token.Token.{Token}
 use Rattle.spv_syntax.specs.Types.{TypeDenoter, no_more_types, more_types, Field, no_more_fields, more_fields}
 use Rattle.spv_syntax.specs.TypeSizes.{more_types_of, more_fields_of}
 use Rattle.spv_reading.specs.TypeReaders.{read_lower_type, read_type}

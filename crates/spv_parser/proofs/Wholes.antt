@@ -1,7 +1,7 @@
 -- A whole text: what is read to its end, and what no tree reads.
 use Rattle.std.proofs.Common.{◌≡◌, ℕ, ◌≤◌, ◌<◌, List, [], ◌∷◌, length, refl, ap, ◌∙◌, arith}
 use Rattle.std.specs.Prelude.{Some, None}
-use Rattle.spv_tree.specs.declared.token.Token.{Token}
+use Rattle.spv_tokens.specs.declared.token.Token.{Token}
 use Rattle.spv_reading.specs.Readers.{Reader}
 use Rattle.spv_reading.specs.RoutineReaders.{read_whole}
 use Rattle.spv_reading.specs.Laws.{ReadIsTree}

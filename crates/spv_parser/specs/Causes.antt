@@ -1,6 +1,6 @@
 -- When tokens are refused, and why.
 use Rattle.std.specs.Prelude.{◌≡◌, List, Some, None}
-use Rattle.spv_tree.specs.declared.token.Token.{Token}
+use Rattle.spv_tokens.specs.declared.token.Token.{Token}
 use Rattle.spv_level.specs.LeftOut.{left_out}
 use Rattle.spv_level.specs.Level.{too_deep}
 use Rattle.spv_parser.specs.declared.fault.Fault.{Fault}

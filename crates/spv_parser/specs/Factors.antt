@@ -1,8 +1,8 @@
 -- Selectors and factors, as their readers take them apart.
 use Rattle.std.specs.Prelude.{ℕ, zero, suc, Bool, true, false, Option, Some, None}
-use Rattle.spv_tree.specs.declared.token.TokenKind.{TokenKind}
-use Rattle.spv_tree.specs.declared.token.TokenKind.TheVariants as kind
-use Rattle.spv_tree.specs.declared.token.Sign.TheVariants as sign
+use Rattle.spv_tokens.specs.declared.token.TokenKind.{TokenKind}
+use Rattle.spv_tokens.specs.declared.token.TokenKind.TheVariants as kind
+use Rattle.spv_tokens.specs.declared.token.Sign.TheVariants as sign
 use Rattle.spv_syntax.specs.Formulas.{Formula, Factor, class, negation, Selector, content}
 use Rattle.spv_syntax.specs.Steps.{first_line}
 use Rattle.spv_reading.specs.Readers.{front, after, Reader, and_then, name}

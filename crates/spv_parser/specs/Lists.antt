@@ -1,6 +1,6 @@
 -- What loops over items have read.
 use Rattle.std.specs.Prelude.{◌≡◌, ℕ, ◌-◌, List, [], ◌∷◌, Option, Some}
-use Rattle.spv_tree.specs.declared.token.Token.{Token}
+use Rattle.spv_tokens.specs.declared.token.Token.{Token}
 use Rattle.spv_reading.specs.Readers.{Reader, Next, and_then, items}
 
 -- items in front of a list

@@ -1,6 +1,6 @@
 -- What a loop over where routines begin and end has read.
 use Rattle.std.specs.Prelude.{◌≡◌, ◌≤◌, ℕ, ◌-◌, List, ◌++◌, Option, Some}
-use Rattle.spv_tree.specs.declared.token.Token.{Token}
+use Rattle.spv_tokens.specs.declared.token.Token.{Token}
 use Rattle.spv_syntax.specs.declared.routines.RoutineMark.{RoutineMark}
 use Rattle.spv_reading.specs.Readers.{and_then}
 use Rattle.spv_reading.specs.RoutineReaders.{marks}

@@ -1,7 +1,7 @@
 -- Parts of types that have functions of their own.
 use Rattle.std.specs.Prelude.{ℕ, Some}
-use Rattle.spv_tree.specs.declared.token.TokenKind.TheVariants as kind
-use Rattle.spv_tree.specs.declared.token.Sign.TheVariants as sign
+use Rattle.spv_tokens.specs.declared.token.TokenKind.TheVariants as kind
+use Rattle.spv_tokens.specs.declared.token.Sign.TheVariants as sign
 use Rattle.spv_syntax.specs.Types.{TypeDenoter, pointer, Field, field}
 use Rattle.spv_syntax.specs.declared.names.Constant.{Constant}
 use Rattle.spv_syntax.specs.Steps.{first_line}

@@ -12,7 +12,7 @@ use crate::formulas::{formula, inner};
 use crate::front::{after, is_sign, past_sign};
 use crate::lists::{Listed, several};
 use spv_syntax::{Designator, Formula, Name, Selector, Statement, StatementForm};
-use spv_tree::{Sign, Token};
+use spv_tokens::{Sign, Token};
 use std::alloc::Global;
 
 impl Listed for Formula {

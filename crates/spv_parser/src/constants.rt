@@ -11,7 +11,7 @@ use crate::fault::{Fault, unexpected};
 use crate::front::{after, first_line, front};
 use crate::lists::{Listed, several};
 use spv_syntax::{Constant, Name, PlusOrMinus, Scalar, Several};
-use spv_tree::{Sign, Token, TokenKind};
+use spv_tokens::{Sign, Token, TokenKind};
 use std::alloc::Global;
 
 // The sign at the front, where there is one.

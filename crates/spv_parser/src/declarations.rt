@@ -1,8 +1,8 @@
 // Declarations.
 
 ghost use Rattle.std.specs.Prelude.{◌≡◌, Some, None, IfOk, IsErrAnd};
-ghost use Rattle.spv_tree.specs.declared.token.TokenKind.TheVariants as kind;
-ghost use Rattle.spv_tree.specs.declared.token.Sign.TheVariants as sign;
+ghost use Rattle.spv_tokens.specs.declared.token.TokenKind.TheVariants as kind;
+ghost use Rattle.spv_tokens.specs.declared.token.Sign.TheVariants as sign;
 ghost use Rattle.spv_reading.specs.Readers as reader;
 ghost use Rattle.spv_reading.specs.DeclarationReaders.{read_const, read_name_or_class, read_sort, read_sorts, read_symbol, read_typedef, read_vars, read_declarations};
 ghost use Rattle.spv_parser.specs.Faults.{IsSyntax};
@@ -13,7 +13,7 @@ use crate::front::{after, first_line, is_sign, name, past_sign};
 use crate::lists::{Listed, headed, several};
 use crate::types::{names, type_denoter};
 use spv_syntax::{Const, Declarations, NameOrClass, Several, SortName, SymbolText, Typedef, Vars};
-use spv_tree::{Sign, Token, Word};
+use spv_tokens::{Sign, Token, Word};
 use std::alloc::Global;
 
 // name "=" constant ";"

@@ -12,7 +12,7 @@ use crate::fault::{Fault, unexpected};
 use crate::formulas::inner;
 use crate::front::{after, first_line, front, is_sign, name, past_sign};
 use spv_syntax::{Designator, Factor, FactorForm, Formula, Name, Selector, SelectorForm};
-use spv_tree::{Sign, Token, TokenKind, Word};
+use spv_tokens::{Sign, Token, TokenKind, Word};
 use std::alloc::Global;
 
 // {"," formula}

@@ -4,7 +4,7 @@ ghost use Rattle.std.specs.Prelude.{◌≡◌};
 ghost use Rattle.spv_parser.specs.declared.fault.Fault.TheVariants.{Memory};
 ghost use Rattle.spv_parser.specs.Faults.{IsSyntax};
 
-use spv_tree::Token;
+use spv_tokens::Token;
 use std::alloc::{AllocError, AllocFailed};
 
 // Why a part is not read.

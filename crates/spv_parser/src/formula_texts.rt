@@ -10,7 +10,7 @@ use crate::fault::{Fault, unexpected};
 use crate::formulas::formula;
 use crate::front::{first_line, name, past_sign, past_word};
 use spv_syntax::{Formula, FormulaText};
-use spv_tree::{Sign, Token, TokenKind, Word};
+use spv_tokens::{Sign, Token, TokenKind, Word};
 use std::alloc::Global;
 
 // The tokens before the last one, where that is a period.

@@ -13,7 +13,7 @@ use crate::front::{after, first_line, front, is_sign};
 use spv_syntax::{
     Adding, Comparison, Factor, Formula, Multiplying, PlusOrMinus, Relation, Simple, Term,
 };
-use spv_tree::{Sign, Token, TokenKind, Word};
+use spv_tokens::{Sign, Token, TokenKind, Word};
 use std::alloc::Global;
 
 // The operator of a relation at the front, where there is one.

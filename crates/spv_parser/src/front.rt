@@ -1,7 +1,7 @@
 // The first of the tokens that are left.
 
 ghost use Rattle.std.specs.Prelude.{◌≡◌, true, false, Some, None, IfOk, IsErrAnd};
-ghost use Rattle.spv_tree.specs.declared.token.TokenKind.TheVariants as kind;
+ghost use Rattle.spv_tokens.specs.declared.token.TokenKind.TheVariants as kind;
 ghost use Rattle.spv_syntax.specs.Steps as steps;
 ghost use Rattle.spv_reading.specs.Readers.{is};
 ghost use Rattle.spv_reading.specs.Readers as reader;
@@ -9,7 +9,7 @@ ghost use Rattle.spv_parser.specs.Faults.{IsSyntax};
 
 use crate::fault::{Fault, unexpected};
 use spv_syntax::Name;
-use spv_tree::{Sign, Token, TokenKind, Word};
+use spv_tokens::{Sign, Token, TokenKind, Word};
 
 // The kind of the first token.
 pub fn front(tokens: &[Token]) -> Option<TokenKind>

@@ -1,7 +1,7 @@
 // Lists of parts.
 
 ghost use Rattle.std.specs.Prelude.{◌≡◌, ◌∷◌, ℕ, [], Some, None, IfOk, IsErrAnd};
-ghost use Rattle.spv_tree.specs.declared.token.TokenKind.TheVariants as kind;
+ghost use Rattle.spv_tokens.specs.declared.token.TokenKind.TheVariants as kind;
 ghost use Rattle.spv_reading.specs.Readers.{Reader, behind, all_items, several_of, starting, headed_by};
 ghost use Rattle.spv_reading.specs.Readers as reader;
 ghost use Rattle.spv_reading.specs.TypeReaders.{begins_name};
@@ -11,7 +11,7 @@ ghost use Rattle.spv_parser.specs.Lists.{first_and};
 use crate::fault::Fault;
 use crate::front::{after, front, is_sign, is_word};
 use spv_syntax::{Parts, Several};
-use spv_tree::{Sign, Token, TokenKind, Word};
+use spv_tokens::{Sign, Token, TokenKind, Word};
 use std::alloc::Global;
 
 // A part of which a text has lists. What stands in it inside one another has this many levels at most.

@@ -12,7 +12,7 @@ use crate::formulas::formula;
 use crate::front::{after, first_line, front, name, past_sign, past_word};
 use crate::statements::{lower, more_statements};
 use spv_syntax::{Direction, Formula, Loop, LoopForm, Statement, StatementForm};
-use spv_tree::{Sign, Token, TokenKind, Word};
+use spv_tokens::{Sign, Token, TokenKind, Word};
 use std::alloc::Global;
 
 // TO or DOWNTO at the front, where it is there.

@@ -12,7 +12,7 @@ use crate::rule_files::rule_file;
 use spv_level::{law_enough, law_enough_formula_text, law_enough_rules, left_out, too_deep};
 use spv_reading::laws::{law_formula_texts, law_programs, law_rules};
 use spv_syntax::{FormulaText, Program, RuleTree};
-use spv_tree::Token;
+use spv_tokens::Token;
 use std::alloc::Global;
 
 // As many levels as no text exceeds that is not too deep.

@@ -11,7 +11,7 @@ use crate::routine_marks::{ended_block, routines};
 use crate::routines::condition;
 use crate::types::names;
 use spv_syntax::{Name, Parts, Program, Several};
-use spv_tree::{Sign, Token, Word};
+use spv_tokens::{Sign, Token, Word};
 use std::alloc::Global;
 
 // ["(" names ")"]

@@ -1,7 +1,7 @@
 // Routines, as a list of where they begin and end. A text may have any number of them inside one another.
 
 ghost use Rattle.std.specs.Prelude.{◌≡◌, ◌<◌, ◌-◌, ◌^◌, Some, None, IfOk, IsErrAnd};
-ghost use Rattle.spv_tree.specs.declared.token.TokenKind.TheVariants as kind;
+ghost use Rattle.spv_tokens.specs.declared.token.TokenKind.TheVariants as kind;
 ghost use Rattle.spv_reading.specs.Readers.{ended};
 ghost use Rattle.spv_reading.specs.StatementReaders.{read_block};
 ghost use Rattle.spv_reading.specs.RoutineReaders as routine;
@@ -12,7 +12,7 @@ use crate::front::past_sign;
 use crate::routines::{begins_heading, mark};
 use crate::statements::block;
 use spv_syntax::{Block, RoutineMark};
-use spv_tree::{Sign, Token};
+use spv_tokens::{Sign, Token};
 use std::alloc::Global;
 
 // block, and the sign that ends it

@@ -1,9 +1,9 @@
 // Routines: headings, clauses, and where routines begin.
 
 ghost use Rattle.std.specs.Prelude.{◌≡◌, Some, None, IfOk, IsErrAnd};
-ghost use Rattle.spv_tree.specs.declared.token.TokenKind.TheVariants as kind;
-ghost use Rattle.spv_tree.specs.declared.token.Word.TheVariants as word;
-ghost use Rattle.spv_tree.specs.declared.token.Sign.TheVariants as sign;
+ghost use Rattle.spv_tokens.specs.declared.token.TokenKind.TheVariants as kind;
+ghost use Rattle.spv_tokens.specs.declared.token.Word.TheVariants as word;
+ghost use Rattle.spv_tokens.specs.declared.token.Sign.TheVariants as sign;
 ghost use Rattle.spv_reading.specs.Readers as reader;
 ghost use Rattle.spv_reading.specs.RoutineReaders as routine;
 ghost use Rattle.spv_parser.specs.Faults.{IsSyntax};
@@ -19,7 +19,7 @@ use spv_syntax::{
     Clauses, Formula, GlobalGroup, Group, GroupForm, Heading, HeadingForm, Item, Locals, Name,
     Params, RoutineMark, Several, Start,
 };
-use spv_tree::{Sign, Token, TokenKind, Word};
+use spv_tokens::{Sign, Token, TokenKind, Word};
 use std::alloc::Global;
 
 // ":" name

@@ -1,7 +1,7 @@
 // Rule files.
 
 ghost use Rattle.std.specs.Prelude.{◌≡◌, ◌∷◌, [], Some, None, IfOk, IsErrAnd};
-ghost use Rattle.spv_tree.specs.declared.token.TokenKind.TheVariants as kind;
+ghost use Rattle.spv_tokens.specs.declared.token.TokenKind.TheVariants as kind;
 ghost use Rattle.spv_reading.specs.Readers as reader;
 ghost use Rattle.spv_reading.specs.Readers.{all_items, starting};
 ghost use Rattle.spv_reading.specs.RuleReaders.{read_rule_vars, read_premise, read_replace, read_infer, read_rule_form, read_rule, read_rules};
@@ -14,7 +14,7 @@ use crate::front::{after, first_line, front, is_word, past_sign, past_word};
 use crate::lists::{Listed, headed};
 use crate::types::names;
 use spv_syntax::{Formula, Parts, Rule, RuleForm, RuleTree, RuleVars, SortName};
-use spv_tree::{Sign, Token, TokenKind, Word};
+use spv_tokens::{Sign, Token, TokenKind, Word};
 use std::alloc::Global;
 
 // names ":" sort ";"

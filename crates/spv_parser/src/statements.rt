@@ -15,7 +15,7 @@ use crate::formulas::formula;
 use crate::front::{after, first_line, front, is_sign, is_word, past_sign, past_word};
 use crate::loops::repetition;
 use spv_syntax::{Arm, Block, Name, Statement, StatementForm};
-use spv_tree::{Sign, Token, TokenKind, Word};
+use spv_tokens::{Sign, Token, TokenKind, Word};
 use std::alloc::Global;
 
 // {";" statement}

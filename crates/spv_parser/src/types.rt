@@ -12,7 +12,7 @@ use crate::fault::{Fault, unexpected};
 use crate::front::{after, first_line, front, is_sign, name, past_sign, past_word};
 use crate::lists::{Listed, is_name, several};
 use spv_syntax::{Constant, Field, Name, Scalar, Several, TypeDenoter, TypeForm};
-use spv_tree::{Sign, Token, TokenKind, Word};
+use spv_tokens::{Sign, Token, TokenKind, Word};
 use std::alloc::Global;
 
 impl Listed for Name {

@@ -1,10 +1,10 @@
 -- Declarations that are spelled are read.
 use Rattle.std.proofs.Common.{◌≡◌, ℕ, suc, ◌+◌, ◌≤◌, Bool, false, ◌||◌, List, [], ◌∷◌, Option, Some, None, length, refl, ap, ◌∙◌, arith}
-use Rattle.spv_tree.specs.declared.token.Token.{Token}
-use Rattle.spv_tree.specs.declared.token.TokenKind.{TokenKind}
-use Rattle.spv_tree.specs.declared.token.TokenKind.TheVariants as kind
-use Rattle.spv_tree.specs.declared.token.Word.TheVariants as word
-use Rattle.spv_tree.specs.declared.token.Sign.TheVariants as sign
+use Rattle.spv_tokens.specs.declared.token.Token.{Token}
+use Rattle.spv_tokens.specs.declared.token.TokenKind.{TokenKind}
+use Rattle.spv_tokens.specs.declared.token.TokenKind.TheVariants as kind
+use Rattle.spv_tokens.specs.declared.token.Word.TheVariants as word
+use Rattle.spv_tokens.specs.declared.token.Sign.TheVariants as sign
 use Rattle.spv_syntax.specs.declared.lists.Several.{Several}
 use Rattle.spv_syntax.specs.declared.declarations.Const.{Const}
 use Rattle.spv_syntax.specs.declared.declarations.Typedef.{Typedef}

@@ -1,6 +1,6 @@
 -- As many items as tokens are enough.
 use Rattle.std.proofs.Common.{◌≡◌, ℕ, zero, suc, ◌<◌, ◌≤◌, List, [], ◌∷◌, Option, Some, None, length, refl, sym, ap, ◌∙◌, arith}
-use Rattle.spv_tree.specs.declared.token.Token.{Token}
+use Rattle.spv_tokens.specs.declared.token.Token.{Token}
 use Rattle.spv_reading.specs.Readers.{Reader, and_then, Next, items_by, items, all_items}
 use Rattle.spv_reading.proofs.Sound.{OnItem}
 

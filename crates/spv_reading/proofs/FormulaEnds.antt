@@ -1,8 +1,8 @@
 -- What stands behind a part of a formula does not go on with it.
 use Rattle.std.proofs.Common.{◌≡◌, true, false, List, Option, Some, None, is_some, refl}
-use Rattle.spv_tree.specs.declared.token.TokenKind.{TokenKind}
-use Rattle.spv_tree.specs.declared.token.TokenKind.TheVariants as kind
-use Rattle.spv_tree.specs.declared.token.Sign.TheVariants as sign
+use Rattle.spv_tokens.specs.declared.token.TokenKind.{TokenKind}
+use Rattle.spv_tokens.specs.declared.token.TokenKind.TheVariants as kind
+use Rattle.spv_tokens.specs.declared.token.Sign.TheVariants as sign
 use Rattle.spv_syntax.specs.declared.operators.PlusOrMinus.{PlusOrMinus}
 use Rattle.spv_syntax.specs.declared.operators.PlusOrMinus.TheVariants as prefix
 use Rattle.spv_syntax.specs.declared.operators.Comparison.{Comparison}

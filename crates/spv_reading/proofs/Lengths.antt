@@ -1,8 +1,8 @@
 -- A formula has at least as many tokens as levels.
 use Rattle.std.proofs.Common.{suc, ◌+◌, ◌≤◌, List, ◌∷◌, Option, Some, None, length, arith}
-use Rattle.spv_tree.specs.declared.token.TokenKind.{TokenKind}
-use Rattle.spv_tree.specs.declared.token.TokenKind.TheVariants as kind
-use Rattle.spv_tree.specs.declared.token.Sign.TheVariants as sign
+use Rattle.spv_tokens.specs.declared.token.TokenKind.{TokenKind}
+use Rattle.spv_tokens.specs.declared.token.TokenKind.TheVariants as kind
+use Rattle.spv_tokens.specs.declared.token.Sign.TheVariants as sign
 use Rattle.spv_syntax.specs.declared.operators.PlusOrMinus.{PlusOrMinus}
 use Rattle.spv_syntax.specs.Formulas.{Formula, formula, Conclusion, no_conclusion, implies, Relation, relation, RightSide, no_right_side, compared, Simple, simple, MoreTerms, no_more_terms, more_terms, Term, term, MoreFactors, no_more_factors, more_factors, Factor, number, truth, nil, class, place, application, bracketed, negation, MoreFormulas, no_more_formulas, more_formulas, designator, Selectors, no_selectors, selectors, Selector, index, field, content}
 use Rattle.spv_syntax.specs.FormulaKinds.{prefix_kinds, formula_kinds, conclusion_kinds, relation_kinds, right_side_kinds, simple_kinds, more_terms_kinds, term_kinds, more_factors_kinds, factor_kinds, more_formulas_kinds, selectors_kinds, selector_kinds}

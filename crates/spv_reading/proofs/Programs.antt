@@ -1,7 +1,7 @@
 -- A program is read exactly where a well formed tree reads the tokens.
 use Rattle.std.proofs.Common.{◌≡◌, ℕ, ◌+◌, ◌≤◌, true, List, [], ◌∷◌, Option, Some, None, length, refl, sym, ap, ◌∙◌, arith}
-use Rattle.spv_tree.specs.declared.token.Token.{Token}
-use Rattle.spv_tree.specs.declared.token.TokenKind.{TokenKind}
+use Rattle.spv_tokens.specs.declared.token.Token.{Token}
+use Rattle.spv_tokens.specs.declared.token.TokenKind.{TokenKind}
 use Rattle.spv_syntax.specs.ProgramKinds.{program_kinds}
 use Rattle.spv_syntax.specs.Steps.{lines_agree}
 use Rattle.spv_syntax.specs.Reads.{kinds, Reads}

@@ -1,7 +1,7 @@
 -- From the two ways of reading to what is promised.
 use Rattle.std.proofs.Common.{◌≡◌, ℕ, suc, ◌+◌, max, ◌≤◌, true, List, [], ◌∷◌, length, refl, sym, ap, ◌∙◌, arith}
-use Rattle.spv_tree.specs.declared.token.Token.{Token}
-use Rattle.spv_tree.specs.declared.token.TokenKind.{TokenKind}
+use Rattle.spv_tokens.specs.declared.token.Token.{Token}
+use Rattle.spv_tokens.specs.declared.token.TokenKind.{TokenKind}
 use Rattle.spv_syntax.specs.Reads.{kinds}
 use Rattle.spv_reading.specs.Readers.{Reader}
 use Rattle.spv_reading.specs.Laws.{Kind, SpelledIsRead, EnoughLevels, SpelledIsOne}

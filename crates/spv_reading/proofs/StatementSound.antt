@@ -1,11 +1,11 @@
 -- What is read as a statement is spelled at the front, on its lines, and each ELSE belongs to the nearest IF.
 use Rattle.std.proofs.Common.{◌≡◌, ℕ, zero, suc, Bool, true, false, ◌&&◌, not, List, ◌∷◌, Option, Some, None, refl, sym, ap, ◌∙◌}
 use Rattle.std.specs.Cmp.Derive.{both_true}
-use Rattle.spv_tree.specs.declared.token.Token.{Token}
-use Rattle.spv_tree.specs.declared.token.TokenKind.{TokenKind}
-use Rattle.spv_tree.specs.declared.token.TokenKind.TheVariants as kind
-use Rattle.spv_tree.specs.declared.token.Word.TheVariants as word
-use Rattle.spv_tree.specs.declared.token.Sign.TheVariants as sign
+use Rattle.spv_tokens.specs.declared.token.Token.{Token}
+use Rattle.spv_tokens.specs.declared.token.TokenKind.{TokenKind}
+use Rattle.spv_tokens.specs.declared.token.TokenKind.TheVariants as kind
+use Rattle.spv_tokens.specs.declared.token.Word.TheVariants as word
+use Rattle.spv_tokens.specs.declared.token.Sign.TheVariants as sign
 use Rattle.spv_syntax.specs.declared.names.Name.{Name}
 use Rattle.spv_syntax.specs.declared.names.Scalar.{Scalar}
 use Rattle.spv_syntax.specs.declared.names.Scalar.TheVariants as scalar

@@ -1,7 +1,7 @@
 -- What is spelled is read: parts that may be there, parts that end with a token, and parts behind a word.
 use Rattle.std.proofs.Common.{◌≡◌, suc, ◌≤◌, Bool, true, false, ◌||◌, List, [], ◌∷◌, Option, Some, None, length, refl, ap, ◌∙◌, arith}
-use Rattle.spv_tree.specs.declared.token.Token.{Token}
-use Rattle.spv_tree.specs.declared.token.TokenKind.{TokenKind}
+use Rattle.spv_tokens.specs.declared.token.Token.{Token}
+use Rattle.spv_tokens.specs.declared.token.TokenKind.{TokenKind}
 use Rattle.spv_syntax.specs.Lists.{each, headed}
 use Rattle.spv_syntax.specs.Steps.{Step, passes}
 use Rattle.spv_syntax.specs.Reads.{kinds}

@@ -1,9 +1,9 @@
 -- Which tokens go on with a part: where a part is read, the first token behind it is none of these.
 use Rattle.std.specs.Prelude.{Bool, true, false, ◌||◌, ◌&&◌, Option, Some, is_some}
-use Rattle.spv_tree.specs.declared.token.TokenKind.{TokenKind}
-use Rattle.spv_tree.specs.declared.token.TokenKind.TheVariants as kind
-use Rattle.spv_tree.specs.declared.token.Word.TheVariants as word
-use Rattle.spv_tree.specs.declared.token.Sign.TheVariants as sign
+use Rattle.spv_tokens.specs.declared.token.TokenKind.{TokenKind}
+use Rattle.spv_tokens.specs.declared.token.TokenKind.TheVariants as kind
+use Rattle.spv_tokens.specs.declared.token.Word.TheVariants as word
+use Rattle.spv_tokens.specs.declared.token.Sign.TheVariants as sign
 use Rattle.spv_syntax.specs.Statements.{Statement, Otherwise, Arm, no_arm, arm, Loop}
 use Rattle.spv_syntax.specs.Types.{Field, no_field, field}
 use Rattle.spv_syntax.specs.Reads.{ends_open, otherwise_ends_open, loop_ends_open}

@@ -1,8 +1,8 @@
 -- How declarations are read.
 use Rattle.std.specs.Prelude.{ℕ, if◌then◌else◌, Some}
-use Rattle.spv_tree.specs.declared.token.TokenKind.TheVariants as kind
-use Rattle.spv_tree.specs.declared.token.Word.TheVariants as word
-use Rattle.spv_tree.specs.declared.token.Sign.TheVariants as sign
+use Rattle.spv_tokens.specs.declared.token.TokenKind.TheVariants as kind
+use Rattle.spv_tokens.specs.declared.token.Word.TheVariants as word
+use Rattle.spv_tokens.specs.declared.token.Sign.TheVariants as sign
 use Rattle.spv_syntax.specs.declared.lists.Several.{Several}
 use Rattle.spv_syntax.specs.declared.declarations.Const.{Const}
 use Rattle.spv_syntax.specs.declared.declarations.Typedef.{Typedef}

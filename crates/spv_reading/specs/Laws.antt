@@ -1,7 +1,7 @@
 -- What is promised of reading.
 use Rattle.std.specs.Prelude.{◌≡◌, ℕ, ◌≤◌, Bool, false, List, Option, Some, length, IsTrue}
-use Rattle.spv_tree.specs.declared.token.Token.{Token}
-use Rattle.spv_tree.specs.declared.token.TokenKind.{TokenKind}
+use Rattle.spv_tokens.specs.declared.token.Token.{Token}
+use Rattle.spv_tokens.specs.declared.token.TokenKind.{TokenKind}
 use Rattle.spv_syntax.specs.Steps.{Step}
 use Rattle.spv_syntax.specs.declared.program.Program.{Program}
 use Rattle.spv_reading.specs.Readers.{first, Reader}

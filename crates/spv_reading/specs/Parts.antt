@@ -1,7 +1,7 @@
 -- What a part of a tree spells, and which part tokens begin with.
 use Rattle.std.specs.Prelude.{◌≡◌, true, List, ◌∷◌, Option}
-use Rattle.spv_tree.specs.declared.token.Token.{Token}
-use Rattle.spv_tree.specs.declared.token.TokenKind.{TokenKind}
+use Rattle.spv_tokens.specs.declared.token.Token.{Token}
+use Rattle.spv_tokens.specs.declared.token.TokenKind.{TokenKind}
 use Rattle.spv_syntax.specs.declared.names.Name.{Name}
 use Rattle.spv_syntax.specs.declared.operators.Adding.{Adding}
 use Rattle.spv_syntax.specs.declared.operators.Multiplying.{Multiplying}

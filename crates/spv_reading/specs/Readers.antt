@@ -1,11 +1,11 @@
 -- Reading at the front of tokens: a part, and the tokens behind it, or nothing.
 use Rattle.std.specs.Prelude.{ℕ, zero, suc, Bool, false, if◌then◌else◌, List, [], ◌∷◌, Option, Some, None, length}
 use denote.Enum.Bare.{sameb}
-use Rattle.spv_tree.specs.declared.token.Token.{Token}
-use Rattle.spv_tree.specs.declared.token.TokenKind.{TokenKind}
-use Rattle.spv_tree.specs.declared.token.TokenKind.TheVariants as kind
-use Rattle.spv_tree.specs.contracts.token.Word.{the_type as words}
-use Rattle.spv_tree.specs.contracts.token.Sign.{the_type as signs}
+use Rattle.spv_tokens.specs.declared.token.Token.{Token}
+use Rattle.spv_tokens.specs.declared.token.TokenKind.{TokenKind}
+use Rattle.spv_tokens.specs.declared.token.TokenKind.TheVariants as kind
+use Rattle.spv_tokens.specs.contracts.token.Word.{the_type as words}
+use Rattle.spv_tokens.specs.contracts.token.Sign.{the_type as signs}
 use Rattle.spv_syntax.specs.declared.lists.Several.{Several}
 use Rattle.spv_syntax.specs.declared.names.Name.{Name}
 use Rattle.spv_syntax.specs.Steps.{first_line}

@@ -9,7 +9,7 @@ use spv_names::{Names, Symbol};
 use spv_proof::Step;
 use spv_proof::candidates::sides;
 use spv_term::{Head, Kind, PlainWorld, Sort, TermId};
-use spv_tree::Numeral;
+use spv_tokens::Numeral;
 use std::alloc::{AllocError, Global};
 use std::test::Fail;
 

@@ -1,6 +1,6 @@
 -- What a call that adds tokens does, where `spelled` says what they are in front of others.
 use Rattle.std.specs.Prelude.{◌≡◌, List, ◌++◌, length, take}
-use Rattle.spv_tree.specs.declared.token.TokenKind.{TokenKind}
+use Rattle.spv_tokens.specs.declared.token.TokenKind.{TokenKind}
 
 -- it added all of them
 abbrev pub AddsAll : (List TokenKind → List TokenKind) → List TokenKind → List TokenKind → Type 0

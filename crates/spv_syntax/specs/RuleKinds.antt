@@ -1,9 +1,9 @@
 -- The tokens of rule files and of formula texts, in front of those that follow.
 use Rattle.std.specs.Prelude.{List, ◌∷◌, Option, Some, None}
-use Rattle.spv_tree.specs.declared.token.TokenKind.{TokenKind}
-use Rattle.spv_tree.specs.declared.token.TokenKind.TheVariants as kind
-use Rattle.spv_tree.specs.declared.token.Word.TheVariants as word
-use Rattle.spv_tree.specs.declared.token.Sign.TheVariants as sign
+use Rattle.spv_tokens.specs.declared.token.TokenKind.{TokenKind}
+use Rattle.spv_tokens.specs.declared.token.TokenKind.TheVariants as kind
+use Rattle.spv_tokens.specs.declared.token.Word.TheVariants as word
+use Rattle.spv_tokens.specs.declared.token.Sign.TheVariants as sign
 use Rattle.spv_syntax.specs.declared.rules.RuleVars.{RuleVars}
 use Rattle.spv_syntax.specs.declared.rules.RuleForm.{RuleForm}
 use Rattle.spv_syntax.specs.declared.rules.RuleForm.TheVariants.{Replace, Infer}

@@ -1,6 +1,6 @@
 -- On which lines the parts of a tree begin, beside the tokens.
 use Rattle.std.specs.Prelude.{ℕ, Bool, true, false, ◌&&◌, List, [], ◌∷◌, nat_eq}
-use Rattle.spv_tree.specs.declared.token.Token.{Token}
+use Rattle.spv_tokens.specs.declared.token.Token.{Token}
 
 -- what comes next: a part begins, which has this line, or a token passes by
 pub data Step : Type 0 where

@@ -9,7 +9,7 @@ use crate::lists::{Parts, Several};
 use crate::names::{Constant, Name};
 use crate::out;
 use crate::types::TypeDenoter;
-use spv_tree::{Sign, TokenKind, Word};
+use spv_tokens::{Sign, TokenKind, Word};
 use std::alloc::AllocError;
 
 /// `name "=" constant ";"`

@@ -1,14 +1,14 @@
 // Adding the tokens of parts, and of lists of parts.
 
 ghost use Rattle.std.specs.Prelude.{◌≡◌, ◌≤◌, List, length, OnOk};
-ghost use Rattle.spv_tree.specs.declared.token.TokenKind.{TokenKind};
-ghost use Rattle.spv_tree.specs.declared.token.TokenKind.TheVariants as kind;
+ghost use Rattle.spv_tokens.specs.declared.token.TokenKind.{TokenKind};
+ghost use Rattle.spv_tokens.specs.declared.token.TokenKind.TheVariants as kind;
 ghost use Rattle.spv_syntax.specs.Lists as spec;
 ghost use Rattle.spv_syntax.specs.Flat.{AddsAll, AddsFirst};
 
 use crate::lists::{Parts, Several};
 use crate::out;
-use spv_tree::{Sign, TokenKind, Word};
+use spv_tokens::{Sign, TokenKind, Word};
 use std::alloc::AllocError;
 
 // A part of a tree, which has tokens.

@@ -8,7 +8,7 @@ use crate::flat::Flat;
 use crate::formulas::Formula;
 use crate::names::Name;
 use crate::out;
-use spv_tree::{Sign, TokenKind, Word};
+use spv_tokens::{Sign, TokenKind, Word};
 use std::alloc::AllocError;
 
 /// `PROGRAM name ";" decls ASSERT formula "."`; the last period of the text ends the formula.

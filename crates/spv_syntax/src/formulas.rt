@@ -9,7 +9,7 @@ use crate::flat::Flat;
 use crate::names::Name;
 use crate::operators::{Adding, Comparison, Multiplying, PlusOrMinus};
 use crate::out;
-use spv_tree::{Numeral, Sign, TokenKind, Word};
+use spv_tokens::{Numeral, Sign, TokenKind, Word};
 use std::alloc::AllocError;
 use std::marker::Model;
 

@@ -7,7 +7,7 @@ use crate::flat::Flat;
 use crate::operators::PlusOrMinus;
 use crate::out;
 use spv_names::Symbol;
-use spv_tree::{Numeral, TokenKind};
+use spv_tokens::{Numeral, TokenKind};
 use std::alloc::AllocError;
 
 /// A name, with the line on which it stands.

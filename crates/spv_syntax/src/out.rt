@@ -1,12 +1,12 @@
 // Adding tokens one by one.
 
 ghost use Rattle.std.specs.Prelude.{◌≡◌, ◌≤◌, ◌∷◌, length, OnOk};
-ghost use Rattle.spv_tree.specs.declared.token.TokenKind.TheVariants as kind;
+ghost use Rattle.spv_tokens.specs.declared.token.TokenKind.TheVariants as kind;
 ghost use Rattle.spv_syntax.specs.FormulaKinds.{prefix_kinds, comparison_kind, adding_kind, multiplying_kind, truth_kind};
 ghost use Rattle.spv_syntax.specs.Flat.{AddsAll, AddsFirst};
 
 use crate::operators::{Adding, Comparison, Multiplying, PlusOrMinus};
-use spv_tree::{Sign, TokenKind, Word};
+use spv_tokens::{Sign, TokenKind, Word};
 use std::alloc::AllocError;
 
 // Adds a token.

@@ -12,7 +12,7 @@ use crate::names::Name;
 use crate::out;
 use crate::routines::{self, RoutineMark};
 use crate::statements::Block;
-use spv_tree::{Sign, TokenKind, Word};
+use spv_tokens::{Sign, TokenKind, Word};
 use std::alloc::AllocError;
 
 /// `PROGRAM name ["(" names ")"] ";" decls {routine} [ENTRY formula ";"] [EXIT formula ";"] block "."`

@@ -11,7 +11,7 @@ use crate::lists::{Parts, Several};
 use crate::names::Name;
 use crate::out;
 use crate::statements::Block;
-use spv_tree::{Sign, TokenKind, Word};
+use spv_tokens::{Sign, TokenKind, Word};
 use std::alloc::AllocError;
 
 /// What a group of parameters is.

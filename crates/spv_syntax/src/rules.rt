@@ -1,7 +1,7 @@
 // Rule files.
 
 ghost use Rattle.std.specs.Prelude.{◌≡◌, ◌≤◌, ◌++◌, ℕ, [], length, take, OnOk, OnErr};
-ghost use Rattle.spv_tree.specs.declared.token.TokenKind.TheVariants as kind;
+ghost use Rattle.spv_tokens.specs.declared.token.TokenKind.TheVariants as kind;
 ghost use Rattle.spv_syntax.specs.RuleKinds.{rule_vars_kinds, premise_kinds, rule_form_kinds, rule_kinds, rule_tree_kinds};
 ghost use Rattle.spv_syntax.specs.Flat.{AddsAll, AddsFirst};
 
@@ -11,7 +11,7 @@ use crate::formulas::Formula;
 use crate::lists::{Parts, Several};
 use crate::names::Name;
 use crate::out;
-use spv_tree::{Sign, TokenKind, Word};
+use spv_tokens::{Sign, TokenKind, Word};
 use std::alloc::AllocError;
 
 /// `names ":" sort ";"`

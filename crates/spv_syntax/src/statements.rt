@@ -11,7 +11,7 @@ use crate::lists::Several;
 use crate::names::{Constant, Name};
 use crate::operators::Direction;
 use crate::{flat, out};
-use spv_tree::{Sign, TokenKind, Word};
+use spv_tokens::{Sign, TokenKind, Word};
 use std::alloc::AllocError;
 use std::marker::Model;
 

@@ -2,7 +2,7 @@
 
 use super::*;
 use spv_names::Symbol;
-use spv_tree::{Numeral, Sign, TokenKind, Word};
+use spv_tokens::{Numeral, Sign, TokenKind, Word};
 use std::alloc::{AllocError, Global};
 use std::test::Fail;
 

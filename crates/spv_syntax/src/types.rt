@@ -9,7 +9,7 @@ use crate::flat::{self, Flat};
 use crate::lists::Several;
 use crate::names::{Constant, Name};
 use crate::out;
-use spv_tree::{Sign, TokenKind, Word};
+use spv_tokens::{Sign, TokenKind, Word};
 use std::alloc::AllocError;
 use std::marker::Model;
 

@@ -1,6 +1,6 @@
 use Rattle.std.proofs.Common.{◌+◌, ◌*◌}
-use Rattle.spv_tree.specs.declared.token.TokenKind.TheVariants as kind
-use Rattle.spv_tree.specs.declared.token.Sign.TheVariants as sign
+use Rattle.spv_tokens.specs.declared.token.TokenKind.TheVariants as kind
+use Rattle.spv_tokens.specs.declared.token.Sign.TheVariants as sign
 use Rattle.spv_syntax.specs.Statements.{no_more_statements, more_statements, no_more_arms, more_arms}
 use Rattle.spv_reading.specs.Readers.{behind}
 use Rattle.spv_reading.specs.StatementReaders.{read_lower, read_more_statements, read_arm, read_more_arms}

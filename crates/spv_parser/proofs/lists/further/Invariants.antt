@@ -1,5 +1,5 @@
 use Rattle.std.proofs.Common.{◌∷◌, []}
-use Rattle.spv_tree.specs.declared.token.TokenKind.TheVariants as kind
+use Rattle.spv_tokens.specs.declared.token.TokenKind.TheVariants as kind
 use Rattle.spv_reading.specs.Readers.{behind, all_items}
 use Rattle.spv_parser.specs.Lists.{Going}
 use Rattle.spv_parser.proofs.lists.further.Given as goal

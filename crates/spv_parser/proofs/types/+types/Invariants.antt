@@ -1,6 +1,6 @@
 use Rattle.std.proofs.Common.{◌+◌, ◌*◌}
-use Rattle.spv_tree.specs.declared.token.TokenKind.TheVariants as kind
-use Rattle.spv_tree.specs.declared.token.Sign.TheVariants as sign
+use Rattle.spv_tokens.specs.declared.token.TokenKind.TheVariants as kind
+use Rattle.spv_tokens.specs.declared.token.Sign.TheVariants as sign
 use Rattle.spv_syntax.specs.Types.{no_more_types, more_types, no_more_fields, more_fields}
 use Rattle.spv_reading.specs.Readers.{behind}
 use Rattle.spv_reading.specs.TypeReaders.{read_lower_type, read_field_part, read_more_types, read_more_fields}

@@ -1,4 +1,4 @@
-use Rattle.spv_tree.specs.declared.token.TokenKind.TheVariants as kind
+use Rattle.spv_tokens.specs.declared.token.TokenKind.TheVariants as kind
 use Rattle.spv_syntax.specs.Lists.{further}
 use Rattle.spv_syntax.proofs.Fronts.{Further}
 use Rattle.spv_syntax.proofs.flat.further.Given as goal

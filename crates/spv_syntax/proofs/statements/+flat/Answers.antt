@@ -2,9 +2,9 @@ use Rattle.std.proofs.Common.{◌≤◌, ◌∷◌, List, subst, sym, arith}
 use Rattle.spv_syntax.specs.Statements.{Statement, Block, block, Arm}
 use Rattle.spv_syntax.specs.StatementKinds.{block_kinds}
 use Rattle.spv_syntax.specs.Flat.{AddsFirst}
-use Rattle.spv_tree.specs.declared.token.TokenKind.{TokenKind}
-use Rattle.spv_tree.specs.declared.token.TokenKind.TheVariants as kind
-use Rattle.spv_tree.specs.declared.token.Word.TheVariants as word
+use Rattle.spv_tokens.specs.declared.token.TokenKind.{TokenKind}
+use Rattle.spv_tokens.specs.declared.token.TokenKind.TheVariants as kind
+use Rattle.spv_tokens.specs.declared.token.Word.TheVariants as word
 use Rattle.spv_syntax.specs.StatementSizes.{more_statements_of, more_arms_of, statement_size, more_statements_size, arm_size, more_arms_size}
 use Rattle.spv_syntax.proofs.Sizes.{statement_within, arm_within}
 use Rattle.spv_syntax.proofs.statements.+flat.Goals as goal

@@ -119,7 +119,7 @@ impl Model for Numeral {
     ghost use Rattle.std.specs.Prelude.{ℕ, ℤ, pos, ◌≤ℤ◌};
     ghost use Rattle.std.specs.Int.RustNames.{unsigned_abs};
     ghost use Rattle.std.proofs.Common.{ap};
-    ghost use Rattle.spv_tree.specs.Numeral.{pos-unsigned_abs};
+    ghost use Rattle.spv_tokens.specs.Numeral.{pos-unsigned_abs};
 
     ghost Value = { ℕ };
 
