@@ -4,7 +4,8 @@ ghost use Rattle.std.specs.Prelude.{IfOk};
 ghost use Rattle.spv_decision.specs.Forms.{IsPlain};
 
 use super::*;
-use spv_term::{Condition, Decls, Head, Kind, Origin, Shapes, TermFault, TermId, TermList, Terms};
+use spv_list::List;
+use spv_term::{Condition, Head, Kind, Origin, Shapes, TermFault, TermId, Terms};
 use std::alloc::Global;
 use std::test::Fail;
 
@@ -12,7 +13,7 @@ use std::test::Fail;
 fn are_equal(alloc: Global, left: u32, right: u32) -> Result<(Terms, Condition), TermFault>
     ensures { IfOk result (λ r. IsPlain r.0 r.1) }
 {
-    let mut terms = Terms::new(alloc, Shapes::new(alloc), Decls::new(alloc), 10);
+    let mut terms = Terms::new(alloc, Shapes::new(alloc), List::new(alloc), 10);
     let left = terms.make(Head::Num(left as i128), &[])?;
     let right = terms.make(Head::Num(right as i128), &[])?;
     let goal = terms.make(Head::Eq, &[left, right])?;
@@ -21,7 +22,7 @@ fn are_equal(alloc: Global, left: u32, right: u32) -> Result<(Terms, Condition),
         kind: Kind::Exit,
         line: 1,
     };
-    let given = TermList::new(alloc);
+    let given = List::new(alloc);
     Ok((
         terms,
         Condition {

@@ -6,10 +6,11 @@ ghost use Rattle.spv_logic.specs.declared.types.Shape.TheVariants as shape;
 
 use crate::listing::push_claim;
 use crate::printed::{push_head, push_term, word};
+use spv_list::List;
 use spv_names::{Names, Symbol};
 use spv_term::{
-    Condition, Decl, Decls, Field, Fields, Head, Kind, Origin, Shape, Shapes, Sort, Sorts,
-    TermFault, TermId, TermList, Terms, TypeId,
+    Condition, Decl, Field, Head, Kind, Origin, Shape, Shapes, Sort, Sorts, TermFault, TermId,
+    Terms, TypeId,
 };
 use std::alloc::{AllocError, Global};
 use std::test::Fail;
@@ -121,7 +122,7 @@ fn is_term(alloc: Global, terms: &Terms, t: TermId, wanted: &[u8]) -> Result<boo
 }
 
 // A list of this symbol's declaration, with a whole number as its result.
-fn declared(alloc: Global, name: Symbol, args: &[Sort]) -> Result<Decls, AllocError>
+fn declared(alloc: Global, name: Symbol, args: &[Sort]) -> Result<List<Decl>, AllocError>
     ensures { IfOk result (λ decls. decls ≡ record { name = name; args = args.now; result = sort.Int } ∷ []) }
 {
     let args = Sorts {
@@ -133,7 +134,7 @@ fn declared(alloc: Global, name: Symbol, args: &[Sort]) -> Result<Decls, AllocEr
         args,
         result: Sort::Int,
     })?;
-    Ok(Decls::from_vec(list))
+    Ok(List::from_vec(list))
 }
 
 #[test]
@@ -169,7 +170,7 @@ fn pointers(alloc: Global) -> Result<Shapes, AllocError>
 #[tactic(auto, using(spv_term::proofs::ArenaLemmas::growth))]
 fn a_cell(rt: HostRuntime) -> Result<(), Fail> {
     let shapes = pointers(rt.alloc())?;
-    let mut terms = Terms::new(rt.alloc(), shapes, Decls::new(rt.alloc()), 10);
+    let mut terms = Terms::new(rt.alloc(), shapes, List::new(rt.alloc()), 10);
     let class = terms.make(Head::ClassVar(TYPE, 1), &[])?;
     let nil = terms.make(Head::Nil(TYPE), &[])?;
     let t = terms.make(Head::Cell, &[class, nil])?;
@@ -195,7 +196,7 @@ fn records(alloc: Global) -> Result<Shapes, AllocError>
 #[tactic(auto, using(spv_term::proofs::ArenaLemmas::growth))]
 fn a_field(rt: HostRuntime) -> Result<(), Fail> {
     let shapes = records(rt.alloc())?;
-    let mut terms = Terms::new(rt.alloc(), shapes, Decls::new(rt.alloc()), 10);
+    let mut terms = Terms::new(rt.alloc(), shapes, List::new(rt.alloc()), 10);
     let r = terms.make(Head::Var(X, Sort::Whole(TYPE), 0), &[])?;
     let t = terms.make(Head::Field(F), &[r])?;
     assert!(rt; is_term(rt.alloc(), &terms, t, b"(FIELD F X)")?);
@@ -233,7 +234,7 @@ fn conjunction_text(alloc: Global, count: usize) -> Result<Vec<u8>, AllocError> 
 #[test]
 fn a_deep_conjunction(rt: HostRuntime) -> Result<(), Fail> {
     let shapes = Shapes::new(rt.alloc());
-    let mut terms = Terms::new(rt.alloc(), shapes, Decls::new(rt.alloc()), 2000);
+    let mut terms = Terms::new(rt.alloc(), shapes, List::new(rt.alloc()), 2000);
     let t = conjunction(&mut terms, 1000)?;
     let wanted = conjunction_text(rt.alloc(), 1000)?;
     assert!(rt; is_term(rt.alloc(), &terms, t, wanted.as_slice())?);
@@ -253,7 +254,7 @@ fn claim_of(
     let mut list = Vec::new(alloc);
     list.push(given)?;
     let condition = Condition {
-        given: TermList::from_vec(list),
+        given: List::from_vec(list),
         goal,
         origin: Origin {
             routine: None,
@@ -269,7 +270,7 @@ fn claim_of(
 #[test]
 fn a_hypothesis(rt: HostRuntime) -> Result<(), Fail> {
     let shapes = Shapes::new(rt.alloc());
-    let mut terms = Terms::new(rt.alloc(), shapes, Decls::new(rt.alloc()), 10);
+    let mut terms = Terms::new(rt.alloc(), shapes, List::new(rt.alloc()), 10);
     let x = terms.make(Head::Var(X, Sort::Bool, 0), &[])?;
     let goal = terms.make(Head::Not, &[x])?;
     let found = claim_of(rt.alloc(), &terms, x, goal)?;

@@ -12,7 +12,7 @@ pub mod worlds;
 
 pub use conditions::{Kind, Origin, RoutineId, TermId};
 pub use operators::Head;
-pub use types::{Decl, Field, Fields, Shape, Sort, Sorts, TypeId};
+pub use types::{Decl, Field, Shape, Sort, TypeId};
 pub use worlds::{PlainWorld, World};
 
 #[cfg(test)]

@@ -13,4 +13,4 @@ mod tests;
 mod valued;
 
 pub use checker::{CheckStop, check};
-pub use proofs::{Numbers, Proof, ProofNode, Split, Stated, Step, Steps};
+pub use proofs::{Proof, ProofNode, Split, Stated, Step};

@@ -4,9 +4,8 @@ ghost use Rattle.std.specs.Prelude.{◌≡◌, ◌<◌, length, IfOk, [], ◌∷
 ghost use Rattle.spv_proof.specs.Candidates.{AllFormulas, IsBool, StepsIn};
 
 use super::*;
-use spv_term::{
-    Condition, Decls, Head, Kind, Origin, RoutineId, Shapes, TermFault, TermId, TermList, Terms,
-};
+use spv_list::List;
+use spv_term::{Condition, Head, Kind, Origin, RoutineId, Shapes, TermFault, TermId, Terms};
 use std::alloc::Global;
 use std::test::Fail;
 
@@ -35,7 +34,7 @@ fn accepted(
     };
     let mut nodes = Vec::new(alloc);
     let node = ProofNode {
-        steps: Steps::from_vec(steps),
+        steps: List::from_vec(steps),
         split: None,
     };
     match nodes.push(node) {
@@ -50,7 +49,7 @@ fn one_is_one(alloc: Global, most: u32) -> Result<(Terms, TermId, TermId), TermF
     ensures goal { IfOk result (λ r. r.2.0 < length r.0.nodes) }
     ensures goal_sort { IfOk result (λ r. IsBool r.0 r.2) }
 {
-    let mut terms = Terms::new(alloc, Shapes::new(alloc), Decls::new(alloc), most);
+    let mut terms = Terms::new(alloc, Shapes::new(alloc), List::new(alloc), most);
     let one = terms.make(Head::Num(1), &[])?;
     let goal = terms.make(Head::Eq, &[one, one])?;
     Ok((terms, one, goal))
@@ -71,7 +70,7 @@ fn by_refl(alloc: Global, t: TermId, end: Step) -> Result<Vec<Step>, Fail>
 fn refl(rt: HostRuntime) -> Result<(), Fail> {
     let (mut terms, one, goal) = one_is_one(rt.alloc(), 10)?;
     let steps = by_refl(rt.alloc(), one, Step::Contra(1, Some(2)))?;
-    let given = TermList::new(rt.alloc());
+    let given = List::new(rt.alloc());
     assert!(rt; accepted(rt.alloc(), &mut terms, given, goal, steps)?);
     assert_eq!(rt; terms.len(), 3);
     laws::law_check(&spv_logic::PlainWorld);
@@ -82,7 +81,7 @@ fn refl(rt: HostRuntime) -> Result<(), Fail> {
 fn contra_of_no_opposites(rt: HostRuntime) -> Result<(), Fail> {
     let (mut terms, one, goal) = one_is_one(rt.alloc(), 10)?;
     let steps = by_refl(rt.alloc(), one, Step::Contra(2, Some(2)))?;
-    let given = TermList::new(rt.alloc());
+    let given = List::new(rt.alloc());
     assert!(rt; !accepted(rt.alloc(), &mut terms, given, goal, steps)?);
     Ok(())
 }
@@ -91,7 +90,7 @@ fn contra_of_no_opposites(rt: HostRuntime) -> Result<(), Fail> {
 fn refl_of_another_term(rt: HostRuntime) -> Result<(), Fail> {
     let (mut terms, _, goal) = one_is_one(rt.alloc(), 10)?;
     let steps = by_refl(rt.alloc(), goal, Step::Contra(1, Some(2)))?;
-    let given = TermList::new(rt.alloc());
+    let given = List::new(rt.alloc());
     assert!(rt; !accepted(rt.alloc(), &mut terms, given, goal, steps)?);
     Ok(())
 }
@@ -100,7 +99,7 @@ fn refl_of_another_term(rt: HostRuntime) -> Result<(), Fail> {
 fn full_arena(rt: HostRuntime) -> Result<(), Fail> {
     let (mut terms, one, goal) = one_is_one(rt.alloc(), 2)?;
     let steps = by_refl(rt.alloc(), one, Step::Contra(1, Some(2)))?;
-    let given = TermList::new(rt.alloc());
+    let given = List::new(rt.alloc());
     let stopped = accepted(rt.alloc(), &mut terms, given, goal, steps);
     assert_eq!(rt; stopped, Err(CheckStop::Size));
     Ok(())
@@ -112,10 +111,10 @@ fn eval_of_numerals(rt: HostRuntime) -> Result<(), Fail> {
     let (mut terms, _, goal) = one_is_one(alloc, 10)?;
     let mut steps = Vec::new(alloc);
     steps.push(Step::Given(0))?;
-    let none = Numbers::from_vec(Vec::new(alloc));
+    let none = List::from_vec(Vec::new(alloc));
     steps.push(Step::Eval(Stated::Is(goal, true), none))?;
     steps.push(Step::Contra(2, Some(1)))?;
-    let given = TermList::new(alloc);
+    let given = List::new(alloc);
     assert!(rt; accepted(alloc, &mut terms, given, goal, steps)?);
     Ok(())
 }
@@ -125,10 +124,10 @@ fn eval_of_the_opposite(rt: HostRuntime) -> Result<(), Fail> {
     let alloc = rt.alloc();
     let (mut terms, _, goal) = one_is_one(alloc, 10)?;
     let mut steps = Vec::new(alloc);
-    let none = Numbers::from_vec(Vec::new(alloc));
+    let none = List::from_vec(Vec::new(alloc));
     steps.push(Step::Eval(Stated::Is(goal, false), none))?;
     steps.push(Step::Contra(1, None))?;
-    let given = TermList::new(alloc);
+    let given = List::new(alloc);
     assert!(rt; !accepted(alloc, &mut terms, given, goal, steps)?);
     Ok(())
 }

@@ -15,7 +15,8 @@ ghost use Rattle.spv_report.specs.Reports.{claimed};
 
 use crate::fault::VerifyFault;
 use spv_form::{Annotation, Equation, Form, Formula, Replacements, Side};
-use spv_term::{Condition, Head, Kind, Origin, Sort, TermFault, TermId, TermList, Terms};
+use spv_list::List;
+use spv_term::{Condition, Head, Kind, Origin, Sort, TermFault, TermId, Terms};
 use std::alloc::Global;
 
 // A term in an arena with room for one more, so that only memory can be wanting.
@@ -152,7 +153,7 @@ fn hypothesis(alloc: Global, terms: &mut Terms, entry: &Annotation) -> Result<Te
     let t = formula(terms, &unchanged, &entry.formula)?;
     let mut list = Vec::new(alloc);
     list.push(t)?;
-    Ok(TermList::from_vec(list))
+    Ok(List::from_vec(list))
 }
 
 // The hypotheses: the term of ENTRY, where there is one.
@@ -170,7 +171,7 @@ fn hypotheses(
 {
     match entry {
         Some(entry) => hypothesis(alloc, terms, entry),
-        None => Ok(TermList::new(alloc)),
+        None => Ok(List::new(alloc)),
     }
 }
 

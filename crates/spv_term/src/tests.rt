@@ -1,13 +1,14 @@
 //! Small arenas: ids, sorts, the limits of numerals and of the number of terms.
 
 use super::*;
+use spv_list::List;
 use spv_names::Symbol;
 use std::test::Fail;
 
 #[test]
 fn numerals(rt: HostRuntime) -> Result<(), Fail> {
     let shapes = Shapes::new(rt.alloc());
-    let decls = Decls::new(rt.alloc());
+    let decls = List::new(rt.alloc());
     let mut terms = Terms::new(rt.alloc(), shapes, decls, 10);
     let greatest = 170141183460469231731687303715884105727;
     assert_eq!(rt; terms.make(Head::Num(greatest), &[]), Ok(TermId(0)));
@@ -20,7 +21,7 @@ fn numerals(rt: HostRuntime) -> Result<(), Fail> {
 #[test]
 fn one_term(rt: HostRuntime) -> Result<(), Fail> {
     let shapes = Shapes::new(rt.alloc());
-    let decls = Decls::new(rt.alloc());
+    let decls = List::new(rt.alloc());
     let mut terms = Terms::new(rt.alloc(), shapes, decls, 1);
     assert_eq!(rt; terms.make(Head::True, &[]), Ok(TermId(0)));
     assert_eq!(rt; terms.make(Head::False, &[]), Err(TermFault::Size));
@@ -32,7 +33,7 @@ fn one_term(rt: HostRuntime) -> Result<(), Fail> {
 #[test]
 fn node_of_a_term(rt: HostRuntime) -> Result<(), Fail> {
     let shapes = Shapes::new(rt.alloc());
-    let decls = Decls::new(rt.alloc());
+    let decls = List::new(rt.alloc());
     let mut terms = Terms::new(rt.alloc(), shapes, decls, 10);
     let truth = terms.make(Head::True, &[])?;
     let both = terms.make(Head::And, &[truth, truth])?;
@@ -61,17 +62,17 @@ fn types_and_symbols(rt: HostRuntime) -> Result<(), Fail> {
         },
         result: Sort::List,
     })?;
-    let terms = Terms::new(alloc, shapes, Decls::from_vec(symbols), 10);
+    let terms = Terms::new(alloc, shapes, List::from_vec(symbols), 10);
     assert_eq!(rt; (terms.shapes().len(), terms.decls().len()), (2, 1));
     Ok(())
 }
 
 #[test]
 fn lists(rt: HostRuntime) -> Result<(), Fail> {
-    let mut given = TermList::new(rt.alloc());
+    let mut given = List::new(rt.alloc());
     given.push(TermId(4))?;
     assert_eq!(rt; given.as_slice(), [TermId(4)].as_slice());
-    let same = TermList::from_vec([TermId(4)].to_vec(rt.alloc())?);
+    let same = List::from_vec([TermId(4)].to_vec(rt.alloc())?);
     assert_eq!(rt; same.len(), given.len());
     let args = Arguments::from_slice(rt.alloc(), given.as_slice())?;
     assert_eq!(rt; args.len(), 1);
