@@ -141,7 +141,11 @@ fn formula(
 }
 
 // The term of an ENTRY, as the one hypothesis.
-fn hypothesis(alloc: Global, terms: &mut Terms, entry: &Annotation) -> Result<TermList, VerifyFault>
+fn hypothesis(
+    alloc: Global,
+    terms: &mut Terms,
+    entry: &Annotation,
+) -> Result<List<TermId>, VerifyFault>
     requires room { length terms.old.nodes + 4 * equations_in entry.now.formula ≤ terms.old.most }
     ensures trees { IfOk result (λ ts. map (tree terms.new) ts ≡ given_by (Some entry.now)) }
     ensures in_range { IfOk result (AllBelow (length terms.new.nodes)) }
@@ -161,7 +165,7 @@ fn hypotheses(
     alloc: Global,
     terms: &mut Terms,
     entry: &Option<Annotation>,
-) -> Result<TermList, VerifyFault>
+) -> Result<List<TermId>, VerifyFault>
     requires room { length terms.old.nodes + 4 * equations_of entry.now ≤ terms.old.most }
     ensures trees { IfOk result (λ ts. map (tree terms.new) ts ≡ given_by entry.now) }
     ensures in_range { IfOk result (AllBelow (length terms.new.nodes)) }

@@ -9,8 +9,6 @@ mod lists;
 mod nodes;
 mod sorts;
 mod terms;
-#[cfg(test)]
-mod tests;
 
 pub use laws::{law_grows, law_make, law_one_id, law_sorted, law_types, law_worth};
 pub use lists::{Arguments, Shapes};
