@@ -11,7 +11,7 @@ use crate::forest::{Forest, root};
 use crate::formulas::two_sides;
 use crate::hypotheses::Hypothesis;
 use crate::joining::{across, join};
-use spv_proof::{Numbers, Stated, Step};
+use spv_equations::{Numbers, Stated, Step};
 use spv_term::Terms;
 use std::alloc::{AllocError, Global};
 
