@@ -105,27 +105,27 @@ module _ (symbols : Meaning) (v : Valuation) where
   told_both op x y (Some a) None h k = told_none (op x y)
   told_both op x y (Some a) (Some b) h k = told_some (op x y) (op a b) (ap₂ op (h.is a refl) (k.is b refl))
 
-  -- the values of arguments are those of the terms
-  abbrev AllTold : Terms → List (Option ℤ) → Type 0
-  AllTold no_terms [] = Unit {0}
-  AllTold (terms t ts) (o ∷ os) = Told (number_in t) o × AllTold ts os
-  AllTold _ _ = ⊥
+  -- the values of these terms are those that are known of them
+  abbrev AllTold : Terms → Type 0
+  AllTold no_terms = Unit {0}
+  AllTold (terms t ts) = Told (number_in t) (constant_value t) × AllTold ts
 
-  told_over : (h : Head) (ts : Terms) (os : List (Option ℤ)) → AllTold ts os → Told (number_of (worth symbols v h (eval_all symbols v ts))) (constant_over h os)
-  told_over (Num z) ts os k = told_some z z refl
-  told_over Add (terms t (terms u no_terms)) (a ∷ b ∷ []) k = told_both ◌+ℤ◌ (number_in t) (number_in u) a b k.0 k.1.0
-  told_over Sub (terms t (terms u no_terms)) (a ∷ b ∷ []) k = differences a b (told_both (λ x y. x +ℤ negsuc 0 *ℤ y) (number_in t) (number_in u) a b k.0 k.1.0)
+  told_over : (h : Head) (ts : Terms) → AllTold ts → Told (number_of (worth symbols v h (eval_all symbols v ts))) (constant_over h (constant_values ts))
+  told_over (Num z) ts k = told_some z z refl
+  told_over Add (terms t (terms u no_terms)) k = told_both ◌+ℤ◌ (number_in t) (number_in u) (constant_value t) (constant_value u) k.0 k.1.0
+  told_over Sub (terms t (terms u no_terms)) k =
+      difference (constant_value t) (constant_value u) (told_both (λ x y. x +ℤ negsuc 0 *ℤ y) (number_in t) (number_in u) (constant_value t) (constant_value u) k.0 k.1.0)
     where
-      differences : (a b : Option ℤ) → Told (number_in t +ℤ negsuc 0 *ℤ number_in u) (both_known (λ x y. x +ℤ negsuc 0 *ℤ y) a b) → Told (number_in t -ℤ number_in u) (both_known (λ x y. x +ℤ negsuc 0 *ℤ y) a b)
-      differences a b told = record { is = λ x e. sym (minus_one (number_in t) (number_in u)) ∙ told.is x e }
-  told_over Mul (terms t (terms u no_terms)) (a ∷ b ∷ []) k = told_both ◌*ℤ◌ (number_in t) (number_in u) a b k.0 k.1.0
-  told_over h ts os k = told_none (number_of (worth symbols v h (eval_all symbols v ts)))
+      difference : (a b : Option ℤ) → Told (number_in t +ℤ negsuc 0 *ℤ number_in u) (both_known (λ x y. x +ℤ negsuc 0 *ℤ y) a b) → Told (number_in t -ℤ number_in u) (both_known (λ x y. x +ℤ negsuc 0 *ℤ y) a b)
+      difference a b known = record { is = λ x e. sym (minus_one (number_in t) (number_in u)) ∙ known.is x e }
+  told_over Mul (terms t (terms u no_terms)) k = told_both ◌*ℤ◌ (number_in t) (number_in u) (constant_value t) (constant_value u) k.0 k.1.0
+  told_over h ts k = told_none (number_of (worth symbols v h (eval_all symbols v ts)))
 
   mutual
     told : (t : Term) → Told (number_in t) (constant_value t)
-    told (term h ts) = told_over h ts (constant_values ts) (all_told ts)
+    told (term h ts) = told_over h ts (all_told ts)
 
-    all_told : (ts : Terms) → AllTold ts (constant_values ts)
+    all_told : (ts : Terms) → AllTold ts
     all_told no_terms = tt
     all_told (terms t ts) = (told t, all_told ts)
 
@@ -139,10 +139,10 @@ module _ (symbols : Meaning) (v : Valuation) where
   formed_some : (z : ℤ) (f : Form) → z ≡ form_worth number_in f → Formed z (Some f)
   formed_some z f h = record { is = λ g e. cc }
 
-  abbrev AllFormed : Terms → List Form → Type 0
-  AllFormed no_terms [] = Unit {0}
-  AllFormed (terms t ts) (f ∷ fs) = (number_in t ≡ form_worth number_in f) × AllFormed ts fs
-  AllFormed _ _ = ⊥
+  -- each of these terms is worth what its form is worth
+  abbrev AllFormed : Terms → Type 0
+  AllFormed no_terms = Unit {0}
+  AllFormed (terms t ts) = (number_in t ≡ form_worth number_in (form t)) × AllFormed ts
 
   product_formed : (x y : ℤ) (a b : Option ℤ) (f g : Form) → Told x a → Told y b → x ≡ form_worth number_in f → y ≡ form_worth number_in g → Formed (x *ℤ y) (product_form a b f g)
   product_formed x y (Some z) b f g h k fh gh =
@@ -151,14 +151,15 @@ module _ (symbols : Meaning) (v : Valuation) where
       formed_some (x *ℤ y) (multiple z f) (*ℤ_comm x y ∙ ap₂ ◌*ℤ◌ (k.is z refl) fh ∙ sym (multiple-worth number_in z f))
   product_formed x y None None f g h k fh gh = formed_none (x *ℤ y)
 
-  formed_over : (h : Head) (ts : Terms) (os : List (Option ℤ)) (fs : List Form) → AllTold ts os → AllFormed ts fs → Formed (number_of (worth symbols v h (eval_all symbols v ts))) (linear_form h os fs)
-  formed_over (Num z) ts os fs k l = formed_some z (constant_form z) (sym (zero-+ℤ z))
-  formed_over Add (terms t (terms u no_terms)) os (f ∷ g ∷ []) k l =
-      formed_some (number_in t +ℤ number_in u) (plus f g) (ap₂ ◌+ℤ◌ l.0 l.1.0 ∙ sym (plus-worth number_in f g))
-  formed_over Sub (terms t (terms u no_terms)) os (f ∷ g ∷ []) k l =
-      formed_some (number_in t -ℤ number_in u) (minus f g) (ap₂ ◌-ℤ◌ l.0 l.1.0 ∙ sym (minus-worth number_in f g))
-  formed_over Mul (terms t (terms u no_terms)) (a ∷ b ∷ []) (f ∷ g ∷ []) k l = product_formed (number_in t) (number_in u) a b f g k.0 k.1.0 l.0 l.1.0
-  formed_over h ts os fs k l = formed_none (number_of (worth symbols v h (eval_all symbols v ts)))
+  formed_over : (h : Head) (ts : Terms) → AllTold ts → AllFormed ts → Formed (number_of (worth symbols v h (eval_all symbols v ts))) (linear_form h (constant_values ts) (forms ts))
+  formed_over (Num z) ts k l = formed_some z (constant_form z) (sym (zero-+ℤ z))
+  formed_over Add (terms t (terms u no_terms)) k l =
+      formed_some (number_in t +ℤ number_in u) (plus (form t) (form u)) (ap₂ ◌+ℤ◌ l.0 l.1.0 ∙ sym (plus-worth number_in (form t) (form u)))
+  formed_over Sub (terms t (terms u no_terms)) k l =
+      formed_some (number_in t -ℤ number_in u) (minus (form t) (form u)) (ap₂ ◌-ℤ◌ l.0 l.1.0 ∙ sym (minus-worth number_in (form t) (form u)))
+  formed_over Mul (terms t (terms u no_terms)) k l =
+      product_formed (number_in t) (number_in u) (constant_value t) (constant_value u) (form t) (form u) k.0 k.1.0 l.0 l.1.0
+  formed_over h ts k l = formed_none (number_of (worth symbols v h (eval_all symbols v ts)))
 
   or_own : (t : Term) (o : Option Form) → Formed (number_in t) o → number_in t ≡ form_worth number_in (form_or_own o t)
   or_own t None h = own (number_in t)
@@ -167,8 +168,8 @@ module _ (symbols : Meaning) (v : Valuation) where
   mutual
     pub worth_is : (t : Term) → number_in t ≡ form_worth number_in (form t)
     worth_is (term h ts) =
-        or_own (term h ts) (linear_form h (constant_values ts) (forms ts)) (formed_over h ts (constant_values ts) (forms ts) (all_told ts) (all_formed ts))
+        or_own (term h ts) (linear_form h (constant_values ts) (forms ts)) (formed_over h ts (all_told ts) (all_formed ts))
 
-    all_formed : (ts : Terms) → AllFormed ts (forms ts)
+    all_formed : (ts : Terms) → AllFormed ts
     all_formed no_terms = tt
     all_formed (terms t ts) = (worth_is t, all_formed ts)
