@@ -4,15 +4,19 @@ ghost use Rattle.std.specs.Prelude.{◌≡◌, ◌++◌, ◌∷◌, [], true, fa
 ghost use Rattle.spv_term.specs.Arena.{tree};
 ghost use Rattle.spv_decision.specs.Forests.{IsForest, AreClasses};
 ghost use Rattle.spv_decision.specs.Formulas.{IsEquation, SidesJoined, SidesApart, OneApart};
-ghost use Rattle.spv_proof.specs.declared.proofs.Step.TheVariants.{Contra};
+ghost use Rattle.spv_equations.specs.declared.proofs.Step.TheVariants.{Contra};
 ghost use Rattle.spv_decision.specs.Concluding.{StatesEquation, StatesEquations, StatesWhole, Ends};
 
 use crate::derivation::add;
 use crate::forest::{Forest, root};
 use crate::formulas::two_sides;
 use crate::joining::{Bridge, equal};
+<<<<<<< HEAD
 use spv_list::List;
 use spv_proof::{Proof, ProofNode, Stated, Step};
+=======
+use spv_equations::{Numbers, Proof, ProofNode, Stated, Step, Steps};
+>>>>>>> b893474d0347ff61df06438581e5a6230d308913
 use spv_term::{TermId, Terms};
 use std::alloc::{AllocError, Global};
 

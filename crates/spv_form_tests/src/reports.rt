@@ -3,10 +3,10 @@
 ghost use Rattle.std.specs.Prelude.{◌≡◌, ◌∷◌, [], IfOk, None, Some};
 ghost use Rattle.spv_form.specs.declared.form.Formula.TheVariants.{Plain};
 
+use spv_equations::Step;
+use spv_equations::candidates::sides;
 use spv_form::{Annotation, Assignment, Assignments, Equation, Form, Formula, Side, Symbols};
 use spv_names::{Names, Symbol};
-use spv_proof::Step;
-use spv_proof::candidates::sides;
 use spv_report::{Report, Verdict, all_proved, law_report, verify};
 use spv_term::{Head, Kind, PlainWorld, Sort, TermId};
 use spv_tokens::Numeral;

@@ -7,7 +7,7 @@ use Rattle.spv_term.specs.Arena.{Arena, tree, sequent}
 use Rattle.spv_meaning.specs.Rules.{AllTrueIn}
 use Rattle.spv_meaning.proofs.Rules.{conditions_correct}
 use Rattle.spv_form.specs.Program.{program_of}
-use Rattle.spv_proof.proofs.Soundness.{accepted_true}
+use Rattle.spv_equations.proofs.Soundness.{accepted_true}
 use Rattle.std.proofs.lemmas.Bool.{false≢true}
 use Rattle.spv_decision.specs.declared.verdict.Verdict.{Verdict}
 use Rattle.spv_decision.specs.declared.verdict.Verdict.TheVariants.{Proved, Unproved}
