@@ -11,12 +11,8 @@ use crate::derivation::add;
 use crate::forest::{Forest, root};
 use crate::formulas::two_sides;
 use crate::joining::{Bridge, equal};
-<<<<<<< HEAD
+use spv_equations::{Proof, ProofNode, Stated, Step};
 use spv_list::List;
-use spv_proof::{Proof, ProofNode, Stated, Step};
-=======
-use spv_equations::{Numbers, Proof, ProofNode, Stated, Step, Steps};
->>>>>>> b893474d0347ff61df06438581e5a6230d308913
 use spv_term::{TermId, Terms};
 use std::alloc::{AllocError, Global};
 

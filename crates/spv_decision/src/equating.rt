@@ -11,12 +11,8 @@ use crate::forest::{Forest, root};
 use crate::formulas::two_sides;
 use crate::hypotheses::Hypothesis;
 use crate::joining::{across, join};
-<<<<<<< HEAD
+use spv_equations::{Stated, Step};
 use spv_list::List;
-use spv_proof::{Stated, Step};
-=======
-use spv_equations::{Numbers, Stated, Step};
->>>>>>> b893474d0347ff61df06438581e5a6230d308913
 use spv_term::Terms;
 use std::alloc::{AllocError, Global};
 

@@ -8,8 +8,6 @@ mod numerals;
 pub mod proofs;
 mod steps;
 mod tables;
-#[cfg(test)]
-mod tests;
 mod valued;
 
 pub use checker::{CheckStop, check};

@@ -1,6 +1,8 @@
-//! What no clause says of the form of programs that is verified today, of its decision and its reports.
+//! What no clause says of the form of programs that is verified today: its checker, decision and reports.
 #![tactic(auto)]
 
+#[cfg(test)]
+mod checks;
 #[cfg(test)]
 mod decisions;
 #[cfg(test)]

@@ -3,7 +3,8 @@
 ghost use Rattle.std.specs.Prelude.{◌≡◌, ◌<◌, length, IfOk, [], ◌∷◌};
 ghost use Rattle.spv_equations.specs.Candidates.{AllFormulas, IsBool, StepsIn};
 
-use super::*;
+use spv_equations::laws::law_check;
+use spv_equations::{CheckStop, Proof, ProofNode, Stated, Step, check};
 use spv_list::List;
 use spv_term::{Condition, Head, Kind, Origin, RoutineId, Shapes, TermFault, TermId, Terms};
 use std::alloc::Global;
@@ -13,7 +14,7 @@ use std::test::Fail;
 fn accepted(
     alloc: Global,
     terms: &mut Terms,
-    given: TermList,
+    given: List<TermId>,
     goal: TermId,
     steps: Vec<Step>,
 ) -> Result<bool, CheckStop>
