@@ -74,7 +74,7 @@ fn refl(rt: HostRuntime) -> Result<(), Fail> {
     let given = List::new(rt.alloc());
     assert!(rt; accepted(rt.alloc(), &mut terms, given, goal, steps)?);
     assert_eq!(rt; terms.len(), 3);
-    laws::law_check(&spv_logic::PlainWorld);
+    law_check(&spv_logic::PlainWorld);
     Ok(())
 }
 
