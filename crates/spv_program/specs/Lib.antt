@@ -4,3 +4,15 @@ pub mod Expressions
 pub mod Formulas
 pub mod Statements
 pub mod Programs
+pub mod Scopes
+pub mod Uses
+pub mod Changes
+pub mod Frames
+pub mod FormulaTypes
+pub mod ExpressionTypes
+pub mod Typing
+pub mod Terms
+pub mod Supplies
+pub mod Places
+pub mod Calls
+pub mod ExpressionTerms
