@@ -1,5 +1,5 @@
 -- What a statement may change, calls and all.
-use Rattle.std.specs.Prelude.{Bool, List, [], ◌∷◌, ◌++◌, map, filter, Option, Some, None, if◌then◌else◌}
+use Rattle.std.specs.Prelude.{List, [], ◌∷◌, ◌++◌, map, filter, Option, Some, None, if◌then◌else◌}
 use Rattle.std.specs.List.{list_any, flat_map}
 use Rattle.spv_names.specs.declared.names.Symbol.{Symbol}
 use Rattle.spv_logic.specs.declared.types.TypeId.{TypeId}
@@ -12,7 +12,7 @@ use Rattle.spv_program.specs.Expressions.{Call, call}
 use Rattle.spv_program.specs.Statements.{Statement}
 use Rattle.spv_program.specs.Programs.{GlobalItem, Routine, Program, routine_at}
 use Rattle.spv_program.specs.Scopes.{own_names_in, is_own}
-use Rattle.spv_program.specs.Uses.{Root, Own, Shared, Use, same_root, statement_uses, statement_calls}
+use Rattle.spv_program.specs.Uses.{Root, Own, Shared, same_root, statement_uses, statement_calls}
 
 -- the items that a routine may change
 abbrev pub var_items : List GlobalItem → List Item

@@ -1,21 +1,19 @@
 -- The terms of expressions and places, with the calls that they make.
-use Rattle.std.specs.Prelude.{ℕ, Bool, true, false, List, [], ◌∷◌, ◌++◌, Option, Some, None}
+use Rattle.std.specs.Prelude.{ℕ, List, [], ◌∷◌, ◌++◌, Option, Some, None}
 use Rattle.spv_names.specs.declared.names.Symbol.{Symbol}
 use Rattle.spv_logic.specs.declared.types.TypeId.{TypeId}
 use Rattle.spv_logic.specs.declared.types.Sort.{Sort}
-use Rattle.spv_logic.specs.declared.types.Sort.TheVariants as sort
 use Rattle.spv_logic.specs.declared.operators.Head.{Head}
 use Rattle.spv_logic.specs.declared.operators.Head.TheVariants as head
-use Rattle.spv_logic.specs.declared.conditions.RoutineId.{RoutineId}
 use Rattle.spv_logic.specs.Terms.{Term}
-use Rattle.spv_program.specs.Types.{sort_of}
 use Rattle.spv_program.specs.Expressions.{Expression, Designator, Selectors, Call, Arguments, Numeral, Boolean, NilOf, Read, Result, Through, Negative, Calculated, Compared, Negated, Joined, designator, no_selectors, at_index, at_field, at_cell, call, no_arguments, by_value, by_place}
 use Rattle.spv_program.specs.Programs.{Routine, Program, routine_at}
-use Rattle.spv_program.specs.Scopes.{item_sort}
+use Rattle.spv_program.specs.Scopes.{sort_or_int}
+use Rattle.spv_program.specs.ExpressionTypes.{sort_of_type}
 use Rattle.spv_program.specs.declared.types.Item.TheVariants.{Variable}
 use Rattle.spv_program.specs.Terms.{alone, unary, binary, numeral, truth, negative, head_of_arithmetic, comparing, head_of_connective, item_head}
-use Rattle.spv_program.specs.Supplies.{Supply, Fresh, fresh_variable}
-use Rattle.spv_program.specs.Places.{Step, ToElement, ToField, Target, present, further, cell_behind}
+use Rattle.spv_program.specs.Supplies.{Supply, fresh_variable}
+use Rattle.spv_program.specs.Places.{ToElement, ToField, Target, present, further, cell_behind}
 use Rattle.spv_program.specs.Calls.{Argument, Given, AtPlace, entry_at_call, exit_at_call}
 
 -- a call that was made: its ENTRY, what its EXIT gives, and the line of the called name
@@ -78,7 +76,11 @@ with_argument a calls others = record { arguments = a ∷ others.arguments; call
 -- ---- calls of functions
 
 abbrev pub sort_of_result : Program → Routine → Sort
-sort_of_result p r = item_sort p (Some r) (Variable r.name)
+sort_of_result p r = sort_or_int (sort_of_type p r.result)
+
+-- a function's name, as its EXIT has it
+abbrev pub result_head : Program → Routine → Head
+result_head p r = head.Var r.name (sort_of_result p r) 0
 
 -- a call behind those in its arguments: its value is a fresh variable that has the function's name
 abbrev pub with_call : Program → Routine → ℕ → Argued → Valued
@@ -88,7 +90,7 @@ with_call p r line given =
       term = alone value.head;
       calls = given.calls ++ record {
         needs = entry_at_call p r given.arguments;
-        gives = exit_at_call p r given.arguments ((item_head p (Some r) (Variable r.name), alone value.head) ∷ []);
+        gives = exit_at_call p r given.arguments ((result_head p r, alone value.head) ∷ []);
         line = line;
       } ∷ [];
       supply = value.supply;

@@ -1,12 +1,12 @@
 -- What routines may share: globals, functions that change nothing, and arguments that do not meet.
 use Rattle.std.specs.Prelude.{Bool, true, false, ◌&&◌, ◌||◌, not, List, [], ◌∷◌, ◌++◌, map, filter, Option, Some, None, is_some, if◌then◌else◌}
-use Rattle.std.specs.List.{list_all, list_any, flat_map}
+use Rattle.std.specs.List.{list_all, list_any}
 use Rattle.spv_names.specs.declared.names.Symbol.{Symbol}
 use Rattle.spv_program.specs.declared.types.Item.{Item}
-use Rattle.spv_program.specs.declared.types.Item.TheVariants.{Variable, Class}
+use Rattle.spv_program.specs.declared.types.Item.TheVariants.{Class}
 use Rattle.spv_program.specs.Lists.{found, all_differ}
 use Rattle.spv_program.specs.Expressions.{Designator, Selectors, Call, Arguments, designator, no_selectors, at_index, at_field, at_cell, call, no_arguments, by_value, by_place}
-use Rattle.spv_program.specs.Programs.{Formal, GlobalItem, Routine, Program, routine_at}
+use Rattle.spv_program.specs.Programs.{GlobalItem, Routine, Program, routine_at}
 use Rattle.spv_program.specs.Scopes.{is_own, result_name}
 use Rattle.spv_program.specs.Uses.{Root, Own, Shared, Use, same_item, same_root, name_root, annotation_uses, statement_uses, statement_calls}
 

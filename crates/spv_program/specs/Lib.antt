@@ -16,3 +16,4 @@ pub mod Supplies
 pub mod Places
 pub mod Calls
 pub mod ExpressionTerms
+pub mod Laws

@@ -1,5 +1,5 @@
 -- Which names a routine has, and which ones its annotations see.
-use Rattle.std.specs.Prelude.{Bool, true, false, not, ◌&&◌, List, [], ◌∷◌, ◌++◌, map, Option, Some, None, is_some, option_map}
+use Rattle.std.specs.Prelude.{Bool, false, not, ◌&&◌, List, [], ◌∷◌, ◌++◌, map, Option, Some, None, is_some, option_map}
 use Rattle.std.specs.List.{list_any}
 use Rattle.spv_names.specs.declared.names.Symbol.{Symbol}
 use Rattle.spv_logic.specs.declared.types.TypeId.{TypeId}
@@ -9,7 +9,7 @@ use Rattle.spv_program.specs.declared.types.Item.{Item}
 use Rattle.spv_program.specs.declared.types.Item.TheVariants.{Variable, Class}
 use Rattle.spv_program.specs.Lists.{same_name, found, first_of}
 use Rattle.spv_program.specs.Types.{sort_of}
-use Rattle.spv_program.specs.Programs.{Formal, Routine, Program}
+use Rattle.spv_program.specs.Programs.{Routine, Program}
 
 -- ---- the routine's own names
 

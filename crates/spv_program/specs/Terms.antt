@@ -1,7 +1,6 @@
 -- Terms by their parts, and the terms of formulas.
-use Rattle.std.specs.Prelude.{ℕ, Bool, true, false, List, [], ◌∷◌, ℤ, pos, Option, Some, None, option_map, if◌then◌else◌}
+use Rattle.std.specs.Prelude.{Bool, true, false, ℤ, pos, Option}
 use Rattle.spv_names.specs.declared.names.Symbol.{Symbol}
-use Rattle.spv_logic.specs.declared.types.TypeId.{TypeId}
 use Rattle.spv_logic.specs.declared.types.Sort.{Sort}
 use Rattle.spv_logic.specs.declared.operators.Head.{Head}
 use Rattle.spv_logic.specs.declared.operators.Head.TheVariants as head
@@ -15,7 +14,6 @@ use Rattle.spv_program.specs.declared.operators.Comparison.TheVariants as compar
 use Rattle.spv_program.specs.declared.operators.Connective.{Connective}
 use Rattle.spv_program.specs.declared.operators.Connective.TheVariants as connective
 use Rattle.spv_program.specs.Lists.{found}
-use Rattle.spv_program.specs.Types.{sort_of}
 use Rattle.spv_program.specs.Formulas.{Formula, Formulas, Annotation, Numeral, Boolean, NilOf, Named, ClassOf, Element, FieldOf, Content, Applied, Known, Negative, Calculated, Compared, Negated, Joined, Implied, no_formulas, formulas}
 use Rattle.spv_program.specs.Programs.{Routine, Program}
 use Rattle.spv_program.specs.Scopes.{Scope, body_scope, entry_scope, exit_scope, item_sort, sort_or_int, is_value_parameter}

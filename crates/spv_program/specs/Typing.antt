@@ -1,21 +1,19 @@
 -- Which programs are well typed.
-use Rattle.std.specs.Prelude.{ℕ, Bool, true, false, ◌&&◌, ◌||◌, not, List, [], ◌∷◌, ◌++◌, map, length, ℤ, Option, Some, None, is_some, nat_eq, if◌then◌else◌}
+use Rattle.std.specs.Prelude.{Bool, true, false, ◌&&◌, ◌||◌, not, List, [], ◌∷◌, ◌++◌, map, length, ℤ, Option, Some, None, is_some, nat_eq}
 use Rattle.std.specs.Ordering.{int_eq}
-use Rattle.std.specs.List.{list_all, list_any, flat_map}
+use Rattle.std.specs.List.{list_all, list_any}
 use Rattle.spv_names.specs.declared.names.Symbol.{Symbol}
 use Rattle.spv_logic.specs.declared.types.TypeId.{TypeId}
-use Rattle.spv_logic.specs.declared.types.Sort.{Sort}
 use Rattle.spv_logic.specs.declared.types.Sort.TheVariants as sort
 use Rattle.spv_logic.specs.declared.types.Decl.{Decl}
 use Rattle.spv_logic.specs.Sorts.{sort_in_range}
 use Rattle.spv_program.specs.declared.types.Item.{Item}
 use Rattle.spv_program.specs.declared.types.Item.TheVariants.{Variable, Class}
 use Rattle.spv_program.specs.Lists.{same_name, found, all_differ, names_differ}
-use Rattle.spv_program.specs.Types.{same_type, form_at, sort_of, target_of, forms_ok, type_exists, may_be_result}
-use Rattle.spv_program.specs.Expressions.{Expression, Designator, designator}
+use Rattle.spv_program.specs.Types.{same_type, form_at, target_of, forms_ok, type_exists, may_be_result}
 use Rattle.spv_program.specs.Statements.{Counting, Statement, Arms, Empty, Assign, Perform, New, Sequence, If, Case, While, Repeat, For, Assert, no_arms, arm}
-use Rattle.spv_program.specs.Programs.{Formal, GlobalItem, Routine, Main, Program, shapes}
-use Rattle.spv_program.specs.Scopes.{own_names_in, name_type, is_value_parameter, body_scope, entry_scope, exit_scope}
+use Rattle.spv_program.specs.Programs.{Routine, Main, Program, shapes}
+use Rattle.spv_program.specs.Scopes.{name_type, is_value_parameter, body_scope, entry_scope, exit_scope}
 use Rattle.spv_program.specs.Uses.{same_item, same_root, name_root}
 use Rattle.spv_program.specs.Changes.{changed_roots}
 use Rattle.spv_program.specs.Scopes.{is_own}

@@ -5,6 +5,7 @@
 //! classes each routine reads and writes.
 #![tactic(auto)]
 
+pub mod laws;
 pub mod operators;
 pub mod types;
 
