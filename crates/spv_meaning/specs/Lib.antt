@@ -1,3 +1,11 @@
+pub mod Places
+pub mod Views
+pub mod Outcomes
+pub mod Levels
+pub mod Evaluation
+pub mod Walks
+pub mod Starts
+pub mod Correct
 pub mod States
 pub mod Programs
 pub mod Runs

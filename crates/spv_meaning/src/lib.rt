@@ -3,7 +3,10 @@
 //! The definitions are over plain trees of programs (in `specs/`), into which the code's trees fold.
 #![tactic(auto)]
 
+pub mod faults;
 pub mod laws;
+
+pub use faults::Fault;
 
 #[cfg(test)]
 mod tests {
