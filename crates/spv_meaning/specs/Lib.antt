@@ -4,6 +4,8 @@ pub mod Outcomes
 pub mod Levels
 pub mod Evaluation
 pub mod Walks
+pub mod Before
+pub mod ProgramConditions
 pub mod Starts
 pub mod Correct
 pub mod States
