@@ -243,3 +243,19 @@ with_cells heap start = record { variables = start.variables; frames = start.fra
 -- the run of a program's main block, with so many turns and these choices
 abbrev pub main_run : Program → ℕ → State → List Value → Outcome State
 main_run prog turns start choices = run prog turns (record { routine = None; entry = entry_view prog None start }) prog.main.body start choices
+
+-- ---- reports
+
+-- ended with these numbers in the variables
+abbrev pub ended : List ℕ → List Reached → Report
+ended numbers met = record { end = EndedWith (map (λ k. Some (z k)) numbers); met = met }
+
+abbrev pub stopped : Fault → List Reached → Report
+stopped fault met = record { end = StoppedBy fault; met = met }
+
+abbrev pub going : List Reached → Report
+going met = record { end = StillGoing; met = met }
+
+-- an annotation that was reached, with these numbers under the names
+abbrev pub reached : Kind → ℕ → List ℕ → Reached
+reached kind line numbers = record { kind = kind; line = line; shows = map (λ k. Some (z k)) numbers }
