@@ -3,4 +3,5 @@
 //! Whoever doubts a definition of `spv_meaning` finds here a program that shows what it says.
 #![tactic(auto)]
 
+pub mod conditions;
 pub mod runs;
