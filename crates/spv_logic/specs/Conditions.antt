@@ -88,4 +88,4 @@ Shows view v = (h : Head) → ForSome (view h) (λ w. v h ≡ w)
 -- no valuation that agrees with both makes its goal false and each of its hypotheses true
 abbrev pub TrueAt : List Shape → List Decl → Meaning → Sequent → View → View → Type 0
 TrueAt shapes decls world c entry now =
-    (v : Valuation) → IsValuation shapes v → Shows entry v → Shows now v → IsTrue (follows (answers shapes decls world) v c)
+    (v : Valuation) → IsValuation shapes v → Shows (both entry now) v → IsTrue (follows (answers shapes decls world) v c)

@@ -1,11 +1,13 @@
 -- What is proved of runs.
 use Rattle.std.specs.Prelude.{IsTrue}
 use Rattle.spv_logic.specs.Conditions.{Meaning}
-use Rattle.spv_meaning.specs.Programs.{Program, well_formed}
-use Rattle.spv_meaning.specs.Correctness.{Correct}
-use Rattle.spv_meaning.specs.Rules.{conditions_of, AllTrueIn}
+use Rattle.spv_program.specs.Programs.{Program, shapes}
+use Rattle.spv_program.specs.Typing.{well_typed}
+use Rattle.spv_meaning.specs.Assignments.{only_assigns}
+use Rattle.spv_meaning.specs.Correct.{Correct}
+use Rattle.spv_meaning.specs.ProgramConditions.{conditions_of, AllTrueIn}
 
--- true conditions make a well-formed program correct
+-- true conditions make a well typed program of assignments correct
 abbrev pub TrueConditionsGiveCorrectIn : Meaning → Type 0
 TrueConditionsGiveCorrectIn world =
-    (p : Program) → IsTrue (well_formed p) → AllTrueIn p.shapes p.decls world (conditions_of p) → Correct p world
+    (p : Program) → IsTrue (well_typed p) → IsTrue (only_assigns p) → AllTrueIn (shapes p) p.symbols world (conditions_of p) → Correct p world

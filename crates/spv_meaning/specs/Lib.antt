@@ -4,13 +4,9 @@ pub mod Outcomes
 pub mod Levels
 pub mod Evaluation
 pub mod Walks
-pub mod Before
-pub mod ProgramConditions
 pub mod Starts
 pub mod Correct
-pub mod States
-pub mod Programs
-pub mod Runs
-pub mod Correctness
-pub mod Rules
+pub mod Before
+pub mod ProgramConditions
+pub mod Assignments
 pub mod Laws

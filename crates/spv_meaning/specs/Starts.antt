@@ -1,5 +1,5 @@
 -- States from which a routine, or the main block, may start.
-use Rattle.std.specs.Prelude.{ℕ, zero, suc, Bool, true, false, ◌&&◌, ◌||◌, not, List, [], ◌∷◌, ◌++◌, map, length, Option, Some, None, ℤ, IsTrue, nat_eq, nat_lt, if◌then◌else◌}
+use Rattle.std.specs.Prelude.{◌≡◌, ℕ, zero, suc, Bool, true, false, ◌&&◌, ◌||◌, not, List, [], ◌∷◌, ◌++◌, map, length, Option, Some, None, ℤ, IsTrue, nat_eq, nat_lt, if◌then◌else◌}
 use Rattle.std.specs.List.{list_all}
 use Rattle.std.specs.Ordering.{int_eq}
 use Rattle.spv_names.specs.declared.names.Symbol.{Symbol}
@@ -14,7 +14,7 @@ use Rattle.spv_program.specs.Types.{same_type, sort_of}
 use Rattle.spv_program.specs.Programs.{GlobalItem, Routine, Program, shapes, routine_in}
 use Rattle.spv_program.specs.Scopes.{result_name}
 use Rattle.spv_meaning.specs.Places.{Root, PathStep, Place, Binding, Frame, HeapRow, State, ProgramVariable, OwnValue, CellOf, IndexStep, FieldStep, Holding, Referring, whole, row_of, look}
-use Rattle.spv_meaning.specs.Views.{place_of, shown_names}
+use Rattle.spv_meaning.specs.Views.{place_of, shown_type}
 use Rattle.spv_meaning.specs.Evaluation.{is_cell_of}
 
 -- ---- the heap
@@ -54,10 +54,6 @@ has_frame p _ _ state = true
 abbrev pub is_of_type : Program → TypeId → Option Value → Bool
 is_of_type p t None = false
 is_of_type p t (Some v) = fits (shapes p) v (sort_of p.forms t)
-
--- each name that shows has a value of its type's sort; so the places of VAR parameters exist
-abbrev pub names_hold : Program → Option RoutineId → State → Bool
-names_hold p here state = list_all (λ n. is_of_type p n.1 (look state (place_of here state n.0))) (shown_names p (routine_in p here))
 
 -- ---- what is apart
 
@@ -118,9 +114,10 @@ apart (Some r) state = all_differ (overlap state.heap) (frame_areas state.frames
 
 -- ---- starts
 
--- a state from which a routine may start, or the main block where none is named
+-- a state from which a routine may start, or the main block where none is named: it has the routine's frame, each name
+-- that shows has a value of its type's sort (so the places of VAR parameters exist), and nothing overlaps
 pub record IsStart (p : Program) (here : Option RoutineId) (state : State) : Type 0 where
   pub frame : IsTrue (has_frame p here (routine_in p here) state)
-  pub names : IsTrue (names_hold p here state)
+  pub names : (x : Symbol) (t : TypeId) → shown_type p (routine_in p here) x ≡ Some t → IsTrue (is_of_type p t (look state (place_of here state x)))
   pub heap : IsTrue (heap_ok p state.heap)
   pub areas : IsTrue (apart (routine_in p here) state)

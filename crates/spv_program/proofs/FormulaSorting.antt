@@ -55,7 +55,7 @@ pub truth_sort : (p : Program) (b : Bool) → HasSort p (truth b) sort.Bool
 truth_sort p true = refl
 truth_sort p false = refl
 
-some_sorts : (o : Option Sort) (ss : Option (List Sort)) (sorts : List Sort) (P : Type 0) → ((s : Sort) (rest : List Sort) → o ≡ Some s → ss ≡ Some rest → s ∷ rest ≡ sorts → P) → sorts_from o ss ≡ Some sorts → P
+pub some_sorts : (o : Option Sort) (ss : Option (List Sort)) (sorts : List Sort) (P : Type 0) → ((s : Sort) (rest : List Sort) → o ≡ Some s → ss ≡ Some rest → s ∷ rest ≡ sorts → P) → sorts_from o ss ≡ Some sorts → P
 some_sorts None None sorts P go e = absurd (nothing_there e)
 some_sorts None (Some rest) sorts P go e = absurd (nothing_there e)
 some_sorts (Some s) None sorts P go e = absurd (nothing_there e)
