@@ -4,3 +4,4 @@ pub mod Assigning
 pub mod Heaps
 pub mod Formulas
 pub mod AssignedPrograms
+pub mod Turns
