@@ -13,9 +13,9 @@ use Rattle.spv_term.specs.declared.nodes.Condition.{Condition}
 use Rattle.spv_term.specs.Arena.{Arena, tree}
 use Rattle.spv_term.proofs.NodeLemmas.{id_from}
 use Rattle.spv_term.proofs.ListLemmas.{slice_get-append_left, slice_get_push}
-use Rattle.spv_proof.specs.declared.proofs.Step.{Step}
-use Rattle.spv_proof.specs.declared.proofs.Step.TheVariants.{Given}
-use Rattle.spv_proof.specs.Accepted.{Adds, adds_known}
+use Rattle.spv_equations.specs.declared.proofs.Step.{Step}
+use Rattle.spv_equations.specs.declared.proofs.Step.TheVariants.{Given}
+use Rattle.spv_equations.specs.Accepted.{Adds, adds_known}
 use Rattle.spv_decision.specs.declared.forest.Point.{Point}
 use Rattle.spv_decision.specs.declared.hypotheses.Hypothesis.{Hypothesis}
 use Rattle.spv_decision.specs.Forms.{conjuncts, IsConjunction, IsPlain}

@@ -4,8 +4,8 @@ use Rattle.spv_logic.specs.declared.conditions.TermId.{TermId}
 use Rattle.spv_logic.specs.Formulas.{equation}
 use Rattle.spv_term.specs.declared.nodes.Condition.{Condition}
 use Rattle.spv_term.specs.Arena.{Arena, tree}
-use Rattle.spv_proof.specs.declared.proofs.Step.{Step}
-use Rattle.spv_proof.specs.declared.proofs.Step.TheVariants.{Refl}
+use Rattle.spv_equations.specs.declared.proofs.Step.{Step}
+use Rattle.spv_equations.specs.declared.proofs.Step.TheVariants.{Refl}
 use Rattle.spv_decision.specs.declared.forest.Point.{Point}
 use Rattle.spv_decision.specs.Derivations.{IsDerivation, Link, Linked, Stated, States, Turns, Chains}
 use Rattle.spv_decision.specs.Forests.{Climbs, AreLinks}

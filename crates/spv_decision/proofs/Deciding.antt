@@ -7,10 +7,10 @@ use Rattle.std.proofs.lemmas.Simd.{map-map}
 use Rattle.spv_logic.specs.declared.conditions.TermId.{TermId}
 use Rattle.spv_term.specs.declared.nodes.Condition.{Condition}
 use Rattle.spv_term.specs.Arena.{Arena, IsArena, tree, sequent}
-use Rattle.spv_proof.specs.declared.proofs.Step.{Step}
-use Rattle.spv_proof.specs.declared.proofs.Step.TheVariants.{Contra}
-use Rattle.spv_proof.specs.declared.proofs.ProofNode.{ProofNode}
-use Rattle.spv_proof.specs.Accepted.{accepts}
+use Rattle.spv_equations.specs.declared.proofs.Step.{Step}
+use Rattle.spv_equations.specs.declared.proofs.Step.TheVariants.{Contra}
+use Rattle.spv_equations.specs.declared.proofs.ProofNode.{ProofNode}
+use Rattle.spv_equations.specs.Accepted.{accepts}
 use Rattle.spv_decision.specs.declared.forest.Point.{Point}
 use Rattle.spv_decision.specs.declared.hypotheses.Hypothesis.{Hypothesis}
 use Rattle.spv_decision.specs.declared.verdict.Unproved.{Unproved}

@@ -9,11 +9,11 @@ use Rattle.spv_logic.proofs.Equality.{term_eq-refl}
 use Rattle.spv_term.specs.declared.nodes.Condition.{Condition}
 use Rattle.spv_term.specs.Arena.{Arena, tree, sequent}
 use Rattle.spv_term.proofs.ListLemmas.{slice_get-append_left, slice_get_push}
-use Rattle.spv_proof.specs.declared.proofs.Step.{Step}
-use Rattle.spv_proof.specs.declared.proofs.Step.TheVariants.{Symm, Trans}
-use Rattle.spv_proof.specs.Accepted.{Effect, Adds, Fails, effect, numbered, sides_of, exchanged, joined, on_effect, facts_on_effect, no_steps, accepts_steps, facts_of_steps}
-use Rattle.spv_proof.specs.Added.{verdict_of, facts_added}
-use Rattle.spv_proof.specs.Valued.{truth_in}
+use Rattle.spv_equations.specs.declared.proofs.Step.{Step}
+use Rattle.spv_equations.specs.declared.proofs.Step.TheVariants.{Symm, Trans}
+use Rattle.spv_equations.specs.Accepted.{Effect, Adds, Fails, effect, numbered, sides_of, exchanged, joined, on_effect, facts_on_effect, no_steps, accepts_steps, facts_of_steps}
+use Rattle.spv_equations.specs.Added.{verdict_of, facts_added}
+use Rattle.spv_equations.specs.Valued.{truth_in}
 use Rattle.spv_decision.specs.declared.forest.Point.{Point}
 use Rattle.spv_decision.specs.Derivations.{facts, IsDerivation, IsFact, Link, Turns, Chains, Derives, Linked}
 use Rattle.spv_decision.specs.Forests.{AreLinks, Climbs, stays, climbs}

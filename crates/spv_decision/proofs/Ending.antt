@@ -12,13 +12,13 @@ use Rattle.spv_logic.proofs.Equality.{term_eq-refl, left_true, right_true}
 use Rattle.spv_term.specs.declared.nodes.Condition.{Condition}
 use Rattle.spv_term.specs.Arena.{Arena, IsArena, tree}
 use Rattle.spv_term.proofs.ArenaLemmas.{same_id}
-use Rattle.spv_proof.specs.declared.proofs.Stated.TheVariants.{Is}
-use Rattle.spv_proof.specs.declared.proofs.Step.{Step}
-use Rattle.spv_proof.specs.declared.proofs.Step.TheVariants.{Given, Eval, Contra}
-use Rattle.spv_proof.specs.Accepted.{Adds, Ends as EndsPath, end_of_one, end_of_two, numbered, ends_if, impossible, is_negation_of, on_effect}
-use Rattle.spv_proof.specs.Evaluation.{negated}
-use Rattle.spv_proof.specs.Valued.{truth_in}
-use Rattle.spv_proof.specs.Added.{verdict_of}
+use Rattle.spv_equations.specs.declared.proofs.Stated.TheVariants.{Is}
+use Rattle.spv_equations.specs.declared.proofs.Step.{Step}
+use Rattle.spv_equations.specs.declared.proofs.Step.TheVariants.{Given, Eval, Contra}
+use Rattle.spv_equations.specs.Accepted.{Adds, Ends as EndsPath, end_of_one, end_of_two, numbered, ends_if, impossible, is_negation_of, on_effect}
+use Rattle.spv_equations.specs.Evaluation.{negated}
+use Rattle.spv_equations.specs.Valued.{truth_in}
+use Rattle.spv_equations.specs.Added.{verdict_of}
 use Rattle.spv_decision.specs.declared.forest.Point.{Point}
 use Rattle.spv_decision.specs.Forms.{is_equation, is_conjunction, conjuncts}
 use Rattle.spv_decision.specs.Derivations.{facts, IsDerivation, IsFact, AreFacts, Stated, Derives, Closes}

@@ -11,9 +11,9 @@ use Rattle.spv_logic.proofs.Equality.{left_true, right_true}
 use Rattle.spv_term.specs.declared.nodes.Condition.{Condition}
 use Rattle.spv_term.specs.Arena.{Arena, IsArena, tree}
 use Rattle.spv_term.proofs.NodeLemmas.{id_from}
-use Rattle.spv_proof.specs.declared.proofs.Step.{Step}
-use Rattle.spv_proof.specs.Candidates.{pair_of, PairIn}
-use Rattle.spv_proof.specs.Evaluation.{sides}
+use Rattle.spv_equations.specs.declared.proofs.Step.{Step}
+use Rattle.spv_equations.specs.Candidates.{pair_of, PairIn}
+use Rattle.spv_equations.specs.Evaluation.{sides}
 use Rattle.spv_decision.specs.declared.forest.Point.{Point}
 use Rattle.spv_decision.specs.declared.hypotheses.Hypothesis.{Hypothesis}
 use Rattle.spv_decision.specs.declared.joining.Bridge.{Bridge}

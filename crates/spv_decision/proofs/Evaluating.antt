@@ -12,8 +12,8 @@ use Rattle.spv_logic.specs.Terms.{Term, Terms, term, no_terms, terms, term_eq}
 use Rattle.spv_logic.specs.Sorts.{term_sort}
 use Rattle.spv_logic.specs.Formulas.{below, conjunction}
 use Rattle.spv_logic.proofs.Equality.{term_eq-true, term_eq-refl, left_true, right_true}
-use Rattle.spv_proof.specs.Accepted.{is_truth}
-use Rattle.spv_proof.specs.Evaluation.{negated, sides, given_by, given_negated, assignment, assigned, cites, apart, or_else, given_to, and_of, computed, opposite, bare, bare_or, clashes, evaluates}
+use Rattle.spv_equations.specs.Accepted.{is_truth}
+use Rattle.spv_equations.specs.Evaluation.{negated, sides, given_by, given_negated, assignment, assigned, cites, apart, or_else, given_to, and_of, computed, opposite, bare, bare_or, clashes, evaluates}
 use Rattle.spv_decision.specs.Forms.{is_side, is_equation, is_conjunction, conjuncts}
 use Rattle.spv_decision.specs.Formulas.{IsConjunct, whole, last, before}
 

@@ -9,9 +9,9 @@ use Rattle.spv_logic.specs.Formulas.{equation}
 use Rattle.spv_logic.proofs.Equality.{int_eq-true}
 use Rattle.spv_term.specs.Arena.{tree}
 use Rattle.spv_term.proofs.ArenaLemmas.{same_id}
-use Rattle.spv_proof.specs.declared.proofs.Step.{Step}
-use Rattle.spv_proof.specs.Accepted.{is_false, impossible}
-use Rattle.spv_proof.specs.Evaluation.{numeral_relation}
+use Rattle.spv_equations.specs.declared.proofs.Step.{Step}
+use Rattle.spv_equations.specs.Accepted.{is_false, impossible}
+use Rattle.spv_equations.specs.Evaluation.{numeral_relation}
 use Rattle.spv_decision.specs.declared.forest.Point.{Point}
 use Rattle.spv_decision.specs.Derivations.{Derives}
 use Rattle.spv_decision.specs.Forests.{IsForest, IsRoot, Leads, AreClasses, Lowers, both_of, written, written_number}

@@ -8,7 +8,7 @@ use Rattle.spv_logic.specs.declared.conditions.TermId.{TermId}
 use Rattle.spv_term.specs.declared.nodes.Condition.{Condition}
 use Rattle.spv_term.specs.Arena.{Arena, tree}
 use Rattle.spv_term.proofs.NodeLemmas.{id_from}
-use Rattle.spv_proof.specs.declared.proofs.Step.{Step}
+use Rattle.spv_equations.specs.declared.proofs.Step.{Step}
 use Rattle.spv_decision.specs.declared.forest.Point.{Point}
 use Rattle.spv_decision.specs.Derivations.{Link, Derives}
 use Rattle.spv_decision.specs.Forests.{rank_of, rank_at, Leads, stays, climbs, IsNode, IsForest, IsPoint, AreLinks, AreClasses, Joined, hung, raised, one_numeral, KeepsJoined, written}

@@ -26,8 +26,8 @@ use Rattle.spv_term.specs.declared.nodes.Condition.{Condition}
 use Rattle.spv_term.specs.Arena.{Arena, IsArena, tree, sequent}
 use Rattle.spv_term.proofs.ArenaLemmas.{same_id}
 use Rattle.spv_term.proofs.NodeLemmas.{id_from}
-use Rattle.spv_proof.specs.Accepted.{is_truth, is_bool}
-use Rattle.spv_proof.proofs.Same.{and-true}
+use Rattle.spv_equations.specs.Accepted.{is_truth, is_bool}
+use Rattle.spv_equations.proofs.Same.{and-true}
 use Rattle.spv_decision.specs.declared.verdict.Unproved.{Unproved}
 use Rattle.spv_decision.specs.Forms.{is_side, is_equation, is_conjunction, conjuncts, IsConjunction, IsPlain}
 use Rattle.spv_decision.specs.Tables.{with_new, distinct, variables_of, variables_in, atoms_of, all_atoms_of, atoms_in, number_in, value_of_number, table_valuation, Falsifies}

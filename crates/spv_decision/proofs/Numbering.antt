@@ -7,7 +7,7 @@ use Rattle.spv_term.specs.declared.nodes.Condition.{Condition}
 use Rattle.spv_term.specs.Arena.{Arena, IsArena, tree}
 use Rattle.spv_term.proofs.ArenaLemmas.{same_id}
 use Rattle.spv_term.proofs.NodeLemmas.{id_from}
-use Rattle.spv_proof.specs.declared.proofs.Step.{Step}
+use Rattle.spv_equations.specs.declared.proofs.Step.{Step}
 use Rattle.spv_decision.specs.declared.forest.Point.{Point}
 use Rattle.spv_decision.specs.declared.hypotheses.Hypothesis.{Hypothesis}
 use Rattle.spv_decision.specs.Forests.{Leads, IsRoot, AreClasses, Joined, written}

@@ -6,12 +6,12 @@ use Rattle.spv_term.specs.declared.nodes.Condition.{Condition}
 use Rattle.spv_term.specs.Arena.{Arena, tree}
 use Rattle.spv_term.proofs.ArenaLemmas.{same_id}
 use Rattle.spv_term.proofs.NodeLemmas.{id_from}
-use Rattle.spv_proof.specs.declared.proofs.Stated.TheVariants.{Is}
-use Rattle.spv_proof.specs.declared.proofs.Step.{Step}
-use Rattle.spv_proof.specs.declared.proofs.Step.TheVariants.{Eval}
-use Rattle.spv_proof.specs.Accepted.{Adds, Fails, evaluated, cited, fact_before}
-use Rattle.spv_proof.specs.Evaluation.{evaluates}
-use Rattle.spv_proof.specs.Valued.{truth_in}
+use Rattle.spv_equations.specs.declared.proofs.Stated.TheVariants.{Is}
+use Rattle.spv_equations.specs.declared.proofs.Step.{Step}
+use Rattle.spv_equations.specs.declared.proofs.Step.TheVariants.{Eval}
+use Rattle.spv_equations.specs.Accepted.{Adds, Fails, evaluated, cited, fact_before}
+use Rattle.spv_equations.specs.Evaluation.{evaluates}
+use Rattle.spv_equations.specs.Valued.{truth_in}
 use Rattle.spv_decision.specs.declared.hypotheses.Hypothesis.{Hypothesis}
 use Rattle.spv_decision.specs.Forms.{is_conjunction}
 use Rattle.spv_decision.specs.Derivations.{facts, IsFact, AreFacts, Stated as IsStated}

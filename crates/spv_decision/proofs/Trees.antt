@@ -5,7 +5,7 @@ use Rattle.std.proofs.lemmas.Bool.{false≢true}
 use Rattle.std.proofs.lemmas.Bool.Decides.{nat_tests}
 use Rattle.spv_term.proofs.NodeLemmas.{id_from}
 use Rattle.spv_logic.specs.declared.conditions.TermId.{TermId}
-use Rattle.spv_proof.specs.declared.proofs.Step.{Step}
+use Rattle.spv_equations.specs.declared.proofs.Step.{Step}
 use Rattle.spv_decision.specs.declared.forest.Point.{Point}
 use Rattle.spv_decision.specs.Forests.{rank_of, rank_at, Leads, stays, climbs, Climbs, IsForest, IsRoot}
 

@@ -5,10 +5,10 @@ use Rattle.spv_logic.specs.Terms.{Term}
 use Rattle.spv_logic.specs.Formulas.{equation}
 use Rattle.spv_term.specs.declared.nodes.Condition.{Condition}
 use Rattle.spv_term.specs.Arena.{Arena, tree}
-use Rattle.spv_proof.specs.declared.proofs.Step.{Step}
-use Rattle.spv_proof.specs.declared.proofs.Step.TheVariants.{Refl, Symm, Trans}
-use Rattle.spv_proof.specs.Accepted.{numbered, impossible}
-use Rattle.spv_proof.specs.Added.{verdict_of, facts_added}
+use Rattle.spv_equations.specs.declared.proofs.Step.{Step}
+use Rattle.spv_equations.specs.declared.proofs.Step.TheVariants.{Refl, Symm, Trans}
+use Rattle.spv_equations.specs.Accepted.{numbered, impossible}
+use Rattle.spv_equations.specs.Added.{verdict_of, facts_added}
 
 -- the facts that steps add
 abbrev pub facts : Arena → Condition → List Step → List Term

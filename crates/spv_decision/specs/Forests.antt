@@ -5,7 +5,7 @@ use Rattle.spv_logic.specs.declared.operators.Head.TheVariants.{Num}
 use Rattle.spv_logic.specs.Terms.{Term, term, no_terms}
 use Rattle.spv_term.specs.declared.nodes.Condition.{Condition}
 use Rattle.spv_term.specs.Arena.{Arena, tree}
-use Rattle.spv_proof.specs.declared.proofs.Step.{Step}
+use Rattle.spv_equations.specs.declared.proofs.Step.{Step}
 use Rattle.spv_decision.specs.declared.forest.Point.{Point}
 use Rattle.spv_decision.specs.Derivations.{IsDerivation, Link, Turns, Chains}
 

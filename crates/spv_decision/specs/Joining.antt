@@ -4,7 +4,7 @@ use Rattle.spv_logic.specs.declared.conditions.TermId.{TermId}
 use Rattle.spv_logic.specs.Formulas.{equation}
 use Rattle.spv_term.specs.declared.nodes.Condition.{Condition}
 use Rattle.spv_term.specs.Arena.{Arena, IsArena, tree}
-use Rattle.spv_proof.specs.declared.proofs.Step.{Step}
+use Rattle.spv_equations.specs.declared.proofs.Step.{Step}
 use Rattle.spv_decision.specs.declared.forest.Point.{Point}
 use Rattle.spv_decision.specs.declared.joining.Bridge.{Bridge}
 use Rattle.spv_decision.specs.declared.hypotheses.Hypothesis.{Hypothesis}

@@ -11,7 +11,7 @@ use Rattle.spv_logic.specs.Sorts.{variable_sort}
 use Rattle.spv_logic.specs.Terms.{Term, Terms, term, no_terms, terms, term_eq}
 use Rattle.spv_logic.specs.Substitution.{is_variable}
 use Rattle.spv_logic.specs.Conditions.{Meaning, Valuation, Sequent, holds}
-use Rattle.spv_proof.specs.Evaluation.{all_truths}
+use Rattle.spv_equations.specs.Evaluation.{all_truths}
 
 -- ---- the parts of a condition
 

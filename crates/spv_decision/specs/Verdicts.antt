@@ -4,7 +4,7 @@ use Rattle.spv_logic.specs.declared.conditions.TermId.{TermId}
 use Rattle.spv_logic.specs.Terms.{Term}
 use Rattle.spv_term.specs.declared.nodes.Condition.{Condition}
 use Rattle.spv_term.specs.Arena.{Arena, tree, sequent}
-use Rattle.spv_proof.specs.Accepted.{accepts, is_truth}
+use Rattle.spv_equations.specs.Accepted.{accepts, is_truth}
 use Rattle.spv_decision.specs.declared.verdict.Verdict.{Verdict}
 use Rattle.spv_decision.specs.declared.verdict.Verdict.TheVariants.{Proved, Unproved}
 use Rattle.spv_decision.specs.declared.verdict.Unproved.{Unproved as UnprovedBy}

@@ -4,14 +4,15 @@ ghost use Rattle.std.specs.Prelude.{◌≡◌, ◌++◌, ◌∷◌, [], true, fa
 ghost use Rattle.spv_term.specs.Arena.{tree};
 ghost use Rattle.spv_decision.specs.Forests.{IsForest, AreClasses};
 ghost use Rattle.spv_decision.specs.Formulas.{IsEquation, SidesJoined, SidesApart, OneApart};
-ghost use Rattle.spv_proof.specs.declared.proofs.Step.TheVariants.{Contra};
+ghost use Rattle.spv_equations.specs.declared.proofs.Step.TheVariants.{Contra};
 ghost use Rattle.spv_decision.specs.Concluding.{StatesEquation, StatesEquations, StatesWhole, Ends};
 
 use crate::derivation::add;
 use crate::forest::{Forest, root};
 use crate::formulas::two_sides;
 use crate::joining::{Bridge, equal};
-use spv_proof::{Numbers, Proof, ProofNode, Stated, Step, Steps};
+use spv_equations::{Proof, ProofNode, Stated, Step};
+use spv_list::List;
 use spv_term::{TermId, Terms};
 use std::alloc::{AllocError, Global};
 
@@ -97,7 +98,7 @@ fn state_whole(steps: &mut Vec<Step>, formula: TermId, facts: Vec<u32>) -> Resul
     }
     add(
         steps,
-        Step::Eval(Stated::Is(formula, true), Numbers::from_vec(facts)),
+        Step::Eval(Stated::Is(formula, true), List::from_vec(facts)),
     )
 }
 
@@ -135,7 +136,7 @@ pub(crate) fn proof_of(alloc: Global, steps: Vec<Step>) -> Result<Proof, AllocEr
 {
     let mut nodes = Vec::new(alloc);
     nodes.push(ProofNode {
-        steps: Steps::from_vec(steps),
+        steps: List::from_vec(steps),
         split: None,
     })?;
     Ok(Proof::new(nodes))

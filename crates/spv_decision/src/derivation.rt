@@ -3,7 +3,7 @@
 ghost use Rattle.std.specs.Prelude.{◌≡◌, ◌++◌, [], ◌∷◌, length, IfOk, OnOk};
 ghost use Rattle.spv_decision.specs.Derivations.{Turns, Chains, States};
 
-use spv_proof::Step;
+use spv_equations::Step;
 use spv_term::TermId;
 use std::alloc::AllocError;
 

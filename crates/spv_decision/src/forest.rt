@@ -6,7 +6,7 @@ ghost use Rattle.spv_decision.specs.Forests as spec;
 
 use crate::derivation::chained;
 use crate::formulas::written;
-use spv_proof::Step;
+use spv_equations::Step;
 use spv_term::{TermId, Terms};
 use std::alloc::{AllocError, Global};
 

@@ -8,7 +8,7 @@ ghost use Rattle.spv_logic.specs.Formulas.{conjunction};
 ghost use Rattle.spv_decision.specs.Formulas.{AreParts, AreSides, IsEquation, IsConjunctOf};
 ghost use Rattle.spv_decision.specs.Forests as forests;
 
-use spv_proof::candidates::sides;
+use spv_equations::candidates::sides;
 use spv_term::{Head, TermId, Terms};
 use std::alloc::{AllocError, Global};
 

@@ -10,7 +10,7 @@ ghost use Rattle.spv_decision.specs.Derivations.{IsDerivation};
 
 use crate::derivation::{add, proof_number};
 use crate::formulas::conjuncts;
-use spv_proof::Step;
+use spv_equations::Step;
 use spv_term::{Condition, TermId, Terms};
 use std::alloc::{AllocError, Global};
 

@@ -6,7 +6,7 @@ ghost use Rattle.spv_decision.specs.Joining.{IsBridge, StatesEqual, Joins};
 
 use crate::derivation::{chained, stated, turned};
 use crate::forest::{Forest, Point, climbed, point_at};
-use spv_proof::Step;
+use spv_equations::Step;
 use spv_term::TermId;
 use std::alloc::AllocError;
 

@@ -2,7 +2,7 @@
 
 ghost use Rattle.std.specs.Prelude.{◌≡◌};
 
-use spv_proof::Proof;
+use spv_equations::Proof;
 use spv_term::TermId;
 use std::marker::Model;
 

@@ -7,14 +7,3 @@ pub mod faults;
 pub mod laws;
 
 pub use faults::Fault;
-
-#[cfg(test)]
-mod tests {
-    use crate::laws::law_conditions;
-    use spv_logic::PlainWorld;
-
-    #[test]
-    fn the_law_has_a_world(_rt: HostRuntime) {
-        law_conditions(&PlainWorld);
-    }
-}

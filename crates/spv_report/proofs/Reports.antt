@@ -8,8 +8,8 @@ use Rattle.spv_meaning.specs.ProgramConditions.{AllTrueIn}
 use Rattle.spv_program.specs.Programs.{shapes}
 use Rattle.spv_meaning.proofs.AssignedPrograms.{conditions_correct}
 use Rattle.spv_form.specs.Program.{program_of}
+use Rattle.spv_equations.proofs.Soundness.{accepted_true}
 use Rattle.spv_form.proofs.Program.{form_only_assigns}
-use Rattle.spv_proof.proofs.Soundness.{accepted_true}
 use Rattle.std.proofs.lemmas.Bool.{false≢true}
 use Rattle.spv_decision.specs.declared.verdict.Verdict.{Verdict}
 use Rattle.spv_decision.specs.declared.verdict.Verdict.TheVariants.{Proved, Unproved}

@@ -12,9 +12,10 @@ use crate::conditions::conditions;
 use crate::fault::VerifyFault;
 use spv_decision::{Verdict, Verdicts, decide_all};
 use spv_form::Form;
+use spv_list::List;
 use spv_logic::Shape;
 use spv_names::Names;
-use spv_term::{Condition, Decls, Shapes, Terms, World};
+use spv_term::{Condition, Shapes, Terms, World};
 use std::alloc::Global;
 use std::marker::Model;
 
@@ -67,7 +68,7 @@ pub fn verify(alloc: Global, names: Names, form: Form) -> Result<Report, VerifyF
     let mut terms = Terms::new(
         alloc,
         Shapes::from_vec(shapes),
-        Decls::new(alloc),
+        List::new(alloc),
         MOST_TERMS,
     );
     let conditions = conditions(alloc, &mut terms, &form)?;

@@ -1,6 +1,6 @@
 use Rattle.std.proofs.Common.{ap, ◌∙◌, ◌++◌, ◌∷◌, [], true}
-use Rattle.spv_proof.specs.declared.proofs.Stated.TheVariants.{Is}
-use Rattle.spv_proof.specs.declared.proofs.Step.TheVariants.{Eval}
+use Rattle.spv_equations.specs.declared.proofs.Stated.TheVariants.{Is}
+use Rattle.spv_equations.specs.declared.proofs.Step.TheVariants.{Eval}
 use Rattle.spv_decision.proofs.Bridges.{if_both}
 use Rattle.spv_decision.proofs.Stating.{part_hypothesis}
 use Rattle.spv_decision.proofs.equating.stated_hypothesis.Goals as goal

@@ -1,5 +1,5 @@
 use Rattle.std.proofs.Common.{ap, ◌∙◌, ◌++◌, ◌∷◌, [], map, get_or}
-use Rattle.spv_proof.specs.declared.proofs.Step.TheVariants.{Given}
+use Rattle.spv_equations.specs.declared.proofs.Step.TheVariants.{Given}
 use Rattle.spv_decision.specs.Formulas.{hypothesis_of}
 use Rattle.spv_decision.proofs.Bridges.{if_on}
 use Rattle.spv_decision.proofs.Assuming.{assumed_more, one_more}

@@ -1,0 +1,8 @@
+// What forms say of terms, as contracts of functions that do nothing.
+
+ghost use Rattle.spv_atoms.specs.Laws.{TermIsWorthItsForm};
+
+/// A whole-number term is worth what its linear form is worth.
+pub fn law_form()
+    ensures { TermIsWorthItsForm }
+{}
