@@ -10,4 +10,4 @@ pub mod operators;
 pub mod types;
 
 pub use operators::{Arithmetic, BuiltIn, Comparison, Connective, Direction};
-pub use types::{Item, TypeField, TypeFields, TypeForm};
+pub use types::{Item, TypeField, TypeForm};

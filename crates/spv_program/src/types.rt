@@ -1,31 +1,14 @@
 // Types as a program declares them, and what a routine may share with the program.
 
-ghost use Rattle.std.specs.Prelude.{◌≡◌};
-
+use spv_list::List;
 use spv_logic::TypeId;
 use spv_names::Symbol;
-use std::marker::Model;
 
 /// A field of a record type: its name and its type.
 #[derive(Clone, Copy, Debug)]
 pub struct TypeField {
     pub name: Symbol,
     pub of: TypeId,
-}
-
-/// The fields of a record type, in the order of the declaration.
-#[derive(Debug, Drop)]
-pub struct TypeFields {
-    pub list: Vec<TypeField>,
-}
-
-impl Model for TypeFields {
-    ghost use Rattle.std.specs.Prelude.{List};
-    ghost use Rattle.spv_program.specs.declared.types.TypeField.{TypeField};
-
-    ghost Value = { List TypeField };
-
-    ghost view = { λ f. f.list.items };
 }
 
 /// How a type is built.
@@ -41,8 +24,8 @@ pub enum TypeForm {
     Pointer(TypeId),
     /// An array: the type of its indices, and that of its elements.
     Array(TypeId, TypeId),
-    /// A record with these fields.
-    Record(TypeFields),
+    /// A record with these fields, in the order of the declaration.
+    Record(List<TypeField>),
 }
 
 /// What a routine may share with the program.
