@@ -4,7 +4,7 @@ use Rattle.std.proofs.lemmas.Bool.{false≢true}
 use Rattle.spv_io.specs.Faults.{raised, Rose, DidNotRise}
 use Rattle.spv_io.specs.Sink.{added, AddsPrefix}
 use Rattle.spv_logic.specs.Conditions.{Meaning}
-use Rattle.spv_meaning.specs.Correctness.{Correct}
+use Rattle.spv_meaning.specs.Correct.{Correct}
 use Rattle.spv_form.specs.Program.{program_of}
 use Rattle.spv_form.proofs.Lists.{nothing}
 use Rattle.spv_report.specs.Reports.{Findings, IsReport, all_proved}

@@ -4,7 +4,7 @@ ghost use Rattle.std.specs.Prelude.{◌≡◌, ◌⊎◌, ◌<◌, ◌≤◌, �
 ghost use Rattle.spv_io.specs.Faults.{Rose, DidNotRise};
 ghost use Rattle.spv_io.specs.Sink.{added, AddsPrefix};
 ghost use Rattle.spv_io.specs.Texts.{named};
-ghost use Rattle.spv_meaning.specs.Correctness.{Correct};
+ghost use Rattle.spv_meaning.specs.Correct.{Correct};
 ghost use Rattle.spv_form.specs.Program.{program_of};
 ghost use Rattle.spv_report.specs.Reports.{IsReport, all_proved};
 ghost use Rattle.spv_listing.specs.Page.{page};
@@ -158,7 +158,7 @@ pub fn run<W: World, T: Texts, K: Sink>(
 
     // Status 0 comes only where all is proved, and the program is correct then.
     ensures proved { result.status ≡ 0 → IsThere result.report (λ r. IsTrue (all_proved r.verdicts)) }
-    ensures correct { result.status ≡ 0 → IsThere result.report (λ r. Correct (program_of r.form) W.apply) }
+    ensures correct { result.status ≡ 0 → IsThere result.report (λ r. Correct (program_of r.form) (W.apply world.now)) }
     ensures unproved { result.status ≡ 1 → IsThere result.report (λ r. all_proved r.verdicts ≡ false) }
 
     // A report is that of the told text, and each verdict in it is right.

@@ -15,3 +15,4 @@ pub mod Distinct
 pub mod Showing
 pub mod Models
 pub mod Deciding
+pub mod Untrue

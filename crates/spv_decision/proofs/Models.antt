@@ -18,6 +18,7 @@ use Rattle.spv_logic.specs.declared.types.Decl.{Decl}
 use Rattle.spv_logic.specs.declared.operators.Head.{Head}
 use Rattle.spv_logic.specs.declared.operators.Head.TheVariants as head
 use Rattle.spv_logic.specs.Values.{Number, value_eq}
+use Rattle.spv_logic.specs.Sorts.{variable_sort}
 use Rattle.spv_logic.specs.Terms.{Term, term, no_terms, terms, term_eq, eval}
 use Rattle.spv_logic.specs.Conditions.{Meaning, Valuation, holds}
 use Rattle.spv_logic.proofs.Equality.{term_eq-true, term_eq-refl, int_eq-true, left_true, right_true}
@@ -29,7 +30,7 @@ use Rattle.spv_equations.specs.Accepted.{is_truth, is_bool}
 use Rattle.spv_equations.proofs.Same.{and-true}
 use Rattle.spv_decision.specs.declared.verdict.Unproved.{Unproved}
 use Rattle.spv_decision.specs.Forms.{is_side, is_equation, is_conjunction, conjuncts, IsConjunction, IsPlain}
-use Rattle.spv_decision.specs.Tables.{with_new, distinct, variables_of, variables_in, atoms_of, all_atoms_of, atoms_in, number_in, table_valuation, Falsifies}
+use Rattle.spv_decision.specs.Tables.{with_new, distinct, variables_of, variables_in, atoms_of, all_atoms_of, atoms_in, number_in, value_of_number, table_valuation, Falsifies}
 use Rattle.spv_decision.specs.Verdicts.{branch_terms, table_terms, IsUnproved}
 use Rattle.spv_decision.specs.Forests.{written}
 use Rattle.spv_decision.specs.Formulas.{AreSides, IsEquation}
@@ -188,8 +189,8 @@ list_any_flat f q (t ∷ ts) (suc k) d h e = any_right q (f t) (flat_map f ts) (
         or_last false g = g
 
 -- what a side is
-side_of : (t : Term) → is_side t ≡ true → ((h : Head) × (t ≡ term h no_terms) × (variables_of t ≡ t ∷ []) × ((symbols : Meaning) (v : Valuation) → eval symbols v t ≡ v h)) ⊎ ((n : ℕ) × (t ≡ term (head.Num (pos n)) no_terms) × (written t ≡ Some n))
-side_of (term (head.Var x sort.Int n) no_terms) h = inl (head.Var x sort.Int n, refl, refl, λ symbols v. refl)
+side_of : (t : Term) → is_side t ≡ true → ((h : Head) × (t ≡ term h no_terms) × (variables_of t ≡ t ∷ []) × ((symbols : Meaning) (v : Valuation) → eval symbols v t ≡ v h) × (variable_sort h ≡ sort.Int)) ⊎ ((n : ℕ) × (t ≡ term (head.Num (pos n)) no_terms) × (written t ≡ Some n))
+side_of (term (head.Var x sort.Int n) no_terms) h = inl (head.Var x sort.Int n, refl, refl, (λ symbols v. refl), refl)
 side_of (term (head.Num (pos n)) no_terms) h = inr (n, refl, ap (λ b. cond b (Some n) None) h)
 side_of (term (head.Num (negsuc n)) no_terms) h = absurd (false≢true h)
 side_of _ h = absurd (false≢true h)
@@ -228,13 +229,13 @@ module _ (a : Arena) (ok : IsArena a) (numbers : List ℤ) where
         → eval symbols (table_valuation the_table) (tree a p) ≡ Number (number_at numbers p)
     side_value symbols p hp side k d within stands = by_case (side_of (tree a p) side)
       where
-        by_case : ((h : Head) × (tree a p ≡ term h no_terms) × (variables_of (tree a p) ≡ tree a p ∷ []) × ((symbols : Meaning) (v : Valuation) → eval symbols v (tree a p) ≡ v h)) ⊎ ((n : ℕ) × (tree a p ≡ term (head.Num (pos n)) no_terms) × (written (tree a p) ≡ Some n))
+        by_case : ((h : Head) × (tree a p ≡ term h no_terms) × (variables_of (tree a p) ≡ tree a p ∷ []) × ((symbols : Meaning) (v : Valuation) → eval symbols v (tree a p) ≡ v h) × (variable_sort h ≡ sort.Int)) ⊎ ((n : ℕ) × (tree a p ≡ term (head.Num (pos n)) no_terms) × (written (tree a p) ≡ Some n))
             → eval symbols (table_valuation the_table) (tree a p) ≡ Number (number_at numbers p)
         by_case (inl h) =
             let there : list_any (term_eq (tree a p)) (flat_map variables_of (map (tree a) all)) ≡ true =
             list_any_flat variables_of (term_eq (tree a p)) (map (tree a) all) k (tree a d) (let l = length-map all (tree a) in omega (arith, within, l)) (ap (λ t. list_any (term_eq (tree a p)) (variables_of t)) (get_or-map (tree a) all k d (tree a d) within) ∙ stands h.2) in
             let has : has_id vs p ≡ true = sym (any_id a ok p vs hp are.in_range) ∙ (ap (list_any (term_eq (tree a p))) are.trees ∙ there) in
-            h.3 symbols (table_valuation the_table) ∙ ap Number (ap (number_in the_table) (sym h.1) ∙ number_there (distinct_ids vs) p hp distinct_in (distinct_has a ok vs p has))
+            h.3 symbols (table_valuation the_table) ∙ ap (λ s. value_of_number s (number_in the_table (term h.0 no_terms))) h.4 ∙ ap Number (ap (number_in the_table) (sym h.1) ∙ number_there (distinct_ids vs) p hp distinct_in (distinct_has a ok vs p has))
         by_case (inr h) = ap (eval symbols (table_valuation the_table)) h.1 ∙ ap Number (sym (numerals p h.0 hp h.2))
 
     -- an equation is true where its sides have one number

@@ -8,3 +8,4 @@ pub mod Joining
 pub mod Concluding
 pub mod Numbers
 pub mod Falsifying
+pub mod Laws

@@ -1,9 +1,13 @@
 -- Tables, and what holds in them.
-use Rattle.std.specs.Prelude.{◌≡◌, Bool, true, false, List, [], ◌∷◌, ◌++◌, map, fold, ℤ, pos, IsTrue, if◌then◌else◌}
+use Rattle.std.specs.Prelude.{◌≡◌, Bool, true, false, List, [], ◌∷◌, ◌++◌, map, fold, not, ℤ, pos, IsTrue, if◌then◌else◌}
+use Rattle.std.specs.Ordering.{int_eq}
 use Rattle.std.specs.List.{list_all, list_any, flat_map}
 use Rattle.spv_logic.specs.declared.operators.Head.{Head}
 use Rattle.spv_logic.specs.declared.operators.Head.TheVariants.{Not, And, Or, Implies, Eq, True, False}
-use Rattle.spv_logic.specs.Values.{Number}
+use Rattle.spv_logic.specs.declared.types.Sort.{Sort}
+use Rattle.spv_logic.specs.declared.types.Sort.TheVariants as sort
+use Rattle.spv_logic.specs.Values.{Value, Number, Truth}
+use Rattle.spv_logic.specs.Sorts.{variable_sort}
 use Rattle.spv_logic.specs.Terms.{Term, Terms, term, no_terms, terms, term_eq}
 use Rattle.spv_logic.specs.Substitution.{is_variable}
 use Rattle.spv_logic.specs.Conditions.{Meaning, Valuation, Sequent, holds}
@@ -69,9 +73,14 @@ abbrev pub number_in : List (Term × ℤ) → Term → ℤ
 number_in [] t = pos 0
 number_in (row ∷ rows) t = if term_eq row.0 t then row.1 else number_in rows t
 
--- the valuation that gives each variable its number
+-- a number as a value of a sort: of truth values 0 is FALSE, and every other number TRUE
+abbrev pub value_of_number : Sort → ℤ → Value
+value_of_number sort.Bool z = Truth (not (int_eq z (pos 0)))
+value_of_number _ z = Number z
+
+-- the valuation that gives each variable its number, as a value of its sort
 abbrev pub table_valuation : List (Term × ℤ) → Valuation
-table_valuation table h = Number (number_in table (term h no_terms))
+table_valuation table h = value_of_number (variable_sort h) (number_in table (term h no_terms))
 
 -- the table lists the condition's variables, makes its hypotheses true and its goal false, whatever symbols mean,
 -- and the branch has the condition's atoms with their truth in the table

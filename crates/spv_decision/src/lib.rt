@@ -10,6 +10,7 @@ mod forest;
 mod formulas;
 mod hypotheses;
 mod joining;
+pub mod laws;
 mod numbers;
 mod verdict;
 

@@ -7,8 +7,16 @@ use Rattle.spv_logic.specs.declared.types.Sort.TheVariants as sort
 use Rattle.spv_logic.specs.Terms.{Term}
 use Rattle.spv_logic.specs.Formulas.{equation, conjunction}
 use Rattle.spv_logic.specs.Conditions.{Condition}
-use Rattle.spv_meaning.specs.Programs as plain
-use Rattle.spv_meaning.specs.Rules.{term_of}
+use Rattle.spv_logic.specs.declared.types.TypeId.{TypeId}
+use Rattle.spv_logic.specs.declared.operators.Head.TheVariants as head
+use Rattle.spv_program.specs.declared.operators.Comparison.TheVariants.{Equal}
+use Rattle.spv_program.specs.declared.operators.Connective.TheVariants.{And}
+use Rattle.spv_program.specs.declared.types.TypeForm.TheVariants.{Integer}
+use Rattle.spv_program.specs.Expressions as expression
+use Rattle.spv_program.specs.Formulas as formula
+use Rattle.spv_program.specs.Statements as statement
+use Rattle.spv_program.specs.Programs as plain
+use Rattle.spv_program.specs.Terms.{alone, numeral}
 use Rattle.spv_form.specs.declared.form.Side.{Side}
 use Rattle.spv_form.specs.declared.form.Side.TheVariants.{Variable, Number}
 use Rattle.spv_form.specs.declared.form.Equation.{Equation}
@@ -19,14 +27,11 @@ use Rattle.spv_form.specs.declared.form.Assignment.{Assignment}
 use Rattle.spv_form.specs.declared.form.Assignment.TheVariants.{Empty, Assign}
 use Rattle.spv_form.specs.declared.form.Form.{Form}
 
--- ---- the program
-
-abbrev pub expression_of : Side → plain.Expression
-expression_of (Variable x) = plain.Variable x.0
-expression_of (Number n) = plain.Literal (pos n)
+-- ---- the terms of its formulas
 
 abbrev pub side_term : Side → Term
-side_term s = term_of (expression_of s)
+side_term (Variable x) = alone (head.Var x sort.Int 0)
+side_term (Number n) = numeral (pos n)
 
 abbrev pub equation_term : Equation → Term
 equation_term e = equation (side_term e.left) (side_term e.right)
@@ -43,29 +48,55 @@ joined of (Bracketed e others) = with_others of (of e) others
 abbrev pub formula_term : Formula → Term
 formula_term f = joined equation_term f
 
-abbrev pub statement_of : Assignment → plain.Statement
-statement_of Empty = plain.Empty
-statement_of (Assign x s) = plain.Assign x.0 (expression_of s)
+-- ---- the program; sides of the form have no lines of their own
+
+abbrev pub place_of : Symbol → expression.Designator
+place_of x = expression.designator 1 x expression.no_selectors
+
+abbrev pub expression_of : Side → expression.Expression
+expression_of (Variable x) = expression.Read (place_of x)
+expression_of (Number n) = expression.Numeral (pos n)
+
+abbrev pub side_formula : Side → formula.Formula
+side_formula (Variable x) = formula.Named 1 x
+side_formula (Number n) = formula.Numeral (pos n)
+
+abbrev pub equation_formula : Equation → formula.Formula
+equation_formula e = formula.Compared Equal (side_formula e.left) (side_formula e.right)
+
+abbrev pub formula_of : Formula → formula.Formula
+formula_of (Plain e) = equation_formula e
+formula_of (Bracketed e others) = fold (λ f next. formula.Joined And f (equation_formula next)) (equation_formula e) others
+
+abbrev pub statement_of : Assignment → statement.Statement
+statement_of Empty = statement.Empty
+statement_of (Assign x s) = statement.Assign (place_of x) (expression_of s)
 
 -- the statements of a block one after the other
-abbrev pub block_of : List Assignment → plain.Statement
-block_of [] = plain.Empty
-block_of (a ∷ others) = plain.Sequence (statement_of a) (block_of others)
+abbrev pub block_of : List Assignment → statement.Statement
+block_of [] = statement.Empty
+block_of (a ∷ others) = statement.Sequence (statement_of a) (block_of others)
 
-abbrev pub annotation_of : Annotation → plain.Annotation
-annotation_of a = record { formula = formula_term a.formula; line = a.line }
+abbrev pub annotation_of : Annotation → formula.Annotation
+annotation_of a = record { formula = formula_of a.formula; line = a.line }
 
-abbrev pub declared_variables : List Symbol → List (ℕ × Sort)
-declared_variables variables = map (λ x. (x.0, sort.Int)) variables
+-- all variables are of the one type, INTEGER
+abbrev pub integer : TypeId
+integer = record { 0 = 0 }
+
+abbrev pub declared_variables : List Symbol → List (Symbol × TypeId)
+declared_variables variables = map (λ x. (x, integer)) variables
 
 abbrev pub program_of : Form → plain.Program
 program_of f = record {
-  shapes = [];
-  decls = [];
+  forms = Integer ∷ [];
+  titles = None ∷ [];
+  types = [];
+  constants = [];
   variables = declared_variables f.variables;
-  entry = option_map annotation_of f.entry;
-  exit = option_map annotation_of f.exit;
-  body = block_of f.body;
+  symbols = [];
+  routines = [];
+  main = record { entry = option_map annotation_of f.entry; exit = option_map annotation_of f.exit; body = block_of f.body };
 }
 
 -- ---- its condition

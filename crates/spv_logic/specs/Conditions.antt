@@ -72,6 +72,14 @@ TrueIn shapes decls world c = (v : Valuation) → IsValuation shapes v → IsTru
 abbrev pub View : Type 0
 View = Head → Option Value
 
+abbrev pub shown_or : Option Value → Option Value → Option Value
+shown_or (Some v) other = Some v
+shown_or None other = other
+
+-- what showed when a routine began, and what shows now: what shows now, and of the rest what the entry showed
+abbrev pub both : View → View → View
+both entry now h = shown_or (now h) (entry h)
+
 -- a valuation gives the names of a view their values there
 abbrev pub Shows : View → Valuation → Type 0
 Shows view v = (h : Head) → ForSome (view h) (λ w. v h ≡ w)
@@ -80,4 +88,4 @@ Shows view v = (h : Head) → ForSome (view h) (λ w. v h ≡ w)
 -- no valuation that agrees with both makes its goal false and each of its hypotheses true
 abbrev pub TrueAt : List Shape → List Decl → Meaning → Sequent → View → View → Type 0
 TrueAt shapes decls world c entry now =
-    (v : Valuation) → IsValuation shapes v → Shows entry v → Shows now v → IsTrue (follows (answers shapes decls world) v c)
+    (v : Valuation) → IsValuation shapes v → Shows (both entry now) v → IsTrue (follows (answers shapes decls world) v c)

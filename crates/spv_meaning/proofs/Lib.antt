@@ -1,3 +1,7 @@
 pub mod Maps
-pub mod Views
-pub mod Rules
+pub mod MainViews
+pub mod Assigning
+pub mod Heaps
+pub mod Formulas
+pub mod AssignedPrograms
+pub mod Turns

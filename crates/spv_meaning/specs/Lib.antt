@@ -1,6 +1,12 @@
-pub mod States
-pub mod Programs
-pub mod Runs
-pub mod Correctness
-pub mod Rules
+pub mod Places
+pub mod Views
+pub mod Outcomes
+pub mod Levels
+pub mod Evaluation
+pub mod Walks
+pub mod Starts
+pub mod Correct
+pub mod Before
+pub mod ProgramConditions
+pub mod Assignments
 pub mod Laws

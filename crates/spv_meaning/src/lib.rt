@@ -3,4 +3,7 @@
 //! The definitions are over plain trees of programs (in `specs/`), into which the code's trees fold.
 #![tactic(auto)]
 
+pub mod faults;
 pub mod laws;
+
+pub use faults::Fault;

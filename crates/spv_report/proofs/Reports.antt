@@ -4,10 +4,12 @@ use Rattle.spv_logic.specs.Sorts.{shapes_ok}
 use Rattle.spv_logic.specs.Conditions.{Meaning}
 use Rattle.spv_term.specs.declared.nodes.Condition.{Condition}
 use Rattle.spv_term.specs.Arena.{Arena, tree, sequent}
-use Rattle.spv_meaning.specs.Rules.{AllTrueIn}
-use Rattle.spv_meaning.proofs.Rules.{conditions_correct}
+use Rattle.spv_meaning.specs.ProgramConditions.{AllTrueIn}
+use Rattle.spv_program.specs.Programs.{shapes}
+use Rattle.spv_meaning.proofs.AssignedPrograms.{conditions_correct}
 use Rattle.spv_form.specs.Program.{program_of}
 use Rattle.spv_equations.proofs.Soundness.{accepted_true}
+use Rattle.spv_form.proofs.Program.{form_only_assigns}
 use Rattle.std.proofs.lemmas.Bool.{false≢true}
 use Rattle.spv_decision.specs.declared.verdict.Verdict.{Verdict}
 use Rattle.spv_decision.specs.declared.verdict.Verdict.TheVariants.{Proved, Unproved}
@@ -28,6 +30,6 @@ proved_correct r is world proved =
     let p = program_of r.form in
     let ok : shapes_ok r.arena.shapes ≡ true = ap shapes_ok is.shapes in
     let here : AllTrueIn r.arena.shapes r.arena.decls world (map (claimed r.arena) r.conditions) = all_true r.arena world ok r.conditions r.verdicts is.verdicts proved in
-    let there : AllTrueIn [] r.arena.decls world (map (claimed r.arena) r.conditions) = subst (λ shapes. AllTrueIn shapes r.arena.decls world (map (claimed r.arena) r.conditions)) is.shapes here in
-    let all : AllTrueIn [] [] world (map (claimed r.arena) r.conditions) = subst (λ decls. AllTrueIn [] decls world (map (claimed r.arena) r.conditions)) is.decls there in
-    conditions_correct p world is.formed (subst (AllTrueIn [] [] world) is.conditions all)
+    let there : AllTrueIn (shapes p) r.arena.decls world (map (claimed r.arena) r.conditions) = subst (λ shapes. AllTrueIn shapes r.arena.decls world (map (claimed r.arena) r.conditions)) is.shapes here in
+    let all : AllTrueIn (shapes p) [] world (map (claimed r.arena) r.conditions) = subst (λ decls. AllTrueIn (shapes p) decls world (map (claimed r.arena) r.conditions)) is.decls there in
+    conditions_correct p world is.formed (form_only_assigns r.form) (subst (AllTrueIn (shapes p) [] world) is.conditions all)

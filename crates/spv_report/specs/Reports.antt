@@ -5,9 +5,10 @@ use Rattle.spv_logic.specs.Conditions as logic
 use Rattle.spv_logic.specs.Conditions.{Meaning}
 use Rattle.spv_term.specs.declared.nodes.Condition.{Condition}
 use Rattle.spv_term.specs.Arena.{Arena, sequent}
-use Rattle.spv_meaning.specs.Programs.{well_formed}
-use Rattle.spv_meaning.specs.Rules.{conditions_of}
-use Rattle.spv_meaning.specs.Correctness.{Correct}
+use Rattle.spv_program.specs.Typing.{well_typed}
+use Rattle.spv_program.specs.Programs.{shapes}
+use Rattle.spv_meaning.specs.ProgramConditions.{conditions_of}
+use Rattle.spv_meaning.specs.Correct.{Correct}
 use Rattle.spv_form.specs.declared.form.Form.{Form}
 use Rattle.spv_form.specs.Program.{program_of}
 use Rattle.spv_decision.specs.declared.verdict.Verdict.{Verdict}
@@ -29,8 +30,8 @@ claimed a c = record { claim = sequent a c; origin = c.origin }
 
 -- what is true of every report: its conditions are those of its program, and its verdicts are right
 pub record IsReport (r : Findings) : Type 0 where
-  pub formed : IsTrue (well_formed (program_of r.form))
-  pub shapes : r.arena.shapes ≡ []
+  pub formed : IsTrue (well_typed (program_of r.form))
+  pub shapes : r.arena.shapes ≡ shapes (program_of r.form)
   pub decls : r.arena.decls ≡ []
   pub conditions : map (claimed r.arena) r.conditions ≡ conditions_of (program_of r.form)
   pub plain : All (IsPlain r.arena) r.conditions

@@ -5,7 +5,7 @@ ghost use Rattle.spv_logic.specs.declared.types.Sort.TheVariants as sort;
 ghost use Rattle.spv_logic.specs.Sorts as logic;
 ghost use Rattle.spv_logic.specs.Terms.{term};
 ghost use Rattle.spv_logic.specs.Formulas.{conjunction};
-ghost use Rattle.spv_meaning.specs.Rules.{conditions_of};
+ghost use Rattle.spv_meaning.specs.ProgramConditions.{conditions_of};
 ghost use Rattle.spv_form.specs.Program.{side_term, equation_term, with_others, with_sides, term_with, given_by, program_of, condition_of};
 ghost use Rattle.spv_form.specs.Indexed.{replaced_in};
 ghost use Rattle.spv_form.specs.Sizes.{equations_in, equations_of, equations_of_form};

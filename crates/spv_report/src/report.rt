@@ -2,7 +2,7 @@
 
 ghost use Rattle.std.specs.Prelude.{◌≡◌, ◌<◌, IsTrue, IfOk};
 ghost use Rattle.spv_logic.specs.Conditions.{Meaning};
-ghost use Rattle.spv_meaning.specs.Programs.{well_formed};
+ghost use Rattle.spv_program.specs.Typing.{well_typed};
 ghost use Rattle.spv_form.specs.Program.{program_of};
 ghost use Rattle.spv_form.specs.Sizes.{equations_of_form};
 ghost use Rattle.spv_report.specs.Reports as reports;
@@ -13,6 +13,7 @@ use crate::fault::VerifyFault;
 use spv_decision::{Verdict, Verdicts, decide_all};
 use spv_form::Form;
 use spv_list::List;
+use spv_logic::Shape;
 use spv_names::Names;
 use spv_term::{Condition, Shapes, Terms, World};
 use std::alloc::Global;
@@ -57,12 +58,19 @@ const MOST_TERMS: u32 = 4_294_967_295;
 /// The report on a program of the form: its conditions are made backwards through the block, and each
 /// is decided.
 pub fn verify(alloc: Global, names: Names, form: Form) -> Result<Report, VerifyFault>
-    requires formed { IsTrue (well_formed (program_of form)) }
+    requires formed { IsTrue (well_typed (program_of form)) }
     requires few { equations_of_form form < 4194304 }
     ensures names { IfOk result (λ r. r.names ≡ names) }
     ensures form { IfOk result (λ r. r.form ≡ form) }
 {
-    let mut terms = Terms::new(alloc, Shapes::new(alloc), List::new(alloc), MOST_TERMS);
+    let mut shapes = Vec::new(alloc);
+    shapes.push(Shape::Int)?;
+    let mut terms = Terms::new(
+        alloc,
+        Shapes::from_vec(shapes),
+        List::new(alloc),
+        MOST_TERMS,
+    );
     let conditions = conditions(alloc, &mut terms, &form)?;
     let verdicts = decide_all(alloc, &terms, &conditions)?;
     Ok(Report {
@@ -128,10 +136,10 @@ pub fn all_proved(verdicts: &[Verdict]) -> bool
 }
 
 /// Where every condition of a report is proved, its program is correct: in every world at once, and in
-/// the world of a type.
+/// one that is at hand.
 pub fn law_report<W: World>(report: &Report, world: &W)
     ensures every_world { (m : Meaning) → ProvedIsCorrectIn report.now m }
-    ensures this_world { ProvedIsCorrectIn report.now W.apply }
+    ensures this_world { ProvedIsCorrectIn report.now (W.apply world.now) }
 {
     report.law_findings();
     let _ = world;

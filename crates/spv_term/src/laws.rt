@@ -13,7 +13,7 @@ pub fn law_worth()
 
 /// In every world a term is worth what its head makes of what its arguments are worth.
 pub fn law_make<W: World>(world: &W)
-    ensures { (a : Arena) → IsArena a → IsWorthOfHeads a (answers a.shapes a.decls W.apply) }
+    ensures { (a : Arena) → IsArena a → IsWorthOfHeads a (answers a.shapes a.decls (W.apply world.now)) }
 {}
 
 /// Equal terms of an arena have one id.

@@ -1,11 +1,11 @@
 use Rattle.std.proofs.Common.{Err, ap}
-use Rattle.spv_form.proofs.Program.{form_well_formed}
+use Rattle.spv_form.proofs.Program.{form_well_typed}
 use Rattle.spv_cli.specs.Runs.{of_form, IsCause}
 use Rattle.spv_cli.proofs.Refused.{report_is, form_cause, at_fault}
 use Rattle.spv_cli.proofs.reading.report_of.Goals as goal
 
 pub verify-requires-clause-formed : goal.verify-requires-clause-formed
-verify-requires-clause-formed c = form_well_formed c.known_numbers-known.result c.in_ok-form.form c.in_ok-form.ensures.form.names
+verify-requires-clause-formed c = form_well_typed c.known_numbers-known.result c.in_ok-form.form c.in_ok-form.ensures.form.names
 
 pub returns-in_err-form-clause-cause : goal.returns-in_err-form-clause-cause
 returns-in_err-form-clause-cause c =

@@ -2,7 +2,7 @@ use Rattle.spv_cli.proofs.Promises.{correct, page_written, part_written, refused
 use Rattle.spv_cli.proofs.running.run.Goals as goal
 
 pub returns-clause-correct : goal.returns-clause-correct
-returns-clause-correct g c = correct _ _ c.attempt.result g.W.World.apply _ c.attempt.ensures
+returns-clause-correct g c = correct _ _ c.attempt.result (g.W.World.apply c.args.world.now) _ c.attempt.ensures
 
 pub returns-clause-page : goal.returns-clause-page
 returns-clause-page g c = page_written _ _ c.attempt.result _ c.attempt.ensures

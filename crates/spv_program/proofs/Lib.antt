@@ -1,0 +1,3 @@
+pub mod SortFacts
+pub mod FormulaSorting
+pub mod ExpressionSorting

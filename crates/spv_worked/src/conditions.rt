@@ -1,0 +1,32 @@
+// The conditions of small programs, each the contract of a function that does nothing.
+
+ghost use Rattle.spv_worked.specs.CallConditions as calls;
+ghost use Rattle.spv_worked.specs.StatementConditions as statements;
+
+/// The conditions of tests and loops.
+pub fn law_tests()
+    ensures nested_if { statements.NestedIf }
+    ensures case_arms { statements.CaseArms }
+    ensures while_with_assert { statements.WhileWithAssert }
+    ensures while_renames { statements.WhileRenames }
+    ensures repeat_tests { statements.RepeatTests }
+    ensures for_counts { statements.ForCounts }
+    ensures for_counts_down { statements.ForCountsDown }
+{}
+
+/// The conditions of changed elements, changed cells and new ones.
+pub fn law_parts()
+    ensures elements_are_stored { statements.ElementsAreStored }
+    ensures cells_are_one_class { statements.CellsAreOneClass }
+    ensures new_cells_differ { statements.NewCellsDiffer }
+{}
+
+/// The conditions of calls and of routines.
+pub fn law_calls_and_routines()
+    ensures swap { calls.Swap }
+    ensures fill { calls.Fill }
+    ensures step { calls.Step }
+    ensures factorial { calls.Factorial }
+    ensures twice { calls.Twice }
+    ensures call_in_a_test { calls.CallInATest }
+{}
