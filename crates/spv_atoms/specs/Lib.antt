@@ -1,2 +1,5 @@
 pub mod Forms
+pub mod Tables
+pub mod Atoms
+pub mod Shape
 pub mod Laws

@@ -2,5 +2,7 @@
 #![tactic(auto)]
 
 mod laws;
+pub mod proofs;
 
-pub use laws::law_form;
+pub use laws::{law_form, law_truth};
+pub use proofs::{Proof, ProofNode, Relation, Split, Stated, Step};
