@@ -1,7 +1,6 @@
 -- Truth values that are computed are right where those that are given are.
-use Rattle.std.proofs.Common.{◌≡◌, ℕ, zero, suc, Bool, true, false, cond, ◌&&◌, ◌||◌, not, List, [], ◌∷◌, ◌++◌, ℤ, refl, sym, ap, ◌∙◌, subst, Option, Some, None, arith}
+use Rattle.std.proofs.Common.{◌≡◌, Bool, true, false, cond, ◌&&◌, ◌||◌, not, List, [], ◌∷◌, ◌++◌, ℤ, refl, sym, ap, ◌∙◌, subst, Option, Some, None}
 use Rattle.std.proofs.lemmas.Bool.{false≢true}
-use Rattle.std.proofs.lemmas.Int.{ints}
 use Rattle.std.specs.Int.RustNames.{int_lt}
 use Rattle.std.specs.Ordering.{int_eq}
 use Rattle.spv_logic.specs.declared.types.Sort.{Sort}
@@ -14,7 +13,7 @@ use Rattle.spv_logic.specs.Values.{Value, Number, Truth, value_eq, bool_eq, numb
 use Rattle.spv_logic.specs.Terms.{Term, Terms, term, no_terms, terms, term_eq, eval, eval_all, first, second}
 use Rattle.spv_logic.specs.Sorts.{shapes_ok, fits, term_sort}
 use Rattle.spv_logic.specs.Conditions.{Meaning, Valuation, IsValuation, answers, holds}
-use Rattle.spv_logic.proofs.Equality.{left_true, right_true, value_eq-true, value_eq-refl, bool_eq-refl, term_eq-true, sort_eq-true}
+use Rattle.spv_logic.proofs.Equality.{left_true, right_true, term_eq-true, sort_eq-true}
 use Rattle.spv_logic.proofs.Sorting.{eval-fits}
 use Rattle.spv_atoms.specs.Tables.{not_of, and_of, or_of, implied, same_of, numeral, compare_known, numeral_relation, all_truths, first_of, second_of, equation_value, combined, or_else, computed, values, assigned, truth}
 use Rattle.spv_atoms.specs.Laws.{AllHave}
@@ -200,7 +199,6 @@ module _ (shapes : List Shape) (ok : shapes_ok shapes ≡ true) (decls : List De
       first_known = known_or_else (true_in t) (given t) (computed (is_truth shapes decls) given t) (h t) (computed_known given h t);
       second_known = (values_known given h ts).first_known;
     }
-
 
   -- a known value is that of the formula
   pub truth_known : (known : List (Term × Bool)) (t : Term) → Agrees known → Known (true_in t) (truth (is_truth shapes decls) known t)

@@ -1,16 +1,16 @@
 -- A term is worth what its form is worth.
-use Rattle.std.proofs.Common.{◌≡◌, ℕ, Bool, true, false, cond, List, [], ◌∷◌, ℤ, pos, negsuc, ◌+ℤ◌, ◌-ℤ◌, ◌*ℤ◌, refl, sym, ap, ◌∙◌, Option, Some, None, arith}
+use Rattle.std.proofs.Common.{◌≡◌, Bool, true, false, cond, List, [], ◌∷◌, ℤ, pos, negsuc, ◌+ℤ◌, ◌-ℤ◌, ◌*ℤ◌, refl, sym, ap, ◌∙◌, Option, Some, None, arith}
 use mathlib.Core.Path.{ap₂}
 use Rattle.std.proofs.lemmas.Int.{ints}
 use Rattle.std.proofs.Math.IntN.{*ℤ_comm}
-use Rattle.spv_whole.proofs.Ring.{by_diff2, by_diff3, diff, diff_same, diff-+ℤ, diff-*ℤ, *ℤ_assoc, *ℤ-+ℤ}
+use Rattle.spv_whole.proofs.Ring.{*ℤ_assoc, *ℤ-+ℤ}
 use Rattle.spv_logic.specs.declared.operators.Head.{Head}
 use Rattle.spv_logic.specs.declared.operators.Head.TheVariants.{Num, Add, Sub, Mul}
-use Rattle.spv_logic.specs.Values.{Value, Number, number_of}
+use Rattle.spv_logic.specs.Values.{number_of}
 use Rattle.spv_logic.specs.Terms.{Term, Terms, term, no_terms, terms, term_eq, eval, eval_all, worth}
 use Rattle.spv_logic.specs.Conditions.{Meaning, Valuation}
 use Rattle.spv_logic.proofs.Equality.{term_eq-true}
-use Rattle.spv_atoms.specs.Forms.{Form, with_part, with_parts, constant_form, own_part, add_multiple, plus, minus, multiple, both_known, constant_over, constant_value, constant_values, product_form, linear_form, form_or_own, form, forms, parts_worth, form_worth}
+use Rattle.spv_atoms.specs.Forms.{Form, with_part, with_parts, constant_form, add_multiple, plus, minus, multiple, both_known, constant_over, constant_value, constant_values, product_form, linear_form, form_or_own, form, forms, parts_worth, form_worth}
 
 -- ---- identities
 
