@@ -1,2 +1,3 @@
 pub mod Worth
 pub mod Truths
+pub mod Walks

@@ -1,5 +1,6 @@
 pub mod Forms
 pub mod Tables
 pub mod Atoms
+pub mod Order
 pub mod Shape
 pub mod Laws

@@ -3,6 +3,8 @@
 
 mod laws;
 pub mod proofs;
+mod sets;
+mod walk;
 
 pub use laws::{law_form, law_truth};
 pub use proofs::{Proof, ProofNode, Relation, Split, Stated, Step};
