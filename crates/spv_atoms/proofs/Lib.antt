@@ -1,3 +1,6 @@
 pub mod Worth
 pub mod Truths
 pub mod Walks
+pub mod Members
+pub mod Leaves
+pub mod Adding

@@ -1,5 +1,5 @@
 -- Going through terms by their ids, over plain variables.
-use Rattle.std.proofs.Common.{◌≡◌, ◌≢◌, ℕ, zero, suc, ◌+◌, ◌*◌, ◌-◌, ◌<◌, ◌≤◌, Bool, true, false, cond, ◌&&◌, ◌||◌, List, [], ◌∷◌, ◌++◌, map, length, drop, slice_get, refl, sym, ap, ◌∙◌, subst, Some, None, nat_eq, get_or, Result, Ok, Err, OnOk, arith}
+use Rattle.std.proofs.Common.{◌≡◌, ℕ, suc, ◌+◌, ◌*◌, ◌<◌, Bool, true, false, cond, ◌||◌, List, [], ◌∷◌, ◌++◌, map, length, drop, slice_get, refl, sym, ap, ◌∙◌, subst, Some, nat_eq, get_or, Result, Ok, Err, OnOk, arith}
 use Rattle.std.specs.List.{list_any}
 use Rattle.std.specs.Prelude.{pos, slice_index_or}
 use Rattle.std.proofs.lemmas.Bool.{false≢true, eq-eqb, eqb-true}
@@ -8,8 +8,7 @@ use Rattle.std.proofs.lemmas.Option.{slice_get-get_or}
 use Rattle.spv_logic.specs.declared.conditions.TermId.{TermId}
 use Rattle.spv_logic.specs.declared.types.Sort.{Sort}
 use Rattle.spv_logic.specs.declared.types.Sort.TheVariants as sort
-use Rattle.spv_logic.specs.Terms.{Term, Terms, term, no_terms, terms, term_eq, sort_eq}
-use Rattle.spv_logic.specs.Sorts.{term_sort}
+use Rattle.spv_logic.specs.Terms.{Term, Terms, term, no_terms, term_eq, sort_eq}
 use Rattle.spv_logic.proofs.Equality.{term_eq-true, term_eq-refl}
 use Rattle.spv_term.specs.declared.nodes.Node.{Node}
 use Rattle.spv_logic.specs.declared.operators.Head.TheVariants.{Num}

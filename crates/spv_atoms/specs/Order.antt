@@ -11,7 +11,7 @@ use Rattle.spv_atoms.specs.declared.walk.Through.{Through}
 use Rattle.spv_atoms.specs.declared.walk.Through.TheVariants.{Connectives, Sums}
 use Rattle.spv_atoms.specs.declared.walk.Work.{Work}
 use Rattle.spv_atoms.specs.declared.walk.Work.TheVariants.{Visit, Finish}
-use Rattle.spv_atoms.specs.Atoms.{is_truth, is_connective, with_term}
+use Rattle.spv_atoms.specs.Atoms.{is_truth, is_connective, is_atom, only_if, with_term, with_terms}
 
 abbrev mutual
   -- the terms with a term and those that it is gone through to, each where it is new and behind its arguments
@@ -100,3 +100,24 @@ pub record IsStep (a : Arena) (through : Through) (w : Work) (works : List Work)
 -- a term and the visits of its arguments are put in front of all other works
 abbrev pub Inside : Arena → TermId → List Work → List Work → Type 0
 Inside a t works left = (n : Node) → slice_get a.nodes t.0 ≡ Some n → left ≡ (works ++ Finish t ∷ []) ++ visits n.args
+
+-- ---- atoms that are added
+
+-- the same ids are among both
+abbrev pub SameMembers : List TermId → List TermId → Type 0
+SameMembers known ids = (t : TermId) → list_any (same_id t) known ≡ list_any (same_id t) ids
+
+-- a term is added where it is an atom and new
+pub record IsAdded (a : Arena) (t : TermId) (out known more : List TermId) : Type 0 where
+  pub atoms : map (tree a) more ≡ with_terms (map (tree a) out) (only_if (is_atom (is_truth a.shapes a.decls) (tree a t)) (tree a t))
+  pub same : SameMembers known more
+  pub in_range : AllBelow (length a.nodes) more
+
+-- the terms that pass a test, in order
+abbrev pub passing : (Term → Bool) → List Term → List Term
+passing test [] = []
+passing test (t ∷ ts) = only_if (test t) t ++ passing test ts
+
+-- terms with those of these that are atoms and new
+abbrev pub added : Arena → List TermId → List TermId → List Term
+added a out ts = with_terms (map (tree a) out) (passing (is_atom (is_truth a.shapes a.decls)) (map (tree a) ts))

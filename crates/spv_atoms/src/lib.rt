@@ -1,10 +1,12 @@
 //! Linear forms and atoms of terms, and proofs as data.
 #![tactic(auto)]
 
+mod formulas;
 mod laws;
 pub mod proofs;
 mod sets;
 mod walk;
 
+pub use formulas::{atoms, is_atom};
 pub use laws::{law_form, law_truth};
 pub use proofs::{Proof, ProofNode, Relation, Split, Stated, Step};
