@@ -4,3 +4,5 @@ pub mod Walks
 pub mod Members
 pub mod Leaves
 pub mod Adding
+pub mod Layers
+pub mod Values

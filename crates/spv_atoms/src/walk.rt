@@ -43,7 +43,7 @@ pub(crate) fn is_formula(terms: &Terms, t: TermId) -> bool
 }
 
 // Whether terms are all of sort Bool.
-fn all_formulas(terms: &Terms, args: &[TermId]) -> bool
+pub(crate) fn all_formulas(terms: &Terms, args: &[TermId]) -> bool
     requires { AllBelow (length terms.now.nodes) args.now }
     ensures { result ≡ all_truths (is_truth terms.now.shapes terms.now.decls) (trees terms.now args.now) }
 {
@@ -56,7 +56,7 @@ fn all_formulas(terms: &Terms, args: &[TermId]) -> bool
 }
 
 // Whether a head over these terms is a connective.
-fn connects(terms: &Terms, head: Head, args: &[TermId]) -> bool
+pub(crate) fn connects(terms: &Terms, head: Head, args: &[TermId]) -> bool
     requires { AllBelow (length terms.now.nodes) args.now }
     ensures { result
         ≡ spec.connects (all_truths (is_truth terms.now.shapes terms.now.decls) (trees terms.now args.now)) head }
