@@ -10,12 +10,3 @@ mod running;
 pub use refusal::Refusal;
 pub use running::{Ran, run};
 pub use spv_report::{Report, law_report};
-
-#[cfg(test)]
-mod form_tests;
-#[cfg(test)]
-mod outside_tests;
-#[cfg(test)]
-mod syntax_tests;
-#[cfg(test)]
-mod tests;

@@ -11,7 +11,8 @@ use crate::derivation::add;
 use crate::forest::{Forest, root};
 use crate::formulas::two_sides;
 use crate::joining::{Bridge, equal};
-use spv_equations::{Numbers, Proof, ProofNode, Stated, Step, Steps};
+use spv_equations::{Proof, ProofNode, Stated, Step};
+use spv_list::List;
 use spv_term::{TermId, Terms};
 use std::alloc::{AllocError, Global};
 
@@ -97,7 +98,7 @@ fn state_whole(steps: &mut Vec<Step>, formula: TermId, facts: Vec<u32>) -> Resul
     }
     add(
         steps,
-        Step::Eval(Stated::Is(formula, true), Numbers::from_vec(facts)),
+        Step::Eval(Stated::Is(formula, true), List::from_vec(facts)),
     )
 }
 
@@ -135,7 +136,7 @@ pub(crate) fn proof_of(alloc: Global, steps: Vec<Step>) -> Result<Proof, AllocEr
 {
     let mut nodes = Vec::new(alloc);
     nodes.push(ProofNode {
-        steps: Steps::from_vec(steps),
+        steps: List::from_vec(steps),
         split: None,
     })?;
     Ok(Proof::new(nodes))

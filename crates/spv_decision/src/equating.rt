@@ -11,17 +11,18 @@ use crate::forest::{Forest, root};
 use crate::formulas::two_sides;
 use crate::hypotheses::Hypothesis;
 use crate::joining::{across, join};
-use spv_equations::{Numbers, Stated, Step};
+use spv_equations::{Stated, Step};
+use spv_list::List;
 use spv_term::Terms;
 use std::alloc::{AllocError, Global};
 
 // One number as a list.
-fn single(alloc: Global, number: u32) -> Result<Numbers, AllocError>
+fn single(alloc: Global, number: u32) -> Result<List<u32>, AllocError>
     ensures { IfOk result (λ ns. ns ≡ number ∷ []) }
 {
     let mut list = Vec::new(alloc);
     list.push(number)?;
-    Ok(Numbers::from_vec(list))
+    Ok(List::from_vec(list))
 }
 
 // The fact that a hypothesis states: the formula that it comes from, or one of its equations.

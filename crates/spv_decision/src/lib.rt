@@ -15,6 +15,3 @@ mod verdict;
 
 pub use decision::{decide, decide_all};
 pub use verdict::{Branch, Table, Unproved, Verdict, Verdicts};
-
-#[cfg(test)]
-mod tests;

@@ -8,9 +8,7 @@ mod numerals;
 pub mod proofs;
 mod steps;
 mod tables;
-#[cfg(test)]
-mod tests;
 mod valued;
 
 pub use checker::{CheckStop, check};
-pub use proofs::{Numbers, Proof, ProofNode, Split, Stated, Step, Steps};
+pub use proofs::{Proof, ProofNode, Split, Stated, Step};

@@ -3,39 +3,10 @@
 ghost use Rattle.std.specs.Prelude.{◌≡◌, IsTrue};
 ghost use Rattle.spv_equations.specs.Shape.{is_tree};
 
+use spv_list::List;
 use spv_logic::TermId;
 use std::alloc::Global;
 use std::marker::Model;
-
-/// Numbers in a proof: of facts, from 1, or of nodes, from 0.
-#[derive(Debug, Drop)]
-pub struct Numbers {
-    list: Vec<u32>,
-}
-
-impl Model for Numbers {
-    ghost use Rattle.std.specs.Prelude.{List, ℕ};
-
-    ghost Value = { List ℕ };
-
-    ghost view = { λ n. n.list.items };
-}
-
-impl Numbers {
-    /// The numbers of a vector, in its order.
-    pub fn from_vec(list: Vec<u32>) -> Numbers
-        ensures { result ≡ list.items }
-    {
-        Numbers { list }
-    }
-
-    /// The numbers as a slice.
-    pub fn as_slice(&self) -> &[u32]
-        ensures { result.now ≡ self.now }
-    {
-        self.list.as_slice()
-    }
-}
 
 /// What an evaluation states.
 #[derive(Clone, Copy, Debug)]
@@ -58,53 +29,22 @@ pub enum Step {
     /// From an equation of two terms, and one of the second with a third, that of the first with the third.
     Trans(u32, u32),
     /// What follows from these facts by the tables of the connectives and the order of numerals.
-    Eval(Stated, Numbers),
+    Eval(Stated, List<u32>),
     /// The end of the path: a fact and its negation, or one fact that is never true.
     Contra(u32, Option<u32>),
-}
-
-/// The steps of a node, in order.
-#[derive(Debug, Drop)]
-pub struct Steps {
-    list: Vec<Step>,
-}
-
-impl Model for Steps {
-    ghost use Rattle.std.specs.Prelude.{List};
-    ghost use Rattle.spv_equations.specs.declared.proofs.Step.{Step};
-
-    ghost Value = { List Step };
-
-    ghost view = { λ s. s.list.items };
-}
-
-impl Steps {
-    /// The steps of a vector, in its order.
-    pub fn from_vec(list: Vec<Step>) -> Steps
-        ensures { result ≡ list.items }
-    {
-        Steps { list }
-    }
-
-    /// The steps as a slice.
-    pub fn as_slice(&self) -> &[Step]
-        ensures { result.now ≡ self.now }
-    {
-        self.list.as_slice()
-    }
 }
 
 /// A case split: the atom, and the places of the nodes of its cases.
 #[derive(Debug, Drop)]
 pub struct Split {
     pub atom: TermId,
-    pub parts: Numbers,
+    pub parts: List<u32>,
 }
 
 /// A node of a proof: its steps, and where they do not end the path, a split.
 #[derive(Debug, Drop)]
 pub struct ProofNode {
-    pub steps: Steps,
+    pub steps: List<Step>,
     pub split: Option<Split>,
 }
 

@@ -14,6 +14,3 @@ pub use form::{
 };
 pub use reading::read;
 pub use replacements::Replacements;
-
-#[cfg(test)]
-mod tests;

@@ -7,6 +7,3 @@ mod number;
 
 pub use frac::{Frac, Op, TooWide};
 pub use law::{law_add, law_cmp, law_frac, law_mul, law_value};
-
-#[cfg(test)]
-mod tests;

@@ -65,8 +65,9 @@ fn file_bytes<R: Files + AllocGlobal>(rt: &R, name: &str, most: usize) -> Result
     first_bytes(rt.alloc(), &mut file, most)
 }
 
-// The first bytes that a reader has left, up to `most` of them.
-pub(crate) fn first_bytes<R: Read>(
+/// The first bytes that a reader has left, up to `most` of them. An error of the reader is a failure,
+/// whatever came before it.
+pub fn first_bytes<R: Read>(
     alloc: Global,
     reader: &mut R,
     most: usize,

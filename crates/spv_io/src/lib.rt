@@ -20,6 +20,3 @@ pub use memory_texts::MemoryTexts;
 pub use sink::Sink;
 pub use std_sink::StdSink;
 pub use texts::Texts;
-
-#[cfg(test)]
-mod tests;

@@ -42,6 +42,3 @@ impl From<AllocError> for LexFault {
         LexFault::Memory
     }
 }
-
-#[cfg(test)]
-mod tests;

@@ -14,8 +14,11 @@ pub struct List<T> {
 
 impl<T> Model for List<T> {
     ghost use Rattle.std.specs.Prelude.{List};
+    ghost use Rattle.std.specs.Coded.{coded_list};
 
     ghost Value = { List T };
+
+    ghost coded = { coded_list T.code };
 
     ghost view = { λ l. l.items.items };
 }

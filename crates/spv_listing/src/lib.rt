@@ -5,8 +5,3 @@ mod listing;
 mod printed;
 
 pub use listing::page;
-
-#[cfg(test)]
-mod term_tests;
-#[cfg(test)]
-mod tests;

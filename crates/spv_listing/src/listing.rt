@@ -91,7 +91,7 @@ fn push_condition(
 }
 
 // A condition: its number and origin, its hypotheses and its goal.
-pub(crate) fn push_claim(
+pub fn push_claim(
     out: &mut Vec<u8>,
     names: &Names,
     titles: &[Option<Symbol>],

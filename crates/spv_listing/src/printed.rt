@@ -101,7 +101,7 @@ pub(crate) fn word(head: Head) -> &'static [u8]
 }
 
 // A head with its name or number.
-pub(crate) fn push_head(
+pub fn push_head(
     out: &mut Vec<u8>,
     names: &Names,
     titles: &[Option<Symbol>],
@@ -209,7 +209,7 @@ fn push_next<'a>(
 
 // A term: its head and its arguments, from the outermost in. What waits is kept in a list, so that
 // terms of any depth can be printed.
-pub(crate) fn push_term(
+pub fn push_term(
     out: &mut Vec<u8>,
     names: &Names,
     titles: &[Option<Symbol>],

@@ -1,8 +1,7 @@
 // The sorts of terms, and what the program's types look like.
 
-ghost use Rattle.std.specs.Prelude.{◌≡◌};
-
-use std::marker::Model;
+use spv_list::List;
+use spv_names::Symbol;
 
 /// A type of the program: its place in the list of shapes, from 0.
 #[derive(Clone, Copy, PartialEq, Eq, PartialOrd, Ord, Hash, Debug)]
@@ -25,41 +24,11 @@ pub enum Sort {
     Class(TypeId),
 }
 
-/// The sorts of a declared symbol's arguments, in order.
-#[derive(Debug, Drop)]
-pub struct Sorts {
-    pub list: Vec<Sort>,
-}
-
-impl Model for Sorts {
-    ghost use Rattle.std.specs.Prelude.{List};
-    ghost use Rattle.spv_logic.specs.declared.types.Sort.{Sort};
-
-    ghost Value = { List Sort };
-
-    ghost view = { λ s. s.list.items };
-}
-
 /// A field of a record type: its name and the sort of its values.
 #[derive(Clone, Copy, Debug)]
 pub struct Field {
-    pub name: spv_names::Symbol,
+    pub name: Symbol,
     pub sort: Sort,
-}
-
-/// The fields of a record type, in the order of the declaration.
-#[derive(Debug, Drop)]
-pub struct Fields {
-    pub list: Vec<Field>,
-}
-
-impl Model for Fields {
-    ghost use Rattle.std.specs.Prelude.{List};
-    ghost use Rattle.spv_logic.specs.declared.types.Field.{Field};
-
-    ghost Value = { List Field };
-
-    ghost view = { λ f. f.list.items };
 }
 
 /// What a type of the program looks like.
@@ -73,14 +42,14 @@ pub enum Shape {
     Pointer(TypeId),
     /// An array whose elements have this sort.
     Array(Sort),
-    /// A record with these fields.
-    Record(Fields),
+    /// A record with these fields, in the order of the declaration.
+    Record(List<Field>),
 }
 
 /// A declared symbol: its name, the sorts of its arguments and of its result.
 #[derive(Debug, Drop)]
 pub struct Decl {
-    pub name: spv_names::Symbol,
-    pub args: Sorts,
+    pub name: Symbol,
+    pub args: List<Sort>,
     pub result: Sort,
 }

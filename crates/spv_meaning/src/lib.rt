@@ -4,14 +4,3 @@
 #![tactic(auto)]
 
 pub mod laws;
-
-#[cfg(test)]
-mod tests {
-    use crate::laws::law_conditions;
-    use spv_logic::PlainWorld;
-
-    #[test]
-    fn the_law_has_a_world(_rt: HostRuntime) {
-        law_conditions(&PlainWorld);
-    }
-}

@@ -97,26 +97,3 @@ impl Names {
         let _ = &self.texts;
     }
 }
-
-#[cfg(test)]
-mod tests {
-    use super::*;
-    use std::test::Fail;
-
-    #[test]
-    fn numbers_go_in_the_order_of_entry(rt: HostRuntime) -> Result<(), Fail> {
-        let mut names = Names::new(rt.alloc());
-        assert!(rt; names.is_empty());
-        assert_eq!(rt; names.enter(b"PIVOT")?, Symbol(0));
-        assert_eq!(rt; names.enter(b"")?, Symbol(1));
-        assert_eq!(rt; names.enter(b"X1")?, Symbol(2));
-        assert_eq!(rt; names.enter(b"PIVOT")?, Symbol(0));
-        assert_eq!(rt; names.len(), 3);
-        assert_eq!(rt; names.find(b"X1"), Some(Symbol(2)));
-        assert_eq!(rt; names.find(b"X"), None);
-        let text = names.text(Symbol(2));
-        assert_eq!(rt; text, b"X1".as_slice());
-        names.law_different();
-        Ok(())
-    }
-}

@@ -15,7 +15,8 @@ ghost use Rattle.spv_report.specs.Reports.{claimed};
 
 use crate::fault::VerifyFault;
 use spv_form::{Annotation, Equation, Form, Formula, Replacements, Side};
-use spv_term::{Condition, Head, Kind, Origin, Sort, TermFault, TermId, TermList, Terms};
+use spv_list::List;
+use spv_term::{Condition, Head, Kind, Origin, Sort, TermFault, TermId, Terms};
 use std::alloc::Global;
 
 // A term in an arena with room for one more, so that only memory can be wanting.
@@ -140,7 +141,11 @@ fn formula(
 }
 
 // The term of an ENTRY, as the one hypothesis.
-fn hypothesis(alloc: Global, terms: &mut Terms, entry: &Annotation) -> Result<TermList, VerifyFault>
+fn hypothesis(
+    alloc: Global,
+    terms: &mut Terms,
+    entry: &Annotation,
+) -> Result<List<TermId>, VerifyFault>
     requires room { length terms.old.nodes + 4 * equations_in entry.now.formula ≤ terms.old.most }
     ensures trees { IfOk result (λ ts. map (tree terms.new) ts ≡ given_by (Some entry.now)) }
     ensures in_range { IfOk result (AllBelow (length terms.new.nodes)) }
@@ -152,7 +157,7 @@ fn hypothesis(alloc: Global, terms: &mut Terms, entry: &Annotation) -> Result<Te
     let t = formula(terms, &unchanged, &entry.formula)?;
     let mut list = Vec::new(alloc);
     list.push(t)?;
-    Ok(TermList::from_vec(list))
+    Ok(List::from_vec(list))
 }
 
 // The hypotheses: the term of ENTRY, where there is one.
@@ -160,7 +165,7 @@ fn hypotheses(
     alloc: Global,
     terms: &mut Terms,
     entry: &Option<Annotation>,
-) -> Result<TermList, VerifyFault>
+) -> Result<List<TermId>, VerifyFault>
     requires room { length terms.old.nodes + 4 * equations_of entry.now ≤ terms.old.most }
     ensures trees { IfOk result (λ ts. map (tree terms.new) ts ≡ given_by entry.now) }
     ensures in_range { IfOk result (AllBelow (length terms.new.nodes)) }
@@ -170,7 +175,7 @@ fn hypotheses(
 {
     match entry {
         Some(entry) => hypothesis(alloc, terms, entry),
-        None => Ok(TermList::new(alloc)),
+        None => Ok(List::new(alloc)),
     }
 }
 

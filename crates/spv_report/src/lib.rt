@@ -8,6 +8,3 @@ mod report;
 pub use fault::VerifyFault;
 pub use report::{Report, all_proved, law_report, verify};
 pub use spv_decision::{Branch, Table, Unproved, Verdict, Verdicts};
-
-#[cfg(test)]
-mod tests;

@@ -12,8 +12,9 @@ use crate::conditions::conditions;
 use crate::fault::VerifyFault;
 use spv_decision::{Verdict, Verdicts, decide_all};
 use spv_form::Form;
+use spv_list::List;
 use spv_names::Names;
-use spv_term::{Condition, Decls, Shapes, Terms, World};
+use spv_term::{Condition, Shapes, Terms, World};
 use std::alloc::Global;
 use std::marker::Model;
 
@@ -61,7 +62,7 @@ pub fn verify(alloc: Global, names: Names, form: Form) -> Result<Report, VerifyF
     ensures names { IfOk result (λ r. r.names ≡ names) }
     ensures form { IfOk result (λ r. r.form ≡ form) }
 {
-    let mut terms = Terms::new(alloc, Shapes::new(alloc), Decls::new(alloc), MOST_TERMS);
+    let mut terms = Terms::new(alloc, Shapes::new(alloc), List::new(alloc), MOST_TERMS);
     let conditions = conditions(alloc, &mut terms, &form)?;
     let verdicts = decide_all(alloc, &terms, &conditions)?;
     Ok(Report {

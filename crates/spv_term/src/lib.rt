@@ -9,14 +9,11 @@ mod lists;
 mod nodes;
 mod sorts;
 mod terms;
-#[cfg(test)]
-mod tests;
 
 pub use laws::{law_grows, law_make, law_one_id, law_sorted, law_types, law_worth};
-pub use lists::{Arguments, Decls, Shapes, TermList};
+pub use lists::{Arguments, Shapes};
 pub use nodes::{Condition, Node, TermFault};
 pub use spv_logic::{
-    Decl, Field, Fields, Head, Kind, Origin, PlainWorld, RoutineId, Shape, Sort, Sorts, TermId,
-    TypeId, World,
+    Decl, Field, Head, Kind, Origin, PlainWorld, RoutineId, Shape, Sort, TermId, TypeId, World,
 };
 pub use terms::Terms;

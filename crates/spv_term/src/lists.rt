@@ -91,62 +91,6 @@ impl Hash for Arguments {
     }
 }
 
-/// A list of terms of one arena.
-#[derive(Debug, Drop)]
-pub struct TermList {
-    list: Vec<TermId>,
-}
-
-impl Model for TermList {
-    ghost use Rattle.std.specs.Prelude.{List};
-    ghost use Rattle.spv_logic.specs.declared.conditions.TermId.{TermId};
-
-    ghost Value = { List TermId };
-
-    ghost view = { λ a. a.list.items };
-}
-
-impl TermList {
-    /// The empty list.
-    pub fn new(alloc: Global) -> TermList
-        ensures { result ≡ [] }
-    {
-        TermList {
-            list: Vec::new(alloc),
-        }
-    }
-
-    /// The list of the terms of a vector.
-    pub fn from_vec(list: Vec<TermId>) -> TermList
-        ensures { result ≡ list.items }
-    {
-        TermList { list }
-    }
-
-    /// The terms as a slice.
-    pub fn as_slice(&self) -> &[TermId]
-        ensures { result.now ≡ self.now }
-    {
-        self.list.as_slice()
-    }
-
-    /// How many terms there are.
-    pub fn len(&self) -> usize
-        ensures { result ≡ length self.now }
-    {
-        self.list.len()
-    }
-
-    /// Puts a term at the end. For want of memory the list stays as it was.
-    pub fn push(&mut self, term: TermId) -> Result<(), AllocError>
-        ensures ok { OnOk result (self.new ≡ self.old ++ term ∷ []) }
-        ensures err { OnErr result (self.new ≡ self.old) }
-    {
-        self.list.push(term)?;
-        Ok(())
-    }
-}
-
 /// The shapes of a program's types, by their places. Each type that a shape names is there, the
 /// parts of arrays and records have sorts that parts may have, the names of a record's fields
 /// differ, and no type contains itself.
@@ -212,45 +156,5 @@ impl Shapes {
         ensures { IsTrue (shapes_ok self.now) }
     {
         let _list = &self.list;
-    }
-}
-
-/// The declared symbols of a program, in the order of their declaration.
-#[derive(Debug, Drop)]
-pub struct Decls {
-    list: Vec<Decl>,
-}
-
-impl Model for Decls {
-    ghost use Rattle.std.specs.Prelude.{List};
-    ghost use Rattle.spv_logic.specs.declared.types.Decl.{Decl};
-
-    ghost Value = { List Decl };
-
-    ghost view = { λ a. a.list.items };
-}
-
-impl Decls {
-    /// No symbols.
-    pub fn new(alloc: Global) -> Decls
-        ensures { result ≡ [] }
-    {
-        Decls {
-            list: Vec::new(alloc),
-        }
-    }
-
-    /// The symbols of a vector, in its order.
-    pub fn from_vec(list: Vec<Decl>) -> Decls
-        ensures { result ≡ list.items }
-    {
-        Decls { list }
-    }
-
-    /// The symbols as a slice.
-    pub fn as_slice(&self) -> &[Decl]
-        ensures { result.now ≡ self.now }
-    {
-        self.list.as_slice()
     }
 }

@@ -1,6 +1,7 @@
 //! Nodes, conditions, and why no node could be made.
 
-use crate::lists::{Arguments, TermList};
+use crate::lists::Arguments;
+use spv_list::List;
 use spv_logic::{Head, Origin, TermId};
 use std::alloc::AllocError;
 use thiserror::Error;
@@ -15,7 +16,7 @@ pub struct Node {
 /// A condition over an arena: it claims the goal wherever all that is given is true.
 #[derive(Debug, Drop)]
 pub struct Condition {
-    pub given: TermList,
+    pub given: List<TermId>,
     pub goal: TermId,
     pub origin: Origin,
 }

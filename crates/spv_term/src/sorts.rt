@@ -48,7 +48,7 @@ fn part_sort(shapes: &[Shape], record_sort: Sort, name: Symbol) -> Option<Sort>
         return None;
     };
     match shape_at(shapes, t) {
-        Some(Shape::Record(fields)) => field_sort(&fields.list, name),
+        Some(Shape::Record(fields)) => field_sort(fields.as_slice(), name),
         _ => None,
     }
 }

@@ -5,10 +5,11 @@ ghost use Rattle.spv_logic.specs.Sorts as spec;
 ghost use Rattle.spv_term.specs.declared.nodes.TermFault.TheVariants.{Size, Memory};
 ghost use Rattle.spv_term.specs.Arena.{node, has_node, with_node, place_of, lacks_room, AllBelow, tree, trees, sort_at, sorts_at, symbols_differ, decls_in_range, MayFollow, IsArena, Extends};
 
-use crate::lists::{Arguments, Decls, Shapes};
+use crate::lists::{Arguments, Shapes};
 use crate::nodes::{Node, TermFault};
 use crate::sorts::result_sort;
 use indexmap::IndexMap;
+use spv_list::List;
 use spv_logic::{Decl, Head, Sort, TermId};
 use std::alloc::Global;
 use std::marker::Model;
@@ -20,7 +21,7 @@ pub struct Terms {
     nodes: IndexMap<Node, Sort>,
     most: u32,
     shapes: Shapes,
-    decls: Decls,
+    decls: List<Decl>,
 }
 
 impl Model for Terms {
@@ -41,7 +42,7 @@ impl Model for Terms {
 impl Terms {
     /// The arena without terms, for at most `most` of them, over these types and symbols. It takes
     /// no memory.
-    pub fn new(alloc: Global, shapes: Shapes, decls: Decls, most: u32) -> Terms
+    pub fn new(alloc: Global, shapes: Shapes, decls: List<Decl>, most: u32) -> Terms
         requires names { IsTrue (symbols_differ decls) }
         requires types { IsTrue (decls_in_range shapes decls) }
         ensures nodes { result.nodes ≡ [] }

@@ -170,14 +170,3 @@ pub struct Token {
     /// The line of its first byte; the first line of a text is 1.
     pub line: u32,
 }
-
-#[cfg(test)]
-mod tests {
-    use super::*;
-
-    #[test]
-    fn a_numeral_keeps_its_value(rt: HostRuntime) {
-        assert_eq!(rt; Numeral::new(i64::MAX).value(), i64::MAX);
-        assert_eq!(rt; Numeral::new(0).value(), 0);
-    }
-}

@@ -9,7 +9,7 @@ use Rattle.spv_term.proofs.sorts.part_sort.Goals as goal
 pub returns-in-Some-Record : goal.returns-in-Some-Record
 returns-in-Some-Record c =
     let name = c.args.name.0 in
-    let fields = c.deref.ensures.value ∙ c.fields.view_is in
+    let fields = c.as_slice.ensures in
     let seen = c.field_sort.ensures ∙ ap (λ fs. option_map (λ f. f.sort) (find (λ f. nat_eq f.name.0 name) fs)) fields in
     let shape = ap (λ s. field_sort_of (fields_of c.args.shapes.now s) name) c.in-Whole.is
     ∙ ap (λ s. field_sort_of (fields_of_shape s) name) (c.in-Some-Record.ensures.there ∙ c.in-Some-Record.field-0-is) in
