@@ -4,3 +4,4 @@ pub mod Effects
 pub mod Accepted
 pub mod Stand
 pub mod Laws
+pub mod Examples

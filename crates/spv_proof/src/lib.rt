@@ -3,4 +3,4 @@
 
 mod laws;
 
-pub use laws::law_check;
+pub use laws::{law_check, law_examples};
