@@ -1,16 +1,16 @@
 -- A term is worth what its form is worth.
-use Rattle.std.proofs.Common.{◌≡◌, ℕ, Bool, true, false, cond, List, [], ◌∷◌, ℤ, pos, negsuc, ◌+ℤ◌, ◌-ℤ◌, ◌*ℤ◌, refl, sym, ap, ◌∙◌, Option, Some, None, arith}
+use Rattle.std.proofs.Common.{◌≡◌, Bool, true, false, cond, List, [], ◌∷◌, map, ℤ, pos, negsuc, ◌+ℤ◌, ◌-ℤ◌, ◌*ℤ◌, refl, sym, ap, ◌∙◌, Option, Some, None, arith}
 use mathlib.Core.Path.{ap₂}
 use Rattle.std.proofs.lemmas.Int.{ints}
 use Rattle.std.proofs.Math.IntN.{*ℤ_comm}
-use Rattle.spv_whole.proofs.Ring.{by_diff2, by_diff3, diff, diff_same, diff-+ℤ, diff-*ℤ, *ℤ_assoc, *ℤ-+ℤ}
+use Rattle.spv_whole.proofs.Ring.{*ℤ_assoc, *ℤ-+ℤ}
 use Rattle.spv_logic.specs.declared.operators.Head.{Head}
 use Rattle.spv_logic.specs.declared.operators.Head.TheVariants.{Num, Add, Sub, Mul}
-use Rattle.spv_logic.specs.Values.{Value, Number, number_of}
+use Rattle.spv_logic.specs.Values.{number_of}
 use Rattle.spv_logic.specs.Terms.{Term, Terms, term, no_terms, terms, term_eq, eval, eval_all, worth}
 use Rattle.spv_logic.specs.Conditions.{Meaning, Valuation}
 use Rattle.spv_logic.proofs.Equality.{term_eq-true}
-use Rattle.spv_atoms.specs.Forms.{Form, with_part, with_parts, constant_form, own_part, add_multiple, plus, minus, multiple, both_known, constant_over, constant_value, constant_values, product_form, linear_form, form_or_own, form, forms, parts_worth, form_worth}
+use Rattle.spv_atoms.specs.Forms.{Form, with_part, with_parts, constant_form, plus, minus, multiple, both_known, constant_over, constant_value, constant_values, product_form, linear_form, form_or_own, form, forms, parts_worth, form_worth}
 
 -- ---- identities
 
@@ -35,8 +35,6 @@ zero-+ℤ a = omega (arith, ints)
 times_zero : (a : ℤ) → a *ℤ pos 0 ≡ pos 0
 times_zero a = omega (arith, ints)
 
-one_times : (a : ℤ) → pos 1 *ℤ a ≡ a
-one_times a = omega (arith, ints)
 
 minus_one : (a b : ℤ) → a +ℤ negsuc 0 *ℤ b ≡ a -ℤ b
 minus_one a b = omega (arith, ints)
@@ -58,31 +56,30 @@ module _ (w : Term → ℤ) where
           ∙ +ℤ_assoc (p.1 *ℤ w p.0) (n *ℤ w t) (parts_worth w parts) ∙ +ℤ-swap (p.1 *ℤ w p.0) (n *ℤ w t) (parts_worth w parts)
       by_case false e later = ap (λ z. p.1 *ℤ w p.0 +ℤ z) later ∙ +ℤ-swap (p.1 *ℤ w p.0) (n *ℤ w t) (parts_worth w parts)
 
-  with_parts-worth : (z : ℤ) (others parts : List (Term × ℤ)) → parts_worth w (with_parts ◌+ℤ◌ (λ n. z *ℤ n) others parts) ≡ parts_worth w parts +ℤ z *ℤ parts_worth w others
-  with_parts-worth z [] parts = sym (ap (λ x. parts_worth w parts +ℤ x) (times_zero z) ∙ +ℤ-zero (parts_worth w parts))
-  with_parts-worth z (p ∷ others) parts =
-      with_parts-worth z others (with_part ◌+ℤ◌ p.0 (z *ℤ p.1) parts)
-      ∙ ap (λ x. x +ℤ z *ℤ parts_worth w others) (with_part-worth p.0 (z *ℤ p.1) parts ∙ ap (λ x. x +ℤ parts_worth w parts) (*ℤ_assoc z p.1 (w p.0)))
-      ∙ regroup (z *ℤ (p.1 *ℤ w p.0)) (parts_worth w parts) (z *ℤ parts_worth w others)
-      ∙ ap (λ x. parts_worth w parts +ℤ x) (sym (*ℤ-+ℤ z (p.1 *ℤ w p.0) (parts_worth w others)))
+  with_parts-worth : (others parts : List (Term × ℤ)) → parts_worth w (with_parts ◌+ℤ◌ (λ n. n) others parts) ≡ parts_worth w parts +ℤ parts_worth w others
+  with_parts-worth [] parts = sym (+ℤ-zero (parts_worth w parts))
+  with_parts-worth (p ∷ others) parts =
+      with_parts-worth others (with_part ◌+ℤ◌ p.0 p.1 parts)
+      ∙ ap (λ x. x +ℤ parts_worth w others) (with_part-worth p.0 p.1 parts)
+      ∙ regroup (p.1 *ℤ w p.0) (parts_worth w parts) (parts_worth w others)
     where
       regroup : (a b c : ℤ) → a +ℤ b +ℤ c ≡ b +ℤ (a +ℤ c)
       regroup a b c = omega (arith, ints)
 
-  pub add_multiple-worth : (z : ℤ) (g f : Form) → form_worth w (add_multiple z g f) ≡ form_worth w f +ℤ z *ℤ form_worth w g
-  add_multiple-worth z g f =
-      ap (λ x. x +ℤ (f.constant +ℤ z *ℤ g.constant)) (with_parts-worth z g.parts f.parts)
-      ∙ +ℤ-middle (parts_worth w f.parts) (z *ℤ parts_worth w g.parts) f.constant (z *ℤ g.constant)
-      ∙ ap (λ x. parts_worth w f.parts +ℤ f.constant +ℤ x) (sym (*ℤ-+ℤ z (parts_worth w g.parts) g.constant))
-
   pub plus-worth : (f g : Form) → form_worth w (plus f g) ≡ form_worth w f +ℤ form_worth w g
-  plus-worth f g = add_multiple-worth (pos 1) g f ∙ ap (λ x. form_worth w f +ℤ x) (one_times (form_worth w g))
+  plus-worth f g =
+      ap (λ x. x +ℤ (f.constant +ℤ g.constant)) (with_parts-worth g.parts f.parts) ∙ +ℤ-middle (parts_worth w f.parts) (parts_worth w g.parts) f.constant g.constant
 
-  pub minus-worth : (f g : Form) → form_worth w (minus f g) ≡ form_worth w f -ℤ form_worth w g
-  minus-worth f g = add_multiple-worth (negsuc 0) g f ∙ minus_one (form_worth w f) (form_worth w g)
+  multiple_parts-worth : (z : ℤ) (parts : List (Term × ℤ)) → parts_worth w (map (λ (p : Term × ℤ). (p.0, z *ℤ p.1)) parts) ≡ z *ℤ parts_worth w parts
+  multiple_parts-worth z [] = sym (times_zero z)
+  multiple_parts-worth z (p ∷ parts) =
+      ap₂ ◌+ℤ◌ (*ℤ_assoc z p.1 (w p.0)) (multiple_parts-worth z parts) ∙ sym (*ℤ-+ℤ z (p.1 *ℤ w p.0) (parts_worth w parts))
 
   multiple-worth : (z : ℤ) (f : Form) → form_worth w (multiple z f) ≡ z *ℤ form_worth w f
-  multiple-worth z f = add_multiple-worth z f (constant_form (pos 0)) ∙ zero-+ℤ (z *ℤ form_worth w f)
+  multiple-worth z f = ap (λ x. x +ℤ z *ℤ f.constant) (multiple_parts-worth z f.parts) ∙ sym (*ℤ-+ℤ z (parts_worth w f.parts) f.constant)
+
+  pub minus-worth : (f g : Form) → form_worth w (minus f g) ≡ form_worth w f -ℤ form_worth w g
+  minus-worth f g = plus-worth f (multiple (negsuc 0) g) ∙ ap (λ x. form_worth w f +ℤ x) (multiple-worth (negsuc 0) g) ∙ minus_one (form_worth w f) (form_worth w g)
 
 -- ---- constant terms and forms
 

@@ -1,5 +1,5 @@
 -- The exact linear form of a whole-number term: what each part of it is multiplied by, and a constant.
-use Rattle.std.specs.Prelude.{ℕ, Bool, true, false, ◌&&◌, List, [], ◌∷◌, Option, Some, None, ℤ, pos, negsuc, ◌+ℤ◌, ◌*ℤ◌, if◌then◌else◌}
+use Rattle.std.specs.Prelude.{Bool, true, false, ◌&&◌, List, [], ◌∷◌, map, Option, Some, None, ℤ, pos, negsuc, ◌+ℤ◌, ◌*ℤ◌, if◌then◌else◌}
 use Rattle.std.specs.List.{list_all}
 use Rattle.spv_logic.specs.declared.operators.Head.{Head}
 use Rattle.spv_logic.specs.declared.operators.Head.TheVariants.{Num, Add, Sub, Mul}
@@ -27,11 +27,6 @@ abbrev pub with_parts : {M N : Type 0} → (N → N → N) → (M → N) → Lis
 with_parts plus times [] parts = parts
 with_parts plus times (p ∷ others) parts = with_parts plus times others (with_part plus p.0 (times p.1) parts)
 
--- what a term is multiplied by
-abbrev pub coefficient : Term → List (Term × ℤ) → ℤ
-coefficient t [] = pos 0
-coefficient t (p ∷ parts) = if term_eq p.0 t then p.1 else coefficient t parts
-
 -- ---- forms
 
 abbrev pub constant_form : ℤ → Form
@@ -41,21 +36,14 @@ constant_form z = record { parts = []; constant = z }
 abbrev pub own_part : Term → Form
 own_part t = record { parts = (t, pos 1) ∷ []; constant = pos 0 }
 
--- the sum of a form and a multiple of another
-abbrev pub add_multiple : ℤ → Form → Form → Form
-add_multiple z g f = record {
-  parts = with_parts ◌+ℤ◌ (λ n. z *ℤ n) g.parts f.parts;
-  constant = f.constant +ℤ z *ℤ g.constant;
-}
-
 abbrev pub plus : Form → Form → Form
-plus f g = add_multiple (pos 1) g f
-
-abbrev pub minus : Form → Form → Form
-minus f g = add_multiple (negsuc 0) g f
+plus f g = record { parts = with_parts ◌+ℤ◌ (λ n. n) g.parts f.parts; constant = f.constant +ℤ g.constant }
 
 abbrev pub multiple : ℤ → Form → Form
-multiple z f = add_multiple z f (constant_form (pos 0))
+multiple z f = record { parts = map (λ p. (p.0, z *ℤ p.1)) f.parts; constant = z *ℤ f.constant }
+
+abbrev pub minus : Form → Form → Form
+minus f g = plus f (multiple (negsuc 0) g)
 
 -- ---- constant terms: numerals, and sums, differences and products of constant terms
 

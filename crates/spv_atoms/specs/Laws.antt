@@ -1,11 +1,26 @@
 -- What forms say of terms.
-use Rattle.std.specs.Prelude.{◌≡◌}
+use Rattle.std.specs.Prelude.{◌≡◌, Bool, List, [], ◌∷◌, Some, IsTrue}
+use Rattle.spv_logic.specs.declared.types.Shape.{Shape}
+use Rattle.spv_logic.specs.declared.types.Decl.{Decl}
 use Rattle.spv_logic.specs.Values.{number_of}
 use Rattle.spv_logic.specs.Terms.{Term, eval}
-use Rattle.spv_logic.specs.Conditions.{Meaning, Valuation}
+use Rattle.spv_logic.specs.Sorts.{shapes_ok}
+use Rattle.spv_logic.specs.Conditions.{Meaning, Valuation, IsValuation, answers, holds}
+use Rattle.spv_atoms.specs.Tables.{truth}
+use Rattle.spv_atoms.specs.Atoms.{is_truth}
 use Rattle.spv_atoms.specs.Forms.{form, form_worth}
 
 -- a term is worth what its form is worth, whatever the symbols mean
 abbrev pub TermIsWorthItsForm : Type 0
 TermIsWorthItsForm =
     (symbols : Meaning) (v : Valuation) (t : Term) → number_of (eval symbols v t) ≡ form_worth (λ p. number_of (eval symbols v p)) (form t)
+
+-- each of these formulas has the truth value beside it
+abbrev pub AllHave : (Term → Bool) → List (Term × Bool) → Type 0
+AllHave holds [] = Unit {0}
+AllHave holds (k ∷ known) = (holds k.0 ≡ k.1) × AllHave holds known
+
+-- where the known values are right in a world, so is the value that is computed from them
+abbrev pub TruthIsRight : Type 0
+TruthIsRight =
+    (shapes : List Shape) → IsTrue (shapes_ok shapes) → (decls : List Decl) (world : Meaning) (v : Valuation) → IsValuation shapes v → (known : List (Term × Bool)) → AllHave (holds (answers shapes decls world) v) known → (t : Term) (b : Bool) → truth (is_truth shapes decls) known t ≡ Some b → holds (answers shapes decls world) v t ≡ b

@@ -1,2 +1,7 @@
 pub mod Forms
+pub mod Tables
+pub mod Atoms
+pub mod Order
+pub mod Valued
+pub mod Shape
 pub mod Laws

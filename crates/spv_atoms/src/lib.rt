@@ -1,6 +1,16 @@
 //! Linear forms and atoms of terms, and proofs as data.
 #![tactic(auto)]
 
+mod formulas;
 mod laws;
+mod numerals;
+pub mod proofs;
+mod sets;
+mod tables;
+mod valued;
+mod walk;
 
-pub use laws::law_form;
+pub use formulas::{atoms, is_atom};
+pub use laws::{law_form, law_truth};
+pub use proofs::{Proof, ProofNode, Relation, Split, Stated, Step};
+pub use valued::truth;

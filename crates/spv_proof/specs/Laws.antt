@@ -1,0 +1,20 @@
+-- What an accepted proof shows.
+use Rattle.std.specs.Prelude.{IsTrue, List}
+use Rattle.spv_logic.specs.Sorts.{shapes_ok}
+use Rattle.spv_logic.specs.Conditions.{Meaning, TrueIn}
+use Rattle.spv_term.specs.declared.nodes.Condition.{Condition}
+use Rattle.spv_term.specs.Arena.{Arena, IsArena, sequent}
+use Rattle.spv_atoms.specs.declared.proofs.ProofNode.{ProofNode}
+use Rattle.spv_proof.specs.Effects.{Question}
+use Rattle.spv_proof.specs.Accepted.{accepts}
+use Rattle.spv_proof.specs.Stand.{IsProof}
+
+-- what an accepted proof is to show is true in a world
+abbrev pub AcceptedIsTrueIn : Meaning → Type 0
+AcceptedIsTrueIn world =
+    (q : Question) → IsTrue (shapes_ok q.shapes) → (nodes : List ProofNode) → IsTrue (accepts q nodes) → TrueIn q.shapes q.decls world q.sequent
+
+-- a condition with a proof is true in a world
+abbrev pub ProvedIsTrueIn : Meaning → Type 0
+ProvedIsTrueIn world =
+    (a : Arena) → IsArena a → (c : Condition) (nodes : List ProofNode) → IsProof a c nodes → TrueIn a.shapes a.decls world (sequent a c)

@@ -1,0 +1,5 @@
+//! What no clause says of the crates that prove conditions.
+#![tactic(auto)]
+
+#[cfg(test)]
+mod formulas;
