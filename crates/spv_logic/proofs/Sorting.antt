@@ -172,7 +172,7 @@ cells_weaker a b (c ∷ cells) h g =
 apart_above : (c p : ℕ) → nat_lt p c ≡ false → nat_eq p c ≡ false → nat_lt c p ≡ true
 apart_above c p h g = grind (arith, nat_tests)
 
-with_cell-after : (last p : ℕ) (cells : List ℕ) → nat_lt last p ≡ true → cells_after last cells ≡ true → cells_after last (with_cell cells p) ≡ true
+pub with_cell-after : (last p : ℕ) (cells : List ℕ) → nat_lt last p ≡ true → cells_after last cells ≡ true → cells_after last (with_cell cells p) ≡ true
 with_cell-after last p [] l h = both_true l refl
 with_cell-after last p (c ∷ cells) l h = by_order (nat_lt p c) refl (with_cell-after c p cells)
   where
@@ -494,7 +494,7 @@ contents shapes c s e p g h =
 on_content : (shapes : List Shape) (s e : Sort) (test : Sort → Bool) → content_sort shapes s ≡ Some e → test e ≡ true → on_sort (content_sort shapes s) test ≡ true
 on_content shapes s e test g h = ap (λ o. on_sort o test) g ∙ h
 
-class_put : (shapes : List Shape) (c : Value) (s e : Sort) (p : ℕ) (w : Value) (members : List ℕ → List ℕ) → ((cells : List ℕ) → cells_after 0 cells ≡ true → cells_after 0 (members cells) ≡ true) → content_sort shapes s ≡ Some e → fits shapes c s ≡ true → fits shapes w e ≡ true → fits shapes (ClassOf (members (members_of c)) (default_in c) (put_row (rows_in c) (pos p) w (default_in c))) s ≡ true
+pub class_put : (shapes : List Shape) (c : Value) (s e : Sort) (p : ℕ) (w : Value) (members : List ℕ → List ℕ) → ((cells : List ℕ) → cells_after 0 cells ≡ true → cells_after 0 (members cells) ≡ true) → content_sort shapes s ≡ Some e → fits shapes c s ≡ true → fits shapes w e ≡ true → fits shapes (ClassOf (members (members_of c)) (default_in c) (put_row (rows_in c) (pos p) w (default_in c))) s ≡ true
 class_put shapes c s e p w members keeps g h fit =
     let q = class_parts shapes c s e g h in
     let t = put_tidy shapes e q.other q.rows (pos p) w fit q.tidy in
