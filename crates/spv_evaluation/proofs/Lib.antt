@@ -1,3 +1,3 @@
-mod Steps
-mod Settings
+pub mod Steps
+pub mod Settings
 mod Values

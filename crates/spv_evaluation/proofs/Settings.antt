@@ -51,16 +51,18 @@ found-filter {X} test (n ∷ xs) x passes = by_name (same_name n.0 x) refl (foun
   where
     Kept : Bool → Bool → Type 0
     Kept keeps here = found (cond keeps (n ∷ filter (λ n. test n.0) xs) (filter (λ n. test n.0) xs)) x ≡ cond here (Some n.1) (found xs x)
+
     by_test : (here keeps : Bool) → same_name n.0 x ≡ here → found (filter (λ n. test n.0) xs) x ≡ found xs x → (here ≡ true → keeps ≡ true) → Kept keeps here
     by_test true true e later there = ap (λ b. cond b (Some n.1) (found (filter (λ n. test n.0) xs) x)) e
     by_test true false e later there = absurd (false≢true (there refl))
     by_test false true e later there = ap (λ b. cond b (Some n.1) (found (filter (λ n. test n.0) xs) x)) e ∙ later
     by_test false false e later there = later
+
     by_name : (here : Bool) → same_name n.0 x ≡ here → found (filter (λ n. test n.0) xs) x ≡ found xs x → Kept (test n.0) (same_name n.0 x)
     by_name here e later =
         subst (Kept (test n.0)) (sym e) (by_test here (test n.0) e later (λ is. ap test (same_names n.0 x (e ∙ is)) ∙ passes))
 
-list_all-found : (P : Symbol → TypeId → Bool) (xs : List (Symbol × TypeId)) (x : Symbol) (t : TypeId) → list_all (λ n. P n.0 n.1) xs ≡ true → found xs x ≡ Some t → P x t ≡ true
+pub list_all-found : (P : Symbol → TypeId → Bool) (xs : List (Symbol × TypeId)) (x : Symbol) (t : TypeId) → list_all (λ n. P n.0 n.1) xs ≡ true → found xs x ≡ Some t → P x t ≡ true
 list_all-found P [] x t h e = absurd (nothing_there e)
 list_all-found P (n ∷ xs) x t h e =
     by_case (same_name n.0 x) refl e (list_all-found P xs x t (right_true (P n.0 n.1) _ h))
@@ -92,8 +94,8 @@ name_shown p here state v all x t is seen =
     let holds = list_all-found (λ y u. is_of_type p u (look state (place_of here.routine state y))) (shown_names p (routine_in p here.routine)) x t all.start.names type in
     let w = something p t (look state (place_of here.routine state x)) holds in
     let view : now_view p here.routine state (head.Var x (sort_of p.forms t) 0) ≡ Some w.0
-            = ap (λ o. of_sort (option_map (sort_of p.forms) o) (sort_of p.forms t) (look state (place_of here.routine state x))) type
-            ∙ (ap (λ b. cond b (look state (place_of here.routine state x)) None) (sort_eq-refl (sort_of p.forms t)) ∙ w.1) in
+    = ap (λ o. of_sort (option_map (sort_of p.forms) o) (sort_of p.forms t) (look state (place_of here.routine state x))) type
+    ∙ (ap (λ b. cond b (look state (place_of here.routine state x)) None) (sort_eq-refl (sort_of p.forms t)) ∙ w.1) in
     w.1 ∙ ap Some (sym (at_head (now_view p here.routine state) v (head.Var x (sort_of p.forms t) 0) w.0 all.shows view))
 
 -- ---- cells
@@ -122,9 +124,11 @@ content p ok (s ∷ heap) h t r q e is =
   where
     Goal : Bool → Type 0
     Goal here = row_at (rows_in (cond here (with_heap_row s (class_of (shapes p) heap t)) (class_of (shapes p) heap t))) (pos q) (default_in (cond here (with_heap_row s (class_of (shapes p) heap t)) (class_of (shapes p) heap t))) ≡ r.content
+
     by_type : nat_eq s.cell q ≡ false → row_at (rows_in (class_of (shapes p) heap t)) (pos q) (default_in (class_of (shapes p) heap t)) ≡ r.content → (b : Bool) → Goal b
     by_type other later true = at_other_cell s (class_of (shapes p) heap t) q other ∙ later
     by_type other later false = later
+
     by_cell : (b : Bool) → nat_eq s.cell q ≡ b → heap_ok p heap ≡ true → cond b (Some s) (row_of heap q) ≡ Some r → (row_of heap q ≡ Some r → row_at (rows_in (class_of (shapes p) heap t)) (pos q) (default_in (class_of (shapes p) heap t)) ≡ r.content) → Goal (nat_eq s.type.0 t.0)
     by_cell true here below e later =
         subst Goal (sym (ap (λ x. same_type x.type t) (some_is e) ∙ is)) (at_own_cell p ok heap below t s q (eqb-true s.cell q here) ∙ ap (λ x. x.content) (some_is e))

@@ -76,10 +76,12 @@ row_there shapes (row i v rows) (g ∷ fields) f s d fit told =
   where
     Later : Type 0
     Later = field_sort fields f.0 ≡ Some s → row_found rows (pos f.0) ≡ Some (row_at rows (pos f.0) d)
+
     by_name : int_eq (pos f.0) (pos g.name.0) ≡ false → (b : Bool) → nat_eq g.name.0 f.0 ≡ b → cond b (Some g.sort) (field_sort fields f.0) ≡ Some s → field_sort fields f.0 ≡ Some s
     by_name other true same told =
         absurd (false≢true (sym other ∙ (ap (λ k. int_eq (pos f.0) (pos k)) (eqb-true g.name.0 f.0 same) ∙ int_eq-refl (pos f.0))))
     by_name other false same told = told
+
     by_key : i ≡ pos g.name.0 → Later → (b : Bool) → int_eq (pos f.0) i ≡ b → cond b (Some v) (row_found rows (pos f.0)) ≡ Some (cond b v (row_at rows (pos f.0) d))
     by_key key later true e = refl
     by_key key later false e = later (by_name (ap (λ k. int_eq (pos f.0) k) (sym key) ∙ e) (nat_eq g.name.0 f.0) refl told)
@@ -103,9 +105,11 @@ field_step shapes (ArrayOf d rows) r s f told fit = by_sort r told fit
   where
     Goal : Type 0
     Goal = step_part (ArrayOf d rows) (FieldStep f) ≡ Some (row_at (rows_in (ArrayOf d rows)) (pos f.0) (Number (pos 0)))
+
     by_shape : (sh : Shape) (test : Sort → Bool) → field_sort_of (fields_of_shape sh) f.0 ≡ Some s → on_sort (element_of_shape sh) test ≡ true → Goal
     by_shape (shape.Array e) test told fit = absurd (nothing_there told)
     by_shape _ test told fit = absurd (false≢true fit)
+
     by_sort : (r : Sort) → field_sort_of (fields_of shapes r) f.0 ≡ Some s → fits shapes (ArrayOf d rows) r ≡ true → Goal
     by_sort (sort.Whole t) told fit = by_shape (shape_at shapes t.0) _ told fit
     by_sort _ told fit = absurd (nothing_there told)
