@@ -1,0 +1,12 @@
+mod Lists
+mod Views
+mod Renaming
+mod States
+mod Annotations
+mod Supplied
+mod Changing
+mod Reaching
+mod Control
+mod Counting
+mod Loops
+mod Induction

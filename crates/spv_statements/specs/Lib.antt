@@ -1,0 +1,4 @@
+pub mod Truth
+pub mod Runs
+pub mod Parts
+pub mod Laws
