@@ -1,5 +1,5 @@
 -- A valuation that shows a state knows the values of its names and the contents of its cells.
-use Rattle.std.proofs.Common.{◌≡◌, ◌≢◌, ℕ, Bool, true, false, cond, not, ◌&&◌, List, [], ◌∷◌, ◌++◌, filter, pos, refl, sym, ap, subst, ◌∙◌, nat_eq, Option, Some, None, option_map, is_some}
+use Rattle.std.proofs.Common.{◌≡◌, ◌≢◌, ℕ, Bool, true, false, cond, not, List, [], ◌∷◌, ◌++◌, filter, pos, refl, sym, ap, subst, ◌∙◌, nat_eq, Option, Some, None, option_map, is_some}
 use Rattle.std.specs.List.{list_all, list_any}
 use Rattle.std.specs.Cmp.Derive.{both_true}
 use Rattle.std.proofs.lemmas.Bool.{false≢true, eqb-true, eq-eqb}
@@ -10,14 +10,14 @@ use Rattle.spv_logic.specs.declared.types.Sort.TheVariants as sort
 use Rattle.spv_logic.specs.declared.operators.Head.{Head}
 use Rattle.spv_logic.specs.declared.operators.Head.TheVariants as head
 use Rattle.spv_logic.specs.Values.{Value, rows_in, default_in, row_at}
-use Rattle.spv_logic.specs.Terms.{Term, eval, sort_eq}
+use Rattle.spv_logic.specs.Terms.{Term, eval}
 use Rattle.spv_logic.specs.Sorts.{fits, shapes_ok, sort_of_type}
 use Rattle.spv_logic.specs.Conditions.{Meaning, Valuation, View, Shows, answers}
 use Rattle.spv_logic.proofs.Equality.{left_true, right_true, sort_eq-refl}
 use Rattle.spv_logic.proofs.Sorting.{eval-fits}
 use Rattle.spv_logic.proofs.Changes.{class_same, put_other, pos_differs, differs}
 use Rattle.spv_program.specs.declared.types.Item.TheVariants.{Variable, Class}
-use Rattle.spv_program.specs.Lists.{same_name, found, first_of, all_differ}
+use Rattle.spv_program.specs.Lists.{same_name, found, first_of}
 use Rattle.spv_program.specs.Types.{same_type, sort_of, form_ok, forms_ok}
 use Rattle.spv_program.specs.Programs.{Routine, Program, shapes, routine_in}
 use Rattle.spv_program.specs.Scopes.{own_names_in, is_own, name_type}
@@ -26,9 +26,9 @@ use Rattle.spv_program.specs.Typing.{declarations_ok, well_typed}
 use Rattle.spv_program.specs.Laws.{HasSort}
 use Rattle.spv_program.proofs.SortFacts.{nothing_there, some_is}
 use Rattle.spv_meaning.specs.Places.{HeapRow, State, row_of, look}
-use Rattle.spv_meaning.specs.Views.{place_of, sees, shown_names, shown_type, of_sort, with_heap_row, class_of, now_view}
+use Rattle.spv_meaning.specs.Views.{place_of, sees, shown_type, of_sort, with_heap_row, class_of, now_view}
 use Rattle.spv_meaning.specs.Levels.{Here}
-use Rattle.spv_meaning.specs.Starts.{IsStart, is_of_type, names_hold, row_ok, heap_ok}
+use Rattle.spv_meaning.specs.Starts.{is_of_type, row_ok, heap_ok}
 use Rattle.spv_meaning.proofs.Heaps.{class_fits}
 use Rattle.spv_evaluation.specs.Laws.{root_seen, Shown}
 
@@ -62,15 +62,6 @@ found-filter {X} test (n ∷ xs) x passes = by_name (same_name n.0 x) refl (foun
     by_name here e later =
         subst (Kept (test n.0)) (sym e) (by_test here (test n.0) e later (λ is. ap test (same_names n.0 x (e ∙ is)) ∙ passes))
 
-pub list_all-found : (P : Symbol → TypeId → Bool) (xs : List (Symbol × TypeId)) (x : Symbol) (t : TypeId) → list_all (λ n. P n.0 n.1) xs ≡ true → found xs x ≡ Some t → P x t ≡ true
-list_all-found P [] x t h e = absurd (nothing_there e)
-list_all-found P (n ∷ xs) x t h e =
-    by_case (same_name n.0 x) refl e (list_all-found P xs x t (right_true (P n.0 n.1) _ h))
-  where
-    by_case : (b : Bool) → same_name n.0 x ≡ b → cond b (Some n.1) (found xs x) ≡ Some t → (found xs x ≡ Some t → P x t ≡ true) → P x t ≡ true
-    by_case true is e later = ap (λ y. P y t) (sym (same_names n.0 x is)) ∙ (ap (P n.0) (sym (some_is e)) ∙ left_true (P n.0 n.1) _ h)
-    by_case false is e later = later e
-
 -- a name that is seen shows, with its type
 shown : (p : Program) (r : Option Routine) (x : Symbol) (t : TypeId) → name_type p r x ≡ Some t → root_seen r (name_root (is_own r) x) ≡ true → shown_type p r x ≡ Some t
 shown p r x t is seen =
@@ -91,7 +82,7 @@ at_head view v h w shows e = shows h w e
 pub name_shown : (p : Program) (here : Here) (state : State) (v : Valuation) → Shown p here state v → (x : Symbol) (t : TypeId) → name_type p (routine_in p here.routine) x ≡ Some t → root_seen (routine_in p here.routine) (name_root (is_own (routine_in p here.routine)) x) ≡ true → look state (place_of here.routine state x) ≡ Some (v (head.Var x (sort_of p.forms t) 0))
 name_shown p here state v all x t is seen =
     let type = shown p (routine_in p here.routine) x t is seen in
-    let holds = list_all-found (λ y u. is_of_type p u (look state (place_of here.routine state y))) (shown_names p (routine_in p here.routine)) x t all.start.names type in
+    let holds = all.start.names x t type in
     let w = something p t (look state (place_of here.routine state x)) holds in
     let view : now_view p here.routine state (head.Var x (sort_of p.forms t) 0) ≡ Some w.0
     = ap (λ o. of_sort (option_map (sort_of p.forms) o) (sort_of p.forms t) (look state (place_of here.routine state x))) type

@@ -1,5 +1,5 @@
 -- Steps into values, and evaluations one after the other.
-use Rattle.std.proofs.Common.{◌≡◌, Bool, true, false, cond, ◌&&◌, List, [], ◌∷◌, ◌++◌, ℕ, ℤ, pos, refl, sym, ap, subst, ◌∙◌, nat_eq, Option, Some, None}
+use Rattle.std.proofs.Common.{◌≡◌, Bool, true, false, cond, List, [], ◌∷◌, ◌++◌, pos, refl, sym, ap, subst, ◌∙◌, nat_eq, Option, Some, None}
 use Rattle.std.specs.Option.{option_and_then}
 use Rattle.std.specs.Ordering.{int_eq}
 use Rattle.std.proofs.lemmas.Bool.{false≢true, eqb-true}
@@ -10,13 +10,13 @@ use Rattle.spv_logic.specs.declared.types.Shape.{Shape}
 use Rattle.spv_logic.specs.declared.types.Shape.TheVariants as shape
 use Rattle.spv_logic.specs.declared.types.Field.{Field}
 use Rattle.spv_logic.specs.Values.{Value, Rows, Number, Truth, Pointer, ArrayOf, RecordOf, ClassOf, AtomOf, PairOf, no_rows, row, rows_in, default_in, number_of, row_at}
-use Rattle.spv_logic.specs.Sorts.{shape_at, element_sort, element_of_shape, fields_of, fields_of_shape, field_sort, field_sort_of, content_sort, is_pointer, is_list, on_sort, on_fields, on_first_field, fits, fields_fit}
+use Rattle.spv_logic.specs.Sorts.{shape_at, element_sort, element_of_shape, fields_of, fields_of_shape, field_sort, field_sort_of, is_pointer, is_list, on_sort, on_fields, fits, fields_fit}
 use Rattle.spv_logic.proofs.Equality.{left_true, right_true, int_eq-true, int_eq-refl, sort_eq-true}
-use Rattle.spv_logic.proofs.Sorting.{ArrayParts, array_parts}
-use Rattle.spv_program.proofs.SortFacts.{nothing_there, some_is}
+use Rattle.spv_logic.proofs.Sorting.{array_parts}
+use Rattle.spv_program.proofs.SortFacts.{nothing_there}
 use Rattle.spv_meaning.specs.declared.faults.Fault.{Fault}
-use Rattle.spv_meaning.specs.Outcomes.{Outcome, Ended, ends, stops, and_then, go_on, stops_unless}
-use Rattle.spv_meaning.specs.Places.{Root, PathStep, Place, State, IndexStep, FieldStep, row_found, step_part, part_at, root_value, look}
+use Rattle.spv_meaning.specs.Outcomes.{Outcome, Ended, and_then, go_on, stops_unless}
+use Rattle.spv_meaning.specs.Places.{PathStep, Place, State, IndexStep, FieldStep, row_found, step_part, part_at, root_value, look}
 use Rattle.spv_evaluation.specs.Quiet.{Quiet, Stops, Gives}
 
 -- ---- one after the other

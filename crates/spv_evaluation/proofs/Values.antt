@@ -1,6 +1,5 @@
 -- What expressions without calls give.
-use Rattle.std.proofs.Common.{◌≡◌, Bool, true, false, cond, not, ◌&&◌, List, [], ◌∷◌, ◌++◌, ℕ, ℤ, pos, ◌-ℤ◌, refl, sym, ap, subst, ◌∙◌, Option, Some, None, option_map}
-use Rattle.std.specs.List.{list_all}
+use Rattle.std.proofs.Common.{◌≡◌, Bool, true, false, cond, not, ◌&&◌, List, [], ◌∷◌, ◌++◌, ℕ, pos, ◌-ℤ◌, refl, sym, ap, subst, ◌∙◌, Option, Some, None, option_map}
 use Rattle.std.specs.Option.{option_and_then, unwrap_or}
 use Rattle.std.specs.Cmp.Derive.{both_true}
 use Rattle.std.proofs.lemmas.Bool.{false≢true, eqb-true}
@@ -9,9 +8,9 @@ use Rattle.spv_logic.specs.declared.types.TypeId.{TypeId}
 use Rattle.spv_logic.specs.declared.types.Sort.{Sort}
 use Rattle.spv_logic.specs.declared.types.Sort.TheVariants as sort
 use Rattle.spv_logic.specs.declared.operators.Head.TheVariants as head
-use Rattle.spv_logic.specs.Values.{Value, Number, Truth, Pointer, rows_in, default_in, number_of, truth_of, pointer_of, row_at}
+use Rattle.spv_logic.specs.Values.{Value, Number, Truth, rows_in, default_in, number_of, truth_of, pointer_of, row_at}
 use Rattle.spv_logic.specs.Terms.{Term, eval}
-use Rattle.spv_logic.specs.Sorts.{fits, term_sort}
+use Rattle.spv_logic.specs.Sorts.{term_sort}
 use Rattle.spv_logic.specs.Conditions.{Meaning, Valuation}
 use Rattle.spv_logic.proofs.Equality.{left_true, right_true}
 use Rattle.spv_program.specs.declared.operators.Arithmetic.{Arithmetic}
@@ -24,31 +23,31 @@ use Rattle.spv_program.specs.declared.types.Item.TheVariants.{Variable, Class}
 use Rattle.spv_program.specs.declared.types.TypeForm.{TypeForm}
 use Rattle.spv_program.specs.declared.types.TypeForm.TheVariants.{Pointer as PointerTo}
 use Rattle.spv_program.specs.Types.{same_type, form_at, sort_of, sort_of_form, element_of, field_of, target_of, takes_index}
-use Rattle.spv_program.specs.Expressions.{Expression, Designator, Selectors, Call, Arguments, Numeral, Boolean, NilOf, Read, Result, Through, Negative, Calculated, Compared, Negated, Joined, designator, no_selectors, at_index, at_field, at_cell, call}
+use Rattle.spv_program.specs.Expressions.{Expression, Designator, Selectors, Call, Numeral, Boolean, NilOf, Read, Result, Through, Negative, Calculated, Compared, Negated, Joined, designator, no_selectors, at_index, at_field, at_cell, call}
 use Rattle.spv_program.specs.Programs.{Routine, Program, shapes, routine_in}
 use Rattle.spv_program.specs.Scopes.{name_type, is_own, sort_or_int}
-use Rattle.spv_program.specs.Uses.{Use, Root, Own, Shared, name_root, expression_uses, designator_uses, selector_uses, expression_calls, designator_calls, selector_calls, calls_with, argument_calls}
+use Rattle.spv_program.specs.Uses.{Use, name_root, expression_uses, designator_uses, selector_uses, expression_calls, designator_calls, selector_calls, calls_with, argument_calls}
 use Rattle.spv_program.specs.FormulaTypes.{is_sort, two_sorts, numbers, compared_sort}
-use Rattle.spv_program.specs.ExpressionTypes.{comparable, is_nil, may_read, sort_of_type, expression_sort, designator_type, selected_type}
+use Rattle.spv_program.specs.ExpressionTypes.{comparable, is_nil, may_read, expression_sort, designator_type, selected_type}
 use Rattle.spv_program.specs.Supplies.{Supply}
-use Rattle.spv_program.specs.Places.{Step, ToElement, ToField, part, present}
-use Rattle.spv_program.specs.Terms.{alone, unary, binary, truth, head_of_arithmetic, comparing, head_of_connective, item_head}
+use Rattle.spv_program.specs.Places.{ToElement, ToField, present}
+use Rattle.spv_program.specs.Terms.{binary, truth, head_of_arithmetic, comparing, head_of_connective, item_head}
 use Rattle.spv_program.specs.ExpressionTerms.{Placed, valued, placed, selected, read_at, at_start, to_element, to_field, to_cell}
 use Rattle.spv_program.specs.Laws.{HasSort}
 use Rattle.spv_program.proofs.SortFacts.{nothing_there, some_is, is_sort-true, test_passes, Behind, behind, passed, chosen, failed, sort_one, sort_two, two_there}
-use Rattle.spv_program.proofs.FormulaSorting.{selected_sort, field_sort_told, content_told, two_truths, two_numbers, one_of}
-use Rattle.spv_program.proofs.ExpressionSorting.{value_sorted, place_sorted, present-further, element_told, field_told}
+use Rattle.spv_program.proofs.FormulaSorting.{selected_sort, field_sort_told, content_told, two_truths, two_numbers}
+use Rattle.spv_program.proofs.ExpressionSorting.{value_sorted, present-further, element_told, field_told}
 use Rattle.spv_meaning.specs.declared.faults.Fault.TheVariants as fault
-use Rattle.spv_meaning.specs.Places.{PathStep, Place, HeapRow, State, CellOf, IndexStep, FieldStep, step_part, part_at, content_of, whole, row_of, look, value_or_zero}
-use Rattle.spv_meaning.specs.Views.{place_of, sees}
-use Rattle.spv_meaning.specs.Outcomes.{Outcome, ends, and_then}
+use Rattle.spv_meaning.specs.Places.{HeapRow, State, CellOf, IndexStep, FieldStep, step_part, part_at, content_of, whole, row_of, look, value_or_zero}
+use Rattle.spv_meaning.specs.Views.{sees}
+use Rattle.spv_meaning.specs.Outcomes.{Outcome, and_then}
 use Rattle.spv_meaning.specs.Levels.{Here, Level}
 use Rattle.spv_meaning.specs.Evaluation as run
 use Rattle.spv_meaning.specs.Evaluation.{Got, Fixed, evaluate, fix, select, calculate, calculated, divides, compare, join, is_cell_of, holds_now}
-use Rattle.spv_evaluation.specs.Quiet.{Quiet, Stops, Gives}
+use Rattle.spv_evaluation.specs.Quiet.{Quiet, Gives}
 use Rattle.spv_evaluation.specs.Laws.{root_seen, uses_seen}
 use Rattle.spv_evaluation.proofs.Settings.{Setting}
-use Rattle.spv_evaluation.proofs.Steps.{quiet_then, quiet_unless, quiet_as, look-further, array_step, field_step}
+use Rattle.spv_evaluation.proofs.Steps.{quiet_then, quiet_unless, look-further, array_step, field_step}
 
 -- ---- lists that are empty, and uses that are seen
 

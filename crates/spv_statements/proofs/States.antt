@@ -29,7 +29,6 @@ use Rattle.spv_meaning.specs.Levels.{Here}
 use Rattle.spv_meaning.specs.Starts.{IsStart, is_of_type}
 use Rattle.spv_meaning.specs.Before.{renamed, replaced}
 use Rattle.spv_meaning.proofs.Heaps.{class_fits}
-use Rattle.spv_evaluation.proofs.Settings.{list_all-found}
 use Rattle.spv_statements.specs.Truth.{is_new, IsLater, IsWindow, IsEntry, meaning_in, all_follow, shown, IsTrueFor, Ignores}
 use Rattle.spv_statements.proofs.Lists.{not_new, follow-replaced}
 use Rattle.spv_statements.proofs.Views.{Part, First, Second, parts, state_old, within, within-there, within-none, laid_over}
@@ -53,7 +52,7 @@ module _ (p : Program) (ok : shapes_ok (shapes p) ≡ true) (world : Meaning) (h
       by_type (Some t) is e =
           let same = sort_eq-true (sort_of p.forms t) s (passed (sort_eq (sort_of p.forms t) s) _ w e) in
           let there = chosen (sort_eq (sort_of p.forms t) s) (look state (place_of here.routine state x)) w e in
-          let holds = list_all-found (λ y u. is_of_type p u (look state (place_of here.routine state y))) (shown_names p (routine_in p here.routine)) x t start.names is in
+          let holds = start.names x t is in
           ap (fits (shapes p) w) (sym same) ∙ (ap (is_of_type p t) (sym there) ∙ holds)
   now_fit state start (head.Var x s (suc n)) w e = absurd (nothing_there e)
   now_fit state start (head.ClassVar t zero) w e =

@@ -1,14 +1,8 @@
-use Rattle.std.proofs.Common.{true}
-use Rattle.spv_logic.specs.Terms.{eval}
-use Rattle.spv_logic.specs.Sorts.{shapes_ok}
 use Rattle.spv_logic.specs.Conditions.{answers}
-use Rattle.spv_logic.proofs.Equality.{left_true, right_true}
-use Rattle.spv_logic.proofs.Sorting.{eval-fits}
-use Rattle.spv_program.specs.Programs.{shapes, routine_in}
-use Rattle.spv_program.specs.ExpressionTerms.{placed}
+use Rattle.spv_program.specs.Programs.{shapes}
 use Rattle.spv_meaning.specs.Evaluation.{fix}
 use Rattle.spv_evaluation.proofs.Steps.{quiet_as}
-use Rattle.spv_evaluation.proofs.Settings.{forms_right, setting}
+use Rattle.spv_evaluation.proofs.Settings.{setting}
 use Rattle.spv_evaluation.proofs.Values.{evaluated, fixed_at}
 use Rattle.spv_evaluation.proofs.laws.law_value.Goals as goal
 
