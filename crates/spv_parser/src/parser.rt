@@ -4,7 +4,7 @@ ghost use Rattle.std.specs.Prelude.{◌≤◌, OnOk, IfOk, IfErr};
 ghost use Rattle.spv_syntax.specs.Reads.{Reads, ReadsRules, ReadsFormulaText};
 ghost use Rattle.spv_parser.specs.Causes.{IsAllowed, HasCause, IsForbidden, IsRefusalOf};
 
-use crate::fault::Fault;
+use spv_front::fault::Fault;
 use crate::formula_texts::{formula_text, surplus};
 use crate::programs::program_at;
 use crate::refused::SyntaxFault;

@@ -27,4 +27,3 @@ pub mod ProgramLines
 pub mod RuleKinds
 pub mod RuleLines
 pub mod Reads
-pub mod Flat
