@@ -25,11 +25,7 @@ impl Spelled for RuleVars {
 }
 
 // Adds a word and the tokens of the formula behind it, where they are there.
-fn premise(
-    word: Word,
-    behind: &Option<Formula>,
-    out: &mut Vec<TokenKind>,
-) -> Result<(), AllocError>
+fn premise(word: Word, behind: &Option<Formula>, out: &mut Vec<TokenKind>) -> Result<(), AllocError>
     ensures { OnOk result (Adds (premise_kinds (kind.Word word) behind.now) out.old.items out.new.items) }
 {
     match behind {

@@ -17,4 +17,3 @@ more_arms-arm-requires t c =
     subst (λ (a : Arm). arm_size a ≤ more_arms_size (more_arms_of c.args.more.now)) (sym c.part-item.is)
     (arm_within c.args.more.now c.loop-part.part-index c.part-item.result (omega arith)) in
     (omega (arith, c.decreases), tt)
-
