@@ -8,8 +8,8 @@ ghost use Rattle.spv_front.specs.Faults.{IsSyntax};
 ghost use Rattle.spv_formula_parser.specs.Factors.{read_selector, read_class, read_negation, factor_at};
 ghost use Rattle.spv_formula_parser.specs.Factors as spec;
 
-use spv_front::fault::{Fault, unexpected};
 use crate::formulas::inner;
+use spv_front::fault::{Fault, unexpected};
 use spv_front::front::{after, first_line, front, is_sign, name, past_sign};
 use spv_syntax::{Designator, Factor, FactorForm, Formula, Name, Selector, SelectorForm};
 use spv_tokens::{Sign, Token, TokenKind, Word};

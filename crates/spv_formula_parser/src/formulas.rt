@@ -6,8 +6,8 @@ ghost use Rattle.spv_reading.specs.Readers as reader;
 ghost use Rattle.spv_reading.specs.FormulaReaders.{comparison_of, adding_of, multiplying_of, read_inner, read_factor, read_more_factors, read_term, read_more_terms, read_sum, read_simple, read_relation, read_formula};
 ghost use Rattle.spv_front.specs.Faults.{IsSyntax};
 
-use spv_front::constants::prefix;
 use crate::factors::factor;
+use spv_front::constants::prefix;
 use spv_front::fault::{Fault, unexpected};
 use spv_front::front::{after, first_line, front, is_sign};
 use spv_syntax::{

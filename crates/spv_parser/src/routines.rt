@@ -9,17 +9,17 @@ ghost use Rattle.spv_reading.specs.RoutineReaders as routine;
 ghost use Rattle.spv_front.specs.Faults.{IsSyntax};
 ghost use Rattle.spv_parser.specs.RoutineParts.{read_initial};
 
-use spv_type_parser::declarations::{DeclarationReader, name_or_class};
-use spv_front::fault::{Fault, unexpected};
 use spv_formula_parser::formulas::formula;
+use spv_front::fault::{Fault, unexpected};
 use spv_front::front::{after, first_line, front, is_sign, is_word, name, past_sign};
 use spv_front::lists::{PartReader, headed, several};
-use spv_type_parser::types::names;
 use spv_syntax::{
-    Clauses, Const, Formula, GlobalGroup, Group, GroupForm, Heading, HeadingForm, Item, Locals, Name,
-    Params, RoutineMark, Several, Start, Vars,
+    Clauses, Const, Formula, GlobalGroup, Group, GroupForm, Heading, HeadingForm, Item, Locals,
+    Name, Params, RoutineMark, Several, Start, Vars,
 };
 use spv_tokens::{Sign, Token, TokenKind, Word};
+use spv_type_parser::declarations::{DeclarationReader, name_or_class};
+use spv_type_parser::types::names;
 use std::alloc::Global;
 
 // ":" name

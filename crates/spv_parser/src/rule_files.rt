@@ -8,14 +8,14 @@ ghost use Rattle.spv_reading.specs.RuleReaders.{read_rule_vars, read_premise, re
 ghost use Rattle.spv_reading.specs.RuleReaders as spec;
 ghost use Rattle.spv_front.specs.Faults.{IsSyntax};
 
-use spv_front::fault::{Fault, unexpected};
 use spv_formula_parser::formulas::formula;
+use spv_front::fault::{Fault, unexpected};
 use spv_front::front::{after, first_line, front, is_word, past_sign, past_word};
 use spv_front::lists::{PartReader, headed};
-use spv_type_parser::declarations::sort;
-use spv_type_parser::types::names;
 use spv_syntax::{Formula, Parts, Rule, RuleForm, RuleTree, RuleVars};
 use spv_tokens::{Sign, Token, TokenKind, Word};
+use spv_type_parser::declarations::sort;
+use spv_type_parser::types::names;
 use std::alloc::Global;
 
 // Reads the variables of rules.

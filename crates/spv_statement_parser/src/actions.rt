@@ -7,8 +7,8 @@ ghost use Rattle.spv_reading.specs.StatementReaders.{read_call, read_creation, r
 ghost use Rattle.spv_front.specs.Faults.{IsSyntax};
 
 use spv_formula_parser::factors::{designator, selectors};
-use spv_front::fault::{Fault, unexpected};
 use spv_formula_parser::formulas::{formula, inner};
+use spv_front::fault::{Fault, unexpected};
 use spv_front::front::{after, is_sign, past_sign};
 use spv_front::lists::{PartReader, several};
 use spv_syntax::{Designator, Formula, Name, Selector, Statement, StatementForm};
@@ -24,6 +24,19 @@ impl PartReader<Formula> for ArgumentReader {
     fn read(alloc: Global, levels: u32, tokens: &[Token]) -> Result<(Formula, &[Token]), Fault> {
         inner(alloc, levels, tokens)
     }
+}
+
+// A formula in a box.
+pub fn boxed_formula(
+    alloc: Global,
+    levels: u32,
+    tokens: &[Token],
+) -> Result<(Box<Formula>, &[Token]), Fault>
+    ensures read { IfOk result (λ r. read_formula levels tokens.now ≡ Some (r.0.value, r.1.now)) }
+    ensures absent { IsErrAnd result IsSyntax → read_formula levels tokens.now ≡ None }
+{
+    let (read, rest) = formula(alloc, levels, tokens)?;
+    Ok((Box::new(alloc, read)?, rest))
 }
 
 // "(" formula {"," formula} ")", behind a name and the bracket
@@ -73,8 +86,7 @@ fn becomes(
 {
     let line = name.line;
     if is_sign(Sign::Becomes, tokens) {
-        let (value, rest) = formula(alloc, levels, after(tokens))?;
-        let value = Box::new(alloc, value)?;
+        let (value, rest) = boxed_formula(alloc, levels, after(tokens))?;
         let form = StatementForm::Assignment(Designator { line, name, behind }, value);
         return Ok((Statement { line, form }, rest));
     }

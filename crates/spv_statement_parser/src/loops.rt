@@ -4,14 +4,14 @@ ghost use Rattle.std.specs.Prelude.{◌≡◌, Some, None, IfOk, IsErrAnd};
 ghost use Rattle.spv_syntax.specs.StatementViews.{invariant_of};
 ghost use Rattle.spv_reading.specs.Readers as reader;
 ghost use Rattle.spv_reading.specs.FormulaReaders.{read_formula};
-ghost use Rattle.spv_reading.specs.StatementReaders.{direction_of, read_while, read_repeat, read_for, loop_by, read_repetition, read_lower};
+ghost use Rattle.spv_reading.specs.StatementReaders.{direction_of, read_to, read_while, read_repeat, read_for, loop_by, read_repetition, read_lower};
 ghost use Rattle.spv_front.specs.Faults.{IsSyntax};
 
+use crate::actions::boxed_formula;
+use crate::statements::{boxed, more_statements};
 use spv_front::fault::{Fault, unexpected};
-use spv_formula_parser::formulas::formula;
 use spv_front::front::{after, first_line, front, name, past_sign, past_word};
-use crate::statements::{lower, more_statements};
-use spv_syntax::{Direction, Formula, Loop, LoopForm, Statement, StatementForm};
+use spv_syntax::{Direction, Formula, Loop, LoopForm, Name, Statement, StatementForm};
 use spv_tokens::{Sign, Token, TokenKind, Word};
 use std::alloc::Global;
 
@@ -37,11 +37,9 @@ fn while_loop(
     ensures read { IfOk result (λ r. read_while (read_lower levels) (read_formula levels) line tokens.now ≡ Some (r.0, r.1.now)) }
     ensures absent { IsErrAnd result IsSyntax → read_while (read_lower levels) (read_formula levels) line tokens.now ≡ None }
 {
-    let (test, rest) = formula(alloc, levels, tokens)?;
+    let (test, rest) = boxed_formula(alloc, levels, tokens)?;
     let rest = past_word(Word::Do, rest)?;
-    let (body, rest) = lower(alloc, levels, rest)?;
-    let test = Box::new(alloc, test)?;
-    let body = Box::new(alloc, body)?;
+    let (body, rest) = boxed(alloc, levels, rest)?;
     let form = LoopForm::While(test, body);
     Ok((Loop { line, form }, rest))
 }
@@ -57,13 +55,34 @@ fn repeat_loop(
     ensures read { IfOk result (λ r. read_repeat (read_lower levels) (read_formula levels) line tokens.now ≡ Some (r.0, r.1.now)) }
     ensures absent { IsErrAnd result IsSyntax → read_repeat (read_lower levels) (read_formula levels) line tokens.now ≡ None }
 {
-    let (first, rest) = lower(alloc, levels, tokens)?;
+    let (first, rest) = boxed(alloc, levels, tokens)?;
     let (more, rest) = more_statements(alloc, levels, rest)?;
     let rest = past_word(Word::Until, rest)?;
-    let (test, rest) = formula(alloc, levels, rest)?;
-    let first = Box::new(alloc, first)?;
-    let test = Box::new(alloc, test)?;
+    let (test, rest) = boxed_formula(alloc, levels, rest)?;
     let form = LoopForm::Repeat(first, more, test);
+    Ok((Loop { line, form }, rest))
+}
+
+// (TO | DOWNTO) formula DO statement, behind the first bound of FOR on this line
+#[cycle(statement)]
+fn for_behind(
+    alloc: Global,
+    levels: u32,
+    line: u32,
+    variable: Name,
+    from: Box<Formula>,
+    tokens: &[Token],
+) -> Result<(Loop, &[Token]), Fault>
+    ensures read { IfOk result (λ r. read_to (read_lower levels) (read_formula levels) line variable from.value (direction_of (reader.front tokens.now)) tokens.now ≡ Some (r.0, r.1.now)) }
+    ensures absent { IsErrAnd result IsSyntax → read_to (read_lower levels) (read_formula levels) line variable from.value (direction_of (reader.front tokens.now)) tokens.now ≡ None }
+{
+    let Some(towards) = direction(tokens) else {
+        return Err(unexpected(tokens));
+    };
+    let (to, rest) = boxed_formula(alloc, levels, after(tokens))?;
+    let rest = past_word(Word::Do, rest)?;
+    let (body, rest) = boxed(alloc, levels, rest)?;
+    let form = LoopForm::For(variable, from, towards, to, body);
     Ok((Loop { line, form }, rest))
 }
 
@@ -80,18 +99,8 @@ fn for_loop(
 {
     let (variable, rest) = name(tokens)?;
     let rest = past_sign(Sign::Becomes, rest)?;
-    let (from, rest) = formula(alloc, levels, rest)?;
-    let Some(towards) = direction(rest) else {
-        return Err(unexpected(rest));
-    };
-    let (to, rest) = formula(alloc, levels, after(rest))?;
-    let rest = past_word(Word::Do, rest)?;
-    let (body, rest) = lower(alloc, levels, rest)?;
-    let from = Box::new(alloc, from)?;
-    let to = Box::new(alloc, to)?;
-    let body = Box::new(alloc, body)?;
-    let form = LoopForm::For(variable, from, towards, to, body);
-    Ok((Loop { line, form }, rest))
+    let (from, rest) = boxed_formula(alloc, levels, rest)?;
+    for_behind(alloc, levels, line, variable, from, rest)
 }
 
 // The loop at the front.

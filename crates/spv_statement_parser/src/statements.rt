@@ -8,12 +8,11 @@ ghost use Rattle.spv_reading.specs.StatementReaders.{read_more_statements, read_
 ghost use Rattle.spv_front.specs.Faults.{IsSyntax};
 ghost use Rattle.spv_statement_parser.specs.Compound.{read_compound, read_with_invariant, read_assertion};
 
-use crate::actions::{action, creation};
+use crate::actions::{action, boxed_formula, creation};
+use crate::loops::repetition;
 use spv_front::constants::{begins_constant, constants};
 use spv_front::fault::{Fault, unexpected};
-use spv_formula_parser::formulas::formula;
 use spv_front::front::{after, first_line, front, is_sign, is_word, past_sign, past_word};
-use crate::loops::repetition;
 use spv_syntax::{Arm, Block, Name, Statement, StatementForm};
 use spv_tokens::{Sign, Token, TokenKind, Word};
 use std::alloc::Global;
@@ -52,10 +51,9 @@ fn block_behind(
     ensures read { IfOk result (λ r. read_block_behind (read_lower levels) line tokens.now ≡ Some (r.0, r.1.now)) }
     ensures absent { IsErrAnd result IsSyntax → read_block_behind (read_lower levels) line tokens.now ≡ None }
 {
-    let (first, rest) = lower(alloc, levels, tokens)?;
+    let (first, rest) = boxed(alloc, levels, tokens)?;
     let (more, rest) = more_statements(alloc, levels, rest)?;
     let rest = past_word(Word::End, rest)?;
-    let first = Box::new(alloc, first)?;
     Ok((Block { line, first, more }, rest))
 }
 
@@ -81,8 +79,8 @@ fn arm(alloc: Global, levels: u32, tokens: &[Token]) -> Result<(Arm, &[Token]), 
     }
     let (labels, rest) = constants(alloc, tokens)?;
     let rest = past_sign(Sign::Colon, rest)?;
-    let (statement, rest) = lower(alloc, levels, rest)?;
-    let form = Some((labels, Box::new(alloc, statement)?));
+    let (statement, rest) = boxed(alloc, levels, rest)?;
+    let form = Some((labels, statement));
     Ok((Arm { line, form }, rest))
 }
 
@@ -118,8 +116,8 @@ fn otherwise(
     if !is_word(Word::Else, tokens) {
         return Ok((None, tokens));
     }
-    let (statement, rest) = lower(alloc, levels, after(tokens))?;
-    Ok((Some(Box::new(alloc, statement)?), rest))
+    let (statement, rest) = boxed(alloc, levels, after(tokens))?;
+    Ok((Some(statement), rest))
 }
 
 // formula THEN statement [ELSE statement], behind IF on this line
@@ -133,12 +131,10 @@ fn conditional(
     ensures read { IfOk result (λ r. read_conditional (read_lower levels) (read_formula levels) line tokens.now ≡ Some (r.0, r.1.now)) }
     ensures absent { IsErrAnd result IsSyntax → read_conditional (read_lower levels) (read_formula levels) line tokens.now ≡ None }
 {
-    let (test, rest) = formula(alloc, levels, tokens)?;
+    let (test, rest) = boxed_formula(alloc, levels, tokens)?;
     let rest = past_word(Word::Then, rest)?;
-    let (then, rest) = lower(alloc, levels, rest)?;
+    let (then, rest) = boxed(alloc, levels, rest)?;
     let (other, rest) = otherwise(alloc, levels, rest)?;
-    let test = Box::new(alloc, test)?;
-    let then = Box::new(alloc, then)?;
     let form = StatementForm::If(test, then, other);
     Ok((Statement { line, form }, rest))
 }
@@ -154,13 +150,12 @@ fn selection(
     ensures read { IfOk result (λ r. read_selection (read_lower levels) (read_formula levels) line tokens.now ≡ Some (r.0, r.1.now)) }
     ensures absent { IsErrAnd result IsSyntax → read_selection (read_lower levels) (read_formula levels) line tokens.now ≡ None }
 {
-    let (value, rest) = formula(alloc, levels, tokens)?;
+    let (value, rest) = boxed_formula(alloc, levels, tokens)?;
     let rest = past_word(Word::Of, rest)?;
     let (first, rest) = arm(alloc, levels, rest)?;
+    let first = Box::new(alloc, first)?;
     let (more, rest) = more_arms(alloc, levels, rest)?;
     let rest = past_word(Word::End, rest)?;
-    let value = Box::new(alloc, value)?;
-    let first = Box::new(alloc, first)?;
     let form = StatementForm::Case(value, first, more);
     Ok((Statement { line, form }, rest))
 }
@@ -192,8 +187,7 @@ fn with_invariant(
     ensures read { IfOk result (λ r. read_with_invariant levels line tokens.now ≡ Some (r.0, r.1.now)) }
     ensures absent { IsErrAnd result IsSyntax → read_with_invariant levels line tokens.now ≡ None }
 {
-    let (invariant, rest) = formula(alloc, levels, tokens)?;
-    let invariant = Box::new(alloc, invariant)?;
+    let (invariant, rest) = boxed_formula(alloc, levels, tokens)?;
     repetition(alloc, levels, line, Some(invariant), rest)
 }
 
@@ -207,8 +201,8 @@ fn assertion(
     ensures read { IfOk result (λ r. read_assertion levels line tokens.now ≡ Some (r.0, r.1.now)) }
     ensures absent { IsErrAnd result IsSyntax → read_assertion levels line tokens.now ≡ None }
 {
-    let (read, rest) = formula(alloc, levels, tokens)?;
-    let form = StatementForm::Assert(Box::new(alloc, read)?);
+    let (read, rest) = boxed_formula(alloc, levels, tokens)?;
+    let form = StatementForm::Assert(read);
     Ok((Statement { line, form }, rest))
 }
 
@@ -248,4 +242,18 @@ pub fn lower(alloc: Global, levels: u32, tokens: &[Token]) -> Result<(Statement,
         return Err(unexpected(tokens));
     }
     statement(alloc, levels - 1, tokens)
+}
+
+// The same in a box.
+#[cycle(statement)]
+pub fn boxed(
+    alloc: Global,
+    levels: u32,
+    tokens: &[Token],
+) -> Result<(Box<Statement>, &[Token]), Fault>
+    ensures read { IfOk result (λ r. read_lower levels tokens.now ≡ Some (r.0.value, r.1.now)) }
+    ensures absent { IsErrAnd result IsSyntax → read_lower levels tokens.now ≡ None }
+{
+    let (read, rest) = lower(alloc, levels, tokens)?;
+    Ok((Box::new(alloc, read)?, rest))
 }

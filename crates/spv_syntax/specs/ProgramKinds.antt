@@ -51,7 +51,6 @@ symbol_kinds = symbol_spelling in_kinds
 abbrev pub declarations_kinds : Declarations → List TokenKind → List TokenKind
 declarations_kinds = declarations_spelling in_kinds
 
-
 -- ---- headings
 abbrev pub var_kinds : Bool → List TokenKind → List TokenKind
 var_kinds = var_spelling in_kinds
@@ -73,7 +72,6 @@ heading_form_kinds = heading_form_spelling in_kinds
 
 abbrev pub heading_kinds : Heading → List TokenKind → List TokenKind
 heading_kinds = heading_spelling in_kinds
-
 
 -- ---- clauses
 abbrev pub item_kinds : Item → List TokenKind → List TokenKind
@@ -100,7 +98,6 @@ exit_kinds = exit_spelling in_kinds
 abbrev pub clauses_kinds : Clauses → List TokenKind → List TokenKind
 clauses_kinds = clauses_spelling in_kinds
 
-
 -- ---- routines
 abbrev pub locals_kinds : Locals → List TokenKind → List TokenKind
 locals_kinds = locals_spelling in_kinds
@@ -110,7 +107,6 @@ routine_mark_kinds = routine_mark_spelling in_kinds
 
 abbrev pub routines_kinds : List RoutineMark → List TokenKind → List TokenKind
 routines_kinds = routines_spelling in_kinds
-
 
 -- ---- programs
 abbrev pub files_kinds : Option (Several Name) → List TokenKind → List TokenKind

@@ -26,7 +26,6 @@ rule_kinds = rule_spelling in_kinds
 abbrev pub rule_tree_kinds : RuleTree → List TokenKind → List TokenKind
 rule_tree_kinds = rule_tree_spelling in_kinds
 
-
 -- ---- formula texts
 abbrev pub formula_text_kinds : FormulaText → List TokenKind → List TokenKind
 formula_text_kinds = formula_text_spelling in_kinds

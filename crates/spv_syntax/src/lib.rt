@@ -29,4 +29,3 @@ pub use routines::{
 pub use rules::{Rule, RuleForm, RuleTree, RuleVars};
 pub use statements::{Arm, Block, Loop, LoopForm, Statement, StatementForm};
 pub use types::{Field, TypeDenoter, TypeForm};
-

@@ -7,11 +7,11 @@ ghost use Rattle.spv_reading.specs.Readers as reader;
 ghost use Rattle.spv_reading.specs.DeclarationReaders.{read_const, read_name_or_class, read_sort, read_sorts, read_symbol, read_typedef, read_vars, read_declarations};
 ghost use Rattle.spv_front.specs.Faults.{IsSyntax};
 
+use crate::types::{names, type_denoter};
 use spv_front::constants::constant;
 use spv_front::fault::Fault;
 use spv_front::front::{after, first_line, is_sign, name, past_sign};
 use spv_front::lists::{PartReader, headed, several};
-use crate::types::{names, type_denoter};
 use spv_syntax::{Const, Declarations, NameOrClass, Several, SortName, SymbolText, Typedef, Vars};
 use spv_tokens::{Sign, Token, Word};
 use std::alloc::Global;
@@ -105,7 +105,12 @@ fn sorts(alloc: Global, tokens: &[Token]) -> Result<(Option<Several<SortName>>, 
     if !is_sign(Sign::OpenParenthesis, tokens) {
         return Ok((None, tokens));
     }
-    let (sorts, rest) = several::<DeclarationReader, SortName>(alloc, 0, Sign::Comma, after(tokens))?;
+    let (sorts, rest) = several::<DeclarationReader, SortName>(
+        alloc,
+        0,
+        Sign::Comma,
+        after(tokens),
+    )?;
     let rest = past_sign(Sign::CloseParenthesis, rest)?;
     Ok((Some(sorts), rest))
 }
@@ -144,7 +149,12 @@ pub fn declarations(
     let (constants, rest) = headed::<DeclarationReader, Const>(alloc, levels, Word::Const, tokens)?;
     let (types, rest) = headed::<DeclarationReader, Typedef>(alloc, levels, Word::Type, rest)?;
     let (variables, rest) = headed::<DeclarationReader, Vars>(alloc, levels, Word::Var, rest)?;
-    let (symbols, rest) = headed::<DeclarationReader, SymbolText>(alloc, levels, Word::Declare, rest)?;
+    let (symbols, rest) = headed::<DeclarationReader, SymbolText>(
+        alloc,
+        levels,
+        Word::Declare,
+        rest,
+    )?;
     let declarations = Declarations {
         line,
         constants,

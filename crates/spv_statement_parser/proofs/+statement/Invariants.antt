@@ -51,7 +51,13 @@ abbrev pub decreases-statements::more_statements : goal.decreases-statements::mo
 decreases-statements::more_statements l = 20 * l.levels + 1
 
 abbrev pub decreases-statements::otherwise : goal.decreases-statements::otherwise
-decreases-statements::otherwise l = 20 * l.levels + 1
+decreases-statements::otherwise l = 20 * l.levels + 2
+
+abbrev pub decreases-statements::boxed : goal.decreases-statements::boxed
+decreases-statements::boxed l = 20 * l.levels + 1
+
+abbrev pub decreases-loops::for_behind : goal.decreases-loops::for_behind
+decreases-loops::for_behind l = 20 * l.levels + 4
 
 abbrev pub decreases-statements::lower : goal.decreases-statements::lower
 decreases-statements::lower l = 20 * l.levels
