@@ -50,9 +50,10 @@ fn index(
     ensures absent { IsErrAnd result IsSyntax → read_index (read_inner levels) line tokens.now ≡ None }
 {
     let (first, rest) = inner(alloc, levels, tokens)?;
+    let first = Box::new(alloc, first)?;
     let (more, rest) = more_formulas(alloc, levels, rest)?;
     let rest = past_sign(Sign::CloseBracket, rest)?;
-    let form = SelectorForm::Index(Box::new(alloc, first)?, more);
+    let form = SelectorForm::Index(first, more);
     Ok((Selector { line, form }, rest))
 }
 
@@ -144,11 +145,12 @@ fn application(
     ensures absent { IsErrAnd result IsSyntax → read_application (read_inner levels) f tokens.now ≡ None }
 {
     let (first, rest) = inner(alloc, levels, tokens)?;
+    let first = Box::new(alloc, first)?;
     let (more, rest) = more_formulas(alloc, levels, rest)?;
     let rest = past_sign(Sign::CloseParenthesis, rest)?;
     let (behind, rest) = selectors(alloc, levels, rest)?;
     let line = f.line;
-    let form = FactorForm::Application(f, Box::new(alloc, first)?, more, behind);
+    let form = FactorForm::Application(f, first, more, behind);
     Ok((Factor { line, form }, rest))
 }
 
@@ -194,8 +196,9 @@ fn bracketed(
     ensures absent { IsErrAnd result IsSyntax → read_bracketed (read_inner levels) line tokens.now ≡ None }
 {
     let (read, rest) = inner(alloc, levels, tokens)?;
+    let read = Box::new(alloc, read)?;
     let rest = past_sign(Sign::CloseParenthesis, rest)?;
-    let form = FactorForm::Bracketed(Box::new(alloc, read)?);
+    let form = FactorForm::Bracketed(read);
     Ok((Factor { line, form }, rest))
 }
 

@@ -155,11 +155,13 @@ fn array(
 {
     let rest = past_sign(Sign::OpenBracket, tokens)?;
     let (first, rest) = lower_type(alloc, levels, rest)?;
+    let first = Box::new(alloc, first)?;
     let (more, rest) = more_types(alloc, levels, rest)?;
     let rest = past_sign(Sign::CloseBracket, rest)?;
     let rest = past_word(Word::Of, rest)?;
     let (elements, rest) = lower_type(alloc, levels, rest)?;
-    let form = TypeForm::Array(Box::new(alloc, first)?, more, Box::new(alloc, elements)?);
+    let elements = Box::new(alloc, elements)?;
+    let form = TypeForm::Array(first, more, elements);
     Ok((TypeDenoter { line, form }, rest))
 }
 
@@ -226,9 +228,10 @@ fn record(
     ensures absent { IsErrAnd result IsSyntax → read_record (read_lower_type levels) line tokens.now ≡ None }
 {
     let (first, rest) = field(alloc, levels, tokens)?;
+    let first = Box::new(alloc, first)?;
     let (more, rest) = more_fields(alloc, levels, rest)?;
     let rest = past_word(Word::End, rest)?;
-    let form = TypeForm::Record(Box::new(alloc, first)?, more);
+    let form = TypeForm::Record(first, more);
     Ok((TypeDenoter { line, form }, rest))
 }
 
