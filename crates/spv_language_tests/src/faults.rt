@@ -1,6 +1,6 @@
 //! Texts that are no rule files and no formula texts, and texts that are deep or long.
 
-use crate::texts::{formula_of, no_tree, rules_of};
+use crate::texts::{formula_fault, no_tree, rules_fault};
 use spv_language::{LanguageFault, program};
 use spv_lexer::LexFault;
 use spv_names::Names;
@@ -32,7 +32,7 @@ fn no_rule_files(rt: HostRuntime) -> Result<(), Fail> {
         ("x = y;", 1),
         ("PROGRAM a; BEGIN END.", 1),
     ] {
-        let found = rules_of(rt.alloc(), text).err();
+        let found = rules_fault(rt.alloc(), text);
         assert!(rt; found == no_tree(line), "at {text}");
     }
     Ok(())
@@ -59,7 +59,7 @@ fn no_formula_texts(rt: HostRuntime) -> Result<(), Fail> {
         ("PROGRAM a;\nPROCEDURE p; BEGIN END; ASSERT x.", 2),
         ("REPLACE x BY y;", 1),
     ] {
-        let found = formula_of(rt.alloc(), text).err();
+        let found = formula_fault(rt.alloc(), text);
         assert!(rt; found == no_tree(line), "at {text}");
     }
     Ok(())
@@ -67,9 +67,9 @@ fn no_formula_texts(rt: HostRuntime) -> Result<(), Fail> {
 
 #[test]
 fn other_faults_of_rule_files(rt: HostRuntime) -> Result<(), Fail> {
-    let found = rules_of(rt.alloc(), "INFER x\n?").err();
+    let found = rules_fault(rt.alloc(), "INFER x\n?");
     assert!(rt; found == Some(LanguageFault::Tokens(LexFault::BadByte(2))));
-    let found = rules_of(rt.alloc(), "INFER\nSET x").err();
+    let found = rules_fault(rt.alloc(), "INFER\nSET x");
     assert!(rt; found == Some(LanguageFault::Tree(SyntaxFault::Profile(2, Word::Set))));
     Ok(())
 }
@@ -93,9 +93,9 @@ fn bracketed(alloc: Global, before: &str, pairs: usize, behind: &str) -> Result<
 fn deep_formulas(rt: HostRuntime) -> Result<(), Fail> {
     let alloc = rt.alloc();
     let text = bracketed(alloc, "PROGRAM a;\nASSERT ", 199, ".")?;
-    assert!(rt; formula_of(alloc, &text).is_ok());
+    assert!(rt; formula_fault(alloc, &text).is_none());
     let text = bracketed(alloc, "PROGRAM a;\nASSERT ", 200, ".")?;
-    let found = formula_of(alloc, &text).err();
+    let found = formula_fault(alloc, &text);
     assert!(rt; found == Some(LanguageFault::Tree(SyntaxFault::TooDeep(2))));
     Ok(())
 }
@@ -104,9 +104,9 @@ fn deep_formulas(rt: HostRuntime) -> Result<(), Fail> {
 fn deep_rules(rt: HostRuntime) -> Result<(), Fail> {
     let alloc = rt.alloc();
     let text = bracketed(alloc, "INFER ", 199, ";")?;
-    assert!(rt; rules_of(alloc, &text).is_ok());
+    assert!(rt; rules_fault(alloc, &text).is_none());
     let text = bracketed(alloc, "INFER ", 200, ";")?;
-    let found = rules_of(alloc, &text).err();
+    let found = rules_fault(alloc, &text);
     assert!(rt; found == Some(LanguageFault::Tree(SyntaxFault::TooDeep(1))));
     Ok(())
 }

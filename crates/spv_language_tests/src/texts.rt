@@ -22,6 +22,15 @@ pub(crate) fn formula_of(alloc: Global, text: &str) -> Result<FormulaText, Langu
     formula(alloc, text.as_bytes(), &mut names)
 }
 
+// The fault of a text, where it has one.
+pub(crate) fn rules_fault(alloc: Global, text: &str) -> Option<LanguageFault> {
+    rules_of(alloc, text).err()
+}
+
+pub(crate) fn formula_fault(alloc: Global, text: &str) -> Option<LanguageFault> {
+    formula_of(alloc, text).err()
+}
+
 // The fault of tokens that no tree reads.
 pub(crate) fn no_tree(line: u32) -> Option<LanguageFault> {
     Some(LanguageFault::Tree(SyntaxFault::Syntax(line)))

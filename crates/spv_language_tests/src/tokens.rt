@@ -26,6 +26,21 @@ fn stays<T: Flat>(alloc: Global, text: &str, tree: &T) -> Result<bool, Fail> {
     are_tokens_of(alloc, text, &kinds)
 }
 
+fn program_stays(alloc: Global, text: &str) -> Result<bool, Fail> {
+    let tree = program_of(alloc, text)?;
+    stays(alloc, text, &tree)
+}
+
+fn rules_stay(alloc: Global, text: &str) -> Result<bool, Fail> {
+    let tree = rules_of(alloc, text)?;
+    stays(alloc, text, &tree)
+}
+
+fn formula_stays(alloc: Global, text: &str) -> Result<bool, Fail> {
+    let tree = formula_of(alloc, text)?;
+    stays(alloc, text, &tree)
+}
+
 #[test]
 fn programs(rt: HostRuntime) -> Result<(), Fail> {
     for text in [
@@ -42,8 +57,7 @@ fn programs(rt: HostRuntime) -> Result<(), Fail> {
         "PROGRAM a; BEGIN ASSERT a -> -x + y - z OR w = +x * y DIV z MOD 17 AND NOT NOT #T; ASSERT x <> FALSE; ASSERT x < y; \
          ASSERT x <= y; ASSERT x > y; ASSERT x >= NIL; ASSERT f(x, y -> z).g[1]^.h = ((x)) END.",
     ] {
-        let tree = program_of(rt.alloc(), text)?;
-        assert!(rt; stays(rt.alloc(), text, &tree)?, "at {text}");
+        assert!(rt; program_stays(rt.alloc(), text)?, "at {text}");
     }
     Ok(())
 }
@@ -61,8 +75,7 @@ fn rule_files(rt: HostRuntime) -> Result<(), Fail> {
         "INFER f(x) FROM g(x) AND h(x);",
         "VAR x: t; REPLACE f(x) BY 0; INFER g(x); REPLACE x -> y BY z WHERE TRUE; INFER x FROM y;",
     ] {
-        let tree = rules_of(rt.alloc(), text)?;
-        assert!(rt; stays(rt.alloc(), text, &tree)?, "at {text}");
+        assert!(rt; rules_stay(rt.alloc(), text)?, "at {text}");
     }
     Ok(())
 }
@@ -77,8 +90,7 @@ fn formula_texts(rt: HostRuntime) -> Result<(), Fail> {
         "PROGRAM a; VAR x: t; DECLARE f(t): t; ASSERT f(x) = x.",
         "PROGRAM a; CONST c = -1; TYPE t = 1..c; VAR x: t; DECLARE f: t; ASSERT f(x)^.",
     ] {
-        let tree = formula_of(rt.alloc(), text)?;
-        assert!(rt; stays(rt.alloc(), text, &tree)?, "at {text}");
+        assert!(rt; formula_stays(rt.alloc(), text)?, "at {text}");
     }
     Ok(())
 }
