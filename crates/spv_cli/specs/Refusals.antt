@@ -2,8 +2,10 @@
 use Rattle.std.specs.Prelude.{◌≡◌, ℕ, List, []}
 use Rattle.spv_syntax.specs.declared.program.Program.{Program}
 use Rattle.spv_syntax.specs.Reads.{Reads}
-use Rattle.spv_language.specs.declared.fault.TextFault.TheVariants as fault
-use Rattle.spv_language.specs.Texts.{names_with, IsTreeOf, HasCause}
+use Rattle.spv_lexer.specs.declared.LexFault.TheVariants as lex
+use Rattle.spv_parser.specs.declared.refused.SyntaxFault.TheVariants as syntax
+use Rattle.spv_language.specs.declared.fault.LanguageFault.TheVariants.{Tokens, Tree}
+use Rattle.spv_language.specs.Texts.{names_with, IsTreeOf, IsFaultOf}
 use Rattle.spv_form.specs.declared.form.Form.{Form}
 use Rattle.spv_form.specs.declared.form.KnownNumbers.{KnownNumbers}
 use Rattle.spv_form.specs.Known.{known_in}
@@ -30,13 +32,13 @@ IsFormOf text f = (p : Program) × IsProgramOf text p × IsForm (known_of text) 
 
 -- the text is refused for this reason: it is no program, for a fault of it, or a program that is none of the form
 abbrev pub IsRefused : List ℕ → Refusal → Type 0
-IsRefused text (BadByte line) = HasCause Reads [] text (fault.BadByte line)
-IsRefused text (OpenComment line) = HasCause Reads [] text (fault.OpenComment line)
-IsRefused text (NumeralTooLarge line) = HasCause Reads [] text (fault.NumeralTooLarge line)
-IsRefused text TextTooLong = HasCause Reads [] text fault.TextTooLong
-IsRefused text (Profile line word) = HasCause Reads [] text (fault.Profile line word)
-IsRefused text (TooDeep line) = HasCause Reads [] text (fault.TooDeep line)
-IsRefused text (Syntax line) = HasCause Reads [] text (fault.Syntax line)
+IsRefused text (BadByte line) = IsFaultOf Reads [] text (Tokens (lex.BadByte line))
+IsRefused text (OpenComment line) = IsFaultOf Reads [] text (Tokens (lex.OpenComment line))
+IsRefused text (NumeralTooLarge line) = IsFaultOf Reads [] text (Tokens (lex.NumeralTooLarge line))
+IsRefused text TextTooLong = IsFaultOf Reads [] text (Tokens lex.TextTooLong)
+IsRefused text (Profile line word) = IsFaultOf Reads [] text (Tree (syntax.Profile line word))
+IsRefused text (TooDeep line) = IsFaultOf Reads [] text (Tree (syntax.TooDeep line))
+IsRefused text (Syntax line) = IsFaultOf Reads [] text (Tree (syntax.Syntax line))
 IsRefused text NotOfForm = ((p : Program) × IsProgramOf text p) × ((f : Form) → IsFormOf text f → ⊥)
 
 -- the report is that of the text

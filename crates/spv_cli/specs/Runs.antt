@@ -3,8 +3,10 @@ use Rattle.std.specs.Prelude.{◌≡◌, ℕ, ◌⊎◌, List, Option, Some, Non
 use Rattle.spv_io.specs.Faults.{Rose}
 use Rattle.spv_io.specs.Sink.{added, AddsPrefix}
 use Rattle.spv_io.specs.Texts.{named}
-use Rattle.spv_language.specs.declared.fault.TextFault.{TextFault}
-use Rattle.spv_language.specs.declared.fault.TextFault.TheVariants as text
+use Rattle.spv_lexer.specs.declared.LexFault.TheVariants as lex
+use Rattle.spv_parser.specs.declared.refused.SyntaxFault.TheVariants as syntax
+use Rattle.spv_language.specs.declared.fault.LanguageFault.{LanguageFault}
+use Rattle.spv_language.specs.declared.fault.LanguageFault.TheVariants.{Tokens, Tree}
 use Rattle.spv_form.specs.declared.fault.FormFault.{FormFault}
 use Rattle.spv_form.specs.declared.fault.FormFault.TheVariants as form
 use Rattle.spv_report.specs.Reports.{Findings, IsReport}
@@ -21,15 +23,16 @@ use Rattle.spv_cli.specs.Refusals.{IsRefused, IsReportOf}
 
 -- ---- faults of reading
 
-abbrev pub of_text : TextFault → ReadFault
-of_text (text.BadByte line) = Refused (refusal.BadByte line)
-of_text (text.OpenComment line) = Refused (refusal.OpenComment line)
-of_text (text.NumeralTooLarge line) = Refused (refusal.NumeralTooLarge line)
-of_text text.TextTooLong = Refused refusal.TextTooLong
-of_text (text.Profile line word) = Refused (refusal.Profile line word)
-of_text (text.TooDeep line) = Refused (refusal.TooDeep line)
-of_text (text.Syntax line) = Refused (refusal.Syntax line)
-of_text text.Memory = Memory
+abbrev pub of_text : LanguageFault → ReadFault
+of_text (Tokens (lex.BadByte line)) = Refused (refusal.BadByte line)
+of_text (Tokens (lex.OpenComment line)) = Refused (refusal.OpenComment line)
+of_text (Tokens (lex.NumeralTooLarge line)) = Refused (refusal.NumeralTooLarge line)
+of_text (Tokens lex.TextTooLong) = Refused refusal.TextTooLong
+of_text (Tokens lex.Memory) = Memory
+of_text (Tree (syntax.Profile line word)) = Refused (refusal.Profile line word)
+of_text (Tree (syntax.TooDeep line)) = Refused (refusal.TooDeep line)
+of_text (Tree (syntax.Syntax line)) = Refused (refusal.Syntax line)
+of_text (Tree syntax.Memory) = Memory
 
 abbrev pub of_form : FormFault → ReadFault
 of_form form.NotOfForm = Refused refusal.NotOfForm

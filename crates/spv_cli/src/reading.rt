@@ -3,13 +3,16 @@
 ghost use Rattle.std.specs.Prelude.{IfOk, IfErr, ◌≡◌};
 ghost use Rattle.spv_report.specs.Reports.{IsReport};
 ghost use Rattle.spv_cli.specs.Refusals.{IsReportOf};
-ghost use Rattle.spv_cli.specs.Runs.{IsCause};
+ghost use Rattle.spv_language.specs.declared.fault.LanguageFault.TheVariants.{Tokens, Tree};
+ghost use Rattle.spv_cli.specs.Runs.{of_text, IsCause};
 ghost use Rattle.spv_cli.specs.declared.reading.ReadFault.TheVariants.{Memory};
 
 use crate::refusal::Refusal;
 use spv_form::{FormFault, known_numbers};
-use spv_language::{TextFault, law_one_tree};
+use spv_language::{LanguageFault, law_one_tree};
+use spv_lexer::LexFault;
 use spv_names::Names;
+use spv_parser::SyntaxFault;
 use spv_report::{Report, VerifyFault};
 use std::alloc::Global;
 
@@ -20,22 +23,39 @@ pub(crate) enum ReadFault {
     Memory,
 }
 
-impl From<TextFault> for ReadFault {
-    ghost use Rattle.spv_cli.specs.Runs.{of_text};
-
+impl From<LanguageFault> for ReadFault {
     ghost from_gives = { λ fault result. result ≡ of_text fault };
 
-    fn from(fault: TextFault) -> ReadFault {
+    fn from(fault: LanguageFault) -> ReadFault {
         match fault {
-            TextFault::BadByte(line) => ReadFault::Refused(Refusal::BadByte(line)),
-            TextFault::OpenComment(line) => ReadFault::Refused(Refusal::OpenComment(line)),
-            TextFault::NumeralTooLarge(line) => ReadFault::Refused(Refusal::NumeralTooLarge(line)),
-            TextFault::TextTooLong => ReadFault::Refused(Refusal::TextTooLong),
-            TextFault::Profile(line, word) => ReadFault::Refused(Refusal::Profile(line, word)),
-            TextFault::TooDeep(line) => ReadFault::Refused(Refusal::TooDeep(line)),
-            TextFault::Syntax(line) => ReadFault::Refused(Refusal::Syntax(line)),
-            TextFault::Memory => ReadFault::Memory,
+            LanguageFault::Tokens(fault) => of_tokens(fault),
+            LanguageFault::Tree(fault) => of_tree(fault),
         }
+    }
+}
+
+// What a text without tokens is refused for.
+fn of_tokens(fault: LexFault) -> ReadFault
+    ensures { result ≡ of_text (Tokens fault) }
+{
+    match fault {
+        LexFault::BadByte(line) => ReadFault::Refused(Refusal::BadByte(line)),
+        LexFault::OpenComment(line) => ReadFault::Refused(Refusal::OpenComment(line)),
+        LexFault::NumeralTooLarge(line) => ReadFault::Refused(Refusal::NumeralTooLarge(line)),
+        LexFault::TextTooLong => ReadFault::Refused(Refusal::TextTooLong),
+        LexFault::Memory => ReadFault::Memory,
+    }
+}
+
+// What a text without a tree is refused for.
+fn of_tree(fault: SyntaxFault) -> ReadFault
+    ensures { result ≡ of_text (Tree fault) }
+{
+    match fault {
+        SyntaxFault::Profile(line, word) => ReadFault::Refused(Refusal::Profile(line, word)),
+        SyntaxFault::TooDeep(line) => ReadFault::Refused(Refusal::TooDeep(line)),
+        SyntaxFault::Syntax(line) => ReadFault::Refused(Refusal::Syntax(line)),
+        SyntaxFault::Memory => ReadFault::Memory,
     }
 }
 

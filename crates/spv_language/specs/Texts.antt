@@ -1,18 +1,22 @@
 -- When a text has a tree, and which fault it has where it has none. `reads` says when tokens have a tree of one kind.
-use Rattle.std.specs.Prelude.{◌≡◌, ℕ, ◌<◌, ◌≤◌, List, Some, None, length, take}
+use Rattle.std.specs.Prelude.{◌≡◌, ℕ, ◌<◌, ◌≤◌, List, None, length, take}
 use Rattle.spv_tokens.specs.declared.token.Token.{Token}
-use Rattle.spv_lexer.specs.Front.{bad_byte, open_comment, numeral_too_large}
 use Rattle.spv_lexer.specs.Reading.{reading, IsRead}
 use Rattle.spv_lexer.specs.Tokens.{numbered, names_after}
-use Rattle.spv_level.specs.LeftOut.{left_out}
-use Rattle.spv_level.specs.Level.{too_deep}
-use Rattle.spv_parser.specs.Causes.{IsAllowed}
-use Rattle.spv_language.specs.declared.fault.TextFault.{TextFault}
-use Rattle.spv_language.specs.declared.fault.TextFault.TheVariants.{BadByte, OpenComment, NumeralTooLarge, TextTooLong, Profile, TooDeep, Syntax, Memory}
+use Rattle.spv_lexer.specs.Tokens as lexer
+use Rattle.spv_lexer.specs.declared.LexFault.{LexFault}
+use Rattle.spv_lexer.specs.declared.LexFault.TheVariants.{TextTooLong, Memory}
+use Rattle.spv_parser.specs.Causes.{IsAllowed, HasCause}
+use Rattle.spv_language.specs.declared.fault.LanguageFault.{LanguageFault}
+use Rattle.spv_language.specs.declared.fault.LanguageFault.TheVariants.{Tokens, Tree}
 
--- the text is not longer than 4194304 bytes
+-- as many bytes as a text may have
+abbrev pub longest_text : ℕ
+longest_text = 4194304
+
+-- the text is not longer
 abbrev pub IsShort : List ℕ → Type 0
-IsShort text = length text ≤ 4194304
+IsShort text = length text ≤ longest_text
 
 -- the text is short enough, and there is no fault in its tokens and gaps
 pub record IsCut (text : List ℕ) : Type 0 where
@@ -37,16 +41,16 @@ pub record IsTreeOf {A : Type 0} (reads : List Token → A → Type 0) (names : 
   pub allowed : IsAllowed (tokens_of names text)
   pub is_tree : reads (tokens_of names text) tree
 
+-- the text is too long, or short enough for another fault of its tokens
+abbrev pub HasLengthFor : LexFault → List ℕ → Type 0
+HasLengthFor TextTooLong text = longest_text < length text
+HasLengthFor Memory text = Unit {0}
+HasLengthFor _ text = IsShort text
+
 -- the text has no tree, for this fault; of a text that no tree reads the line is left open, and want of memory has no cause
-abbrev pub HasCause : {A : Type 0} → (List Token → A → Type 0) → List (List ℕ) → List ℕ → TextFault → Type 0
-HasCause reads names text TextTooLong = 4194304 < length text
-HasCause reads names text (BadByte line) = IsShort text × ((reading text).stop ≡ Some (bad_byte, line))
-HasCause reads names text (OpenComment line) = IsShort text × ((reading text).stop ≡ Some (open_comment, line))
-HasCause reads names text (NumeralTooLarge line) = IsShort text × ((reading text).stop ≡ Some (numeral_too_large, line))
-HasCause reads names text (Profile line word) = IsCut text × (left_out (tokens_of names text) ≡ Some (line, word))
-HasCause reads names text (TooDeep line) = IsCut text × (left_out (tokens_of names text) ≡ None) × (too_deep (tokens_of names text) ≡ Some line)
-HasCause {A} reads names text (Syntax line) = IsCut text × IsAllowed (tokens_of names text) × ((tree : A) → reads (tokens_of names text) tree → ⊥)
-HasCause reads names text Memory = Unit {0}
+abbrev pub IsFaultOf : {A : Type 0} → (List Token → A → Type 0) → List (List ℕ) → List ℕ → LanguageFault → Type 0
+IsFaultOf reads names text (Tokens fault) = HasLengthFor fault text × lexer.HasCause text fault
+IsFaultOf reads names text (Tree fault) = IsCut text × HasCause reads (tokens_of names text) fault
 
 -- two trees of one text are equal
 abbrev pub TextsHaveOneTree : {A : Type 0} → (List Token → A → Type 0) → Type 0

@@ -3,9 +3,9 @@
 ghost use Rattle.std.specs.Prelude.{◌≡◌, ◌<◌, ◌≤◌, ◌++◌, ℕ, List, All, length, IfOk, IfErr, OnOk, OnErr};
 ghost use Rattle.spv_lexer.specs.Tokens.{IsInTable};
 ghost use Rattle.spv_syntax.specs.Reads.{Reads, ReadsRules, ReadsFormulaText};
-ghost use Rattle.spv_language.specs.Texts.{tokens_of, names_with, AreNamesOfSome, IsTreeOf, HasCause};
+ghost use Rattle.spv_language.specs.Texts.{tokens_of, names_with, longest_text, AreNamesOfSome, IsTreeOf, IsFaultOf};
 
-use crate::TextFault;
+use crate::LanguageFault;
 use spv_names::Names;
 use spv_syntax::{FormulaText, Program, RuleTree};
 use std::alloc::Global;
@@ -13,13 +13,13 @@ use std::alloc::Global;
 /// The program that a text is. Its names are put behind those of the table, in the order in which they first stand in the text.
 ///
 /// Where the text is no program, the table has the names of some first tokens of the text.
-pub fn program(alloc: Global, text: &[u8], names: &mut Names) -> Result<Program, TextFault>
+pub fn program(alloc: Global, text: &[u8], names: &mut Names) -> Result<Program, LanguageFault>
     requires { length names.old < 2143289344 }
     ensures tree { IfOk result (IsTreeOf Reads names.old text.now) }
     ensures names { OnOk result (names.new ≡ names_with names.old text.now) }
     ensures in_table { OnOk result (All (λ t. IsInTable names.new t.kind) (tokens_of names.old text.now)) }
-    ensures few { OnOk result (length (tokens_of names.old text.now) ≤ 4194304) }
-    ensures cause { IfErr result (HasCause Reads names.old text.now) }
+    ensures few { OnOk result (length (tokens_of names.old text.now) ≤ longest_text) }
+    ensures cause { IfErr result (IsFaultOf Reads names.old text.now) }
     ensures grown { OnErr result (AreNamesOfSome names.old text.now names.new) }
     ensures kept { (more : List (List ℕ)) × (names.new ≡ names.old ++ more) }
 {
@@ -29,13 +29,13 @@ pub fn program(alloc: Global, text: &[u8], names: &mut Names) -> Result<Program,
 }
 
 /// The rules that a text is. Its names go into the table as those of a program do.
-pub fn rules(alloc: Global, text: &[u8], names: &mut Names) -> Result<RuleTree, TextFault>
+pub fn rules(alloc: Global, text: &[u8], names: &mut Names) -> Result<RuleTree, LanguageFault>
     requires { length names.old < 2143289344 }
     ensures tree { IfOk result (IsTreeOf ReadsRules names.old text.now) }
     ensures names { OnOk result (names.new ≡ names_with names.old text.now) }
     ensures in_table { OnOk result (All (λ t. IsInTable names.new t.kind) (tokens_of names.old text.now)) }
-    ensures few { OnOk result (length (tokens_of names.old text.now) ≤ 4194304) }
-    ensures cause { IfErr result (HasCause ReadsRules names.old text.now) }
+    ensures few { OnOk result (length (tokens_of names.old text.now) ≤ longest_text) }
+    ensures cause { IfErr result (IsFaultOf ReadsRules names.old text.now) }
     ensures grown { OnErr result (AreNamesOfSome names.old text.now names.new) }
     ensures kept { (more : List (List ℕ)) × (names.new ≡ names.old ++ more) }
 {
@@ -45,13 +45,13 @@ pub fn rules(alloc: Global, text: &[u8], names: &mut Names) -> Result<RuleTree, 
 }
 
 /// The formula text that a text is. Its names go into the table as those of a program do.
-pub fn formula(alloc: Global, text: &[u8], names: &mut Names) -> Result<FormulaText, TextFault>
+pub fn formula(alloc: Global, text: &[u8], names: &mut Names) -> Result<FormulaText, LanguageFault>
     requires { length names.old < 2143289344 }
     ensures tree { IfOk result (IsTreeOf ReadsFormulaText names.old text.now) }
     ensures names { OnOk result (names.new ≡ names_with names.old text.now) }
     ensures in_table { OnOk result (All (λ t. IsInTable names.new t.kind) (tokens_of names.old text.now)) }
-    ensures few { OnOk result (length (tokens_of names.old text.now) ≤ 4194304) }
-    ensures cause { IfErr result (HasCause ReadsFormulaText names.old text.now) }
+    ensures few { OnOk result (length (tokens_of names.old text.now) ≤ longest_text) }
+    ensures cause { IfErr result (IsFaultOf ReadsFormulaText names.old text.now) }
     ensures grown { OnErr result (AreNamesOfSome names.old text.now names.new) }
     ensures kept { (more : List (List ℕ)) × (names.new ≡ names.old ++ more) }
 {

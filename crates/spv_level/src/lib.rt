@@ -11,6 +11,3 @@ pub use laws::{
 };
 pub use scan::too_deep;
 pub use words::left_out;
-
-#[cfg(test)]
-mod tests;

@@ -1,9 +1,3 @@
-pub mod Turns
-pub mod Exits
-pub mod FormulaLists
-pub mod Calls
-pub mod StatementLists
-pub mod TypeLists
 pub mod MarkTurns
 pub mod ProgramParts
 pub mod Wholes

@@ -6,11 +6,11 @@ use Rattle.spv_reading.specs.Readers.{Reader}
 use Rattle.spv_reading.specs.RoutineReaders.{read_whole}
 use Rattle.spv_reading.specs.Laws.{ReadIsTree}
 use Rattle.spv_level.specs.Laws.{LowIsRead}
-use Rattle.spv_parser.specs.declared.fault.Fault.{Fault}
-use Rattle.spv_parser.specs.declared.fault.Fault.TheVariants as fault
+use Rattle.spv_front.specs.declared.fault.Fault.{Fault}
+use Rattle.spv_front.specs.declared.fault.Fault.TheVariants as fault
 use Rattle.spv_parser.specs.declared.refused.SyntaxFault.{SyntaxFault}
 use Rattle.spv_parser.specs.declared.refused.SyntaxFault.TheVariants.{Profile, TooDeep, Syntax, Memory}
-use Rattle.spv_parser.specs.Faults.{IsSyntax}
+use Rattle.spv_front.specs.Faults.{IsSyntax}
 use Rattle.spv_parser.specs.Causes.{IsAllowed, IsRefusalOf, HasCause}
 
 nothing_left : {A : Type 0} (x : A) (rest : List Token) → length rest < 1 → read_whole (Some (x, rest)) ≡ Some x

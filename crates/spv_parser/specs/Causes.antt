@@ -3,8 +3,8 @@ use Rattle.std.specs.Prelude.{◌≡◌, List, Some, None}
 use Rattle.spv_tokens.specs.declared.token.Token.{Token}
 use Rattle.spv_level.specs.LeftOut.{left_out}
 use Rattle.spv_level.specs.Level.{too_deep}
-use Rattle.spv_parser.specs.declared.fault.Fault.{Fault}
-use Rattle.spv_parser.specs.declared.fault.Fault.TheVariants as fault
+use Rattle.spv_front.specs.declared.fault.Fault.{Fault}
+use Rattle.spv_front.specs.declared.fault.Fault.TheVariants as fault
 use Rattle.spv_parser.specs.declared.refused.SyntaxFault.{SyntaxFault}
 use Rattle.spv_parser.specs.declared.refused.SyntaxFault.TheVariants.{Profile, TooDeep, Syntax, Memory}
 

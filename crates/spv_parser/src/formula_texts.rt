@@ -3,14 +3,14 @@
 ghost use Rattle.std.specs.Prelude.{◌≡◌, Some, None, IfOk, IsErrAnd, IfSome, IsNone};
 ghost use Rattle.spv_reading.specs.RuleReaders.{read_asserted, read_formula_text};
 ghost use Rattle.spv_reading.specs.RuleReaders as spec;
-ghost use Rattle.spv_parser.specs.Faults.{IsSyntax};
+ghost use Rattle.spv_front.specs.Faults.{IsSyntax};
 
-use crate::declarations::declarations;
-use crate::fault::{Fault, unexpected};
-use crate::formulas::formula;
-use crate::front::{first_line, name, past_sign, past_word};
+use spv_formula_parser::formulas::formula;
+use spv_front::fault::{Fault, unexpected};
+use spv_front::front::{first_line, name, past_sign, past_word};
 use spv_syntax::{Formula, FormulaText};
 use spv_tokens::{Sign, Token, TokenKind, Word};
+use spv_type_parser::declarations::declarations;
 use std::alloc::Global;
 
 // The tokens before the last one, where that is a period.

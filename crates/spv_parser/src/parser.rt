@@ -4,11 +4,11 @@ ghost use Rattle.std.specs.Prelude.{◌≤◌, OnOk, IfOk, IfErr};
 ghost use Rattle.spv_syntax.specs.Reads.{Reads, ReadsRules, ReadsFormulaText};
 ghost use Rattle.spv_parser.specs.Causes.{IsAllowed, HasCause, IsForbidden, IsRefusalOf};
 
-use crate::fault::Fault;
 use crate::formula_texts::{formula_text, surplus};
 use crate::programs::program_at;
 use crate::refused::SyntaxFault;
 use crate::rule_files::rule_file;
+use spv_front::fault::Fault;
 use spv_level::{law_enough, law_enough_formula_text, law_enough_rules, left_out, too_deep};
 use spv_reading::laws::{law_formula_texts, law_programs, law_rules};
 use spv_syntax::{FormulaText, Program, RuleTree};

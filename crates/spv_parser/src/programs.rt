@@ -2,16 +2,16 @@
 
 ghost use Rattle.std.specs.Prelude.{◌≡◌, Some, None, IfOk, IsErrAnd};
 ghost use Rattle.spv_reading.specs.RoutineReaders.{read_files, read_program};
-ghost use Rattle.spv_parser.specs.Faults.{IsSyntax};
+ghost use Rattle.spv_front.specs.Faults.{IsSyntax};
 
-use crate::declarations::declarations;
-use crate::fault::Fault;
-use crate::front::{after, first_line, is_sign, name, past_sign, past_word};
 use crate::routine_marks::{ended_block, routines};
 use crate::routines::condition;
-use crate::types::names;
+use spv_front::fault::Fault;
+use spv_front::front::{after, first_line, is_sign, name, past_sign, past_word};
 use spv_syntax::{Name, Parts, Program, Several};
 use spv_tokens::{Sign, Token, Word};
+use spv_type_parser::declarations::declarations;
+use spv_type_parser::types::names;
 use std::alloc::Global;
 
 // ["(" names ")"]

@@ -5,12 +5,12 @@ ghost use Rattle.spv_tokens.specs.declared.token.TokenKind.TheVariants as kind;
 ghost use Rattle.spv_reading.specs.Readers.{ended};
 ghost use Rattle.spv_reading.specs.StatementReaders.{read_block};
 ghost use Rattle.spv_reading.specs.RoutineReaders as routine;
-ghost use Rattle.spv_parser.specs.Faults.{IsSyntax};
+ghost use Rattle.spv_front.specs.Faults.{IsSyntax};
 
-use crate::fault::{Fault, unexpected};
-use crate::front::past_sign;
 use crate::routines::{begins_heading, mark};
-use crate::statements::block;
+use spv_front::fault::{Fault, unexpected};
+use spv_front::front::past_sign;
+use spv_statement_parser::statements::block;
 use spv_syntax::{Block, RoutineMark};
 use spv_tokens::{Sign, Token};
 use std::alloc::Global;

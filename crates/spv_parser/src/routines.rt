@@ -6,20 +6,20 @@ ghost use Rattle.spv_tokens.specs.declared.token.Word.TheVariants as word;
 ghost use Rattle.spv_tokens.specs.declared.token.Sign.TheVariants as sign;
 ghost use Rattle.spv_reading.specs.Readers as reader;
 ghost use Rattle.spv_reading.specs.RoutineReaders as routine;
-ghost use Rattle.spv_parser.specs.Faults.{IsSyntax};
+ghost use Rattle.spv_front.specs.Faults.{IsSyntax};
 ghost use Rattle.spv_parser.specs.RoutineParts.{read_initial};
 
-use crate::declarations::name_or_class;
-use crate::fault::{Fault, unexpected};
-use crate::formulas::formula;
-use crate::front::{after, first_line, front, is_sign, is_word, name, past_sign};
-use crate::lists::{Listed, headed, several};
-use crate::types::names;
+use spv_formula_parser::formulas::formula;
+use spv_front::fault::{Fault, unexpected};
+use spv_front::front::{after, first_line, front, is_sign, is_word, name, past_sign};
+use spv_front::lists::{PartReader, headed, several};
 use spv_syntax::{
-    Clauses, Formula, GlobalGroup, Group, GroupForm, Heading, HeadingForm, Item, Locals, Name,
-    Params, RoutineMark, Several, Start,
+    Clauses, Const, Formula, GlobalGroup, Group, GroupForm, Heading, HeadingForm, Item, Locals,
+    Name, Params, RoutineMark, Several, Start, Vars,
 };
 use spv_tokens::{Sign, Token, TokenKind, Word};
+use spv_type_parser::declarations::{DeclarationReader, name_or_class};
+use spv_type_parser::types::names;
 use std::alloc::Global;
 
 // ":" name
@@ -65,8 +65,11 @@ fn group_form(alloc: Global, tokens: &[Token]) -> Result<(GroupForm, &[Token]), 
     }
 }
 
+// Reads the parts of headings and clauses of which there are lists.
+struct RoutineReader;
+
 // [VAR] names ":" name | PROCEDURE names | FUNCTION names ":" name
-impl Listed for Group {
+impl PartReader<Group> for RoutineReader {
     ghost reader = { λ n. routine.read_group };
 
     fn read(alloc: Global, _levels: u32, tokens: &[Token]) -> Result<(Group, &[Token]), Fault> {
@@ -85,7 +88,7 @@ fn params(alloc: Global, tokens: &[Token]) -> Result<(Option<Params>, &[Token]),
         return Ok((None, tokens));
     }
     let line = first_line(tokens);
-    let (groups, rest) = several(alloc, 0, Sign::Semicolon, after(tokens))?;
+    let (groups, rest) = several::<RoutineReader, Group>(alloc, 0, Sign::Semicolon, after(tokens))?;
     let rest = past_sign(Sign::CloseParenthesis, rest)?;
     Ok((Some(Params { line, groups }), rest))
 }
@@ -145,18 +148,25 @@ pub fn begins_heading(tokens: &[Token]) -> bool
 }
 
 // name | "#" name
-impl Listed for Item {
+fn item(tokens: &[Token]) -> Result<(Item, &[Token]), Fault>
+    ensures read { IfOk result (λ r. routine.read_item tokens.now ≡ Some (r.0, r.1.now)) }
+    ensures absent { IsErrAnd result IsSyntax → routine.read_item tokens.now ≡ None }
+{
+    let line = first_line(tokens);
+    let (form, rest) = name_or_class(tokens)?;
+    Ok((Item { line, form }, rest))
+}
+
+impl PartReader<Item> for RoutineReader {
     ghost reader = { λ n. routine.read_item };
 
     fn read(_alloc: Global, _levels: u32, tokens: &[Token]) -> Result<(Item, &[Token]), Fault> {
-        let line = first_line(tokens);
-        let (form, rest) = name_or_class(tokens)?;
-        Ok((Item { line, form }, rest))
+        item(tokens)
     }
 }
 
 // [VAR] item {"," item}
-impl Listed for GlobalGroup {
+impl PartReader<GlobalGroup> for RoutineReader {
     ghost reader = { λ n. routine.read_global_group };
 
     fn read(
@@ -167,7 +177,7 @@ impl Listed for GlobalGroup {
         let line = first_line(tokens);
         let by_place = is_word(Word::Var, tokens);
         let behind = if by_place { after(tokens) } else { tokens };
-        let (items, rest) = several(alloc, 0, Sign::Comma, behind)?;
+        let (items, rest) = several::<RoutineReader, Item>(alloc, 0, Sign::Comma, behind)?;
         let group = GlobalGroup {
             line,
             by_place,
@@ -189,19 +199,19 @@ fn globals(
         return Ok((None, tokens));
     }
     let rest = past_sign(Sign::OpenParenthesis, after(tokens))?;
-    let (groups, rest) = several(alloc, 0, Sign::Semicolon, rest)?;
+    let (groups, rest) = several::<RoutineReader, GlobalGroup>(alloc, 0, Sign::Semicolon, rest)?;
     let rest = past_sign(Sign::CloseParenthesis, rest)?;
     let rest = past_sign(Sign::Semicolon, rest)?;
     Ok((Some(groups), rest))
 }
 
 // item "=" name
-impl Listed for Start {
+impl PartReader<Start> for RoutineReader {
     ghost reader = { λ n. routine.read_start };
 
-    fn read(alloc: Global, levels: u32, tokens: &[Token]) -> Result<(Start, &[Token]), Fault> {
+    fn read(_alloc: Global, _levels: u32, tokens: &[Token]) -> Result<(Start, &[Token]), Fault> {
         let line = first_line(tokens);
-        let (item, rest) = Item::read(alloc, levels, tokens)?;
+        let (item, rest) = item(tokens)?;
         let rest = past_sign(Sign::Equal, rest)?;
         let (name, rest) = name(rest)?;
         Ok((Start { line, item, name }, rest))
@@ -216,7 +226,7 @@ fn initial(alloc: Global, tokens: &[Token]) -> Result<(Option<Several<Start>>, &
     if !is_word(Word::Initial, tokens) {
         return Ok((None, tokens));
     }
-    let (starts, rest) = several(alloc, 0, Sign::Comma, after(tokens))?;
+    let (starts, rest) = several::<RoutineReader, Start>(alloc, 0, Sign::Comma, after(tokens))?;
     let rest = past_sign(Sign::Semicolon, rest)?;
     Ok((Some(starts), rest))
 }
@@ -265,8 +275,8 @@ fn locals(alloc: Global, levels: u32, tokens: &[Token]) -> Result<(Locals, &[Tok
     ensures absent { IsErrAnd result IsSyntax → routine.read_locals levels tokens.now ≡ None }
 {
     let line = first_line(tokens);
-    let (constants, rest) = headed(alloc, levels, Word::Const, tokens)?;
-    let (variables, rest) = headed(alloc, levels, Word::Var, rest)?;
+    let (constants, rest) = headed::<DeclarationReader, Const>(alloc, levels, Word::Const, tokens)?;
+    let (variables, rest) = headed::<DeclarationReader, Vars>(alloc, levels, Word::Var, rest)?;
     let locals = Locals {
         line,
         constants,

@@ -6,26 +6,30 @@ ghost use Rattle.spv_reading.specs.Readers as reader;
 ghost use Rattle.spv_reading.specs.Readers.{all_items, starting};
 ghost use Rattle.spv_reading.specs.RuleReaders.{read_rule_vars, read_premise, read_replace, read_infer, read_rule_form, read_rule, read_rules};
 ghost use Rattle.spv_reading.specs.RuleReaders as spec;
-ghost use Rattle.spv_parser.specs.Faults.{IsSyntax};
+ghost use Rattle.spv_front.specs.Faults.{IsSyntax};
 
-use crate::fault::{Fault, unexpected};
-use crate::formulas::formula;
-use crate::front::{after, first_line, front, is_word, past_sign, past_word};
-use crate::lists::{Listed, headed};
-use crate::types::names;
-use spv_syntax::{Formula, Parts, Rule, RuleForm, RuleTree, RuleVars, SortName};
+use spv_formula_parser::formulas::formula;
+use spv_front::fault::{Fault, unexpected};
+use spv_front::front::{after, first_line, front, is_word, past_sign, past_word};
+use spv_front::lists::{PartReader, headed};
+use spv_syntax::{Formula, Parts, Rule, RuleForm, RuleTree, RuleVars};
 use spv_tokens::{Sign, Token, TokenKind, Word};
+use spv_type_parser::declarations::sort;
+use spv_type_parser::types::names;
 use std::alloc::Global;
 
+// Reads the variables of rules.
+struct RuleVarsReader;
+
 // names ":" sort ";"
-impl Listed for RuleVars {
+impl PartReader<RuleVars> for RuleVarsReader {
     ghost reader = { λ n. read_rule_vars };
 
     fn read(alloc: Global, levels: u32, tokens: &[Token]) -> Result<(RuleVars, &[Token]), Fault> {
         let line = first_line(tokens);
         let (names, rest) = names(alloc, tokens)?;
         let rest = past_sign(Sign::Colon, rest)?;
-        let (sort, rest) = SortName::read(alloc, levels, rest)?;
+        let (sort, rest) = sort(rest)?;
         let rest = past_sign(Sign::Semicolon, rest)?;
         Ok((RuleVars { line, names, sort }, rest))
     }
@@ -132,7 +136,7 @@ pub fn rule_file(
     ensures absent { IsErrAnd result IsSyntax → read_rules levels tokens.now ≡ None }
 {
     let line = first_line(tokens);
-    let (variables, rest) = headed(alloc, levels, Word::Var, tokens)?;
+    let (variables, rest) = headed::<RuleVarsReader, RuleVars>(alloc, levels, Word::Var, tokens)?;
     let (rules, rest) = rule_list(alloc, levels, rest)?;
     let rules = Parts::from_vec(rules);
     let tree = RuleTree {

@@ -10,16 +10,15 @@ use Rattle.spv_tokens.specs.contracts.token.Sign.{the_type as signs}
 use Rattle.spv_syntax.specs.Steps.{Step, begins, passes, first_line, lines_agree}
 use Rattle.spv_syntax.specs.Reads.{kinds}
 use Rattle.spv_reading.specs.Readers.{first, front, after, same_kind, is}
+use Rattle.spv_reading.specs.Parts.{InFront}
 
 pub front_is : (tokens : List Token) → front tokens ≡ first (kinds tokens)
 front_is [] = refl
 front_is (t ∷ tokens) = refl
 
 -- the first token is this one, and these are behind it
-pub record Passed (k : TokenKind) (tokens rest : List Token) : Type 0 where
-  pub spelled : kinds tokens ≡ k ∷ kinds rest
-  pub lined : (steps : List Step) → lines_agree (passes ∷ steps) tokens ≡ lines_agree steps rest
-  pub shorter : length rest < length tokens
+abbrev pub Passed : TokenKind → List Token → List Token → Type 0
+Passed k tokens rest = InFront (λ ks. k ∷ ks) (λ steps. passes ∷ steps) tokens rest
 
 pub some_is : {A : Type 0} (x y : A) → Some x ≡ Some y → x ≡ y
 some_is x y e = cc
@@ -30,7 +29,6 @@ passed k [] e = absurd (cc)
 passed k (t ∷ tokens) e = record {
   spelled = ap (λ l. l ∷ kinds tokens) (some_is t.kind k e);
   lined = λ steps. refl;
-  shorter = omega arith;
 }
 
 pub same_kind-true : (k l : TokenKind) → same_kind k l ≡ true → k ≡ l
@@ -49,3 +47,16 @@ begun tokens steps = ap (λ b. b && lines_agree steps tokens) (eq-eqb (first_lin
 
 pub begins_at : (tokens : List Token) (line : ℕ) (steps : List Step) → line ≡ first_line tokens → lines_agree (begins line ∷ steps) tokens ≡ lines_agree steps tokens
 begins_at tokens line steps e = ap (λ l. lines_agree (begins l ∷ steps) tokens) e ∙ begun tokens steps
+
+-- ---- one behind the other
+
+module _ {f : List TokenKind → List TokenKind} {g : List Step → List Step} {tokens mid : List Token} where
+  pub join : {p : List TokenKind → List TokenKind} {q : List Step → List Step} {rest : List Token} → InFront f g tokens mid → InFront p q mid rest → InFront (λ ks. f (p ks)) (λ steps. g (q steps)) tokens rest
+  join {p} {q} a b = record { spelled = a.spelled ∙ ap f b.spelled; lined = λ steps. a.lined (q steps) ∙ b.lined steps }
+
+  -- what begins at the first token
+  pub starting_at : (line : ℕ) → line ≡ first_line tokens → InFront f g tokens mid → InFront f (λ steps. begins line ∷ g steps) tokens mid
+  starting_at line e a = record { spelled = a.spelled; lined = λ steps. begins_at tokens line (g steps) e ∙ a.lined steps }
+
+  pub started : InFront f g tokens mid → InFront f (λ steps. begins (first_line tokens) ∷ g steps) tokens mid
+  started a = starting_at (first_line tokens) refl a

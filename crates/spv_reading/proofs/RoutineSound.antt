@@ -17,13 +17,9 @@ use Rattle.spv_syntax.specs.declared.routines.RoutineMark.TheVariants.{Announced
 use Rattle.spv_syntax.specs.declared.program.Program.{Program}
 use Rattle.spv_syntax.specs.Lists.{several, headed}
 use Rattle.spv_syntax.specs.FormulaKinds.{name_kind}
-use Rattle.spv_syntax.specs.FormulaLines.{formula_lines}
 use Rattle.spv_syntax.specs.TypeKinds.{names_kinds}
-use Rattle.spv_syntax.specs.TypeLines.{names_lines}
 use Rattle.spv_syntax.specs.StatementKinds.{block_kinds}
-use Rattle.spv_syntax.specs.StatementLines.{block_lines}
 use Rattle.spv_syntax.specs.ProgramKinds.{const_kinds, group_form_kinds, result_kinds, heading_form_kinds, heading_kinds, item_kinds, globals_kinds, initial_kinds, entry_kinds, exit_kinds, clauses_kinds, routine_mark_kinds, routines_kinds, files_kinds, declarations_kinds}
-use Rattle.spv_syntax.specs.ProgramLines.{vars_lines, group_form_lines, group_lines, params_lines, result_lines, heading_form_lines, item_lines, global_group_lines, start_lines, initial_lines, entry_lines, exit_lines, clauses_lines, locals_lines, routines_lines, files_lines, declarations_lines}
 use Rattle.spv_syntax.specs.Steps.{Step, begins, passes, first_line, lines_agree}
 use Rattle.spv_syntax.specs.Reads.{kinds, block_ok, routines_ok, well_formed}
 use Rattle.spv_reading.specs.Readers.{front, after, is, Reader, and_then, past, name, several_of, optional, ended}
@@ -32,58 +28,47 @@ use Rattle.spv_reading.specs.StatementReaders.{read_block}
 use Rattle.spv_reading.specs.TypeReaders.{read_names, begins_name}
 use Rattle.spv_reading.specs.DeclarationReaders.{read_const, read_vars}
 use Rattle.spv_reading.specs.RoutineReaders.{typed_name, read_variables, group_on, read_group, read_groups, read_params, read_result, heading_on, read_heading, begins_heading, read_item, read_items, read_global_group, read_global_groups, read_start, read_condition, read_clauses, read_locals, read_mark_behind, read_mark, begun_behind, marks_by, marks, read_routines, read_files, read_program}
-use Rattle.spv_reading.specs.Parts.{BeginsWith, names_part, formula_part, block_part, several_part, ended_part, const_part, vars_part, group_part, params_part, heading_part, item_part, global_group_part, globals_part, start_part, initial_part, entry_part, exit_part, clauses_part, locals_part, routine_mark_part, routines_part, files_part, program_part}
-use Rattle.spv_reading.proofs.Fronts.{Passed, passed, is-true, begun}
+use Rattle.spv_reading.specs.Parts.{InFront, BeginsWith, names_part, formula_part, block_part, several_part, ended_part, const_part, vars_part, group_part, params_part, heading_part, item_part, global_group_part, globals_part, start_part, initial_part, entry_part, exit_part, clauses_part, locals_part, routine_mark_part, routines_part, files_part, program_part}
+use Rattle.spv_reading.proofs.Fronts.{Passed, passed, is-true, begun, join, started}
 use Rattle.spv_reading.proofs.Sound.{On, on_none, on_some, on_then, on_if, on_past, on_more, name_sound, several_sound, headed_sound, on_optional, on_ended, ended_sound}
 use Rattle.spv_reading.proofs.FormulaSound.{formula_sound}
 use Rattle.spv_reading.proofs.StatementSound.{block_is_sound}
 use Rattle.spv_reading.proofs.TypeSound.{names_sound}
 use Rattle.spv_reading.proofs.DeclarationSound.{const_sound, vars_sound, either_sound, declarations_sound}
+use Rattle.spv_syntax.specs.Members.{in_lines}
+use Rattle.spv_syntax.specs.FormulaSpelling.{formula_spelling}
+use Rattle.spv_syntax.specs.ProgramSpelling.{clauses_spelling, declarations_spelling, entry_spelling, exit_spelling, files_spelling, global_group_spelling, group_form_spelling, group_spelling, heading_form_spelling, initial_spelling, item_spelling, locals_spelling, params_spelling, result_spelling, routines_spelling, start_spelling, vars_spelling}
+use Rattle.spv_syntax.specs.StatementSpelling.{block_spelling}
+use Rattle.spv_syntax.specs.TypeSpelling.{names_spelling}
 
 -- ---- headings
 
 -- the spelling of a part and its lines, without the line of the part itself
-pub record Inside {A : Type 0} (spelling : A → List TokenKind → List TokenKind) (lines : A → List Step → List Step) (tokens : List Token) (x : A) (rest : List Token) : Type 0 where
-  pub spelled : kinds tokens ≡ spelling x (kinds rest)
-  pub lined : (steps : List Step) → lines_agree (lines x steps) tokens ≡ lines_agree steps rest
+abbrev pub Inside : {A : Type 0} → (A → List TokenKind → List TokenKind) → (A → List Step → List Step) → List Token → A → List Token → Type 0
+Inside spelling lines tokens x rest = InFront (spelling x) (lines x) tokens rest
 
 typed_sound : (tokens : List Token) → On (typed_name tokens) (Inside (λ x rest. kind.Sign sign.Colon ∷ name_kind x ∷ rest) (λ x steps. passes ∷ begins x.line ∷ passes ∷ steps) tokens)
 typed_sound tokens =
-    on_past (kind.Sign sign.Colon) tokens (λ mid p. on_more (name_sound mid) (λ x rest a. record {
-      spelled = p.spelled ∙ ap (λ ks. kind.Sign sign.Colon ∷ ks) a.spelled;
-      lined = λ steps. p.lined (begins x.line ∷ passes ∷ steps) ∙ a.lined steps;
-    }))
+    on_past (kind.Sign sign.Colon) tokens (λ mid p. on_more (name_sound mid) (λ x rest a. join p a))
 
 abbrev GroupAt : List Token → GroupForm → List Token → Type 0
-GroupAt tokens x rest = Inside group_form_kinds group_form_lines tokens x rest
+GroupAt tokens x rest = Inside group_form_kinds (group_form_spelling in_lines) tokens x rest
 
 plain_group : (tokens : List Token) → On (read_variables false tokens) (GroupAt tokens)
 plain_group tokens =
-    on_then (names_sound tokens) (λ xs mid a. on_then (typed_sound mid) (λ t rest b. on_some _ (group.Variables false xs t) rest (record {
-      spelled = a.spelled ∙ ap (names_kinds xs) b.spelled;
-      lined = λ steps. a.lined (passes ∷ begins t.line ∷ passes ∷ steps) ∙ b.lined steps;
-    })))
+    on_then (names_sound tokens) (λ xs mid a. on_then (typed_sound mid) (λ t rest b. on_some _ (group.Variables false xs t) rest (join a b)))
 
 var_group : (tokens mid : List Token) → Passed (kind.Word word.Var) tokens mid → On (read_variables true mid) (GroupAt tokens)
 var_group tokens mid p =
-    on_then (names_sound mid) (λ xs last a. on_then (typed_sound last) (λ t rest b. on_some _ (group.Variables true xs t) rest (record {
-      spelled = p.spelled ∙ ap (λ ks. kind.Word word.Var ∷ ks) (a.spelled ∙ ap (names_kinds xs) b.spelled);
-      lined = λ steps. p.lined (names_lines xs (passes ∷ begins t.line ∷ passes ∷ steps)) ∙ a.lined (passes ∷ begins t.line ∷ passes ∷ steps) ∙ b.lined steps;
-    })))
+    on_then (names_sound mid) (λ xs last a. on_then (typed_sound last) (λ t rest b. on_some _ (group.Variables true xs t) rest (join p (join a b))))
 
 procedure_group : (tokens mid : List Token) → Passed (kind.Word word.Procedure) tokens mid → On (and_then (read_names mid) (λ xs rest. Some (group.Procedures xs, rest))) (GroupAt tokens)
 procedure_group tokens mid p =
-    on_then (names_sound mid) (λ xs rest a. on_some _ (group.Procedures xs) rest (record {
-      spelled = p.spelled ∙ ap (λ ks. kind.Word word.Procedure ∷ ks) a.spelled;
-      lined = λ steps. p.lined (names_lines xs steps) ∙ a.lined steps;
-    }))
+    on_then (names_sound mid) (λ xs rest a. on_some _ (group.Procedures xs) rest (join p a))
 
 function_group : (tokens mid : List Token) → Passed (kind.Word word.Function) tokens mid → On (and_then (read_names mid) (λ xs last. and_then (typed_name last) (λ t rest. Some (group.Functions xs t, rest)))) (GroupAt tokens)
 function_group tokens mid p =
-    on_then (names_sound mid) (λ xs last a. on_then (typed_sound last) (λ t rest b. on_some _ (group.Functions xs t) rest (record {
-      spelled = p.spelled ∙ ap (λ ks. kind.Word word.Function ∷ ks) (a.spelled ∙ ap (names_kinds xs) b.spelled);
-      lined = λ steps. p.lined (names_lines xs (passes ∷ begins t.line ∷ passes ∷ steps)) ∙ a.lined (passes ∷ begins t.line ∷ passes ∷ steps) ∙ b.lined steps;
-    })))
+    on_then (names_sound mid) (λ xs last a. on_then (typed_sound last) (λ t rest b. on_some _ (group.Functions xs t) rest (join p (join a b))))
 
 group_form_sound : (tokens : List Token) (o : Option TokenKind) → front tokens ≡ o → On (group_on o tokens) (GroupAt tokens)
 group_form_sound tokens (Some (kind.Word word.Var)) e = var_group tokens _ (passed _ tokens e)
@@ -93,41 +78,26 @@ group_form_sound tokens _ e = plain_group tokens
 
 group_sound : (tokens : List Token) → On (read_group tokens) (BeginsWith group_part tokens)
 group_sound tokens =
-    on_then (group_form_sound tokens (front tokens) refl) (λ x rest a. on_some _ (record { line = first_line tokens; form = x }) rest (record {
-      spelled = a.spelled;
-      lined = λ steps. begun tokens _ ∙ a.lined steps;
-    }))
+    on_then (group_form_sound tokens (front tokens) refl) (λ x rest a. on_some _ (record { line = first_line tokens; form = x }) rest (started a))
 
 params_sound : (tokens : List Token) → On (read_params tokens) (BeginsWith params_part tokens)
 params_sound tokens =
-    on_optional (kind.Sign sign.OpenParenthesis) (read_groups (first_line tokens)) tokens (BeginsWith params_part tokens) (record { spelled = refl; lined = λ steps. refl }) (λ mid p. on_then (ended_sound (kind.Sign sign.CloseParenthesis) (several_part (kind.Sign sign.Semicolon) group_part) (several_of (kind.Sign sign.Semicolon) read_group) mid (several_sound (kind.Sign sign.Semicolon) group_part read_group group_sound mid)) (λ gs rest a. on_some _ (record { line = first_line tokens; groups = gs }) rest (record {
-      spelled = p.spelled ∙ ap (λ ks. kind.Sign sign.OpenParenthesis ∷ ks) a.spelled;
-      lined = λ steps. begun tokens _ ∙ p.lined (several passes group_lines gs (passes ∷ steps)) ∙ a.lined steps;
-    })))
+    on_optional (kind.Sign sign.OpenParenthesis) (read_groups (first_line tokens)) tokens (BeginsWith params_part tokens) (record { spelled = refl; lined = λ steps. refl }) (λ mid p. on_then (ended_sound (kind.Sign sign.CloseParenthesis) (several_part (kind.Sign sign.Semicolon) group_part) (several_of (kind.Sign sign.Semicolon) read_group) mid (several_sound (kind.Sign sign.Semicolon) group_part read_group group_sound mid)) (λ gs rest a. on_some _ (record { line = first_line tokens; groups = gs }) rest (started (join p a))))
 
-result_sound : (tokens : List Token) → On (read_result tokens) (Inside result_kinds result_lines tokens)
+result_sound : (tokens : List Token) → On (read_result tokens) (Inside result_kinds (result_spelling in_lines) tokens)
 result_sound tokens =
-    on_optional (kind.Sign sign.Colon) name tokens (Inside result_kinds result_lines tokens) (record { spelled = refl; lined = λ steps. refl }) (λ mid p. on_more (name_sound mid) (λ x rest a. record {
-      spelled = p.spelled ∙ ap (λ ks. kind.Sign sign.Colon ∷ ks) a.spelled;
-      lined = λ steps. p.lined (begins x.line ∷ passes ∷ steps) ∙ a.lined steps;
-    }))
+    on_optional (kind.Sign sign.Colon) name tokens (Inside result_kinds (result_spelling in_lines) tokens) (record { spelled = refl; lined = λ steps. refl }) (λ mid p. on_more (name_sound mid) (λ x rest a. join p a))
 
 abbrev HeadingAt : List Token → HeadingForm → List Token → Type 0
-HeadingAt tokens x rest = Inside heading_form_kinds heading_form_lines tokens x rest
+HeadingAt tokens x rest = Inside heading_form_kinds (heading_form_spelling in_lines) tokens x rest
 
 procedure_sound : (tokens mid : List Token) → Passed (kind.Word word.Procedure) tokens mid → On (and_then (name mid) (λ x last. and_then (read_params last) (λ p rest. Some (heading.Procedure x p, rest)))) (HeadingAt tokens)
 procedure_sound tokens mid p =
-    on_then (name_sound mid) (λ x last n. on_then (params_sound last) (λ q rest a. on_some _ (heading.Procedure x q) rest (record {
-      spelled = cc (p.spelled, n.spelled, a.spelled);
-      lined = λ steps. p.lined _ ∙ n.lined (params_lines q steps) ∙ a.lined steps;
-    })))
+    on_then (name_sound mid) (λ x last n. on_then (params_sound last) (λ q rest a. on_some _ (heading.Procedure x q) rest (join p (join n a))))
 
 function_sound : (tokens mid : List Token) → Passed (kind.Word word.Function) tokens mid → On (and_then (name mid) (λ x last. and_then (read_params last) (λ p next. and_then (read_result next) (λ t rest. Some (heading.Function x p t, rest))))) (HeadingAt tokens)
 function_sound tokens mid p =
-    on_then (name_sound mid) (λ x last n. on_then (params_sound last) (λ q next a. on_then (result_sound next) (λ t rest b. on_some _ (heading.Function x q t) rest (record {
-      spelled = cc (p.spelled, n.spelled, a.spelled, b.spelled);
-      lined = λ steps. p.lined _ ∙ n.lined (params_lines q (result_lines t steps)) ∙ a.lined (result_lines t steps) ∙ b.lined steps;
-    }))))
+    on_then (name_sound mid) (λ x last n. on_then (params_sound last) (λ q next a. on_then (result_sound next) (λ t rest b. on_some _ (heading.Function x q t) rest (join p (join n (join a b))))))
 
 heading_form_sound : (tokens : List Token) (o : Option TokenKind) → front tokens ≡ o → On (heading_on o tokens) (HeadingAt tokens)
 heading_form_sound tokens (Some (kind.Word word.Procedure)) e = procedure_sound tokens _ (passed _ tokens e)
@@ -136,87 +106,54 @@ heading_form_sound tokens _ e = on_none _
 
 pub heading_sound : (tokens : List Token) → On (read_heading tokens) (BeginsWith heading_part tokens)
 heading_sound tokens =
-    on_then (heading_form_sound tokens (front tokens) refl) (λ x rest a. on_some _ (record { line = first_line tokens; form = x }) rest (record {
-      spelled = a.spelled;
-      lined = λ steps. begun tokens _ ∙ a.lined steps;
-    }))
+    on_then (heading_form_sound tokens (front tokens) refl) (λ x rest a. on_some _ (record { line = first_line tokens; form = x }) rest (started a))
 
 -- ---- clauses
 
 item_sound : (tokens : List Token) → On (read_item tokens) (BeginsWith item_part tokens)
 item_sound tokens =
-    on_then (either_sound tokens) (λ x rest a. on_some _ (record { line = first_line tokens; form = x }) rest (record {
-      spelled = a.spelled;
-      lined = λ steps. begun tokens _ ∙ a.lined steps;
-    }))
+    on_then (either_sound tokens) (λ x rest a. on_some _ (record { line = first_line tokens; form = x }) rest (started a))
 
 items_are_sound : (tokens : List Token) → On (read_items tokens) (BeginsWith (several_part (kind.Sign sign.Comma) item_part) tokens)
 items_are_sound tokens = several_sound (kind.Sign sign.Comma) item_part read_item item_sound tokens
 
 global_group_sound : (tokens : List Token) → On (read_global_group tokens) (BeginsWith global_group_part tokens)
 global_group_sound tokens =
-    on_if (is (kind.Word word.Var) (front tokens)) _ _ (λ h. by_place (after tokens) (passed _ tokens (is-true _ (front tokens) h))) (λ h. on_then (items_are_sound tokens) (λ xs rest a. on_some _ (record { line = first_line tokens; by_place = false; items = xs }) rest (record {
-      spelled = a.spelled;
-      lined = λ steps. begun tokens _ ∙ a.lined steps;
-    })))
+    on_if (is (kind.Word word.Var) (front tokens)) _ _ (λ h. by_place (after tokens) (passed _ tokens (is-true _ (front tokens) h))) (λ h. on_then (items_are_sound tokens) (λ xs rest a. on_some _ (record { line = first_line tokens; by_place = false; items = xs }) rest (started a)))
   where
     by_place : (mid : List Token) → Passed (kind.Word word.Var) tokens mid → On (and_then (read_items mid) (λ xs rest. Some (record { line = first_line tokens; by_place = true; items = xs }, rest))) (BeginsWith global_group_part tokens)
     by_place mid p =
-        on_then (items_are_sound mid) (λ xs rest a. on_some _ (record { line = first_line tokens; by_place = true; items = xs }) rest (record {
-          spelled = p.spelled ∙ ap (λ ks. kind.Word word.Var ∷ ks) a.spelled;
-          lined = λ steps. begun tokens _ ∙ p.lined (several passes item_lines xs steps) ∙ a.lined steps;
-        }))
+        on_then (items_are_sound mid) (λ xs rest a. on_some _ (record { line = first_line tokens; by_place = true; items = xs }) rest (started (join p a)))
 
 globals_sound : (tokens : List Token) → On (optional (kind.Word word.Global) read_global_groups tokens) (BeginsWith globals_part tokens)
 globals_sound tokens =
-    on_optional (kind.Word word.Global) read_global_groups tokens (BeginsWith globals_part tokens) (record { spelled = refl; lined = λ steps. refl }) (λ mid p. on_past (kind.Sign sign.OpenParenthesis) mid (λ last q. on_more (ended_sound (kind.Sign sign.Semicolon) (ended_part (kind.Sign sign.CloseParenthesis) (several_part (kind.Sign sign.Semicolon) global_group_part)) (ended (kind.Sign sign.CloseParenthesis) (several_of (kind.Sign sign.Semicolon) read_global_group)) last (ended_sound (kind.Sign sign.CloseParenthesis) (several_part (kind.Sign sign.Semicolon) global_group_part) (several_of (kind.Sign sign.Semicolon) read_global_group) last (several_sound (kind.Sign sign.Semicolon) global_group_part read_global_group global_group_sound last))) (λ gs rest a. record {
-      spelled = p.spelled ∙ ap (λ ks. kind.Word word.Global ∷ ks) (q.spelled ∙ ap (λ ks. kind.Sign sign.OpenParenthesis ∷ ks) a.spelled);
-      lined = λ steps. p.lined (passes ∷ several passes global_group_lines gs (passes ∷ passes ∷ steps)) ∙ q.lined (several passes global_group_lines gs (passes ∷ passes ∷ steps)) ∙ a.lined steps;
-    })))
+    on_optional (kind.Word word.Global) read_global_groups tokens (BeginsWith globals_part tokens) (record { spelled = refl; lined = λ steps. refl }) (λ mid p. on_past (kind.Sign sign.OpenParenthesis) mid (λ last q. on_more (ended_sound (kind.Sign sign.Semicolon) (ended_part (kind.Sign sign.CloseParenthesis) (several_part (kind.Sign sign.Semicolon) global_group_part)) (ended (kind.Sign sign.CloseParenthesis) (several_of (kind.Sign sign.Semicolon) read_global_group)) last (ended_sound (kind.Sign sign.CloseParenthesis) (several_part (kind.Sign sign.Semicolon) global_group_part) (several_of (kind.Sign sign.Semicolon) read_global_group) last (several_sound (kind.Sign sign.Semicolon) global_group_part read_global_group global_group_sound last))) (λ gs rest a. join p (join q a))))
 
 start_sound : (tokens : List Token) → On (read_start tokens) (BeginsWith start_part tokens)
 start_sound tokens =
-    on_then (item_sound tokens) (λ i mid a. on_past (kind.Sign sign.Equal) mid (λ last p. on_then (name_sound last) (λ x rest n. on_some _ (record { line = first_line tokens; item = i; name = x }) rest (record {
-      spelled = a.spelled ∙ ap (item_kinds i) (p.spelled ∙ ap (λ ks. kind.Sign sign.Equal ∷ ks) n.spelled);
-      lined = λ steps. begun tokens _ ∙ a.lined (passes ∷ begins x.line ∷ passes ∷ steps) ∙ p.lined (begins x.line ∷ passes ∷ steps) ∙ n.lined steps;
-    }))))
+    on_then (item_sound tokens) (λ i mid a. on_past (kind.Sign sign.Equal) mid (λ last p. on_then (name_sound last) (λ x rest n. on_some _ (record { line = first_line tokens; item = i; name = x }) rest (started (join a (join p n))))))
 
 initial_sound : (tokens : List Token) → On (optional (kind.Word word.Initial) (ended (kind.Sign sign.Semicolon) (several_of (kind.Sign sign.Comma) read_start)) tokens) (BeginsWith initial_part tokens)
 initial_sound tokens =
-    on_optional (kind.Word word.Initial) _ tokens (BeginsWith initial_part tokens) (record { spelled = refl; lined = λ steps. refl }) (λ mid p. on_more (ended_sound (kind.Sign sign.Semicolon) (several_part (kind.Sign sign.Comma) start_part) (several_of (kind.Sign sign.Comma) read_start) mid (several_sound (kind.Sign sign.Comma) start_part read_start start_sound mid)) (λ ss rest a. record {
-      spelled = p.spelled ∙ ap (λ ks. kind.Word word.Initial ∷ ks) a.spelled;
-      lined = λ steps. p.lined (several passes start_lines ss (passes ∷ steps)) ∙ a.lined steps;
-    }))
+    on_optional (kind.Word word.Initial) _ tokens (BeginsWith initial_part tokens) (record { spelled = refl; lined = λ steps. refl }) (λ mid p. on_more (ended_sound (kind.Sign sign.Semicolon) (several_part (kind.Sign sign.Comma) start_part) (several_of (kind.Sign sign.Comma) read_start) mid (several_sound (kind.Sign sign.Comma) start_part read_start start_sound mid)) (λ ss rest a. join p a))
 
 entry_sound : (n : ℕ) (tokens : List Token) → On (read_condition n (kind.Word word.Entry) tokens) (BeginsWith entry_part tokens)
 entry_sound n tokens =
-    on_optional (kind.Word word.Entry) _ tokens (BeginsWith entry_part tokens) (record { spelled = refl; lined = λ steps. refl }) (λ mid p. on_more (ended_sound (kind.Sign sign.Semicolon) formula_part (read_formula n) mid (formula_sound n mid)) (λ f rest a. record {
-      spelled = p.spelled ∙ ap (λ ks. kind.Word word.Entry ∷ ks) a.spelled;
-      lined = λ steps. p.lined (formula_lines f (passes ∷ steps)) ∙ a.lined steps;
-    }))
+    on_optional (kind.Word word.Entry) _ tokens (BeginsWith entry_part tokens) (record { spelled = refl; lined = λ steps. refl }) (λ mid p. on_more (ended_sound (kind.Sign sign.Semicolon) formula_part (read_formula n) mid (formula_sound n mid)) (λ f rest a. join p a))
 
 exit_sound : (n : ℕ) (tokens : List Token) → On (read_condition n (kind.Word word.Exit) tokens) (BeginsWith exit_part tokens)
 exit_sound n tokens =
-    on_optional (kind.Word word.Exit) _ tokens (BeginsWith exit_part tokens) (record { spelled = refl; lined = λ steps. refl }) (λ mid p. on_more (ended_sound (kind.Sign sign.Semicolon) formula_part (read_formula n) mid (formula_sound n mid)) (λ f rest a. record {
-      spelled = p.spelled ∙ ap (λ ks. kind.Word word.Exit ∷ ks) a.spelled;
-      lined = λ steps. p.lined (formula_lines f (passes ∷ steps)) ∙ a.lined steps;
-    }))
+    on_optional (kind.Word word.Exit) _ tokens (BeginsWith exit_part tokens) (record { spelled = refl; lined = λ steps. refl }) (λ mid p. on_more (ended_sound (kind.Sign sign.Semicolon) formula_part (read_formula n) mid (formula_sound n mid)) (λ f rest a. join p a))
 
 pub clauses_sound : (n : ℕ) (tokens : List Token) → On (read_clauses n tokens) (BeginsWith clauses_part tokens)
 clauses_sound n tokens =
-    on_then (globals_sound tokens) (λ gs mid a. on_then (initial_sound mid) (λ ss last b. on_then (entry_sound n last) (λ f next c. on_then (exit_sound n next) (λ g rest d. on_some _ (record { line = first_line tokens; globals = gs; initial = ss; entry = f; exit = g }) rest (record {
-      spelled = a.spelled ∙ ap (globals_kinds gs) (b.spelled ∙ ap (initial_kinds ss) (c.spelled ∙ ap (entry_kinds f) d.spelled));
-      lined = λ steps. begun tokens _ ∙ a.lined (initial_lines ss (entry_lines f (exit_lines g steps))) ∙ b.lined (entry_lines f (exit_lines g steps)) ∙ c.lined (exit_lines g steps) ∙ d.lined steps;
-    })))))
+    on_then (globals_sound tokens) (λ gs mid a. on_then (initial_sound mid) (λ ss last b. on_then (entry_sound n last) (λ f next c. on_then (exit_sound n next) (λ g rest d. on_some _ (record { line = first_line tokens; globals = gs; initial = ss; entry = f; exit = g }) rest (started (join a (join b (join c d))))))))
 
 -- ---- routines
 
 pub locals_sound : (n : ℕ) (tokens : List Token) → On (read_locals n tokens) (BeginsWith locals_part tokens)
 locals_sound n tokens =
-    on_then (headed_sound (kind.Word word.Const) begins_name const_part read_const const_sound tokens) (λ constants mid a. on_then (headed_sound (kind.Word word.Var) begins_name vars_part (read_vars n) (vars_sound n) mid) (λ variables rest b. on_some _ (record { line = first_line tokens; constants = constants; variables = variables }) rest (record {
-      spelled = a.spelled ∙ ap (headed (kind.Word word.Const) const_kinds constants) b.spelled;
-      lined = λ steps. begun tokens _ ∙ a.lined (headed passes vars_lines variables steps) ∙ b.lined steps;
-    })))
+    on_then (headed_sound (kind.Word word.Const) begins_name const_part read_const const_sound tokens) (λ constants mid a. on_then (headed_sound (kind.Word word.Var) begins_name vars_part (read_vars n) (vars_sound n) mid) (λ variables rest b. on_some _ (record { line = first_line tokens; constants = constants; variables = variables }) rest (started (join a b))))
 
 -- a mark is at the front, and begins a routine or announces one
 record MarkAt (tokens : List Token) (m : RoutineMark) (rest : List Token) : Type 0 where
@@ -230,20 +167,14 @@ mark_sound n tokens =
     announced : (h : Heading) (mid : List Token) → BeginsWith (ended_part (kind.Sign sign.Semicolon) heading_part) tokens h mid → (c : Clauses) (last : List Token) → BeginsWith clauses_part mid c last → (next : List Token) → Passed (kind.Word word.Forward) last next → On (past (kind.Sign sign.Semicolon) next (λ rest. Some (Announced h c, rest))) (MarkAt tokens)
     announced h mid a c last b next p =
         on_past (kind.Sign sign.Semicolon) next (λ rest q. on_some _ (Announced h c) rest (record {
-          here = record {
-            spelled = a.spelled ∙ ap (λ ks. heading_kinds h (kind.Sign sign.Semicolon ∷ ks)) (b.spelled ∙ ap (clauses_kinds c) (p.spelled ∙ ap (λ ks. kind.Word word.Forward ∷ ks) q.spelled));
-            lined = λ steps. a.lined (clauses_lines c (passes ∷ passes ∷ steps)) ∙ b.lined (passes ∷ passes ∷ steps) ∙ p.lined (passes ∷ steps) ∙ q.lined steps;
-          };
+          here = join a (join b (join p q));
           opens = λ begun ms. refl;
         }))
 
     begins_there : (h : Heading) (mid : List Token) → BeginsWith (ended_part (kind.Sign sign.Semicolon) heading_part) tokens h mid → (c : Clauses) (last : List Token) → BeginsWith clauses_part mid c last → On (and_then (read_locals n last) (λ l rest. Some (Begins h c l, rest))) (MarkAt tokens)
     begins_there h mid a c last b =
         on_then (locals_sound n last) (λ l rest d. on_some _ (Begins h c l) rest (record {
-          here = record {
-            spelled = a.spelled ∙ ap (λ ks. heading_kinds h (kind.Sign sign.Semicolon ∷ ks)) (b.spelled ∙ ap (clauses_kinds c) d.spelled);
-            lined = λ steps. a.lined (clauses_lines c (locals_lines l steps)) ∙ b.lined (locals_lines l steps) ∙ d.lined steps;
-          };
+          here = join a (join b d);
           opens = λ begun ms. refl;
         }))
 
@@ -260,10 +191,7 @@ pub record MarksAt (begun : ℕ) (tokens : List Token) (ms : List RoutineMark) (
 ended_block_sound : (n : ℕ) (k : TokenKind) (tokens : List Token) → On (ended k (read_block n) tokens) (λ b rest. BeginsWith (ended_part k block_part) tokens b rest × (block_ok b ≡ true))
 ended_block_sound n k tokens =
     on_ended k (read_block n) tokens (block_is_sound n tokens) (λ b mid a rest q. (
-      record {
-        spelled = a.here.spelled ∙ ap (block_kinds b) q.spelled;
-        lined = λ steps. a.here.lined (passes ∷ steps) ∙ q.lined steps;
-      },
+      (join a.here q),
       a.ok,
     ))
 
@@ -274,20 +202,14 @@ module _ (n : ℕ) (others : ℕ → Reader (List RoutineMark)) (others_sound : 
   opening_sound : (begun : ℕ) (tokens : List Token) → On (and_then (read_mark n tokens) (λ m mid. and_then (others (begun_behind begun m) mid) (λ ms rest. Some (m ∷ ms, rest)))) (MarksAt begun tokens)
   opening_sound begun tokens =
       on_then (mark_sound n tokens) (λ m mid a. on_then (others_sound (begun_behind begun m) mid) (λ ms rest b. on_some _ (m ∷ ms) rest (record {
-        here = record {
-          spelled = a.here.spelled ∙ ap (routine_mark_kinds m) b.here.spelled;
-          lined = λ steps. a.here.lined (routines_lines ms steps) ∙ b.here.lined steps;
-        };
+        here = join a.here b.here;
         ok = a.opens begun ms ∙ b.ok;
       })))
 
   closing_sound : (begun : ℕ) (tokens : List Token) → On (and_then (ended (kind.Sign sign.Semicolon) (read_block n) tokens) (λ b mid. and_then (others begun mid) (λ ms rest. Some (Ends b ∷ ms, rest)))) (MarksAt (suc begun) tokens)
   closing_sound begun tokens =
       on_then (ended_block_sound n (kind.Sign sign.Semicolon) tokens) (λ b mid a. on_then (others_sound begun mid) (λ ms rest c. on_some _ (Ends b ∷ ms) rest (record {
-        here = record {
-          spelled = a.0.spelled ∙ ap (λ ks. block_kinds b (kind.Sign sign.Semicolon ∷ ks)) c.here.spelled;
-          lined = λ steps. a.0.lined (routines_lines ms steps) ∙ c.here.lined steps;
-        };
+        here = join a.0 c.here;
         ok = both_true a.1 c.ok;
       })))
 
@@ -308,10 +230,7 @@ routines_sound n tokens = marks_sound n _ zero tokens
 
 files_sound : (tokens : List Token) → On (read_files tokens) (BeginsWith files_part tokens)
 files_sound tokens =
-    on_optional (kind.Sign sign.OpenParenthesis) _ tokens (BeginsWith files_part tokens) (record { spelled = refl; lined = λ steps. refl }) (λ mid p. on_more (ended_sound (kind.Sign sign.CloseParenthesis) names_part read_names mid (names_sound mid)) (λ xs rest a. record {
-      spelled = p.spelled ∙ ap (λ ks. kind.Sign sign.OpenParenthesis ∷ ks) a.spelled;
-      lined = λ steps. p.lined (names_lines xs (passes ∷ steps)) ∙ a.lined steps;
-    }))
+    on_optional (kind.Sign sign.OpenParenthesis) _ tokens (BeginsWith files_part tokens) (record { spelled = refl; lined = λ steps. refl }) (λ mid p. on_more (ended_sound (kind.Sign sign.CloseParenthesis) names_part read_names mid (names_sound mid)) (λ xs rest a. join p a))
 
 pub record ProgramAt (tokens : List Token) (p : Program) (rest : List Token) : Type 0 where
   pub here : BeginsWith program_part tokens p rest
@@ -320,17 +239,6 @@ pub record ProgramAt (tokens : List Token) (p : Program) (rest : List Token) : T
 pub program_sound : (n : ℕ) (tokens : List Token) → On (read_program n tokens) (ProgramAt tokens)
 program_sound n tokens =
     on_past (kind.Word word.Program) tokens (λ one p. on_then (name_sound one) (λ x two a. on_then (ended_sound (kind.Sign sign.Semicolon) files_part read_files two (files_sound two)) (λ files three b. on_then (declarations_sound n three) (λ declarations four c. on_then (routines_sound n four) (λ routines five d. on_then (entry_sound n five) (λ entry six e. on_then (exit_sound n six) (λ exit seven f. on_then (ended_block_sound n (kind.Sign sign.Period) seven) (λ block rest g. on_some _ (record { line = first_line tokens; name = x; files = files; declarations = declarations; routines = routines; entry = entry; exit = exit; block = block }) rest (record {
-      here = record {
-        spelled = p.spelled ∙ ap (λ ks. kind.Word word.Program ∷ ks) (a.spelled ∙ ap (λ ks. name_kind x ∷ ks) (b.spelled ∙ ap (λ ks. files_kinds files (kind.Sign sign.Semicolon ∷ ks)) (c.spelled ∙ ap (declarations_kinds declarations) (d.here.spelled ∙ ap (routines_kinds routines) (e.spelled ∙ ap (entry_kinds entry) (f.spelled ∙ ap (exit_kinds exit) g.0.spelled))))));
-        lined = λ steps.
-            begun tokens _ ∙ p.lined (begins x.line ∷ passes ∷ files_lines files (passes ∷ declarations_lines declarations (routines_lines routines (entry_lines entry (exit_lines exit (block_lines block (passes ∷ steps)))))))
-            ∙ a.lined (files_lines files (passes ∷ declarations_lines declarations (routines_lines routines (entry_lines entry (exit_lines exit (block_lines block (passes ∷ steps)))))))
-            ∙ b.lined (declarations_lines declarations (routines_lines routines (entry_lines entry (exit_lines exit (block_lines block (passes ∷ steps))))))
-            ∙ c.lined (routines_lines routines (entry_lines entry (exit_lines exit (block_lines block (passes ∷ steps)))))
-            ∙ d.here.lined (entry_lines entry (exit_lines exit (block_lines block (passes ∷ steps))))
-            ∙ e.lined (exit_lines exit (block_lines block (passes ∷ steps)))
-            ∙ f.lined (block_lines block (passes ∷ steps))
-            ∙ g.0.lined steps;
-      };
+      here = started (join p (join a (join b (join c (join d.here (join e (join f g.0)))))));
       ok = both_true d.ok g.1;
     })))))))))

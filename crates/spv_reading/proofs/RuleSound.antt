@@ -8,11 +8,8 @@ use Rattle.spv_tokens.specs.declared.token.Sign.TheVariants as sign
 use Rattle.spv_syntax.specs.declared.rules.RuleForm.TheVariants.{Replace, Infer}
 use Rattle.spv_syntax.specs.Lists.{each, headed}
 use Rattle.spv_syntax.specs.FormulaKinds.{formula_kinds}
-use Rattle.spv_syntax.specs.FormulaLines.{formula_lines}
 use Rattle.spv_syntax.specs.TypeKinds.{names_kinds}
-use Rattle.spv_syntax.specs.ProgramLines.{sort_lines}
 use Rattle.spv_syntax.specs.RuleKinds.{rule_vars_kinds}
-use Rattle.spv_syntax.specs.RuleLines.{premise_lines, rule_lines}
 use Rattle.spv_syntax.specs.Steps.{passes, first_line}
 use Rattle.spv_reading.specs.Readers.{front}
 use Rattle.spv_reading.specs.FormulaReaders.{read_formula}
@@ -20,39 +17,31 @@ use Rattle.spv_reading.specs.TypeReaders.{begins_name}
 use Rattle.spv_reading.specs.DeclarationReaders.{read_sort}
 use Rattle.spv_reading.specs.RuleReaders.{read_rule_vars, begins_rule, read_premise, read_replace, read_infer, rule_on, read_rule_form, read_rule, read_rules}
 use Rattle.spv_reading.specs.Parts.{BeginsWith, sort_part, rule_vars_part, premise_part, rule_form_part, rule_part, rule_tree_part}
-use Rattle.spv_reading.proofs.Fronts.{Passed, passed, begun}
+use Rattle.spv_reading.proofs.Fronts.{Passed, passed, begun, join, started}
 use Rattle.spv_reading.proofs.Sound.{On, on_none, on_some, on_then, on_past, on_more, items_sound, each_list, starting_sound, headed_sound, on_optional, ended_sound}
 use Rattle.spv_reading.proofs.FormulaSound.{formula_sound}
 use Rattle.spv_reading.proofs.TypeSound.{names_sound}
 use Rattle.spv_reading.proofs.DeclarationSound.{sort_sound}
+use Rattle.spv_syntax.specs.Members.{in_lines}
+use Rattle.spv_syntax.specs.FormulaSpelling.{formula_spelling}
+use Rattle.spv_syntax.specs.ProgramSpelling.{sort_spelling}
+use Rattle.spv_syntax.specs.RuleSpelling.{premise_spelling, rule_spelling}
 
 rule_vars_sound : (tokens : List Token) → On (read_rule_vars tokens) (BeginsWith rule_vars_part tokens)
 rule_vars_sound tokens =
-    on_then (names_sound tokens) (λ xs mid n. on_past (kind.Sign sign.Colon) mid (λ last p. on_then (ended_sound (kind.Sign sign.Semicolon) sort_part read_sort last (sort_sound last)) (λ s rest a. on_some _ (record { line = first_line tokens; names = xs; sort = s }) rest (record {
-      spelled = n.spelled ∙ ap (names_kinds xs) (p.spelled ∙ ap (λ ks. kind.Sign sign.Colon ∷ ks) a.spelled);
-      lined = λ steps. begun tokens _ ∙ n.lined (passes ∷ sort_lines s (passes ∷ steps)) ∙ p.lined (sort_lines s (passes ∷ steps)) ∙ a.lined steps;
-    }))))
+    on_then (names_sound tokens) (λ xs mid n. on_past (kind.Sign sign.Colon) mid (λ last p. on_then (ended_sound (kind.Sign sign.Semicolon) sort_part read_sort last (sort_sound last)) (λ s rest a. on_some _ (record { line = first_line tokens; names = xs; sort = s }) rest (started (join n (join p a))))))
 
 premise_sound : (n : ℕ) (k : TokenKind) (tokens : List Token) → On (read_premise n k tokens) (BeginsWith (premise_part k) tokens)
 premise_sound n k tokens =
-    on_optional k (read_formula n) tokens (BeginsWith (premise_part k) tokens) (record { spelled = refl; lined = λ steps. refl }) (λ mid p. on_more (formula_sound n mid) (λ f rest a. record {
-      spelled = p.spelled ∙ ap (λ ks. k ∷ ks) a.spelled;
-      lined = λ steps. p.lined (formula_lines f steps) ∙ a.lined steps;
-    }))
+    on_optional k (read_formula n) tokens (BeginsWith (premise_part k) tokens) (record { spelled = refl; lined = λ steps. refl }) (λ mid p. on_more (formula_sound n mid) (λ f rest a. join p a))
 
 replace_sound : (n : ℕ) (tokens mid : List Token) → Passed (kind.Word word.Replace) tokens mid → On (read_replace n mid) (BeginsWith rule_form_part tokens)
 replace_sound n tokens mid p =
-    on_then (formula_sound n mid) (λ f last a. on_past (kind.Word word.By) last (λ next q. on_then (formula_sound n next) (λ g there b. on_then (premise_sound n (kind.Word word.Where) there) (λ h rest c. on_some _ (Replace f g h) rest (record {
-      spelled = p.spelled ∙ ap (λ ks. kind.Word word.Replace ∷ ks) (a.spelled ∙ ap (formula_kinds f) (q.spelled ∙ ap (λ ks. kind.Word word.By ∷ ks) (b.spelled ∙ ap (formula_kinds g) c.spelled)));
-      lined = λ steps. p.lined (formula_lines f (passes ∷ formula_lines g (premise_lines h steps))) ∙ a.lined (passes ∷ formula_lines g (premise_lines h steps)) ∙ q.lined (formula_lines g (premise_lines h steps)) ∙ b.lined (premise_lines h steps) ∙ c.lined steps;
-    })))))
+    on_then (formula_sound n mid) (λ f last a. on_past (kind.Word word.By) last (λ next q. on_then (formula_sound n next) (λ g there b. on_then (premise_sound n (kind.Word word.Where) there) (λ h rest c. on_some _ (Replace f g h) rest (join p (join a (join q (join b c))))))))
 
 infer_sound : (n : ℕ) (tokens mid : List Token) → Passed (kind.Word word.Infer) tokens mid → On (read_infer n mid) (BeginsWith rule_form_part tokens)
 infer_sound n tokens mid p =
-    on_then (formula_sound n mid) (λ f last a. on_then (premise_sound n (kind.Word word.From) last) (λ h rest c. on_some _ (Infer f h) rest (record {
-      spelled = p.spelled ∙ ap (λ ks. kind.Word word.Infer ∷ ks) (a.spelled ∙ ap (formula_kinds f) c.spelled);
-      lined = λ steps. p.lined (formula_lines f (premise_lines h steps)) ∙ a.lined (premise_lines h steps) ∙ c.lined steps;
-    })))
+    on_then (formula_sound n mid) (λ f last a. on_then (premise_sound n (kind.Word word.From) last) (λ h rest c. on_some _ (Infer f h) rest (join p (join a c))))
 
 by_front : (n : ℕ) (tokens : List Token) (o : Option TokenKind) → front tokens ≡ o → On (rule_on n o tokens) (BeginsWith rule_form_part tokens)
 by_front n tokens (Some (kind.Word word.Replace)) e = replace_sound n tokens _ (passed _ tokens e)
@@ -64,14 +53,8 @@ rule_form_sound n tokens = by_front n tokens (front tokens) refl
 
 rule_sound : (n : ℕ) (tokens : List Token) → On (read_rule n tokens) (BeginsWith rule_part tokens)
 rule_sound n tokens =
-    on_then (ended_sound (kind.Sign sign.Semicolon) rule_form_part (read_rule_form n) tokens (rule_form_sound n tokens)) (λ x rest a. on_some _ (record { line = first_line tokens; form = x }) rest (record {
-      spelled = a.spelled;
-      lined = λ steps. begun tokens _ ∙ a.lined steps;
-    }))
+    on_then (ended_sound (kind.Sign sign.Semicolon) rule_form_part (read_rule_form n) tokens (rule_form_sound n tokens)) (λ x rest a. on_some _ (record { line = first_line tokens; form = x }) rest (started a))
 
 pub rule_tree_sound : (n : ℕ) (tokens : List Token) → On (read_rules n tokens) (BeginsWith rule_tree_part tokens)
 rule_tree_sound n tokens =
-    on_then (headed_sound (kind.Word word.Var) begins_name rule_vars_part read_rule_vars rule_vars_sound tokens) (λ vs mid a. on_then (items_sound (each_list rule_part) _ (starting_sound begins_rule rule_part (read_rule n) (rule_sound n)) _ mid) (λ rs rest b. on_some _ (record { line = first_line tokens; variables = vs; rules = rs }) rest (record {
-      spelled = a.spelled ∙ ap (headed (kind.Word word.Var) rule_vars_kinds vs) b.spelled;
-      lined = λ steps. begun tokens _ ∙ a.lined (each rule_lines rs steps) ∙ b.lined steps;
-    })))
+    on_then (headed_sound (kind.Word word.Var) begins_name rule_vars_part read_rule_vars rule_vars_sound tokens) (λ vs mid a. on_then (items_sound (each_list rule_part) _ (starting_sound begins_rule rule_part (read_rule n) (rule_sound n)) _ mid) (λ rs rest b. on_some _ (record { line = first_line tokens; variables = vs; rules = rs }) rest (started (join a b))))

@@ -14,11 +14,8 @@ use Rattle.spv_syntax.specs.declared.formula_text.FormulaText.{FormulaText}
 use Rattle.spv_syntax.specs.Formulas.{Formula}
 use Rattle.spv_syntax.specs.Lists.{each, headed}
 use Rattle.spv_syntax.specs.FormulaKinds.{formula_kinds}
-use Rattle.spv_syntax.specs.FormulaLines.{formula_lines}
 use Rattle.spv_syntax.specs.ProgramKinds.{sort_kinds}
-use Rattle.spv_syntax.specs.ProgramLines.{sort_lines}
 use Rattle.spv_syntax.specs.RuleKinds.{rule_vars_kinds, premise_kinds, rule_form_kinds, rule_kinds, rule_tree_kinds, formula_text_kinds}
-use Rattle.spv_syntax.specs.RuleLines.{premise_lines, rule_form_lines, rule_lines, rule_tree_lines}
 use Rattle.spv_syntax.specs.Steps.{Step, passes, first_line}
 use Rattle.spv_reading.specs.Readers.{first, after, is, same_kind, headed_by}
 use Rattle.spv_reading.specs.FormulaReaders.{read_formula}
@@ -35,6 +32,10 @@ use Rattle.spv_reading.proofs.FormulaWhole.{formula_complete}
 use Rattle.spv_reading.proofs.TypeWhole.{names_complete, names_length}
 use Rattle.spv_reading.proofs.DeclarationWhole.{sort_complete, either_length}
 use Rattle.spv_reading.proofs.RoutineLengths.{declarations_length}
+use Rattle.spv_syntax.specs.Members.{in_lines}
+use Rattle.spv_syntax.specs.FormulaSpelling.{formula_spelling}
+use Rattle.spv_syntax.specs.ProgramSpelling.{sort_spelling}
+use Rattle.spv_syntax.specs.RuleSpelling.{premise_spelling, rule_form_spelling, rule_spelling, rule_tree_spelling}
 
 -- ---- lengths
 
@@ -76,7 +77,7 @@ formula_text_length t rest =
 rule_vars_complete : (x : RuleVars) → Complete rule_vars_part never read_rule_vars x
 rule_vars_complete x tokens spelled steps s e =
     let b = begun_of s in
-    then_answers (names_complete x.names tokens (kind.Sign sign.Colon ∷ sort_kinds x.sort (kind.Sign sign.Semicolon ∷ spelled)) (passes ∷ sort_lines x.sort (passes ∷ steps)) b.stands refl) (λ xs is_xs mid m. past_answers (kind.Sign sign.Colon) refl m (λ last q. then_answers (ended_complete (kind.Sign sign.Semicolon) sort_part never read_sort x.sort refl refl (sort_complete x.sort) last spelled steps q refl) (λ v is_v rest r. done {y = record { line = first_line tokens; names = xs; sort = v }} r (λ i. record { line = b.line i; names = is_xs i; sort = is_v i }))))
+    then_answers (names_complete x.names tokens (kind.Sign sign.Colon ∷ sort_kinds x.sort (kind.Sign sign.Semicolon ∷ spelled)) (passes ∷ (sort_spelling in_lines) x.sort (passes ∷ steps)) b.stands refl) (λ xs is_xs mid m. past_answers (kind.Sign sign.Colon) refl m (λ last q. then_answers (ended_complete (kind.Sign sign.Semicolon) sort_part never read_sort x.sort refl refl (sort_complete x.sort) last spelled steps q refl) (λ v is_v rest r. done {y = record { line = first_line tokens; names = xs; sort = v }} r (λ i. record { line = b.line i; names = is_xs i; sort = is_v i }))))
 
 all_rule_vars : (xs : List RuleVars) → Each (Complete rule_vars_part never read_rule_vars) xs
 all_rule_vars [] = tt
@@ -87,7 +88,7 @@ variables_complete xs = headed_complete rule_vars_part begins_name read_rule_var
 
 -- ---- rules
 
-premise_answers : (n : ℕ) (k : TokenKind) → same_kind k k ≡ true → (x : Option Formula) → condition_depth x ≤ n → {tokens : List Token} {spelled : List TokenKind} {steps : List Step} → Stands tokens (premise_kinds k x spelled) (premise_lines x steps) → is k (first spelled) ≡ false → continues_formula (first spelled) ≡ false → Answers (read_premise n k tokens) x tokens spelled steps
+premise_answers : (n : ℕ) (k : TokenKind) → same_kind k k ≡ true → (x : Option Formula) → condition_depth x ≤ n → {tokens : List Token} {spelled : List TokenKind} {steps : List Step} → Stands tokens (premise_kinds k x spelled) (premise_spelling in_lines k x steps) → is k (first spelled) ≡ false → continues_formula (first spelled) ≡ false → Answers (read_premise n k tokens) x tokens spelled steps
 premise_answers n k same None d s e g = absent k (read_formula n) s e
 premise_answers n k same (Some f) d {tokens} {spelled} {steps} s e g = present k (read_formula n) same s (λ mid m. formula_complete f n d mid spelled steps m g)
 
@@ -97,16 +98,16 @@ premise_ends k None spelled e = refl
 premise_ends k (Some f) spelled e = e
 
 -- a rule up to its ";"
-rule_form_answers : (n : ℕ) (x : RuleForm) → rule_form_depth x ≤ n → {tokens : List Token} {spelled : List TokenKind} {steps : List Step} → Stands tokens (rule_form_kinds x (kind.Sign sign.Semicolon ∷ spelled)) (rule_form_lines x (passes ∷ steps)) → Answers (read_rule_form n tokens) x tokens (kind.Sign sign.Semicolon ∷ spelled) (passes ∷ steps)
+rule_form_answers : (n : ℕ) (x : RuleForm) → rule_form_depth x ≤ n → {tokens : List Token} {spelled : List TokenKind} {steps : List Step} → Stands tokens (rule_form_kinds x (kind.Sign sign.Semicolon ∷ spelled)) (rule_form_spelling in_lines x (passes ∷ steps)) → Answers (read_rule_form n tokens) x tokens (kind.Sign sign.Semicolon ∷ spelled) (passes ∷ steps)
 rule_form_answers n (Replace f g h) d {tokens} {spelled} {steps} s =
     let p = taken_of s in
     let limit = premise_kinds (kind.Word word.Where) h (kind.Sign sign.Semicolon ∷ spelled) in
-    let lines = premise_lines h (passes ∷ steps) in
-    answers_after (omega (arith, p.shorter)) (ap (λ o. rule_on n o tokens) p.front) (then_answers (formula_complete f n (omega arith) (after tokens) (kind.Word word.By ∷ formula_kinds g limit) (passes ∷ formula_lines g lines) p.stands refl) (λ x is_x mid m. past_answers (kind.Word word.By) refl m (λ last q. then_answers (formula_complete g n (omega arith) last limit lines q (premise_ends (kind.Word word.Where) h spelled refl)) (λ y is_y next v. then_answers (premise_answers n (kind.Word word.Where) refl h (omega arith) v refl refl) (λ z is_z rest r. done {y = Replace x y z} r (cc (is_x, is_y, is_z)))))))
+    let lines = premise_spelling in_lines (kind.Word word.Where) h (passes ∷ steps) in
+    answers_after (omega (arith, p.shorter)) (ap (λ o. rule_on n o tokens) p.front) (then_answers (formula_complete f n (omega arith) (after tokens) (kind.Word word.By ∷ formula_kinds g limit) (passes ∷ (formula_spelling in_lines) g lines) p.stands refl) (λ x is_x mid m. past_answers (kind.Word word.By) refl m (λ last q. then_answers (formula_complete g n (omega arith) last limit lines q (premise_ends (kind.Word word.Where) h spelled refl)) (λ y is_y next v. then_answers (premise_answers n (kind.Word word.Where) refl h (omega arith) v refl refl) (λ z is_z rest r. done {y = Replace x y z} r (cc (is_x, is_y, is_z)))))))
 rule_form_answers n (Infer f h) d {tokens} {spelled} {steps} s =
     let p = taken_of s in
     let reason = premise_kinds (kind.Word word.From) h (kind.Sign sign.Semicolon ∷ spelled) in
-    let lines = premise_lines h (passes ∷ steps) in
+    let lines = premise_spelling in_lines (kind.Word word.From) h (passes ∷ steps) in
     answers_after (omega (arith, p.shorter)) (ap (λ o. rule_on n o tokens) p.front) (then_answers (formula_complete f n (omega arith) (after tokens) reason lines p.stands (premise_ends (kind.Word word.From) h spelled refl)) (λ x is_x mid m. then_answers (premise_answers n (kind.Word word.From) refl h (omega arith) m refl refl) (λ z is_z rest r. done {y = Infer x z} r (cc (is_x, is_z)))))
 
 rule_complete : (n : ℕ) (x : Rule) → rule_form_depth x.form ≤ n → Complete rule_part never (read_rule n) x
@@ -133,7 +134,7 @@ variables_end : (xs : List Rule) → (is (kind.Word word.Var) (first (each rule_
 variables_end [] = refl
 variables_end (x ∷ xs) = form_is_no_name x.form (kind.Sign sign.Semicolon ∷ each rule_kinds xs [])
 
-pub rule_tree_answers : (n : ℕ) (t : RuleTree) → rule_tree_depth t ≤ n → {tokens : List Token} → Stands tokens (rule_tree_kinds t []) (rule_tree_lines t []) → Answers (read_rules n tokens) t tokens [] []
+pub rule_tree_answers : (n : ℕ) (t : RuleTree) → rule_tree_depth t ≤ n → {tokens : List Token} → Stands tokens (rule_tree_kinds t []) (rule_tree_spelling in_lines t []) → Answers (read_rules n tokens) t tokens [] []
 rule_tree_answers n t d {tokens} s =
     let b = begun_of s in
-    then_answers (variables_complete t.variables tokens (each rule_kinds t.rules []) (each rule_lines t.rules []) b.stands (variables_end t.rules)) (λ vs is_vs mid m. then_answers (each_complete rule_part begins_rule (read_rule n) (λ x rest. form_begins x.form (kind.Sign sign.Semicolon ∷ rest)) (λ x rest. omega (arith, rule_form_length x.form (kind.Sign sign.Semicolon ∷ rest))) t.rules (all_rules n t.rules d) (length mid) mid [] [] (omega arith) m refl) (λ rs is_rs rest r. done {y = record { line = first_line tokens; variables = vs; rules = rs }} r (λ i. record { line = b.line i; variables = is_vs i; rules = is_rs i })))
+    then_answers (variables_complete t.variables tokens (each rule_kinds t.rules []) (each (rule_spelling in_lines) t.rules []) b.stands (variables_end t.rules)) (λ vs is_vs mid m. then_answers (each_complete rule_part begins_rule (read_rule n) (λ x rest. form_begins x.form (kind.Sign sign.Semicolon ∷ rest)) (λ x rest. omega (arith, rule_form_length x.form (kind.Sign sign.Semicolon ∷ rest))) t.rules (all_rules n t.rules d) (length mid) mid [] [] (omega arith) m refl) (λ rs is_rs rest r. done {y = record { line = first_line tokens; variables = vs; rules = rs }} r (λ i. record { line = b.line i; variables = is_vs i; rules = is_rs i })))

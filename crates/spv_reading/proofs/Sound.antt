@@ -10,7 +10,7 @@ use Rattle.spv_syntax.specs.Steps.{Step, passes, first_line, lines_agree}
 use Rattle.spv_syntax.specs.Reads.{kinds}
 use Rattle.spv_reading.specs.Readers.{front, after, is, Reader, and_then, past, name_of, name, Next, behind, items_by, items, all_items, several_of, starting, headed_by, optional, ended}
 use Rattle.spv_reading.specs.Parts.{Part, BeginsWith, name_part, led, several_part, each_part, headed_part, ended_part}
-use Rattle.spv_reading.proofs.Fronts.{Passed, some_is, passed, is-true, begun}
+use Rattle.spv_reading.proofs.Fronts.{Passed, some_is, passed, is-true, begun, join, started}
 
 -- P of what is read, if anything is
 pub record On {A : Type 0} (read : Option (A × List Token)) (P : A → List Token → Type 0) : Type 0 where
@@ -42,7 +42,7 @@ on_past k tokens f = on_if (is k (front tokens)) _ _ (λ h. f (after tokens) (pa
 pub name_begins : (tokens : List Token) (x : Symbol) → front tokens ≡ Some (kind.Name x) → BeginsWith name_part tokens (record { line = first_line tokens; symbol = x }) (after tokens)
 name_begins tokens x e =
     let p = passed (kind.Name x) tokens e in
-    record { spelled = p.spelled; lined = λ steps. begun tokens _ ∙ p.lined steps }
+    (started p)
 
 -- a name, and that it has the first line
 pub record NameAt (tokens : List Token) (x : Name) (rest : List Token) : Type 0 where
@@ -98,20 +98,17 @@ pub on_no_item : {A : Type 0} (P : A → List Token → Type 0) → OnItem None 
 on_no_item P = record { at = λ x rest e. absurd (cc) }
 
 -- a part behind a token
-pub led_begins : {A : Type 0} {part : Part A} (k : TokenKind) (tokens mid rest : List Token) (x : A) → Passed k tokens mid → BeginsWith part mid x rest → BeginsWith (led k part) tokens x rest
-led_begins {part} k tokens mid rest x p a = record {
-  spelled = p.spelled ∙ ap (λ ks. k ∷ ks) a.spelled;
-  lined = λ steps. p.lined (part.lined x steps) ∙ a.lined steps;
-}
+pub led_begins : {A : Type 0} (part : Part A) (k : TokenKind) (tokens mid rest : List Token) (x : A) → Passed k tokens mid → BeginsWith part mid x rest → BeginsWith (led k part) tokens x rest
+led_begins part k tokens mid rest x p a = join p a
 
-by_behind : {A : Type 0} {part : Part A} (k : TokenKind) (item : Reader A) (tokens : List Token) (b : Bool) → is k (front tokens) ≡ b → ((others : List Token) → On (item others) (BeginsWith part others)) → OnItem (if b then Some (item (after tokens)) else None) (BeginsWith (led k part) tokens)
-by_behind k item tokens true e h =
+by_behind : {A : Type 0} (part : Part A) (k : TokenKind) (item : Reader A) (tokens : List Token) (b : Bool) → is k (front tokens) ≡ b → ((others : List Token) → On (item others) (BeginsWith part others)) → OnItem (if b then Some (item (after tokens)) else None) (BeginsWith (led k part) tokens)
+by_behind part k item tokens true e h =
     let p = passed k tokens (is-true k (front tokens) e) in
-    on_item (record { at = λ x rest f. led_begins k tokens _ rest x p ((h (after tokens)).at x rest f) })
-by_behind k item tokens false e h = on_no_item _
+    on_item (record { at = λ x rest f. led_begins part k tokens _ rest x p ((h (after tokens)).at x rest f) })
+by_behind part k item tokens false e h = on_no_item _
 
-pub behind_sound : {A : Type 0} {part : Part A} (k : TokenKind) (item : Reader A) → ((others : List Token) → On (item others) (BeginsWith part others)) → (tokens : List Token) → OnItem (behind k item tokens) (BeginsWith (led k part) tokens)
-behind_sound k item h tokens = by_behind k item tokens (is k (front tokens)) refl h
+pub behind_sound : {A : Type 0} (part : Part A) (k : TokenKind) (item : Reader A) → ((others : List Token) → On (item others) (BeginsWith part others)) → (tokens : List Token) → OnItem (behind k item tokens) (BeginsWith (led k part) tokens)
+behind_sound part k item h tokens = by_behind part k item tokens (is k (front tokens)) refl h
 
 -- two facts of what is read
 pub on_both : {A : Type 0} {read : Option (A × List Token)} {P Q : A → List Token → Type 0} → On read P → On read Q → On read (λ x rest. P x rest × Q x rest)
@@ -152,10 +149,7 @@ further_list k part = record {
 
 pub several_sound : {A : Type 0} (k : TokenKind) (part : Part A) (item : Reader A) → ((tokens : List Token) → On (item tokens) (BeginsWith part tokens)) → (tokens : List Token) → On (several_of k item tokens) (BeginsWith (several_part k part) tokens)
 several_sound k part item h tokens =
-    on_then (h tokens) (λ x mid a. on_then (items_sound (further_list k part) _ (behind_sound k item h) _ mid) (λ xs rest b. on_some _ (record { first = x; more = xs }) rest (record {
-      spelled = a.spelled ∙ ap (part.spelled x) b.spelled;
-      lined = λ steps. a.lined (further passes part.lined xs steps) ∙ b.lined steps;
-    })))
+    on_then (h tokens) (λ x mid a. on_then (items_sound (further_list k part) _ (behind_sound part k item h) _ mid) (λ xs rest b. on_some _ (record { first = x; more = xs }) rest (join a b)))
 
 -- ---- parts behind a word
 
@@ -180,10 +174,7 @@ headed_sound k begins part item h tokens =
   where
     some_there : (mid : List Token) → Passed k tokens mid → On (and_then (item mid) (λ x last. and_then (all_items [] ◌∷◌ (starting begins item) last) (λ xs rest. Some (x ∷ xs, rest)))) (BeginsWith (headed_part k part) tokens)
     some_there mid p =
-        on_then (h mid) (λ x last a. on_then (items_sound (each_list part) _ (starting_sound begins part item h) _ last) (λ xs rest b. on_some _ (x ∷ xs) rest (record {
-          spelled = p.spelled ∙ ap (λ ks. k ∷ ks) (a.spelled ∙ ap (part.spelled x) b.spelled);
-          lined = λ steps. p.lined (part.lined x (each part.lined xs steps)) ∙ a.lined (each part.lined xs steps) ∙ b.lined steps;
-        })))
+        on_then (h mid) (λ x last a. on_then (items_sound (each_list part) _ (starting_sound begins part item h) _ last) (λ xs rest b. on_some _ (x ∷ xs) rest (join p (join a b))))
 
 pub on_optional : {A : Type 0} (k : TokenKind) (part : Reader A) (tokens : List Token) (Q : Option A → List Token → Type 0) → Q None tokens → ((mid : List Token) → Passed k tokens mid → On (part mid) (λ x rest. Q (Some x) rest)) → On (optional k part tokens) Q
 on_optional k part tokens Q f g =
@@ -194,7 +185,4 @@ on_ended k part tokens a f = on_then a (λ x mid p. on_past k mid (λ rest q. on
 
 pub ended_sound : {A : Type 0} (k : TokenKind) (part : Part A) (item : Reader A) (tokens : List Token) → On (item tokens) (BeginsWith part tokens) → On (ended k item tokens) (BeginsWith (ended_part k part) tokens)
 ended_sound k part item tokens h =
-    on_ended k item tokens h (λ x mid a rest q. record {
-      spelled = a.spelled ∙ ap (part.spelled x) q.spelled;
-      lined = λ steps. a.lined (passes ∷ steps) ∙ q.lined steps;
-    })
+    on_ended k item tokens h (λ x mid a rest q. join a q)

@@ -17,51 +17,45 @@ use Rattle.spv_syntax.specs.TypeKinds.{scalar_kind}
 use Rattle.spv_syntax.specs.StatementKinds.{direction_kind}
 use Rattle.spv_syntax.specs.FormulaKinds.{name_kind, formula_kinds}
 use Rattle.spv_syntax.specs.Lists.{several}
-use Rattle.spv_syntax.specs.TypeLines.{scalar_lines}
 use Rattle.spv_syntax.specs.Steps.{Step, passes, first_line, lines_agree}
 use Rattle.spv_syntax.specs.Reads.{kinds, ends_open, otherwise_ends_open, loop_ends_open, may_end, statement_ok, otherwise_ok, block_ok, more_statements_ok, arm_ok, more_arms_ok, loop_ok}
 use Rattle.spv_reading.specs.Readers.{front, after, is, Reader, and_then, behind}
 use Rattle.spv_reading.specs.FormulaReaders.{prefix_of, read_inner, read_formula}
 use Rattle.spv_reading.specs.StatementReaders.{scalar_by, signed_by, read_constant, read_constants, begins_constant, direction_of, read_more_statements, read_block_behind, block_by, read_arm, read_more_arms, read_otherwise, read_while, read_repeat, read_to, read_for, loop_by, read_repetition, read_call, read_plain_call, read_becomes, read_action, read_creation, read_conditional, read_selection, statement_on, statement_by, read_lower, read_statement, read_block}
-use Rattle.spv_reading.specs.Parts.{BeginsWith, name_part, led, formula_part, selectors_part, constant_part, constants_part, statement_part, otherwise_part, block_part, more_statements_part, arm_part, more_arms_part, loop_part}
-use Rattle.spv_reading.proofs.Fronts.{Passed, some_is, passed, is-true, begun, begins_at}
+use Rattle.spv_reading.specs.Parts.{InFront, BeginsWith, name_part, led, formula_part, selectors_part, constant_part, constants_part, statement_part, otherwise_part, block_part, more_statements_part, arm_part, more_arms_part, loop_part}
+use Rattle.spv_reading.proofs.Fronts.{Passed, some_is, passed, is-true, begun, begins_at, join, starting_at, started}
 use Rattle.spv_reading.proofs.Sound.{On, on_none, on_some, on_then, on_if, on_past, on_both, on_more, name_begins, name_sound, IsList, items_sound, items_all, behind_sound, behind_all, several_sound}
 use Rattle.spv_reading.proofs.FormulaSound.{prefix_is, selectors_sound, designator_sound, inner_sound, formula_sound}
+use Rattle.spv_syntax.specs.Members.{in_lines}
+use Rattle.spv_syntax.specs.TypeSpelling.{scalar_spelling}
 
 -- ---- constants
 
 -- what stands behind the sign, at its place among the lines
-record ScalarAt (tokens : List Token) (x : Scalar) (rest : List Token) : Type 0 where
-  spelled : kinds tokens ≡ scalar_kind x ∷ kinds rest
-  lined : (steps : List Step) → lines_agree (scalar_lines x steps) tokens ≡ lines_agree steps rest
+abbrev ScalarAt : List Token → Scalar → List Token → Type 0
+ScalarAt tokens x rest = InFront (λ ks. scalar_kind x ∷ ks) (scalar_spelling in_lines x) tokens rest
 
 scalar_sound : (tokens : List Token) (o : Option TokenKind) → front tokens ≡ o → On (scalar_by o tokens) (ScalarAt tokens)
 scalar_sound tokens (Some (kind.Number n)) e =
     let p = passed _ tokens e in
-    on_some _ (scalar.Number n) (after tokens) (record { spelled = p.spelled; lined = p.lined })
+    on_some _ (scalar.Number n) (after tokens) p
 scalar_sound tokens (Some (kind.Name x)) e =
     let n = name_begins tokens x e in
-    on_some _ (scalar.Name (record { line = first_line tokens; symbol = x })) (after tokens) (record { spelled = n.spelled; lined = n.lined })
+    on_some _ (scalar.Name (record { line = first_line tokens; symbol = x })) (after tokens) n
 scalar_sound tokens _ e = on_none _
 
 signed_sound : (tokens : List Token) (o : Option PlusOrMinus) → prefix_of (front tokens) ≡ o → On (signed_by o tokens) (BeginsWith constant_part tokens)
 signed_sound tokens None e =
-    on_then (scalar_sound tokens (front tokens) refl) (λ x rest a. on_some _ (record { line = first_line tokens; sign = None; value = x }) rest (record {
-      spelled = a.spelled;
-      lined = λ steps. begun tokens _ ∙ a.lined steps;
-    }))
+    on_then (scalar_sound tokens (front tokens) refl) (λ x rest a. on_some _ (record { line = first_line tokens; sign = None; value = x }) rest (started a))
 signed_sound tokens (Some s) e =
     let p = passed _ tokens (prefix_is (front tokens) s e) in
-    on_then (scalar_sound (after tokens) (front (after tokens)) refl) (λ x rest a. on_some _ (record { line = first_line tokens; sign = Some s; value = x }) rest (record {
-      spelled = cc (p.spelled, a.spelled);
-      lined = λ steps. begun tokens _ ∙ p.lined _ ∙ a.lined steps;
-    }))
+    on_then (scalar_sound (after tokens) (front (after tokens)) refl) (λ x rest a. on_some _ (record { line = first_line tokens; sign = Some s; value = x }) rest (started (join p a)))
 
 pub constant_sound : (tokens : List Token) → On (read_constant tokens) (BeginsWith constant_part tokens)
 constant_sound tokens = signed_sound tokens (prefix_of (front tokens)) refl
 
 pub constants_sound : (tokens : List Token) → On (read_constants tokens) (BeginsWith constants_part tokens)
-constants_sound tokens = on_more (several_sound (kind.Sign sign.Comma) constant_part read_constant constant_sound tokens) (λ x rest b. record { spelled = b.spelled; lined = b.lined })
+constants_sound tokens = on_more (several_sound (kind.Sign sign.Comma) constant_part read_constant constant_sound tokens) (λ x rest b. b)
 
 direction_is : (o : Option TokenKind) (d : Direction) → direction_of o ≡ Some d → o ≡ Some (direction_kind d)
 direction_is (Some (kind.Word word.To)) d e = ap (λ x. Some (direction_kind x)) (some_is _ _ e)
@@ -112,15 +106,12 @@ module _ (lower : Reader Statement) (lower_sound : (tokens : List Token) → On 
 
   more_statements_sound : (tokens : List Token) → On (read_more_statements lower tokens) (λ ss rest. BeginsWith more_statements_part tokens ss rest × (more_statements_ok ss ≡ true))
   more_statements_sound tokens =
-      on_both (items_sound more_statements_list _ (behind_sound _ lower lower_here) _ tokens) (items_all (λ s. statement_ok s ≡ true) (λ ss. more_statements_ok ss ≡ true) refl (λ s ss a b. both_true a b) _ (behind_all _ lower _ (λ others. on_more (lower_sound others) (λ s rest a. a.ok))) _ tokens)
+      on_both (items_sound more_statements_list _ (behind_sound statement_part _ lower lower_here) _ tokens) (items_all (λ s. statement_ok s ≡ true) (λ ss. more_statements_ok ss ≡ true) refl (λ s ss a b. both_true a b) _ (behind_all _ lower _ (λ others. on_more (lower_sound others) (λ s rest a. a.ok))) _ tokens)
 
   block_sound : (tokens mid : List Token) → Passed (kind.Word word.Begin) tokens mid → On (read_block_behind lower (first_line tokens) mid) (BlockAt tokens)
   block_sound tokens mid p =
       on_then (lower_sound mid) (λ s next a. on_then (more_statements_sound next) (λ more last b. on_past _ last (λ rest q. on_some _ (block (first_line tokens) s more) rest (record {
-        here = record {
-          spelled = cc (p.spelled, a.here.spelled, b.0.spelled, q.spelled);
-          lined = λ steps. begun tokens _ ∙ p.lined _ ∙ a.here.lined _ ∙ b.0.lined _ ∙ q.lined steps;
-        };
+        here = started (join p (join a.here (join b.0 q)));
         ok = both_true a.ok b.1;
       }))))
 
@@ -130,10 +121,7 @@ module _ (lower : Reader Statement) (lower_sound : (tokens : List Token) → On 
   arm_sound : (tokens : List Token) → On (read_arm lower tokens) (ArmAt tokens)
   arm_sound tokens =
       on_if (begins_constant (front tokens)) _ _ (λ h. on_then (constants_sound tokens) (λ cs mid a. on_past _ mid (λ last q. on_then (lower_sound last) (λ s rest b. on_some _ (arm (first_line tokens) cs s) rest (record {
-        here = record {
-          spelled = cc (a.spelled, q.spelled, b.here.spelled);
-          lined = λ steps. begun tokens _ ∙ a.lined _ ∙ q.lined _ ∙ b.here.lined steps;
-        };
+        here = started (join a (join q b.here));
         ok = b.ok;
       }))))) (λ h. on_some _ (no_arm (first_line tokens)) tokens (record {
         here = record { spelled = refl; lined = λ steps. begun tokens steps };
@@ -150,7 +138,7 @@ module _ (lower : Reader Statement) (lower_sound : (tokens : List Token) → On 
 
   more_arms_sound : (tokens : List Token) → On (read_more_arms lower tokens) (λ ss rest. BeginsWith more_arms_part tokens ss rest × (more_arms_ok ss ≡ true))
   more_arms_sound tokens =
-      on_both (items_sound more_arms_list _ (behind_sound _ (read_arm lower) (λ others. on_more (arm_sound others) (λ x rest a. a.here))) _ tokens) (items_all (λ s. arm_ok s ≡ true) (λ ss. more_arms_ok ss ≡ true) refl (λ s ss a b. both_true a b) _ (behind_all _ (read_arm lower) _ (λ others. on_more (arm_sound others) (λ s rest a. a.ok))) _ tokens)
+      on_both (items_sound more_arms_list _ (behind_sound arm_part _ (read_arm lower) (λ others. on_more (arm_sound others) (λ x rest a. a.here))) _ tokens) (items_all (λ s. arm_ok s ≡ true) (λ ss. more_arms_ok ss ≡ true) refl (λ s ss a b. both_true a b) _ (behind_all _ (read_arm lower) _ (λ others. on_more (arm_sound others) (λ s rest a. a.ok))) _ tokens)
 
   not_open : (b c : Bool) → (b && c) ≡ false → c ≡ true → not b ≡ true
   not_open true true e f = sym e
@@ -169,10 +157,7 @@ module _ (lower : Reader Statement) (lower_sound : (tokens : List Token) → On 
       else_sound : (mid : List Token) → Passed Else tokens mid → is Else (front tokens) ≡ true → On (and_then (lower mid) (λ s rest. Some (otherwise s, rest))) (OtherwiseAt tokens)
       else_sound mid p h =
           on_then (lower_sound mid) (λ s rest a. on_some _ (otherwise s) rest (record {
-            here = record {
-              spelled = cc (p.spelled, a.here.spelled);
-              lined = λ steps. p.lined _ ∙ a.here.lined steps;
-            };
+            here = join p a.here;
             ok = a.ok;
             shut = a.shut;
             may = λ t e. not_open (ends_open t) _ e h;
@@ -184,10 +169,7 @@ module _ (lower : Reader Statement) (lower_sound : (tokens : List Token) → On 
     while_sound : (tokens mid : List Token) → Passed (kind.Word word.While) tokens mid → On (read_while lower read (first_line tokens) mid) (LoopAt tokens)
     while_sound tokens mid p =
         on_then (read_sound mid) (λ f next a. on_past _ next (λ last q. on_then (lower_sound last) (λ s rest b. on_some _ (while_loop (first_line tokens) f s) rest (record {
-          here = record {
-            spelled = cc (p.spelled, a.spelled, q.spelled, b.here.spelled);
-            lined = λ steps. begun tokens _ ∙ p.lined _ ∙ a.lined _ ∙ q.lined _ ∙ b.here.lined steps;
-          };
+          here = started (join p (join a (join q b.here)));
           ok = b.ok;
           shut = b.shut;
         }))))
@@ -195,10 +177,7 @@ module _ (lower : Reader Statement) (lower_sound : (tokens : List Token) → On 
     repeat_sound : (tokens mid : List Token) → Passed (kind.Word word.Repeat) tokens mid → On (read_repeat lower read (first_line tokens) mid) (LoopAt tokens)
     repeat_sound tokens mid p =
         on_then (lower_sound mid) (λ s next a. on_then (more_statements_sound next) (λ more last b. on_past _ last (λ behind q. on_then (read_sound behind) (λ f rest d. on_some _ (repeat_loop (first_line tokens) s more f) rest (record {
-          here = record {
-            spelled = cc (p.spelled, a.here.spelled, b.0.spelled, q.spelled, d.spelled);
-            lined = λ steps. begun tokens _ ∙ p.lined _ ∙ a.here.lined _ ∙ b.0.lined _ ∙ q.lined _ ∙ d.lined steps;
-          };
+          here = started (join p (join a.here (join b.0 (join q d))));
           ok = both_true a.ok b.1;
           shut = refl;
         })))))
@@ -212,10 +191,7 @@ module _ (lower : Reader Statement) (lower_sound : (tokens : List Token) → On 
         to_sound x from next behind last n q a (Some towards) e =
             let d = passed _ last (direction_is (front last) towards e) in
             on_then (read_sound (after last)) (λ to more b. on_past _ more (λ ending r. on_then (lower_sound ending) (λ s rest l. on_some _ (for_loop (first_line tokens) x from towards to s) rest (record {
-              here = record {
-                spelled = cc (p.spelled, n.spelled, q.spelled, a.spelled, d.spelled, b.spelled, r.spelled, l.here.spelled);
-                lined = λ steps. begun tokens _ ∙ p.lined _ ∙ n.lined _ ∙ q.lined _ ∙ a.lined _ ∙ d.lined _ ∙ b.lined _ ∙ r.lined _ ∙ l.here.lined steps;
-              };
+              here = started (join p (join n (join q (join a (join d (join b (join r l.here)))))));
               ok = l.ok;
               shut = l.shut;
             }))))
@@ -229,7 +205,7 @@ module _ (lower : Reader Statement) (lower_sound : (tokens : List Token) → On 
     plain_sound : (tokens : List Token) → On (read_repetition lower read (first_line tokens) None tokens) (StatementAt tokens)
     plain_sound tokens =
         on_then (loop_sound tokens (front tokens) refl) (λ l rest a. on_some _ (repetition (first_line tokens) None l) rest (record {
-          here = record { spelled = a.here.spelled; lined = λ steps. begun tokens _ ∙ a.here.lined steps };
+          here = started a.here;
           ok = a.ok;
           shut = a.shut;
         }))
@@ -237,10 +213,7 @@ module _ (lower : Reader Statement) (lower_sound : (tokens : List Token) → On 
     invariant_sound : (tokens mid : List Token) → Passed (kind.Word word.Invariant) tokens mid → On (and_then (read mid) (λ f rest. read_repetition lower read (first_line tokens) (Some f) rest)) (StatementAt tokens)
     invariant_sound tokens mid p =
         on_then (read_sound mid) (λ f next a. on_then (loop_sound next (front next) refl) (λ l rest b. on_some _ (repetition (first_line tokens) (Some f) l) rest (record {
-          here = record {
-            spelled = cc (p.spelled, a.spelled, b.here.spelled);
-            lined = λ steps. begun tokens _ ∙ p.lined _ ∙ a.lined _ ∙ b.here.lined steps;
-          };
+          here = started (join p (join a b.here));
           ok = b.ok;
           shut = b.shut;
         })))
@@ -248,10 +221,7 @@ module _ (lower : Reader Statement) (lower_sound : (tokens : List Token) → On 
     call_sound : (x : Name) (tokens mid last : List Token) → BeginsWith name_part tokens x mid → Passed (kind.Sign sign.OpenParenthesis) mid last → x.line ≡ first_line tokens → On (read_call inner x last) (StatementAt tokens)
     call_sound x tokens mid last n p l =
         on_then (several_sound (kind.Sign sign.Comma) formula_part inner inner_is_sound last) (λ fs next a. on_past _ next (λ rest q. on_some _ (call x.line x (Some fs)) rest (record {
-          here = record {
-            spelled = n.spelled ∙ ap (λ ks. name_kind x ∷ ks) (p.spelled ∙ ap (λ ks. kind.Sign sign.OpenParenthesis ∷ ks) (a.spelled ∙ ap (several (kind.Sign sign.Comma) formula_kinds fs) q.spelled));
-            lined = λ steps. begins_at tokens x.line _ l ∙ n.lined _ ∙ p.lined _ ∙ a.lined (passes ∷ steps) ∙ q.lined steps;
-          };
+          here = starting_at x.line l (join n (join p (join a q)));
           ok = refl;
           shut = refl;
         })))
@@ -263,10 +233,7 @@ module _ (lower : Reader Statement) (lower_sound : (tokens : List Token) → On 
         assigned : (next : List Token) → Passed (kind.Sign sign.Becomes) last next → On (and_then (read next) (λ f rest. Some (assignment x.line (designator x.line x selected) f, rest))) (StatementAt tokens)
         assigned next p =
             on_then (read_sound next) (λ f rest a. on_some _ (assignment x.line (designator x.line x selected) f) rest (record {
-              here = record {
-                spelled = cc (n.spelled, s.spelled, p.spelled, a.spelled);
-                lined = λ steps. begins_at tokens x.line _ l ∙ begins_at tokens x.line _ l ∙ n.lined _ ∙ s.lined _ ∙ p.lined _ ∙ a.lined steps;
-              };
+              here = starting_at x.line l (starting_at x.line l (join n (join s (join p a))));
               ok = refl;
               shut = refl;
             }))
@@ -274,10 +241,7 @@ module _ (lower : Reader Statement) (lower_sound : (tokens : List Token) → On 
         by_selectors : (behind : Selectors) → BeginsWith selectors_part mid behind last → On (read_plain_call x behind last) (StatementAt tokens)
         by_selectors no_selectors b =
             on_some _ (call x.line x None) last (record {
-              here = record {
-                spelled = cc (n.spelled, b.spelled);
-                lined = λ steps. begins_at tokens x.line _ l ∙ n.lined _ ∙ b.lined steps;
-              };
+              here = starting_at x.line l (join n b);
               ok = refl;
               shut = refl;
             })
@@ -290,10 +254,7 @@ module _ (lower : Reader Statement) (lower_sound : (tokens : List Token) → On 
     creation_sound : (tokens mid : List Token) → Passed (kind.Word word.New) tokens mid → On (read_creation inner (first_line tokens) mid) (StatementAt tokens)
     creation_sound tokens mid p =
         on_past (kind.Sign sign.OpenParenthesis) mid (λ next q. on_then (designator_sound inner inner_is_sound next) (λ d last a. on_past (kind.Sign sign.CloseParenthesis) last (λ rest r. on_some _ (creation (first_line tokens) d) rest (record {
-          here = record {
-            spelled = cc (p.spelled, q.spelled, a.spelled, r.spelled);
-            lined = λ steps. begun tokens _ ∙ p.lined _ ∙ q.lined _ ∙ a.lined _ ∙ r.lined steps;
-          };
+          here = started (join p (join q (join a r)));
           ok = refl;
           shut = refl;
         }))))
@@ -301,7 +262,7 @@ module _ (lower : Reader Statement) (lower_sound : (tokens : List Token) → On 
     compound_sound : (tokens mid : List Token) → Passed (kind.Word word.Begin) tokens mid → On (and_then (read_block_behind lower (first_line tokens) mid) (λ b rest. Some (compound (first_line tokens) b, rest))) (StatementAt tokens)
     compound_sound tokens mid p =
         on_then (block_sound tokens mid p) (λ b rest a. on_some _ (compound (first_line tokens) b) rest (record {
-          here = record { spelled = a.here.spelled; lined = λ steps. begun tokens _ ∙ a.here.lined steps };
+          here = started a.here;
           ok = a.ok;
           shut = refl;
         }))
@@ -309,10 +270,7 @@ module _ (lower : Reader Statement) (lower_sound : (tokens : List Token) → On 
     conditional_sound : (tokens mid : List Token) → Passed (kind.Word word.If) tokens mid → On (read_conditional lower read (first_line tokens) mid) (StatementAt tokens)
     conditional_sound tokens mid p =
         on_then (read_sound mid) (λ f next a. on_past _ next (λ last q. on_then (lower_sound last) (λ s behind b. on_then (otherwise_sound behind) (λ other rest d. on_some _ (conditional (first_line tokens) f s other) rest (record {
-          here = record {
-            spelled = cc (p.spelled, a.spelled, q.spelled, b.here.spelled, d.here.spelled);
-            lined = λ steps. begun tokens _ ∙ p.lined _ ∙ a.lined _ ∙ q.lined _ ∙ b.here.lined _ ∙ d.here.lined steps;
-          };
+          here = started (join p (join a (join q (join b.here d.here))));
           ok = both_true b.ok (both_true d.ok (d.may s b.shut));
           shut = d.shut;
         })))))
@@ -320,10 +278,7 @@ module _ (lower : Reader Statement) (lower_sound : (tokens : List Token) → On 
     selection_sound : (tokens mid : List Token) → Passed (kind.Word word.Case) tokens mid → On (read_selection lower read (first_line tokens) mid) (StatementAt tokens)
     selection_sound tokens mid p =
         on_then (read_sound mid) (λ f next a. on_past _ next (λ last q. on_then (arm_sound last) (λ x behind b. on_then (more_arms_sound behind) (λ more ending d. on_past (kind.Word word.End) ending (λ rest r. on_some _ (selection (first_line tokens) f x more) rest (record {
-          here = record {
-            spelled = cc (p.spelled, a.spelled, q.spelled, b.here.spelled, d.0.spelled, r.spelled);
-            lined = λ steps. begun tokens _ ∙ p.lined _ ∙ a.lined _ ∙ q.lined _ ∙ b.here.lined _ ∙ d.0.lined _ ∙ r.lined steps;
-          };
+          here = started (join p (join a (join q (join b.here (join d.0 r)))));
           ok = both_true b.ok d.1;
           shut = refl;
         }))))))
@@ -331,10 +286,7 @@ module _ (lower : Reader Statement) (lower_sound : (tokens : List Token) → On 
     assertion_sound : (tokens mid : List Token) → Passed (kind.Word word.Assert) tokens mid → On (and_then (read mid) (λ f rest. Some (assertion (first_line tokens) f, rest))) (StatementAt tokens)
     assertion_sound tokens mid p =
         on_then (read_sound mid) (λ f rest a. on_some _ (assertion (first_line tokens) f) rest (record {
-          here = record {
-            spelled = cc (p.spelled, a.spelled);
-            lined = λ steps. begun tokens _ ∙ p.lined _ ∙ a.lined steps;
-          };
+          here = started (join p a);
           ok = refl;
           shut = refl;
         }))

@@ -18,7 +18,6 @@ use Rattle.spv_syntax.specs.Statements.{Statement, empty, assignment, call, crea
 use Rattle.spv_syntax.specs.FormulaKinds.{formula_kinds}
 use Rattle.spv_syntax.specs.TypeKinds.{scalar_kind}
 use Rattle.spv_syntax.specs.StatementKinds.{direction_kind, statement_kinds, more_statements_kinds, loop_kinds}
-use Rattle.spv_syntax.specs.TypeLines.{scalar_lines}
 use Rattle.spv_syntax.specs.Steps.{Step, passes, first_line}
 use Rattle.spv_syntax.specs.Reads.{may_end, statement_ok, otherwise_ok, block_ok, more_statements_ok, arm_ok, more_arms_ok, loop_ok}
 use Rattle.spv_reading.specs.Readers.{first, front, after, is, Reader, behind, items}
@@ -32,10 +31,12 @@ use Rattle.spv_reading.proofs.WholeHeads.{never}
 use Rattle.spv_reading.proofs.FormulaEnds.{prefix_back, selectors_end, formula_factor}
 use Rattle.spv_reading.proofs.StatementEnds.{direction_back, direction_ends, no_sign, constant_begins, more_statements_ends, more_arms_ends, then_ends}
 use Rattle.spv_reading.proofs.FormulaWhole.{inner_of, formula_complete, selectors_complete}
+use Rattle.spv_syntax.specs.Members.{in_lines}
+use Rattle.spv_syntax.specs.TypeSpelling.{scalar_spelling}
 
 -- ---- constants
 
-scalar_is : (x : Scalar) {tokens : List Token} {spelled : List TokenKind} {steps : List Step} → Stands tokens (scalar_kind x ∷ spelled) (scalar_lines x steps) → Answers (read_scalar tokens) x tokens spelled steps
+scalar_is : (x : Scalar) {tokens : List Token} {spelled : List TokenKind} {steps : List Step} → Stands tokens (scalar_kind x ∷ spelled) (scalar_spelling in_lines x steps) → Answers (read_scalar tokens) x tokens spelled steps
 scalar_is (scalar.Number n) {tokens} s =
     let p = taken_of s in
     record { rest = after tokens; is = ap (λ o. scalar_by o tokens) p.front; stands = p.stands; shorter = omega (arith, p.shorter) }

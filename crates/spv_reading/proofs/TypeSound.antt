@@ -12,40 +12,28 @@ use Rattle.spv_syntax.specs.Steps.{first_line}
 use Rattle.spv_reading.specs.Readers.{front, after, is, Reader, and_then, name}
 use Rattle.spv_reading.specs.TypeReaders.{read_names, begins_name, read_upper, read_range, read_type_name, read_more_types, read_array, read_field_part, read_more_fields, read_record, type_on, read_lower_type, read_type}
 use Rattle.spv_reading.specs.Parts.{BeginsWith, name_part, led, names_part, type_part, more_types_part, field_part, more_fields_part}
-use Rattle.spv_reading.proofs.Fronts.{Passed, passed, is-true, begun, begins_at}
+use Rattle.spv_reading.proofs.Fronts.{Passed, passed, is-true, begun, begins_at, join, starting_at, started}
 use Rattle.spv_reading.proofs.Sound.{On, on_none, on_some, on_then, on_if, on_past, on_more, name_begins, name_sound, IsList, items_sound, behind_sound, several_sound}
 use Rattle.spv_reading.proofs.StatementSound.{constant_sound}
 
 pub names_sound : (tokens : List Token) → On (read_names tokens) (BeginsWith names_part tokens)
-names_sound tokens = on_more (several_sound (kind.Sign sign.Comma) name_part name name_sound tokens) (λ x rest b. record { spelled = b.spelled; lined = b.lined })
+names_sound tokens = on_more (several_sound (kind.Sign sign.Comma) name_part name name_sound tokens) (λ x rest b. b)
 
 range_sound : (tokens : List Token) → On (read_range tokens) (BeginsWith type_part tokens)
 range_sound tokens =
-    on_then (constant_sound tokens) (λ low mid a. on_past (kind.Sign sign.Range) mid (λ last q. on_then (constant_sound last) (λ high rest b. on_some _ (range (first_line tokens) low high) rest (record {
-      spelled = cc (a.spelled, q.spelled, b.spelled);
-      lined = λ steps. begun tokens _ ∙ a.lined _ ∙ q.lined _ ∙ b.lined steps;
-    }))))
+    on_then (constant_sound tokens) (λ low mid a. on_past (kind.Sign sign.Range) mid (λ last q. on_then (constant_sound last) (λ high rest b. on_some _ (range (first_line tokens) low high) rest (started (join a (join q b))))))
 
 named_sound : (x : Name) (tokens mid : List Token) → BeginsWith name_part tokens x mid → x.line ≡ first_line tokens → On (read_type_name x mid) (BeginsWith type_part tokens)
 named_sound x tokens mid n l =
-    on_if (is (kind.Sign sign.Range) (front mid)) _ _ (λ h. upper (after mid) (passed _ mid (is-true _ (front mid) h))) (λ h. on_some _ (named x.line x) mid (record {
-      spelled = n.spelled;
-      lined = λ steps. begins_at tokens x.line _ l ∙ n.lined steps;
-    }))
+    on_if (is (kind.Sign sign.Range) (front mid)) _ _ (λ h. upper (after mid) (passed _ mid (is-true _ (front mid) h))) (λ h. on_some _ (named x.line x) mid (starting_at x.line l n))
   where
     upper : (last : List Token) → Passed (kind.Sign sign.Range) mid last → On (read_upper x.line (record { line = x.line; sign = None; value = scalar.Name x }) last) (BeginsWith type_part tokens)
     upper last q =
-        on_then (constant_sound last) (λ high rest b. on_some _ (range x.line (record { line = x.line; sign = None; value = scalar.Name x }) high) rest (record {
-          spelled = cc (n.spelled, q.spelled, b.spelled);
-          lined = λ steps. begins_at tokens x.line _ l ∙ begins_at tokens x.line _ l ∙ n.lined _ ∙ q.lined _ ∙ b.lined steps;
-        }))
+        on_then (constant_sound last) (λ high rest b. on_some _ (range x.line (record { line = x.line; sign = None; value = scalar.Name x }) high) rest (starting_at x.line l (starting_at x.line l (join n (join q b)))))
 
 pointer_sound : (tokens mid : List Token) → Passed (kind.Sign sign.Caret) tokens mid → On (and_then (name mid) (λ x rest. Some (pointer (first_line tokens) x, rest))) (BeginsWith type_part tokens)
 pointer_sound tokens mid p =
-    on_then (name_sound mid) (λ x rest a. on_some _ (pointer (first_line tokens) x) rest (record {
-      spelled = cc (p.spelled, a.spelled);
-      lined = λ steps. begun tokens _ ∙ p.lined _ ∙ a.lined steps;
-    }))
+    on_then (name_sound mid) (λ x rest a. on_some _ (pointer (first_line tokens) x) rest (started (join p a)))
 
 module _ (lower : Reader TypeDenoter) (lower_sound : (tokens : List Token) → On (lower tokens) (BeginsWith type_part tokens)) where
   more_types_list : IsList no_more_types more_types (led (kind.Sign sign.Comma) type_part) more_types_part
@@ -57,21 +45,15 @@ module _ (lower : Reader TypeDenoter) (lower_sound : (tokens : List Token) → O
   }
 
   more_types_sound : (tokens : List Token) → On (read_more_types lower tokens) (BeginsWith more_types_part tokens)
-  more_types_sound tokens = items_sound more_types_list _ (behind_sound _ lower lower_sound) _ tokens
+  more_types_sound tokens = items_sound more_types_list _ (behind_sound type_part _ lower lower_sound) _ tokens
 
   array_sound : (tokens mid : List Token) → Passed (kind.Word word.Array) tokens mid → On (read_array lower (first_line tokens) mid) (BeginsWith type_part tokens)
   array_sound tokens mid p =
-      on_past (kind.Sign sign.OpenBracket) mid (λ opened o. on_then (lower_sound opened) (λ t further a. on_then (more_types_sound further) (λ more last b. on_past (kind.Sign sign.CloseBracket) last (λ shut q. on_past (kind.Word word.Of) shut (λ next r. on_then (lower_sound next) (λ elements rest d. on_some _ (array (first_line tokens) t more elements) rest (record {
-        spelled = cc (p.spelled, o.spelled, a.spelled, b.spelled, q.spelled, r.spelled, d.spelled);
-        lined = λ steps. begun tokens _ ∙ p.lined _ ∙ o.lined _ ∙ a.lined _ ∙ b.lined _ ∙ q.lined _ ∙ r.lined _ ∙ d.lined steps;
-      })))))))
+      on_past (kind.Sign sign.OpenBracket) mid (λ opened o. on_then (lower_sound opened) (λ t further a. on_then (more_types_sound further) (λ more last b. on_past (kind.Sign sign.CloseBracket) last (λ shut q. on_past (kind.Word word.Of) shut (λ next r. on_then (lower_sound next) (λ elements rest d. on_some _ (array (first_line tokens) t more elements) rest (started (join p (join o (join a (join b (join q (join r d)))))))))))))
 
   field_sound : (tokens : List Token) → On (read_field_part lower tokens) (BeginsWith field_part tokens)
   field_sound tokens =
-      on_if (begins_name (front tokens)) _ _ (λ h. on_then (names_sound tokens) (λ names mid a. on_past (kind.Sign sign.Colon) mid (λ last q. on_then (lower_sound last) (λ t rest b. on_some _ (field (first_line tokens) names t) rest (record {
-        spelled = cc (a.spelled, q.spelled, b.spelled);
-        lined = λ steps. begun tokens _ ∙ a.lined _ ∙ q.lined _ ∙ b.lined steps;
-      }))))) (λ h. on_some _ (no_field (first_line tokens)) tokens (record { spelled = refl; lined = λ steps. begun tokens steps }))
+      on_if (begins_name (front tokens)) _ _ (λ h. on_then (names_sound tokens) (λ names mid a. on_past (kind.Sign sign.Colon) mid (λ last q. on_then (lower_sound last) (λ t rest b. on_some _ (field (first_line tokens) names t) rest (started (join a (join q b))))))) (λ h. on_some _ (no_field (first_line tokens)) tokens (record { spelled = refl; lined = λ steps. begun tokens steps }))
 
   more_fields_list : IsList no_more_fields more_fields (led (kind.Sign sign.Semicolon) field_part) more_fields_part
   more_fields_list = record {
@@ -82,14 +64,11 @@ module _ (lower : Reader TypeDenoter) (lower_sound : (tokens : List Token) → O
   }
 
   more_fields_sound : (tokens : List Token) → On (read_more_fields lower tokens) (BeginsWith more_fields_part tokens)
-  more_fields_sound tokens = items_sound more_fields_list _ (behind_sound _ (read_field_part lower) field_sound) _ tokens
+  more_fields_sound tokens = items_sound more_fields_list _ (behind_sound field_part _ (read_field_part lower) field_sound) _ tokens
 
   record_sound : (tokens mid : List Token) → Passed (kind.Word word.Record) tokens mid → On (read_record lower (first_line tokens) mid) (BeginsWith type_part tokens)
   record_sound tokens mid p =
-      on_then (field_sound mid) (λ f next a. on_then (more_fields_sound next) (λ more last b. on_past (kind.Word word.End) last (λ rest q. on_some _ (fields (first_line tokens) f more) rest (record {
-        spelled = cc (p.spelled, a.spelled, b.spelled, q.spelled);
-        lined = λ steps. begun tokens _ ∙ p.lined _ ∙ a.lined _ ∙ b.lined _ ∙ q.lined steps;
-      }))))
+      on_then (field_sound mid) (λ f next a. on_then (more_fields_sound next) (λ more last b. on_past (kind.Word word.End) last (λ rest q. on_some _ (fields (first_line tokens) f more) rest (started (join p (join a (join b q)))))))
 
   type_on_sound : (tokens : List Token) (o : Option TokenKind) → front tokens ≡ o → On (type_on lower o tokens) (BeginsWith type_part tokens)
   type_on_sound tokens (Some (kind.Name x)) e = named_sound (record { line = first_line tokens; symbol = x }) tokens (after tokens) (name_begins tokens x e) refl

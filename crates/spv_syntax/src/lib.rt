@@ -2,13 +2,11 @@
 #![tactic(auto)]
 
 mod declarations;
-mod flat;
 mod formula_text;
 mod formulas;
 mod lists;
 mod names;
 mod operators;
-mod out;
 mod program;
 mod routines;
 mod rules;
@@ -31,6 +29,3 @@ pub use routines::{
 pub use rules::{Rule, RuleForm, RuleTree, RuleVars};
 pub use statements::{Arm, Block, Loop, LoopForm, Statement, StatementForm};
 pub use types::{Field, TypeDenoter, TypeForm};
-
-#[cfg(test)]
-mod tests;

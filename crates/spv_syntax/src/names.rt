@@ -1,14 +1,8 @@
 // Names and constants as they stand in a text.
 
-ghost use Rattle.std.specs.Prelude.{◌≡◌};
-ghost use Rattle.spv_syntax.specs.TypeKinds.{name_kinds, scalar_kind, constant_kinds};
-
-use crate::flat::Flat;
 use crate::operators::PlusOrMinus;
-use crate::out;
 use spv_names::Symbol;
-use spv_tokens::{Numeral, TokenKind};
-use std::alloc::AllocError;
+use spv_tokens::Numeral;
 
 /// A name, with the line on which it stands.
 #[derive(Clone, Copy, PartialEq, Eq, Debug)]
@@ -37,33 +31,4 @@ pub struct Constant {
     pub sign: Option<PlusOrMinus>,
     /// What stands behind the sign.
     pub value: Scalar,
-}
-
-impl Flat for Name {
-    ghost spelled = { name_kinds };
-
-    fn append(&self, out: &mut Vec<TokenKind>) -> Result<(), AllocError> {
-        out::token(TokenKind::Name(self.symbol), out)
-    }
-}
-
-// The token of a constant without its sign.
-fn scalar_token(value: Scalar) -> TokenKind
-    ensures { result ≡ scalar_kind value }
-{
-    match value {
-        Scalar::Number(n) => TokenKind::Number(n),
-        Scalar::Name(x) => TokenKind::Name(x.symbol),
-    }
-}
-
-impl Flat for Constant {
-    ghost spelled = { constant_kinds };
-
-    #[tactic(auto, using(crate::proofs::Fronts::taken))]
-    fn append(&self, out: &mut Vec<TokenKind>) -> Result<(), AllocError> {
-        out::prefix(self.sign, out)?;
-        out::token(scalar_token(self.value), out)?;
-        Ok(())
-    }
 }

@@ -1,7 +1,7 @@
 use Rattle.std.proofs.Common.{arith, refl, ap, ◌∙◌, Some}
 use Rattle.spv_reading.specs.RuleReaders.{read_rule}
-use Rattle.spv_parser.proofs.Exits.{same_fault}
-use Rattle.spv_parser.proofs.Turns.{stopped, turn, failed, over, when_absent, when_there, put-list}
+use Rattle.spv_front.proofs.Exits.{same_fault}
+use Rattle.spv_front.proofs.Turns.{stopped, turn, failed, over, when_absent, when_there, put-list}
 use Rattle.spv_parser.proofs.rule_files.rule_list.Goals as goal
 
 pub returns-then-not-begins_rule-clause-read : goal.returns-then-not-begins_rule-clause-read

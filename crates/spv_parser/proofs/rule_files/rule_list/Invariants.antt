@@ -1,7 +1,7 @@
 use Rattle.std.proofs.Common.{◌∷◌, []}
 use Rattle.spv_reading.specs.Readers.{all_items, starting}
 use Rattle.spv_reading.specs.RuleReaders.{begins_rule, read_rule}
-use Rattle.spv_parser.specs.Lists.{Going}
+use Rattle.spv_front.specs.Lists.{Going}
 use Rattle.spv_parser.proofs.rule_files.rule_list.Given as goal
 
 abbrev pub invariant-loop : goal.invariant-loop

@@ -1,0 +1,6 @@
+use Rattle.spv_syntax.specs.Lists.{each}
+use Rattle.spv_flat.proofs.Loops.{ComeTo}
+use Rattle.spv_flat.proofs.lists.each.Given as goal
+
+abbrev pub invariant-loop-part : goal.invariant-loop-part
+invariant-loop-part g l = ComeTo (each g.T.Spelled.spelled) l.parts l.part-index l.initial.out.items l.out.items

@@ -1,0 +1,25 @@
+// Texts of one formula.
+
+ghost use Rattle.spv_syntax.specs.RuleKinds.{formula_text_kinds};
+
+use crate::formulas::formula;
+use crate::out;
+use crate::spelled::Spelled;
+use spv_syntax::FormulaText;
+use spv_tokens::{Sign, TokenKind, Word};
+use std::alloc::AllocError;
+
+impl Spelled for FormulaText {
+    ghost spelled = { formula_text_kinds };
+
+    fn append(&self, out: &mut Vec<TokenKind>) -> Result<(), AllocError> {
+        out::word(Word::Program, out)?;
+        self.name.append(out)?;
+        out::sign(Sign::Semicolon, out)?;
+        self.declarations.append(out)?;
+        out::word(Word::Assert, out)?;
+        formula(&self.formula, out)?;
+        out::sign(Sign::Period, out)?;
+        Ok(())
+    }
+}

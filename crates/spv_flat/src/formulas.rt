@@ -1,0 +1,175 @@
+// Formulas.
+
+ghost use Rattle.std.specs.Prelude.{OnOk};
+ghost use Rattle.spv_syntax.specs.FormulaKinds.{formula_kinds, relation_kinds, simple_kinds, term_kinds, factor_kinds, designator_kinds, selector_kinds, more_formulas_kinds, selectors_kinds};
+ghost use Rattle.spv_syntax.specs.FormulaSizes.{more_formulas_of, selectors_of};
+ghost use Rattle.spv_flat.specs.Flat.{Adds};
+
+use crate::names::prefix;
+use crate::out;
+use crate::spelled::Spelled;
+use spv_syntax::{
+    Designator, Factor, FactorForm, Formula, Relation, Selector, SelectorForm, Simple, Term,
+};
+use spv_tokens::{Sign, TokenKind, Word};
+use std::alloc::AllocError;
+
+// Adds the tokens of a formula.
+#[cycle(formulas)]
+pub fn formula(tree: &Formula, out: &mut Vec<TokenKind>) -> Result<(), AllocError>
+    ensures { OnOk result (Adds (formula_kinds tree.now) out.old.items out.new.items) }
+{
+    relation(&tree.left, out)?;
+    match &tree.right {
+        None => Ok(()),
+        Some(right) => {
+            out::sign(Sign::Arrow, out)?;
+            formula(right, out)?;
+            Ok(())
+        }
+    }
+}
+
+// Adds the tokens of a relation.
+#[cycle(formulas)]
+fn relation(tree: &Relation, out: &mut Vec<TokenKind>) -> Result<(), AllocError>
+    ensures { OnOk result (Adds (relation_kinds tree.now) out.old.items out.new.items) }
+{
+    simple(&tree.left, out)?;
+    match &tree.right {
+        None => Ok(()),
+        Some((operator, right)) => {
+            out::token(out::comparison(*operator), out)?;
+            simple(right, out)?;
+            Ok(())
+        }
+    }
+}
+
+// Adds the tokens of a sum.
+#[cycle(formulas)]
+fn simple(tree: &Simple, out: &mut Vec<TokenKind>) -> Result<(), AllocError>
+    ensures { OnOk result (Adds (simple_kinds tree.now) out.old.items out.new.items) }
+{
+    prefix(tree.prefix, out)?;
+    term(&tree.first, out)?;
+    for (operator, part) in &tree.more {
+        out::token(out::adding(*operator), out)?;
+        term(part, out)?;
+    }
+    Ok(())
+}
+
+// Adds the tokens of a product.
+#[cycle(formulas)]
+fn term(tree: &Term, out: &mut Vec<TokenKind>) -> Result<(), AllocError>
+    ensures { OnOk result (Adds (term_kinds tree.now) out.old.items out.new.items) }
+{
+    factor(&tree.first, out)?;
+    for (operator, part) in &tree.more {
+        out::token(out::multiplying(*operator), out)?;
+        factor(part, out)?;
+    }
+    Ok(())
+}
+
+// Adds the tokens of a factor.
+#[cycle(formulas)]
+fn factor(tree: &Factor, out: &mut Vec<TokenKind>) -> Result<(), AllocError>
+    ensures { OnOk result (Adds (factor_kinds tree.now) out.old.items out.new.items) }
+{
+    match &tree.form {
+        FactorForm::Number(n) => out::token(TokenKind::Number(*n), out),
+        FactorForm::Truth(value) => out::token(out::truth(*value), out),
+        FactorForm::Nil => out::word(Word::Nil, out),
+        FactorForm::Class(x) => {
+            out::sign(Sign::Hash, out)?;
+            out::token(TokenKind::Name(x.symbol), out)?;
+            Ok(())
+        }
+        FactorForm::Place(place) => designator(place, out),
+        FactorForm::Application(f, first, more, behind) => {
+            out::token(TokenKind::Name(f.symbol), out)?;
+            out::sign(Sign::OpenParenthesis, out)?;
+            formula(first, out)?;
+            more_formulas(more, out)?;
+            out::sign(Sign::CloseParenthesis, out)?;
+            selectors(behind, out)?;
+            Ok(())
+        }
+        FactorForm::Bracketed(inside) => {
+            out::sign(Sign::OpenParenthesis, out)?;
+            formula(inside, out)?;
+            out::sign(Sign::CloseParenthesis, out)?;
+            Ok(())
+        }
+        FactorForm::Negation(negated) => {
+            out::word(Word::Not, out)?;
+            factor(negated, out)?;
+            Ok(())
+        }
+    }
+}
+
+// Adds the tokens of a designator.
+#[cycle(formulas)]
+pub fn designator(tree: &Designator, out: &mut Vec<TokenKind>) -> Result<(), AllocError>
+    ensures { OnOk result (Adds (designator_kinds tree.now) out.old.items out.new.items) }
+{
+    out::token(TokenKind::Name(tree.name.symbol), out)?;
+    selectors(&tree.behind, out)?;
+    Ok(())
+}
+
+// Adds the tokens of a selector.
+#[cycle(formulas)]
+fn selector(tree: &Selector, out: &mut Vec<TokenKind>) -> Result<(), AllocError>
+    ensures { OnOk result (Adds (selector_kinds tree.now) out.old.items out.new.items) }
+{
+    match &tree.form {
+        SelectorForm::Index(first, more) => {
+            out::sign(Sign::OpenBracket, out)?;
+            formula(first, out)?;
+            more_formulas(more, out)?;
+            out::sign(Sign::CloseBracket, out)?;
+            Ok(())
+        }
+        SelectorForm::Field(x) => {
+            out::sign(Sign::Period, out)?;
+            out::token(TokenKind::Name(x.symbol), out)?;
+            Ok(())
+        }
+        SelectorForm::Content => out::sign(Sign::Caret, out),
+    }
+}
+
+// Adds the tokens of formulas, each behind a comma.
+#[cycle(formulas)]
+fn more_formulas(more: &[Formula], out: &mut Vec<TokenKind>) -> Result<(), AllocError>
+    ensures { OnOk result (Adds (more_formulas_kinds (more_formulas_of more.now)) out.old.items out.new.items) }
+{
+    for part in more {
+        out::sign(Sign::Comma, out)?;
+        formula(part, out)?;
+    }
+    Ok(())
+}
+
+// Adds the tokens of selectors.
+#[cycle(formulas)]
+fn selectors(behind: &[Selector], out: &mut Vec<TokenKind>) -> Result<(), AllocError>
+    ensures { OnOk result (Adds (selectors_kinds (selectors_of behind.now)) out.old.items out.new.items) }
+{
+    for part in behind {
+        selector(part, out)?;
+    }
+    Ok(())
+}
+
+impl Spelled for Formula {
+    ghost spelled = { formula_kinds };
+
+    fn append(&self, out: &mut Vec<TokenKind>) -> Result<(), AllocError> {
+        formula(self, out)
+    }
+}

@@ -1,0 +1,51 @@
+// Names and constants.
+
+ghost use Rattle.std.specs.Prelude.{◌≡◌, OnOk};
+ghost use Rattle.spv_syntax.specs.FormulaKinds.{prefix_kinds};
+ghost use Rattle.spv_syntax.specs.TypeKinds.{name_kinds, scalar_kind, constant_kinds};
+ghost use Rattle.spv_flat.specs.Flat.{Adds};
+
+use crate::out;
+use crate::spelled::Spelled;
+use spv_syntax::{Constant, Name, PlusOrMinus, Scalar};
+use spv_tokens::{Sign, TokenKind};
+use std::alloc::AllocError;
+
+impl Spelled for Name {
+    ghost spelled = { name_kinds };
+
+    fn append(&self, out: &mut Vec<TokenKind>) -> Result<(), AllocError> {
+        out::token(TokenKind::Name(self.symbol), out)
+    }
+}
+
+// Adds `+` or `-`, where there is one.
+pub fn prefix(prefix: Option<PlusOrMinus>, out: &mut Vec<TokenKind>) -> Result<(), AllocError>
+    ensures { OnOk result (Adds (prefix_kinds prefix) out.old.items out.new.items) }
+{
+    match prefix {
+        None => Ok(()),
+        Some(PlusOrMinus::Plus) => out::sign(Sign::Plus, out),
+        Some(PlusOrMinus::Minus) => out::sign(Sign::Minus, out),
+    }
+}
+
+// The token of a constant without its sign.
+fn scalar_token(value: Scalar) -> TokenKind
+    ensures { result ≡ scalar_kind value }
+{
+    match value {
+        Scalar::Number(n) => TokenKind::Number(n),
+        Scalar::Name(x) => TokenKind::Name(x.symbol),
+    }
+}
+
+impl Spelled for Constant {
+    ghost spelled = { constant_kinds };
+
+    fn append(&self, out: &mut Vec<TokenKind>) -> Result<(), AllocError> {
+        prefix(self.sign, out)?;
+        out::token(scalar_token(self.value), out)?;
+        Ok(())
+    }
+}

@@ -1,0 +1,46 @@
+// Programs.
+
+ghost use Rattle.std.specs.Prelude.{OnOk};
+ghost use Rattle.spv_syntax.specs.ProgramKinds.{files_kinds, program_kinds};
+ghost use Rattle.spv_flat.specs.Flat.{Adds};
+
+use crate::routines::{entry, exit};
+use crate::spelled::Spelled;
+use crate::statements::block;
+use crate::{lists, out};
+use spv_syntax::{Name, Program, Several};
+use spv_tokens::{Sign, TokenKind, Word};
+use std::alloc::AllocError;
+
+// Adds the tokens of the names behind the name of a program, where they are there.
+fn files(names: &Option<Several<Name>>, out: &mut Vec<TokenKind>) -> Result<(), AllocError>
+    ensures { OnOk result (Adds (files_kinds names.now) out.old.items out.new.items) }
+{
+    match names {
+        None => Ok(()),
+        Some(names) => {
+            out::sign(Sign::OpenParenthesis, out)?;
+            lists::several(Sign::Comma, names, out)?;
+            out::sign(Sign::CloseParenthesis, out)?;
+            Ok(())
+        }
+    }
+}
+
+impl Spelled for Program {
+    ghost spelled = { program_kinds };
+
+    fn append(&self, out: &mut Vec<TokenKind>) -> Result<(), AllocError> {
+        out::word(Word::Program, out)?;
+        self.name.append(out)?;
+        files(&self.files, out)?;
+        out::sign(Sign::Semicolon, out)?;
+        self.declarations.append(out)?;
+        lists::each(self.routines.as_slice(), out)?;
+        entry(&self.entry, out)?;
+        exit(&self.exit, out)?;
+        block(&self.block, out)?;
+        out::sign(Sign::Period, out)?;
+        Ok(())
+    }
+}

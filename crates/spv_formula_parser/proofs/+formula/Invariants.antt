@@ -1,0 +1,78 @@
+use Rattle.std.proofs.Common.{◌+◌, ◌*◌}
+use Rattle.spv_tokens.specs.declared.token.TokenKind.TheVariants as kind
+use Rattle.spv_tokens.specs.declared.token.Sign.TheVariants as sign
+use Rattle.spv_syntax.specs.Formulas.{no_more_terms, more_terms, no_more_factors, more_factors, no_more_formulas, more_formulas, no_selectors, selectors}
+use Rattle.spv_reading.specs.Readers.{front, behind, operated}
+use Rattle.spv_reading.specs.FormulaReaders.{adding_of, multiplying_of, read_inner, read_factor, read_more_formulas, selector_by, read_selectors, read_more_factors, read_term, read_more_terms}
+use Rattle.spv_front.specs.Lists.{Going}
+use Rattle.spv_formula_parser.proofs.+formula.Given as goal
+
+-- each level has twenty places, one for each function
+abbrev pub decreases-formulas::formula : goal.decreases-formulas::formula
+decreases-formulas::formula l = 20 * l.levels + 15
+
+abbrev pub decreases-formulas::relation : goal.decreases-formulas::relation
+decreases-formulas::relation l = 20 * l.levels + 14
+
+abbrev pub decreases-formulas::simple : goal.decreases-formulas::simple
+decreases-formulas::simple l = 20 * l.levels + 13
+
+abbrev pub decreases-formulas::sum : goal.decreases-formulas::sum
+decreases-formulas::sum l = 20 * l.levels + 12
+
+abbrev pub decreases-formulas::more_terms : goal.decreases-formulas::more_terms
+decreases-formulas::more_terms l = 20 * l.levels + 11
+
+abbrev pub decreases-formulas::term : goal.decreases-formulas::term
+decreases-formulas::term l = 20 * l.levels + 10
+
+abbrev pub decreases-formulas::more_factors : goal.decreases-formulas::more_factors
+decreases-formulas::more_factors l = 20 * l.levels + 9
+
+abbrev pub decreases-factors::factor : goal.decreases-factors::factor
+decreases-factors::factor l = 20 * l.levels + 8
+
+abbrev pub decreases-factors::any_factor : goal.decreases-factors::any_factor
+decreases-factors::any_factor l = 20 * l.levels + 7
+
+abbrev pub decreases-factors::named : goal.decreases-factors::named
+decreases-factors::named l = 20 * l.levels + 6
+
+abbrev pub decreases-factors::application : goal.decreases-factors::application
+decreases-factors::application l = 20 * l.levels + 5
+
+abbrev pub decreases-factors::place : goal.decreases-factors::place
+decreases-factors::place l = 20 * l.levels + 5
+
+abbrev pub decreases-factors::selectors : goal.decreases-factors::selectors
+decreases-factors::selectors l = 20 * l.levels + 4
+
+abbrev pub decreases-factors::selector : goal.decreases-factors::selector
+decreases-factors::selector l = 20 * l.levels + 3
+
+abbrev pub decreases-factors::index : goal.decreases-factors::index
+decreases-factors::index l = 20 * l.levels + 2
+
+abbrev pub decreases-factors::more_formulas : goal.decreases-factors::more_formulas
+decreases-factors::more_formulas l = 20 * l.levels + 1
+
+abbrev pub decreases-factors::bracketed : goal.decreases-factors::bracketed
+decreases-factors::bracketed l = 20 * l.levels + 1
+
+abbrev pub decreases-factors::negation : goal.decreases-factors::negation
+decreases-factors::negation l = 20 * l.levels
+
+abbrev pub decreases-formulas::inner : goal.decreases-formulas::inner
+decreases-formulas::inner l = 20 * l.levels
+
+abbrev pub invariant-factors::more_formulas-loop : goal.invariant-factors::more_formulas-loop
+invariant-factors::more_formulas-loop l = Going no_more_formulas more_formulas (behind (kind.Sign sign.Comma) (read_inner l.levels)) (read_more_formulas (read_inner l.levels) l.tokens) l.end l.counter l.more.items l.rest
+
+abbrev pub invariant-factors::selectors-loop : goal.invariant-factors::selectors-loop
+invariant-factors::selectors-loop l = Going no_selectors selectors (λ rest. selector_by (read_inner l.levels) (front rest) rest) (read_selectors (read_inner l.levels) l.tokens) l.end l.counter l.behind.items l.rest
+
+abbrev pub invariant-formulas::more_factors-loop : goal.invariant-formulas::more_factors-loop
+invariant-formulas::more_factors-loop l = Going no_more_factors (λ p. more_factors p.0 p.1) (λ rest. operated (multiplying_of (front rest)) (read_factor l.levels) rest) (read_more_factors (read_factor l.levels) l.tokens) l.end l.counter l.more.items l.rest
+
+abbrev pub invariant-formulas::more_terms-loop : goal.invariant-formulas::more_terms-loop
+invariant-formulas::more_terms-loop l = Going no_more_terms (λ p. more_terms p.0 p.1) (λ rest. operated (adding_of (front rest)) (read_term (read_factor l.levels)) rest) (read_more_terms (read_factor l.levels) l.tokens) l.end l.counter l.more.items l.rest

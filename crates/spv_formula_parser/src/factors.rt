@@ -1,0 +1,265 @@
+// Factors and designators.
+
+ghost use Rattle.std.specs.Prelude.{◌≡◌, Some, None, IfOk, IsErrAnd};
+ghost use Rattle.spv_syntax.specs.FormulaSizes.{more_formulas_of, selectors_of};
+ghost use Rattle.spv_reading.specs.FormulaReaders.{read_inner, read_factor, read_field, read_more_formulas, read_index, read_selectors, read_application, read_place, read_named, read_bracketed, read_designator};
+ghost use Rattle.spv_reading.specs.Readers as reader;
+ghost use Rattle.spv_front.specs.Faults.{IsSyntax};
+ghost use Rattle.spv_formula_parser.specs.Factors.{read_selector, read_class, read_negation, factor_at};
+ghost use Rattle.spv_formula_parser.specs.Factors as spec;
+
+use crate::formulas::inner;
+use spv_front::fault::{Fault, unexpected};
+use spv_front::front::{after, first_line, front, is_sign, name, past_sign};
+use spv_syntax::{Designator, Factor, FactorForm, Formula, Name, Selector, SelectorForm};
+use spv_tokens::{Sign, Token, TokenKind, Word};
+use std::alloc::Global;
+
+// {"," formula}
+#[cycle(formula)]
+fn more_formulas(
+    alloc: Global,
+    levels: u32,
+    tokens: &[Token],
+) -> Result<(Vec<Formula>, &[Token]), Fault>
+    ensures read { IfOk result (λ r. read_more_formulas (read_inner levels) tokens.now ≡ Some (more_formulas_of r.0.items, r.1.now)) }
+    ensures absent { IsErrAnd result IsSyntax → read_more_formulas (read_inner levels) tokens.now ≡ None }
+{
+    let mut more = Vec::new(alloc);
+    let mut rest = tokens;
+    for _ in 0..tokens.len() {
+        if !is_sign(Sign::Comma, rest) {
+            return Ok((more, rest));
+        }
+        let (read, next) = inner(alloc, levels, after(rest))?;
+        more.push(read)?;
+        rest = next;
+    }
+    Ok((more, rest))
+}
+
+// "[" formula {"," formula} "]", behind the bracket on this line
+#[cycle(formula)]
+fn index(
+    alloc: Global,
+    levels: u32,
+    line: u32,
+    tokens: &[Token],
+) -> Result<(Selector, &[Token]), Fault>
+    ensures read { IfOk result (λ r. read_index (read_inner levels) line tokens.now ≡ Some (r.0, r.1.now)) }
+    ensures absent { IsErrAnd result IsSyntax → read_index (read_inner levels) line tokens.now ≡ None }
+{
+    let (first, rest) = inner(alloc, levels, tokens)?;
+    let first = Box::new(alloc, first)?;
+    let (more, rest) = more_formulas(alloc, levels, rest)?;
+    let rest = past_sign(Sign::CloseBracket, rest)?;
+    let form = SelectorForm::Index(first, more);
+    Ok((Selector { line, form }, rest))
+}
+
+// "." name, behind the period on this line
+fn field(line: u32, tokens: &[Token]) -> Result<(Selector, &[Token]), Fault>
+    ensures read { IfOk result (λ r. read_field line tokens.now ≡ Some (r.0, r.1.now)) }
+    ensures absent { IsErrAnd result IsSyntax → read_field line tokens.now ≡ None }
+{
+    let (x, rest) = name(tokens)?;
+    let form = SelectorForm::Field(x);
+    Ok((Selector { line, form }, rest))
+}
+
+// Whether the tokens begin with a selector.
+fn begins_selector(tokens: &[Token]) -> bool
+    ensures { result ≡ spec.begins_selector (reader.front tokens.now) }
+{
+    is_sign(Sign::OpenBracket, tokens)
+        || is_sign(Sign::Period, tokens)
+        || is_sign(Sign::Caret, tokens)
+}
+
+// "[" formula {"," formula} "]" | "." name | "^"
+#[cycle(formula)]
+fn selector(alloc: Global, levels: u32, tokens: &[Token]) -> Result<(Selector, &[Token]), Fault>
+    ensures read { IfOk result (λ r. read_selector (read_inner levels) tokens.now ≡ Some (r.0, r.1.now)) }
+    ensures absent { IsErrAnd result IsSyntax → read_selector (read_inner levels) tokens.now ≡ None }
+{
+    let line = first_line(tokens);
+    let rest = after(tokens);
+    match front(tokens) {
+        Some(TokenKind::Sign(Sign::OpenBracket)) => index(alloc, levels, line, rest),
+        Some(TokenKind::Sign(Sign::Period)) => field(line, rest),
+        Some(TokenKind::Sign(Sign::Caret)) => {
+            let form = SelectorForm::Content;
+            Ok((Selector { line, form }, rest))
+        }
+        _ => Err(unexpected(tokens)),
+    }
+}
+
+/// {selector}
+#[cycle(formula)]
+pub fn selectors(
+    alloc: Global,
+    levels: u32,
+    tokens: &[Token],
+) -> Result<(Vec<Selector>, &[Token]), Fault>
+    ensures read { IfOk result (λ r. read_selectors (read_inner levels) tokens.now ≡ Some (selectors_of r.0.items, r.1.now)) }
+    ensures absent { IsErrAnd result IsSyntax → read_selectors (read_inner levels) tokens.now ≡ None }
+{
+    let mut behind = Vec::new(alloc);
+    let mut rest = tokens;
+    for _ in 0..tokens.len() {
+        if !begins_selector(rest) {
+            return Ok((behind, rest));
+        }
+        let (read, next) = selector(alloc, levels, rest)?;
+        behind.push(read)?;
+        rest = next;
+    }
+    Ok((behind, rest))
+}
+
+/// name {selector}
+pub fn designator(
+    alloc: Global,
+    levels: u32,
+    tokens: &[Token],
+) -> Result<(Designator, &[Token]), Fault>
+    ensures read { IfOk result (λ r. read_designator (read_inner levels) tokens.now ≡ Some (r.0, r.1.now)) }
+    ensures absent { IsErrAnd result IsSyntax → read_designator (read_inner levels) tokens.now ≡ None }
+{
+    let (name, rest) = name(tokens)?;
+    let (behind, rest) = selectors(alloc, levels, rest)?;
+    let line = name.line;
+    Ok((Designator { line, name, behind }, rest))
+}
+
+// "(" formula {"," formula} ")" {selector}, behind a name and the bracket
+#[cycle(formula)]
+fn application(
+    alloc: Global,
+    levels: u32,
+    f: Name,
+    tokens: &[Token],
+) -> Result<(Factor, &[Token]), Fault>
+    ensures read { IfOk result (λ r. read_application (read_inner levels) f tokens.now ≡ Some (r.0, r.1.now)) }
+    ensures absent { IsErrAnd result IsSyntax → read_application (read_inner levels) f tokens.now ≡ None }
+{
+    let (first, rest) = inner(alloc, levels, tokens)?;
+    let first = Box::new(alloc, first)?;
+    let (more, rest) = more_formulas(alloc, levels, rest)?;
+    let rest = past_sign(Sign::CloseParenthesis, rest)?;
+    let (behind, rest) = selectors(alloc, levels, rest)?;
+    let line = f.line;
+    let form = FactorForm::Application(f, first, more, behind);
+    Ok((Factor { line, form }, rest))
+}
+
+// {selector}, behind a name
+#[cycle(formula)]
+fn place(
+    alloc: Global,
+    levels: u32,
+    name: Name,
+    tokens: &[Token],
+) -> Result<(Factor, &[Token]), Fault>
+    ensures read { IfOk result (λ r. read_place (read_inner levels) name tokens.now ≡ Some (r.0, r.1.now)) }
+    ensures absent { IsErrAnd result IsSyntax → read_place (read_inner levels) name tokens.now ≡ None }
+{
+    let (behind, rest) = selectors(alloc, levels, tokens)?;
+    let line = name.line;
+    let form = FactorForm::Place(Designator { line, name, behind });
+    Ok((Factor { line, form }, rest))
+}
+
+// What begins with this name.
+#[cycle(formula)]
+fn named(alloc: Global, levels: u32, x: Name, tokens: &[Token]) -> Result<(Factor, &[Token]), Fault>
+    ensures read { IfOk result (λ r. read_named (read_inner levels) x tokens.now ≡ Some (r.0, r.1.now)) }
+    ensures absent { IsErrAnd result IsSyntax → read_named (read_inner levels) x tokens.now ≡ None }
+{
+    if is_sign(Sign::OpenParenthesis, tokens) {
+        application(alloc, levels, x, after(tokens))
+    } else {
+        place(alloc, levels, x, tokens)
+    }
+}
+
+// "(" formula ")", behind the bracket on this line
+#[cycle(formula)]
+fn bracketed(
+    alloc: Global,
+    levels: u32,
+    line: u32,
+    tokens: &[Token],
+) -> Result<(Factor, &[Token]), Fault>
+    ensures read { IfOk result (λ r. read_bracketed (read_inner levels) line tokens.now ≡ Some (r.0, r.1.now)) }
+    ensures absent { IsErrAnd result IsSyntax → read_bracketed (read_inner levels) line tokens.now ≡ None }
+{
+    let (read, rest) = inner(alloc, levels, tokens)?;
+    let read = Box::new(alloc, read)?;
+    let rest = past_sign(Sign::CloseParenthesis, rest)?;
+    let form = FactorForm::Bracketed(read);
+    Ok((Factor { line, form }, rest))
+}
+
+// "#" name, behind the sign on this line
+fn class(line: u32, tokens: &[Token]) -> Result<(Factor, &[Token]), Fault>
+    ensures read { IfOk result (λ r. read_class line tokens.now ≡ Some (r.0, r.1.now)) }
+    ensures absent { IsErrAnd result IsSyntax → read_class line tokens.now ≡ None }
+{
+    let (x, rest) = name(tokens)?;
+    let form = FactorForm::Class(x);
+    Ok((Factor { line, form }, rest))
+}
+
+// NOT factor, behind NOT on this line
+#[cycle(formula)]
+fn negation(
+    alloc: Global,
+    levels: u32,
+    line: u32,
+    tokens: &[Token],
+) -> Result<(Factor, &[Token]), Fault>
+    ensures read { IfOk result (λ r. read_negation levels line tokens.now ≡ Some (r.0, r.1.now)) }
+    ensures absent { IsErrAnd result IsSyntax → read_negation levels line tokens.now ≡ None }
+{
+    if levels == 0 {
+        return Err(unexpected(tokens));
+    }
+    let (read, rest) = factor(alloc, levels - 1, tokens)?;
+    let form = FactorForm::Negation(Box::new(alloc, read)?);
+    Ok((Factor { line, form }, rest))
+}
+
+// number | TRUE | FALSE | NIL | "#" name | "(" formula ")" | NOT factor, or what begins with a name
+#[cycle(formula)]
+fn any_factor(alloc: Global, levels: u32, tokens: &[Token]) -> Result<(Factor, &[Token]), Fault>
+    ensures read { IfOk result (λ r. factor_at levels tokens.now ≡ Some (r.0, r.1.now)) }
+    ensures absent { IsErrAnd result IsSyntax → factor_at levels tokens.now ≡ None }
+{
+    let [first, rest @ ..] = tokens else {
+        return Err(unexpected(tokens));
+    };
+    let line = first.line;
+    let form = match first.kind {
+        TokenKind::Number(n) => FactorForm::Number(n),
+        TokenKind::Word(Word::True) => FactorForm::Truth(true),
+        TokenKind::Word(Word::False) => FactorForm::Truth(false),
+        TokenKind::Word(Word::Nil) => FactorForm::Nil,
+        TokenKind::Word(Word::Not) => return negation(alloc, levels, line, rest),
+        TokenKind::Sign(Sign::Hash) => return class(line, rest),
+        TokenKind::Sign(Sign::OpenParenthesis) => return bracketed(alloc, levels, line, rest),
+        TokenKind::Name(symbol) => return named(alloc, levels, Name { line, symbol }, rest),
+        _ => return Err(unexpected(tokens)),
+    };
+    Ok((Factor { line, form }, rest))
+}
+
+// A factor, with this many levels inside it at most.
+#[cycle(formula)]
+pub fn factor(alloc: Global, levels: u32, tokens: &[Token]) -> Result<(Factor, &[Token]), Fault>
+    ensures read { IfOk result (λ r. read_factor levels tokens.now ≡ Some (r.0, r.1.now)) }
+    ensures absent { IsErrAnd result IsSyntax → read_factor levels tokens.now ≡ None }
+{
+    any_factor(alloc, levels, tokens)
+}

@@ -1,0 +1,209 @@
+// Formulas.
+
+ghost use Rattle.std.specs.Prelude.{◌≡◌, Some, None, IfOk, IsErrAnd};
+ghost use Rattle.spv_syntax.specs.FormulaSizes.{more_terms_of, more_factors_of};
+ghost use Rattle.spv_reading.specs.Readers as reader;
+ghost use Rattle.spv_reading.specs.FormulaReaders.{comparison_of, adding_of, multiplying_of, read_inner, read_factor, read_more_factors, read_term, read_more_terms, read_sum, read_simple, read_relation, read_formula};
+ghost use Rattle.spv_front.specs.Faults.{IsSyntax};
+
+use crate::factors::factor;
+use spv_front::constants::prefix;
+use spv_front::fault::{Fault, unexpected};
+use spv_front::front::{after, first_line, front, is_sign};
+use spv_syntax::{
+    Adding, Comparison, Factor, Formula, Multiplying, PlusOrMinus, Relation, Simple, Term,
+};
+use spv_tokens::{Sign, Token, TokenKind, Word};
+use std::alloc::Global;
+
+// The operator of a relation at the front, where there is one.
+fn comparison(tokens: &[Token]) -> Option<Comparison>
+    ensures { result ≡ comparison_of (reader.front tokens.now) }
+{
+    match front(tokens) {
+        Some(TokenKind::Sign(Sign::Equal)) => Some(Comparison::Equal),
+        Some(TokenKind::Sign(Sign::NotEqual)) => Some(Comparison::NotEqual),
+        Some(TokenKind::Sign(Sign::Less)) => Some(Comparison::Less),
+        Some(TokenKind::Sign(Sign::AtMost)) => Some(Comparison::AtMost),
+        Some(TokenKind::Sign(Sign::Greater)) => Some(Comparison::Greater),
+        Some(TokenKind::Sign(Sign::AtLeast)) => Some(Comparison::AtLeast),
+        _ => None,
+    }
+}
+
+// The operator between terms at the front, where there is one.
+fn adding(tokens: &[Token]) -> Option<Adding>
+    ensures { result ≡ adding_of (reader.front tokens.now) }
+{
+    match front(tokens) {
+        Some(TokenKind::Sign(Sign::Plus)) => Some(Adding::Plus),
+        Some(TokenKind::Sign(Sign::Minus)) => Some(Adding::Minus),
+        Some(TokenKind::Word(Word::Or)) => Some(Adding::Or),
+        _ => None,
+    }
+}
+
+// The operator between factors at the front, where there is one.
+fn multiplying(tokens: &[Token]) -> Option<Multiplying>
+    ensures { result ≡ multiplying_of (reader.front tokens.now) }
+{
+    match front(tokens) {
+        Some(TokenKind::Sign(Sign::Star)) => Some(Multiplying::Times),
+        Some(TokenKind::Word(Word::Div)) => Some(Multiplying::Div),
+        Some(TokenKind::Word(Word::Mod)) => Some(Multiplying::Mod),
+        Some(TokenKind::Word(Word::And)) => Some(Multiplying::And),
+        _ => None,
+    }
+}
+
+// {("*" | DIV | MOD | AND) factor}
+#[cycle(formula)]
+fn more_factors(
+    alloc: Global,
+    levels: u32,
+    tokens: &[Token],
+) -> Result<(Vec<(Multiplying, Factor)>, &[Token]), Fault>
+    ensures read { IfOk result (λ r. read_more_factors (read_factor levels) tokens.now ≡ Some (more_factors_of r.0.items, r.1.now)) }
+    ensures absent { IsErrAnd result IsSyntax → read_more_factors (read_factor levels) tokens.now ≡ None }
+{
+    let mut more = Vec::new(alloc);
+    let mut rest = tokens;
+    for _ in 0..tokens.len() {
+        let Some(operator) = multiplying(rest) else {
+            return Ok((more, rest));
+        };
+        let (read, next) = factor(alloc, levels, after(rest))?;
+        more.push((operator, read))?;
+        rest = next;
+    }
+    Ok((more, rest))
+}
+
+// factor {("*" | DIV | MOD | AND) factor}
+#[cycle(formula)]
+fn term(alloc: Global, levels: u32, tokens: &[Token]) -> Result<(Term, &[Token]), Fault>
+    ensures read { IfOk result (λ r. read_term (read_factor levels) tokens.now ≡ Some (r.0, r.1.now)) }
+    ensures absent { IsErrAnd result IsSyntax → read_term (read_factor levels) tokens.now ≡ None }
+{
+    let line = first_line(tokens);
+    let (first, rest) = factor(alloc, levels, tokens)?;
+    let (more, rest) = more_factors(alloc, levels, rest)?;
+    Ok((Term { line, first, more }, rest))
+}
+
+// {("+" | "-" | OR) term}
+#[cycle(formula)]
+fn more_terms(
+    alloc: Global,
+    levels: u32,
+    tokens: &[Token],
+) -> Result<(Vec<(Adding, Term)>, &[Token]), Fault>
+    ensures read { IfOk result (λ r. read_more_terms (read_factor levels) tokens.now ≡ Some (more_terms_of r.0.items, r.1.now)) }
+    ensures absent { IsErrAnd result IsSyntax → read_more_terms (read_factor levels) tokens.now ≡ None }
+{
+    let mut more = Vec::new(alloc);
+    let mut rest = tokens;
+    for _ in 0..tokens.len() {
+        let Some(operator) = adding(rest) else {
+            return Ok((more, rest));
+        };
+        let (read, next) = term(alloc, levels, after(rest))?;
+        more.push((operator, read))?;
+        rest = next;
+    }
+    Ok((more, rest))
+}
+
+// term {("+" | "-" | OR) term}, behind the sign on this line
+#[cycle(formula)]
+fn sum(
+    alloc: Global,
+    levels: u32,
+    line: u32,
+    prefix: Option<PlusOrMinus>,
+    tokens: &[Token],
+) -> Result<(Simple, &[Token]), Fault>
+    ensures read { IfOk result (λ r. read_sum (read_factor levels) line prefix tokens.now ≡ Some (r.0, r.1.now)) }
+    ensures absent { IsErrAnd result IsSyntax → read_sum (read_factor levels) line prefix tokens.now ≡ None }
+{
+    let (first, rest) = term(alloc, levels, tokens)?;
+    let (more, rest) = more_terms(alloc, levels, rest)?;
+    let read = Simple {
+        line,
+        prefix,
+        first,
+        more,
+    };
+    Ok((read, rest))
+}
+
+// ["+" | "-"] term {("+" | "-" | OR) term}
+#[cycle(formula)]
+fn simple(alloc: Global, levels: u32, tokens: &[Token]) -> Result<(Simple, &[Token]), Fault>
+    ensures read { IfOk result (λ r. read_simple (read_factor levels) tokens.now ≡ Some (r.0, r.1.now)) }
+    ensures absent { IsErrAnd result IsSyntax → read_simple (read_factor levels) tokens.now ≡ None }
+{
+    let line = first_line(tokens);
+    match prefix(tokens) {
+        None => sum(alloc, levels, line, None, tokens),
+        Some(sign) => sum(alloc, levels, line, Some(sign), after(tokens)),
+    }
+}
+
+// simple [("=" | "<>" | "<" | "<=" | ">" | ">=") simple]
+#[cycle(formula)]
+fn relation(alloc: Global, levels: u32, tokens: &[Token]) -> Result<(Relation, &[Token]), Fault>
+    ensures read { IfOk result (λ r. read_relation (read_factor levels) tokens.now ≡ Some (r.0, r.1.now)) }
+    ensures absent { IsErrAnd result IsSyntax → read_relation (read_factor levels) tokens.now ≡ None }
+{
+    let line = first_line(tokens);
+    let (left, rest) = simple(alloc, levels, tokens)?;
+    let Some(operator) = comparison(rest) else {
+        let read = Relation {
+            line,
+            left,
+            right: None,
+        };
+        return Ok((read, rest));
+    };
+    let (right, rest) = simple(alloc, levels, after(rest))?;
+    let read = Relation {
+        line,
+        left,
+        right: Some((operator, right)),
+    };
+    Ok((read, rest))
+}
+
+/// relation ["->" formula]
+#[cycle(formula)]
+pub fn formula(alloc: Global, levels: u32, tokens: &[Token]) -> Result<(Formula, &[Token]), Fault>
+    ensures read { IfOk result (λ r. read_formula levels tokens.now ≡ Some (r.0, r.1.now)) }
+    ensures absent { IsErrAnd result IsSyntax → read_formula levels tokens.now ≡ None }
+{
+    let line = first_line(tokens);
+    let (left, rest) = relation(alloc, levels, tokens)?;
+    if !is_sign(Sign::Arrow, rest) {
+        let read = Formula {
+            line,
+            left,
+            right: None,
+        };
+        return Ok((read, rest));
+    }
+    let (right, rest) = inner(alloc, levels, after(rest))?;
+    let right = Some(Box::new(alloc, right)?);
+    Ok((Formula { line, left, right }, rest))
+}
+
+/// A formula one level down: with one level more it is a formula at that level.
+#[cycle(formula)]
+pub fn inner(alloc: Global, levels: u32, tokens: &[Token]) -> Result<(Formula, &[Token]), Fault>
+    ensures read { IfOk result (λ r. read_inner levels tokens.now ≡ Some (r.0, r.1.now)) }
+    ensures absent { IsErrAnd result IsSyntax → read_inner levels tokens.now ≡ None }
+{
+    if levels == 0 {
+        return Err(unexpected(tokens));
+    }
+    formula(alloc, levels - 1, tokens)
+}

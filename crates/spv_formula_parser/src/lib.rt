@@ -1,0 +1,5 @@
+//! Formulas and designators from tokens.
+#![tactic(auto)]
+
+pub mod factors;
+pub mod formulas;

@@ -1,0 +1,102 @@
+// The first of the tokens that are left.
+
+ghost use Rattle.std.specs.Prelude.{◌≡◌, true, false, Some, None, IfOk, IsErrAnd};
+ghost use Rattle.spv_tokens.specs.declared.token.TokenKind.TheVariants as kind;
+ghost use Rattle.spv_syntax.specs.Steps as steps;
+ghost use Rattle.spv_reading.specs.Readers.{is};
+ghost use Rattle.spv_reading.specs.Readers as reader;
+ghost use Rattle.spv_front.specs.Faults.{IsSyntax};
+
+use crate::fault::{Fault, unexpected};
+use spv_syntax::Name;
+use spv_tokens::{Sign, Token, TokenKind, Word};
+
+/// The kind of the first token.
+pub fn front(tokens: &[Token]) -> Option<TokenKind>
+    ensures { result ≡ reader.front tokens.now }
+{
+    match tokens {
+        [] => None,
+        [first, ..] => Some(first.kind),
+    }
+}
+
+/// The tokens behind the first.
+pub fn after(tokens: &[Token]) -> &[Token]
+    ensures { result.now ≡ reader.after tokens.now }
+{
+    match tokens {
+        [] => &[],
+        [_, rest @ ..] => rest,
+    }
+}
+
+/// The line of the first token, or 1.
+pub fn first_line(tokens: &[Token]) -> u32
+    ensures { result ≡ steps.first_line tokens.now }
+{
+    match tokens {
+        [] => 1,
+        [first, ..] => first.line,
+    }
+}
+
+/// Whether the tokens begin with this word.
+pub fn is_word(word: Word, tokens: &[Token]) -> bool
+    ensures { result ≡ is (kind.Word word) (reader.front tokens.now) }
+{
+    match front(tokens) {
+        Some(TokenKind::Word(first)) => first == word,
+        _ => false,
+    }
+}
+
+/// Whether the tokens begin with this sign.
+pub fn is_sign(sign: Sign, tokens: &[Token]) -> bool
+    ensures { result ≡ is (kind.Sign sign) (reader.front tokens.now) }
+{
+    match front(tokens) {
+        Some(TokenKind::Sign(first)) => first == sign,
+        _ => false,
+    }
+}
+
+/// The tokens behind this word, with which they have to begin.
+pub fn past_word(word: Word, tokens: &[Token]) -> Result<&[Token], Fault>
+    ensures there { IfOk result (λ rest. is (kind.Word word) (reader.front tokens.now) ≡ true) }
+    ensures behind { IfOk result (λ rest. rest.now ≡ reader.after tokens.now) }
+    ensures absent { IsErrAnd result IsSyntax → is (kind.Word word) (reader.front tokens.now) ≡ false }
+{
+    if is_word(word, tokens) {
+        Ok(after(tokens))
+    } else {
+        Err(unexpected(tokens))
+    }
+}
+
+/// The tokens behind this sign, with which they have to begin.
+pub fn past_sign(sign: Sign, tokens: &[Token]) -> Result<&[Token], Fault>
+    ensures there { IfOk result (λ rest. is (kind.Sign sign) (reader.front tokens.now) ≡ true) }
+    ensures behind { IfOk result (λ rest. rest.now ≡ reader.after tokens.now) }
+    ensures absent { IsErrAnd result IsSyntax → is (kind.Sign sign) (reader.front tokens.now) ≡ false }
+{
+    if is_sign(sign, tokens) {
+        Ok(after(tokens))
+    } else {
+        Err(unexpected(tokens))
+    }
+}
+
+/// The name at the front.
+pub fn name(tokens: &[Token]) -> Result<(Name, &[Token]), Fault>
+    ensures read { IfOk result (λ r. reader.name tokens.now ≡ Some (r.0, r.1.now)) }
+    ensures absent { IsErrAnd result IsSyntax → reader.name tokens.now ≡ None }
+{
+    match front(tokens) {
+        Some(TokenKind::Name(symbol)) => {
+            let line = first_line(tokens);
+            Ok((Name { line, symbol }, after(tokens)))
+        }
+        _ => Err(unexpected(tokens)),
+    }
+}

@@ -1,8 +1,0 @@
-use Rattle.std.proofs.Common.{◌∷◌, []}
-use Rattle.spv_reading.specs.Readers.{starting, all_items}
-use Rattle.spv_reading.specs.TypeReaders.{begins_name}
-use Rattle.spv_parser.specs.Lists.{first_and, Going}
-use Rattle.spv_parser.proofs.lists.others.Given as goal
-
-abbrev pub invariant-loop : goal.invariant-loop
-invariant-loop g l = Going [] ◌∷◌ (starting begins_name (g.T.Listed.reader l.levels)) (first_and l.fn.first (all_items [] ◌∷◌ (starting begins_name (g.T.Listed.reader l.levels))) l.tokens) l.end l.counter l.parts.items l.rest

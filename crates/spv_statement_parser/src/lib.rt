@@ -1,0 +1,6 @@
+//! Statements and blocks from tokens.
+#![tactic(auto)]
+
+mod actions;
+mod loops;
+pub mod statements;

@@ -1,0 +1,5 @@
+//! Types and declarations from tokens.
+#![tactic(auto)]
+
+pub mod declarations;
+pub mod types;
