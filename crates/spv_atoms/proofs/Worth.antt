@@ -35,7 +35,6 @@ zero-+ℤ a = omega (arith, ints)
 times_zero : (a : ℤ) → a *ℤ pos 0 ≡ pos 0
 times_zero a = omega (arith, ints)
 
-
 minus_one : (a b : ℤ) → a +ℤ negsuc 0 *ℤ b ≡ a -ℤ b
 minus_one a b = omega (arith, ints)
 

@@ -7,7 +7,6 @@ use spv_frac::Frac;
 use spv_list::List;
 use spv_logic::TermId;
 use spv_names::Symbol;
-use std::alloc::Global;
 use std::marker::Model;
 
 /// A relation of two whole numbers.
@@ -98,11 +97,6 @@ impl Proof {
         ensures { result ≡ nodes.items }
     {
         Proof { nodes }
-    }
-
-    /// Where its memory comes from.
-    pub fn allocator(&self) -> Global {
-        *self.nodes.allocator()
     }
 
     /// The nodes, the root first.
