@@ -4,4 +4,5 @@
 mod listing;
 mod printed;
 
-pub use listing::page;
+pub use listing::{page, push_claim};
+pub use printed::{push_head, push_term};

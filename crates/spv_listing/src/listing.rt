@@ -90,7 +90,7 @@ fn push_condition(
     Ok(())
 }
 
-// A condition: its number and origin, its hypotheses and its goal.
+/// Adds the lines of a condition: its number and origin, its hypotheses and its goal.
 pub fn push_claim(
     out: &mut Vec<u8>,
     names: &Names,
@@ -101,7 +101,7 @@ pub fn push_claim(
 ) -> Result<(), AllocError>
     requires given { All (λ t. t.0 < length terms.now.nodes) condition.now.given }
     requires goal { condition.now.goal.0 < length terms.now.nodes }
-    ensures { OnOk result (out.new.items ≡ out.old.items ++ claim_lines names.now titles.now number (claimed terms.now condition.now)) }
+    ensures lines { OnOk result (out.new.items ≡ out.old.items ++ claim_lines names.now titles.now number (claimed terms.now condition.now)) }
 {
     push_heading(out, number, condition.origin)?;
     push_givens(out, names, titles, terms, condition.given.as_slice())?;

@@ -100,14 +100,14 @@ pub(crate) fn word(head: Head) -> &'static [u8]
     }
 }
 
-// A head with its name or number.
+/// Adds the text of a head with its name or number.
 pub fn push_head(
     out: &mut Vec<u8>,
     names: &Names,
     titles: &[Option<Symbol>],
     head: Head,
 ) -> Result<(), AllocError>
-    ensures { OnOk result (out.new.items ≡ out.old.items ++ head_text names.now titles.now head) }
+    ensures text { OnOk result (out.new.items ≡ out.old.items ++ head_text names.now titles.now head) }
 {
     match head {
         Head::Var(name, _, number) => {
@@ -207,8 +207,8 @@ fn push_next<'a>(
     }
 }
 
-// A term: its head and its arguments, from the outermost in. What waits is kept in a list, so that
-// terms of any depth can be printed.
+/// Adds the text of a term: its head and its arguments, from the outermost in. What waits is kept in
+/// a list, so that terms of any depth can be printed.
 pub fn push_term(
     out: &mut Vec<u8>,
     names: &Names,
@@ -216,8 +216,8 @@ pub fn push_term(
     terms: &Terms,
     t: TermId,
 ) -> Result<(), AllocError>
-    requires { t.0 < length terms.now.nodes }
-    ensures { OnOk result (out.new.items ≡ out.old.items ++ term_text names.now titles.now (tree terms.now t)) }
+    requires known { t.0 < length terms.now.nodes }
+    ensures text { OnOk result (out.new.items ≡ out.old.items ++ term_text names.now titles.now (tree terms.now t)) }
 {
     let mut waiting = Vec::new(*out.allocator());
     push_front(out, &mut waiting, names, titles, terms, t)?;

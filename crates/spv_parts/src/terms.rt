@@ -25,7 +25,7 @@ const TYPE: TypeId = TypeId(0);
 const UNTITLED: TypeId = TypeId(1);
 
 // Heads with names and numbers, and each operator.
-const HEADS: [Head; 34] = [
+const HEADS: [Head; 35] = [
     Head::Var(X, Sort::Int, 0),
     Head::Var(X, Sort::Int, 13),
     Head::Start(X, Sort::Int),
@@ -60,6 +60,7 @@ const HEADS: [Head; 34] = [
     Head::Cons,
     Head::Atom,
     Head::True,
+    Head::False,
 ];
 
 // The names X, T and F.
