@@ -23,4 +23,6 @@ AllHave holds (k ∷ known) = (holds k.0 ≡ k.1) × AllHave holds known
 -- where the known values are right in a world, so is the value that is computed from them
 abbrev pub TruthIsRight : Type 0
 TruthIsRight =
-    (shapes : List Shape) → IsTrue (shapes_ok shapes) → (decls : List Decl) (world : Meaning) (v : Valuation) → IsValuation shapes v → (known : List (Term × Bool)) → AllHave (holds (answers shapes decls world) v) known → (t : Term) (b : Bool) → truth (is_truth shapes decls) known t ≡ Some b → holds (answers shapes decls world) v t ≡ b
+    (shapes : List Shape) → IsTrue (shapes_ok shapes) → (decls : List Decl) (world : Meaning) (v : Valuation) → IsValuation shapes v
+    → (known : List (Term × Bool)) → AllHave (holds (answers shapes decls world) v) known
+    → (t : Term) (b : Bool) → truth (is_truth shapes decls) known t ≡ Some b → holds (answers shapes decls world) v t ≡ b

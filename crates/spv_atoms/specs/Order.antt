@@ -91,7 +91,8 @@ WorksIn a [] = Unit {0}
 WorksIn a (w ∷ works) = WorkIn a w × WorksIn a works
 
 -- one work is done: what is left to be done, and the terms that are, come to the same; and it takes fewer steps
-pub record IsStep (a : Arena) (through : Through) (w : Work) (works : List Work) (done : List TermId) (left : List Work) (more : List TermId) : Type 0 where
+pub record IsStep (a : Arena) (through : Through) (w : Work)
+    (works : List Work) (done : List TermId) (left : List Work) (more : List TermId) : Type 0 where
   pub same : after a through left (map (tree a) more) ≡ after a through works (done_by a through w (map (tree a) done))
   pub less : weights a left < weights a works + weight a w
   pub works_in : WorksIn a left

@@ -48,7 +48,8 @@ second_at ids found (t ∷ ts) = first_at ids found ts
 
 -- the arguments of a term, where it is a connective, are valued
 abbrev pub IsInside : Arena → List TermId → List (Option Bool) → TermId → Type 0
-IsInside a ids found t = (n : Node) → slice_get a.nodes t.0 ≡ Some n → is_connective (is_truth a.shapes a.decls) (tree a t) ≡ true → AllValued ids found n.args
+IsInside a ids found t =
+    (n : Node) → slice_get a.nodes t.0 ≡ Some n → is_connective (is_truth a.shapes a.decls) (tree a t) ≡ true → AllValued ids found n.args
 
 -- before each of these ids the arguments of its term stand, where it is a connective
 abbrev pub IsLayered : Arena → List TermId → Type 0

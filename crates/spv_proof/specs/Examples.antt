@@ -81,8 +81,9 @@ gap = accepts (asks (below x y ∷ below y x_and_one ∷ []) (equation x y)) (ga
 abbrev pub no_gap : Bool
 no_gap = accepts (asks (at_most x y ∷ below y x_and_one ∷ []) (equation x y)) (gap_steps (times_fact 1 1 ∷ times_fact 1 2 ∷ []))
 
+-- with the multiplier -1 the sum would be 1
 abbrev pub negative_gap : Bool
-negative_gap = accepts (asks (below y x ∷ below y x_and_one ∷ []) (equation x y)) (gap_steps ((whole (negsuc 0), 1) ∷ times_fact 1 2 ∷ []))
+negative_gap = accepts (asks (below y x ∷ below y x_and_one ∷ []) (equation x y)) (gap_steps (times_fact 1 1 ∷ (whole (negsuc 0), 2) ∷ []))
 
 -- ---- an equality by its two lists
 
