@@ -5,3 +5,5 @@ pub mod Heaps
 pub mod Formulas
 pub mod AssignedPrograms
 pub mod Turns
+pub mod Puts
+pub mod MainStart

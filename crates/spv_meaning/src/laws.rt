@@ -1,13 +1,29 @@
 // The theorems on runs, each the contract of a function that does nothing.
 
 ghost use Rattle.spv_logic.specs.Conditions.{Meaning};
-ghost use Rattle.spv_meaning.specs.Laws.{MoreTurnsKeepRuns, TrueConditionsGiveCorrectIn};
+ghost use Rattle.spv_meaning.specs.Laws.{MoreTurnsKeepRuns, PutLeavesOtherRoots, PutChangesOneName, PutChangesOneClass, MainBlocksHaveStarts, TrueConditionsGiveCorrectIn};
 
 use spv_logic::World;
 
 /// A run that ended or stopped with some turns does so alike with more.
 pub fn law_turns()
     ensures { MoreTurnsKeepRuns }
+{}
+
+/// A put leaves what is at places with other roots.
+pub fn law_put()
+    ensures { PutLeavesOtherRoots }
+{}
+
+/// What the main block sees after a put: one name is changed, or one class.
+pub fn law_view()
+    ensures variables { PutChangesOneName }
+    ensures cells { PutChangesOneClass }
+{}
+
+/// What is claimed of every start of a main block is not claimed of none.
+pub fn law_starts()
+    ensures { MainBlocksHaveStarts }
 {}
 
 /// Where the conditions of a well typed program are true in a world, the program is correct in it: for

@@ -6,3 +6,4 @@ pub mod CellRuns
 pub mod Terms
 pub mod StatementConditions
 pub mod CallConditions
+pub mod Doubts

@@ -4,4 +4,5 @@
 #![tactic(auto)]
 
 pub mod conditions;
+pub mod doubts;
 pub mod runs;

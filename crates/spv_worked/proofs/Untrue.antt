@@ -1,0 +1,21 @@
+-- Programs that are not correct.
+use Rattle.std.proofs.Common.{◌≡◌, true, false, List, [], ◌∷◌, refl, Some, None, pos, ◌&&◌}
+use Rattle.std.proofs.lemmas.Bool.{false≢true}
+use Rattle.spv_logic.specs.Values.{Number, value_eq}
+use Rattle.spv_logic.specs.Conditions.{Meaning, answers}
+use Rattle.spv_logic.proofs.Equality.{left_true, value_eq-true}
+use Rattle.spv_program.specs.Programs.{shapes}
+use Rattle.spv_meaning.specs.Correct.{Correct}
+use Rattle.spv_meaning.specs.Laws.{with_defaults}
+use Rattle.spv_meaning.proofs.MainStart.{defaults_start}
+use Rattle.spv_worked.specs.Small.{Fact}
+use Rattle.spv_worked.specs.Doubts.{wrong, about_fact}
+
+pub wrong_not_correct : (world : Meaning) → Correct wrong world → ⊥
+wrong_not_correct world correct =
+    false≢true ((correct.each None 0).ended (with_defaults wrong) (record { is_start = defaults_start wrong refl; entry = refl }) [] _ refl)
+
+pub fact_is_one : (world : Meaning) → Correct about_fact world → answers (shapes about_fact) about_fact.symbols world Fact.0 (Number (pos 0) ∷ []) ≡ Number (pos 1)
+fact_is_one world correct =
+    let holds = (correct.each None 0).ended (with_defaults about_fact) (record { is_start = defaults_start about_fact refl; entry = refl }) [] (with_defaults about_fact) refl in
+    value_eq-true (answers (shapes about_fact) about_fact.symbols world Fact.0 (Number (pos 0) ∷ [])) (Number (pos 1)) (left_true _ true holds)
