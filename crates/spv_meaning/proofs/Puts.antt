@@ -94,6 +94,7 @@ other_own (f ∷ frames) n m x y v apart = by_case (nat_eq n (length frames)) re
       where
         numbers : (k : ℕ) → nat_eq n k ≡ true → nat_eq m k ≡ true → nat_eq n m ≡ true
         numbers k a b = grind (arith, nat_tests)
+
         names_apart : (b : Bool) → b ≡ true → (b && same_name x y) ≡ false → same_name x y ≡ false
         names_apart true e apart = apart
         names_apart false e apart = absurd (false≢true e)

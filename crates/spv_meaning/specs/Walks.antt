@@ -82,8 +82,10 @@ count_on p below here loop end candidate state choices =
     with_turn below choices (λ level.
     and_then (reaches p here loop.invariant (put state (counter_place here loop state) (Number candidate)) state choices) (λ now rest.
     let finish = and_then (take_choice (shapes p) sort.Int rest) (λ v last. ends (put now (counter_place here loop now) v) last) in
-    let turn = and_then (stops_unless (counter_takes p here loop candidate) fault.Range (put now (counter_place here loop now) (Number candidate)) rest) (λ set more.
-    and_then (level.run here loop.body set more) (λ after last. level.next here loop end (next_candidate loop.count.direction candidate) after last)) in
+    let turn = and_then (stops_unless (counter_takes p here loop candidate)
+    fault.Range (put now (counter_place here loop now) (Number candidate)) rest) (λ set more.
+    and_then (level.run here loop.body set more)
+    (λ after last. level.next here loop end (next_candidate loop.count.direction candidate) after last)) in
     if is_past loop.count.direction end candidate then finish else turn))
 
 -- ---- statements

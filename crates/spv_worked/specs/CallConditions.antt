@@ -148,7 +148,8 @@ Twice = Are twice
 abbrev pub in_a_test : Program
 in_a_test =
     program ((x, integer) ∷ []) (inc ∷ []) None (Some (note 6 (equal (named x) (number 9))))
-    (While 7 (Some (note 7 (formula.Compared comparison.Less (named x) (number 9)))) (Compared comparison.Less (inc_of (read x)) (num 9)) (set x (inc_of (read x))))
+    (While 7 (Some (note 7 (formula.Compared comparison.Less (named x) (number 9))))
+    (Compared comparison.Less (inc_of (read x)) (num 9)) (set x (inc_of (read x))))
 
 -- the call of the test is one for all its uses; the body's call has the next number
 abbrev pub CallInATest : Type 0

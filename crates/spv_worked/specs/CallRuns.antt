@@ -63,7 +63,8 @@ fill = record {
 abbrev pub filling : Program
 filling =
     program ((i, integer) ∷ (a, row_of_nine) ∷ (x, integer) ∷ (y, integer) ∷ []) (fill ∷ []) None None
-    (block (Perform (call (routine 0) 10 (by_place (element a (read i)) (by_value (num 5) no_arguments))) ∷ set x (Read (element a (num 1))) ∷ set y (Read (element a (num 2))) ∷ []))
+    (block (Perform (call (routine 0) 10 (by_place (element a (read i)) (by_value (num 5) no_arguments)))
+    ∷ set x (Read (element a (num 1))) ∷ set y (Read (element a (num 2))) ∷ []))
 
 -- fill(a[i], 5) with i = 1: the place stays a[1], though the body changes i
 abbrev pub PlaceStaysFixed : Type 0
@@ -102,7 +103,8 @@ start = head.Start n sort.Int
 abbrev pub InnerCallFirst : Type 0
 InnerCallFirst =
     told (x ∷ []) (int n ∷ start ∷ int f ∷ []) (main_run twice 1 (state ((x, z 4) ∷ [])) (z 88 ∷ z 99 ∷ []))
-    ≡ ended (6 ∷ []) (reached kind.Entry 4 (4 ∷ 4 ∷ 88 ∷ []) ∷ reached kind.Exit 5 (4 ∷ 4 ∷ 5 ∷ []) ∷ reached kind.Entry 4 (5 ∷ 5 ∷ 99 ∷ []) ∷ reached kind.Exit 5 (5 ∷ 5 ∷ 6 ∷ []) ∷ [])
+    ≡ ended (6 ∷ []) (reached kind.Entry 4 (4 ∷ 4 ∷ 88 ∷ []) ∷ reached kind.Exit 5 (4 ∷ 4 ∷ 5 ∷ []) ∷ reached kind.Entry 4 (5 ∷ 5 ∷ 99
+    ∷ []) ∷ reached kind.Exit 5 (5 ∷ 5 ∷ 6 ∷ []) ∷ [])
 
 -- FUNCTION fac(n: INTEGER): INTEGER; ENTRY n >= 0; EXIT fac = Fact(n);
 -- BEGIN IF n = 0 THEN fac := 1 ELSE fac := n * fac(n - 1) END
@@ -118,7 +120,8 @@ fac = record {
   exit = Some (note 5 (equal (named f) (formula.Applied Fact (formula.formulas (named n) formula.no_formulas))));
   locals = [];
   body = If 6 (Compared comparison.Equal (read n) (num 0)) (set f (num 1))
-      (set f (Calculated arithmetic.Times (read n) (Result (call (routine 0) 6 (by_value (Calculated arithmetic.Minus (read n) (num 1)) no_arguments)))));
+      (set f (Calculated arithmetic.Times (read n) (Result
+      (call (routine 0) 6 (by_value (Calculated arithmetic.Minus (read n) (num 1)) no_arguments)))));
 }
 
 -- x := fac(3)

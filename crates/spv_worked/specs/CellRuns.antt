@@ -54,7 +54,8 @@ NewTakesItsChoices = told (x ∷ []) [] (main_run creating 0 (start 0 1) (Pointe
 -- and the choices that are left are the next ones: NEW(p); NEW(q); x := p^.val
 abbrev pub NewTwice : Type 0
 NewTwice =
-    told (x ∷ []) [] (main_run (with_body (block (New 1 (at p) node ∷ New 1 (at q) node ∷ set x (Read (content p)) ∷ []))) 0 (start 0 1) (Pointer 3 ∷ node_with 30 ∷ Pointer 4 ∷ node_with 40 ∷ []))
+    told (x ∷ []) [] (main_run (with_body (block (New 1 (at p) node ∷ New 1 (at q) node ∷ set x (Read (content p))
+    ∷ []))) 0 (start 0 1) (Pointer 3 ∷ node_with 30 ∷ Pointer 4 ∷ node_with 40 ∷ []))
     ≡ ended (30 ∷ []) []
 
 abbrev pub NewStopsWith : List Value → Type 0

@@ -22,4 +22,5 @@ about_fact = program [] [] None (Some (note 3 (equal (formula.Applied Fact (form
 
 -- it is correct in no world but those in which Fact(0) is 1
 abbrev pub CorrectWhereFactIsOne : Type 0
-CorrectWhereFactIsOne = (world : Meaning) → Correct about_fact world → answers (shapes about_fact) about_fact.symbols world Fact.0 (Number (pos 0) ∷ []) ≡ Number (pos 1)
+CorrectWhereFactIsOne = (world : Meaning) → Correct about_fact world
+    → answers (shapes about_fact) about_fact.symbols world Fact.0 (Number (pos 0) ∷ []) ≡ Number (pos 1)

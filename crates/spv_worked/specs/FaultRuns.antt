@@ -87,13 +87,15 @@ procedure = record {
 -- f(10, 1 DIV 0): a value argument's subrange is tested when it is evaluated
 abbrev pub RangeBeforeTheNextArgument : Type 0
 RangeBeforeTheNextArgument =
-    told [] [] (main_run (program [] (procedure ∷ []) None None (Perform (call (routine 0) 3 (by_value (num 10) (by_value one_by_zero no_arguments))))) 3 (state []) [])
+    told [] [] (main_run (program [] (procedure ∷ []) None None (Perform
+    (call (routine 0) 3 (by_value (num 10) (by_value one_by_zero no_arguments))))) 3 (state []) [])
     ≡ stopped fault.Range []
 
 -- f(9, 1 DIV 0)
 abbrev pub LaterArgument : Type 0
 LaterArgument =
-    told [] [] (main_run (program [] (procedure ∷ []) None None (Perform (call (routine 0) 3 (by_value (num 9) (by_value one_by_zero no_arguments))))) 3 (state []) [])
+    told [] [] (main_run (program [] (procedure ∷ []) None None (Perform
+    (call (routine 0) 3 (by_value (num 9) (by_value one_by_zero no_arguments))))) 3 (state []) [])
     ≡ stopped fault.Zero []
 
 -- what operators give: a[3] is 5, 7 DIV 2 is 3, 7 MOD 2 is 1

@@ -121,7 +121,8 @@ other = type 8
 
 abbrev pub forms : List TypeForm
 forms =
-    Integer ∷ Boolean ∷ Range (pos 1) (pos 3) ∷ Range (pos 1) (pos 9) ∷ Array nine integer ∷ PointerTo node ∷ Record (record { name = val; of = integer } ∷ [])
+    Integer ∷ Boolean ∷ Range (pos 1) (pos 3) ∷ Range (pos 1) (pos 9) ∷ Array nine integer ∷ PointerTo node ∷ Record
+    (record { name = val; of = integer } ∷ [])
     ∷ PointerTo other ∷ Record (record { name = val; of = boolean } ∷ []) ∷ []
 
 -- a program over these types
