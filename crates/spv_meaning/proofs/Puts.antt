@@ -1,7 +1,7 @@
 -- What a put leaves as it was.
-use Rattle.std.proofs.Common.{◌≡◌, ℕ, zero, suc, Bool, true, false, cond, ◌&&◌, List, [], ◌∷◌, length, refl, sym, ap, ◌∙◌, nat_eq, Option, Some, None}
+use Rattle.std.proofs.Common.{◌≡◌, ℕ, zero, suc, Bool, true, false, cond, ◌&&◌, List, [], ◌∷◌, length, refl, sym, ap, ◌∙◌, nat_eq, Some, None}
 use Rattle.std.specs.Option.{option_and_then}
-use Rattle.std.proofs.lemmas.Bool.{false≢true, eqb-true}
+use Rattle.std.proofs.lemmas.Bool.{false≢true}
 use Rattle.std.proofs.lemmas.Bool.Decides.{nat_tests}
 use Rattle.std.proofs.Common.{arith}
 use Rattle.spv_names.specs.declared.names.Symbol.{Symbol}
@@ -17,7 +17,7 @@ use Rattle.spv_meaning.specs.Places.{Root, Place, PathStep, Frame, HeapRow, Stat
 use Rattle.spv_meaning.specs.Views.{with_heap_row, class_of, now_view}
 use Rattle.spv_meaning.specs.Starts.{same_root}
 use Rattle.spv_meaning.proofs.Maps.{found-changed-other}
-use Rattle.spv_meaning.proofs.MainViews.{IsDeclared, view-other}
+use Rattle.spv_meaning.proofs.MainViews.{view-other}
 
 -- ---- cells
 

@@ -1,11 +1,10 @@
 -- What expressions give, from left to right.
-use Rattle.std.specs.Prelude.{ℕ, Bool, true, false, ◌&&◌, ◌||◌, not, List, [], ◌∷◌, ◌++◌, Option, Some, None, ℤ, pos, ◌+ℤ◌, ◌-ℤ◌, ◌*ℤ◌, nat_eq, if◌then◌else◌}
+use Rattle.std.specs.Prelude.{Bool, true, false, ◌&&◌, ◌||◌, not, List, [], ◌∷◌, ◌++◌, Option, Some, None, ℤ, pos, ◌+ℤ◌, ◌-ℤ◌, ◌*ℤ◌}
 use Rattle.std.specs.Option.{unwrap_or}
 use Rattle.std.specs.Int.RustNames.{int_lt, int_div, int_rem}
 use Rattle.std.specs.Ordering.{int_eq}
 use Rattle.spv_names.specs.declared.names.Symbol.{Symbol}
 use Rattle.spv_logic.specs.declared.types.TypeId.{TypeId}
-use Rattle.spv_logic.specs.declared.conditions.RoutineId.{RoutineId}
 use Rattle.spv_logic.specs.Values.{Value, Number, Truth, Pointer, number_of, truth_of, pointer_of, value_eq}
 use Rattle.spv_program.specs.declared.operators.Arithmetic.{Arithmetic}
 use Rattle.spv_program.specs.declared.operators.Arithmetic.TheVariants as arithmetic
@@ -18,9 +17,9 @@ use Rattle.spv_program.specs.Expressions.{Expression, Designator, Selectors, Cal
 use Rattle.spv_program.specs.Programs.{Formal, Routine, Program, routine_at, routine_in}
 use Rattle.spv_program.specs.Scopes.{name_type}
 use Rattle.spv_meaning.specs.declared.faults.Fault.TheVariants as fault
-use Rattle.spv_meaning.specs.Places.{Root, PathStep, Place, Binding, HeapRow, State, CellOf, IndexStep, FieldStep, Holding, Referring, whole, row_of, look, value_or_zero}
+use Rattle.spv_meaning.specs.Places.{PathStep, Place, Binding, HeapRow, State, CellOf, IndexStep, FieldStep, Holding, Referring, whole, row_of, look, value_or_zero}
 use Rattle.spv_meaning.specs.Views.{place_of}
-use Rattle.spv_meaning.specs.Outcomes.{Outcome, ends, stops, and_then, stops_unless}
+use Rattle.spv_meaning.specs.Outcomes.{Outcome, ends, and_then, stops_unless}
 use Rattle.spv_meaning.specs.Levels.{Here, Level, Bound, with_turn, pop, enter, result_in}
 
 -- what an expression gives, and the state behind it

@@ -1,19 +1,19 @@
 -- What calls do.
-use Rattle.std.specs.Prelude.{◌≡◌, ℕ, true, List, [], ◌∷◌, map, Option, Some, None, ℤ, pos}
+use Rattle.std.specs.Prelude.{◌≡◌, ℕ, true, [], ◌∷◌, Some, None}
 use Rattle.spv_logic.specs.declared.conditions.Kind.TheVariants as kind
 use Rattle.spv_logic.specs.declared.types.Sort.TheVariants as sort
 use Rattle.spv_logic.specs.declared.operators.Head.{Head}
 use Rattle.spv_logic.specs.declared.operators.Head.TheVariants as head
-use Rattle.spv_logic.specs.Values.{Value, ArrayOf, no_rows}
+use Rattle.spv_logic.specs.Values.{ArrayOf, no_rows}
 use Rattle.spv_program.specs.declared.operators.Arithmetic.TheVariants as arithmetic
 use Rattle.spv_program.specs.declared.operators.Comparison.TheVariants as comparison
 use Rattle.spv_program.specs.declared.operators.Connective.TheVariants as connective
 use Rattle.spv_program.specs.declared.types.Item.TheVariants.{Variable}
-use Rattle.spv_program.specs.Expressions.{Expression, Read, Result, Calculated, Compared, call, no_arguments, by_value, by_place}
+use Rattle.spv_program.specs.Expressions.{Read, Result, Calculated, Compared, call, no_arguments, by_value, by_place}
 use Rattle.spv_program.specs.Formulas as formula
-use Rattle.spv_program.specs.Statements.{Statement, Empty, Perform, If}
+use Rattle.spv_program.specs.Statements.{Perform, If}
 use Rattle.spv_program.specs.Programs.{Routine, Program}
-use Rattle.spv_worked.specs.Small.{x, y, i, a, p, q, f, n, t, p0, q0, Fact, integer, row_of_nine, program, num, at, read, set, element, block, named, number, equal, note, value_formal, place_formal, routine, z, value_in, Reached, told, int, state, main_run, ended, going, reached, Report}
+use Rattle.spv_worked.specs.Small.{x, y, i, a, p, q, f, n, t, p0, q0, Fact, integer, row_of_nine, program, num, at, read, set, element, block, named, number, equal, note, value_formal, place_formal, routine, z, Reached, told, int, state, main_run, ended, going, reached}
 
 -- ---- VAR parameters
 

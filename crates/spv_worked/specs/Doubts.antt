@@ -1,5 +1,5 @@
 -- Programs that are not correct, so that "correct" says something.
-use Rattle.std.specs.Prelude.{◌≡◌, List, [], ◌∷◌, Some, None, pos}
+use Rattle.std.specs.Prelude.{◌≡◌, [], ◌∷◌, Some, None, pos}
 use Rattle.spv_logic.specs.Values.{Number}
 use Rattle.spv_logic.specs.Conditions.{Meaning, answers}
 use Rattle.spv_program.specs.Formulas as formula
