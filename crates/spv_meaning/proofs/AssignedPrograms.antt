@@ -1,5 +1,5 @@
 -- Conditions that are true make a program of assignments correct.
-use Rattle.std.proofs.Common.{◌≡◌, ℕ, zero, suc, Bool, true, false, cond, ◌&&◌, ◌||◌, not, List, [], ◌∷◌, ◌++◌, map, refl, sym, ap, ◌∙◌, subst, Option, Some, None, option_map, is_some}
+use Rattle.std.proofs.Common.{◌≡◌, ℕ, zero, suc, Bool, true, false, cond, ◌&&◌, ◌||◌, not, List, [], ◌∷◌, ◌++◌, refl, sym, ap, ◌∙◌, subst, Option, Some, None, option_map, is_some}
 use Rattle.std.specs.Option.{option_and_then, unwrap_or}
 use Rattle.std.specs.List.{list_all}
 use Rattle.std.specs.Cmp.Derive.{both_true}
@@ -10,7 +10,6 @@ use Rattle.spv_logic.specs.declared.types.Sort.{Sort}
 use Rattle.spv_logic.specs.declared.types.Sort.TheVariants as sort
 use Rattle.spv_logic.specs.declared.conditions.Kind.TheVariants as kind
 use Rattle.spv_logic.specs.declared.conditions.RoutineId.{RoutineId}
-use Rattle.spv_logic.specs.declared.operators.Head.{Head}
 use Rattle.spv_logic.specs.declared.operators.Head.TheVariants as head
 use Rattle.spv_logic.specs.Values.{Value, truth_of}
 use Rattle.spv_logic.specs.Terms.{Term, sort_eq}
@@ -20,18 +19,17 @@ use Rattle.spv_logic.proofs.Equality.{left_true, right_true}
 use Rattle.spv_logic.proofs.Defaults.{default_fits}
 use Rattle.spv_program.specs.Lists.{same_name, found, item_at}
 use Rattle.spv_program.specs.Types.{sort_of, takes_value}
-use Rattle.spv_program.specs.Expressions.{Expression, Designator, Selectors, designator, no_selectors, at_index, at_field, at_cell}
+use Rattle.spv_program.specs.Expressions.{Expression, designator, no_selectors, at_index, at_field, at_cell}
 use Rattle.spv_program.specs.Formulas.{Annotation}
 use Rattle.spv_program.specs.Statements.{Statement, Empty, Assign, Sequence}
-use Rattle.spv_program.specs.Programs.{Routine, Program, shapes, routine_at, routine_in}
+use Rattle.spv_program.specs.Programs.{Routine, Program, shapes, routine_at}
 use Rattle.spv_program.specs.Scopes.{with_sorts_of, body_scope, sort_or_int}
-use Rattle.spv_program.specs.FormulaTypes.{is_sort, same_sort, annotation_ok}
+use Rattle.spv_program.specs.FormulaTypes.{same_sort, annotation_ok}
 use Rattle.spv_program.specs.ExpressionTypes.{sort_of_type, expression_sort, designator_type, may_write}
 use Rattle.spv_program.specs.Terms.{name_in, body_term}
-use Rattle.spv_program.specs.Typing.{statement_ok, well_typed, main_ok, declarations_ok, routine_ok}
+use Rattle.spv_program.specs.Typing.{statement_ok, well_typed, declarations_ok, routine_ok}
 use Rattle.spv_program.specs.Supplies.{full_supply}
-use Rattle.spv_program.specs.Calls.{replacing}
-use Rattle.spv_program.specs.ExpressionTerms.{Valued, valued}
+use Rattle.spv_program.specs.ExpressionTerms.{Valued}
 use Rattle.spv_program.specs.Types.{forms_ok, form_ok}
 use Rattle.spv_program.proofs.SortFacts.{nothing_there, some_is, is_sort-true}
 use Rattle.spv_meaning.specs.declared.faults.Fault.TheVariants as fault
@@ -39,17 +37,17 @@ use Rattle.spv_meaning.specs.Places.{State, put}
 use Rattle.spv_meaning.specs.Views.{of_sort, class_of, now_view, entry_view}
 use Rattle.spv_meaning.specs.Outcomes.{End, Ended, Stopped, Going, Met, Outcome, go_on, and_then, stops_unless}
 use Rattle.spv_meaning.specs.Levels.{Level, reached_in_body}
-use Rattle.spv_meaning.specs.Evaluation.{Fixed, evaluate}
+use Rattle.spv_meaning.specs.Evaluation.{Fixed}
 use Rattle.spv_meaning.specs.Walks.{walk, assign, level, run}
 use Rattle.spv_meaning.specs.Starts.{IsStart, is_of_type}
-use Rattle.spv_meaning.specs.Correct.{valuation_of, met_holds, all_hold, met_if_there, begun, routine_body, body_of, entry_met, exit_met, routine_exit, Starts, CorrectWith, Correct}
-use Rattle.spv_meaning.specs.Before.{Made, before, before_calls, replaced, assuming_if_there, annotation_term, wanted_if_there, with_claim}
+use Rattle.spv_meaning.specs.Correct.{valuation_of, met_holds, all_hold, met_if_there, begun, routine_body, routine_exit, Starts, CorrectWith, Correct}
+use Rattle.spv_meaning.specs.Before.{Made, before, before_calls, replaced, assuming_if_there, annotation_term, wanted_if_there}
 use Rattle.spv_meaning.specs.ProgramConditions.{main_conditions, conditions_from, conditions_of, AllTrueIn}
 use Rattle.spv_meaning.specs.Assignments.{is_simple, is_block, has_no_routines, only_assigns}
-use Rattle.spv_meaning.proofs.MainViews.{IsDeclared, variable, shown-main, view-declared, declared_there, declared_holds, start_after, both-main, fits_if_shown, view_is}
+use Rattle.spv_meaning.proofs.MainViews.{variable, view-declared, declared_there, declared_holds, start_after, both-main, fits_if_shown, view_is}
 use Rattle.spv_meaning.proofs.Heaps.{class_fits}
 use Rattle.spv_meaning.proofs.Formulas.{agrees}
-use Rattle.spv_meaning.proofs.Assigning.{in_main, value_of, term_for, evaluates, term_is, Declared, declared_as, simple_fits, head_of, AllTrueNow, TrueNow, pair, all_assigned}
+use Rattle.spv_meaning.proofs.Assigning.{in_main, value_of, evaluates, term_is, Declared, declared_as, simple_fits, head_of, AllTrueNow, pair, all_assigned}
 
 list_all-append : {X : Type 0} (test : X → Bool) (xs ys : List X) → list_all test xs ≡ true → list_all test ys ≡ true → list_all test (xs ++ ys) ≡ true
 list_all-append test [] ys h g = g

@@ -1,5 +1,5 @@
 -- An assignment of a variable or a constant to a variable: what it does, and the conditions before it.
-use Rattle.std.proofs.Common.{◌≡◌, ℕ, Bool, true, false, cond, ◌&&◌, ◌||◌, not, List, [], ◌∷◌, ◌++◌, map, pos, refl, sym, ap, ◌∙◌, subst, Option, Some, None, option_map, is_some}
+use Rattle.std.proofs.Common.{◌≡◌, ℕ, Bool, true, false, cond, List, [], ◌∷◌, map, pos, refl, sym, ap, ◌∙◌, Option, Some, None, option_map, is_some}
 use Rattle.std.specs.Option.{option_and_then}
 use Rattle.std.specs.List.{list_all}
 use Rattle.std.proofs.lemmas.Bool.{false≢true}
@@ -14,32 +14,26 @@ use Rattle.spv_logic.specs.Terms.{Term, head_eq, sort_eq, eval}
 use Rattle.spv_logic.specs.Sorts.{fits, is_pointer}
 use Rattle.spv_logic.specs.Conditions.{Meaning, Valuation, Sequent, Condition, View, IsValuation, Shows, answers, holds, follows}
 use Rattle.spv_logic.specs.Substitution.{Replacement, is_variable, substitute, under, value_under}
-use Rattle.spv_logic.proofs.Equality.{left_true, right_true, head_eq-true, sort_eq-true}
+use Rattle.spv_logic.proofs.Equality.{head_eq-true}
 use Rattle.spv_logic.proofs.Substitution.{eval-substitute, eval-same}
 use Rattle.spv_program.specs.declared.types.Item.TheVariants.{Variable}
 use Rattle.spv_program.specs.Lists.{found}
-use Rattle.spv_program.specs.Types.{sort_of, takes_value, type_exists}
-use Rattle.spv_program.specs.Expressions.{Expression, Designator, Selectors, Numeral, Boolean, NilOf, Read, designator, no_selectors, at_index, at_field, at_cell}
-use Rattle.spv_program.specs.Statements.{Statement, Assign}
+use Rattle.spv_program.specs.Types.{sort_of, type_exists}
+use Rattle.spv_program.specs.Expressions.{Expression, Numeral, Boolean, NilOf, Read, designator, no_selectors, at_index, at_field, at_cell}
 use Rattle.spv_program.specs.Programs.{Program, shapes}
-use Rattle.spv_program.specs.Scopes.{name_type}
-use Rattle.spv_program.specs.FormulaTypes.{is_sort, same_sort, sort_if}
-use Rattle.spv_program.specs.ExpressionTypes.{sort_of_type, expression_sort, designator_type}
+use Rattle.spv_program.specs.ExpressionTypes.{expression_sort}
 use Rattle.spv_program.specs.Terms.{alone, numeral, truth, item_head}
 use Rattle.spv_program.specs.Supplies.{Supply}
 use Rattle.spv_program.specs.Calls.{replacing}
-use Rattle.spv_program.specs.ExpressionTerms.{Valued, without_calls, valued}
-use Rattle.spv_program.proofs.SortFacts.{nothing_there, some_is, is_sort-true, test_passes, sort_told}
-use Rattle.spv_meaning.specs.declared.faults.Fault.TheVariants as fault
-use Rattle.spv_meaning.specs.Places.{State, look, put, value_or_zero}
+use Rattle.spv_program.specs.ExpressionTerms.{without_calls, valued}
+use Rattle.spv_program.proofs.SortFacts.{nothing_there, some_is, sort_told}
+use Rattle.spv_meaning.specs.Places.{State, put, value_or_zero}
 use Rattle.spv_meaning.specs.Views.{now_view}
-use Rattle.spv_meaning.specs.Outcomes.{Outcome, and_then, stops_unless}
 use Rattle.spv_meaning.specs.Levels.{Here, Level}
-use Rattle.spv_meaning.specs.Evaluation.{Got, Fixed, evaluate, gives}
-use Rattle.spv_meaning.specs.Walks.{walk, assign}
+use Rattle.spv_meaning.specs.Evaluation.{evaluate, gives}
 use Rattle.spv_meaning.specs.Starts.{IsStart}
-use Rattle.spv_meaning.specs.Before.{Made, before, before_calls, replaced, substitute_in, with_claim}
-use Rattle.spv_meaning.specs.Assignments.{has_none, is_simple}
+use Rattle.spv_meaning.specs.Before.{replaced, substitute_in}
+use Rattle.spv_meaning.specs.Assignments.{is_simple}
 use Rattle.spv_meaning.proofs.MainViews.{variable, look-variable, IsDeclared, head_is, view-declared, declared_there, value_fits, view-other, view-same}
 
 -- where the main block runs

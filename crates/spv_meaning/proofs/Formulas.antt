@@ -1,14 +1,12 @@
 -- What a formula is worth depends on what its names and classes are alone.
-use Rattle.std.proofs.Common.{◌≡◌, Bool, true, false, cond, ◌&&◌, List, [], ◌∷◌, pos, refl, sym, ap, ◌∙◌, Option, Some, None}
-use Rattle.std.specs.Option.{option_and_then}
+use Rattle.std.proofs.Common.{◌≡◌, Bool, true, false, cond, ◌&&◌, List, [], ◌∷◌, pos, refl, ap, ◌∙◌, Option, Some, None}
 use Rattle.spv_names.specs.declared.names.Symbol.{Symbol}
 use Rattle.spv_logic.specs.declared.types.TypeId.{TypeId}
 use Rattle.spv_logic.specs.declared.types.Sort.{Sort}
 use Rattle.spv_logic.specs.declared.types.Sort.TheVariants as sort
 use Rattle.spv_logic.specs.declared.operators.Head.{Head}
 use Rattle.spv_logic.specs.declared.operators.Head.TheVariants as head
-use Rattle.spv_logic.specs.Values.{Value}
-use Rattle.spv_logic.specs.Terms.{Term, Terms, sort_eq, worth, eval, eval_all}
+use Rattle.spv_logic.specs.Terms.{Term, sort_eq, worth, eval, eval_all}
 use Rattle.spv_logic.specs.Sorts.{element_sort, fields_of, field_sort_of, takes_declared, declared, result_sort}
 use Rattle.spv_logic.specs.Conditions.{Meaning, Valuation}
 use Rattle.spv_logic.specs.Substitution.{is_variable}
@@ -27,7 +25,7 @@ use Rattle.spv_program.specs.Types.{sort_of, type_exists}
 use Rattle.spv_program.specs.Formulas.{Formula, Formulas, Numeral, Boolean, NilOf, Named, ClassOf, Element, FieldOf, Content, Applied, Known, Negative, Calculated, Compared, Negated, Joined, Implied, no_formulas, formulas}
 use Rattle.spv_program.specs.Programs.{Program, shapes}
 use Rattle.spv_program.specs.Scopes.{Scope}
-use Rattle.spv_program.specs.FormulaTypes.{is_sort, sort_if, two_sorts, sorts_from, numbers, truth_values, compared_sort, head_of_known, any_sort, is_nil, formula_sort, formula_sorts}
+use Rattle.spv_program.specs.FormulaTypes.{is_sort, sort_if, compared_sort, head_of_known, any_sort, is_nil, formula_sort, formula_sorts}
 use Rattle.spv_program.specs.Terms.{alone, unary, binary, truth, head_of_arithmetic, comparing, head_of_connective, formula_term, formula_terms}
 use Rattle.spv_program.proofs.SortFacts.{is_sort-true, test_passes, two_there, behind, failed}
 use Rattle.spv_program.proofs.FormulaSorting.{two_truths, two_numbers, one_of, some_sorts}

@@ -1,10 +1,9 @@
 -- The main block has a start.
-use Rattle.std.proofs.Common.{◌≡◌, Bool, true, false, cond, List, [], ◌∷◌, map, refl, sym, ap, ◌∙◌, Option, Some, None}
+use Rattle.std.proofs.Common.{◌≡◌, Bool, true, false, cond, List, [], ◌∷◌, map, refl, sym, ap, ◌∙◌, Some, None}
 use Rattle.std.specs.List.{list_all}
 use Rattle.spv_names.specs.declared.names.Symbol.{Symbol}
 use Rattle.spv_logic.specs.declared.types.TypeId.{TypeId}
-use Rattle.spv_logic.specs.Values.{Value}
-use Rattle.spv_logic.specs.Sorts.{fits, default_of, shapes_ok}
+use Rattle.spv_logic.specs.Sorts.{default_of, shapes_ok}
 use Rattle.spv_logic.proofs.Equality.{left_true, right_true}
 use Rattle.spv_logic.proofs.Defaults.{default_fits}
 use Rattle.spv_program.specs.Lists.{same_name, found}
@@ -12,7 +11,6 @@ use Rattle.spv_program.specs.Types.{sort_of, form_ok, forms_ok}
 use Rattle.spv_program.specs.Programs.{Program, shapes}
 use Rattle.spv_program.specs.Typing.{well_typed, declarations_ok}
 use Rattle.spv_program.proofs.SortFacts.{nothing_there, some_is}
-use Rattle.spv_meaning.specs.Places.{State}
 use Rattle.spv_meaning.specs.Starts.{IsStart, is_of_type}
 use Rattle.spv_meaning.specs.Laws.{with_defaults}
 use Rattle.spv_meaning.proofs.MainViews.{look-variable, shown-main}

@@ -1,33 +1,27 @@
 -- What a state shows the main block, before and after an assignment to a whole variable.
-use Rattle.std.proofs.Common.{◌≡◌, ℕ, zero, suc, Bool, true, false, cond, ◌&&◌, List, [], ◌∷◌, refl, sym, ap, ◌∙◌, subst, Option, Some, None, option_map, IsTrue}
+use Rattle.std.proofs.Common.{◌≡◌, zero, suc, Bool, true, false, cond, ◌&&◌, refl, sym, ap, ◌∙◌, subst, Option, Some, None, option_map}
 use Rattle.std.specs.Prelude.{is_some}
-use Rattle.std.specs.Option.{option_and_then, unwrap_or}
-use Rattle.std.specs.List.{list_all}
-use Rattle.std.specs.Cmp.Derive.{both_true}
+use Rattle.std.specs.Option.{option_and_then}
 use Rattle.std.proofs.lemmas.Bool.{false≢true}
 use Rattle.spv_names.specs.declared.names.Symbol.{Symbol}
 use Rattle.spv_logic.specs.declared.types.TypeId.{TypeId}
 use Rattle.spv_logic.specs.declared.types.Sort.{Sort}
-use Rattle.spv_logic.specs.declared.types.Sort.TheVariants as sort
 use Rattle.spv_logic.specs.declared.operators.Head.{Head}
 use Rattle.spv_logic.specs.declared.operators.Head.TheVariants as head
 use Rattle.spv_logic.specs.Values.{Value}
 use Rattle.spv_logic.specs.Terms.{sort_eq, head_eq}
-use Rattle.spv_logic.specs.Sorts.{fits, variable_sort, default_of, shapes_ok}
-use Rattle.spv_logic.specs.Conditions.{View, Valuation, IsValuation, Shows, both, shown_or}
-use Rattle.spv_logic.specs.Substitution.{is_variable}
-use Rattle.spv_logic.proofs.Equality.{left_true, right_true, sort_eq-true, sort_eq-refl, head_eq-true}
-use Rattle.spv_logic.proofs.Defaults.{default_fits}
+use Rattle.spv_logic.specs.Sorts.{fits}
+use Rattle.spv_logic.specs.Conditions.{View, both, shown_or}
+use Rattle.spv_logic.proofs.Equality.{sort_eq-true, sort_eq-refl}
 use Rattle.spv_program.specs.declared.types.Item.TheVariants.{Variable}
 use Rattle.spv_program.specs.Lists.{same_name, found, changed}
 use Rattle.spv_program.specs.Types.{sort_of}
 use Rattle.spv_program.specs.Programs.{Program, shapes}
 use Rattle.spv_program.specs.Scopes.{sort_or_int}
 use Rattle.spv_program.specs.Terms.{item_head}
-use Rattle.spv_meaning.specs.Places.{State, Place, ProgramVariable, whole, root_value, look, put, value_or_zero}
-use Rattle.spv_meaning.specs.Views.{of_sort, shown_names, shown_type, now_view, entry_view}
+use Rattle.spv_meaning.specs.Places.{State, Place, ProgramVariable, whole, look, put, value_or_zero}
+use Rattle.spv_meaning.specs.Views.{of_sort, shown_type, now_view, entry_view}
 use Rattle.spv_meaning.specs.Starts.{IsStart, is_of_type}
-use Rattle.spv_meaning.specs.Correct.{valuation_of}
 use Rattle.spv_program.proofs.SortFacts.{some_is}
 use Rattle.spv_meaning.proofs.Maps.{other_way, same_names, found-changed-same, found-changed-other, filter-all}
 

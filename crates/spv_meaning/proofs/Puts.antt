@@ -1,7 +1,7 @@
 -- What a put leaves as it was.
-use Rattle.std.proofs.Common.{◌≡◌, ℕ, zero, suc, Bool, true, false, cond, ◌&&◌, List, [], ◌∷◌, length, refl, sym, ap, ◌∙◌, nat_eq, Option, Some, None}
+use Rattle.std.proofs.Common.{◌≡◌, ℕ, zero, suc, Bool, true, false, cond, ◌&&◌, List, [], ◌∷◌, length, refl, sym, ap, ◌∙◌, nat_eq, Some, None}
 use Rattle.std.specs.Option.{option_and_then}
-use Rattle.std.proofs.lemmas.Bool.{false≢true, eqb-true}
+use Rattle.std.proofs.lemmas.Bool.{false≢true}
 use Rattle.std.proofs.lemmas.Bool.Decides.{nat_tests}
 use Rattle.std.proofs.Common.{arith}
 use Rattle.spv_names.specs.declared.names.Symbol.{Symbol}
@@ -17,7 +17,7 @@ use Rattle.spv_meaning.specs.Places.{Root, Place, PathStep, Frame, HeapRow, Stat
 use Rattle.spv_meaning.specs.Views.{with_heap_row, class_of, now_view}
 use Rattle.spv_meaning.specs.Starts.{same_root}
 use Rattle.spv_meaning.proofs.Maps.{found-changed-other}
-use Rattle.spv_meaning.proofs.MainViews.{IsDeclared, view-other}
+use Rattle.spv_meaning.proofs.MainViews.{view-other}
 
 -- ---- cells
 
@@ -94,6 +94,7 @@ other_own (f ∷ frames) n m x y v apart = by_case (nat_eq n (length frames)) re
       where
         numbers : (k : ℕ) → nat_eq n k ≡ true → nat_eq m k ≡ true → nat_eq n m ≡ true
         numbers k a b = grind (arith, nat_tests)
+
         names_apart : (b : Bool) → b ≡ true → (b && same_name x y) ≡ false → same_name x y ≡ false
         names_apart true e apart = apart
         names_apart false e apart = absurd (false≢true e)

@@ -2,22 +2,19 @@
 use Rattle.std.proofs.Common.{◌≡◌, ℕ, zero, suc, ◌≤◌, Bool, true, false, cond, List, [], ◌∷◌, ◌++◌, refl, sym, ap, ◌∙◌, Option, Some, None, option_map, ℤ, int_eq, arith}
 use Rattle.std.proofs.lemmas.Bool.{false≢true}
 use Rattle.std.specs.List.{list_any}
-use Rattle.spv_names.specs.declared.names.Symbol.{Symbol}
-use Rattle.spv_logic.specs.declared.types.Sort.TheVariants as sort
 use Rattle.spv_logic.specs.declared.conditions.RoutineId.{RoutineId}
-use Rattle.spv_logic.specs.Values.{Value, Number, truth_of, number_of, pointer_of}
-use Rattle.spv_program.specs.Types.{takes_value}
+use Rattle.spv_logic.specs.Values.{Value, Number, truth_of, number_of}
 use Rattle.spv_program.specs.Expressions.{Expression, Designator, Selectors, Call, Arguments, Numeral, Boolean, NilOf, Read, Result, Through, Negative, Calculated, Compared, Negated, Joined, designator, no_selectors, at_index, at_field, at_cell, call, no_arguments, by_value, by_place}
 use Rattle.spv_program.specs.Statements.{Statement, Arms, Empty, Assign, Perform, New, Sequence, If, Case, While, Repeat, For, Assert, no_arms, arm}
-use Rattle.spv_program.specs.Programs.{Formal, Routine, Program, shapes, routine_at, routine_in}
+use Rattle.spv_program.specs.Programs.{Formal, Routine, Program, routine_at}
 use Rattle.spv_program.specs.Scopes.{result_name}
 use Rattle.spv_meaning.specs.declared.faults.Fault.TheVariants as fault
-use Rattle.spv_meaning.specs.Places.{State, Holding, Referring, put}
+use Rattle.spv_meaning.specs.Places.{State, put}
 use Rattle.spv_meaning.specs.Views.{entry_view}
-use Rattle.spv_meaning.specs.Outcomes.{End, Ended, Stopped, Going, Met, Outcome, ends, go_on, and_then, meets, stops_unless, take_choice}
+use Rattle.spv_meaning.specs.Outcomes.{End, Ended, Stopped, Going, Met, Outcome, go_on, and_then, meets, stops_unless}
 use Rattle.spv_meaning.specs.Levels.{Here, Loop, Level, Bound, with_turn, reached_entry, push, choose_all, run_routine, enter}
-use Rattle.spv_meaning.specs.Evaluation.{Got, Fixed, gives, calculated, to_element, to_field, to_cell, holds_now, bind, for_parameter, formals_of, evaluate, fix, select, result, arguments}
-use Rattle.spv_meaning.specs.Walks.{assign, create, reaches, counter_place, counter_takes, is_past, next_candidate, count_on, perform, walk, walk_arms, level_over, level, run}
+use Rattle.spv_meaning.specs.Evaluation.{Fixed, to_element, to_field, to_cell, holds_now, for_parameter, formals_of, evaluate, fix, select, result, arguments}
+use Rattle.spv_meaning.specs.Walks.{reaches, counter_place, counter_takes, is_past, next_candidate, count_on, walk, walk_arms, level_over, level, run}
 use Rattle.spv_meaning.specs.Laws.{is_done}
 
 -- where the first run is done, the second is the same

@@ -1,5 +1,5 @@
 -- The conditions before a statement, made from those after it.
-use Rattle.std.specs.Prelude.{ℕ, Bool, true, false, List, [], ◌∷◌, ◌++◌, map, fold, filter, Option, Some, None, ℤ, pos, option_map, if◌then◌else◌}
+use Rattle.std.specs.Prelude.{ℕ, List, [], ◌∷◌, ◌++◌, map, fold, Option, Some, None, ℤ, pos, option_map}
 use Rattle.std.specs.Option.{unwrap_or}
 use Rattle.spv_names.specs.declared.names.Symbol.{Symbol}
 use Rattle.spv_logic.specs.declared.types.TypeId.{TypeId}
@@ -15,19 +15,19 @@ use Rattle.spv_logic.specs.Conditions.{Sequent, Condition}
 use Rattle.spv_program.specs.declared.operators.Direction.{Direction}
 use Rattle.spv_program.specs.declared.operators.Direction.TheVariants.{Up, Down}
 use Rattle.spv_program.specs.declared.types.Item.{Item}
-use Rattle.spv_program.specs.declared.types.Item.TheVariants.{Variable, Class}
+use Rattle.spv_program.specs.declared.types.Item.TheVariants.{Variable}
 use Rattle.spv_program.specs.Lists.{item_at}
 use Rattle.spv_program.specs.Types.{sort_of}
 use Rattle.spv_program.specs.Formulas.{Annotation}
 use Rattle.spv_program.specs.Expressions.{Designator, Call, call, designator}
-use Rattle.spv_program.specs.Statements.{Counting, Statement, Arms, Empty, Assign, Perform, New, Sequence, If, Case, While, Repeat, For, Assert, no_arms, arm}
-use Rattle.spv_program.specs.Programs.{Formal, GlobalItem, Routine, Program, routine_at, routine_in}
+use Rattle.spv_program.specs.Statements.{Statement, Arms, Empty, Assign, Perform, New, Sequence, If, Case, While, Repeat, For, Assert, no_arms, arm}
+use Rattle.spv_program.specs.Programs.{Formal, Routine, Program, routine_at, routine_in}
 use Rattle.spv_program.specs.Changes.{var_items, changed_heads}
 use Rattle.spv_program.specs.Terms.{alone, unary, binary, ternary, numeral, item_head, body_term}
-use Rattle.spv_program.specs.Supplies.{Supply, Fresh, fresh_variable, fresh_like}
+use Rattle.spv_program.specs.Supplies.{Supply, fresh_variable, fresh_like}
 use Rattle.spv_program.specs.Places.{Target, whole_with}
 use Rattle.spv_program.specs.Calls.{Argument, Given, AtPlace, replacing, formal_head, entry_at_call, exit_at_call}
-use Rattle.spv_program.specs.ExpressionTerms.{Called, Valued, Placed, Argued, valued, placed, argued}
+use Rattle.spv_program.specs.ExpressionTerms.{Called, Argued, valued, placed, argued}
 
 -- conditions, and the fresh variables that are left
 pub record Made : Type 0 where

@@ -78,8 +78,10 @@ pub record Starts (p : Program) (world : Meaning) (here : Option RoutineId) (sta
 -- from every start that meets ENTRY, with so many turns and all choices, each annotation that is reached holds, and
 -- where the run ended, EXIT holds
 pub record CorrectWith (p : Program) (world : Meaning) (here : Option RoutineId) (turns : ℕ) : Type 0 where
-  pub reached : (state : State) → Starts p world here state → (choices : List Value) → IsTrue (all_hold p world (run p turns (begun p here state) (body_of p here) state choices).met)
-  pub ended : (state : State) → Starts p world here state → (choices : List Value) (after : State) → (run p turns (begun p here state) (body_of p here) state choices).end ≡ Ended after → IsTrue (all_hold p world (exit_met p here state after))
+  pub reached : (state : State) → Starts p world here state → (choices : List Value)
+      → IsTrue (all_hold p world (run p turns (begun p here state) (body_of p here) state choices).met)
+  pub ended : (state : State) → Starts p world here state → (choices : List Value) (after : State)
+      → (run p turns (begun p here state) (body_of p here) state choices).end ≡ Ended after → IsTrue (all_hold p world (exit_met p here state after))
 
 -- a program is correct in a world: each routine and the main block, with any number of turns
 pub record Correct (p : Program) (world : Meaning) : Type 0 where

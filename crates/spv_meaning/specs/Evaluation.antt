@@ -1,11 +1,10 @@
 -- What expressions give, from left to right.
-use Rattle.std.specs.Prelude.{ℕ, Bool, true, false, ◌&&◌, ◌||◌, not, List, [], ◌∷◌, ◌++◌, Option, Some, None, ℤ, pos, ◌+ℤ◌, ◌-ℤ◌, ◌*ℤ◌, nat_eq, if◌then◌else◌}
+use Rattle.std.specs.Prelude.{Bool, true, false, ◌&&◌, ◌||◌, not, List, [], ◌∷◌, ◌++◌, Option, Some, None, ℤ, pos, ◌+ℤ◌, ◌-ℤ◌, ◌*ℤ◌}
 use Rattle.std.specs.Option.{unwrap_or}
 use Rattle.std.specs.Int.RustNames.{int_lt, int_div, int_rem}
 use Rattle.std.specs.Ordering.{int_eq}
 use Rattle.spv_names.specs.declared.names.Symbol.{Symbol}
 use Rattle.spv_logic.specs.declared.types.TypeId.{TypeId}
-use Rattle.spv_logic.specs.declared.conditions.RoutineId.{RoutineId}
 use Rattle.spv_logic.specs.Values.{Value, Number, Truth, Pointer, number_of, truth_of, pointer_of, value_eq}
 use Rattle.spv_program.specs.declared.operators.Arithmetic.{Arithmetic}
 use Rattle.spv_program.specs.declared.operators.Arithmetic.TheVariants as arithmetic
@@ -18,9 +17,9 @@ use Rattle.spv_program.specs.Expressions.{Expression, Designator, Selectors, Cal
 use Rattle.spv_program.specs.Programs.{Formal, Routine, Program, routine_at, routine_in}
 use Rattle.spv_program.specs.Scopes.{name_type}
 use Rattle.spv_meaning.specs.declared.faults.Fault.TheVariants as fault
-use Rattle.spv_meaning.specs.Places.{Root, PathStep, Place, Binding, HeapRow, State, CellOf, IndexStep, FieldStep, Holding, Referring, whole, row_of, look, value_or_zero}
+use Rattle.spv_meaning.specs.Places.{PathStep, Place, Binding, HeapRow, State, CellOf, IndexStep, FieldStep, Holding, Referring, whole, row_of, look, value_or_zero}
 use Rattle.spv_meaning.specs.Views.{place_of}
-use Rattle.spv_meaning.specs.Outcomes.{Outcome, ends, stops, and_then, stops_unless}
+use Rattle.spv_meaning.specs.Outcomes.{Outcome, ends, and_then, stops_unless}
 use Rattle.spv_meaning.specs.Levels.{Here, Level, Bound, with_turn, pop, enter, result_in}
 
 -- what an expression gives, and the state behind it
@@ -54,7 +53,8 @@ divides _ = false
 -- DIV and MOD by 0 stop
 abbrev pub calculated : Arithmetic → Value → Got → List Value → Outcome Got
 calculated o v right rest =
-    stops_unless (not (divides o && int_eq (number_of right.value) (pos 0))) fault.Zero (record { value = Number (calculate o (number_of v) (number_of right.value)); state = right.state }) rest
+    stops_unless (not (divides o && int_eq (number_of right.value) (pos 0))) fault.Zero
+    (record { value = Number (calculate o (number_of v) (number_of right.value)); state = right.state }) rest
 
 abbrev pub compare : Comparison → Value → Value → Bool
 compare comparison.Equal v w = value_eq v w
@@ -76,7 +76,8 @@ further s t place state = record { place = record { root = place.root; path = pl
 -- the element at an index, which has to be in its subrange
 abbrev pub to_element : Program → TypeId → Place → Got → List Value → Outcome Fixed
 to_element p t place index rest =
-    stops_unless (takes_index p.forms t index.value) fault.Index (further (IndexStep (number_of index.value)) (unwrap_or (element_of (form_at p.forms t.0)) t) place index.state) rest
+    stops_unless (takes_index p.forms t index.value)
+    fault.Index (further (IndexStep (number_of index.value)) (unwrap_or (element_of (form_at p.forms t.0)) t) place index.state) rest
 
 abbrev pub to_field : Program → TypeId → Symbol → Fixed → Fixed
 to_field p t f fixed = further (FieldStep f) (unwrap_or (field_of (form_at p.forms t.0) f) t) fixed.place fixed.state
@@ -88,7 +89,8 @@ is_cell_of t (Some r) = same_type r.type t
 -- the cell that a pointer leads to, which has to be one of this type
 abbrev pub to_cell : TypeId → Value → State → List Value → Outcome Fixed
 to_cell t v state rest =
-    stops_unless (is_cell_of t (row_of state.heap (pointer_of v))) fault.Nil (record { place = whole (CellOf (pointer_of v)); type = t; state = state }) rest
+    stops_unless (is_cell_of t (row_of state.heap (pointer_of v))) fault.Nil
+    (record { place = whole (CellOf (pointer_of v)); type = t; state = state }) rest
 
 -- what a fixed place holds
 abbrev pub holds_now : Fixed → Value
@@ -133,13 +135,19 @@ abbrev mutual
       and_then (evaluate p below here e state choices) (λ got rest. gives (Truth (not (truth_of got.value))) got.state rest)
   evaluate p below here (Joined o a b) state choices =
       and_then (evaluate p below here a state choices) (λ left rest.
-      and_then (evaluate p below here b left.state rest) (λ right last. gives (Truth (join o (truth_of left.value) (truth_of right.value))) right.state last))
+      and_then (evaluate p below here b left.state rest)
+      (λ right last. gives (Truth (join o (truth_of left.value) (truth_of right.value))) right.state last))
 
   -- the place of a designator
   pub fix : Program → Option Level → Here → Designator → State → List Value → Outcome Fixed
   fix p below here (designator line x others) state choices =
       select p below here others
-      (record { place = place_of here.routine state x; type = unwrap_or (name_type p (routine_in p here.routine) x) (record { 0 = 0 }); state = state })
+      (record {
+        place = place_of here.routine state x;
+        type = unwrap_or (name_type p (routine_in p here.routine) x)
+            (record { 0 = 0 });
+        state = state;
+      })
       choices
 
   pub select : Program → Option Level → Here → Selectors → Fixed → List Value → Outcome Fixed
@@ -168,4 +176,5 @@ abbrev mutual
       and_then (for_parameter p f got rest) (λ taken last.
       bind f.name (Holding taken.value) (arguments p below here formals others taken.state last)))
   arguments p below here (f ∷ formals) (by_place d others) state choices =
-      and_then (fix p below here d state choices) (λ fixed rest. bind f.name (Referring fixed.place) (arguments p below here formals others fixed.state rest))
+      and_then (fix p below here d state choices)
+      (λ fixed rest. bind f.name (Referring fixed.place) (arguments p below here formals others fixed.state rest))

@@ -31,7 +31,8 @@ is_done _ = true
 -- a run that ended or stopped does so alike with more turns
 abbrev pub MoreTurnsKeepRuns : Type 0
 MoreTurnsKeepRuns =
-    (p : Program) (n m : ℕ) → n ≤ m → (here : Here) (s : Statement) (state : State) (choices : List Value) → IsTrue (is_done (run p n here s state choices).end) → run p m here s state choices ≡ run p n here s state choices
+    (p : Program) (n m : ℕ) → n ≤ m → (here : Here) (s : Statement) (state : State) (choices : List Value)
+    → IsTrue (is_done (run p n here s state choices).end) → run p m here s state choices ≡ run p n here s state choices
 
 -- a put leaves what is at a place with another root
 abbrev pub PutLeavesOtherRoots : Type 0

@@ -1,5 +1,5 @@
 -- What a run does with one turn less, and the call of a routine.
-use Rattle.std.specs.Prelude.{ℕ, Bool, List, [], ◌∷◌, ◌++◌, drop, Option, Some, None, ℤ, option_map}
+use Rattle.std.specs.Prelude.{ℕ, List, [], ◌∷◌, ◌++◌, drop, Option, Some, None, ℤ, option_map}
 use Rattle.std.specs.Option.{option_and_then}
 use Rattle.spv_names.specs.declared.names.Symbol.{Symbol}
 use Rattle.spv_logic.specs.declared.types.TypeId.{TypeId}
@@ -70,7 +70,8 @@ pub record Bound : Type 0 where
 abbrev pub choose_all : Program → List (Symbol × TypeId) → List Value → Outcome (List (Symbol × Binding))
 choose_all p [] choices = ends [] choices
 choose_all p (n ∷ names) choices =
-    and_then (take_choice (shapes p) (sort_of p.forms n.1) choices) (λ v rest. and_then (choose_all p names rest) (λ others last. ends ((n.0, Holding v) ∷ others) last))
+    and_then (take_choice (shapes p) (sort_of p.forms n.1) choices) (λ v rest. and_then (choose_all p names rest)
+    (λ others last. ends ((n.0, Holding v) ∷ others) last))
 
 abbrev pub push : RoutineId → List (Symbol × Binding) → State → State
 push r names state = record state { frames = record { routine = r; names = names } ∷ state.frames }
@@ -89,7 +90,8 @@ run_routine p below id r state choices =
 abbrev pub enter : Program → Level → RoutineId → Option Routine → Bound → List Value → Outcome State
 enter p below id None bound choices = ends bound.state choices
 enter p below id (Some r) bound choices =
-    and_then (choose_all p (result_name r.name r.result ++ r.locals) choices) (λ own rest. run_routine p below id r (push id (bound.names ++ own) bound.state) rest)
+    and_then (choose_all p (result_name r.name r.result ++ r.locals) choices)
+    (λ own rest. run_routine p below id r (push id (bound.names ++ own) bound.state) rest)
 
 -- the result that the newest frame has under the function's name
 abbrev pub result_in : Option Routine → List Frame → Value

@@ -1,5 +1,5 @@
 -- The conditions of a whole program.
-use Rattle.std.specs.Prelude.{ℕ, suc, Bool, List, [], ◌∷◌, ◌++◌, map, filter, not, Option, Some, None, option_map}
+use Rattle.std.specs.Prelude.{ℕ, suc, List, [], ◌∷◌, ◌++◌, map, filter, not, Option, Some, None, option_map}
 use Rattle.spv_logic.specs.declared.types.Shape.{Shape}
 use Rattle.spv_logic.specs.declared.types.Decl.{Decl}
 use Rattle.spv_logic.specs.declared.conditions.Kind.TheVariants as kind
@@ -10,7 +10,7 @@ use Rattle.spv_logic.specs.Terms.{Term}
 use Rattle.spv_logic.specs.Conditions.{Meaning, Condition, TrueIn}
 use Rattle.spv_program.specs.Types.{sort_of}
 use Rattle.spv_program.specs.Formulas.{Annotation}
-use Rattle.spv_program.specs.Programs.{Formal, Routine, Main, Program, shapes}
+use Rattle.spv_program.specs.Programs.{Routine, Program, shapes}
 use Rattle.spv_program.specs.Scopes.{item_sort}
 use Rattle.spv_program.specs.Terms.{alone, item_head, entry_term, exit_term}
 use Rattle.spv_program.specs.Supplies.{Supply, full_supply}

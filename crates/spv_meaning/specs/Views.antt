@@ -1,12 +1,11 @@
 -- What a state shows of the names of a routine, or of the main block.
-use Rattle.std.specs.Prelude.{ℕ, zero, suc, Bool, true, false, List, [], ◌∷◌, ◌++◌, filter, length, Option, Some, None, nat_eq, option_map, if◌then◌else◌}
+use Rattle.std.specs.Prelude.{ℕ, zero, Bool, true, false, List, [], ◌∷◌, ◌++◌, filter, length, Option, Some, None, nat_eq, option_map, if◌then◌else◌}
 use Rattle.std.specs.Option.{option_and_then}
 use Rattle.spv_names.specs.declared.names.Symbol.{Symbol}
 use Rattle.spv_logic.specs.declared.types.TypeId.{TypeId}
 use Rattle.spv_logic.specs.declared.types.Sort.{Sort}
 use Rattle.spv_logic.specs.declared.types.Shape.{Shape}
 use Rattle.spv_logic.specs.declared.conditions.RoutineId.{RoutineId}
-use Rattle.spv_logic.specs.declared.operators.Head.{Head}
 use Rattle.spv_logic.specs.declared.operators.Head.TheVariants as head
 use Rattle.spv_logic.specs.Values.{Value, Pointer, ClassOf, no_rows, with_cell, members_of}
 use Rattle.spv_logic.specs.Terms.{sort_eq, class_with}
@@ -19,7 +18,7 @@ use Rattle.spv_program.specs.Types.{sort_of}
 use Rattle.spv_program.specs.Programs.{Routine, Program, shapes, routine_in}
 use Rattle.spv_program.specs.Scopes.{own_names_in, item_sort, is_value_parameter}
 use Rattle.spv_program.specs.Frames.{lists}
-use Rattle.spv_meaning.specs.Places.{Root, Place, Binding, Frame, HeapRow, State, ProgramVariable, OwnValue, Holding, Referring, whole, look}
+use Rattle.spv_meaning.specs.Places.{Place, Binding, Frame, HeapRow, State, ProgramVariable, OwnValue, Holding, Referring, whole, look}
 
 -- ---- where names lie
 

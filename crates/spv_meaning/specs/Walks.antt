@@ -1,28 +1,26 @@
 -- What statements do.
-use Rattle.std.specs.Prelude.{ℕ, zero, suc, Bool, true, false, ◌&&◌, not, List, [], ◌∷◌, ◌++◌, Option, Some, None, ℤ, pos, ◌+ℤ◌, ◌-ℤ◌, option_map, is_some, if◌then◌else◌}
+use Rattle.std.specs.Prelude.{ℕ, zero, suc, Bool, true, false, not, List, ◌∷◌, Option, Some, None, ℤ, pos, ◌+ℤ◌, ◌-ℤ◌, option_map, is_some, if◌then◌else◌}
 use Rattle.std.specs.List.{list_any}
 use Rattle.std.specs.Int.RustNames.{int_lt}
 use Rattle.std.specs.Ordering.{int_eq}
-use Rattle.spv_names.specs.declared.names.Symbol.{Symbol}
 use Rattle.spv_logic.specs.declared.types.TypeId.{TypeId}
 use Rattle.spv_logic.specs.declared.types.Sort.TheVariants as sort
 use Rattle.spv_logic.specs.declared.conditions.Kind.TheVariants as kind
-use Rattle.spv_logic.specs.declared.conditions.RoutineId.{RoutineId}
-use Rattle.spv_logic.specs.Values.{Value, Number, Pointer, number_of, truth_of, pointer_of}
+use Rattle.spv_logic.specs.Values.{Value, Number, number_of, truth_of, pointer_of}
 use Rattle.spv_program.specs.declared.operators.Direction.{Direction}
 use Rattle.spv_program.specs.declared.operators.Direction.TheVariants.{Up, Down}
 use Rattle.spv_program.specs.Types.{sort_of, takes_value}
-use Rattle.spv_program.specs.Expressions.{Expression, Designator, Call, call}
+use Rattle.spv_program.specs.Expressions.{Call, call}
 use Rattle.spv_program.specs.Formulas.{Annotation}
-use Rattle.spv_program.specs.Statements.{Counting, Statement, Arms, Empty, Assign, Perform, New, Sequence, If, Case, While, Repeat, For, Assert, no_arms, arm}
-use Rattle.spv_program.specs.Programs.{Routine, Program, shapes, routine_at, routine_in}
+use Rattle.spv_program.specs.Statements.{Statement, Arms, Empty, Assign, Perform, New, Sequence, If, Case, While, Repeat, For, Assert, no_arms, arm}
+use Rattle.spv_program.specs.Programs.{Program, shapes, routine_at, routine_in}
 use Rattle.spv_program.specs.Scopes.{name_type}
 use Rattle.spv_meaning.specs.declared.faults.Fault.TheVariants as fault
 use Rattle.spv_meaning.specs.Places.{Place, HeapRow, State, row_of, put}
 use Rattle.spv_meaning.specs.Views.{place_of}
-use Rattle.spv_meaning.specs.Outcomes.{Met, Outcome, ends, stops, and_then, meets, stops_unless, take_choice}
+use Rattle.spv_meaning.specs.Outcomes.{Outcome, ends, stops, and_then, meets, stops_unless, take_choice}
 use Rattle.spv_meaning.specs.Levels.{Here, Run, Loop, Level, with_turn, reached_in_body, pop, enter}
-use Rattle.spv_meaning.specs.Evaluation.{Got, Fixed, evaluate, fix, arguments, formals_of}
+use Rattle.spv_meaning.specs.Evaluation.{Fixed, evaluate, fix, arguments, formals_of}
 
 -- ---- assignments
 
@@ -82,8 +80,10 @@ count_on p below here loop end candidate state choices =
     with_turn below choices (λ level.
     and_then (reaches p here loop.invariant (put state (counter_place here loop state) (Number candidate)) state choices) (λ now rest.
     let finish = and_then (take_choice (shapes p) sort.Int rest) (λ v last. ends (put now (counter_place here loop now) v) last) in
-    let turn = and_then (stops_unless (counter_takes p here loop candidate) fault.Range (put now (counter_place here loop now) (Number candidate)) rest) (λ set more.
-    and_then (level.run here loop.body set more) (λ after last. level.next here loop end (next_candidate loop.count.direction candidate) after last)) in
+    let turn = and_then (stops_unless (counter_takes p here loop candidate)
+    fault.Range (put now (counter_place here loop now) (Number candidate)) rest) (λ set more.
+    and_then (level.run here loop.body set more)
+    (λ after last. level.next here loop end (next_candidate loop.count.direction candidate) after last)) in
     if is_past loop.count.direction end candidate then finish else turn))
 
 -- ---- statements

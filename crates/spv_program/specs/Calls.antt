@@ -58,4 +58,5 @@ entry_at_call p r arguments = option_map (λ a. substitute (replacing (at_call p
 -- EXIT of a routine with these arguments, where `after` says what stands for its result, its VAR parameters and its VAR items
 abbrev pub exit_at_call : Program → Routine → List Argument → List (Head × Term) → Option Term
 exit_at_call p r arguments after =
-    option_map (λ a. substitute (replacing (starts_at_call p r.formals arguments ++ (initial_at_call p r arguments ++ after))) (exit_term p r a)) r.exit
+    option_map (λ a. substitute (replacing (starts_at_call p r.formals arguments ++ (initial_at_call p r arguments
+    ++ after))) (exit_term p r a)) r.exit

@@ -43,7 +43,8 @@ types_once seen (n ∷ names) =
 abbrev pub all_roots : Program → Option Routine → List (Root × Head)
 all_roots p here =
     map (λ n. (Own n.0, head.Var n.0 (sort_of p.forms n.1) 0)) (own_names_in here)
-    ++ (map (λ n. (Shared (Variable n.0), head.Var n.0 (sort_of p.forms n.1) 0)) p.variables ++ map (λ t. (Shared (Class t), head.ClassVar t 0)) (types_once [] p.types))
+    ++ (map (λ n. (Shared (Variable n.0), head.Var n.0 (sort_of p.forms n.1) 0)) p.variables ++ map
+    (λ t. (Shared (Class t), head.ClassVar t 0)) (types_once [] p.types))
 
 -- the variables and classes that a statement may change, in the order of declaration
 abbrev pub changed_heads : Program → Option Routine → Statement → List Head

@@ -27,14 +27,17 @@ FormulaTermsHaveTheirSort =
 -- so has that of an EXIT, with value parameters as they were at the entry
 abbrev pub ExitTermsHaveTheirSort : Type 0
 ExitTermsHaveTheirSort =
-    (p : Program) (r : Routine) (f : Formula) (s : Sort) → formula_sort p (exit_scope p r) f ≡ Some s → HasSort p (formula_term (name_at_exit p r) f) s
+    (p : Program) (r : Routine) (f : Formula) (s : Sort) → formula_sort p (exit_scope p r) f ≡ Some s
+    → HasSort p (formula_term (name_at_exit p r) f) s
 
 -- so has that of a well typed expression, whatever calls it makes
 abbrev pub ExpressionTermsHaveTheirSort : Type 0
 ExpressionTermsHaveTheirSort =
-    (p : Program) (here : Option Routine) (n : Supply) (e : Expression) (s : Sort) → expression_sort p here e ≡ Some s → HasSort p (valued p here n e).term s
+    (p : Program) (here : Option Routine) (n : Supply) (e : Expression) (s : Sort) → expression_sort p here e ≡ Some s
+    → HasSort p (valued p here n e).term s
 
 -- what stands at a well typed place has the sort of the place's type
 abbrev pub PlaceTermsHaveTheirSort : Type 0
 PlaceTermsHaveTheirSort =
-    (p : Program) (here : Option Routine) (n : Supply) (d : Designator) (t : TypeId) → designator_type p here d ≡ Some t → HasSort p (present (placed p here n d).target) (sort_of p.forms t)
+    (p : Program) (here : Option Routine) (n : Supply) (d : Designator) (t : TypeId) → designator_type p here d ≡ Some t
+    → HasSort p (present (placed p here n d).target) (sort_of p.forms t)

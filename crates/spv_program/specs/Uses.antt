@@ -52,7 +52,8 @@ abbrev mutual
   expression_uses own (NilOf t) = []
   expression_uses own (Read d) = designator_uses own false d
   expression_uses own (Result c) = call_uses own c
-  expression_uses own (Through c line t others) = call_uses own c ++ record { root = Shared (Class t); changes = false; line = line } ∷ selector_uses own false others
+  expression_uses own (Through c line t others) = call_uses own c ++ record { root = Shared (Class t); changes = false; line = line }
+      ∷ selector_uses own false others
   expression_uses own (Negative e) = expression_uses own e
   expression_uses own (Calculated o a b) = expression_uses own a ++ expression_uses own b
   expression_uses own (Compared o a b) = expression_uses own a ++ expression_uses own b

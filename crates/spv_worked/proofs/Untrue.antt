@@ -1,7 +1,7 @@
 -- Programs that are not correct.
-use Rattle.std.proofs.Common.{◌≡◌, true, false, List, [], ◌∷◌, refl, Some, None, pos, ◌&&◌}
+use Rattle.std.proofs.Common.{◌≡◌, true, [], ◌∷◌, refl, None, pos}
 use Rattle.std.proofs.lemmas.Bool.{false≢true}
-use Rattle.spv_logic.specs.Values.{Number, value_eq}
+use Rattle.spv_logic.specs.Values.{Number}
 use Rattle.spv_logic.specs.Conditions.{Meaning, answers}
 use Rattle.spv_logic.proofs.Equality.{left_true, value_eq-true}
 use Rattle.spv_program.specs.Programs.{shapes}

@@ -1,8 +1,7 @@
 -- The conditions of small programs with routines.
-use Rattle.std.specs.Prelude.{◌≡◌, ℕ, true, false, List, [], ◌∷◌, Option, Some, None, pos}
+use Rattle.std.specs.Prelude.{true, false, [], ◌∷◌, Option, Some, None}
 use Rattle.spv_logic.specs.declared.conditions.Kind.TheVariants as kind
 use Rattle.spv_logic.specs.declared.conditions.RoutineId.{RoutineId}
-use Rattle.spv_logic.specs.declared.types.Sort.TheVariants as sort
 use Rattle.spv_logic.specs.declared.operators.Head.TheVariants as head
 use Rattle.spv_logic.specs.Terms.{Term}
 use Rattle.spv_program.specs.declared.operators.Arithmetic.TheVariants as arithmetic
@@ -11,11 +10,11 @@ use Rattle.spv_program.specs.declared.operators.Connective.TheVariants as connec
 use Rattle.spv_program.specs.declared.types.Item.TheVariants.{Variable}
 use Rattle.spv_program.specs.Expressions.{Expression, Result, Calculated, Compared, call, no_arguments, by_value, by_place}
 use Rattle.spv_program.specs.Formulas as formula
-use Rattle.spv_program.specs.Statements.{Statement, Empty, Perform, While}
+use Rattle.spv_program.specs.Statements.{Empty, Perform, While}
 use Rattle.spv_program.specs.Programs.{Routine, Program}
 use Rattle.spv_program.specs.Terms.{unary, binary, ternary}
 use Rattle.spv_worked.specs.Small.{x, y, i, a, p, q, f, n, Fact, integer, row_of_nine, program, num, at, read, set, element, named, number, equal, note, value_formal, place_formal, routine}
-use Rattle.spv_worked.specs.Terms.{X, N, fresh, of, eq, less, at_most, plus, minus, times, no, both_of, condition}
+use Rattle.spv_worked.specs.Terms.{X, N, fresh, eq, less, at_most, plus, minus, times, no, both_of, condition}
 use Rattle.spv_worked.specs.CallRuns.{swap, fac}
 use Rattle.spv_worked.specs.StatementConditions.{Are, A}
 
@@ -148,7 +147,8 @@ Twice = Are twice
 abbrev pub in_a_test : Program
 in_a_test =
     program ((x, integer) ∷ []) (inc ∷ []) None (Some (note 6 (equal (named x) (number 9))))
-    (While 7 (Some (note 7 (formula.Compared comparison.Less (named x) (number 9)))) (Compared comparison.Less (inc_of (read x)) (num 9)) (set x (inc_of (read x))))
+    (While 7 (Some (note 7 (formula.Compared comparison.Less (named x) (number 9))))
+    (Compared comparison.Less (inc_of (read x)) (num 9)) (set x (inc_of (read x))))
 
 -- the call of the test is one for all its uses; the body's call has the next number
 abbrev pub CallInATest : Type 0

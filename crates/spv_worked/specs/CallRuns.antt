@@ -1,19 +1,19 @@
 -- What calls do.
-use Rattle.std.specs.Prelude.{◌≡◌, ℕ, true, List, [], ◌∷◌, map, Option, Some, None, ℤ, pos}
+use Rattle.std.specs.Prelude.{◌≡◌, ℕ, true, [], ◌∷◌, Some, None}
 use Rattle.spv_logic.specs.declared.conditions.Kind.TheVariants as kind
 use Rattle.spv_logic.specs.declared.types.Sort.TheVariants as sort
 use Rattle.spv_logic.specs.declared.operators.Head.{Head}
 use Rattle.spv_logic.specs.declared.operators.Head.TheVariants as head
-use Rattle.spv_logic.specs.Values.{Value, ArrayOf, no_rows}
+use Rattle.spv_logic.specs.Values.{ArrayOf, no_rows}
 use Rattle.spv_program.specs.declared.operators.Arithmetic.TheVariants as arithmetic
 use Rattle.spv_program.specs.declared.operators.Comparison.TheVariants as comparison
 use Rattle.spv_program.specs.declared.operators.Connective.TheVariants as connective
 use Rattle.spv_program.specs.declared.types.Item.TheVariants.{Variable}
-use Rattle.spv_program.specs.Expressions.{Expression, Read, Result, Calculated, Compared, call, no_arguments, by_value, by_place}
+use Rattle.spv_program.specs.Expressions.{Read, Result, Calculated, Compared, call, no_arguments, by_value, by_place}
 use Rattle.spv_program.specs.Formulas as formula
-use Rattle.spv_program.specs.Statements.{Statement, Empty, Perform, If}
+use Rattle.spv_program.specs.Statements.{Perform, If}
 use Rattle.spv_program.specs.Programs.{Routine, Program}
-use Rattle.spv_worked.specs.Small.{x, y, i, a, p, q, f, n, t, p0, q0, Fact, integer, row_of_nine, program, num, at, read, set, element, block, named, number, equal, note, value_formal, place_formal, routine, z, value_in, Reached, told, int, state, main_run, ended, going, reached, Report}
+use Rattle.spv_worked.specs.Small.{x, y, i, a, p, q, f, n, t, p0, q0, Fact, integer, row_of_nine, program, num, at, read, set, element, block, named, number, equal, note, value_formal, place_formal, routine, z, Reached, told, int, state, main_run, ended, going, reached}
 
 -- ---- VAR parameters
 
@@ -63,7 +63,8 @@ fill = record {
 abbrev pub filling : Program
 filling =
     program ((i, integer) ∷ (a, row_of_nine) ∷ (x, integer) ∷ (y, integer) ∷ []) (fill ∷ []) None None
-    (block (Perform (call (routine 0) 10 (by_place (element a (read i)) (by_value (num 5) no_arguments))) ∷ set x (Read (element a (num 1))) ∷ set y (Read (element a (num 2))) ∷ []))
+    (block (Perform (call (routine 0) 10 (by_place (element a (read i)) (by_value (num 5) no_arguments)))
+    ∷ set x (Read (element a (num 1))) ∷ set y (Read (element a (num 2))) ∷ []))
 
 -- fill(a[i], 5) with i = 1: the place stays a[1], though the body changes i
 abbrev pub PlaceStaysFixed : Type 0
@@ -102,7 +103,8 @@ start = head.Start n sort.Int
 abbrev pub InnerCallFirst : Type 0
 InnerCallFirst =
     told (x ∷ []) (int n ∷ start ∷ int f ∷ []) (main_run twice 1 (state ((x, z 4) ∷ [])) (z 88 ∷ z 99 ∷ []))
-    ≡ ended (6 ∷ []) (reached kind.Entry 4 (4 ∷ 4 ∷ 88 ∷ []) ∷ reached kind.Exit 5 (4 ∷ 4 ∷ 5 ∷ []) ∷ reached kind.Entry 4 (5 ∷ 5 ∷ 99 ∷ []) ∷ reached kind.Exit 5 (5 ∷ 5 ∷ 6 ∷ []) ∷ [])
+    ≡ ended (6 ∷ []) (reached kind.Entry 4 (4 ∷ 4 ∷ 88 ∷ []) ∷ reached kind.Exit 5 (4 ∷ 4 ∷ 5 ∷ []) ∷ reached kind.Entry 4 (5 ∷ 5 ∷ 99
+    ∷ []) ∷ reached kind.Exit 5 (5 ∷ 5 ∷ 6 ∷ []) ∷ [])
 
 -- FUNCTION fac(n: INTEGER): INTEGER; ENTRY n >= 0; EXIT fac = Fact(n);
 -- BEGIN IF n = 0 THEN fac := 1 ELSE fac := n * fac(n - 1) END
@@ -118,7 +120,8 @@ fac = record {
   exit = Some (note 5 (equal (named f) (formula.Applied Fact (formula.formulas (named n) formula.no_formulas))));
   locals = [];
   body = If 6 (Compared comparison.Equal (read n) (num 0)) (set f (num 1))
-      (set f (Calculated arithmetic.Times (read n) (Result (call (routine 0) 6 (by_value (Calculated arithmetic.Minus (read n) (num 1)) no_arguments)))));
+      (set f (Calculated arithmetic.Times (read n) (Result
+      (call (routine 0) 6 (by_value (Calculated arithmetic.Minus (read n) (num 1)) no_arguments)))));
 }
 
 -- x := fac(3)

@@ -1,13 +1,12 @@
 -- What pointers and NEW do.
-use Rattle.std.specs.Prelude.{◌≡◌, ℕ, true, List, [], ◌∷◌, map, Option, Some, None, ℤ, pos}
+use Rattle.std.specs.Prelude.{◌≡◌, ℕ, true, List, [], ◌∷◌, None, pos}
 use Rattle.spv_logic.specs.Values.{Value, Truth, Pointer, RecordOf, no_rows, row}
 use Rattle.spv_program.specs.Expressions.{Read}
 use Rattle.spv_program.specs.Statements.{Statement, Assign, New}
 use Rattle.spv_program.specs.Programs.{Program}
-use Rattle.spv_meaning.specs.declared.faults.Fault.{Fault}
 use Rattle.spv_meaning.specs.declared.faults.Fault.TheVariants as fault
 use Rattle.spv_meaning.specs.Places.{HeapRow, State}
-use Rattle.spv_worked.specs.Small.{EndedWith, x, p, q, val, integer, ref, node, other, program, num, at, read, set, content, block, z, told, state, with_cells, main_run, ended, stopped}
+use Rattle.spv_worked.specs.Small.{x, p, q, integer, ref, node, other, program, num, at, set, content, block, z, told, state, with_cells, main_run, ended, stopped}
 
 -- VAR x: INTEGER; p, q: ^Node
 abbrev pub with_body : Statement → Program
@@ -54,7 +53,8 @@ NewTakesItsChoices = told (x ∷ []) [] (main_run creating 0 (start 0 1) (Pointe
 -- and the choices that are left are the next ones: NEW(p); NEW(q); x := p^.val
 abbrev pub NewTwice : Type 0
 NewTwice =
-    told (x ∷ []) [] (main_run (with_body (block (New 1 (at p) node ∷ New 1 (at q) node ∷ set x (Read (content p)) ∷ []))) 0 (start 0 1) (Pointer 3 ∷ node_with 30 ∷ Pointer 4 ∷ node_with 40 ∷ []))
+    told (x ∷ []) [] (main_run (with_body (block (New 1 (at p) node ∷ New 1 (at q) node ∷ set x (Read (content p))
+    ∷ []))) 0 (start 0 1) (Pointer 3 ∷ node_with 30 ∷ Pointer 4 ∷ node_with 40 ∷ []))
     ≡ ended (30 ∷ []) []
 
 abbrev pub NewStopsWith : List Value → Type 0

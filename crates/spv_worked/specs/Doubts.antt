@@ -1,5 +1,5 @@
 -- Programs that are not correct, so that "correct" says something.
-use Rattle.std.specs.Prelude.{◌≡◌, List, [], ◌∷◌, Some, None, pos}
+use Rattle.std.specs.Prelude.{◌≡◌, [], ◌∷◌, Some, None, pos}
 use Rattle.spv_logic.specs.Values.{Number}
 use Rattle.spv_logic.specs.Conditions.{Meaning, answers}
 use Rattle.spv_program.specs.Formulas as formula
@@ -22,4 +22,5 @@ about_fact = program [] [] None (Some (note 3 (equal (formula.Applied Fact (form
 
 -- it is correct in no world but those in which Fact(0) is 1
 abbrev pub CorrectWhereFactIsOne : Type 0
-CorrectWhereFactIsOne = (world : Meaning) → Correct about_fact world → answers (shapes about_fact) about_fact.symbols world Fact.0 (Number (pos 0) ∷ []) ≡ Number (pos 1)
+CorrectWhereFactIsOne = (world : Meaning) → Correct about_fact world
+    → answers (shapes about_fact) about_fact.symbols world Fact.0 (Number (pos 0) ∷ []) ≡ Number (pos 1)

@@ -1,17 +1,17 @@
 -- Where runs stop, and in which order.
-use Rattle.std.specs.Prelude.{◌≡◌, ℕ, true, false, List, [], ◌∷◌, map, Option, Some, None, ℤ, pos, negsuc}
-use Rattle.spv_logic.specs.Values.{Value, Truth, ArrayOf, no_rows}
+use Rattle.std.specs.Prelude.{◌≡◌, ℕ, false, [], ◌∷◌, None}
+use Rattle.spv_logic.specs.Values.{Truth, ArrayOf, no_rows}
 use Rattle.spv_program.specs.declared.operators.Arithmetic.TheVariants as arithmetic
 use Rattle.spv_program.specs.declared.operators.Comparison.TheVariants as comparison
 use Rattle.spv_program.specs.declared.operators.Connective.TheVariants as connective
-use Rattle.spv_program.specs.Expressions.{Expression, Numeral, Read, Calculated, Compared, Joined, call, no_arguments, by_value}
+use Rattle.spv_program.specs.Expressions.{Expression, Read, Calculated, Compared, Joined, call, no_arguments, by_value}
 use Rattle.spv_program.specs.Statements.{Statement, Empty, Assign, Perform, If}
 use Rattle.spv_program.specs.Programs.{Routine, Program}
 use Rattle.spv_meaning.specs.declared.faults.Fault.{Fault}
 use Rattle.spv_meaning.specs.declared.faults.Fault.TheVariants as fault
 use Rattle.spv_meaning.specs.Places.{State}
 use Rattle.spv_program.specs.declared.operators.Connective.{Connective}
-use Rattle.spv_worked.specs.Small.{Told, EndedWith, x, y, i, b, a, f, n, integer, boolean, three, nine, row_of_nine, program, num, read, set, element, one_by_zero, value_formal, routine, z, told, state, main_run, ended, stopped}
+use Rattle.spv_worked.specs.Small.{x, i, b, a, f, n, integer, boolean, three, nine, row_of_nine, program, num, read, set, element, one_by_zero, value_formal, routine, z, told, state, main_run, ended, stopped}
 
 -- VAR x: INTEGER; b: BOOLEAN; i: 1..3; a: ARRAY [1..9] OF INTEGER
 abbrev pub with_body : Statement → Program
@@ -87,13 +87,15 @@ procedure = record {
 -- f(10, 1 DIV 0): a value argument's subrange is tested when it is evaluated
 abbrev pub RangeBeforeTheNextArgument : Type 0
 RangeBeforeTheNextArgument =
-    told [] [] (main_run (program [] (procedure ∷ []) None None (Perform (call (routine 0) 3 (by_value (num 10) (by_value one_by_zero no_arguments))))) 3 (state []) [])
+    told [] [] (main_run (program [] (procedure ∷ []) None None (Perform
+    (call (routine 0) 3 (by_value (num 10) (by_value one_by_zero no_arguments))))) 3 (state []) [])
     ≡ stopped fault.Range []
 
 -- f(9, 1 DIV 0)
 abbrev pub LaterArgument : Type 0
 LaterArgument =
-    told [] [] (main_run (program [] (procedure ∷ []) None None (Perform (call (routine 0) 3 (by_value (num 9) (by_value one_by_zero no_arguments))))) 3 (state []) [])
+    told [] [] (main_run (program [] (procedure ∷ []) None None (Perform
+    (call (routine 0) 3 (by_value (num 9) (by_value one_by_zero no_arguments))))) 3 (state []) [])
     ≡ stopped fault.Zero []
 
 -- what operators give: a[3] is 5, 7 DIV 2 is 3, 7 MOD 2 is 1

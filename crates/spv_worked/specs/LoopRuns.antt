@@ -1,11 +1,11 @@
 -- What loops do, and CASE.
-use Rattle.std.specs.Prelude.{◌≡◌, ℕ, true, List, [], ◌∷◌, Option, Some, None, ℤ, pos}
+use Rattle.std.specs.Prelude.{◌≡◌, ℕ, true, [], ◌∷◌, None, pos}
 use Rattle.spv_logic.specs.declared.conditions.Kind.TheVariants as kind
 use Rattle.spv_program.specs.declared.operators.Comparison.TheVariants as comparison
 use Rattle.spv_program.specs.declared.operators.Direction.TheVariants.{Up, Down}
 use Rattle.spv_program.specs.declared.operators.Arithmetic.TheVariants as arithmetic
 use Rattle.spv_program.specs.Expressions.{Boolean, Calculated, Compared}
-use Rattle.spv_program.specs.Statements.{Statement, Case, While, Repeat, For, no_arms, arm}
+use Rattle.spv_program.specs.Statements.{Case, While, Repeat, For, no_arms, arm}
 use Rattle.spv_program.specs.Programs.{Program}
 use Rattle.spv_meaning.specs.declared.faults.Fault.TheVariants as fault
 use Rattle.spv_worked.specs.Small.{x, i, integer, three, program, num, read, set, anything, z, Reached, told, int, state, main_run, ended, stopped, going, reached}

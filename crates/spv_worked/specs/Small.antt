@@ -1,28 +1,26 @@
 -- Small programs by their parts, and what is told of a run.
-use Rattle.std.specs.Prelude.{ℕ, Bool, true, false, List, [], ◌∷◌, map, Option, Some, None, ℤ, pos}
+use Rattle.std.specs.Prelude.{ℕ, true, false, List, [], ◌∷◌, map, Option, Some, None, pos}
 use Rattle.spv_names.specs.declared.names.Symbol.{Symbol}
 use Rattle.spv_logic.specs.declared.types.TypeId.{TypeId}
-use Rattle.spv_logic.specs.declared.types.Sort.{Sort}
 use Rattle.spv_logic.specs.declared.types.Sort.TheVariants as sort
 use Rattle.spv_logic.specs.declared.conditions.Kind.{Kind}
 use Rattle.spv_logic.specs.declared.conditions.RoutineId.{RoutineId}
 use Rattle.spv_logic.specs.declared.operators.Head.{Head}
 use Rattle.spv_logic.specs.declared.operators.Head.TheVariants as head
-use Rattle.spv_logic.specs.Values.{Value, Number, Rows, no_rows, row, Truth, Pointer, ArrayOf, RecordOf}
-use Rattle.spv_logic.specs.Conditions.{View, both}
+use Rattle.spv_logic.specs.Values.{Value, Number}
+use Rattle.spv_logic.specs.Conditions.{both}
 use Rattle.spv_program.specs.declared.types.TypeForm.{TypeForm}
 use Rattle.spv_program.specs.declared.types.TypeForm.TheVariants.{Integer, Boolean, Range, Pointer as PointerTo, Array, Record}
 use Rattle.spv_program.specs.declared.operators.Comparison.TheVariants as comparison
 use Rattle.spv_program.specs.declared.operators.Arithmetic.TheVariants as arithmetic
-use Rattle.spv_program.specs.Expressions.{Expression, Designator, Call, Arguments, Numeral, Read, Result, Calculated, Compared, designator, no_selectors, at_index, at_field, at_cell, call, no_arguments, by_value, by_place}
+use Rattle.spv_program.specs.Expressions.{Expression, Designator, Numeral, Read, Calculated, designator, no_selectors, at_index, at_field, at_cell}
 use Rattle.spv_program.specs.Formulas as formula
 use Rattle.spv_program.specs.Formulas.{Formula, Annotation}
 use Rattle.spv_program.specs.Statements.{Statement, Empty, Assign, Sequence}
 use Rattle.spv_program.specs.Programs.{Formal, Routine, Program}
 use Rattle.spv_meaning.specs.declared.faults.Fault.{Fault}
-use Rattle.spv_meaning.specs.Places.{Place, HeapRow, State, look, whole, ProgramVariable}
+use Rattle.spv_meaning.specs.Places.{HeapRow, State, look, whole, ProgramVariable}
 use Rattle.spv_meaning.specs.Outcomes.{End, Ended, Stopped, Going, Met, Outcome}
-use Rattle.spv_meaning.specs.Levels.{Here}
 use Rattle.spv_meaning.specs.Views.{entry_view}
 use Rattle.spv_meaning.specs.Walks.{run}
 
@@ -121,7 +119,8 @@ other = type 8
 
 abbrev pub forms : List TypeForm
 forms =
-    Integer ∷ Boolean ∷ Range (pos 1) (pos 3) ∷ Range (pos 1) (pos 9) ∷ Array nine integer ∷ PointerTo node ∷ Record (record { name = val; of = integer } ∷ [])
+    Integer ∷ Boolean ∷ Range (pos 1) (pos 3) ∷ Range (pos 1) (pos 9) ∷ Array nine integer ∷ PointerTo node ∷ Record
+    (record { name = val; of = integer } ∷ [])
     ∷ PointerTo other ∷ Record (record { name = val; of = boolean } ∷ []) ∷ []
 
 -- a program over these types

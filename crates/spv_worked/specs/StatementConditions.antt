@@ -1,5 +1,5 @@
 -- The conditions of small main blocks.
-use Rattle.std.specs.Prelude.{◌≡◌, ℕ, true, false, List, [], ◌∷◌, Option, Some, None, pos}
+use Rattle.std.specs.Prelude.{◌≡◌, ℕ, true, false, List, [], ◌∷◌, Some, None, pos}
 use Rattle.spv_names.specs.declared.names.Symbol.{Symbol}
 use Rattle.spv_logic.specs.declared.conditions.Kind.TheVariants as kind
 use Rattle.spv_logic.specs.declared.types.Sort.TheVariants as sort
@@ -86,7 +86,8 @@ WhileRenames = Are (forever (set x (Calculated arithmetic.Plus (read x) (num 1))
 abbrev pub repeating : Program
 repeating =
     program ((x, integer) ∷ []) [] None (Some (note 3 (equal (named x) (number 3))))
-    (Repeat 4 (Some (note 4 (formula.Compared comparison.Less (named x) (number 3)))) (set x (Calculated arithmetic.Plus (read x) (num 1))) (Compared comparison.Equal (read x) (num 3)))
+    (Repeat 4 (Some (note 4 (formula.Compared comparison.Less (named x) (number 3))))
+    (set x (Calculated arithmetic.Plus (read x) (num 1))) (Compared comparison.Equal (read x) (num 3)))
 
 abbrev pub one_more : Term
 one_more = plus (fresh x 1) (N 1)
@@ -103,13 +104,15 @@ RepeatTests = Are repeating
 abbrev pub counting : Program
 counting =
     program ((i, integer) ∷ (x, integer) ∷ (y, integer) ∷ []) [] None (Some (note 3 (equal (named x) (named i))))
-    (block (set x (num 0) ∷ For 5 (Some (note 5 (equal (named x) (named i)))) (record { variable = i; direction = Up; first = num 1; last = read y }) (set x (Calculated arithmetic.Plus (read x) (num 2))) ∷ []))
+    (block (set x (num 0) ∷ For 5 (Some (note 5 (equal (named x) (named i))))
+    (record { variable = i; direction = Up; first = num 1; last = read y }) (set x (Calculated arithmetic.Plus (read x) (num 2))) ∷ []))
 
 -- I@1 and X@1 are those of a turn, and I@2 is what i is at the end
 abbrev pub ForCounts : Type 0
 ForCounts = Are counting
     (condition None kind.Invariant 5 [] (eq (N 0) (N 1))
-    ∷ condition None kind.Preserved 5 (eq (fresh x 1) (fresh i 1) ∷ at_most (fresh i 1) (X y) ∷ []) (eq (plus (fresh x 1) (N 2)) (plus (fresh i 1) (N 1)))
+    ∷ condition None kind.Preserved 5 (eq (fresh x 1) (fresh i 1) ∷ at_most (fresh i 1) (X y)
+    ∷ []) (eq (plus (fresh x 1) (N 2)) (plus (fresh i 1) (N 1)))
     ∷ condition None kind.Exit 3 (eq (fresh x 1) (fresh i 1) ∷ less (X y) (fresh i 1) ∷ []) (eq (fresh x 1) (fresh i 2)) ∷ [])
 
 -- without INVARIANT, and DOWNTO: FOR i := 3 DOWNTO y DO ASSERT i = x

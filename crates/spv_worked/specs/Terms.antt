@@ -1,5 +1,5 @@
 -- Terms and conditions, as they are written in worked examples.
-use Rattle.std.specs.Prelude.{ℕ, Bool, List, Option, Some, None, pos}
+use Rattle.std.specs.Prelude.{ℕ, List, Option, pos}
 use Rattle.spv_names.specs.declared.names.Symbol.{Symbol}
 use Rattle.spv_logic.specs.declared.conditions.Kind.{Kind}
 use Rattle.spv_logic.specs.declared.conditions.RoutineId.{RoutineId}
@@ -8,7 +8,7 @@ use Rattle.spv_logic.specs.declared.types.Sort.TheVariants as sort
 use Rattle.spv_logic.specs.declared.operators.Head.TheVariants as head
 use Rattle.spv_logic.specs.Terms.{Term}
 use Rattle.spv_logic.specs.Conditions.{Condition}
-use Rattle.spv_program.specs.Terms.{alone, unary, binary, ternary, numeral}
+use Rattle.spv_program.specs.Terms.{alone, unary, binary, numeral}
 use Rattle.spv_worked.specs.Small.{node}
 
 -- a variable, or a fresh one with a number, of sort Int
