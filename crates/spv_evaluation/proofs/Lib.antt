@@ -1,3 +1,3 @@
 pub mod Steps
 pub mod Settings
-mod Values
+pub mod Values

@@ -83,7 +83,7 @@ pub record SameSorts (a b : Option Sort) : Type 0 where
   pub left : a ≡ Some common
   pub right : b ≡ Some common
 
-same_sorts : (a b : Option Sort) → same_sort a b ≡ true → SameSorts a b
+pub same_sorts : (a b : Option Sort) → same_sort a b ≡ true → SameSorts a b
 same_sorts None b h = absurd (false≢true h)
 same_sorts (Some s) b h = record { common = s; left = refl; right = is_sort-true s b h }
 
@@ -212,7 +212,7 @@ state_valuation p ok begin state start = record {
   starts = λ x s. fits_or p s _ (default_of (shapes p) s) (λ v e. absurd (nothing_there (sym (both-main p begin (now_view p None state) (head.Start x s)) ∙ e))) (default_fits (shapes p) ok s);
 }
 
-state_shows : (p : Program) (begin state : State) → Shows (now_view p None state) (valuation_of (shapes p) (both (entry_view p None begin) (now_view p None state)))
+pub state_shows : (p : Program) (begin state : State) → Shows (now_view p None state) (valuation_of (shapes p) (both (entry_view p None begin) (now_view p None state)))
 state_shows p begin state h w e = ap (λ o. unwrap_or o (default_of (shapes p) (variable_sort h))) (both-main p begin (now_view p None state) h ∙ e)
 
 -- ---- the program
@@ -221,7 +221,7 @@ state_shows p begin state h w e = ap (λ o. unwrap_or o (default_of (shapes p) (
 entry_taken : (symbols : Meaning) (v : Valuation) (h : Term) (c : Sequent) → holds symbols v h ≡ true → follows symbols v (record { given = h ∷ c.given; goal = c.goal }) ≡ true → follows symbols v c ≡ true
 entry_taken symbols v h c met follow = ap (λ b. not (b && list_all (holds symbols v) c.given) || holds symbols v c.goal) (sym met) ∙ follow
 
-under_entry : (p : Program) (world : Meaning) (state : State) → IsStart p None state → (entry : Option Annotation) → annotation_ok p (body_scope p None) entry ≡ true → all_hold p world (met_if_there (reached_in_body p (begun p None state) kind.Entry state) entry) ≡ true → (cs : List Condition) → AllTrueIn (shapes p) p.symbols world (assuming_if_there (annotation_term p None entry) cs) → AllTrueNow p world cs state
+pub under_entry : (p : Program) (world : Meaning) (state : State) → IsStart p None state → (entry : Option Annotation) → annotation_ok p (body_scope p None) entry ≡ true → all_hold p world (met_if_there (reached_in_body p (begun p None state) kind.Entry state) entry) ≡ true → (cs : List Condition) → AllTrueIn (shapes p) p.symbols world (assuming_if_there (annotation_term p None entry) cs) → AllTrueNow p world cs state
 under_entry p world state start None typed met [] h = tt
 under_entry p world state start (Some a) typed met [] h = tt
 under_entry p world state start None typed met (c ∷ cs) h =
@@ -232,17 +232,17 @@ under_entry p world state start (Some a) typed met (c ∷ cs) h = (
   under_entry p world state start (Some a) typed met cs h.1,
 )
 
-exit_holds : (p : Program) (world : Meaning) (exit : Option Annotation) (begin state : State) → shapes_ok (shapes p) ≡ true → IsStart p None state → AllTrueNow p world (wanted_if_there p None kind.Exit exit) state → all_hold p world (met_if_there (reached_in_body p (begun p None begin) kind.Exit state) exit) ≡ true
+pub exit_holds : (p : Program) (world : Meaning) (exit : Option Annotation) (begin state : State) → shapes_ok (shapes p) ≡ true → IsStart p None state → AllTrueNow p world (wanted_if_there p None kind.Exit exit) state → all_hold p world (met_if_there (reached_in_body p (begun p None begin) kind.Exit state) exit) ≡ true
 exit_holds p world None begin state ok start h = refl
 exit_holds p world (Some a) begin state ok start h =
     both_true (h.0 (valuation_of (shapes p) (both (entry_view p None begin) (now_view p None state))) (state_valuation p ok begin state start) (state_shows p begin state)) refl
 
-no_routine : (routines : List Routine) → has_no_routines routines ≡ true → routines ≡ []
+pub no_routine : (routines : List Routine) → has_no_routines routines ≡ true → routines ≡ []
 no_routine [] h = refl
 no_routine (r ∷ routines) h = absurd (false≢true h)
 
 -- where there is no such routine, nothing runs and nothing is wanted
-nobody : (p : Program) (world : Meaning) (id : RoutineId) (turns : ℕ) → p.routines ≡ [] → CorrectWith p world (Some id) turns
+pub nobody : (p : Program) (world : Meaning) (id : RoutineId) (turns : ℕ) → p.routines ≡ [] → CorrectWith p world (Some id) turns
 nobody p world id turns none = record {
   reached = λ state starts choices. reach turns (routine_at p id) absent state choices;
   ended = λ state starts choices after e. leave (routine_at p id) absent state after;

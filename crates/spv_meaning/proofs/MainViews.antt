@@ -28,7 +28,7 @@ use Rattle.spv_meaning.proofs.Maps.{other_way, same_names, found-changed-same, f
 abbrev pub variable : Symbol → Place
 variable x = whole (ProgramVariable x)
 
-some_of : {X : Type 0} (o : Option X) → option_and_then (λ v. Some v) o ≡ o
+pub some_of : {X : Type 0} (o : Option X) → option_and_then (λ v. Some v) o ≡ o
 some_of None = refl
 some_of (Some v) = refl
 

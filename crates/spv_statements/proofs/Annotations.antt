@@ -38,18 +38,18 @@ use Rattle.spv_statements.proofs.States.{full_first}
 abbrev pub is_old : Head → Bool
 is_old h = not (is_new full_supply h)
 
-truth_old : (b : Bool) → heads_pass is_old (truth b) ≡ true
+pub truth_old : (b : Bool) → heads_pass is_old (truth b) ≡ true
 truth_old true = refl
 truth_old false = refl
 
-arithmetic_old : (o : Arithmetic) → is_old (head_of_arithmetic o) ≡ true
+pub arithmetic_old : (o : Arithmetic) → is_old (head_of_arithmetic o) ≡ true
 arithmetic_old arithmetic.Plus = refl
 arithmetic_old arithmetic.Minus = refl
 arithmetic_old arithmetic.Times = refl
 arithmetic_old arithmetic.Div = refl
 arithmetic_old arithmetic.Mod = refl
 
-connective_old : (o : Connective) → is_old (head_of_connective o) ≡ true
+pub connective_old : (o : Connective) → is_old (head_of_connective o) ≡ true
 connective_old connective.And = refl
 connective_old connective.Or = refl
 
@@ -69,7 +69,7 @@ known_old known.Atom = refl
 two_old : (h : Head) (s t : Term) → is_old h ≡ true → heads_pass is_old s ≡ true → heads_pass is_old t ≡ true → heads_pass is_old (binary h s t) ≡ true
 two_old h s t a b c = both_true a (both_true b (both_true c refl))
 
-comparison_old : (o : Comparison) (s t : Term) → heads_pass is_old s ≡ true → heads_pass is_old t ≡ true → heads_pass is_old (comparing o s t) ≡ true
+pub comparison_old : (o : Comparison) (s t : Term) → heads_pass is_old s ≡ true → heads_pass is_old t ≡ true → heads_pass is_old (comparing o s t) ≡ true
 comparison_old comparison.Equal s t a b = two_old head.Eq s t refl a b
 comparison_old comparison.NotEqual s t a b = both_true (two_old head.Eq s t refl a b) refl
 comparison_old comparison.Less s t a b = two_old head.Lt s t refl a b

@@ -20,11 +20,11 @@ use Rattle.spv_statements.specs.Runs.{may_change}
 pub record Within {X : Type 0} (xs ys : List X) : Type 0 where
   pub keeps : (test : X → Bool) → list_any test xs ≡ true → list_any test ys ≡ true
 
-or_left : (a b : Bool) → a ≡ true → (a || b) ≡ true
+pub or_left : (a b : Bool) → a ≡ true → (a || b) ≡ true
 or_left true b e = refl
 or_left false b e = absurd (false≢true e)
 
-or_right : (a b : Bool) → b ≡ true → (a || b) ≡ true
+pub or_right : (a b : Bool) → b ≡ true → (a || b) ≡ true
 or_right true b e = refl
 or_right false b e = e
 
@@ -32,7 +32,7 @@ or_either : (a b : Bool) (P : Type 0) → (a ≡ true → P) → (b ≡ true →
 or_either true b P left right e = left refl
 or_either false b P left right e = right e
 
-any-append : {X : Type 0} (test : X → Bool) (xs ys : List X) → list_any test (xs ++ ys) ≡ (list_any test xs || list_any test ys)
+pub any-append : {X : Type 0} (test : X → Bool) (xs ys : List X) → list_any test (xs ++ ys) ≡ (list_any test xs || list_any test ys)
 any-append test [] ys = refl
 any-append test (x ∷ xs) ys = ap (λ b. test x || b) (any-append test xs ys) ∙ or_turned (test x) (list_any test xs) (list_any test ys)
   where
@@ -57,7 +57,7 @@ any_weaker f g weaker [] h = h
 any_weaker f g weaker (x ∷ xs) h =
     or_either (f x) (list_any f xs) ((g x || list_any g xs) ≡ true) (λ e. or_left (g x) _ (weaker x e)) (λ e. or_right (g x) _ (any_weaker f g weaker xs e)) h
 
-any-kept : {X Y : Type 0} (test : Y → Bool) (f : X → Y) (keep : X → Bool) (xs : List X) → list_any test (map f (filter keep xs)) ≡ list_any (λ x. keep x && test (f x)) xs
+pub any-kept : {X Y : Type 0} (test : Y → Bool) (f : X → Y) (keep : X → Bool) (xs : List X) → list_any test (map f (filter keep xs)) ≡ list_any (λ x. keep x && test (f x)) xs
 any-kept test f keep [] = refl
 any-kept test f keep (x ∷ xs) = by_case (keep x) (any-kept test f keep xs)
   where

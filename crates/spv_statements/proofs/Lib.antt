@@ -1,12 +1,12 @@
-mod Lists
-mod Views
-mod Renaming
-mod States
-mod Annotations
-mod Supplied
-mod Changing
-mod Reaching
-mod Control
-mod Counting
-mod Loops
-mod Induction
+pub mod Lists
+pub mod Views
+pub mod Renaming
+pub mod States
+pub mod Annotations
+pub mod Supplied
+pub mod Changing
+pub mod Reaching
+pub mod Control
+pub mod Counting
+pub mod Loops
+pub mod Induction

@@ -47,7 +47,7 @@ use Rattle.spv_statements.proofs.Control.{choose, truth_not, window_later, ends_
 use Rattle.spv_statements.proofs.Counting.{counter, turn_of, fresh_of, last_of, under_invariant, candidate, Instance, instance, past-holds, within-holds, next-is, under_known, counter_now, turn_true, exit_true}
 
 -- a choice of a number is a number
-number_fits : (p : Program) (v : Value) → fits (shapes p) v sort.Int ≡ true → v ≡ Number (number_of v)
+pub number_fits : (p : Program) (v : Value) → fits (shapes p) v sort.Int ≡ true → v ≡ Number (number_of v)
 number_fits p (Number z) h = refl
 number_fits p (Truth b) h = absurd (false≢true h)
 number_fits p (Pointer q) h = absurd (false≢true h)
