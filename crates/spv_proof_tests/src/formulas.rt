@@ -4,10 +4,10 @@ ghost use Rattle.std.specs.Prelude.{◌≡◌, ◌<◌, length, IfOk};
 
 use spv_atoms::{atoms, law_form, law_truth, truth};
 use spv_list::List;
+use spv_names::Symbol;
 use spv_proof::{law_check, law_examples};
 use spv_rational::{law_number, law_products, law_signs, law_sums, law_whole};
 use spv_term::{Head, PlainWorld, Shapes, Sort, TermFault, TermId, Terms};
-use spv_names::Symbol;
 use std::alloc::Global;
 use std::test::Fail;
 
