@@ -8,6 +8,7 @@ use crate::output::{read_fault_line, refusal_line};
 use crate::reading::{ReadFault, report_of};
 use crate::refusal::Refusal;
 use spv_io::{TextFault, Texts};
+use spv_lexer::LONGEST_TEXT;
 use spv_report::{Report, all_proved};
 use std::alloc::{AllocError, Global};
 
@@ -27,7 +28,7 @@ pub(crate) enum Found {
 pub(crate) struct NoMemory;
 
 /// The most bytes that are read of a file: one above its limit.
-const MOST_BYTES: usize = 4_194_305;
+const MOST_BYTES: usize = LONGEST_TEXT + 1;
 
 /// What is found of a file.
 pub(crate) fn find<T: Texts>(alloc: Global, file: &str, texts: &mut T) -> Result<Found, NoMemory>

@@ -14,7 +14,7 @@ mod std_sink;
 mod texts;
 
 pub use fault::{Failed, TextFault};
-pub use file_texts::FileTexts;
+pub use file_texts::{FileTexts, first_bytes};
 pub use memory_sink::MemorySink;
 pub use memory_texts::MemoryTexts;
 pub use sink::Sink;

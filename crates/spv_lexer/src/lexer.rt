@@ -119,7 +119,7 @@ fn read(alloc: Global, text: &[u8], upper: &[u8], names: &mut Names) -> Result<V
 }
 
 /// The longest text that is read, in bytes.
-const LONGEST_TEXT: usize = 4_194_304;
+pub const LONGEST_TEXT: usize = 4_194_304;
 
 /// The tokens of a text. Its names are entered into the table, in the order in which they first stand in the text.
 ///

@@ -11,7 +11,7 @@ mod signs;
 mod words;
 
 pub use laws::{law_front, law_gap, law_longest_sign};
-pub use lexer::tokens;
+pub use lexer::{LONGEST_TEXT, tokens};
 use std::alloc::AllocError;
 use thiserror::Error;
 
