@@ -3,15 +3,15 @@
 /// Why an execution stops before its end.
 #[derive(Clone, Copy, PartialEq, Eq, Debug)]
 pub enum Fault {
-    /// An index outside its subrange.
+    /// An array has no element at an index.
     Index,
-    /// A value outside the subrange of what takes it.
+    /// A variable or parameter cannot take a value.
     Range,
-    /// A pointer to no cell of its type, NIL among them.
+    /// A pointer leads to no cell of its type; NIL is such a one.
     Nil,
-    /// A divisor 0.
+    /// DIV or MOD by 0.
     Zero,
-    /// A CASE without a label for its value.
+    /// No arm of a CASE has its value.
     Case,
     /// No such choice: what the language leaves open was not told, or cannot be so.
     Choice,

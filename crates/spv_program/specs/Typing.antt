@@ -37,7 +37,7 @@ abbrev pub leads_to : Program → TypeId → Option TypeId → Bool
 leads_to p t None = false
 leads_to p t (Some q) = is_type t (target_of (form_at p.forms q.0))
 
--- a FOR counts a local variable, a value parameter, or in the main block a variable of the program
+-- the main block may count with any variable of the program, a routine with its locals and value parameters
 abbrev pub may_count : Option Routine → Symbol → Bool
 may_count None x = true
 may_count (Some r) x = is_some (found r.locals x) || is_value_parameter r x

@@ -38,7 +38,7 @@ Swap = Are swapping
     (both_of (eq (X x) (N 1)) (eq (X y) (N 2)) ∷ both_of (eq (fresh p 1) (X y)) (eq (fresh q 1) (X x)) ∷ [])
     (both_of (eq (fresh p 1) (N 2)) (eq (fresh q 1) (N 1))) ∷ [])
 
--- PROCEDURE fill(VAR p: INTEGER; n: INTEGER); ENTRY n >= 0; EXIT p = n; BEGIN p := n END
+-- fill has ENTRY n >= 0 and EXIT p = n, over VAR p and n, and its body is p := n
 abbrev pub fill : Routine
 fill = record {
   name = f;
