@@ -471,7 +471,7 @@ list_rest : (shapes : List Shape) (v : Value) → fits shapes v sort.List ≡ tr
 list_rest shapes (PairOf a b) h = right_true (fits shapes a sort.List) _ h
 list_rest shapes _ h = refl
 
-selected : (shapes : List Shape) (a : Value) (s e : Sort) (key : ℤ) → element_sort shapes s ≡ Some e → fits shapes a s ≡ true → fits shapes (row_at (rows_in a) key (default_in a)) e ≡ true
+pub selected : (shapes : List Shape) (a : Value) (s e : Sort) (key : ℤ) → element_sort shapes s ≡ Some e → fits shapes a s ≡ true → fits shapes (row_at (rows_in a) key (default_in a)) e ≡ true
 selected shapes a s e key g h =
     let p = array_parts shapes a s e g h in
     subst (λ x. fits shapes (row_at (rows_in x) key (default_in x)) e ≡ true) (sym p.is) (row_at-fits shapes e p.rows key p.other p.tidy.all_fit p.other_fits)
@@ -479,7 +479,7 @@ selected shapes a s e key g h =
 on_element : (shapes : List Shape) (s e : Sort) (test : Sort → Bool) → element_sort shapes s ≡ Some e → test e ≡ true → on_sort (element_sort shapes s) test ≡ true
 on_element shapes s e test g h = ap (λ o. on_sort o test) g ∙ h
 
-stored : (shapes : List Shape) (a : Value) (s e : Sort) (key : ℤ) (w : Value) → element_sort shapes s ≡ Some e → fits shapes a s ≡ true → fits shapes w e ≡ true → fits shapes (ArrayOf (default_in a) (put_row (rows_in a) key w (default_in a))) s ≡ true
+pub stored : (shapes : List Shape) (a : Value) (s e : Sort) (key : ℤ) (w : Value) → element_sort shapes s ≡ Some e → fits shapes a s ≡ true → fits shapes w e ≡ true → fits shapes (ArrayOf (default_in a) (put_row (rows_in a) key w (default_in a))) s ≡ true
 stored shapes a s e key w g h fit =
     let p = array_parts shapes a s e g h in
     let t = put_tidy shapes e p.other p.rows key w fit p.tidy in
@@ -505,13 +505,13 @@ field_of_sort : (o : Option (List Field)) (name : ℕ) (s : Sort) → field_sort
 field_of_sort None name s h = cc
 field_of_sort (Some fields) name s h = (fields, refl, h)
 
-field_value : (shapes : List Shape) (r : Value) (t s : Sort) (name : ℕ) (d : Value) → field_sort_of (fields_of shapes t) name ≡ Some s → fits shapes r t ≡ true → fits shapes (row_at (rows_in r) (pos name) d) s ≡ true
+pub field_value : (shapes : List Shape) (r : Value) (t s : Sort) (name : ℕ) (d : Value) → field_sort_of (fields_of shapes t) name ≡ Some s → fits shapes r t ≡ true → fits shapes (row_at (rows_in r) (pos name) d) s ≡ true
 field_value shapes r t s name d g h =
     let f = field_of_sort (fields_of shapes t) name s g in
     let p = record_parts shapes r t f.0 f.1 h in
     subst (λ x. fits shapes (row_at (rows_in x) (pos name) d) s ≡ true) (sym p.is) (field_at shapes p.rows f.0 name s d p.fit f.2)
 
-field_put : (shapes : List Shape) (r : Value) (t s : Sort) (name : ℕ) (w : Value) → field_sort_of (fields_of shapes t) name ≡ Some s → fits shapes r t ≡ true → fits shapes w s ≡ true → fits shapes (RecordOf (set_row (rows_in r) (pos name) w)) t ≡ true
+pub field_put : (shapes : List Shape) (r : Value) (t s : Sort) (name : ℕ) (w : Value) → field_sort_of (fields_of shapes t) name ≡ Some s → fits shapes r t ≡ true → fits shapes w s ≡ true → fits shapes (RecordOf (set_row (rows_in r) (pos name) w)) t ≡ true
 field_put shapes r t s name w g h fit =
     let f = field_of_sort (fields_of shapes t) name s g in
     let p = record_parts shapes r t f.0 f.1 h in
