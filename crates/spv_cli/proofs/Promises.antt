@@ -57,10 +57,10 @@ never : (text : List ℕ) (f : Findings) (r : Refusal) → IsReportOf text f →
 never text f (BadByte line) is (short, stop) = nothing (sym is.tree.cut.read ∙ stop)
 never text f (OpenComment line) is (short, stop) = nothing (sym is.tree.cut.read ∙ stop)
 never text f (NumeralTooLarge line) is (short, stop) = nothing (sym is.tree.cut.read ∙ stop)
-never text f TextTooLong is long = let short : length text ≤ 4194304 = is.tree.cut.short in omega (arith, short, long)
+never text f TextTooLong is (above, long) = let short : length text ≤ 4194304 = is.tree.cut.short in omega (arith, short, long)
 never text f (Profile line word) is (cut, out) = nothing (sym is.tree.allowed.known ∙ out)
-never text f (TooDeep line) is (cut, known, deep) = nothing (sym is.tree.allowed.shallow ∙ deep)
-never text f (Syntax line) is (cut, allowed, none) = none is.program is.tree.is_tree
+never text f (TooDeep line) is (cut, (known, deep)) = nothing (sym is.tree.allowed.shallow ∙ deep)
+never text f (Syntax line) is (cut, (allowed, none)) = none is.program is.tree.is_tree
 never text f NotOfForm is (program, none) = none f.form (is.program, is.tree, is.form)
 
 never_told : (told : Option (List ℕ)) (f : Findings) → IfSome told (λ text. IsReportOf text f) → IsThere told (λ text. (r : Refusal) × IsRefused text r) → ⊥

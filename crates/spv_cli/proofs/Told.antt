@@ -26,11 +26,18 @@ longer text h = fits (length text) (length (take 4194305 text)) (length-take 419
 pub report_whole : (text : List ℕ) (r : Findings) → IsReportOf (take 4194305 text) r → IsReportOf text r
 report_whole text r is = subst (λ t. IsReportOf t r) (whole text is.tree.cut.short) is
 
+-- a text that is refused as too long is so, and the other way round
+long_of : (text : List ℕ) → IsRefused text TextTooLong → 4194304 < length text
+long_of text is = is.1
+
+of_long : (text : List ℕ) → 4194304 < length text → IsRefused text TextTooLong
+of_long text h = (h, h)
+
 pub refused_whole : (text : List ℕ) (r : Refusal) → IsRefused (take 4194305 text) r → IsRefused text r
 refused_whole text (BadByte line) is = subst (λ t. IsRefused t (BadByte line)) (whole text is.0) is
 refused_whole text (OpenComment line) is = subst (λ t. IsRefused t (OpenComment line)) (whole text is.0) is
 refused_whole text (NumeralTooLarge line) is = subst (λ t. IsRefused t (NumeralTooLarge line)) (whole text is.0) is
-refused_whole text TextTooLong is = longer text is
+refused_whole text TextTooLong is = of_long text (longer text (long_of (take 4194305 text) is))
 refused_whole text (Syntax line) is = subst (λ t. IsRefused t (Syntax line)) (whole text is.0.short) is
 refused_whole text (TooDeep line) is = subst (λ t. IsRefused t (TooDeep line)) (whole text is.0.short) is
 refused_whole text (Profile line word) is = subst (λ t. IsRefused t (Profile line word)) (whole text is.0.short) is
