@@ -76,7 +76,7 @@ below_cell p state cell r is path v _ apart = refl
 
 -- ---- frames
 
-same_length : (frames : List Frame) (number : ℕ) (x : Symbol) (v : Value) → length (with_frame_value frames number x v) ≡ length frames
+pub same_length : (frames : List Frame) (number : ℕ) (x : Symbol) (v : Value) → length (with_frame_value frames number x v) ≡ length frames
 same_length [] number x v = refl
 same_length (f ∷ frames) number x v = by_case (nat_eq number (length frames)) (same_length frames number x v)
   where
