@@ -7,10 +7,10 @@ ghost use Rattle.spv_proof.specs.Laws.{AcceptedIsTrueIn, ProvedIsTrueIn};
 
 use spv_logic::World;
 
-/// What an accepted proof shows is true: in every world at once, and in the world of a type.
+/// What an accepted proof shows is true: in every world at once, and in one that is at hand.
 pub fn law_check<W: World>(world: &W)
     ensures every_world { (m : Meaning) → AcceptedIsTrueIn m }
-    ensures this_world { AcceptedIsTrueIn W.apply }
+    ensures this_world { AcceptedIsTrueIn (W.apply world.now) }
     ensures conditions { (m : Meaning) → ProvedIsTrueIn m }
 {
     let _ = world;
