@@ -72,7 +72,11 @@ fn result(word: &str, a: &str, b: &str) -> Result<Frac, TooWide> {
 pub fn show(alloc: Global, word: &str, rest: &str, out: &mut Vec<u8>) -> Result<(), AllocError> {
     let (a, b) = rest.split_once(' ').unwrap_or((rest, "1"));
     let line = match result(word, a, b) {
-        Ok(frac) => format!(in alloc; "{}/{} sign {}", frac.num, frac.den, frac.sign())?,
+        Ok(frac) => {
+            let Frac { num, den } = frac;
+            let sign = frac.sign();
+            format!(in alloc; "{num}/{den} sign {sign}")?
+        }
         Err(TooWide) => String::from_str(alloc, "too wide")?,
     };
     out.extend_from_slice(line.as_str().as_bytes())
