@@ -3,6 +3,7 @@ use Rattle.std.proofs.Common.{◌≡◌, Bool, true, false, cond, ◌&&◌, ◌|
 use Rattle.std.proofs.lemmas.Bool.{false≢true}
 use Rattle.std.specs.Int.RustNames.{int_lt}
 use Rattle.std.specs.Ordering.{int_eq}
+use Rattle.spv_list.proofs.Tests.{left_true, right_true}
 use Rattle.spv_logic.specs.declared.types.Sort.{Sort}
 use Rattle.spv_logic.specs.declared.types.Sort.TheVariants as sort
 use Rattle.spv_logic.specs.declared.types.Shape.{Shape}
@@ -11,9 +12,11 @@ use Rattle.spv_logic.specs.declared.operators.Head.{Head}
 use Rattle.spv_logic.specs.declared.operators.Head.TheVariants.{Num, Eq, Lt, Le, Not, And, Or, Implies, True, False}
 use Rattle.spv_logic.specs.Values.{Value, Number, Truth, value_eq, bool_eq, number_of, truth_of}
 use Rattle.spv_logic.specs.Terms.{Term, Terms, term, no_terms, terms, term_eq, eval, eval_all, first, second}
-use Rattle.spv_logic.specs.Sorts.{shapes_ok, fits, term_sort}
+use Rattle.spv_logic.specs.Shapes.{shapes_ok}
+use Rattle.spv_logic.specs.Fits.{fits}
+use Rattle.spv_logic.specs.Sorts.{term_sort}
 use Rattle.spv_logic.specs.Conditions.{Meaning, Valuation, IsValuation, answers, holds}
-use Rattle.spv_logic.proofs.Equality.{left_true, right_true, term_eq-true, sort_eq-true}
+use Rattle.spv_logic.proofs.Equality.{term_eq-true, sort_eq-true}
 use Rattle.spv_logic.proofs.Sorting.{eval-fits}
 use Rattle.spv_atoms.specs.Tables.{not_of, and_of, or_of, implied, same_of, numeral, compare_known, numeral_relation, all_truths, first_of, second_of, equation_value, combined, or_else, computed, values, assigned, truth}
 use Rattle.spv_atoms.specs.Laws.{AllHave}

@@ -4,7 +4,7 @@ use Rattle.spv_logic.specs.declared.types.Shape.{Shape}
 use Rattle.spv_logic.specs.declared.types.Decl.{Decl}
 use Rattle.spv_logic.specs.Values.{number_of}
 use Rattle.spv_logic.specs.Terms.{Term, eval}
-use Rattle.spv_logic.specs.Sorts.{shapes_ok}
+use Rattle.spv_logic.specs.Shapes.{shapes_ok}
 use Rattle.spv_logic.specs.Conditions.{Meaning, Valuation, IsValuation, answers, holds}
 use Rattle.spv_atoms.specs.Tables.{truth}
 use Rattle.spv_atoms.specs.Atoms.{is_truth}

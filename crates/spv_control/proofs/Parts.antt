@@ -4,6 +4,7 @@ use Rattle.std.specs.List.{list_any}
 use Rattle.std.specs.Option.{unwrap_or}
 use Rattle.std.specs.Cmp.Derive.{both_true}
 use Rattle.std.proofs.lemmas.Bool.{false≢true, eq-eqb}
+use Rattle.spv_list.proofs.Tests.{left_true, right_true}
 use Rattle.spv_names.specs.declared.names.Symbol.{Symbol}
 use Rattle.spv_logic.specs.declared.types.Sort.{Sort}
 use Rattle.spv_logic.specs.declared.types.Sort.TheVariants as sort
@@ -11,10 +12,10 @@ use Rattle.spv_logic.specs.declared.operators.Head.{Head}
 use Rattle.spv_logic.specs.declared.operators.Head.TheVariants as head
 use Rattle.spv_logic.specs.Values.{Value, Number, number_of}
 use Rattle.spv_logic.specs.Terms.{Term, head_eq, eval}
-use Rattle.spv_logic.specs.Sorts.{fits}
+use Rattle.spv_logic.specs.Fits.{fits}
 use Rattle.spv_logic.specs.Substitution.{value_under, under}
 use Rattle.spv_logic.specs.Conditions.{Meaning, Valuation, View, IsValuation, Shows, both}
-use Rattle.spv_logic.proofs.Equality.{left_true, right_true, head_eq-true}
+use Rattle.spv_logic.proofs.Equality.{head_eq-true}
 use Rattle.spv_logic.proofs.Sorting.{eval-fits}
 use Rattle.spv_program.specs.declared.types.Item.TheVariants.{Variable}
 use Rattle.spv_program.specs.Lists.{found}

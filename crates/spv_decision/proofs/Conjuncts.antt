@@ -6,7 +6,7 @@ use Rattle.spv_logic.specs.declared.conditions.TermId.{TermId}
 use Rattle.spv_logic.specs.declared.operators.Head.TheVariants as head
 use Rattle.spv_logic.specs.Terms.{Term, term, no_terms, terms}
 use Rattle.spv_logic.specs.Formulas.{conjunction}
-use Rattle.spv_logic.proofs.Equality.{left_true, right_true}
+use Rattle.spv_list.proofs.Tests.{left_true, right_true}
 use Rattle.spv_term.specs.Arena.{Arena, tree}
 use Rattle.spv_decision.specs.Forms.{is_equation, is_conjunction, conjuncts, IsConjunction}
 use Rattle.spv_decision.specs.Formulas.{IsConjunct, whole, last, before, AreParts, IsConjunctOf}

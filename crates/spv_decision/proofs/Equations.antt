@@ -7,7 +7,7 @@ use Rattle.spv_logic.specs.declared.conditions.TermId.{TermId}
 use Rattle.spv_logic.specs.declared.operators.Head.TheVariants as head
 use Rattle.spv_logic.specs.Terms.{Term, term, terms, no_terms}
 use Rattle.spv_logic.specs.Formulas.{equation}
-use Rattle.spv_logic.proofs.Equality.{left_true, right_true}
+use Rattle.spv_list.proofs.Tests.{left_true, right_true}
 use Rattle.spv_term.specs.declared.nodes.Condition.{Condition}
 use Rattle.spv_term.specs.Arena.{Arena, IsArena, tree}
 use Rattle.spv_term.proofs.NodeLemmas.{id_from}

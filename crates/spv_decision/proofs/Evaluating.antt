@@ -4,6 +4,7 @@ use mathlib.Core.Logic.{◌⊎◌, inl, inr}
 use Rattle.std.specs.List.{list_any, flat_map}
 use Rattle.std.proofs.lemmas.List.Elements.{All-head, All-tail}
 use Rattle.std.proofs.lemmas.Bool.{false≢true}
+use Rattle.spv_list.proofs.Tests.{left_true, right_true}
 use Rattle.spv_logic.specs.declared.types.Sort.TheVariants as sort
 use Rattle.spv_logic.specs.declared.types.Shape.{Shape}
 use Rattle.spv_logic.specs.declared.types.Decl.{Decl}
@@ -11,7 +12,7 @@ use Rattle.spv_logic.specs.declared.operators.Head.TheVariants as head
 use Rattle.spv_logic.specs.Terms.{Term, Terms, term, no_terms, terms, term_eq}
 use Rattle.spv_logic.specs.Sorts.{term_sort}
 use Rattle.spv_logic.specs.Formulas.{below, conjunction}
-use Rattle.spv_logic.proofs.Equality.{term_eq-true, term_eq-refl, left_true, right_true}
+use Rattle.spv_logic.proofs.Equality.{term_eq-true, term_eq-refl}
 use Rattle.spv_equations.specs.Accepted.{is_truth}
 use Rattle.spv_equations.specs.Evaluation.{negated, sides, given_by, given_negated, assignment, assigned, cites, apart, or_else, given_to, and_of, computed, opposite, bare, bare_or, clashes, evaluates}
 use Rattle.spv_decision.specs.Forms.{is_side, is_equation, is_conjunction, conjuncts}

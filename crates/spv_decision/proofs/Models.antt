@@ -11,6 +11,7 @@ use Rattle.std.proofs.lemmas.List.Concat.{flat_map-append}
 use Rattle.std.proofs.lemmas.List.Folds.{list_all-append}
 use Rattle.std.proofs.lemmas.Simd.{map-map}
 use Rattle.std.proofs.lemmas.Int.{ints}
+use Rattle.spv_list.proofs.Tests.{left_true, right_true}
 use Rattle.spv_logic.specs.declared.conditions.TermId.{TermId}
 use Rattle.spv_logic.specs.declared.types.Sort.TheVariants as sort
 use Rattle.spv_logic.specs.declared.types.Shape.{Shape}
@@ -21,7 +22,7 @@ use Rattle.spv_logic.specs.Values.{Number, value_eq}
 use Rattle.spv_logic.specs.Sorts.{variable_sort}
 use Rattle.spv_logic.specs.Terms.{Term, term, no_terms, terms, term_eq, eval}
 use Rattle.spv_logic.specs.Conditions.{Meaning, Valuation, holds}
-use Rattle.spv_logic.proofs.Equality.{term_eq-true, term_eq-refl, int_eq-true, left_true, right_true}
+use Rattle.spv_logic.proofs.Equality.{term_eq-true, term_eq-refl, int_eq-true}
 use Rattle.spv_term.specs.declared.nodes.Condition.{Condition}
 use Rattle.spv_term.specs.Arena.{Arena, IsArena, tree, sequent}
 use Rattle.spv_term.proofs.ArenaLemmas.{same_id}

@@ -11,10 +11,12 @@ use Rattle.spv_logic.specs.declared.operators.Head.{Head}
 use Rattle.spv_logic.specs.declared.operators.Head.TheVariants as head
 use Rattle.spv_logic.specs.Values.{Value, truth_of}
 use Rattle.spv_logic.specs.Terms.{Term, no_terms, term, heads_pass}
-use Rattle.spv_logic.specs.Sorts.{fits, default_of, variable_sort, shapes_ok}
+use Rattle.spv_logic.specs.Shapes.{shapes_ok}
+use Rattle.spv_logic.specs.Fits.{fits, default_of}
+use Rattle.spv_logic.specs.Sorts.{variable_sort}
 use Rattle.spv_logic.specs.Substitution.{is_variable}
 use Rattle.spv_logic.specs.Conditions.{Meaning, Valuation, Sequent, IsValuation, TrueIn, answers, holds, follows}
-use Rattle.spv_logic.proofs.Equality.{left_true, right_true}
+use Rattle.spv_list.proofs.Tests.{left_true, right_true}
 use Rattle.spv_logic.proofs.Defaults.{default_fits}
 use Rattle.spv_logic.proofs.Substitution.{eval-agree}
 use Rattle.spv_decision.specs.Tables.{formulas_of, number_in, value_of_number, table_valuation, Falsifies}

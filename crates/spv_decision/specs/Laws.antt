@@ -7,7 +7,8 @@ use Rattle.spv_logic.specs.declared.types.Shape.{Shape}
 use Rattle.spv_logic.specs.declared.types.Decl.{Decl}
 use Rattle.spv_logic.specs.declared.operators.Head.{Head}
 use Rattle.spv_logic.specs.Terms.{Term, heads_pass}
-use Rattle.spv_logic.specs.Sorts.{variable_sort, shapes_ok}
+use Rattle.spv_logic.specs.Shapes.{shapes_ok}
+use Rattle.spv_logic.specs.Sorts.{variable_sort}
 use Rattle.spv_logic.specs.Substitution.{is_variable}
 use Rattle.spv_logic.specs.Conditions.{Meaning, Sequent, TrueIn}
 use Rattle.spv_decision.specs.Tables.{formulas_of, Falsifies}

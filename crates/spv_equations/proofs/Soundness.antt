@@ -8,6 +8,7 @@ use Rattle.std.proofs.Common.{arith}
 use Rattle.std.specs.Int.RustNames.{int_lt}
 use Rattle.std.specs.Ordering.{int_eq}
 use Rattle.std.specs.Cmp.Derive.{both_true}
+use Rattle.spv_list.proofs.Tests.{left_true, right_true}
 use Rattle.spv_logic.specs.declared.conditions.TermId.{TermId}
 use Rattle.spv_logic.specs.declared.types.Sort.TheVariants as sort
 use Rattle.spv_logic.specs.declared.types.Shape.{Shape}
@@ -16,10 +17,12 @@ use Rattle.spv_logic.specs.declared.operators.Head.{Head}
 use Rattle.spv_logic.specs.declared.operators.Head.TheVariants.{Num, Eq, Lt, Le, Not, And, Or, Implies, True, False}
 use Rattle.spv_logic.specs.Values.{Value, Number, Truth, value_eq, bool_eq, number_of, truth_of}
 use Rattle.spv_logic.specs.Terms.{Term, Terms, term, no_terms, terms, term_eq, eval, eval_all, first, second}
-use Rattle.spv_logic.specs.Sorts.{shapes_ok, fits, term_sort}
+use Rattle.spv_logic.specs.Shapes.{shapes_ok}
+use Rattle.spv_logic.specs.Fits.{fits}
+use Rattle.spv_logic.specs.Sorts.{term_sort}
 use Rattle.spv_logic.specs.Formulas.{negation, equation, below}
 use Rattle.spv_logic.specs.Conditions.{Meaning, Valuation, Sequent, IsValuation, TrueIn, answers, holds}
-use Rattle.spv_logic.proofs.Equality.{left_true, right_true, value_eq-true, value_eq-refl, bool_eq-refl, term_eq-true, sort_eq-true}
+use Rattle.spv_logic.proofs.Equality.{value_eq-true, value_eq-refl, bool_eq-refl, term_eq-true, sort_eq-true}
 use Rattle.spv_logic.proofs.Sorting.{eval-fits}
 use Rattle.spv_equations.specs.declared.proofs.Step.{Step}
 use Rattle.spv_equations.specs.declared.proofs.Step.TheVariants as step

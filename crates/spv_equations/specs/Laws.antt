@@ -4,7 +4,7 @@ use Rattle.spv_logic.specs.declared.conditions.TermId.{TermId}
 use Rattle.spv_logic.specs.declared.types.Shape.{Shape}
 use Rattle.spv_logic.specs.declared.types.Decl.{Decl}
 use Rattle.spv_logic.specs.Terms.{Term}
-use Rattle.spv_logic.specs.Sorts.{shapes_ok}
+use Rattle.spv_logic.specs.Shapes.{shapes_ok}
 use Rattle.spv_logic.specs.Conditions.{Meaning, Sequent, TrueIn}
 use Rattle.spv_equations.specs.declared.proofs.ProofNode.{ProofNode}
 use Rattle.spv_equations.specs.Accepted.{accepts}

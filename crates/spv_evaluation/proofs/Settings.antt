@@ -3,6 +3,7 @@ use Rattle.std.proofs.Common.{◌≡◌, ◌≢◌, ℕ, Bool, true, false, cond
 use Rattle.std.specs.List.{list_all, list_any}
 use Rattle.std.specs.Cmp.Derive.{both_true}
 use Rattle.std.proofs.lemmas.Bool.{false≢true, eqb-true, eq-eqb}
+use Rattle.spv_list.proofs.Tests.{left_true, right_true}
 use Rattle.spv_names.specs.declared.names.Symbol.{Symbol}
 use Rattle.spv_logic.specs.declared.types.TypeId.{TypeId}
 use Rattle.spv_logic.specs.declared.types.Sort.{Sort}
@@ -11,9 +12,10 @@ use Rattle.spv_logic.specs.declared.operators.Head.{Head}
 use Rattle.spv_logic.specs.declared.operators.Head.TheVariants as head
 use Rattle.spv_logic.specs.Values.{Value, rows_in, default_in, row_at}
 use Rattle.spv_logic.specs.Terms.{Term, eval}
-use Rattle.spv_logic.specs.Sorts.{fits, shapes_ok, sort_of_type}
+use Rattle.spv_logic.specs.Shapes.{shapes_ok, sort_of_type}
+use Rattle.spv_logic.specs.Fits.{fits}
 use Rattle.spv_logic.specs.Conditions.{Meaning, Valuation, View, Shows, answers}
-use Rattle.spv_logic.proofs.Equality.{left_true, right_true, sort_eq-refl}
+use Rattle.spv_logic.proofs.Equality.{sort_eq-refl}
 use Rattle.spv_logic.proofs.Sorting.{eval-fits}
 use Rattle.spv_logic.proofs.Changes.{class_same, put_other, pos_differs, differs}
 use Rattle.spv_program.specs.declared.types.Item.TheVariants.{Variable, Class}

@@ -3,6 +3,7 @@ use Rattle.std.proofs.Common.{◌≡◌, Bool, true, false, cond, List, [], ◌�
 use Rattle.std.specs.Option.{option_and_then}
 use Rattle.std.specs.Ordering.{int_eq}
 use Rattle.std.proofs.lemmas.Bool.{false≢true, eqb-true}
+use Rattle.spv_list.proofs.Tests.{left_true, right_true}
 use Rattle.spv_names.specs.declared.names.Symbol.{Symbol}
 use Rattle.spv_logic.specs.declared.types.Sort.{Sort}
 use Rattle.spv_logic.specs.declared.types.Sort.TheVariants as sort
@@ -10,8 +11,9 @@ use Rattle.spv_logic.specs.declared.types.Shape.{Shape}
 use Rattle.spv_logic.specs.declared.types.Shape.TheVariants as shape
 use Rattle.spv_logic.specs.declared.types.Field.{Field}
 use Rattle.spv_logic.specs.Values.{Value, Rows, Number, Truth, Pointer, ArrayOf, RecordOf, ClassOf, AtomOf, PairOf, no_rows, row, rows_in, default_in, number_of, row_at}
-use Rattle.spv_logic.specs.Sorts.{shape_at, element_sort, element_of_shape, fields_of, fields_of_shape, field_sort, field_sort_of, is_pointer, is_list, on_sort, on_fields, fits, fields_fit}
-use Rattle.spv_logic.proofs.Equality.{left_true, right_true, int_eq-true, int_eq-refl, sort_eq-true}
+use Rattle.spv_logic.specs.Shapes.{shape_at, element_sort, element_of_shape, fields_of, fields_of_shape, field_sort, field_sort_of, is_pointer, is_list}
+use Rattle.spv_logic.specs.Fits.{on_sort, on_fields, fits, fields_fit}
+use Rattle.spv_logic.proofs.Equality.{int_eq-true, int_eq-refl, sort_eq-true}
 use Rattle.spv_logic.proofs.Sorting.{array_parts}
 use Rattle.spv_program.proofs.SortFacts.{nothing_there}
 use Rattle.spv_meaning.specs.declared.faults.Fault.{Fault}

@@ -12,7 +12,7 @@ use Rattle.spv_logic.specs.Values.{Value, Number, Truth, rows_in, default_in, nu
 use Rattle.spv_logic.specs.Terms.{Term, eval}
 use Rattle.spv_logic.specs.Sorts.{term_sort}
 use Rattle.spv_logic.specs.Conditions.{Meaning, Valuation}
-use Rattle.spv_logic.proofs.Equality.{left_true, right_true}
+use Rattle.spv_list.proofs.Tests.{left_true, right_true}
 use Rattle.spv_program.specs.declared.operators.Arithmetic.{Arithmetic}
 use Rattle.spv_program.specs.declared.operators.Arithmetic.TheVariants as arithmetic
 use Rattle.spv_program.specs.declared.operators.Comparison.{Comparison}

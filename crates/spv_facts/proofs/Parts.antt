@@ -3,13 +3,15 @@ use Rattle.std.proofs.Common.{◌≡◌, ℕ, Bool, true, false, cond, ◌&&◌,
 use Rattle.std.specs.Option.{option_and_then, unwrap_or}
 use Rattle.std.specs.Ordering.{int_eq}
 use Rattle.std.proofs.lemmas.Bool.{false≢true, eqb-true, eq-eqb}
+use Rattle.spv_list.proofs.Tests.{left_true, right_true}
 use Rattle.spv_names.specs.declared.names.Symbol.{Symbol}
 use Rattle.spv_logic.specs.declared.types.Sort.{Sort}
 use Rattle.spv_logic.specs.declared.types.Shape.{Shape}
 use Rattle.spv_logic.specs.declared.types.Field.{Field}
 use Rattle.spv_logic.specs.Values.{Value, Rows, Number, Truth, Pointer, ArrayOf, RecordOf, ClassOf, AtomOf, PairOf, no_rows, row, row_at, rows_in, default_in}
-use Rattle.spv_logic.specs.Sorts.{element_sort, fits, fields_fit, fields_of, field_sort, field_sort_of, on_sort, on_fields}
-use Rattle.spv_logic.proofs.Equality.{left_true, right_true, int_eq-true, int_eq-refl}
+use Rattle.spv_logic.specs.Shapes.{element_sort, fields_of, field_sort, field_sort_of}
+use Rattle.spv_logic.specs.Fits.{fits, fields_fit, on_sort, on_fields}
+use Rattle.spv_logic.proofs.Equality.{int_eq-true, int_eq-refl}
 use Rattle.spv_logic.proofs.Changes.{put_other, array_same}
 use Rattle.spv_logic.proofs.Sorting.{array_parts, selected, stored, field_value, field_put}
 use Rattle.spv_program.specs.Lists.{same_name}

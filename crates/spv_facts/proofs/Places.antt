@@ -6,8 +6,8 @@ use Rattle.spv_names.specs.declared.names.Symbol.{Symbol}
 use Rattle.spv_logic.specs.declared.types.Sort.{Sort}
 use Rattle.spv_logic.specs.declared.types.Shape.{Shape}
 use Rattle.spv_logic.specs.Values.{Value}
-use Rattle.spv_logic.specs.Sorts.{fits}
-use Rattle.spv_logic.proofs.Equality.{left_true, right_true}
+use Rattle.spv_logic.specs.Fits.{fits}
+use Rattle.spv_list.proofs.Tests.{left_true, right_true}
 use Rattle.spv_program.specs.Lists.{found, changed}
 use Rattle.spv_program.proofs.SortFacts.{nothing_there}
 use Rattle.spv_meaning.specs.Places.{Root, PathStep, Place, Binding, Frame, HeapRow, State, ProgramVariable, OwnValue, CellOf, Holding, frame_at, held, own_value, row_of, content_of, root_value, with_frame_value, with_content, with_root, part_at, with_part, look, exists, value_or_zero, put}

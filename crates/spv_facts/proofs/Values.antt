@@ -6,7 +6,8 @@ use Rattle.spv_names.specs.declared.names.Symbol.{Symbol}
 use Rattle.spv_logic.specs.declared.types.Sort.{Sort}
 use Rattle.spv_logic.specs.declared.types.Shape.{Shape}
 use Rattle.spv_logic.specs.Values.{Value, Rows, Number, Truth, Pointer, ArrayOf, RecordOf, ClassOf, AtomOf, PairOf, no_rows, row, row_at, rows_in, set_row}
-use Rattle.spv_logic.specs.Sorts.{fits, fields_of, field_sort_of}
+use Rattle.spv_logic.specs.Shapes.{fields_of, field_sort_of}
+use Rattle.spv_logic.specs.Fits.{fits}
 use Rattle.spv_logic.proofs.Equality.{int_eq-true}
 use Rattle.spv_logic.proofs.Changes.{pos_differs}
 use Rattle.spv_program.proofs.SortFacts.{nothing_there}

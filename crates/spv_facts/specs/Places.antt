@@ -4,7 +4,8 @@ use Rattle.std.specs.Option.{option_and_then}
 use Rattle.spv_logic.specs.declared.types.Sort.{Sort}
 use Rattle.spv_logic.specs.declared.types.Shape.{Shape}
 use Rattle.spv_logic.specs.Values.{Value}
-use Rattle.spv_logic.specs.Sorts.{element_sort, fits, fields_of, field_sort_of}
+use Rattle.spv_logic.specs.Shapes.{element_sort, fields_of, field_sort_of}
+use Rattle.spv_logic.specs.Fits.{fits}
 use Rattle.spv_meaning.specs.Places.{PathStep, Place, State, IndexStep, FieldStep, root_value, look, exists, put}
 use Rattle.spv_meaning.specs.Starts.{paths_meet}
 

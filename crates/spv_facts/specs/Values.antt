@@ -7,7 +7,8 @@ use Rattle.spv_logic.specs.declared.types.Shape.{Shape}
 use Rattle.spv_logic.specs.declared.operators.Head.TheVariants as head
 use Rattle.spv_logic.specs.Values.{Value, Number, number_of}
 use Rattle.spv_logic.specs.Terms.{worth}
-use Rattle.spv_logic.specs.Sorts.{fits, fields_of, field_sort_of}
+use Rattle.spv_logic.specs.Shapes.{fields_of, field_sort_of}
+use Rattle.spv_logic.specs.Fits.{fits}
 use Rattle.spv_logic.specs.Conditions.{Meaning, Valuation}
 
 -- ---- division

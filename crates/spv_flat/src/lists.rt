@@ -7,7 +7,8 @@ ghost use Rattle.spv_flat.specs.Flat.{Adds};
 
 use crate::out;
 use crate::spelled::Spelled;
-use spv_syntax::{Parts, Several};
+use spv_list::List;
+use spv_syntax::Several;
 use spv_tokens::{Sign, TokenKind, Word};
 use std::alloc::AllocError;
 
@@ -52,7 +53,7 @@ pub fn several<T: Spelled>(
 // Adds a word and the tokens of parts, where there are parts.
 pub fn headed<T: Spelled>(
     word: Word,
-    parts: &Parts<T>,
+    parts: &List<T>,
     out: &mut Vec<TokenKind>,
 ) -> Result<(), AllocError>
     ensures { OnOk result (Adds (spec.headed (kind.Word word) T.spelled parts.now) out.old.items out.new.items) }

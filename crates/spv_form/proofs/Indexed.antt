@@ -4,6 +4,7 @@ use Rattle.std.proofs.Math.Path.{fun_ext}
 use Rattle.std.proofs.Math.Seq.{take-suc, drop-cons}
 use Rattle.std.proofs.lemmas.Bool.{false≢true, eqb-true, eq-eqb}
 use Rattle.std.specs.HashSet.{HashSet, contains}
+use Rattle.spv_list.proofs.Tests.{and_false}
 use Rattle.spv_names.specs.declared.names.Symbol.{Symbol}
 use Rattle.spv_form.specs.declared.form.KnownNumbers.{KnownNumbers}
 use Rattle.spv_form.specs.declared.form.Side.{Side}
@@ -36,10 +37,6 @@ one_declared old new x others updates so_far = fun_ext each
     each y =
         let before : contains nat_eq old y.0 ≡ is_variable others y = ap (λ (f : Symbol → Bool). f y) so_far in
         updates y.0 ∙ (ap (λ b. cond b true (contains nat_eq old y.0)) (nat_eq-sym x.0 y.0) ∙ (ap (λ b. cond (nat_eq y.0 x.0) true b) before ∙ either (nat_eq y.0 x.0) (is_variable others y)))
-
-and_false : (a b : Bool) → b ≡ false → (a && b) ≡ false
-and_false true b e = e
-and_false false b e = refl
 
 -- a list is refused where an end of it is
 pub refused_from : (known : KnownNumbers) (variables : List Symbol) (i : ℕ) → declaration_allowed known (drop i variables) ≡ false → declaration_allowed known variables ≡ false

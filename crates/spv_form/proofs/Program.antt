@@ -14,7 +14,7 @@ use Rattle.spv_logic.specs.Terms.{Term, term, terms, no_terms}
 use Rattle.spv_logic.specs.Formulas.{conjunction}
 use Rattle.spv_logic.specs.Substitution.{Replacement, substitute}
 use Rattle.spv_logic.specs.Conditions.{Condition}
-use Rattle.spv_logic.proofs.Equality.{left_true, right_true}
+use Rattle.spv_list.proofs.Tests.{left_true, right_true}
 use Rattle.spv_program.specs.declared.types.Item.TheVariants as item
 use Rattle.spv_program.specs.declared.operators.Comparison.TheVariants.{Equal}
 use Rattle.spv_program.specs.declared.operators.Connective.TheVariants as connective

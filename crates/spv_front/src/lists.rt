@@ -10,7 +10,8 @@ ghost use Rattle.spv_front.specs.Lists.{first_and};
 
 use crate::fault::Fault;
 use crate::front::{after, front, is_sign, is_word};
-use spv_syntax::{Parts, Several};
+use spv_list::List;
+use spv_syntax::Several;
 use spv_tokens::{Sign, Token, TokenKind, Word};
 use std::alloc::Global;
 
@@ -60,7 +61,7 @@ pub fn several<R: PartReader<T>, T: Drop>(
 {
     let (first, rest) = R::read(alloc, levels, tokens)?;
     let (more, rest) = further::<R, T>(alloc, levels, sign, rest)?;
-    let more = Parts::from_vec(more);
+    let more = List::from_vec(more);
     Ok((Several { first, more }, rest))
 }
 
@@ -101,15 +102,15 @@ pub fn headed<R: PartReader<T>, T: Drop>(
     levels: u32,
     word: Word,
     tokens: &[Token],
-) -> Result<(Parts<T>, &[Token]), Fault>
+) -> Result<(List<T>, &[Token]), Fault>
     ensures read { IfOk result (λ r. headed_by (kind.Word word) begins_name (R.reader levels) tokens.now ≡ Some (r.0, r.1.now)) }
     ensures absent { IsErrAnd result IsSyntax → headed_by (kind.Word word) begins_name (R.reader levels) tokens.now ≡ None }
 {
     if !is_word(word, tokens) {
-        let none = Parts::from_vec(Vec::new(alloc));
+        let none = List::from_vec(Vec::new(alloc));
         return Ok((none, tokens));
     }
     let (first, rest) = R::read(alloc, levels, after(tokens))?;
     let (parts, rest) = others::<R, T>(alloc, levels, first, rest)?;
-    Ok((Parts::from_vec(parts), rest))
+    Ok((List::from_vec(parts), rest))
 }

@@ -3,11 +3,13 @@ use Rattle.std.proofs.Common.{◌≡◌, ◌≢◌, ℕ, Bool, true, false, cond
 use Rattle.std.proofs.lemmas.Int.{ints}
 use Rattle.std.specs.Int.RustNames.{int_lt}
 use Rattle.std.specs.Ordering.{int_eq}
+use Rattle.spv_list.proofs.Tests.{left_true, right_true}
 use Rattle.spv_logic.specs.declared.types.Sort.{Sort}
 use Rattle.spv_logic.specs.declared.types.Shape.{Shape}
 use Rattle.spv_logic.specs.Values.{Value, Rows, no_rows, row, value_eq, row_at, without_row, with_row, put_row, rows_in, default_in}
-use Rattle.spv_logic.specs.Sorts.{element_sort, content_sort, ascend, ascend_after, fits}
-use Rattle.spv_logic.proofs.Equality.{left_true, right_true, int_eq-true, int_eq-refl, value_eq-true}
+use Rattle.spv_logic.specs.Shapes.{element_sort, content_sort}
+use Rattle.spv_logic.specs.Fits.{ascend, ascend_after, fits}
+use Rattle.spv_logic.proofs.Equality.{int_eq-true, int_eq-refl, value_eq-true}
 use Rattle.spv_logic.proofs.Sorting.{after_weaker, ascend_from_after, array_parts, class_parts}
 
 below_differs : (a b : ℤ) → int_lt a b ≡ true → int_eq a b ≡ false

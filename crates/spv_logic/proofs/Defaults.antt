@@ -3,14 +3,16 @@ use Rattle.std.proofs.Common.{◌≡◌, ℕ, zero, suc, Bool, true, false, List
 use Rattle.std.proofs.lemmas.Bool.{false≢true}
 use Rattle.std.specs.Cmp.Derive.{both_true}
 use Rattle.std.specs.List.{list_all}
+use Rattle.spv_list.proofs.Tests.{left_true, right_true}
 use Rattle.spv_logic.specs.declared.types.TypeId.{TypeId}
 use Rattle.spv_logic.specs.declared.types.Sort.{Sort}
 use Rattle.spv_logic.specs.declared.types.Sort.TheVariants as sort
 use Rattle.spv_logic.specs.declared.types.Field.{Field}
 use Rattle.spv_logic.specs.declared.types.Shape.{Shape}
 use Rattle.spv_logic.specs.declared.types.Shape.TheVariants as shape
-use Rattle.spv_logic.specs.Sorts.{shape_at, sort_of_shape, sort_of_type, fits, fields_fit, default_fields, default_of_shape, default_within, default_of, part_sorts, no_sorts, ends_within, may_be_part, shape_ok, shapes_ok, on_fields, fields_of_shape, no_fields}
-use Rattle.spv_logic.proofs.Equality.{left_true, right_true, int_eq-refl}
+use Rattle.spv_logic.specs.Shapes.{shape_at, sort_of_shape, sort_of_type, part_sorts, no_sorts, ends_within, may_be_part, shape_ok, shapes_ok, fields_of_shape}
+use Rattle.spv_logic.specs.Fits.{fits, fields_fit, default_fields, default_of_shape, default_within, default_of, on_fields, no_fields}
+use Rattle.spv_logic.proofs.Equality.{int_eq-refl}
 
 -- no class
 abbrev plain : Sort → Bool

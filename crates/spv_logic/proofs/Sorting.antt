@@ -6,6 +6,7 @@ use Rattle.std.proofs.lemmas.Int.{ints}
 use Rattle.std.specs.Int.RustNames.{int_lt}
 use Rattle.std.specs.Ordering.{int_eq}
 use Rattle.std.specs.Cmp.Derive.{both_true}
+use Rattle.spv_list.proofs.Tests.{left_true, right_true}
 use Rattle.spv_logic.specs.declared.types.Sort.{Sort}
 use Rattle.spv_logic.specs.declared.types.Sort.TheVariants as sort
 use Rattle.spv_logic.specs.declared.types.Field.{Field}
@@ -16,9 +17,11 @@ use Rattle.spv_logic.specs.declared.operators.Head.{Head}
 use Rattle.spv_logic.specs.declared.operators.Head.TheVariants as head
 use Rattle.spv_logic.specs.Values.{Value, Rows, Number, Truth, Pointer, ArrayOf, RecordOf, ClassOf, AtomOf, PairOf, no_rows, row, value_eq, row_at, without_row, with_row, put_row, set_row, with_cell, with_member, rows_in, default_in, members_of, first_of_pair, second_of_pair, pointer_of}
 use Rattle.spv_logic.specs.Terms.{Term, Terms, term, no_terms, terms, sort_eq, eval, eval_all, worth, first, second, third}
-use Rattle.spv_logic.specs.Sorts.{shape_at, element_of_shape, fields_of_shape, element_sort, fields_of, content_sort, pointer_sort, is_list, is_pointer, ascend_after, ascend, lacks, keys_are_pointers, cells_after, on_sort, on_fields, no_fields, fits, rows_fit, fields_fit, default_of, shapes_ok, sorts_eq, takes, first_sort, with_sort, declared, takes_declared, field_sort, field_sort_of, class_change, membership, result_sort, with_sorts, sort_before, term_sort, term_sorts}
+use Rattle.spv_logic.specs.Shapes.{shape_at, element_of_shape, fields_of_shape, element_sort, fields_of, content_sort, pointer_sort, is_list, is_pointer, shapes_ok, field_sort, field_sort_of}
+use Rattle.spv_logic.specs.Fits.{ascend_after, ascend, lacks, keys_are_pointers, cells_after, on_sort, on_fields, no_fields, fits, rows_fit, fields_fit, default_of}
+use Rattle.spv_logic.specs.Sorts.{sorts_eq, takes, first_sort, with_sort, declared, takes_declared, class_change, membership, result_sort, with_sorts, sort_before, term_sort, term_sorts}
 use Rattle.spv_logic.specs.Conditions.{Meaning, Valuation, IsValuation, declared_result, fitted, answers}
-use Rattle.spv_logic.proofs.Equality.{left_true, right_true, sort_eq-true, int_eq-true, int_eq-refl}
+use Rattle.spv_logic.proofs.Equality.{sort_eq-true, int_eq-true, int_eq-refl}
 use Rattle.spv_logic.proofs.Defaults.{default_fits}
 
 -- ---- the order of keys

@@ -13,7 +13,8 @@ use Rattle.spv_logic.specs.declared.operators.Head.{Head}
 use Rattle.spv_logic.specs.declared.operators.Head.TheVariants as head
 use Rattle.spv_logic.specs.Values.{Value, truth_of}
 use Rattle.spv_logic.specs.Terms.{Term, eval}
-use Rattle.spv_logic.specs.Sorts.{fits, default_of, declared}
+use Rattle.spv_logic.specs.Fits.{fits, default_of}
+use Rattle.spv_logic.specs.Sorts.{declared}
 
 -- the meaning of the declared symbols: the answer of each, by its number, to values
 abbrev pub Meaning : Type 0

@@ -7,7 +7,9 @@ use Rattle.spv_logic.specs.declared.operators.Head.{Head}
 use Rattle.spv_logic.specs.declared.operators.Head.TheVariants.{Sub, Div, Mod, Select, Store, Cell, SetCell, Extend, PointerTo, Cons, Atom}
 use Rattle.spv_logic.specs.Values.{Value, Number, Truth, Pointer, ArrayOf, AtomOf, no_rows, value_eq, members_of}
 use Rattle.spv_logic.specs.Terms.{Term, worth, eval, term_eq}
-use Rattle.spv_logic.specs.Sorts.{element_sort, content_sort, fits, default_of, shapes_ok, declared, term_sort}
+use Rattle.spv_logic.specs.Shapes.{element_sort, content_sort, shapes_ok}
+use Rattle.spv_logic.specs.Fits.{fits, default_of}
+use Rattle.spv_logic.specs.Sorts.{declared, term_sort}
 use Rattle.spv_logic.specs.Conditions.{Meaning, Valuation, Sequent, IsValuation, answers, declared_result, holds, follows}
 
 -- what an operator gives, whatever symbols answer and variables are
@@ -48,22 +50,26 @@ DefaultHasNoRow = (d : Value) (i : ℤ) → Gives Store (ArrayOf d no_rows ∷ N
 -- the element that was stored is read at its index
 abbrev pub StoredElement : Type 0
 StoredElement =
-    (shapes : List Shape) (s e : Sort) → element_sort shapes s ≡ Some e → (a w : Value) → IsTrue (fits shapes a s) → (i : ℤ) (symbols : Meaning) (v : Valuation) → worth symbols v Select (worth symbols v Store (a ∷ Number i ∷ w ∷ []) ∷ Number i ∷ []) ≡ w
+    (shapes : List Shape) (s e : Sort) → element_sort shapes s ≡ Some e → (a w : Value) → IsTrue (fits shapes a s) → (i : ℤ) (symbols : Meaning) (v : Valuation)
+    → worth symbols v Select (worth symbols v Store (a ∷ Number i ∷ w ∷ []) ∷ Number i ∷ []) ≡ w
 
 -- at every other index it is as before
 abbrev pub OtherElements : Type 0
 OtherElements =
-    (a w : Value) (i j : ℤ) → j ≢ i → (symbols : Meaning) (v : Valuation) → worth symbols v Select (worth symbols v Store (a ∷ Number i ∷ w ∷ []) ∷ Number j ∷ []) ≡ worth symbols v Select (a ∷ Number j ∷ [])
+    (a w : Value) (i j : ℤ) → j ≢ i → (symbols : Meaning) (v : Valuation)
+    → worth symbols v Select (worth symbols v Store (a ∷ Number i ∷ w ∷ []) ∷ Number j ∷ []) ≡ worth symbols v Select (a ∷ Number j ∷ [])
 
 -- the new content is read at its pointer
 abbrev pub ChangedContent : Head → Type 0
 ChangedContent head =
-    (shapes : List Shape) (s e : Sort) → content_sort shapes s ≡ Some e → (c w : Value) → IsTrue (fits shapes c s) → (p : ℕ) (symbols : Meaning) (v : Valuation) → worth symbols v Cell (worth symbols v head (c ∷ Pointer p ∷ w ∷ []) ∷ Pointer p ∷ []) ≡ w
+    (shapes : List Shape) (s e : Sort) → content_sort shapes s ≡ Some e → (c w : Value) → IsTrue (fits shapes c s) → (p : ℕ) (symbols : Meaning) (v : Valuation)
+    → worth symbols v Cell (worth symbols v head (c ∷ Pointer p ∷ w ∷ []) ∷ Pointer p ∷ []) ≡ w
 
 -- at every other pointer it is as before
 abbrev pub OtherContents : Head → Type 0
 OtherContents head =
-    (c w : Value) (p q : ℕ) → q ≢ p → (symbols : Meaning) (v : Valuation) → worth symbols v Cell (worth symbols v head (c ∷ Pointer p ∷ w ∷ []) ∷ Pointer q ∷ []) ≡ worth symbols v Cell (c ∷ Pointer q ∷ [])
+    (c w : Value) (p q : ℕ) → q ≢ p → (symbols : Meaning) (v : Valuation)
+    → worth symbols v Cell (worth symbols v head (c ∷ Pointer p ∷ w ∷ []) ∷ Pointer q ∷ []) ≡ worth symbols v Cell (c ∷ Pointer q ∷ [])
 
 -- a new content leaves the members
 abbrev pub SetCellLeavesMembers : Type 0
@@ -76,7 +82,8 @@ ExtendAtNilAddsNone = (c w : Value) (symbols : Meaning) (v : Valuation) → memb
 -- every other pointer becomes a member
 abbrev pub ExtendAddsItsPointer : Type 0
 ExtendAddsItsPointer =
-    (c w : Value) (p : ℕ) (symbols : Meaning) (v : Valuation) → let extended = worth symbols v Extend (c ∷ Pointer (suc p) ∷ w ∷ []) in worth symbols v PointerTo (Pointer (suc p) ∷ extended ∷ []) ≡ Truth true
+    (c w : Value) (p : ℕ) (symbols : Meaning) (v : Valuation)
+    → let extended = worth symbols v Extend (c ∷ Pointer (suc p) ∷ w ∷ []) in worth symbols v PointerTo (Pointer (suc p) ∷ extended ∷ []) ≡ Truth true
 
 -- what a head gives of the pair of two lists
 abbrev pub GivesOfPair : Head → (Value → Value → Value) → Type 0
@@ -94,7 +101,8 @@ PartsOfAnAtom head = (z : ℤ) → Gives head (AtomOf z ∷ []) (AtomOf (pos 0))
 -- an answer of another sort counts as the default
 abbrev pub OtherSortCountsAsDefault : Type 0
 OtherSortCountsAsDefault =
-    (shapes : List Shape) (decls : List Decl) (world : Meaning) (symbol : ℕ) (values : List Value) → let s = declared_result (declared decls symbol) in fits shapes (world symbol values) s ≡ false → answers shapes decls world symbol values ≡ default_of shapes s
+    (shapes : List Shape) (decls : List Decl) (world : Meaning) (symbol : ℕ) (values : List Value)
+    → let s = declared_result (declared decls symbol) in fits shapes (world symbol values) s ≡ false → answers shapes decls world symbol values ≡ default_of shapes s
 
 -- without hypotheses a sequent is true where its goal is
 abbrev pub GoalAlone : Type 0
@@ -129,4 +137,5 @@ SomeValuation = (shapes : List Shape) → IsTrue (shapes_ok shapes) → (v : Val
 -- in every world, under every valuation, a well sorted term is worth a value of its sort
 abbrev pub TermsHaveTheirSort : Type 0
 TermsHaveTheirSort =
-    (shapes : List Shape) → IsTrue (shapes_ok shapes) → (decls : List Decl) (world : Meaning) (v : Valuation) → IsValuation shapes v → (t : Term) (s : Sort) → term_sort shapes decls t ≡ Some s → IsTrue (fits shapes (eval (answers shapes decls world) v t) s)
+    (shapes : List Shape) → IsTrue (shapes_ok shapes) → (decls : List Decl) (world : Meaning) (v : Valuation) → IsValuation shapes v
+    → (t : Term) (s : Sort) → term_sort shapes decls t ≡ Some s → IsTrue (fits shapes (eval (answers shapes decls world) v t) s)

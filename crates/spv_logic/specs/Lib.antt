@@ -1,6 +1,8 @@
 pub mod Values
 pub mod Terms
 pub mod Formulas
+pub mod Shapes
+pub mod Fits
 pub mod Sorts
 pub mod Conditions
 pub mod Substitution

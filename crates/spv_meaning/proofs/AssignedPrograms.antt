@@ -13,9 +13,11 @@ use Rattle.spv_logic.specs.declared.conditions.RoutineId.{RoutineId}
 use Rattle.spv_logic.specs.declared.operators.Head.TheVariants as head
 use Rattle.spv_logic.specs.Values.{Value, truth_of}
 use Rattle.spv_logic.specs.Terms.{Term, sort_eq}
-use Rattle.spv_logic.specs.Sorts.{fits, default_of, variable_sort, shapes_ok}
+use Rattle.spv_logic.specs.Shapes.{shapes_ok}
+use Rattle.spv_logic.specs.Fits.{fits, default_of}
+use Rattle.spv_logic.specs.Sorts.{variable_sort}
 use Rattle.spv_logic.specs.Conditions.{Meaning, Valuation, Sequent, Condition, View, IsValuation, Shows, both, answers, holds, follows}
-use Rattle.spv_logic.proofs.Equality.{left_true, right_true}
+use Rattle.spv_list.proofs.Tests.{left_true, right_true}
 use Rattle.spv_logic.proofs.Defaults.{default_fits}
 use Rattle.spv_program.specs.Lists.{same_name, found, item_at}
 use Rattle.spv_program.specs.Types.{sort_of, takes_value}

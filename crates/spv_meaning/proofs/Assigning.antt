@@ -11,7 +11,8 @@ use Rattle.spv_logic.specs.declared.operators.Head.{Head}
 use Rattle.spv_logic.specs.declared.operators.Head.TheVariants as head
 use Rattle.spv_logic.specs.Values.{Value, Number, Truth, Pointer, truth_of}
 use Rattle.spv_logic.specs.Terms.{Term, head_eq, sort_eq, eval}
-use Rattle.spv_logic.specs.Sorts.{fits, is_pointer}
+use Rattle.spv_logic.specs.Shapes.{is_pointer}
+use Rattle.spv_logic.specs.Fits.{fits}
 use Rattle.spv_logic.specs.Conditions.{Meaning, Valuation, Sequent, Condition, View, IsValuation, Shows, answers, holds, follows}
 use Rattle.spv_logic.specs.Substitution.{Replacement, is_variable, substitute, under, value_under}
 use Rattle.spv_logic.proofs.Equality.{head_eq-true}

@@ -7,10 +7,11 @@ use Rattle.spv_logic.specs.declared.types.Sort.TheVariants as sort
 use Rattle.spv_logic.specs.declared.operators.Head.{Head}
 use Rattle.spv_logic.specs.declared.operators.Head.TheVariants as head
 use Rattle.spv_logic.specs.Terms.{Term, sort_eq, worth, eval, eval_all}
-use Rattle.spv_logic.specs.Sorts.{element_sort, fields_of, field_sort_of, takes_declared, declared, result_sort}
+use Rattle.spv_logic.specs.Shapes.{element_sort, fields_of, field_sort_of}
+use Rattle.spv_logic.specs.Sorts.{takes_declared, declared, result_sort}
 use Rattle.spv_logic.specs.Conditions.{Meaning, Valuation}
 use Rattle.spv_logic.specs.Substitution.{is_variable}
-use Rattle.spv_logic.proofs.Equality.{left_true, right_true}
+use Rattle.spv_list.proofs.Tests.{left_true, right_true}
 use Rattle.spv_logic.proofs.Substitution.{worth-same}
 use Rattle.spv_program.specs.declared.operators.Arithmetic.{Arithmetic}
 use Rattle.spv_program.specs.declared.operators.Arithmetic.TheVariants as arithmetic

@@ -6,8 +6,9 @@ use Rattle.std.proofs.lemmas.Bool.{eqb-true}
 use Rattle.spv_logic.specs.declared.types.TypeId.{TypeId}
 use Rattle.spv_logic.specs.declared.types.Sort.TheVariants as sort
 use Rattle.spv_logic.specs.Values.{Value, with_cell}
-use Rattle.spv_logic.specs.Sorts.{fits, shapes_ok, sort_of_type}
-use Rattle.spv_logic.proofs.Equality.{left_true, right_true}
+use Rattle.spv_logic.specs.Shapes.{shapes_ok, sort_of_type}
+use Rattle.spv_logic.specs.Fits.{fits}
+use Rattle.spv_list.proofs.Tests.{left_true, right_true}
 use Rattle.spv_logic.proofs.Defaults.{default_fits}
 use Rattle.spv_logic.proofs.Sorting.{class_put, with_cell-after}
 use Rattle.spv_program.specs.Types.{sort_of}

@@ -10,7 +10,7 @@ use Rattle.spv_logic.specs.declared.operators.Head.{Head}
 use Rattle.spv_logic.specs.declared.operators.Head.TheVariants as head
 use Rattle.spv_logic.specs.Values.{Value}
 use Rattle.spv_logic.specs.Terms.{sort_eq, head_eq}
-use Rattle.spv_logic.specs.Sorts.{fits}
+use Rattle.spv_logic.specs.Fits.{fits}
 use Rattle.spv_logic.specs.Conditions.{View, both, shown_or}
 use Rattle.spv_logic.proofs.Equality.{sort_eq-true, sort_eq-refl}
 use Rattle.spv_program.specs.declared.types.Item.TheVariants.{Variable}

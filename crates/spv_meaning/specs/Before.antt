@@ -251,7 +251,8 @@ abbrev mutual
       let first = valued p (routine_in p here) q.supply count.first in
       let end = valued p (routine_in p here) first.supply count.last in
       let v = item_head p (routine_in p here) (Variable count.variable) in
-      let turn = before p here s (record { conditions = wanted_with p here kind.Preserved v (next_term count.direction (alone v)) f; supply = end.supply }) in
+      let preserved = wanted_with p here kind.Preserved v (next_term count.direction (alone v)) f in
+      let turn = before p here s (record { conditions = preserved; supply = end.supply }) in
       let fresh = renamed (changed_heads p (routine_in p here) (For line f count s)) turn.supply in
       let last = fresh_like v fresh.supply in
       let invariant = option_map (substitute (replacing fresh.pairs)) (annotation_term p here f) in

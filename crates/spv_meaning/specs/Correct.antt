@@ -6,7 +6,8 @@ use Rattle.spv_logic.specs.declared.conditions.Kind.TheVariants as kind
 use Rattle.spv_logic.specs.declared.conditions.RoutineId.{RoutineId}
 use Rattle.spv_logic.specs.declared.types.Shape.{Shape}
 use Rattle.spv_logic.specs.Values.{Value}
-use Rattle.spv_logic.specs.Sorts.{default_of, variable_sort}
+use Rattle.spv_logic.specs.Fits.{default_of}
+use Rattle.spv_logic.specs.Sorts.{variable_sort}
 use Rattle.spv_logic.specs.Conditions.{Meaning, Valuation, View, both, answers, holds}
 use Rattle.spv_program.specs.Formulas.{Annotation}
 use Rattle.spv_program.specs.Statements.{Statement, Empty}

@@ -14,7 +14,7 @@ use Rattle.spv_program.specs.Lists.{found}
 use Rattle.spv_program.specs.Types.{sort_of}
 use Rattle.spv_meaning.specs.Places.{Place, PathStep, HeapRow, State, ProgramVariable, CellOf, row_of, look, put}
 use Rattle.spv_meaning.specs.Views.{now_view}
-use Rattle.spv_logic.specs.Sorts.{default_of}
+use Rattle.spv_logic.specs.Fits.{default_of}
 use Rattle.spv_meaning.specs.Starts.{IsStart, same_root}
 use Rattle.spv_meaning.specs.Outcomes.{End, Going}
 use Rattle.spv_meaning.specs.Levels.{Here}

@@ -9,7 +9,8 @@ use Rattle.spv_logic.specs.declared.conditions.RoutineId.{RoutineId}
 use Rattle.spv_logic.specs.declared.operators.Head.TheVariants as head
 use Rattle.spv_logic.specs.Values.{Value, Pointer, ClassOf, no_rows, with_cell, members_of}
 use Rattle.spv_logic.specs.Terms.{sort_eq, class_with}
-use Rattle.spv_logic.specs.Sorts.{default_of, sort_of_type}
+use Rattle.spv_logic.specs.Shapes.{sort_of_type}
+use Rattle.spv_logic.specs.Fits.{default_of}
 use Rattle.spv_logic.specs.Conditions.{View}
 use Rattle.spv_program.specs.declared.types.Item.{Item}
 use Rattle.spv_program.specs.declared.types.Item.TheVariants.{Variable, Class}

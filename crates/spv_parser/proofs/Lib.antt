@@ -1,3 +1,2 @@
-pub mod MarkTurns
 pub mod ProgramParts
 pub mod Wholes

@@ -1,3 +1,1 @@
 pub mod Causes
-pub mod RoutineParts
-pub mod Marks

@@ -7,10 +7,10 @@ ghost use Rattle.spv_parser.specs.Causes.{IsAllowed, HasCause, IsForbidden, IsRe
 use crate::formula_texts::{formula_text, surplus};
 use crate::programs::program_at;
 use crate::refused::SyntaxFault;
-use crate::rule_files::rule_file;
 use spv_front::fault::Fault;
 use spv_level::{law_enough, law_enough_formula_text, law_enough_rules, left_out, too_deep};
 use spv_reading::laws::{law_formula_texts, law_programs, law_rules};
+use spv_rule_parser::rule_files::rule_file;
 use spv_syntax::{FormulaText, Program, RuleTree};
 use spv_tokens::Token;
 use std::alloc::Global;

@@ -4,11 +4,12 @@ ghost use Rattle.std.specs.Prelude.{◌≡◌, Some, None, IfOk, IsErrAnd};
 ghost use Rattle.spv_reading.specs.RoutineReaders.{read_files, read_program};
 ghost use Rattle.spv_front.specs.Faults.{IsSyntax};
 
-use crate::routine_marks::{ended_block, routines};
-use crate::routines::condition;
 use spv_front::fault::Fault;
 use spv_front::front::{after, first_line, is_sign, name, past_sign, past_word};
-use spv_syntax::{Name, Parts, Program, Several};
+use spv_list::List;
+use spv_routine_parser::routine_marks::{ended_block, routines};
+use spv_routine_parser::routines::condition;
+use spv_syntax::{Name, Program, Several};
 use spv_tokens::{Sign, Token, Word};
 use spv_type_parser::declarations::declarations;
 use spv_type_parser::types::names;
@@ -43,7 +44,7 @@ pub fn program_at(
     let rest = past_sign(Sign::Semicolon, rest)?;
     let (declarations, rest) = declarations(alloc, levels, rest)?;
     let (routines, rest) = routines(alloc, levels, rest)?;
-    let routines = Parts::from_vec(routines);
+    let routines = List::from_vec(routines);
     let (entry, rest) = condition(alloc, levels, Word::Entry, rest)?;
     let (exit, rest) = condition(alloc, levels, Word::Exit, rest)?;
     let (block, rest) = ended_block(alloc, levels, Sign::Period, rest)?;

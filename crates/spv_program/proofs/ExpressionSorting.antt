@@ -8,8 +8,9 @@ use Rattle.spv_logic.specs.declared.types.Sort.{Sort}
 use Rattle.spv_logic.specs.declared.types.Sort.TheVariants as sort
 use Rattle.spv_logic.specs.declared.operators.Head.TheVariants as head
 use Rattle.spv_logic.specs.Terms.{Term}
-use Rattle.spv_logic.specs.Sorts.{element_of_shape, element_sort, fields_of_shape, fields_of, field_sort, field_sort_of, term_sort}
-use Rattle.spv_logic.proofs.Equality.{right_true}
+use Rattle.spv_logic.specs.Shapes.{element_of_shape, element_sort, fields_of_shape, fields_of, field_sort, field_sort_of}
+use Rattle.spv_logic.specs.Sorts.{term_sort}
+use Rattle.spv_list.proofs.Tests.{right_true}
 use Rattle.spv_program.specs.declared.types.TypeField.{TypeField}
 use Rattle.spv_program.specs.declared.types.TypeForm.{TypeForm}
 use Rattle.spv_program.specs.declared.types.TypeForm.TheVariants.{Integer, Boolean, Range, Pointer, Array, Record}

@@ -8,9 +8,11 @@ use Rattle.spv_logic.specs.declared.types.Shape.{Shape}
 use Rattle.spv_logic.specs.declared.operators.Head.{Head}
 use Rattle.spv_logic.specs.declared.operators.Head.TheVariants as head
 use Rattle.spv_logic.specs.Terms.{Term, sort_eq}
-use Rattle.spv_logic.specs.Sorts.{element_sort, fields_of, field_sort_of, with_sort, with_sorts, sort_before, takes, takes_declared, declared, result_sort, term_sort, term_sorts, sort_of_type}
-use Rattle.spv_logic.proofs.Equality.{left_true, right_true, sort_eq-true, sort_eq-refl}
+use Rattle.spv_logic.specs.Shapes.{element_sort, fields_of, field_sort_of, sort_of_type}
+use Rattle.spv_logic.specs.Sorts.{with_sort, with_sorts, sort_before, takes, takes_declared, declared, result_sort, term_sort, term_sorts}
+use Rattle.spv_logic.proofs.Equality.{sort_eq-true, sort_eq-refl}
 use Rattle.std.specs.Cmp.Derive.{both_true}
+use Rattle.spv_list.proofs.Tests.{left_true, right_true}
 use Rattle.spv_program.specs.Types.{sort_of, type_exists}
 use Rattle.spv_program.specs.Formulas.{Formula, Formulas, Numeral, Boolean, NilOf, Named, ClassOf, Element, FieldOf, Content, Applied, Known, Negative, Calculated, Compared, Negated, Joined, Implied, no_formulas, formulas}
 use Rattle.spv_program.specs.Lists.{found}

@@ -3,6 +3,7 @@ use Rattle.std.proofs.Common.{◌≡◌, Bool, true, false, cond, ◌&&◌, List
 use Rattle.std.specs.Option.{option_and_then}
 use Rattle.std.specs.Cmp.Derive.{both_true}
 use Rattle.std.proofs.lemmas.Bool.{false≢true}
+use Rattle.spv_list.proofs.Tests.{left_true, right_true}
 use Rattle.spv_logic.specs.declared.types.TypeId.{TypeId}
 use Rattle.spv_logic.specs.declared.types.Sort.{Sort}
 use Rattle.spv_logic.specs.declared.types.Sort.TheVariants as sort
@@ -11,8 +12,9 @@ use Rattle.spv_logic.specs.declared.types.Decl.{Decl}
 use Rattle.spv_logic.specs.declared.operators.Head.{Head}
 use Rattle.spv_logic.specs.declared.operators.Head.TheVariants as head
 use Rattle.spv_logic.specs.Terms.{Term, sort_eq}
-use Rattle.spv_logic.specs.Sorts.{with_sorts, sort_before, result_sort, term_sort, takes, shape_at, sort_of_shape, sort_of_type}
-use Rattle.spv_logic.proofs.Equality.{left_true, right_true, sort_eq-true, sort_eq-refl}
+use Rattle.spv_logic.specs.Shapes.{shape_at, sort_of_shape, sort_of_type}
+use Rattle.spv_logic.specs.Sorts.{with_sorts, sort_before, result_sort, term_sort, takes}
+use Rattle.spv_logic.proofs.Equality.{sort_eq-true, sort_eq-refl}
 use Rattle.spv_program.specs.declared.types.TypeForm.{TypeForm}
 use Rattle.spv_program.specs.declared.types.TypeForm.TheVariants.{Integer, Boolean, Range, Pointer, Array, Record}
 use Rattle.spv_program.specs.declared.operators.Arithmetic.{Arithmetic}

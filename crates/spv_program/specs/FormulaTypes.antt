@@ -6,7 +6,8 @@ use Rattle.spv_logic.specs.declared.types.Sort.TheVariants as sort
 use Rattle.spv_logic.specs.declared.operators.Head.{Head}
 use Rattle.spv_logic.specs.declared.operators.Head.TheVariants as head
 use Rattle.spv_logic.specs.Terms.{sort_eq}
-use Rattle.spv_logic.specs.Sorts.{element_sort, fields_of, field_sort_of, declared, takes_declared, result_sort}
+use Rattle.spv_logic.specs.Shapes.{element_sort, fields_of, field_sort_of}
+use Rattle.spv_logic.specs.Sorts.{declared, takes_declared, result_sort}
 use Rattle.spv_program.specs.declared.operators.BuiltIn.{BuiltIn}
 use Rattle.spv_program.specs.declared.operators.BuiltIn.TheVariants as known
 use Rattle.spv_program.specs.declared.operators.Comparison.{Comparison}

@@ -11,7 +11,7 @@ use Rattle.spv_logic.specs.declared.types.Shape.{Shape}
 use Rattle.spv_logic.specs.declared.types.Shape.TheVariants as shape
 use Rattle.spv_logic.specs.Values.{Value, number_of}
 use Rattle.spv_logic.specs.Terms.{sort_eq}
-use Rattle.spv_logic.specs.Sorts.{shapes_ok}
+use Rattle.spv_logic.specs.Shapes.{shapes_ok}
 use Rattle.spv_program.specs.declared.types.TypeField.{TypeField}
 use Rattle.spv_program.specs.declared.types.TypeForm.{TypeForm}
 use Rattle.spv_program.specs.declared.types.TypeForm.TheVariants.{Integer, Boolean, Range, Pointer, Array, Record}

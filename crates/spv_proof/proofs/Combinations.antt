@@ -3,12 +3,13 @@ use Rattle.std.proofs.Common.{◌≡◌, ℕ, Bool, true, false, cond, ◌||◌,
 use Rattle.std.specs.List.{list_all}
 use Rattle.std.specs.Int.RustNames.{int_lt}
 use Rattle.std.proofs.lemmas.Bool.{false≢true}
+use Rattle.spv_list.proofs.Tests.{left_true, right_true}
 use Rattle.spv_whole.specs.Fraction.{Fraction}
 use Rattle.spv_rational.specs.Rational.{Rational, whole, number, plus, times, is_zero, is_positive, is_negative}
 use Rattle.spv_rational.proofs.Field.{plus_comm, plus_assoc, plus_zero, zero_plus, plus_middle, times_assoc, times_plus, plus_times, times_zero, zero_times, whole_plus, whole_times}
 use Rattle.spv_rational.proofs.Signs.{not_positive_plus, not_positive_times, zero_is}
 use Rattle.spv_logic.specs.Terms.{Term, term_eq}
-use Rattle.spv_logic.proofs.Equality.{left_true, right_true, term_eq-true}
+use Rattle.spv_logic.proofs.Equality.{term_eq-true}
 use Rattle.spv_atoms.specs.Forms.{Form, with_part, with_parts, parts_worth, form_worth}
 use Rattle.spv_proof.specs.Sums.{Reading, Combination, nothing, add_form, may_multiply, add_reading, cited_reading, then_add, sum_of, shows_above_zero, is_at_most_zero, difference, refutes}
 

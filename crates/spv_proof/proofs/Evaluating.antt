@@ -4,15 +4,16 @@ use Rattle.std.specs.List.{list_all, list_any, flat_map}
 use Rattle.std.proofs.lemmas.Bool.{false≢true}
 use Rattle.std.proofs.lemmas.Int.{ints}
 use Rattle.std.specs.Int.RustNames.{int_lt}
+use Rattle.spv_list.proofs.Tests.{left_true, right_true}
 use Rattle.spv_logic.specs.declared.types.Shape.{Shape}
 use Rattle.spv_logic.specs.declared.types.Decl.{Decl}
 use Rattle.spv_logic.specs.declared.operators.Head.TheVariants.{Eq, Not}
 use Rattle.spv_logic.specs.Values.{Value, value_eq, bool_eq, number_of}
 use Rattle.spv_logic.specs.Terms.{Term, term, no_terms, terms, term_eq, eval}
-use Rattle.spv_logic.specs.Sorts.{shapes_ok}
+use Rattle.spv_logic.specs.Shapes.{shapes_ok}
 use Rattle.spv_logic.specs.Formulas.{below}
 use Rattle.spv_logic.specs.Conditions.{Meaning, Valuation, IsValuation, answers, holds}
-use Rattle.spv_logic.proofs.Equality.{left_true, right_true, value_eq-true, value_eq-refl, bool_eq-refl, term_eq-true}
+use Rattle.spv_logic.proofs.Equality.{value_eq-true, value_eq-refl, bool_eq-refl, term_eq-true}
 use Rattle.spv_atoms.specs.Tables.{assigned, computed}
 use Rattle.spv_atoms.specs.Atoms.{is_truth}
 use Rattle.spv_atoms.proofs.Truths.{Known, known_none, known_some, known_or_else}

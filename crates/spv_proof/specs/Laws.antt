@@ -1,6 +1,6 @@
 -- What an accepted proof shows.
 use Rattle.std.specs.Prelude.{IsTrue, List}
-use Rattle.spv_logic.specs.Sorts.{shapes_ok}
+use Rattle.spv_logic.specs.Shapes.{shapes_ok}
 use Rattle.spv_logic.specs.Conditions.{Meaning, TrueIn}
 use Rattle.spv_term.specs.declared.nodes.Condition.{Condition}
 use Rattle.spv_term.specs.Arena.{Arena, IsArena, sequent}

@@ -1,5 +1,6 @@
 -- Declarations that are spelled are read.
 use Rattle.std.proofs.Common.{◌≡◌, ℕ, suc, ◌+◌, ◌≤◌, Bool, false, ◌||◌, List, [], ◌∷◌, Option, Some, None, length, refl, ap, ◌∙◌, arith}
+use Rattle.spv_list.proofs.Tests.{left_false, right_false, both_false}
 use Rattle.spv_tokens.specs.declared.token.Token.{Token}
 use Rattle.spv_tokens.specs.declared.token.TokenKind.{TokenKind}
 use Rattle.spv_tokens.specs.declared.token.TokenKind.TheVariants as kind
@@ -25,7 +26,7 @@ use Rattle.spv_reading.specs.DeclarationReaders.{read_const, read_name_or_class,
 use Rattle.spv_reading.specs.Continuing.{continues_type, continues_declarations}
 use Rattle.spv_reading.specs.Depths.{type_depth, typedefs_depth, variables_depth, declarations_depth}
 use Rattle.spv_reading.specs.Parts.{Stands, constant_part, type_part, several_part, headed_part, const_part, typedef_part, vars_part, sort_part, symbol_part, declarations_part}
-use Rattle.spv_reading.proofs.Whole.{Answers, Complete, Each, front_of, begun_of, taken_of, if_true, if_false, left_false, right_false, name_complete, done, then_answers, past_answers, answers_after, several_complete}
+use Rattle.spv_reading.proofs.Whole.{Answers, Complete, Each, front_of, begun_of, taken_of, if_true, if_false, name_complete, done, then_answers, past_answers, answers_after, several_complete}
 use Rattle.spv_reading.proofs.WholeHeads.{never, ended_complete, absent, present, headed_ends, headed_complete}
 use Rattle.spv_reading.proofs.StatementLengths.{constant_length}
 use Rattle.spv_reading.proofs.StatementWhole.{constant_complete}
@@ -134,9 +135,6 @@ variables_complete n xs d = headed_complete vars_part begins_name (read_vars n) 
 
 symbols_complete : (xs : List SymbolText) → Complete (headed_part (kind.Word word.Declare) symbol_part) (λ o. is (kind.Word word.Declare) o || begins_name o) (headed_by (kind.Word word.Declare) begins_name read_symbol) xs
 symbols_complete xs = headed_complete symbol_part begins_name read_symbol (λ x rest. refl) symbol_length (kind.Word word.Declare) refl xs (all_symbols xs)
-
-both_false : (a b : Bool) → a ≡ false → b ≡ false → (a || b) ≡ false
-both_false a b e f = ap (λ c. c || b) e ∙ f
 
 -- what ends declarations ends each kind of them
 record Ends (o : Option TokenKind) : Type 0 where

@@ -16,7 +16,7 @@ use Rattle.spv_syntax.specs.FormulaKinds.{prefix_kind, comparison_kind, adding_k
 use Rattle.spv_reading.specs.Readers.{first, is}
 use Rattle.spv_reading.specs.FormulaReaders.{prefix_of, comparison_of, adding_of, multiplying_of}
 use Rattle.spv_reading.specs.Continuing.{continues_factor, continues_term, continues_simple, continues_relation, continues_formula, continues_formulas}
-use Rattle.spv_reading.proofs.Whole.{right_false}
+use Rattle.spv_list.proofs.Tests.{right_false}
 
 -- ---- operators are read
 

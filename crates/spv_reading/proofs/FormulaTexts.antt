@@ -2,6 +2,7 @@
 use Rattle.std.proofs.Common.{◌≡◌, ℕ, ◌-◌, ◌≤◌, Bool, true, false, ◌&&◌, if◌then◌else◌, List, [], ◌∷◌, ◌++◌, Some, None, length, take, drop, refl, sym, ap, ◌∙◌, subst, arith}
 use Rattle.std.proofs.Math.Seq.{take-append_seam, drop-append_seam}
 use Rattle.std.proofs.lemmas.List.{append-nil}
+use Rattle.spv_list.proofs.Tests.{left_true}
 use Rattle.spv_tokens.specs.declared.token.Token.{Token}
 use Rattle.spv_tokens.specs.declared.token.TokenKind.{TokenKind}
 use Rattle.spv_tokens.specs.declared.token.TokenKind.TheVariants as kind
@@ -151,10 +152,6 @@ ends_are (m ∷ a) k l (o ∷ b) e =
     let h : (m ≡ o) × (a ++ k ∷ [] ≡ b ++ l ∷ []) = (cc (e), cc (e)) in
     let r = ends_are a k l b h.1 in
     (cc (h.0, r.0), r.1)
-
-left_true : (a b : Bool) → (a && b) ≡ true → a ≡ true
-left_true true b h = refl
-left_true false b h = h
 
 shrunk_by : (f : Formula) (inside : List Token) (t : Token) → Stands (inside ++ t ∷ []) (formula_kinds f (period ∷ [])) (formula_spelling in_lines f (passes ∷ [])) → Shrunk (inside ++ t ∷ []) f
 shrunk_by f inside t s =

@@ -1,6 +1,7 @@
 -- A formula that is spelled is read.
 use Rattle.std.proofs.Common.{◌≡◌, ℕ, zero, suc, ◌≤◌, true, false, List, ◌∷◌, Option, Some, None, is_some, length, refl, sym, ap, ◌∙◌, arith}
 use Rattle.std.proofs.lemmas.Bool.{false≢true}
+use Rattle.spv_list.proofs.Tests.{left_false, right_false}
 use Rattle.spv_tokens.specs.declared.token.Token.{Token}
 use Rattle.spv_tokens.specs.declared.token.TokenKind.{TokenKind}
 use Rattle.spv_tokens.specs.declared.token.TokenKind.TheVariants as kind
@@ -15,7 +16,7 @@ use Rattle.spv_reading.specs.FormulaReaders.{prefix_of, comparison_of, adding_of
 use Rattle.spv_reading.specs.Continuing.{continues_selectors, continues_factor, continues_term, continues_simple, continues_relation, continues_formula, continues_formulas}
 use Rattle.spv_reading.specs.Depths.{formula_depth, conclusion_depth, relation_depth, right_side_depth, simple_depth, more_terms_depth, term_depth, more_factors_depth, factor_depth, more_formulas_depth, selectors_depth, selector_depth}
 use Rattle.spv_reading.specs.Parts.{Stands, formula_part, conclusion_part, relation_part, right_side_part, simple_part, added_term_part, more_terms_part, term_part, multiplied_factor_part, more_factors_part, factor_part, more_formulas_part, selectors_part, selector_part}
-use Rattle.spv_reading.proofs.Whole.{Answers, AnswersItem, Complete, CompleteItem, CompleteList, front_of, begun_of, taken_of, and_then_is, if_true, if_false, operated_is, operated_none, none_complete, more_complete, left_false, right_false, none_of, name_complete, behind_complete, behind_none, done, then_answers, past_answers, answers_after, item_after}
+use Rattle.spv_reading.proofs.Whole.{Answers, AnswersItem, Complete, CompleteItem, CompleteList, front_of, begun_of, taken_of, and_then_is, if_true, if_false, operated_is, operated_none, none_complete, more_complete, none_of, name_complete, behind_complete, behind_none, done, then_answers, past_answers, answers_after, item_after}
 use Rattle.spv_reading.proofs.FormulaEnds.{prefix_back, comparison_back, adding_back, multiplying_back, more_factors_ends, more_terms_ends, right_side_ends, conclusion_ends, more_formulas_ends, selectors_end, no_prefix}
 
 -- ---- one level down

@@ -1,5 +1,6 @@
 -- Headings and clauses that are spelled are read.
 use Rattle.std.proofs.Common.{◌≡◌, ℕ, ◌≤◌, Bool, true, false, ◌||◌, List, [], ◌∷◌, Option, Some, None, refl, ap, ◌∙◌, arith}
+use Rattle.spv_list.proofs.Tests.{left_false, right_false}
 use Rattle.spv_tokens.specs.declared.token.Token.{Token}
 use Rattle.spv_tokens.specs.declared.token.TokenKind.{TokenKind}
 use Rattle.spv_tokens.specs.declared.token.TokenKind.TheVariants as kind
@@ -32,7 +33,7 @@ use Rattle.spv_reading.specs.RoutineReaders.{typed_name, read_variables, group_o
 use Rattle.spv_reading.specs.Continuing.{continues_formula, continues_heading, continues_clauses}
 use Rattle.spv_reading.specs.Depths.{condition_depth, clauses_depth}
 use Rattle.spv_reading.specs.Parts.{Stands, formula_part, several_part, ended_part, group_part, heading_part, item_part, global_group_part, start_part, clauses_part}
-use Rattle.spv_reading.proofs.Whole.{Answers, Complete, Each, front_of, begun_of, taken_of, if_true, if_false, left_false, right_false, name_complete, done, then_answers, past_answers, answers_after, several_complete}
+use Rattle.spv_reading.proofs.Whole.{Answers, Complete, Each, front_of, begun_of, taken_of, if_true, if_false, name_complete, done, then_answers, past_answers, answers_after, several_complete}
 use Rattle.spv_reading.proofs.WholeHeads.{never, ended_complete, absent, present}
 use Rattle.spv_reading.proofs.FormulaWhole.{formula_complete}
 use Rattle.spv_reading.proofs.TypeWhole.{names_complete}

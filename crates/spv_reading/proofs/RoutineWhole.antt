@@ -1,6 +1,7 @@
 -- Routines and programs that are spelled are read.
 use Rattle.std.proofs.Common.{◌≡◌, ℕ, zero, suc, ◌≤◌, Bool, true, false, ◌||◌, List, [], ◌∷◌, Option, Some, None, length, refl, ap, ◌∙◌, arith}
 use Rattle.std.proofs.lemmas.Bool.{false≢true}
+use Rattle.spv_list.proofs.Tests.{left_true, right_true, left_false, right_false, both_false}
 use Rattle.spv_tokens.specs.declared.token.Token.{Token}
 use Rattle.spv_tokens.specs.declared.token.TokenKind.{TokenKind}
 use Rattle.spv_tokens.specs.declared.token.TokenKind.TheVariants as kind
@@ -29,7 +30,7 @@ use Rattle.spv_reading.specs.RoutineReaders.{read_heading, begins_heading, read_
 use Rattle.spv_reading.specs.Continuing.{continues_declarations, continues_heading, continues_clauses}
 use Rattle.spv_reading.specs.Depths.{variables_depth, clauses_depth, routines_depth, program_depth}
 use Rattle.spv_reading.specs.Parts.{Stands, names_part, block_part, heading_part, locals_part, routines_part, program_part}
-use Rattle.spv_reading.proofs.Whole.{Answers, Complete, front_of, begun_of, taken_of, and_then_is, if_true, if_false, left_true, right_true, left_false, right_false, name_complete, done, then_answers, past_answers, answers_after}
+use Rattle.spv_reading.proofs.Whole.{Answers, Complete, front_of, begun_of, taken_of, and_then_is, if_true, if_false, name_complete, done, then_answers, past_answers, answers_after}
 use Rattle.spv_reading.proofs.WholeHeads.{never, ended_complete, absent, present, headed_ends, kinds_length}
 use Rattle.spv_reading.proofs.StatementWhole.{block_complete}
 use Rattle.spv_reading.proofs.TypeWhole.{names_complete}
@@ -72,9 +73,6 @@ routines_first p e (Ends b ∷ ms) spelled f = block_first p e b _
 
 abbrev continues_locals : Option TokenKind → Bool
 continues_locals o = begins_name o || (is (kind.Word word.Const) o || is (kind.Word word.Var) o)
-
-both_false : (a b : Bool) → a ≡ false → b ≡ false → (a || b) ≡ false
-both_false a b e f = ap (λ c. c || b) e ∙ f
 
 locals_complete : (x : Locals) (n : ℕ) → variables_depth x.variables ≤ n → Complete locals_part continues_locals (read_locals n) x
 locals_complete x n d tokens spelled steps s e =

@@ -20,7 +20,7 @@ use Rattle.spv_reading.specs.Readers.{first, is}
 use Rattle.spv_reading.specs.FormulaReaders.{prefix_of}
 use Rattle.spv_reading.specs.StatementReaders.{begins_constant, direction_of}
 use Rattle.spv_reading.specs.Continuing.{continues_formula, continues_action, continues_statement, continues_statements, continues_arm, continues_arms, continues_otherwise}
-use Rattle.spv_reading.proofs.Whole.{left_false, right_false}
+use Rattle.spv_list.proofs.Tests.{left_false, right_false, both_false, and_false}
 
 pub direction_back : (d : Direction) → direction_of (Some (direction_kind d)) ≡ Some d
 direction_back direction.Up = refl
@@ -39,13 +39,6 @@ constant_begins None (scalar.Number n) rest = refl
 constant_begins None (scalar.Name x) rest = refl
 constant_begins (Some prefix.Plus) x rest = refl
 constant_begins (Some prefix.Minus) x rest = refl
-
-both_false : (a b : Bool) → a ≡ false → b ≡ false → (a || b) ≡ false
-both_false a b e f = ap (λ c. c || b) e ∙ f
-
-and_false : (a b : Bool) → b ≡ false → (a && b) ≡ false
-and_false true b e = e
-and_false false b e = refl
 
 abbrev Else : TokenKind
 Else = kind.Word word.Else

@@ -1,6 +1,7 @@
 -- A statement that is spelled is read.
 use Rattle.std.proofs.Common.{◌≡◌, ℕ, zero, suc, ◌≤◌, Bool, true, false, ◌||◌, List, [], ◌∷◌, Option, Some, None, length, refl, sym, ap, ◌∙◌, arith}
 use Rattle.std.proofs.lemmas.Bool.{false≢true}
+use Rattle.spv_list.proofs.Tests.{left_true, right_true, left_false, right_false}
 use Rattle.spv_tokens.specs.declared.token.Token.{Token}
 use Rattle.spv_tokens.specs.declared.token.TokenKind.{TokenKind}
 use Rattle.spv_tokens.specs.declared.token.TokenKind.TheVariants as kind
@@ -26,7 +27,7 @@ use Rattle.spv_reading.specs.StatementReaders.{scalar_by, read_scalar, signed_by
 use Rattle.spv_reading.specs.Continuing.{continues_selectors, continues_formula, begins_statement, continues_action, continues_statement, continues_statements, continues_arm, continues_arms, continues_loop, continues_otherwise}
 use Rattle.spv_reading.specs.Depths.{formula_depth, designator_depth, selectors_depth, formulas_depth, statement_depth, otherwise_depth, block_depth, more_statements_depth, arm_depth, more_arms_depth, loop_depth}
 use Rattle.spv_reading.specs.Parts.{Stands, formula_part, designator_part, constant_part, constants_part, statement_part, otherwise_part, block_part, more_statements_part, arm_part, more_arms_part, loop_part}
-use Rattle.spv_reading.proofs.Whole.{Answers, Complete, CompleteList, Each, front_of, begun_of, taken_of, if_true, if_false, none_complete, more_complete, left_true, right_true, left_false, right_false, name_complete, behind_complete, behind_none, done, then_answers, past_answers, answers_after, several_complete}
+use Rattle.spv_reading.proofs.Whole.{Answers, Complete, CompleteList, Each, front_of, begun_of, taken_of, if_true, if_false, none_complete, more_complete, name_complete, behind_complete, behind_none, done, then_answers, past_answers, answers_after, several_complete}
 use Rattle.spv_reading.proofs.WholeHeads.{never}
 use Rattle.spv_reading.proofs.FormulaEnds.{prefix_back, selectors_end, formula_factor}
 use Rattle.spv_reading.proofs.StatementEnds.{direction_back, direction_ends, no_sign, constant_begins, more_statements_ends, more_arms_ends, then_ends}

@@ -1,5 +1,6 @@
 -- A type that is spelled is read.
 use Rattle.std.proofs.Common.{◌≡◌, ℕ, zero, suc, ◌+◌, ◌≤◌, Bool, false, ◌||◌, List, [], ◌∷◌, Option, Some, None, length, refl, ap, ◌∙◌, arith}
+use Rattle.spv_list.proofs.Tests.{left_false, right_false}
 use Rattle.spv_tokens.specs.declared.token.Token.{Token}
 use Rattle.spv_tokens.specs.declared.token.TokenKind.{TokenKind}
 use Rattle.spv_tokens.specs.declared.token.TokenKind.TheVariants as kind
@@ -21,7 +22,7 @@ use Rattle.spv_reading.specs.TypeReaders.{read_names, begins_name, read_upper, r
 use Rattle.spv_reading.specs.Continuing.{continues_type, continues_types, continues_field, continues_fields}
 use Rattle.spv_reading.specs.Depths.{type_depth, more_types_depth, field_depth, more_fields_depth}
 use Rattle.spv_reading.specs.Parts.{Stands, name_part, constant_part, names_part, type_part, more_types_part, field_part, more_fields_part}
-use Rattle.spv_reading.proofs.Whole.{Answers, Complete, CompleteList, Each, front_of, begun_of, taken_of, if_true, if_false, none_complete, more_complete, left_false, right_false, name_complete, behind_complete, behind_none, done, then_answers, past_answers, answers_after, several_complete}
+use Rattle.spv_reading.proofs.Whole.{Answers, Complete, CompleteList, Each, front_of, begun_of, taken_of, if_true, if_false, none_complete, more_complete, name_complete, behind_complete, behind_none, done, then_answers, past_answers, answers_after, several_complete}
 use Rattle.spv_reading.proofs.StatementLengths.{constant_length}
 use Rattle.spv_reading.proofs.StatementWhole.{name_same, constant_complete}
 use Rattle.spv_reading.proofs.WholeHeads.{never}

@@ -1,6 +1,7 @@
 -- What is spelled is read: how this goes through the ways to put readers together.
 use Rattle.std.proofs.Common.{◌≡◌, ℕ, zero, suc, ◌<◌, ◌≤◌, Bool, true, false, ◌&&◌, ◌||◌, List, [], ◌∷◌, Option, Some, None, is_some, length, refl, sym, ap, ◌∙◌, if◌then◌else◌, nat_eq, arith}
 use Rattle.std.proofs.lemmas.Bool.{false≢true, eqb-true}
+use Rattle.spv_list.proofs.Tests.{left_true, right_true, left_false, right_false}
 use Rattle.spv_tokens.specs.declared.token.Token.{Token}
 use Rattle.spv_tokens.specs.declared.token.TokenKind.{TokenKind}
 use Rattle.spv_tokens.specs.declared.token.TokenKind.TheVariants as kind
@@ -49,14 +50,6 @@ front_of {tokens} h = front_is tokens ∙ ap first h.spelled
 pub record Begun (tokens : List Token) (n : ℕ) (spelled : List TokenKind) (steps : List Step) : Type 0 where
   pub line : first_line tokens ≡ n
   pub stands : Stands tokens spelled steps
-
-pub left_true : (a b : Bool) → (a && b) ≡ true → a ≡ true
-left_true true b h = refl
-left_true false b h = h
-
-pub right_true : (a b : Bool) → (a && b) ≡ true → b ≡ true
-right_true true b h = h
-right_true false b h = absurd (false≢true h)
 
 agree_line : (tokens : List Token) (line : ℕ) (steps : List Step) → lines_agree (begins line ∷ steps) tokens ≡ true → (first_line tokens ≡ line) × (lines_agree steps tokens ≡ true)
 unfolding lines_agree
@@ -125,14 +118,6 @@ more_complete none add next (suc n) {tokens} {x} {xs} l a others =
     record { rest = b.rest; is = items_more none add next n tokens a.rest b.rest x xs a.is b.is; stands = b.stands; shorter = omega (arith, a.shorter, b.shorter) }
 
 -- ---- tests
-
-pub left_false : (a b : Bool) → (a || b) ≡ false → a ≡ false
-left_false true b h = h
-left_false false b h = refl
-
-pub right_false : (a b : Bool) → (a || b) ≡ false → b ≡ false
-right_false true b h = absurd (false≢true (sym h))
-right_false false b h = h
 
 pub none_of : {A : Type 0} (o : Option A) → is_some o ≡ false → o ≡ None
 none_of None h = refl

@@ -1,5 +1,6 @@
 -- What is spelled is read: parts that may be there, parts that end with a token, and parts behind a word.
 use Rattle.std.proofs.Common.{◌≡◌, suc, ◌≤◌, Bool, true, false, ◌||◌, List, [], ◌∷◌, Option, Some, None, length, refl, ap, ◌∙◌, arith}
+use Rattle.spv_list.proofs.Tests.{left_false, right_false}
 use Rattle.spv_tokens.specs.declared.token.Token.{Token}
 use Rattle.spv_tokens.specs.declared.token.TokenKind.{TokenKind}
 use Rattle.spv_syntax.specs.Lists.{each, headed}
@@ -7,7 +8,7 @@ use Rattle.spv_syntax.specs.Steps.{Step, passes}
 use Rattle.spv_syntax.specs.Reads.{kinds}
 use Rattle.spv_reading.specs.Readers.{first, after, is, same_kind, Reader, items, starting, headed_by, optional, ended}
 use Rattle.spv_reading.specs.Parts.{Part, Stands, headed_part, each_part, ended_part}
-use Rattle.spv_reading.proofs.Whole.{Answers, AnswersItem, Complete, CompleteList, Each, front_of, taken_of, if_true, if_false, none_complete, more_complete, left_false, right_false, done, then_answers, past_answers, answers_after}
+use Rattle.spv_reading.proofs.Whole.{Answers, AnswersItem, Complete, CompleteList, Each, front_of, taken_of, if_true, if_false, none_complete, more_complete, done, then_answers, past_answers, answers_after}
 
 -- ---- parts that end with a token
 

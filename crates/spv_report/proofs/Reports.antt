@@ -1,6 +1,6 @@
 -- A report without an unproved condition makes its program correct.
 use Rattle.std.proofs.Common.{◌≡◌, true, List, [], ◌∷◌, map, ap, subst}
-use Rattle.spv_logic.specs.Sorts.{shapes_ok}
+use Rattle.spv_logic.specs.Shapes.{shapes_ok}
 use Rattle.spv_logic.specs.Conditions.{Meaning}
 use Rattle.spv_term.specs.declared.nodes.Condition.{Condition}
 use Rattle.spv_term.specs.Arena.{Arena, tree, sequent}

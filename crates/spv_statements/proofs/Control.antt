@@ -10,9 +10,9 @@ use Rattle.spv_logic.specs.declared.operators.Head.{Head}
 use Rattle.spv_logic.specs.declared.operators.Head.TheVariants as head
 use Rattle.spv_logic.specs.Values.{Value, Number, number_of, truth_of, value_eq}
 use Rattle.spv_logic.specs.Terms.{Term, eval}
-use Rattle.spv_logic.specs.Sorts.{shapes_ok}
+use Rattle.spv_logic.specs.Shapes.{shapes_ok}
 use Rattle.spv_logic.specs.Conditions.{Meaning, Valuation, IsValuation, View, Shows, Condition, holds}
-use Rattle.spv_logic.proofs.Equality.{left_true, right_true, int_eq-true, int_eq-refl}
+use Rattle.spv_logic.proofs.Equality.{int_eq-true, int_eq-refl}
 use Rattle.spv_program.specs.Expressions.{Expression}
 use Rattle.spv_program.specs.Formulas.{Annotation}
 use Rattle.spv_program.specs.Statements.{Statement, Arms, Empty, Assign, Perform, New, Sequence, If, Case, While, Repeat, For, Assert, no_arms, arm}

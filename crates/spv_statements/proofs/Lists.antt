@@ -8,7 +8,7 @@ use Rattle.spv_logic.specs.Values.{Value, truth_of}
 use Rattle.spv_logic.specs.Terms.{Term, eval}
 use Rattle.spv_logic.specs.Substitution.{Replacement, is_variable, substitute, under}
 use Rattle.spv_logic.specs.Conditions.{Meaning, Valuation, Sequent, Condition, holds, follows}
-use Rattle.spv_logic.proofs.Equality.{left_true, right_true}
+use Rattle.spv_list.proofs.Tests.{left_true, right_true}
 use Rattle.spv_logic.proofs.Substitution.{eval-substitute}
 use Rattle.spv_program.specs.Programs.{Program}
 use Rattle.spv_program.specs.Supplies.{Supply}

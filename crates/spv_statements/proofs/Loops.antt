@@ -10,10 +10,12 @@ use Rattle.spv_logic.specs.declared.operators.Head.{Head}
 use Rattle.spv_logic.specs.declared.operators.Head.TheVariants as head
 use Rattle.spv_logic.specs.Values.{Value, Number, Truth, Pointer, ArrayOf, RecordOf, ClassOf, AtomOf, PairOf, number_of, truth_of}
 use Rattle.spv_logic.specs.Terms.{Term, head_eq, eval}
-use Rattle.spv_logic.specs.Sorts.{fits, shapes_ok, variable_sort}
+use Rattle.spv_logic.specs.Shapes.{shapes_ok}
+use Rattle.spv_logic.specs.Fits.{fits}
+use Rattle.spv_logic.specs.Sorts.{variable_sort}
 use Rattle.spv_logic.specs.Substitution.{is_variable, substitute, value_under, under}
 use Rattle.spv_logic.specs.Conditions.{Meaning, Valuation, IsValuation, View, Shows, Condition, shown_or, holds}
-use Rattle.spv_logic.proofs.Equality.{left_true, right_true, head_eq-true, head_eq-refl}
+use Rattle.spv_logic.proofs.Equality.{head_eq-true, head_eq-refl}
 use Rattle.spv_logic.proofs.Substitution.{worth-variable, eval-substitute, eval-same}
 use Rattle.spv_program.specs.declared.operators.Direction.{Direction}
 use Rattle.spv_program.specs.Formulas.{Annotation}

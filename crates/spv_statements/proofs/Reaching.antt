@@ -10,9 +10,11 @@ use Rattle.spv_logic.specs.declared.operators.Head.{Head}
 use Rattle.spv_logic.specs.declared.operators.Head.TheVariants as head
 use Rattle.spv_logic.specs.Values.{Value, truth_of}
 use Rattle.spv_logic.specs.Terms.{Term, eval}
-use Rattle.spv_logic.specs.Sorts.{shapes_ok, default_of, variable_sort}
+use Rattle.spv_logic.specs.Shapes.{shapes_ok}
+use Rattle.spv_logic.specs.Fits.{default_of}
+use Rattle.spv_logic.specs.Sorts.{variable_sort}
 use Rattle.spv_logic.specs.Conditions.{Meaning, Valuation, IsValuation, View, Shows, Condition, both, shown_or, holds}
-use Rattle.spv_logic.proofs.Equality.{left_true, right_true}
+use Rattle.spv_list.proofs.Tests.{left_true, right_true}
 use Rattle.spv_logic.proofs.Defaults.{default_fits}
 use Rattle.spv_program.specs.Formulas.{Annotation}
 use Rattle.spv_program.specs.Programs.{Program, shapes, routine_in}

@@ -3,6 +3,7 @@ use Rattle.std.proofs.Common.{arith, ◌≡◌, ℕ, zero, suc, Bool, true, fals
 use Rattle.std.specs.List.{list_any, list_all}
 use Rattle.std.proofs.lemmas.Bool.{false≢true, eq-eqb}
 use Rattle.std.proofs.lemmas.Bool.Decides.{nat_tests}
+use Rattle.spv_list.proofs.Tests.{left_true, right_true}
 use Rattle.spv_names.specs.declared.names.Symbol.{Symbol}
 use Rattle.spv_logic.specs.declared.types.TypeId.{TypeId}
 use Rattle.spv_logic.specs.declared.types.Sort.{Sort}
@@ -11,10 +12,11 @@ use Rattle.spv_logic.specs.declared.operators.Head.{Head}
 use Rattle.spv_logic.specs.declared.operators.Head.TheVariants as head
 use Rattle.spv_logic.specs.Values.{Value}
 use Rattle.spv_logic.specs.Terms.{Term, term, head_eq, eval}
-use Rattle.spv_logic.specs.Sorts.{fits, variable_sort}
+use Rattle.spv_logic.specs.Fits.{fits}
+use Rattle.spv_logic.specs.Sorts.{variable_sort}
 use Rattle.spv_logic.specs.Substitution.{is_variable, value_under, under}
 use Rattle.spv_logic.specs.Conditions.{Meaning, Valuation, IsValuation}
-use Rattle.spv_logic.proofs.Equality.{left_true, right_true, head_eq-true, head_eq-refl}
+use Rattle.spv_logic.proofs.Equality.{head_eq-true, head_eq-refl}
 use Rattle.spv_logic.proofs.Substitution.{worth-variable}
 use Rattle.spv_program.specs.Lists.{same_name}
 use Rattle.spv_program.specs.Types.{same_type}

@@ -12,7 +12,9 @@ use Rattle.spv_logic.specs.declared.operators.Head.{Head}
 use Rattle.spv_logic.specs.declared.operators.Head.TheVariants as head
 use Rattle.spv_logic.specs.Values.{Value}
 use Rattle.spv_logic.specs.Terms.{Term, head_eq, sort_eq}
-use Rattle.spv_logic.specs.Sorts.{fits, shapes_ok, variable_sort}
+use Rattle.spv_logic.specs.Shapes.{shapes_ok}
+use Rattle.spv_logic.specs.Fits.{fits}
+use Rattle.spv_logic.specs.Sorts.{variable_sort}
 use Rattle.spv_logic.specs.Substitution.{is_variable, value_under, under}
 use Rattle.spv_logic.specs.Conditions.{Meaning, Valuation, IsValuation, View, Shows, Condition, both, shown_or}
 use Rattle.spv_logic.proofs.Equality.{sort_eq-true}

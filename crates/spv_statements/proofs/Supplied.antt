@@ -14,7 +14,7 @@ use Rattle.spv_logic.specs.declared.operators.Head.TheVariants as head
 use Rattle.spv_logic.specs.Terms.{Term, head_eq}
 use Rattle.spv_logic.specs.Substitution.{is_variable, substitute}
 use Rattle.spv_logic.specs.Conditions.{Meaning, Valuation, Condition}
-use Rattle.spv_logic.proofs.Equality.{left_true, right_true}
+use Rattle.spv_list.proofs.Tests.{left_true, right_true}
 use Rattle.spv_logic.proofs.Substitution.{worth-variable}
 use Rattle.spv_program.specs.declared.operators.Direction.{Direction}
 use Rattle.spv_program.specs.declared.operators.Direction.TheVariants.{Up, Down}

@@ -10,7 +10,8 @@ use Rattle.spv_logic.specs.declared.types.Sort.TheVariants as sort
 use Rattle.spv_logic.specs.declared.operators.Head.{Head}
 use Rattle.spv_logic.specs.declared.operators.Head.TheVariants as head
 use Rattle.spv_logic.specs.Values.{Value}
-use Rattle.spv_logic.specs.Sorts.{fits, variable_sort}
+use Rattle.spv_logic.specs.Fits.{fits}
+use Rattle.spv_logic.specs.Sorts.{variable_sort}
 use Rattle.spv_logic.specs.Substitution.{is_variable}
 use Rattle.spv_logic.specs.Conditions.{Meaning, Valuation, IsValuation, View, Shows, Condition, both, shown_or}
 use Rattle.spv_program.specs.Programs.{Program, shapes}

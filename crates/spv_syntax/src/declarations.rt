@@ -1,8 +1,9 @@
 // Declarations.
 
-use crate::lists::{Parts, Several};
+use crate::lists::Several;
 use crate::names::{Constant, Name};
 use crate::types::TypeDenoter;
+use spv_list::List;
 
 /// `name "=" constant ";"`
 #[derive(Drop)]
@@ -75,11 +76,11 @@ pub struct Declarations {
     /// The line of its first token, or of the token that follows.
     pub line: u32,
     /// Behind CONST.
-    pub constants: Parts<Const>,
+    pub constants: List<Const>,
     /// Behind TYPE.
-    pub types: Parts<Typedef>,
+    pub types: List<Typedef>,
     /// Behind VAR.
-    pub variables: Parts<Vars>,
+    pub variables: List<Vars>,
     /// Behind DECLARE.
-    pub symbols: Parts<SymbolText>,
+    pub symbols: List<SymbolText>,
 }

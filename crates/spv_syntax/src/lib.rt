@@ -18,7 +18,7 @@ pub use formula_text::FormulaText;
 pub use formulas::{
     Designator, Factor, FactorForm, Formula, Relation, Selector, SelectorForm, Simple, Term,
 };
-pub use lists::{Parts, Several};
+pub use lists::Several;
 pub use names::{Constant, Name, Scalar};
 pub use operators::{Adding, Comparison, Direction, Multiplying, PlusOrMinus};
 pub use program::Program;

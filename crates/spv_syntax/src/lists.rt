@@ -1,41 +1,6 @@
-// Lists of parts.
+// Lists of parts that are not empty.
 
-ghost use Rattle.std.specs.Prelude.{◌≡◌};
-
-use std::marker::Model;
-
-/// Parts of one kind, in the order of the text.
-#[derive(Debug, Drop)]
-pub struct Parts<T> {
-    list: Vec<T>,
-}
-
-impl<T> Model for Parts<T> {
-    ghost use Rattle.std.specs.Prelude.{List};
-    ghost use Rattle.std.specs.Coded.{coded_list};
-
-    ghost Value = { List T };
-
-    ghost coded = { coded_list T.code };
-
-    ghost view = { λ p. p.list.items };
-}
-
-impl<T> Parts<T> {
-    /// The parts of a vector, in its order.
-    pub fn from_vec(list: Vec<T>) -> Parts<T>
-        ensures { result ≡ list.items }
-    {
-        Parts { list }
-    }
-
-    /// The parts as a slice.
-    pub fn as_slice(&self) -> &[T]
-        ensures { result.now ≡ self.now }
-    {
-        self.list.as_slice()
-    }
-}
+use spv_list::List;
 
 /// Parts of one kind, in the order of the text, at least one.
 #[derive(Debug, Drop)]
@@ -43,5 +8,5 @@ pub struct Several<T> {
     /// The first of them.
     pub first: T,
     /// The others, in order.
-    pub more: Parts<T>,
+    pub more: List<T>,
 }

@@ -2,10 +2,11 @@
 
 use crate::declarations::Declarations;
 use crate::formulas::Formula;
-use crate::lists::{Parts, Several};
+use crate::lists::Several;
 use crate::names::Name;
 use crate::routines::RoutineMark;
 use crate::statements::Block;
+use spv_list::List;
 
 /// `PROGRAM name ["(" names ")"] ";" decls {routine} [ENTRY formula ";"] [EXIT formula ";"] block "."`
 #[derive(Drop)]
@@ -19,7 +20,7 @@ pub struct Program {
     /// The declarations.
     pub declarations: Declarations,
     /// The routines.
-    pub routines: Parts<RoutineMark>,
+    pub routines: List<RoutineMark>,
     /// Behind ENTRY.
     pub entry: Option<Formula>,
     /// Behind EXIT.

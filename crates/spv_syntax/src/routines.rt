@@ -2,9 +2,10 @@
 
 use crate::declarations::{Const, NameOrClass, Vars};
 use crate::formulas::Formula;
-use crate::lists::{Parts, Several};
+use crate::lists::Several;
 use crate::names::Name;
 use crate::statements::Block;
+use spv_list::List;
 
 /// What a group of parameters is.
 #[derive(Drop)]
@@ -105,9 +106,9 @@ pub struct Locals {
     /// The line of the body's first token.
     pub line: u32,
     /// Behind CONST.
-    pub constants: Parts<Const>,
+    pub constants: List<Const>,
     /// Behind VAR.
-    pub variables: Parts<Vars>,
+    pub variables: List<Vars>,
 }
 
 /// Where a routine begins or ends. The routines of a text are the list of these in the order of the text. A routine inside

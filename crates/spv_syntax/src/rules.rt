@@ -2,8 +2,9 @@
 
 use crate::declarations::SortName;
 use crate::formulas::Formula;
-use crate::lists::{Parts, Several};
+use crate::lists::Several;
 use crate::names::Name;
+use spv_list::List;
 
 /// `names ":" sort ";"`
 #[derive(Drop)]
@@ -40,7 +41,7 @@ pub struct RuleTree {
     /// The line of its first token, or 1 where there is none.
     pub line: u32,
     /// Behind VAR.
-    pub variables: Parts<RuleVars>,
+    pub variables: List<RuleVars>,
     /// The rules.
-    pub rules: Parts<Rule>,
+    pub rules: List<Rule>,
 }

@@ -5,6 +5,7 @@ use Rattle.std.specs.Map.{keys_of, values_of}
 use Rattle.std.proofs.lemmas.List.{map_push}
 use Rattle.indexmap.specs.IndexMap.{insert_entry}
 use Rattle.std.proofs.lemmas.Bool.{false≢true, eqb-true}
+use Rattle.spv_list.proofs.Tests.{left_true, right_true}
 use denote.Struct.Field.{Field}
 use denote.Struct.Values.{Values}
 use denote.Enum.Declared.{Choice, intoss}
@@ -13,7 +14,7 @@ use Rattle.spv_names.specs.declared.names.Symbol.{Symbol}
 use Rattle.spv_logic.specs.declared.types.TypeId.{TypeId}
 use Rattle.spv_logic.specs.declared.types.Sort.{Sort}
 use Rattle.spv_logic.specs.declared.operators.Head.{Head}
-use Rattle.spv_logic.proofs.Equality.{left_true, right_true, int_eq-true}
+use Rattle.spv_logic.proofs.Equality.{int_eq-true}
 use Rattle.spv_logic.specs.contracts.types.Sort as sort_type
 use Rattle.spv_logic.specs.contracts.types.SortPartialEq.TheImpl as of_sorts
 use Rattle.spv_logic.specs.contracts.operators.Head as head_type

@@ -9,7 +9,8 @@ use Rattle.spv_logic.specs.declared.types.Decl.{Decl}
 use Rattle.spv_logic.specs.declared.operators.Head.{Head}
 use Rattle.spv_logic.specs.declared.operators.Head.TheVariants.{Num}
 use Rattle.spv_logic.specs.Terms.{Term, Terms, term, no_terms, terms, head_eq}
-use Rattle.spv_logic.specs.Sorts.{result_sort, head_in_range, sort_in_range, numeral_fits, shapes_ok}
+use Rattle.spv_logic.specs.Shapes.{shapes_ok}
+use Rattle.spv_logic.specs.Sorts.{result_sort, head_in_range, sort_in_range, numeral_fits}
 use Rattle.spv_logic.specs.Conditions.{Sequent}
 use Rattle.spv_term.specs.declared.nodes.Node.{Node}
 use Rattle.spv_term.specs.declared.nodes.Condition.{Condition}

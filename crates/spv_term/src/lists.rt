@@ -1,6 +1,6 @@
 //! Lists of ids, shapes and declarations, which contracts see as lists.
 ghost use Rattle.std.specs.Prelude.{◌≡◌, ◌<◌, ◌++◌, [], ◌∷◌, length, IsTrue, IfOk, OnOk, OnErr, slice_get, Some};
-ghost use Rattle.spv_logic.specs.Sorts.{shapes_ok};
+ghost use Rattle.spv_logic.specs.Shapes.{shapes_ok};
 
 use smallvec::SmallVec;
 use spv_logic::{Decl, Shape, TermId, TypeId};
@@ -102,7 +102,7 @@ pub struct Shapes {
 impl Model for Shapes {
     ghost use Rattle.std.specs.Prelude.{List, IsTrue};
     ghost use Rattle.spv_logic.specs.declared.types.Shape.{Shape};
-    ghost use Rattle.spv_logic.specs.Sorts.{shapes_ok};
+    ghost use Rattle.spv_logic.specs.Shapes.{shapes_ok};
 
     ghost Value = { List Shape };
 

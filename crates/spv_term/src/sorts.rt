@@ -4,6 +4,7 @@ ghost use Rattle.std.specs.List.{find};
 ghost use Rattle.std.specs.Option.{option_map};
 ghost use Rattle.spv_logic.specs.declared.types.Sort.{Sort};
 ghost use Rattle.spv_logic.specs.declared.types.Shape.TheVariants as shape;
+ghost use Rattle.spv_logic.specs.Shapes as type_spec;
 ghost use Rattle.spv_logic.specs.Sorts as spec;
 
 use spv_logic::{Decl, Field, Head, Shape, Sort, TypeId};
@@ -11,15 +12,15 @@ use spv_names::Symbol;
 
 // The shape of a type, if it is there.
 fn shape_at(shapes: &[Shape], t: TypeId) -> Option<&Shape>
-    ensures there { IfSome result (λ s. spec.shape_at shapes.now t.0 ≡ s.now) }
-    ensures missing { IfNone result (spec.shape_at shapes.now t.0 ≡ shape.Record []) }
+    ensures there { IfSome result (λ s. type_spec.shape_at shapes.now t.0 ≡ s.now) }
+    ensures missing { IfNone result (type_spec.shape_at shapes.now t.0 ≡ shape.Record []) }
 {
     shapes.get(t.0 as usize)
 }
 
 // The sort of an array's elements.
 fn element_sort(shapes: &[Shape], array: Sort) -> Option<Sort>
-    ensures { result ≡ spec.element_sort shapes.now array }
+    ensures { result ≡ type_spec.element_sort shapes.now array }
 {
     let Sort::Whole(t) = array else {
         return None;
@@ -42,7 +43,7 @@ fn field_sort(fields: &[Field], name: Symbol) -> Option<Sort>
 
 // The sort of a record's field of this name.
 fn part_sort(shapes: &[Shape], record_sort: Sort, name: Symbol) -> Option<Sort>
-    ensures { result ≡ spec.field_sort_of (spec.fields_of shapes.now record_sort) name.0 }
+    ensures { result ≡ type_spec.field_sort_of (type_spec.fields_of shapes.now record_sort) name.0 }
 {
     let Sort::Whole(t) = record_sort else {
         return None;
@@ -55,7 +56,7 @@ fn part_sort(shapes: &[Shape], record_sort: Sort, name: Symbol) -> Option<Sort>
 
 // The sort of the values of a type.
 fn sort_of_type(shapes: &[Shape], t: TypeId) -> Sort
-    ensures { result ≡ spec.sort_of_type shapes.now t }
+    ensures { result ≡ type_spec.sort_of_type shapes.now t }
 {
     match shape_at(shapes, t) {
         Some(Shape::Int) => Sort::Int,
@@ -67,7 +68,7 @@ fn sort_of_type(shapes: &[Shape], t: TypeId) -> Sort
 
 // The sort of the contents of a class.
 fn content_sort(shapes: &[Shape], class: Sort) -> Option<Sort>
-    ensures { result ≡ spec.content_sort shapes.now class }
+    ensures { result ≡ type_spec.content_sort shapes.now class }
 {
     match class {
         Sort::Class(t) => Some(sort_of_type(shapes, t)),

@@ -1,9 +1,10 @@
 -- Programs that are not correct.
 use Rattle.std.proofs.Common.{◌≡◌, true, [], ◌∷◌, refl, None, pos}
 use Rattle.std.proofs.lemmas.Bool.{false≢true}
+use Rattle.spv_list.proofs.Tests.{left_true}
 use Rattle.spv_logic.specs.Values.{Number}
 use Rattle.spv_logic.specs.Conditions.{Meaning, answers}
-use Rattle.spv_logic.proofs.Equality.{left_true, value_eq-true}
+use Rattle.spv_logic.proofs.Equality.{value_eq-true}
 use Rattle.spv_program.specs.Programs.{shapes}
 use Rattle.spv_meaning.specs.Correct.{Correct}
 use Rattle.spv_meaning.specs.Laws.{with_defaults}

@@ -1,5 +1,6 @@
 use Rattle.spv_logic.specs.declared.types.Sort.TheVariants as sort
-use Rattle.spv_logic.specs.Sorts.{default_of, variable_sort}
+use Rattle.spv_logic.specs.Fits.{default_of}
+use Rattle.spv_logic.specs.Sorts.{variable_sort}
 use Rattle.spv_logic.proofs.Defaults.{default_fits}
 use Rattle.spv_logic.proofs.laws.law_defaults.Goals as goal
 

@@ -2,7 +2,7 @@
 use Rattle.std.proofs.Common.{sym, ap, ◌∙◌, nat_eq}
 use Rattle.std.specs.List.{find}
 use Rattle.std.specs.Option.{option_map}
-use Rattle.spv_logic.specs.Sorts.{field_sort_of, fields_of, fields_of_shape}
+use Rattle.spv_logic.specs.Shapes.{field_sort_of, fields_of, fields_of_shape}
 use Rattle.spv_term.proofs.SortLemmas.{field_sort-find}
 use Rattle.spv_term.proofs.sorts.part_sort.Goals as goal
 

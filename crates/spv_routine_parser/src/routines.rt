@@ -7,7 +7,7 @@ ghost use Rattle.spv_tokens.specs.declared.token.Sign.TheVariants as sign;
 ghost use Rattle.spv_reading.specs.Readers as reader;
 ghost use Rattle.spv_reading.specs.RoutineReaders as routine;
 ghost use Rattle.spv_front.specs.Faults.{IsSyntax};
-ghost use Rattle.spv_parser.specs.RoutineParts.{read_initial};
+ghost use Rattle.spv_routine_parser.specs.RoutineParts.{read_initial};
 
 use spv_formula_parser::formulas::formula;
 use spv_front::fault::{Fault, unexpected};

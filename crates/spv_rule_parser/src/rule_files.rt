@@ -12,7 +12,8 @@ use spv_formula_parser::formulas::formula;
 use spv_front::fault::{Fault, unexpected};
 use spv_front::front::{after, first_line, front, is_word, past_sign, past_word};
 use spv_front::lists::{PartReader, headed};
-use spv_syntax::{Formula, Parts, Rule, RuleForm, RuleTree, RuleVars};
+use spv_list::List;
+use spv_syntax::{Formula, Rule, RuleForm, RuleTree, RuleVars};
 use spv_tokens::{Sign, Token, TokenKind, Word};
 use spv_type_parser::declarations::sort;
 use spv_type_parser::types::names;
@@ -138,7 +139,7 @@ pub fn rule_file(
     let line = first_line(tokens);
     let (variables, rest) = headed::<RuleVarsReader, RuleVars>(alloc, levels, Word::Var, tokens)?;
     let (rules, rest) = rule_list(alloc, levels, rest)?;
-    let rules = Parts::from_vec(rules);
+    let rules = List::from_vec(rules);
     let tree = RuleTree {
         line,
         variables,

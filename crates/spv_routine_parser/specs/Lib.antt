@@ -1,0 +1,2 @@
+pub mod RoutineParts
+pub mod Marks

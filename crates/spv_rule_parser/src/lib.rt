@@ -1,0 +1,4 @@
+//! Rule files from tokens.
+#![tactic(auto)]
+
+pub mod rule_files;
