@@ -1,7 +1,7 @@
 -- What is said of the tree of a text, said of the text.
 use Rattle.std.proofs.Common.{◌≡◌, ℕ, List, [], Result, Ok, Err, IfErr, refl, sym, ap, ◌∙◌, subst}
 use Rattle.std.specs.Prelude.{IsErrAnd}
-use Rattle.spv_syntax.specs.declared.program.Program.{Program}
+use Rattle.spv_syntax.specs.declared.programs.Program.{Program}
 use Rattle.spv_syntax.specs.Reads.{Reads}
 use Rattle.spv_language.specs.Texts.{names_with, IsTreeOf, TextsHaveOneTree}
 use Rattle.spv_form.specs.declared.fault.FormFault.{FormFault}

@@ -1,6 +1,6 @@
 -- When a text is refused, and when a report is its report.
 use Rattle.std.specs.Prelude.{◌≡◌, ℕ, List, []}
-use Rattle.spv_syntax.specs.declared.program.Program.{Program}
+use Rattle.spv_syntax.specs.declared.programs.Program.{Program}
 use Rattle.spv_syntax.specs.Reads.{Reads}
 use Rattle.spv_lexer.specs.declared.LexFault.TheVariants as lex
 use Rattle.spv_parser.specs.declared.refused.SyntaxFault.TheVariants as syntax

@@ -66,7 +66,7 @@ pub record IsUnread (o : Reading) : Type 0 where
   pub faults : o.faults_after ≡ o.faults_before
 
 -- the file was read, without a fault
-pub record IsRead (o : Reading) (file : List ℕ) : Type 0 where
+pub record IsReadWhole (o : Reading) (file : List ℕ) : Type 0 where
   pub asked : o.asked_after ≡ named o.asked_before file
   pub faults : o.faults_after ≡ o.faults_before
 
@@ -77,7 +77,7 @@ pub record IsReadBadly (o : Reading) (file : List ℕ) : Type 0 where
 
 -- the file was read at most once
 abbrev pub MayBeRead : Reading → List ℕ → Type 0
-MayBeRead o file = IsUnread o ⊎ (IsRead o file ⊎ IsReadBadly o file)
+MayBeRead o file = IsUnread o ⊎ (IsReadWhole o file ⊎ IsReadBadly o file)
 
 -- all of the output was written, without a fault
 pub record IsWritten (w : Writing) (output : List ℕ) : Type 0 where
@@ -99,8 +99,8 @@ pub record IsUnwritten (w : Writing) : Type 0 where
 -- what is found of a file; a text that is told is refused so, or has this report
 abbrev pub IsFound : Reading → List ℕ → Found → Type 0
 IsFound o file ReadFailed = IsReadBadly o file
-IsFound o file (Refusing r) = IsRead o file × IfSome (o.told file) (λ text. IsRefused text r)
-IsFound o file (Reporting r) = IsRead o file × IsReport r × IfSome (o.told file) (λ text. IsReportOf text r)
+IsFound o file (Refusing r) = IsReadWhole o file × IfSome (o.told file) (λ text. IsRefused text r)
+IsFound o file (Reporting r) = IsReadWhole o file × IsReport r × IfSome (o.told file) (λ text. IsReportOf text r)
 
 abbrev pub output : List ℕ → Found → List ℕ
 output file ReadFailed = read_fault_line file

@@ -74,7 +74,7 @@ module _ {old new : Arena} (more : Extends old new) where
 -- ---- how far the check has come
 
 -- after some steps: the facts so far, and that the rest decides
-pub record Going (old : Arena) (c : Condition) (steps : List Step) (now : Arena) (facts : List TermId) (rest : List Step) : Type 0 where
+pub record StepsSoFar (old : Arena) (c : Condition) (steps : List Step) (now : Arena) (facts : List TermId) (rest : List Step) : Type 0 where
   pub grows : Extends old now
   pub facts_in : AllBelow (length now.nodes) facts
   pub rest_in : StepsIn old rest
@@ -82,10 +82,10 @@ pub record Going (old : Arena) (c : Condition) (steps : List Step) (now : Arena)
   pub whole : map (tree now) facts ++ facts_added old c (map (tree now) facts) rest ≡ facts_added old c [] steps
   pub trees : trees_of now.nodes ≡ with_terms (trees_of old.nodes) (map (tree now) facts)
 
-pub going-start : (old : Arena) (c : Condition) (steps : List Step) → StepsIn old steps → Going old c steps old [] steps
+pub going-start : (old : Arena) (c : Condition) (steps : List Step) → StepsIn old steps → StepsSoFar old c steps old [] steps
 going-start old c steps h = record { grows = Extends-refl old; facts_in = tt; rest_in = h; verdict = refl; whole = refl; trees = refl }
 
-module _ {old : Arena} {c : Condition} {steps : List Step} {now : Arena} {facts : List TermId} {rest : List Step} (g : Going old c steps now facts rest) where
+module _ {old : Arena} {c : Condition} {steps : List Step} {now : Arena} {facts : List TermId} {rest : List Step} (g : StepsSoFar old c steps now facts rest) where
   abbrev found : List Term
   found = map (tree now) facts
 
@@ -122,7 +122,7 @@ module _ {old : Arena} {c : Condition} {steps : List Step} {now : Arena} {facts 
       later = facts_added old c (found ++ f ∷ []) others
 
       pub going-adds : (new : Arena) → Extends now new → (after : List TermId) → map (tree new) after ≡ found ++ f ∷ [] → AllBelow (length new.nodes) after
-          → trees_of new.nodes ≡ with_term (trees_of now.nodes) f → Going old c steps new after others
+          → trees_of new.nodes ≡ with_term (trees_of now.nodes) f → StepsSoFar old c steps new after others
       going-adds new more after m in_range made = record {
         grows = Extends-trans g.grows more;
         facts_in = in_range;

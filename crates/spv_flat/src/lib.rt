@@ -2,12 +2,12 @@
 #![tactic(auto)]
 
 mod declarations;
-mod formula_text;
+mod formula_texts;
 mod formulas;
 mod lists;
 mod names;
 mod out;
-mod program;
+mod programs;
 mod routines;
 mod rules;
 mod spelled;

@@ -16,7 +16,7 @@ use Rattle.spv_syntax.specs.declared.operators.Comparison.TheVariants.{Equal, No
 use Rattle.spv_syntax.specs.declared.operators.Multiplying.TheVariants.{Times, Div, Mod, And}
 use Rattle.spv_syntax.specs.declared.declarations.Vars.{Vars}
 use Rattle.spv_syntax.specs.declared.routines.RoutineMark.{RoutineMark}
-use Rattle.spv_syntax.specs.declared.program.Program.{Program}
+use Rattle.spv_syntax.specs.declared.programs.Program.{Program}
 use Rattle.spv_syntax.specs.Formulas as tree
 use Rattle.spv_syntax.specs.Types.{TypeDenoter, named, range, pointer, array, fields}
 use Rattle.spv_syntax.specs.Lists.{further, headed}

@@ -1,6 +1,6 @@
 -- A tree is one program of the form at most.
 use Rattle.std.proofs.Common.{◌≡◌, sym, ◌∙◌}
-use Rattle.spv_syntax.specs.declared.program.Program.{Program}
+use Rattle.spv_syntax.specs.declared.programs.Program.{Program}
 use Rattle.spv_form.specs.declared.form.KnownNumbers.{KnownNumbers}
 use Rattle.spv_form.specs.declared.form.Form.{Form}
 use Rattle.spv_form.specs.Trees.{HasParts}

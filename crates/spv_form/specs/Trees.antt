@@ -9,7 +9,7 @@ use Rattle.spv_syntax.specs.declared.operators.Comparison.TheVariants.{Equal}
 use Rattle.spv_syntax.specs.declared.operators.Multiplying.{Multiplying}
 use Rattle.spv_syntax.specs.declared.operators.Multiplying.TheVariants.{And}
 use Rattle.spv_syntax.specs.declared.declarations.Vars.{Vars}
-use Rattle.spv_syntax.specs.declared.program.Program.{Program}
+use Rattle.spv_syntax.specs.declared.programs.Program.{Program}
 use Rattle.spv_syntax.specs.Formulas as tree
 use Rattle.spv_syntax.specs.Statements as tree_statement
 use Rattle.spv_syntax.specs.Types as tree_type

@@ -3,7 +3,7 @@ use Rattle.std.proofs.Common.{◌≤◌, Bool, true, false, if◌then◌else◌,
 use Rattle.std.specs.Prelude.{Option, Some, None, length}
 use Rattle.spv_tokens.specs.declared.token.Token.{Token}
 use Rattle.spv_reading.specs.Readers.{Next, and_then, items, items_by, all_items}
-use Rattle.spv_front.specs.Lists.{put, Going}
+use Rattle.spv_front.specs.Lists.{put, ItemsSoFar}
 
 put-snoc : {A L : Type 0} (add : A → L → L) (xs : List A) (x : A) (others : L) → put add (xs ++ x ∷ []) others ≡ put add xs (add x others)
 put-snoc add [] x others = refl
@@ -33,38 +33,38 @@ module _ {A L : Type 0} (none : L) (add : A → L → L) (next : Next A) where
       ap (λ n. items none add next n rest) is_suc
 
 -- before the first turn
-pub going : {A L : Type 0} {none : L} {add : A → L → L} {next : Next A} {tokens : List Token} {done : List A} → done ≡ [] → Going none add next (all_items none add next tokens) (length tokens) 0 done tokens
+pub going : {A L : Type 0} {none : L} {add : A → L → L} {next : Next A} {tokens : List Token} {done : List A} → done ≡ [] → ItemsSoFar none add next (all_items none add next tokens) (length tokens) 0 done tokens
 going {A} {L} {none} {add} {next} {tokens} {done} e =
     let is_same : length tokens - 0 ≡ length tokens = omega arith in
-    let first : Going none add next (all_items none add next tokens) (length tokens) 0 [] tokens =
+    let first : ItemsSoFar none add next (all_items none add next tokens) (length tokens) 0 [] tokens =
     record { same = same_by none add next (all_items none add next tokens) ∙ ap (λ n. and_then (items none add next n tokens) (λ others behind. Some (others, behind))) (sym is_same) } in
-    subst (λ xs. Going none add next (all_items none add next tokens) (length tokens) 0 xs tokens) (sym e) first
+    subst (λ xs. ItemsSoFar none add next (all_items none add next tokens) (length tokens) 0 xs tokens) (sym e) first
 
 module _ {A L : Type 0} {none : L} {add : A → L → L} {next : Next A} {total : Option (L × List Token)} {end counter : ℕ} {done : List A} {rest : List Token} where
   -- a further item
-  pub turn : {x : A} {mid : List Token} {all : List A} → Going none add next total end counter done rest → counter < end → next rest ≡ Some (Some (x, mid)) → all ≡ done ++ x ∷ [] → Going none add next total end (counter + 1) all mid
+  pub turn : {x : A} {mid : List Token} {all : List A} → ItemsSoFar none add next total end counter done rest → counter < end → next rest ≡ Some (Some (x, mid)) → all ≡ done ++ x ∷ [] → ItemsSoFar none add next total end (counter + 1) all mid
   turn {x} {mid} {all} g below e f =
-      let one : Going none add next total end (counter + 1) (done ++ x ∷ []) mid =
+      let one : ItemsSoFar none add next total end (counter + 1) (done ++ x ∷ []) mid =
       record {
         same = g.same
             ∙ ap (λ o. and_then o (λ others behind. Some (put add done others, behind))) (one_left none add next end counter rest below)
             ∙ ap (λ o. and_then (items_by none add (items none add next (end - (counter + 1))) o rest) (λ others behind. Some (put add done others, behind))) e
             ∙ one_more none add next (items none add next (end - (counter + 1)) mid) done x;
       } in
-      subst (λ xs. Going none add next total end (counter + 1) xs mid) (sym f) one
+      subst (λ xs. ItemsSoFar none add next total end (counter + 1) xs mid) (sym f) one
 
   -- no further item begins
-  pub stopped : Going none add next total end counter done rest → next rest ≡ None → total ≡ Some (put add done none, rest)
+  pub stopped : ItemsSoFar none add next total end counter done rest → next rest ≡ None → total ≡ Some (put add done none, rest)
   stopped g e = g.same ∙ ap (λ o. and_then o (λ others behind. Some (put add done others, behind))) (none_more none add next (end - counter) rest e)
 
   -- a further item begins and is none
-  pub failed : Going none add next total end counter done rest → counter < end → next rest ≡ Some None → total ≡ None
+  pub failed : ItemsSoFar none add next total end counter done rest → counter < end → next rest ≡ Some None → total ≡ None
   failed g below e = g.same
       ∙ ap (λ o. and_then o (λ others behind. Some (put add done others, behind))) (one_left none add next end counter rest below)
       ∙ ap (λ o. and_then (items_by none add (items none add next (end - (counter + 1))) o rest) (λ others behind. Some (put add done others, behind))) e
 
   -- all turns are over
-  pub over : Going none add next total end counter done rest → end ≤ counter → total ≡ Some (put add done none, rest)
+  pub over : ItemsSoFar none add next total end counter done rest → end ≤ counter → total ≡ Some (put add done none, rest)
   over g above =
       let is_zero : end - counter ≡ 0 = omega (arith, above) in
       g.same ∙ ap (λ n. and_then (items none add next n rest) (λ others behind. Some (put add done others, behind))) is_zero

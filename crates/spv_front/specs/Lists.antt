@@ -9,7 +9,7 @@ put add [] others = others
 put add (x ∷ xs) others = add x (put add xs others)
 
 -- all that is read is these items and those that are still to come at the front of the rest, in as many turns as are left
-pub record Going {A L : Type 0} (none : L) (add : A → L → L) (next : Next A) (total : Option (L × List Token)) (end counter : ℕ) (done : List A) (rest : List Token) : Type 0 where
+pub record ItemsSoFar {A L : Type 0} (none : L) (add : A → L → L) (next : Next A) (total : Option (L × List Token)) (end counter : ℕ) (done : List A) (rest : List Token) : Type 0 where
   pub same : total ≡ and_then (items none add next (end - counter) rest) (λ others behind. Some (put add done others, behind))
 
 -- an item that was read before and the others

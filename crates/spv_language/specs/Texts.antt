@@ -1,12 +1,12 @@
 -- When a text has a tree, and which fault it has where it has none. `reads` says when tokens have a tree of one kind.
 use Rattle.std.specs.Prelude.{◌≡◌, ℕ, ◌<◌, ◌≤◌, List, None, length, take}
 use Rattle.spv_tokens.specs.declared.token.Token.{Token}
-use Rattle.spv_lexer.specs.Reading.{reading, IsRead}
+use Rattle.spv_lexer.specs.Reading.{reading, HasTokens}
 use Rattle.spv_lexer.specs.Tokens.{numbered, names_after}
 use Rattle.spv_lexer.specs.Tokens as lexer
 use Rattle.spv_lexer.specs.declared.LexFault.{LexFault}
 use Rattle.spv_lexer.specs.declared.LexFault.TheVariants.{TextTooLong, Memory}
-use Rattle.spv_parser.specs.Causes.{IsAllowed, HasCause}
+use Rattle.spv_parser.specs.Causes.{IsAllowed, HasTreeCause}
 use Rattle.spv_language.specs.declared.fault.LanguageFault.{LanguageFault}
 use Rattle.spv_language.specs.declared.fault.LanguageFault.TheVariants.{Tokens, Tree}
 
@@ -21,7 +21,7 @@ IsShort text = length text ≤ longest_text
 -- the text is short enough, and there is no fault in its tokens and gaps
 pub record IsCut (text : List ℕ) : Type 0 where
   pub short : IsShort text
-  pub read : IsRead text
+  pub read : HasTokens text
 
 -- the tokens of a text, with its names by their numbers behind the names that were there
 abbrev pub tokens_of : List (List ℕ) → List ℕ → List Token
@@ -49,8 +49,8 @@ HasLengthFor _ text = IsShort text
 
 -- the text has no tree, for this fault; of a text that no tree reads the line is left open, and want of memory has no cause
 abbrev pub IsFaultOf : {A : Type 0} → (List Token → A → Type 0) → List (List ℕ) → List ℕ → LanguageFault → Type 0
-IsFaultOf reads names text (Tokens fault) = HasLengthFor fault text × lexer.HasCause text fault
-IsFaultOf reads names text (Tree fault) = IsCut text × HasCause reads (tokens_of names text) fault
+IsFaultOf reads names text (Tokens fault) = HasLengthFor fault text × lexer.HasTextCause text fault
+IsFaultOf reads names text (Tree fault) = IsCut text × HasTreeCause reads (tokens_of names text) fault
 
 -- two trees of one text are equal
 abbrev pub TextsHaveOneTree : {A : Type 0} → (List Token → A → Type 0) → Type 0

@@ -11,7 +11,7 @@ use Rattle.std.proofs.Math.Seq.{drop-append_seam}
 use Rattle.spv_tokens.specs.declared.token.Sign.{Sign}
 use Rattle.spv_lexer.specs.Spelling.{Spelling, number, sign, long_signs, short_signs}
 use Rattle.spv_lexer.specs.Front.{Front, nothing, gap, token, fault, is_blank, through, comment, letters, numeral, decimal, longest_sign, front, open_comment, numeral_too_large, bad_byte}
-use Rattle.spv_lexer.specs.Reading.{line_after, reading_from, kinds, IsGap, IsRead}
+use Rattle.spv_lexer.specs.Reading.{line_after, reading_from, kinds, IsGap, HasTokens}
 use Rattle.spv_lexer.proofs.Sizes.{FitsIn, front_fits, of_choice, starts_with-length}
 use Rattle.spv_lexer.proofs.Readings.{reading-empty, reading-nothing, reading-gap, reading-token, reading-fault}
 use Rattle.spv_lexer.proofs.Joins.{both, BeginsApart, is_apart, Stays, front-append, of_choices, starts_same, through-append}
@@ -148,7 +148,7 @@ kinds-apart (suc n) l m o (b ∷ rest) x few is_read apart =
     (λ i j k some within read. kinds-apart n i j o (drop k text) x (omega (arith, length-drop k text)) read apart)
 
 -- the two sides of a gap
-pub kinds-gap : (before between after : List ℕ) → IsRead before → IsGap between → kinds (before ++ between ++ after) ≡ kinds before ++ kinds after
+pub kinds-gap : (before between after : List ℕ) → HasTokens before → IsGap between → kinds (before ++ between ++ after) ≡ kinds before ++ kinds after
 kinds-gap before between after is_read is_gap =
     let joined : kinds (before ++ (between ++ after)) ≡ kinds before ++ kinds_from 1 (between ++ after) =
     kinds-apart (length before) 1 1 1 before (between ++ after) (omega arith) is_read (gap_begins_apart between after is_gap) in

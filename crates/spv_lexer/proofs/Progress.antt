@@ -7,7 +7,7 @@ use Rattle.spv_tokens.specs.declared.token.Token.{Token}
 use Rattle.spv_lexer.specs.Spelling.{Spelling, word, name, number, sign}
 use Rattle.spv_lexer.specs.Front.{Fault, Front, nothing, gap, token, fault, front, bad_byte, open_comment, numeral_too_large}
 use Rattle.spv_lexer.specs.Reading.{Spelled, Reading, empty_reading, with_token, line_after, reading_from, reading}
-use Rattle.spv_lexer.specs.Tokens.{with_name, kind_of, names_after, numbered, HasCause}
+use Rattle.spv_lexer.specs.Tokens.{with_name, kind_of, names_after, numbered, HasTextCause}
 use Rattle.spv_lexer.specs.Seen.{IsPieceOf, IsRefusalOf, tokens_of}
 use Rattle.spv_lexer.specs.declared.lexer.Piece.{Piece}
 use Rattle.spv_lexer.specs.declared.LexFault.{LexFault}
@@ -80,7 +80,7 @@ module _ (start : List (List ℕ)) (text : List ℕ) (line : ℕ) (rest : List �
   stopped f is = ap (λ r. r.stop) (so.whole ∙ ap (with_tokens so.seen) (reading-fault line rest f is))
 
   -- the lexer's refusal is that of the text
-  pub Reached-refused : (e : LexFault) → IsRefusalOf (front rest) line e → HasCause text e
+  pub Reached-refused : (e : LexFault) → IsRefusalOf (front rest) line e → HasTextCause text e
   Reached-refused (BadByte n) is = stopped bad_byte is.0 ∙ ap (λ l. Some (bad_byte, l)) (sym is.1)
   Reached-refused (OpenComment n) is = stopped open_comment is.0 ∙ ap (λ l. Some (open_comment, l)) (sym is.1)
   Reached-refused (NumeralTooLarge n) is = stopped numeral_too_large is.0 ∙ ap (λ l. Some (numeral_too_large, l)) (sym is.1)

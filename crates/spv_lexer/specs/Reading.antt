@@ -55,5 +55,5 @@ abbrev pub IsGap : List ℕ → Type 0
 IsGap text = front text ≡ gap (length text)
 
 -- the whole text is read: nothing in it is refused
-abbrev pub IsRead : List ℕ → Type 0
-IsRead text = (reading text).stop ≡ None
+abbrev pub HasTokens : List ℕ → Type 0
+HasTokens text = (reading text).stop ≡ None

@@ -41,9 +41,9 @@ IsInTable names (Number n) = ⊤
 IsInTable names (Sign s) = ⊤
 
 -- when a text is refused so
-abbrev pub HasCause : List ℕ → LexFault → Type 0
-HasCause text (BadByte line) = (reading text).stop ≡ Some (bad_byte, line)
-HasCause text (OpenComment line) = (reading text).stop ≡ Some (open_comment, line)
-HasCause text (NumeralTooLarge line) = (reading text).stop ≡ Some (numeral_too_large, line)
-HasCause text TextTooLong = 4194304 < length text
-HasCause text Memory = ⊤
+abbrev pub HasTextCause : List ℕ → LexFault → Type 0
+HasTextCause text (BadByte line) = (reading text).stop ≡ Some (bad_byte, line)
+HasTextCause text (OpenComment line) = (reading text).stop ≡ Some (open_comment, line)
+HasTextCause text (NumeralTooLarge line) = (reading text).stop ≡ Some (numeral_too_large, line)
+HasTextCause text TextTooLong = 4194304 < length text
+HasTextCause text Memory = ⊤

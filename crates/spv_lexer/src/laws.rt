@@ -4,7 +4,7 @@ ghost use Rattle.std.specs.List.{starts_with};
 ghost use Rattle.spv_tokens.specs.declared.token.Sign.{Sign};
 ghost use Rattle.spv_lexer.specs.Spelling.{long_signs, short_signs, sign};
 ghost use Rattle.spv_lexer.specs.Front.{front, token};
-ghost use Rattle.spv_lexer.specs.Reading.{by_front, kinds, reading_from, IsGap, IsRead};
+ghost use Rattle.spv_lexer.specs.Reading.{by_front, kinds, reading_from, IsGap, HasTokens};
 
 /// A text is read by its front: what stands there, and then what is read of the rest.
 pub fn law_front()
@@ -15,9 +15,9 @@ pub fn law_front()
 /// A blank or a comment parts tokens: what stands on its two sides is read as if each side stood alone. So where two tokens do not
 /// join, one more blank or comment between them changes the kind of no token.
 pub fn law_gap()
-    ensures apart { (before between after : List ℕ) → IsRead before → IsGap between
+    ensures apart { (before between after : List ℕ) → HasTokens before → IsGap between
         → kinds (before ++ between ++ after) ≡ kinds before ++ kinds after }
-    ensures one_more { (before between after : List ℕ) → IsRead before → IsGap between
+    ensures one_more { (before between after : List ℕ) → HasTokens before → IsGap between
         → kinds (before ++ after) ≡ kinds before ++ kinds after
         → kinds (before ++ between ++ after) ≡ kinds (before ++ after) }
 {}

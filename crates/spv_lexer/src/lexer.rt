@@ -3,8 +3,8 @@ ghost use Rattle.std.specs.Prelude.{◌≡◌, ◌≤◌, ◌<◌, ◌==◌, ◌
 ghost use Rattle.spv_names.specs.Names.{IsFolded, folded};
 ghost use Rattle.spv_lexer.specs.Spelling.{word_or_name};
 ghost use Rattle.spv_lexer.specs.Front.{front as front_of};
-ghost use Rattle.spv_lexer.specs.Reading.{reading, IsRead};
-ghost use Rattle.spv_lexer.specs.Tokens.{kind_of, with_name, names_after, numbered, HasCause, IsInTable};
+ghost use Rattle.spv_lexer.specs.Reading.{reading, HasTokens};
+ghost use Rattle.spv_lexer.specs.Tokens.{kind_of, with_name, names_after, numbered, HasTextCause, IsInTable};
 ghost use Rattle.spv_lexer.specs.Seen.{IsPieceOf, IsRefusalOf, tokens_of};
 
 use crate::LexFault;
@@ -101,9 +101,9 @@ fn read(alloc: Global, text: &[u8], upper: &[u8], names: &mut Names) -> Result<V
     requires short { length text.now ≤ 4194304 }
     requires folded { upper.now ≡ folded text.now }
     ensures tokens { IfOk result (λ ts. ts.items ≡ numbered names.old (reading text.now).tokens) }
-    ensures whole { OnOk result (IsRead text.now) }
+    ensures whole { OnOk result (HasTokens text.now) }
     ensures names { OnOk result (names.new ≡ names_after names.old (reading text.now).tokens) }
-    ensures cause { IfErr result (HasCause text.now) }
+    ensures cause { IfErr result (HasTextCause text.now) }
     ensures grown { OnErr result ((k : ℕ) × (names.new ≡ names_after names.old (take k (reading text.now).tokens))) }
 {
     let mut tokens = Vec::new(alloc);
@@ -130,7 +130,7 @@ pub fn tokens(alloc: Global, text: &[u8], names: &mut Names) -> Result<Vec<Token
 
     // A text that is read gives all of its tokens, with its names in the table.
     ensures tokens { IfOk result (λ ts. ts.items ≡ numbered names.old (reading text.now).tokens) }
-    ensures whole { OnOk result (IsRead text.now) }
+    ensures whole { OnOk result (HasTokens text.now) }
     ensures names { OnOk result (names.new ≡ names_after names.old (reading text.now).tokens) }
     ensures in_table { IfOk result (λ ts. All (λ t. IsInTable names.new t.kind) ts.items) }
     ensures few { IfOk result (λ ts. length ts.items ≤ length text.now) }
@@ -138,7 +138,7 @@ pub fn tokens(alloc: Global, text: &[u8], names: &mut Names) -> Result<Vec<Token
 
     // A refusal has its cause in the text, and leaves the table with the names of some first tokens.
     ensures too_long { (result ≡ Err LexFault.TextTooLong) ↔ (4194304 < length text.now) }
-    ensures cause { IfErr result (HasCause text.now) }
+    ensures cause { IfErr result (HasTextCause text.now) }
     ensures grown { OnErr result ((k : ℕ) × (names.new ≡ names_after names.old (take k (reading text.now).tokens))) }
 
     // The names that were there keep their numbers.

@@ -1,5 +1,5 @@
 -- Two tests joined by && or ||, taken apart and put together.
-use Rattle.std.proofs.Common.{◌≡◌, Bool, true, false, ◌&&◌, ◌||◌, refl, sym, ap, ◌∙◌, absurd}
+use Rattle.std.proofs.Common.{◌≡◌, Bool, true, false, ◌&&◌, ◌||◌, refl, sym, ap, ◌∙◌}
 use Rattle.std.proofs.lemmas.Bool.{false≢true}
 
 pub left_true : (a b : Bool) → (a && b) ≡ true → a ≡ true

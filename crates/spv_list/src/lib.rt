@@ -23,7 +23,7 @@ impl<T> Model for List<T> {
     ghost view = { λ l. l.items.items };
 }
 
-impl<T: Drop> List<T> {
+impl<T> List<T> {
     /// The empty list.
     pub fn new(alloc: Global) -> List<T>
         ensures { result ≡ [] }
@@ -61,7 +61,9 @@ impl<T: Drop> List<T> {
     {
         &self.items[place]
     }
+}
 
+impl<T: Drop> List<T> {
     /// Puts an item at the end. For want of memory the list stays as it was.
     pub fn push(&mut self, item: T) -> Result<(), AllocError>
         ensures ok { OnOk result (self.new ≡ self.old ++ item ∷ []) }

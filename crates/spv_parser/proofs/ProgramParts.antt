@@ -9,7 +9,7 @@ use Rattle.spv_syntax.specs.declared.lists.Several.{Several}
 use Rattle.spv_syntax.specs.declared.names.Name.{Name}
 use Rattle.spv_syntax.specs.declared.declarations.Declarations.{Declarations}
 use Rattle.spv_syntax.specs.declared.routines.RoutineMark.{RoutineMark}
-use Rattle.spv_syntax.specs.declared.program.Program.{Program}
+use Rattle.spv_syntax.specs.declared.programs.Program.{Program}
 use Rattle.spv_syntax.specs.Formulas.{Formula}
 use Rattle.spv_syntax.specs.Steps.{first_line}
 use Rattle.spv_reading.specs.Readers.{front, after, is, and_then, name, ended}

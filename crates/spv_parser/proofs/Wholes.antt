@@ -11,7 +11,7 @@ use Rattle.spv_front.specs.declared.fault.Fault.TheVariants as fault
 use Rattle.spv_parser.specs.declared.refused.SyntaxFault.{SyntaxFault}
 use Rattle.spv_parser.specs.declared.refused.SyntaxFault.TheVariants.{Profile, TooDeep, Syntax, Memory}
 use Rattle.spv_front.specs.Faults.{IsSyntax}
-use Rattle.spv_parser.specs.Causes.{IsAllowed, IsRefusalOf, HasCause}
+use Rattle.spv_parser.specs.Causes.{IsAllowed, IsRefusalOf, HasTreeCause}
 
 nothing_left : {A : Type 0} (x : A) (rest : List Token) → length rest < 1 → read_whole (Some (x, rest)) ≡ Some x
 nothing_left x [] none = refl
@@ -40,7 +40,7 @@ module _ {A : Type 0} (read : ℕ → Reader A) (reads : List Token → A → Ty
   none_without {tokens} enough law allowed e = none_whole enough law allowed (ap read_whole e)
 
   -- so the refusal has its cause
-  pub refused_with_cause : {tokens : List Token} (f : Fault) (r : SyntaxFault) → 199 ≤ n → LowIsRead read reads → IsAllowed tokens → (IsSyntax f → read n tokens ≡ None) → IsRefusalOf f r → HasCause reads tokens r
+  pub refused_with_cause : {tokens : List Token} (f : Fault) (r : SyntaxFault) → 199 ≤ n → LowIsRead read reads → IsAllowed tokens → (IsSyntax f → read n tokens ≡ None) → IsRefusalOf f r → HasTreeCause reads tokens r
   refused_with_cause {tokens} (fault.Syntax place) (Syntax line) enough law allowed e h = (allowed, none_without enough law allowed (e tt))
   refused_with_cause {tokens} fault.Memory Memory enough law allowed e h = tt
   refused_with_cause {tokens} (fault.Syntax place) (Profile line word) enough law allowed e h = absurd h

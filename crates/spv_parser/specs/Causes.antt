@@ -27,8 +27,8 @@ IsRefusalOf fault.Memory Memory = Unit {0}
 IsRefusalOf _ _ = ⊥
 
 -- the fault is that of the tokens, where trees of this kind are read so; want of memory has no cause in them
-abbrev pub HasCause : {A : Type 0} → (List Token → A → Type 0) → List Token → SyntaxFault → Type 0
-HasCause reads tokens (Profile line word) = left_out tokens ≡ Some (line, word)
-HasCause reads tokens (TooDeep line) = (left_out tokens ≡ None) × (too_deep tokens ≡ Some line)
-HasCause {A} reads tokens (Syntax line) = IsAllowed tokens × ((x : A) → reads tokens x → ⊥)
-HasCause reads tokens Memory = Unit {0}
+abbrev pub HasTreeCause : {A : Type 0} → (List Token → A → Type 0) → List Token → SyntaxFault → Type 0
+HasTreeCause reads tokens (Profile line word) = left_out tokens ≡ Some (line, word)
+HasTreeCause reads tokens (TooDeep line) = (left_out tokens ≡ None) × (too_deep tokens ≡ Some line)
+HasTreeCause {A} reads tokens (Syntax line) = IsAllowed tokens × ((x : A) → reads tokens x → ⊥)
+HasTreeCause reads tokens Memory = Unit {0}

@@ -2,7 +2,7 @@
 
 ghost use Rattle.std.specs.Prelude.{◌≤◌, OnOk, IfOk, IfErr};
 ghost use Rattle.spv_syntax.specs.Reads.{Reads, ReadsRules, ReadsFormulaText};
-ghost use Rattle.spv_parser.specs.Causes.{IsAllowed, HasCause, IsForbidden, IsRefusalOf};
+ghost use Rattle.spv_parser.specs.Causes.{IsAllowed, HasTreeCause, IsForbidden, IsRefusalOf};
 
 use crate::formula_texts::{formula_text, surplus};
 use crate::programs::program_at;
@@ -10,7 +10,7 @@ use crate::refused::SyntaxFault;
 use spv_front::fault::Fault;
 use spv_level::{law_enough, law_enough_formula_text, law_enough_rules, left_out, too_deep};
 use spv_reading::laws::{law_formula_texts, law_programs, law_rules};
-use spv_rule_parser::rule_files::rule_file;
+use spv_rule_parser::rules::rule_file;
 use spv_syntax::{FormulaText, Program, RuleTree};
 use spv_tokens::Token;
 use std::alloc::Global;
@@ -48,7 +48,7 @@ fn program_within(alloc: Global, levels: u32, tokens: &[Token]) -> Result<Progra
     requires enough { 199 ≤ levels }
     ensures tree { IfOk result (λ p. Reads tokens.now p) }
     ensures allowed { IfOk result (λ p. IsAllowed tokens.now) }
-    ensures cause { IfErr result (HasCause Reads tokens.now) }
+    ensures cause { IfErr result (HasTreeCause Reads tokens.now) }
 {
     law_programs();
     law_enough();
@@ -64,7 +64,7 @@ fn program_within(alloc: Global, levels: u32, tokens: &[Token]) -> Result<Progra
 pub fn program(alloc: Global, tokens: &[Token]) -> Result<Program, SyntaxFault>
     ensures tree { IfOk result (λ p. Reads tokens.now p) }
     ensures allowed { IfOk result (λ p. IsAllowed tokens.now) }
-    ensures cause { IfErr result (HasCause Reads tokens.now) }
+    ensures cause { IfErr result (HasTreeCause Reads tokens.now) }
 {
     program_within(alloc, LEVELS, tokens)
 }
@@ -74,7 +74,7 @@ fn rules_within(alloc: Global, levels: u32, tokens: &[Token]) -> Result<RuleTree
     requires enough { 199 ≤ levels }
     ensures tree { IfOk result (λ t. ReadsRules tokens.now t) }
     ensures allowed { IfOk result (λ t. IsAllowed tokens.now) }
-    ensures cause { IfErr result (HasCause ReadsRules tokens.now) }
+    ensures cause { IfErr result (HasTreeCause ReadsRules tokens.now) }
 {
     law_rules();
     law_enough_rules();
@@ -90,7 +90,7 @@ fn rules_within(alloc: Global, levels: u32, tokens: &[Token]) -> Result<RuleTree
 pub fn rules(alloc: Global, tokens: &[Token]) -> Result<RuleTree, SyntaxFault>
     ensures tree { IfOk result (λ t. ReadsRules tokens.now t) }
     ensures allowed { IfOk result (λ t. IsAllowed tokens.now) }
-    ensures cause { IfErr result (HasCause ReadsRules tokens.now) }
+    ensures cause { IfErr result (HasTreeCause ReadsRules tokens.now) }
 {
     rules_within(alloc, LEVELS, tokens)
 }
@@ -100,7 +100,7 @@ fn formula_within(alloc: Global, levels: u32, tokens: &[Token]) -> Result<Formul
     requires enough { 199 ≤ levels }
     ensures tree { IfOk result (λ t. ReadsFormulaText tokens.now t) }
     ensures allowed { IfOk result (λ t. IsAllowed tokens.now) }
-    ensures cause { IfErr result (HasCause ReadsFormulaText tokens.now) }
+    ensures cause { IfErr result (HasTreeCause ReadsFormulaText tokens.now) }
 {
     law_formula_texts();
     law_enough_formula_text();
@@ -116,7 +116,7 @@ fn formula_within(alloc: Global, levels: u32, tokens: &[Token]) -> Result<Formul
 pub fn formula(alloc: Global, tokens: &[Token]) -> Result<FormulaText, SyntaxFault>
     ensures tree { IfOk result (λ t. ReadsFormulaText tokens.now t) }
     ensures allowed { IfOk result (λ t. IsAllowed tokens.now) }
-    ensures cause { IfErr result (HasCause ReadsFormulaText tokens.now) }
+    ensures cause { IfErr result (HasTreeCause ReadsFormulaText tokens.now) }
 {
     formula_within(alloc, LEVELS, tokens)
 }

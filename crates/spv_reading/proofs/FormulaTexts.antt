@@ -8,7 +8,7 @@ use Rattle.spv_tokens.specs.declared.token.TokenKind.{TokenKind}
 use Rattle.spv_tokens.specs.declared.token.TokenKind.TheVariants as kind
 use Rattle.spv_tokens.specs.declared.token.Word.TheVariants as word
 use Rattle.spv_tokens.specs.declared.token.Sign.TheVariants as sign
-use Rattle.spv_syntax.specs.declared.formula_text.FormulaText.{FormulaText}
+use Rattle.spv_syntax.specs.declared.formula_texts.FormulaText.{FormulaText}
 use Rattle.spv_syntax.specs.Formulas.{Formula}
 use Rattle.spv_syntax.specs.FormulaKinds.{name_kind, formula_kinds}
 use Rattle.spv_syntax.specs.ProgramKinds.{declarations_kinds}

@@ -233,10 +233,10 @@ module _ (inner : Reader Formula) where
       cc (a, n, c, d, e)
 
   module _ (below : Reader Factor) where
-    abbrev IsRead : Factor → Type 0
-    IsRead f = Complete factor_part continues_factor (λ rest. factor_by inner below (front rest) rest) f
+    abbrev IsReadAsFactor : Factor → Type 0
+    IsReadAsFactor f = Complete factor_part continues_factor (λ rest. factor_by inner below (front rest) rest) f
 
-    application_step : (line : ℕ) (f : Name) (argument : Formula) (more : MoreFormulas) (behind : Selectors) → Complete formula_part continues_formula inner argument → AllComplete more → SelectorsComplete behind → IsRead (application line f argument more behind)
+    application_step : (line : ℕ) (f : Name) (argument : Formula) (more : MoreFormulas) (behind : Selectors) → Complete formula_part continues_formula inner argument → AllComplete more → SelectorsComplete behind → IsReadAsFactor (application line f argument more behind)
     application_step line f argument more behind g h k tokens spelled steps s e =
         let b = begun_of s in
         let n = begun_of b.stands in
@@ -247,7 +247,7 @@ module _ (inner : Reader Formula) where
         ap (λ o. factor_by inner below o tokens) p.front ∙ if_true _ (ap (is (kind.Sign sign.OpenParenthesis)) q.front) refl in
         answers_after (omega (arith, p.shorter, q.shorter)) open_at (then_answers (g (after (after tokens)) _ _ q.stands (more_formulas_ends more _ refl)) (λ x is_x mid m. then_answers (h (length mid) mid _ _ (omega arith) m refl) (λ xs is_xs last r. past_answers _ refl r (λ next t. then_answers (k (length next) next spelled steps (omega arith) t (right_false (is (kind.Sign sign.OpenParenthesis) (first spelled)) _ e)) (λ ss is_ss rest u. done u (same_application tokens line f x argument xs more ss behind b.line n.line is_x is_xs is_ss))))))
 
-    place_step : (line at : ℕ) (x : Name) (behind : Selectors) → SelectorsComplete behind → IsRead (place line (designator at x behind))
+    place_step : (line at : ℕ) (x : Name) (behind : Selectors) → SelectorsComplete behind → IsReadAsFactor (place line (designator at x behind))
     place_step line at x behind k tokens spelled steps s e =
         let b = begun_of s in
         let m = begun_of b.stands in
@@ -262,13 +262,13 @@ module _ (inner : Reader Formula) where
           shorter = omega (arith, p.shorter, d.shorter);
         }
 
-    bracketed_step : (line : ℕ) (f : Formula) → Complete formula_part continues_formula inner f → IsRead (bracketed line f)
+    bracketed_step : (line : ℕ) (f : Formula) → Complete formula_part continues_formula inner f → IsReadAsFactor (bracketed line f)
     bracketed_step line f g tokens spelled steps s e =
         let b = begun_of s in
         let p = taken_of b.stands in
         answers_after (omega (arith, p.shorter)) (ap (λ o. factor_by inner below o tokens) p.front) (then_answers (g (after tokens) _ _ p.stands refl) (λ x is_f mid m. past_answers _ refl m (λ rest r. done {y = bracketed (first_line tokens) x} r (cc (b.line, is_f)))))
 
-    negation_step : (line : ℕ) (f : Factor) → Complete factor_part continues_factor below f → IsRead (negation line f)
+    negation_step : (line : ℕ) (f : Factor) → Complete factor_part continues_factor below f → IsReadAsFactor (negation line f)
     negation_step line f g tokens spelled steps s e =
         let b = begun_of s in
         let p = taken_of b.stands in
@@ -280,7 +280,7 @@ module _ (inner : Reader Formula) where
           shorter = omega (arith, p.shorter, a.shorter);
         }
 
-    class_step : (line : ℕ) (x : Name) → IsRead (class line x)
+    class_step : (line : ℕ) (x : Name) → IsReadAsFactor (class line x)
     class_step line x tokens spelled steps s e =
         let b = begun_of s in
         let p = taken_of b.stands in

@@ -14,7 +14,7 @@ use Rattle.spv_syntax.specs.declared.routines.Heading.{Heading}
 use Rattle.spv_syntax.specs.declared.routines.Clauses.{Clauses}
 use Rattle.spv_syntax.specs.declared.routines.RoutineMark.{RoutineMark}
 use Rattle.spv_syntax.specs.declared.routines.RoutineMark.TheVariants.{Announced, Begins, Ends}
-use Rattle.spv_syntax.specs.declared.program.Program.{Program}
+use Rattle.spv_syntax.specs.declared.programs.Program.{Program}
 use Rattle.spv_syntax.specs.Lists.{several, headed}
 use Rattle.spv_syntax.specs.FormulaKinds.{name_kind}
 use Rattle.spv_syntax.specs.TypeKinds.{names_kinds}

@@ -10,7 +10,7 @@ use Rattle.spv_syntax.specs.declared.rules.RuleForm.{RuleForm}
 use Rattle.spv_syntax.specs.declared.rules.RuleForm.TheVariants.{Replace, Infer}
 use Rattle.spv_syntax.specs.declared.rules.Rule.{Rule}
 use Rattle.spv_syntax.specs.declared.rules.RuleTree.{RuleTree}
-use Rattle.spv_syntax.specs.declared.formula_text.FormulaText.{FormulaText}
+use Rattle.spv_syntax.specs.declared.formula_texts.FormulaText.{FormulaText}
 use Rattle.spv_syntax.specs.Formulas.{Formula}
 use Rattle.spv_syntax.specs.Lists.{each, headed}
 use Rattle.spv_syntax.specs.FormulaKinds.{formula_kinds}

@@ -8,12 +8,12 @@ use Rattle.spv_syntax.specs.declared.declarations.Declarations.{Declarations}
 use Rattle.spv_syntax.specs.declared.routines.Clauses.{Clauses}
 use Rattle.spv_syntax.specs.declared.routines.RoutineMark.{RoutineMark}
 use Rattle.spv_syntax.specs.declared.routines.RoutineMark.TheVariants.{Announced, Begins, Ends}
-use Rattle.spv_syntax.specs.declared.program.Program.{Program}
+use Rattle.spv_syntax.specs.declared.programs.Program.{Program}
 use Rattle.spv_syntax.specs.declared.rules.RuleForm.{RuleForm}
 use Rattle.spv_syntax.specs.declared.rules.RuleForm.TheVariants.{Replace, Infer}
 use Rattle.spv_syntax.specs.declared.rules.Rule.{Rule}
 use Rattle.spv_syntax.specs.declared.rules.RuleTree.{RuleTree}
-use Rattle.spv_syntax.specs.declared.formula_text.FormulaText.{FormulaText}
+use Rattle.spv_syntax.specs.declared.formula_texts.FormulaText.{FormulaText}
 use Rattle.spv_syntax.specs.Statements.{Statement, empty, assignment, call, creation, compound, conditional, selection, repetition, assertion, Otherwise, nothing_otherwise, otherwise, Block, block, MoreStatements, no_more_statements, more_statements, Arm, no_arm, arm, MoreArms, no_more_arms, more_arms, Loop, while_loop, repeat_loop, for_loop}
 use Rattle.spv_syntax.specs.Types.{TypeDenoter, named, range, pointer, array, fields, MoreTypes, no_more_types, more_types, Field, no_field, field as field_of_type, MoreFields, no_more_fields, more_fields}
 use Rattle.spv_syntax.specs.Formulas.{Formula, formula, Conclusion, no_conclusion, implies, Relation, relation, RightSide, no_right_side, compared, Simple, simple, MoreTerms, no_more_terms, more_terms, Term, term, MoreFactors, no_more_factors, more_factors, Factor, number, truth, nil, class, place, application, bracketed, negation, MoreFormulas, no_more_formulas, more_formulas, Designator, designator, Selectors, no_selectors, selectors, Selector, index, field, content}

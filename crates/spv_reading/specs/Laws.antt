@@ -3,7 +3,7 @@ use Rattle.std.specs.Prelude.{◌≡◌, ℕ, ◌≤◌, Bool, false, List, Opti
 use Rattle.spv_tokens.specs.declared.token.Token.{Token}
 use Rattle.spv_tokens.specs.declared.token.TokenKind.{TokenKind}
 use Rattle.spv_syntax.specs.Steps.{Step}
-use Rattle.spv_syntax.specs.declared.program.Program.{Program}
+use Rattle.spv_syntax.specs.declared.programs.Program.{Program}
 use Rattle.spv_reading.specs.Readers.{first, Reader}
 use Rattle.spv_reading.specs.RoutineReaders.{read_program, read_whole}
 use Rattle.spv_reading.specs.Parts.{Part, BeginsWith, Stands}

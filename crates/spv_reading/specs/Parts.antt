@@ -29,12 +29,12 @@ use Rattle.spv_syntax.specs.declared.routines.Start.{Start}
 use Rattle.spv_syntax.specs.declared.routines.Clauses.{Clauses}
 use Rattle.spv_syntax.specs.declared.routines.Locals.{Locals}
 use Rattle.spv_syntax.specs.declared.routines.RoutineMark.{RoutineMark}
-use Rattle.spv_syntax.specs.declared.program.Program.{Program}
+use Rattle.spv_syntax.specs.declared.programs.Program.{Program}
 use Rattle.spv_syntax.specs.declared.rules.RuleVars.{RuleVars}
 use Rattle.spv_syntax.specs.declared.rules.RuleForm.{RuleForm}
 use Rattle.spv_syntax.specs.declared.rules.Rule.{Rule}
 use Rattle.spv_syntax.specs.declared.rules.RuleTree.{RuleTree}
-use Rattle.spv_syntax.specs.declared.formula_text.FormulaText.{FormulaText}
+use Rattle.spv_syntax.specs.declared.formula_texts.FormulaText.{FormulaText}
 use Rattle.spv_syntax.specs.Lists.{each, several, headed}
 use Rattle.spv_syntax.specs.Types.{TypeDenoter, MoreTypes, Field, MoreFields}
 use Rattle.spv_syntax.specs.Statements.{Statement, Otherwise, Block, MoreStatements, Arm, MoreArms, Loop}

@@ -1,4 +1,4 @@
 //! Rule files from tokens.
 #![tactic(auto)]
 
-pub mod rule_files;
+pub mod rules;

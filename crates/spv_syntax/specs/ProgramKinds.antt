@@ -21,7 +21,7 @@ use Rattle.spv_syntax.specs.declared.routines.Start.{Start}
 use Rattle.spv_syntax.specs.declared.routines.Clauses.{Clauses}
 use Rattle.spv_syntax.specs.declared.routines.Locals.{Locals}
 use Rattle.spv_syntax.specs.declared.routines.RoutineMark.{RoutineMark}
-use Rattle.spv_syntax.specs.declared.program.Program.{Program}
+use Rattle.spv_syntax.specs.declared.programs.Program.{Program}
 use Rattle.spv_syntax.specs.Formulas.{Formula}
 use Rattle.spv_syntax.specs.Members.{in_kinds}
 use Rattle.spv_syntax.specs.ProgramSpelling.{clauses_spelling, const_spelling, declarations_spelling, entry_spelling, exit_spelling, files_spelling, global_group_spelling, globals_spelling, group_form_spelling, group_spelling, heading_form_spelling, heading_spelling, initial_spelling, item_spelling, locals_spelling, name_or_class_spelling, params_spelling, program_spelling, result_spelling, routine_mark_spelling, routines_spelling, sort_spelling, sorts_spelling, start_spelling, symbol_spelling, typedef_spelling, var_spelling, vars_spelling}

@@ -5,7 +5,7 @@ use Rattle.spv_syntax.specs.declared.rules.RuleVars.{RuleVars}
 use Rattle.spv_syntax.specs.declared.rules.RuleForm.{RuleForm}
 use Rattle.spv_syntax.specs.declared.rules.Rule.{Rule}
 use Rattle.spv_syntax.specs.declared.rules.RuleTree.{RuleTree}
-use Rattle.spv_syntax.specs.declared.formula_text.FormulaText.{FormulaText}
+use Rattle.spv_syntax.specs.declared.formula_texts.FormulaText.{FormulaText}
 use Rattle.spv_syntax.specs.Formulas.{Formula}
 use Rattle.spv_syntax.specs.Members.{in_kinds}
 use Rattle.spv_syntax.specs.RuleSpelling.{formula_text_spelling, premise_spelling, rule_form_spelling, rule_spelling, rule_tree_spelling, rule_vars_spelling}

@@ -2,26 +2,26 @@
 #![tactic(auto)]
 
 mod declarations;
-mod formula_text;
+mod formula_texts;
 mod formulas;
 mod lists;
 mod names;
 mod operators;
-mod program;
+mod programs;
 mod routines;
 mod rules;
 mod statements;
 mod types;
 
 pub use declarations::{Const, Declarations, NameOrClass, SortName, SymbolText, Typedef, Vars};
-pub use formula_text::FormulaText;
+pub use formula_texts::FormulaText;
 pub use formulas::{
     Designator, Factor, FactorForm, Formula, Relation, Selector, SelectorForm, Simple, Term,
 };
 pub use lists::Several;
 pub use names::{Constant, Name, Scalar};
 pub use operators::{Adding, Comparison, Direction, Multiplying, PlusOrMinus};
-pub use program::Program;
+pub use programs::Program;
 pub use routines::{
     Clauses, GlobalGroup, Group, GroupForm, Heading, HeadingForm, Item, Locals, Params,
     RoutineMark, Start,

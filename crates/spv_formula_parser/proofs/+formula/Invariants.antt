@@ -4,7 +4,7 @@ use Rattle.spv_tokens.specs.declared.token.Sign.TheVariants as sign
 use Rattle.spv_syntax.specs.Formulas.{no_more_terms, more_terms, no_more_factors, more_factors, no_more_formulas, more_formulas, no_selectors, selectors}
 use Rattle.spv_reading.specs.Readers.{front, behind, operated}
 use Rattle.spv_reading.specs.FormulaReaders.{adding_of, multiplying_of, read_inner, read_factor, read_more_formulas, selector_by, read_selectors, read_more_factors, read_term, read_more_terms}
-use Rattle.spv_front.specs.Lists.{Going}
+use Rattle.spv_front.specs.Lists.{ItemsSoFar}
 use Rattle.spv_formula_parser.proofs.+formula.Given as goal
 
 -- each level has twenty places, one for each function
@@ -66,13 +66,13 @@ abbrev pub decreases-formulas::inner : goal.decreases-formulas::inner
 decreases-formulas::inner l = 20 * l.levels
 
 abbrev pub invariant-factors::more_formulas-loop : goal.invariant-factors::more_formulas-loop
-invariant-factors::more_formulas-loop l = Going no_more_formulas more_formulas (behind (kind.Sign sign.Comma) (read_inner l.levels)) (read_more_formulas (read_inner l.levels) l.tokens) l.end l.counter l.more.items l.rest
+invariant-factors::more_formulas-loop l = ItemsSoFar no_more_formulas more_formulas (behind (kind.Sign sign.Comma) (read_inner l.levels)) (read_more_formulas (read_inner l.levels) l.tokens) l.end l.counter l.more.items l.rest
 
 abbrev pub invariant-factors::selectors-loop : goal.invariant-factors::selectors-loop
-invariant-factors::selectors-loop l = Going no_selectors selectors (λ rest. selector_by (read_inner l.levels) (front rest) rest) (read_selectors (read_inner l.levels) l.tokens) l.end l.counter l.behind.items l.rest
+invariant-factors::selectors-loop l = ItemsSoFar no_selectors selectors (λ rest. selector_by (read_inner l.levels) (front rest) rest) (read_selectors (read_inner l.levels) l.tokens) l.end l.counter l.behind.items l.rest
 
 abbrev pub invariant-formulas::more_factors-loop : goal.invariant-formulas::more_factors-loop
-invariant-formulas::more_factors-loop l = Going no_more_factors (λ p. more_factors p.0 p.1) (λ rest. operated (multiplying_of (front rest)) (read_factor l.levels) rest) (read_more_factors (read_factor l.levels) l.tokens) l.end l.counter l.more.items l.rest
+invariant-formulas::more_factors-loop l = ItemsSoFar no_more_factors (λ p. more_factors p.0 p.1) (λ rest. operated (multiplying_of (front rest)) (read_factor l.levels) rest) (read_more_factors (read_factor l.levels) l.tokens) l.end l.counter l.more.items l.rest
 
 abbrev pub invariant-formulas::more_terms-loop : goal.invariant-formulas::more_terms-loop
-invariant-formulas::more_terms-loop l = Going no_more_terms (λ p. more_terms p.0 p.1) (λ rest. operated (adding_of (front rest)) (read_term (read_factor l.levels)) rest) (read_more_terms (read_factor l.levels) l.tokens) l.end l.counter l.more.items l.rest
+invariant-formulas::more_terms-loop l = ItemsSoFar no_more_terms (λ p. more_terms p.0 p.1) (λ rest. operated (adding_of (front rest)) (read_term (read_factor l.levels)) rest) (read_more_terms (read_factor l.levels) l.tokens) l.end l.counter l.more.items l.rest

@@ -4,7 +4,7 @@ use Rattle.spv_tokens.specs.declared.token.Sign.TheVariants as sign
 use Rattle.spv_syntax.specs.Statements.{no_more_statements, more_statements, no_more_arms, more_arms}
 use Rattle.spv_reading.specs.Readers.{behind}
 use Rattle.spv_reading.specs.StatementReaders.{read_lower, read_more_statements, read_arm, read_more_arms}
-use Rattle.spv_front.specs.Lists.{Going}
+use Rattle.spv_front.specs.Lists.{ItemsSoFar}
 use Rattle.spv_statement_parser.proofs.+statement.Given as goal
 
 -- each level has twenty places, one for each function
@@ -63,7 +63,7 @@ abbrev pub decreases-statements::lower : goal.decreases-statements::lower
 decreases-statements::lower l = 20 * l.levels
 
 abbrev pub invariant-statements::more_statements-loop : goal.invariant-statements::more_statements-loop
-invariant-statements::more_statements-loop l = Going no_more_statements more_statements (behind (kind.Sign sign.Semicolon) (read_lower l.levels)) (read_more_statements (read_lower l.levels) l.tokens) l.end l.counter l.more.items l.rest
+invariant-statements::more_statements-loop l = ItemsSoFar no_more_statements more_statements (behind (kind.Sign sign.Semicolon) (read_lower l.levels)) (read_more_statements (read_lower l.levels) l.tokens) l.end l.counter l.more.items l.rest
 
 abbrev pub invariant-statements::more_arms-loop : goal.invariant-statements::more_arms-loop
-invariant-statements::more_arms-loop l = Going no_more_arms more_arms (behind (kind.Sign sign.Semicolon) (read_arm (read_lower l.levels))) (read_more_arms (read_lower l.levels) l.tokens) l.end l.counter l.more.items l.rest
+invariant-statements::more_arms-loop l = ItemsSoFar no_more_arms more_arms (behind (kind.Sign sign.Semicolon) (read_arm (read_lower l.levels))) (read_more_arms (read_lower l.levels) l.tokens) l.end l.counter l.more.items l.rest

@@ -4,7 +4,7 @@ use Rattle.std.specs.Char.{to_ascii_uppercase}
 use Rattle.std.proofs.lemmas.List.{take_rest, drop-drop, drop-map}
 use Rattle.std.proofs.Math.ListN.{drop_of_length-le}
 use Rattle.spv_lexer.specs.Reading.{reading}
-use Rattle.spv_lexer.specs.Tokens.{numbered, names_after, HasCause}
+use Rattle.spv_lexer.specs.Tokens.{numbered, names_after, HasTextCause}
 use Rattle.spv_lexer.proofs.lexer.read.Goals as goal
 
 pub loop-at-init : goal.loop-at-init
@@ -19,7 +19,7 @@ pub read_piece-requires-clause-folded : goal.read_piece-requires-clause-folded
 read_piece-requires-clause-folded c = rw (take_rest c.args.upper.now c.loop-at.at, take_rest c.args.text.now c.loop-at.at, c.requires.folded) (drop-map to_ascii_uppercase c.loop-at.at c.args.text.now)
 
 pub returns-in_err-piece-clause-cause : goal.returns-in_err-piece-clause-cause
-returns-in_err-piece-clause-cause c = if_err c.from_residual.result _ (HasCause c.args.text.now) c.from_residual.ensures.1 (λ e is. rw is (Reached-refused _ _ _ _ _ _ c.loop-at.invariant.reached c.in_err-piece.field-0.0 (rw take_rest at c.in_err-piece.ensures.refused)))
+returns-in_err-piece-clause-cause c = if_err c.from_residual.result _ (HasTextCause c.args.text.now) c.from_residual.ensures.1 (λ e is. rw is (Reached-refused _ _ _ _ _ _ c.loop-at.invariant.reached c.in_err-piece.field-0.0 (rw take_rest at c.in_err-piece.ensures.refused)))
 
 pub returns-in_err-piece-clause-grown : goal.returns-in_err-piece-clause-grown
 returns-in_err-piece-clause-grown c = on_err c.from_residual.result _ (rw c.in_err-piece.ensures.err (Reached-grown _ _ _ _ _ _ c.loop-at.invariant.reached))

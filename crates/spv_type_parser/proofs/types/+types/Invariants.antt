@@ -4,7 +4,7 @@ use Rattle.spv_tokens.specs.declared.token.Sign.TheVariants as sign
 use Rattle.spv_syntax.specs.Types.{no_more_types, more_types, no_more_fields, more_fields}
 use Rattle.spv_reading.specs.Readers.{behind}
 use Rattle.spv_reading.specs.TypeReaders.{read_lower_type, read_field_part, read_more_types, read_more_fields}
-use Rattle.spv_front.specs.Lists.{Going}
+use Rattle.spv_front.specs.Lists.{ItemsSoFar}
 use Rattle.spv_type_parser.proofs.types.+types.Given as goal
 
 abbrev pub decreases-lower_type : goal.decreases-lower_type
@@ -32,7 +32,7 @@ abbrev pub decreases-type_denoter : goal.decreases-type_denoter
 decreases-type_denoter l = l.levels * 10 + 5
 
 abbrev pub invariant-more_types-loop : goal.invariant-more_types-loop
-invariant-more_types-loop l = Going no_more_types more_types (behind (kind.Sign sign.Comma) (read_lower_type l.levels)) (read_more_types (read_lower_type l.levels) l.tokens) l.end l.counter l.types.items l.rest
+invariant-more_types-loop l = ItemsSoFar no_more_types more_types (behind (kind.Sign sign.Comma) (read_lower_type l.levels)) (read_more_types (read_lower_type l.levels) l.tokens) l.end l.counter l.types.items l.rest
 
 abbrev pub invariant-more_fields-loop : goal.invariant-more_fields-loop
-invariant-more_fields-loop l = Going no_more_fields more_fields (behind (kind.Sign sign.Semicolon) (read_field_part (read_lower_type l.levels))) (read_more_fields (read_lower_type l.levels) l.tokens) l.end l.counter l.fields.items l.rest
+invariant-more_fields-loop l = ItemsSoFar no_more_fields more_fields (behind (kind.Sign sign.Semicolon) (read_field_part (read_lower_type l.levels))) (read_more_fields (read_lower_type l.levels) l.tokens) l.end l.counter l.fields.items l.rest

@@ -2,7 +2,7 @@ use Rattle.std.proofs.Common.{arith, refl, ap, ◌∙◌, Some}
 use Rattle.spv_reading.specs.RuleReaders.{read_rule}
 use Rattle.spv_front.proofs.Exits.{same_fault}
 use Rattle.spv_front.proofs.Turns.{stopped, turn, failed, over, when_absent, when_there, put-list}
-use Rattle.spv_rule_parser.proofs.rule_files.rule_list.Goals as goal
+use Rattle.spv_rule_parser.proofs.rules.rule_list.Goals as goal
 
 pub returns-then-not-begins_rule-clause-read : goal.returns-then-not-begins_rule-clause-read
 returns-then-not-begins_rule-clause-read c = stopped c.loop.invariant (when_absent _ c.if-not-begins_rule.ensures) ∙ ap (λ xs. Some (xs, c.loop.rest.now)) (put-list c.loop.rules.items)
