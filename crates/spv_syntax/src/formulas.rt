@@ -22,7 +22,7 @@ impl Model for Formula {
 
     ghost Value = { plain.Formula };
 
-    ghost use Rattle.spv_syntax.specs.Model.Codes.{coded_by};
+    ghost use Rattle.spv_list.specs.Ways.{coded_by};
     ghost use Rattle.spv_syntax.specs.Model.FormulaCodes.{way_formula};
 
     ghost coded = { coded_by way_formula };
@@ -57,7 +57,7 @@ impl Model for Relation {
 
     ghost Value = { plain.Relation };
 
-    ghost use Rattle.spv_syntax.specs.Model.Codes.{coded_by};
+    ghost use Rattle.spv_list.specs.Ways.{coded_by};
     ghost use Rattle.spv_syntax.specs.Model.FormulaCodes.{way_relation};
 
     ghost coded = { coded_by way_relation };
@@ -94,7 +94,7 @@ impl Model for Simple {
 
     ghost Value = { plain.Simple };
 
-    ghost use Rattle.spv_syntax.specs.Model.Codes.{coded_by};
+    ghost use Rattle.spv_list.specs.Ways.{coded_by};
     ghost use Rattle.spv_syntax.specs.Model.FormulaCodes.{way_simple};
 
     ghost coded = { coded_by way_simple };
@@ -129,7 +129,7 @@ impl Model for Term {
 
     ghost Value = { plain.Term };
 
-    ghost use Rattle.spv_syntax.specs.Model.Codes.{coded_by};
+    ghost use Rattle.spv_list.specs.Ways.{coded_by};
     ghost use Rattle.spv_syntax.specs.Model.FormulaCodes.{way_term};
 
     ghost coded = { coded_by way_term };
@@ -184,7 +184,7 @@ impl Model for Factor {
 
     ghost Value = { plain.Factor };
 
-    ghost use Rattle.spv_syntax.specs.Model.Codes.{coded_by};
+    ghost use Rattle.spv_list.specs.Ways.{coded_by};
     ghost use Rattle.spv_syntax.specs.Model.FormulaCodes.{way_factor};
 
     ghost coded = { coded_by way_factor };
@@ -219,7 +219,7 @@ impl Model for Designator {
 
     ghost Value = { plain.Designator };
 
-    ghost use Rattle.spv_syntax.specs.Model.Codes.{coded_by};
+    ghost use Rattle.spv_list.specs.Ways.{coded_by};
     ghost use Rattle.spv_syntax.specs.Model.FormulaCodes.{way_designator};
 
     ghost coded = { coded_by way_designator };
@@ -264,7 +264,7 @@ impl Model for Selector {
 
     ghost Value = { plain.Selector };
 
-    ghost use Rattle.spv_syntax.specs.Model.Codes.{coded_by};
+    ghost use Rattle.spv_list.specs.Ways.{coded_by};
     ghost use Rattle.spv_syntax.specs.Model.FormulaCodes.{way_selector};
 
     ghost coded = { coded_by way_selector };

@@ -45,7 +45,7 @@ impl Model for Statement {
 
     ghost Value = { plain.Statement };
 
-    ghost use Rattle.spv_syntax.specs.Model.Codes.{coded_by};
+    ghost use Rattle.spv_list.specs.Ways.{coded_by};
     ghost use Rattle.spv_syntax.specs.Model.StatementCodes.{way_statement};
 
     ghost coded = { coded_by way_statement };
@@ -80,7 +80,7 @@ impl Model for Block {
 
     ghost Value = { plain.Block };
 
-    ghost use Rattle.spv_syntax.specs.Model.Codes.{coded_by};
+    ghost use Rattle.spv_list.specs.Ways.{coded_by};
     ghost use Rattle.spv_syntax.specs.Model.StatementCodes.{way_block};
 
     ghost coded = { coded_by way_block };
@@ -113,7 +113,7 @@ impl Model for Arm {
 
     ghost Value = { plain.Arm };
 
-    ghost use Rattle.spv_syntax.specs.Model.Codes.{coded_by};
+    ghost use Rattle.spv_list.specs.Ways.{coded_by};
     ghost use Rattle.spv_syntax.specs.Model.StatementCodes.{way_arm};
 
     ghost coded = { coded_by way_arm };
@@ -158,7 +158,7 @@ impl Model for Loop {
 
     ghost Value = { plain.Loop };
 
-    ghost use Rattle.spv_syntax.specs.Model.Codes.{coded_by};
+    ghost use Rattle.spv_list.specs.Ways.{coded_by};
     ghost use Rattle.spv_syntax.specs.Model.StatementCodes.{way_loop};
 
     ghost coded = { coded_by way_loop };

@@ -35,7 +35,7 @@ impl Model for TypeDenoter {
 
     ghost Value = { plain.TypeDenoter };
 
-    ghost use Rattle.spv_syntax.specs.Model.Codes.{coded_by};
+    ghost use Rattle.spv_list.specs.Ways.{coded_by};
     ghost use Rattle.spv_syntax.specs.Model.TypeCodes.{way_type};
 
     ghost coded = { coded_by way_type };
@@ -68,7 +68,7 @@ impl Model for Field {
 
     ghost Value = { plain.Field };
 
-    ghost use Rattle.spv_syntax.specs.Model.Codes.{coded_by};
+    ghost use Rattle.spv_list.specs.Ways.{coded_by};
     ghost use Rattle.spv_syntax.specs.Model.TypeCodes.{way_field};
 
     ghost coded = { coded_by way_field };

@@ -1,0 +1,5 @@
+pub mod ExpressionViews
+pub mod FormulaViews
+pub mod StatementViews
+pub mod ProgramViews
+pub mod Model

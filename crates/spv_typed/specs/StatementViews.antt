@@ -1,0 +1,32 @@
+-- What the code's statements are as plain data.
+use Rattle.std.specs.Prelude.{List, [], ◌∷◌, option_map}
+use Rattle.spv_typed.specs.declared.statements.StatementForm.{StatementForm}
+use Rattle.spv_typed.specs.declared.statements.StatementForm.TheVariants as form
+use Rattle.spv_typed.specs.declared.statements.Arm.{Arm}
+use Rattle.spv_typed.specs.declared.statements.Counting.{Counting as CountingText}
+use Rattle.spv_typed.specs.FormulaViews.{annotation_of}
+use Rattle.spv_program.specs.Statements.{Counting, Statement, Arms, Empty, Assign, Perform, New, Sequence, If, Case, While, Repeat, For, Assert, no_arms, arm}
+
+abbrev pub counting_of : CountingText → Counting
+counting_of c = record { variable = c.variable; direction = c.direction; first = c.first; last = c.last }
+
+-- a block is a chain
+abbrev pub block_of : List Statement → Statement
+block_of [] = Empty
+block_of (s ∷ others) = Sequence s (block_of others)
+
+abbrev pub arms_of : List Arm → Arms
+arms_of [] = no_arms
+arms_of (a ∷ others) = arm a.labels a.body.value (arms_of others)
+
+abbrev pub statement_of : StatementForm → Statement
+statement_of (form.Assign d e) = Assign d e
+statement_of (form.Perform c) = Perform c
+statement_of (form.New line d t) = New line d t
+statement_of (form.Block statements) = block_of statements.items
+statement_of (form.If line e a b) = If line e a.value b.value
+statement_of (form.Case line e arms) = Case line e (arms_of arms.items)
+statement_of (form.While line f e s) = While line (option_map annotation_of f) e s.value
+statement_of (form.Repeat line f s e) = Repeat line (option_map annotation_of f) s.value e
+statement_of (form.For line f count s) = For line (option_map annotation_of f) (counting_of count) s.value
+statement_of (form.Assert a) = Assert (annotation_of a)
