@@ -141,9 +141,26 @@ abbrev pub formula_line : Formula → ℕ
 formula_line (formula line r c) = line
 
 -- the designator that a formula is
+abbrev pub factor_alone : Factor → Option Designator
+factor_alone (place line d) = Some d
+factor_alone other = None
+
+abbrev pub term_alone : Term → Option Designator
+term_alone (term line f no_more_factors) = factor_alone f
+term_alone (term line f (more_factors o g more)) = None
+
+abbrev pub simple_alone : Simple → Option Designator
+simple_alone (simple line None t no_more_terms) = term_alone t
+simple_alone (simple line None t (more_terms o u more)) = None
+simple_alone (simple line (Some sign) t more) = None
+
+abbrev pub relation_alone : Relation → Option Designator
+relation_alone (relation line s no_right_side) = simple_alone s
+relation_alone (relation line s (compared o t)) = None
+
 abbrev pub designator_alone : Formula → Option Designator
-designator_alone (formula line (relation a (simple b None (term c (place d x) no_more_factors) no_more_terms) no_right_side) no_conclusion) = Some x
-designator_alone _ = None
+designator_alone (formula line r no_conclusion) = relation_alone r
+designator_alone (formula line r (implies f)) = None
 
 abbrev pub bare : Option Designator → Option Name
 bare (Some (designator line x no_selectors)) = Some x
@@ -218,6 +235,28 @@ module _ {X S : Type 0} (k : Forms X S) where
 
     -- a designator as a place that is written
     pub written_place : Formula → Option (Outcome S)
-    written_place (formula line (relation a (simple b None (term c (place d x) no_more_factors) no_more_terms) no_right_side) no_conclusion) =
-        Some (designator_walk k.begin_written x)
-    written_place _ = None
+    written_place (formula line r no_conclusion) = relation_place r
+    written_place (formula line r (implies f)) = None
+
+    pub relation_place : Relation → Option (Outcome S)
+    relation_place (relation line s no_right_side) = simple_place s
+    relation_place (relation line s (compared o t)) = None
+
+    pub simple_place : Simple → Option (Outcome S)
+    simple_place (simple line None t no_more_terms) = term_place t
+    simple_place (simple line None t (more_terms o u more)) = None
+    simple_place (simple line (Some sign) t more) = None
+
+    pub term_place : Term → Option (Outcome S)
+    term_place (term line f no_more_factors) = factor_place f
+    term_place (term line f (more_factors o g more)) = None
+
+    pub factor_place : Factor → Option (Outcome S)
+    factor_place (place line d) = Some (designator_walk k.begin_written d)
+    factor_place (number line n) = None
+    factor_place (truth line b) = None
+    factor_place (nil line) = None
+    factor_place (class line x) = None
+    factor_place (application line x f more behind) = None
+    factor_place (bracketed line f) = None
+    factor_place (negation line f) = None

@@ -1,0 +1,2 @@
+//! What the walk over names and types answers is well typed.
+#![tactic(auto)]
