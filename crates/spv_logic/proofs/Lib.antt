@@ -4,3 +4,4 @@ pub mod Substitution
 pub mod Sorting
 pub mod Members
 pub mod Changes
+pub mod Ranges

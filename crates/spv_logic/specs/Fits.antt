@@ -67,7 +67,7 @@ abbrev mutual
   fits shapes (RecordOf rows) s = on_fields (fields_of shapes s) (λ fields. fields_fit shapes rows fields)
   fits shapes (ClassOf cells d rows) s =
       on_sort (content_sort shapes s) (λ e. fits shapes d e && (rows_fit shapes rows e
-        && (ascend rows && (lacks d rows && (keys_are_pointers rows && cells_after 0 cells)))))
+      && (ascend rows && (lacks d rows && (keys_are_pointers rows && cells_after 0 cells)))))
   fits shapes (AtomOf z) s = is_list s
   fits shapes (PairOf a b) s = is_list s && (fits shapes a s && fits shapes b s)
 

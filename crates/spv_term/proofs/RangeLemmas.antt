@@ -16,37 +16,12 @@ use Rattle.spv_logic.specs.Terms.{Term, Terms, term, no_terms, terms}
 use Rattle.spv_logic.specs.Shapes.{shape_at, sort_of_shape, sort_of_type, element_of_shape, fields_of_shape, element_sort, fields_of, content_sort, field_sort, field_sort_of, may_be_part, shape_ok, pointer_sort}
 use Rattle.spv_logic.specs.Sorts.{declared, takes, takes_declared, with_sort, first_sort, membership, class_change, result_sort, sort_in_range, head_in_range}
 use Rattle.spv_list.proofs.Tests.{left_true, right_true}
+use Rattle.spv_logic.proofs.Ranges.{element_in_range, record_field_in_range, content_in_range}
 use Rattle.spv_term.specs.declared.nodes.Node.{Node}
 use Rattle.spv_term.specs.Arena.{Arena, IsArena, AllBelow, decls_in_range, tree, trees, sort_at, sorts_at}
 use Rattle.spv_term.specs.Laws.{NamesTypes}
 use Rattle.spv_term.proofs.ArenaLemmas.{node_of, args_in_range, tree-node, sort-node}
 use Rattle.spv_term.proofs.SortLemmas.{takes-result}
-
--- ---- what a list of shapes that is right says of its parts
-
-part_in_range : (shapes : List Shape) (s : Sort) → may_be_part shapes s ≡ true → sort_in_range shapes s ≡ true
-part_in_range shapes sort.Int h = refl
-part_in_range shapes sort.Bool h = refl
-part_in_range shapes sort.List h = refl
-part_in_range shapes (sort.Ptr t) h = h
-part_in_range shapes (sort.Whole t) h = left_true _ _ h
-part_in_range shapes (sort.Class t) h = absurd (false≢true h)
-
--- each shape of the list passes, and so does what stands for one past the end
-shape_ok-at : (shapes all : List Shape) (i : ℕ) → list_all (shape_ok all) shapes ≡ true → shape_ok all (shape_at shapes i) ≡ true
-shape_ok-at [] all i h = refl
-shape_ok-at (s ∷ shapes) all zero h = left_true _ _ h
-shape_ok-at (s ∷ shapes) all (suc i) h = shape_ok-at shapes all i (right_true (shape_ok all s) _ h)
-
-field_in_range : (shapes : List Shape) (fields : List Field) (name : ℕ) (s : Sort) → list_all (λ f. may_be_part shapes f.sort) fields ≡ true → field_sort fields name ≡ Some s → sort_in_range shapes s ≡ true
-field_in_range shapes [] name s h e = absurd (cc)
-field_in_range shapes (f ∷ fields) name s h e = by (nat_eq f.name.0 name) e (field_in_range shapes fields name s (right_true (may_be_part shapes f.sort) _ h))
-  where
-    by : (b : Bool) → (if b then Some f.sort else field_sort fields name) ≡ Some s → (field_sort fields name ≡ Some s → sort_in_range shapes s ≡ true) → sort_in_range shapes s ≡ true
-    by true k rest =
-        let same : f.sort ≡ s = cc in
-        subst (λ r. sort_in_range shapes r ≡ true) same (part_in_range shapes f.sort (left_true _ _ h))
-    by false k rest = rest k
 
 symbol_in_range : (shapes : List Shape) (decls : List Decl) (symbol : ℕ) (d : Decl) → decls_in_range shapes decls ≡ true → declared decls symbol ≡ Some d → sort_in_range shapes d.result ≡ true
 symbol_in_range shapes [] symbol d h e = absurd (cc)
@@ -59,53 +34,6 @@ symbol_in_range shapes (c ∷ decls) symbol d h e = by (nat_eq c.name.0 symbol) 
     by false k rest = rest k
 
 module _ (shapes : List Shape) (right : list_all (shape_ok shapes) shapes ≡ true) where
-  element_in_range : (a e : Sort) → element_sort shapes a ≡ Some e → sort_in_range shapes e ≡ true
-  element_in_range (sort.Whole t) e h = by (shape_at shapes t.0) h (shape_ok-at shapes shapes t.0 right)
-    where
-      by : (s : Shape) → element_of_shape s ≡ Some e → shape_ok shapes s ≡ true → sort_in_range shapes e ≡ true
-      by (shape.Array r) k p = let same : r ≡ e = cc in subst (λ q. sort_in_range shapes q ≡ true) same (part_in_range shapes r p)
-      by shape.Int k p = absurd (cc)
-      by shape.Bool k p = absurd (cc)
-      by (shape.Pointer u) k p = absurd (cc)
-      by (shape.Record fields) k p = absurd (cc)
-  element_in_range sort.Int e h = absurd (cc)
-  element_in_range sort.Bool e h = absurd (cc)
-  element_in_range sort.List e h = absurd (cc)
-  element_in_range (sort.Ptr t) e h = absurd (cc)
-  element_in_range (sort.Class t) e h = absurd (cc)
-
-  record_field_in_range : (r s : Sort) (name : ℕ) → field_sort_of (fields_of shapes r) name ≡ Some s → sort_in_range shapes s ≡ true
-  record_field_in_range (sort.Whole t) s name h = by (shape_at shapes t.0) h (shape_ok-at shapes shapes t.0 right)
-    where
-      by : (q : Shape) → field_sort_of (fields_of_shape q) name ≡ Some s → shape_ok shapes q ≡ true → sort_in_range shapes s ≡ true
-      by (shape.Record fields) k p = field_in_range shapes fields name s (left_true _ _ p) k
-      by (shape.Array r) k p = absurd (cc)
-      by shape.Int k p = absurd (cc)
-      by shape.Bool k p = absurd (cc)
-      by (shape.Pointer u) k p = absurd (cc)
-  record_field_in_range sort.Int s name h = absurd (cc)
-  record_field_in_range sort.Bool s name h = absurd (cc)
-  record_field_in_range sort.List s name h = absurd (cc)
-  record_field_in_range (sort.Ptr t) s name h = absurd (cc)
-  record_field_in_range (sort.Class t) s name h = absurd (cc)
-
-  content_in_range : (c s : Sort) → sort_in_range shapes c ≡ true → content_sort shapes c ≡ Some s → sort_in_range shapes s ≡ true
-  content_in_range (sort.Class t) s there h =
-      let same : sort_of_type shapes t ≡ s = cc in
-      subst (λ q. sort_in_range shapes q ≡ true) same (by (shape_at shapes t.0) (shape_ok-at shapes shapes t.0 right))
-    where
-      by : (q : Shape) → shape_ok shapes q ≡ true → sort_in_range shapes (sort_of_shape q t) ≡ true
-      by shape.Int p = refl
-      by shape.Bool p = refl
-      by (shape.Pointer u) p = p
-      by (shape.Array r) p = there
-      by (shape.Record fields) p = there
-  content_in_range sort.Int s there h = absurd (cc)
-  content_in_range sort.Bool s there h = absurd (cc)
-  content_in_range sort.List s there h = absurd (cc)
-  content_in_range (sort.Ptr t) s there h = absurd (cc)
-  content_in_range (sort.Whole t) s there h = absurd (cc)
-
   -- ---- what a head gives
 
   taken : (wanted given : List Sort) (r s : Sort) → sort_in_range shapes r ≡ true → takes wanted given r ≡ Some s → sort_in_range shapes s ≡ true
@@ -163,19 +91,19 @@ module _ (shapes : List Shape) (right : list_all (shape_ok shapes) shapes ≡ tr
   result_in_range decls symbols head.Implies given s there args h = taken (sort.Bool ∷ sort.Bool ∷ []) given sort.Bool s refl h
   result_in_range decls symbols head.Select given s there args h =
       let a = first_sort given in
-      taken_with (element_sort shapes a) (λ e. a ∷ sort.Int ∷ []) given (λ e. e) s (element_in_range a) h
+      taken_with (element_sort shapes a) (λ e. a ∷ sort.Int ∷ []) given (λ e. e) s (element_in_range shapes right a) h
   result_in_range decls symbols head.Store given s there args h =
       let a = first_sort given in
       taken_with (element_sort shapes a) (λ e. a ∷ sort.Int ∷ e ∷ []) given (λ e. a) s (λ e k. first_in_range given args) h
   result_in_range decls symbols (head.Field f) given s there args h =
       let r = first_sort given in
-      taken_with (field_sort_of (fields_of shapes r) f.0) (λ e. r ∷ []) given (λ e. e) s (λ e k. record_field_in_range r e f.0 k) h
+      taken_with (field_sort_of (fields_of shapes r) f.0) (λ e. r ∷ []) given (λ e. e) s (λ e k. record_field_in_range shapes right r e f.0 k) h
   result_in_range decls symbols (head.Put f) given s there args h =
       let r = first_sort given in
       taken_with (field_sort_of (fields_of shapes r) f.0) (λ e. r ∷ e ∷ []) given (λ e. r) s (λ e k. first_in_range given args) h
   result_in_range decls symbols head.Cell given s there args h =
       let c = first_sort given in
-      taken_with (content_sort shapes c) (λ e. c ∷ pointer_sort c ∷ []) given (λ e. e) s (λ e k. content_in_range c e (first_in_range given args) k) h
+      taken_with (content_sort shapes c) (λ e. c ∷ pointer_sort c ∷ []) given (λ e. e) s (λ e k. content_in_range shapes right c e (first_in_range given args) k) h
   result_in_range decls symbols head.SetCell given s there args h = changed given s args h
   result_in_range decls symbols head.Extend given s there args h = changed given s args h
   result_in_range decls symbols head.PointerTo given s there args h = taken_member (first_sort given) given s h

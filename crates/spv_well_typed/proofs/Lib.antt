@@ -1,2 +1,4 @@
 pub mod Outcomes
 pub mod Operators
+pub mod Formulas
+pub mod Names
