@@ -16,7 +16,7 @@ use Rattle.spv_meaning.specs.Starts.{IsStart, is_of_type}
 use Rattle.spv_meaning.specs.Laws.{with_defaults}
 use Rattle.spv_meaning.proofs.MainViews.{look-variable, shown-main}
 
-default_found : (p : Program) (names : List (Symbol × TypeId)) (x : Symbol) (t : TypeId) → found names x ≡ Some t → found (map (λ n. (n.0, default_of (shapes p) (sort_of p.forms n.1))) names) x ≡ Some (default_of (shapes p) (sort_of p.forms t))
+pub default_found : (p : Program) (names : List (Symbol × TypeId)) (x : Symbol) (t : TypeId) → found names x ≡ Some t → found (map (λ n. (n.0, default_of (shapes p) (sort_of p.forms n.1))) names) x ≡ Some (default_of (shapes p) (sort_of p.forms t))
 default_found p [] x t e = absurd (nothing_there e)
 default_found p (n ∷ names) x t e = by_case (same_name n.0 x) e (default_found p names x t)
   where
