@@ -24,12 +24,12 @@ use Rattle.spv_facts.proofs.Values.{found_same, found_other, record_is, field_th
 
 -- ---- steps
 
-record StepThere (shapes : List Shape) (u : Value) (x : PathStep) (e : Sort) : Type 0 where
+pub record StepThere (shapes : List Shape) (u : Value) (x : PathStep) (e : Sort) : Type 0 where
   pub part : Value
   pub is : step_part u x ≡ Some part
   pub fit : fits shapes part e ≡ true
 
-step_there : (shapes : List Shape) (u : Value) (s e : Sort) (x : PathStep) → step_sort shapes s x ≡ Some e → fits shapes u s ≡ true → StepThere shapes u x e
+pub step_there : (shapes : List Shape) (u : Value) (s e : Sort) (x : PathStep) → step_sort shapes s x ≡ Some e → fits shapes u s ≡ true → StepThere shapes u x e
 step_there shapes u s e (IndexStep i) told fit = record {
   part = row_at (rows_in u) i (default_in u);
   is = array_step shapes u (Number i) s e told fit;

@@ -41,6 +41,10 @@ module _ {X : Type 0} (same : X → X → Bool) where
   differ_right [] ys h = h
   differ_right (x ∷ xs) ys h = differ_right xs ys (others_differ x (xs ++ ys) h)
 
+  pub differ_left : (xs ys : List X) → all_differ same (xs ++ ys) ≡ true → all_differ same xs ≡ true
+  differ_left [] ys h = refl
+  differ_left (x ∷ xs) ys h = one_more x xs (none_left (same x) xs ys (first_differs x (xs ++ ys) h)) (differ_left xs ys (others_differ x (xs ++ ys) h))
+
   -- what stands at the end may go
   pub differ_front : (xs ys zs : List X) → all_differ same (xs ++ (ys ++ zs)) ≡ true → all_differ same (xs ++ ys) ≡ true
   differ_front [] [] zs h = refl

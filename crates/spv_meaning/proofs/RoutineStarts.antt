@@ -31,7 +31,7 @@ use Rattle.spv_meaning.proofs.Differing.{first_differs, others_differ, one_more,
 
 -- ---- what a well typed program has
 
-item_passes : {X : Type 0} (test : X → Bool) (xs : List X) (n : ℕ) (x : X) → list_all test xs ≡ true → item_at xs n ≡ Some x → test x ≡ true
+pub item_passes : {X : Type 0} (test : X → Bool) (xs : List X) (n : ℕ) (x : X) → list_all test xs ≡ true → item_at xs n ≡ Some x → test x ≡ true
 item_passes test [] n x all there = absurd (nothing_there there)
 item_passes test (y ∷ ys) zero x all there = ap test (sym (some_is there)) ∙ left_true (test y) (list_all test ys) all
 item_passes test (y ∷ ys) (suc n) x all there = item_passes test ys n x (right_true (test y) (list_all test ys) all) there
@@ -127,7 +127,7 @@ formals_stand p (f ∷ formals) own variables x t e = by_name (same_name f.name 
         further (Shared h k) = Shared (step ∙ h) k
 
 -- what is found among the names that pass a test on names passes it
-found_passes : {X : Type 0} (test : Symbol → Bool) (names : List (Symbol × X)) (x : Symbol) (t : X) → found (filter (λ n. test n.0) names) x ≡ Some t → test x ≡ true
+pub found_passes : {X : Type 0} (test : Symbol → Bool) (names : List (Symbol × X)) (x : Symbol) (t : X) → found (filter (λ n. test n.0) names) x ≡ Some t → test x ≡ true
 found_passes test [] x t e = absurd (nothing_there e)
 found_passes {X} test (n ∷ names) x t e = by_test (test n.0) refl e (found_passes test names x t)
   where
@@ -140,7 +140,7 @@ found_passes {X} test (n ∷ names) x t e = by_test (test n.0) refl e (found_pas
     by_test false passes e later = later e
 
 -- and it is what is found among all names
-found_among : {X : Type 0} (test : Symbol → Bool) (names : List (Symbol × X)) (x : Symbol) (t : X) → found (filter (λ n. test n.0) names) x ≡ Some t → found names x ≡ Some t
+pub found_among : {X : Type 0} (test : Symbol → Bool) (names : List (Symbol × X)) (x : Symbol) (t : X) → found (filter (λ n. test n.0) names) x ≡ Some t → found names x ≡ Some t
 found_among test [] x t e = absurd (nothing_there e)
 found_among {X} test (n ∷ names) x t e = by_test (test n.0) refl e (found_among test names x t)
   where
