@@ -54,9 +54,9 @@ with_wrong_selectors =
     ∷ to_x (Read (designator 1 a (at_index ref (num 1) no_selectors)))
     ∷ to_x (Read (designator 1 x (at_field integer val no_selectors)))
     ∷ to_x (Read (designator 1 t (at_field node x no_selectors)))
-    ∷ to_b (Read (designator 1 t (at_field other val no_selectors)))
+    ∷ to_x (Read (designator 1 t (at_field other val no_selectors)))
     ∷ to_x (Read (designator 1 x (at_cell 1 node no_selectors)))
-    ∷ to_x (Read (designator 1 q (at_cell 1 node (at_field node val no_selectors)))) ∷ []
+    ∷ to_b (Read (designator 1 q (at_cell 1 node (at_field other val no_selectors)))) ∷ []
 
 -- ---- calls
 
