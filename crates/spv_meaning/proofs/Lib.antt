@@ -8,4 +8,5 @@ pub mod Turns
 pub mod Puts
 pub mod MainStart
 pub mod Differing
+pub mod RightFrames
 pub mod RoutineStarts

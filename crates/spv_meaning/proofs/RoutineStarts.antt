@@ -27,7 +27,9 @@ use Rattle.spv_meaning.specs.Laws.{holding_defaults, started_formal, with_own_de
 use Rattle.spv_meaning.proofs.Maps.{same_names, other_way}
 use Rattle.spv_meaning.proofs.MainViews.{some_of}
 use Rattle.spv_meaning.proofs.MainStart.{default_found}
-use Rattle.spv_meaning.proofs.Differing.{first_differs, others_differ, one_more, differ_front, differ_around, differ_with}
+use Rattle.spv_meaning.specs.FrameTypes.{frame_of, in_routine}
+use Rattle.spv_meaning.proofs.RightFrames.{parameters_of, start_right}
+use Rattle.spv_meaning.proofs.Differing.{differ_left, first_differs, others_differ, one_more, differ_front, differ_around, differ_with}
 
 -- ---- what a well typed program has
 
@@ -295,13 +297,19 @@ module _ (p : Program) (typed : well_typed p ≡ true) (id : RoutineId) (r : Rou
       ap (is_of_type p t) (value_is x t (formals_stand p r.formals own (filter (λ n. sees (Some r) (Variable n.0)) p.variables) x t e))
       ∙ default_fits (shapes p) types (sort_of p.forms t)
 
+  names_differ : all_differ same_name (map (λ f. f.name) r.formals ++ map (λ n. n.0) own) ≡ true
+  names_differ = own_differ r (right_true (list_all (λ i. may_be_initial r i.1) r.initial) _ (right_true items_differ _ heading_end))
+
+  formals_differ : all_differ same_name (map (λ f. f.name) r.formals) ≡ true
+  formals_differ = differ_left same_name (map (λ f. f.name) r.formals) (map (λ n. n.0) own) names_differ
+
   areas_are : apart (Some r) start ≡ true
-  areas_are = areas_differ p r.formals own r.globals (own_differ r (right_true (list_all (λ i. may_be_initial r i.1) r.initial) _ (right_true items_differ _ heading_end)))
-      (left_true items_differ _ heading_end)
+  areas_are = areas_differ p r.formals own r.globals names_differ (left_true items_differ _ heading_end)
 
   -- a state of defaults is a start
   pub routine_start : IsStart p (Some id) start
   routine_start = record {
+    right = record { types = frame_of id r ∷ parameters_of id r ∷ []; inside = in_routine id r (parameters_of id r ∷ []) there; right = start_right p typed id r formals_differ };
     frame = ap (λ o. has_frame p (Some id) o start) there ∙ frame_is;
     names = λ x t e. named x t (ap (λ o. shown_type p o x) (sym there) ∙ e);
     heap = refl;

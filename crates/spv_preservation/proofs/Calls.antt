@@ -1,4 +1,6 @@
 -- Calls: what levels keep, and the run of a routine.
+use Rattle.spv_meaning.proofs.RightFrames.{names_append}
+use Rattle.spv_meaning.specs.FrameTypes.{FrameType, IsIn, formal_slot, frame_of, in_routine, names_right, own_slot, place_sort}
 use Rattle.std.proofs.Common.{◌≡◌, true, false, List, ◌∷◌, ◌++◌, map, ap, ◌∙◌, Option, Some, ℤ, option_map}
 use Rattle.std.specs.List.{list_all, list_any}
 use Rattle.spv_list.proofs.Tests.{left_true, right_true}
@@ -24,9 +26,9 @@ use Rattle.spv_meaning.specs.Views.{entry_view}
 use Rattle.spv_meaning.specs.Evaluation.{Got, Fixed}
 use Rattle.spv_meaning.proofs.Differing.{first_differs, others_differ, differ_left, none_left}
 use Rattle.spv_meaning.proofs.RoutineStarts.{item_passes}
-use Rattle.spv_preservation.specs.Right.{FrameType, IsIn, in_routine, Leaves, formal_slot, own_slot, frame_of, place_sort, names_right}
+use Rattle.spv_preservation.specs.Right.{Leaves}
 use Rattle.spv_preservation.proofs.Outcomes.{IfEnded, if_then, if_meets}
-use Rattle.spv_preservation.proofs.Frames.{names_append, all_chosen, pushed}
+use Rattle.spv_preservation.proofs.Frames.{all_chosen, pushed}
 
 -- what an expression gives: a value of a sort, and a right state
 pub record GotRight (p : Program) (types : List FrameType) (before : List HeapRow) (s : Sort) (got : Got) : Type 0 where

@@ -1,4 +1,6 @@
 -- Well typed expressions give values of their sorts, and leave right states.
+use Rattle.spv_meaning.proofs.RightFrames.{is_sort-of}
+use Rattle.spv_meaning.specs.FrameTypes.{FrameType, IsIn, binding_right, formal_slot, frame_of, place_sort}
 use Rattle.std.proofs.Common.{◌≡◌, ℕ, Bool, true, cond, not, ◌&&◌, List, [], ◌∷◌, refl, sym, ap, subst, ◌∙◌, Option, Some, None, ℤ, pos, ◌-ℤ◌}
 use Rattle.std.specs.Option.{option_and_then}
 use Rattle.std.specs.Cmp.Derive.{both_true}
@@ -31,9 +33,9 @@ use Rattle.spv_meaning.specs.Places.{Place, Binding, HeapRow, State, CellOf, Ind
 use Rattle.spv_meaning.specs.Outcomes.{Outcome, and_then}
 use Rattle.spv_meaning.specs.Levels.{Here, Level, Bound, with_turn, pop, enter, result_in}
 use Rattle.spv_meaning.specs.Evaluation.{Got, Fixed, gives, calculate, divides, calculated, compare, join, to_element, to_field, is_cell_of, to_cell, holds_now, bind, for_parameter, formals_of, evaluate, fix, select, result, arguments}
-use Rattle.spv_preservation.specs.Right.{FrameType, IsIn, Leaves, formal_slot, frame_of, place_sort, binding_right}
+use Rattle.spv_preservation.specs.Right.{Leaves}
 use Rattle.spv_preservation.proofs.Outcomes.{IfEnded, if_ends, if_then, if_unless, if_turn}
-use Rattle.spv_preservation.proofs.Growing.{binding_grows, place_grows, is_sort-of}
+use Rattle.spv_preservation.proofs.Growing.{binding_grows, place_grows}
 use Rattle.spv_preservation.proofs.Places.{look_fits, place_further, cell_sort}
 use Rattle.spv_preservation.proofs.Names.{name_place}
 use Rattle.spv_preservation.proofs.Frames.{leaves_now, leaves_on, popped, result_right}

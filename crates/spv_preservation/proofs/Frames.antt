@@ -1,10 +1,11 @@
 -- Frames that are pushed and popped.
-use Rattle.std.proofs.Common.{◌≡◌, true, false, cond, ◌&&◌, List, [], ◌∷◌, ◌++◌, map, drop, refl, ap, ◌∙◌, Option, Some, None}
+use Rattle.spv_meaning.specs.FrameTypes.{FrameType, formal_slot, frame_of, frames_right, kept_type, names_right, own_slot, slot_in, slots_of}
+use Rattle.std.proofs.Common.{◌≡◌, true, false, cond, List, [], ◌∷◌, ◌++◌, map, drop, refl, ap, ◌∙◌, Option, Some, None}
 use Rattle.std.specs.Option.{option_and_then}
 use Rattle.std.specs.List.{list_any}
 use Rattle.std.specs.Cmp.Derive.{both_true}
 use Rattle.std.proofs.lemmas.Bool.{false≢true, eq-eqb}
-use Rattle.spv_list.proofs.Tests.{left_true, right_true, left_false, right_false}
+use Rattle.spv_list.proofs.Tests.{left_false, right_false}
 use Rattle.spv_names.specs.declared.names.Symbol.{Symbol}
 use Rattle.spv_logic.specs.declared.types.TypeId.{TypeId}
 use Rattle.spv_logic.specs.declared.conditions.RoutineId.{RoutineId}
@@ -17,9 +18,9 @@ use Rattle.spv_program.specs.Scopes.{result_name}
 use Rattle.spv_meaning.specs.Places.{Binding, Frame, HeapRow, State, Holding, held, value_or_zero}
 use Rattle.spv_meaning.specs.Outcomes.{take_choice}
 use Rattle.spv_meaning.specs.Levels.{choose_all, push, pop, result_in}
-use Rattle.spv_meaning.specs.Starts.{is_of_type}
+use Rattle.spv_meaning.specs.Starts.{is_of_type, IsRight}
 use Rattle.spv_meaning.proofs.Maps.{other_way}
-use Rattle.spv_preservation.specs.Right.{Slot, FrameType, IsRight, Leaves, formal_slot, own_slot, slots_of, frame_of, slot_in, kept_type, binding_right, names_right, frames_right}
+use Rattle.spv_preservation.specs.Right.{Leaves}
 use Rattle.spv_preservation.proofs.Outcomes.{IfEnded, if_ends, if_then, if_taken}
 use Rattle.spv_preservation.proofs.Roots.{name_there, first_frame, frames_from}
 use Rattle.spv_preservation.proofs.Growing.{grows_on, grows_not}
@@ -33,15 +34,6 @@ pub leaves_on : (p : Program) (types types' : List FrameType) (before : List Hea
 leaves_on p types types' before mid after first second = record { right = second.right; grows = grows_on before mid.heap after.heap first.grows second.grows }
 
 -- ---- names that are bound
-
-pub names_append : (p : Program) (older : List FrameType) (heap : List HeapRow) (slots more : List Slot) (names others : List (Symbol × Binding)) → names_right p older heap slots names ≡ true → names_right p older heap more others ≡ true → names_right p older heap (slots ++ more) (names ++ others) ≡ true
-names_append p older heap [] more [] others h k = k
-names_append p older heap [] more (n ∷ names) others h k = absurd (false≢true h)
-names_append p older heap (s ∷ slots) more [] others h k = absurd (false≢true h)
-names_append p older heap (s ∷ slots) more (n ∷ names) others h k =
-    let rest = right_true (same_name s.name n.0) (binding_right p older heap s n.1 && names_right p older heap slots names) h in
-    both_true (left_true (same_name s.name n.0) _ h)
-    (both_true (left_true (binding_right p older heap s n.1) _ rest) (names_append p older heap slots more names others (right_true (binding_right p older heap s n.1) _ rest) k))
 
 -- variables that begin with choices of their sorts
 pub all_chosen : (p : Program) (older : List FrameType) (heap : List HeapRow) (own : List (Symbol × TypeId)) (choices : List Value) → IfEnded (λ names. names_right p older heap (map own_slot own) names ≡ true) (choose_all p own choices)

@@ -1,5 +1,6 @@
 -- What stays right where the heap grows.
-use Rattle.std.proofs.Common.{◌≡◌, true, ◌&&◌, List, [], ◌∷◌, refl, ap, ◌∙◌, Option, Some}
+use Rattle.spv_meaning.specs.FrameTypes.{FrameType, Slot, binding_right, frames_right, names_right, path_sort, place_sort, root_type}
+use Rattle.std.proofs.Common.{◌≡◌, true, ◌&&◌, List, [], ◌∷◌, refl, ap, ◌∙◌, Some}
 use Rattle.std.specs.Option.{option_and_then}
 use Rattle.std.specs.Cmp.Derive.{both_true}
 use Rattle.std.proofs.lemmas.Bool.{false≢true}
@@ -7,15 +8,13 @@ use Rattle.spv_list.proofs.Tests.{left_true, right_true}
 use Rattle.spv_names.specs.declared.names.Symbol.{Symbol}
 use Rattle.spv_logic.specs.declared.types.TypeId.{TypeId}
 use Rattle.spv_logic.specs.declared.types.Sort.{Sort}
-use Rattle.spv_logic.proofs.Equality.{sort_eq-refl}
 use Rattle.spv_program.specs.Lists.{same_name}
 use Rattle.spv_program.specs.Types.{sort_of}
-use Rattle.spv_program.specs.FormulaTypes.{is_sort}
 use Rattle.spv_program.specs.Programs.{Program, shapes}
 use Rattle.spv_program.proofs.SortFacts.{is_sort-true, behind}
 use Rattle.spv_meaning.specs.Places.{Root, Place, Binding, Frame, HeapRow, ProgramVariable, OwnValue, CellOf, Holding, Referring}
-use Rattle.spv_facts.specs.Places.{path_sort}
-use Rattle.spv_preservation.specs.Right.{Slot, FrameType, Grows, root_type, place_sort, binding_right, names_right, frames_right}
+use Rattle.spv_preservation.specs.Right.{Grows}
+use Rattle.spv_meaning.proofs.RightFrames.{is_sort-of}
 use Rattle.spv_preservation.proofs.Roots.{first_frame, frames_from}
 
 pub grows_not : (heap : List HeapRow) → Grows heap heap
@@ -23,9 +22,6 @@ grows_not heap = record { keeps = λ cell t e. e }
 
 pub grows_on : (one two three : List HeapRow) → Grows one two → Grows two three → Grows one three
 grows_on one two three first second = record { keeps = λ cell t e. second.keeps cell t (first.keeps cell t e) }
-
-pub is_sort-of : (s : Sort) (o : Option Sort) → o ≡ Some s → is_sort s o ≡ true
-is_sort-of s o e = ap (is_sort s) e ∙ sort_eq-refl s
 
 module _ (p : Program) (before after : List HeapRow) (grows : Grows before after) where
   root_grows : (types : List FrameType) (r : Root) (t : TypeId) → root_type p types before r ≡ Some t → root_type p types after r ≡ Some t

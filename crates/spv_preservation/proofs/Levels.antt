@@ -1,4 +1,7 @@
 -- What runs with any number of turns leave.
+use Rattle.spv_preservation.specs.Right.{HasValues}
+use Rattle.spv_meaning.specs.FrameTypes.{FrameType, IsIn, in_main, in_routine}
+use Rattle.spv_meaning.specs.Starts.{IsStart, IsRight}
 use Rattle.std.proofs.Common.{◌≡◌, ℕ, zero, suc, true, List, ap, subst, ◌∙◌, Option, Some, None}
 use Rattle.spv_list.proofs.Tests.{right_true}
 use Rattle.std.specs.List.{list_all}
@@ -15,7 +18,8 @@ use Rattle.spv_meaning.specs.Outcomes.{Ended}
 use Rattle.spv_meaning.specs.Levels.{Here, Level}
 use Rattle.spv_meaning.specs.Walks.{level_over, level, run}
 use Rattle.spv_meaning.specs.Correct.{begun, body_of, routine_body}
-use Rattle.spv_preservation.specs.Right.{FrameType, IsIn, in_main, in_routine, IsRight, Leaves}
+use Rattle.spv_preservation.specs.Right.{Leaves}
+use Rattle.spv_preservation.proofs.Starts.{has_values}
 use Rattle.spv_preservation.proofs.Frames.{leaves_now}
 use Rattle.spv_preservation.proofs.Calls.{LevelKeeps, routine_right}
 use Rattle.spv_preservation.proofs.Statements.{walks, counted}
@@ -43,7 +47,9 @@ body_ok p typed None _ (in_main types) =
 body_ok p typed (Some _) _ (in_routine id r older there) =
     ap (λ o. statement_ok p o (routine_body o)) there ∙ (routine_right p typed id r there).body
 
-pub body_leaves : (p : Program) → well_typed p ≡ true → (here : Option RoutineId) (types : List FrameType) → IsIn p here types → (state : State) → IsRight p types state
-    → (turns : ℕ) (choices : List Value) (after : State) → (run p turns (begun p here state) (body_of p here) state choices).end ≡ Ended after → Leaves p types state.heap after
-body_leaves p typed here types inside state right turns choices after ended =
-    statement_leaves p typed (begun p here state) types inside (body_of p here) (body_ok p typed here types inside) state right turns choices after ended
+pub body_keeps : (p : Program) → well_typed p ≡ true → (here : Option RoutineId) (state : State) → IsStart p here state
+    → (turns : ℕ) (choices : List Value) (after : State) → (run p turns (begun p here state) (body_of p here) state choices).end ≡ Ended after → HasValues p here after
+body_keeps p typed here state start turns choices after ended =
+    let q = start.right in
+    let left = statement_leaves p typed (begun p here state) q.types q.inside (body_of p here) (body_ok p typed here q.types q.inside) state q.right turns choices after ended in
+    has_values p here after (record { types = q.types; inside = q.inside; right = left.right })

@@ -8,5 +8,5 @@ pub mod Frames
 pub mod Calls
 pub mod Expressions
 pub mod Statements
-pub mod Levels
 pub mod Starts
+pub mod Levels

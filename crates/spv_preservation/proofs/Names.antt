@@ -1,4 +1,6 @@
 -- Where the names of a routine lie in a right state.
+use Rattle.spv_meaning.specs.FrameTypes.{FrameType, IsIn, Slot, binding_right, formal_slot, frame_of, frame_type, frames_right, in_main, in_routine, kept_type, names_right, own_slot, own_type, path_sort, place_sort, slot_in, slots_of}
+use Rattle.spv_meaning.specs.Starts.{IsRight}
 use Rattle.std.proofs.Common.{◌≡◌, ℕ, Bool, true, false, cond, not, ◌&&◌, List, [], ◌∷◌, ◌++◌, map, length, refl, sym, ap, subst, ◌∙◌, nat_eq, Option, Some, None}
 use Rattle.std.specs.Option.{option_and_then}
 use Rattle.std.proofs.lemmas.Bool.{false≢true, eq-eqb}
@@ -15,8 +17,6 @@ use Rattle.spv_program.proofs.SortFacts.{some_is, is_sort-true}
 use Rattle.spv_meaning.specs.Places.{Place, Binding, Frame, HeapRow, State, ProgramVariable, Holding, Referring, whole}
 use Rattle.spv_meaning.specs.Views.{bound_place, place_in, place_of}
 use Rattle.spv_meaning.proofs.Maps.{same_names}
-use Rattle.spv_facts.specs.Places.{path_sort}
-use Rattle.spv_preservation.specs.Right.{Slot, FrameType, IsIn, in_main, in_routine, IsRight, formal_slot, own_slot, slots_of, frame_of, frame_type, slot_in, kept_type, own_type, place_sort, binding_right, names_right, frames_right}
 use Rattle.spv_preservation.proofs.Roots.{FirstFrame, first_frame}
 use Rattle.spv_preservation.proofs.Places.{place_pushed}
 

@@ -1,4 +1,6 @@
 -- The sorts of places: what they hold, steps further, and frames on top.
+use Rattle.spv_meaning.specs.FrameTypes.{FrameType, frame_type, own_type, path_sort, place_sort, root_type, row_type, step_sort}
+use Rattle.spv_meaning.specs.Starts.{IsRight}
 use Rattle.std.proofs.Common.{◌≡◌, ℕ, suc, Bool, true, false, cond, List, [], ◌∷◌, ◌++◌, ◌+◌, length, refl, sym, ap, subst, ◌∙◌, nat_eq, Option, Some, None, arith}
 use Rattle.std.specs.Option.{option_and_then}
 use Rattle.std.proofs.lemmas.Bool.{false≢true}
@@ -15,9 +17,7 @@ use Rattle.spv_program.proofs.SortFacts.{nothing_there, some_is, Behind, behind}
 use Rattle.spv_program.proofs.ExpressionSorting.{same_types}
 use Rattle.spv_meaning.specs.Places.{Root, PathStep, Place, HeapRow, State, ProgramVariable, OwnValue, CellOf, whole, row_of, part_at, look, value_or_zero}
 use Rattle.spv_meaning.specs.Evaluation.{is_cell_of}
-use Rattle.spv_facts.specs.Places.{step_sort, path_sort}
 use Rattle.spv_facts.proofs.Parts.{step_there}
-use Rattle.spv_preservation.specs.Right.{FrameType, IsRight, frame_type, own_type, row_type, root_type, place_sort}
 use Rattle.spv_preservation.proofs.Roots.{place_there}
 
 -- ---- what a place holds

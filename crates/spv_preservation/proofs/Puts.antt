@@ -1,4 +1,5 @@
 -- A right state stays right where a value of the place's sort is put.
+use Rattle.spv_meaning.specs.FrameTypes.{FrameType, Slot, binding_right, cell_type, frame_type, frames_right, kept_type, names_right, own_type, path_sort, place_sort, root_type, row_type, slot_in}
 use Rattle.std.proofs.Common.{◌≡◌, ℕ, Bool, true, false, cond, ◌&&◌, ◌||◌, not, List, [], ◌∷◌, length, refl, sym, ap, ◌∙◌, nat_eq, Option, Some, None, is_some}
 use Rattle.std.specs.Option.{option_and_then}
 use Rattle.std.specs.List.{list_all, list_any}
@@ -15,11 +16,10 @@ use Rattle.spv_program.specs.Types.{sort_of}
 use Rattle.spv_program.specs.Programs.{Program, shapes}
 use Rattle.spv_program.proofs.SortFacts.{nothing_there, some_is, behind}
 use Rattle.spv_meaning.specs.Places.{Root, Place, Binding, Frame, HeapRow, State, ProgramVariable, OwnValue, CellOf, Holding, row_of, root_value, with_frame_value, with_content, with_root, put, value_or_zero, with_part}
-use Rattle.spv_meaning.specs.Starts.{row_ok, is_of_type}
+use Rattle.spv_meaning.specs.Starts.{row_ok, is_of_type, IsRight}
 use Rattle.spv_meaning.proofs.Maps.{same_names, found-changed-same, found-changed-other}
-use Rattle.spv_facts.specs.Places.{path_sort}
 use Rattle.spv_facts.proofs.Parts.{with_fits}
-use Rattle.spv_preservation.specs.Right.{Slot, FrameType, IsRight, Grows, Leaves, frame_type, slot_in, kept_type, own_type, row_type, cell_type, root_type, place_sort, binding_right, names_right, frames_right}
+use Rattle.spv_preservation.specs.Right.{Grows, Leaves}
 use Rattle.spv_preservation.proofs.Roots.{FirstFrame, first_frame, frames_from, root_there}
 use Rattle.spv_preservation.proofs.Growing.{grows_not, frames_grow}
 

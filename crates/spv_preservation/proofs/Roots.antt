@@ -1,4 +1,5 @@
 -- What roots of a right state hold, and a right state after another value was put there.
+use Rattle.spv_meaning.specs.FrameTypes.{FrameType, Slot, binding_right, cell_type, frame_type, frames_right, kept_type, names_right, own_type, path_sort, place_sort, root_type, row_type, slot_in}
 use Rattle.std.proofs.Common.{◌≡◌, ℕ, suc, Bool, true, false, cond, ◌&&◌, not, List, [], ◌∷◌, length, refl, sym, ap, ◌∙◌, nat_eq, Option, Some, None}
 use Rattle.std.specs.Option.{option_and_then}
 use Rattle.std.specs.List.{list_all}
@@ -15,10 +16,9 @@ use Rattle.spv_program.specs.Types.{sort_of}
 use Rattle.spv_program.specs.Programs.{Program, shapes}
 use Rattle.spv_program.proofs.SortFacts.{nothing_there, some_is, Behind, behind}
 use Rattle.spv_meaning.specs.Places.{Root, Place, Binding, Frame, HeapRow, State, ProgramVariable, OwnValue, CellOf, Holding, Referring, held, own_value, content_of, row_of, frame_at, root_value, value_or_zero}
-use Rattle.spv_meaning.specs.Starts.{row_ok, heap_ok, is_of_type}
+use Rattle.spv_meaning.specs.Starts.{row_ok, heap_ok, is_of_type, IsRight}
 use Rattle.spv_meaning.proofs.Maps.{same_names}
-use Rattle.spv_facts.specs.Places.{path_sort, IsPlace}
-use Rattle.spv_preservation.specs.Right.{Slot, FrameType, IsRight, frame_type, slot_in, kept_type, own_type, row_type, cell_type, root_type, place_sort, binding_right, names_right, frames_right}
+use Rattle.spv_facts.specs.Places.{IsPlace}
 
 -- ---- tests that are passed
 

@@ -1,4 +1,5 @@
 -- Well typed statements leave right states.
+use Rattle.spv_meaning.specs.FrameTypes.{FrameType, IsIn, cell_type, frame_of, place_sort, row_type}
 use Rattle.std.proofs.Common.{◌≡◌, ℕ, zero, suc, Bool, true, false, cond, not, ◌&&◌, List, [], ◌∷◌, refl, sym, ap, subst, ◌∙◌, nat_eq, nat_lt, Option, Some, None, is_some, ℤ, option_map, arith}
 use Rattle.std.specs.Option.{option_and_then}
 use Rattle.std.specs.List.{list_all, list_any}
@@ -34,7 +35,7 @@ use Rattle.spv_meaning.specs.Levels.{Here, Run, Loop, Level, with_turn, reached_
 use Rattle.spv_meaning.specs.Evaluation.{Fixed, evaluate, fix, arguments, formals_of}
 use Rattle.spv_meaning.specs.Walks.{is_new, with_new_cell, create, reaches, is_past, next_candidate, counter_place, counter_takes, count_on, walk, walk_arms}
 use Rattle.spv_meaning.specs.Starts.{row_ok}
-use Rattle.spv_preservation.specs.Right.{FrameType, IsIn, Grows, Leaves, frame_of, row_type, cell_type, place_sort}
+use Rattle.spv_preservation.specs.Right.{Grows, Leaves}
 use Rattle.spv_preservation.proofs.Outcomes.{IfEnded, if_ends, if_stops, if_then, if_unless, if_turn, if_taken, if_meets}
 use Rattle.spv_preservation.proofs.Growing.{frames_grow, place_grows}
 use Rattle.spv_preservation.proofs.Puts.{put_right}
