@@ -1,17 +1,19 @@
 -- Well typed programs whose routines do not share rightly: each breaks one rule alone.
-use Rattle.std.specs.Prelude.{◌&&◌, not, List, [], ◌∷◌, Some, None, IsTrue, pos}
+use Rattle.std.specs.Prelude.{true, ◌&&◌, not, List, [], ◌∷◌, Some, None, IsTrue, pos}
 use Rattle.std.specs.List.{list_all}
 use Rattle.spv_program.specs.declared.types.Item.TheVariants.{Variable, Class}
+use Rattle.spv_program.specs.declared.operators.Arithmetic.TheVariants as arithmetic
+use Rattle.spv_program.specs.declared.operators.Connective.TheVariants as connective
 use Rattle.spv_program.specs.declared.operators.Comparison.TheVariants as comparison
 use Rattle.spv_program.specs.declared.operators.Direction.TheVariants.{Up}
-use Rattle.spv_program.specs.Expressions.{Designator, Read, Result, Compared, call, no_arguments, by_value, by_place}
+use Rattle.spv_program.specs.Expressions.{Designator, Boolean, Read, Result, Through, Negative, Calculated, Compared, Negated, Joined, no_selectors, at_field, call, no_arguments, by_value, by_place}
 use Rattle.spv_program.specs.Formulas as formula
 use Rattle.spv_program.specs.Statements.{Statement, Empty, Assign, Perform, New, Sequence, If, Case, While, Repeat, For, Assert, no_arms, arm}
 use Rattle.spv_program.specs.Programs.{Routine, Program}
 use Rattle.spv_program.specs.Typing.{well_typed}
 use Rattle.spv_program.specs.Frames.{framed}
-use Rattle.spv_worked.specs.Small.{x, b, a, p, g, n, integer, ref, node, num, at, read, set, element, content, named, note, value_formal, place_formal, routine}
-use Rattle.spv_worked.specs.TypedPrograms.{plain_item, var_item, nothing, pointing, over}
+use Rattle.spv_worked.specs.Small.{x, b, a, p, g, n, val, integer, ref, node, num, at, read, set, element, content, named, note, value_formal, place_formal, routine}
+use Rattle.spv_worked.specs.TypedPrograms.{plain_item, var_item, nothing, pointing, pointing_call, over}
 use Rattle.spv_worked.specs.CallRuns.{swap}
 
 -- these programs are well typed, and of each some routine does not share rightly
@@ -25,6 +27,10 @@ with_writing_functions =
     over nothing (record pointing { formals = place_formal n integer ∷ [] }) Empty
     ∷ over nothing (record pointing { globals = var_item (Variable p) ∷ [] }) Empty
     ∷ over nothing (record pointing { globals = plain_item (Variable p) ∷ var_item (Class node) ∷ [] }) Empty ∷ []
+
+-- f(.., ..) with two VAR parameters
+abbrev pub swapping : Designator → Designator → Statement
+swapping d e = Perform (call (routine 0) 1 (by_place d (by_place e no_arguments)))
 
 -- ---- what a routine uses is in its GLOBAL list
 
@@ -47,6 +53,23 @@ with_unlisted_reads =
     ∷ routine_alone (using (For 1 None (record { variable = n; direction = Up; first = num 1; last = read x }) Empty))
     ∷ routine_alone (using (Sequence Empty (Case 1 (read n) (arm (pos 1 ∷ []) (set n (read x)) no_arms)))) ∷ []
 
+-- the same in each place of an expression: operands, signs, indices, arguments, and cells behind a function's result
+abbrev pub with_unlisted_operands : List Program
+with_unlisted_operands =
+    routine_alone (using (set n (Calculated arithmetic.Plus (read x) (num 1))))
+    ∷ routine_alone (using (set n (Calculated arithmetic.Plus (num 1) (read x))))
+    ∷ routine_alone (using (set n (Negative (read x))))
+    ∷ routine_alone (using (If 1 (Negated (read b)) Empty Empty))
+    ∷ routine_alone (using (If 1 (Compared comparison.Less (read x) (num 1)) Empty Empty))
+    ∷ routine_alone (using (If 1 (Compared comparison.Less (num 1) (read x)) Empty Empty))
+    ∷ routine_alone (using (If 1 (Joined connective.And (read b) (Boolean true)) Empty Empty))
+    ∷ routine_alone (using (If 1 (Joined connective.And (Boolean true) (read b)) Empty Empty))
+    ∷ routine_alone (record (using (set n (Read (element a (read x))))) { globals = plain_item (Variable a) ∷ [] })
+    ∷ routine_alone (record (using (Assign (element a (read x)) (num 1))) { globals = var_item (Variable a) ∷ [] })
+    ∷ routine_alone (record nothing { locals = (n, ref) ∷ []; globals = plain_item (Variable p) ∷ []; body = set n (Result (pointing_call (read x))) })
+    ∷ routine_alone (record (using (set n (Through (pointing_call (num 1)) 1 node (at_field node val no_selectors)))) { globals = plain_item (Variable p) ∷ [] })
+    ∷ []
+
 -- variables and classes that annotations name
 abbrev pub with_unlisted_annotations : List Program
 with_unlisted_annotations =
@@ -64,6 +87,7 @@ with_unlisted_writes =
     routine_alone (using (set x (num 1)))
     ∷ routine_alone (record (using (set x (num 1))) { globals = plain_item (Variable x) ∷ [] })
     ∷ routine_alone (record (using (Assign (element a (num 1)) (num 1))) { globals = plain_item (Variable a) ∷ [] })
+    ∷ over swap (record (using (swapping (at n) (at x))) { name = g; globals = plain_item (Variable x) ∷ [] }) Empty
     ∷ routine_alone (record (using (New 1 (at p) node)) { globals = plain_item (Variable p) ∷ var_item (Class node) ∷ [] }) ∷ []
 
 -- cells that are read, written and made
@@ -88,10 +112,6 @@ with_uncovered_calls =
     ∷ over (record nothing { globals = plain_item (Class node) ∷ [] }) caller Empty
     ∷ over (record nothing { globals = var_item (Variable x) ∷ [] }) (record caller { globals = plain_item (Variable x) ∷ [] }) Empty
     ∷ over (record nothing { locals = (n, ref) ∷ []; body = set n (Result (call (routine 1) 1 (by_value (num 1) no_arguments))) }) pointing Empty ∷ []
-
--- f(.., ..) with two VAR parameters
-abbrev pub swapping : Designator → Designator → Statement
-swapping d e = Perform (call (routine 0) 1 (by_place d (by_place e no_arguments)))
 
 -- PROCEDURE f(VAR n: INTEGER) with an item
 abbrev pub with_item : Statement → Program

@@ -50,6 +50,7 @@ pub fn law_untyped_statements()
 pub fn law_unframed()
     ensures functions { unframed.ShareWrongly unframed.with_writing_functions }
     ensures reads { unframed.ShareWrongly unframed.with_unlisted_reads }
+    ensures operands { unframed.ShareWrongly unframed.with_unlisted_operands }
     ensures annotations { unframed.ShareWrongly unframed.with_unlisted_annotations }
     ensures writes { unframed.ShareWrongly unframed.with_unlisted_writes }
     ensures cells { unframed.ShareWrongly unframed.with_unlisted_cells }
