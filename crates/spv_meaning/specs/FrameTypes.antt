@@ -55,7 +55,8 @@ frame_of id r = record { routine = id; slots = slots_of r }
 -- the types of the frames, the newest first, while a routine or the main block runs: a routine's own is the newest
 pub data IsIn (p : Program) : Option RoutineId → List FrameType → Type 0 where
   in_main : (types : List FrameType) → IsIn p None types
-  in_routine : (id : RoutineId) (r : Routine) (older : List FrameType) → routine_at p id ≡ Some r → IsIn p (Some id) (frame_of id r ∷ older)
+  in_routine : (id : RoutineId) (r : Routine) (older : List FrameType) → routine_at p id ≡ Some r
+      → IsIn p (Some id) (frame_of id r ∷ older)
 
 -- ---- the types of places
 
@@ -89,7 +90,8 @@ root_type p types heap (CellOf cell) = cell_type heap cell
 
 -- the sort of what is at a place
 abbrev pub place_sort : Program → List FrameType → List HeapRow → Place → Option Sort
-place_sort p types heap a = option_and_then (λ t. path_sort (shapes p) (sort_of p.forms t) a.path) (root_type p types heap a.root)
+place_sort p types heap a =
+    option_and_then (λ t. path_sort (shapes p) (sort_of p.forms t) a.path) (root_type p types heap a.root)
 
 -- ---- right frames
 

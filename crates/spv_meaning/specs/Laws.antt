@@ -72,14 +72,16 @@ abbrev pub started_formal : Program → Formal → Binding
 started_formal p f =
     if f.by_place then Referring (whole (OwnValue 0 f.name)) else Holding (default_of (shapes p) (sort_of p.forms f.of))
 
--- a state of defaults with no cells and two frames: the routine's own, and below it one that keeps a value for each parameter
+-- a state of defaults with no cells and two frames: the routine's own, and below it one that keeps a value for each
+-- parameter
 abbrev pub with_own_defaults : Program → RoutineId → Routine → State
 with_own_defaults p id r = record {
   variables = (with_defaults p).variables;
   frames =
       record {
         routine = id;
-        names = map (λ f. (f.name, started_formal p f)) r.formals ++ holding_defaults p (result_name r.name r.result ++ r.locals);
+        names = map (λ f. (f.name, started_formal p f)) r.formals
+            ++ holding_defaults p (result_name r.name r.result ++ r.locals);
       }
       ∷ record { routine = id; names = holding_defaults p (map (λ f. (f.name, f.of)) r.formals) } ∷ [];
   heap = [];
@@ -88,7 +90,8 @@ with_own_defaults p id r = record {
 -- each routine of a well typed program has a start
 abbrev pub RoutinesHaveStarts : Type 0
 RoutinesHaveStarts =
-    (p : Program) → IsTrue (well_typed p) → (id : RoutineId) (r : Routine) → routine_at p id ≡ Some r → IsStart p (Some id) (with_own_defaults p id r)
+    (p : Program) → IsTrue (well_typed p) → (id : RoutineId) (r : Routine) → routine_at p id ≡ Some r
+    → IsStart p (Some id) (with_own_defaults p id r)
 
 -- true conditions make a well typed program of assignments correct
 abbrev pub TrueConditionsGiveCorrectIn : Meaning → Type 0

@@ -131,8 +131,8 @@ pub record IsRightFor (p : Program) (here : Option RoutineId) (state : State) : 
 -- ---- starts
 
 -- a state from which a routine may start, or the main block where none is named: it has the routine's frame, each name
--- that shows has a value of its type's sort (so the places of VAR parameters exist), nothing overlaps, and the state is right
--- also where the routine does not see it, so that no assignment through a VAR parameter leaves a value of another sort
+-- that shows has a value of its type's sort (so the places of VAR parameters exist), nothing overlaps, and the state is
+-- right also where the routine does not see it, so that no assignment through a VAR parameter leaves a value of another sort
 pub record IsStart (p : Program) (here : Option RoutineId) (state : State) : Type 0 where
   pub right : IsRightFor p here state
   pub frame : IsTrue (has_frame p here (routine_in p here) state)

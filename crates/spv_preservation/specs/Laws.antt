@@ -19,19 +19,23 @@ abbrev pub StatementsLeaveRightStates : Type 0
 StatementsLeaveRightStates =
     (p : Program) → IsTrue (well_typed p) → (here : Here) (types : List FrameType) → IsIn p here.routine types
     → (s : Statement) → IsTrue (statement_ok p (routine_in p here.routine) s) → (state : State) → IsRight p types state
-    → (turns : ℕ) (choices : List Value) (after : State) → (run p turns here s state choices).end ≡ Ended after → Leaves p types state.heap after
+    → (turns : ℕ) (choices : List Value) (after : State) → (run p turns here s state choices).end ≡ Ended after
+    → Leaves p types state.heap after
 
 -- the body of a routine, or of the main block, that ended, from a start, leaves values of their types and a right heap
 abbrev pub BodiesKeepValues : Type 0
 BodiesKeepValues =
     (p : Program) → IsTrue (well_typed p) → (here : Option RoutineId) (state : State) → IsStart p here state
-    → (turns : ℕ) (choices : List Value) (after : State) → (run p turns (begun p here state) (body_of p here) state choices).end ≡ Ended after
+    → (turns : ℕ) (choices : List Value) (after : State)
+    → (run p turns (begun p here state) (body_of p here) state choices).end ≡ Ended after
     → HasValues p here after
 
 -- a right state has values of their types, so where nothing overlaps it is a start
 abbrev pub RightStatesHaveValues : Type 0
-RightStatesHaveValues = (p : Program) (here : Option RoutineId) (state : State) → IsRightFor p here state → HasValues p here state
+RightStatesHaveValues =
+    (p : Program) (here : Option RoutineId) (state : State) → IsRightFor p here state → HasValues p here state
 
 abbrev pub RightStatesAreStarts : Type 0
 RightStatesAreStarts =
-    (p : Program) (here : Option RoutineId) (state : State) → IsRightFor p here state → IsTrue (apart (routine_in p here) state) → IsStart p here state
+    (p : Program) (here : Option RoutineId) (state : State) → IsRightFor p here state
+    → IsTrue (apart (routine_in p here) state) → IsStart p here state

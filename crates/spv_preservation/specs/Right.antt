@@ -23,5 +23,6 @@ pub record Leaves (p : Program) (types : List FrameType) (before : List HeapRow)
 pub record HasValues (p : Program) (here : Option RoutineId) (state : State) : Type 0 where
   pub right : IsRightFor p here state
   pub frame : IsTrue (has_frame p here (routine_in p here) state)
-  pub names : (x : Symbol) (t : TypeId) → shown_type p (routine_in p here) x ≡ Some t → IsTrue (is_of_type p t (look state (place_of here state x)))
+  pub names : (x : Symbol) (t : TypeId) → shown_type p (routine_in p here) x ≡ Some t
+      → IsTrue (is_of_type p t (look state (place_of here state x)))
   pub heap : IsTrue (heap_ok p state.heap)

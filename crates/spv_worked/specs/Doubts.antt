@@ -49,7 +49,10 @@ with_two_rows = record {
   variables = [];
   frames =
       record { routine = routine 0; names = (n, Referring (record { root = OwnValue 0 y; path = IndexStep (pos 3) ∷ [] })) ∷ [] }
-      ∷ record { routine = routine 0; names = (y, Holding (ArrayOf (z 0) (row (pos 3) (z 1) (row (pos 3) (Truth true) no_rows)))) ∷ [] } ∷ [];
+      ∷ record {
+        routine = routine 0;
+        names = (y, Holding (ArrayOf (z 0) (row (pos 3) (z 1) (row (pos 3) (Truth true) no_rows)))) ∷ [];
+      } ∷ [];
   heap = [];
 }
 

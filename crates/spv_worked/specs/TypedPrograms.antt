@@ -101,7 +101,8 @@ shared = with_main
 -- the programs whose runs are worked out
 abbrev pub run_programs : List Program
 run_programs =
-    loops.no_turn ∷ loops.counting_up 1 3 ∷ loops.counting_up 3 5 ∷ loops.counting_down ∷ loops.ends_once ∷ loops.once ∷ loops.upward ∷ loops.choosing
+    loops.no_turn ∷ loops.counting_up 1 3 ∷ loops.counting_up 3 5 ∷ loops.counting_down ∷ loops.ends_once
+    ∷ loops.once ∷ loops.upward ∷ loops.choosing
     ∷ faults.with_body (set b (faults.both_sides connective.And)) ∷ faults.with_body (set i (num 4))
     ∷ program [] (faults.procedure ∷ []) None None Empty
     ∷ calls.swapping ∷ calls.filling ∷ calls.twice ∷ calls.factorial ∷ calls.changing
@@ -110,9 +111,11 @@ run_programs =
 -- and those whose conditions are
 abbrev pub condition_programs : List Program
 condition_programs =
-    statements.nested ∷ statements.cases ∷ statements.forever (Assert (note 5 (equal (named x) (number 0)))) ∷ statements.repeating
+    statements.nested ∷ statements.cases
+    ∷ statements.forever (Assert (note 5 (equal (named x) (number 0)))) ∷ statements.repeating
     ∷ statements.counting ∷ statements.counting_down ∷ statements.elements ∷ statements.shared ∷ statements.creating
-    ∷ conditions.swapping ∷ conditions.filling ∷ conditions.stepping ∷ conditions.factorial ∷ conditions.twice ∷ conditions.in_a_test
+    ∷ conditions.swapping ∷ conditions.filling ∷ conditions.stepping ∷ conditions.factorial
+    ∷ conditions.twice ∷ conditions.in_a_test
     ∷ doubts.wrong ∷ doubts.about_fact ∷ []
 
 -- all of these programs are well typed, and their routines share rightly

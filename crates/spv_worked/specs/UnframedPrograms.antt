@@ -6,13 +6,13 @@ use Rattle.spv_program.specs.declared.operators.Arithmetic.TheVariants as arithm
 use Rattle.spv_program.specs.declared.operators.Connective.TheVariants as connective
 use Rattle.spv_program.specs.declared.operators.Comparison.TheVariants as comparison
 use Rattle.spv_program.specs.declared.operators.Direction.TheVariants.{Up}
-use Rattle.spv_program.specs.Expressions.{Designator, Boolean, Read, Result, Through, Negative, Calculated, Compared, Negated, Joined, no_selectors, at_field, call, no_arguments, by_value, by_place}
+use Rattle.spv_program.specs.Expressions.{Designator, Boolean, Read, Result, Through, Negative, Calculated, Compared, Negated, Joined, no_selectors, at_field, call, no_arguments, by_place}
 use Rattle.spv_program.specs.Formulas as formula
 use Rattle.spv_program.specs.Statements.{Statement, Empty, Assign, Perform, New, Sequence, If, Case, While, Repeat, For, Assert, no_arms, arm}
 use Rattle.spv_program.specs.Programs.{Routine, Program}
 use Rattle.spv_program.specs.Typing.{well_typed}
 use Rattle.spv_program.specs.Frames.{framed}
-use Rattle.spv_worked.specs.Small.{x, b, a, p, g, n, val, integer, ref, node, num, at, read, set, element, content, named, note, value_formal, place_formal, routine}
+use Rattle.spv_worked.specs.Small.{x, b, a, p, g, n, equal, val, integer, ref, node, num, at, read, set, element, content, named, note, value_formal, place_formal, routine}
 use Rattle.spv_worked.specs.TypedPrograms.{plain_item, var_item, nothing, pointing, pointing_call, over}
 use Rattle.spv_worked.specs.CallRuns.{swap}
 
@@ -66,8 +66,14 @@ with_unlisted_operands =
     ∷ routine_alone (using (If 1 (Joined connective.And (Boolean true) (read b)) Empty Empty))
     ∷ routine_alone (record (using (set n (Read (element a (read x))))) { globals = plain_item (Variable a) ∷ [] })
     ∷ routine_alone (record (using (Assign (element a (read x)) (num 1))) { globals = var_item (Variable a) ∷ [] })
-    ∷ routine_alone (record nothing { locals = (n, ref) ∷ []; globals = plain_item (Variable p) ∷ []; body = set n (Result (pointing_call (read x))) })
-    ∷ routine_alone (record (using (set n (Through (pointing_call (num 1)) 1 node (at_field node val no_selectors)))) { globals = plain_item (Variable p) ∷ [] })
+    ∷ routine_alone (record nothing {
+      locals = (n, ref) ∷ [];
+      globals = plain_item (Variable p) ∷ [];
+      body = set n (Result (pointing_call (read x)));
+    })
+    ∷ routine_alone (record (using (set n (Through (pointing_call (num 1)) 1 node (at_field node val no_selectors)))) {
+      globals = plain_item (Variable p) ∷ [];
+    })
     ∷ []
 
 -- variables and classes that annotations name
@@ -78,8 +84,12 @@ with_unlisted_annotations =
     ∷ routine_alone (using (Assert (note 1 (named b))))
     ∷ routine_alone (using (While 1 (Some (note 1 (named b))) (Compared comparison.Less (read n) (num 1)) Empty))
     ∷ routine_alone (using (Repeat 1 (Some (note 1 (named b))) Empty (Compared comparison.Less (read n) (num 1))))
-    ∷ routine_alone (using (For 1 (Some (note 1 (named b))) (record { variable = n; direction = Up; first = num 1; last = num 3 }) Empty))
-    ∷ routine_alone (record nothing { formals = value_formal n ref ∷ []; entry = Some (note 1 (formula.Compared comparison.Equal (formula.Content 1 node (named n)) (formula.Content 1 node (named n)))) }) ∷ []
+    ∷ routine_alone (using (For 1 (Some (note 1 (named b)))
+    (record { variable = n; direction = Up; first = num 1; last = num 3 }) Empty))
+    ∷ routine_alone (record nothing {
+      formals = value_formal n ref ∷ [];
+      entry = Some (note 1 (equal (formula.Content 1 node (named n)) (formula.Content 1 node (named n))));
+    }) ∷ []
 
 -- variables that are written: in no list, and in a list without VAR
 abbrev pub with_unlisted_writes : List Program
@@ -88,16 +98,24 @@ with_unlisted_writes =
     ∷ routine_alone (record (using (set x (num 1))) { globals = plain_item (Variable x) ∷ [] })
     ∷ routine_alone (record (using (Assign (element a (num 1)) (num 1))) { globals = plain_item (Variable a) ∷ [] })
     ∷ over swap (record (using (swapping (at n) (at x))) { name = g; globals = plain_item (Variable x) ∷ [] }) Empty
-    ∷ routine_alone (record (using (New 1 (at p) node)) { globals = plain_item (Variable p) ∷ var_item (Class node) ∷ [] }) ∷ []
+    ∷ routine_alone (record (using (New 1 (at p) node)) {
+      globals = plain_item (Variable p) ∷ var_item (Class node) ∷ [];
+    }) ∷ []
 
 -- cells that are read, written and made
 abbrev pub with_unlisted_cells : List Program
 with_unlisted_cells =
     routine_alone (record (using (set n (Read (content p)))) { globals = plain_item (Variable p) ∷ [] })
     ∷ routine_alone (record (using (set n (Read (content p)))) { globals = plain_item (Class node) ∷ [] })
-    ∷ routine_alone (record (using (Assign (content p) (num 1))) { globals = plain_item (Variable p) ∷ plain_item (Class node) ∷ [] })
+    ∷ routine_alone (record (using (Assign (content p) (num 1))) {
+      globals = plain_item (Variable p) ∷ plain_item (Class node) ∷ [];
+    })
     ∷ routine_alone (record nothing { locals = (n, ref) ∷ []; body = New 1 (at n) node })
-    ∷ routine_alone (record nothing { locals = (n, ref) ∷ []; globals = plain_item (Class node) ∷ []; body = New 1 (at n) node }) ∷ []
+    ∷ routine_alone (record nothing {
+      locals = (n, ref) ∷ [];
+      globals = plain_item (Class node) ∷ [];
+      body = New 1 (at n) node;
+    }) ∷ []
 
 -- ---- calls
 
@@ -110,12 +128,20 @@ abbrev pub with_uncovered_calls : List Program
 with_uncovered_calls =
     over (record nothing { globals = plain_item (Variable x) ∷ [] }) caller Empty
     ∷ over (record nothing { globals = plain_item (Class node) ∷ [] }) caller Empty
-    ∷ over (record nothing { globals = var_item (Variable x) ∷ [] }) (record caller { globals = plain_item (Variable x) ∷ [] }) Empty
-    ∷ over (record nothing { locals = (n, ref) ∷ []; body = set n (Result (call (routine 1) 1 (by_value (num 1) no_arguments))) }) pointing Empty ∷ []
+    ∷ over (record nothing { globals = var_item (Variable x) ∷ [] })
+    (record caller { globals = plain_item (Variable x) ∷ [] }) Empty
+    ∷ over (record nothing {
+      locals = (n, ref) ∷ [];
+      body = set n (Result (pointing_call (num 1)));
+    }) pointing Empty ∷ []
 
 -- PROCEDURE f(VAR n: INTEGER) with an item
 abbrev pub with_item : Statement → Program
-with_item s = over (record nothing { formals = place_formal n integer ∷ []; globals = plain_item (Variable x) ∷ plain_item (Class node) ∷ [] }) pointing s
+with_item s =
+    over (record nothing {
+      formals = place_formal n integer ∷ [];
+      globals = plain_item (Variable x) ∷ plain_item (Class node) ∷ [];
+    }) pointing s
 
 -- two VAR arguments of one root, also in a routine's body, and a VAR argument whose root is an item of the callee's list
 abbrev pub with_meeting_arguments : List Program

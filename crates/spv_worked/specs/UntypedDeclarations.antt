@@ -95,7 +95,10 @@ with_wrong_scopes =
     with_routine (record nothing { formals = value_formal n integer ∷ place_formal n integer ∷ [] })
     ∷ with_routine (record nothing { formals = value_formal n integer ∷ []; locals = (n, integer) ∷ [] })
     ∷ with_routine (record nothing { locals = (n, integer) ∷ (n, nine) ∷ [] })
-    ∷ with_routine (record nothing { formals = place_formal n integer ∷ []; initial = (p0, Variable n) ∷ (p0, Variable n) ∷ [] })
+    ∷ with_routine (record nothing {
+      formals = place_formal n integer ∷ [];
+      initial = (p0, Variable n) ∷ (p0, Variable n) ∷ [];
+    })
     ∷ with_routine (record nothing { formals = place_formal n integer ∷ []; initial = (n, Variable n) ∷ [] })
     ∷ with_routine (record nothing { formals = value_formal f integer ∷ [] })
     ∷ with_routine (record nothing { locals = (f, integer) ∷ [] })

@@ -88,4 +88,5 @@ with_wrong_bodies =
     with_main (counting (set x (num 1)))
     ∷ with_main (counting (counting Empty))
     ∷ with_main (counting (sharing_call (at x) (num 1)))
-    ∷ over (record nothing { globals = var_item (Variable x) ∷ [] }) pointing (counting (Perform (call (routine 0) 1 no_arguments))) ∷ []
+    ∷ over (record nothing { globals = var_item (Variable x) ∷ [] }) pointing
+    (counting (Perform (call (routine 0) 1 no_arguments))) ∷ []
