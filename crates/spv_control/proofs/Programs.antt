@@ -24,7 +24,7 @@ use Rattle.spv_program.proofs.SortFacts.{nothing_there}
 use Rattle.spv_meaning.specs.Places.{State}
 use Rattle.spv_meaning.specs.Views.{now_view, entry_view}
 use Rattle.spv_meaning.specs.Walks.{run}
-use Rattle.spv_meaning.specs.Correct.{Starts, CorrectWith, Correct}
+use Rattle.spv_meaning.specs.Correct.{Starts, CorrectWith, is_there, Correct}
 use Rattle.spv_meaning.specs.Before.{Made, before, wanted_if_there}
 use Rattle.spv_meaning.specs.Assignments.{has_no_routines}
 use Rattle.spv_meaning.specs.ProgramConditions.{main_conditions, conditions_from, conditions_of, AllTrueIn}
@@ -164,8 +164,8 @@ main_right p world typed control h turns =
 
 -- conditions that are true make the program correct
 pub control_correct : (p : Program) (world : Meaning) → well_typed p ≡ true → only_control p ≡ true → AllTrueIn (shapes p) p.symbols world (conditions_of p) → Correct p world
-control_correct p world typed control h = record { each = λ here turns. by_routine here turns }
+control_correct p world typed control h = record { each = λ here there turns. by_routine here there turns }
   where
-    by_routine : (here : Option RoutineId) (turns : ℕ) → CorrectWith p world here turns
-    by_routine None turns = main_right p world typed control h turns
-    by_routine (Some id) turns = nobody p world id turns (no_routine p.routines (left_true (has_no_routines p.routines) _ control))
+    by_routine : (here : Option RoutineId) → is_there p here ≡ true → (turns : ℕ) → CorrectWith p world here turns
+    by_routine None there turns = main_right p world typed control h turns
+    by_routine (Some id) there turns = nobody p world id turns (no_routine p.routines (left_true (has_no_routines p.routines) _ control)) there

@@ -1,3 +1,3 @@
-mod Values
-mod Parts
-mod Places
+pub mod Values
+pub mod Parts
+pub mod Places

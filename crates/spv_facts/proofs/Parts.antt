@@ -1,4 +1,5 @@
 -- Parts of values, by their sorts.
+use Rattle.spv_meaning.specs.FrameTypes.{path_sort, step_sort}
 use Rattle.std.proofs.Common.{◌≡◌, ℕ, Bool, true, false, cond, ◌&&◌, List, [], ◌∷◌, ℤ, pos, refl, sym, ap, subst, ◌∙◌, Option, Some, None, is_some, nat_eq}
 use Rattle.std.specs.Option.{option_and_then, unwrap_or}
 use Rattle.std.specs.Ordering.{int_eq}
@@ -19,17 +20,16 @@ use Rattle.spv_program.proofs.SortFacts.{nothing_there, some_is, Behind, behind}
 use Rattle.spv_meaning.specs.Places.{PathStep, IndexStep, FieldStep, row_found, step_part, part_at, with_step, with_part}
 use Rattle.spv_meaning.specs.Starts.{same_step, paths_meet}
 use Rattle.spv_evaluation.proofs.Steps.{array_step, field_step}
-use Rattle.spv_facts.specs.Places.{step_sort, path_sort}
 use Rattle.spv_facts.proofs.Values.{found_same, found_other, record_is, field_there}
 
 -- ---- steps
 
-record StepThere (shapes : List Shape) (u : Value) (x : PathStep) (e : Sort) : Type 0 where
+pub record StepThere (shapes : List Shape) (u : Value) (x : PathStep) (e : Sort) : Type 0 where
   pub part : Value
   pub is : step_part u x ≡ Some part
   pub fit : fits shapes part e ≡ true
 
-step_there : (shapes : List Shape) (u : Value) (s e : Sort) (x : PathStep) → step_sort shapes s x ≡ Some e → fits shapes u s ≡ true → StepThere shapes u x e
+pub step_there : (shapes : List Shape) (u : Value) (s e : Sort) (x : PathStep) → step_sort shapes s x ≡ Some e → fits shapes u s ≡ true → StepThere shapes u x e
 step_there shapes u s e (IndexStep i) told fit = record {
   part = row_at (rows_in u) i (default_in u);
   is = array_step shapes u (Number i) s e told fit;

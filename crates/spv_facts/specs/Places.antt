@@ -8,15 +8,7 @@ use Rattle.spv_logic.specs.Shapes.{element_sort, fields_of, field_sort_of}
 use Rattle.spv_logic.specs.Fits.{fits}
 use Rattle.spv_meaning.specs.Places.{PathStep, Place, State, IndexStep, FieldStep, root_value, look, exists, put}
 use Rattle.spv_meaning.specs.Starts.{paths_meet}
-
--- the sort of what a step leads to, from a structure of a sort
-abbrev pub step_sort : List Shape → Sort → PathStep → Option Sort
-step_sort shapes s (IndexStep i) = element_sort shapes s
-step_sort shapes s (FieldStep f) = field_sort_of (fields_of shapes s) f.0
-
-abbrev pub path_sort : List Shape → Sort → List PathStep → Option Sort
-path_sort shapes s [] = Some s
-path_sort shapes s (x ∷ path) = option_and_then (λ e. path_sort shapes e path) (step_sort shapes s x)
+use Rattle.spv_meaning.specs.FrameTypes.{path_sort}
 
 -- a place of a sort: its root holds a value of some sort, and the path leads from that sort to this one
 pub record IsPlace (shapes : List Shape) (state : State) (a : Place) (e : Sort) : Type 0 where

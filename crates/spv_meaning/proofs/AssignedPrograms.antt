@@ -24,7 +24,7 @@ use Rattle.spv_program.specs.Types.{sort_of, takes_value}
 use Rattle.spv_program.specs.Expressions.{Expression, designator, no_selectors, at_index, at_field, at_cell}
 use Rattle.spv_program.specs.Formulas.{Annotation}
 use Rattle.spv_program.specs.Statements.{Statement, Empty, Assign, Sequence}
-use Rattle.spv_program.specs.Programs.{Routine, Program, shapes, routine_at}
+use Rattle.spv_program.specs.Programs.{Routine, Program, shapes}
 use Rattle.spv_program.specs.Scopes.{with_sorts_of, body_scope, sort_or_int}
 use Rattle.spv_program.specs.FormulaTypes.{same_sort, annotation_ok}
 use Rattle.spv_program.specs.ExpressionTypes.{sort_of_type, expression_sort, designator_type, may_write}
@@ -42,7 +42,7 @@ use Rattle.spv_meaning.specs.Levels.{Level, reached_in_body}
 use Rattle.spv_meaning.specs.Evaluation.{Fixed}
 use Rattle.spv_meaning.specs.Walks.{walk, assign, level, run}
 use Rattle.spv_meaning.specs.Starts.{IsStart, is_of_type}
-use Rattle.spv_meaning.specs.Correct.{valuation_of, met_holds, all_hold, met_if_there, begun, routine_body, routine_exit, Starts, CorrectWith, Correct}
+use Rattle.spv_meaning.specs.Correct.{valuation_of, met_holds, all_hold, met_if_there, begun, Starts, CorrectWith, is_there, Correct}
 use Rattle.spv_meaning.specs.Before.{Made, before, before_calls, replaced, assuming_if_there, annotation_term, wanted_if_there}
 use Rattle.spv_meaning.specs.ProgramConditions.{main_conditions, conditions_from, conditions_of, AllTrueIn}
 use Rattle.spv_meaning.specs.Assignments.{is_simple, is_block, has_no_routines, only_assigns}
@@ -243,24 +243,9 @@ pub no_routine : (routines : List Routine) → has_no_routines routines ≡ true
 no_routine [] h = refl
 no_routine (r ∷ routines) h = absurd (false≢true h)
 
--- where there is no such routine, nothing runs and nothing is wanted
-pub nobody : (p : Program) (world : Meaning) (id : RoutineId) (turns : ℕ) → p.routines ≡ [] → CorrectWith p world (Some id) turns
-nobody p world id turns none = record {
-  reached = λ state starts choices. reach turns (routine_at p id) absent state choices;
-  ended = λ state starts choices after e. leave (routine_at p id) absent state after;
-}
-  where
-    absent : routine_at p id ≡ None
-    absent = ap (λ rs. item_at rs id.0) none
-
-    reach : (turns : ℕ) (o : Option Routine) → o ≡ None → (state : State) (choices : List Value) → all_hold p world (run p turns (begun p (Some id) state) (routine_body o) state choices).met ≡ true
-    reach zero None e state choices = refl
-    reach (suc n) None e state choices = refl
-    reach turns (Some r) e state choices = absurd (nothing_there (sym e))
-
-    leave : (o : Option Routine) → o ≡ None → (begin after : State) → all_hold p world (routine_exit p (begun p (Some id) begin) o after) ≡ true
-    leave None e begin after = refl
-    leave (Some r) e begin after = absurd (nothing_there (sym e))
+-- where there are no routines, there is none to be correct
+pub nobody : (p : Program) (world : Meaning) (id : RoutineId) (turns : ℕ) → p.routines ≡ [] → is_there p (Some id) ≡ true → CorrectWith p world (Some id) turns
+nobody p world id turns none there = absurd (false≢true (sym (ap (λ rs. is_some (item_at rs id.0)) none) ∙ there))
 
 main_correct : (p : Program) (world : Meaning) → well_typed p ≡ true → only_assigns p ≡ true → AllTrueIn (shapes p) p.symbols world (conditions_of p) → (turns : ℕ) → CorrectWith p world None turns
 main_correct p world typed simple h turns =
@@ -282,9 +267,9 @@ main_correct p world typed simple h turns =
 -- conditions that are true make the program correct
 pub conditions_correct : (p : Program) (world : Meaning) → well_typed p ≡ true → only_assigns p ≡ true → AllTrueIn (shapes p) p.symbols world (conditions_of p) → Correct p world
 conditions_correct p world typed simple h = record {
-  each = λ here turns. by_routine here turns;
+  each = λ here there turns. by_routine here there turns;
 }
   where
-    by_routine : (here : Option RoutineId) (turns : ℕ) → CorrectWith p world here turns
-    by_routine None turns = main_correct p world typed simple h turns
-    by_routine (Some id) turns = nobody p world id turns (no_routine p.routines (left_true (has_no_routines p.routines) _ simple))
+    by_routine : (here : Option RoutineId) → is_there p here ≡ true → (turns : ℕ) → CorrectWith p world here turns
+    by_routine None there turns = main_correct p world typed simple h turns
+    by_routine (Some id) there turns = nobody p world id turns (no_routine p.routines (left_true (has_no_routines p.routines) _ simple)) there

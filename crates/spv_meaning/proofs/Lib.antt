@@ -7,3 +7,6 @@ pub mod AssignedPrograms
 pub mod Turns
 pub mod Puts
 pub mod MainStart
+pub mod Differing
+pub mod RightFrames
+pub mod RoutineStarts

@@ -132,6 +132,15 @@ after_assignment p state start x w t d fit y u e false same =
 -- an assignment of a value of the variable's sort leaves a start
 pub start_after : (p : Program) (state : State) → IsStart p None state → (x : Symbol) (w : Value) (t : TypeId) → IsDeclared p x t → fits (shapes p) w (sort_of p.forms t) ≡ true → IsStart p None (put state (variable x) w)
 start_after p state start x w t d fit = record {
+  right = record {
+    types = start.right.types;
+    inside = start.right.inside;
+    right = record {
+      variables = λ y u e. after_assignment p state start x w t d fit y u (record { is = e }) (same_name x y) refl;
+      frames = start.right.right.frames;
+      heap = start.right.right.heap;
+    };
+  };
   frame = refl;
   names = λ y u e. ap (is_of_type p u) (look-variable (put state (variable x) w) y)
       ∙ after_assignment p state start x w t d fit y u (record { is = sym (shown-main p y) ∙ e }) (same_name x y) refl;

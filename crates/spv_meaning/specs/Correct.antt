@@ -1,5 +1,5 @@
 -- When a program is correct.
-use Rattle.std.specs.Prelude.{◌≡◌, ◌<◌, ℕ, Bool, List, [], ◌∷◌, Option, Some, None, IsTrue}
+use Rattle.std.specs.Prelude.{◌≡◌, ◌<◌, ℕ, Bool, true, List, [], ◌∷◌, Option, Some, None, IsTrue, is_some}
 use Rattle.std.specs.List.{list_all}
 use Rattle.std.specs.Option.{unwrap_or}
 use Rattle.spv_logic.specs.declared.conditions.Kind.TheVariants as kind
@@ -84,10 +84,15 @@ pub record CorrectWith (p : Program) (world : Meaning) (here : Option RoutineId)
   pub ended : (state : State) → Starts p world here state → (choices : List Value) (after : State)
       → (run p turns (begun p here state) (body_of p here) state choices).end ≡ Ended after → IsTrue (all_hold p world (exit_met p here state after))
 
--- a program is correct in a world: each routine and the main block, with any number of turns
+-- whether there is such a routine; the main block is always there
+abbrev pub is_there : Program → Option RoutineId → Bool
+is_there p None = true
+is_there p (Some id) = is_some (routine_at p id)
+
+-- a program is correct in a world: each routine that there is and the main block, with any number of turns
 pub record Correct (p : Program) (world : Meaning) : Type 0 where
-  pub each : (here : Option RoutineId) (turns : ℕ) → CorrectWith p world here turns
+  pub each : (here : Option RoutineId) → IsTrue (is_there p here) → (turns : ℕ) → CorrectWith p world here turns
 
 -- the same with fewer turns than a number
 pub record CorrectBelow (p : Program) (world : Meaning) (number : ℕ) : Type 0 where
-  pub each : (here : Option RoutineId) (turns : ℕ) → turns < number → CorrectWith p world here turns
+  pub each : (here : Option RoutineId) → IsTrue (is_there p here) → (turns : ℕ) → turns < number → CorrectWith p world here turns

@@ -1,18 +1,20 @@
 -- What is proved of runs.
-use Rattle.std.specs.Prelude.{◌≡◌, ◌≤◌, ℕ, Bool, true, false, List, [], map, Some, None, IsTrue}
+use Rattle.std.specs.Prelude.{◌≡◌, ◌≤◌, ℕ, Bool, true, false, List, [], ◌∷◌, ◌++◌, map, Some, None, IsTrue, if◌then◌else◌}
 use Rattle.spv_logic.specs.Conditions.{Meaning}
-use Rattle.spv_program.specs.Programs.{Program, shapes}
+use Rattle.spv_program.specs.Programs.{Formal, Routine, Program, shapes, routine_at}
+use Rattle.spv_program.specs.Scopes.{result_name}
 use Rattle.spv_program.specs.Typing.{well_typed}
 use Rattle.spv_logic.specs.Values.{Value}
 use Rattle.spv_program.specs.Statements.{Statement}
 use Rattle.spv_names.specs.declared.names.Symbol.{Symbol}
 use Rattle.spv_logic.specs.declared.types.TypeId.{TypeId}
+use Rattle.spv_logic.specs.declared.conditions.RoutineId.{RoutineId}
 use Rattle.spv_logic.specs.declared.operators.Head.{Head}
 use Rattle.spv_logic.specs.declared.operators.Head.TheVariants as head
 use Rattle.spv_logic.specs.Terms.{head_eq}
 use Rattle.spv_program.specs.Lists.{found}
 use Rattle.spv_program.specs.Types.{sort_of}
-use Rattle.spv_meaning.specs.Places.{Place, PathStep, HeapRow, State, ProgramVariable, CellOf, row_of, look, put}
+use Rattle.spv_meaning.specs.Places.{Place, PathStep, Binding, HeapRow, State, ProgramVariable, OwnValue, CellOf, Holding, Referring, whole, row_of, look, put}
 use Rattle.spv_meaning.specs.Views.{now_view}
 use Rattle.spv_logic.specs.Fits.{default_of}
 use Rattle.spv_meaning.specs.Starts.{IsStart, same_root}
@@ -60,6 +62,36 @@ with_defaults p = record { variables = map (λ n. (n.0, default_of (shapes p) (s
 -- the main block of a well typed program has a start
 abbrev pub MainBlocksHaveStarts : Type 0
 MainBlocksHaveStarts = (p : Program) → IsTrue (well_typed p) → IsStart p None (with_defaults p)
+
+-- names that hold their types' defaults
+abbrev pub holding_defaults : Program → List (Symbol × TypeId) → List (Symbol × Binding)
+holding_defaults p names = map (λ n. (n.0, Holding (default_of (shapes p) (sort_of p.forms n.1)))) names
+
+-- a parameter as a start binds it: by place to what the oldest frame keeps under its name, by value to its type's default
+abbrev pub started_formal : Program → Formal → Binding
+started_formal p f =
+    if f.by_place then Referring (whole (OwnValue 0 f.name)) else Holding (default_of (shapes p) (sort_of p.forms f.of))
+
+-- a state of defaults with no cells and two frames: the routine's own, and below it one that keeps a value for each
+-- parameter
+abbrev pub with_own_defaults : Program → RoutineId → Routine → State
+with_own_defaults p id r = record {
+  variables = (with_defaults p).variables;
+  frames =
+      record {
+        routine = id;
+        names = map (λ f. (f.name, started_formal p f)) r.formals
+            ++ holding_defaults p (result_name r.name r.result ++ r.locals);
+      }
+      ∷ record { routine = id; names = holding_defaults p (map (λ f. (f.name, f.of)) r.formals) } ∷ [];
+  heap = [];
+}
+
+-- each routine of a well typed program has a start
+abbrev pub RoutinesHaveStarts : Type 0
+RoutinesHaveStarts =
+    (p : Program) → IsTrue (well_typed p) → (id : RoutineId) (r : Routine) → routine_at p id ≡ Some r
+    → IsStart p (Some id) (with_own_defaults p id r)
 
 -- true conditions make a well typed program of assignments correct
 abbrev pub TrueConditionsGiveCorrectIn : Meaning → Type 0

@@ -4,6 +4,7 @@ pub mod Outcomes
 pub mod Levels
 pub mod Evaluation
 pub mod Walks
+pub mod FrameTypes
 pub mod Starts
 pub mod Correct
 pub mod Before

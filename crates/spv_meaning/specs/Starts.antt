@@ -9,13 +9,14 @@ use Rattle.spv_logic.specs.Values.{Value}
 use Rattle.spv_logic.specs.Fits.{fits}
 use Rattle.spv_program.specs.declared.types.Item.{Item}
 use Rattle.spv_program.specs.declared.types.Item.TheVariants.{Variable, Class}
-use Rattle.spv_program.specs.Lists.{same_name, all_differ}
+use Rattle.spv_program.specs.Lists.{same_name, found, all_differ}
 use Rattle.spv_program.specs.Types.{same_type, sort_of}
 use Rattle.spv_program.specs.Programs.{GlobalItem, Routine, Program, shapes, routine_in}
 use Rattle.spv_program.specs.Scopes.{result_name}
 use Rattle.spv_meaning.specs.Places.{Root, PathStep, Place, Binding, Frame, HeapRow, State, ProgramVariable, OwnValue, CellOf, IndexStep, FieldStep, Holding, Referring, whole, row_of, look}
 use Rattle.spv_meaning.specs.Views.{place_of, shown_type}
 use Rattle.spv_meaning.specs.Evaluation.{is_cell_of}
+use Rattle.spv_meaning.specs.FrameTypes.{FrameType, IsIn, frames_right}
 
 -- ---- the heap
 
@@ -112,11 +113,28 @@ abbrev pub apart : Option Routine → State → Bool
 apart None state = true
 apart (Some r) state = all_differ (overlap state.heap) (frame_areas state.frames ++ map item_area r.globals)
 
+-- ---- right states
+
+-- a state whose frames are of these types: each variable of the program has a value of its type, each frame binds its
+-- names rightly, and the heap is right
+pub record IsRight (p : Program) (types : List FrameType) (state : State) : Type 0 where
+  pub variables : (x : Symbol) (t : TypeId) → found p.variables x ≡ Some t → IsTrue (is_of_type p t (found state.variables x))
+  pub frames : IsTrue (frames_right p types state.heap state.frames)
+  pub heap : IsTrue (heap_ok p state.heap)
+
+-- a right state in which a routine, or the main block, may run: the newest frame is the routine's
+pub record IsRightFor (p : Program) (here : Option RoutineId) (state : State) : Type 0 where
+  pub types : List FrameType
+  pub inside : IsIn p here types
+  pub right : IsRight p types state
+
 -- ---- starts
 
 -- a state from which a routine may start, or the main block where none is named: it has the routine's frame, each name
--- that shows has a value of its type's sort (so the places of VAR parameters exist), and nothing overlaps
+-- that shows has a value of its type's sort (so the places of VAR parameters exist), nothing overlaps, and the state is
+-- right also where the routine does not see it, so that no assignment through a VAR parameter leaves a value of another sort
 pub record IsStart (p : Program) (here : Option RoutineId) (state : State) : Type 0 where
+  pub right : IsRightFor p here state
   pub frame : IsTrue (has_frame p here (routine_in p here) state)
   pub names : (x : Symbol) (t : TypeId) → shown_type p (routine_in p here) x ≡ Some t → IsTrue (is_of_type p t (look state (place_of here state x)))
   pub heap : IsTrue (heap_ok p state.heap)

@@ -1,7 +1,7 @@
 // The theorems on runs, each the contract of a function that does nothing.
 
 ghost use Rattle.spv_logic.specs.Conditions.{Meaning};
-ghost use Rattle.spv_meaning.specs.Laws.{MoreTurnsKeepRuns, PutLeavesOtherRoots, PutChangesOneName, PutChangesOneClass, MainBlocksHaveStarts, TrueConditionsGiveCorrectIn};
+ghost use Rattle.spv_meaning.specs.Laws.{MoreTurnsKeepRuns, PutLeavesOtherRoots, PutChangesOneName, PutChangesOneClass, MainBlocksHaveStarts, RoutinesHaveStarts, TrueConditionsGiveCorrectIn};
 
 use spv_logic::World;
 
@@ -21,9 +21,10 @@ pub fn law_view()
     ensures cells { PutChangesOneClass }
 {}
 
-/// What is claimed of every start of a main block is not claimed of none.
+/// What is claimed of every start of a main block, or of a routine, is not claimed of none.
 pub fn law_starts()
-    ensures { MainBlocksHaveStarts }
+    ensures main_blocks { MainBlocksHaveStarts }
+    ensures routines { RoutinesHaveStarts }
 {}
 
 /// Where the conditions of a well typed program are true in a world, the program is correct in it: for

@@ -39,7 +39,7 @@ present-further d s = fold_on (base d.target.root d.target.pointer) d.target.pat
     fold_on t [] = refl
     fold_on t (u ∷ path) = fold_on (part t u) path
 
-same_types : (t u : TypeId) → same_type t u ≡ true → t ≡ u
+pub same_types : (t u : TypeId) → same_type t u ≡ true → t ≡ u
 same_types t u h = let e = eqb-true t.0 u.0 h in λ i. record { 0 = e i }
 
 element_there : (p : Program) (t u : TypeId) (f : TypeForm) → form_at p.forms t.0 ≡ f → element_of f ≡ Some u → element_sort (shapes p) (sort_of_form f t) ≡ Some (sort_of p.forms u)
@@ -76,7 +76,7 @@ field_there p t u name (Record fields) is e =
 pub field_told : (p : Program) (t u : TypeId) (name : Symbol) → field_of (form_at p.forms t.0) name ≡ Some u → field_sort_of (fields_of (shapes p) (sort_of p.forms t)) name.0 ≡ Some (sort_of p.forms u)
 field_told p t u name e = field_there p t u name (form_at p.forms t.0) refl e
 
-target_there : (f : TypeForm) (t u : TypeId) → target_of f ≡ Some u → sort_of_form f t ≡ sort.Ptr u
+pub target_there : (f : TypeForm) (t u : TypeId) → target_of f ≡ Some u → sort_of_form f t ≡ sort.Ptr u
 target_there Integer t u e = absurd (nothing_there e)
 target_there Boolean t u e = absurd (nothing_there e)
 target_there (Range low high) t u e = absurd (nothing_there e)
@@ -100,7 +100,7 @@ call_sort p here n (call r line given) t e = by_routine (routine_at p r) e
 
 -- ---- expressions
 
-mapped : {X Y : Type 0} (f : X → Y) (o : Option X) (y : Y) → option_map f o ≡ Some y → Behind (λ x. Some (f x)) o y
+pub mapped : {X Y : Type 0} (f : X → Y) (o : Option X) (y : Y) → option_map f o ≡ Some y → Behind (λ x. Some (f x)) o y
 mapped f None y e = absurd (nothing_there e)
 mapped f (Some x) y e = record { item = x; is = refl; gives = e }
 

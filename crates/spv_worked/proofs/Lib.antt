@@ -1,1 +1,2 @@
 pub mod Untrue
+mod TwoRows

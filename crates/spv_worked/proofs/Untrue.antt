@@ -14,9 +14,9 @@ use Rattle.spv_worked.specs.Doubts.{wrong, about_fact}
 
 pub wrong_not_correct : (world : Meaning) → Correct wrong world → ⊥
 wrong_not_correct world correct =
-    false≢true ((correct.each None 0).ended (with_defaults wrong) (record { is_start = defaults_start wrong refl; entry = refl }) [] _ refl)
+    false≢true ((correct.each None refl 0).ended (with_defaults wrong) (record { is_start = defaults_start wrong refl; entry = refl }) [] _ refl)
 
 pub fact_is_one : (world : Meaning) → Correct about_fact world → answers (shapes about_fact) about_fact.symbols world Fact.0 (Number (pos 0) ∷ []) ≡ Number (pos 1)
 fact_is_one world correct =
-    let holds = (correct.each None 0).ended (with_defaults about_fact) (record { is_start = defaults_start about_fact refl; entry = refl }) [] (with_defaults about_fact) refl in
+    let holds = (correct.each None refl 0).ended (with_defaults about_fact) (record { is_start = defaults_start about_fact refl; entry = refl }) [] (with_defaults about_fact) refl in
     value_eq-true (answers (shapes about_fact) about_fact.symbols world Fact.0 (Number (pos 0) ∷ [])) (Number (pos 1)) (left_true _ true holds)

@@ -68,7 +68,7 @@ Fill = Are filling
 
 -- ---- GLOBAL items
 
--- PROCEDURE step(n: INTEGER); GLOBAL (VAR x; y); INITIAL x = p; EXIT x = p + n; BEGIN n := n + 1; x := x + y END
+-- PROCEDURE step(n: INTEGER); GLOBAL (VAR x; y); INITIAL x = p; EXIT x = p + n; BEGIN n := n + 1 END
 abbrev pub step : Routine
 step = record {
   name = f;

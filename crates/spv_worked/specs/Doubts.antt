@@ -1,12 +1,14 @@
 -- Programs that are not correct, so that "correct" says something.
-use Rattle.std.specs.Prelude.{◌≡◌, [], ◌∷◌, Some, None, pos}
-use Rattle.spv_logic.specs.Values.{Number}
+use Rattle.std.specs.Prelude.{◌≡◌, true, [], ◌∷◌, Some, None, pos}
+use Rattle.spv_logic.specs.Values.{Number, Truth, ArrayOf, no_rows, row}
+use Rattle.spv_meaning.specs.Places.{State, OwnValue, IndexStep, Holding, Referring}
+use Rattle.spv_meaning.specs.Starts.{IsStart}
 use Rattle.spv_logic.specs.Conditions.{Meaning, answers}
 use Rattle.spv_program.specs.Formulas as formula
 use Rattle.spv_program.specs.Statements.{Empty}
 use Rattle.spv_program.specs.Programs.{Program, shapes}
 use Rattle.spv_meaning.specs.Correct.{Correct}
-use Rattle.spv_worked.specs.Small.{x, Fact, integer, program, num, set, named, number, equal, note}
+use Rattle.spv_worked.specs.Small.{x, y, n, f, Fact, integer, program, num, set, named, number, equal, note, place_formal, routine, z}
 
 -- VAR x: INTEGER; EXIT x = 1; BEGIN x := 2 END
 abbrev pub wrong : Program
@@ -24,3 +26,36 @@ about_fact = program [] [] None (Some (note 3 (equal (formula.Applied Fact (form
 abbrev pub CorrectWhereFactIsOne : Type 0
 CorrectWhereFactIsOne = (world : Meaning) → Correct about_fact world
     → answers (shapes about_fact) about_fact.symbols world Fact.0 (Number (pos 0) ∷ []) ≡ Number (pos 1)
+
+-- PROCEDURE f(VAR n: INTEGER); BEGIN n := 0 END
+abbrev pub zeroing : Program
+zeroing =
+    program [] (record {
+      name = f;
+      line = 1;
+      formals = place_formal n integer ∷ [];
+      result = None;
+      globals = [];
+      initial = [];
+      entry = None;
+      exit = None;
+      locals = [];
+      body = set n (num 0);
+    } ∷ []) None None Empty
+
+-- n is the element of an array that has two rows for one index, a number and a truth value
+abbrev pub with_two_rows : State
+with_two_rows = record {
+  variables = [];
+  frames =
+      record { routine = routine 0; names = (n, Referring (record { root = OwnValue 0 y; path = IndexStep (pos 3) ∷ [] })) ∷ [] }
+      ∷ record {
+        routine = routine 0;
+        names = (y, Holding (ArrayOf (z 0) (row (pos 3) (z 1) (row (pos 3) (Truth true) no_rows)))) ∷ [];
+      } ∷ [];
+  heap = [];
+}
+
+-- such a state is no start, though n is a number in it
+abbrev pub TwoRowsAreNoStart : Type 0
+TwoRowsAreNoStart = IsStart zeroing (Some (routine 0)) with_two_rows → ⊥

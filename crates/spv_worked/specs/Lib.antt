@@ -7,3 +7,8 @@ pub mod Terms
 pub mod StatementConditions
 pub mod CallConditions
 pub mod Doubts
+pub mod TypedPrograms
+pub mod UntypedDeclarations
+pub mod UntypedExpressions
+pub mod UntypedStatements
+pub mod UnframedPrograms

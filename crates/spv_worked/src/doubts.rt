@@ -1,9 +1,14 @@
 // Programs that are not correct, each claim the contract of a function that does nothing.
 
-ghost use Rattle.spv_worked.specs.Doubts.{WrongIsNotCorrect, CorrectWhereFactIsOne};
+ghost use Rattle.spv_worked.specs.Doubts.{WrongIsNotCorrect, CorrectWhereFactIsOne, TwoRowsAreNoStart};
 
 /// There is a program that is correct in no world, and one that is correct only where a symbol is as it says.
 pub fn law_doubts()
     ensures wrong { WrongIsNotCorrect }
     ensures about_fact { CorrectWhereFactIsOne }
+{}
+
+/// No routine starts where a VAR parameter is a part of a value of no sort.
+pub fn law_no_start()
+    ensures { TwoRowsAreNoStart }
 {}

@@ -6,3 +6,4 @@
 pub mod conditions;
 pub mod doubts;
 pub mod runs;
+pub mod typing;

@@ -1,0 +1,12 @@
+pub mod Outcomes
+pub mod Roots
+pub mod Growing
+pub mod Puts
+pub mod Places
+pub mod Names
+pub mod Frames
+pub mod Calls
+pub mod Expressions
+pub mod Statements
+pub mod Starts
+pub mod Levels

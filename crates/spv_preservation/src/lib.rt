@@ -1,0 +1,4 @@
+//! What runs of well typed programs keep: each name has a value of its type, and the heap is right.
+#![tactic(auto)]
+
+pub mod laws;
