@@ -6,3 +6,5 @@ pub mod Leaves
 pub mod Adding
 pub mod Layers
 pub mod Values
+pub mod Coefficients
+pub mod Sums

@@ -4,6 +4,7 @@
 mod formulas;
 mod laws;
 mod numerals;
+mod parts;
 pub mod proofs;
 mod sets;
 mod tables;
