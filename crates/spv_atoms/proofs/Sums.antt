@@ -14,8 +14,8 @@ use Rattle.std.proofs.lemmas.Option.{same_Some}
 use Rattle.spv_logic.specs.declared.conditions.TermId.{TermId}
 use Rattle.spv_logic.proofs.Equality.{int_eq-true}
 use Rattle.spv_frac.specs.Range.{fits}
-use Rattle.spv_atoms.specs.Linear.{coefficient_at, IsPart, ArePartsFrom}
-use Rattle.spv_atoms.specs.Sums.{number_in_front, behind, first_id, lesser_id, least_id, with_number, AreSummed, IsWideAt, AreScaled}
+use Rattle.spv_atoms.specs.Linear.{IdForm, IsIdForm, coefficient_at, IsPart, ArePartsFrom}
+use Rattle.spv_atoms.specs.Sums.{number_in_front, behind, first_id, lesser_id, least_id, with_number, AreSummed, IsWideAt, AreScaled, ScaledParts, SummedParts, IsMultipleOf, IsWideMultiple, IsMultiple, IsWideSum, IsSum, IsDifference}
 
 -- ---- numbers
 
@@ -417,3 +417,47 @@ module _ (z : ℤ) (from out : List (TermId × ℤ)) (i : ℕ) (d : TermId × �
 pub scaling_done : (z y : ℤ) (from out : List (TermId × ℤ)) (i : ℕ) → z ≡ y → length from ≤ i → Scaling z from out (drop i from) → AreScaled y from out
 scaling_done z y from out i e h s =
     subst (λ (m : ℤ). AreScaled m from out) e (scaling_ends z from out (subst (λ (ps : List (TermId × ℤ)). Scaling z from out ps) (drop_all i from h) s))
+
+-- ---- forms
+
+pub wide_parts : (z y : ℤ) (from : List (TermId × ℤ)) (f : IdForm) (o : Option (List (TermId × ℤ))) → ScaledParts y from o → o ≡ None → y ≡ z → from ≡ f.parts → IsWideMultiple z f
+wide_parts z y from f None w e g h = record { not_all = λ k l. w.not_all (λ t. (λ i. fits (g i *ℤ coefficient_at (h i) t)) ∙ k t) }
+wide_parts z y from f (Some parts) w e g h = absurd (cc)
+
+pub wide_sum_parts : (left right : List (TermId × ℤ)) (f g : IdForm) (o : Option (List (TermId × ℤ))) → SummedParts left right o → o ≡ None → left ≡ f.parts → right ≡ g.parts → IsWideSum f g
+wide_sum_parts left right f g None w e h k =
+    record { not_all = λ l m. w.not_all (λ t. (λ i. fits (coefficient_at (h i) t +ℤ coefficient_at (k i) t)) ∙ l t) }
+wide_sum_parts left right f g (Some parts) w e h k = absurd (cc)
+
+-- what fits still does with the other sign
+negated-fits : (z : ℤ) → fits z ≡ true → fits (negsuc 0 *ℤ z) ≡ true
+negated-fits (pos zero) h = refl
+negated-fits (pos (suc n)) h = ap fits (turned n) ∙ h
+  where
+    turned : (n : ℕ) → negsuc 0 *ℤ pos (suc n) ≡ negsuc n
+    turned n = omega (arith, ints)
+negated-fits (negsuc n) h = ap fits (turned n) ∙ h
+  where
+    turned : (n : ℕ) → negsuc 0 *ℤ negsuc n ≡ pos (suc n)
+    turned n = omega (arith, ints)
+
+pub coefficients-fit : (low : ℕ) (parts : List (TermId × ℤ)) → ArePartsFrom low parts → (t : TermId) → fits (coefficient_at parts t) ≡ true
+coefficients-fit low [] h t = refl
+coefficients-fit low (p ∷ parts) h t = by_case (nat_eq p.0.0 t.0) (coefficients-fit (suc p.0.0) parts h.1 t)
+  where
+    by_case : (b : Bool) → fits (coefficient_at parts t) ≡ true → fits (cond b p.1 (coefficient_at parts t)) ≡ true
+    by_case true later = h.0.fits
+    by_case false later = later
+
+pub never-wide : (f : IdForm) (o : Option IdForm) → IsIdForm f → IsMultiple (negsuc 0) f o → o ≡ None → ⊥
+never-wide f None k w e = w.not_all (λ t. negated-fits (coefficient_at f.parts t) (coefficients-fit 0 f.parts k.parts t)) (negated-fits f.constant k.constant)
+never-wide f (Some g) k w e = absurd (cc)
+
+pub difference-is : (f g n : IdForm) (o : Option IdForm) → IsMultipleOf (negsuc 0) g n → IsSum f n o → IsDifference f g o
+difference-is f g n None m s = record {
+  not_all = λ h k. s.not_all (λ t. ap (λ z. fits (coefficient_at f.parts t +ℤ z)) (m.parts t) ∙ h t) (ap (λ z. fits (f.constant +ℤ z)) m.constant ∙ k);
+}
+difference-is f g n (Some d) m s = record {
+  parts = λ t. s.parts t ∙ ap (λ z. coefficient_at f.parts t +ℤ z) (m.parts t);
+  constant = s.constant ∙ ap (λ z. f.constant +ℤ z) m.constant;
+}

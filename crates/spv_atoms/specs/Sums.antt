@@ -1,5 +1,5 @@
 -- Sums and multiples of forms over ids.
-use Rattle.std.specs.Prelude.{◌≡◌, ℕ, suc, Bool, true, List, [], ◌∷◌, ◌++◌, ℤ, pos, ◌+ℤ◌, ◌*ℤ◌, nat_eq, nat_lt, Option, Some, None, if◌then◌else◌}
+use Rattle.std.specs.Prelude.{◌≡◌, ℕ, suc, Bool, true, List, [], ◌∷◌, ◌++◌, ℤ, pos, negsuc, ◌+ℤ◌, ◌*ℤ◌, nat_eq, nat_lt, Option, Some, None, if◌then◌else◌}
 use Rattle.std.specs.Ordering.{int_eq}
 use Rattle.spv_logic.specs.declared.conditions.TermId.{TermId}
 use Rattle.spv_frac.specs.Range.{fits}
@@ -60,6 +60,18 @@ pub record IsWideMultiple (z : ℤ) (f : IdForm) : Type 0 where
 abbrev pub IsMultiple : ℤ → IdForm → Option IdForm → Type 0
 IsMultiple z f None = IsWideMultiple z f
 IsMultiple z f (Some s) = IsMultipleOf z f s
+
+-- a form that gives each id the difference of what two others give it, or none where one of these does not fit
+pub record IsDifferenceOf (f g s : IdForm) : Type 0 where
+  pub parts : (t : TermId) → coefficient_at s.parts t ≡ coefficient_at f.parts t +ℤ negsuc 0 *ℤ coefficient_at g.parts t
+  pub constant : s.constant ≡ f.constant +ℤ negsuc 0 *ℤ g.constant
+
+pub record IsWideDifference (f g : IdForm) : Type 0 where
+  pub not_all : ((t : TermId) → fits (coefficient_at f.parts t +ℤ negsuc 0 *ℤ coefficient_at g.parts t) ≡ true) → fits (f.constant +ℤ negsuc 0 *ℤ g.constant) ≡ true → ⊥
+
+abbrev pub IsDifference : IdForm → IdForm → Option IdForm → Type 0
+IsDifference f g None = IsWideDifference f g
+IsDifference f g (Some s) = IsDifferenceOf f g s
 
 -- ---- the same for parts alone
 

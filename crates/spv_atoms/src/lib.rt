@@ -3,6 +3,7 @@
 
 mod formulas;
 mod laws;
+mod linear;
 mod numerals;
 mod parts;
 pub mod proofs;
@@ -12,6 +13,7 @@ mod valued;
 mod walk;
 
 pub use formulas::{atoms, is_atom};
+pub use linear::Linear;
 pub use laws::{law_form, law_truth};
 pub use proofs::{Proof, ProofNode, Relation, Split, Stated, Step};
 pub use valued::truth;
