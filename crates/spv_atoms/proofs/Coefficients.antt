@@ -228,7 +228,7 @@ coefficient-fits (p ∷ parts) h x = by_case (term_eq p.0 x) (coefficient-fits p
     by_case true later = left_true (fits p.1) (all_fit parts) h
     by_case false later = later
 
-both_true : (a b : Bool) → a ≡ true → b ≡ true → (a && b) ≡ true
+pub both_true : (a b : Bool) → a ≡ true → b ≡ true → (a && b) ≡ true
 both_true true b h k = k
 both_true false b h k = h
 

@@ -8,3 +8,4 @@ pub mod Layers
 pub mod Values
 pub mod Coefficients
 pub mod Sums
+pub mod Forming

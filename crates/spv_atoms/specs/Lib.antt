@@ -7,3 +7,4 @@ pub mod Shape
 pub mod Laws
 pub mod Linear
 pub mod Sums
+pub mod Found

@@ -1,6 +1,7 @@
 //! Linear forms and atoms of terms, and proofs as data.
 #![tactic(auto)]
 
+mod forms;
 mod formulas;
 mod laws;
 mod linear;
@@ -12,6 +13,7 @@ mod tables;
 mod valued;
 mod walk;
 
+pub use forms::AtomFault;
 pub use formulas::{atoms, is_atom};
 pub use linear::Linear;
 pub use laws::{law_form, law_truth};

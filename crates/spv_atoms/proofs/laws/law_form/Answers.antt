@@ -1,6 +1,5 @@
-use Rattle.spv_atoms.proofs.Sums.{scaling_ends}
-use Rattle.spv_atoms.proofs.Coefficients.{same-fits, constant_is}
 use Rattle.spv_atoms.proofs.Worth.{worth_is}
+use Rattle.spv_atoms.proofs.Forming.{id-form-fits}
 use Rattle.spv_atoms.proofs.laws.law_form.Goals as goal
 
 pub returns : goal.returns
