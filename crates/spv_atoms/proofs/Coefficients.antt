@@ -1,5 +1,5 @@
 -- Forms as functions that give each term its number.
-use Rattle.std.proofs.Common.{◌≡◌, Bool, true, false, cond, ◌&&◌, ◌||◌, List, [], ◌∷◌, map, ℤ, pos, negsuc, ◌+ℤ◌, ◌*ℤ◌, refl, sym, ap, ◌∙◌, subst, Option, Some, None, is_some, arith}
+use Rattle.std.proofs.Common.{◌≡◌, Bool, true, false, cond, ◌&&◌, ◌||◌, List, [], ◌∷◌, map, ℤ, pos, negsuc, ◌+ℤ◌, ◌*ℤ◌, refl, sym, ap, ◌∙◌, subst, Option, Some, None, arith}
 use Rattle.std.specs.List.{list_all}
 use Rattle.std.proofs.lemmas.Bool.{false≢true}
 use Rattle.std.proofs.lemmas.Int.{ints}
@@ -10,7 +10,7 @@ use Rattle.spv_logic.specs.declared.operators.Head.TheVariants.{Num, Add, Sub, M
 use Rattle.spv_logic.specs.Terms.{Term, Terms, term, no_terms, terms, term_eq}
 use Rattle.spv_logic.proofs.Equality.{term_eq-true, term_eq-refl}
 use Rattle.spv_frac.specs.Range.{fits}
-use Rattle.spv_atoms.specs.Forms.{Form, with_part, with_parts, constant_form, own_part, plus, minus, multiple, both_known, constant_over, constant_value, constant_values, product_form, linear_form, form_or_own, form, forms, form_fits}
+use Rattle.spv_atoms.specs.Forms.{Form, with_part, with_parts, constant_form, plus, minus, multiple, both_known, constant_over, constant_value, constant_values, product_form, linear_form, form_or_own, form, forms, form_fits}
 use Rattle.spv_atoms.specs.Linear.{coefficient, IsSameForm}
 
 -- ---- numbers

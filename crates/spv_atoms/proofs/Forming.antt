@@ -1,23 +1,21 @@
 -- Forms over ids are forms of the terms that the ids stand for.
-use Rattle.std.proofs.Common.{◌≡◌, ℕ, zero, suc, ◌<◌, ◌≤◌, Bool, true, false, cond, ◌&&◌, ◌||◌, List, [], ◌∷◌, map, length, ℤ, pos, negsuc, ◌+ℤ◌, ◌*ℤ◌, nat_eq, refl, sym, ap, ◌∙◌, subst, Option, Some, None, is_some, inl, inr, arith}
+use Rattle.std.proofs.Common.{◌≡◌, ℕ, suc, ◌<◌, ◌≤◌, Bool, true, false, cond, ◌&&◌, ◌||◌, List, [], ◌∷◌, length, ℤ, pos, negsuc, ◌+ℤ◌, ◌*ℤ◌, nat_eq, refl, sym, ap, ◌∙◌, subst, Option, Some, None, inl, inr, arith}
 use mathlib.Core.Path.{ap₂}
-use Rattle.std.proofs.lemmas.Bool.{false≢true, cases_lt, eqb-true}
+use Rattle.std.proofs.lemmas.Bool.{false≢true, cases_lt}
 use Rattle.std.proofs.lemmas.Bool.Decides.{nat_tests}
 use Rattle.std.proofs.lemmas.Int.{ints}
-use Rattle.spv_list.proofs.Tests.{left_true, right_true}
 use Rattle.spv_logic.specs.declared.conditions.TermId.{TermId}
 use Rattle.spv_logic.specs.declared.operators.Head.{Head}
-use Rattle.spv_logic.specs.declared.operators.Head.TheVariants.{Num, Add, Sub, Mul}
+use Rattle.spv_logic.specs.declared.operators.Head.TheVariants.{Add, Sub, Mul}
 use Rattle.spv_logic.specs.Terms.{Term, Terms, term, no_terms, terms, term_eq}
 use Rattle.spv_logic.proofs.Equality.{term_eq-true, term_eq-refl}
 use Rattle.spv_term.specs.Arena.{Arena, IsArena, tree}
 use Rattle.spv_frac.specs.Range.{fits}
-use Rattle.spv_atoms.specs.Forms.{Form, constant_form, own_part, plus, minus, multiple, both_known, constant_value, constant_values, product_form, linear_form, form_or_own, form, forms, form_fits, is_linear, is_narrow, all_narrow}
-use Rattle.spv_atoms.specs.Order.{same_id}
-use Rattle.spv_atoms.specs.Linear.{coefficient, IsSameForm, stands_in, stands_in_any, IdForm, coefficient_at, ArePartsFrom, IsIdForm, PartsIn, over_trees, form_over, IsFormOf, IsWideIn}
+use Rattle.spv_atoms.specs.Forms.{Form, plus, minus, multiple, constant_value, constant_values, product_form, linear_form, form_or_own, form, forms, form_fits, is_linear, is_narrow, all_narrow}
+use Rattle.spv_atoms.specs.Linear.{coefficient, IsSameForm, stands_in, IdForm, coefficient_at, ArePartsFrom, IsIdForm, PartsIn, over_trees, form_over, IsFormOf, IsWideIn}
 use Rattle.spv_atoms.specs.Sums.{IsSumOf, IsWideSum, IsDifferenceOf, IsWideDifference, IsMultipleOf, IsWideMultiple}
 use Rattle.spv_atoms.proofs.Walks.{term_eq-ids}
-use Rattle.spv_atoms.proofs.Coefficients.{has_part, none_listed, plus-coefficient, minus-coefficient, multiple-coefficient, form-different, all_fit, both_true, coefficient-fits, same-fits, not-all-fit, constant_is}
+use Rattle.spv_atoms.proofs.Coefficients.{has_part, none_listed, plus-coefficient, minus-coefficient, multiple-coefficient, form-different, all_fit, both_true, same-fits, not-all-fit, constant_is}
 
 -- ---- coefficients of ids and of terms
 
@@ -56,6 +54,9 @@ over-fit a low (p ∷ parts) h = both_true (fits p.1) (all_fit (over_trees a par
 pub id-form-fits : (a : Arena) (s : IdForm) → IsIdForm s → form_fits (form_over a s) ≡ true
 id-form-fits a s k = both_true (all_fit (over_trees a s.parts)) (fits s.constant) (over-fit a 0 s.parts k.parts) k.constant
 
+abbrev pub pair : Term → Term → Terms
+pair x y = terms x (terms y no_terms)
+
 module _ (a : Arena) (ok : IsArena a) where
   pub over-at : (parts : List (TermId × ℤ)) (t : TermId) → PartsIn a parts → t.0 < length a.nodes → coefficient (over_trees a parts) (tree a t) ≡ coefficient_at parts t
   over-at [] t h k = refl
@@ -79,9 +80,6 @@ module _ (a : Arena) (ok : IsArena a) where
     made-over parts parts_in made x =
         by_case (has_part (over_trees a parts) x) refl (has_part (over_trees a left) x) refl (has_part (over_trees a right) x) refl
       where
-        Goal : Type 0
-        Goal = coefficient (over_trees a parts) x ≡ op (coefficient (over_trees a left) x) (coefficient (over_trees a right) x)
-
         at : IsAt a x → coefficient (over_trees a parts) x ≡ op (coefficient (over_trees a left) x) (coefficient (over_trees a right) x)
         at i = subst (λ (y : Term). coefficient (over_trees a parts) y ≡ op (coefficient (over_trees a left) y) (coefficient (over_trees a right) y)) i.is
             (over-at parts i.id parts_in i.in_range ∙ (made i.id ∙ sym (ap₂ op (over-at left i.id left_in i.in_range) (over-at right i.id right_in i.in_range))))
@@ -139,9 +137,6 @@ module _ (a : Arena) (ok : IsArena a) where
           or_first false c h = absurd (false≢true h)
 
   -- ---- sums, differences and products
-
-  abbrev pub pair : Term → Term → Terms
-  pair x y = terms x (terms y no_terms)
 
   times_zero : (z : ℤ) → z *ℤ pos 0 ≡ pos 0
   times_zero z = omega (arith, ints)

@@ -9,3 +9,5 @@ pub mod Values
 pub mod Coefficients
 pub mod Sums
 pub mod Forming
+pub mod Finding
+pub mod Places

@@ -1,12 +1,12 @@
 -- Sums and multiples of parts, over plain variables: one part after the other is taken off the front.
-use Rattle.std.proofs.Common.{◌≡◌, ◌≢◌, ℕ, zero, suc, ◌+◌, ◌<◌, ◌≤◌, Bool, true, false, cond, ◌&&◌, ◌||◌, List, [], ◌∷◌, ◌++◌, length, drop, get_or, ℤ, pos, negsuc, ◌+ℤ◌, ◌*ℤ◌, nat_eq, nat_lt, refl, sym, ap, ◌∙◌, subst, Option, Some, None, inl, inr, arith}
+use Rattle.std.proofs.Common.{◌≡◌, ℕ, zero, suc, ◌+◌, ◌<◌, ◌≤◌, Bool, true, false, cond, List, [], ◌∷◌, ◌++◌, length, drop, get_or, ℤ, pos, negsuc, ◌+ℤ◌, ◌*ℤ◌, nat_eq, nat_lt, refl, sym, ap, ◌∙◌, subst, Option, Some, None, arith}
 use Rattle.std.proofs.lemmas.Int.{to_z-of_z}
 use mir.Val.{to_z, of_z}
 use mir.Syntax.{w128}
 use Rattle.spv_atoms.proofs.Values.{number-fits}
 use mathlib.Core.Path.{ap₂}
 use Rattle.std.specs.Ordering.{int_eq}
-use Rattle.std.proofs.lemmas.Bool.{false≢true, cases_lt, eqb-true, eq-eqb}
+use Rattle.std.proofs.lemmas.Bool.{false≢true, eqb-true}
 use Rattle.std.proofs.lemmas.Bool.Decides.{nat_tests}
 use Rattle.std.proofs.lemmas.Int.{ints}
 use Rattle.std.proofs.lemmas.List.{drop_more, drop_all}
@@ -15,7 +15,7 @@ use Rattle.spv_logic.specs.declared.conditions.TermId.{TermId}
 use Rattle.spv_logic.proofs.Equality.{int_eq-true}
 use Rattle.spv_frac.specs.Range.{fits}
 use Rattle.spv_atoms.specs.Linear.{IdForm, IsIdForm, coefficient_at, IsPart, ArePartsFrom}
-use Rattle.spv_atoms.specs.Sums.{number_in_front, behind, first_id, lesser_id, least_id, with_number, AreSummed, IsWideAt, AreScaled, ScaledParts, SummedParts, IsMultipleOf, IsWideMultiple, IsMultiple, IsWideSum, IsSum, IsDifference}
+use Rattle.spv_atoms.specs.Sums.{number_in_front, behind, lesser_id, least_id, with_number, AreSummed, IsWideAt, AreScaled, ScaledParts, SummedParts, IsWideMultiple, IsMultiple, IsWideSum}
 
 -- ---- numbers
 
@@ -303,7 +303,7 @@ module _ (left right out l r : List (TermId × ℤ)) (s : Summing left right out
       → l' ≡ behind l t → r' ≡ behind r t → Summing left right more l' r'
   summing_step t n more l' r' e is f wide_put lb rb =
       let put : more ≡ with_number out t n = wide_put ∙ ap (with_number out t) (narrow n f) in
-       subst (λ (ps : List (TermId × ℤ)). Summing left right more ps r') (sym lb) (subst (λ (ps : List (TermId × ℤ)). Summing left right more (behind l t) ps) (sym rb) (summing_stepped t n more (sym e) is f put))
+      subst (λ (ps : List (TermId × ℤ)). Summing left right more ps r') (sym lb) (subst (λ (ps : List (TermId × ℤ)). Summing left right more (behind l t) ps) (sym rb) (summing_stepped t n more (sym e) is f put))
 
   pub left-narrow : (t : TermId) (x : ℤ) → x ≡ number_in_front l t → to_z w128 (of_z w128 x) ≡ number_in_front l t
   left-narrow t x e = narrow x (ap fits e ∙ front-fits s.low l t s.left_from) ∙ e
@@ -452,12 +452,3 @@ coefficients-fit low (p ∷ parts) h t = by_case (nat_eq p.0.0 t.0) (coefficient
 pub never-wide : (f : IdForm) (o : Option IdForm) → IsIdForm f → IsMultiple (negsuc 0) f o → o ≡ None → ⊥
 never-wide f None k w e = w.not_all (λ t. negated-fits (coefficient_at f.parts t) (coefficients-fit 0 f.parts k.parts t)) (negated-fits f.constant k.constant)
 never-wide f (Some g) k w e = absurd (cc)
-
-pub difference-is : (f g n : IdForm) (o : Option IdForm) → IsMultipleOf (negsuc 0) g n → IsSum f n o → IsDifference f g o
-difference-is f g n None m s = record {
-  not_all = λ h k. s.not_all (λ t. ap (λ z. fits (coefficient_at f.parts t +ℤ z)) (m.parts t) ∙ h t) (ap (λ z. fits (f.constant +ℤ z)) m.constant ∙ k);
-}
-difference-is f g n (Some d) m s = record {
-  parts = λ t. s.parts t ∙ ap (λ z. coefficient_at f.parts t +ℤ z) (m.parts t);
-  constant = s.constant ∙ ap (λ z. f.constant +ℤ z) m.constant;
-}

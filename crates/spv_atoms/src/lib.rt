@@ -4,7 +4,7 @@
 mod forms;
 mod formulas;
 mod laws;
-mod linear;
+mod linear_form;
 mod numerals;
 mod parts;
 pub mod proofs;
@@ -13,9 +13,9 @@ mod tables;
 mod valued;
 mod walk;
 
-pub use forms::AtomFault;
+pub use forms::{AtomFault, linear};
 pub use formulas::{atoms, is_atom};
-pub use linear::Linear;
 pub use laws::{law_form, law_truth};
+pub use linear_form::Linear;
 pub use proofs::{Proof, ProofNode, Relation, Split, Stated, Step};
 pub use valued::truth;

@@ -15,13 +15,7 @@ fn number_in_front(parts: &[(TermId, i128)], t: TermId) -> i128
     ensures { result ≡ spec.number_in_front parts.now t }
 {
     match parts {
-        [part, ..] => {
-            if part.0 == t {
-                part.1
-            } else {
-                0
-            }
-        }
+        [part, ..] => { if part.0 == t { part.1 } else { 0 } }
         [] => 0,
     }
 }
@@ -31,13 +25,7 @@ fn behind(parts: &[(TermId, i128)], t: TermId) -> &[(TermId, i128)]
     ensures { result.now ≡ spec.behind parts.now t }
 {
     match parts {
-        [part, rest @ ..] => {
-            if part.0 == t {
-                rest
-            } else {
-                parts
-            }
-        }
+        [part, rest @ ..] => { if part.0 == t { rest } else { parts } }
         [] => parts,
     }
 }
@@ -57,13 +45,7 @@ fn lesser_id(t: TermId, parts: &[(TermId, i128)]) -> TermId
     ensures { result ≡ spec.lesser_id t parts.now }
 {
     match parts {
-        [part, ..] => {
-            if part.0.0 < t.0 {
-                part.0
-            } else {
-                t
-            }
-        }
+        [part, ..] => { if part.0.0 < t.0 { part.0 } else { t } }
         [] => t,
     }
 }
@@ -79,11 +61,7 @@ fn least_id(left: &[(TermId, i128)], right: &[(TermId, i128)]) -> Option<TermId>
 }
 
 // Puts a part at the end, unless its number is zero.
-fn push_number(
-    parts: &mut Vec<(TermId, i128)>,
-    t: TermId,
-    number: i128,
-) -> Result<(), AllocError>
+fn push_number(parts: &mut Vec<(TermId, i128)>, t: TermId, number: i128) -> Result<(), AllocError>
     ensures { OnOk result (parts.new.items ≡ spec.with_number parts.old.items t number) }
 {
     if number == 0 {
@@ -107,7 +85,10 @@ pub(crate) fn sum(
     let mut left_rest = left;
     let mut right_rest = right;
     while let Some(t) = least_id(left_rest, right_rest) {
-        let Ok(number) = plus(number_in_front(left_rest, t), number_in_front(right_rest, t)) else {
+        let Ok(number) = plus(
+            number_in_front(left_rest, t),
+            number_in_front(right_rest, t),
+        ) else {
             return Ok(None);
         };
         push_number(&mut parts, t, number)?;

@@ -79,7 +79,7 @@ pub(crate) fn is_connective(terms: &Terms, t: TermId) -> bool
 }
 
 // Whether a head is a sum, a difference or a product.
-fn is_sum_head(head: Head) -> bool
+pub(crate) fn is_sum_head(head: Head) -> bool
     ensures { result ≡ order.is_sum_head head }
 {
     match head {

@@ -1,5 +1,4 @@
 use Rattle.spv_atoms.proofs.Worth.{worth_is}
-use Rattle.spv_atoms.proofs.Forming.{id-form-fits}
 use Rattle.spv_atoms.proofs.laws.law_form.Goals as goal
 
 pub returns : goal.returns

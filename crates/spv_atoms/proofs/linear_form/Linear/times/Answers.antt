@@ -1,10 +1,10 @@
-use Rattle.std.proofs.Common.{rules, None, ap, ◌∙◌}
+use Rattle.std.proofs.Common.{rules, ap, ◌∙◌}
 use Rattle.std.proofs.lemmas.Int.{to_z-of_z}
 use Rattle.std.specs.Option.{option_map}
 use mir.Syntax.{w128}
 use Rattle.spv_atoms.specs.Linear.{IdForm}
 use Rattle.spv_atoms.proofs.Sums.{wide_parts}
-use Rattle.spv_atoms.proofs.linear.Linear.times.Goals as goal
+use Rattle.spv_atoms.proofs.linear_form.Linear.times.Goals as goal
 
 pub returns-in-None : goal.returns-in-None
 returns-in-None c =

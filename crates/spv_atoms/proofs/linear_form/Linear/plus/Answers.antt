@@ -1,8 +1,8 @@
-use Rattle.std.proofs.Common.{None, ap, ◌∙◌}
+use Rattle.std.proofs.Common.{ap, ◌∙◌}
 use Rattle.std.specs.Option.{option_map}
 use Rattle.spv_atoms.specs.Linear.{IdForm}
 use Rattle.spv_atoms.proofs.Sums.{wide_sum_parts}
-use Rattle.spv_atoms.proofs.linear.Linear.plus.Goals as goal
+use Rattle.spv_atoms.proofs.linear_form.Linear.plus.Goals as goal
 
 pub returns-in-None : goal.returns-in-None
 returns-in-None c =
