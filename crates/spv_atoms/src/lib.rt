@@ -18,4 +18,6 @@ pub use formulas::{atoms, is_atom};
 pub use laws::{law_form, law_truth};
 pub use linear_form::Linear;
 pub use proofs::{Proof, ProofNode, Relation, Split, Stated, Step};
+pub use sets::TermSet;
 pub use valued::truth;
+pub use walk::{Through, has_meaning_head, in_order, is_sum_head};
