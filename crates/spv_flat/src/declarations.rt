@@ -1,7 +1,8 @@
 // Declarations.
 
 ghost use Rattle.std.specs.Prelude.{OnOk};
-ghost use Rattle.spv_syntax.specs.ProgramKinds.{const_kinds, typedef_kinds, vars_kinds, name_or_class_kinds, sort_kinds, sorts_kinds, symbol_kinds, declarations_kinds};
+ghost use Rattle.spv_syntax.specs.Members.{in_kinds};
+ghost use Rattle.spv_syntax.specs.ProgramSpelling.{const_spelling, declarations_spelling, name_or_class_spelling, sort_spelling, sorts_spelling, symbol_spelling, typedef_spelling, vars_spelling};
 ghost use Rattle.spv_flat.specs.Flat.{Adds};
 
 use crate::spelled::Spelled;
@@ -12,7 +13,7 @@ use spv_tokens::{Sign, TokenKind, Word};
 use std::alloc::AllocError;
 
 impl Spelled for Const {
-    ghost spelled = { const_kinds };
+    ghost spelled = { const_spelling in_kinds };
 
     fn append(&self, out: &mut Vec<TokenKind>) -> Result<(), AllocError> {
         self.name.append(out)?;
@@ -24,7 +25,7 @@ impl Spelled for Const {
 }
 
 impl Spelled for Typedef {
-    ghost spelled = { typedef_kinds };
+    ghost spelled = { typedef_spelling in_kinds };
 
     fn append(&self, out: &mut Vec<TokenKind>) -> Result<(), AllocError> {
         self.name.append(out)?;
@@ -36,7 +37,7 @@ impl Spelled for Typedef {
 }
 
 impl Spelled for Vars {
-    ghost spelled = { vars_kinds };
+    ghost spelled = { vars_spelling in_kinds };
 
     fn append(&self, out: &mut Vec<TokenKind>) -> Result<(), AllocError> {
         lists::several(Sign::Comma, &self.names, out)?;
@@ -48,7 +49,7 @@ impl Spelled for Vars {
 }
 
 impl Spelled for NameOrClass {
-    ghost spelled = { name_or_class_kinds };
+    ghost spelled = { name_or_class_spelling in_kinds };
 
     fn append(&self, out: &mut Vec<TokenKind>) -> Result<(), AllocError> {
         match self {
@@ -63,7 +64,7 @@ impl Spelled for NameOrClass {
 }
 
 impl Spelled for SortName {
-    ghost spelled = { sort_kinds };
+    ghost spelled = { sort_spelling in_kinds };
 
     fn append(&self, out: &mut Vec<TokenKind>) -> Result<(), AllocError> {
         self.form.append(out)
@@ -72,7 +73,7 @@ impl Spelled for SortName {
 
 // Adds the tokens of the sorts of arguments, with their brackets, where there are any.
 fn sorts(arguments: &Option<Several<SortName>>, out: &mut Vec<TokenKind>) -> Result<(), AllocError>
-    ensures { OnOk result (Adds (sorts_kinds arguments.now) out.old.items out.new.items) }
+    ensures { OnOk result (Adds (sorts_spelling in_kinds arguments.now) out.old.items out.new.items) }
 {
     match arguments {
         None => Ok(()),
@@ -86,7 +87,7 @@ fn sorts(arguments: &Option<Several<SortName>>, out: &mut Vec<TokenKind>) -> Res
 }
 
 impl Spelled for SymbolText {
-    ghost spelled = { symbol_kinds };
+    ghost spelled = { symbol_spelling in_kinds };
 
     fn append(&self, out: &mut Vec<TokenKind>) -> Result<(), AllocError> {
         self.name.append(out)?;
@@ -99,7 +100,7 @@ impl Spelled for SymbolText {
 }
 
 impl Spelled for Declarations {
-    ghost spelled = { declarations_kinds };
+    ghost spelled = { declarations_spelling in_kinds };
 
     fn append(&self, out: &mut Vec<TokenKind>) -> Result<(), AllocError> {
         lists::headed(Word::Const, &self.constants, out)?;

@@ -1,6 +1,7 @@
 // Texts of one formula.
 
-ghost use Rattle.spv_syntax.specs.RuleKinds.{formula_text_kinds};
+ghost use Rattle.spv_syntax.specs.Members.{in_kinds};
+ghost use Rattle.spv_syntax.specs.RuleSpelling.{formula_text_spelling};
 
 use crate::formulas::formula;
 use crate::out;
@@ -10,7 +11,7 @@ use spv_tokens::{Sign, TokenKind, Word};
 use std::alloc::AllocError;
 
 impl Spelled for FormulaText {
-    ghost spelled = { formula_text_kinds };
+    ghost spelled = { formula_text_spelling in_kinds };
 
     fn append(&self, out: &mut Vec<TokenKind>) -> Result<(), AllocError> {
         out::word(Word::Program, out)?;

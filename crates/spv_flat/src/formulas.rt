@@ -1,8 +1,9 @@
 // Formulas.
 
 ghost use Rattle.std.specs.Prelude.{OnOk};
-ghost use Rattle.spv_syntax.specs.FormulaKinds.{formula_kinds, relation_kinds, simple_kinds, term_kinds, factor_kinds, designator_kinds, selector_kinds, more_formulas_kinds, selectors_kinds};
-ghost use Rattle.spv_syntax.specs.FormulaSizes.{more_formulas_of, selectors_of};
+ghost use Rattle.spv_syntax.specs.Members.{in_kinds};
+ghost use Rattle.spv_syntax.specs.FormulaSpelling.{designator_spelling, factor_spelling, formula_spelling, more_formulas_spelling, relation_spelling, selector_spelling, selectors_spelling, simple_spelling, term_spelling};
+ghost use Rattle.spv_syntax.specs.Model.FormulaSizes.{more_formulas_of, selectors_of};
 ghost use Rattle.spv_flat.specs.Flat.{Adds};
 
 use crate::names::prefix;
@@ -17,7 +18,7 @@ use std::alloc::AllocError;
 // Adds the tokens of a formula.
 #[cycle(formulas)]
 pub fn formula(tree: &Formula, out: &mut Vec<TokenKind>) -> Result<(), AllocError>
-    ensures { OnOk result (Adds (formula_kinds tree.now) out.old.items out.new.items) }
+    ensures { OnOk result (Adds (formula_spelling in_kinds tree.now) out.old.items out.new.items) }
 {
     relation(&tree.left, out)?;
     match &tree.right {
@@ -33,7 +34,7 @@ pub fn formula(tree: &Formula, out: &mut Vec<TokenKind>) -> Result<(), AllocErro
 // Adds the tokens of a relation.
 #[cycle(formulas)]
 fn relation(tree: &Relation, out: &mut Vec<TokenKind>) -> Result<(), AllocError>
-    ensures { OnOk result (Adds (relation_kinds tree.now) out.old.items out.new.items) }
+    ensures { OnOk result (Adds (relation_spelling in_kinds tree.now) out.old.items out.new.items) }
 {
     simple(&tree.left, out)?;
     match &tree.right {
@@ -49,7 +50,7 @@ fn relation(tree: &Relation, out: &mut Vec<TokenKind>) -> Result<(), AllocError>
 // Adds the tokens of a sum.
 #[cycle(formulas)]
 fn simple(tree: &Simple, out: &mut Vec<TokenKind>) -> Result<(), AllocError>
-    ensures { OnOk result (Adds (simple_kinds tree.now) out.old.items out.new.items) }
+    ensures { OnOk result (Adds (simple_spelling in_kinds tree.now) out.old.items out.new.items) }
 {
     prefix(tree.prefix, out)?;
     term(&tree.first, out)?;
@@ -63,7 +64,7 @@ fn simple(tree: &Simple, out: &mut Vec<TokenKind>) -> Result<(), AllocError>
 // Adds the tokens of a product.
 #[cycle(formulas)]
 fn term(tree: &Term, out: &mut Vec<TokenKind>) -> Result<(), AllocError>
-    ensures { OnOk result (Adds (term_kinds tree.now) out.old.items out.new.items) }
+    ensures { OnOk result (Adds (term_spelling in_kinds tree.now) out.old.items out.new.items) }
 {
     factor(&tree.first, out)?;
     for (operator, part) in &tree.more {
@@ -76,7 +77,7 @@ fn term(tree: &Term, out: &mut Vec<TokenKind>) -> Result<(), AllocError>
 // Adds the tokens of a factor.
 #[cycle(formulas)]
 fn factor(tree: &Factor, out: &mut Vec<TokenKind>) -> Result<(), AllocError>
-    ensures { OnOk result (Adds (factor_kinds tree.now) out.old.items out.new.items) }
+    ensures { OnOk result (Adds (factor_spelling in_kinds tree.now) out.old.items out.new.items) }
 {
     match &tree.form {
         FactorForm::Number(n) => out::token(TokenKind::Number(*n), out),
@@ -114,7 +115,7 @@ fn factor(tree: &Factor, out: &mut Vec<TokenKind>) -> Result<(), AllocError>
 // Adds the tokens of a designator.
 #[cycle(formulas)]
 pub fn designator(tree: &Designator, out: &mut Vec<TokenKind>) -> Result<(), AllocError>
-    ensures { OnOk result (Adds (designator_kinds tree.now) out.old.items out.new.items) }
+    ensures { OnOk result (Adds (designator_spelling in_kinds tree.now) out.old.items out.new.items) }
 {
     out::token(TokenKind::Name(tree.name.symbol), out)?;
     selectors(&tree.behind, out)?;
@@ -124,7 +125,7 @@ pub fn designator(tree: &Designator, out: &mut Vec<TokenKind>) -> Result<(), All
 // Adds the tokens of a selector.
 #[cycle(formulas)]
 fn selector(tree: &Selector, out: &mut Vec<TokenKind>) -> Result<(), AllocError>
-    ensures { OnOk result (Adds (selector_kinds tree.now) out.old.items out.new.items) }
+    ensures { OnOk result (Adds (selector_spelling in_kinds tree.now) out.old.items out.new.items) }
 {
     match &tree.form {
         SelectorForm::Index(first, more) => {
@@ -146,7 +147,7 @@ fn selector(tree: &Selector, out: &mut Vec<TokenKind>) -> Result<(), AllocError>
 // Adds the tokens of formulas, each behind a comma.
 #[cycle(formulas)]
 fn more_formulas(more: &[Formula], out: &mut Vec<TokenKind>) -> Result<(), AllocError>
-    ensures { OnOk result (Adds (more_formulas_kinds (more_formulas_of more.now)) out.old.items out.new.items) }
+    ensures { OnOk result (Adds (more_formulas_spelling in_kinds (more_formulas_of more.now)) out.old.items out.new.items) }
 {
     for part in more {
         out::sign(Sign::Comma, out)?;
@@ -158,7 +159,7 @@ fn more_formulas(more: &[Formula], out: &mut Vec<TokenKind>) -> Result<(), Alloc
 // Adds the tokens of selectors.
 #[cycle(formulas)]
 fn selectors(behind: &[Selector], out: &mut Vec<TokenKind>) -> Result<(), AllocError>
-    ensures { OnOk result (Adds (selectors_kinds (selectors_of behind.now)) out.old.items out.new.items) }
+    ensures { OnOk result (Adds (selectors_spelling in_kinds (selectors_of behind.now)) out.old.items out.new.items) }
 {
     for part in behind {
         selector(part, out)?;
@@ -167,7 +168,7 @@ fn selectors(behind: &[Selector], out: &mut Vec<TokenKind>) -> Result<(), AllocE
 }
 
 impl Spelled for Formula {
-    ghost spelled = { formula_kinds };
+    ghost spelled = { formula_spelling in_kinds };
 
     fn append(&self, out: &mut Vec<TokenKind>) -> Result<(), AllocError> {
         formula(self, out)

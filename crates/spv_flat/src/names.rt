@@ -1,8 +1,9 @@
 // Names and constants.
 
 ghost use Rattle.std.specs.Prelude.{◌≡◌, OnOk};
-ghost use Rattle.spv_syntax.specs.FormulaKinds.{prefix_kinds};
-ghost use Rattle.spv_syntax.specs.TypeKinds.{name_kinds, scalar_kind, constant_kinds};
+ghost use Rattle.spv_syntax.specs.Members.{in_kinds};
+ghost use Rattle.spv_syntax.specs.FormulaSpelling.{name_spelling, prefix_spelling};
+ghost use Rattle.spv_syntax.specs.TypeSpelling.{constant_spelling, scalar_kind};
 ghost use Rattle.spv_flat.specs.Flat.{Adds};
 
 use crate::out;
@@ -12,7 +13,7 @@ use spv_tokens::{Sign, TokenKind};
 use std::alloc::AllocError;
 
 impl Spelled for Name {
-    ghost spelled = { name_kinds };
+    ghost spelled = { name_spelling in_kinds };
 
     fn append(&self, out: &mut Vec<TokenKind>) -> Result<(), AllocError> {
         out::token(TokenKind::Name(self.symbol), out)
@@ -21,7 +22,7 @@ impl Spelled for Name {
 
 // Adds `+` or `-`, where there is one.
 pub fn prefix(prefix: Option<PlusOrMinus>, out: &mut Vec<TokenKind>) -> Result<(), AllocError>
-    ensures { OnOk result (Adds (prefix_kinds prefix) out.old.items out.new.items) }
+    ensures { OnOk result (Adds (prefix_spelling in_kinds prefix) out.old.items out.new.items) }
 {
     match prefix {
         None => Ok(()),
@@ -41,7 +42,7 @@ fn scalar_token(value: Scalar) -> TokenKind
 }
 
 impl Spelled for Constant {
-    ghost spelled = { constant_kinds };
+    ghost spelled = { constant_spelling in_kinds };
 
     fn append(&self, out: &mut Vec<TokenKind>) -> Result<(), AllocError> {
         prefix(self.sign, out)?;

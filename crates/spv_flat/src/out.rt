@@ -2,7 +2,7 @@
 
 ghost use Rattle.std.specs.Prelude.{◌≡◌, ◌∷◌, OnOk};
 ghost use Rattle.spv_tokens.specs.declared.token.TokenKind.TheVariants as kind;
-ghost use Rattle.spv_syntax.specs.FormulaKinds.{comparison_kind, adding_kind, multiplying_kind, truth_kind};
+ghost use Rattle.spv_syntax.specs.FormulaSpelling.{adding_kind, comparison_kind, multiplying_kind, truth_kind};
 ghost use Rattle.spv_flat.specs.Flat.{Adds};
 
 use spv_syntax::{Adding, Comparison, Multiplying};

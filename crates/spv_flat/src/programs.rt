@@ -1,7 +1,8 @@
 // Programs.
 
 ghost use Rattle.std.specs.Prelude.{OnOk};
-ghost use Rattle.spv_syntax.specs.ProgramKinds.{files_kinds, program_kinds};
+ghost use Rattle.spv_syntax.specs.Members.{in_kinds};
+ghost use Rattle.spv_syntax.specs.ProgramSpelling.{files_spelling, program_spelling};
 ghost use Rattle.spv_flat.specs.Flat.{Adds};
 
 use crate::routines::{entry, exit};
@@ -14,7 +15,7 @@ use std::alloc::AllocError;
 
 // Adds the tokens of the names behind the name of a program, where they are there.
 fn files(names: &Option<Several<Name>>, out: &mut Vec<TokenKind>) -> Result<(), AllocError>
-    ensures { OnOk result (Adds (files_kinds names.now) out.old.items out.new.items) }
+    ensures { OnOk result (Adds (files_spelling in_kinds names.now) out.old.items out.new.items) }
 {
     match names {
         None => Ok(()),
@@ -28,7 +29,7 @@ fn files(names: &Option<Several<Name>>, out: &mut Vec<TokenKind>) -> Result<(), 
 }
 
 impl Spelled for Program {
-    ghost spelled = { program_kinds };
+    ghost spelled = { program_spelling in_kinds };
 
     fn append(&self, out: &mut Vec<TokenKind>) -> Result<(), AllocError> {
         out::word(Word::Program, out)?;

@@ -1,7 +1,8 @@
 // Routines, as a list of where they begin and end.
 
 ghost use Rattle.std.specs.Prelude.{OnOk};
-ghost use Rattle.spv_syntax.specs.ProgramKinds.{var_kinds, group_form_kinds, group_kinds, params_kinds, result_kinds, heading_form_kinds, heading_kinds, item_kinds, global_group_kinds, globals_kinds, start_kinds, initial_kinds, entry_kinds, exit_kinds, clauses_kinds, locals_kinds, routine_mark_kinds};
+ghost use Rattle.spv_syntax.specs.Members.{in_kinds};
+ghost use Rattle.spv_syntax.specs.ProgramSpelling.{clauses_spelling, entry_spelling, exit_spelling, global_group_spelling, globals_spelling, group_form_spelling, group_spelling, heading_form_spelling, heading_spelling, initial_spelling, item_spelling, locals_spelling, params_spelling, result_spelling, routine_mark_spelling, start_spelling, var_spelling};
 ghost use Rattle.spv_flat.specs.Flat.{Adds};
 
 use crate::formulas::formula;
@@ -17,7 +18,7 @@ use std::alloc::AllocError;
 
 // Adds VAR, where it is there.
 fn var(by_place: bool, out: &mut Vec<TokenKind>) -> Result<(), AllocError>
-    ensures { OnOk result (Adds (var_kinds by_place) out.old.items out.new.items) }
+    ensures { OnOk result (Adds (var_spelling in_kinds by_place) out.old.items out.new.items) }
 {
     if by_place {
         out::word(Word::Var, out)
@@ -27,7 +28,7 @@ fn var(by_place: bool, out: &mut Vec<TokenKind>) -> Result<(), AllocError>
 }
 
 impl Spelled for GroupForm {
-    ghost spelled = { group_form_kinds };
+    ghost spelled = { group_form_spelling in_kinds };
 
     fn append(&self, out: &mut Vec<TokenKind>) -> Result<(), AllocError> {
         match self {
@@ -55,7 +56,7 @@ impl Spelled for GroupForm {
 }
 
 impl Spelled for Group {
-    ghost spelled = { group_kinds };
+    ghost spelled = { group_spelling in_kinds };
 
     fn append(&self, out: &mut Vec<TokenKind>) -> Result<(), AllocError> {
         self.form.append(out)
@@ -64,7 +65,7 @@ impl Spelled for Group {
 
 // Adds the tokens of parameters, where there are any.
 fn parameters(params: &Option<Params>, out: &mut Vec<TokenKind>) -> Result<(), AllocError>
-    ensures { OnOk result (Adds (params_kinds params.now) out.old.items out.new.items) }
+    ensures { OnOk result (Adds (params_spelling in_kinds params.now) out.old.items out.new.items) }
 {
     match params {
         None => Ok(()),
@@ -79,7 +80,7 @@ fn parameters(params: &Option<Params>, out: &mut Vec<TokenKind>) -> Result<(), A
 
 // Adds the tokens of the type of a result, where there is one.
 fn result_type(of: &Option<Name>, out: &mut Vec<TokenKind>) -> Result<(), AllocError>
-    ensures { OnOk result (Adds (result_kinds of.now) out.old.items out.new.items) }
+    ensures { OnOk result (Adds (result_spelling in_kinds of.now) out.old.items out.new.items) }
 {
     match of {
         None => Ok(()),
@@ -92,7 +93,7 @@ fn result_type(of: &Option<Name>, out: &mut Vec<TokenKind>) -> Result<(), AllocE
 }
 
 impl Spelled for HeadingForm {
-    ghost spelled = { heading_form_kinds };
+    ghost spelled = { heading_form_spelling in_kinds };
 
     fn append(&self, out: &mut Vec<TokenKind>) -> Result<(), AllocError> {
         match self {
@@ -114,7 +115,7 @@ impl Spelled for HeadingForm {
 }
 
 impl Spelled for Heading {
-    ghost spelled = { heading_kinds };
+    ghost spelled = { heading_spelling in_kinds };
 
     fn append(&self, out: &mut Vec<TokenKind>) -> Result<(), AllocError> {
         self.form.append(out)
@@ -122,7 +123,7 @@ impl Spelled for Heading {
 }
 
 impl Spelled for Item {
-    ghost spelled = { item_kinds };
+    ghost spelled = { item_spelling in_kinds };
 
     fn append(&self, out: &mut Vec<TokenKind>) -> Result<(), AllocError> {
         self.form.append(out)
@@ -130,7 +131,7 @@ impl Spelled for Item {
 }
 
 impl Spelled for GlobalGroup {
-    ghost spelled = { global_group_kinds };
+    ghost spelled = { global_group_spelling in_kinds };
 
     fn append(&self, out: &mut Vec<TokenKind>) -> Result<(), AllocError> {
         var(self.by_place, out)?;
@@ -144,7 +145,7 @@ fn globals(
     groups: &Option<Several<GlobalGroup>>,
     out: &mut Vec<TokenKind>,
 ) -> Result<(), AllocError>
-    ensures { OnOk result (Adds (globals_kinds groups.now) out.old.items out.new.items) }
+    ensures { OnOk result (Adds (globals_spelling in_kinds groups.now) out.old.items out.new.items) }
 {
     match groups {
         None => Ok(()),
@@ -160,7 +161,7 @@ fn globals(
 }
 
 impl Spelled for Start {
-    ghost spelled = { start_kinds };
+    ghost spelled = { start_spelling in_kinds };
 
     fn append(&self, out: &mut Vec<TokenKind>) -> Result<(), AllocError> {
         self.item.append(out)?;
@@ -172,7 +173,7 @@ impl Spelled for Start {
 
 // Adds the tokens of INITIAL, where it is there.
 fn initial(starts: &Option<Several<Start>>, out: &mut Vec<TokenKind>) -> Result<(), AllocError>
-    ensures { OnOk result (Adds (initial_kinds starts.now) out.old.items out.new.items) }
+    ensures { OnOk result (Adds (initial_spelling in_kinds starts.now) out.old.items out.new.items) }
 {
     match starts {
         None => Ok(()),
@@ -187,7 +188,7 @@ fn initial(starts: &Option<Several<Start>>, out: &mut Vec<TokenKind>) -> Result<
 
 // Adds the tokens of ENTRY, where it is there.
 pub fn entry(behind: &Option<Formula>, out: &mut Vec<TokenKind>) -> Result<(), AllocError>
-    ensures { OnOk result (Adds (entry_kinds behind.now) out.old.items out.new.items) }
+    ensures { OnOk result (Adds (entry_spelling in_kinds behind.now) out.old.items out.new.items) }
 {
     match behind {
         None => Ok(()),
@@ -202,7 +203,7 @@ pub fn entry(behind: &Option<Formula>, out: &mut Vec<TokenKind>) -> Result<(), A
 
 // Adds the tokens of EXIT, where it is there.
 pub fn exit(behind: &Option<Formula>, out: &mut Vec<TokenKind>) -> Result<(), AllocError>
-    ensures { OnOk result (Adds (exit_kinds behind.now) out.old.items out.new.items) }
+    ensures { OnOk result (Adds (exit_spelling in_kinds behind.now) out.old.items out.new.items) }
 {
     match behind {
         None => Ok(()),
@@ -216,7 +217,7 @@ pub fn exit(behind: &Option<Formula>, out: &mut Vec<TokenKind>) -> Result<(), Al
 }
 
 impl Spelled for Clauses {
-    ghost spelled = { clauses_kinds };
+    ghost spelled = { clauses_spelling in_kinds };
 
     fn append(&self, out: &mut Vec<TokenKind>) -> Result<(), AllocError> {
         globals(&self.globals, out)?;
@@ -228,7 +229,7 @@ impl Spelled for Clauses {
 }
 
 impl Spelled for Locals {
-    ghost spelled = { locals_kinds };
+    ghost spelled = { locals_spelling in_kinds };
 
     fn append(&self, out: &mut Vec<TokenKind>) -> Result<(), AllocError> {
         lists::headed(Word::Const, &self.constants, out)?;
@@ -238,7 +239,7 @@ impl Spelled for Locals {
 }
 
 impl Spelled for RoutineMark {
-    ghost spelled = { routine_mark_kinds };
+    ghost spelled = { routine_mark_spelling in_kinds };
 
     fn append(&self, out: &mut Vec<TokenKind>) -> Result<(), AllocError> {
         match self {

@@ -2,7 +2,8 @@
 
 ghost use Rattle.std.specs.Prelude.{OnOk};
 ghost use Rattle.spv_tokens.specs.declared.token.TokenKind.TheVariants as kind;
-ghost use Rattle.spv_syntax.specs.RuleKinds.{rule_vars_kinds, premise_kinds, rule_form_kinds, rule_kinds, rule_tree_kinds};
+ghost use Rattle.spv_syntax.specs.Members.{in_kinds};
+ghost use Rattle.spv_syntax.specs.RuleSpelling.{premise_spelling, rule_form_spelling, rule_spelling, rule_tree_spelling, rule_vars_spelling};
 ghost use Rattle.spv_flat.specs.Flat.{Adds};
 
 use crate::formulas::formula;
@@ -13,7 +14,7 @@ use spv_tokens::{Sign, TokenKind, Word};
 use std::alloc::AllocError;
 
 impl Spelled for RuleVars {
-    ghost spelled = { rule_vars_kinds };
+    ghost spelled = { rule_vars_spelling in_kinds };
 
     fn append(&self, out: &mut Vec<TokenKind>) -> Result<(), AllocError> {
         lists::several(Sign::Comma, &self.names, out)?;
@@ -26,7 +27,7 @@ impl Spelled for RuleVars {
 
 // Adds a word and the tokens of the formula behind it, where they are there.
 fn premise(word: Word, behind: &Option<Formula>, out: &mut Vec<TokenKind>) -> Result<(), AllocError>
-    ensures { OnOk result (Adds (premise_kinds (kind.Word word) behind.now) out.old.items out.new.items) }
+    ensures { OnOk result (Adds (premise_spelling in_kinds (kind.Word word) behind.now) out.old.items out.new.items) }
 {
     match behind {
         None => Ok(()),
@@ -39,7 +40,7 @@ fn premise(word: Word, behind: &Option<Formula>, out: &mut Vec<TokenKind>) -> Re
 }
 
 impl Spelled for RuleForm {
-    ghost spelled = { rule_form_kinds };
+    ghost spelled = { rule_form_spelling in_kinds };
 
     fn append(&self, out: &mut Vec<TokenKind>) -> Result<(), AllocError> {
         match self {
@@ -62,7 +63,7 @@ impl Spelled for RuleForm {
 }
 
 impl Spelled for Rule {
-    ghost spelled = { rule_kinds };
+    ghost spelled = { rule_spelling in_kinds };
 
     fn append(&self, out: &mut Vec<TokenKind>) -> Result<(), AllocError> {
         self.form.append(out)?;
@@ -72,7 +73,7 @@ impl Spelled for Rule {
 }
 
 impl Spelled for RuleTree {
-    ghost spelled = { rule_tree_kinds };
+    ghost spelled = { rule_tree_spelling in_kinds };
 
     fn append(&self, out: &mut Vec<TokenKind>) -> Result<(), AllocError> {
         lists::headed(Word::Var, &self.variables, out)?;

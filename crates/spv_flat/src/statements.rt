@@ -1,8 +1,9 @@
 // Statements.
 
 ghost use Rattle.std.specs.Prelude.{◌≡◌, OnOk};
-ghost use Rattle.spv_syntax.specs.StatementKinds.{arguments_kinds, invariant_kinds, direction_kind, statement_kinds, otherwise_kinds, block_kinds, more_statements_kinds, arm_kinds, more_arms_kinds, loop_kinds};
-ghost use Rattle.spv_syntax.specs.StatementSizes.{more_statements_of, more_arms_of};
+ghost use Rattle.spv_syntax.specs.Members.{in_kinds};
+ghost use Rattle.spv_syntax.specs.StatementSpelling.{arguments_spelling, arm_spelling, block_spelling, direction_kind, invariant_spelling, loop_spelling, more_arms_spelling, more_statements_spelling, otherwise_spelling, statement_spelling};
+ghost use Rattle.spv_syntax.specs.Model.StatementSizes.{more_statements_of, more_arms_of};
 ghost use Rattle.spv_syntax.specs.StatementViews.{invariant_of, otherwise_of};
 ghost use Rattle.spv_flat.specs.Flat.{Adds};
 
@@ -19,7 +20,7 @@ fn arguments(
     arguments: &Option<Several<Formula>>,
     out: &mut Vec<TokenKind>,
 ) -> Result<(), AllocError>
-    ensures { OnOk result (Adds (arguments_kinds arguments.now) out.old.items out.new.items) }
+    ensures { OnOk result (Adds (arguments_spelling in_kinds arguments.now) out.old.items out.new.items) }
 {
     match arguments {
         None => Ok(()),
@@ -34,7 +35,7 @@ fn arguments(
 
 // Adds the tokens of an invariant, where there is one.
 fn invariant(invariant: &Option<Box<Formula>>, out: &mut Vec<TokenKind>) -> Result<(), AllocError>
-    ensures { OnOk result (Adds (invariant_kinds (invariant_of invariant.now)) out.old.items out.new.items) }
+    ensures { OnOk result (Adds (invariant_spelling in_kinds (invariant_of invariant.now)) out.old.items out.new.items) }
 {
     match invariant {
         None => Ok(()),
@@ -59,7 +60,7 @@ fn direction_token(direction: Direction) -> TokenKind
 // Adds the tokens of a statement.
 #[cycle(statements)]
 fn statement(tree: &Statement, out: &mut Vec<TokenKind>) -> Result<(), AllocError>
-    ensures { OnOk result (Adds (statement_kinds tree.now) out.old.items out.new.items) }
+    ensures { OnOk result (Adds (statement_spelling in_kinds tree.now) out.old.items out.new.items) }
 {
     match &tree.form {
         StatementForm::Empty => Ok(()),
@@ -115,7 +116,7 @@ fn statement(tree: &Statement, out: &mut Vec<TokenKind>) -> Result<(), AllocErro
 // Adds the tokens of a block.
 #[cycle(statements)]
 pub fn block(tree: &Block, out: &mut Vec<TokenKind>) -> Result<(), AllocError>
-    ensures { OnOk result (Adds (block_kinds tree.now) out.old.items out.new.items) }
+    ensures { OnOk result (Adds (block_spelling in_kinds tree.now) out.old.items out.new.items) }
 {
     out::word(Word::Begin, out)?;
     statement(&tree.first, out)?;
@@ -127,7 +128,7 @@ pub fn block(tree: &Block, out: &mut Vec<TokenKind>) -> Result<(), AllocError>
 // Adds the tokens of an arm.
 #[cycle(statements)]
 fn arm(tree: &Arm, out: &mut Vec<TokenKind>) -> Result<(), AllocError>
-    ensures { OnOk result (Adds (arm_kinds tree.now) out.old.items out.new.items) }
+    ensures { OnOk result (Adds (arm_spelling in_kinds tree.now) out.old.items out.new.items) }
 {
     match &tree.form {
         None => Ok(()),
@@ -143,7 +144,7 @@ fn arm(tree: &Arm, out: &mut Vec<TokenKind>) -> Result<(), AllocError>
 // Adds the tokens of a loop.
 #[cycle(statements)]
 fn repetition(tree: &Loop, out: &mut Vec<TokenKind>) -> Result<(), AllocError>
-    ensures { OnOk result (Adds (loop_kinds tree.now) out.old.items out.new.items) }
+    ensures { OnOk result (Adds (loop_spelling in_kinds tree.now) out.old.items out.new.items) }
 {
     match &tree.form {
         LoopForm::While(test, body) => {
@@ -178,7 +179,7 @@ fn repetition(tree: &Loop, out: &mut Vec<TokenKind>) -> Result<(), AllocError>
 // Adds the tokens of ELSE, where it is there.
 #[cycle(statements)]
 fn otherwise(other: &Option<Box<Statement>>, out: &mut Vec<TokenKind>) -> Result<(), AllocError>
-    ensures { OnOk result (Adds (otherwise_kinds (otherwise_of other.now)) out.old.items out.new.items) }
+    ensures { OnOk result (Adds (otherwise_spelling in_kinds (otherwise_of other.now)) out.old.items out.new.items) }
 {
     match other {
         None => Ok(()),
@@ -193,7 +194,7 @@ fn otherwise(other: &Option<Box<Statement>>, out: &mut Vec<TokenKind>) -> Result
 // Adds the tokens of statements, each behind a semicolon.
 #[cycle(statements)]
 fn more_statements(more: &[Statement], out: &mut Vec<TokenKind>) -> Result<(), AllocError>
-    ensures { OnOk result (Adds (more_statements_kinds (more_statements_of more.now)) out.old.items out.new.items) }
+    ensures { OnOk result (Adds (more_statements_spelling in_kinds (more_statements_of more.now)) out.old.items out.new.items) }
 {
     for part in more {
         out::sign(Sign::Semicolon, out)?;
@@ -205,7 +206,7 @@ fn more_statements(more: &[Statement], out: &mut Vec<TokenKind>) -> Result<(), A
 // Adds the tokens of arms, each behind a semicolon.
 #[cycle(statements)]
 fn more_arms(more: &[Arm], out: &mut Vec<TokenKind>) -> Result<(), AllocError>
-    ensures { OnOk result (Adds (more_arms_kinds (more_arms_of more.now)) out.old.items out.new.items) }
+    ensures { OnOk result (Adds (more_arms_spelling in_kinds (more_arms_of more.now)) out.old.items out.new.items) }
 {
     for part in more {
         out::sign(Sign::Semicolon, out)?;

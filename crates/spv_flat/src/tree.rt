@@ -2,8 +2,9 @@
 
 ghost use Rattle.std.specs.Prelude.{◌≡◌, ◌++◌, List, [], OnOk, OnErr};
 ghost use Rattle.spv_tokens.specs.declared.token.TokenKind.{TokenKind};
-ghost use Rattle.spv_syntax.specs.ProgramKinds.{program_kinds};
-ghost use Rattle.spv_syntax.specs.RuleKinds.{rule_tree_kinds, formula_text_kinds};
+ghost use Rattle.spv_syntax.specs.Members.{in_kinds};
+ghost use Rattle.spv_syntax.specs.ProgramSpelling.{program_spelling};
+ghost use Rattle.spv_syntax.specs.RuleSpelling.{formula_text_spelling, rule_tree_spelling};
 ghost use Rattle.spv_flat.specs.Flat.{Adds};
 
 use crate::spelled::Spelled;
@@ -34,7 +35,7 @@ fn add<T: Spelled>(part: &T, out: &mut Vec<TokenKind>) -> Result<(), AllocError>
 }
 
 impl Flat for Program {
-    ghost tokens = { program_kinds };
+    ghost tokens = { program_spelling in_kinds };
 
     fn flat(&self, out: &mut Vec<TokenKind>) -> Result<(), AllocError> {
         add(self, out)
@@ -42,7 +43,7 @@ impl Flat for Program {
 }
 
 impl Flat for RuleTree {
-    ghost tokens = { rule_tree_kinds };
+    ghost tokens = { rule_tree_spelling in_kinds };
 
     fn flat(&self, out: &mut Vec<TokenKind>) -> Result<(), AllocError> {
         add(self, out)
@@ -50,7 +51,7 @@ impl Flat for RuleTree {
 }
 
 impl Flat for FormulaText {
-    ghost tokens = { formula_text_kinds };
+    ghost tokens = { formula_text_spelling in_kinds };
 
     fn flat(&self, out: &mut Vec<TokenKind>) -> Result<(), AllocError> {
         add(self, out)

@@ -1,8 +1,9 @@
 // Types.
 
 ghost use Rattle.std.specs.Prelude.{OnOk};
-ghost use Rattle.spv_syntax.specs.TypeKinds.{type_kinds, more_types_kinds, field_kinds, more_fields_kinds};
-ghost use Rattle.spv_syntax.specs.TypeSizes.{more_types_of, more_fields_of};
+ghost use Rattle.spv_syntax.specs.Members.{in_kinds};
+ghost use Rattle.spv_syntax.specs.TypeSpelling.{field_spelling, more_fields_spelling, more_types_spelling, type_spelling};
+ghost use Rattle.spv_syntax.specs.Model.TypeSizes.{more_types_of, more_fields_of};
 ghost use Rattle.spv_flat.specs.Flat.{Adds};
 
 use crate::spelled::Spelled;
@@ -14,7 +15,7 @@ use std::alloc::AllocError;
 // Adds the tokens of a type.
 #[cycle(types)]
 pub fn type_denoter(tree: &TypeDenoter, out: &mut Vec<TokenKind>) -> Result<(), AllocError>
-    ensures { OnOk result (Adds (type_kinds tree.now) out.old.items out.new.items) }
+    ensures { OnOk result (Adds (type_spelling in_kinds tree.now) out.old.items out.new.items) }
 {
     match &tree.form {
         TypeForm::Named(x) => out::token(TokenKind::Name(x.symbol), out),
@@ -52,7 +53,7 @@ pub fn type_denoter(tree: &TypeDenoter, out: &mut Vec<TokenKind>) -> Result<(), 
 // Adds the tokens of a field.
 #[cycle(types)]
 fn field(tree: &Field, out: &mut Vec<TokenKind>) -> Result<(), AllocError>
-    ensures { OnOk result (Adds (field_kinds tree.now) out.old.items out.new.items) }
+    ensures { OnOk result (Adds (field_spelling in_kinds tree.now) out.old.items out.new.items) }
 {
     match &tree.form {
         None => Ok(()),
@@ -68,7 +69,7 @@ fn field(tree: &Field, out: &mut Vec<TokenKind>) -> Result<(), AllocError>
 // Adds the tokens of types, each behind a comma.
 #[cycle(types)]
 fn more_types(more: &[TypeDenoter], out: &mut Vec<TokenKind>) -> Result<(), AllocError>
-    ensures { OnOk result (Adds (more_types_kinds (more_types_of more.now)) out.old.items out.new.items) }
+    ensures { OnOk result (Adds (more_types_spelling in_kinds (more_types_of more.now)) out.old.items out.new.items) }
 {
     for of in more {
         out::sign(Sign::Comma, out)?;
@@ -80,7 +81,7 @@ fn more_types(more: &[TypeDenoter], out: &mut Vec<TokenKind>) -> Result<(), Allo
 // Adds the tokens of fields, each behind a semicolon.
 #[cycle(types)]
 fn more_fields(more: &[Field], out: &mut Vec<TokenKind>) -> Result<(), AllocError>
-    ensures { OnOk result (Adds (more_fields_kinds (more_fields_of more.now)) out.old.items out.new.items) }
+    ensures { OnOk result (Adds (more_fields_spelling in_kinds (more_fields_of more.now)) out.old.items out.new.items) }
 {
     for part in more {
         out::sign(Sign::Semicolon, out)?;

@@ -8,8 +8,8 @@ use Rattle.spv_syntax.specs.declared.operators.Adding.{Adding}
 use Rattle.spv_syntax.specs.declared.operators.Multiplying.{Multiplying}
 use Rattle.spv_syntax.specs.Formulas as tree
 use Rattle.spv_syntax.specs.Statements.{Statement, block}
-use Rattle.spv_syntax.specs.FormulaSizes.{more_terms_of, more_factors_of, selectors_of}
-use Rattle.spv_syntax.specs.StatementSizes.{more_statements_of}
+use Rattle.spv_syntax.specs.Model.FormulaSizes.{more_terms_of, more_factors_of, selectors_of}
+use Rattle.spv_syntax.specs.Model.StatementSizes.{more_statements_of}
 use Rattle.spv_form.specs.declared.form.Equation.{Equation}
 use Rattle.spv_form.specs.declared.form.Formula.TheVariants.{Bracketed}
 use Rattle.spv_form.specs.Trees.{both, all_of, variable, only_factor, only_term, bracketed_equation, conjunct_of, conjunction_of, factors_in, statement_of, statements_in, body_of}

@@ -8,7 +8,7 @@ use Rattle.spv_tokens.specs.declared.token.Sign.TheVariants as sign
 use Rattle.spv_syntax.specs.declared.operators.Adding.{Adding}
 use Rattle.spv_syntax.specs.declared.operators.Multiplying.{Multiplying}
 use Rattle.spv_syntax.specs.Formulas.{Formula, Term, Factor, Selector, no_more_terms, more_terms, no_more_factors, more_factors, no_more_formulas, more_formulas, no_selectors, selectors}
-use Rattle.spv_syntax.specs.FormulaSizes.{more_terms_of, more_factors_of, more_formulas_of, selectors_of}
+use Rattle.spv_syntax.specs.Model.FormulaSizes.{more_terms_of, more_factors_of, more_formulas_of, selectors_of}
 use Rattle.spv_reading.specs.Readers.{Reader, after, and_then, operated}
 use Rattle.spv_reading.specs.FormulaReaders.{selector_by, read_inner, read_factor, read_formula}
 use Rattle.spv_front.specs.Lists.{put}

@@ -1,7 +1,7 @@
 // Factors and designators.
 
 ghost use Rattle.std.specs.Prelude.{◌≡◌, Some, None, IfOk, IsErrAnd};
-ghost use Rattle.spv_syntax.specs.FormulaSizes.{more_formulas_of, selectors_of};
+ghost use Rattle.spv_syntax.specs.Model.FormulaSizes.{more_formulas_of, selectors_of};
 ghost use Rattle.spv_reading.specs.FormulaReaders.{read_inner, read_factor, read_field, read_more_formulas, read_index, read_selectors, read_application, read_place, read_named, read_bracketed, read_designator};
 ghost use Rattle.spv_reading.specs.Readers as reader;
 ghost use Rattle.spv_front.specs.Faults.{IsSyntax};

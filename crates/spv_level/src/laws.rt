@@ -2,11 +2,12 @@
 
 ghost use Rattle.std.specs.Prelude.{◌≡◌, ◌≤◌, List, None};
 ghost use Rattle.spv_tokens.specs.declared.token.Token.{Token};
-ghost use Rattle.spv_syntax.specs.FormulaKinds.{formula_kinds, designator_kinds};
-ghost use Rattle.spv_syntax.specs.StatementKinds.{statement_kinds, block_kinds};
-ghost use Rattle.spv_syntax.specs.TypeKinds.{type_kinds};
-ghost use Rattle.spv_syntax.specs.ProgramKinds.{program_kinds};
-ghost use Rattle.spv_syntax.specs.RuleKinds.{rule_tree_kinds, formula_text_kinds};
+ghost use Rattle.spv_syntax.specs.Members.{in_kinds};
+ghost use Rattle.spv_syntax.specs.FormulaSpelling.{designator_spelling, formula_spelling};
+ghost use Rattle.spv_syntax.specs.ProgramSpelling.{program_spelling};
+ghost use Rattle.spv_syntax.specs.RuleSpelling.{formula_text_spelling, rule_tree_spelling};
+ghost use Rattle.spv_syntax.specs.StatementSpelling.{block_spelling, statement_spelling};
+ghost use Rattle.spv_syntax.specs.TypeSpelling.{type_spelling};
 ghost use Rattle.spv_syntax.specs.Reads.{kinds, Reads, ReadsRules, ReadsFormulaText};
 ghost use Rattle.spv_reading.specs.RoutineReaders.{read_program};
 ghost use Rattle.spv_reading.specs.RuleReaders.{read_rules, read_formula_text};
@@ -22,23 +23,23 @@ pub fn law_level()
 
 /// On the way over a part the level goes up by as many levels as the part has, wherever the part stands.
 pub fn law_depth()
-    ensures formulas { GoesUpBy formula_depth formula_kinds }
-    ensures designators { GoesUpBy designator_depth designator_kinds }
-    ensures statements { GoesUpBy statement_depth statement_kinds }
-    ensures blocks { GoesUpBy block_depth block_kinds }
-    ensures types { GoesUpBy type_depth type_kinds }
+    ensures formulas { GoesUpBy formula_depth (formula_spelling in_kinds) }
+    ensures designators { GoesUpBy designator_depth (designator_spelling in_kinds) }
+    ensures statements { GoesUpBy statement_depth (statement_spelling in_kinds) }
+    ensures blocks { GoesUpBy block_depth (block_spelling in_kinds) }
+    ensures types { GoesUpBy type_depth (type_spelling in_kinds) }
 {}
 
 /// So a text that is nowhere too deep has less than 200 levels, and so has each part that stands in it.
 pub fn law_shallow()
-    ensures formulas { IsShallow formula_depth formula_kinds }
-    ensures designators { IsShallow designator_depth designator_kinds }
-    ensures statements { IsShallow statement_depth statement_kinds }
-    ensures blocks { IsShallow block_depth block_kinds }
-    ensures types { IsShallow type_depth type_kinds }
-    ensures programs { IsShallow program_depth program_kinds }
-    ensures rules { IsShallow rule_tree_depth rule_tree_kinds }
-    ensures formula_texts { IsShallow formula_text_depth formula_text_kinds }
+    ensures formulas { IsShallow formula_depth (formula_spelling in_kinds) }
+    ensures designators { IsShallow designator_depth (designator_spelling in_kinds) }
+    ensures statements { IsShallow statement_depth (statement_spelling in_kinds) }
+    ensures blocks { IsShallow block_depth (block_spelling in_kinds) }
+    ensures types { IsShallow type_depth (type_spelling in_kinds) }
+    ensures programs { IsShallow program_depth (program_spelling in_kinds) }
+    ensures rules { IsShallow rule_tree_depth (rule_tree_spelling in_kinds) }
+    ensures formula_texts { IsShallow formula_text_depth (formula_text_spelling in_kinds) }
 {}
 
 /// And where a tree reads a program that is nowhere too deep, 199 levels are enough to find it.

@@ -1,2 +1,3 @@
+pub mod MarkTurns
 pub mod ProgramParts
 pub mod Wholes

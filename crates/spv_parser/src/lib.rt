@@ -5,6 +5,7 @@ mod formula_texts;
 mod parser;
 mod programs;
 mod refused;
+mod routine_marks;
 
 pub use parser::{formula, program, rules};
 pub use refused::SyntaxFault;

@@ -4,10 +4,10 @@ ghost use Rattle.std.specs.Prelude.{◌≡◌, Some, None, IfOk, IsErrAnd};
 ghost use Rattle.spv_reading.specs.RoutineReaders.{read_files, read_program};
 ghost use Rattle.spv_front.specs.Faults.{IsSyntax};
 
+use crate::routine_marks::{ended_block, routines};
 use spv_front::fault::Fault;
 use spv_front::front::{after, first_line, is_sign, name, past_sign, past_word};
 use spv_list::List;
-use spv_routine_parser::routine_marks::{ended_block, routines};
 use spv_routine_parser::routines::condition;
 use spv_syntax::{Name, Program, Several};
 use spv_tokens::{Sign, Token, Word};

@@ -9,7 +9,6 @@ use Rattle.spv_syntax.specs.declared.declarations.NameOrClass.{NameOrClass}
 use Rattle.spv_syntax.specs.declared.declarations.NameOrClass.TheVariants as either
 use Rattle.spv_syntax.specs.declared.declarations.SortName.{SortName}
 use Rattle.spv_syntax.specs.Lists.{several, headed}
-use Rattle.spv_syntax.specs.ProgramKinds.{const_kinds, typedef_kinds, vars_kinds, name_or_class_kinds, sorts_kinds}
 use Rattle.spv_syntax.specs.Steps.{Step, passes, first_line, lines_agree}
 use Rattle.spv_syntax.specs.Reads.{kinds}
 use Rattle.spv_reading.specs.Readers.{front, after, is, and_then, name, several_of, optional}
@@ -21,8 +20,8 @@ use Rattle.spv_reading.proofs.Fronts.{Passed, passed, is-true, begun, join, star
 use Rattle.spv_reading.proofs.Sound.{On, on_some, on_then, on_if, on_past, on_more, name_sound, several_sound, headed_sound, on_optional, ended_sound}
 use Rattle.spv_reading.proofs.StatementSound.{constant_sound}
 use Rattle.spv_reading.proofs.TypeSound.{names_sound, type_sound}
-use Rattle.spv_syntax.specs.Members.{in_lines}
-use Rattle.spv_syntax.specs.ProgramSpelling.{name_or_class_spelling, sort_spelling, sorts_spelling, symbol_spelling, typedef_spelling, vars_spelling}
+use Rattle.spv_syntax.specs.Members.{in_kinds, in_lines}
+use Rattle.spv_syntax.specs.ProgramSpelling.{name_or_class_spelling, sort_spelling, sorts_spelling, symbol_spelling, typedef_spelling, vars_spelling, const_spelling}
 
 pub const_sound : (tokens : List Token) → On (read_const tokens) (BeginsWith const_part tokens)
 const_sound tokens =
@@ -38,7 +37,7 @@ vars_sound m tokens =
 
 -- a name or a class, at its place among the lines
 abbrev pub EitherAt : List Token → NameOrClass → List Token → Type 0
-EitherAt tokens x rest = InFront (name_or_class_kinds x) (name_or_class_spelling in_lines x) tokens rest
+EitherAt tokens x rest = InFront (name_or_class_spelling in_kinds x) (name_or_class_spelling in_lines x) tokens rest
 
 pub either_sound : (tokens : List Token) → On (read_name_or_class tokens) (EitherAt tokens)
 either_sound tokens =
@@ -53,7 +52,7 @@ sort_sound tokens =
     on_then (either_sound tokens) (λ x rest a. on_some _ (record { line = first_line tokens; form = x }) rest (started a))
 
 abbrev sorts_part : Part (Option (Several SortName))
-sorts_part = record { spelled = sorts_kinds; lined = sorts_spelling in_lines }
+sorts_part = record { spelled = sorts_spelling in_kinds; lined = sorts_spelling in_lines }
 
 sorts_sound : (tokens : List Token) → On (optional (kind.Sign sign.OpenParenthesis) read_sorts tokens) (BeginsWith sorts_part tokens)
 sorts_sound tokens =

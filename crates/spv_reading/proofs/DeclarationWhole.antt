@@ -16,8 +16,6 @@ use Rattle.spv_syntax.specs.declared.declarations.SortName.{SortName}
 use Rattle.spv_syntax.specs.declared.declarations.SymbolText.{SymbolText}
 use Rattle.spv_syntax.specs.declared.declarations.Declarations.{Declarations}
 use Rattle.spv_syntax.specs.Lists.{further, headed}
-use Rattle.spv_syntax.specs.TypeKinds.{type_kinds}
-use Rattle.spv_syntax.specs.ProgramKinds.{const_kinds, typedef_kinds, vars_kinds, name_or_class_kinds, sort_kinds, sorts_kinds, symbol_kinds}
 use Rattle.spv_syntax.specs.Steps.{Step, passes, first_line}
 use Rattle.spv_reading.specs.Readers.{first, is, several_of, headed_by, optional}
 use Rattle.spv_reading.specs.StatementReaders.{read_constant}
@@ -31,8 +29,8 @@ use Rattle.spv_reading.proofs.WholeHeads.{never, ended_complete, absent, present
 use Rattle.spv_reading.proofs.StatementLengths.{constant_length}
 use Rattle.spv_reading.proofs.StatementWhole.{constant_complete}
 use Rattle.spv_reading.proofs.TypeWhole.{names_complete, type_complete, names_length, type_length}
-use Rattle.spv_syntax.specs.Members.{in_lines}
-use Rattle.spv_syntax.specs.ProgramSpelling.{name_or_class_spelling, sorts_spelling, symbol_spelling, typedef_spelling, vars_spelling}
+use Rattle.spv_syntax.specs.Members.{in_kinds, in_lines}
+use Rattle.spv_syntax.specs.ProgramSpelling.{name_or_class_spelling, sorts_spelling, symbol_spelling, typedef_spelling, vars_spelling, const_spelling, sort_spelling}
 use Rattle.spv_syntax.specs.TypeSpelling.{type_spelling}
 
 -- ---- constants, types and variables
@@ -50,11 +48,11 @@ typedef_complete n t d tokens spelled steps s e =
 vars_complete : (n : ℕ) (t : Vars) → type_depth t.of ≤ n → Complete vars_part never (read_vars n) t
 vars_complete n t d tokens spelled steps s e =
     let b = begun_of s in
-    then_answers (names_complete t.names tokens (kind.Sign sign.Colon ∷ type_kinds t.of (kind.Sign sign.Semicolon ∷ spelled)) (passes ∷ (type_spelling in_lines) t.of (passes ∷ steps)) b.stands refl) (λ xs is_xs mid m. past_answers (kind.Sign sign.Colon) refl m (λ last q. then_answers (ended_complete (kind.Sign sign.Semicolon) type_part continues_type (read_type n) t.of refl refl (type_complete t.of n d) last spelled steps q refl) (λ v is_v rest r. done {y = record { line = first_line tokens; names = xs; of = v }} r (λ i. record { line = b.line i; names = is_xs i; of = is_v i }))))
+    then_answers (names_complete t.names tokens (kind.Sign sign.Colon ∷ type_spelling in_kinds t.of (kind.Sign sign.Semicolon ∷ spelled)) (passes ∷ (type_spelling in_lines) t.of (passes ∷ steps)) b.stands refl) (λ xs is_xs mid m. past_answers (kind.Sign sign.Colon) refl m (λ last q. then_answers (ended_complete (kind.Sign sign.Semicolon) type_part continues_type (read_type n) t.of refl refl (type_complete t.of n d) last spelled steps q refl) (λ v is_v rest r. done {y = record { line = first_line tokens; names = xs; of = v }} r (λ i. record { line = b.line i; names = is_xs i; of = is_v i }))))
 
 -- ---- symbols
 
-pub either_answers : (x : NameOrClass) {tokens : List Token} {spelled : List TokenKind} {steps : List Step} → Stands tokens (name_or_class_kinds x spelled) (name_or_class_spelling in_lines x steps) → Answers (read_name_or_class tokens) x tokens spelled steps
+pub either_answers : (x : NameOrClass) {tokens : List Token} {spelled : List TokenKind} {steps : List Step} → Stands tokens (name_or_class_spelling in_kinds x spelled) (name_or_class_spelling in_lines x steps) → Answers (read_name_or_class tokens) x tokens spelled steps
 either_answers (either.Name x) s =
     answers_after (omega arith) (if_false _ (ap (is (kind.Sign sign.Hash)) (front_of s)) refl) (then_answers (name_complete x s) (λ y is_y rest r. done {y = either.Name y} r (ap either.Name is_y)))
 either_answers (either.Class x) s =
@@ -70,7 +68,7 @@ all_sorts : (xs : List SortName) → Each (Complete sort_part never read_sort) x
 all_sorts [] = tt
 all_sorts (x ∷ xs) = (sort_complete x, all_sorts xs)
 
-sorts_answers : (xs : Option (Several SortName)) {tokens : List Token} {spelled : List TokenKind} {steps : List Step} → Stands tokens (sorts_kinds xs spelled) (sorts_spelling in_lines xs steps) → is (kind.Sign sign.OpenParenthesis) (first spelled) ≡ false → Answers (optional (kind.Sign sign.OpenParenthesis) read_sorts tokens) xs tokens spelled steps
+sorts_answers : (xs : Option (Several SortName)) {tokens : List Token} {spelled : List TokenKind} {steps : List Step} → Stands tokens (sorts_spelling in_kinds xs spelled) (sorts_spelling in_lines xs steps) → is (kind.Sign sign.OpenParenthesis) (first spelled) ≡ false → Answers (optional (kind.Sign sign.OpenParenthesis) read_sorts tokens) xs tokens spelled steps
 sorts_answers None s e = absent (kind.Sign sign.OpenParenthesis) read_sorts s e
 sorts_answers (Some xs) {tokens} {spelled} {steps} s e =
     present (kind.Sign sign.OpenParenthesis) read_sorts refl s (λ mid m. ended_complete (kind.Sign sign.CloseParenthesis) (several_part (kind.Sign sign.Comma) sort_part) (λ o. is (kind.Sign sign.Comma) o || false) (several_of (kind.Sign sign.Comma) read_sort) xs refl refl (several_complete (kind.Sign sign.Comma) sort_part never read_sort refl refl xs (sort_complete xs.first) (all_sorts xs.more)) mid spelled steps m refl)
@@ -98,31 +96,31 @@ all_symbols : (xs : List SymbolText) → Each (Complete symbol_part never read_s
 all_symbols [] = tt
 all_symbols (x ∷ xs) = (symbol_complete x, all_symbols xs)
 
-pub either_length : (x : NameOrClass) (rest : List TokenKind) → suc (length rest) ≤ length (name_or_class_kinds x rest)
+pub either_length : (x : NameOrClass) (rest : List TokenKind) → suc (length rest) ≤ length (name_or_class_spelling in_kinds x rest)
 either_length (either.Name x) rest = omega arith
 either_length (either.Class x) rest = omega arith
 
-further_sorts : (xs : List SortName) (rest : List TokenKind) → length rest ≤ length (further (kind.Sign sign.Comma) sort_kinds xs rest)
+further_sorts : (xs : List SortName) (rest : List TokenKind) → length rest ≤ length (further (kind.Sign sign.Comma) (sort_spelling in_kinds) xs rest)
 further_sorts [] rest = omega arith
-further_sorts (x ∷ xs) rest = omega (arith, either_length x.form (further (kind.Sign sign.Comma) sort_kinds xs rest), further_sorts xs rest)
+further_sorts (x ∷ xs) rest = omega (arith, either_length x.form (further (kind.Sign sign.Comma) (sort_spelling in_kinds) xs rest), further_sorts xs rest)
 
-sorts_length : (xs : Option (Several SortName)) (rest : List TokenKind) → length rest ≤ length (sorts_kinds xs rest)
+sorts_length : (xs : Option (Several SortName)) (rest : List TokenKind) → length rest ≤ length (sorts_spelling in_kinds xs rest)
 sorts_length None rest = omega arith
 sorts_length (Some xs) rest =
-    omega (arith, either_length xs.first.form (further (kind.Sign sign.Comma) sort_kinds xs.more (kind.Sign sign.CloseParenthesis ∷ rest)), further_sorts xs.more (kind.Sign sign.CloseParenthesis ∷ rest))
+    omega (arith, either_length xs.first.form (further (kind.Sign sign.Comma) (sort_spelling in_kinds) xs.more (kind.Sign sign.CloseParenthesis ∷ rest)), further_sorts xs.more (kind.Sign sign.CloseParenthesis ∷ rest))
 
-pub const_length : (x : Const) (rest : List TokenKind) → suc (length rest) ≤ length (const_kinds x rest)
+pub const_length : (x : Const) (rest : List TokenKind) → suc (length rest) ≤ length (const_spelling in_kinds x rest)
 const_length x rest = omega (arith, constant_length x.value (kind.Sign sign.Semicolon ∷ rest))
 
-pub typedef_length : (x : Typedef) (rest : List TokenKind) → suc (type_depth x.of + length rest) ≤ length (typedef_kinds x rest)
+pub typedef_length : (x : Typedef) (rest : List TokenKind) → suc (type_depth x.of + length rest) ≤ length (typedef_spelling in_kinds x rest)
 typedef_length x rest = omega (arith, type_length x.of (kind.Sign sign.Semicolon ∷ rest))
 
-pub vars_length : (x : Vars) (rest : List TokenKind) → suc (type_depth x.of + length rest) ≤ length (vars_kinds x rest)
-vars_length x rest = omega (arith, names_length x.names (kind.Sign sign.Colon ∷ type_kinds x.of (kind.Sign sign.Semicolon ∷ rest)), type_length x.of (kind.Sign sign.Semicolon ∷ rest))
+pub vars_length : (x : Vars) (rest : List TokenKind) → suc (type_depth x.of + length rest) ≤ length (vars_spelling in_kinds x rest)
+vars_length x rest = omega (arith, names_length x.names (kind.Sign sign.Colon ∷ type_spelling in_kinds x.of (kind.Sign sign.Semicolon ∷ rest)), type_length x.of (kind.Sign sign.Semicolon ∷ rest))
 
-pub symbol_length : (x : SymbolText) (rest : List TokenKind) → suc (length rest) ≤ length (symbol_kinds x rest)
+pub symbol_length : (x : SymbolText) (rest : List TokenKind) → suc (length rest) ≤ length (symbol_spelling in_kinds x rest)
 symbol_length x rest =
-    omega (arith, sorts_length x.arguments (kind.Sign sign.Colon ∷ sort_kinds x.result (kind.Sign sign.Semicolon ∷ rest)), either_length x.result.form (kind.Sign sign.Semicolon ∷ rest))
+    omega (arith, sorts_length x.arguments (kind.Sign sign.Colon ∷ sort_spelling in_kinds x.result (kind.Sign sign.Semicolon ∷ rest)), either_length x.result.form (kind.Sign sign.Semicolon ∷ rest))
 
 pub consts_complete : (xs : List Const) → Complete (headed_part (kind.Word word.Const) const_part) (λ o. is (kind.Word word.Const) o || begins_name o) (headed_by (kind.Word word.Const) begins_name read_const) xs
 consts_complete xs = headed_complete const_part begins_name read_const (λ x rest. refl) const_length (kind.Word word.Const) refl xs (all_consts xs)
@@ -159,30 +157,30 @@ ends_of o e =
 pub declarations_complete : (x : Declarations) (n : ℕ) → declarations_depth x ≤ n → Complete declarations_part continues_declarations (read_declarations n) x
 declarations_complete x n d tokens spelled steps s e =
     let b = begun_of s in
-    then_answers (consts_complete x.constants tokens (headed (kind.Word word.Type) typedef_kinds x.types after_types) (headed passes (typedef_spelling in_lines) x.types lines_after_types) b.stands end_of_constants) (λ cs is_cs two m. then_answers (typedefs_complete n x.types (omega arith) two after_types lines_after_types m end_of_types) (λ ts is_ts three q. then_answers (variables_complete n x.variables (omega arith) three after_variables lines_after_variables q end_of_variables) (λ vs is_vs four v. then_answers (symbols_complete x.symbols four spelled steps v ends.symbols) (λ ss is_ss rest r. done {y = record { line = first_line tokens; constants = cs; types = ts; variables = vs; symbols = ss }} r (λ i. record { line = b.line i; constants = is_cs i; types = is_ts i; variables = is_vs i; symbols = is_ss i })))))
+    then_answers (consts_complete x.constants tokens (headed (kind.Word word.Type) (typedef_spelling in_kinds) x.types after_types) (headed passes (typedef_spelling in_lines) x.types lines_after_types) b.stands end_of_constants) (λ cs is_cs two m. then_answers (typedefs_complete n x.types (omega arith) two after_types lines_after_types m end_of_types) (λ ts is_ts three q. then_answers (variables_complete n x.variables (omega arith) three after_variables lines_after_variables q end_of_variables) (λ vs is_vs four v. then_answers (symbols_complete x.symbols four spelled steps v ends.symbols) (λ ss is_ss rest r. done {y = record { line = first_line tokens; constants = cs; types = ts; variables = vs; symbols = ss }} r (λ i. record { line = b.line i; constants = is_cs i; types = is_ts i; variables = is_vs i; symbols = is_ss i })))))
   where
     ends : Ends (first spelled)
     ends = ends_of (first spelled) e
 
     after_variables : List TokenKind
-    after_variables = headed (kind.Word word.Declare) symbol_kinds x.symbols spelled
+    after_variables = headed (kind.Word word.Declare) (symbol_spelling in_kinds) x.symbols spelled
 
     lines_after_variables : List Step
     lines_after_variables = headed passes (symbol_spelling in_lines) x.symbols steps
 
     after_types : List TokenKind
-    after_types = headed (kind.Word word.Var) vars_kinds x.variables after_variables
+    after_types = headed (kind.Word word.Var) (vars_spelling in_kinds) x.variables after_variables
 
     lines_after_types : List Step
     lines_after_types = headed passes (vars_spelling in_lines) x.variables lines_after_variables
 
     end_of_variables : (is (kind.Word word.Var) (first after_variables) || begins_name (first after_variables)) ≡ false
-    end_of_variables = headed_ends (λ o. is (kind.Word word.Var) o || begins_name o) (kind.Word word.Declare) symbol_kinds x.symbols spelled refl ends.variables
+    end_of_variables = headed_ends (λ o. is (kind.Word word.Var) o || begins_name o) (kind.Word word.Declare) (symbol_spelling in_kinds) x.symbols spelled refl ends.variables
 
     end_of_types : (is (kind.Word word.Type) (first after_types) || begins_name (first after_types)) ≡ false
     end_of_types =
-        headed_ends (λ o. is (kind.Word word.Type) o || begins_name o) (kind.Word word.Var) vars_kinds x.variables after_variables refl (headed_ends (λ o. is (kind.Word word.Type) o || begins_name o) (kind.Word word.Declare) symbol_kinds x.symbols spelled refl ends.types)
+        headed_ends (λ o. is (kind.Word word.Type) o || begins_name o) (kind.Word word.Var) (vars_spelling in_kinds) x.variables after_variables refl (headed_ends (λ o. is (kind.Word word.Type) o || begins_name o) (kind.Word word.Declare) (symbol_spelling in_kinds) x.symbols spelled refl ends.types)
 
-    end_of_constants : (is (kind.Word word.Const) (first (headed (kind.Word word.Type) typedef_kinds x.types after_types)) || begins_name (first (headed (kind.Word word.Type) typedef_kinds x.types after_types))) ≡ false
+    end_of_constants : (is (kind.Word word.Const) (first (headed (kind.Word word.Type) (typedef_spelling in_kinds) x.types after_types)) || begins_name (first (headed (kind.Word word.Type) (typedef_spelling in_kinds) x.types after_types))) ≡ false
     end_of_constants =
-        headed_ends (λ o. is (kind.Word word.Const) o || begins_name o) (kind.Word word.Type) typedef_kinds x.types after_types refl (headed_ends (λ o. is (kind.Word word.Const) o || begins_name o) (kind.Word word.Var) vars_kinds x.variables after_variables refl (headed_ends (λ o. is (kind.Word word.Const) o || begins_name o) (kind.Word word.Declare) symbol_kinds x.symbols spelled refl ends.constants))
+        headed_ends (λ o. is (kind.Word word.Const) o || begins_name o) (kind.Word word.Type) (typedef_spelling in_kinds) x.types after_types refl (headed_ends (λ o. is (kind.Word word.Const) o || begins_name o) (kind.Word word.Var) (vars_spelling in_kinds) x.variables after_variables refl (headed_ends (λ o. is (kind.Word word.Const) o || begins_name o) (kind.Word word.Declare) (symbol_spelling in_kinds) x.symbols spelled refl ends.constants))

@@ -12,7 +12,8 @@ use Rattle.spv_syntax.specs.declared.operators.Adding.TheVariants as adding
 use Rattle.spv_syntax.specs.declared.operators.Multiplying.{Multiplying}
 use Rattle.spv_syntax.specs.declared.operators.Multiplying.TheVariants as multiplying
 use Rattle.spv_syntax.specs.Formulas.{Conclusion, no_conclusion, implies, RightSide, no_right_side, compared, MoreTerms, no_more_terms, more_terms, Term, term, MoreFactors, no_more_factors, more_factors, number, truth, nil, class, place, application, bracketed, negation, MoreFormulas, no_more_formulas, more_formulas, designator, Selectors, no_selectors, selectors, index, field, content}
-use Rattle.spv_syntax.specs.FormulaKinds.{prefix_kind, comparison_kind, adding_kind, multiplying_kind, conclusion_kinds, right_side_kinds, more_terms_kinds, term_kinds, more_factors_kinds, more_formulas_kinds, selectors_kinds}
+use Rattle.spv_syntax.specs.Members.{in_kinds}
+use Rattle.spv_syntax.specs.FormulaSpelling.{adding_kind, comparison_kind, conclusion_spelling, more_factors_spelling, more_formulas_spelling, more_terms_spelling, multiplying_kind, prefix_kind, right_side_spelling, selectors_spelling, term_spelling}
 use Rattle.spv_reading.specs.Readers.{first, is}
 use Rattle.spv_reading.specs.FormulaReaders.{prefix_of, comparison_of, adding_of, multiplying_of}
 use Rattle.spv_reading.specs.Continuing.{continues_factor, continues_term, continues_simple, continues_relation, continues_formula, continues_formulas}
@@ -64,36 +65,36 @@ comparison_ends comparison.AtMost = refl
 comparison_ends comparison.Greater = refl
 comparison_ends comparison.AtLeast = refl
 
-pub more_factors_ends : (more : MoreFactors) (spelled : List TokenKind) → continues_term (first spelled) ≡ false → continues_factor (first (more_factors_kinds more spelled)) ≡ false
+pub more_factors_ends : (more : MoreFactors) (spelled : List TokenKind) → continues_term (first spelled) ≡ false → continues_factor (first (more_factors_spelling in_kinds more spelled)) ≡ false
 more_factors_ends no_more_factors spelled e = right_false (is_some (multiplying_of (first spelled))) _ e
 more_factors_ends (more_factors operator f more) spelled e = multiplying_ends operator
 
-pub more_terms_ends : (more : MoreTerms) (spelled : List TokenKind) → continues_simple (first spelled) ≡ false → continues_term (first (more_terms_kinds more spelled)) ≡ false
+pub more_terms_ends : (more : MoreTerms) (spelled : List TokenKind) → continues_simple (first spelled) ≡ false → continues_term (first (more_terms_spelling in_kinds more spelled)) ≡ false
 more_terms_ends no_more_terms spelled e = right_false (is_some (adding_of (first spelled))) _ e
 more_terms_ends (more_terms operator t more) spelled e = adding_ends operator
 
-pub right_side_ends : (right : RightSide) (spelled : List TokenKind) → continues_relation (first spelled) ≡ false → continues_simple (first (right_side_kinds right spelled)) ≡ false
+pub right_side_ends : (right : RightSide) (spelled : List TokenKind) → continues_relation (first spelled) ≡ false → continues_simple (first (right_side_spelling in_kinds right spelled)) ≡ false
 right_side_ends no_right_side spelled e = right_false (is_some (comparison_of (first spelled))) _ e
 right_side_ends (compared operator s) spelled e = comparison_ends operator
 
-pub conclusion_ends : (right : Conclusion) (spelled : List TokenKind) → continues_formula (first spelled) ≡ false → continues_relation (first (conclusion_kinds right spelled)) ≡ false
+pub conclusion_ends : (right : Conclusion) (spelled : List TokenKind) → continues_formula (first spelled) ≡ false → continues_relation (first (conclusion_spelling in_kinds right spelled)) ≡ false
 conclusion_ends no_conclusion spelled e = right_false (is (kind.Sign sign.Arrow) (first spelled)) _ e
 conclusion_ends (implies f) spelled e = refl
 
 -- behind a formula in a list stands a comma or what ends the list
-pub more_formulas_ends : (more : MoreFormulas) (spelled : List TokenKind) → continues_formulas (first spelled) ≡ false → continues_formula (first (more_formulas_kinds more spelled)) ≡ false
+pub more_formulas_ends : (more : MoreFormulas) (spelled : List TokenKind) → continues_formulas (first spelled) ≡ false → continues_formula (first (more_formulas_spelling in_kinds more spelled)) ≡ false
 more_formulas_ends no_more_formulas spelled e = right_false (is (kind.Sign sign.Comma) (first spelled)) _ e
 more_formulas_ends (more_formulas f more) spelled e = refl
 
 -- a selector is no bracket of arguments
-pub selectors_end : (behind : Selectors) (spelled : List TokenKind) → is (kind.Sign sign.OpenParenthesis) (first spelled) ≡ false → is (kind.Sign sign.OpenParenthesis) (first (selectors_kinds behind spelled)) ≡ false
+pub selectors_end : (behind : Selectors) (spelled : List TokenKind) → is (kind.Sign sign.OpenParenthesis) (first spelled) ≡ false → is (kind.Sign sign.OpenParenthesis) (first (selectors_spelling in_kinds behind spelled)) ≡ false
 selectors_end no_selectors spelled e = e
 selectors_end (selectors (index line f more) behind) spelled e = refl
 selectors_end (selectors (field line x) behind) spelled e = refl
 selectors_end (selectors (content line) behind) spelled e = refl
 
 -- a term has no sign in front
-pub no_prefix : (t : Term) (spelled : List TokenKind) → prefix_of (first (term_kinds t spelled)) ≡ None
+pub no_prefix : (t : Term) (spelled : List TokenKind) → prefix_of (first (term_spelling in_kinds t spelled)) ≡ None
 no_prefix (term line (number l n) more) spelled = refl
 no_prefix (term line (truth l true) more) spelled = refl
 no_prefix (term line (truth l false) more) spelled = refl

@@ -9,12 +9,11 @@ use Rattle.spv_tokens.specs.declared.token.Word.TheVariants as word
 use Rattle.spv_tokens.specs.declared.token.Sign.TheVariants as sign
 use Rattle.spv_syntax.specs.declared.operators.PlusOrMinus.{PlusOrMinus}
 use Rattle.spv_syntax.specs.Formulas.{Formula, formula, Conclusion, no_conclusion, implies, Relation, relation, RightSide, no_right_side, compared, Simple, simple, MoreTerms, no_more_terms, more_terms, Term, term, MoreFactors, no_more_factors, more_factors, Factor, number, truth, nil, class, place, application, bracketed, negation, MoreFormulas, no_more_formulas, more_formulas, designator, Selectors, no_selectors, selectors, Selector, index, field, content}
-use Rattle.spv_syntax.specs.FormulaKinds.{name_kind, prefix_kind, prefix_kinds, comparison_kind, adding_kind, multiplying_kind, truth_kind, formula_kinds, conclusion_kinds, relation_kinds, right_side_kinds, simple_kinds, more_terms_kinds, term_kinds, more_factors_kinds, factor_kinds, more_formulas_kinds, selectors_kinds, selector_kinds}
 use Rattle.spv_syntax.specs.Steps.{Step, begins, passes, lines_agree}
 use Rattle.spv_syntax.specs.Reads.{kinds}
 use Rattle.spv_reading.proofs.Lengths.{prefix_length, relation_length, simple_length, term_length, factor_length}
-use Rattle.spv_syntax.specs.Members.{in_lines}
-use Rattle.spv_syntax.specs.FormulaSpelling.{conclusion_spelling, factor_spelling, formula_spelling, more_factors_spelling, more_formulas_spelling, more_terms_spelling, prefix_spelling, relation_spelling, right_side_spelling, selector_spelling, selectors_spelling, simple_spelling, term_spelling}
+use Rattle.spv_syntax.specs.Members.{in_kinds, in_lines}
+use Rattle.spv_syntax.specs.FormulaSpelling.{conclusion_spelling, factor_spelling, formula_spelling, more_factors_spelling, more_formulas_spelling, more_terms_spelling, prefix_spelling, relation_spelling, right_side_spelling, selector_spelling, selectors_spelling, simple_spelling, term_spelling, adding_kind, comparison_kind, multiplying_kind, name_kind, prefix_kind, truth_kind}
 
 -- whether steps pass by exactly these tokens, and no part begins behind them
 abbrev pub fits : List Step → List TokenKind → Bool
@@ -81,41 +80,41 @@ puts_one line k = puts_begun line (omega arith) (puts_token k puts_none)
 puts_led : {spelled : List TokenKind → List TokenKind} {lined : List Step → List Step} (line : ℕ) (k : TokenKind) → Puts spelled lined → Puts (λ rest. k ∷ spelled rest) (λ others. begins line ∷ passes ∷ lined others)
 puts_led line k p = puts_begun line (omega arith) (puts_token k p)
 
-puts_prefix : (s : Option PlusOrMinus) → Puts (prefix_kinds s) (prefix_spelling in_lines s)
+puts_prefix : (s : Option PlusOrMinus) → Puts (prefix_spelling in_kinds s) (prefix_spelling in_lines s)
 puts_prefix None = puts_none
 puts_prefix (Some s) = puts_token (prefix_kind s) puts_none
 
 mutual
-  pub puts_formula : (f : Formula) → Puts (formula_kinds f) (formula_spelling in_lines f)
-  puts_formula (formula line left right) = puts_begun line (omega (arith, relation_length left (conclusion_kinds right []))) (puts_both (puts_relation left) (puts_conclusion right))
+  pub puts_formula : (f : Formula) → Puts (formula_spelling in_kinds f) (formula_spelling in_lines f)
+  puts_formula (formula line left right) = puts_begun line (omega (arith, relation_length left (conclusion_spelling in_kinds right []))) (puts_both (puts_relation left) (puts_conclusion right))
 
-  puts_conclusion : (c : Conclusion) → Puts (conclusion_kinds c) (conclusion_spelling in_lines c)
+  puts_conclusion : (c : Conclusion) → Puts (conclusion_spelling in_kinds c) (conclusion_spelling in_lines c)
   puts_conclusion no_conclusion = puts_none
   puts_conclusion (implies f) = puts_token (kind.Sign sign.Arrow) (puts_formula f)
 
-  puts_relation : (r : Relation) → Puts (relation_kinds r) (relation_spelling in_lines r)
-  puts_relation (relation line left right) = puts_begun line (omega (arith, simple_length left (right_side_kinds right []))) (puts_both (puts_simple left) (puts_right_side right))
+  puts_relation : (r : Relation) → Puts (relation_spelling in_kinds r) (relation_spelling in_lines r)
+  puts_relation (relation line left right) = puts_begun line (omega (arith, simple_length left (right_side_spelling in_kinds right []))) (puts_both (puts_simple left) (puts_right_side right))
 
-  puts_right_side : (r : RightSide) → Puts (right_side_kinds r) (right_side_spelling in_lines r)
+  puts_right_side : (r : RightSide) → Puts (right_side_spelling in_kinds r) (right_side_spelling in_lines r)
   puts_right_side no_right_side = puts_none
   puts_right_side (compared operator s) = puts_token (comparison_kind operator) (puts_simple s)
 
-  puts_simple : (s : Simple) → Puts (simple_kinds s) (simple_spelling in_lines s)
+  puts_simple : (s : Simple) → Puts (simple_spelling in_kinds s) (simple_spelling in_lines s)
   puts_simple (simple line prefix first more) =
-      puts_begun line (omega (arith, prefix_length prefix (term_kinds first (more_terms_kinds more [])), term_length first (more_terms_kinds more []))) (puts_both (puts_prefix prefix) (puts_both (puts_term first) (puts_more_terms more)))
+      puts_begun line (omega (arith, prefix_length prefix (term_spelling in_kinds first (more_terms_spelling in_kinds more [])), term_length first (more_terms_spelling in_kinds more []))) (puts_both (puts_prefix prefix) (puts_both (puts_term first) (puts_more_terms more)))
 
-  puts_more_terms : (ts : MoreTerms) → Puts (more_terms_kinds ts) (more_terms_spelling in_lines ts)
+  puts_more_terms : (ts : MoreTerms) → Puts (more_terms_spelling in_kinds ts) (more_terms_spelling in_lines ts)
   puts_more_terms no_more_terms = puts_none
   puts_more_terms (more_terms operator t more) = puts_token (adding_kind operator) (puts_both (puts_term t) (puts_more_terms more))
 
-  puts_term : (t : Term) → Puts (term_kinds t) (term_spelling in_lines t)
-  puts_term (term line first more) = puts_begun line (omega (arith, factor_length first (more_factors_kinds more []))) (puts_both (puts_factor first) (puts_more_factors more))
+  puts_term : (t : Term) → Puts (term_spelling in_kinds t) (term_spelling in_lines t)
+  puts_term (term line first more) = puts_begun line (omega (arith, factor_length first (more_factors_spelling in_kinds more []))) (puts_both (puts_factor first) (puts_more_factors more))
 
-  puts_more_factors : (fs : MoreFactors) → Puts (more_factors_kinds fs) (more_factors_spelling in_lines fs)
+  puts_more_factors : (fs : MoreFactors) → Puts (more_factors_spelling in_kinds fs) (more_factors_spelling in_lines fs)
   puts_more_factors no_more_factors = puts_none
   puts_more_factors (more_factors operator f more) = puts_token (multiplying_kind operator) (puts_both (puts_factor f) (puts_more_factors more))
 
-  puts_factor : (f : Factor) → Puts (factor_kinds f) (factor_spelling in_lines f)
+  puts_factor : (f : Factor) → Puts (factor_spelling in_kinds f) (factor_spelling in_lines f)
   puts_factor (number line n) = puts_one line (kind.Number n)
   puts_factor (truth line b) = puts_one line (truth_kind b)
   puts_factor (nil line) = puts_one line (kind.Word word.Nil)
@@ -126,15 +125,15 @@ mutual
   puts_factor (bracketed line f) = puts_led line (kind.Sign sign.OpenParenthesis) (puts_both (puts_formula f) (puts_token (kind.Sign sign.CloseParenthesis) puts_none))
   puts_factor (negation line f) = puts_led line (kind.Word word.Not) (puts_factor f)
 
-  puts_more_formulas : (fs : MoreFormulas) → Puts (more_formulas_kinds fs) (more_formulas_spelling in_lines fs)
+  puts_more_formulas : (fs : MoreFormulas) → Puts (more_formulas_spelling in_kinds fs) (more_formulas_spelling in_lines fs)
   puts_more_formulas no_more_formulas = puts_none
   puts_more_formulas (more_formulas f more) = puts_token (kind.Sign sign.Comma) (puts_both (puts_formula f) (puts_more_formulas more))
 
-  puts_selectors : (ss : Selectors) → Puts (selectors_kinds ss) (selectors_spelling in_lines ss)
+  puts_selectors : (ss : Selectors) → Puts (selectors_spelling in_kinds ss) (selectors_spelling in_lines ss)
   puts_selectors no_selectors = puts_none
   puts_selectors (selectors s more) = puts_both (puts_selector s) (puts_selectors more)
 
-  puts_selector : (s : Selector) → Puts (selector_kinds s) (selector_spelling in_lines s)
+  puts_selector : (s : Selector) → Puts (selector_spelling in_kinds s) (selector_spelling in_lines s)
   puts_selector (index line f more) =
       puts_led line (kind.Sign sign.OpenBracket) (puts_both (puts_formula f) (puts_both (puts_more_formulas more) (puts_token (kind.Sign sign.CloseBracket) puts_none)))
   puts_selector (field line x) = puts_led line (kind.Sign sign.Period) (puts_one x.line (name_kind x))

@@ -11,7 +11,6 @@ use Rattle.spv_syntax.specs.declared.operators.Comparison.{Comparison}
 use Rattle.spv_syntax.specs.declared.operators.Adding.{Adding}
 use Rattle.spv_syntax.specs.declared.operators.Multiplying.{Multiplying}
 use Rattle.spv_syntax.specs.Formulas.{Formula, formula, no_conclusion, implies, relation, no_right_side, compared, simple, no_more_terms, more_terms, term, no_more_factors, more_factors, Factor, class, place, application, bracketed, negation, no_more_formulas, more_formulas, designator, no_selectors, selectors, index, field, content}
-use Rattle.spv_syntax.specs.FormulaKinds.{prefix_kind, comparison_kind, adding_kind, multiplying_kind, factor_kinds}
 use Rattle.spv_syntax.specs.Steps.{Step, begins, passes, first_line, lines_agree}
 use Rattle.spv_syntax.specs.Reads.{kinds}
 use Rattle.spv_reading.specs.Readers.{front, after, is, Reader, nothing, and_then, name, operated}
@@ -19,8 +18,8 @@ use Rattle.spv_reading.specs.FormulaReaders.{prefix_of, comparison_of, adding_of
 use Rattle.spv_reading.specs.Parts.{BeginsWith, name_part, led, formula_part, conclusion_part, relation_part, right_side_part, simple_part, added_term_part, more_terms_part, term_part, multiplied_factor_part, more_factors_part, factor_part, more_formulas_part, designator_part, selectors_part, selector_part}
 use Rattle.spv_reading.proofs.Fronts.{Passed, some_is, passed, is-true, begun, begins_at, join, starting_at, started}
 use Rattle.spv_reading.proofs.Sound.{On, OnItem, on_none, on_some, on_then, on_if, on_past, name_begins, name_sound, name_at_sound, IsList, items_sound, on_item, on_no_item, behind_sound}
-use Rattle.spv_syntax.specs.Members.{in_lines}
-use Rattle.spv_syntax.specs.FormulaSpelling.{factor_spelling}
+use Rattle.spv_syntax.specs.Members.{in_kinds, in_lines}
+use Rattle.spv_syntax.specs.FormulaSpelling.{factor_spelling, adding_kind, comparison_kind, multiplying_kind, prefix_kind}
 
 -- ---- operators
 
@@ -123,7 +122,7 @@ module _ (inner : Reader Formula) (inner_sound : (tokens : List Token) → On (i
         on_then (name_sound mid) (λ x rest a. on_some _ (class (first_line tokens) x) rest (started (join p a)))
 
     -- a factor of one token
-    one_token : (f : Factor) (k : TokenKind) (tokens : List Token) → ((rest : List TokenKind) → factor_kinds f rest ≡ k ∷ rest) → ((steps : List Step) → (factor_spelling in_lines) f steps ≡ begins (first_line tokens) ∷ passes ∷ steps) → front tokens ≡ Some k → On (Some (f, after tokens)) (BeginsWith factor_part tokens)
+    one_token : (f : Factor) (k : TokenKind) (tokens : List Token) → ((rest : List TokenKind) → factor_spelling in_kinds f rest ≡ k ∷ rest) → ((steps : List Step) → (factor_spelling in_lines) f steps ≡ begins (first_line tokens) ∷ passes ∷ steps) → front tokens ≡ Some k → On (Some (f, after tokens)) (BeginsWith factor_part tokens)
     one_token f k tokens spelled lined e =
         let p = passed k tokens e in
         on_some _ f (after tokens) (record {

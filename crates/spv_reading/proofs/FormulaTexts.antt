@@ -10,9 +10,6 @@ use Rattle.spv_tokens.specs.declared.token.Word.TheVariants as word
 use Rattle.spv_tokens.specs.declared.token.Sign.TheVariants as sign
 use Rattle.spv_syntax.specs.declared.formula_texts.FormulaText.{FormulaText}
 use Rattle.spv_syntax.specs.Formulas.{Formula}
-use Rattle.spv_syntax.specs.FormulaKinds.{name_kind, formula_kinds}
-use Rattle.spv_syntax.specs.ProgramKinds.{declarations_kinds}
-use Rattle.spv_syntax.specs.RuleKinds.{formula_text_kinds}
 use Rattle.spv_syntax.specs.Steps.{Step, begins, passes, first_line, lines_agree}
 use Rattle.spv_syntax.specs.Reads.{kinds}
 use Rattle.spv_reading.specs.Readers.{front, same_kind, is, name}
@@ -29,8 +26,8 @@ use Rattle.spv_reading.proofs.WholeHeads.{kinds_length}
 use Rattle.spv_reading.proofs.FormulaWhole.{formula_complete}
 use Rattle.spv_reading.proofs.DeclarationWhole.{declarations_complete}
 use Rattle.spv_reading.proofs.FormulaFits.{fits, puts_formula, split_lines}
-use Rattle.spv_syntax.specs.Members.{in_lines}
-use Rattle.spv_syntax.specs.FormulaSpelling.{formula_spelling}
+use Rattle.spv_syntax.specs.Members.{in_kinds, in_lines}
+use Rattle.spv_syntax.specs.FormulaSpelling.{formula_spelling, name_kind}
 use Rattle.spv_syntax.specs.ProgramSpelling.{declarations_spelling}
 use Rattle.spv_syntax.specs.RuleSpelling.{formula_text_spelling}
 
@@ -123,7 +120,7 @@ TextAt tokens t rest = rest ≡ [] → BeginsWith formula_text_part tokens t []
 pub formula_text_sound : (n : ℕ) (tokens : List Token) → On (read_formula_text n tokens) (TextAt tokens)
 formula_text_sound n tokens =
     on_past (kind.Word word.Program) tokens (λ one p. on_then (ended_sound (kind.Sign sign.Semicolon) name_part name one (name_sound one)) (λ x two a. on_then (declarations_sound n two) (λ ds three b. on_past (kind.Word word.Assert) three (λ four q. on_then (asserted_sound n four) (λ f rest c. on_some _ (record { line = first_line tokens; name = x; declarations = ds; formula = f }) rest (λ is_nil. record {
-      spelled = p.spelled ∙ ap (λ ks. kind.Word word.Program ∷ ks) (a.spelled ∙ ap (λ ks. name_kind x ∷ kind.Sign sign.Semicolon ∷ ks) (b.spelled ∙ ap (declarations_kinds ds) (q.spelled ∙ ap (λ ks. kind.Word word.Assert ∷ ks) (c is_nil).spelled)));
+      spelled = p.spelled ∙ ap (λ ks. kind.Word word.Program ∷ ks) (a.spelled ∙ ap (λ ks. name_kind x ∷ kind.Sign sign.Semicolon ∷ ks) (b.spelled ∙ ap (declarations_spelling in_kinds ds) (q.spelled ∙ ap (λ ks. kind.Word word.Assert ∷ ks) (c is_nil).spelled)));
       lined = λ steps.
           begun tokens _ ∙ p.lined (begins x.line ∷ passes ∷ passes ∷ (declarations_spelling in_lines) ds (passes ∷ (formula_spelling in_lines) f (passes ∷ steps)))
           ∙ a.lined (declarations_spelling in_lines ds (passes ∷ (formula_spelling in_lines) f (passes ∷ steps)))
@@ -139,7 +136,7 @@ record Shrunk (tokens : List Token) (f : Formula) : Type 0 where
   last : Token
   is : tokens ≡ inside ++ last ∷ []
   ends : last.kind ≡ period
-  stands : Stands inside (formula_kinds f []) (formula_spelling in_lines f [])
+  stands : Stands inside (formula_spelling in_kinds f []) (formula_spelling in_lines f [])
 
 -- a last kind, and those before it
 ends_are : (a : List TokenKind) (k l : TokenKind) (b : List TokenKind) → a ++ k ∷ [] ≡ b ++ l ∷ [] → (a ≡ b) × (k ≡ l)
@@ -153,7 +150,7 @@ ends_are (m ∷ a) k l (o ∷ b) e =
     let r = ends_are a k l b h.1 in
     (cc (h.0, r.0), r.1)
 
-shrunk_by : (f : Formula) (inside : List Token) (t : Token) → Stands (inside ++ t ∷ []) (formula_kinds f (period ∷ [])) (formula_spelling in_lines f (passes ∷ [])) → Shrunk (inside ++ t ∷ []) f
+shrunk_by : (f : Formula) (inside : List Token) (t : Token) → Stands (inside ++ t ∷ []) (formula_spelling in_kinds f (period ∷ [])) (formula_spelling in_lines f (passes ∷ [])) → Shrunk (inside ++ t ∷ []) f
 shrunk_by f inside t s =
     let p = puts_formula f in
     let both = ends_are (kinds inside) t.kind period p.tokens (sym (kinds_append inside (t ∷ [])) ∙ s.spelled ∙ p.spelled_is (period ∷ [])) in
@@ -170,7 +167,7 @@ shrunk_by f inside t s =
       };
     }
 
-shrunk : (f : Formula) (tokens : List Token) → Stands tokens (formula_kinds f (period ∷ [])) (formula_spelling in_lines f (passes ∷ [])) → Shrunk tokens f
+shrunk : (f : Formula) (tokens : List Token) → Stands tokens (formula_spelling in_kinds f (period ∷ [])) (formula_spelling in_lines f (passes ∷ [])) → Shrunk tokens f
 shrunk f [] s =
     let p = puts_formula f in
     absurd (not_empty p.tokens (s.spelled ∙ p.spelled_is (period ∷ [])))
@@ -180,9 +177,9 @@ shrunk f [] s =
     not_empty (k ∷ ks) e = cc (e)
 shrunk f (t ∷ tokens) s =
     let a = last_of t tokens in
-    subst (λ ts. Shrunk ts f) (sym a.is) (shrunk_by f a.inside a.last (subst (λ ts. Stands ts (formula_kinds f (period ∷ [])) (formula_spelling in_lines f (passes ∷ []))) a.is s))
+    subst (λ ts. Shrunk ts f) (sym a.is) (shrunk_by f a.inside a.last (subst (λ ts. Stands ts (formula_spelling in_kinds f (period ∷ [])) (formula_spelling in_lines f (passes ∷ []))) a.is s))
 
-asserted_answers : (n : ℕ) (f : Formula) → formula_depth f ≤ n → {tokens : List Token} → Stands tokens (formula_kinds f (period ∷ [])) (formula_spelling in_lines f (passes ∷ [])) → Answers (read_asserted n tokens) f tokens [] []
+asserted_answers : (n : ℕ) (f : Formula) → formula_depth f ≤ n → {tokens : List Token} → Stands tokens (formula_spelling in_kinds f (period ∷ [])) (formula_spelling in_lines f (passes ∷ [])) → Answers (read_asserted n tokens) f tokens [] []
 asserted_answers n f d {tokens} s =
     let a = shrunk f tokens s in
     let b = formula_complete f n d a.inside [] [] a.stands refl in
@@ -193,7 +190,7 @@ asserted_answers n f d {tokens} s =
       shorter = omega (arith, kinds_length b.rest, ap length b.stands.spelled);
     }
 
-pub formula_text_answers : (n : ℕ) (t : FormulaText) → formula_text_depth t ≤ n → {tokens : List Token} → Stands tokens (formula_text_kinds t []) (formula_text_spelling in_lines t []) → Answers (read_formula_text n tokens) t tokens [] []
+pub formula_text_answers : (n : ℕ) (t : FormulaText) → formula_text_depth t ≤ n → {tokens : List Token} → Stands tokens (formula_text_spelling in_kinds t []) (formula_text_spelling in_lines t []) → Answers (read_formula_text n tokens) t tokens [] []
 formula_text_answers n t d {tokens} s =
     let b = begun_of s in
     let line_is : first_line tokens ≡ t.line = b.line in

@@ -9,7 +9,8 @@ use Rattle.spv_tokens.specs.declared.token.Word.TheVariants as word
 use Rattle.spv_tokens.specs.declared.token.Sign.TheVariants as sign
 use Rattle.spv_syntax.specs.declared.names.Name.{Name}
 use Rattle.spv_syntax.specs.Formulas.{Formula, formula, Conclusion, no_conclusion, implies, Relation, relation, RightSide, no_right_side, compared, Simple, simple, MoreTerms, no_more_terms, more_terms, Term, term, MoreFactors, no_more_factors, more_factors, Factor, number, truth, nil, class, place, application, bracketed, negation, MoreFormulas, no_more_formulas, more_formulas, designator, Selectors, no_selectors, selectors, Selector, index, field, content}
-use Rattle.spv_syntax.specs.FormulaKinds.{right_side_kinds, more_terms_kinds, term_kinds, selector_kinds}
+use Rattle.spv_syntax.specs.Members.{in_kinds}
+use Rattle.spv_syntax.specs.FormulaSpelling.{more_terms_spelling, right_side_spelling, selector_spelling, term_spelling}
 use Rattle.spv_syntax.specs.Steps.{Step, begins, passes, first_line}
 use Rattle.spv_reading.specs.Readers.{first, front, after, is, Reader, nothing, behind, operated, items}
 use Rattle.spv_reading.specs.FormulaReaders.{prefix_of, comparison_of, adding_of, multiplying_of, selector_by, read_application, read_named, factor_by, read_term, read_sum, simple_by, read_simple, right_side_by, read_relation, read_conclusion, formula_by, read_inner, read_factor, read_formula}
@@ -72,7 +73,7 @@ module _ (factor : Reader Factor) where
         shorter = omega (arith, a.shorter, c.shorter);
       }
 
-  sum_step : (prefix : _) (line : ℕ) (t : Term) (more : MoreTerms) → Complete term_part continues_term (read_term factor) t → CompleteList more_terms_part continues_simple (items no_more_terms (λ p. more_terms p.0 p.1) (λ rest. operated (adding_of (front rest)) (read_term factor) rest)) more → (tokens : List Token) (spelled : List TokenKind) (steps : List Step) → Stands tokens (term_kinds t (more_terms_kinds more spelled)) (term_part.lined t (more_terms_part.lined more steps)) → continues_simple (first spelled) ≡ false → Answers (read_sum factor line prefix tokens) (simple line prefix t more) tokens spelled steps
+  sum_step : (prefix : _) (line : ℕ) (t : Term) (more : MoreTerms) → Complete term_part continues_term (read_term factor) t → CompleteList more_terms_part continues_simple (items no_more_terms (λ p. more_terms p.0 p.1) (λ rest. operated (adding_of (front rest)) (read_term factor) rest)) more → (tokens : List Token) (spelled : List TokenKind) (steps : List Step) → Stands tokens (term_spelling in_kinds t (more_terms_spelling in_kinds more spelled)) (term_part.lined t (more_terms_part.lined more steps)) → continues_simple (first spelled) ≡ false → Answers (read_sum factor line prefix tokens) (simple line prefix t more) tokens spelled steps
   sum_step prefix line t more g h tokens spelled steps s e =
       let a = g tokens _ _ s (more_terms_ends more spelled e) in
       let c = h (length a.rest) a.rest spelled steps (omega arith) a.stands e in
@@ -106,7 +107,7 @@ module _ (factor : Reader Factor) where
 
   -- ---- relations and formulas
 
-  compared_step : (operator : _) (t : Simple) → Complete simple_part continues_simple (read_simple factor) t → (tokens : List Token) (spelled : List TokenKind) (steps : List Step) → Stands tokens (right_side_kinds (compared operator t) spelled) (right_side_part.lined (compared operator t) steps) → continues_relation (first spelled) ≡ false → Answers (right_side_by factor (comparison_of (front tokens)) tokens) (compared operator t) tokens spelled steps
+  compared_step : (operator : _) (t : Simple) → Complete simple_part continues_simple (read_simple factor) t → (tokens : List Token) (spelled : List TokenKind) (steps : List Step) → Stands tokens (right_side_spelling in_kinds (compared operator t) spelled) (right_side_part.lined (compared operator t) steps) → continues_relation (first spelled) ≡ false → Answers (right_side_by factor (comparison_of (front tokens)) tokens) (compared operator t) tokens spelled steps
   compared_step operator t g tokens spelled steps s e =
       let p = taken_of s in
       let a = g (after tokens) spelled steps p.stands (right_false (is_some (comparison_of (first spelled))) _ e) in
@@ -180,13 +181,13 @@ module _ (inner : Reader Formula) where
   abbrev AllComplete : MoreFormulas → Type 0
   AllComplete more = CompleteList more_formulas_part continues_formulas further_formulas more
 
-  index_step : (line : ℕ) (f : Formula) (more : MoreFormulas) → Complete formula_part continues_formula inner f → AllComplete more → (tokens : List Token) (spelled : List TokenKind) (steps : List Step) → Stands tokens (selector_kinds (index line f more) spelled) (selector_part.lined (index line f more) steps) → AnswersItem (selector_by inner (front tokens) tokens) (index line f more) tokens spelled steps
+  index_step : (line : ℕ) (f : Formula) (more : MoreFormulas) → Complete formula_part continues_formula inner f → AllComplete more → (tokens : List Token) (spelled : List TokenKind) (steps : List Step) → Stands tokens (selector_spelling in_kinds (index line f more) spelled) (selector_part.lined (index line f more) steps) → AnswersItem (selector_by inner (front tokens) tokens) (index line f more) tokens spelled steps
   index_step line f more g h tokens spelled steps s =
       let b = begun_of s in
       let p = taken_of b.stands in
       item_after p.shorter (ap (λ o. selector_by inner o tokens) p.front) (then_answers (g (after tokens) _ _ p.stands (more_formulas_ends more _ refl)) (λ x is_f mid m. then_answers (h (length mid) mid _ _ (omega arith) m refl) (λ xs is_more last q. past_answers _ refl q (λ rest r. done {y = index (first_line tokens) x xs} r (cc (b.line, is_f, is_more))))))
 
-  field_step : (line : ℕ) (x : Name) (tokens : List Token) (spelled : List TokenKind) (steps : List Step) → Stands tokens (selector_kinds (field line x) spelled) (selector_part.lined (field line x) steps) → AnswersItem (selector_by inner (front tokens) tokens) (field line x) tokens spelled steps
+  field_step : (line : ℕ) (x : Name) (tokens : List Token) (spelled : List TokenKind) (steps : List Step) → Stands tokens (selector_spelling in_kinds (field line x) spelled) (selector_part.lined (field line x) steps) → AnswersItem (selector_by inner (front tokens) tokens) (field line x) tokens spelled steps
   field_step line x tokens spelled steps s =
       let b = begun_of s in
       let p = taken_of b.stands in
@@ -198,7 +199,7 @@ module _ (inner : Reader Formula) where
         shorter = omega (arith, p.shorter, a.shorter);
       }
 
-  content_step : (line : ℕ) (tokens : List Token) (spelled : List TokenKind) (steps : List Step) → Stands tokens (selector_kinds (content line) spelled) (selector_part.lined (content line) steps) → AnswersItem (selector_by inner (front tokens) tokens) (content line) tokens spelled steps
+  content_step : (line : ℕ) (tokens : List Token) (spelled : List TokenKind) (steps : List Step) → Stands tokens (selector_spelling in_kinds (content line) spelled) (selector_part.lined (content line) steps) → AnswersItem (selector_by inner (front tokens) tokens) (content line) tokens spelled steps
   content_step line tokens spelled steps s =
       let b = begun_of s in
       let p = taken_of b.stands in
@@ -371,7 +372,7 @@ mutual
       let a = selector_complete x n (omega arith) tokens _ _ s in
       more_complete _ _ _ m l a (λ k h. selectors_complete more n (omega arith) k a.rest spelled steps h a.stands e)
 
-  selector_complete : (x : Selector) (n : ℕ) → selector_depth x ≤ n → (tokens : List Token) (spelled : List TokenKind) (steps : List Step) → Stands tokens (selector_kinds x spelled) (selector_part.lined x steps) → AnswersItem (selector_by (read_inner n) (front tokens) tokens) x tokens spelled steps
+  selector_complete : (x : Selector) (n : ℕ) → selector_depth x ≤ n → (tokens : List Token) (spelled : List TokenKind) (steps : List Step) → Stands tokens (selector_spelling in_kinds x spelled) (selector_part.lined x steps) → AnswersItem (selector_by (read_inner n) (front tokens) tokens) x tokens spelled steps
   selector_complete (index line f more) n d = index_step (read_inner n) line f more (inner_of n f (λ m h. formula_complete f m h) (omega arith)) (more_formulas_complete more n (omega arith))
   selector_complete (field line x) n d = field_step (read_inner n) line x
   selector_complete (content line) n d = content_step (read_inner n) line

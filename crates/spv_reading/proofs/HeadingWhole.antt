@@ -23,9 +23,7 @@ use Rattle.spv_syntax.specs.declared.routines.Start.{Start}
 use Rattle.spv_syntax.specs.declared.routines.Clauses.{Clauses}
 use Rattle.spv_syntax.specs.Formulas.{Formula}
 use Rattle.spv_syntax.specs.Lists.{several}
-use Rattle.spv_syntax.specs.FormulaKinds.{name_kind}
-use Rattle.spv_syntax.specs.TypeKinds.{names_kinds}
-use Rattle.spv_syntax.specs.ProgramKinds.{name_or_class_kinds, group_form_kinds, group_kinds, params_kinds, result_kinds, heading_form_kinds, globals_kinds, initial_kinds, entry_kinds, exit_kinds}
+use Rattle.spv_syntax.specs.FormulaSpelling.{name_kind}
 use Rattle.spv_syntax.specs.Steps.{Step, begins, passes, first_line}
 use Rattle.spv_reading.specs.Readers.{first, front, after, is, name, several_of, optional, ended}
 use Rattle.spv_reading.specs.FormulaReaders.{read_formula}
@@ -38,8 +36,8 @@ use Rattle.spv_reading.proofs.WholeHeads.{never, ended_complete, absent, present
 use Rattle.spv_reading.proofs.FormulaWhole.{formula_complete}
 use Rattle.spv_reading.proofs.TypeWhole.{names_complete}
 use Rattle.spv_reading.proofs.DeclarationWhole.{either_answers}
-use Rattle.spv_syntax.specs.Members.{in_lines}
-use Rattle.spv_syntax.specs.ProgramSpelling.{entry_spelling, exit_spelling, globals_spelling, group_form_spelling, group_spelling, heading_form_spelling, initial_spelling, params_spelling, result_spelling}
+use Rattle.spv_syntax.specs.Members.{in_kinds, in_lines}
+use Rattle.spv_syntax.specs.ProgramSpelling.{entry_spelling, exit_spelling, globals_spelling, group_form_spelling, group_spelling, heading_form_spelling, initial_spelling, params_spelling, result_spelling, name_or_class_spelling}
 use Rattle.spv_syntax.specs.TypeSpelling.{names_spelling}
 
 -- ---- groups
@@ -48,11 +46,11 @@ typed_answers : (x : Name) {tokens : List Token} {spelled : List TokenKind} {ste
 typed_answers x s = past_answers (kind.Sign sign.Colon) refl s (λ mid m. name_complete x m)
 
 -- names and their type
-named_answers : (b : Bool) (xs : Several Name) (t : Name) {tokens : List Token} {spelled : List TokenKind} {steps : List Step} → Stands tokens (names_kinds xs (kind.Sign sign.Colon ∷ name_kind t ∷ spelled)) (names_spelling in_lines xs (passes ∷ begins t.line ∷ passes ∷ steps)) → Answers (read_variables b tokens) (group.Variables b xs t) tokens spelled steps
+named_answers : (b : Bool) (xs : Several Name) (t : Name) {tokens : List Token} {spelled : List TokenKind} {steps : List Step} → Stands tokens (names_spelling in_kinds xs (kind.Sign sign.Colon ∷ name_kind t ∷ spelled)) (names_spelling in_lines xs (passes ∷ begins t.line ∷ passes ∷ steps)) → Answers (read_variables b tokens) (group.Variables b xs t) tokens spelled steps
 named_answers b xs t {tokens} {spelled} {steps} s =
     then_answers (names_complete xs tokens (kind.Sign sign.Colon ∷ name_kind t ∷ spelled) (passes ∷ begins t.line ∷ passes ∷ steps) s refl) (λ ys is_ys mid m. then_answers (typed_answers t m) (λ u is_u rest r. done {y = group.Variables b ys u} r (cc (is_ys, is_u))))
 
-group_answers : (x : GroupForm) {tokens : List Token} {spelled : List TokenKind} {steps : List Step} → Stands tokens (group_form_kinds x spelled) (group_form_spelling in_lines x steps) → is (kind.Sign sign.Comma) (first spelled) ≡ false → Answers (group_on (front tokens) tokens) x tokens spelled steps
+group_answers : (x : GroupForm) {tokens : List Token} {spelled : List TokenKind} {steps : List Step} → Stands tokens (group_form_spelling in_kinds x spelled) (group_form_spelling in_lines x steps) → is (kind.Sign sign.Comma) (first spelled) ≡ false → Answers (group_on (front tokens) tokens) x tokens spelled steps
 group_answers (group.Variables false xs t) {tokens} s e = answers_after (omega arith) (ap (λ o. group_on o tokens) (front_of s)) (named_answers false xs t s)
 group_answers (group.Variables true xs t) {tokens} s e =
     let p = taken_of s in
@@ -78,25 +76,25 @@ all_groups (x ∷ xs) = (group_complete x, all_groups xs)
 abbrev continues_groups : Option TokenKind → Bool
 continues_groups o = is (kind.Sign sign.Semicolon) o || is (kind.Sign sign.Comma) o
 
-groups_answers : (x : Params) {tokens : List Token} {spelled : List TokenKind} {steps : List Step} → Stands tokens (several (kind.Sign sign.Semicolon) group_kinds x.groups (kind.Sign sign.CloseParenthesis ∷ spelled)) (several passes (group_spelling in_lines) x.groups (passes ∷ steps)) → (line : ℕ) → line ≡ x.line → Answers (read_groups line tokens) x tokens spelled steps
+groups_answers : (x : Params) {tokens : List Token} {spelled : List TokenKind} {steps : List Step} → Stands tokens (several (kind.Sign sign.Semicolon) (group_spelling in_kinds) x.groups (kind.Sign sign.CloseParenthesis ∷ spelled)) (several passes (group_spelling in_lines) x.groups (passes ∷ steps)) → (line : ℕ) → line ≡ x.line → Answers (read_groups line tokens) x tokens spelled steps
 groups_answers x {tokens} {spelled} {steps} s line e =
     then_answers (ended_complete (kind.Sign sign.CloseParenthesis) (several_part (kind.Sign sign.Semicolon) group_part) continues_groups (several_of (kind.Sign sign.Semicolon) read_group) x.groups refl refl (several_complete (kind.Sign sign.Semicolon) group_part (is (kind.Sign sign.Comma)) read_group refl refl x.groups (group_complete x.groups.first) (all_groups x.groups.more)) tokens spelled steps s refl) (λ gs is_gs rest r. done {y = record { line = line; groups = gs }} r (λ i. record { line = e i; groups = is_gs i }))
 
-params_answers : (x : Option Params) {tokens : List Token} {spelled : List TokenKind} {steps : List Step} → Stands tokens (params_kinds x spelled) (params_spelling in_lines x steps) → is (kind.Sign sign.OpenParenthesis) (first spelled) ≡ false → Answers (read_params tokens) x tokens spelled steps
+params_answers : (x : Option Params) {tokens : List Token} {spelled : List TokenKind} {steps : List Step} → Stands tokens (params_spelling in_kinds x spelled) (params_spelling in_lines x steps) → is (kind.Sign sign.OpenParenthesis) (first spelled) ≡ false → Answers (read_params tokens) x tokens spelled steps
 params_answers None {tokens} s e = absent (kind.Sign sign.OpenParenthesis) (read_groups (first_line tokens)) s e
 params_answers (Some x) {tokens} s e =
     let b = begun_of s in
     present (kind.Sign sign.OpenParenthesis) (read_groups (first_line tokens)) refl b.stands (λ mid m. groups_answers x m (first_line tokens) b.line)
 
-result_answers : (x : Option Name) {tokens : List Token} {spelled : List TokenKind} {steps : List Step} → Stands tokens (result_kinds x spelled) (result_spelling in_lines x steps) → is (kind.Sign sign.Colon) (first spelled) ≡ false → Answers (read_result tokens) x tokens spelled steps
+result_answers : (x : Option Name) {tokens : List Token} {spelled : List TokenKind} {steps : List Step} → Stands tokens (result_spelling in_kinds x spelled) (result_spelling in_lines x steps) → is (kind.Sign sign.Colon) (first spelled) ≡ false → Answers (read_result tokens) x tokens spelled steps
 result_answers None s e = absent (kind.Sign sign.Colon) name s e
 result_answers (Some x) s e = present (kind.Sign sign.Colon) name refl s (λ mid m. name_complete x m)
 
-result_ends : (x : Option Name) (spelled : List TokenKind) → is (kind.Sign sign.OpenParenthesis) (first spelled) ≡ false → is (kind.Sign sign.OpenParenthesis) (first (result_kinds x spelled)) ≡ false
+result_ends : (x : Option Name) (spelled : List TokenKind) → is (kind.Sign sign.OpenParenthesis) (first spelled) ≡ false → is (kind.Sign sign.OpenParenthesis) (first (result_spelling in_kinds x spelled)) ≡ false
 result_ends None spelled e = e
 result_ends (Some x) spelled e = refl
 
-heading_answers : (x : HeadingForm) {tokens : List Token} {spelled : List TokenKind} {steps : List Step} → Stands tokens (heading_form_kinds x spelled) (heading_form_spelling in_lines x steps) → continues_heading (first spelled) ≡ false → Answers (heading_on (front tokens) tokens) x tokens spelled steps
+heading_answers : (x : HeadingForm) {tokens : List Token} {spelled : List TokenKind} {steps : List Step} → Stands tokens (heading_form_spelling in_kinds x spelled) (heading_form_spelling in_lines x steps) → continues_heading (first spelled) ≡ false → Answers (heading_on (front tokens) tokens) x tokens spelled steps
 heading_answers (heading.Procedure x p) {tokens} {spelled} s e =
     let t = taken_of s in
     answers_after (omega (arith, t.shorter)) (ap (λ o. heading_on o tokens) t.front) (then_answers (name_complete x t.stands) (λ y is_y mid m. then_answers (params_answers p m (left_false (is (kind.Sign sign.OpenParenthesis) (first spelled)) _ e)) (λ q is_q rest r. done {y = heading.Procedure y q} r (cc (is_y, is_q)))))
@@ -126,7 +124,7 @@ continues_items o = is (kind.Sign sign.Comma) o || false
 items_complete : (xs : Several Item) → Complete (several_part (kind.Sign sign.Comma) item_part) continues_items read_items xs
 items_complete xs = several_complete (kind.Sign sign.Comma) item_part never read_item refl refl xs (item_complete xs.first) (all_items_complete xs.more)
 
-item_no_var : (x : NameOrClass) (spelled : List TokenKind) → is (kind.Word word.Var) (first (name_or_class_kinds x spelled)) ≡ false
+item_no_var : (x : NameOrClass) (spelled : List TokenKind) → is (kind.Word word.Var) (first (name_or_class_spelling in_kinds x spelled)) ≡ false
 item_no_var (either.Name x) spelled = refl
 item_no_var (either.Class x) spelled = refl
 
@@ -146,7 +144,7 @@ all_global_groups : (xs : List GlobalGroup) → Each (Complete global_group_part
 all_global_groups [] = tt
 all_global_groups (x ∷ xs) = (global_group_complete x, all_global_groups xs)
 
-globals_answers : (x : Option (Several GlobalGroup)) {tokens : List Token} {spelled : List TokenKind} {steps : List Step} → Stands tokens (globals_kinds x spelled) (globals_spelling in_lines x steps) → is (kind.Word word.Global) (first spelled) ≡ false → Answers (optional (kind.Word word.Global) read_global_groups tokens) x tokens spelled steps
+globals_answers : (x : Option (Several GlobalGroup)) {tokens : List Token} {spelled : List TokenKind} {steps : List Step} → Stands tokens (globals_spelling in_kinds x spelled) (globals_spelling in_lines x steps) → is (kind.Word word.Global) (first spelled) ≡ false → Answers (optional (kind.Word word.Global) read_global_groups tokens) x tokens spelled steps
 globals_answers None s e = absent (kind.Word word.Global) read_global_groups s e
 globals_answers (Some gs) {tokens} {spelled} {steps} s e =
     present (kind.Word word.Global) read_global_groups refl s (λ mid m. past_answers (kind.Sign sign.OpenParenthesis) refl m (λ last q. ended_complete (kind.Sign sign.Semicolon) (ended_part (kind.Sign sign.CloseParenthesis) (several_part (kind.Sign sign.Semicolon) global_group_part)) never (ended (kind.Sign sign.CloseParenthesis) (several_of (kind.Sign sign.Semicolon) read_global_group)) gs refl refl (ended_complete (kind.Sign sign.CloseParenthesis) (several_part (kind.Sign sign.Semicolon) global_group_part) (λ o. is (kind.Sign sign.Semicolon) o || continues_items o) (several_of (kind.Sign sign.Semicolon) read_global_group) gs refl refl (several_complete (kind.Sign sign.Semicolon) global_group_part continues_items read_global_group refl refl gs (global_group_complete gs.first) (all_global_groups gs.more))) last spelled steps q refl))
@@ -160,30 +158,30 @@ all_starts : (xs : List Start) → Each (Complete start_part never read_start) x
 all_starts [] = tt
 all_starts (x ∷ xs) = (start_complete x, all_starts xs)
 
-initial_answers : (x : Option (Several Start)) {tokens : List Token} {spelled : List TokenKind} {steps : List Step} → Stands tokens (initial_kinds x spelled) (initial_spelling in_lines x steps) → is (kind.Word word.Initial) (first spelled) ≡ false → Answers (optional (kind.Word word.Initial) (ended (kind.Sign sign.Semicolon) (several_of (kind.Sign sign.Comma) read_start)) tokens) x tokens spelled steps
+initial_answers : (x : Option (Several Start)) {tokens : List Token} {spelled : List TokenKind} {steps : List Step} → Stands tokens (initial_spelling in_kinds x spelled) (initial_spelling in_lines x steps) → is (kind.Word word.Initial) (first spelled) ≡ false → Answers (optional (kind.Word word.Initial) (ended (kind.Sign sign.Semicolon) (several_of (kind.Sign sign.Comma) read_start)) tokens) x tokens spelled steps
 initial_answers None s e = absent (kind.Word word.Initial) (ended (kind.Sign sign.Semicolon) (several_of (kind.Sign sign.Comma) read_start)) s e
 initial_answers (Some ss) {tokens} {spelled} {steps} s e =
     present (kind.Word word.Initial) _ refl s (λ mid m. ended_complete (kind.Sign sign.Semicolon) (several_part (kind.Sign sign.Comma) start_part) (λ o. is (kind.Sign sign.Comma) o || false) (several_of (kind.Sign sign.Comma) read_start) ss refl refl (several_complete (kind.Sign sign.Comma) start_part never read_start refl refl ss (start_complete ss.first) (all_starts ss.more)) mid spelled steps m refl)
 
-pub entry_answers : (n : ℕ) (x : Option Formula) → condition_depth x ≤ n → {tokens : List Token} {spelled : List TokenKind} {steps : List Step} → Stands tokens (entry_kinds x spelled) (entry_spelling in_lines x steps) → is (kind.Word word.Entry) (first spelled) ≡ false → Answers (read_condition n (kind.Word word.Entry) tokens) x tokens spelled steps
+pub entry_answers : (n : ℕ) (x : Option Formula) → condition_depth x ≤ n → {tokens : List Token} {spelled : List TokenKind} {steps : List Step} → Stands tokens (entry_spelling in_kinds x spelled) (entry_spelling in_lines x steps) → is (kind.Word word.Entry) (first spelled) ≡ false → Answers (read_condition n (kind.Word word.Entry) tokens) x tokens spelled steps
 entry_answers n None d s e = absent (kind.Word word.Entry) (ended (kind.Sign sign.Semicolon) (read_formula n)) s e
 entry_answers n (Some f) d {tokens} {spelled} {steps} s e =
     present (kind.Word word.Entry) _ refl s (λ mid m. ended_complete (kind.Sign sign.Semicolon) formula_part continues_formula (read_formula n) f refl refl (formula_complete f n d) mid spelled steps m refl)
 
-pub exit_answers : (n : ℕ) (x : Option Formula) → condition_depth x ≤ n → {tokens : List Token} {spelled : List TokenKind} {steps : List Step} → Stands tokens (exit_kinds x spelled) (exit_spelling in_lines x steps) → is (kind.Word word.Exit) (first spelled) ≡ false → Answers (read_condition n (kind.Word word.Exit) tokens) x tokens spelled steps
+pub exit_answers : (n : ℕ) (x : Option Formula) → condition_depth x ≤ n → {tokens : List Token} {spelled : List TokenKind} {steps : List Step} → Stands tokens (exit_spelling in_kinds x spelled) (exit_spelling in_lines x steps) → is (kind.Word word.Exit) (first spelled) ≡ false → Answers (read_condition n (kind.Word word.Exit) tokens) x tokens spelled steps
 exit_answers n None d s e = absent (kind.Word word.Exit) (ended (kind.Sign sign.Semicolon) (read_formula n)) s e
 exit_answers n (Some f) d {tokens} {spelled} {steps} s e =
     present (kind.Word word.Exit) _ refl s (λ mid m. ended_complete (kind.Sign sign.Semicolon) formula_part continues_formula (read_formula n) f refl refl (formula_complete f n d) mid spelled steps m refl)
 
-pub exit_ends : (p : Option TokenKind → Bool) (x : Option Formula) (spelled : List TokenKind) → p (Some (kind.Word word.Exit)) ≡ false → p (first spelled) ≡ false → p (first (exit_kinds x spelled)) ≡ false
+pub exit_ends : (p : Option TokenKind → Bool) (x : Option Formula) (spelled : List TokenKind) → p (Some (kind.Word word.Exit)) ≡ false → p (first spelled) ≡ false → p (first (exit_spelling in_kinds x spelled)) ≡ false
 exit_ends p None spelled e f = f
 exit_ends p (Some x) spelled e f = e
 
-pub entry_ends : (p : Option TokenKind → Bool) (x : Option Formula) (spelled : List TokenKind) → p (Some (kind.Word word.Entry)) ≡ false → p (first spelled) ≡ false → p (first (entry_kinds x spelled)) ≡ false
+pub entry_ends : (p : Option TokenKind → Bool) (x : Option Formula) (spelled : List TokenKind) → p (Some (kind.Word word.Entry)) ≡ false → p (first spelled) ≡ false → p (first (entry_spelling in_kinds x spelled)) ≡ false
 entry_ends p None spelled e f = f
 entry_ends p (Some x) spelled e f = e
 
-initial_ends : (p : Option TokenKind → Bool) (x : Option (Several Start)) (spelled : List TokenKind) → p (Some (kind.Word word.Initial)) ≡ false → p (first spelled) ≡ false → p (first (initial_kinds x spelled)) ≡ false
+initial_ends : (p : Option TokenKind → Bool) (x : Option (Several Start)) (spelled : List TokenKind) → p (Some (kind.Word word.Initial)) ≡ false → p (first spelled) ≡ false → p (first (initial_spelling in_kinds x spelled)) ≡ false
 initial_ends p None spelled e f = f
 initial_ends p (Some x) spelled e f = e
 

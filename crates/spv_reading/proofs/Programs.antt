@@ -2,7 +2,8 @@
 use Rattle.std.proofs.Common.{◌≡◌, ℕ, ◌+◌, ◌≤◌, true, List, [], ◌∷◌, Option, Some, None, length, refl, sym, ap, ◌∙◌, arith}
 use Rattle.spv_tokens.specs.declared.token.Token.{Token}
 use Rattle.spv_tokens.specs.declared.token.TokenKind.{TokenKind}
-use Rattle.spv_syntax.specs.ProgramKinds.{program_kinds}
+use Rattle.spv_syntax.specs.Members.{in_kinds}
+use Rattle.spv_syntax.specs.ProgramSpelling.{program_spelling}
 use Rattle.spv_syntax.specs.Steps.{lines_agree}
 use Rattle.spv_syntax.specs.Reads.{kinds, Reads}
 use Rattle.spv_reading.specs.Readers.{Reader}
@@ -53,7 +54,7 @@ pub tree_is_read : TreeIsRead read_program program_depth Reads
 tree_is_read n tokens p d r = whole_answer (program_complete p n r.formed d tokens [] [] (record { spelled = r.spelled; lined = r.lined }) refl)
 
 pub enough_levels : EnoughLevelsForTrees read_program Reads
-enough_levels = enough_by read_program program_depth program_kinds Reads tree_is_read (λ tokens p r. r.spelled) program_length
+enough_levels = enough_by read_program program_depth (program_spelling in_kinds) Reads tree_is_read (λ tokens p r. r.spelled) program_length
 
 pub one_tree : OneTree Reads
-one_tree = one_by read_program program_depth program_kinds Reads tree_is_read (λ tokens p r. r.spelled) program_length
+one_tree = one_by read_program program_depth (program_spelling in_kinds) Reads tree_is_read (λ tokens p r. r.spelled) program_length

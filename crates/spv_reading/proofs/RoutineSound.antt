@@ -16,10 +16,6 @@ use Rattle.spv_syntax.specs.declared.routines.RoutineMark.{RoutineMark}
 use Rattle.spv_syntax.specs.declared.routines.RoutineMark.TheVariants.{Announced, Begins, Ends}
 use Rattle.spv_syntax.specs.declared.programs.Program.{Program}
 use Rattle.spv_syntax.specs.Lists.{several, headed}
-use Rattle.spv_syntax.specs.FormulaKinds.{name_kind}
-use Rattle.spv_syntax.specs.TypeKinds.{names_kinds}
-use Rattle.spv_syntax.specs.StatementKinds.{block_kinds}
-use Rattle.spv_syntax.specs.ProgramKinds.{const_kinds, group_form_kinds, result_kinds, heading_form_kinds, heading_kinds, item_kinds, globals_kinds, initial_kinds, entry_kinds, exit_kinds, clauses_kinds, routine_mark_kinds, routines_kinds, files_kinds, declarations_kinds}
 use Rattle.spv_syntax.specs.Steps.{Step, begins, passes, first_line, lines_agree}
 use Rattle.spv_syntax.specs.Reads.{kinds, block_ok, routines_ok, well_formed}
 use Rattle.spv_reading.specs.Readers.{front, after, is, Reader, and_then, past, name, several_of, optional, ended}
@@ -35,9 +31,9 @@ use Rattle.spv_reading.proofs.FormulaSound.{formula_sound}
 use Rattle.spv_reading.proofs.StatementSound.{block_is_sound}
 use Rattle.spv_reading.proofs.TypeSound.{names_sound}
 use Rattle.spv_reading.proofs.DeclarationSound.{const_sound, vars_sound, either_sound, declarations_sound}
-use Rattle.spv_syntax.specs.Members.{in_lines}
-use Rattle.spv_syntax.specs.FormulaSpelling.{formula_spelling}
-use Rattle.spv_syntax.specs.ProgramSpelling.{clauses_spelling, declarations_spelling, entry_spelling, exit_spelling, files_spelling, global_group_spelling, group_form_spelling, group_spelling, heading_form_spelling, initial_spelling, item_spelling, locals_spelling, params_spelling, result_spelling, routines_spelling, start_spelling, vars_spelling}
+use Rattle.spv_syntax.specs.Members.{in_kinds, in_lines}
+use Rattle.spv_syntax.specs.FormulaSpelling.{formula_spelling, name_kind}
+use Rattle.spv_syntax.specs.ProgramSpelling.{clauses_spelling, declarations_spelling, entry_spelling, exit_spelling, files_spelling, global_group_spelling, group_form_spelling, group_spelling, heading_form_spelling, initial_spelling, item_spelling, locals_spelling, params_spelling, result_spelling, routines_spelling, start_spelling, vars_spelling, const_spelling, globals_spelling, heading_spelling, routine_mark_spelling}
 use Rattle.spv_syntax.specs.StatementSpelling.{block_spelling}
 use Rattle.spv_syntax.specs.TypeSpelling.{names_spelling}
 
@@ -52,7 +48,7 @@ typed_sound tokens =
     on_past (kind.Sign sign.Colon) tokens (λ mid p. on_more (name_sound mid) (λ x rest a. join p a))
 
 abbrev GroupAt : List Token → GroupForm → List Token → Type 0
-GroupAt tokens x rest = Inside group_form_kinds (group_form_spelling in_lines) tokens x rest
+GroupAt tokens x rest = Inside (group_form_spelling in_kinds) (group_form_spelling in_lines) tokens x rest
 
 plain_group : (tokens : List Token) → On (read_variables false tokens) (GroupAt tokens)
 plain_group tokens =
@@ -84,12 +80,12 @@ params_sound : (tokens : List Token) → On (read_params tokens) (BeginsWith par
 params_sound tokens =
     on_optional (kind.Sign sign.OpenParenthesis) (read_groups (first_line tokens)) tokens (BeginsWith params_part tokens) (record { spelled = refl; lined = λ steps. refl }) (λ mid p. on_then (ended_sound (kind.Sign sign.CloseParenthesis) (several_part (kind.Sign sign.Semicolon) group_part) (several_of (kind.Sign sign.Semicolon) read_group) mid (several_sound (kind.Sign sign.Semicolon) group_part read_group group_sound mid)) (λ gs rest a. on_some _ (record { line = first_line tokens; groups = gs }) rest (started (join p a))))
 
-result_sound : (tokens : List Token) → On (read_result tokens) (Inside result_kinds (result_spelling in_lines) tokens)
+result_sound : (tokens : List Token) → On (read_result tokens) (Inside (result_spelling in_kinds) (result_spelling in_lines) tokens)
 result_sound tokens =
-    on_optional (kind.Sign sign.Colon) name tokens (Inside result_kinds (result_spelling in_lines) tokens) (record { spelled = refl; lined = λ steps. refl }) (λ mid p. on_more (name_sound mid) (λ x rest a. join p a))
+    on_optional (kind.Sign sign.Colon) name tokens (Inside (result_spelling in_kinds) (result_spelling in_lines) tokens) (record { spelled = refl; lined = λ steps. refl }) (λ mid p. on_more (name_sound mid) (λ x rest a. join p a))
 
 abbrev HeadingAt : List Token → HeadingForm → List Token → Type 0
-HeadingAt tokens x rest = Inside heading_form_kinds (heading_form_spelling in_lines) tokens x rest
+HeadingAt tokens x rest = Inside (heading_form_spelling in_kinds) (heading_form_spelling in_lines) tokens x rest
 
 procedure_sound : (tokens mid : List Token) → Passed (kind.Word word.Procedure) tokens mid → On (and_then (name mid) (λ x last. and_then (read_params last) (λ p rest. Some (heading.Procedure x p, rest)))) (HeadingAt tokens)
 procedure_sound tokens mid p =

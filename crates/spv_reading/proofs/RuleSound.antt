@@ -7,9 +7,7 @@ use Rattle.spv_tokens.specs.declared.token.Word.TheVariants as word
 use Rattle.spv_tokens.specs.declared.token.Sign.TheVariants as sign
 use Rattle.spv_syntax.specs.declared.rules.RuleForm.TheVariants.{Replace, Infer}
 use Rattle.spv_syntax.specs.Lists.{each, headed}
-use Rattle.spv_syntax.specs.FormulaKinds.{formula_kinds}
-use Rattle.spv_syntax.specs.TypeKinds.{names_kinds}
-use Rattle.spv_syntax.specs.RuleKinds.{rule_vars_kinds}
+use Rattle.spv_syntax.specs.TypeSpelling.{names_spelling}
 use Rattle.spv_syntax.specs.Steps.{passes, first_line}
 use Rattle.spv_reading.specs.Readers.{front}
 use Rattle.spv_reading.specs.FormulaReaders.{read_formula}
@@ -22,10 +20,10 @@ use Rattle.spv_reading.proofs.Sound.{On, on_none, on_some, on_then, on_past, on_
 use Rattle.spv_reading.proofs.FormulaSound.{formula_sound}
 use Rattle.spv_reading.proofs.TypeSound.{names_sound}
 use Rattle.spv_reading.proofs.DeclarationSound.{sort_sound}
-use Rattle.spv_syntax.specs.Members.{in_lines}
+use Rattle.spv_syntax.specs.Members.{in_kinds, in_lines}
 use Rattle.spv_syntax.specs.FormulaSpelling.{formula_spelling}
 use Rattle.spv_syntax.specs.ProgramSpelling.{sort_spelling}
-use Rattle.spv_syntax.specs.RuleSpelling.{premise_spelling, rule_spelling}
+use Rattle.spv_syntax.specs.RuleSpelling.{premise_spelling, rule_spelling, rule_vars_spelling}
 
 rule_vars_sound : (tokens : List Token) → On (read_rule_vars tokens) (BeginsWith rule_vars_part tokens)
 rule_vars_sound tokens =

@@ -13,9 +13,6 @@ use Rattle.spv_syntax.specs.declared.rules.RuleTree.{RuleTree}
 use Rattle.spv_syntax.specs.declared.formula_texts.FormulaText.{FormulaText}
 use Rattle.spv_syntax.specs.Formulas.{Formula}
 use Rattle.spv_syntax.specs.Lists.{each, headed}
-use Rattle.spv_syntax.specs.FormulaKinds.{formula_kinds}
-use Rattle.spv_syntax.specs.ProgramKinds.{sort_kinds}
-use Rattle.spv_syntax.specs.RuleKinds.{rule_vars_kinds, premise_kinds, rule_form_kinds, rule_kinds, rule_tree_kinds, formula_text_kinds}
 use Rattle.spv_syntax.specs.Steps.{Step, passes, first_line}
 use Rattle.spv_reading.specs.Readers.{first, after, is, same_kind, headed_by}
 use Rattle.spv_reading.specs.FormulaReaders.{read_formula}
@@ -32,44 +29,44 @@ use Rattle.spv_reading.proofs.FormulaWhole.{formula_complete}
 use Rattle.spv_reading.proofs.TypeWhole.{names_complete, names_length}
 use Rattle.spv_reading.proofs.DeclarationWhole.{sort_complete, either_length}
 use Rattle.spv_reading.proofs.RoutineLengths.{declarations_length}
-use Rattle.spv_syntax.specs.Members.{in_lines}
+use Rattle.spv_syntax.specs.Members.{in_kinds, in_lines}
 use Rattle.spv_syntax.specs.FormulaSpelling.{formula_spelling}
 use Rattle.spv_syntax.specs.ProgramSpelling.{sort_spelling}
-use Rattle.spv_syntax.specs.RuleSpelling.{premise_spelling, rule_form_spelling, rule_spelling, rule_tree_spelling}
+use Rattle.spv_syntax.specs.RuleSpelling.{premise_spelling, rule_form_spelling, rule_spelling, rule_tree_spelling, formula_text_spelling, rule_vars_spelling}
 
 -- ---- lengths
 
-rule_vars_length : (x : RuleVars) (rest : List TokenKind) → suc (length rest) ≤ length (rule_vars_kinds x rest)
-rule_vars_length x rest = omega (arith, names_length x.names (kind.Sign sign.Colon ∷ sort_kinds x.sort (kind.Sign sign.Semicolon ∷ rest)), either_length x.sort.form (kind.Sign sign.Semicolon ∷ rest))
+rule_vars_length : (x : RuleVars) (rest : List TokenKind) → suc (length rest) ≤ length (rule_vars_spelling in_kinds x rest)
+rule_vars_length x rest = omega (arith, names_length x.names (kind.Sign sign.Colon ∷ sort_spelling in_kinds x.sort (kind.Sign sign.Semicolon ∷ rest)), either_length x.sort.form (kind.Sign sign.Semicolon ∷ rest))
 
-premise_length : (k : TokenKind) (x : Option Formula) (rest : List TokenKind) → condition_depth x + length rest ≤ length (premise_kinds k x rest)
+premise_length : (k : TokenKind) (x : Option Formula) (rest : List TokenKind) → condition_depth x + length rest ≤ length (premise_spelling in_kinds k x rest)
 premise_length k None rest = omega arith
 premise_length k (Some f) rest = omega (arith, formula_length f rest)
 
-rule_form_length : (x : RuleForm) (rest : List TokenKind) → suc (rule_form_depth x + length rest) ≤ length (rule_form_kinds x rest)
+rule_form_length : (x : RuleForm) (rest : List TokenKind) → suc (rule_form_depth x + length rest) ≤ length (rule_form_spelling in_kinds x rest)
 rule_form_length (Replace f g h) rest =
-    let limit = premise_kinds (kind.Word word.Where) h rest in
-    omega (arith, formula_length f (kind.Word word.By ∷ formula_kinds g limit), formula_length g limit, premise_length (kind.Word word.Where) h rest)
-rule_form_length (Infer f h) rest = omega (arith, formula_length f (premise_kinds (kind.Word word.From) h rest), premise_length (kind.Word word.From) h rest)
+    let limit = premise_spelling in_kinds (kind.Word word.Where) h rest in
+    omega (arith, formula_length f (kind.Word word.By ∷ formula_spelling in_kinds g limit), formula_length g limit, premise_length (kind.Word word.Where) h rest)
+rule_form_length (Infer f h) rest = omega (arith, formula_length f (premise_spelling in_kinds (kind.Word word.From) h rest), premise_length (kind.Word word.From) h rest)
 
-rules_length : (xs : List Rule) (rest : List TokenKind) → rules_depth xs + length rest ≤ length (each rule_kinds xs rest)
+rules_length : (xs : List Rule) (rest : List TokenKind) → rules_depth xs + length rest ≤ length (each (rule_spelling in_kinds) xs rest)
 rules_length [] rest = omega arith
-rules_length (x ∷ xs) rest = omega (arith, rule_form_length x.form (kind.Sign sign.Semicolon ∷ each rule_kinds xs rest), rules_length xs rest)
+rules_length (x ∷ xs) rest = omega (arith, rule_form_length x.form (kind.Sign sign.Semicolon ∷ each (rule_spelling in_kinds) xs rest), rules_length xs rest)
 
-each_vars : (xs : List RuleVars) (rest : List TokenKind) → length rest ≤ length (each rule_vars_kinds xs rest)
+each_vars : (xs : List RuleVars) (rest : List TokenKind) → length rest ≤ length (each (rule_vars_spelling in_kinds) xs rest)
 each_vars [] rest = omega arith
-each_vars (x ∷ xs) rest = omega (arith, rule_vars_length x (each rule_vars_kinds xs rest), each_vars xs rest)
+each_vars (x ∷ xs) rest = omega (arith, rule_vars_length x (each (rule_vars_spelling in_kinds) xs rest), each_vars xs rest)
 
-variables_length : (xs : List RuleVars) (rest : List TokenKind) → length rest ≤ length (headed (kind.Word word.Var) rule_vars_kinds xs rest)
+variables_length : (xs : List RuleVars) (rest : List TokenKind) → length rest ≤ length (headed (kind.Word word.Var) (rule_vars_spelling in_kinds) xs rest)
 variables_length [] rest = omega arith
-variables_length (x ∷ xs) rest = omega (arith, rule_vars_length x (each rule_vars_kinds xs rest), each_vars xs rest)
+variables_length (x ∷ xs) rest = omega (arith, rule_vars_length x (each (rule_vars_spelling in_kinds) xs rest), each_vars xs rest)
 
-pub rule_tree_length : (t : RuleTree) (rest : List TokenKind) → rule_tree_depth t + length rest ≤ length (rule_tree_kinds t rest)
-rule_tree_length t rest = omega (arith, variables_length t.variables (each rule_kinds t.rules rest), rules_length t.rules rest)
+pub rule_tree_length : (t : RuleTree) (rest : List TokenKind) → rule_tree_depth t + length rest ≤ length (rule_tree_spelling in_kinds t rest)
+rule_tree_length t rest = omega (arith, variables_length t.variables (each (rule_spelling in_kinds) t.rules rest), rules_length t.rules rest)
 
-pub formula_text_length : (t : FormulaText) (rest : List TokenKind) → formula_text_depth t + length rest ≤ length (formula_text_kinds t rest)
+pub formula_text_length : (t : FormulaText) (rest : List TokenKind) → formula_text_depth t + length rest ≤ length (formula_text_spelling in_kinds t rest)
 formula_text_length t rest =
-    let asserted = kind.Word word.Assert ∷ formula_kinds t.formula (kind.Sign sign.Period ∷ rest) in
+    let asserted = kind.Word word.Assert ∷ formula_spelling in_kinds t.formula (kind.Sign sign.Period ∷ rest) in
     omega (arith, declarations_length t.declarations asserted, formula_length t.formula (kind.Sign sign.Period ∷ rest))
 
 -- ---- variables
@@ -77,7 +74,7 @@ formula_text_length t rest =
 rule_vars_complete : (x : RuleVars) → Complete rule_vars_part never read_rule_vars x
 rule_vars_complete x tokens spelled steps s e =
     let b = begun_of s in
-    then_answers (names_complete x.names tokens (kind.Sign sign.Colon ∷ sort_kinds x.sort (kind.Sign sign.Semicolon ∷ spelled)) (passes ∷ (sort_spelling in_lines) x.sort (passes ∷ steps)) b.stands refl) (λ xs is_xs mid m. past_answers (kind.Sign sign.Colon) refl m (λ last q. then_answers (ended_complete (kind.Sign sign.Semicolon) sort_part never read_sort x.sort refl refl (sort_complete x.sort) last spelled steps q refl) (λ v is_v rest r. done {y = record { line = first_line tokens; names = xs; sort = v }} r (λ i. record { line = b.line i; names = is_xs i; sort = is_v i }))))
+    then_answers (names_complete x.names tokens (kind.Sign sign.Colon ∷ sort_spelling in_kinds x.sort (kind.Sign sign.Semicolon ∷ spelled)) (passes ∷ (sort_spelling in_lines) x.sort (passes ∷ steps)) b.stands refl) (λ xs is_xs mid m. past_answers (kind.Sign sign.Colon) refl m (λ last q. then_answers (ended_complete (kind.Sign sign.Semicolon) sort_part never read_sort x.sort refl refl (sort_complete x.sort) last spelled steps q refl) (λ v is_v rest r. done {y = record { line = first_line tokens; names = xs; sort = v }} r (λ i. record { line = b.line i; names = is_xs i; sort = is_v i }))))
 
 all_rule_vars : (xs : List RuleVars) → Each (Complete rule_vars_part never read_rule_vars) xs
 all_rule_vars [] = tt
@@ -88,25 +85,25 @@ variables_complete xs = headed_complete rule_vars_part begins_name read_rule_var
 
 -- ---- rules
 
-premise_answers : (n : ℕ) (k : TokenKind) → same_kind k k ≡ true → (x : Option Formula) → condition_depth x ≤ n → {tokens : List Token} {spelled : List TokenKind} {steps : List Step} → Stands tokens (premise_kinds k x spelled) (premise_spelling in_lines k x steps) → is k (first spelled) ≡ false → continues_formula (first spelled) ≡ false → Answers (read_premise n k tokens) x tokens spelled steps
+premise_answers : (n : ℕ) (k : TokenKind) → same_kind k k ≡ true → (x : Option Formula) → condition_depth x ≤ n → {tokens : List Token} {spelled : List TokenKind} {steps : List Step} → Stands tokens (premise_spelling in_kinds k x spelled) (premise_spelling in_lines k x steps) → is k (first spelled) ≡ false → continues_formula (first spelled) ≡ false → Answers (read_premise n k tokens) x tokens spelled steps
 premise_answers n k same None d s e g = absent k (read_formula n) s e
 premise_answers n k same (Some f) d {tokens} {spelled} {steps} s e g = present k (read_formula n) same s (λ mid m. formula_complete f n d mid spelled steps m g)
 
 -- neither this word nor ";" goes on with a formula
-premise_ends : (k : TokenKind) (x : Option Formula) (spelled : List TokenKind) → continues_formula (Some k) ≡ false → continues_formula (first (premise_kinds k x (kind.Sign sign.Semicolon ∷ spelled))) ≡ false
+premise_ends : (k : TokenKind) (x : Option Formula) (spelled : List TokenKind) → continues_formula (Some k) ≡ false → continues_formula (first (premise_spelling in_kinds k x (kind.Sign sign.Semicolon ∷ spelled))) ≡ false
 premise_ends k None spelled e = refl
 premise_ends k (Some f) spelled e = e
 
 -- a rule up to its ";"
-rule_form_answers : (n : ℕ) (x : RuleForm) → rule_form_depth x ≤ n → {tokens : List Token} {spelled : List TokenKind} {steps : List Step} → Stands tokens (rule_form_kinds x (kind.Sign sign.Semicolon ∷ spelled)) (rule_form_spelling in_lines x (passes ∷ steps)) → Answers (read_rule_form n tokens) x tokens (kind.Sign sign.Semicolon ∷ spelled) (passes ∷ steps)
+rule_form_answers : (n : ℕ) (x : RuleForm) → rule_form_depth x ≤ n → {tokens : List Token} {spelled : List TokenKind} {steps : List Step} → Stands tokens (rule_form_spelling in_kinds x (kind.Sign sign.Semicolon ∷ spelled)) (rule_form_spelling in_lines x (passes ∷ steps)) → Answers (read_rule_form n tokens) x tokens (kind.Sign sign.Semicolon ∷ spelled) (passes ∷ steps)
 rule_form_answers n (Replace f g h) d {tokens} {spelled} {steps} s =
     let p = taken_of s in
-    let limit = premise_kinds (kind.Word word.Where) h (kind.Sign sign.Semicolon ∷ spelled) in
+    let limit = premise_spelling in_kinds (kind.Word word.Where) h (kind.Sign sign.Semicolon ∷ spelled) in
     let lines = premise_spelling in_lines (kind.Word word.Where) h (passes ∷ steps) in
-    answers_after (omega (arith, p.shorter)) (ap (λ o. rule_on n o tokens) p.front) (then_answers (formula_complete f n (omega arith) (after tokens) (kind.Word word.By ∷ formula_kinds g limit) (passes ∷ (formula_spelling in_lines) g lines) p.stands refl) (λ x is_x mid m. past_answers (kind.Word word.By) refl m (λ last q. then_answers (formula_complete g n (omega arith) last limit lines q (premise_ends (kind.Word word.Where) h spelled refl)) (λ y is_y next v. then_answers (premise_answers n (kind.Word word.Where) refl h (omega arith) v refl refl) (λ z is_z rest r. done {y = Replace x y z} r (cc (is_x, is_y, is_z)))))))
+    answers_after (omega (arith, p.shorter)) (ap (λ o. rule_on n o tokens) p.front) (then_answers (formula_complete f n (omega arith) (after tokens) (kind.Word word.By ∷ formula_spelling in_kinds g limit) (passes ∷ (formula_spelling in_lines) g lines) p.stands refl) (λ x is_x mid m. past_answers (kind.Word word.By) refl m (λ last q. then_answers (formula_complete g n (omega arith) last limit lines q (premise_ends (kind.Word word.Where) h spelled refl)) (λ y is_y next v. then_answers (premise_answers n (kind.Word word.Where) refl h (omega arith) v refl refl) (λ z is_z rest r. done {y = Replace x y z} r (cc (is_x, is_y, is_z)))))))
 rule_form_answers n (Infer f h) d {tokens} {spelled} {steps} s =
     let p = taken_of s in
-    let reason = premise_kinds (kind.Word word.From) h (kind.Sign sign.Semicolon ∷ spelled) in
+    let reason = premise_spelling in_kinds (kind.Word word.From) h (kind.Sign sign.Semicolon ∷ spelled) in
     let lines = premise_spelling in_lines (kind.Word word.From) h (passes ∷ steps) in
     answers_after (omega (arith, p.shorter)) (ap (λ o. rule_on n o tokens) p.front) (then_answers (formula_complete f n (omega arith) (after tokens) reason lines p.stands (premise_ends (kind.Word word.From) h spelled refl)) (λ x is_x mid m. then_answers (premise_answers n (kind.Word word.From) refl h (omega arith) m refl refl) (λ z is_z rest r. done {y = Infer x z} r (cc (is_x, is_z)))))
 
@@ -119,22 +116,22 @@ all_rules : (n : ℕ) (xs : List Rule) → rules_depth xs ≤ n → Each (Comple
 all_rules n [] d = tt
 all_rules n (x ∷ xs) d = (rule_complete n x (omega arith), all_rules n xs (omega arith))
 
-form_begins : (x : RuleForm) (rest : List TokenKind) → begins_rule (first (rule_form_kinds x rest)) ≡ true
+form_begins : (x : RuleForm) (rest : List TokenKind) → begins_rule (first (rule_form_spelling in_kinds x rest)) ≡ true
 form_begins (Replace f g h) rest = refl
 form_begins (Infer f h) rest = refl
 
 -- ---- rule files
 
 -- no rule goes on with variables
-form_is_no_name : (x : RuleForm) (rest : List TokenKind) → (is (kind.Word word.Var) (first (rule_form_kinds x rest)) || begins_name (first (rule_form_kinds x rest))) ≡ false
+form_is_no_name : (x : RuleForm) (rest : List TokenKind) → (is (kind.Word word.Var) (first (rule_form_spelling in_kinds x rest)) || begins_name (first (rule_form_spelling in_kinds x rest))) ≡ false
 form_is_no_name (Replace f g h) rest = refl
 form_is_no_name (Infer f h) rest = refl
 
-variables_end : (xs : List Rule) → (is (kind.Word word.Var) (first (each rule_kinds xs [])) || begins_name (first (each rule_kinds xs []))) ≡ false
+variables_end : (xs : List Rule) → (is (kind.Word word.Var) (first (each (rule_spelling in_kinds) xs [])) || begins_name (first (each (rule_spelling in_kinds) xs []))) ≡ false
 variables_end [] = refl
-variables_end (x ∷ xs) = form_is_no_name x.form (kind.Sign sign.Semicolon ∷ each rule_kinds xs [])
+variables_end (x ∷ xs) = form_is_no_name x.form (kind.Sign sign.Semicolon ∷ each (rule_spelling in_kinds) xs [])
 
-pub rule_tree_answers : (n : ℕ) (t : RuleTree) → rule_tree_depth t ≤ n → {tokens : List Token} → Stands tokens (rule_tree_kinds t []) (rule_tree_spelling in_lines t []) → Answers (read_rules n tokens) t tokens [] []
+pub rule_tree_answers : (n : ℕ) (t : RuleTree) → rule_tree_depth t ≤ n → {tokens : List Token} → Stands tokens (rule_tree_spelling in_kinds t []) (rule_tree_spelling in_lines t []) → Answers (read_rules n tokens) t tokens [] []
 rule_tree_answers n t d {tokens} s =
     let b = begun_of s in
-    then_answers (variables_complete t.variables tokens (each rule_kinds t.rules []) (each (rule_spelling in_lines) t.rules []) b.stands (variables_end t.rules)) (λ vs is_vs mid m. then_answers (each_complete rule_part begins_rule (read_rule n) (λ x rest. form_begins x.form (kind.Sign sign.Semicolon ∷ rest)) (λ x rest. omega (arith, rule_form_length x.form (kind.Sign sign.Semicolon ∷ rest))) t.rules (all_rules n t.rules d) (length mid) mid [] [] (omega arith) m refl) (λ rs is_rs rest r. done {y = record { line = first_line tokens; variables = vs; rules = rs }} r (λ i. record { line = b.line i; variables = is_vs i; rules = is_rs i })))
+    then_answers (variables_complete t.variables tokens (each (rule_spelling in_kinds) t.rules []) (each (rule_spelling in_lines) t.rules []) b.stands (variables_end t.rules)) (λ vs is_vs mid m. then_answers (each_complete rule_part begins_rule (read_rule n) (λ x rest. form_begins x.form (kind.Sign sign.Semicolon ∷ rest)) (λ x rest. omega (arith, rule_form_length x.form (kind.Sign sign.Semicolon ∷ rest))) t.rules (all_rules n t.rules d) (length mid) mid [] [] (omega arith) m refl) (λ rs is_rs rest r. done {y = record { line = first_line tokens; variables = vs; rules = rs }} r (λ i. record { line = b.line i; variables = is_vs i; rules = is_rs i })))

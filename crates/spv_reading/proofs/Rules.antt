@@ -1,6 +1,7 @@
 -- Rule files and formula texts are read exactly where a tree reads the tokens.
 use Rattle.std.proofs.Common.{refl, [], ◌∙◌}
-use Rattle.spv_syntax.specs.RuleKinds.{rule_tree_kinds, formula_text_kinds}
+use Rattle.spv_syntax.specs.Members.{in_kinds}
+use Rattle.spv_syntax.specs.RuleSpelling.{formula_text_spelling, rule_tree_spelling}
 use Rattle.spv_syntax.specs.Reads.{ReadsRules, ReadsFormulaText}
 use Rattle.spv_reading.specs.RuleReaders.{read_rules, read_formula_text}
 use Rattle.spv_reading.specs.Depths.{rule_tree_depth, formula_text_depth}
@@ -19,10 +20,10 @@ pub rules_are_read : TreeIsRead read_rules rule_tree_depth ReadsRules
 rules_are_read n tokens t d r = whole_answer (rule_tree_answers n t d (record { spelled = r.spelled; lined = r.lined }))
 
 pub rules_enough_levels : EnoughLevelsForTrees read_rules ReadsRules
-rules_enough_levels = enough_by read_rules rule_tree_depth rule_tree_kinds ReadsRules rules_are_read (λ tokens t r. r.spelled) rule_tree_length
+rules_enough_levels = enough_by read_rules rule_tree_depth (rule_tree_spelling in_kinds) ReadsRules rules_are_read (λ tokens t r. r.spelled) rule_tree_length
 
 pub rules_one_tree : OneTree ReadsRules
-rules_one_tree = one_by read_rules rule_tree_depth rule_tree_kinds ReadsRules rules_are_read (λ tokens t r. r.spelled) rule_tree_length
+rules_one_tree = one_by read_rules rule_tree_depth (rule_tree_spelling in_kinds) ReadsRules rules_are_read (λ tokens t r. r.spelled) rule_tree_length
 
 pub formula_text_is_tree : ReadIsTree read_formula_text ReadsFormulaText
 formula_text_is_tree n tokens t e =
@@ -33,7 +34,7 @@ pub formula_text_is_read : TreeIsRead read_formula_text formula_text_depth Reads
 formula_text_is_read n tokens t d r = whole_answer (formula_text_answers n t d (record { spelled = r.spelled; lined = r.lined }))
 
 pub formula_text_enough_levels : EnoughLevelsForTrees read_formula_text ReadsFormulaText
-formula_text_enough_levels = enough_by read_formula_text formula_text_depth formula_text_kinds ReadsFormulaText formula_text_is_read (λ tokens t r. r.spelled) formula_text_length
+formula_text_enough_levels = enough_by read_formula_text formula_text_depth (formula_text_spelling in_kinds) ReadsFormulaText formula_text_is_read (λ tokens t r. r.spelled) formula_text_length
 
 pub formula_text_one_tree : OneTree ReadsFormulaText
-formula_text_one_tree = one_by read_formula_text formula_text_depth formula_text_kinds ReadsFormulaText formula_text_is_read (λ tokens t r. r.spelled) formula_text_length
+formula_text_one_tree = one_by read_formula_text formula_text_depth (formula_text_spelling in_kinds) ReadsFormulaText formula_text_is_read (λ tokens t r. r.spelled) formula_text_length

@@ -11,10 +11,11 @@ use Rattle.spv_syntax.specs.declared.operators.PlusOrMinus.{PlusOrMinus}
 use Rattle.spv_syntax.specs.declared.operators.PlusOrMinus.TheVariants as prefix
 use Rattle.spv_syntax.specs.declared.operators.Direction.{Direction}
 use Rattle.spv_syntax.specs.declared.operators.Direction.TheVariants as direction
-use Rattle.spv_syntax.specs.FormulaKinds.{prefix_kinds}
-use Rattle.spv_syntax.specs.TypeKinds.{scalar_kind}
+use Rattle.spv_syntax.specs.Members.{in_kinds}
+use Rattle.spv_syntax.specs.FormulaSpelling.{prefix_spelling}
+use Rattle.spv_syntax.specs.StatementSpelling.{direction_kind, more_arms_spelling, more_statements_spelling, otherwise_spelling}
+use Rattle.spv_syntax.specs.TypeSpelling.{scalar_kind}
 use Rattle.spv_syntax.specs.Statements.{Statement, Otherwise, nothing_otherwise, otherwise, MoreStatements, no_more_statements, more_statements, Arm, no_arm, arm, MoreArms, no_more_arms, more_arms}
-use Rattle.spv_syntax.specs.StatementKinds.{direction_kind, otherwise_kinds, more_statements_kinds, more_arms_kinds}
 use Rattle.spv_syntax.specs.Reads.{ends_open, may_end}
 use Rattle.spv_reading.specs.Readers.{first, is}
 use Rattle.spv_reading.specs.FormulaReaders.{prefix_of}
@@ -34,7 +35,7 @@ pub no_sign : (x : Scalar) → prefix_of (Some (scalar_kind x)) ≡ None
 no_sign (scalar.Number n) = refl
 no_sign (scalar.Name x) = refl
 
-pub constant_begins : (s : Option PlusOrMinus) (x : Scalar) (rest : List TokenKind) → begins_constant (first (prefix_kinds s (scalar_kind x ∷ rest))) ≡ true
+pub constant_begins : (s : Option PlusOrMinus) (x : Scalar) (rest : List TokenKind) → begins_constant (first (prefix_spelling in_kinds s (scalar_kind x ∷ rest))) ≡ true
 constant_begins None (scalar.Number n) rest = refl
 constant_begins None (scalar.Name x) rest = refl
 constant_begins (Some prefix.Plus) x rest = refl
@@ -51,7 +52,7 @@ in_list_ends s o e =
     let f = right_false (is (kind.Sign sign.Semicolon) o) _ e in
     statement_ends s o (right_false (is Else o) _ f) (left_false (is Else o) _ f)
 
-pub more_statements_ends : (s : Statement) (more : MoreStatements) (spelled : List TokenKind) → continues_statements (first spelled) ≡ false → continues_statement s (first (more_statements_kinds more spelled)) ≡ false
+pub more_statements_ends : (s : Statement) (more : MoreStatements) (spelled : List TokenKind) → continues_statements (first spelled) ≡ false → continues_statement s (first (more_statements_spelling in_kinds more spelled)) ≡ false
 more_statements_ends s no_more_statements spelled e = in_list_ends s (first spelled) e
 more_statements_ends s (more_statements t more) spelled e = statement_ends s (Some (kind.Sign sign.Semicolon)) refl refl
 
@@ -63,7 +64,7 @@ arm_ends_at : (a : Arm) → continues_arm a (Some (kind.Sign sign.Semicolon)) �
 arm_ends_at (no_arm line) = refl
 arm_ends_at (arm line constants s) = statement_ends s (Some (kind.Sign sign.Semicolon)) refl refl
 
-pub more_arms_ends : (a : Arm) (more : MoreArms) (spelled : List TokenKind) → continues_arms (first spelled) ≡ false → continues_arm a (first (more_arms_kinds more spelled)) ≡ false
+pub more_arms_ends : (a : Arm) (more : MoreArms) (spelled : List TokenKind) → continues_arms (first spelled) ≡ false → continues_arm a (first (more_arms_spelling in_kinds more spelled)) ≡ false
 more_arms_ends a no_more_arms spelled e = arm_ends a (first spelled) e
 more_arms_ends a (more_arms b more) spelled e = arm_ends_at a
 
@@ -72,6 +73,6 @@ not_true true e = absurd (false≢true e)
 not_true false e = refl
 
 -- the THEN part ends before ELSE, and before what stands behind the IF
-pub then_ends : (s : Statement) (other : Otherwise) (spelled : List TokenKind) → may_end s other ≡ true → continues_otherwise other (first spelled) ≡ false → continues_statement s (first (otherwise_kinds other spelled)) ≡ false
+pub then_ends : (s : Statement) (other : Otherwise) (spelled : List TokenKind) → may_end s other ≡ true → continues_otherwise other (first spelled) ≡ false → continues_statement s (first (otherwise_spelling in_kinds other spelled)) ≡ false
 then_ends s nothing_otherwise spelled m e = statement_ends s (first spelled) (left_false _ _ e) (right_false (continues_action (first spelled)) _ e)
 then_ends s (otherwise t) spelled m e = ap (λ b. b && true) (not_true (ends_open s) m)

@@ -13,9 +13,8 @@ use Rattle.spv_syntax.specs.declared.operators.PlusOrMinus.{PlusOrMinus}
 use Rattle.spv_syntax.specs.declared.operators.Direction.{Direction}
 use Rattle.spv_syntax.specs.Formulas.{Formula, designator, Selectors, no_selectors, selectors}
 use Rattle.spv_syntax.specs.Statements.{Statement, empty, assignment, call, creation, compound, conditional, selection, repetition, assertion, Otherwise, nothing_otherwise, otherwise, Block, block, no_more_statements, more_statements, Arm, no_arm, arm, no_more_arms, more_arms, Loop, while_loop, repeat_loop, for_loop}
-use Rattle.spv_syntax.specs.TypeKinds.{scalar_kind}
-use Rattle.spv_syntax.specs.StatementKinds.{direction_kind}
-use Rattle.spv_syntax.specs.FormulaKinds.{name_kind, formula_kinds}
+use Rattle.spv_syntax.specs.FormulaSpelling.{formula_spelling, name_kind}
+use Rattle.spv_syntax.specs.StatementSpelling.{direction_kind}
 use Rattle.spv_syntax.specs.Lists.{several}
 use Rattle.spv_syntax.specs.Steps.{Step, passes, first_line, lines_agree}
 use Rattle.spv_syntax.specs.Reads.{kinds, ends_open, otherwise_ends_open, loop_ends_open, may_end, statement_ok, otherwise_ok, block_ok, more_statements_ok, arm_ok, more_arms_ok, loop_ok}
@@ -26,8 +25,8 @@ use Rattle.spv_reading.specs.Parts.{InFront, BeginsWith, name_part, led, formula
 use Rattle.spv_reading.proofs.Fronts.{Passed, some_is, passed, is-true, begun, begins_at, join, starting_at, started}
 use Rattle.spv_reading.proofs.Sound.{On, on_none, on_some, on_then, on_if, on_past, on_both, on_more, name_begins, name_sound, IsList, items_sound, items_all, behind_sound, behind_all, several_sound}
 use Rattle.spv_reading.proofs.FormulaSound.{prefix_is, selectors_sound, designator_sound, inner_sound, formula_sound}
-use Rattle.spv_syntax.specs.Members.{in_lines}
-use Rattle.spv_syntax.specs.TypeSpelling.{scalar_spelling}
+use Rattle.spv_syntax.specs.Members.{in_kinds, in_lines}
+use Rattle.spv_syntax.specs.TypeSpelling.{scalar_spelling, scalar_kind}
 
 -- ---- constants
 

@@ -16,9 +16,8 @@ use Rattle.spv_syntax.specs.declared.operators.PlusOrMinus.{PlusOrMinus}
 use Rattle.spv_syntax.specs.declared.operators.Direction.{Direction}
 use Rattle.spv_syntax.specs.Formulas.{Formula, Designator, designator, Selectors, no_selectors}
 use Rattle.spv_syntax.specs.Statements.{Statement, empty, assignment, call, creation, compound, conditional, selection, repetition, assertion, Otherwise, nothing_otherwise, otherwise, Block, block, MoreStatements, no_more_statements, more_statements, Arm, no_arm, arm, MoreArms, no_more_arms, more_arms, Loop, while_loop, repeat_loop, for_loop}
-use Rattle.spv_syntax.specs.FormulaKinds.{formula_kinds}
-use Rattle.spv_syntax.specs.TypeKinds.{scalar_kind}
-use Rattle.spv_syntax.specs.StatementKinds.{direction_kind, statement_kinds, more_statements_kinds, loop_kinds}
+use Rattle.spv_syntax.specs.FormulaSpelling.{formula_spelling}
+use Rattle.spv_syntax.specs.StatementSpelling.{direction_kind, loop_spelling, more_statements_spelling, statement_spelling}
 use Rattle.spv_syntax.specs.Steps.{Step, passes, first_line}
 use Rattle.spv_syntax.specs.Reads.{may_end, statement_ok, otherwise_ok, block_ok, more_statements_ok, arm_ok, more_arms_ok, loop_ok}
 use Rattle.spv_reading.specs.Readers.{first, front, after, is, Reader, behind, items}
@@ -32,8 +31,8 @@ use Rattle.spv_reading.proofs.WholeHeads.{never}
 use Rattle.spv_reading.proofs.FormulaEnds.{prefix_back, selectors_end, formula_factor}
 use Rattle.spv_reading.proofs.StatementEnds.{direction_back, direction_ends, no_sign, constant_begins, more_statements_ends, more_arms_ends, then_ends}
 use Rattle.spv_reading.proofs.FormulaWhole.{inner_of, formula_complete, selectors_complete}
-use Rattle.spv_syntax.specs.Members.{in_lines}
-use Rattle.spv_syntax.specs.TypeSpelling.{scalar_spelling}
+use Rattle.spv_syntax.specs.Members.{in_kinds, in_lines}
+use Rattle.spv_syntax.specs.TypeSpelling.{scalar_spelling, scalar_kind}
 
 -- ---- constants
 
@@ -94,7 +93,7 @@ module _ (lower : Reader Statement) where
 
   -- ---- blocks and arms
 
-  block_behind_step : (line here : ℕ) (t : Statement) (more : MoreStatements) → here ≡ line → IsLower t → AllLower more → (tokens : List Token) (spelled : List TokenKind) (steps : List Step) → Stands tokens (statement_kinds t (more_statements_kinds more (kind.Word word.End ∷ spelled))) (statement_part.lined t (more_statements_part.lined more (passes ∷ steps))) → Answers (read_block_behind lower here tokens) (block line t more) tokens spelled steps
+  block_behind_step : (line here : ℕ) (t : Statement) (more : MoreStatements) → here ≡ line → IsLower t → AllLower more → (tokens : List Token) (spelled : List TokenKind) (steps : List Step) → Stands tokens (statement_spelling in_kinds t (more_statements_spelling in_kinds more (kind.Word word.End ∷ spelled))) (statement_part.lined t (more_statements_part.lined more (passes ∷ steps))) → Answers (read_block_behind lower here tokens) (block line t more) tokens spelled steps
   block_behind_step line here t more same g h tokens spelled steps s =
       then_answers (g tokens _ _ s (more_statements_ends t more _ refl)) (λ u is_u mid m. then_answers (h (length mid) mid _ _ (omega arith) m refl) (λ us is_us last q. past_answers _ refl q (λ rest r. done {y = block here u us} r (cc (same, is_u, is_us)))))
 
@@ -107,7 +106,7 @@ module _ (lower : Reader Statement) where
   arm_step line cs t g tokens spelled steps s e =
       let b = begun_of s in
       let here = ap begins_constant (front_of s) ∙ constant_begins cs.first.sign cs.first.value _ in
-      answers_after (omega arith) (if_true _ here refl) (then_answers (constants_complete cs tokens (kind.Sign sign.Colon ∷ statement_kinds t spelled) (passes ∷ statement_part.lined t steps) b.stands refl) (λ ds is_ds mid m. past_answers _ refl m (λ last q. then_answers (g last spelled steps q e) (λ u is_u rest r. done {y = arm (first_line tokens) ds u} r (cc (b.line, is_ds, is_u))))))
+      answers_after (omega arith) (if_true _ here refl) (then_answers (constants_complete cs tokens (kind.Sign sign.Colon ∷ statement_spelling in_kinds t spelled) (passes ∷ statement_part.lined t steps) b.stands refl) (λ ds is_ds mid m. past_answers _ refl m (λ last q. then_answers (g last spelled steps q e) (λ u is_u rest r. done {y = arm (first_line tokens) ds u} r (cc (b.line, is_ds, is_u))))))
 
   no_arm_step : (line : ℕ) → Complete arm_part begins_constant (read_arm lower) (no_arm line)
   no_arm_step line tokens spelled steps s e =
@@ -150,7 +149,7 @@ module _ (lower : Reader Statement) where
         let p = taken_of b.stands in
         answers_after (omega (arith, p.shorter)) (ap (λ o. loop_by lower read o tokens) p.front) (then_answers (name_complete x p.stands) (λ y is_y next n. past_answers _ refl n (λ behind q. then_answers (g behind _ _ q (direction_ends towards)) (λ v is_v last m. to_step y is_y v is_v last m))))
       where
-        to_step : (y : Name) → y ≡ x → (v : Formula) → v ≡ from → (last : List Token) → Stands last (direction_kind towards ∷ formula_kinds to (kind.Word word.Do ∷ statement_kinds t spelled)) (passes ∷ formula_part.lined to (passes ∷ statement_part.lined t steps)) → Answers (read_to lower read (first_line tokens) y v (direction_of (front last)) last) (for_loop line x from towards to t) last spelled steps
+        to_step : (y : Name) → y ≡ x → (v : Formula) → v ≡ from → (last : List Token) → Stands last (direction_kind towards ∷ formula_spelling in_kinds to (kind.Word word.Do ∷ statement_spelling in_kinds t spelled)) (passes ∷ formula_part.lined to (passes ∷ statement_part.lined t steps)) → Answers (read_to lower read (first_line tokens) y v (direction_of (front last)) last) (for_loop line x from towards to t) last spelled steps
         to_step y is_y v is_v last m =
             let d = taken_of m in
             let line_is : first_line tokens ≡ line = (begun_of s).line in
@@ -219,7 +218,7 @@ module _ (lower : Reader Statement) where
           let b = begun_of s in
           answers_after (omega arith) (ap (λ o. statement_on lower read inner o tokens) (front_of s) ∙ on_loop l) (then_answers (g tokens spelled steps b.stands e) (λ x is_x rest r. done {y = repetition (first_line tokens) None x} r (cc (b.line, is_x))))
         where
-          on_loop : (m : Loop) → statement_on lower read inner (first (loop_kinds m spelled)) tokens ≡ read_repetition lower read (first_line tokens) None tokens
+          on_loop : (m : Loop) → statement_on lower read inner (first (loop_spelling in_kinds m spelled)) tokens ≡ read_repetition lower read (first_line tokens) None tokens
           on_loop (while_loop at f t) = refl
           on_loop (repeat_loop at t more f) = refl
           on_loop (for_loop at x from towards to t) = refl
@@ -230,7 +229,7 @@ module _ (lower : Reader Statement) where
           let p = taken_of b.stands in
           answers_after (omega (arith, p.shorter)) (ap (λ o. statement_on lower read inner o tokens) p.front) (then_answers (g (after tokens) _ _ p.stands (loop_ends l)) (λ x is_x mid m. then_answers (h mid spelled steps m e) (λ y is_y rest r. done {y = repetition (first_line tokens) (Some x) y} r (λ i. repetition (b.line i) (Some (is_x i)) (is_y i)))))
         where
-          loop_ends : (m : Loop) → continues_formula (first (loop_kinds m spelled)) ≡ false
+          loop_ends : (m : Loop) → continues_formula (first (loop_spelling in_kinds m spelled)) ≡ false
           loop_ends (while_loop at x t) = refl
           loop_ends (repeat_loop at t more x) = refl
           loop_ends (for_loop at x from towards to t) = refl
@@ -258,10 +257,10 @@ module _ (lower : Reader Statement) (n : ℕ) where
       let m = begun_of b.stands in
       let y = begun_of m.stands in
       let p = taken_of y.stands in
-      let shut = ap (is (kind.Sign sign.OpenParenthesis)) (front_of p.stands) ∙ selectors_end behind (kind.Sign sign.Becomes ∷ formula_kinds f spelled) refl in
+      let shut = ap (is (kind.Sign sign.OpenParenthesis)) (front_of p.stands) ∙ selectors_end behind (kind.Sign sign.Becomes ∷ formula_spelling in_kinds f spelled) refl in
       answers_after (omega (arith, p.shorter)) (ap (λ o. statement_on lower (read_formula n) (read_inner n) o tokens) p.front ∙ if_false _ shut refl) (then_answers (selectors_complete behind n d (length (after tokens)) (after tokens) _ _ (omega arith) p.stands refl) (λ ss is_ss last q. becomes ss is_ss last q))
     where
-      becomes : (ss : Selectors) → ss ≡ behind → (last : List Token) → Stands last (kind.Sign sign.Becomes ∷ formula_kinds f spelled) (passes ∷ formula_part.lined f steps) → Answers (read_becomes (read_formula n) (read_inner n) (record { line = first_line tokens; symbol = x.symbol }) ss last) (assignment line (designator here x behind) f) last spelled steps
+      becomes : (ss : Selectors) → ss ≡ behind → (last : List Token) → Stands last (kind.Sign sign.Becomes ∷ formula_spelling in_kinds f spelled) (passes ∷ formula_part.lined f steps) → Answers (read_becomes (read_formula n) (read_inner n) (record { line = first_line tokens; symbol = x.symbol }) ss last) (assignment line (designator here x behind) f) last spelled steps
       becomes ss is_ss last q =
           let b = begun_of s in
           let m = begun_of b.stands in

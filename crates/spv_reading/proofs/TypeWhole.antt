@@ -15,7 +15,9 @@ use Rattle.spv_syntax.specs.declared.operators.PlusOrMinus.{PlusOrMinus}
 use Rattle.spv_syntax.specs.declared.operators.PlusOrMinus.TheVariants as prefix
 use Rattle.spv_syntax.specs.Types.{TypeDenoter, named, range, pointer, array, fields, MoreTypes, no_more_types, more_types, Field, no_field, field, MoreFields, no_more_fields, more_fields}
 use Rattle.spv_syntax.specs.Lists.{further}
-use Rattle.spv_syntax.specs.TypeKinds.{name_kinds, names_kinds, constant_kinds, type_kinds, more_types_kinds, field_kinds, more_fields_kinds}
+use Rattle.spv_syntax.specs.Members.{in_kinds}
+use Rattle.spv_syntax.specs.FormulaSpelling.{name_spelling}
+use Rattle.spv_syntax.specs.TypeSpelling.{constant_spelling, field_spelling, more_fields_spelling, more_types_spelling, names_spelling, type_spelling}
 use Rattle.spv_syntax.specs.Steps.{Step, passes, first_line}
 use Rattle.spv_reading.specs.Readers.{first, after, is, Reader, name, behind, items}
 use Rattle.spv_reading.specs.TypeReaders.{read_names, begins_name, read_upper, read_range, read_field_part, type_on, type_by, read_lower_type, read_type}
@@ -72,12 +74,12 @@ module _ (lower : Reader TypeDenoter) where
       answers_after (omega (arith, p.shorter)) (ap (λ o. type_on lower o tokens) p.front) (then_answers (name_complete x p.stands) (λ y is_y rest r. done {y = pointer (first_line tokens) y} r (cc (b.line, is_y))))
 
   -- the upper bound
-  upper_answers : (line here : ℕ) (low read : Constant) (high : Constant) → here ≡ line → read ≡ low → (tokens : List Token) (spelled : List TokenKind) (steps : List Step) → Stands tokens (constant_kinds high spelled) (constant_part.lined high steps) → Answers (read_upper here read tokens) (range line low high) tokens spelled steps
+  upper_answers : (line here : ℕ) (low read : Constant) (high : Constant) → here ≡ line → read ≡ low → (tokens : List Token) (spelled : List TokenKind) (steps : List Step) → Stands tokens (constant_spelling in_kinds high spelled) (constant_part.lined high steps) → Answers (read_upper here read tokens) (range line low high) tokens spelled steps
   upper_answers line here low read high a b tokens spelled steps s =
       then_answers (constant_complete high tokens spelled steps s refl) (λ y is_y rest r. done {y = range here read y} r (cc (a, b, is_y)))
 
   -- a range that does not begin with a name
-  signed_step : (line : ℕ) (low high : Constant) (tokens : List Token) (spelled : List TokenKind) (steps : List Step) → Stands tokens (type_kinds (range line low high) spelled) (type_part.lined (range line low high) steps) → type_on lower (first (type_kinds (range line low high) spelled)) tokens ≡ read_range tokens → Answers (type_by lower tokens) (range line low high) tokens spelled steps
+  signed_step : (line : ℕ) (low high : Constant) (tokens : List Token) (spelled : List TokenKind) (steps : List Step) → Stands tokens (type_spelling in_kinds (range line low high) spelled) (type_part.lined (range line low high) steps) → type_on lower (first (type_spelling in_kinds (range line low high) spelled)) tokens ≡ read_range tokens → Answers (type_by lower tokens) (range line low high) tokens spelled steps
   signed_step line low high tokens spelled steps s same =
       let b = begun_of s in
       answers_after (omega arith) (ap (λ o. type_on lower o tokens) (front_of s) ∙ same) (then_answers (constant_complete low tokens _ _ b.stands refl) (λ x is_x mid m. past_answers (kind.Sign sign.Range) refl m (λ last q. upper_answers line (first_line tokens) low x high b.line is_x last spelled steps q)))
@@ -105,7 +107,7 @@ module _ (lower : Reader TypeDenoter) where
   abbrev AllTypes : MoreTypes → Type 0
   AllTypes more = CompleteList more_types_part continues_types (items no_more_types more_types (behind (kind.Sign sign.Comma) lower)) more
 
-  types_end : (more : MoreTypes) (spelled : List TokenKind) → continues_types (first spelled) ≡ false → continues_type (first (more_types_kinds more spelled)) ≡ false
+  types_end : (more : MoreTypes) (spelled : List TokenKind) → continues_types (first spelled) ≡ false → continues_type (first (more_types_spelling in_kinds more spelled)) ≡ false
   types_end no_more_types spelled e = right_false (is (kind.Sign sign.Comma) (first spelled)) _ e
   types_end (more_types t more) spelled e = refl
 
@@ -120,7 +122,7 @@ module _ (lower : Reader TypeDenoter) where
   field_step : (line : ℕ) (xs : Several Name) (t : TypeDenoter) → IsLower t → Complete field_part continues_type (read_field_part lower) (field line xs t)
   field_step line xs t g tokens spelled steps s e =
       let b = begun_of s in
-      answers_after (omega arith) (if_true _ (ap begins_name (front_of s)) refl) (then_answers (names_complete xs tokens (kind.Sign sign.Colon ∷ type_kinds t spelled) (passes ∷ type_part.lined t steps) b.stands refl) (λ ys is_ys mid m. past_answers (kind.Sign sign.Colon) refl m (λ last q. then_answers (g last spelled steps q e) (λ u is_u rest r. done {y = field (first_line tokens) ys u} r (cc (b.line, is_ys, is_u))))))
+      answers_after (omega arith) (if_true _ (ap begins_name (front_of s)) refl) (then_answers (names_complete xs tokens (kind.Sign sign.Colon ∷ type_spelling in_kinds t spelled) (passes ∷ type_part.lined t steps) b.stands refl) (λ ys is_ys mid m. past_answers (kind.Sign sign.Colon) refl m (λ last q. then_answers (g last spelled steps q e) (λ u is_u rest r. done {y = field (first_line tokens) ys u} r (cc (b.line, is_ys, is_u))))))
 
   no_field_step : (line : ℕ) → Complete field_part begins_name (read_field_part lower) (no_field line)
   no_field_step line tokens spelled steps s e =
@@ -135,7 +137,7 @@ module _ (lower : Reader TypeDenoter) where
   field_ends_at (no_field line) = refl
   field_ends_at (field line xs t) = refl
 
-  fields_end : (f : Field) (more : MoreFields) (spelled : List TokenKind) → continues_fields (first spelled) ≡ false → continues_field f (first (more_fields_kinds more spelled)) ≡ false
+  fields_end : (f : Field) (more : MoreFields) (spelled : List TokenKind) → continues_fields (first spelled) ≡ false → continues_field f (first (more_fields_spelling in_kinds more spelled)) ≡ false
   fields_end f no_more_fields spelled e = field_ends f (first spelled) e
   fields_end f (more_fields g more) spelled e = field_ends_at f
 
@@ -179,30 +181,30 @@ mutual
 
 -- ---- a type has at least as many tokens as levels
 
-further_names : (xs : List Name) (rest : List TokenKind) → length rest ≤ length (further (kind.Sign sign.Comma) name_kinds xs rest)
+further_names : (xs : List Name) (rest : List TokenKind) → length rest ≤ length (further (kind.Sign sign.Comma) (name_spelling in_kinds) xs rest)
 further_names [] rest = omega arith
 further_names (x ∷ xs) rest = omega (arith, further_names xs rest)
 
-pub names_length : (xs : Several Name) (rest : List TokenKind) → suc (length rest) ≤ length (names_kinds xs rest)
+pub names_length : (xs : Several Name) (rest : List TokenKind) → suc (length rest) ≤ length (names_spelling in_kinds xs rest)
 names_length xs rest = omega (arith, further_names xs.more rest)
 
 mutual
-  pub type_length : (t : TypeDenoter) (rest : List TokenKind) → suc (type_depth t + length rest) ≤ length (type_kinds t rest)
+  pub type_length : (t : TypeDenoter) (rest : List TokenKind) → suc (type_depth t + length rest) ≤ length (type_spelling in_kinds t rest)
   type_length (named line x) rest = omega arith
-  type_length (range line low high) rest = omega (arith, constant_length low (kind.Sign sign.Range ∷ constant_kinds high rest), constant_length high rest)
+  type_length (range line low high) rest = omega (arith, constant_length low (kind.Sign sign.Range ∷ constant_spelling in_kinds high rest), constant_length high rest)
   type_length (pointer line x) rest = omega arith
   type_length (array line t more elements) rest =
-      omega (arith, type_length t (more_types_kinds more (kind.Sign sign.CloseBracket ∷ kind.Word word.Of ∷ type_kinds elements rest)), more_types_length more (kind.Sign sign.CloseBracket ∷ kind.Word word.Of ∷ type_kinds elements rest), type_length elements rest)
-  type_length (fields line f more) rest = omega (arith, field_length f (more_fields_kinds more (kind.Word word.End ∷ rest)), more_fields_length more (kind.Word word.End ∷ rest))
+      omega (arith, type_length t (more_types_spelling in_kinds more (kind.Sign sign.CloseBracket ∷ kind.Word word.Of ∷ type_spelling in_kinds elements rest)), more_types_length more (kind.Sign sign.CloseBracket ∷ kind.Word word.Of ∷ type_spelling in_kinds elements rest), type_length elements rest)
+  type_length (fields line f more) rest = omega (arith, field_length f (more_fields_spelling in_kinds more (kind.Word word.End ∷ rest)), more_fields_length more (kind.Word word.End ∷ rest))
 
-  more_types_length : (ts : MoreTypes) (rest : List TokenKind) → more_types_depth ts + length rest ≤ length (more_types_kinds ts rest)
+  more_types_length : (ts : MoreTypes) (rest : List TokenKind) → more_types_depth ts + length rest ≤ length (more_types_spelling in_kinds ts rest)
   more_types_length no_more_types rest = omega arith
-  more_types_length (more_types t more) rest = omega (arith, type_length t (more_types_kinds more rest), more_types_length more rest)
+  more_types_length (more_types t more) rest = omega (arith, type_length t (more_types_spelling in_kinds more rest), more_types_length more rest)
 
-  field_length : (f : Field) (rest : List TokenKind) → field_depth f + length rest ≤ length (field_kinds f rest)
+  field_length : (f : Field) (rest : List TokenKind) → field_depth f + length rest ≤ length (field_spelling in_kinds f rest)
   field_length (no_field line) rest = omega arith
-  field_length (field line xs t) rest = omega (arith, names_length xs (kind.Sign sign.Colon ∷ type_kinds t rest), type_length t rest)
+  field_length (field line xs t) rest = omega (arith, names_length xs (kind.Sign sign.Colon ∷ type_spelling in_kinds t rest), type_length t rest)
 
-  more_fields_length : (fs : MoreFields) (rest : List TokenKind) → more_fields_depth fs + length rest ≤ length (more_fields_kinds fs rest)
+  more_fields_length : (fs : MoreFields) (rest : List TokenKind) → more_fields_depth fs + length rest ≤ length (more_fields_spelling in_kinds fs rest)
   more_fields_length no_more_fields rest = omega arith
-  more_fields_length (more_fields f more) rest = omega (arith, field_length f (more_fields_kinds more rest), more_fields_length more rest)
+  more_fields_length (more_fields f more) rest = omega (arith, field_length f (more_fields_spelling in_kinds more rest), more_fields_length more rest)

@@ -1,2 +1,1 @@
 pub mod RoutineParts
-pub mod Marks

@@ -1,5 +1,4 @@
-//! Headings and clauses of routines, and where routines begin and end, from tokens.
+//! Headings and clauses of routines, and the beginnings of their bodies, from tokens.
 #![tactic(auto)]
 
-pub mod routine_marks;
 pub mod routines;

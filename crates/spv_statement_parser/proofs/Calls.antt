@@ -6,7 +6,7 @@ use Rattle.spv_tokens.specs.declared.token.TokenKind.TheVariants as kind
 use Rattle.spv_tokens.specs.declared.token.Sign.TheVariants as sign
 use Rattle.spv_syntax.specs.declared.names.Name.{Name}
 use Rattle.spv_syntax.specs.Formulas.{Formula, designator, Selector}
-use Rattle.spv_syntax.specs.FormulaSizes.{selectors_of}
+use Rattle.spv_syntax.specs.Model.FormulaSizes.{selectors_of}
 use Rattle.spv_syntax.specs.Statements.{assignment}
 use Rattle.spv_reading.specs.Readers.{Reader, front, after, is, and_then}
 use Rattle.spv_reading.specs.StatementReaders.{read_plain_call, read_becomes}

@@ -2,7 +2,7 @@
 use Rattle.std.proofs.Common.{◌≡◌, ℕ, zero, suc, ◌-◌, List, [], ◌∷◌, refl, sym, ap, arith}
 use Rattle.spv_tokens.specs.declared.token.Token.{Token}
 use Rattle.spv_syntax.specs.Statements.{Statement, Arm, no_more_statements, more_statements, no_more_arms, more_arms}
-use Rattle.spv_syntax.specs.StatementSizes.{more_statements_of, more_arms_of}
+use Rattle.spv_syntax.specs.Model.StatementSizes.{more_statements_of, more_arms_of}
 use Rattle.spv_reading.specs.StatementReaders.{read_lower, read_statement}
 use Rattle.spv_front.specs.Lists.{put}
 

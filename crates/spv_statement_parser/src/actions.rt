@@ -1,7 +1,7 @@
 // Assignments, calls and NEW.
 
 ghost use Rattle.std.specs.Prelude.{◌≡◌, Some, None, IfOk, IsErrAnd};
-ghost use Rattle.spv_syntax.specs.FormulaSizes.{selectors_of};
+ghost use Rattle.spv_syntax.specs.Model.FormulaSizes.{selectors_of};
 ghost use Rattle.spv_reading.specs.FormulaReaders.{read_inner, read_formula};
 ghost use Rattle.spv_reading.specs.StatementReaders.{read_call, read_creation, read_becomes, read_action};
 ghost use Rattle.spv_front.specs.Faults.{IsSyntax};

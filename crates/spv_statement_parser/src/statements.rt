@@ -1,7 +1,7 @@
 // Statements.
 
 ghost use Rattle.std.specs.Prelude.{◌≡◌, Some, None, IfOk, IsErrAnd};
-ghost use Rattle.spv_syntax.specs.StatementSizes.{more_statements_of, more_arms_of};
+ghost use Rattle.spv_syntax.specs.Model.StatementSizes.{more_statements_of, more_arms_of};
 ghost use Rattle.spv_syntax.specs.StatementViews.{otherwise_of};
 ghost use Rattle.spv_reading.specs.FormulaReaders.{read_formula};
 ghost use Rattle.spv_reading.specs.StatementReaders.{read_more_statements, read_block_behind, read_arm, read_more_arms, read_otherwise, read_conditional, read_selection, read_lower, read_statement, read_block};

@@ -8,7 +8,7 @@ use Rattle.spv_syntax.specs.declared.formulas.FactorForm.TheVariants as factor
 use Rattle.spv_syntax.specs.declared.formulas.SelectorForm.{SelectorForm}
 use Rattle.spv_syntax.specs.declared.formulas.SelectorForm.TheVariants as selector
 use Rattle.spv_syntax.specs.Formulas.{Formula, Conclusion, no_conclusion, implies, Simple, RightSide, no_right_side, compared, Factor, number, truth, nil, class, place, application, bracketed, negation, Selector, index, field, content}
-use Rattle.spv_syntax.specs.FormulaSizes.{more_formulas_of, selectors_of}
+use Rattle.spv_syntax.specs.Model.FormulaSizes.{more_formulas_of, selectors_of}
 
 abbrev pub conclusion_of : Option (Box Formula Global) → Conclusion
 conclusion_of None = no_conclusion

@@ -9,9 +9,7 @@ use Rattle.spv_syntax.specs.declared.rules.RuleTree.{RuleTree}
 use Rattle.spv_syntax.specs.declared.formula_texts.FormulaText.{FormulaText}
 use Rattle.spv_syntax.specs.Statements.{Statement, empty, assignment, call, creation, compound, conditional, selection, repetition, assertion, Otherwise, nothing_otherwise, otherwise, Block, block, MoreStatements, no_more_statements, more_statements, Arm, no_arm, arm, MoreArms, no_more_arms, more_arms, Loop, while_loop, repeat_loop, for_loop}
 use Rattle.spv_syntax.specs.Steps.{lines_agree}
-use Rattle.spv_syntax.specs.ProgramKinds.{program_kinds}
-use Rattle.spv_syntax.specs.RuleKinds.{rule_tree_kinds, formula_text_kinds}
-use Rattle.spv_syntax.specs.Members.{in_lines}
+use Rattle.spv_syntax.specs.Members.{in_kinds, in_lines}
 use Rattle.spv_syntax.specs.ProgramSpelling.{program_spelling}
 use Rattle.spv_syntax.specs.RuleSpelling.{formula_text_spelling, rule_tree_spelling}
 
@@ -104,16 +102,16 @@ kinds tokens = map (λ t. t.kind) tokens
 
 -- the tree is what the tokens are read as
 pub record Reads (tokens : List Token) (p : Program) : Type 0 where
-  pub spelled : kinds tokens ≡ program_kinds p []
+  pub spelled : kinds tokens ≡ program_spelling in_kinds p []
   pub formed : IsTrue (well_formed p)
   pub lined : IsTrue (lines_agree (program_spelling in_lines p []) tokens)
 
 -- the same of a rule file, whose form says all
 pub record ReadsRules (tokens : List Token) (t : RuleTree) : Type 0 where
-  pub spelled : kinds tokens ≡ rule_tree_kinds t []
+  pub spelled : kinds tokens ≡ rule_tree_spelling in_kinds t []
   pub lined : IsTrue (lines_agree (rule_tree_spelling in_lines t []) tokens)
 
 -- and of a formula text
 pub record ReadsFormulaText (tokens : List Token) (t : FormulaText) : Type 0 where
-  pub spelled : kinds tokens ≡ formula_text_kinds t []
+  pub spelled : kinds tokens ≡ formula_text_spelling in_kinds t []
   pub lined : IsTrue (lines_agree (formula_text_spelling in_lines t []) tokens)

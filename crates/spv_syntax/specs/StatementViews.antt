@@ -10,7 +10,7 @@ use Rattle.spv_syntax.specs.declared.statements.LoopForm.{LoopForm}
 use Rattle.spv_syntax.specs.declared.statements.LoopForm.TheVariants.{While, Repeat, For}
 use Rattle.spv_syntax.specs.Formulas.{Formula}
 use Rattle.spv_syntax.specs.Statements.{Statement, empty, assignment, call, creation, compound, conditional, selection, repetition, assertion, Otherwise, nothing_otherwise, otherwise, Arm, no_arm, arm, Loop, while_loop, repeat_loop, for_loop}
-use Rattle.spv_syntax.specs.StatementSizes.{more_statements_of, more_arms_of}
+use Rattle.spv_syntax.specs.Model.StatementSizes.{more_statements_of, more_arms_of}
 
 abbrev pub invariant_of : Option (Box Formula Global) → Option Formula
 invariant_of None = None

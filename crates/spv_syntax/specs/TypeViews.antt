@@ -5,7 +5,7 @@ use Rattle.spv_syntax.specs.declared.names.Name.{Name}
 use Rattle.spv_syntax.specs.declared.types.TypeForm.{TypeForm}
 use Rattle.spv_syntax.specs.declared.types.TypeForm.TheVariants.{Named, Range, Pointer, Array, Record}
 use Rattle.spv_syntax.specs.Types.{TypeDenoter, named, range, pointer, array, fields, Field, no_field, field}
-use Rattle.spv_syntax.specs.TypeSizes.{more_types_of, more_fields_of}
+use Rattle.spv_syntax.specs.Model.TypeSizes.{more_types_of, more_fields_of}
 
 abbrev pub type_of : ℕ → TypeForm → TypeDenoter
 type_of line (Named x) = named line x

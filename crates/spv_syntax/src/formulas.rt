@@ -22,8 +22,8 @@ impl Model for Formula {
 
     ghost Value = { plain.Formula };
 
-    ghost use Rattle.spv_syntax.specs.Codes.{coded_by};
-    ghost use Rattle.spv_syntax.specs.FormulaCodes.{way_formula};
+    ghost use Rattle.spv_syntax.specs.Model.Codes.{coded_by};
+    ghost use Rattle.spv_syntax.specs.Model.FormulaCodes.{way_formula};
 
     ghost coded = { coded_by way_formula };
 
@@ -31,11 +31,11 @@ impl Model for Formula {
 
     ghost view = { λ a. plain.formula a.line a.left (conclusion_of a.right) };
 
-    ghost use Rattle.spv_syntax.specs.FormulaSizes.{formula_size};
+    ghost use Rattle.spv_syntax.specs.Model.FormulaSizes.{formula_size};
 
     ghost size = { formula_size };
 
-    ghost use Rattle.spv_syntax.specs.FormulaFalls.{formula_falls};
+    ghost use Rattle.spv_syntax.specs.Model.FormulaFalls.{formula_falls};
 
     ghost size_decreases = { λ a h. formula_falls a };
 }
@@ -57,8 +57,8 @@ impl Model for Relation {
 
     ghost Value = { plain.Relation };
 
-    ghost use Rattle.spv_syntax.specs.Codes.{coded_by};
-    ghost use Rattle.spv_syntax.specs.FormulaCodes.{way_relation};
+    ghost use Rattle.spv_syntax.specs.Model.Codes.{coded_by};
+    ghost use Rattle.spv_syntax.specs.Model.FormulaCodes.{way_relation};
 
     ghost coded = { coded_by way_relation };
 
@@ -66,11 +66,11 @@ impl Model for Relation {
 
     ghost view = { λ a. plain.relation a.line a.left (right_side_of a.right) };
 
-    ghost use Rattle.spv_syntax.specs.FormulaSizes.{relation_size};
+    ghost use Rattle.spv_syntax.specs.Model.FormulaSizes.{relation_size};
 
     ghost size = { relation_size };
 
-    ghost use Rattle.spv_syntax.specs.FormulaFalls.{relation_falls};
+    ghost use Rattle.spv_syntax.specs.Model.FormulaFalls.{relation_falls};
 
     ghost size_decreases = { λ a h. relation_falls a };
 }
@@ -94,20 +94,20 @@ impl Model for Simple {
 
     ghost Value = { plain.Simple };
 
-    ghost use Rattle.spv_syntax.specs.Codes.{coded_by};
-    ghost use Rattle.spv_syntax.specs.FormulaCodes.{way_simple};
+    ghost use Rattle.spv_syntax.specs.Model.Codes.{coded_by};
+    ghost use Rattle.spv_syntax.specs.Model.FormulaCodes.{way_simple};
 
     ghost coded = { coded_by way_simple };
 
-    ghost use Rattle.spv_syntax.specs.FormulaSizes.{more_terms_of};
+    ghost use Rattle.spv_syntax.specs.Model.FormulaSizes.{more_terms_of};
 
     ghost view = { λ a. plain.simple a.line a.prefix a.first (more_terms_of a.more.items) };
 
-    ghost use Rattle.spv_syntax.specs.FormulaSizes.{simple_size};
+    ghost use Rattle.spv_syntax.specs.Model.FormulaSizes.{simple_size};
 
     ghost size = { simple_size };
 
-    ghost use Rattle.spv_syntax.specs.FormulaFalls.{simple_falls};
+    ghost use Rattle.spv_syntax.specs.Model.FormulaFalls.{simple_falls};
 
     ghost size_decreases = { λ a h. simple_falls a };
 }
@@ -129,20 +129,20 @@ impl Model for Term {
 
     ghost Value = { plain.Term };
 
-    ghost use Rattle.spv_syntax.specs.Codes.{coded_by};
-    ghost use Rattle.spv_syntax.specs.FormulaCodes.{way_term};
+    ghost use Rattle.spv_syntax.specs.Model.Codes.{coded_by};
+    ghost use Rattle.spv_syntax.specs.Model.FormulaCodes.{way_term};
 
     ghost coded = { coded_by way_term };
 
-    ghost use Rattle.spv_syntax.specs.FormulaSizes.{more_factors_of};
+    ghost use Rattle.spv_syntax.specs.Model.FormulaSizes.{more_factors_of};
 
     ghost view = { λ a. plain.term a.line a.first (more_factors_of a.more.items) };
 
-    ghost use Rattle.spv_syntax.specs.FormulaSizes.{term_size};
+    ghost use Rattle.spv_syntax.specs.Model.FormulaSizes.{term_size};
 
     ghost size = { term_size };
 
-    ghost use Rattle.spv_syntax.specs.FormulaFalls.{term_falls};
+    ghost use Rattle.spv_syntax.specs.Model.FormulaFalls.{term_falls};
 
     ghost size_decreases = { λ a h. term_falls a };
 }
@@ -184,8 +184,8 @@ impl Model for Factor {
 
     ghost Value = { plain.Factor };
 
-    ghost use Rattle.spv_syntax.specs.Codes.{coded_by};
-    ghost use Rattle.spv_syntax.specs.FormulaCodes.{way_factor};
+    ghost use Rattle.spv_syntax.specs.Model.Codes.{coded_by};
+    ghost use Rattle.spv_syntax.specs.Model.FormulaCodes.{way_factor};
 
     ghost coded = { coded_by way_factor };
 
@@ -193,11 +193,11 @@ impl Model for Factor {
 
     ghost view = { λ a. factor_of a.line a.form };
 
-    ghost use Rattle.spv_syntax.specs.FormulaSizes.{factor_size};
+    ghost use Rattle.spv_syntax.specs.Model.FormulaSizes.{factor_size};
 
     ghost size = { factor_size };
 
-    ghost use Rattle.spv_syntax.specs.FormulaFalls.{factor_falls};
+    ghost use Rattle.spv_syntax.specs.Model.FormulaFalls.{factor_falls};
 
     ghost size_decreases = { λ a h. factor_falls a };
 }
@@ -219,20 +219,20 @@ impl Model for Designator {
 
     ghost Value = { plain.Designator };
 
-    ghost use Rattle.spv_syntax.specs.Codes.{coded_by};
-    ghost use Rattle.spv_syntax.specs.FormulaCodes.{way_designator};
+    ghost use Rattle.spv_syntax.specs.Model.Codes.{coded_by};
+    ghost use Rattle.spv_syntax.specs.Model.FormulaCodes.{way_designator};
 
     ghost coded = { coded_by way_designator };
 
-    ghost use Rattle.spv_syntax.specs.FormulaSizes.{selectors_of};
+    ghost use Rattle.spv_syntax.specs.Model.FormulaSizes.{selectors_of};
 
     ghost view = { λ a. plain.designator a.line a.name (selectors_of a.behind.items) };
 
-    ghost use Rattle.spv_syntax.specs.FormulaSizes.{designator_size};
+    ghost use Rattle.spv_syntax.specs.Model.FormulaSizes.{designator_size};
 
     ghost size = { designator_size };
 
-    ghost use Rattle.spv_syntax.specs.FormulaFalls.{designator_falls};
+    ghost use Rattle.spv_syntax.specs.Model.FormulaFalls.{designator_falls};
 
     ghost size_decreases = { λ a h. designator_falls a };
 }
@@ -264,8 +264,8 @@ impl Model for Selector {
 
     ghost Value = { plain.Selector };
 
-    ghost use Rattle.spv_syntax.specs.Codes.{coded_by};
-    ghost use Rattle.spv_syntax.specs.FormulaCodes.{way_selector};
+    ghost use Rattle.spv_syntax.specs.Model.Codes.{coded_by};
+    ghost use Rattle.spv_syntax.specs.Model.FormulaCodes.{way_selector};
 
     ghost coded = { coded_by way_selector };
 
@@ -273,11 +273,11 @@ impl Model for Selector {
 
     ghost view = { λ a. selector_of a.line a.form };
 
-    ghost use Rattle.spv_syntax.specs.FormulaSizes.{selector_size};
+    ghost use Rattle.spv_syntax.specs.Model.FormulaSizes.{selector_size};
 
     ghost size = { selector_size };
 
-    ghost use Rattle.spv_syntax.specs.FormulaFalls.{selector_falls};
+    ghost use Rattle.spv_syntax.specs.Model.FormulaFalls.{selector_falls};
 
     ghost size_decreases = { λ a h. selector_falls a };
 }

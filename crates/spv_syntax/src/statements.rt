@@ -45,8 +45,8 @@ impl Model for Statement {
 
     ghost Value = { plain.Statement };
 
-    ghost use Rattle.spv_syntax.specs.Codes.{coded_by};
-    ghost use Rattle.spv_syntax.specs.StatementCodes.{way_statement};
+    ghost use Rattle.spv_syntax.specs.Model.Codes.{coded_by};
+    ghost use Rattle.spv_syntax.specs.Model.StatementCodes.{way_statement};
 
     ghost coded = { coded_by way_statement };
 
@@ -54,11 +54,11 @@ impl Model for Statement {
 
     ghost view = { λ a. statement_of a.line a.form };
 
-    ghost use Rattle.spv_syntax.specs.StatementSizes.{statement_size};
+    ghost use Rattle.spv_syntax.specs.Model.StatementSizes.{statement_size};
 
     ghost size = { statement_size };
 
-    ghost use Rattle.spv_syntax.specs.StatementFalls.{statement_falls};
+    ghost use Rattle.spv_syntax.specs.Model.StatementFalls.{statement_falls};
 
     ghost size_decreases = { λ a h. statement_falls a };
 }
@@ -80,20 +80,20 @@ impl Model for Block {
 
     ghost Value = { plain.Block };
 
-    ghost use Rattle.spv_syntax.specs.Codes.{coded_by};
-    ghost use Rattle.spv_syntax.specs.StatementCodes.{way_block};
+    ghost use Rattle.spv_syntax.specs.Model.Codes.{coded_by};
+    ghost use Rattle.spv_syntax.specs.Model.StatementCodes.{way_block};
 
     ghost coded = { coded_by way_block };
 
-    ghost use Rattle.spv_syntax.specs.StatementSizes.{more_statements_of};
+    ghost use Rattle.spv_syntax.specs.Model.StatementSizes.{more_statements_of};
 
     ghost view = { λ a. plain.block a.line a.first.value (more_statements_of a.more.items) };
 
-    ghost use Rattle.spv_syntax.specs.StatementSizes.{block_size};
+    ghost use Rattle.spv_syntax.specs.Model.StatementSizes.{block_size};
 
     ghost size = { block_size };
 
-    ghost use Rattle.spv_syntax.specs.StatementFalls.{block_falls};
+    ghost use Rattle.spv_syntax.specs.Model.StatementFalls.{block_falls};
 
     ghost size_decreases = { λ a h. block_falls a };
 }
@@ -113,8 +113,8 @@ impl Model for Arm {
 
     ghost Value = { plain.Arm };
 
-    ghost use Rattle.spv_syntax.specs.Codes.{coded_by};
-    ghost use Rattle.spv_syntax.specs.StatementCodes.{way_arm};
+    ghost use Rattle.spv_syntax.specs.Model.Codes.{coded_by};
+    ghost use Rattle.spv_syntax.specs.Model.StatementCodes.{way_arm};
 
     ghost coded = { coded_by way_arm };
 
@@ -122,11 +122,11 @@ impl Model for Arm {
 
     ghost view = { λ a. arm_of a.line a.form };
 
-    ghost use Rattle.spv_syntax.specs.StatementSizes.{arm_size};
+    ghost use Rattle.spv_syntax.specs.Model.StatementSizes.{arm_size};
 
     ghost size = { arm_size };
 
-    ghost use Rattle.spv_syntax.specs.StatementFalls.{arm_falls};
+    ghost use Rattle.spv_syntax.specs.Model.StatementFalls.{arm_falls};
 
     ghost size_decreases = { λ a h. arm_falls a };
 }
@@ -158,8 +158,8 @@ impl Model for Loop {
 
     ghost Value = { plain.Loop };
 
-    ghost use Rattle.spv_syntax.specs.Codes.{coded_by};
-    ghost use Rattle.spv_syntax.specs.StatementCodes.{way_loop};
+    ghost use Rattle.spv_syntax.specs.Model.Codes.{coded_by};
+    ghost use Rattle.spv_syntax.specs.Model.StatementCodes.{way_loop};
 
     ghost coded = { coded_by way_loop };
 
@@ -167,11 +167,11 @@ impl Model for Loop {
 
     ghost view = { λ a. loop_of a.line a.form };
 
-    ghost use Rattle.spv_syntax.specs.StatementSizes.{loop_size};
+    ghost use Rattle.spv_syntax.specs.Model.StatementSizes.{loop_size};
 
     ghost size = { loop_size };
 
-    ghost use Rattle.spv_syntax.specs.StatementFalls.{loop_falls};
+    ghost use Rattle.spv_syntax.specs.Model.StatementFalls.{loop_falls};
 
     ghost size_decreases = { λ a h. loop_falls a };
 }

@@ -35,8 +35,8 @@ impl Model for TypeDenoter {
 
     ghost Value = { plain.TypeDenoter };
 
-    ghost use Rattle.spv_syntax.specs.Codes.{coded_by};
-    ghost use Rattle.spv_syntax.specs.TypeCodes.{way_type};
+    ghost use Rattle.spv_syntax.specs.Model.Codes.{coded_by};
+    ghost use Rattle.spv_syntax.specs.Model.TypeCodes.{way_type};
 
     ghost coded = { coded_by way_type };
 
@@ -44,11 +44,11 @@ impl Model for TypeDenoter {
 
     ghost view = { λ a. type_of a.line a.form };
 
-    ghost use Rattle.spv_syntax.specs.TypeSizes.{type_size};
+    ghost use Rattle.spv_syntax.specs.Model.TypeSizes.{type_size};
 
     ghost size = { type_size };
 
-    ghost use Rattle.spv_syntax.specs.TypeFalls.{type_falls};
+    ghost use Rattle.spv_syntax.specs.Model.TypeFalls.{type_falls};
 
     ghost size_decreases = { λ a h. type_falls a };
 }
@@ -68,8 +68,8 @@ impl Model for Field {
 
     ghost Value = { plain.Field };
 
-    ghost use Rattle.spv_syntax.specs.Codes.{coded_by};
-    ghost use Rattle.spv_syntax.specs.TypeCodes.{way_field};
+    ghost use Rattle.spv_syntax.specs.Model.Codes.{coded_by};
+    ghost use Rattle.spv_syntax.specs.Model.TypeCodes.{way_field};
 
     ghost coded = { coded_by way_field };
 
@@ -77,11 +77,11 @@ impl Model for Field {
 
     ghost view = { λ a. field_of a.line a.form };
 
-    ghost use Rattle.spv_syntax.specs.TypeSizes.{field_size};
+    ghost use Rattle.spv_syntax.specs.Model.TypeSizes.{field_size};
 
     ghost size = { field_size };
 
-    ghost use Rattle.spv_syntax.specs.TypeFalls.{field_falls};
+    ghost use Rattle.spv_syntax.specs.Model.TypeFalls.{field_falls};
 
     ghost size_decreases = { λ a h. field_falls a };
 }

@@ -2,7 +2,7 @@
 use Rattle.std.proofs.Common.{◌≡◌, ◌-◌, ◌<◌, ℕ, zero, suc, arith, List, [], ◌∷◌, refl, ap}
 use Rattle.spv_tokens.specs.declared.token.Token.{Token}
 use Rattle.spv_syntax.specs.Types.{TypeDenoter, no_more_types, more_types, Field, no_more_fields, more_fields}
-use Rattle.spv_syntax.specs.TypeSizes.{more_types_of, more_fields_of}
+use Rattle.spv_syntax.specs.Model.TypeSizes.{more_types_of, more_fields_of}
 use Rattle.spv_reading.specs.TypeReaders.{read_lower_type, read_type}
 use Rattle.spv_front.specs.Lists.{put}
 

@@ -1,7 +1,7 @@
 // Types.
 
 ghost use Rattle.std.specs.Prelude.{◌≡◌, Some, None, IfOk, IsErrAnd};
-ghost use Rattle.spv_syntax.specs.TypeSizes.{more_types_of, more_fields_of};
+ghost use Rattle.spv_syntax.specs.Model.TypeSizes.{more_types_of, more_fields_of};
 ghost use Rattle.spv_reading.specs.Readers as reader;
 ghost use Rattle.spv_reading.specs.TypeReaders.{read_names, read_upper, read_range, read_type_name, read_more_types, read_array, read_field_part, read_more_fields, read_record, read_lower_type, read_type};
 ghost use Rattle.spv_front.specs.Faults.{IsSyntax};

@@ -1,20 +1,21 @@
 use Rattle.std.proofs.Common.{◌+◌, ◌*◌}
-use Rattle.spv_syntax.specs.FormulaKinds.{more_terms_kinds, more_factors_kinds, more_formulas_kinds, selectors_kinds}
-use Rattle.spv_syntax.specs.FormulaSizes.{more_terms_of, more_factors_of, more_formulas_of, selectors_of, formula_size, relation_size, simple_size, term_size, factor_size, designator_size, selector_size, more_formulas_size, selectors_size}
+use Rattle.spv_syntax.specs.Members.{in_kinds}
+use Rattle.spv_syntax.specs.FormulaSpelling.{more_factors_spelling, more_formulas_spelling, more_terms_spelling, selectors_spelling}
+use Rattle.spv_syntax.specs.Model.FormulaSizes.{more_terms_of, more_factors_of, more_formulas_of, selectors_of, formula_size, relation_size, simple_size, term_size, factor_size, designator_size, selector_size, more_formulas_size, selectors_size}
 use Rattle.spv_flat.proofs.Loops.{ComeTo}
 use Rattle.spv_flat.proofs.formulas.+formulas.Given as goal
 
 abbrev pub invariant-simple-loop-operator : goal.invariant-simple-loop-operator
-invariant-simple-loop-operator l = ComeTo (λ ts. more_terms_kinds (more_terms_of ts)) l.operator-items l.operator-index l.initial.out.items l.out.items
+invariant-simple-loop-operator l = ComeTo (λ ts. more_terms_spelling in_kinds (more_terms_of ts)) l.operator-items l.operator-index l.initial.out.items l.out.items
 
 abbrev pub invariant-term-loop-operator : goal.invariant-term-loop-operator
-invariant-term-loop-operator l = ComeTo (λ fs. more_factors_kinds (more_factors_of fs)) l.operator-items l.operator-index l.initial.out.items l.out.items
+invariant-term-loop-operator l = ComeTo (λ fs. more_factors_spelling in_kinds (more_factors_of fs)) l.operator-items l.operator-index l.initial.out.items l.out.items
 
 abbrev pub invariant-more_formulas-loop-part : goal.invariant-more_formulas-loop-part
-invariant-more_formulas-loop-part l = ComeTo (λ fs. more_formulas_kinds (more_formulas_of fs)) l.more l.part-index l.initial.out.items l.out.items
+invariant-more_formulas-loop-part l = ComeTo (λ fs. more_formulas_spelling in_kinds (more_formulas_of fs)) l.more l.part-index l.initial.out.items l.out.items
 
 abbrev pub invariant-selectors-loop-part : goal.invariant-selectors-loop-part
-invariant-selectors-loop-part l = ComeTo (λ ss. selectors_kinds (selectors_of ss)) l.behind l.part-index l.initial.out.items l.out.items
+invariant-selectors-loop-part l = ComeTo (λ ss. selectors_spelling in_kinds (selectors_of ss)) l.behind l.part-index l.initial.out.items l.out.items
 
 abbrev pub decreases-formula : goal.decreases-formula
 decreases-formula l = 2 * formula_size l.tree.now

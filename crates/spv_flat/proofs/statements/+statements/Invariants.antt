@@ -1,15 +1,16 @@
 use Rattle.std.proofs.Common.{◌+◌, ◌*◌}
-use Rattle.spv_syntax.specs.StatementKinds.{more_statements_kinds, more_arms_kinds}
-use Rattle.spv_syntax.specs.StatementSizes.{more_statements_of, more_arms_of, statement_size, otherwise_size, block_size, more_statements_size, arm_size, more_arms_size, loop_size}
+use Rattle.spv_syntax.specs.Members.{in_kinds}
+use Rattle.spv_syntax.specs.StatementSpelling.{more_arms_spelling, more_statements_spelling}
+use Rattle.spv_syntax.specs.Model.StatementSizes.{more_statements_of, more_arms_of, statement_size, otherwise_size, block_size, more_statements_size, arm_size, more_arms_size, loop_size}
 use Rattle.spv_syntax.specs.StatementViews.{otherwise_of}
 use Rattle.spv_flat.proofs.Loops.{ComeTo}
 use Rattle.spv_flat.proofs.statements.+statements.Given as goal
 
 abbrev pub invariant-more_statements-loop-part : goal.invariant-more_statements-loop-part
-invariant-more_statements-loop-part l = ComeTo (λ ss. more_statements_kinds (more_statements_of ss)) l.more l.part-index l.initial.out.items l.out.items
+invariant-more_statements-loop-part l = ComeTo (λ ss. more_statements_spelling in_kinds (more_statements_of ss)) l.more l.part-index l.initial.out.items l.out.items
 
 abbrev pub invariant-more_arms-loop-part : goal.invariant-more_arms-loop-part
-invariant-more_arms-loop-part l = ComeTo (λ xs. more_arms_kinds (more_arms_of xs)) l.more l.part-index l.initial.out.items l.out.items
+invariant-more_arms-loop-part l = ComeTo (λ xs. more_arms_spelling in_kinds (more_arms_of xs)) l.more l.part-index l.initial.out.items l.out.items
 
 abbrev pub decreases-statement : goal.decreases-statement
 decreases-statement l = 2 * statement_size l.tree.now

@@ -1,14 +1,15 @@
 use Rattle.std.proofs.Common.{◌+◌, ◌*◌}
-use Rattle.spv_syntax.specs.TypeKinds.{more_types_kinds, more_fields_kinds}
-use Rattle.spv_syntax.specs.TypeSizes.{more_types_of, more_fields_of, type_size, more_types_size, field_size, more_fields_size}
+use Rattle.spv_syntax.specs.Members.{in_kinds}
+use Rattle.spv_syntax.specs.TypeSpelling.{more_fields_spelling, more_types_spelling}
+use Rattle.spv_syntax.specs.Model.TypeSizes.{more_types_of, more_fields_of, type_size, more_types_size, field_size, more_fields_size}
 use Rattle.spv_flat.proofs.Loops.{ComeTo}
 use Rattle.spv_flat.proofs.types.+types.Given as goal
 
 abbrev pub invariant-more_types-loop-of : goal.invariant-more_types-loop-of
-invariant-more_types-loop-of l = ComeTo (λ ts. more_types_kinds (more_types_of ts)) l.more l.of-index l.initial.out.items l.out.items
+invariant-more_types-loop-of l = ComeTo (λ ts. more_types_spelling in_kinds (more_types_of ts)) l.more l.of-index l.initial.out.items l.out.items
 
 abbrev pub invariant-more_fields-loop-part : goal.invariant-more_fields-loop-part
-invariant-more_fields-loop-part l = ComeTo (λ fs. more_fields_kinds (more_fields_of fs)) l.more l.part-index l.initial.out.items l.out.items
+invariant-more_fields-loop-part l = ComeTo (λ fs. more_fields_spelling in_kinds (more_fields_of fs)) l.more l.part-index l.initial.out.items l.out.items
 
 abbrev pub decreases-type_denoter : goal.decreases-type_denoter
 decreases-type_denoter l = 2 * type_size l.tree.now

@@ -1,8 +1,9 @@
-use Rattle.spv_syntax.specs.FormulaKinds.{formula_kinds, designator_kinds}
-use Rattle.spv_syntax.specs.StatementKinds.{statement_kinds, block_kinds}
-use Rattle.spv_syntax.specs.TypeKinds.{type_kinds}
-use Rattle.spv_syntax.specs.ProgramKinds.{program_kinds}
-use Rattle.spv_syntax.specs.RuleKinds.{rule_tree_kinds, formula_text_kinds}
+use Rattle.spv_syntax.specs.Members.{in_kinds}
+use Rattle.spv_syntax.specs.FormulaSpelling.{designator_spelling, formula_spelling}
+use Rattle.spv_syntax.specs.ProgramSpelling.{program_spelling}
+use Rattle.spv_syntax.specs.RuleSpelling.{formula_text_spelling, rule_tree_spelling}
+use Rattle.spv_syntax.specs.StatementSpelling.{block_spelling, statement_spelling}
+use Rattle.spv_syntax.specs.TypeSpelling.{type_spelling}
 use Rattle.spv_reading.specs.Depths.{formula_depth, designator_depth, statement_depth, block_depth, type_depth, program_depth, rule_tree_depth, formula_text_depth}
 use Rattle.spv_level.proofs.FormulaClimbs.{formula_climbs, designator_climbs}
 use Rattle.spv_level.proofs.StatementClimbs.{statement_climbs, block_climbs}
@@ -13,25 +14,25 @@ use Rattle.spv_level.proofs.Texts.{is_shallow, part_is_shallow}
 use Rattle.spv_level.proofs.laws.law_shallow.Goals as goal
 
 pub returns-clause-formulas : goal.returns-clause-formulas
-returns-clause-formulas c = part_is_shallow formula_depth formula_kinds formula_climbs
+returns-clause-formulas c = part_is_shallow formula_depth (formula_spelling in_kinds) formula_climbs
 
 pub returns-clause-designators : goal.returns-clause-designators
-returns-clause-designators c = part_is_shallow designator_depth designator_kinds designator_climbs
+returns-clause-designators c = part_is_shallow designator_depth (designator_spelling in_kinds) designator_climbs
 
 pub returns-clause-statements : goal.returns-clause-statements
-returns-clause-statements c = part_is_shallow statement_depth statement_kinds statement_climbs
+returns-clause-statements c = part_is_shallow statement_depth (statement_spelling in_kinds) statement_climbs
 
 pub returns-clause-blocks : goal.returns-clause-blocks
-returns-clause-blocks c = part_is_shallow block_depth block_kinds block_climbs
+returns-clause-blocks c = part_is_shallow block_depth (block_spelling in_kinds) block_climbs
 
 pub returns-clause-types : goal.returns-clause-types
-returns-clause-types c = part_is_shallow type_depth type_kinds type_climbs
+returns-clause-types c = part_is_shallow type_depth (type_spelling in_kinds) type_climbs
 
 pub returns-clause-programs : goal.returns-clause-programs
-returns-clause-programs c = is_shallow program_depth program_kinds program_over
+returns-clause-programs c = is_shallow program_depth (program_spelling in_kinds) program_over
 
 pub returns-clause-rules : goal.returns-clause-rules
-returns-clause-rules c = is_shallow rule_tree_depth rule_tree_kinds rule_tree_over
+returns-clause-rules c = is_shallow rule_tree_depth (rule_tree_spelling in_kinds) rule_tree_over
 
 pub returns-clause-formula_texts : goal.returns-clause-formula_texts
-returns-clause-formula_texts c = is_shallow formula_text_depth formula_text_kinds formula_text_over
+returns-clause-formula_texts c = is_shallow formula_text_depth (formula_text_spelling in_kinds) formula_text_over

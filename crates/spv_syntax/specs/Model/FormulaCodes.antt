@@ -1,7 +1,7 @@
 -- Formulas as trees of numbers, and back.
 use Rattle.std.specs.Prelude.{zero, suc, ◌≡◌, refl, None}
 use base.Stored.{Gv, gnil, gnum, gcons, num}
-use Rattle.spv_syntax.specs.Codes.{Way, way_bool, way_name, way_option, way_prefix, way_comparison, way_adding, way_multiplying}
+use Rattle.spv_syntax.specs.Model.Codes.{Way, way_bool, way_name, way_option, way_prefix, way_comparison, way_adding, way_multiplying}
 use Rattle.spv_syntax.specs.Formulas.{Formula, formula, Conclusion, no_conclusion, implies, Relation, relation, RightSide, no_right_side, compared, Simple, simple, MoreTerms, no_more_terms, more_terms, Term, term, MoreFactors, no_more_factors, more_factors, Factor, number, truth, nil, class, place, application, bracketed, negation, MoreFormulas, no_more_formulas, more_formulas, Designator, designator, Selectors, no_selectors, selectors, Selector, content, index, field}
 
 abbrev mutual

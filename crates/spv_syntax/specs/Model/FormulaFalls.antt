@@ -21,7 +21,7 @@ use Rattle.spv_syntax.specs.declared.formulas.SelectorForm.TheVariants.{Index, F
 use Rattle.spv_syntax.specs.declared.formulas.Designator.TheShapes.{weighed-Simple-more-at-2, weighed-Term-more-at-2}
 use Rattle.spv_syntax.specs.declared.formulas.Designator.TheDeep.{deep-FactorForm, deep-SelectorForm, deep-Formula, deep-Relation, deep-Simple, deep-Term, deep-Factor, deep-Designator, deep-Selector}
 use Rattle.spv_syntax.specs.Formulas.{Formula, Relation, Simple, Term, Factor, Selector}
-use Rattle.spv_syntax.specs.FormulaSizes.{more_terms_of, more_factors_of, more_formulas_of, selectors_of, formula_size, conclusion_size, relation_size, right_side_size, simple_size, more_terms_size, term_size, more_factors_size, factor_size, more_formulas_size, selectors_size, selector_size}
+use Rattle.spv_syntax.specs.Model.FormulaSizes.{more_terms_of, more_factors_of, more_formulas_of, selectors_of, formula_size, conclusion_size, relation_size, right_side_size, simple_size, more_terms_size, term_size, more_factors_size, factor_size, more_formulas_size, selectors_size, selector_size}
 use Rattle.spv_syntax.specs.FormulaViews.{conclusion_of, right_side_of, factor_of, selector_of}
 
 most_terms : (ts : List (Adding × Term)) → most (λ t. weighed-Simple-more-at-2.weight Term (λ u. term_size u + 1) t) ts ≤ more_terms_size (more_terms_of ts) + 1

@@ -7,9 +7,9 @@ ghost use Rattle.spv_reading.specs.StatementReaders.{read_block};
 ghost use Rattle.spv_reading.specs.RoutineReaders as routine;
 ghost use Rattle.spv_front.specs.Faults.{IsSyntax};
 
-use crate::routines::{begins_heading, mark};
 use spv_front::fault::{Fault, unexpected};
 use spv_front::front::past_sign;
+use spv_routine_parser::routines::{begins_heading, mark};
 use spv_statement_parser::statements::block;
 use spv_syntax::{Block, RoutineMark};
 use spv_tokens::{Sign, Token};

@@ -1,7 +1,7 @@
 -- Types as trees of numbers, and back.
 use Rattle.std.specs.Prelude.{zero, suc, ◌≡◌, refl}
 use base.Stored.{Gv, gnil, gnum, gcons, num}
-use Rattle.spv_syntax.specs.Codes.{Way, way_name, way_constant, way_several}
+use Rattle.spv_syntax.specs.Model.Codes.{Way, way_name, way_constant, way_several}
 use Rattle.spv_syntax.specs.Types.{TypeDenoter, named, range, pointer, array, fields, MoreTypes, no_more_types, more_types, Field, no_field, field, MoreFields, no_more_fields, more_fields}
 
 abbrev mutual

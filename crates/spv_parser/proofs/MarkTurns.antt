@@ -10,7 +10,7 @@ use Rattle.spv_syntax.specs.declared.routines.RoutineMark.TheVariants.{Announced
 use Rattle.spv_reading.specs.Readers.{front, and_then, ended}
 use Rattle.spv_reading.specs.StatementReaders.{read_block}
 use Rattle.spv_reading.specs.RoutineReaders.{begins_heading, begun_behind, read_mark, marks_by, marks}
-use Rattle.spv_routine_parser.specs.Marks.{MarksSoFar}
+use Rattle.spv_parser.specs.Marks.{MarksSoFar}
 
 -- what is read behind these marks
 abbrev behind_all : List RoutineMark → Option (List RoutineMark × List Token) → Option (List RoutineMark × List Token)

@@ -16,7 +16,7 @@ use Rattle.spv_syntax.specs.declared.statements.LoopForm.{LoopForm}
 use Rattle.spv_syntax.specs.declared.statements.LoopForm.TheVariants.{While, Repeat, For}
 use Rattle.spv_syntax.specs.declared.statements.Arm.TheDeep.{deep-StatementForm, deep-LoopForm, deep-Statement, deep-Block, deep-Arm, deep-Loop}
 use Rattle.spv_syntax.specs.Statements.{Statement, Arm}
-use Rattle.spv_syntax.specs.StatementSizes.{more_statements_of, more_arms_of, statement_size, more_statements_size, arm_size, more_arms_size, loop_size}
+use Rattle.spv_syntax.specs.Model.StatementSizes.{more_statements_of, more_arms_of, statement_size, more_statements_size, arm_size, more_arms_size, loop_size}
 use Rattle.spv_syntax.specs.StatementViews.{statement_of, arm_of, loop_of}
 
 most_statements : (ss : List Statement) → most (λ s. statement_size s + 1) ss ≤ more_statements_size (more_statements_of ss) + 1

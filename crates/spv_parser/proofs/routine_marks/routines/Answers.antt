@@ -1,10 +1,10 @@
 use Rattle.std.proofs.Common.{◌+◌, length, arith, sym}
 use Rattle.spv_reading.specs.RoutineReaders.{read_routines}
-use Rattle.spv_routine_parser.specs.Marks.{MarksSoFar}
+use Rattle.spv_parser.specs.Marks.{MarksSoFar}
 use Rattle.spv_front.proofs.Exits.{same_fault}
-use Rattle.spv_routine_parser.proofs.MarkTurns.{begins, begins_none, ends, ends_none, stops}
-use Rattle.spv_routine_parser.proofs.routine_marks.routines.Goals.{then-begins_heading+in_ok-first+in_ok-push, else-begins_heading+then-begun-gt0+in_ok-last+in_ok-push-2}
-use Rattle.spv_routine_parser.proofs.routine_marks.routines.Goals as goal
+use Rattle.spv_parser.proofs.MarkTurns.{begins, begins_none, ends, ends_none, stops}
+use Rattle.spv_parser.proofs.routine_marks.routines.Goals.{then-begins_heading+in_ok-first+in_ok-push, else-begins_heading+then-begun-gt0+in_ok-last+in_ok-push-2}
+use Rattle.spv_parser.proofs.routine_marks.routines.Goals as goal
 
 pub returns-in_err-first-clause-absent : goal.returns-in_err-first-clause-absent
 returns-in_err-first-clause-absent c h = begins_none c.loop.invariant c.loop-test.true (sym c.if-begins_heading.ensures) (c.in_err-first.ensures.absent (same_fault _ c.from_residual.result c.from_residual.ensures.1 h))

@@ -10,7 +10,7 @@ use Rattle.spv_syntax.specs.declared.types.TypeForm.{TypeForm}
 use Rattle.spv_syntax.specs.declared.types.TypeForm.TheVariants.{Named, Range, Pointer, Array, Record}
 use Rattle.spv_syntax.specs.declared.types.Field.TheDeep.{deep-TypeForm, deep-TypeDenoter, deep-Field}
 use Rattle.spv_syntax.specs.Types.{TypeDenoter, Field}
-use Rattle.spv_syntax.specs.TypeSizes.{more_types_of, more_fields_of, type_size, more_types_size, field_size, more_fields_size}
+use Rattle.spv_syntax.specs.Model.TypeSizes.{more_types_of, more_fields_of, type_size, more_types_size, field_size, more_fields_size}
 use Rattle.spv_syntax.specs.TypeViews.{type_of, field_of}
 
 most_types : (ts : List TypeDenoter) → most (λ t. type_size t + 1) ts ≤ more_types_size (more_types_of ts) + 1

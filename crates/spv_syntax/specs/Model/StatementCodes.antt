@@ -1,8 +1,8 @@
 -- Statements as trees of numbers, and back.
 use Rattle.std.specs.Prelude.{zero, suc, ◌≡◌, refl}
 use base.Stored.{Gv, gnil, gnum, gcons, num}
-use Rattle.spv_syntax.specs.Codes.{Way, way_name, way_constant, way_option, way_several, way_direction}
-use Rattle.spv_syntax.specs.FormulaCodes.{way_formula, way_designator}
+use Rattle.spv_syntax.specs.Model.Codes.{Way, way_name, way_constant, way_option, way_several, way_direction}
+use Rattle.spv_syntax.specs.Model.FormulaCodes.{way_formula, way_designator}
 use Rattle.spv_syntax.specs.Statements.{Statement, empty, assignment, call, creation, compound, conditional, selection, repetition, assertion, Otherwise, nothing_otherwise, otherwise, Block, block, MoreStatements, no_more_statements, more_statements, Arm, no_arm, arm, MoreArms, no_more_arms, more_arms, Loop, while_loop, repeat_loop, for_loop}
 
 abbrev mutual

@@ -1,0 +1,11 @@
+pub mod Outcomes
+pub mod Known
+pub mod Merging
+pub mod TypeWalk
+pub mod DeclarationWalk
+pub mod OperatorWalk
+pub mod FormulaWalk
+pub mod ExpressionWalk
+pub mod StatementWalk
+pub mod RoutineWalk
+pub mod ProgramWalk
