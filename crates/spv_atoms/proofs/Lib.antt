@@ -6,3 +6,8 @@ pub mod Leaves
 pub mod Adding
 pub mod Layers
 pub mod Values
+pub mod Coefficients
+pub mod Sums
+pub mod Forming
+pub mod Finding
+pub mod Places

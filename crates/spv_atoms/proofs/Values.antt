@@ -65,7 +65,7 @@ one_less : (n m : ℕ) → nat_lt (suc n) m ≡ true → nat_lt n m ≡ true
 one_less n m h = grind (arith, nat_tests)
 
 -- a numeral's number fits an `i128`
-number-fits : (z : ℤ) → IsTrue (numeral_fits (head.Num z)) → SFits w128 z
+pub number-fits : (z : ℤ) → IsTrue (numeral_fits (head.Num z)) → SFits w128 z
 number-fits (pos n) h = sfits_lit {w = w128} (subst T (sym h) tt)
 number-fits (negsuc n) h = sfits_lit {w = w128} (subst T (sym (one_less n (2 ^ 127) h)) tt)
 

@@ -20,7 +20,7 @@ use Rattle.spv_atoms.specs.declared.walk.Work.{Work}
 use Rattle.spv_atoms.specs.declared.walk.Work.TheVariants.{Visit, Finish}
 use Rattle.spv_atoms.specs.Atoms.{has_sort, is_truth, connects, is_connective, with_term}
 use Rattle.spv_atoms.specs.Tables.{all_truths}
-use Rattle.spv_atoms.specs.Order.{is_sum_head, is_sum, order, order_all, size, sizes, enters_in, same_id, with_id, visits, done_by, after, weight, weights, WorkIn, WorksIn, IsStep, Inside}
+use Rattle.spv_atoms.specs.Order.{is_sum_head, is_sum, has_meaning_head, has_meaning, order, order_all, size, sizes, enters_in, same_id, with_id, visits, done_by, after, weight, weights, WorkIn, WorksIn, IsStep, Inside}
 
 -- ---- sorts
 
@@ -43,6 +43,9 @@ module _ (a : Arena) (ok : IsArena a) (t : TermId) (n : Node) (at : slice_get a.
 
   pub sum_at : (b : Bool) → b ≡ is_sum_head n.head → b ≡ is_sum (tree a t)
   sum_at b f = f ∙ ap is_sum (sym (tree-node a ok t n at))
+
+  pub meaning_at : (b : Bool) → b ≡ has_meaning_head n.head → b ≡ has_meaning (tree a t)
+  meaning_at b f = f ∙ ap has_meaning (sym (tree-node a ok t n at))
 
   pub args_at : (args : List TermId) → args ≡ n.args → AllBelow (length a.nodes) args
   args_at args e = subst (AllBelow (length a.nodes)) (sym e) (args_in_range a ok t n at)

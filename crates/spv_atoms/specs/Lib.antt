@@ -5,3 +5,6 @@ pub mod Order
 pub mod Valued
 pub mod Shape
 pub mod Laws
+pub mod Linear
+pub mod Sums
+pub mod Found

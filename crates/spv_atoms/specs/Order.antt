@@ -3,12 +3,12 @@ use Rattle.std.specs.Prelude.{◌≡◌, Some, slice_get, ℕ, suc, ◌+◌, ◌
 use Rattle.std.specs.List.{list_any}
 use Rattle.spv_logic.specs.declared.conditions.TermId.{TermId}
 use Rattle.spv_logic.specs.declared.operators.Head.{Head}
-use Rattle.spv_logic.specs.declared.operators.Head.TheVariants.{Add, Sub, Mul}
+use Rattle.spv_logic.specs.declared.operators.Head.TheVariants.{Add, Sub, Mul, Eq, Lt, Le, Not, And, Or, Implies}
 use Rattle.spv_logic.specs.Terms.{Term, Terms, term, no_terms, terms, term_eq}
 use Rattle.spv_term.specs.declared.nodes.Node.{Node}
 use Rattle.spv_term.specs.Arena.{Arena, AllBelow, tree}
 use Rattle.spv_atoms.specs.declared.walk.Through.{Through}
-use Rattle.spv_atoms.specs.declared.walk.Through.TheVariants.{Connectives, Sums}
+use Rattle.spv_atoms.specs.declared.walk.Through.TheVariants.{Connectives, Sums, Meanings}
 use Rattle.spv_atoms.specs.declared.walk.Work.{Work}
 use Rattle.spv_atoms.specs.declared.walk.Work.TheVariants.{Visit, Finish}
 use Rattle.spv_atoms.specs.Atoms.{is_truth, is_connective, is_atom, only_if, with_term, with_terms}
@@ -43,10 +43,28 @@ is_sum_head _ = false
 abbrev pub is_sum : Term → Bool
 is_sum (term h ts) = is_sum_head h
 
+-- whether a head has a meaning of its own, which takes what its arguments are worth
+abbrev pub has_meaning_head : Head → Bool
+has_meaning_head Add = true
+has_meaning_head Sub = true
+has_meaning_head Mul = true
+has_meaning_head Eq = true
+has_meaning_head Lt = true
+has_meaning_head Le = true
+has_meaning_head Not = true
+has_meaning_head And = true
+has_meaning_head Or = true
+has_meaning_head Implies = true
+has_meaning_head _ = false
+
+abbrev pub has_meaning : Term → Bool
+has_meaning (term h ts) = has_meaning_head h
+
 -- whether the arguments of a term are gone through
 abbrev pub enters_in : Arena → Through → Term → Bool
 enters_in a Connectives t = is_connective (is_truth a.shapes a.decls) t
 enters_in a Sums t = is_sum t
+enters_in a Meanings t = has_meaning t
 
 -- ---- ids
 

@@ -1,16 +1,23 @@
 //! Linear forms and atoms of terms, and proofs as data.
 #![tactic(auto)]
 
+mod forms;
 mod formulas;
 mod laws;
+mod linear_form;
 mod numerals;
+mod parts;
 pub mod proofs;
 mod sets;
 mod tables;
 mod valued;
 mod walk;
 
+pub use forms::{AtomFault, linear};
 pub use formulas::{atoms, is_atom};
 pub use laws::{law_form, law_truth};
+pub use linear_form::Linear;
 pub use proofs::{Proof, ProofNode, Relation, Split, Stated, Step};
+pub use sets::TermSet;
 pub use valued::truth;
+pub use walk::{Through, has_meaning_head, in_order, is_sum_head};

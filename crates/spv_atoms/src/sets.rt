@@ -9,9 +9,9 @@ use spv_logic::TermId;
 use std::alloc::{AllocError, Global};
 use std::marker::Model;
 
-// Terms, each once. A look-up goes by a hash.
+/// Terms, each once, in the order in which they were added. A look-up goes by a hash.
 #[derive(Drop)]
-pub(crate) struct TermSet {
+pub struct TermSet {
     ids: IndexSet<TermId>,
 }
 
@@ -34,8 +34,8 @@ impl TermSet {
         }
     }
 
-    // Whether a term is in the set.
-    pub(crate) fn has(&self, t: TermId) -> bool
+    /// Whether a term is in the set.
+    pub fn has(&self, t: TermId) -> bool
         ensures { result ≡ list_any (same_id t) self.now }
     {
         self.ids.contains(&t)
@@ -49,15 +49,15 @@ impl TermSet {
         Ok(())
     }
 
-    // The place of a term.
-    pub(crate) fn place(&self, t: TermId) -> Option<usize>
+    /// The place of a term.
+    pub fn place(&self, t: TermId) -> Option<usize>
         ensures { result ≡ position (same_id t) self.now }
     {
         self.ids.get_index_of(&t)
     }
 
-    // The terms in order.
-    pub(crate) fn as_slice(&self) -> &[TermId]
+    /// The terms in order.
+    pub fn as_slice(&self) -> &[TermId]
         ensures { result.now ≡ self.now }
     {
         self.ids.as_slice()

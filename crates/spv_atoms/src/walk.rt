@@ -14,11 +14,13 @@ use std::alloc::{AllocError, Global};
 
 /// Which terms' arguments are gone through.
 #[derive(Clone, Copy, Debug)]
-pub(crate) enum Through {
+pub enum Through {
     /// Those of connectives.
     Connectives,
     /// Those of sums, differences and products.
     Sums,
+    /// Those of sums, differences, products, relations and connectives.
+    Meanings,
 }
 
 /// What is still to be done.
@@ -78,8 +80,8 @@ pub(crate) fn is_connective(terms: &Terms, t: TermId) -> bool
     connects(terms, node.head, node.args.as_slice())
 }
 
-// Whether a head is a sum, a difference or a product.
-fn is_sum_head(head: Head) -> bool
+/// Whether a head is a sum, a difference or a product.
+pub fn is_sum_head(head: Head) -> bool
     ensures { result ≡ order.is_sum_head head }
 {
     match head {
@@ -97,6 +99,27 @@ fn is_sum(terms: &Terms, t: TermId) -> bool
     is_sum_head(terms.node(t).head)
 }
 
+/// Whether a head is a sum, a difference, a product, a relation or a connective.
+pub fn has_meaning_head(head: Head) -> bool
+    ensures { result ≡ order.has_meaning_head head }
+{
+    match head {
+        Head::Add | Head::Sub | Head::Mul => true,
+        Head::Eq | Head::Lt | Head::Le => true,
+        Head::Not | Head::And | Head::Or | Head::Implies => true,
+        _ => false,
+    }
+}
+
+// Whether a term is a sum, a difference, a product, a relation or a connective.
+fn has_meaning(terms: &Terms, t: TermId) -> bool
+    requires { t.0 < length terms.now.nodes }
+    ensures { result ≡ order.has_meaning (tree terms.now t) }
+{
+    terms.law_arena();
+    has_meaning_head(terms.node(t).head)
+}
+
 // Whether the arguments of a term are gone through.
 pub(crate) fn enters(terms: &Terms, through: Through, t: TermId) -> bool
     requires { t.0 < length terms.now.nodes }
@@ -105,6 +128,7 @@ pub(crate) fn enters(terms: &Terms, through: Through, t: TermId) -> bool
     match through {
         Through::Connectives => is_connective(terms, t),
         Through::Sums => is_sum(terms, t),
+        Through::Meanings => has_meaning(terms, t),
     }
 }
 
@@ -175,7 +199,7 @@ fn step(
 }
 
 /// A term and those that it is gone through to, each once and behind its arguments.
-pub(crate) fn in_order(
+pub fn in_order(
     alloc: Global,
     terms: &Terms,
     through: Through,

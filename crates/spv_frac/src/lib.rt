@@ -7,3 +7,4 @@ mod number;
 
 pub use frac::{Frac, Op, TooWide};
 pub use law::{law_add, law_cmp, law_frac, law_mul, law_value};
+pub use number::{plus, times};

@@ -5,7 +5,8 @@ ghost use Rattle.spv_whole.specs.Gcd.{gcd};
 
 use crate::TooWide;
 
-pub(crate) fn times(a: i128, b: i128) -> Result<i128, TooWide>
+/// The product, refused where it is out of range.
+pub fn times(a: i128, b: i128) -> Result<i128, TooWide>
     ensures fits { IsOk result ↔ IsTrue (fits (a *ℤ b)) }
     ensures value { IfOk result (λ product. product ≡ a *ℤ b) }
 {
@@ -15,7 +16,8 @@ pub(crate) fn times(a: i128, b: i128) -> Result<i128, TooWide>
     }
 }
 
-pub(crate) fn plus(a: i128, b: i128) -> Result<i128, TooWide>
+/// The sum, refused where it is out of range.
+pub fn plus(a: i128, b: i128) -> Result<i128, TooWide>
     ensures fits { IsOk result ↔ IsTrue (fits (a +ℤ b)) }
     ensures value { IfOk result (λ sum. sum ≡ a +ℤ b) }
 {

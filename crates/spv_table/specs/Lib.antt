@@ -1,0 +1,4 @@
+pub mod Values
+pub mod Tables
+pub mod Kept
+pub mod Faults

@@ -1,0 +1,9 @@
+//! Tables of fractions, and what terms and formulas are worth in one.
+#![tactic(auto)]
+
+mod kept;
+mod operations;
+mod table;
+
+pub use operations::WideValue;
+pub use table::{Table, ValueFault};
