@@ -2,3 +2,4 @@ pub mod Outcomes
 pub mod Operators
 pub mod Formulas
 pub mod Names
+pub mod Applications
