@@ -1,3 +1,4 @@
 pub mod Combinations
 pub mod Evaluating
 pub mod Soundness
+pub mod Outcomes
