@@ -12,7 +12,7 @@ use Rattle.spv_atoms.specs.Atoms.{is_atom}
 use Rattle.spv_proof.specs.Effects.{Question, Effect, Adds, Ends, Fails, is_truth, linear, effect}
 use Rattle.spv_proof.specs.Accepted.{Path, Open, Closed, Broken, closed_if_last, on_effect, walk, cases_of, opened_if, opened, after_node, on_opened, closes, accepts}
 use Rattle.spv_proof.specs.Stops.{Stop, Halt, kept}
-use Rattle.spv_proof.specs.Outcomes.{Trial, Does, Halts, does_unless, halt_of_sums, trial, Ending, Comes, Stops, Outcome, comes, stops, by_ending, then_outcome, on_kept, add_fact, on_does, on_trial, steps_outcome, Branch, root, begin_with, begin, case_after, branches_if, branches, branches_after, on_branches, nodes_outcome, outcome}
+use Rattle.spv_proof.specs.Outcomes.{Trial, Does, Halts, does_unless, halt_of_sums, trial, Ending, Comes, Stops, Outcome, comes, stops, by_ending, then_outcome, on_kept, add_fact, on_does, on_trial, steps_outcome, Branch, root, begin_with, begin, case_after, branches_if, branches, branches_after, node_outcome, on_branches, nodes_outcome, outcome}
 
 -- ---- one step
 
@@ -88,15 +88,33 @@ module _ (most : ℕ) (q : Question) where
   after-branches (Open facts) (Some s) = opened-if (is_atom (is_truth q) (q.at s.atom) && nat_eq (length s.parts) (length (cases_of q (q.at s.atom)))) facts (cases_of q (q.at s.atom))
   after-branches Broken split = refl
 
-  begin-comes : {T : Type 0} (known facts : List Term) (o : Option Term) (go : List Term → List Term → Outcome T) (x : T) → (begin_with most known facts o go).ending ≡ Comes x
-      → (start : List Term) × ((go start (added_case facts o)).ending ≡ Comes x)
-  begin-comes known facts None go x h = (known, h)
-  begin-comes known facts (Some t) go x h = kept-comes known (kept most known t) (λ more. go more (facts ++ t ∷ [])) x h
+  begin-comes : (known facts : List Term) (o : Option Term) (x : List Term) → (begin_with most known facts o).ending ≡ Comes x → added_case facts o ≡ x
+  begin-comes known facts None x h = cc
+  begin-comes known facts (Some t) x h = same ((kept-comes known (kept most known t) (λ more. comes more (facts ++ t ∷ [])) x h).1)
+    where
+      same : {xs : List Term} → Comes xs ≡ Comes x → xs ≡ x
+      same e = cc
 
   ending-comes : {S T : Type 0} (known : List Term) (e : Ending S) (go : List Term → S → Outcome T) (x : T) → (by_ending known e go).ending ≡ Comes x
       → (s : S) × (e ≡ Comes s) × ((go known s).ending ≡ Comes x)
   ending-comes known (Comes s) go x h = (s, refl, h)
   ending-comes known (Stops s) go x h = absurd (cc)
+
+  node-comes : (known : List Term) (p : Branch) (n : ProofNode) (left : Option (List Branch)) → (node_outcome most q known p n).ending ≡ Comes left
+      → after_node q (walk q (facts_of p) n.steps) n.split ≡ option_map (map facts_of) left
+  node-comes known p n left h =
+      let start = begin most known p in
+      let k = ending-comes start.known start.ending (λ start facts. then_outcome (steps_outcome most q start facts n.steps) (λ more path. comes more (branches_after q path n.split))) left h in
+      let facts = begin-comes known p.before p.opens k.0 k.1 in
+      let o = steps_outcome most q start.known k.0 n.steps in
+      let e = ending-comes o.known o.ending (λ more path. comes more (branches_after q path n.split)) left k.2 in
+      let leads = steps-come n.steps start.known k.0 e.0 e.1 in
+      let same : branches_after q e.0 n.split ≡ left = came e.2 in
+      ap (λ fs. after_node q (walk q fs n.steps) n.split) facts
+      ∙ (ap (λ w. after_node q w n.split) leads ∙ (after-branches e.0 n.split ∙ ap (option_map (map facts_of)) same))
+    where
+      came : {x y : Option (List Branch)} → Comes x ≡ Comes y → x ≡ y
+      came e = cc
 
   by_branches : (more : List Term) (others : List Branch) (nodes : List ProofNode) (b : Bool) (o : Option (List Branch))
       → ((new : List Branch) → (nodes_outcome most q more (new ++ others) nodes).ending ≡ Comes b → closes q (map facts_of (new ++ others)) nodes ≡ b)
@@ -110,13 +128,11 @@ module _ (most : ℕ) (q : Question) where
   nodes-come [] known (p ∷ others) b h = cc
   nodes-come (n ∷ nodes) known [] b h = cc
   nodes-come (n ∷ nodes) known (p ∷ others) b h =
-      let k = begin-comes known p.before p.opens (λ start facts. then_outcome (steps_outcome most q start facts n.steps) (λ more path. on_branches more (branches_after q path n.split) (λ new. nodes_outcome most q more (new ++ others) nodes))) b h in
-      let o = steps_outcome most q k.0 (facts_of p) n.steps in
-      let e = ending-comes o.known o.ending (λ more path. on_branches more (branches_after q path n.split) (λ new. nodes_outcome most q more (new ++ others) nodes)) b k.1 in
-      let leads = steps-come n.steps k.0 (facts_of p) e.0 e.1 in
-      ap (λ w. on_opened (after_node q w n.split) (λ new. closes q (new ++ map facts_of others) nodes)) leads
-      ∙ (ap (λ r. on_opened r (λ new. closes q (new ++ map facts_of others) nodes)) (after-branches e.0 n.split)
-      ∙ by_branches o.known others nodes b (branches_after q e.0 n.split) (λ new g. nodes-come nodes o.known (new ++ others) b g) e.2)
+      let whole = node_outcome most q known p n in
+      let k = ending-comes whole.known whole.ending (λ more left. on_branches more left (λ new. nodes_outcome most q more (new ++ others) nodes)) b h in
+      let leads = node-comes known p n k.0 k.1 in
+      ap (λ r. on_opened r (λ new. closes q (new ++ map facts_of others) nodes)) leads
+      ∙ by_branches whole.known others nodes b k.0 (λ new g. nodes-come nodes whole.known (new ++ others) b g) k.2
 
   -- what nothing stops is accepted or not
   pub outcome-accepts : (known : List Term) (nodes : List ProofNode) (b : Bool) → (outcome most q known nodes).ending ≡ Comes b → accepts q nodes ≡ b

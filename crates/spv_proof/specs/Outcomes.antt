@@ -35,18 +35,21 @@ abbrev pub only_where : Bool → Option Halt → Option Halt
 only_where true h = h
 only_where false h = None
 
--- what stops the sums of a step: the second one is looked at where the first shows its direction
+-- what stops the sum of a step that adds a at most b
+abbrev pub halt_at_most : (Term → Bool) → ℕ → List Term → List Term → Term → Term → List (Fraction × ℕ) → List (Fraction × ℕ) → Option Halt
+halt_at_most is_number most known facts a b first second =
+    only_where (is_number a && (is_number b && is_empty second)) (halt_in is_number most known facts (at_most a b) a b first)
+
+-- what stops the sums of a step that adds a equal to b: the second one is looked at where the first shows its direction
+abbrev pub halt_equal : (Term → Bool) → ℕ → List Term → List Term → Term → Term → List (Fraction × ℕ) → List (Fraction × ℕ) → Option Halt
+halt_equal is_number most known facts a b first second =
+    only_where (is_number a && is_number b)
+    (first_halt (halt_in is_number most known facts (equation a b) a b first)
+    (only_where (refutes is_number facts a b first) (halt_in is_number most known facts (equation a b) b a second)))
+
 abbrev pub halt_of_sums : ℕ → Question → List Term → List Term → Relation → List (Fraction × ℕ) → List (Fraction × ℕ) → Option Halt
-halt_of_sums most q known facts (AtMost s t) first second =
-    let a = q.at s in
-    let b = q.at t in
-    only_where (is_number q a && (is_number q b && is_empty second)) (halt_in (is_number q) most known facts (at_most a b) a b first)
-halt_of_sums most q known facts (Equal s t) first second =
-    let a = q.at s in
-    let b = q.at t in
-    only_where (is_number q a && is_number q b)
-    (first_halt (halt_in (is_number q) most known facts (equation a b) a b first)
-    (only_where (refutes (is_number q) facts a b first) (halt_in (is_number q) most known facts (equation a b) b a second)))
+halt_of_sums most q known facts (AtMost s t) first second = halt_at_most (is_number q) most known facts (q.at s) (q.at t) first second
+halt_of_sums most q known facts (Equal s t) first second = halt_equal (is_number q) most known facts (q.at s) (q.at t) first second
 
 -- what a step comes to after these facts, where there are these terms
 abbrev pub trial : ℕ → Question → List Term → List Term → Step → Trial
@@ -113,12 +116,13 @@ pub record Branch : Type 0 where
 abbrev pub root : Branch
 root = record { before = []; opens = None }
 
-abbrev pub begin_with : {T : Type 0} → ℕ → List Term → List Term → Option Term → (List Term → List Term → Outcome T) → Outcome T
-begin_with most known facts None go = go known facts
-begin_with most known facts (Some t) go = add_fact most known t (λ more. go more (facts ++ t ∷ []))
+abbrev pub begin_with : ℕ → List Term → List Term → Option Term → Outcome (List Term)
+begin_with most known facts None = comes known facts
+begin_with most known facts (Some t) = add_fact most known t (λ more. comes more (facts ++ t ∷ []))
 
-abbrev pub begin : {T : Type 0} → ℕ → List Term → Branch → (List Term → List Term → Outcome T) → Outcome T
-begin most known b go = begin_with most known b.before b.opens go
+-- the facts of a path when its node begins
+abbrev pub begin : ℕ → List Term → Branch → Outcome (List Term)
+begin most known b = begin_with most known b.before b.opens
 
 abbrev pub case_after : List Term → Term → Branch
 case_after facts t = record { before = facts; opens = Some t }
@@ -138,6 +142,11 @@ branches_after q Closed None = Some []
 branches_after q (Open facts) (Some s) = branches q facts s
 branches_after q _ split = None
 
+-- what a node comes to on a path: the paths that it leaves to be closed, or none where it does not close its own
+abbrev pub node_outcome : ℕ → Question → List Term → Branch → ProofNode → Outcome (Option (List Branch))
+node_outcome most q known b n =
+    then_outcome (begin most known b) (λ start facts. then_outcome (steps_outcome most q start facts n.steps) (λ more path. comes more (branches_after q path n.split)))
+
 abbrev pub on_branches : List Term → Option (List Branch) → (List Branch → Outcome Bool) → Outcome Bool
 on_branches known None go = comes known false
 on_branches known (Some new) go = go new
@@ -148,8 +157,7 @@ nodes_outcome most q known [] [] = comes known true
 nodes_outcome most q known [] (n ∷ nodes) = comes known false
 nodes_outcome most q known (b ∷ others) [] = comes known false
 nodes_outcome most q known (b ∷ others) (n ∷ nodes) =
-    begin most known b (λ start facts. then_outcome (steps_outcome most q start facts n.steps)
-    (λ more path. on_branches more (branches_after q path n.split) (λ new. nodes_outcome most q more (new ++ others) nodes)))
+    then_outcome (node_outcome most q known b n) (λ more left. on_branches more left (λ new. nodes_outcome most q more (new ++ others) nodes))
 
 -- what the check of a proof comes to: whether it is accepted, or what stops the check first
 abbrev pub outcome : ℕ → Question → List Term → List ProofNode → Outcome Bool
