@@ -2,6 +2,7 @@
 use Rattle.std.proofs.Common.{◌≡◌, ℕ, suc, ◌<◌, ◌≤◌, Bool, true, false, ◌&&◌, ◌||◌, List, [], ◌∷◌, ◌++◌, map, length, get_or, refl, sym, ap, ◌∙◌, Option, Some, None, nat_eq, not, arith, IsTrue, IsErr, if◌then◌else◌, Result, Ok, Err, OnOk, OnErr, IfErr}
 use Rattle.std.proofs.lemmas.Bool.{false≢true, eqb-true}
 use Rattle.std.proofs.lemmas.Option.{slice_get_within}
+use Rattle.std.proofs.lemmas.List.{map-append}
 use Rattle.std.proofs.lemmas.List.Sums.{fold-append}
 use Rattle.std.proofs.lemmas.List.Folds.{list_any_at}
 use Rattle.std.specs.List.{list_any}
@@ -11,14 +12,15 @@ use Rattle.spv_logic.specs.Terms.{Term, term, term_eq}
 use Rattle.spv_logic.proofs.Equality.{term_eq-true, term_eq-refl}
 use Rattle.spv_term.specs.declared.nodes.TermFault.{TermFault}
 use Rattle.spv_term.specs.declared.nodes.TermFault.TheVariants as fault
-use Rattle.spv_term.specs.Arena.{Arena, IsArena, AllBelow, node, has_node, with_node, place_of, lacks_room, tree, trees, trees_of, with_tree}
+use Rattle.spv_term.specs.Arena.{Arena, IsArena, AllBelow, node, has_node, with_node, place_of, lacks_room, tree, trees, trees_of, with_tree, Extends}
 use Rattle.spv_term.proofs.NodeLemmas.{has_node-at, place_of-there, with_node-there, with_node-absent}
 use Rattle.spv_term.proofs.TreeLemmas.{length-trees_of}
-use Rattle.spv_term.proofs.ArenaLemmas.{node_of, tree-node, args_in_range, same_ids}
+use Rattle.spv_term.proofs.ArenaLemmas.{node_of, tree-node, args_in_range, same_ids, map_tree-Extends, AllBelow-Extends}
 use Rattle.spv_proof.specs.Stops.{kept}
 use Rattle.spv_proof_steps.specs.declared.facts.Fact.{Fact}
 use Rattle.spv_proof_steps.specs.declared.facts.Fact.TheVariants.{Known, Negation, Equation, Below, AtMost}
 use Rattle.spv_proof_steps.specs.Steps.{fact_of, FactStands}
+use Rattle.spv_proof_steps.proofs.StepLemmas.{AllBelow-pushed}
 use Rattle.spv_checker.specs.KeptFaults.{IsKeptFault}
 
 -- ---- finding a term in a list
@@ -134,3 +136,12 @@ module _ (a : Arena) (fact : Fact) (stands : FactStands a fact) where
 
   pub at_most_below : (s t : TermId) → fact ≡ AtMost s t → AllBelow (length a.nodes) (s ∷ t ∷ [])
   at_most_below s t e = let k = (rw e at stands) in (k.0, (k.1, tt))
+
+-- ---- a fact more
+
+module _ (old new : Arena) (more : Extends old new) (facts after : List TermId) (t : TermId) (below : AllBelow (length old.nodes) facts) (pushed : after ≡ facts ++ t ∷ []) where
+  pub map-added : (f : Term) → tree new t ≡ f → map (tree new) after ≡ map (tree old) facts ++ f ∷ []
+  map-added f e = ap (map (tree new)) pushed ∙ (map-append (tree new) facts (t ∷ []) ∙ (λ i. map_tree-Extends more facts below i ++ e i ∷ []))
+
+  pub below-added : t.0 < length new.nodes → AllBelow (length new.nodes) after
+  below-added h = AllBelow-pushed (length new.nodes) facts after t (AllBelow-Extends more facts below) h pushed

@@ -1,2 +1,4 @@
 pub mod Faults
 pub mod KeptFaults
+pub mod Ends
+pub mod Walks

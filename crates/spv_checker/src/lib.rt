@@ -2,6 +2,8 @@
 #![tactic(auto)]
 
 mod keeping;
+mod linear;
 pub mod stops;
+mod walking;
 
 pub use stops::CheckStop;
