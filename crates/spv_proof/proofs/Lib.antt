@@ -2,3 +2,4 @@ pub mod Combinations
 pub mod Evaluating
 pub mod Soundness
 pub mod Outcomes
+pub mod Growing

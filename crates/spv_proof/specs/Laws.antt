@@ -9,7 +9,7 @@ use Rattle.spv_atoms.specs.declared.proofs.ProofNode.{ProofNode}
 use Rattle.spv_proof.specs.Effects.{Question}
 use Rattle.spv_proof.specs.Accepted.{accepts}
 use Rattle.spv_proof.specs.Stand.{IsProof}
-use Rattle.spv_proof.specs.Outcomes.{Comes, outcome}
+use Rattle.spv_proof.specs.Outcomes.{Comes, IsFirst, outcome}
 
 -- what an accepted proof is to show is true in a world
 abbrev pub AcceptedIsTrueIn : Meaning → Type 0
@@ -24,3 +24,7 @@ ProvedIsTrueIn world =
 -- a check that nothing stops comes to whether its proof is accepted, however many terms there are and may be
 abbrev pub UnstoppedIsExact : Type 0
 UnstoppedIsExact = (most : ℕ) (q : Question) (known : List Term) (nodes : List ProofNode) (b : Bool) → (outcome most q known nodes).ending ≡ Comes b → accepts q nodes ≡ b
+
+-- the terms that there are stay, and others come behind them
+abbrev pub TermsStay : Type 0
+TermsStay = (most : ℕ) (q : Question) (known : List Term) (nodes : List ProofNode) → IsFirst known (outcome most q known nodes).known

@@ -1,5 +1,5 @@
 -- What a check of a proof comes to, step by step, where there may be so many terms and no more.
-use Rattle.std.specs.Prelude.{ℕ, Bool, true, false, ◌&&◌, List, [], ◌∷◌, ◌++◌, map, length, Option, Some, None, nat_eq}
+use Rattle.std.specs.Prelude.{◌≡◌, ℕ, Bool, true, false, ◌&&◌, List, [], ◌∷◌, ◌++◌, map, length, Option, Some, None, nat_eq}
 use Rattle.std.specs.Option.{option_map}
 use Rattle.spv_whole.specs.Fraction.{Fraction}
 use Rattle.spv_logic.specs.Terms.{Term}
@@ -88,6 +88,11 @@ on_kept known (Some more) go = go more
 
 abbrev pub add_fact : {T : Type 0} → ℕ → List Term → Term → (List Term → Outcome T) → Outcome T
 add_fact most known t go = on_kept known (kept most known t) go
+
+-- some terms, and others behind them
+pub record IsFirst (known all : List Term) : Type 0 where
+  pub others : List Term
+  pub all_are : all ≡ known ++ others
 
 -- ---- the steps of a node
 
