@@ -1,10 +1,9 @@
 -- How a check ends over an arena.
-use Rattle.std.specs.Prelude.{◌≡◌, ◌<◌, ℕ, List, [], ◌∷◌, ◌++◌, length, Option, Some, None, IfSome}
-use Rattle.spv_logic.specs.Terms.{Term}
+use Rattle.std.specs.Prelude.{◌≡◌, ◌<◌, length, Option, Some, None, IfSome}
 use Rattle.spv_term.specs.declared.nodes.Condition.{Condition}
 use Rattle.spv_term.specs.Arena.{Arena, tree, trees_of}
 use Rattle.spv_proof.specs.Stops.{Stop, WideSum, WideForm, TooMany, Halt}
-use Rattle.spv_proof.specs.Outcomes.{Trial, Halts, Outcome, comes, stops}
+use Rattle.spv_proof.specs.Outcomes.{IsFirst, Trial, Halts, Outcome, comes, stops}
 use Rattle.spv_proof_steps.specs.Candidates.{IsBool, AllFormulas}
 use Rattle.spv_checker.specs.declared.stops.CheckStop.{CheckStop}
 use Rattle.spv_checker.specs.declared.stops.CheckStop.TheVariants.{Wide, Form, Size, Memory}
@@ -26,11 +25,6 @@ halt_at a Memory = None
 abbrev pub FormIn : Arena → CheckStop → Type 0
 FormIn a (Form t) = t.0 < length a.nodes
 FormIn a _ = Unit {0}
-
--- some terms and others behind them
-pub record IsFirst (known all : List Term) : Type 0 where
-  pub others : List Term
-  pub all_are : all ≡ known ++ others
 
 -- an error over this arena is how the outcome stops; for want of memory the first of its terms are there
 pub record EndsAs {T : Type 0} (a : Arena) (e : CheckStop) (o : Outcome T) : Type 0 where

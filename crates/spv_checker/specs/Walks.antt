@@ -1,5 +1,5 @@
 -- Where the steps of a node lead over an arena.
-use Rattle.std.specs.Prelude.{◌≡◌, List, map, length, take}
+use Rattle.std.specs.Prelude.{◌≡◌, Bool, true, false, List, [], ◌∷◌, map, length, take}
 use Rattle.spv_logic.specs.declared.conditions.TermId.{TermId}
 use Rattle.spv_logic.specs.Terms.{Term}
 use Rattle.spv_atoms.specs.declared.proofs.Step.{Step}
@@ -17,6 +17,10 @@ abbrev pub path_of : List Term → Path → spec.Path
 path_of facts Open = spec.Open facts
 path_of facts Closed = spec.Closed
 path_of facts Broken = spec.Broken
+
+abbrev pub no_steps : List Step → Bool
+no_steps [] = true
+no_steps (s ∷ steps) = false
 
 -- where steps lead over an arena
 abbrev pub steps_in : Arena → Condition → List TermId → List Step → Outcome spec.Path

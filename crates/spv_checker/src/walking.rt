@@ -1,13 +1,16 @@
 //! The steps of a node, one after the other.
 
-ghost use Rattle.std.specs.Prelude.{◌≡◌, ◌<◌, map, length, IfOk, OnOk, IfErr, Bool};
+ghost use Rattle.std.specs.Prelude.{◌≡◌, ◌<◌, List, map, length, IfOk, OnOk, IfErr};
+ghost use Rattle.spv_logic.specs.Terms.{Term};
+ghost use Rattle.spv_atoms.specs.declared.proofs.Step.{Step};
 ghost use Rattle.spv_term.specs.Arena.{Extends, AllBelow, tree, trees_of, IsArena};
 ghost use Rattle.spv_proof.specs.Stand.{question, StepIn, StepsIn};
+ghost use Rattle.spv_proof.specs.Accepted.{closed_if_last};
 ghost use Rattle.spv_proof.specs.Outcomes as outcomes;
 ghost use Rattle.spv_proof.specs.Outcomes.{Does};
 ghost use Rattle.spv_proof_steps.specs.Steps.{effect_of, MayAdd};
 ghost use Rattle.spv_checker.specs.Ends.{ConditionIn, IsTrialStop, EndsAs};
-ghost use Rattle.spv_checker.specs.Walks.{steps_in, Leads};
+ghost use Rattle.spv_checker.specs.Walks.{no_steps, path_of, steps_in, Leads};
 
 use crate::keeping::add;
 use crate::linear::linear;
@@ -61,4 +64,36 @@ fn trial(
         Step::Schema(_, _, _) => Ok(Effect::Fails),
         Step::Rule(_, _) => Ok(Effect::Fails),
     }
+}
+
+// Where a path is that has ended: closed, if its last step ended it.
+fn ended(last: bool) -> Path
+    ensures { (facts : List Term) → (steps : List Step) → (no_steps steps ≡ last) → path_of facts result ≡ closed_if_last steps }
+{
+    if last { Path::Closed } else { Path::Broken }
+}
+
+// Goes over the steps of a node and adds their facts, up to the first that ends the path or does not follow.
+pub(crate) fn walk(
+    alloc: Global,
+    terms: &mut Terms,
+    condition: &Condition,
+    facts: &mut Vec<TermId>,
+    steps: &[Step],
+) -> Result<Path, CheckStop>
+    requires condition { ConditionIn terms.old condition.now }
+    requires facts { AllBelow (length terms.old.nodes) facts.old.items }
+    requires steps { StepsIn terms.old steps.now }
+    ensures leads { IfOk result (Leads terms.old condition.now facts.old.items steps.now terms.new facts.new.items) }
+    ensures stop { IfErr result (λ e. EndsAs terms.new e (steps_in terms.old condition.now facts.old.items steps.now)) }
+    ensures grows { Extends terms.old terms.new }
+{
+    for (place, step) in steps.iter().enumerate() {
+        match trial(alloc, terms, condition, facts.as_slice(), step)? {
+            Effect::Adds(fact) => add(terms, facts, fact)?,
+            Effect::Ends => return Ok(ended(place + 1 == steps.len())),
+            Effect::Fails => return Ok(Path::Broken),
+        }
+    }
+    Ok(Path::Open)
 }
