@@ -63,7 +63,7 @@ take-all (x ∷ xs) = ap (λ ys. x ∷ ys) (take-all xs)
 pub going-start : (old : Arena) (c : Condition) (start : List TermId) (steps : List Step) → AllBelow (length old.nodes) start → StepsIn old steps → Going old c start steps old start steps
 going-start old c start steps f h = record { grows = Extends-refl old; facts_in = f; rest_in = h; before_is = take-all start; same = refl }
 
-take-take : (n m : ℕ) (xs : List TermId) → n ≤ m → take n (take m xs) ≡ take n xs
+pub take-take : (n m : ℕ) (xs : List TermId) → n ≤ m → take n (take m xs) ≡ take n xs
 take-take n m [] h = ap (take n) (take-nil m)
 take-take n m (x ∷ xs) h = by n m h (λ k l i. take-take k l xs i)
   where
@@ -72,7 +72,7 @@ take-take n m (x ∷ xs) h = by n m h (λ k l i. take-take k l xs i)
     by (suc n) zero h later = absurd (omega arith)
     by (suc n) (suc m) h later = ap (λ ys. x ∷ ys) (later n m (omega arith))
 
-take-short : (n : ℕ) (xs ys : List TermId) → take n xs ≡ ys → length ys ≡ n → n ≤ length xs
+pub take-short : (n : ℕ) (xs ys : List TermId) → take n xs ≡ ys → length ys ≡ n → n ≤ length xs
 take-short n xs ys e f = omega (arith, ap length e, length-take n xs)
 
 take-longer : (n m : ℕ) (xs ys zs : List TermId) → take n xs ≡ zs → take m ys ≡ xs → n ≤ m → take n ys ≡ zs

@@ -1,3 +1,5 @@
 pub mod Kept
 pub mod Staying
 pub mod Goings
+pub mod Numbers
+pub mod Stacks

@@ -2,3 +2,4 @@ pub mod Faults
 pub mod KeptFaults
 pub mod Ends
 pub mod Walks
+pub mod Stacks

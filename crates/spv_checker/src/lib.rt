@@ -1,6 +1,8 @@
 //! The checker of proofs: whether a proof of a condition is accepted, or what stops the check first.
 #![tactic(auto)]
 
+mod branches;
+pub mod casing;
 mod keeping;
 mod linear;
 pub mod stops;
