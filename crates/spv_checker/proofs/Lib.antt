@@ -3,3 +3,4 @@ pub mod Staying
 pub mod Goings
 pub mod Numbers
 pub mod Stacks
+pub mod Nodes

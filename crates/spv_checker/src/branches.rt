@@ -1,6 +1,6 @@
 //! The paths that are still to be closed.
 
-ghost use Rattle.std.specs.Prelude.{◌≡◌, ◌<◌, ◌≤◌, ◌++◌, [], ◌∷◌, length, Some, OnOk, IfErr};
+ghost use Rattle.std.specs.Prelude.{◌≡◌, ◌<◌, ◌≤◌, ◌++◌, [], ◌∷◌, length, Some, None, IfOk, OnOk, IfErr};
 ghost use Rattle.spv_term.specs.Arena.{Extends, AllBelow, tree, trees_of, IsArena};
 ghost use Rattle.spv_term.specs.declared.nodes.Condition.{Condition};
 ghost use Rattle.spv_proof.specs.Outcomes as outcomes;
@@ -14,7 +14,7 @@ use crate::keeping::add;
 use crate::stops::CheckStop;
 use spv_proof_steps::Fact;
 use spv_term::{TermId, Terms};
-use std::alloc::AllocError;
+use std::alloc::{AllocError, Global};
 
 /// A path that is still to be closed: how many of the facts are its own, and its case, which is added
 /// when its node begins.
@@ -22,6 +22,18 @@ use std::alloc::AllocError;
 pub(crate) struct Branch {
     pub(crate) mark: usize,
     pub(crate) opens: Option<Fact>,
+}
+
+// The one path of which a proof begins: it has no facts and no case.
+pub(crate) fn root(alloc: Global) -> Result<Vec<Branch>, AllocError>
+    ensures { IfOk result (λ pending. pending.items ≡ record { mark = 0; opens = None } ∷ []) }
+{
+    let mut pending = Vec::new(alloc);
+    pending.push(Branch {
+        mark: 0,
+        opens: None,
+    })?;
+    Ok(pending)
 }
 
 // Puts a case behind all other paths, so that it comes next.

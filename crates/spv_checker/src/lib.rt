@@ -3,9 +3,11 @@
 
 mod branches;
 pub mod casing;
+mod checker;
 mod keeping;
 mod linear;
 pub mod stops;
 mod walking;
 
+pub use checker::check;
 pub use stops::CheckStop;

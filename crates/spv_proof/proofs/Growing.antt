@@ -200,11 +200,11 @@ module _ (most : ℕ) (q : Question) where
 
   -- ---- nodes
 
-  ending-go : {S T : Type 0} (known : List Term) (e : Ending S) (go : List Term → S → Outcome T) → ((s : S) → IsFirst known (go known s).known) → IsFirst known (by_ending known e go).known
+  pub ending-go : {S T : Type 0} (known : List Term) (e : Ending S) (go : List Term → S → Outcome T) → ((s : S) → IsFirst known (go known s).known) → IsFirst known (by_ending known e go).known
   ending-go known (Comes x) go h = h x
   ending-go known (Stops s) go h = first-same known
 
-  then-go : {S T : Type 0} (known : List Term) (o : Outcome S) (go : List Term → S → Outcome T) → IsFirst known o.known → ((more : List Term) (s : S) → IsFirst more (go more s).known) → IsFirst known (then_outcome o go).known
+  pub then-go : {S T : Type 0} (known : List Term) (o : Outcome S) (go : List Term → S → Outcome T) → IsFirst known o.known → ((more : List Term) (s : S) → IsFirst more (go more s).known) → IsFirst known (then_outcome o go).known
   then-go known o go f h = first-then known o.known (then_outcome o go).known f (ending-go o.known o.ending go (h o.known))
 
   pub begin-first : (known : List Term) (b : Branch) → IsFirst known (begin most known b).known
@@ -214,12 +214,20 @@ module _ (most : ℕ) (q : Question) where
       by None = first-same known
       by (Some t) = add-go most known t (λ more. comes more (b.before ++ t ∷ [])) (λ more. first-same more)
 
+  -- what follows the begin of a node
+  pub rest-first : (n : ProofNode) (start facts : List Term) → IsFirst start (then_outcome (steps_outcome most q start facts n.steps) (λ more path. comes more (branches_after q path n.split))).known
+  rest-first n start facts = then-go start (steps_outcome most q start facts n.steps) (λ more path. comes more (branches_after q path n.split)) (steps-first n.steps start facts) (λ more path. first-same more)
+
+  -- what comes first stays first
+  pub then-later : {S T : Type 0} (o : Outcome S) (go : List Term → S → Outcome T) → ((more : List Term) (s : S) → IsFirst more (go more s).known) → IsFirst o.known (then_outcome o go).known
+  then-later o go h = ending-go o.known o.ending go (h o.known)
+
   pub node-first : (known : List Term) (b : Branch) (n : ProofNode) → IsFirst known (node_outcome most q known b n).known
   node-first known b n =
       then-go known (begin most known b) (λ start facts. then_outcome (steps_outcome most q start facts n.steps) (λ more path. comes more (branches_after q path n.split))) (begin-first known b)
-      (λ start facts. then-go start (steps_outcome most q start facts n.steps) (λ more path. comes more (branches_after q path n.split)) (steps-first n.steps start facts) (λ more path. first-same more))
+      (λ start facts. rest-first n start facts)
 
-  branches-go : (more : List Term) (o : Option (List Branch)) (go : List Branch → Outcome Bool) → ((new : List Branch) → IsFirst more (go new).known) → IsFirst more (on_branches more o go).known
+  pub branches-go : (more : List Term) (o : Option (List Branch)) (go : List Branch → Outcome Bool) → ((new : List Branch) → IsFirst more (go new).known) → IsFirst more (on_branches more o go).known
   branches-go more None go h = first-same more
   branches-go more (Some new) go h = h new
 
