@@ -1,5 +1,5 @@
 -- The nodes of a proof, over plain variables.
-use Rattle.std.proofs.Common.{◌≡◌, ℕ, zero, suc, ◌<◌, ◌≤◌, ◌+◌, Bool, true, false, ◌&&◌, List, [], ◌∷◌, ◌++◌, map, length, take, drop, get_or, refl, sym, ap, ◌∙◌, subst, Option, Some, None, nat_eq, arith}
+use Rattle.std.proofs.Common.{◌≡◌, ℕ, zero, suc, ◌<◌, ◌≤◌, ◌+◌, Bool, true, false, ◌&&◌, List, [], ◌∷◌, ◌++◌, map, length, take, drop, get_or, refl, sym, ap, ◌∙◌, subst, Option, Some, None, nat_eq, arith, Result, Ok, Err, IfOk}
 use Rattle.std.specs.Option.{option_map}
 use Rattle.std.proofs.lemmas.Bool.Decides.{nat_tests}
 use Rattle.std.proofs.lemmas.List.{at_drop_more}
@@ -21,6 +21,7 @@ use Rattle.spv_proof.specs.Stops.{Halt, kept}
 use Rattle.spv_proof.specs.Outcomes.{IsFirst, Outcome, comes, stops, then_outcome, on_trial, add_fact, steps_outcome, trial, branches_if, branches_after, node_outcome, on_branches, nodes_outcome}
 use Rattle.spv_proof.specs.Outcomes as outcomes
 use Rattle.spv_proof.specs.Stand.{question, In, StepIn, StepsIn, SplitIn, NodesIn}
+use Rattle.spv_proof.proofs.Outcomes.{outcome-accepts}
 use Rattle.spv_proof.proofs.Growing.{first-same, first-then, steps-first, then-later, rest-first, node-first, nodes-first, branches-go}
 use Rattle.spv_proof_steps.specs.declared.facts.Fact.{Fact}
 use Rattle.spv_proof_steps.specs.declared.facts.Fact.TheVariants.{Known, Negation, Equation, Below, AtMost}
@@ -229,6 +230,12 @@ nothing-ends old c nodes = ends-told old Memory (outcomes.outcome old.most (ques
 pub next-node : (nodes : List ProofNode) (i : ℕ) (n : ProofNode) → i < length nodes → n ≡ get_or nodes i n → drop i nodes ≡ n ∷ drop (i + 1) nodes
 next-node nodes i n h e = at_drop_more (λ (r : List ProofNode). r) nodes i n h ∙ ap (λ t. t ∷ drop (i + 1) nodes) (sym e)
 
+pub drop_past : (nodes : List ProofNode) (i : ℕ) → length nodes ≤ i → drop i nodes ≡ []
+drop_past [] zero h = refl
+drop_past [] (suc i) h = refl
+drop_past (n ∷ nodes) zero h = absurd (omega arith)
+drop_past (n ∷ nodes) (suc i) h = drop_past nodes i (omega arith)
+
 pub record Checking (old : Arena) (c : Condition) (nodes : List ProofNode) (now : Arena) (facts : List TermId) (pending : List Branch) (rest : List ProofNode) : Type 0 where
   pub grows : Extends old now
   pub facts_in : AllBelow (length now.nodes) facts
@@ -323,3 +330,9 @@ module _ {old : Arena} {c : Condition} {nodes : List ProofNode} {now : Arena} {f
               same = ap (λ bs. nodes_outcome old.most (question old c) (trees_of new.nodes) bs others) (paths.2 ∙ ap (λ bs. paths.0 ++ bs) k.waits)
                   ∙ (ap (go_on (trees_of new.nodes)) (sym paths.1) ∙ node-leads true k);
             }
+
+-- an answer is whether the proof is accepted
+pub if_accepted : (a new : Arena) (c : Condition) (all nodes : List ProofNode) → all ≡ nodes → (r : Result Bool CheckStop)
+    → IfOk r (λ b. outcomes.outcome a.most (question a c) (trees_of a.nodes) all ≡ comes_in new b) → IfOk r (λ b. b ≡ accepted.accepts (question a c) nodes)
+if_accepted a new c all nodes e (Ok b) h = sym (outcome-accepts a.most (question a c) (trees_of a.nodes) nodes b (ap (λ o. o.ending) (ap (outcomes.outcome a.most (question a c) (trees_of a.nodes)) (sym e) ∙ h)))
+if_accepted a new c all nodes e (Err x) h = tt

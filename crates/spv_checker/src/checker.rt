@@ -121,7 +121,7 @@ fn check_nodes(
             return Ok(false);
         }
     }
-    Ok(pending.is_empty())
+    Ok(pending.as_slice().is_empty())
 }
 
 /// Whether a proof of a condition is accepted. Its facts are made, one after the other, and no other
