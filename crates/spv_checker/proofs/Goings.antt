@@ -1,5 +1,5 @@
 -- How far a walk over steps has come, over plain variables.
-use Rattle.std.proofs.Common.{◌≡◌, ℕ, zero, suc, ◌<◌, ◌≤◌, ◌+◌, ◌-◌, Bool, true, false, List, [], ◌∷◌, ◌++◌, map, length, take, drop, get_or, refl, sym, ap, ◌∙◌, subst, Option, Some, None, nat_eq, length-drop, length-take, min, Result, Ok, Err, arith, IfSome, IfErr}
+use Rattle.std.proofs.Common.{◌≡◌, ℕ, zero, suc, ◌<◌, ◌≤◌, ◌+◌, ◌-◌, false, List, [], ◌∷◌, ◌++◌, map, length, take, drop, get_or, refl, sym, ap, ◌∙◌, subst, Option, Some, None, nat_eq, length-drop, length-take, Result, Ok, Err, arith, IfSome, IfErr}
 use Rattle.std.proofs.lemmas.Bool.Decides.{nat_tests}
 use Rattle.std.proofs.lemmas.List.{append-nil, at_drop_more}
 use Rattle.std.proofs.Math.Seq.{take-nil}
@@ -7,16 +7,14 @@ use Rattle.std.specs.Result.{IsErrAnd}
 use Rattle.spv_logic.specs.declared.conditions.TermId.{TermId}
 use Rattle.spv_logic.specs.Terms.{Term}
 use Rattle.spv_term.specs.declared.nodes.Condition.{Condition}
-use Rattle.spv_term.specs.Arena.{Arena, IsArena, Extends, AllBelow, tree, trees_of}
+use Rattle.spv_term.specs.Arena.{Arena, Extends, AllBelow, tree, trees_of}
 use Rattle.spv_term.proofs.ArenaLemmas.{Extends-refl, Extends-trans}
 use Rattle.spv_atoms.specs.declared.proofs.Step.{Step}
-use Rattle.spv_proof.specs.Effects as spec
 use Rattle.spv_proof.specs.Accepted.{Path, closed_if_last}
-use Rattle.spv_proof.specs.Accepted as accepted
 use Rattle.spv_proof.specs.Stand.{question, StepIn, StepsIn}
-use Rattle.spv_proof.specs.Stops.{Halt, TooMany, kept}
+use Rattle.spv_proof.specs.Stops.{kept}
 use Rattle.spv_proof.specs.Outcomes.{IsFirst, Trial, Does, Halts, trial, Outcome, comes, stops, on_kept, on_does, on_trial, add_fact, steps_outcome}
-use Rattle.spv_proof.proofs.Growing.{first-same, steps-first}
+use Rattle.spv_proof.proofs.Growing.{steps-first}
 use Rattle.spv_proof_steps.specs.declared.facts.Effect.{Effect}
 use Rattle.spv_proof_steps.specs.declared.facts.Fact.{Fact}
 use Rattle.spv_proof_steps.specs.declared.facts.Effect.TheVariants as effect
@@ -24,11 +22,11 @@ use Rattle.spv_proof_steps.specs.Steps.{fact_of, effect_of}
 use Rattle.spv_checker.specs.declared.stops.CheckStop.{CheckStop}
 use Rattle.spv_checker.specs.declared.stops.CheckStop.TheVariants.{Wide, Form, Size, Memory}
 use Rattle.spv_checker.specs.KeptFaults.{IsAddFault}
-use Rattle.spv_checker.specs.Ends.{ConditionIn, halt_at, FormIn, IsTrialStop, EndsAs, comes_in}
+use Rattle.spv_checker.specs.Ends.{ConditionIn, halt_at, FormIn, IsTrialStop, EndsAs}
 use Rattle.spv_checker.specs.declared.walking.Path as walked
 use Rattle.spv_checker.specs.declared.walking.Path.TheVariants as path
 use Rattle.spv_checker.specs.Walks.{no_steps, path_of, steps_in, Leads}
-use Rattle.spv_checker.proofs.Staying.{condition-Extends, StepIn-Extends, trial-Extends}
+use Rattle.spv_checker.proofs.Staying.{StepIn-Extends, trial-Extends}
 
 -- ---- ends
 

@@ -1,6 +1,6 @@
 -- Terms that are put into an arena, over plain variables.
-use Rattle.std.proofs.Common.{◌≡◌, ℕ, suc, ◌<◌, ◌≤◌, Bool, true, false, ◌&&◌, ◌||◌, List, [], ◌∷◌, ◌++◌, map, length, get_or, refl, sym, ap, ◌∙◌, Option, Some, None, nat_eq, not, arith, IsTrue, IsErr, if◌then◌else◌, Result, Ok, Err, OnOk, OnErr, IfErr}
-use Rattle.std.proofs.lemmas.Bool.{false≢true, eqb-true}
+use Rattle.std.proofs.Common.{◌≡◌, ℕ, suc, ◌<◌, Bool, true, false, ◌&&◌, ◌||◌, List, [], ◌∷◌, ◌++◌, map, length, get_or, refl, sym, ap, ◌∙◌, Some, None, nat_eq, not, arith, IsTrue, IsErr, if◌then◌else◌, Result, Ok, Err, OnOk, IfErr}
+use Rattle.std.proofs.lemmas.Bool.{false≢true}
 use Rattle.std.proofs.lemmas.Option.{slice_get_within}
 use Rattle.std.proofs.lemmas.List.{map-append}
 use Rattle.std.proofs.lemmas.List.Sums.{fold-append}
@@ -39,10 +39,6 @@ no_error : (t : TermId) → IsErr {T = TermId} {E = TermFault} (Ok t) → ⊥
 no_error t h = false≢true (h)
 
 -- ---- a node of the arena, and its tree
-
-
-
-
 
 module _ (a : Arena) (ok : IsArena a) where
   tree-listed : (t : TermId) → t.0 < length a.nodes → list_any (term_eq (tree a t)) (trees_of a.nodes) ≡ true

@@ -7,8 +7,8 @@ use Rattle.spv_logic.specs.declared.conditions.TermId.{TermId}
 use Rattle.spv_logic.specs.Terms.{Term}
 use Rattle.spv_logic.specs.Formulas as formulas
 use Rattle.spv_term.specs.declared.nodes.Condition.{Condition}
-use Rattle.spv_term.specs.Arena.{Arena, IsArena, Extends, AllBelow, tree, trees_of, sort_at}
-use Rattle.spv_term.proofs.ArenaLemmas.{Extends-refl, Extends-trans, length-Extends, tree-Extends, sort_at-Extends, map_tree-Extends}
+use Rattle.spv_term.specs.Arena.{Arena, Extends, AllBelow, tree, trees_of}
+use Rattle.spv_term.proofs.ArenaLemmas.{Extends-refl, Extends-trans, tree-Extends, sort_at-Extends, map_tree-Extends}
 use Rattle.spv_atoms.specs.declared.proofs.Step.{Step}
 use Rattle.spv_atoms.specs.declared.proofs.Split.{Split}
 use Rattle.spv_atoms.specs.declared.proofs.ProofNode.{ProofNode}
@@ -17,12 +17,12 @@ use Rattle.spv_proof.specs.Effects.{Question, Effect, is_truth, is_number}
 use Rattle.spv_proof.specs.Effects as spec
 use Rattle.spv_proof.specs.Evaluation.{sides}
 use Rattle.spv_proof.specs.Accepted as accepted
-use Rattle.spv_proof.specs.Stops.{Halt, kept}
+use Rattle.spv_proof.specs.Stops.{kept}
 use Rattle.spv_proof.specs.Outcomes.{IsFirst, Outcome, comes, stops, then_outcome, on_trial, add_fact, steps_outcome, trial, branches_if, branches_after, node_outcome, on_branches, nodes_outcome}
 use Rattle.spv_proof.specs.Outcomes as outcomes
-use Rattle.spv_proof.specs.Stand.{question, In, StepIn, StepsIn, SplitIn, NodesIn}
+use Rattle.spv_proof.specs.Stand.{question, StepsIn, SplitIn, NodesIn}
 use Rattle.spv_proof.proofs.Outcomes.{outcome-accepts}
-use Rattle.spv_proof.proofs.Growing.{first-same, first-then, steps-first, then-later, rest-first, node-first, nodes-first, branches-go}
+use Rattle.spv_proof.proofs.Growing.{first-same, first-then, then-later, rest-first, nodes-first, branches-go}
 use Rattle.spv_proof_steps.specs.declared.facts.Fact.{Fact}
 use Rattle.spv_proof_steps.specs.declared.facts.Fact.TheVariants.{Known, Negation, Equation, Below, AtMost}
 use Rattle.spv_proof_steps.specs.Steps.{fact_of, FactStands}
@@ -30,9 +30,9 @@ use Rattle.spv_checker.specs.declared.stops.CheckStop.{CheckStop}
 use Rattle.spv_checker.specs.declared.stops.CheckStop.TheVariants.{Wide, Form, Size, Memory}
 use Rattle.spv_checker.specs.declared.branches.Branch.{Branch}
 use Rattle.spv_checker.specs.declared.walking.Path as walked
-use Rattle.spv_checker.specs.Ends.{ConditionIn, halt_at, FormIn, EndsAs, comes_in}
+use Rattle.spv_checker.specs.Ends.{ConditionIn, EndsAs, comes_in}
 use Rattle.spv_checker.specs.Walks.{path_of, steps_in, Leads}
-use Rattle.spv_checker.specs.Stacks.{BranchIn, OpensIn, branch_in, Begun, stacked, AllFrom, IsPending, IsLeft, Leaves, Checked}
+use Rattle.spv_checker.specs.Stacks.{BranchIn, OpensIn, branch_in, Begun, stacked, AllFrom, IsPending, Leaves, Checked}
 use Rattle.spv_checker.proofs.Staying.{below-Extends, condition-Extends, StepIn-Extends, trial-Extends, truth-Extends, number-Extends}
 use Rattle.spv_checker.proofs.Goings.{ends-told, take-take, take-short}
 use Rattle.spv_checker.proofs.Stacks.{AllBelow-take, stacked-last}
@@ -100,10 +100,10 @@ module _ {old new : Arena} (more : Extends old new) where
     steps-Extends (s ∷ steps) known facts h =
         ap (λ t. on_trial known t (λ x. add_fact new.most known x (λ m. steps_outcome new.most (question new c) m (facts ++ x ∷ []) steps)) (accepted.closed_if_last steps)) (trial-Extends more c ci known facts s h.0)
         ∙ on_trial-same known (trial old.most (question old c) known facts s) (λ x. add_fact new.most known x (λ m. steps_outcome new.most (question new c) m (facts ++ x ∷ []) steps))
-          (λ x. add_fact old.most known x (λ m. steps_outcome old.most (question old c) m (facts ++ x ∷ []) steps)) (accepted.closed_if_last steps)
-          (λ x. ap (λ n. add_fact n known x (λ m. steps_outcome new.most (question new c) m (facts ++ x ∷ []) steps)) more.most
-          ∙ on_kept-same known (kept old.most known x) (λ m. steps_outcome new.most (question new c) m (facts ++ x ∷ []) steps) (λ m. steps_outcome old.most (question old c) m (facts ++ x ∷ []) steps)
-            (λ m. steps-Extends steps m (facts ++ x ∷ []) h.1))
+        (λ x. add_fact old.most known x (λ m. steps_outcome old.most (question old c) m (facts ++ x ∷ []) steps)) (accepted.closed_if_last steps)
+        (λ x. ap (λ n. add_fact n known x (λ m. steps_outcome new.most (question new c) m (facts ++ x ∷ []) steps)) more.most
+        ∙ on_kept-same known (kept old.most known x) (λ m. steps_outcome new.most (question new c) m (facts ++ x ∷ []) steps) (λ m. steps_outcome old.most (question old c) m (facts ++ x ∷ []) steps)
+        (λ m. steps-Extends steps m (facts ++ x ∷ []) h.1))
 
     -- the cases of an atom are the same
     pub after-Extends : (p : accepted.Path) (o : Option Split) → SplitIn old o → branches_after (question new c) p o ≡ branches_after (question old c) p o
@@ -132,7 +132,7 @@ module _ {old new : Arena} (more : Extends old new) where
     rest-Extends n steps split start facts =
         ap (λ o. then_outcome o (λ known p. comes known (branches_after (question new c) p n.split))) (steps-Extends n.steps start facts steps)
         ∙ then-same (steps_outcome old.most (question old c) start facts n.steps) (λ known p. comes known (branches_after (question new c) p n.split)) (λ known p. comes known (branches_after (question old c) p n.split))
-          (λ known p. ap (comes known) (after-Extends p n.split split))
+        (λ known p. ap (comes known) (after-Extends p n.split split))
 
     -- a node comes to the same
     pub node-Extends : (n : ProofNode) → StepsIn old n.steps → SplitIn old n.split → (known : List Term) (b : outcomes.Branch) → node_outcome new.most (question new c) known b n ≡ node_outcome old.most (question old c) known b n

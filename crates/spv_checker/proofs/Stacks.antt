@@ -1,13 +1,10 @@
 -- Paths that are still to be closed, over plain variables.
-use Rattle.std.proofs.Common.{◌≡◌, ℕ, zero, suc, ◌<◌, ◌≤◌, ◌+◌, Bool, true, false, ◌&&◌, List, [], ◌∷◌, ◌++◌, map, length, take, refl, sym, ap, ◌∙◌, subst, Option, Some, None, nat_eq, arith, min, length-take, Result, IfOk}
+use Rattle.std.proofs.Common.{◌≡◌, ℕ, zero, suc, ◌<◌, ◌≤◌, Bool, true, ◌&&◌, List, [], ◌∷◌, ◌++◌, map, length, take, refl, sym, ap, ◌∙◌, subst, Option, Some, None, nat_eq, arith, min, length-take, Result, IfOk}
 use Rattle.std.proofs.Math.Seq.{take-nil}
 use Rattle.std.proofs.lemmas.List.{append-nil, append_assoc, length-map}
 use Rattle.std.specs.Option.{option_map}
 use Rattle.spv_logic.specs.declared.conditions.TermId.{TermId}
-use Rattle.spv_logic.specs.Terms.{Term}
-use Rattle.spv_term.specs.declared.nodes.Condition.{Condition}
-use Rattle.spv_term.specs.Arena.{Arena, IsArena, Extends, AllBelow, tree, trees_of, sort_at}
-use Rattle.spv_term.proofs.ArenaLemmas.{Extends-refl, Extends-trans, length-Extends, tree-Extends, sort_at-Extends, map_tree-Extends}
+use Rattle.spv_term.specs.Arena.{Arena, IsArena, AllBelow, tree, trees_of, sort_at}
 use Rattle.std.specs.declared.alloc.AllocError.{AllocError}
 use Rattle.std.proofs.lemmas.Bool.{eq-eqb}
 use Rattle.spv_list.proofs.Tests.{left_true}
@@ -27,12 +24,11 @@ use Rattle.spv_checker.specs.declared.walking.Path.TheVariants as path
 use Rattle.spv_checker.specs.Walks.{path_of}
 use Rattle.spv_proof.specs.Outcomes as outcomes
 use Rattle.spv_proof_steps.specs.declared.facts.Fact.{Fact}
-use Rattle.spv_proof_steps.specs.declared.facts.Fact.TheVariants.{Known, Negation, Equation, Below, AtMost}
-use Rattle.spv_proof_steps.specs.Steps.{fact_of, FactStands}
+use Rattle.spv_proof_steps.specs.Steps.{fact_of}
 use Rattle.spv_checker.specs.declared.branches.Branch.{Branch}
 use Rattle.spv_checker.specs.Ends.{comes_in}
-use Rattle.spv_checker.specs.Stacks.{BranchIn, OpensIn, branch_in, Begun, stacked, AllFrom, IsPending, AllStand, pushed_cases, Leaves}
-use Rattle.spv_checker.proofs.Goings.{take-take, take-short}
+use Rattle.spv_checker.specs.Stacks.{branch_in, Begun, stacked, AllFrom, IsPending, AllStand, pushed_cases, Leaves}
+use Rattle.spv_checker.proofs.Goings.{take-take}
 
 -- ---- facts that are taken away
 

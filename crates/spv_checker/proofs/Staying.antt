@@ -1,11 +1,11 @@
 -- What stays where the arena grows.
-use Rattle.std.proofs.Common.{◌≡◌, ℕ, ◌<◌, Bool, true, false, ◌&&◌, List, [], ◌∷◌, map, length, Option, Some, None, if◌then◌else◌, refl, sym, ap, ◌∙◌, arith}
+use Rattle.std.proofs.Common.{◌≡◌, ℕ, ◌<◌, true, false, ◌&&◌, List, [], ◌∷◌, length, Some, None, if◌then◌else◌, refl, ap, ◌∙◌, arith}
 use Rattle.spv_logic.specs.declared.conditions.TermId.{TermId}
 use Rattle.spv_logic.specs.Terms.{Term}
 use Rattle.spv_logic.specs.Formulas as formulas
 use Rattle.spv_whole.specs.Fraction.{Fraction}
 use Rattle.spv_term.specs.declared.nodes.Condition.{Condition}
-use Rattle.spv_term.specs.Arena.{Arena, IsArena, Extends, AllBelow, tree, trees_of, sequent, sort_at}
+use Rattle.spv_term.specs.Arena.{Arena, Extends, AllBelow, sequent}
 use Rattle.spv_term.proofs.ArenaLemmas.{length-Extends, tree-Extends, sort_at-Extends, map_tree-Extends}
 use Rattle.spv_atoms.specs.declared.proofs.Relation.{Relation}
 use Rattle.spv_atoms.specs.declared.proofs.Relation.TheVariants.{AtMost, Equal}
@@ -16,7 +16,7 @@ use Rattle.spv_atoms.specs.declared.proofs.Step.TheVariants as step
 use Rattle.spv_atoms.specs.Atoms as atoms
 use Rattle.spv_proof.specs.Sums.{refutes}
 use Rattle.spv_proof.specs.Effects as spec
-use Rattle.spv_proof.specs.Stand.{question, In, RelationIn, StatedIn, StepIn, StepsIn}
+use Rattle.spv_proof.specs.Stand.{question, RelationIn, StatedIn, StepIn}
 use Rattle.spv_proof.specs.Outcomes.{Does, does_unless, halt_at_most, halt_equal, halt_of_sums, trial}
 use Rattle.spv_proof_steps.specs.Candidates.{IsBool, AllFormulas}
 use Rattle.spv_proof_steps.proofs.StepLemmas.{AllBelow-formulas}

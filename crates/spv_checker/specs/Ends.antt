@@ -2,7 +2,7 @@
 use Rattle.std.specs.Prelude.{◌≡◌, ◌<◌, length, Option, Some, None, IfSome}
 use Rattle.spv_term.specs.declared.nodes.Condition.{Condition}
 use Rattle.spv_term.specs.Arena.{Arena, tree, trees_of}
-use Rattle.spv_proof.specs.Stops.{Stop, WideSum, WideForm, TooMany, Halt}
+use Rattle.spv_proof.specs.Stops.{WideSum, WideForm, TooMany, Halt}
 use Rattle.spv_proof.specs.Outcomes.{IsFirst, Trial, Halts, Outcome, comes, stops}
 use Rattle.spv_proof_steps.specs.Candidates.{IsBool, AllFormulas}
 use Rattle.spv_checker.specs.declared.stops.CheckStop.{CheckStop}

@@ -1,12 +1,10 @@
 -- Paths that are still to be closed, over an arena: the last of them comes next.
-use Rattle.std.specs.Prelude.{◌≡◌, ◌<◌, ◌≤◌, ℕ, Bool, true, false, List, [], ◌∷◌, ◌++◌, map, length, take, Option, Some, None}
+use Rattle.std.specs.Prelude.{◌≡◌, ◌≤◌, ℕ, Bool, true, false, List, [], ◌∷◌, ◌++◌, map, length, take, Option, Some, None}
 use Rattle.std.specs.Option.{option_map}
 use Rattle.spv_logic.specs.declared.conditions.TermId.{TermId}
 use Rattle.spv_term.specs.declared.nodes.Condition.{Condition}
-use Rattle.spv_term.specs.Arena.{Arena, AllBelow, Extends, tree, trees_of}
+use Rattle.spv_term.specs.Arena.{Arena, AllBelow, tree, trees_of}
 use Rattle.spv_atoms.specs.declared.proofs.ProofNode.{ProofNode}
-use Rattle.spv_atoms.specs.declared.proofs.Split.{Split}
-use Rattle.spv_proof.specs.Accepted as accepted
 use Rattle.spv_proof.specs.Outcomes as outcomes
 use Rattle.spv_proof.specs.Stand.{question}
 use Rattle.spv_proof_steps.specs.declared.facts.Fact.{Fact}

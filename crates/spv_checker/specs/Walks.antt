@@ -4,7 +4,7 @@ use Rattle.spv_logic.specs.declared.conditions.TermId.{TermId}
 use Rattle.spv_logic.specs.Terms.{Term}
 use Rattle.spv_atoms.specs.declared.proofs.Step.{Step}
 use Rattle.spv_term.specs.declared.nodes.Condition.{Condition}
-use Rattle.spv_term.specs.Arena.{Arena, AllBelow, Extends, tree, trees_of}
+use Rattle.spv_term.specs.Arena.{Arena, AllBelow, tree, trees_of}
 use Rattle.spv_proof.specs.Accepted as spec
 use Rattle.spv_proof.specs.Stand.{question}
 use Rattle.spv_proof.specs.Outcomes.{Outcome, steps_outcome}

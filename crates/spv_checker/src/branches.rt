@@ -48,7 +48,11 @@ fn push_case(pending: &mut Vec<Branch>, mark: usize, fact: Fact) -> Result<(), A
 }
 
 // Puts the cases of an atom behind all other paths, the first of them last.
-pub(crate) fn push_cases(pending: &mut Vec<Branch>, mark: usize, cases: Cases) -> Result<(), AllocError>
+pub(crate) fn push_cases(
+    pending: &mut Vec<Branch>,
+    mark: usize,
+    cases: Cases,
+) -> Result<(), AllocError>
     ensures { OnOk result (pending.new.items ≡ pending.old.items ++ pushed_cases mark (facts_in cases)) }
 {
     match cases {
@@ -65,7 +69,11 @@ pub(crate) fn push_cases(pending: &mut Vec<Branch>, mark: usize, cases: Cases) -
 }
 
 // Takes the facts that are not a path's own away, and adds its case.
-pub(crate) fn begin(terms: &mut Terms, facts: &mut Vec<TermId>, branch: Branch) -> Result<(), CheckStop>
+pub(crate) fn begin(
+    terms: &mut Terms,
+    facts: &mut Vec<TermId>,
+    branch: Branch,
+) -> Result<(), CheckStop>
     requires facts { AllBelow (length terms.old.nodes) facts.old.items }
     requires branch { BranchIn terms.old branch }
     requires mark { branch.mark ≤ length facts.old.items }

@@ -20,7 +20,12 @@ use spv_term::{Condition, TermId, Terms};
 use std::alloc::{AllocError, Global};
 
 // Opens the cases of a split, where its atom is one and it has a part for each of them.
-fn open(terms: &Terms, facts: &[TermId], pending: &mut Vec<Branch>, split: &Split) -> Result<bool, AllocError>
+fn open(
+    terms: &Terms,
+    facts: &[TermId],
+    pending: &mut Vec<Branch>,
+    split: &Split,
+) -> Result<bool, AllocError>
     requires split { split.now.atom.0 < length terms.now.nodes }
     requires facts { AllBelow (length terms.now.nodes) facts.now }
     requires pending { IsPending terms.now (length facts.now) pending.old.items }
@@ -117,7 +122,15 @@ fn check_nodes(
         let Some(branch) = pending.pop() else {
             return Ok(false);
         };
-        if !check_node(alloc, terms, condition, &mut facts, &mut pending, branch, node)? {
+        if !check_node(
+            alloc,
+            terms,
+            condition,
+            &mut facts,
+            &mut pending,
+            branch,
+            node,
+        )? {
             return Ok(false);
         }
     }
@@ -131,7 +144,12 @@ fn check_nodes(
 /// of a sum that does not fit, `Form` for the first relation that a sum reads or shows whose form does
 /// not fit, `Size` for the first fact that is new where there may be no more terms; or `Memory`, where
 /// the arena has some of the facts that come first.
-pub fn check(alloc: Global, terms: &mut Terms, condition: &Condition, proof: &Proof) -> Result<bool, CheckStop>
+pub fn check(
+    alloc: Global,
+    terms: &mut Terms,
+    condition: &Condition,
+    proof: &Proof,
+) -> Result<bool, CheckStop>
     requires condition { ConditionIn terms.old condition.now }
     requires proof { NodesIn terms.old proof.now }
     ensures accepted { IfOk result (λ b. b ≡ accepted.accepts (question terms.old condition.now) proof.now) }

@@ -16,7 +16,9 @@ use crate::keeping::add;
 use crate::linear::linear;
 use crate::stops::CheckStop;
 use spv_atoms::Step;
-use spv_proof_steps::{Effect, Fact, congruent, end_of, evaluated, exchanged, given_effect, joined};
+use spv_proof_steps::{
+    Effect, Fact, congruent, end_of, evaluated, exchanged, given_effect, joined,
+};
 use spv_term::{Condition, TermId, Terms};
 use std::alloc::Global;
 
@@ -57,9 +59,22 @@ fn trial(
         Step::Trans(first, second) => Ok(joined(terms, facts, *first, *second)),
         Step::Cong(t, u, numbers) => Ok(congruent(terms, facts, *t, *u, numbers.as_slice())),
         Step::Linear(relation, first, second) => {
-            linear(alloc, terms, facts, *relation, first.as_slice(), second.as_slice())
+            linear(
+                alloc,
+                terms,
+                facts,
+                *relation,
+                first.as_slice(),
+                second.as_slice(),
+            )
         }
-        Step::Eval(claim, numbers) => Ok(evaluated(alloc, terms, facts, *claim, numbers.as_slice())?),
+        Step::Eval(claim, numbers) => Ok(evaluated(
+            alloc,
+            terms,
+            facts,
+            *claim,
+            numbers.as_slice(),
+        )?),
         Step::Contra(first, second) => Ok(end_of(terms, facts, *first, *second)),
         Step::Schema(_, _, _) => Ok(Effect::Fails),
         Step::Rule(_, _) => Ok(Effect::Fails),

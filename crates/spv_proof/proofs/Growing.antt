@@ -1,5 +1,5 @@
 -- A check of a proof only adds terms.
-use Rattle.std.proofs.Common.{◌≡◌, ℕ, zero, suc, Bool, true, false, cond, ◌&&◌, List, [], ◌∷◌, ◌++◌, length, Option, Some, None, ℤ, pos, nat_eq, slice_get, if◌then◌else◌, refl, sym, ap, ◌∙◌, subst}
+use Rattle.std.proofs.Common.{ℕ, zero, suc, Bool, true, false, ◌&&◌, List, [], ◌∷◌, ◌++◌, length, Option, Some, None, ℤ, pos, nat_eq, slice_get, if◌then◌else◌, refl, sym, ap, ◌∙◌}
 use Rattle.std.specs.List.{list_any}
 use Rattle.std.specs.Option.{option_map}
 use Rattle.std.proofs.lemmas.List.{append-nil, append_assoc}
@@ -10,7 +10,7 @@ use Rattle.spv_frac.specs.Range.{op_fits}
 use Rattle.spv_rational.specs.Rational.{number}
 use Rattle.spv_logic.specs.Terms.{Term, term_eq}
 use Rattle.spv_logic.specs.Formulas.{equation}
-use Rattle.spv_atoms.specs.Forms.{Sum, Form}
+use Rattle.spv_atoms.specs.Forms.{Form}
 use Rattle.spv_atoms.specs.declared.proofs.Relation.{Relation}
 use Rattle.spv_atoms.specs.declared.proofs.Relation.TheVariants.{AtMost, Equal}
 use Rattle.spv_atoms.specs.declared.proofs.Step.{Step}
@@ -20,8 +20,8 @@ use Rattle.spv_proof.specs.Sums.{Reading, reading, may_multiply, refutes}
 use Rattle.spv_proof.specs.Evaluation.{bare}
 use Rattle.spv_proof.specs.Effects.{Question, Effect, Adds, Ends, Fails, is_number, is_empty, at_most, linear}
 use Rattle.spv_proof.specs.Accepted.{Path, closed_if_last}
-use Rattle.spv_proof.specs.Stops.{Stop, WideSum, WideForm, Halt, is_narrow_fact, kept, Source, fact_source, source, halt_after, denied, Partial, empty, Tally, Stands, Ended, Halted, then_tally, operate, add_number, factor_of, in_order, with_factor, with_constant, add_parts, add_multiple, add_source, add_all, halt_of, halt_in}
-use Rattle.spv_proof.specs.Outcomes.{IsFirst, Trial, Does, Halts, does_unless, first_halt, only_where, halt_at_most, halt_equal, halt_of_sums, trial, Ending, Comes, Stops, Outcome, comes, stops, by_ending, then_outcome, on_kept, add_fact, on_does, on_trial, steps_outcome, Branch, root, begin_with, begin, branches_after, node_outcome, on_branches, nodes_outcome, outcome}
+use Rattle.spv_proof.specs.Stops.{WideSum, WideForm, Halt, is_narrow_fact, kept, Source, fact_source, source, halt_after, denied, Partial, empty, Tally, Stands, Ended, Halted, then_tally, operate, add_number, factor_of, in_order, with_factor, with_constant, add_parts, add_multiple, add_source, add_all, halt_of, halt_in}
+use Rattle.spv_proof.specs.Outcomes.{IsFirst, Trial, Does, Halts, does_unless, first_halt, only_where, halt_of_sums, trial, Ending, Comes, Stops, Outcome, comes, by_ending, then_outcome, on_kept, add_fact, on_does, on_trial, steps_outcome, Branch, root, begin_with, begin, branches_after, node_outcome, on_branches, nodes_outcome, outcome}
 
 pub first-same : (known : List Term) → IsFirst known known
 first-same known = record { others = []; all_are = sym (append-nil known) }

@@ -1,18 +1,17 @@
 -- A check that nothing stops comes to whether its proof is accepted, and only adds terms.
-use Rattle.std.proofs.Common.{◌≡◌, ℕ, Bool, true, false, cond, ◌&&◌, List, [], ◌∷◌, ◌++◌, map, length, Option, Some, None, nat_eq, refl, sym, ap, ◌∙◌, subst}
-use Rattle.std.specs.List.{list_any}
+use Rattle.std.proofs.Common.{◌≡◌, ℕ, Bool, true, false, ◌&&◌, List, [], ◌∷◌, ◌++◌, map, length, Option, Some, None, nat_eq, refl, sym, ap, ◌∙◌}
 use Rattle.std.specs.Option.{option_map}
-use Rattle.std.proofs.lemmas.List.{append-nil, append_assoc, map-append}
-use Rattle.spv_logic.specs.Terms.{Term, term_eq}
+use Rattle.std.proofs.lemmas.List.{map-append}
+use Rattle.spv_logic.specs.Terms.{Term}
 use Rattle.spv_atoms.specs.declared.proofs.Step.{Step}
 use Rattle.spv_atoms.specs.declared.proofs.Step.TheVariants as step
 use Rattle.spv_atoms.specs.declared.proofs.Split.{Split}
 use Rattle.spv_atoms.specs.declared.proofs.ProofNode.{ProofNode}
 use Rattle.spv_atoms.specs.Atoms.{is_atom}
 use Rattle.spv_proof.specs.Effects.{Question, Effect, Adds, Ends, Fails, is_truth, linear, effect}
-use Rattle.spv_proof.specs.Accepted.{Path, Open, Closed, Broken, closed_if_last, on_effect, walk, cases_of, opened_if, opened, after_node, on_opened, closes, accepts}
-use Rattle.spv_proof.specs.Stops.{Stop, Halt, kept}
-use Rattle.spv_proof.specs.Outcomes.{Trial, Does, Halts, does_unless, halt_of_sums, trial, Ending, Comes, Stops, Outcome, comes, stops, by_ending, then_outcome, on_kept, add_fact, on_does, on_trial, steps_outcome, Branch, root, begin_with, begin, case_after, branches_if, branches, branches_after, node_outcome, on_branches, nodes_outcome, outcome}
+use Rattle.spv_proof.specs.Accepted.{Path, Open, Closed, Broken, closed_if_last, on_effect, walk, cases_of, opened_if, after_node, on_opened, closes, accepts}
+use Rattle.spv_proof.specs.Stops.{Halt, kept}
+use Rattle.spv_proof.specs.Outcomes.{Trial, Does, Halts, does_unless, halt_of_sums, trial, Ending, Comes, Stops, Outcome, comes, by_ending, then_outcome, on_kept, add_fact, on_does, on_trial, steps_outcome, Branch, root, begin_with, begin, case_after, branches_if, branches_after, node_outcome, on_branches, nodes_outcome, outcome}
 
 -- ---- one step
 

@@ -1,6 +1,5 @@
 -- What a check of a proof comes to, step by step, where there may be so many terms and no more.
 use Rattle.std.specs.Prelude.{◌≡◌, ℕ, Bool, true, false, ◌&&◌, List, [], ◌∷◌, ◌++◌, map, length, Option, Some, None, nat_eq}
-use Rattle.std.specs.Option.{option_map}
 use Rattle.spv_whole.specs.Fraction.{Fraction}
 use Rattle.spv_logic.specs.Terms.{Term}
 use Rattle.spv_logic.specs.Formulas.{equation}

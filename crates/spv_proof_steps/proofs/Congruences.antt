@@ -1,15 +1,13 @@
 -- Terms of one head with equal arguments, over plain variables.
-use Rattle.std.proofs.Common.{◌≡◌, ℕ, zero, suc, ◌<◌, ◌+◌, Bool, true, false, ◌&&◌, List, [], ◌∷◌, map, length, drop, get_or, slice_get, refl, sym, ap, ◌∙◌, subst, Option, Some, None, nat_eq, add-one, arith}
+use Rattle.std.proofs.Common.{◌≡◌, ℕ, zero, suc, ◌<◌, ◌+◌, Bool, true, false, ◌&&◌, List, [], ◌∷◌, map, length, drop, get_or, slice_get, refl, sym, ap, ◌∙◌, Option, Some, None, add-one, arith}
 use Rattle.std.specs.Option.{option_map}
 use Rattle.std.proofs.lemmas.Bool.{false≢true}
-use Rattle.std.proofs.lemmas.List.{at_drop_more}
 use Rattle.std.proofs.lemmas.Option.{slice_get-map}
 use Rattle.spv_list.proofs.Tests.{left_true, right_true}
 use Rattle.spv_logic.specs.declared.conditions.TermId.{TermId}
-use Rattle.spv_logic.specs.declared.types.Sort.{Sort}
 use Rattle.spv_logic.specs.declared.operators.Head.{Head}
 use Rattle.spv_logic.specs.declared.operators.Head.TheVariants as head
-use Rattle.spv_logic.specs.Terms.{Term, Terms, term, no_terms, terms, head_eq, term_eq}
+use Rattle.spv_logic.specs.Terms.{Term, Terms, term, no_terms, terms, head_eq}
 use Rattle.spv_logic.specs.Formulas.{equation}
 use Rattle.spv_logic.specs.Sorts.{result_sort}
 use Rattle.spv_logic.proofs.Equality.{term_eq-true, head_eq-true}

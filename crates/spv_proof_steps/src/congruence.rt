@@ -73,7 +73,13 @@ fn is_congruent(terms: &Terms, facts: &[TermId], t: TermId, u: TermId, numbers: 
     let left = terms.node(t);
     let right = terms.node(u);
     same_head(left.head, right.head)
-        && all_equal(terms, facts, left.args.as_slice(), right.args.as_slice(), numbers)
+        && all_equal(
+            terms,
+            facts,
+            left.args.as_slice(),
+            right.args.as_slice(),
+            numbers,
+        )
 }
 
 /// The equation of two terms of one head, where the cited facts are the equations of their arguments.

@@ -17,8 +17,8 @@ ghost use Rattle.spv_proof_steps.specs.Valued.{truth_in};
 ghost use Rattle.spv_proof_steps.specs.Steps.{effect_of, MayAdd, asked};
 
 use crate::candidates::{Candidate, negated, same_term, sides};
-use crate::numerals::numeral_relation;
 use crate::facts::{Effect, Fact, stated_fact};
+use crate::numerals::numeral_relation;
 use crate::valued::{evaluates, is_truth};
 use spv_atoms::Stated;
 use spv_term::{Condition, Head, TermId, Terms};
@@ -312,4 +312,3 @@ pub fn end_of(terms: &Terms, facts: &[TermId], first: u32, second: Option<u32>) 
     };
     if ends { Effect::Ends } else { Effect::Fails }
 }
-

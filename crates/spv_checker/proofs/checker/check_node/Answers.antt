@@ -1,7 +1,7 @@
-use Rattle.std.proofs.Common.{◌∙◌, ap, sym, subst, length, map, List}
+use Rattle.std.proofs.Common.{sym, subst, length, map, List}
 use Rattle.spv_logic.specs.declared.conditions.TermId.{TermId}
 use Rattle.spv_atoms.specs.declared.proofs.Step.{Step}
-use Rattle.spv_term.specs.Arena.{Arena, tree, trees_of, sequent}
+use Rattle.spv_term.specs.Arena.{tree, trees_of, sequent}
 use Rattle.spv_term.proofs.ArenaLemmas.{Extends-refl}
 use Rattle.spv_proof.specs.Stand.{question}
 use Rattle.spv_proof.specs.Outcomes.{node_outcome, branches_after}

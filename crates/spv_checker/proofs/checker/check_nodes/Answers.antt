@@ -1,4 +1,4 @@
-use Rattle.std.proofs.Common.{◌∙◌, ap, sym, subst, drop, refl, ◌+◌, Bool, true, false, List, length, nat_eq}
+use Rattle.std.proofs.Common.{◌∙◌, ap, subst, drop, ◌+◌, Bool, List, length, nat_eq}
 use Rattle.spv_term.specs.Arena.{trees_of}
 use Rattle.spv_proof.specs.Stand.{question}
 use Rattle.spv_proof.specs.Outcomes as outcomes
@@ -8,7 +8,7 @@ use Rattle.spv_checker.specs.Ends.{EndsAs}
 use Rattle.spv_checker.specs.Stacks.{Checked}
 use Rattle.spv_checker.proofs.Staying.{condition-Extends}
 use Rattle.spv_checker.proofs.Goings.{if_same}
-use Rattle.spv_checker.proofs.Nodes.{nothing-ends, next-node, drop_past, checking-start, checking-end, checking-none, checking-steps, checking-split, checking-waits, checking-ends, checking-fails, checking-on}
+use Rattle.spv_checker.proofs.Nodes.{nothing-ends, next-node, drop_past, checking-end, checking-steps, checking-waits, checking-ends, checking-fails, checking-on}
 use Rattle.spv_checker.proofs.checker.check_nodes.Goals as goal
 
 pub check_node-requires-clause-condition : goal.check_node-requires-clause-condition

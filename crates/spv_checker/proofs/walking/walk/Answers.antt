@@ -1,5 +1,5 @@
-use Rattle.std.proofs.Common.{◌∙◌, ap, sym, subst, drop, refl, ◌+◌, map}
-use Rattle.spv_term.specs.Arena.{Arena, tree, trees_of}
+use Rattle.std.proofs.Common.{subst, drop, ◌+◌, map}
+use Rattle.spv_term.specs.Arena.{tree, trees_of}
 use Rattle.spv_proof.specs.Stand.{question}
 use Rattle.spv_proof.specs.Outcomes.{trial}
 use Rattle.spv_checker.specs.declared.stops.CheckStop.{CheckStop}

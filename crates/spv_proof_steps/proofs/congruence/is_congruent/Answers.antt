@@ -1,5 +1,5 @@
-use Rattle.std.proofs.Common.{◌∙◌, sym, length, map, ◌&&◌}
-use Rattle.spv_term.specs.Arena.{tree, trees}
+use Rattle.std.proofs.Common.{map}
+use Rattle.spv_term.specs.Arena.{tree}
 use Rattle.spv_term.proofs.ArenaLemmas.{args_in_range}
 use Rattle.spv_proof_steps.proofs.Congruences.{congruent_nodes, other_heads}
 use Rattle.spv_proof_steps.proofs.congruence.is_congruent.Goals as goal
