@@ -3,3 +3,4 @@ pub mod KeptFaults
 pub mod Ends
 pub mod Walks
 pub mod Stacks
+pub mod Examples

@@ -5,9 +5,11 @@ mod branches;
 pub mod casing;
 mod checker;
 mod keeping;
+mod laws;
 mod linear;
 pub mod stops;
 mod walking;
 
 pub use checker::check;
+pub use laws::law_stops;
 pub use stops::CheckStop;
