@@ -72,7 +72,10 @@ fn by_refl(alloc: Global, t: TermId, end: Step) -> Result<Vec<ProofNode>, Fail>
 fn refl(rt: HostRuntime) -> Result<(), Fail> {
     let (mut terms, one, goal) = one_is_one(rt.alloc(), 3)?;
     let nodes = by_refl(rt.alloc(), one, Step::Contra(1, Some(2)))?;
-    assert_eq!(rt; checked(rt.alloc(), &mut terms, goal, nodes).ok(), Some(true));
+    assert_eq!(rt;
+        checked(rt.alloc(), &mut terms, goal, nodes).ok(),
+        Some(true)
+    );
     assert_eq!(rt; terms.len(), 3);
     Ok(())
 }
@@ -81,7 +84,10 @@ fn refl(rt: HostRuntime) -> Result<(), Fail> {
 fn contra_of_no_opposites(rt: HostRuntime) -> Result<(), Fail> {
     let (mut terms, one, goal) = one_is_one(rt.alloc(), 3)?;
     let nodes = by_refl(rt.alloc(), one, Step::Contra(2, Some(2)))?;
-    assert_eq!(rt; checked(rt.alloc(), &mut terms, goal, nodes).ok(), Some(false));
+    assert_eq!(rt;
+        checked(rt.alloc(), &mut terms, goal, nodes).ok(),
+        Some(false)
+    );
     Ok(())
 }
 

@@ -26,4 +26,3 @@ returns-clause-negative_first c = refl
 pub returns-clause-wide_relation : goal.returns-clause-wide_relation
 unfolding fraction.sum fraction.product fraction.lowest gcd
 returns-clause-wide_relation c = refl
-
