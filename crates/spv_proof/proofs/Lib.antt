@@ -1,3 +1,5 @@
 pub mod Combinations
 pub mod Evaluating
 pub mod Soundness
+pub mod Outcomes
+pub mod Growing

@@ -1,5 +1,6 @@
 -- What an accepted proof shows.
-use Rattle.std.specs.Prelude.{IsTrue, List}
+use Rattle.std.specs.Prelude.{◌≡◌, ℕ, Bool, IsTrue, List}
+use Rattle.spv_logic.specs.Terms.{Term}
 use Rattle.spv_logic.specs.Shapes.{shapes_ok}
 use Rattle.spv_logic.specs.Conditions.{Meaning, TrueIn}
 use Rattle.spv_term.specs.declared.nodes.Condition.{Condition}
@@ -8,6 +9,7 @@ use Rattle.spv_atoms.specs.declared.proofs.ProofNode.{ProofNode}
 use Rattle.spv_proof.specs.Effects.{Question}
 use Rattle.spv_proof.specs.Accepted.{accepts}
 use Rattle.spv_proof.specs.Stand.{IsProof}
+use Rattle.spv_proof.specs.Outcomes.{Comes, IsFirst, outcome}
 
 -- what an accepted proof is to show is true in a world
 abbrev pub AcceptedIsTrueIn : Meaning → Type 0
@@ -18,3 +20,11 @@ AcceptedIsTrueIn world =
 abbrev pub ProvedIsTrueIn : Meaning → Type 0
 ProvedIsTrueIn world =
     (a : Arena) → IsArena a → (c : Condition) (nodes : List ProofNode) → IsProof a c nodes → TrueIn a.shapes a.decls world (sequent a c)
+
+-- a check that nothing stops comes to whether its proof is accepted, however many terms there are and may be
+abbrev pub UnstoppedIsExact : Type 0
+UnstoppedIsExact = (most : ℕ) (q : Question) (known : List Term) (nodes : List ProofNode) (b : Bool) → (outcome most q known nodes).ending ≡ Comes b → accepts q nodes ≡ b
+
+-- the terms that there are stay, and others come behind them
+abbrev pub TermsStay : Type 0
+TermsStay = (most : ℕ) (q : Question) (known : List Term) (nodes : List ProofNode) → IsFirst known (outcome most q known nodes).known

@@ -2,6 +2,8 @@ pub mod Sums
 pub mod Evaluation
 pub mod Effects
 pub mod Accepted
+pub mod Stops
+pub mod Outcomes
 pub mod Stand
 pub mod Laws
 pub mod Examples

@@ -3,7 +3,7 @@
 ghost use Rattle.std.specs.Prelude.{◌≡◌, true, false};
 ghost use Rattle.spv_logic.specs.Conditions.{Meaning};
 ghost use Rattle.spv_proof.specs.Examples as examples;
-ghost use Rattle.spv_proof.specs.Laws.{AcceptedIsTrueIn, ProvedIsTrueIn};
+ghost use Rattle.spv_proof.specs.Laws.{AcceptedIsTrueIn, ProvedIsTrueIn, UnstoppedIsExact, TermsStay};
 
 use spv_logic::World;
 
@@ -15,6 +15,13 @@ pub fn law_check<W: World>(world: &W)
 {
     let _ = world;
 }
+
+/// What a check of a proof comes to, where nothing stops it, is whether the proof is accepted; and
+/// it only adds terms.
+pub fn law_outcome()
+    ensures exact { UnstoppedIsExact }
+    ensures terms_stay { TermsStay }
+{}
 
 /// Worked proofs: what is accepted, and what one thing wrong makes of it.
 pub fn law_examples()

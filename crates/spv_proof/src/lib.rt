@@ -3,4 +3,4 @@
 
 mod laws;
 
-pub use laws::{law_check, law_examples};
+pub use laws::{law_check, law_examples, law_outcome};

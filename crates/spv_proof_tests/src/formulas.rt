@@ -5,7 +5,7 @@ ghost use Rattle.std.specs.Prelude.{◌≡◌, ◌<◌, length, IfOk};
 use spv_atoms::{atoms, law_form, law_truth, truth};
 use spv_list::List;
 use spv_names::Symbol;
-use spv_proof::{law_check, law_examples};
+use spv_proof::{law_check, law_examples, law_outcome};
 use spv_rational::{law_number, law_products, law_signs, law_sums, law_whole};
 use spv_term::{Head, PlainWorld, Shapes, Sort, TermFault, TermId, Terms};
 use std::alloc::Global;
@@ -55,4 +55,5 @@ fn laws_may_be_called(_rt: HostRuntime) {
     law_truth();
     law_check(&PlainWorld);
     law_examples();
+    law_outcome();
 }

@@ -1,0 +1,6 @@
+pub mod Faults
+pub mod KeptFaults
+pub mod Ends
+pub mod Walks
+pub mod Stacks
+pub mod Examples
