@@ -47,8 +47,10 @@ starts_at_call p (f ∷ formals) (AtPlace d ∷ arguments) = starts_at_call p fo
 -- what an INITIAL name stands for, in the caller's terms
 abbrev pub initial_at_call : Program → Routine → List Argument → List (Head × Term)
 initial_at_call p r arguments =
-    map (λ i. (head.Var i.0 (item_sort p (Some r) i.1) 0,
-        substitute (replacing (at_call p r.formals arguments)) (alone (item_head p (Some r) i.1)))) r.initial
+    map (λ i. (
+      head.Var i.0 (item_sort p (Some r) i.1) 0,
+      substitute (replacing (at_call p r.formals arguments)) (alone (item_head p (Some r) i.1)),
+    )) r.initial
 
 -- ---- ENTRY and EXIT
 

@@ -69,15 +69,15 @@ pub record Signature : Type 0 where
   pub wanted : List Sort
   pub result : Sort
 
--- or the line of an argument that has none of them
+-- those of an array of this sort; or the line of an argument that is none
+abbrev pub signature_on : ℕ → Sort → (Sort → Sort → Signature) → Option Sort → Outcome Signature
+signature_on line a signature None = Err (wrong line)
+signature_on line a signature (Some e) = Ok (signature a e)
+
 abbrev pub on_array : List Shape → List (ℕ × Operand Formula) → (Sort → Sort → Signature) → Outcome Signature
 on_array shapes [] signature = Err (wrong 0)
 on_array shapes ((line, NilAt at) ∷ others) signature = Err (wrong line)
-on_array shapes ((line, Of f s) ∷ others) signature = of_element (element_sort shapes s)
-  where
-    of_element : Option Sort → Outcome Signature
-    of_element None = Err (wrong line)
-    of_element (Some e) = Ok (signature s e)
+on_array shapes ((line, Of f s) ∷ others) signature = signature_on line s signature (element_sort shapes s)
 
 abbrev pub on_class : List (ℕ × Operand Formula) → (TypeId → Signature) → Outcome Signature
 on_class ((line, Of f (sort.Class t)) ∷ others) signature = Ok (signature t)

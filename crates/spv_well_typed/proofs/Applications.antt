@@ -29,7 +29,7 @@ use Rattle.spv_typing.specs.declared.faults.TypeFault.TheVariants.{Count}
 use Rattle.spv_typing.specs.Outcomes.{Outcome, after, where_so, undeclared, wrong}
 use Rattle.spv_typing.specs.Known.{Function, Select, Store, Put, Cell, SetCell, Extend, PointerTo, Car, Cdr, Cons, Atom, Meaning, OfType, OfList, OfConstant, OfPlace, OfStart, OfSymbol, OfRoutine, Scope, meaning, function}
 use Rattle.spv_typing.specs.OperatorWalk.{Operand, Of, NilAt, Argument, settled, operands}
-use Rattle.spv_typing.specs.FormulaWalk.{Sorted as SortedFormula, Signature, with_sort, arity, on_array, on_class, on_pointer, signature_of, operator_of, settled_all, field_named, put_at, put_with, put_applied, known_applied, named_applied, applied_of, applied}
+use Rattle.spv_typing.specs.FormulaWalk.{Sorted as SortedFormula, Signature, with_sort, arity, signature_on, on_array, on_class, on_pointer, signature_of, operator_of, settled_all, field_named, put_at, put_with, put_applied, known_applied, named_applied, applied_of, applied}
 use Rattle.spv_well_typed.specs.Laws.{SeesAlike}
 use Rattle.spv_well_typed.proofs.Outcomes.{fine, no_fault, same_value, Went, went, held, behind_test}
 use Rattle.spv_well_typed.proofs.Operators.{Fine, GoodOperand, of, nil_at, GoodArgument, GoodArguments, no_more, one_more}
@@ -53,7 +53,127 @@ module _ (s : Scope) (names : program.Scope) (sees : SeesAlike s names) where
   signs : (b : Function) (made sign : Signature) → fine made ≡ Ok sign → Signs b made → Signs b sign
   signs b made sign e h = subst (Signs b) (same_value e) h
 
+  there_of : (f : Formula) (r : Sort) → GoodOperand (Sorted p names) (Bare p names) (Of f r) → sort_in_range here r ≡ true
+  there_of f r (of x q h) = h.good.there
+
   array_signs : (b : Function) (given : List (ℕ × Operand Formula)) (make : Sort → Sort → Signature) (sign : Signature) → GoodOperands s names sees given → ((a e : Sort) → sort_in_range here a ≡ true → element_sort here a ≡ Some e → Signs b (make a e)) → on_array here given make ≡ Ok sign → Signs b sign
   array_signs b [] make sign g h e = absurd (no_fault e)
   array_signs b ((line, NilAt at) ∷ others) make sign g h e = absurd (no_fault e)
-  array_signs b ((line, Of f a) ∷ others) make sign (one_operand c more (of x r q) rest) h e = absurd (cc)
+  array_signs b ((line, Of f a) ∷ others) make sign (one_operand c more q rest) h e = by_element (element_sort here a) refl e
+    where
+      by_element : (o : Option Sort) → element_sort here a ≡ o → signature_on line a make o ≡ Ok sign → Signs b sign
+      by_element None k z = absurd (no_fault z)
+      by_element (Some r) k z = signs b (make a r) sign z (h a r (there_of f a q) k)
+
+  class_signs : (b : Function) (given : List (ℕ × Operand Formula)) (make : TypeId → Signature) (sign : Signature) → GoodOperands s names sees given → ((t : TypeId) → sort_in_range here (sort.Class t) ≡ true → Signs b (make t)) → on_class given make ≡ Ok sign → Signs b sign
+  class_signs b [] make sign g h e = absurd (no_fault e)
+  class_signs b ((line, NilAt at) ∷ others) make sign g h e = absurd (no_fault e)
+  class_signs b ((line, Of f (sort.Class t)) ∷ others) make sign (one_operand c more q rest) h e = signs b (make t) sign e (h t (there_of f (sort.Class t) q))
+  class_signs b ((line, Of f sort.Int) ∷ others) make sign g h e = absurd (no_fault e)
+  class_signs b ((line, Of f sort.Bool) ∷ others) make sign g h e = absurd (no_fault e)
+  class_signs b ((line, Of f sort.List) ∷ others) make sign g h e = absurd (no_fault e)
+  class_signs b ((line, Of f (sort.Ptr t)) ∷ others) make sign g h e = absurd (no_fault e)
+  class_signs b ((line, Of f (sort.Whole t)) ∷ others) make sign g h e = absurd (no_fault e)
+
+  pointer_signs : (b : Function) (given : List (ℕ × Operand Formula)) (make : TypeId → Signature) (sign : Signature) → GoodOperands s names sees given → ((t : TypeId) → sort_in_range here (sort.Class t) ≡ true → Signs b (make t)) → on_pointer given make ≡ Ok sign → Signs b sign
+  pointer_signs b [] make sign g h e = absurd (no_fault e)
+  pointer_signs b ((line, NilAt at) ∷ others) make sign (one_operand c more q rest) h e = class_signs b others make sign rest h e
+  pointer_signs b ((line, Of f (sort.Ptr t)) ∷ others) make sign (one_operand c more q rest) h e = class_signs b others make sign rest h e
+  pointer_signs b ((line, Of f sort.Int) ∷ others) make sign g h e = absurd (no_fault e)
+  pointer_signs b ((line, Of f sort.Bool) ∷ others) make sign g h e = absurd (no_fault e)
+  pointer_signs b ((line, Of f sort.List) ∷ others) make sign g h e = absurd (no_fault e)
+  pointer_signs b ((line, Of f (sort.Class t)) ∷ others) make sign g h e = absurd (no_fault e)
+  pointer_signs b ((line, Of f (sort.Whole t)) ∷ others) make sign g h e = absurd (no_fault e)
+
+  sort_there : (t : TypeId) → sort_in_range here (sort.Class t) ≡ true → sort_in_range here (sort_of p.forms t) ≡ true
+  sort_there t e = type_range s names sees t (pointed_there p names t e)
+
+  -- the content of a class of this type
+  content_is : (t : TypeId) → content_sort here (sort.Class t) ≡ Some (sort_of p.forms t)
+  content_is t = ap Some (sort_is p.forms t)
+
+  cell_signs : (t : TypeId) → sort_in_range here (sort.Class t) ≡ true → Signs Cell (record { wanted = sort.Class t ∷ sort.Ptr t ∷ []; result = sort_of p.forms t })
+  cell_signs t there = record {
+    gives = taken_alike (sort.Class t ∷ sort.Ptr t ∷ []) _ ∙ content_is t;
+    wanted_there = both_true there (both_true there refl);
+    result_there = sort_there t there;
+    many = refl;
+  }
+
+  -- a class that is changed at a pointer
+  changed_gives : (t : TypeId) → with_sorted (content_sort here (sort.Class t)) (λ e. takes (sort.Class t ∷ sort.Ptr t ∷ e ∷ []) (sort.Class t ∷ sort.Ptr t ∷ sort_of p.forms t ∷ []) (sort.Class t)) ≡ Some (sort.Class t)
+  changed_gives t =
+      ap (λ o. with_sorted o (λ e. takes (sort.Class t ∷ sort.Ptr t ∷ e ∷ []) (sort.Class t ∷ sort.Ptr t ∷ sort_of p.forms t ∷ []) (sort.Class t))) (content_is t)
+      ∙ taken_alike (sort.Class t ∷ sort.Ptr t ∷ sort_of p.forms t ∷ []) (sort.Class t)
+
+  set_signs : (t : TypeId) → sort_in_range here (sort.Class t) ≡ true → Signs SetCell (record { wanted = sort.Class t ∷ sort.Ptr t ∷ sort_of p.forms t ∷ []; result = sort.Class t })
+  set_signs t there = record { gives = changed_gives t; wanted_there = both_true there (both_true there (both_true (sort_there t there) refl)); result_there = there; many = refl }
+
+  extend_signs : (t : TypeId) → sort_in_range here (sort.Class t) ≡ true → Signs Extend (record { wanted = sort.Class t ∷ sort.Ptr t ∷ sort_of p.forms t ∷ []; result = sort.Class t })
+  extend_signs t there = record { gives = changed_gives t; wanted_there = both_true there (both_true there (both_true (sort_there t there) refl)); result_there = there; many = refl }
+
+  member_signs : (t : TypeId) → sort_in_range here (sort.Class t) ≡ true → Signs PointerTo (record { wanted = sort.Ptr t ∷ sort.Class t ∷ []; result = sort.Bool })
+  member_signs t there = record { gives = taken_alike (sort.Ptr t ∷ sort.Class t ∷ []) sort.Bool; wanted_there = both_true there (both_true there refl); result_there = refl; many = refl }
+
+  select_signs : (a e : Sort) → sort_in_range here a ≡ true → element_sort here a ≡ Some e → Signs Select (record { wanted = a ∷ sort.Int ∷ []; result = e })
+  select_signs a e there k = record {
+    gives = ap (λ o. with_sorted o (λ r. takes (a ∷ sort.Int ∷ []) (a ∷ sort.Int ∷ []) r)) k ∙ taken_alike (a ∷ sort.Int ∷ []) e;
+    wanted_there = both_true there refl;
+    result_there = element_in_range here (shapes_pass s names sees) a e k;
+    many = refl;
+  }
+
+  store_signs : (a e : Sort) → sort_in_range here a ≡ true → element_sort here a ≡ Some e → Signs Store (record { wanted = a ∷ sort.Int ∷ e ∷ []; result = a })
+  store_signs a e there k = record {
+    gives = ap (λ o. with_sorted o (λ r. takes (a ∷ sort.Int ∷ r ∷ []) (a ∷ sort.Int ∷ e ∷ []) a)) k ∙ taken_alike (a ∷ sort.Int ∷ e ∷ []) a;
+    wanted_there = both_true there (both_true (element_in_range here (shapes_pass s names sees) a e k) refl);
+    result_there = there;
+    many = refl;
+  }
+
+  list_signs : (b : Function) → Signs b (record { wanted = sort.List ∷ []; result = sort.List }) → (sign : Signature) → fine (record { wanted = sort.List ∷ []; result = sort.List }) ≡ Ok sign → Signs b sign
+  list_signs b h sign e = signs b (record { wanted = sort.List ∷ []; result = sort.List }) sign e h
+
+  abbrev is_put : Function → Bool
+  is_put Put = true
+  is_put _ = false
+
+  signature_signs : (b : Function) (given : List (ℕ × Operand Formula)) (sign : Signature) → is_put b ≡ false → GoodOperands s names sees given → signature_of s b given ≡ Ok sign → Signs b sign
+  signature_signs Select given sign n g e = array_signs Select given (λ a r. record { wanted = a ∷ sort.Int ∷ []; result = r }) sign g select_signs e
+  signature_signs Store given sign n g e = array_signs Store given (λ a r. record { wanted = a ∷ sort.Int ∷ r ∷ []; result = a }) sign g store_signs e
+  signature_signs Put given sign n g e = absurd (false≢true (sym n))
+  signature_signs Cell given sign n g e = class_signs Cell given (λ t. record { wanted = sort.Class t ∷ sort.Ptr t ∷ []; result = sort_of p.forms t }) sign g cell_signs e
+  signature_signs SetCell given sign n g e = class_signs SetCell given (λ t. record { wanted = sort.Class t ∷ sort.Ptr t ∷ sort_of p.forms t ∷ []; result = sort.Class t }) sign g set_signs e
+  signature_signs Extend given sign n g e = class_signs Extend given (λ t. record { wanted = sort.Class t ∷ sort.Ptr t ∷ sort_of p.forms t ∷ []; result = sort.Class t }) sign g extend_signs e
+  signature_signs PointerTo given sign n g e = pointer_signs PointerTo given (λ t. record { wanted = sort.Ptr t ∷ sort.Class t ∷ []; result = sort.Bool }) sign g member_signs e
+  signature_signs Car given sign n g e = list_signs Car (record { gives = refl; wanted_there = refl; result_there = refl; many = refl }) sign e
+  signature_signs Cdr given sign n g e = list_signs Cdr (record { gives = refl; wanted_there = refl; result_there = refl; many = refl }) sign e
+  signature_signs Cons given sign n g e =
+      signs Cons (record { wanted = sort.List ∷ sort.List ∷ []; result = sort.List }) sign e (record { gives = refl; wanted_there = refl; result_there = refl; many = refl })
+  signature_signs Atom given sign n g e =
+      signs Atom (record { wanted = sort.List ∷ []; result = sort.Bool }) sign e (record { gives = refl; wanted_there = refl; result_there = refl; many = refl })
+
+  -- ---- PUT
+
+  put_fine : (x : Name) (r z : SortedFormula) (line : ℕ) (v : ℕ × Operand Formula) (o : Option (List SortedField)) → fields_of here r.sort ≡ o → Sorted p names r.formula r.sort → GoodOperand (Sorted p names) (Bare p names) v.1 → put_at x line r o v ≡ Ok z → FineResult s names sees z
+  put_fine x r z line v None k h g e = absurd (no_fault e)
+  put_fine x r z line v (Some fields) k h g e = by_field (field_sort fields x.symbol.0) refl one.value one.first one.rest
+    where
+      made : Formula → SortedFormula
+      made f = with_sort (Known (known.Put x.symbol) (formulas r.formula (formulas f no_formulas))) r.sort
+
+      one : Went (field_named x (field_sort fields x.symbol.0)) (λ t. after (settled NilOf (wrong v.0) t v.1) (λ f. fine (made f))) z
+      one = went (field_named x (field_sort fields x.symbol.0)) (λ t. after (settled NilOf (wrong v.0) t v.1) (λ f. fine (made f))) z e
+
+      by_field : (q : Option Sort) → field_sort fields x.symbol.0 ≡ q → (t : Sort) → field_named x q ≡ Ok t → after (settled NilOf (wrong v.0) t v.1) (λ f. fine (made f)) ≡ Ok z → FineResult s names sees z
+      by_field None q t f rest = absurd (no_fault f)
+      by_field (Some u) q t f rest =
+          let two = went (settled NilOf (wrong v.0) t v.1) (λ f. fine (made f)) z rest in
+          let there : field_sort_of (fields_of here r.sort) x.symbol.0 ≡ Some t = ap (λ o. field_sort_of o x.symbol.0) k ∙ (q ∙ ap Some (same_value f)) in
+          let value = settled_here s names sees (wrong v.0) t (record_field_in_range here (shapes_pass s names sees) r.sort t x.symbol.0 there) v.1 two.value g two.first in
+          result_is s names sees (Known (known.Put x.symbol) (formulas r.formula (formulas two.value no_formulas))) r.sort z two.rest
+          (fine_is p names (Known (known.Put x.symbol) (formulas r.formula (formulas two.value no_formulas))) r.sort
+          (ap (λ o. option_and_then (result_sort here p.symbols (head.Put x.symbol)) (sorts_from o (sorts_from (formula_sort p names two.value) (Some [])))) h.is
+          ∙ (ap (λ o. option_and_then (result_sort here p.symbols (head.Put x.symbol)) (sorts_from (Some r.sort) (sorts_from o (Some [])))) value.is
+          ∙ (ap (λ o. with_sorted o (λ u. takes (r.sort ∷ u ∷ []) (r.sort ∷ t ∷ []) r.sort)) there ∙ taken_alike (r.sort ∷ t ∷ []) r.sort)))
+          h.there refl)

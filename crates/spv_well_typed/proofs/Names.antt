@@ -62,7 +62,7 @@ module _ (s : Scope) (names : program.Scope) (sees : SeesAlike s names) where
   abbrev here : List Shape
   here = shapes s.known.program
 
-  shapes_pass : list_all (shape_ok here) here ≡ true
+  pub shapes_pass : list_all (shape_ok here) here ≡ true
   shapes_pass = left_true _ _ sees.shapes_right
 
   there_as_shape : (t : TypeId) → type_exists s.known.program.forms t ≡ true → nat_lt t.0 (length here) ≡ true
@@ -74,7 +74,7 @@ module _ (s : Scope) (names : program.Scope) (sees : SeesAlike s names) where
       subst (λ q. sort_in_range here q ≡ true) (sort_is s.known.program.forms t)
       (content_in_range here shapes_pass (sort.Class t) _ (there_as_shape t e) refl)
 
-  result_is : (g : Formula) (r : Sort) (z : SortedFormula) → fine (with_sort g r) ≡ Ok z → FineHere g r → FineResult z
+  pub result_is : (g : Formula) (r : Sort) (z : SortedFormula) → fine (with_sort g r) ≡ Ok z → FineHere g r → FineResult z
   result_is g r z e h = subst FineResult (same_value e) (record { is = h })
 
   -- ---- names
