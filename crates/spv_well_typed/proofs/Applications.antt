@@ -1,15 +1,13 @@
 -- Applications in annotations keep their sorts.
-use Rattle.std.proofs.Common.{◌≡◌, ℕ, zero, suc, Bool, true, false, cond, ◌&&◌, refl, sym, ap, ◌∙◌, subst}
-use Rattle.std.specs.Prelude.{List, [], ◌∷◌, length, map, Option, Some, None, Result, Ok, Err, IsTrue, nat_eq, is_some}
+use Rattle.std.proofs.Common.{◌≡◌, ℕ, Bool, true, false, refl, sym, ap, ◌∙◌, subst}
+use Rattle.std.specs.Prelude.{List, [], ◌∷◌, length, Option, Some, None, Ok, Err, nat_eq}
 use Rattle.std.specs.List.{list_all}
 use Rattle.std.specs.Option.{option_and_then}
 use Rattle.std.specs.Cmp.Derive.{both_true}
 use Rattle.std.proofs.lemmas.Bool.{false≢true, eqb-true}
-use Rattle.spv_list.proofs.Tests.{left_true, right_true}
 use Rattle.spv_logic.specs.declared.types.TypeId.{TypeId}
 use Rattle.spv_logic.specs.declared.types.Sort.{Sort}
 use Rattle.spv_logic.specs.declared.types.Sort.TheVariants as sort
-use Rattle.spv_logic.specs.declared.types.Decl.{Decl}
 use Rattle.spv_logic.specs.declared.types.Field.{Field as SortedField}
 use Rattle.spv_logic.specs.declared.types.Shape.{Shape}
 use Rattle.spv_logic.specs.declared.operators.Head.TheVariants as head
@@ -18,23 +16,22 @@ use Rattle.spv_logic.specs.Sorts.{sort_in_range, takes, takes_declared, declared
 use Rattle.spv_logic.proofs.Ranges.{element_in_range, record_field_in_range}
 use Rattle.spv_syntax.specs.declared.names.Name.{Name}
 use Rattle.spv_program.specs.declared.operators.BuiltIn.TheVariants as known
-use Rattle.spv_program.specs.Types.{sort_of, type_exists}
+use Rattle.spv_program.specs.Types.{sort_of}
 use Rattle.spv_program.specs.Programs.{Program, shapes}
 use Rattle.spv_program.specs.Scopes as program
-use Rattle.spv_program.specs.Formulas.{Formula, Formulas, NilOf, Applied, Known, no_formulas, formulas}
-use Rattle.spv_program.specs.FormulaTypes.{formula_sort, formula_sorts, sorts_from, head_of_known}
+use Rattle.spv_program.specs.Formulas.{Formula, NilOf, Applied, Known, no_formulas, formulas}
+use Rattle.spv_program.specs.FormulaTypes.{formula_sort, sorts_from, head_of_known}
 use Rattle.spv_program.proofs.SortFacts.{sort_is}
-use Rattle.spv_typing.specs.declared.faults.TypeFault.{TypeFault}
 use Rattle.spv_typing.specs.declared.faults.TypeFault.TheVariants.{Count}
-use Rattle.spv_typing.specs.Outcomes.{Outcome, after, where_so, undeclared, wrong}
+use Rattle.spv_typing.specs.Outcomes.{Outcome, after, where_so, wrong}
 use Rattle.spv_typing.specs.Known.{Function, Select, Store, Put, Cell, SetCell, Extend, PointerTo, Car, Cdr, Cons, Atom, Meaning, OfType, OfList, OfConstant, OfPlace, OfStart, OfSymbol, OfRoutine, Scope, meaning, function}
 use Rattle.spv_typing.specs.OperatorWalk.{Operand, Of, NilAt, Argument, settled, operands}
 use Rattle.spv_typing.specs.FormulaWalk.{Sorted as SortedFormula, Signature, with_sort, arity, signature_on, on_array, on_class, on_pointer, signature_of, operator_of, settled_all, field_named, put_at, put_with, put_applied, known_applied, named_applied, applied_of, applied}
 use Rattle.spv_well_typed.specs.Laws.{SeesAlike}
 use Rattle.spv_well_typed.proofs.Outcomes.{fine, no_fault, same_value, Went, went, held, behind_test}
-use Rattle.spv_well_typed.proofs.Operators.{Fine, GoodOperand, of, nil_at, GoodArgument, GoodArguments, no_more, one_more}
-use Rattle.spv_well_typed.proofs.Formulas.{Sorted, Bare, FineFormula, fine_is, pointed_there}
-use Rattle.spv_well_typed.proofs.Names.{taken_alike, FineResult, GoodOperands, no_operands, one_operand, shapes_pass, type_range, result_is, operands_good, settled_here, settled_all_here}
+use Rattle.spv_well_typed.proofs.Operators.{GoodOperand, of, GoodArguments, one_more}
+use Rattle.spv_well_typed.proofs.Formulas.{Sorted, Bare, fine_is, pointed_there}
+use Rattle.spv_well_typed.proofs.Names.{taken_alike, FineResult, GoodOperands, one_operand, shapes_pass, type_range, result_is, operands_good, settled_here, settled_all_here}
 
 module _ (s : Scope) (names : program.Scope) (sees : SeesAlike s names) where
   abbrev p : Program
@@ -177,3 +174,112 @@ module _ (s : Scope) (names : program.Scope) (sees : SeesAlike s names) where
           ∙ (ap (λ o. option_and_then (result_sort here p.symbols (head.Put x.symbol)) (sorts_from (Some r.sort) (sorts_from o (Some [])))) value.is
           ∙ (ap (λ o. with_sorted o (λ u. takes (r.sort ∷ u ∷ []) (r.sort ∷ t ∷ []) r.sort)) there ∙ taken_alike (r.sort ∷ t ∷ []) r.sort)))
           h.there refl)
+
+  put_with_fine : (line : ℕ) (x : Option Name) (r v : ℕ × Operand Formula) (z : SortedFormula) → GoodOperand (Sorted p names) (Bare p names) r.1 → GoodOperand (Sorted p names) (Bare p names) v.1 → put_with s line x r v ≡ Ok z → FineResult s names sees z
+  put_with_fine line None r v z g h e = absurd (no_fault e)
+  put_with_fine line (Some x) (at, NilAt on) v z g h e = absurd (no_fault e)
+  put_with_fine line (Some x) (at, Of f t) v z (of y u q) h e = put_fine x (with_sort f t) z at v (fields_of here t) refl q.good h e
+
+  put_applied_fine : (line : ℕ) (given : List (Argument Formula SortedFormula)) (z : SortedFormula) → GoodArguments (Sorted p names) (Bare p names) (FineResult s names sees) given → put_applied s line given ≡ Ok z → FineResult s names sees z
+  put_applied_fine line [] z g e = absurd (no_fault (went (operands {S = SortedFormula} []) (λ os. counted os) z e).rest)
+    where
+      counted : List (ℕ × Operand Formula) → Outcome SortedFormula
+      counted os = Err (Count line)
+  put_applied_fine line (r ∷ []) z g e = absurd (no_fault (went (operands (r ∷ [])) (λ os. counted os) z e).rest)
+    where
+      counted : List (ℕ × Operand Formula) → Outcome SortedFormula
+      counted os = Err (Count line)
+  put_applied_fine line (r ∷ x ∷ []) z g e =
+      absurd (no_fault (went (operands {S = SortedFormula} []) (λ os. counted os) z (went r.operand (λ a. after (operands {S = SortedFormula} []) (λ os. counted os)) z e).rest).rest)
+    where
+      counted : List (ℕ × Operand Formula) → Outcome SortedFormula
+      counted os = Err (Count line)
+  put_applied_fine line (r ∷ x ∷ v ∷ w ∷ others) z g e =
+      absurd (no_fault (went (operands (v ∷ w ∷ others)) (λ os. counted os) z (went r.operand (λ a. after (operands (v ∷ w ∷ others)) (λ os. counted os)) z e).rest).rest)
+    where
+      counted : List (ℕ × Operand Formula) → Outcome SortedFormula
+      counted os = Err (Count line)
+  put_applied_fine line (r ∷ x ∷ v ∷ []) z (one_more a b q (one_more c d t (one_more f h u w))) e =
+      let one = went r.operand (λ a. after v.operand (λ b. put_with s x.line x.name (r.line, a) (v.line, b))) z e in
+      let two = went v.operand (λ b. put_with s x.line x.name (r.line, one.value) (v.line, b)) z one.rest in
+      put_with_fine x.line x.name (r.line, one.value) (v.line, two.value) z (q.operand one.value one.first) (u.operand two.value two.first) two.rest
+
+  -- ---- applications
+
+  known_fine : (line : ℕ) (b : Function) (given : List (Argument Formula SortedFormula)) (z : SortedFormula) → is_put b ≡ false → GoodArguments (Sorted p names) (Bare p names) (FineResult s names sees) given
+      → after (operands given) (λ os. where_so (nat_eq (length os) (arity b)) (Count line) (after (signature_of s b os) (λ sign. after (settled_all sign.wanted os) (λ fs. fine (with_sort (Known (operator_of b) fs) sign.result))))) ≡ Ok z
+      → FineResult s names sees z
+  known_fine line b given z n g e =
+      let one = went (operands given) (λ os. where_so (nat_eq (length os) (arity b)) (Count line) (after (signature_of s b os) (λ sign. after (settled_all sign.wanted os) (λ fs. fine (with_sort (Known (operator_of b) fs) sign.result))))) z e in
+      let os = one.value in
+      let go = after (signature_of s b os) (λ sign. after (settled_all sign.wanted os) (λ fs. fine (with_sort (Known (operator_of b) fs) sign.result))) in
+      let many : length os ≡ arity b = eqb-true (length os) (arity b) (held (nat_eq (length os) (arity b)) (Count line) go z one.rest) in
+      let two = went (signature_of s b os) (λ sign. after (settled_all sign.wanted os) (λ fs. fine (with_sort (Known (operator_of b) fs) sign.result))) z (behind_test (nat_eq (length os) (arity b)) (Count line) go z one.rest) in
+      let sign = two.value in
+      let three = went (settled_all sign.wanted os) (λ fs. fine (with_sort (Known (operator_of b) fs) sign.result)) z two.rest in
+      let good = operands_good s names sees given os g one.first in
+      let h = signature_signs b os sign n good two.first in
+      let same : length os ≡ length sign.wanted = many ∙ sym h.many in
+      result_is s names sees (Known (operator_of b) three.value) sign.result z three.rest
+      (fine_is p names (Known (operator_of b) three.value) sign.result
+      (ap (λ o. option_and_then (result_sort here p.symbols (head_of_known (operator_of b))) o) (settled_all_here s names sees sign.wanted os three.value h.wanted_there same good three.first) ∙ h.gives)
+      h.result_there refl)
+
+  known_applied_fine : (line : ℕ) (b : Function) (given : List (Argument Formula SortedFormula)) (z : SortedFormula) → GoodArguments (Sorted p names) (Bare p names) (FineResult s names sees) given → known_applied s line b given ≡ Ok z → FineResult s names sees z
+  known_applied_fine line Put given z g e = put_applied_fine line given z g e
+  known_applied_fine line Select given z g e = known_fine line Select given z refl g e
+  known_applied_fine line Store given z g e = known_fine line Store given z refl g e
+  known_applied_fine line Cell given z g e = known_fine line Cell given z refl g e
+  known_applied_fine line SetCell given z g e = known_fine line SetCell given z refl g e
+  known_applied_fine line Extend given z g e = known_fine line Extend given z refl g e
+  known_applied_fine line PointerTo given z g e = known_fine line PointerTo given z refl g e
+  known_applied_fine line Car given z g e = known_fine line Car given z refl g e
+  known_applied_fine line Cdr given z g e = known_fine line Cdr given z refl g e
+  known_applied_fine line Cons given z g e = known_fine line Cons given z refl g e
+  known_applied_fine line Atom given z g e = known_fine line Atom given z refl g e
+
+  named_applied_fine : (line : ℕ) (x : Name) (m : Option Meaning) (given : List (Argument Formula SortedFormula)) (z : SortedFormula) → meaning s x.symbol ≡ m → GoodArguments (Sorted p names) (Bare p names) (FineResult s names sees) given → named_applied s line x m given ≡ Ok z → FineResult s names sees z
+  named_applied_fine line x None given z h g e = absurd (no_fault e)
+  named_applied_fine line x (Some (OfSymbol d)) given z h g e =
+      let one = went (operands given) (λ os. where_so (nat_eq (length os) (length d.args)) (Count line) (after (settled_all d.args os) (λ fs. fine (with_sort (Applied d.name fs) d.result)))) z e in
+      let os = one.value in
+      let go = after (settled_all d.args os) (λ fs. fine (with_sort (Applied d.name fs) d.result)) in
+      let same : length os ≡ length d.args = eqb-true (length os) (length d.args) (held (nat_eq (length os) (length d.args)) (Count line) go z one.rest) in
+      let two = went (settled_all d.args os) (λ fs. fine (with_sort (Applied d.name fs) d.result)) z (behind_test (nat_eq (length os) (length d.args)) (Count line) go z one.rest) in
+      let good = operands_good s names sees given os g one.first in
+      let all = settled_all_here s names sees d.args os two.value (sees.symbol_arguments x.symbol d h) same good two.first in
+      result_is s names sees (Applied d.name two.value) d.result z two.rest
+      (fine_is p names (Applied d.name two.value) d.result
+      (ap (λ o. option_and_then (takes_declared (declared p.symbols d.name.0)) o) all
+      ∙ (ap (λ o. takes_declared o d.args) (sees.symbols x.symbol d h) ∙ taken_alike d.args d.result))
+      (sees.symbol_sorts x.symbol d h) refl)
+  named_applied_fine line x (Some (OfRoutine r)) given z h g e =
+      let one = went (operands given) (λ os. where_so (nat_eq (length os) (length r.formals)) (Count line) (Err (wrong line))) z e in
+      absurd (no_fault (behind_test (nat_eq (length one.value) (length r.formals)) (Count line) (Err (wrong line)) z one.rest))
+  named_applied_fine line x (Some (OfType t)) given z h g e = absurd (no_fault (went (operands given) (λ os. nothing line) z e).rest)
+    where
+      nothing : ℕ → Outcome SortedFormula
+      nothing line = Err (wrong line)
+  named_applied_fine line x (Some OfList) given z h g e = absurd (no_fault (went (operands given) (λ os. nothing line) z e).rest)
+    where
+      nothing : ℕ → Outcome SortedFormula
+      nothing line = Err (wrong line)
+  named_applied_fine line x (Some (OfConstant n)) given z h g e = absurd (no_fault (went (operands given) (λ os. nothing line) z e).rest)
+    where
+      nothing : ℕ → Outcome SortedFormula
+      nothing line = Err (wrong line)
+  named_applied_fine line x (Some (OfPlace t)) given z h g e = absurd (no_fault (went (operands given) (λ os. nothing line) z e).rest)
+    where
+      nothing : ℕ → Outcome SortedFormula
+      nothing line = Err (wrong line)
+  named_applied_fine line x (Some (OfStart r)) given z h g e = absurd (no_fault (went (operands given) (λ os. nothing line) z e).rest)
+    where
+      nothing : ℕ → Outcome SortedFormula
+      nothing line = Err (wrong line)
+
+  applied_by : (line : ℕ) (x : Name) (o : Option Function) (given : List (Argument Formula SortedFormula)) (z : SortedFormula) → GoodArguments (Sorted p names) (Bare p names) (FineResult s names sees) given → applied_of s line x o given ≡ Ok z → FineResult s names sees z
+  applied_by line x None given z g e = named_applied_fine line x (meaning s x.symbol) given z refl g e
+  applied_by line x (Some b) given z g e = known_applied_fine line b given z g e
+
+  pub applied_fine : (line : ℕ) (x : Name) (given : List (Argument Formula SortedFormula)) (z : SortedFormula) → GoodArguments (Sorted p names) (Bare p names) (FineResult s names sees) given → applied s line x given ≡ Ok z → FineResult s names sees z
+  applied_fine line x given z g e = applied_by line x (function s x.symbol) given z g e

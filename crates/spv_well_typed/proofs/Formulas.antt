@@ -1,29 +1,26 @@
 -- Formulas of annotations keep their sorts.
-use Rattle.std.proofs.Common.{◌≡◌, ℕ, Bool, true, false, cond, ◌&&◌, not, refl, sym, ap, ◌∙◌, subst}
-use Rattle.std.specs.Prelude.{List, [], ◌∷◌, length, map, ℤ, pos, Option, Some, None, Result, Ok, Err, IsTrue, nat_eq, nat_lt, is_some}
-use Rattle.std.specs.Option.{option_and_then}
+use Rattle.std.proofs.Common.{◌≡◌, Bool, true, false, cond, ◌&&◌, refl, sym, ap, ◌∙◌}
+use Rattle.std.specs.Prelude.{Some, None, nat_lt}
 use Rattle.std.specs.Cmp.Derive.{both_true}
 use Rattle.std.proofs.lemmas.Bool.{false≢true}
 use Rattle.std.proofs.lemmas.List.{length-map}
-use Rattle.spv_names.specs.declared.names.Symbol.{Symbol}
 use Rattle.spv_list.proofs.Tests.{and_false}
 use Rattle.spv_logic.specs.declared.types.TypeId.{TypeId}
 use Rattle.spv_logic.specs.declared.types.Sort.{Sort}
 use Rattle.spv_logic.specs.declared.types.Sort.TheVariants as sort
 use Rattle.spv_logic.specs.Terms.{sort_eq}
 use Rattle.spv_logic.specs.Sorts.{sort_in_range}
-use Rattle.spv_logic.proofs.Equality.{sort_eq-true, sort_eq-refl}
-use Rattle.spv_syntax.specs.declared.names.Name.{Name}
+use Rattle.spv_logic.proofs.Equality.{sort_eq-refl}
 use Rattle.spv_program.specs.declared.operators.Arithmetic.{Arithmetic}
 use Rattle.spv_program.specs.declared.operators.Comparison.{Comparison}
 use Rattle.spv_program.specs.declared.operators.Comparison.TheVariants as comparison
 use Rattle.spv_program.specs.declared.operators.Connective.{Connective}
-use Rattle.spv_program.specs.Types.{sort_of, shape_of_form, type_exists}
+use Rattle.spv_program.specs.Types.{shape_of_form, type_exists}
 use Rattle.spv_program.specs.Programs.{Program, shapes}
 use Rattle.spv_program.specs.Scopes as program
-use Rattle.spv_program.specs.Formulas.{Formula, Formulas, Numeral, Boolean, NilOf, Named, ClassOf, Element, FieldOf, Content, Applied, Known, Negative, Calculated, Compared, Negated, Joined, Implied, no_formulas, formulas}
-use Rattle.spv_program.specs.FormulaTypes.{formula_sort, formula_sorts, is_nil, is_sort, sort_if, numbers, truth_values, compared_sort, any_sort, two_sorts}
-use Rattle.spv_program.proofs.SortFacts.{nothing_there, some_is, sort_told}
+use Rattle.spv_program.specs.Formulas.{Formula, Numeral, Boolean, NilOf, Named, ClassOf, Element, FieldOf, Content, Applied, Known, Negative, Calculated, Compared, Negated, Joined, Implied}
+use Rattle.spv_program.specs.FormulaTypes.{formula_sort, is_nil, is_sort, sort_if, numbers, truth_values, compared_sort, any_sort}
+use Rattle.spv_program.proofs.SortFacts.{sort_told}
 use Rattle.spv_well_typed.proofs.Operators.{Fine}
 
 module _ (p : Program) (names : program.Scope) where

@@ -3,3 +3,4 @@ pub mod Operators
 pub mod Formulas
 pub mod Names
 pub mod Applications
+pub mod Annotations

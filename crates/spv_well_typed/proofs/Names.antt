@@ -1,40 +1,39 @@
 -- Names, selectors and applications in annotations keep their sorts.
-use Rattle.std.proofs.Common.{◌≡◌, ℕ, zero, suc, Bool, true, false, cond, ◌&&◌, refl, sym, ap, ◌∙◌, subst}
-use Rattle.std.specs.Prelude.{List, [], ◌∷◌, length, map, Option, Some, None, Result, Ok, Err, IsTrue, nat_eq, nat_lt, is_some}
+use Rattle.std.proofs.Common.{◌≡◌, ℕ, suc, Bool, true, false, cond, ◌&&◌, refl, ap, ◌∙◌, subst}
+use Rattle.std.specs.Prelude.{List, [], ◌∷◌, length, Option, Some, None, Ok, Err, nat_eq, nat_lt, is_some}
 use Rattle.std.specs.List.{list_all}
 use Rattle.std.specs.Option.{option_and_then}
 use Rattle.std.specs.Cmp.Derive.{both_true}
-use Rattle.std.proofs.lemmas.Bool.{false≢true, eqb-true}
+use Rattle.std.proofs.lemmas.Bool.{eqb-true}
 use Rattle.std.proofs.lemmas.List.{length-map}
 use Rattle.spv_list.proofs.Tests.{left_true, right_true}
 use Rattle.spv_logic.specs.declared.types.TypeId.{TypeId}
 use Rattle.spv_logic.specs.declared.types.Sort.{Sort}
 use Rattle.spv_logic.specs.declared.types.Sort.TheVariants as sort
-use Rattle.spv_logic.specs.declared.types.Decl.{Decl}
 use Rattle.spv_logic.specs.declared.types.Field.{Field as SortedField}
 use Rattle.spv_logic.specs.declared.types.Shape.{Shape}
-use Rattle.spv_logic.specs.Shapes.{element_sort, fields_of, field_sort, field_sort_of, shape_ok, shapes_ok}
-use Rattle.spv_logic.specs.Sorts.{sort_in_range, sorts_eq, takes, takes_declared, declared, with_sort as with_sorted, first_sort, result_sort}
+use Rattle.spv_logic.specs.Shapes.{element_sort, fields_of, field_sort, field_sort_of, shape_ok}
+use Rattle.spv_logic.specs.Sorts.{sort_in_range, sorts_eq, takes, takes_declared}
 use Rattle.spv_logic.specs.Terms.{sort_eq}
 use Rattle.spv_logic.proofs.Equality.{sort_eq-true, sort_eq-refl}
 use Rattle.spv_logic.proofs.Ranges.{element_in_range, record_field_in_range, content_in_range}
 use Rattle.spv_syntax.specs.declared.names.Name.{Name}
 use Rattle.spv_program.specs.Types.{sort_of, shape_of_form, type_exists}
-use Rattle.spv_program.specs.Programs.{Program, shapes}
+use Rattle.spv_program.specs.Programs.{shapes}
 use Rattle.spv_program.specs.Scopes as program
-use Rattle.spv_program.specs.Formulas.{Formula, Formulas, Numeral, NilOf, Named, ClassOf, Element, FieldOf, Content, Applied, Known, no_formulas, formulas}
-use Rattle.spv_program.specs.FormulaTypes.{formula_sort, formula_sorts, is_nil, is_sort, sort_if, two_sorts, sorts_from, head_of_known}
-use Rattle.spv_program.proofs.SortFacts.{nothing_there, some_is, sort_is}
+use Rattle.spv_program.specs.Formulas.{Formula, Formulas, Numeral, NilOf, Named, ClassOf, Element, FieldOf, Content, Applied, no_formulas, formulas}
+use Rattle.spv_program.specs.FormulaTypes.{formula_sort, formula_sorts, is_sort, sort_if, two_sorts, sorts_from}
+use Rattle.spv_program.proofs.SortFacts.{sort_is}
 use Rattle.spv_typing.specs.declared.faults.TypeFault.{TypeFault}
 use Rattle.spv_typing.specs.declared.faults.TypeFault.TheVariants.{Count}
-use Rattle.spv_typing.specs.Outcomes.{Outcome, after, where_so, undeclared, wrong}
-use Rattle.spv_typing.specs.Known.{Meaning, OfType, OfList, OfConstant, OfPlace, OfStart, OfSymbol, OfRoutine, Scope, meaning, function}
+use Rattle.spv_typing.specs.Outcomes.{after, where_so, wrong}
+use Rattle.spv_typing.specs.Known.{Meaning, OfType, OfList, OfConstant, OfPlace, OfStart, OfSymbol, OfRoutine, Scope, meaning}
 use Rattle.spv_typing.specs.DeclarationWalk.{class_named}
 use Rattle.spv_typing.specs.OperatorWalk.{Operand, Of, NilAt, Argument, settled, operands}
 use Rattle.spv_typing.specs.FormulaWalk.{Sorted as SortedFormula, with_sort, name_alone, class_at, settled_all, on_element, takes_indices, elements, indexed_at, field_named, field_in, content_at}
 use Rattle.spv_well_typed.specs.Laws.{SeesAlike}
-use Rattle.spv_well_typed.proofs.Outcomes.{fine, no_fault, same_value, Went, went, held, behind_test}
-use Rattle.spv_well_typed.proofs.Operators.{Fine, GoodOperand, of, nil_at, GoodArgument, GoodArguments, no_more, one_more}
+use Rattle.spv_well_typed.proofs.Outcomes.{fine, no_fault, same_value, went, held, behind_test}
+use Rattle.spv_well_typed.proofs.Operators.{GoodOperand, of, GoodArguments, no_more, one_more}
 use Rattle.spv_well_typed.proofs.Formulas.{Sorted, Bare, FineFormula, fine_is, pointed_there}
 
 pub sorts_eq-refl : (ss : List Sort) → sorts_eq ss ss ≡ true

@@ -2,7 +2,7 @@
 use Rattle.std.proofs.Common.{◌≡◌, ℕ, Bool, true, false, cond, refl, sym, ap, ◌∙◌, subst}
 use Rattle.std.proofs.lemmas.Bool.{false≢true}
 use Rattle.spv_logic.specs.Shapes.{is_pointer}
-use Rattle.std.specs.Prelude.{List, [], ◌∷◌, ℤ, pos, Option, Some, None, Result, Ok, Err}
+use Rattle.std.specs.Prelude.{List, [], ◌∷◌, ℤ, pos, Option, Some, None, Ok, Err}
 use Rattle.spv_logic.specs.declared.types.TypeId.{TypeId}
 use Rattle.spv_logic.specs.declared.types.Sort.{Sort}
 use Rattle.spv_logic.specs.declared.types.Sort.TheVariants as sort
@@ -17,7 +17,7 @@ use Rattle.spv_syntax.specs.declared.operators.Adding.{Adding}
 use Rattle.spv_syntax.specs.declared.operators.Adding.TheVariants as adding
 use Rattle.spv_syntax.specs.declared.operators.Multiplying.{Multiplying}
 use Rattle.spv_syntax.specs.declared.operators.Multiplying.TheVariants as multiplying
-use Rattle.spv_syntax.specs.Formulas.{Formula, Conclusion, Relation, RightSide, Simple, MoreTerms, Term, MoreFactors, Factor, MoreFormulas, Designator, Selectors, Selector, formula, no_conclusion, implies, relation, no_right_side, compared, simple, no_more_terms, more_terms, term, no_more_factors, more_factors, number, truth, nil, class, place, application, bracketed, negation, no_more_formulas, more_formulas, designator, no_selectors, selectors, index, field, content}
+use Rattle.spv_syntax.specs.Formulas.{Formula, Relation, Simple, MoreTerms, Term, MoreFactors, Factor, MoreFormulas, Designator, Selectors, Selector, formula, no_conclusion, implies, relation, no_right_side, compared, simple, no_more_terms, more_terms, term, no_more_factors, more_factors, number, truth, nil, class, place, application, bracketed, negation, no_more_formulas, more_formulas, designator, no_selectors, selectors, index, field, content}
 use Rattle.spv_program.specs.declared.operators.Arithmetic.{Arithmetic}
 use Rattle.spv_program.specs.declared.operators.Arithmetic.TheVariants as arithmetic
 use Rattle.spv_program.specs.declared.operators.Comparison.{Comparison}
@@ -25,11 +25,11 @@ use Rattle.spv_program.specs.declared.operators.Comparison.TheVariants as compar
 use Rattle.spv_program.specs.declared.operators.Connective.{Connective}
 use Rattle.spv_program.specs.declared.operators.Connective.TheVariants as connective
 use Rattle.spv_typing.specs.declared.faults.TypeFault.{TypeFault}
-use Rattle.spv_typing.specs.Outcomes.{Outcome, after, where_so, wrong}
+use Rattle.spv_typing.specs.Outcomes.{Outcome, after, wrong}
 use Rattle.spv_typing.specs.TypeWalk.{negative}
 use Rattle.spv_typing.specs.OperatorWalk.{Operand, Of, NilAt, Argument, Forms, settled, two_of, numbers, truths, product, total, with_sign, opposite, alike, ordered, related, conclusion, argument, formula_walk, relation_walk, simple_walk, more_terms_walk, term_walk, more_factors_walk, factor_walk, designator_walk, selectors_walk, selector_walk, arguments, written_place, relation_place, simple_place, term_place, factor_place}
 use Rattle.spv_program.proofs.SortFacts.{nothing_there, some_is}
-use Rattle.spv_well_typed.proofs.Outcomes.{fine, no_fault, same_value, Went, went, held, behind_test}
+use Rattle.spv_well_typed.proofs.Outcomes.{fine, no_fault, same_value, went, held, behind_test}
 
 -- what became of a form is good, with its sort, and is not NIL alone
 pub record Fine {X : Type 0} (Good : X → Sort → Type 0) (Bare : X → Type 0) (x : X) (s : Sort) : Type 0 where

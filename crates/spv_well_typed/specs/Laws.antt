@@ -1,5 +1,5 @@
 -- What is proved of the walk over names and types.
-use Rattle.std.specs.Prelude.{◌≡◌, ℕ, true, List, [], ◌∷◌, Option, Some, None, IsTrue, Ok}
+use Rattle.std.specs.Prelude.{◌≡◌, Some, IsTrue, Ok}
 use Rattle.std.specs.List.{list_all}
 use Rattle.spv_names.specs.declared.names.Symbol.{Symbol}
 use Rattle.spv_logic.specs.declared.types.TypeId.{TypeId}
@@ -13,8 +13,8 @@ use Rattle.spv_program.specs.Lists.{found}
 use Rattle.spv_program.specs.Formulas.{Annotation}
 use Rattle.spv_program.specs.FormulaTypes.{annotation_ok}
 use Rattle.spv_program.specs.Scopes as program
-use Rattle.spv_program.specs.Programs.{Program, shapes}
-use Rattle.spv_typing.specs.Known.{Meaning, OfType, OfPlace, OfStart, OfSymbol, Scope, meaning}
+use Rattle.spv_program.specs.Programs.{shapes}
+use Rattle.spv_typing.specs.Known.{OfType, OfPlace, OfStart, OfSymbol, Scope, meaning}
 use Rattle.spv_typing.specs.FormulaWalk.{annotation}
 
 -- the names of a scope are those that typing gives an annotation, with their sorts, and all types that they name are there
