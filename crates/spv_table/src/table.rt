@@ -47,8 +47,8 @@ impl From<AllocError> for ValueFault {
 impl Table {
     /// The value of a term: of a numeral its number, of TRUE and FALSE 1 and 0, of a sum, a difference or
     /// a product of which one side is constant that of its sides, of a relation or a connective 1 or 0; of
-    /// every other term the listed one, and 0 where none is listed. Arguments are evaluated from left to
-    /// right and then combined.
+    /// every other term the listed one, and 0 where none is listed. The sides of a term come before
+    /// the term, the left one first.
     ///
     /// `Wide` is the first operation in this order that is too wide, and comes exactly where there is one.
     pub fn value(&self, alloc: Global, terms: &Terms, t: TermId) -> Result<Frac, ValueFault>

@@ -143,7 +143,7 @@ with_item s =
       globals = plain_item (Variable x) ∷ plain_item (Class node) ∷ [];
     }) pointing s
 
--- two VAR arguments of one root, also in a routine's body, and a VAR argument whose root is an item of the callee's list
+-- two VAR arguments with one root, in the main block and in a body; and one that begins with what the callee lists
 abbrev pub with_meeting_arguments : List Program
 with_meeting_arguments =
     over swap pointing (swapping (at x) (at x))
