@@ -4,3 +4,7 @@ pub mod Formulas
 pub mod Names
 pub mod Applications
 pub mod Annotations
+pub mod ExpressionParts
+pub mod Places
+pub mod Reached
+pub mod Calls

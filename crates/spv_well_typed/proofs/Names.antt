@@ -33,7 +33,7 @@ use Rattle.spv_typing.specs.OperatorWalk.{Operand, Of, NilAt, Argument, settled,
 use Rattle.spv_typing.specs.FormulaWalk.{Sorted as SortedFormula, with_sort, name_alone, class_at, settled_all, on_element, takes_indices, elements, indexed_at, field_named, field_in, content_at}
 use Rattle.spv_well_typed.specs.Laws.{SeesAlike}
 use Rattle.spv_well_typed.proofs.Outcomes.{fine, no_fault, same_value, went, held, behind_test}
-use Rattle.spv_well_typed.proofs.Operators.{GoodOperand, of, GoodArguments, no_more, one_more}
+use Rattle.spv_well_typed.proofs.Operators.{GoodOperand, of, GoodArguments, no_more, one_more, settled_at}
 use Rattle.spv_well_typed.proofs.Formulas.{Sorted, Bare, FineFormula, fine_is, pointed_there}
 
 pub sorts_eq-refl : (ss : List Sort) → sorts_eq ss ss ≡ true
@@ -163,19 +163,12 @@ module _ (s : Scope) (names : program.Scope) (sees : SeesAlike s names) where
 
   -- an operand that was settled to a sort whose types are there
   pub settled_here : (fault : TypeFault) (r : Sort) → sort_in_range here r ≡ true → (o : Operand Formula) (g : Formula) → GoodOperand SortedHere (Bare s.known.program names) o → settled NilOf fault r o ≡ Ok g → SortedHere g r
-  settled_here fault r there (Of y u) g (of z v h) e = by_case (sort_eq u r) refl e
+  settled_here fault r there o g h e = settled_at SortedHere (Bare s.known.program names) NilOf fault r nil_is o g h e
     where
-      by_case : (b : Bool) → sort_eq u r ≡ b → cond b (fine y) (Err fault) ≡ Ok g → SortedHere g r
-      by_case true same f = subst (λ z. SortedHere z r) (same_value f) (subst (λ q. SortedHere y q) (sort_eq-true u r same) h.good)
-      by_case false same f = absurd (no_fault f)
-  settled_here fault (sort.Ptr t) there (NilAt line) g h e =
-      subst (λ z. SortedHere z (sort.Ptr t)) (same_value e)
-      (record { is = ap (λ b. sort_if b (sort.Ptr t)) (pointed_there s.known.program names t there); there = there })
-  settled_here fault sort.Int there (NilAt line) g h e = absurd (no_fault e)
-  settled_here fault sort.Bool there (NilAt line) g h e = absurd (no_fault e)
-  settled_here fault sort.List there (NilAt line) g h e = absurd (no_fault e)
-  settled_here fault (sort.Whole t) there (NilAt line) g h e = absurd (no_fault e)
-  settled_here fault (sort.Class t) there (NilAt line) g h e = absurd (no_fault e)
+      nil_is : (t : TypeId) → r ≡ sort.Ptr t → SortedHere (NilOf t) (sort.Ptr t)
+      nil_is t q =
+          let exists : sort_in_range here (sort.Ptr t) ≡ true = subst (λ u. sort_in_range here u ≡ true) q there in
+          record { is = ap (λ b. sort_if b (sort.Ptr t)) (pointed_there s.known.program names t exists); there = exists }
 
   pub settled_all_here : (wanted : List Sort) (given : List (ℕ × Operand Formula)) (fs : Formulas) → list_all (sort_in_range here) wanted ≡ true → length given ≡ length wanted → GoodOperands given → settled_all wanted given ≡ Ok fs → formula_sorts s.known.program names fs ≡ Some wanted
   settled_all_here [] [] fs there same h e = subst (λ gs. formula_sorts s.known.program names gs ≡ Some []) (same_value e) refl

@@ -80,21 +80,21 @@ pub record Keeps {X S : Type 0} (k : Forms X S) (Good : X → Sort → Type 0) (
   pub writes : Selects k Good Bare Written Written
   pub finish : (s : S) → Read s → GoodOperand Good Bare (k.finish s)
 
-module _ {X S : Type 0} (k : Forms X S) (Good : X → Sort → Type 0) (Bare : X → Type 0) (Read Written : S → Type 0) (keeps : Keeps k Good Bare Read Written) where
-  -- an operand that was settled to a sort that no NIL has
-  settled_at : (fault : TypeFault) (s : Sort) (nil_is : (t : TypeId) → s ≡ sort.Ptr t → Good (k.nil_of t) (sort.Ptr t)) (o : Operand X) (x : X) → GoodOperand Good Bare o → settled k.nil_of fault s o ≡ Ok x → Good x s
-  settled_at fault s nil_is (Of y u) x (of z v h) e = by_case (sort_eq u s) refl e
-    where
-      by_case : (b : Bool) → sort_eq u s ≡ b → cond b (fine y) (Err fault) ≡ Ok x → Good x s
-      by_case true same f = subst (λ z. Good z s) (same_value f) (subst (λ r. Good y r) (sort_eq-true u s same) h.good)
-      by_case false same f = absurd (no_fault f)
-  settled_at fault (sort.Ptr t) nil_is (NilAt line) x h e = subst (λ z. Good z (sort.Ptr t)) (same_value e) (nil_is t refl)
-  settled_at fault sort.Int nil_is (NilAt line) x h e = absurd (no_fault e)
-  settled_at fault sort.Bool nil_is (NilAt line) x h e = absurd (no_fault e)
-  settled_at fault sort.List nil_is (NilAt line) x h e = absurd (no_fault e)
-  settled_at fault (sort.Whole t) nil_is (NilAt line) x h e = absurd (no_fault e)
-  settled_at fault (sort.Class t) nil_is (NilAt line) x h e = absurd (no_fault e)
+-- an operand that was settled to a sort; NIL is good where it is of that sort
+pub settled_at : {X : Type 0} (Good : X → Sort → Type 0) (Bare : X → Type 0) (nil_of : TypeId → X) (fault : TypeFault) (s : Sort) → ((t : TypeId) → s ≡ sort.Ptr t → Good (nil_of t) (sort.Ptr t)) → (o : Operand X) (x : X) → GoodOperand Good Bare o → settled nil_of fault s o ≡ Ok x → Good x s
+settled_at {X} Good Bare nil_of fault s nil_is (Of y u) x (of z v h) e = by_case (sort_eq u s) refl e
+  where
+    by_case : (b : Bool) → sort_eq u s ≡ b → cond b (fine y) (Err fault) ≡ Ok x → Good x s
+    by_case true same f = subst (λ z. Good z s) (same_value f) (subst (λ r. Good y r) (sort_eq-true u s same) h.good)
+    by_case false same f = absurd (no_fault f)
+settled_at {X} Good Bare nil_of fault (sort.Ptr t) nil_is (NilAt line) x h e = subst (λ z. Good z (sort.Ptr t)) (same_value e) (nil_is t refl)
+settled_at {X} Good Bare nil_of fault sort.Int nil_is (NilAt line) x h e = absurd (no_fault e)
+settled_at {X} Good Bare nil_of fault sort.Bool nil_is (NilAt line) x h e = absurd (no_fault e)
+settled_at {X} Good Bare nil_of fault sort.List nil_is (NilAt line) x h e = absurd (no_fault e)
+settled_at {X} Good Bare nil_of fault (sort.Whole t) nil_is (NilAt line) x h e = absurd (no_fault e)
+settled_at {X} Good Bare nil_of fault (sort.Class t) nil_is (NilAt line) x h e = absurd (no_fault e)
 
+module _ {X S : Type 0} (k : Forms X S) (Good : X → Sort → Type 0) (Bare : X → Type 0) (Read Written : S → Type 0) (keeps : Keeps k Good Bare Read Written) where
   no_pointer : (s : Sort) → is_pointer s ≡ false → (t : TypeId) → s ≡ sort.Ptr t → Good (k.nil_of t) (sort.Ptr t)
   no_pointer s plain t e = absurd (false≢true (sym plain ∙ ap is_pointer e))
 
@@ -113,8 +113,8 @@ module _ {X S : Type 0} (k : Forms X S) (Good : X → Sort → Type 0) (Bare : X
       record {
         left = one.value;
         right = two.value;
-        left_good = settled_at (wrong line) s (no_pointer s plain) a one.value g one.first;
-        right_good = settled_at (wrong line) s (no_pointer s plain) b two.value h two.first;
+        left_good = settled_at Good Bare k.nil_of (wrong line) s (no_pointer s plain) a one.value g one.first;
+        right_good = settled_at Good Bare k.nil_of (wrong line) s (no_pointer s plain) b two.value h two.first;
         is = same_value two.rest;
       }
 
@@ -146,7 +146,7 @@ module _ {X S : Type 0} (k : Forms X S) (Good : X → Sort → Type 0) (Bare : X
   one_of : (line : ℕ) (s : Sort) → is_pointer s ≡ false → (a : Operand X) (o : Operand X) (result : X → Operand X) → GoodOperand Good Bare a → after (settled k.nil_of (wrong line) s a) (λ x. Ok (result x)) ≡ Ok o → ((x : X) → Good x s → GoodOperand Good Bare (result x)) → GoodOperand Good Bare o
   one_of line s plain a o result g e f =
       let one = went (settled k.nil_of (wrong line) s a) (λ x. Ok (result x)) o e in
-      subst (GoodOperand Good Bare) (same_value one.rest) (f one.value (settled_at (wrong line) s (no_pointer s plain) a one.value g one.first))
+      subst (GoodOperand Good Bare) (same_value one.rest) (f one.value (settled_at Good Bare k.nil_of (wrong line) s (no_pointer s plain) a one.value g one.first))
 
   opposite_good : (line : ℕ) (a c : Operand X) → GoodOperand Good Bare a → opposite k line a ≡ Ok c → GoodOperand Good Bare c
   opposite_good line a c g e =
@@ -172,12 +172,12 @@ module _ {X S : Type 0} (k : Forms X S) (Good : X → Sort → Type 0) (Bare : X
   alike_good line o left right (Of x s) b c (of y u h) g e =
       let next = after (settled k.nil_of (wrong line) s b) (λ z. fine (Of (k.compares o x z) sort.Bool)) in
       let one = went (settled k.nil_of (wrong line) s b) (λ z. fine (Of (k.compares o x z) sort.Bool)) c (behind_test (k.comparable s) (wrong line) next c e) in
-      let other = settled_at (wrong line) s (λ t q. keeps.nil_of t x (subst (Good x) q h.good)) b one.value g one.first in
+      let other = settled_at Good Bare k.nil_of (wrong line) s (λ t q. keeps.nil_of t x (subst (Good x) q h.good)) b one.value g one.first in
       become (k.compares o x one.value) sort.Bool c (same_value one.rest) (left x one.value s (held (k.comparable s) (wrong line) next c e) h other)
   alike_good line o left right (NilAt at) (Of y s) c g (of z u h) e =
       let next = after (settled k.nil_of (wrong line) s (NilAt at)) (λ x. fine (Of (k.compares o x y) sort.Bool)) in
       let one = went (settled k.nil_of (wrong line) s (NilAt at)) (λ x. fine (Of (k.compares o x y) sort.Bool)) c (behind_test (k.comparable s) (wrong line) next c e) in
-      let other = settled_at (wrong line) s (λ t q. keeps.nil_of t y (subst (Good y) q h.good)) (NilAt at) one.value (nil_at at) one.first in
+      let other = settled_at Good Bare k.nil_of (wrong line) s (λ t q. keeps.nil_of t y (subst (Good y) q h.good)) (NilAt at) one.value (nil_at at) one.first in
       become (k.compares o one.value y) sort.Bool c (same_value one.rest) (right one.value y s (held (k.comparable s) (wrong line) next c e) other h)
   alike_good line o left right (NilAt at) (NilAt on) c g h e = absurd (no_fault e)
 
