@@ -1,6 +1,6 @@
 -- Operators of expressions keep their sorts.
-use Rattle.std.proofs.Common.{◌≡◌, ℕ, Bool, true, false, cond, ◌&&◌, not, refl, sym, ap, ◌∙◌, subst}
-use Rattle.std.specs.Prelude.{List, [], ◌∷◌, length, ℤ, Option, Some, None, nat_lt}
+use Rattle.std.proofs.Common.{◌≡◌, Bool, true, false, cond, ◌&&◌, refl, sym, ap, ◌∙◌}
+use Rattle.std.specs.Prelude.{Option, Some, None, nat_lt}
 use Rattle.std.specs.Cmp.Derive.{both_true}
 use Rattle.std.proofs.lemmas.Bool.{false≢true}
 use Rattle.std.proofs.lemmas.List.{length-map}

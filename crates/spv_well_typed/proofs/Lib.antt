@@ -8,3 +8,4 @@ pub mod ExpressionParts
 pub mod Places
 pub mod Reached
 pub mod Calls
+pub mod Expressions

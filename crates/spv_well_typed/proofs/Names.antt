@@ -1,5 +1,5 @@
 -- Names, selectors and applications in annotations keep their sorts.
-use Rattle.std.proofs.Common.{◌≡◌, ℕ, suc, Bool, true, false, cond, ◌&&◌, refl, ap, ◌∙◌, subst}
+use Rattle.std.proofs.Common.{◌≡◌, ℕ, suc, true, cond, ◌&&◌, refl, ap, ◌∙◌, subst}
 use Rattle.std.specs.Prelude.{List, [], ◌∷◌, length, Option, Some, None, Ok, Err, nat_eq, nat_lt, is_some}
 use Rattle.std.specs.List.{list_all}
 use Rattle.std.specs.Option.{option_and_then}
@@ -15,7 +15,7 @@ use Rattle.spv_logic.specs.declared.types.Shape.{Shape}
 use Rattle.spv_logic.specs.Shapes.{element_sort, fields_of, field_sort, field_sort_of, shape_ok}
 use Rattle.spv_logic.specs.Sorts.{sort_in_range, sorts_eq, takes, takes_declared}
 use Rattle.spv_logic.specs.Terms.{sort_eq}
-use Rattle.spv_logic.proofs.Equality.{sort_eq-true, sort_eq-refl}
+use Rattle.spv_logic.proofs.Equality.{sort_eq-refl}
 use Rattle.spv_logic.proofs.Ranges.{element_in_range, record_field_in_range, content_in_range}
 use Rattle.spv_syntax.specs.declared.names.Name.{Name}
 use Rattle.spv_program.specs.Types.{sort_of, shape_of_form, type_exists}
@@ -29,7 +29,7 @@ use Rattle.spv_typing.specs.declared.faults.TypeFault.TheVariants.{Count}
 use Rattle.spv_typing.specs.Outcomes.{after, where_so, wrong}
 use Rattle.spv_typing.specs.Known.{Meaning, OfType, OfList, OfConstant, OfPlace, OfStart, OfSymbol, OfRoutine, Scope, meaning}
 use Rattle.spv_typing.specs.DeclarationWalk.{class_named}
-use Rattle.spv_typing.specs.OperatorWalk.{Operand, Of, NilAt, Argument, settled, operands}
+use Rattle.spv_typing.specs.OperatorWalk.{Operand, Of, Argument, settled, operands}
 use Rattle.spv_typing.specs.FormulaWalk.{Sorted as SortedFormula, with_sort, name_alone, class_at, settled_all, on_element, takes_indices, elements, indexed_at, field_named, field_in, content_at}
 use Rattle.spv_well_typed.specs.Laws.{SeesAlike}
 use Rattle.spv_well_typed.proofs.Outcomes.{fine, no_fault, same_value, went, held, behind_test}

@@ -290,7 +290,7 @@ module _ {X S : Type 0} (k : Forms X S) (Good : X → Sort → Type 0) (Bare : X
         let one = went (factor_walk k f) (λ a. opposite k line a) o e in
         opposite_good line one.value o (factor_good f one.value one.first) one.rest
 
-    designator_good : (written : Bool) (start : ℕ → Name → Outcome S) → ((line : ℕ) (x : Name) (s : S) → start line x ≡ Ok s → reached written s) → (d : Designator) (s : S) → designator_walk k start d ≡ Ok s → reached written s
+    pub designator_good : (written : Bool) (start : ℕ → Name → Outcome S) → ((line : ℕ) (x : Name) (s : S) → start line x ≡ Ok s → reached written s) → (d : Designator) (s : S) → designator_walk k start d ≡ Ok s → reached written s
     designator_good written start first (designator line x behind) s e =
         let one = went (start line x) (λ s. selectors_walk k line s behind) s e in
         selectors_good written line one.value behind s (first line x one.value one.first) one.rest

@@ -1,27 +1,17 @@
 -- Names and selectors of expressions keep their types.
-use Rattle.std.proofs.Common.{◌≡◌, ℕ, zero, suc, Bool, true, false, cond, ◌&&◌, not, refl, sym, ap, ◌∙◌, subst}
-use Rattle.std.specs.Prelude.{List, [], ◌∷◌, ◌++◌, length, ℤ, Option, Some, None, Result, Ok, Err, IsTrue, nat_eq, nat_lt, is_some, option_map}
-use Rattle.std.specs.List.{list_all}
+use Rattle.std.proofs.Common.{◌≡◌, ℕ, true, cond, refl, ap, ◌∙◌}
+use Rattle.std.specs.Prelude.{List, [], ◌∷◌, ◌++◌, Option, Some, None}
 use Rattle.std.specs.Option.{option_and_then}
 use Rattle.std.specs.Cmp.Derive.{both_true}
-use Rattle.std.proofs.lemmas.Bool.{false≢true, eqb-true, eq-eqb}
+use Rattle.std.proofs.lemmas.Bool.{eq-eqb}
 use Rattle.spv_names.specs.declared.names.Symbol.{Symbol}
-use Rattle.spv_list.proofs.Tests.{left_true, right_true}
 use Rattle.spv_logic.specs.declared.types.TypeId.{TypeId}
-use Rattle.spv_logic.specs.declared.types.Sort.{Sort}
 use Rattle.spv_logic.specs.declared.types.Sort.TheVariants as sort
-use Rattle.spv_logic.specs.Terms.{sort_eq}
-use Rattle.spv_logic.specs.Sorts.{sort_in_range}
-use Rattle.spv_logic.proofs.Equality.{sort_eq-refl}
-use Rattle.spv_syntax.specs.declared.names.Name.{Name}
-use Rattle.spv_program.specs.declared.types.TypeField.{TypeField}
-use Rattle.spv_program.specs.declared.types.TypeForm.{TypeForm}
-use Rattle.spv_program.specs.declared.types.TypeForm.TheVariants as form
-use Rattle.spv_program.specs.Types.{same_type, form_at, form_ok, sort_of, element_of, field_of, field_type, target_of, type_exists}
-use Rattle.spv_program.specs.Expressions.{Expression, Designator, Selectors, Call, designator, no_selectors, at_index, at_field, at_cell}
-use Rattle.spv_program.specs.ExpressionTypes.{expression_sort, designator_type, selected_type}
+use Rattle.spv_program.specs.Types.{same_type, form_at, element_of, field_of, target_of}
+use Rattle.spv_program.specs.Expressions.{Expression}
+use Rattle.spv_program.specs.ExpressionTypes.{selected_type}
 use Rattle.spv_program.specs.FormulaTypes.{is_sort}
-use Rattle.spv_program.specs.Programs.{Routine, Program, shapes}
+use Rattle.spv_program.specs.Programs.{Routine, Program}
 use Rattle.spv_typing.specs.ExpressionWalk.{Link, ByIndex, ByField, ByCell, chained}
 use Rattle.spv_well_typed.proofs.ExpressionParts.{Typed}
 

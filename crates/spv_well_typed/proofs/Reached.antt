@@ -1,17 +1,14 @@
 -- What a name with selectors has come to, and that it is well typed.
-use Rattle.std.proofs.Common.{◌≡◌, ℕ, zero, suc, Bool, true, false, cond, ◌&&◌, ◌||◌, not, refl, sym, ap, ◌∙◌, subst}
-use Rattle.std.specs.Prelude.{List, [], ◌∷◌, ◌++◌, length, map, ℤ, Option, Some, None, Result, Ok, Err, IsTrue, nat_eq, nat_lt, is_some, option_map}
+use Rattle.std.proofs.Common.{◌≡◌, ℕ, zero, suc, Bool, true, false, cond, ◌||◌, not, refl, sym, ap, ◌∙◌, subst}
+use Rattle.std.specs.Prelude.{List, [], ◌∷◌, ◌++◌, ℤ, Option, Some, None, nat_lt}
 use Rattle.std.specs.List.{list_all}
 use Rattle.std.specs.Option.{option_and_then}
-use Rattle.std.specs.Cmp.Derive.{both_true}
 use Rattle.std.proofs.lemmas.Bool.{false≢true}
 use Rattle.std.proofs.lemmas.List.{length-map}
 use Rattle.spv_names.specs.declared.names.Symbol.{Symbol}
 use Rattle.spv_list.proofs.Tests.{left_true, right_true}
 use Rattle.spv_logic.specs.declared.types.TypeId.{TypeId}
-use Rattle.spv_logic.specs.declared.types.Sort.{Sort}
 use Rattle.spv_logic.specs.declared.types.Sort.TheVariants as sort
-use Rattle.spv_logic.specs.declared.types.Shape.{Shape}
 use Rattle.spv_logic.specs.Shapes.{shape_ok}
 use Rattle.spv_logic.specs.Sorts.{sort_in_range}
 use Rattle.spv_logic.proofs.Equality.{sort_eq-refl}
@@ -21,17 +18,16 @@ use Rattle.spv_program.specs.declared.types.TypeForm.{TypeForm}
 use Rattle.spv_program.specs.declared.types.TypeForm.TheVariants as form
 use Rattle.spv_program.specs.Lists.{same_name}
 use Rattle.spv_program.specs.Types.{form_at, form_ok, forms_ok, sort_of, sort_of_form, shape_of_form, element_of, field_of, field_type, target_of, type_exists, may_be_result}
-use Rattle.spv_program.specs.Expressions.{Expression, Designator, Call, Numeral, Read, Result as ResultOf, Through, designator}
+use Rattle.spv_program.specs.Expressions.{Designator, Call, Numeral, Read, Result as ResultOf, Through}
 use Rattle.spv_program.specs.ExpressionTypes.{expression_sort, designator_type, selected_type, callee, result_type, sort_of_type, is_nil, may_read, may_write}
 use Rattle.spv_program.specs.FormulaTypes.{is_sort}
 use Rattle.spv_program.specs.Programs.{Routine, Program, shapes}
 use Rattle.spv_program.specs.Scopes.{name_type, is_result}
 use Rattle.spv_program.proofs.SortFacts.{nothing_there, some_is, sort_is}
 use Rattle.spv_typing.specs.Known.{integer_type}
-use Rattle.spv_typing.specs.ExpressionWalk.{Base, AtName, AtResult, OfNumber, OfCall, Link, ByIndex, ByField, ByCell, Reached, chained, place_at, result_at, expression_at, designator_at, further}
-use Rattle.spv_well_typed.proofs.Operators.{Fine}
-use Rattle.spv_well_typed.proofs.ExpressionParts.{Typed, Bare, FineExpression, fine_is}
-use Rattle.spv_well_typed.proofs.Places.{Leads, by_index, by_field, by_cell, Way, at_once, and_on, way_selects, way_further}
+use Rattle.spv_typing.specs.ExpressionWalk.{Base, AtName, AtResult, OfNumber, OfCall, Link, ByIndex, ByField, ByCell, Reached, chained, place_at, expression_at, designator_at, further}
+use Rattle.spv_well_typed.proofs.ExpressionParts.{FineExpression, fine_is}
+use Rattle.spv_well_typed.proofs.Places.{Leads, by_index, by_field, by_cell, Way, at_once, way_selects, way_further}
 
 -- ---- what right forms say of their parts
 
