@@ -11,7 +11,7 @@ use Rattle.spv_program.specs.declared.operators.Connective.TheVariants as connec
 use Rattle.spv_program.specs.declared.types.Item.TheVariants.{Variable}
 use Rattle.spv_program.specs.Expressions.{Read, Result, Calculated, Compared, call, no_arguments, by_value, by_place}
 use Rattle.spv_program.specs.Formulas as formula
-use Rattle.spv_program.specs.Statements.{Perform, If}
+use Rattle.spv_program.specs.Statements.{Empty, Perform, If}
 use Rattle.spv_program.specs.Programs.{Routine, Program}
 use Rattle.spv_worked.specs.Small.{x, y, i, a, p, q, f, n, t, p0, q0, Fact, integer, row_of_nine, program, num, at, read, set, element, block, named, number, equal, note, value_formal, place_formal, routine, z, Reached, told, int, state, main_run, ended, going, reached}
 
@@ -171,3 +171,30 @@ abbrev pub StartStays : Type 0
 StartStays =
     told (x ∷ []) (int n ∷ start ∷ []) (main_run changing 1 (state ((x, z 4) ∷ [])) [])
     ≡ ended (4 ∷ []) (reached kind.Exit 5 (5 ∷ 4 ∷ []) ∷ [])
+
+-- ---- a procedure that calls itself
+
+-- PROCEDURE down(n: INTEGER); GLOBAL (VAR x); BEGIN IF n > 0 THEN down(n - 1); x := x * 10 + n END
+abbrev pub down : Routine
+down = record {
+  name = f;
+  line = 3;
+  formals = value_formal n integer ∷ [];
+  result = None;
+  globals = record { item = Variable x; is_var = true; line = 4 } ∷ [];
+  initial = [];
+  entry = None;
+  exit = None;
+  locals = [];
+  body = block
+      (If 6 (Compared comparison.Greater (read n) (num 0))
+      (Perform (call (routine 0) 6 (by_value (Calculated arithmetic.Minus (read n) (num 1)) no_arguments))) Empty
+      ∷ set x (Calculated arithmetic.Plus (Calculated arithmetic.Times (read x) (num 10)) (read n)) ∷ []);
+}
+
+abbrev pub descending : Program
+descending = program ((x, integer) ∷ []) (down ∷ []) None None (Perform (call (routine 0) 10 (by_value (num 2) no_arguments)))
+
+-- behind a call the caller's own names are back: x gets the digits 0, 1, 2
+abbrev pub OwnNamesAreBack : Type 0
+OwnNamesAreBack = told (x ∷ []) [] (main_run descending 3 (state ((x, z 0) ∷ [])) []) ≡ ended (12 ∷ []) []

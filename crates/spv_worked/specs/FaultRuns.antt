@@ -1,10 +1,10 @@
 -- Where runs stop, and in which order.
-use Rattle.std.specs.Prelude.{◌≡◌, ℕ, false, [], ◌∷◌, None}
+use Rattle.std.specs.Prelude.{◌≡◌, ℕ, true, false, [], ◌∷◌, None}
 use Rattle.spv_logic.specs.Values.{Truth, ArrayOf, no_rows}
 use Rattle.spv_program.specs.declared.operators.Arithmetic.TheVariants as arithmetic
 use Rattle.spv_program.specs.declared.operators.Comparison.TheVariants as comparison
 use Rattle.spv_program.specs.declared.operators.Connective.TheVariants as connective
-use Rattle.spv_program.specs.Expressions.{Expression, Read, Calculated, Compared, Joined, call, no_arguments, by_value}
+use Rattle.spv_program.specs.Expressions.{Expression, Boolean, Read, Calculated, Compared, Joined, call, no_arguments, by_value}
 use Rattle.spv_program.specs.Statements.{Statement, Empty, Assign, Perform, If}
 use Rattle.spv_program.specs.Programs.{Routine, Program}
 use Rattle.spv_meaning.specs.declared.faults.Fault.{Fault}
@@ -36,6 +36,20 @@ BothSidesOfAnd = Stops fault.Zero (set b (both_sides connective.And))
 
 abbrev pub BothSidesOfOr : Type 0
 BothSidesOfOr = Stops fault.Zero (If 1 (both_sides connective.Or) Empty Empty)
+
+-- IF e THEN x := 1 ELSE x := 2
+abbrev pub branching : Expression → Statement
+branching e = If 3 e (set x (num 1)) (set x (num 2))
+
+abbrev pub Branches : ℕ → Expression → Type 0
+Branches k e = told (x ∷ []) [] (main_run (with_body (branching e)) 0 start []) ≡ ended (k ∷ []) []
+
+-- TRUE AND b, and b OR TRUE, where b is FALSE: the right side counts
+abbrev pub RightSideOfAnd : Type 0
+RightSideOfAnd = Branches 2 (Joined connective.And (Boolean true) (read b))
+
+abbrev pub RightSideOfOr : Type 0
+RightSideOfOr = Branches 1 (Joined connective.Or (read b) (Boolean true))
 
 -- x MOD 0
 abbrev pub RemainderByZero : Type 0

@@ -8,7 +8,7 @@ use Rattle.spv_program.specs.Expressions.{Boolean, Calculated, Compared}
 use Rattle.spv_program.specs.Statements.{Case, While, Repeat, For, no_arms, arm}
 use Rattle.spv_program.specs.Programs.{Program}
 use Rattle.spv_meaning.specs.declared.faults.Fault.TheVariants as fault
-use Rattle.spv_worked.specs.Small.{x, i, integer, three, program, num, read, set, anything, z, Reached, told, int, state, main_run, ended, stopped, going, reached}
+use Rattle.spv_worked.specs.Small.{x, i, integer, three, program, num, read, set, one_by_zero, anything, z, Reached, told, int, state, main_run, ended, stopped, going, reached}
 
 -- VAR x: INTEGER; i: INTEGER;  INVARIANT TRUE FOR i := 3 TO 1 DO x := 7
 abbrev pub no_turn : Program
@@ -79,6 +79,19 @@ ForEvaluatesItsEndsOnce =
     told (x ∷ i ∷ []) (int i ∷ int x ∷ []) (main_run ends_once 3 (state ((x, z 2) ∷ (i, z 0) ∷ [])) (z 42 ∷ []))
     ≡ ended (0 ∷ 42 ∷ []) (invariant 1 2 ∷ invariant 2 0 ∷ invariant 3 0 ∷ [])
 
+-- both ends are evaluated before i takes the first: FOR i := 1 TO i + 1 DO x := i
+abbrev pub ends_first : Program
+ends_first =
+    program ((x, integer) ∷ (i, integer) ∷ []) [] None None
+    (For 1 (anything 5) (record { variable = i; direction = Up; first = num 1; last = Calculated arithmetic.Plus (read i) (num 1) })
+    (set x (read i)))
+
+-- i is 2 before, so the last turn is with 3
+abbrev pub ForEvaluatesItsEndsFirst : Type 0
+ForEvaluatesItsEndsFirst =
+    told (x ∷ i ∷ []) (int i ∷ int x ∷ []) (main_run ends_first 4 (state ((x, z 0) ∷ (i, z 2) ∷ [])) (z 42 ∷ []))
+    ≡ ended (3 ∷ 42 ∷ []) (invariant 1 0 ∷ invariant 2 1 ∷ invariant 3 2 ∷ invariant 4 3 ∷ [])
+
 -- VAR x: INTEGER;  INVARIANT TRUE REPEAT x := x + 1 UNTIL TRUE
 abbrev pub once : Program
 once = program ((x, integer) ∷ []) [] None None (Repeat 1 (anything 5) (set x (Calculated arithmetic.Plus (read x) (num 1))) (Boolean true))
@@ -109,6 +122,17 @@ WhileIsGoing =
 
 abbrev pub WhileWithoutATurn : Type 0
 WhileWithoutATurn = told (x ∷ []) (int x ∷ []) (main_run upward 0 (state ((x, z 0) ∷ [])) []) ≡ going []
+
+-- VAR x: INTEGER;  INVARIANT TRUE WHILE 1 DIV 0 = 1 DO x := 7
+abbrev pub test_by_zero : Program
+test_by_zero =
+    program ((x, integer) ∷ []) [] None None (While 1 (anything 5) (Compared comparison.Equal one_by_zero (num 1)) (set x (num 7)))
+
+-- the INVARIANT is met before the test that stops
+abbrev pub WhileMeetsBeforeItsTest : Type 0
+WhileMeetsBeforeItsTest =
+    told (x ∷ []) (int x ∷ []) (main_run test_by_zero 1 (state ((x, z 0) ∷ [])) [])
+    ≡ stopped fault.Zero (reached kind.Invariant 5 (0 ∷ []) ∷ [])
 
 -- CASE x OF 1, 2: x := 10; 3: x := 20 END
 abbrev pub choosing : Program

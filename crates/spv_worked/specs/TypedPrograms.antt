@@ -102,10 +102,11 @@ shared = with_main
 abbrev pub run_programs : List Program
 run_programs =
     loops.no_turn ∷ loops.counting_up 1 3 ∷ loops.counting_up 3 5 ∷ loops.counting_down ∷ loops.ends_once
-    ∷ loops.once ∷ loops.upward ∷ loops.choosing
+    ∷ loops.ends_first ∷ loops.once ∷ loops.upward ∷ loops.test_by_zero ∷ loops.choosing
     ∷ faults.with_body (set b (faults.both_sides connective.And)) ∷ faults.with_body (set i (num 4))
+    ∷ faults.with_body (faults.branching (read b))
     ∷ program [] (faults.procedure ∷ []) None None Empty
-    ∷ calls.swapping ∷ calls.filling ∷ calls.twice ∷ calls.factorial ∷ calls.changing
+    ∷ calls.swapping ∷ calls.filling ∷ calls.twice ∷ calls.factorial ∷ calls.changing ∷ calls.descending
     ∷ cells.with_body (Assign (content p) (num 1)) ∷ cells.creating ∷ []
 
 -- and those whose conditions are

@@ -17,12 +17,14 @@ pub fn law_for()
     ensures without_a_choice { loops.ForWithoutAChoice }
     ensures down_to { loops.DownTo }
     ensures ends_once { loops.ForEvaluatesItsEndsOnce }
+    ensures ends_first { loops.ForEvaluatesItsEndsFirst }
 {}
 
 /// What REPEAT, WHILE and CASE do.
 pub fn law_loops()
     ensures repeat { loops.RepeatRunsItsBody }
     ensures while_meets { loops.WhileMeetsItsInvariant }
+    ensures while_meets_before_its_test { loops.WhileMeetsBeforeItsTest }
     ensures while_is_going { loops.WhileIsGoing }
     ensures while_without_a_turn { loops.WhileWithoutATurn }
     ensures case_first { loops.CaseTakesItsLabel 1 10 }
@@ -35,6 +37,8 @@ pub fn law_loops()
 pub fn law_faults()
     ensures both_sides_of_and { faults.BothSidesOfAnd }
     ensures both_sides_of_or { faults.BothSidesOfOr }
+    ensures right_side_of_and { faults.RightSideOfAnd }
+    ensures right_side_of_or { faults.RightSideOfOr }
     ensures remainder_by_zero { faults.RemainderByZero }
     ensures outside_its_range { faults.OutsideItsRange }
     ensures at_its_bound { faults.AtItsBound }
@@ -59,6 +63,7 @@ pub fn law_calls()
     ensures recursion { calls.Recursion }
     ensures recursion_is_going { calls.RecursionIsGoing }
     ensures start_stays { calls.StartStays }
+    ensures own_names_are_back { calls.OwnNamesAreBack }
 {}
 
 /// What pointers do: a shared cell is one place, and `p^` of NIL (0), of no cell (9) and of another type's cell (2) stops.
