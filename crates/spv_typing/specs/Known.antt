@@ -48,7 +48,7 @@ is_fixed k x = same_name k.integer x || (same_name k.boolean x || same_name k.li
 
 -- ---- routines
 
--- what the heading of a routine says, and the number that the routine has among those with a body
+-- what those who call a routine know of it, and the number that it has among the routines with a body
 pub record Heading : Type 0 where
   pub name : Symbol
   pub line : ℕ
@@ -57,6 +57,10 @@ pub record Heading : Type 0 where
   pub formals : List Formal
   pub result : Option TypeId
   pub globals : List GlobalItem
+
+-- a heading with what else its clauses say
+pub record Specified : Type 0 where
+  pub heading : Heading
   pub initial : List (Symbol × Item)
   pub entry : Option Annotation
   pub exit : Option Annotation
@@ -90,7 +94,7 @@ pub record Known : Type 0 where
   pub start : KnownNames
   pub program : Program
   pub headings : List Heading
-  pub awaited : List Heading
+  pub awaited : List Specified
 
 -- the types INTEGER and BOOLEAN are the first two
 abbrev pub integer_type : TypeId

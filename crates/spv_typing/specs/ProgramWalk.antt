@@ -22,7 +22,7 @@ use Rattle.spv_program.specs.Programs.{Routine, Main, Program}
 use Rattle.spv_typing.specs.declared.faults.TypeFault.{TypeFault}
 use Rattle.spv_typing.specs.declared.faults.TypeFault.TheVariants.{Undeclared, DeclaredTwice, Nested}
 use Rattle.spv_typing.specs.Outcomes.{Outcome, after, where_so, each, if_there, twice}
-use Rattle.spv_typing.specs.Known.{KnownNames, Heading, Known, at_top, is_free_for_call, integer_type, boolean_type}
+use Rattle.spv_typing.specs.Known.{KnownNames, Specified, Known, at_top, is_free_for_call, integer_type, boolean_type}
 use Rattle.spv_typing.specs.Merging.{first_where}
 use Rattle.spv_typing.specs.DeclarationWalk.{with_program, declarations_walk}
 use Rattle.spv_typing.specs.FormulaWalk.{annotation}
@@ -33,7 +33,7 @@ use Rattle.spv_typing.specs.RoutineWalk.{Headed, Local, heading_name, heading_na
 
 -- a routine whose body has begun
 pub record Begun : Type 0 where
-  pub heading : Heading
+  pub specified : Specified
   pub local : Local
 
 pub record Progress : Type 0 where
@@ -50,9 +50,9 @@ names_of_bodies (m ∷ marks) = names_of_bodies marks
 abbrev pub number_of : List Symbol → Symbol → RoutineId
 number_of bodies x = record { 0 = first_where (same_name x) bodies }
 
-abbrev pub awaited_of : List Heading → Symbol → Option Heading
+abbrev pub awaited_of : List Specified → Symbol → Option Specified
 awaited_of [] x = None
-awaited_of (h ∷ others) x = if same_name h.name x then Some h else awaited_of others x
+awaited_of (h ∷ others) x = if same_name h.heading.name x then Some h else awaited_of others x
 
 abbrev pub twice_at : HeadingText → TypeFault
 twice_at h = DeclaredTwice h.line (heading_name h.form).symbol
@@ -72,36 +72,36 @@ is_bare_form is_function form = false
 abbrev pub is_bare : Clauses → Bool
 is_bare c = not (is_some c.globals) && (not (is_some c.initial) && (not (is_some c.entry) && not (is_some c.exit)))
 
-abbrev pub without : List Heading → Symbol → List Heading
-without awaited x = filter (λ h. not (same_name h.name x)) awaited
+abbrev pub without : List Specified → Symbol → List Specified
+without awaited x = filter (λ h. not (same_name h.heading.name x)) awaited
 
-abbrev pub with_awaited : Known → List Heading → Known
+abbrev pub with_awaited : Known → List Specified → Known
 with_awaited k awaited = record { start = k.start; program = k.program; headings = k.headings; awaited = awaited }
 
 abbrev pub begun_of : Known → Headed → Locals → Outcome Progress
 begun_of k h l =
-    after (locals_walk k h l) (λ local. Ok (record { known = local.known; begun = Some (record { heading = h.heading; local = local }) }))
+    after (locals_walk k h l) (λ local. Ok (record { known = local.known; begun = Some (record { specified = h.specified; local = local }) }))
 
-abbrev pub begin_again : Known → Heading → HeadingText → Clauses → Locals → Outcome Progress
+abbrev pub begin_again : Known → Specified → HeadingText → Clauses → Locals → Outcome Progress
 begin_again k first h c l =
-    where_so (is_bare_form first.is_function h.form && is_bare c) (twice_at h)
-    (let rest = with_awaited k (without k.awaited first.name) in
-    begun_of rest (record { heading = first; own = heading_names rest first }) l)
+    where_so (is_bare_form first.heading.is_function h.form && is_bare c) (twice_at h)
+    (let rest = with_awaited k (without k.awaited first.heading.name) in
+    begun_of rest (record { specified = first; own = heading_names rest first }) l)
 
 abbrev pub begin_first : List Symbol → Known → HeadingText → Clauses → Locals → Outcome Progress
 begin_first bodies k h c l =
-    after (first_heading bodies k h c) (λ headed. begun_of (with_heading k headed.heading) headed l)
+    after (first_heading bodies k h c) (λ headed. begun_of (with_heading k headed.specified.heading) headed l)
 
-abbrev pub begin : List Symbol → Known → HeadingText → Clauses → Locals → Option Heading → Outcome Progress
+abbrev pub begin : List Symbol → Known → HeadingText → Clauses → Locals → Option Specified → Outcome Progress
 begin bodies k h c l None = begin_first bodies k h c l
 begin bodies k h c l (Some first) = begin_again k first h c l
 
-abbrev pub announce : List Symbol → Known → HeadingText → Clauses → Option Heading → Outcome Progress
+abbrev pub announce : List Symbol → Known → HeadingText → Clauses → Option Specified → Outcome Progress
 announce bodies k h c (Some first) = Err (twice_at h)
 announce bodies k h c None =
     after (first_heading bodies k h c) (λ headed.
-    let next = with_heading k headed.heading in
-    Ok (record { known = with_awaited next (next.awaited ++ headed.heading ∷ []); begun = None }))
+    let next = with_heading k headed.specified.heading in
+    Ok (record { known = with_awaited next (next.awaited ++ headed.specified ∷ []); begun = None }))
 
 -- no routine stands inside another
 abbrev pub unless_begun : Option Begun → HeadingText → Outcome Progress → Outcome Progress
@@ -123,8 +123,8 @@ with_routine p r = record {
 abbrev pub end_body : Known → Option Begun → tree.Block → Outcome Progress
 end_body k None b = Ok (record { known = k; begun = None })
 end_body k (Some r) b =
-    after (block_walk (body_setting r.heading r.local) b) (λ body.
-    Ok (record { known = with_program k (with_routine k.program (with_body r.heading r.local.variables body)); begun = None }))
+    after (block_walk (body_setting r.specified.heading r.local) b) (λ body.
+    Ok (record { known = with_program k (with_routine k.program (with_body r.specified r.local.variables body)); begun = None }))
 
 abbrev pub mark_walk : List Symbol → Progress → RoutineMark → Outcome Progress
 mark_walk bodies at (Announced h c) =
@@ -172,9 +172,9 @@ abbrev pub known_at_first : KnownNames → Known
 known_at_first k = record { start = k; program = empty_program; headings = []; awaited = [] }
 
 -- each announced routine has a body
-abbrev pub none_awaited : List Heading → Outcome Bool
+abbrev pub none_awaited : List Specified → Outcome Bool
 none_awaited [] = Ok true
-none_awaited (h ∷ others) = Err (Undeclared h.line h.name)
+none_awaited (h ∷ others) = Err (Undeclared h.heading.line h.heading.name)
 
 abbrev pub with_main : KnownNames → Program → Main → Program
 with_main k p main = record {

@@ -33,7 +33,7 @@ use Rattle.spv_program.specs.Statements.{Statement}
 use Rattle.spv_program.specs.Programs.{Formal, GlobalItem, Routine}
 use Rattle.spv_typing.specs.declared.faults.TypeFault.TheVariants.{ProcParameter}
 use Rattle.spv_typing.specs.Outcomes.{Outcome, after, where_so, each, if_there, undeclared, twice, wrong}
-use Rattle.spv_typing.specs.Known.{KnownNames, is_fixed, Heading, Meaning, OfConstant, OfPlace, OfStart, Names, Known, Scope, meaning, is_named, program_names}
+use Rattle.spv_typing.specs.Known.{KnownNames, is_fixed, Heading, Specified, Meaning, OfConstant, OfPlace, OfStart, Names, Known, Scope, meaning, is_named, program_names}
 use Rattle.spv_typing.specs.TypeWalk.{all_names, type_named, constant}
 use Rattle.spv_typing.specs.DeclarationWalk.{with_program, with_types, new_name, type_walk, class_named}
 use Rattle.spv_typing.specs.FormulaWalk.{annotation}
@@ -169,9 +169,9 @@ initial_walk k routine formals globals parameters (Some starts) =
 
 -- ---- a heading with its clauses
 
--- the heading, and the parameters and INITIAL names of the routine
+-- the heading with its clauses, and the parameters and INITIAL names of the routine
 pub record Headed : Type 0 where
-  pub heading : Heading
+  pub specified : Specified
   pub own : Names
 
 abbrev pub result_names : Symbol → Option TypeId → Names
@@ -193,11 +193,11 @@ clauses_walk k name line is_function number ps result c =
       formals = ps.formals;
       result = result;
       globals = globals;
-      initial = starts.initial;
-      entry = entry;
-      exit = exit;
     } in
-    Ok (record { heading = heading; own = ps.own ++ starts.own })))))
+    Ok (record {
+      specified = record { heading = heading; initial = starts.initial; entry = entry; exit = exit };
+      own = ps.own ++ starts.own;
+    })))))
 
 abbrev pub heading_name : HeadingForm → Name
 heading_name (Procedure name params) = name
@@ -217,9 +217,6 @@ announced name line is_function number formals result = record {
   formals = formals;
   result = result;
   globals = [];
-  initial = [];
-  entry = None;
-  exit = None;
 }
 
 abbrev pub with_heading : Known → Heading → Known
@@ -236,9 +233,9 @@ form_walk k number line c (Function name params result) =
     clauses_walk (with_heading k (announced name.symbol line true number ps.formals (Some t))) name.symbol line true number ps (Some t) c))
 
 -- the names that a heading gives its routine
-abbrev pub heading_names : Known → Heading → Names
+abbrev pub heading_names : Known → Specified → Names
 heading_names k h =
-    let parameters = map (λ f. (f.name, OfPlace f.of)) h.formals in
+    let parameters = map (λ f. (f.name, OfPlace f.of)) h.heading.formals in
     parameters ++ map (λ i. (i.0, OfStart (item_sort (in_routine k parameters None) i.1))) h.initial
 
 -- ---- local declarations
@@ -266,8 +263,8 @@ local_vars h l v =
 
 abbrev pub locals_walk : Known → Headed → Locals → Outcome Local
 locals_walk k h l =
-    after (each (local_const h.heading) (record { known = k; own = h.own; variables = [] }) l.constants) (λ a.
-    each (local_vars h.heading) a l.variables)
+    after (each (local_const h.specified.heading) (record { known = k; own = h.own; variables = [] }) l.constants) (λ a.
+    each (local_vars h.specified.heading) a l.variables)
 
 -- ---- bodies
 
@@ -279,13 +276,13 @@ body_setting h l = record {
   counted = [];
 }
 
-abbrev pub with_body : Heading → List (Symbol × TypeId) → Statement → Routine
+abbrev pub with_body : Specified → List (Symbol × TypeId) → Statement → Routine
 with_body h locals body = record {
-  name = h.name;
-  line = h.line;
-  formals = h.formals;
-  result = h.result;
-  globals = h.globals;
+  name = h.heading.name;
+  line = h.heading.line;
+  formals = h.heading.formals;
+  result = h.heading.result;
+  globals = h.heading.globals;
   initial = h.initial;
   entry = h.entry;
   exit = h.exit;

@@ -1,6 +1,10 @@
 // Why a text has no types.
 
+ghost use Rattle.std.specs.Prelude.{◌≡◌};
+ghost use Rattle.spv_typing.specs.declared.faults.TypeFault.TheVariants.{Memory};
+
 use spv_names::Symbol;
+use std::alloc::AllocError;
 
 /// The first thing in the order of the text that breaks a rule of names and types. The first number is the line.
 #[derive(Clone, Copy, PartialEq, Eq, Debug)]
@@ -23,4 +27,12 @@ pub enum TypeFault {
     ControlChanged(u32, Symbol),
     /// The memory was not enough.
     Memory,
+}
+
+impl From<AllocError> for TypeFault {
+    ghost from_gives = { λ _ fault. fault ≡ Memory };
+
+    fn from(_refused: AllocError) -> TypeFault {
+        TypeFault::Memory
+    }
 }

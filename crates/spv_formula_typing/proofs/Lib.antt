@@ -1,0 +1,4 @@
+pub mod Exits
+pub mod Loops
+pub mod Places
+pub mod Sizes

@@ -1,0 +1,87 @@
+//! Values under names, in the order in which they came, which contracts see as a list of pairs.
+#![tactic(auto)]
+
+ghost use Rattle.std.specs.Prelude.{◌≡◌, ◌<◌, ◌↔◌, [], ◌∷◌, ◌++◌, None, Some, IfSome, IsSome, IsTrue, OnOk, OnErr, is_some, length, option_copied, slice_get};
+ghost use Rattle.spv_program.specs.Lists.{found};
+
+use indexmap::IndexMap;
+use spv_names::Symbol;
+use std::alloc::{AllocError, Global};
+use std::marker::Model;
+
+/// Values under names, each name once, in the order in which they came. A look-up goes by a hash.
+#[derive(Drop)]
+pub struct Named<T> {
+    entries: IndexMap<u32, T>,
+}
+
+impl<T> Model for Named<T> {
+    ghost use Rattle.std.specs.Prelude.{List, map};
+    ghost use Rattle.spv_names.specs.declared.names.Symbol.{Symbol};
+    ghost use Rattle.spv_named.specs.Entries.{named};
+
+    ghost Value = { List (Symbol × T) };
+
+    ghost view = { λ n. map named n.entries.entries };
+}
+
+impl<T: Drop> Named<T> {
+    /// No names. It takes no memory.
+    pub fn new(alloc: Global) -> Named<T>
+        ensures { result ≡ [] }
+    {
+        Named {
+            entries: IndexMap::new(alloc),
+        }
+    }
+
+    /// How many names there are.
+    pub fn len(&self) -> usize
+        ensures { result ≡ length self.now }
+    {
+        self.entries.len()
+    }
+
+    /// Whether there are none.
+    pub fn is_empty(&self) -> bool
+        ensures { IsTrue result ↔ (self.now ≡ []) }
+    {
+        self.entries.is_empty()
+    }
+
+    /// What stands under a name.
+    #[tactic(auto, using(crate::proofs::Lookups::found_is))]
+    pub fn get(&self, name: Symbol) -> Option<&T>
+        ensures { option_copied result ≡ found self.now name }
+    {
+        self.entries.get(&name.0)
+    }
+
+    /// Whether something stands under a name.
+    #[tactic(auto, using(crate::proofs::Lookups::found_is))]
+    pub fn has(&self, name: Symbol) -> bool
+        ensures { result ≡ is_some (found self.now name) }
+    {
+        self.entries.contains_key(&name.0)
+    }
+
+    /// The place of a name, from 0, and what stands there.
+    pub fn entry(&self, place: usize) -> Option<(Symbol, &T)>
+        ensures entry { IfSome result (λ e. slice_get self.now place ≡ Some (e.0, e.1.now)) }
+        ensures within { IsSome result ↔ (place < length self.now) }
+    {
+        let (name, value) = self.entries.get_index(place)?;
+        Some((Symbol(*name), value))
+    }
+
+    /// Puts a value under a name that is new, at the end. For want of memory all stays as it was.
+    #[tactic(auto, using(crate::proofs::Lookups::found_is, crate::proofs::Lookups::put_last))]
+    pub fn insert(&mut self, name: Symbol, value: T) -> Result<(), AllocError>
+        requires new { found self.old name ≡ None }
+        ensures ok { OnOk result (self.new ≡ self.old ++ (name, value) ∷ []) }
+        ensures err { OnErr result (self.new ≡ self.old) }
+    {
+        self.entries.insert(name.0, value)?;
+        Ok(())
+    }
+}

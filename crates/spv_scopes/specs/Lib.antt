@@ -1,0 +1,4 @@
+pub mod Answers
+pub mod Scopes
+pub mod Symbols
+pub mod Views

@@ -1,0 +1,12 @@
+//! What names stand for while a text is typed: the tables of the walk over names and types.
+#![tactic(auto)]
+
+pub mod functions;
+pub mod known;
+pub mod routines;
+pub mod scopes;
+
+pub use functions::{Function, KnownNames};
+pub use known::{Known, Signature};
+pub use routines::{Heading, Specified};
+pub use scopes::{Meaning, Own, Scope};

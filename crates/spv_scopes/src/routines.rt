@@ -1,0 +1,37 @@
+// Headings of routines.
+
+use spv_list::List;
+use spv_logic::{RoutineId, TypeId};
+use spv_names::Symbol;
+use spv_program::Item;
+use spv_typed::{Annotation, Formal, GlobalItem};
+
+/// What those who call a routine know of it, but for its name.
+#[derive(Drop)]
+pub struct Heading {
+    /// The line of the heading.
+    pub line: u32,
+    /// Whether it is a function.
+    pub is_function: bool,
+    /// Its number among the routines with a body.
+    pub number: RoutineId,
+    /// The parameters, in order.
+    pub formals: List<Formal>,
+    /// The type of a function's result.
+    pub result: Option<TypeId>,
+    /// The items of its GLOBAL list, in order.
+    pub globals: List<GlobalItem>,
+}
+
+/// A heading with what else its clauses say.
+#[derive(Drop)]
+pub struct Specified {
+    /// The heading.
+    pub heading: Heading,
+    /// The INITIAL names, in order, with what they are the values of.
+    pub initial: List<(Symbol, Item)>,
+    /// ENTRY, where there is one.
+    pub entry: Option<Annotation>,
+    /// EXIT, where there is one.
+    pub exit: Option<Annotation>,
+}
