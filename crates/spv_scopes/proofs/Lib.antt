@@ -1,3 +1,4 @@
 pub mod Forms
 pub mod Meanings
 pub mod Numbers
+pub mod Pieces

@@ -3,6 +3,7 @@
 
 pub mod functions;
 pub mod known;
+mod parts;
 pub mod routines;
 pub mod scopes;
 
