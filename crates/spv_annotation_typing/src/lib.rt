@@ -1,9 +1,11 @@
 //! Annotations: the walk over formulas where names stand for terms.
 #![tactic(auto)]
 
-mod applying;
-mod forms;
+mod callee;
 mod naming;
 mod selecting;
+mod settling;
+mod sorted;
 
-pub use forms::{Annotations, Sorted};
+pub use settling::settled_formula;
+pub use sorted::Sorted;

@@ -1,0 +1,3 @@
+pub mod Alone
+pub mod Applied
+pub mod Selected
