@@ -61,7 +61,7 @@ module _ (S : Type 0) where
 
       by_operand : (p : Outcome (Operand Formula)) → given_as ways (suc n) others ≡ after (operands others) all_valued
           → after (after p value_read) (λ g. after (given_as ways (suc n) others) (on_line a.line g))
-            ≡ after (after p (λ o. after (operands others) (operand_on a.line o))) all_valued
+          ≡ after (after p (λ o. after (operands others) (operand_on a.line o))) all_valued
       by_operand (Err e) later = refl
       by_operand (Ok o) later = ap (λ r. after r (on_line a.line (AsValue o))) later ∙ by_rest o (operands others)
 
@@ -93,14 +93,14 @@ module _ (S : Type 0) where
 
       by_case : (p : Outcome (Operand Formula))
           → after p (λ a. to_sorted (Err (Count line)))
-            ≡ after (after (after p value_read) (λ g. after (on_line f.line (AsField f.name) []) (on_line r.line g))) (put_given s line)
+          ≡ after (after (after p value_read) (λ g. after (on_line f.line (AsField f.name) []) (on_line r.line g))) (put_given s line)
       by_case (Ok o) = refl
       by_case (Err e) = refl
   put_is s line (r ∷ f ∷ v ∷ []) = by_case r.operand v.operand
     where
       by_case : (p q : Outcome (Operand Formula))
           → after p (λ a. after q (λ b. put_with s f.line f.name (r.line, a) (v.line, b)))
-            ≡ after (after (after p value_read) (λ g. after (after (after (after q value_read) (λ h. on_line v.line h [])) (on_line f.line (AsField f.name))) (on_line r.line g))) (put_given s line)
+          ≡ after (after (after p value_read) (λ g. after (after (after (after q value_read) (λ h. on_line v.line h [])) (on_line f.line (AsField f.name))) (on_line r.line g))) (put_given s line)
       by_case (Ok a) (Ok b) = refl
       by_case (Ok a) (Err e) = refl
       by_case (Err e) q = refl
@@ -108,7 +108,7 @@ module _ (S : Type 0) where
     where
       by_case : (p q t : Outcome (Operand Formula)) (m : Outcome (List (ℕ × Operand Formula))) (rest : Outcome (List (ℕ × Given Formula S))) → rest ≡ after m all_valued
           → after p (λ a. after (after q (λ b. after (after t (λ c. after m (operand_on w.line c))) (operand_on v.line b))) (λ bs. Err (Count line)))
-            ≡ after (after (after p value_read) (λ g. after (after (after (after q value_read) (λ h. after (after (after t value_read) (λ i. after rest (on_line w.line i))) (on_line v.line h))) (on_line f.line (AsField f.name))) (on_line r.line g))) (put_given s line)
+          ≡ after (after (after p value_read) (λ g. after (after (after (after q value_read) (λ h. after (after (after t value_read) (λ i. after rest (on_line w.line i))) (on_line v.line h))) (on_line f.line (AsField f.name))) (on_line r.line g))) (put_given s line)
       by_case (Err e) q t m rest h = refl
       by_case (Ok a) (Err e) t m rest h = refl
       by_case (Ok a) (Ok b) (Err e) m rest h = refl

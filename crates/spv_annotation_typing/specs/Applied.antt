@@ -9,12 +9,11 @@ use Rattle.spv_typing.specs.declared.faults.TypeFault.TheVariants.{Count}
 use Rattle.spv_typing.specs.Outcomes.{Outcome, after, where_so, wrong, undeclared}
 use Rattle.spv_typing.specs.Known.{Scope, Function, Put}
 use Rattle.spv_typing.specs.OperatorWalk.{Operand}
-use Rattle.spv_typing.specs.FormulaWalk.{Sorted, Signature, with_sort, arity, signature_of, settled_all, operator_of, put_with}
+use Rattle.spv_typing.specs.FormulaWalk.{Sorted, with_sort, arity, signature_of, settled_all, operator_of, put_with}
 use Rattle.spv_scopes.specs.declared.functions.Function.{Function as FunctionText}
 use Rattle.spv_scopes.specs.declared.functions.Function.TheVariants as function
 use Rattle.spv_scopes.specs.declared.scopes.Meaning.{Meaning}
 use Rattle.spv_scopes.specs.declared.scopes.Meaning.TheVariants as meaning
-use Rattle.spv_scopes.specs.declared.known.Signature.{Signature as SignatureText}
 use Rattle.spv_scopes.specs.Views.{function_of}
 use Rattle.spv_scopes.specs.Symbols.{decl_of}
 use Rattle.spv_formula_typing.specs.declared.forms.Way.{Way}
@@ -22,9 +21,6 @@ use Rattle.spv_formula_typing.specs.declared.forms.Way.TheVariants as way
 use Rattle.spv_formula_typing.specs.Arguments.{Given, AsValue, AsPlace, NoPlace, AsField}
 use Rattle.spv_annotation_typing.specs.declared.callee.Callee.{Callee}
 use Rattle.spv_annotation_typing.specs.declared.callee.Callee.TheVariants as callee
-
-abbrev pub signature_view : SignatureText → Signature
-signature_view s = record { wanted = s.args; result = s.result }
 
 -- ---- what is called
 

@@ -1,3 +1,4 @@
 pub mod Alone
 pub mod Applied
 pub mod Selected
+pub mod Signatures

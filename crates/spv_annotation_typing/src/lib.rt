@@ -5,6 +5,7 @@ mod callee;
 mod naming;
 mod selecting;
 mod settling;
+mod signatures;
 mod sorted;
 
 pub use settling::settled_formula;
