@@ -1,3 +1,4 @@
 pub mod Calling
 pub mod Indices
 pub mod Signing
+pub mod SettledLoops

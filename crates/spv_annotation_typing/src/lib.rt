@@ -1,6 +1,7 @@
 //! Annotations: the walk over formulas where names stand for terms.
 #![tactic(auto)]
 
+mod applying;
 mod callee;
 mod naming;
 mod selecting;
