@@ -278,7 +278,7 @@ module _ (s : Scope) (p : Program) (here : Option Routine) (b : Belongs s p here
 
   -- ---- calls
 
-  call_ok : (line at : ℕ) (h : Heading) (x : Symbol) (m : meaning s x ≡ Some (OfRoutine h)) (given : List (Argument Expression Reached)) (c : Call) → GoodArguments (Typed p here) (Bare p here) Written given → call_of s line at h given ≡ Ok c → callee p here c ≡ Some (b.routines x h m).routine
+  pub call_ok : (line at : ℕ) (h : Heading) (x : Symbol) (m : meaning s x ≡ Some (OfRoutine h)) (given : List (Argument Expression Reached)) (c : Call) → GoodArguments (Typed p here) (Bare p here) Written given → call_of s line at h given ≡ Ok c → callee p here c ≡ Some (b.routines x h m).routine
   call_ok line at h x m given c g e =
       let forms = s.known.program.forms in
       let one = went (given_to h.formals given) (λ gs. where_so (nat_eq (length gs) (length h.formals)) (Count line) (after (fitted forms h.formals gs) (λ arguments. fine (call h.number at arguments)))) c e in

@@ -227,7 +227,7 @@ module _ {X S : Type 0} (k : Forms X S) (Good : X → Sort → Type 0) (Bare : X
   selects true = keeps.writes
   selects false = keeps.reads
 
-  argument_good : (f : Formula) → ((o : Operand X) → formula_walk k f ≡ Ok o → GoodOperand Good Bare o) → ((s : S) → written_place k f ≡ Some (Ok s) → Written s) → GoodArgument Good Bare Written (argument f (formula_walk k f) (written_place k f))
+  pub argument_good : (f : Formula) → ((o : Operand X) → formula_walk k f ≡ Ok o → GoodOperand Good Bare o) → ((s : S) → written_place k f ≡ Some (Ok s) → Written s) → GoodArgument Good Bare Written (argument f (formula_walk k f) (written_place k f))
   argument_good f good placed = record { operand = good; place = placed }
 
   mutual
@@ -313,7 +313,7 @@ module _ {X S : Type 0} (k : Forms X S) (Good : X → Sort → Type 0) (Bare : X
     arguments_good (more_formulas f fs) =
         one_more (argument f (formula_walk k f) (written_place k f)) (arguments k fs) (argument_good f (formula_good f) (place_good f)) (arguments_good fs)
 
-    place_good : (f : Formula) (s : S) → written_place k f ≡ Some (Ok s) → Written s
+    pub place_good : (f : Formula) (s : S) → written_place k f ≡ Some (Ok s) → Written s
     place_good (formula line r no_conclusion) s e = relation_place_good r s e
     place_good (formula line r (implies f)) s e = absurd (nothing_there e)
 
