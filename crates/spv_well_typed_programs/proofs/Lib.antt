@@ -16,3 +16,13 @@ pub mod Denoted
 pub mod Naming
 pub mod Declaring
 pub mod Declared
+pub mod Seeing
+pub mod Headings
+pub mod Sharing
+pub mod HeadingWalk
+pub mod ClauseWalk
+pub mod Bodies
+pub mod RoutineBody
+pub mod States
+pub mod Marks
+pub mod Whole

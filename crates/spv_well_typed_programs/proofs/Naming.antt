@@ -74,7 +74,7 @@ pub record RightNames (k : Known) : Type 0 where
   pub differ : names_differ (names_in k) ≡ true
   pub fixed : NamesApart (names_in k) (fixed_names k.start)
 
-keys_named : {X : Type 0} (f : X → Meaning) (xs : List (Symbol × X)) → keys (named f xs) ≡ keys xs
+pub keys_named : {X : Type 0} (f : X → Meaning) (xs : List (Symbol × X)) → keys (named f xs) ≡ keys xs
 keys_named f [] = refl
 keys_named f (n ∷ xs) = ap (λ l. n.0 ∷ l) (keys_named f xs)
 
@@ -86,7 +86,7 @@ keys_headings : (hs : List Heading) → keys (map (λ (h : Heading). pair h.name
 keys_headings [] = refl
 keys_headings (h ∷ hs) = ap (λ l. h.name ∷ l) (keys_headings hs)
 
-keys_append : {X : Type 0} (xs ys : List (Symbol × X)) → keys (xs ++ ys) ≡ keys xs ++ keys ys
+pub keys_append : {X : Type 0} (xs ys : List (Symbol × X)) → keys (xs ++ ys) ≡ keys xs ++ keys ys
 keys_append xs ys = map-append (λ n. n.0) xs ys
 
 abbrev start_keys : KnownNames → List Symbol

@@ -22,8 +22,8 @@ use Rattle.spv_well_typed.specs.Expressions.{Belongs}
 use Rattle.spv_well_typed.specs.Laws.{SeesAlike}
 use Rattle.spv_well_typed_programs.specs.Grown.{GrowsTypes, Grows}
 
--- the names of a place's scopes, for what is run and for annotations, are those that the program `q`, which knows no more than the walk so far, has in this routine; and the
--- whole program `p` has what `q` has
+-- the names of a place's scopes, for what is run and for annotations, are those that the program `q` has in this routine,
+-- which knows no more than the walk so far; and the whole program `p` has what `q` has
 pub record Stands (inside noted : Scope) (q p : Program) (here : Option Routine) : Type 0 where
   pub names : Belongs inside q here
   pub noted_names : SeesAlike noted (body_scope p here)
