@@ -44,7 +44,8 @@ pub record HasBody (p : Program) (g : Heading) : Type 0 where
 -- the whole program, seen from a place of the walk
 pub record Final (k : Known) (p : Program) : Type 0 where
   pub later : Later k.program p
-  pub agree : (r : RoutineId) (c : Routine) (g : Heading) → routine_at p r ≡ Some c → found (headings_named k.headings) c.name ≡ Some g → AgreesWith c g r
+  pub agree : (r : RoutineId) (c : Routine) (g : Heading) → routine_at p r ≡ Some c → found (headings_named k.headings) c.name ≡ Some g
+      → AgreesWith c g r
   pub bodies : (x : Symbol) (g : Heading) → found (headings_named k.headings) x ≡ Some g → HasBody p g
 
 -- a heading that is right, with the sorts of its INITIAL names
@@ -91,8 +92,10 @@ module _ (k : Known) (p : Program) (right : RightProgram k.program) (headings : 
   abbrev pub q : Program
   q = known_program k p
 
-  pub shown : (r : RoutineId) (c : Routine) (g : Heading) → routine_at p r ≡ Some c → found (headings_named k.headings) c.name ≡ Some g → routine_at q r ≡ Some c
-  shown r c g e f = item_map (hidden k.headings) p.routines r.0 c e ∙ ap (λ b. Some (hidden_if b c)) (some_there (found (headings_named k.headings) c.name) g f)
+  pub shown : (r : RoutineId) (c : Routine) (g : Heading) → routine_at p r ≡ Some c → found (headings_named k.headings) c.name ≡ Some g
+      → routine_at q r ≡ Some c
+  shown r c g e f = item_map (hidden k.headings) p.routines r.0 c e
+      ∙ ap (λ b. Some (hidden_if b c)) (some_there (found (headings_named k.headings) c.name) g f)
 
   -- what a routine of the known program is
   data Known_as (r : RoutineId) (c : Routine) : Type 0 where
@@ -101,9 +104,11 @@ module _ (k : Known) (p : Program) (right : RightProgram k.program) (headings : 
 
   known_as : (r : RoutineId) (c : Routine) → routine_at q r ≡ Some c → Known_as r c
   known_as r c e =
-      let m = item_mapped (hidden k.headings) p.routines r.0 c e in by_found m.item m.at (found (headings_named k.headings) m.item.name) refl m.is
+      let m = item_mapped (hidden k.headings) p.routines r.0 c e in
+      by_found m.item m.at (found (headings_named k.headings) m.item.name) refl m.is
     where
-      by_found : (d : Routine) → item_at p.routines r.0 ≡ Some d → (o : Option Heading) → found (headings_named k.headings) d.name ≡ o → hidden_if (is_some (found (headings_named k.headings) d.name)) d ≡ c → Known_as r c
+      by_found : (d : Routine) → item_at p.routines r.0 ≡ Some d → (o : Option Heading) → found (headings_named k.headings) d.name ≡ o
+          → hidden_if (is_some (found (headings_named k.headings) d.name)) d ≡ c → Known_as r c
       by_found d at None f is =
           let same : hidden_if false d ≡ c = ap (λ o. hidden_if (is_some o) d) (sym f) ∙ is in
           is_hidden (ap (λ (x : Routine). x.result) (sym same)) (ap (λ (x : Routine). x.globals) (sym same))
@@ -111,56 +116,85 @@ module _ (k : Known) (p : Program) (right : RightProgram k.program) (headings : 
           let same : d ≡ c = ap (λ o. hidden_if (is_some o) d) (sym f) ∙ is in
           is_shown g (at ∙ ap Some same) (ap (λ (x : Routine). found (headings_named k.headings) x.name) (sym same) ∙ f)
 
-  formals_there : (g : Heading) (sorts : List (Symbol × Sort)) → RightHeading k.program g sorts → list_all (λ (f : Formal). type_exists k.program.forms f.of) g.formals ≡ true
-  formals_there g sorts h = sym (all_map (λ (n : Symbol × TypeId). type_exists k.program.forms n.1) (λ (f : Formal). pair f.name f.of) g.formals) ∙ h.formals
+  formals_there : (g : Heading) (sorts : List (Symbol × Sort)) → RightHeading k.program g sorts
+      → list_all (λ (f : Formal). type_exists k.program.forms f.of) g.formals ≡ true
+  formals_there g sorts h = sym (all_map (λ (n : Symbol × TypeId). type_exists k.program.forms n.1) (λ (f : Formal). pair f.name f.of)
+      g.formals) ∙ h.formals
 
   -- ---- the whole program has more
 
   pub program_grows : GrowsTypes k.program p
   program_grows = grows_types k.program p right final.later
 
-  pub known_grows : (here : Option Routine) → ((x : Symbol) (t : TypeId) → name_type q here x ≡ Some t → type_exists k.program.forms t ≡ true) → Grows q p here
+  pub known_grows : (here : Option Routine)
+      → ((x : Symbol) (t : TypeId) → name_type q here x ≡ Some t → type_exists k.program.forms t ≡ true) → Grows q p here
   known_grows here names = record {
-    types = record { more = final.later.forms.more; forms = final.later.forms.is; forms_right = forms_pass k.program.forms right.forms; first = first_form k.program.forms right.forms; symbols = refl };
+    types = record {
+      more = final.later.forms.more;
+      forms = final.later.forms.is;
+      forms_right =
+          forms_pass k.program.forms right.forms;
+      first = first_form k.program.forms right.forms;
+      symbols = refl;
+    };
     variables = refl;
     names = names;
     routines = λ r c t e h. by_kind r c t h (routine_at p r ≡ Some c) (known_as r c e) (λ g at f. at);
     results = λ r c t e h. by_kind r c t h (type_exists k.program.forms t ≡ true) (known_as r c e)
         (λ g at f. (headings.each c.name g f).right.result t (sym (final.agree r c g at f).result ∙ h));
-    parameters = λ r c t e h. by_kind r c t h (list_all (λ (f : Formal). type_exists k.program.forms f.of) c.formals ≡ true) (known_as r c e)
+    parameters = λ r c t e h. by_kind r c t h (list_all (λ (f : Formal). type_exists k.program.forms f.of) c.formals ≡ true)
+        (known_as r c e)
         (λ g at f. let known = headings.each c.name g f in
-        subst (λ fs. list_all (λ (f : Formal). type_exists k.program.forms f.of) fs ≡ true) (sym (final.agree r c g at f).formals) (formals_there g known.sorts known.right));
+        subst (λ fs. list_all (λ (f : Formal). type_exists k.program.forms f.of) fs ≡ true) (sym (final.agree r c g at f).formals)
+        (formals_there g known.sorts known.right));
   }
     where
-      by_kind : (r : RoutineId) (c : Routine) (t : TypeId) → c.result ≡ Some t → (P : Type 0) → Known_as r c → ((g : Heading) → routine_at p r ≡ Some c → found (headings_named k.headings) c.name ≡ Some g → P) → P
+      by_kind : (r : RoutineId) (c : Routine) (t : TypeId) → c.result ≡ Some t → (P : Type 0) → Known_as r c
+          → ((g : Heading) → routine_at p r ≡ Some c → found (headings_named k.headings) c.name ≡ Some g → P) → P
       by_kind r c t h P (is_shown g at f) go = go g at f
       by_kind r c t h P (is_hidden none empty) go = absurd (nothing_there (sym none ∙ h))
 
   -- ---- what calls may change
 
-  heading_items : (hs : List Heading) (x : Symbol) (g : Heading) (r : RoutineId) (test : Root → Bool) → found (headings_named hs) x ≡ Some g → g.number ≡ r
-      → list_any test (flat_map (λ (h : Heading). map Shared (var_items h.globals)) (filter (λ (h : Heading). nat_eq h.number.0 r.0) hs)) ≡ false → list_any test (map Shared (var_items g.globals)) ≡ false
+  heading_items : (hs : List Heading) (x : Symbol) (g : Heading) (r : RoutineId) (test : Root → Bool)
+      → found (headings_named hs) x ≡ Some g → g.number ≡ r
+      → list_any test (flat_map (λ (h : Heading). map Shared (var_items h.globals)) (filter (λ (h : Heading). nat_eq h.number.0 r.0) hs))
+      ≡ false → list_any test (map Shared (var_items g.globals)) ≡ false
   heading_items [] x g r test e n h = absurd (nothing_there e)
-  heading_items (d ∷ hs) x g r test e n h = by_name (same_name d.name x) refl e (nat_eq d.number.0 r.0) refl h (λ f i. heading_items hs x g r test f n i)
+  heading_items (d ∷ hs) x g r test e n h =
+      by_name (same_name d.name x) refl e (nat_eq d.number.0 r.0) refl h (λ f i. heading_items hs x g r test f n i)
     where
-      later : (b : Bool) → list_any test (flat_map (λ (h : Heading). map Shared (var_items h.globals)) (cond b (d ∷ filter (λ (h : Heading). nat_eq h.number.0 r.0) hs) (filter (λ (h : Heading). nat_eq h.number.0 r.0) hs))) ≡ false
-          → list_any test (flat_map (λ (h : Heading). map Shared (var_items h.globals)) (filter (λ (h : Heading). nat_eq h.number.0 r.0) hs)) ≡ false
-      later true i = right_false (list_any test (map Shared (var_items d.globals))) _ (sym (list_any-append test (map Shared (var_items d.globals)) (flat_map (λ (h : Heading). map Shared (var_items h.globals)) (filter (λ (h : Heading). nat_eq h.number.0 r.0) hs))) ∙ i)
+      later : (b : Bool) → list_any test
+          (flat_map (λ (h : Heading). map Shared (var_items h.globals))
+          (cond b (d ∷ filter (λ (h : Heading). nat_eq h.number.0 r.0) hs) (filter (λ (h : Heading). nat_eq h.number.0 r.0) hs))) ≡ false
+          → list_any test (flat_map (λ (h : Heading). map Shared (var_items h.globals))
+          (filter (λ (h : Heading). nat_eq h.number.0 r.0) hs)) ≡ false
+      later true i = right_false (list_any test (map Shared (var_items d.globals))) _
+          (sym (list_any-append test (map Shared (var_items d.globals))
+          (flat_map (λ (h : Heading). map Shared (var_items h.globals)) (filter (λ (h : Heading). nat_eq h.number.0 r.0) hs))) ∙ i)
       later false i = i
 
-      by_name : (a : Bool) → same_name d.name x ≡ a → cond a (Some d) (found (headings_named hs) x) ≡ Some g → (b : Bool) → nat_eq d.number.0 r.0 ≡ b
-          → list_any test (flat_map (λ (h : Heading). map Shared (var_items h.globals)) (cond b (d ∷ filter (λ (h : Heading). nat_eq h.number.0 r.0) hs) (filter (λ (h : Heading). nat_eq h.number.0 r.0) hs))) ≡ false
-          → (found (headings_named hs) x ≡ Some g → list_any test (flat_map (λ (h : Heading). map Shared (var_items h.globals)) (filter (λ (h : Heading). nat_eq h.number.0 r.0) hs)) ≡ false → list_any test (map Shared (var_items g.globals)) ≡ false)
+      by_name : (a : Bool) → same_name d.name x ≡ a → cond a (Some d) (found (headings_named hs) x) ≡ Some g → (b : Bool)
+          → nat_eq d.number.0 r.0 ≡ b
+          → list_any test (flat_map (λ (h : Heading). map Shared (var_items h.globals))
+          (cond b (d ∷ filter (λ (h : Heading). nat_eq h.number.0 r.0) hs) (filter (λ (h : Heading). nat_eq h.number.0 r.0) hs)))
+          ≡ false
+          → (found (headings_named hs) x ≡ Some g
+          → list_any test (flat_map (λ (h : Heading). map Shared (var_items h.globals))
+          (filter (λ (h : Heading). nat_eq h.number.0 r.0) hs)) ≡ false → list_any test (map Shared (var_items g.globals)) ≡ false)
           → list_any test (map Shared (var_items g.globals)) ≡ false
       by_name false i f b j u go = go f (later b u)
       by_name true i f true j u go =
           subst (λ (y : Heading). list_any test (map Shared (var_items y.globals)) ≡ false) (some_is f)
-          (left_false (list_any test (map Shared (var_items d.globals))) _ (sym (list_any-append test (map Shared (var_items d.globals)) (flat_map (λ (h : Heading). map Shared (var_items h.globals)) (filter (λ (h : Heading). nat_eq h.number.0 r.0) hs))) ∙ u))
+          (left_false (list_any test (map Shared (var_items d.globals))) _
+          (sym (list_any-append test (map Shared (var_items d.globals))
+          (flat_map (λ (h : Heading). map Shared (var_items h.globals)) (filter (λ (h : Heading). nat_eq h.number.0 r.0) hs))) ∙ u))
       by_name true i f false j u go =
           let same : d ≡ g = some_is f in
           absurd (false≢true (sym j ∙ eq-eqb d.number.0 r.0 (ap (λ (y : Heading). y.number.0) same ∙ ap (λ (y : RoutineId). y.0) n)))
 
-  pub items_known : (c : Call) (test : Root → Bool) → list_any test (items_of k.headings c) ≡ false → list_any test (changed_by_call q c) ≡ false
+  pub items_known : (c : Call) (test : Root → Bool) → list_any test (items_of k.headings c) ≡ false
+      → list_any test (changed_by_call q c) ≡ false
   items_known (call r line given) test h = by_routine (routine_at q r) refl
     where
       by_kind : (c : Routine) → Known_as r c → list_any test (map Shared (var_items c.globals)) ≡ false
@@ -200,7 +234,8 @@ module _ (k : Known) (p : Program) (right : RightProgram k.program) (headings : 
 
     pub belongs : (here : Option Routine) → ((x : Symbol) (t : TypeId) → meaning s x ≡ Some (OfPlace t) → name_type q here x ≡ Some t)
         → ((x : Symbol) (t : TypeId) → meaning s x ≡ Some (OfPlace t) → is_result here x ≡ false)
-        → ((x : Symbol) (h : Heading) (t : TypeId) → meaning s x ≡ Some (OfRoutine h) → is_this s.routine h ≡ true → h.result ≡ Some t → name_type q here x ≡ Some t)
+        → ((x : Symbol) (h : Heading) (t : TypeId) → meaning s x ≡ Some (OfRoutine h) → is_this s.routine h ≡ true → h.result ≡ Some t
+        → name_type q here x ≡ Some t)
         → Belongs s q here
     belongs here places no_results own_result = record {
       forms = ap (λ (n : Known). n.program.forms) (sym known);

@@ -54,7 +54,8 @@ pub record RightHeaded (q : Program) (routine : Symbol) (place : RoutineId) (hea
 pub later_same : (q : Program) → Later q q
 later_same q = record { forms = begins_same q.forms; types = refl; variables = refl; symbols = refl }
 
-abbrev headed_with : Symbol → ℕ → Bool → RoutineId → Parameters → Option TypeId → List GlobalItem → StartsSoFar → Option Annotation → Option Annotation → Headed
+abbrev headed_with : Symbol → ℕ → Bool → RoutineId → Parameters → Option TypeId → List GlobalItem → StartsSoFar → Option Annotation
+    → Option Annotation → Headed
 headed_with name line is_function number ps result globals starts entry exit =
     let heading : Heading = record {
       name = name;
@@ -84,21 +85,30 @@ pub result_named : (name : Symbol) (o : Option TypeId) → result_names name o �
 result_named name None = refl
 result_named name (Some t) = refl
 
-module _ (k : Known) (right : RightKnown k) (routine : Symbol) (is_routine : list_any (same_name routine) (heading_names k.headings) ≡ true) where
+module _ (k : Known) (right : RightKnown k) (routine : Symbol)
+    (is_routine : list_any (same_name routine) (heading_names k.headings) ≡ true) where
   abbrev q : Program
   q = k.program
 
-  pub clauses_right : (line : ℕ) (is_function : Bool) (number : RoutineId) (ps : Parameters) (result : Option TypeId) (c : Clauses) (headed : Headed) → RightParams k right routine is_routine ps
-      → ((t : TypeId) → result ≡ Some t → ResultOk k right routine is_routine t) → clauses_walk k routine line is_function number ps result c ≡ Ok headed → RightHeaded q routine number headed
+  pub clauses_right : (line : ℕ) (is_function : Bool) (number : RoutineId) (ps : Parameters) (result : Option TypeId) (c : Clauses)
+      (headed : Headed) → RightParams k right routine is_routine ps
+      → ((t : TypeId) → result ≡ Some t → ResultOk k right routine is_routine t)
+      → clauses_walk k routine line is_function number ps result c ≡ Ok headed → RightHeaded q routine number headed
   clauses_right line is_function number ps result c headed params results e =
       let F = formal_types ps.formals in
-      let made = λ (globals : List GlobalItem) (starts : StartsSoFar) (entry exit : Option Annotation). fine (headed_with routine line is_function number ps result globals starts entry exit) in
-      let exit_step = λ (globals : List GlobalItem) (starts : StartsSoFar) (entry : Option Annotation). after (if_there (annotation (in_routine k (ps.own ++ (result_names routine result ++ starts.own)) None)) c.exit) (made globals starts entry) in
-      let entry_step = λ (globals : List GlobalItem) (starts : StartsSoFar). after (if_there (annotation (in_routine k ps.own None)) c.entry) (exit_step globals starts) in
-      let one = went (globals_walk k ps.own c.globals) (λ globals. after (initial_walk k routine ps.formals globals ps.own c.initial) (entry_step globals)) headed e in
+      let made = λ (globals : List GlobalItem) (starts : StartsSoFar) (entry exit : Option Annotation).
+      fine (headed_with routine line is_function number ps result globals starts entry exit) in
+      let exit_step = λ (globals : List GlobalItem) (starts : StartsSoFar) (entry : Option Annotation).
+      after (if_there (annotation (in_routine k (ps.own ++ (result_names routine result ++ starts.own)) None)) c.exit)
+      (made globals starts entry) in
+      let entry_step = λ (globals : List GlobalItem) (starts : StartsSoFar).
+      after (if_there (annotation (in_routine k ps.own None)) c.entry) (exit_step globals starts) in
+      let one = went (globals_walk k ps.own c.globals)
+      (λ globals. after (initial_walk k routine ps.formals globals ps.own c.initial) (entry_step globals)) headed e in
       let two = went (initial_walk k routine ps.formals one.value ps.own c.initial) (entry_step one.value) headed one.rest in
       let three = went (if_there (annotation (in_routine k ps.own None)) c.entry) (exit_step one.value two.value) headed two.rest in
-      let four = went (if_there (annotation (in_routine k (ps.own ++ (result_names routine result ++ two.value.own)) None)) c.exit) (made one.value two.value three.value) headed three.rest in
+      let four = went (if_there (annotation (in_routine k (ps.own ++ (result_names routine result ++ two.value.own)) None)) c.exit)
+      (made one.value two.value three.value) headed three.rest in
       let globals = one.value in
       let starts = two.value in
       let shared = globals_right k right routine is_routine ps params c.globals globals one.first in
@@ -116,21 +126,28 @@ module _ (k : Known) (right : RightKnown k) (routine : Symbol) (is_routine : lis
       ∙ ap (λ o. named OfPlace F ++ o) (ap (λ o. o ++ starts.own) (result_named routine result) ∙ ap (λ o. named OfPlace R ++ o) s.own) in
       let entry_scope = in_routine k (named OfPlace F) None in
       let exit_scope = in_routine k (named OfPlace F ++ (named OfPlace R ++ named OfStart s.sorts)) None in
-      let entry_ok = noted_ok entry_scope (entry_names q F) (sees_alike entry_scope right.program plain_F (with_sorts_of q F) (sees_places q F)) c.entry three.value
+      let entry_ok = noted_ok entry_scope (entry_names q F)
+      (sees_alike entry_scope right.program plain_F (with_sorts_of q F) (sees_places q F)) c.entry three.value
       (subst (λ o. if_there (annotation (in_routine k o None)) c.entry ≡ Ok three.value) params.own three.first) in
       let front = with_sorts_of q F ++ (with_sorts_of q R ++ s.sorts) in
-      let exit_sees = sees_append q (named OfPlace F) (named OfPlace R ++ named OfStart s.sorts) (with_sorts_of q F) (with_sorts_of q R ++ s.sorts) (sees_places q F)
+      let exit_sees = sees_append q (named OfPlace F) (named OfPlace R ++ named OfStart s.sorts) (with_sorts_of q F)
+      (with_sorts_of q R ++ s.sorts) (sees_places q F)
       (sees_append q (named OfPlace R) (named OfStart s.sorts) (with_sorts_of q R) s.sorts (sees_places q R) (sees_starts q s.sorts)) in
-      let exit_plain = plain_append q (named OfPlace F) (named OfPlace R ++ named OfStart s.sorts) plain_F (plain_append q (named OfPlace R) (named OfStart s.sorts) plain_R plain_S) in
+      let exit_plain = plain_append q (named OfPlace F) (named OfPlace R ++ named OfStart s.sorts) plain_F
+      (plain_append q (named OfPlace R) (named OfStart s.sorts) plain_R plain_S) in
       let turned : front ++ with_sorts_of q q.variables ≡ exit_names q F routine result s.sorts =
-      append_assoc (with_sorts_of q F) (with_sorts_of q R ++ s.sorts) (with_sorts_of q q.variables) ∙ ap (λ l. with_sorts_of q F ++ l) (append_assoc (with_sorts_of q R) s.sorts (with_sorts_of q q.variables)) in
-      let exit_ok = noted_ok exit_scope (front ++ with_sorts_of q q.variables) (sees_alike exit_scope right.program exit_plain front exit_sees) c.exit four.value
+      append_assoc (with_sorts_of q F) (with_sorts_of q R ++ s.sorts) (with_sorts_of q q.variables)
+      ∙ ap (λ l. with_sorts_of q F ++ l) (append_assoc (with_sorts_of q R) s.sorts (with_sorts_of q q.variables)) in
+      let exit_ok = noted_ok exit_scope (front ++ with_sorts_of q q.variables)
+      (sees_alike exit_scope right.program exit_plain front exit_sees) c.exit four.value
       (subst (λ o. if_there (annotation (in_routine k o None)) c.exit ≡ Ok four.value) own_exit four.first) in
       let all_away : NamesApart ((routine ∷ (keys F ++ I))) G =
       apart_turned same_name name-refl same_names G (routine ∷ (keys F ++ I))
-      (apart_both same_name name-refl same_names G (routine ∷ keys F) I shared.away (apart_turned same_name name-refl same_names I G s.away)) in
+      (apart_both same_name name-refl same_names G (routine ∷ keys F) I shared.away
+      (apart_turned same_name name-refl same_names I G s.away)) in
       let differ_all : names_differ ((routine ∷ (keys F ++ I)) ++ G) ≡ true =
-      differ_append same_name name-refl same_names (routine ∷ (keys F ++ I)) G s.differ (variables_differ (items_in globals) shared.differ) all_away in
+      differ_append same_name name-refl same_names (routine ∷ (keys F ++ I)) G s.differ
+      (variables_differ (items_in globals) shared.differ) all_away in
       subst (RightHeaded q routine number) (same_value four.rest) (record {
         sorts = s.sorts;
         right = record {
@@ -153,15 +170,18 @@ module _ (k : Known) (right : RightKnown k) (routine : Symbol) (is_routine : lis
 routine_there : (k : Known) (h : Heading) → list_any (same_name h.name) (heading_names (k.headings ++ h ∷ [])) ≡ true
 routine_there k h =
     ap (list_any (same_name h.name)) (map-append (λ (g : Heading). g.name) k.headings (h ∷ []))
-    ∙ (list_any-append (same_name h.name) (heading_names k.headings) (h.name ∷ []) ∙ or_right (list_any (same_name h.name) (heading_names k.headings)) _ (or_left (same_name h.name h.name) false (name-refl h.name)))
+    ∙ (list_any-append (same_name h.name) (heading_names k.headings) (h.name ∷ [])
+    ∙ or_right (list_any (same_name h.name) (heading_names k.headings)) _ (or_left (same_name h.name h.name) false (name-refl h.name)))
 
-pub form_right : (k : Known) (number : RoutineId) (line : ℕ) (c : Clauses) (form : HeadingForm) (headed : Headed) → RightKnown k → is_free k (heading_name form).symbol ≡ true → form_walk k number line c form ≡ Ok headed
+pub form_right : (k : Known) (number : RoutineId) (line : ℕ) (c : Clauses) (form : HeadingForm) (headed : Headed) → RightKnown k
+    → is_free k (heading_name form).symbol ≡ true → form_walk k number line c form ≡ Ok headed
     → RightHeaded k.program (heading_name form).symbol number headed
 form_right k number line c (Procedure name params) headed right free e =
     let x = name.symbol in
     let first = announced x line false number [] None in
     let inner = with_heading k first in
-    let next = λ (ps : Parameters). clauses_walk (with_heading k (announced x line false number ps.formals None)) x line false number ps None c in
+    let next = λ (ps : Parameters).
+    clauses_walk (with_heading k (announced x line false number ps.formals None)) x line false number ps None c in
     let one = went (params_walk inner x params) next headed e in
     let ps = one.value in
     let second = announced x line false number ps.formals None in
@@ -172,16 +192,22 @@ form_right k number line c (Function name params result) headed right free e =
     let x = name.symbol in
     let first = announced x line true number [] None in
     let inner = with_heading k first in
-    let last = λ (ps : Parameters) (t : TypeId). clauses_walk (with_heading k (announced x line true number ps.formals (Some t))) x line true number ps (Some t) c in
+    let last = λ (ps : Parameters) (t : TypeId).
+    clauses_walk (with_heading k (announced x line true number ps.formals (Some t))) x line true number ps (Some t) c in
     let one = went (params_walk inner x params) (λ ps. after (result_walk inner line ps.own result) (last ps)) headed e in
     let ps = one.value in
     let two = went (result_walk inner line ps.own result) (last ps) headed one.rest in
     let p = params_right inner (heading_right k first right free) x (routine_there k first) params ps one.first in
     let r = result_right inner (heading_right k first right free) x (routine_there k first) line ps result two.value p two.first in
     let second = announced x line true number ps.formals (Some two.value) in
-    clauses_right (with_heading k second) (heading_right k second right free) x (routine_there k second) line true number ps (Some two.value) c headed
+    clauses_right (with_heading k second) (heading_right k second right free) x (routine_there k second) line true number ps
+    (Some two.value) c headed
     (record { own = p.own; there = p.there; differ = p.differ })
-    (λ t h. record { there = subst (λ u. type_exists k.program.forms u ≡ true) (some_is h) r.there; plain = subst (λ (u : TypeId). may_be_result (form_at k.program.forms u.0) ≡ true) (some_is h) r.plain }) two.rest
+    (λ t h. record {
+      there = subst (λ u. type_exists k.program.forms u ≡ true) (some_is h) r.there;
+      plain =
+          subst (λ (u : TypeId). may_be_result (form_at k.program.forms u.0) ≡ true) (some_is h) r.plain;
+    }) two.rest
 
 -- ---- local declarations
 
@@ -194,21 +220,25 @@ later_then a b c l m = record {
 }
 
 abbrev pub own_of : List (Symbol × TypeId) → List (Symbol × Sort) → List (Symbol × ℤ) → List (Symbol × TypeId) → Names
-own_of formals sorts constants locals = ((named OfPlace formals ++ named OfStart sorts) ++ named OfConstant constants) ++ named OfPlace locals
+own_of formals sorts constants locals =
+    ((named OfPlace formals ++ named OfStart sorts) ++ named OfConstant constants) ++ named OfPlace locals
 
 -- what is not among a routine's own names
-pub record OwnNone (formals : List (Symbol × TypeId)) (sorts : List (Symbol × Sort)) (locals : List (Symbol × TypeId)) (x : Symbol) : Type 0 where
+pub record OwnNone (formals : List (Symbol × TypeId)) (sorts : List (Symbol × Sort)) (locals : List (Symbol × TypeId)) (x : Symbol) : Type
+    0 where
   pub formal : found formals x ≡ None
   pub start : found sorts x ≡ None
   pub local : found locals x ≡ None
 
-pub own_none : (formals : List (Symbol × TypeId)) (sorts : List (Symbol × Sort)) (constants : List (Symbol × ℤ)) (locals : List (Symbol × TypeId)) (x : Symbol) → found (own_of formals sorts constants locals) x ≡ None → OwnNone formals sorts locals x
+pub own_none : (formals : List (Symbol × TypeId)) (sorts : List (Symbol × Sort)) (constants : List (Symbol × ℤ))
+    (locals : List (Symbol × TypeId)) (x : Symbol) → found (own_of formals sorts constants locals) x ≡ None → OwnNone formals sorts locals x
 own_none formals sorts constants locals x e =
     let two = named OfPlace formals ++ named OfStart sorts in
     let three = two ++ named OfConstant constants in
     let whole = sym (found_append three (named OfPlace locals) x) ∙ e in
     let front = first_none (found three x) (found (named OfPlace locals) x) whole in
-    let middle = first_none (found two x) (found (named OfConstant constants) x) (sym (found_append two (named OfConstant constants) x) ∙ front) in
+    let middle = first_none (found two x) (found (named OfConstant constants) x)
+    (sym (found_append two (named OfConstant constants) x) ∙ front) in
     let last = sym (found_append (named OfPlace formals) (named OfStart sorts) x) ∙ middle in
     record {
       formal = named_none OfPlace formals x (first_none (found (named OfPlace formals) x) (found (named OfStart sorts) x) last);
@@ -216,12 +246,15 @@ own_none formals sorts constants locals x e =
       local = named_none OfPlace locals x (second_none (found three x) (found (named OfPlace locals) x) whole);
     }
 
-pub own_plain : (q : Program) (formals : List (Symbol × TypeId)) (sorts : List (Symbol × Sort)) (constants : List (Symbol × ℤ)) (locals : List (Symbol × TypeId)) → all_there q.forms formals ≡ true
+pub own_plain : (q : Program) (formals : List (Symbol × TypeId)) (sorts : List (Symbol × Sort)) (constants : List (Symbol × ℤ))
+    (locals : List (Symbol × TypeId)) → all_there q.forms formals ≡ true
     → OwnPlain q (named OfStart sorts) → all_there q.forms locals ≡ true → OwnPlain q (own_of formals sorts constants locals)
 own_plain q formals sorts constants locals h s l =
     let two = named OfPlace formals ++ named OfStart sorts in
     plain_append q (two ++ named OfConstant constants) (named OfPlace locals)
-    (plain_append q two (named OfConstant constants) (plain_append q (named OfPlace formals) (named OfStart sorts) (plain_places q formals h) s) (plain_constants q constants)) (plain_places q locals l)
+    (plain_append q two (named OfConstant constants)
+    (plain_append q (named OfPlace formals) (named OfStart sorts) (plain_places q formals h) s) (plain_constants q constants))
+    (plain_places q locals l)
 
 module _ (k : Known) (right : RightKnown k) (h : Heading) (sorts : List (Symbol × Sort)) (good : RightHeading k.program h sorts) where
   abbrev F : List (Symbol × TypeId)
@@ -267,19 +300,28 @@ module _ (k : Known) (right : RightKnown k) (h : Heading) (sorts : List (Symbol 
   plain_now l r =
       let p = l.known.program in
       let now = heading_later k.program p right.program r.later h sorts good in
-      subst (OwnPlain p) (sym r.own) (own_plain p F sorts r.constants l.variables now.formals (plain_starts p sorts (starts_in_range p F h.initial sorts r.known.program.forms now.are_starts)) r.there)
+      subst (OwnPlain p) (sym r.own)
+      (own_plain p F sorts r.constants l.variables now.formals
+      (plain_starts p sorts (starts_in_range p F h.initial sorts r.known.program.forms now.are_starts)) r.there)
 
-  away_from : (new : List Symbol) (l : Local) (r : RightLocal l) → Fresh (is_free_in l.known.start h.name h.globals l.own) new → NamesApart new (h.name ∷ ((keys F ++ keys h.initial) ++ (keys l.variables ++ G)))
+  away_from : (new : List Symbol) (l : Local) (r : RightLocal l) → Fresh (is_free_in l.known.start h.name h.globals l.own) new
+      → NamesApart new (h.name ∷ ((keys F ++ keys h.initial) ++ (keys l.variables ++ G)))
   away_from new l r fresh = record {
     apart = λ x e.
         let f = free_in l.known.start h.name h.globals l.own x (fresh.free x e) in
         let none = own_none F sorts r.constants l.variables x (sym (ap (λ o. found o x) r.own) ∙ found_none l.own x f.not_own) in
-        let no_start : list_any (same_name x) (keys h.initial) ≡ false = ap (list_any (same_name x)) (sym (starts_keys k.program F h.initial sorts good.are_starts)) ∙ (sym (found_there sorts x) ∙ ap is_some none.start) in
+        let no_start : list_any (same_name x) (keys h.initial) ≡ false =
+        ap (list_any (same_name x)) (sym (starts_keys k.program F h.initial sorts good.are_starts))
+        ∙ (sym (found_there sorts x) ∙ ap is_some none.start) in
         both_false (same_name x h.name) _ (sym (any_turned x h.name) ∙ f.not_routine)
         (list_any-append (same_name x) (keys F ++ keys h.initial) (keys l.variables ++ G)
         ∙ both_false (list_any (same_name x) (keys F ++ keys h.initial)) (list_any (same_name x) (keys l.variables ++ G))
-        (list_any-append (same_name x) (keys F) (keys h.initial) ∙ both_false (list_any (same_name x) (keys F)) (list_any (same_name x) (keys h.initial)) (sym (found_there F x) ∙ ap is_some none.formal) no_start)
-        (list_any-append (same_name x) (keys l.variables) G ∙ both_false (list_any (same_name x) (keys l.variables)) (list_any (same_name x) G) (sym (found_there l.variables x) ∙ ap is_some none.local) f.not_listed));
+        (list_any-append (same_name x) (keys F) (keys h.initial)
+        ∙ both_false (list_any (same_name x) (keys F)) (list_any (same_name x) (keys h.initial))
+        (sym (found_there F x) ∙ ap is_some none.formal) no_start)
+        (list_any-append (same_name x) (keys l.variables) G
+        ∙ both_false (list_any (same_name x) (keys l.variables)) (list_any (same_name x) G)
+        (sym (found_there l.variables x) ∙ ap is_some none.local) f.not_listed));
   }
 
   variables_more : (l next : Local) (v : Vars) → RightLocal l → local_vars h l v ≡ Ok next → RightLocal next
@@ -294,11 +336,13 @@ module _ (k : Known) (right : RightKnown k) (h : Heading) (sorts : List (Symbol 
       let t = two.value in
       let fresh = all_fresh may (all_names v.names) new one.first in
       let plain = plain_now l r in
-      let kept = type_kept inner v.of t r.known.program (record { each = λ x u m. scope_types inner r.known.program plain x u m }) two.first in
+      let kept = type_kept inner v.of t r.known.program (record { each = λ x u m. scope_types inner r.known.program plain x u m })
+      two.first in
       let more = map (λ x. pair x t.type) new in
       let after_it = with_locals l new t in
       let now = after_it.known.program in
-      let new_keys : keys (l.variables ++ more) ≡ keys l.variables ++ new = keys_append l.variables more ∙ ap (λ ns. keys l.variables ++ ns) (keys_typed t.type new) in
+      let new_keys : keys (l.variables ++ more) ≡ keys l.variables ++ new =
+      keys_append l.variables more ∙ ap (λ ns. keys l.variables ++ ns) (keys_typed t.type new) in
       let c = h.name ∷ (keys F ++ keys h.initial) in
       let turn = λ (rest : List Symbol). ap (λ ns. h.name ∷ ns) (append_assoc (keys F) (keys h.initial) rest) in
       let before : names_differ (c ++ (keys l.variables ++ G)) ≡ true = ap names_differ (turn (keys l.variables ++ G)) ∙ r.differ in
@@ -316,30 +360,37 @@ module _ (k : Known) (right : RightKnown k) (h : Heading) (sorts : List (Symbol 
         same = same_then k l.known after_it.known r.same (record { start = refl; routines = refl; headings = refl; awaited = refl });
         constants = r.constants;
         own = ap (λ o. o ++ map (λ x. pair x (OfPlace t.type)) new) r.own
-            ∙ (append_assoc ((named OfPlace F ++ named OfStart sorts) ++ named OfConstant r.constants) (named OfPlace l.variables) (map (λ x. pair x (OfPlace t.type)) new)
+            ∙ (append_assoc ((named OfPlace F ++ named OfStart sorts) ++ named OfConstant r.constants) (named OfPlace l.variables)
+            (map (λ x. pair x (OfPlace t.type)) new)
             ∙ ap (λ o. ((named OfPlace F ++ named OfStart sorts) ++ named OfConstant r.constants) ++ o)
             (ap (λ o. named OfPlace l.variables ++ o) (sym (named_typed t.type new)) ∙ sym (named_append OfPlace l.variables more)));
-        there = all_append (λ (n : Symbol × TypeId). type_exists t.forms n.1) l.variables more (all_longer p.forms t.forms l.variables kept.begins r.there) (all_typed t.forms t.type new kept.there);
+        there = all_append (λ (n : Symbol × TypeId). type_exists t.forms n.1) l.variables more
+            (all_longer p.forms t.forms l.variables kept.begins r.there) (all_typed t.forms t.type new kept.there);
         differ = ap (λ ns. names_differ (h.name ∷ (keys F ++ (keys h.initial ++ (ns ++ G))))) new_keys
-            ∙ (ap names_differ (sym (turn ((keys l.variables ++ new) ++ G))) ∙ insert_in c (keys l.variables) new G before fresh.differ (away_from new l r fresh));
+            ∙ (ap names_differ (sym (turn ((keys l.variables ++ new) ++ G)))
+            ∙ insert_in c (keys l.variables) new G before fresh.differ (away_from new l r fresh));
       })
 
-  pub locals_right : (headed : Headed) (ls : Locals) (l : Local) → headed.heading ≡ h → headed.own ≡ named OfPlace F ++ named OfStart sorts → locals_walk k headed ls ≡ Ok l → RightLocal l
+  pub locals_right : (headed : Headed) (ls : Locals) (l : Local) → headed.heading ≡ h
+      → headed.own ≡ named OfPlace F ++ named OfStart sorts → locals_walk k headed ls ≡ Ok l → RightLocal l
   locals_right headed ls l is own e =
       let start : Local = record { known = k; own = headed.own; variables = [] } in
       let one = went (each (local_const headed.heading) start ls.constants) (λ a. each (local_vars headed.heading) a ls.variables) l e in
       let first = subst (λ (g : Heading). each (local_const g) start ls.constants ≡ Ok one.value) is one.first in
       let rest = subst (λ (g : Heading). each (local_vars g) one.value ls.variables ≡ Ok l) is one.rest in
       let c = each_keeps WithConstants (local_const h) (λ s t x g f. constant_more s t x g f) ls.constants start one.value
-      (record { known = refl; variables = refl; constants = []; own = own ∙ sym (append-nil (named OfPlace F ++ named OfStart sorts)) }) first in
+      (record { known = refl; variables = refl; constants = []; own = own ∙ sym (append-nil (named OfPlace F ++ named OfStart sorts)) })
+      first in
       let known_right : RightKnown one.value.known = subst RightKnown (sym c.known) right in
       let v = one.value in
       let begun : RightLocal v = record {
         known = known_right;
-        later = subst (λ (n : Known). Later k.program n.program) (sym c.known) (record { forms = begins_same k.program.forms; types = refl; variables = refl; symbols = refl });
+        later = subst (λ (n : Known). Later k.program n.program) (sym c.known)
+            (record { forms = begins_same k.program.forms; types = refl; variables = refl; symbols = refl });
         same = subst (Same k) (sym c.known) (record { start = refl; routines = refl; headings = refl; awaited = refl });
         constants = c.constants;
-        own = c.own ∙ (sym (append-nil ((named OfPlace F ++ named OfStart sorts) ++ named OfConstant c.constants)) ∙ ap (λ vs. ((named OfPlace F ++ named OfStart sorts) ++ named OfConstant c.constants) ++ named OfPlace vs) (sym c.variables));
+        own = c.own ∙ (sym (append-nil ((named OfPlace F ++ named OfStart sorts) ++ named OfConstant c.constants))
+            ∙ ap (λ vs. ((named OfPlace F ++ named OfStart sorts) ++ named OfConstant c.constants) ++ named OfPlace vs) (sym c.variables));
         there = ap (all_there v.known.program.forms) c.variables;
         differ = ap (λ vs. names_differ (h.name ∷ (keys F ++ (keys h.initial ++ (keys vs ++ G))))) c.variables ∙ good.differ;
       } in

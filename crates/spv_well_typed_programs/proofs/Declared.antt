@@ -59,23 +59,29 @@ const_same : (k l : Known) (c : Const) → const_walk k c ≡ Ok l → Same k l
 const_same k l c e =
     let x = c.name.symbol in
     let next = after (constant (at_top k) c.value) (λ z. fine (with_program k (with_constant k.program x z))) in
-    let one = went (constant (at_top k) c.value) (λ z. fine (with_program k (with_constant k.program x z))) l (behind_test (is_free k x) (twice c.name) next l e) in
+    let one = went (constant (at_top k) c.value) (λ z. fine (with_program k (with_constant k.program x z))) l
+    (behind_test (is_free k x) (twice c.name) next l e) in
     same_with k l (with_constant k.program x one.value) refl (same_value one.rest)
 
-typedef_same : (is_target : Symbol → Bool) (part next : TypePart) (d : Typedef) → typedef_walk is_target part d ≡ Ok next → Same part.known next.known
+typedef_same : (is_target : Symbol → Bool) (part next : TypePart) (d : Typedef) → typedef_walk is_target part d ≡ Ok next
+    → Same part.known next.known
 typedef_same is_target part next d e =
     let k = part.known in
     let result = λ (t : Reading). fine (typed_part k d.name.symbol t) in
     let step = after (denoted (at_top k) is_target part.written d.of) result in
-    let one = went (denoted (at_top k) is_target part.written d.of) result next (behind_test (is_free k d.name.symbol) (twice d.name) step next e) in
-    same_with k next.known (with_types k.program k.program.forms (k.program.types ++ pair d.name.symbol one.value.type ∷ [])) refl (ap (λ (n : TypePart). n.known) (same_value one.rest))
+    let one = went (denoted (at_top k) is_target part.written d.of) result next
+    (behind_test (is_free k d.name.symbol) (twice d.name) step next e) in
+    same_with k next.known (with_types k.program k.program.forms (k.program.types ++ pair d.name.symbol one.value.type ∷ [])) refl
+    (ap (λ (n : TypePart). n.known) (same_value one.rest))
 
 part_same : (k l : Known) (ds : List Typedef) → type_part_walk k ds ≡ Ok l → Same k l
 part_same k l ds e =
     let is_target = λ (x : Symbol). list_any (λ (d : Typedef). same_name d.name.symbol x) ds in
     let one = went (each (typedef_walk is_target) (start_part k) ds) (λ part. fine (with_merged part)) l e in
-    let inner = each_keeps (λ (n : TypePart). Same k n.known) (typedef_walk is_target) (λ s t d h f. same_then k s.known t.known h (typedef_same is_target s t d f)) ds (start_part k) one.value (same_none k) one.first in
-    same_then k one.value.known l inner (subst (Same one.value.known) (same_value one.rest) (record { start = refl; routines = refl; headings = refl; awaited = refl }))
+    let inner = each_keeps (λ (n : TypePart). Same k n.known) (typedef_walk is_target)
+    (λ s t d h f. same_then k s.known t.known h (typedef_same is_target s t d f)) ds (start_part k) one.value (same_none k) one.first in
+    same_then k one.value.known l inner
+    (subst (Same one.value.known) (same_value one.rest) (record { start = refl; routines = refl; headings = refl; awaited = refl }))
 
 vars_same : (k l : Known) (v : Vars) → vars_walk k v ≡ Ok l → Same k l
 vars_same k l v e =
@@ -91,7 +97,8 @@ symbol_same k l d e =
     let x = d.name.symbol in
     let result = λ (args : List Sort) (s : Sort). fine (with_program k (with_symbol p (declaration x args s))) in
     let step = after (all_of (sort_walk k) (sorts_in_brackets d.arguments)) (λ args. after (sort_walk k d.result) (result args)) in
-    let one = went (all_of (sort_walk k) (sorts_in_brackets d.arguments)) (λ args. after (sort_walk k d.result) (result args)) l (behind_test (is_free_for_call k x) (twice d.name) step l e) in
+    let one = went (all_of (sort_walk k) (sorts_in_brackets d.arguments)) (λ args. after (sort_walk k d.result) (result args)) l
+    (behind_test (is_free_for_call k x) (twice d.name) step l e) in
     let two = went (sort_walk k d.result) (result one.value) l one.rest in
     same_with k l (with_symbol p (declaration x one.value two.value)) refl (same_value two.rest)
 
@@ -102,9 +109,11 @@ declarations_same k l d e =
     let one = went (each const_walk k d.constants) (λ a. after (type_part_walk a d.types) third) l e in
     let two = went (type_part_walk one.value d.types) third l one.rest in
     let three = went (each vars_walk two.value d.variables) last l two.rest in
-    let a = each_keeps (Same k) const_walk (λ s t x h f. same_then k s t h (const_same s t x f)) d.constants k one.value (same_none k) one.first in
+    let a = each_keeps (Same k) const_walk (λ s t x h f. same_then k s t h (const_same s t x f)) d.constants k one.value (same_none k)
+    one.first in
     let b = same_then k one.value two.value a (part_same one.value two.value d.types two.first) in
-    let c = each_keeps (Same k) vars_walk (λ s t x h f. same_then k s t h (vars_same s t x f)) d.variables two.value three.value b three.first in
+    let c = each_keeps (Same k) vars_walk (λ s t x h f. same_then k s t h (vars_same s t x f)) d.variables two.value three.value b
+    three.first in
     each_keeps (Same k) symbol_walk (λ s t x h f. same_then k s t h (symbol_same s t x f)) d.symbols three.value l c three.rest
 
 -- ---- a program before its first declaration
@@ -151,7 +160,9 @@ first_names start p = pair start.integer integer_type ∷ pair start.boolean boo
 
 -- right declarations, and routines whose names are none of theirs
 pub declared_ok : (start : KnownNames) (p : Program) (m : Main) → RightProgram p
-    → names_differ (keys p.constants ++ (keys p.types ++ (keys p.variables ++ (symbol_names p.symbols ++ map (λ (r : Routine). r.name) p.routines)))) ≡ true → declarations_ok (with_main start p m) ≡ true
+    → names_differ (keys p.constants
+    ++ (keys p.types ++ (keys p.variables ++ (symbol_names p.symbols ++ map (λ (r : Routine). r.name) p.routines)))) ≡ true
+    → declarations_ok (with_main start p m) ≡ true
 declared_ok start p m r differ =
     both_true (forms_pass p.forms r.forms)
     (both_true (eq-eqb (length (titles_of start p)) (length p.forms) (titles_length (first_names start p) 0 p.forms))
@@ -164,4 +175,6 @@ declarations_are_right start d k m e =
     let no_heads : heading_names k.headings ≡ map (λ (r : Routine). r.name) k.program.routines =
     ap (map (λ (h : Heading). h.name)) same.headings ∙ sym (ap (map (λ (r : Routine). r.name)) same.routines) in
     declared_ok start k.program m right.program
-    (ap (λ ns. names_differ (keys k.program.constants ++ (keys k.program.types ++ (keys k.program.variables ++ (symbol_names k.program.symbols ++ ns))))) (sym no_heads) ∙ right.names.differ)
+    (ap (λ ns. names_differ (keys k.program.constants
+    ++ (keys k.program.types ++ (keys k.program.variables ++ (symbol_names k.program.symbols ++ ns))))) (sym no_heads)
+    ∙ right.names.differ)

@@ -42,7 +42,8 @@ pub begins_then : {X : Type 0} (xs ys zs : List X) → Begins xs ys → Begins y
 begins_then xs ys zs b c = record { more = b.more ++ c.more; is = c.is ∙ (ap (λ l. l ++ c.more) b.is ∙ append_assoc xs b.more c.more) }
 
 pub begins_longer : {X : Type 0} (xs ys : List X) → Begins xs ys → length xs ≤ length ys
-begins_longer xs ys b = subst (λ l. length xs ≤ length l) (sym b.is) (subst (λ n. length xs ≤ n) (sym (length-append xs b.more)) (more (length xs) (length b.more)))
+begins_longer xs ys b = subst (λ l. length xs ≤ length l) (sym b.is)
+    (subst (λ n. length xs ≤ n) (sym (length-append xs b.more)) (more (length xs) (length b.more)))
   where
     more : (n m : ℕ) → n ≤ n + m
     more n m = omega arith
@@ -54,7 +55,8 @@ pub wider : (a b c : ℕ) → a < b → b ≤ c → a < c
 wider a b c h g = omega arith
 
 -- what fits fits among more types
-pub fits_more : (n m : ℕ) (r q : ℕ → Bool) (i : ℕ) (f : TypeForm) → n ≤ m → ((k : ℕ) → r k ≡ true → q k ≡ true) → Fits n r i f → Fits m q i f
+pub fits_more : (n m : ℕ) (r q : ℕ → Bool) (i : ℕ) (f : TypeForm) → n ≤ m → ((k : ℕ) → r k ≡ true → q k ≡ true) → Fits n r i f
+    → Fits m q i f
 fits_more n m r q i f h g integer_fits = integer_fits
 fits_more n m r q i f h g boolean_fits = boolean_fits
 fits_more n m r q i f h g (range_fits low high k) = range_fits low high k
@@ -81,12 +83,14 @@ indices_from one line = record { written = one.written; indices = record { type 
 abbrev more_indices : Indices → Reading → ℕ → Indices
 more_indices i r line = record { written = r.written; indices = i.indices ++ record { type = r.type; line = line } ∷ [] }
 
-all_one : {X : Type 0} (test : X → Bool) (xs : List X) (y : X) → list_all test xs ≡ true → test y ≡ true → list_all test (xs ++ y ∷ []) ≡ true
+all_one : {X : Type 0} (test : X → Bool) (xs : List X) (y : X) → list_all test xs ≡ true → test y ≡ true
+    → list_all test (xs ++ y ∷ []) ≡ true
 all_one test [] y h k = ap (λ b. b && true) k
 all_one test (x ∷ xs) y h k = both_true (left_true _ _ h) (all_one test xs y (right_true (test x) _ h) k)
 
 module _ (is_target : Symbol → Bool) where
-  text_more : (n m : ℕ) (r q : ℕ → Bool) (i : ℕ) (w : Written) → n ≤ m → ((k : ℕ) → r k ≡ true → q k ≡ true) → FitsText is_target n r i w → FitsText is_target m q i w
+  text_more : (n m : ℕ) (r q : ℕ → Bool) (i : ℕ) (w : Written) → n ≤ m → ((k : ℕ) → r k ≡ true → q k ≡ true) → FitsText is_target n r i w
+      → FitsText is_target m q i w
   text_more n m r q i w h g (text_built f k) = text_built f (fits_more n m r q i f h g k)
   text_more n m r q i w h g (text_target x k) = text_target x k
 
@@ -114,14 +118,18 @@ module _ (is_target : Symbol → Bool) where
       one : (n : ℕ) → n + 1 ≡ suc n
       one n = omega arith
 
-  add_one : (types : List Written) (w : Written) → GoodText is_target types → FitsText is_target (length (types ++ w ∷ [])) (ranges_in (types ++ w ∷ [])) (length types) w → Reads types (types ++ w ∷ [])
+  add_one : (types : List Written) (w : Written) → GoodText is_target types
+      → FitsText is_target (length (types ++ w ∷ [])) (ranges_in (types ++ w ∷ [])) (length types) w → Reads types (types ++ w ∷ [])
   add_one types w g h = record {
     begins = begins_one types w;
     good = record {
       fits = λ i v e.
           item_grown types w i v (FitsText is_target (length (types ++ w ∷ [])) (ranges_in (types ++ w ∷ [])) i v) e
-          (λ k. text_more (length types) (length (types ++ w ∷ [])) (ranges_in types) (ranges_in (types ++ w ∷ [])) i v (begins_longer types (types ++ w ∷ []) (begins_one types w)) (ranges_more types (types ++ w ∷ []) (begins_one types w)) (g.fits i v k))
-          (λ k same. subst (λ u. FitsText is_target (length (types ++ w ∷ [])) (ranges_in (types ++ w ∷ [])) i u) same (subst (λ n. FitsText is_target (length (types ++ w ∷ [])) (ranges_in (types ++ w ∷ [])) n w) (sym k) h));
+          (λ k. text_more (length types) (length (types ++ w ∷ [])) (ranges_in types) (ranges_in (types ++ w ∷ [])) i v
+          (begins_longer types (types ++ w ∷ []) (begins_one types w)) (ranges_more types (types ++ w ∷ []) (begins_one types w))
+          (g.fits i v k))
+          (λ k same. subst (λ u. FitsText is_target (length (types ++ w ∷ [])) (ranges_in (types ++ w ∷ [])) i u) same
+          (subst (λ n. FitsText is_target (length (types ++ w ∷ [])) (ranges_in (types ++ w ∷ [])) n w) (sym k) h));
     };
   }
 
@@ -130,8 +138,13 @@ module _ (is_target : Symbol → Bool) where
     pub reads : Reads before r.written
     pub there : r.type.0 < length r.written
 
-  pub added : (types : List Written) (w : Written) → GoodText is_target types → FitsText is_target (length (types ++ w ∷ [])) (ranges_in (types ++ w ∷ [])) (length types) w → ReadsType types (adding types w)
-  added types w g h = record { reads = add_one types w g h; there = subst (λ n. length types < n) (sym (longer_by_one types w)) (one (length types)) }
+  pub added : (types : List Written) (w : Written) → GoodText is_target types
+      → FitsText is_target (length (types ++ w ∷ [])) (ranges_in (types ++ w ∷ [])) (length types) w → ReadsType types (adding types w)
+  added types w g h = record {
+    reads = add_one types w g h;
+    there =
+        subst (λ n. length types < n) (sym (longer_by_one types w)) (one (length types));
+  }
     where
       one : (n : ℕ) → n < suc n
       one n = omega arith
@@ -144,13 +157,18 @@ module _ (is_target : Symbol → Bool) where
   record AllRanges (types : List Written) (indices : List Index) : Type 0 where
     each : list_all (λ (i : Index). ranges_in types i.type.0) indices ≡ true
 
-  all_checked : (types : List Written) (done all : List Index) (i : Index) → AllRanges types done → check_index types done i ≡ Ok all → AllRanges types all
+  all_checked : (types : List Written) (done all : List Index) (i : Index) → AllRanges types done → check_index types done i ≡ Ok all
+      → AllRanges types all
   all_checked types done all i h e =
       let b = is_range (item_at types i.type.0) in
       subst (AllRanges types) (same_value (behind_test b (wrong i.line) (fine (done ++ i ∷ [])) all e))
-      (record { each = all_one (λ (k : Index). ranges_in types k.type.0) done i h.each (held b (wrong i.line) (fine (done ++ i ∷ [])) all e) })
+      (record {
+        each = all_one (λ (k : Index). ranges_in types k.type.0) done i h.each
+            (held b (wrong i.line) (fine (done ++ i ∷ [])) all e);
+      })
 
-  nested_reads : (types : List Written) (indices : List Index) (element : TypeId) → GoodText is_target types → element.0 < length types → list_all (λ (i : Index). ranges_in types i.type.0) indices ≡ true → ReadsType types (nested types indices element)
+  nested_reads : (types : List Written) (indices : List Index) (element : TypeId) → GoodText is_target types → element.0 < length types
+      → list_all (λ (i : Index). ranges_in types i.type.0) indices ≡ true → ReadsType types (nested types indices element)
   nested_reads types [] element g h all = record { reads = reads_none types g; there = h }
   nested_reads types (i ∷ indices) element g h all =
       let inner = nested_reads types indices element g h (right_true (ranges_in types i.type.0) _ all) in
@@ -162,10 +180,12 @@ module _ (is_target : Symbol → Bool) where
       (added r.written w inner.reads.good (text_built (form.Array i.type r.type)
       (array_fits i.type r.type below inner.there (ranges_more r.written (r.written ++ w ∷ []) (begins_one r.written w) i.type.0 range))))
 
-  nested_ok : (types : List Written) (indices : List Index) (element : TypeId) (r : Reading) → GoodText is_target types → element.0 < length types → nested_if_ranges types indices element ≡ Ok r → ReadsType types r
+  nested_ok : (types : List Written) (indices : List Index) (element : TypeId) (r : Reading) → GoodText is_target types
+      → element.0 < length types → nested_if_ranges types indices element ≡ Ok r → ReadsType types r
   nested_ok types indices element r g h e =
       let one = went (each (check_index types) [] indices) (λ all. fine (nested types all element)) r e in
-      let checked = each_keeps (AllRanges types) (check_index types) (λ d a i k f. all_checked types d a i k f) indices [] one.value (record { each = refl }) one.first in
+      let checked = each_keeps (AllRanges types) (check_index types) (λ d a i k f. all_checked types d a i k f) indices [] one.value
+      (record { each = refl }) one.first in
       subst (ReadsType types) (same_value one.rest) (nested_reads types one.value element g h checked.each)
 
   -- ---- the fields of a record
@@ -183,21 +203,26 @@ module _ (is_target : Symbol → Bool) where
     differ : names_differ names ≡ true
     apart : Apart same_name name-refl same_names names (field_names done)
 
-  named_field : (x : Symbol) (done : List TypeField) → list_any (λ (f : TypeField). same_name f.name x) done ≡ list_any (same_name x) (field_names done)
+  named_field : (x : Symbol) (done : List TypeField)
+      → list_any (λ (f : TypeField). same_name f.name x) done ≡ list_any (same_name x) (field_names done)
   named_field x [] = refl
-  named_field x (f ∷ done) = ap (λ b. b || list_any (λ (g : TypeField). same_name g.name x) done) (any_turned x f.name) ∙ ap (λ b. same_name x f.name || b) (named_field x done)
+  named_field x (f ∷ done) = ap (λ b. b || list_any (λ (g : TypeField). same_name g.name x) done) (any_turned x f.name)
+      ∙ ap (λ b. same_name x f.name || b) (named_field x done)
 
-  field_named_once : (done : List TypeField) (names next : List Symbol) (x : Name) → NewNames done names → new_field done names x ≡ Ok next → NewNames done next
+  field_named_once : (done : List TypeField) (names next : List Symbol) (x : Name) → NewNames done names
+      → new_field done names x ≡ Ok next → NewNames done next
   field_named_once done names next x h e =
       let a = not (list_any (λ (f : TypeField). same_name f.name x.symbol) done) in
       let b = not (list_any (same_name x.symbol) names) in
       let both = held (a && b) (twice x) (fine (names ++ x.symbol ∷ [])) next e in
       let free = not_true (list_any (same_name x.symbol) names) (right_true a _ both) in
-      let fresh = sym (named_field x.symbol done) ∙ not_true (list_any (λ (f : TypeField). same_name f.name x.symbol) done) (left_true _ _ both) in
+      let fresh = sym (named_field x.symbol done)
+      ∙ not_true (list_any (λ (f : TypeField). same_name f.name x.symbol) done) (left_true _ _ both) in
       subst (NewNames done) (same_value (behind_test (a && b) (twice x) (fine (names ++ x.symbol ∷ [])) next e)) (record {
         differ = differ_one same_name name-refl same_names names x.symbol h.differ free;
         apart = apart_turned same_name name-refl same_names (field_names done) (names ++ x.symbol ∷ [])
-            (apart_both same_name name-refl same_names (field_names done) names (x.symbol ∷ []) (apart_turned same_name name-refl same_names names (field_names done) h.apart)
+            (apart_both same_name name-refl same_names (field_names done) names (x.symbol ∷ [])
+            (apart_turned same_name name-refl same_names names (field_names done) h.apart)
             (apart_one same_name name-refl same_names (field_names done) x.symbol fresh));
       })
 
@@ -225,13 +250,17 @@ module _ (is_target : Symbol → Bool) where
     each = λ k f e. let r = item_mapped (λ x. typed_field t x) names k f e in subst (λ (g : TypeField). g.of.0 < n) r.is h;
   }
 
-  more_good : (before : List Written) (fs : Fields) (names : List Symbol) (r : Reading) → GoodFields before fs → NewNames fs.fields names → ReadsType fs.written r → GoodFields before (with_fields fs names r.type r.written)
+  more_good : (before : List Written) (fs : Fields) (names : List Symbol) (r : Reading) → GoodFields before fs → NewNames fs.fields names
+      → ReadsType fs.written r → GoodFields before (with_fields fs names r.type r.written)
   more_good before fs names r g n h = record {
     reads = reads_then before fs.written r.written g.reads h.reads;
     below = fields_append (length r.written) fs.fields (map (λ x. typed_field r.type x) names)
-        (fields_wider (length fs.written) (length r.written) fs.fields (begins_longer fs.written r.written h.reads.begins) g.below) (typed_below (length r.written) r.type names h.there);
-    differ = ap names_differ (map-append (λ (f : TypeField). f.name) fs.fields (map (λ x. typed_field r.type x) names) ∙ ap (λ l. field_names fs.fields ++ l) (names_of_typed r.type names))
-        ∙ differ_append same_name name-refl same_names (field_names fs.fields) names g.differ n.differ (apart_turned same_name name-refl same_names names (field_names fs.fields) n.apart);
+        (fields_wider (length fs.written) (length r.written) fs.fields (begins_longer fs.written r.written h.reads.begins) g.below)
+        (typed_below (length r.written) r.type names h.there);
+    differ = ap names_differ (map-append (λ (f : TypeField). f.name) fs.fields (map (λ x. typed_field r.type x) names)
+        ∙ ap (λ l. field_names fs.fields ++ l) (names_of_typed r.type names))
+        ∙ differ_append same_name name-refl same_names (field_names fs.fields) names g.differ n.differ
+        (apart_turned same_name name-refl same_names names (field_names fs.fields) n.apart);
   }
 
   -- ---- the walk
@@ -244,7 +273,8 @@ module _ (is_target : Symbol → Bool) where
     below_more : (xs ys : List Written) → Begins xs ys → TypesBelow xs → TypesBelow ys
     below_more xs ys b h = record { each = λ x t e. wider t.0 (length xs) (length ys) (h.each x t e) (begins_longer xs ys b) }
 
-    pub named_type : (P : TypeId → Type 0) (line : ℕ) (x : Name) (m : Option Meaning) (t : TypeId) → meaning s x.symbol ≡ m → ((u : TypeId) → meaning s x.symbol ≡ Some (OfType u) → P u) → type_named line x m ≡ Ok t → P t
+    pub named_type : (P : TypeId → Type 0) (line : ℕ) (x : Name) (m : Option Meaning) (t : TypeId) → meaning s x.symbol ≡ m
+        → ((u : TypeId) → meaning s x.symbol ≡ Some (OfType u) → P u) → type_named line x m ≡ Ok t → P t
     named_type P line x None t h go e = absurd (no_fault e)
     named_type P line x (Some (OfType u)) t h go e = subst P (same_value e) (go u h)
     named_type P line x (Some OfList) t h go e = absurd (no_fault e)
@@ -254,24 +284,32 @@ module _ (is_target : Symbol → Bool) where
     named_type P line x (Some (OfSymbol d)) t h go e = absurd (no_fault e)
     named_type P line x (Some (OfRoutine r)) t h go e = absurd (no_fault e)
 
-    pointer_reads : (types : List Written) (line : ℕ) (x : Name) (m : Option Meaning) (r : Reading) → GoodText is_target types → pointer_named is_target types line x m ≡ Ok r → ReadsType types r
+    pointer_reads : (types : List Written) (line : ℕ) (x : Name) (m : Option Meaning) (r : Reading) → GoodText is_target types
+        → pointer_named is_target types line x m ≡ Ok r → ReadsType types r
     pointer_reads types line x None r g e = by_target (is_target x.symbol) refl e
       where
-        by_target : (b : Bool) → is_target x.symbol ≡ b → cond b (fine (adding types (PointerTo x.symbol))) (Err (undeclared x)) ≡ Ok r → ReadsType types r
+        by_target : (b : Bool) → is_target x.symbol ≡ b → cond b (fine (adding types (PointerTo x.symbol))) (Err (undeclared x)) ≡ Ok r
+            → ReadsType types r
         by_target true k f = subst (ReadsType types) (same_value f) (added types (PointerTo x.symbol) g (text_target x.symbol k))
         by_target false k f = absurd (no_fault f)
     pointer_reads types line x (Some m) r g e = by_target (is_target x.symbol) refl e
       where
-        by_target : (b : Bool) → is_target x.symbol ≡ b → cond b (fine (adding types (PointerTo x.symbol))) (Err (wrong line)) ≡ Ok r → ReadsType types r
+        by_target : (b : Bool) → is_target x.symbol ≡ b → cond b (fine (adding types (PointerTo x.symbol))) (Err (wrong line)) ≡ Ok r
+            → ReadsType types r
         by_target true k f = subst (ReadsType types) (same_value f) (added types (PointerTo x.symbol) g (text_target x.symbol k))
         by_target false k f = absurd (no_fault f)
 
     mutual
-      pub denoted_reads : (d : TypeDenoter) (types : List Written) (r : Reading) → GoodText is_target types → TypesBelow types → denoted s is_target types d ≡ Ok r → ReadsType types r
+      pub denoted_reads : (d : TypeDenoter) (types : List Written) (r : Reading) → GoodText is_target types → TypesBelow types
+          → denoted s is_target types d ≡ Ok r → ReadsType types r
       denoted_reads (named line x) types r g h e =
           let one = went (type_named line x (meaning s x.symbol)) (λ t. fine (typed_reading types t)) r e in
           subst (ReadsType types) (same_value one.rest)
-          (record { reads = reads_none types g; there = named_type (λ t. t.0 < length types) line x (meaning s x.symbol) one.value refl (λ u k. h.each x.symbol u k) one.first })
+          (record {
+            reads = reads_none types g;
+            there =
+                named_type (λ t. t.0 < length types) line x (meaning s x.symbol) one.value refl (λ u k. h.each x.symbol u k) one.first;
+          })
       denoted_reads (range line low high) types r g h e =
           let last = λ (a b : ℤ). where_so (not (int_lt b a)) (wrong line) (fine (adding types (Built (form.Range a b)))) in
           let one = went (constant s low) (λ a. after (constant s high) (last a)) r e in
@@ -279,18 +317,21 @@ module _ (is_target : Symbol → Bool) where
           let next = fine (adding types (Built (form.Range one.value two.value))) in
           let test = not (int_lt two.value one.value) in
           subst (ReadsType types) (same_value (behind_test test (wrong line) next r two.rest))
-          (added types (Built (form.Range one.value two.value)) g (text_built (form.Range one.value two.value) (range_fits one.value two.value (held test (wrong line) next r two.rest))))
+          (added types (Built (form.Range one.value two.value)) g
+          (text_built (form.Range one.value two.value) (range_fits one.value two.value (held test (wrong line) next r two.rest))))
       denoted_reads (pointer line x) types r g h e = pointer_reads types line x (meaning s x.symbol) r g e
       denoted_reads (array line first more elements) types r g h e =
           let start = λ (one : Reading). indices_from one (type_line first) in
           let last = λ (i : Indices). after (denoted s is_target i.written elements) (λ q. nested_if_ranges q.written i.indices q.type) in
           let one = went (denoted s is_target types first) (λ q. after (all_denoted s is_target (start q) more) last) r e in
           let two = went (all_denoted s is_target (start one.value) more) last r one.rest in
-          let three = went (denoted s is_target two.value.written elements) (λ q. nested_if_ranges q.written two.value.indices q.type) r two.rest in
+          let three = went (denoted s is_target two.value.written elements) (λ q. nested_if_ranges q.written two.value.indices q.type) r
+          two.rest in
           let a = denoted_reads first types one.value g h one.first in
           let b = all_reads more (start one.value) two.value a.reads.good (below_more types one.value.written a.reads.begins h) two.first in
           let ab = reads_then types one.value.written two.value.written a.reads b in
-          let c = denoted_reads elements two.value.written three.value b.good (below_more types two.value.written ab.begins h) three.first in
+          let c = denoted_reads elements two.value.written three.value b.good (below_more types two.value.written ab.begins h)
+          three.first in
           let d = nested_ok three.value.written two.value.indices three.value.type r c.reads.good c.there three.rest in
           type_after types three.value.written r (reads_then types two.value.written three.value.written ab c.reads) d
       denoted_reads (fields line first more) types r g h e =
@@ -298,15 +339,18 @@ module _ (is_target : Symbol → Bool) where
           let last = λ (all : Fields). fine (adding all.written (Built (form.Record all.fields))) in
           let one = went (field_denoted s is_target start first) (λ q. after (fields_denoted s is_target q more) last) r e in
           let two = went (fields_denoted s is_target one.value more) last r one.rest in
-          let none : GoodFields types start = record { reads = reads_none types g; below = record { each = λ k f q. absurd (nothing_there q) }; differ = refl } in
+          let none : GoodFields types start =
+          record { reads = reads_none types g; below = record { each = λ k f q. absurd (nothing_there q) }; differ = refl } in
           let a = field_reads first types start one.value none h one.first in
           let b = fields_reads more types one.value two.value a h two.first in
           let w = Built (form.Record two.value.fields) in
           subst (ReadsType types) (same_value two.rest)
           (type_after types two.value.written (adding two.value.written w) b.reads
-          (added two.value.written w b.reads.good (text_built (form.Record two.value.fields) (record_fits two.value.fields b.below b.differ))))
+          (added two.value.written w b.reads.good
+          (text_built (form.Record two.value.fields) (record_fits two.value.fields b.below b.differ))))
 
-      all_reads : (more : MoreTypes) (i j : Indices) → GoodText is_target i.written → TypesBelow i.written → all_denoted s is_target i more ≡ Ok j → Reads i.written j.written
+      all_reads : (more : MoreTypes) (i j : Indices) → GoodText is_target i.written → TypesBelow i.written
+          → all_denoted s is_target i more ≡ Ok j → Reads i.written j.written
       all_reads no_more_types i j g h e = subst (λ (k : Indices). Reads i.written k.written) (same_value e) (reads_none i.written g)
       all_reads (more_types t more) i j g h e =
           let next = λ (r : Reading). more_indices i r (type_line t) in
@@ -315,17 +359,22 @@ module _ (is_target : Symbol → Bool) where
           let b = all_reads more (next one.value) j a.reads.good (below_more i.written one.value.written a.reads.begins h) one.rest in
           reads_then i.written one.value.written j.written a.reads b
 
-      field_reads : (f : Field) (before : List Written) (fs gs : Fields) → GoodFields before fs → TypesBelow before → field_denoted s is_target fs f ≡ Ok gs → GoodFields before gs
+      field_reads : (f : Field) (before : List Written) (fs gs : Fields) → GoodFields before fs → TypesBelow before
+          → field_denoted s is_target fs f ≡ Ok gs → GoodFields before gs
       field_reads (no_field line) before fs gs g h e = subst (GoodFields before) (same_value e) g
       field_reads (field line names of) before fs gs g h e =
-          let one = went (each (new_field fs.fields) [] (all_names names)) (λ new. after (denoted s is_target fs.written of) (λ r. fine (with_fields fs new r.type r.written))) gs e in
+          let one = went (each (new_field fs.fields) [] (all_names names))
+          (λ new. after (denoted s is_target fs.written of) (λ r. fine (with_fields fs new r.type r.written))) gs e in
           let two = went (denoted s is_target fs.written of) (λ r. fine (with_fields fs one.value r.type r.written)) gs one.rest in
           let none : NewNames fs.fields [] = record { differ = refl; apart = record { apart = λ x k. absurd (false≢true k) } } in
-          let new = each_keeps (NewNames fs.fields) (new_field fs.fields) (λ a b x k q. field_named_once fs.fields a b x k q) (all_names names) [] one.value none one.first in
+          let new = each_keeps (NewNames fs.fields) (new_field fs.fields) (λ a b x k q. field_named_once fs.fields a b x k q)
+          (all_names names) [] one.value none one.first in
           subst (GoodFields before) (same_value two.rest)
-          (more_good before fs one.value two.value g new (denoted_reads of fs.written two.value g.reads.good (below_more before fs.written g.reads.begins h) two.first))
+          (more_good before fs one.value two.value g new
+          (denoted_reads of fs.written two.value g.reads.good (below_more before fs.written g.reads.begins h) two.first))
 
-      fields_reads : (more : MoreFields) (before : List Written) (fs gs : Fields) → GoodFields before fs → TypesBelow before → fields_denoted s is_target fs more ≡ Ok gs → GoodFields before gs
+      fields_reads : (more : MoreFields) (before : List Written) (fs gs : Fields) → GoodFields before fs → TypesBelow before
+          → fields_denoted s is_target fs more ≡ Ok gs → GoodFields before gs
       fields_reads no_more_fields before fs gs g h e = subst (GoodFields before) (same_value e) g
       fields_reads (more_fields f more) before fs gs g h e =
           let one = went (field_denoted s is_target fs f) (λ next. fields_denoted s is_target next more) gs e in
@@ -353,7 +402,8 @@ built_good is_target forms good = record {
     range_there (form.Array index element) h = absurd (false≢true h)
     range_there (form.Record fs) h = absurd (false≢true h)
 
-    built_ranges : (forms : List TypeForm) (k : ℕ) → program.is_range (form_at forms k) ≡ true → is_range (item_at (map Built forms) k) ≡ true
+    built_ranges : (forms : List TypeForm) (k : ℕ) → program.is_range (form_at forms k) ≡ true
+        → is_range (item_at (map Built forms) k) ≡ true
     built_ranges [] k h = absurd (false≢true h)
     built_ranges (f ∷ forms) zero h = range_there f h
     built_ranges (f ∷ forms) (suc k) h = built_ranges forms k h

@@ -38,13 +38,16 @@ module _ (types : List (Option ℕ)) where
       moved : (n m : ℕ) → suc n + m ≡ n + suc m
       moved n m = omega arith
 
-  alike_at : (known : List ℕ) (place : ℕ) (ts : List (Option ℕ)) (i : ℕ) (x : Option ℕ) → item_at ts i ≡ Some x → item_at (alike_from types known place ts) i ≡ Some (first_alike types known (place + i) x)
+  alike_at : (known : List ℕ) (place : ℕ) (ts : List (Option ℕ)) (i : ℕ) (x : Option ℕ) → item_at ts i ≡ Some x
+      → item_at (alike_from types known place ts) i ≡ Some (first_alike types known (place + i) x)
   alike_at known place [] i x e = absurd (nothing_there e)
-  alike_at known place (t ∷ ts) zero x e = ap (λ y. Some (first_alike types known place y)) (some_is e) ∙ ap (λ n. Some (first_alike types known n x)) (zero_more place)
+  alike_at known place (t ∷ ts) zero x e =
+      ap (λ y. Some (first_alike types known place y)) (some_is e) ∙ ap (λ n. Some (first_alike types known n x)) (zero_more place)
     where
       zero_more : (n : ℕ) → n ≡ n + 0
       zero_more n = omega arith
-  alike_at known place (t ∷ ts) (suc i) x e = alike_at known (suc place) ts i x e ∙ ap (λ n. Some (first_alike types known n x)) (moved place i)
+  alike_at known place (t ∷ ts) (suc i) x e =
+      alike_at known (suc place) ts i x e ∙ ap (λ n. Some (first_alike types known n x)) (moved place i)
     where
       moved : (n m : ℕ) → suc n + m ≡ n + suc m
       moved n m = omega arith
@@ -54,12 +57,15 @@ module _ (types : List (Option ℕ)) where
         → (i : ℕ) (x : Option ℕ) → item_at types i ≡ Some x → points_alike (firsts_after k types) t x ≡ leads_alike (first_at k) t x
     same_tests k t h known i None e = refl
     same_tests k t h known i (Some u) e =
-        ap (λ o. same_number o (item_at (firsts_after k types) u)) (known t h) ∙ ap (same_number (Some (first_at k t))) (known u (there i u e))
+        ap (λ o. same_number o (item_at (firsts_after k types) u)) (known t h)
+        ∙ ap (same_number (Some (first_at k t))) (known u (there i u e))
 
-    alike_is : (k i : ℕ) (x : Option ℕ) → item_at types i ≡ Some x → ((i : ℕ) → i < length types → item_at (firsts_after k types) i ≡ Some (first_at k i))
+    alike_is : (k i : ℕ) (x : Option ℕ) → item_at types i ≡ Some x
+        → ((i : ℕ) → i < length types → item_at (firsts_after k types) i ≡ Some (first_at k i))
         → first_alike types (firsts_after k types) i x ≡ first_for (first_at k) i (Some x)
     alike_is k i None e known = refl
-    alike_is k i (Some t) e known = first_where-same (points_alike (firsts_after k types) t) (leads_alike (first_at k) t) types (same_tests k t (there i t e) known)
+    alike_is k i (Some t) e known =
+        first_where-same (points_alike (firsts_after k types) t) (leads_alike (first_at k) t) types (same_tests k t (there i t e) known)
 
     pub first_told : (k i : ℕ) → i < length types → item_at (firsts_after k types) i ≡ Some (first_at k i)
     first_told zero i h = numbers_at 0 types i h ∙ ap Some (none_more i)
@@ -92,9 +98,15 @@ module _ (types : List (Option ℕ)) where
   pub pointer_first : (k i t : ℕ) → item_at types i ≡ Some (Some t) → IsPointerAs k i t
   pointer_first k i t e = let r = leads_itself k i t e in by_item r.item r.is r.passes
     where
-      by_item : (x : Option ℕ) → item_at types (first_where (leads_alike (first_at k) t) types) ≡ Some x → leads_alike (first_at k) t x ≡ true → IsPointerAs k i t
+      by_item : (x : Option ℕ) → item_at types (first_where (leads_alike (first_at k) t) types) ≡ Some x
+          → leads_alike (first_at k) t x ≡ true → IsPointerAs k i t
       by_item None h p = absurd (false≢true p)
-      by_item (Some u) h p = record { target = u; is = ap (item_at types) (first_is k i t e) ∙ h; alike = eqb-true (first_at k t) (first_at k u) p }
+      by_item (Some u) h p = record {
+        target = u;
+        is = ap (item_at types) (first_is k i t e) ∙ h;
+        alike =
+            eqb-true (first_at k t) (first_at k u) p;
+      }
 
   -- what is no pointer is the first of its kind
   pub plain_first : (k i : ℕ) (o : Option (Option ℕ)) → item_at types i ≡ o → ((t : ℕ) → o ≡ Some (Some t) → ⊥) → first_at k i ≡ i
@@ -104,7 +116,8 @@ module _ (types : List (Option ℕ)) where
   plain_first (suc k) i (Some (Some t)) e h = absurd (h t refl)
 
   -- a type is a pointer or not
-  by_kind : (i : ℕ) (o : Option (Option ℕ)) (P : Type 0) → item_at types i ≡ o → ((t : ℕ) → item_at types i ≡ Some (Some t) → P) → (((t : ℕ) → item_at types i ≡ Some (Some t) → ⊥) → P) → P
+  by_kind : (i : ℕ) (o : Option (Option ℕ)) (P : Type 0) → item_at types i ≡ o → ((t : ℕ) → item_at types i ≡ Some (Some t) → P)
+      → (((t : ℕ) → item_at types i ≡ Some (Some t) → ⊥) → P) → P
   by_kind i None P e pointer plain = plain (λ t h. nothing_there (sym e ∙ h))
   by_kind i (Some None) P e pointer plain = plain (λ t h. nothing_there (some_is (sym e ∙ h)))
   by_kind i (Some (Some t)) P e pointer plain = pointer t e
@@ -123,7 +136,8 @@ module _ (types : List (Option ℕ)) where
       same n = omega arith
 
   -- two targets that were alike lead to one first
-  pub alike_first : (k i j t u : ℕ) → item_at types i ≡ Some (Some t) → item_at types j ≡ Some (Some u) → first_at k t ≡ first_at k u → first_at (suc k) i ≡ first_at (suc k) j
+  pub alike_first : (k i j t u : ℕ) → item_at types i ≡ Some (Some t) → item_at types j ≡ Some (Some u) → first_at k t ≡ first_at k u
+      → first_at (suc k) i ≡ first_at (suc k) j
   alike_first k i j t u e f h =
       first_is k i t e
       ∙ (first_where-same (leads_alike (first_at k) t) (leads_alike (first_at k) u) types (λ n x is. same_leads x) ∙ sym (first_is k j u f))
@@ -140,7 +154,8 @@ module _ (types : List (Option ℕ)) where
       (λ plain. ap (first_at (suc k)) (plain_first (suc k) i (item_at types i) refl plain))
 
   -- two types of one kind stay so: both are one type, or pointers whose targets were alike
-  pub same_kind : (k i j : ℕ) (P : Type 0) → first_at (suc k) i ≡ first_at (suc k) j → (i ≡ j → P) → ((t u : ℕ) → item_at types i ≡ Some (Some t) → item_at types j ≡ Some (Some u) → first_at k t ≡ first_at k u → P) → P
+  pub same_kind : (k i j : ℕ) (P : Type 0) → first_at (suc k) i ≡ first_at (suc k) j → (i ≡ j → P)
+      → ((t u : ℕ) → item_at types i ≡ Some (Some t) → item_at types j ≡ Some (Some u) → first_at k t ≡ first_at k u → P) → P
   same_kind k i j P h one two =
       by_kind i (item_at types i) P refl
       (λ t e. by_kind j (item_at types j) P refl
@@ -149,9 +164,11 @@ module _ (types : List (Option ℕ)) where
       let s = pointer_first k j u f in
       let same : r.target ≡ s.target = some_is (some_is (sym r.is ∙ (ap (item_at types) h ∙ s.is))) in
       two t u e f (r.alike ∙ (ap (first_at k) same ∙ sym s.alike)))
-      (λ plain. let r = pointer_first k i t e in absurd (plain r.target (ap (item_at types) (sym (h ∙ plain_first (suc k) j (item_at types j) refl plain)) ∙ r.is))))
+      (λ plain. let r = pointer_first k i t e in
+      absurd (plain r.target (ap (item_at types) (sym (h ∙ plain_first (suc k) j (item_at types j) refl plain)) ∙ r.is))))
       (λ plain. by_kind j (item_at types j) P refl
-      (λ u f. let s = pointer_first k j u f in absurd (plain s.target (ap (item_at types) (sym (sym h ∙ plain_first (suc k) i (item_at types i) refl plain)) ∙ s.is)))
+      (λ u f. let s = pointer_first k j u f in
+      absurd (plain s.target (ap (item_at types) (sym (sym h ∙ plain_first (suc k) i (item_at types i) refl plain)) ∙ s.is)))
       (λ other. one (sym (plain_first (suc k) i (item_at types i) refl plain) ∙ (h ∙ plain_first (suc k) j (item_at types j) refl other))))
 
   pub coarser : (k i j : ℕ) → first_at k i ≡ first_at k j → first_at (suc k) i ≡ first_at (suc k) j
@@ -166,10 +183,15 @@ module _ (types : List (Option ℕ)) where
     pub stable : (i : ℕ) → first_at (suc k) i ≡ first_at k i
 
   stays : (k : ℕ) → IsStable k → IsStable (suc k)
-  stays k s = record { stable = λ i. by_kind i (item_at types i) (first_at (suc (suc k)) i ≡ first_at (suc k) i) refl (pointer i) (plain i) }
+  stays k s = record {
+    stable = λ i.
+        by_kind i (item_at types i) (first_at (suc (suc k)) i ≡ first_at (suc k) i) refl (pointer i) (plain i);
+  }
     where
       pointer : (i t : ℕ) → item_at types i ≡ Some (Some t) → first_at (suc (suc k)) i ≡ first_at (suc k) i
-      pointer i t e = first_is (suc k) i t e ∙ (first_where-same (leads_alike (first_at (suc k)) t) (leads_alike (first_at k) t) types (λ n x is. same_leads t x) ∙ sym (first_is k i t e))
+      pointer i t e = first_is (suc k) i t e
+          ∙ (first_where-same (leads_alike (first_at (suc k)) t) (leads_alike (first_at k) t) types (λ n x is. same_leads t x)
+          ∙ sym (first_is k i t e))
         where
           same_leads : (t : ℕ) (x : Option ℕ) → leads_alike (first_at (suc k)) t x ≡ leads_alike (first_at k) t x
           same_leads t None = refl
@@ -219,7 +241,8 @@ module _ (types : List (Option ℕ)) where
       one_ahead : (a b : ℕ) → a ≤ b → a ≤ suc b
       one_ahead a b h = omega arith
 
-      by_last : (x y : Bool) → leads_kind k b ≡ x → leads_kind (suc k) b ≡ y → kinds (suc k) b ≤ kinds k b → kinds (suc k) (suc b) ≤ kinds k (suc b)
+      by_last : (x y : Bool) → leads_kind k b ≡ x → leads_kind (suc k) b ≡ y → kinds (suc k) b ≤ kinds k b
+          → kinds (suc k) (suc b) ≤ kinds k (suc b)
       by_last true true e f h = less _ _ _ _ (kinds_next (suc k) b true f) (kinds_next k b true e) (one_more _ _ h)
       by_last true false e f h = less _ _ _ _ (kinds_next (suc k) b false f) (kinds_next k b true e) (one_ahead _ _ h)
       by_last false true e f h = absurd (not_both k b e f)
@@ -257,7 +280,8 @@ module _ (types : List (Option ℕ)) where
           by_place i e (inl h) = g.lead i h e
           by_place i e (inr h) = absurd (false≢true (sym f ∙ subst (λ n. leads_kind k n ≡ true) h e))
 
-      by_last : (x y : Bool) → leads_kind k b ≡ x → leads_kind (suc k) b ≡ y → StillLead k b ⊎ (kinds (suc k) b < kinds k b) → StillLead k (suc b) ⊎ (kinds (suc k) (suc b) < kinds k (suc b))
+      by_last : (x y : Bool) → leads_kind k b ≡ x → leads_kind (suc k) b ≡ y → StillLead k b ⊎ (kinds (suc k) b < kinds k b)
+          → StillLead k (suc b) ⊎ (kinds (suc k) (suc b) < kinds k (suc b))
       by_last true true e f (inl g) = inl (on_last true f g)
       by_last true true e f (inr h) = inr (less _ _ _ _ (kinds_next (suc k) b true f) (kinds_next k b true e) (one_more _ _ h))
       by_last true false e f r = inr (less _ _ _ _ (kinds_next (suc k) b false f) (kinds_next k b true e) (one_ahead _ _ (fewer k b)))
@@ -278,7 +302,8 @@ module _ (types : List (Option ℕ)) where
       by_place : (i : ℕ) → (i < length types) ⊎ (length types ≤ i) → first_at (suc k) i ≡ first_at k i
       by_place i (inl h) =
           let f = first_at k i in
-          let leads = eqb-true (first_at (suc k) f) f (g.lead f (lower f i (length types) (first_early k i) h) (eq-eqb (first_at k f) f (first_twice k i))) in
+          let leads = eqb-true (first_at (suc k) f) f
+          (g.lead f (lower f i (length types) (first_early k i) h) (eq-eqb (first_at k f) f (first_twice k i))) in
           coarser k i f (sym (first_twice k i)) ∙ leads
       by_place i (inr h) = past (suc k) i h ∙ sym (past k i h)
 
@@ -316,7 +341,9 @@ module _ (types : List (Option ℕ)) where
       one_less : (a b k n : ℕ) → a < b → b + k ≤ n → a + suc k ≤ n
       one_less a b k n h g = omega arith
 
-      by_before : IsStable k ⊎ (kinds k (length types) + k ≤ length types) → StillLead k (length types) ⊎ (kinds (suc k) (length types) < kinds k (length types)) → IsStable (suc k) ⊎ (kinds (suc k) (length types) + suc k ≤ length types)
+      by_before : IsStable k ⊎ (kinds k (length types) + k ≤ length types) → StillLead k (length types)
+          ⊎ (kinds (suc k) (length types) < kinds k (length types)) → IsStable (suc k)
+          ⊎ (kinds (suc k) (length types) + suc k ≤ length types)
       by_before (inl s) r = inl (stays k s)
       by_before (inr h) (inl g) = inl (stays k (stable_now k g))
       by_before (inr h) (inr less) = inr (one_less _ _ k _ less h)
@@ -332,7 +359,8 @@ module _ (types : List (Option ℕ)) where
 
       by_progress : (n : ℕ) → length types ≡ n → IsStable n ⊎ (kinds n n + n ≤ n) → IsStable n
       by_progress n e (inl s) = s
-      by_progress zero e (inr h) = record { stable = λ i. past 1 i (none_less (length types) i e) ∙ sym (past 0 i (none_less (length types) i e)) }
+      by_progress zero e (inr h) = record
+          { stable = λ i. past 1 i (none_less (length types) i e) ∙ sym (past 0 i (none_less (length types) i e)) }
       by_progress (suc m) e (inr h) = absurd (too_many (kinds (suc m) (suc m)) m (one_leads (suc m) m) h)
 
   -- ---- the kinds of types, when all rounds are done
@@ -346,7 +374,8 @@ module _ (types : List (Option ℕ)) where
     pub alike : first t ≡ first target
 
   -- pointers whose targets are of one kind are of one kind
-  pub targets_decide : (i j t u : ℕ) → item_at types i ≡ Some (Some t) → item_at types j ≡ Some (Some u) → first t ≡ first u → first i ≡ first j
+  pub targets_decide : (i j t u : ℕ) → item_at types i ≡ Some (Some t) → item_at types j ≡ Some (Some u) → first t ≡ first u
+      → first i ≡ first j
   targets_decide i j t u e f h =
       sym (enough.stable i) ∙ (alike_first (length types) i j t u e f h ∙ enough.stable j)
 

@@ -120,19 +120,24 @@ module _ (q p : Program) (g : GrowsTypes q p) where
   first_there [] h = refl
   first_there (s ∷ given) h = left_true _ _ h
 
-  change_more : (given : List Sort) → list_all (sort_in_range (shapes q)) given ≡ true → class_change (shapes p) (first_sort given) given ≡ class_change (shapes q) (first_sort given) given
+  change_more : (given : List Sort) → list_all (sort_in_range (shapes q)) given ≡ true
+      → class_change (shapes p) (first_sort given) given ≡ class_change (shapes q) (first_sort given) given
   change_more given h =
-      let c = first_sort given in ap (λ o. with_sort o (λ s. takes (c ∷ pointer_sort c ∷ s ∷ []) given c)) (content_more c (first_there given h))
+      let c = first_sort given in ap (λ o. with_sort o (λ s. takes (c ∷ pointer_sort c ∷ s ∷ []) given c))
+      (content_more c (first_there given h))
 
-  result_more : (b : BuiltIn) (given : List Sort) → list_all (sort_in_range (shapes q)) given ≡ true → result_sort (shapes p) p.symbols (head_of_known b) given ≡ result_sort (shapes q) q.symbols (head_of_known b) given
+  result_more : (b : BuiltIn) (given : List Sort) → list_all (sort_in_range (shapes q)) given ≡ true
+      → result_sort (shapes p) p.symbols (head_of_known b) given ≡ result_sort (shapes q) q.symbols (head_of_known b) given
   result_more known.Select given h =
       let a = first_sort given in ap (λ o. with_sort o (λ e. takes (a ∷ sort.Int ∷ []) given e)) (element_more a (first_there given h))
   result_more known.Store given h =
       let a = first_sort given in ap (λ o. with_sort o (λ e. takes (a ∷ sort.Int ∷ e ∷ []) given a)) (element_more a (first_there given h))
   result_more (known.Put f) given h =
-      let r = first_sort given in ap (λ o. with_sort (field_sort_of o f.0) (λ s. takes (r ∷ s ∷ []) given r)) (fields_of_more r (first_there given h))
+      let r = first_sort given in ap (λ o. with_sort (field_sort_of o f.0) (λ s. takes (r ∷ s ∷ []) given r))
+      (fields_of_more r (first_there given h))
   result_more known.Cell given h =
-      let c = first_sort given in ap (λ o. with_sort o (λ s. takes (c ∷ pointer_sort c ∷ []) given s)) (content_more c (first_there given h))
+      let c = first_sort given in ap (λ o. with_sort o (λ s. takes (c ∷ pointer_sort c ∷ []) given s))
+      (content_more c (first_there given h))
   result_more known.SetCell given h = change_more given h
   result_more known.Extend given h = change_more given h
   result_more known.PointerTo given h = refl
@@ -144,7 +149,8 @@ module _ (q p : Program) (g : GrowsTypes q p) where
   abbrev Range : Sort → Type 0
   Range s = sort_in_range (shapes q) s ≡ true
 
-  change_there : (given : List Sort) (s : Sort) → list_all (sort_in_range (shapes q)) given ≡ true → class_change (shapes q) (first_sort given) given ≡ Some s → Range s
+  change_there : (given : List Sort) (s : Sort) → list_all (sort_in_range (shapes q)) given ≡ true
+      → class_change (shapes q) (first_sort given) given ≡ Some s → Range s
   change_there given s h e =
       let c = first_sort given in
       let d = decided (content_sort (shapes q) c) (λ r. takes (c ∷ pointer_sort c ∷ r ∷ []) given c) s e in
@@ -158,7 +164,8 @@ module _ (q p : Program) (g : GrowsTypes q p) where
   member_there (sort.Whole t) given s e = absurd (nothing_there e)
   member_there (sort.Class t) given s e = absurd (nothing_there e)
 
-  result_there : (b : BuiltIn) (given : List Sort) (s : Sort) → list_all (sort_in_range (shapes q)) given ≡ true → result_sort (shapes q) q.symbols (head_of_known b) given ≡ Some s → Range s
+  result_there : (b : BuiltIn) (given : List Sort) (s : Sort) → list_all (sort_in_range (shapes q)) given ≡ true
+      → result_sort (shapes q) q.symbols (head_of_known b) given ≡ Some s → Range s
   result_there known.Select given s h e =
       let a = first_sort given in
       let d = decided (element_sort (shapes q) a) (λ r. takes (a ∷ sort.Int ∷ []) given r) s e in
@@ -174,7 +181,8 @@ module _ (q p : Program) (g : GrowsTypes q p) where
   result_there known.Cell given s h e =
       let c = first_sort given in
       let d = decided (content_sort (shapes q) c) (λ r. takes (c ∷ pointer_sort c ∷ []) given r) s e in
-      subst Range (taken (c ∷ pointer_sort c ∷ []) given d.item s d.gives) (content_in_range (shapes q) shapes_pass c d.item (first_there given h) d.is)
+      subst Range (taken (c ∷ pointer_sort c ∷ []) given d.item s d.gives)
+      (content_in_range (shapes q) shapes_pass c d.item (first_there given h) d.is)
   result_there known.SetCell given s h e = change_there given s h e
   result_there known.Extend given s h e = change_there given s h e
   result_there known.PointerTo given s h e = member_there (first_sort given) given s e
@@ -221,12 +229,14 @@ module _ (q p : Program) (g : GrowsTypes q p) where
     compared_range comparison.Greater a b s e = number_range a b s e
     compared_range comparison.AtLeast a b s e = number_range a b s e
 
-    sorts_told : (o : Option Sort) (os : Option (List Sort)) (sorts : List Sort) (P : Type 0) → ((s : Sort) (rest : List Sort) → o ≡ Some s → os ≡ Some rest → s ∷ rest ≡ sorts → P) → sorts_from o os ≡ Some sorts → P
+    sorts_told : (o : Option Sort) (os : Option (List Sort)) (sorts : List Sort) (P : Type 0)
+        → ((s : Sort) (rest : List Sort) → o ≡ Some s → os ≡ Some rest → s ∷ rest ≡ sorts → P) → sorts_from o os ≡ Some sorts → P
     sorts_told None os sorts P go e = absurd (nothing_there e)
     sorts_told (Some s) None sorts P go e = absurd (nothing_there e)
     sorts_told (Some s) (Some rest) sorts P go e = go s rest refl refl (some_is e)
 
-    applied_there : (o : Option Decl) (given : List Sort) (s : Sort) → ((d : Decl) → o ≡ Some d → sort_in_range (shapes q) d.result ≡ true) → takes_declared o given ≡ Some s → Range s
+    applied_there : (o : Option Decl) (given : List Sort) (s : Sort)
+        → ((d : Decl) → o ≡ Some d → sort_in_range (shapes q) d.result ≡ true) → takes_declared o given ≡ Some s → Range s
     applied_there None given s h e = absurd (nothing_there e)
     applied_there (Some d) given s h e = subst Range (taken d.args given d.result s e) (h d refl)
 
@@ -237,12 +247,20 @@ module _ (q p : Program) (g : GrowsTypes q p) where
       kept_formula (NilOf t) s e =
           let there = test_passes (type_exists q.forms t) (sort.Ptr t) s e in
           let same = sort_told (type_exists q.forms t) (sort.Ptr t) s e in
-          record { is = ap (λ b. sort_if b (sort.Ptr t)) (exists_more q p g t there) ∙ ap Some same; there = subst Range same (exists_in_range t there) }
+          record {
+            is = ap (λ b. sort_if b (sort.Ptr t)) (exists_more q p g t there) ∙ ap Some same;
+            there =
+                subst Range same (exists_in_range t there);
+          }
       kept_formula (Named line x) s e = record { is = e; there = names_there x s e }
       kept_formula (ClassOf line t) s e =
           let there = test_passes (type_exists q.forms t) (sort.Class t) s e in
           let same = sort_told (type_exists q.forms t) (sort.Class t) s e in
-          record { is = ap (λ b. sort_if b (sort.Class t)) (exists_more q p g t there) ∙ ap Some same; there = subst Range same (exists_in_range t there) }
+          record {
+            is = ap (λ b. sort_if b (sort.Class t)) (exists_more q p g t there) ∙ ap Some same;
+            there =
+                subst Range same (exists_in_range t there);
+          }
       kept_formula (Element a i) s e =
           let go = λ (r t : Sort). cond (sort_eq t sort.Int) (element_sort (shapes q) r) None in
           let two = two_there (old a) (old i) go s e in
@@ -252,7 +270,8 @@ module _ (q p : Program) (g : GrowsTypes q p) where
           record {
             is = ap (λ o. two_sorts o (new i) (λ r t. cond (sort_eq t sort.Int) (element_sort (shapes p) r) None)) one.is
                 ∙ (ap (λ o. two_sorts (Some two.left) o (λ r t. cond (sort_eq t sort.Int) (element_sort (shapes p) r) None)) index.is
-                ∙ (ap (λ b. cond b (element_sort (shapes p) two.left) None) (passed (sort_eq two.right sort.Int) (element_sort (shapes q) two.left) s two.gives)
+                ∙ (ap (λ b. cond b (element_sort (shapes p) two.left) None)
+                (passed (sort_eq two.right sort.Int) (element_sort (shapes q) two.left) s two.gives)
                 ∙ (element_more two.left one.there ∙ is)));
             there = element_in_range (shapes q) shapes_pass two.left s is;
           }
@@ -287,7 +306,8 @@ module _ (q p : Program) (g : GrowsTypes q p) where
           let two = behind (result_sort (shapes q) q.symbols (head_of_known b)) (formula_sorts q names fs) s e in
           let all = kept_formulas fs two.item two.is in
           record {
-            is = ap (option_and_then (result_sort (shapes p) p.symbols (head_of_known b))) all.is ∙ (result_more b two.item all.there ∙ two.gives);
+            is = ap (option_and_then (result_sort (shapes p) p.symbols (head_of_known b))) all.is
+                ∙ (result_more b two.item all.there ∙ two.gives);
             there = result_there b two.item s all.there two.gives;
           }
       kept_formula (Negative x) s e = record {
@@ -295,14 +315,16 @@ module _ (q p : Program) (g : GrowsTypes q p) where
         there = subst Range (sort_told (is_sort sort.Int (old x)) sort.Int s e) refl;
       }
       kept_formula (Calculated o x y) s e = record {
-        is = numbers_below (old x) (old y) (new x) (new y) sort.Int s (below_kept x (old x) (λ t h. kept_formula x t h)) (below_kept y (old y) (λ t h. kept_formula y t h)) e;
+        is = numbers_below (old x) (old y) (new x) (new y) sort.Int s (below_kept x (old x) (λ t h. kept_formula x t h))
+            (below_kept y (old y) (λ t h. kept_formula y t h)) e;
         there = subst Range (sort_told (is_sort sort.Int (old x) && is_sort sort.Int (old y)) sort.Int s e) refl;
       }
       kept_formula (Compared o x y) s e =
           let rest = failed (is_nil x && is_nil y) (compared_sort any_sort o (old x) (old y)) s e in
           record {
             is = not_nil (is_nil x && is_nil y) (compared_sort any_sort o (old x) (old y)) (compared_sort any_sort o (new x) (new y)) s e
-                (compared_below any_sort o (old x) (old y) (new x) (new y) s (below_kept x (old x) (λ t h. kept_formula x t h)) (below_kept y (old y) (λ t h. kept_formula y t h)) rest);
+                (compared_below any_sort o (old x) (old y) (new x) (new y) s (below_kept x (old x) (λ t h. kept_formula x t h))
+                (below_kept y (old y) (λ t h. kept_formula y t h)) rest);
             there = compared_range o (old x) (old y) s rest;
           }
       kept_formula (Negated x) s e = record {
@@ -310,16 +332,19 @@ module _ (q p : Program) (g : GrowsTypes q p) where
         there = subst Range (sort_told (is_sort sort.Bool (old x)) sort.Bool s e) refl;
       }
       kept_formula (Joined o x y) s e = record {
-        is = truths_below (old x) (old y) (new x) (new y) s (below_kept x (old x) (λ t h. kept_formula x t h)) (below_kept y (old y) (λ t h. kept_formula y t h)) e;
+        is = truths_below (old x) (old y) (new x) (new y) s (below_kept x (old x) (λ t h. kept_formula x t h))
+            (below_kept y (old y) (λ t h. kept_formula y t h)) e;
         there = subst Range (sort_told (is_sort sort.Bool (old x) && is_sort sort.Bool (old y)) sort.Bool s e) refl;
       }
       kept_formula (Implied x y) s e = record {
-        is = truths_below (old x) (old y) (new x) (new y) s (below_kept x (old x) (λ t h. kept_formula x t h)) (below_kept y (old y) (λ t h. kept_formula y t h)) e;
+        is = truths_below (old x) (old y) (new x) (new y) s (below_kept x (old x) (λ t h. kept_formula x t h))
+            (below_kept y (old y) (λ t h. kept_formula y t h)) e;
         there = subst Range (sort_told (is_sort sort.Bool (old x) && is_sort sort.Bool (old y)) sort.Bool s e) refl;
       }
 
       kept_formulas : (fs : Formulas) (sorts : List Sort) → formula_sorts q names fs ≡ Some sorts → KeptFormulas fs sorts
-      kept_formulas no_formulas sorts e = record { is = e; there = subst (λ ss. list_all (sort_in_range (shapes q)) ss ≡ true) (some_is e) refl }
+      kept_formulas no_formulas sorts e =
+          record { is = e; there = subst (λ ss. list_all (sort_in_range (shapes q)) ss ≡ true) (some_is e) refl }
       kept_formulas (formulas f fs) sorts e =
           sorts_told (old f) (formula_sorts q names fs) sorts (KeptFormulas (formulas f fs) sorts)
           (λ s rest h k same.

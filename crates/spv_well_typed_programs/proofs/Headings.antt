@@ -33,21 +33,27 @@ formal_types formals = map (λ f. pair f.name f.of) formals
 
 -- the sort of what an INITIAL name stands for
 pub data IsStart (q : Program) (formals : List (Symbol × TypeId)) : Item → Sort → Type 0 where
-  start_formal : (x : Symbol) (t : TypeId) → found formals x ≡ Some t → type_exists q.forms t ≡ true → IsStart q formals (Variable x) (sort_of q.forms t)
-  start_variable : (x : Symbol) (t : TypeId) → found formals x ≡ None → found q.variables x ≡ Some t → type_exists q.forms t ≡ true → IsStart q formals (Variable x) (sort_of q.forms t)
+  start_formal : (x : Symbol) (t : TypeId) → found formals x ≡ Some t → type_exists q.forms t ≡ true
+      → IsStart q formals (Variable x) (sort_of q.forms t)
+  start_variable : (x : Symbol) (t : TypeId) → found formals x ≡ None → found q.variables x ≡ Some t → type_exists q.forms t ≡ true
+      → IsStart q formals (Variable x) (sort_of q.forms t)
   start_class : (t : TypeId) → type_exists q.forms t ≡ true → IsStart q formals (Class t) (sort.Class t)
 
 pub data Starts (q : Program) (formals : List (Symbol × TypeId)) : List (Symbol × Item) → List (Symbol × Sort) → Type 0 where
   starts_none : Starts q formals [] []
-  starts_more : (y : Symbol) (i : Item) (s : Sort) (is : List (Symbol × Item)) (ss : List (Symbol × Sort)) → IsStart q formals i s → Starts q formals is ss → Starts q formals (pair y i ∷ is) (pair y s ∷ ss)
+  starts_more : (y : Symbol) (i : Item) (s : Sort) (is : List (Symbol × Item)) (ss : List (Symbol × Sort)) → IsStart q formals i s
+      → Starts q formals is ss → Starts q formals (pair y i ∷ is) (pair y s ∷ ss)
 
-pub starts_keys : (q : Program) (formals : List (Symbol × TypeId)) (is : List (Symbol × Item)) (ss : List (Symbol × Sort)) → Starts q formals is ss → keys ss ≡ keys is
+pub starts_keys : (q : Program) (formals : List (Symbol × TypeId)) (is : List (Symbol × Item)) (ss : List (Symbol × Sort))
+    → Starts q formals is ss → keys ss ≡ keys is
 starts_keys q formals is ss starts_none = refl
 starts_keys q formals is ss (starts_more y i s js us h g) = ap (λ l. y ∷ l) (starts_keys q formals js us g)
 
-pub starts_one : (q : Program) (formals : List (Symbol × TypeId)) (is : List (Symbol × Item)) (ss : List (Symbol × Sort)) (y : Symbol) (i : Item) (s : Sort) → Starts q formals is ss → IsStart q formals i s → Starts q formals (is ++ pair y i ∷ []) (ss ++ pair y s ∷ [])
+pub starts_one : (q : Program) (formals : List (Symbol × TypeId)) (is : List (Symbol × Item)) (ss : List (Symbol × Sort)) (y : Symbol)
+    (i : Item) (s : Sort) → Starts q formals is ss → IsStart q formals i s → Starts q formals (is ++ pair y i ∷ []) (ss ++ pair y s ∷ [])
 starts_one q formals is ss y i s starts_none h = starts_more y i s [] [] h starts_none
-starts_one q formals is ss y i s (starts_more z j t js us k g) h = starts_more z j t (js ++ pair y i ∷ []) (us ++ pair y s ∷ []) k (starts_one q formals js us y i s g h)
+starts_one q formals is ss y i s (starts_more z j t js us k g) h =
+    starts_more z j t (js ++ pair y i ∷ []) (us ++ pair y s ∷ []) k (starts_one q formals js us y i s g h)
 
 abbrev pub items_in : List GlobalItem → List Item
 items_in globals = map (λ g. g.item) globals
@@ -55,19 +61,23 @@ items_in globals = map (λ g. g.item) globals
 abbrev pub all_in_range : Program → List (Symbol × Sort) → Bool
 all_in_range q names = list_all (λ n. sort_in_range (shapes q) n.1) names
 
-pub sorts_in_range : (q : Program) (types : List (Symbol × TypeId)) → FormsRight q.forms → all_there q.forms types ≡ true → all_in_range q (with_sorts_of q types) ≡ true
+pub sorts_in_range : (q : Program) (types : List (Symbol × TypeId)) → FormsRight q.forms → all_there q.forms types ≡ true
+    → all_in_range q (with_sorts_of q types) ≡ true
 sorts_in_range q [] r h = refl
 sorts_in_range q (n ∷ types) r h =
     both_true (sort_there q n.1 r (left_true _ _ h)) (sorts_in_range q types r (right_true (type_exists q.forms n.1) _ h))
 
-start_in_range : (q : Program) (formals : List (Symbol × TypeId)) (i : Item) (s : Sort) → FormsRight q.forms → IsStart q formals i s → sort_in_range (shapes q) s ≡ true
+start_in_range : (q : Program) (formals : List (Symbol × TypeId)) (i : Item) (s : Sort) → FormsRight q.forms → IsStart q formals i s
+    → sort_in_range (shapes q) s ≡ true
 start_in_range q formals i s r (start_formal x t e h) = sort_there q t r h
 start_in_range q formals i s r (start_variable x t n e h) = sort_there q t r h
 start_in_range q formals i s r (start_class t h) = class_there q t h
 
-pub starts_in_range : (q : Program) (formals : List (Symbol × TypeId)) (is : List (Symbol × Item)) (ss : List (Symbol × Sort)) → FormsRight q.forms → Starts q formals is ss → all_in_range q ss ≡ true
+pub starts_in_range : (q : Program) (formals : List (Symbol × TypeId)) (is : List (Symbol × Item)) (ss : List (Symbol × Sort))
+    → FormsRight q.forms → Starts q formals is ss → all_in_range q ss ≡ true
 starts_in_range q formals is ss r starts_none = refl
-starts_in_range q formals is ss r (starts_more y i s js us h g) = both_true (start_in_range q formals i s r h) (starts_in_range q formals js us r g)
+starts_in_range q formals is ss r (starts_more y i s js us h g) =
+    both_true (start_in_range q formals i s r h) (starts_in_range q formals js us r g)
 
 -- the names that ENTRY and EXIT see
 abbrev pub entry_names : Program → List (Symbol × TypeId) → Scope
@@ -120,21 +130,27 @@ module _ (q p : Program) (r : RightProgram q) (l : Later q p) where
   variables_same = ap (with_sorts_of p) l.variables ∙ sorts_same q.variables r.variables
 
   start_later : (formals : List (Symbol × TypeId)) (i : Item) (s : Sort) → IsStart q formals i s → IsStart p formals i s
-  start_later formals i s (start_formal x t e h) = subst (IsStart p formals (Variable x)) (sort_more q p grows t h) (start_formal x t e (exists_more q p grows t h))
+  start_later formals i s (start_formal x t e h) =
+      subst (IsStart p formals (Variable x)) (sort_more q p grows t h) (start_formal x t e (exists_more q p grows t h))
   start_later formals i s (start_variable x t n e h) =
-      subst (IsStart p formals (Variable x)) (sort_more q p grows t h) (start_variable x t n (ap (λ v. found v x) l.variables ∙ e) (exists_more q p grows t h))
+      subst (IsStart p formals (Variable x)) (sort_more q p grows t h)
+      (start_variable x t n (ap (λ v. found v x) l.variables ∙ e) (exists_more q p grows t h))
   start_later formals i s (start_class t h) = start_class t (exists_more q p grows t h)
 
-  starts_later : (formals : List (Symbol × TypeId)) (is : List (Symbol × Item)) (ss : List (Symbol × Sort)) → Starts q formals is ss → Starts p formals is ss
+  starts_later : (formals : List (Symbol × TypeId)) (is : List (Symbol × Item)) (ss : List (Symbol × Sort)) → Starts q formals is ss
+      → Starts p formals is ss
   starts_later formals is ss starts_none = starts_none
-  starts_later formals is ss (starts_more y i s js us h g) = starts_more y i s js us (start_later formals i s h) (starts_later formals js us g)
+  starts_later formals is ss (starts_more y i s js us h g) =
+      starts_more y i s js us (start_later formals i s h) (starts_later formals js us g)
 
-  pub annotation_later : (names : Scope) (a : Option Annotation) → all_in_range q names ≡ true → annotation_ok q names a ≡ true → annotation_ok p names a ≡ true
+  pub annotation_later : (names : Scope) (a : Option Annotation) → all_in_range q names ≡ true → annotation_ok q names a ≡ true
+      → annotation_ok p names a ≡ true
   annotation_later names a h e =
       kept_annotation q p grows names (λ x s k. found_all (sort_in_range (shapes q)) names x s h k)
       (λ x d k. right_true (list_all (sort_in_range (shapes q)) d.args) _ (symbol_there q r x d k)) a e
 
-  items_later : (globals : List GlobalItem) → list_all (λ g. item_exists q g.item) globals ≡ true → list_all (λ g. item_exists p g.item) globals ≡ true
+  items_later : (globals : List GlobalItem) → list_all (λ g. item_exists q g.item) globals ≡ true
+      → list_all (λ g. item_exists p g.item) globals ≡ true
   items_later [] h = refl
   items_later (g ∷ globals) h = both_true (one g.item (left_true _ _ h)) (items_later globals (right_true (item_exists q g.item) _ h))
     where
@@ -142,7 +158,8 @@ module _ (q p : Program) (r : RightProgram q) (l : Later q p) where
       one (Variable x) e = ap (λ v. is_some (found v x)) l.variables ∙ e
       one (Class t) e = exists_more q p grows t e
 
-  pub result_in_range : (name : Symbol) (o : Option TypeId) → ((t : TypeId) → o ≡ Some t → type_exists q.forms t ≡ true) → all_there q.forms (result_name name o) ≡ true
+  pub result_in_range : (name : Symbol) (o : Option TypeId) → ((t : TypeId) → o ≡ Some t → type_exists q.forms t ≡ true)
+      → all_there q.forms (result_name name o) ≡ true
   result_in_range name None h = refl
   result_in_range name (Some t) h = both_true (h t refl) refl
 
@@ -156,12 +173,14 @@ module _ (q p : Program) (r : RightProgram q) (l : Later q p) where
       let starts_range = starts_in_range q formals h.initial ss r.forms g.are_starts in
       let test = λ (n : Symbol × Sort). sort_in_range (shapes q) n.1 in
       let with_variables = all_append test ss (with_sorts_of q q.variables) starts_range variables_range in
-      let with_result = all_append test (with_sorts_of q (result_name h.name h.result)) (ss ++ with_sorts_of q q.variables) result_range with_variables in
+      let with_result = all_append test (with_sorts_of q (result_name h.name h.result)) (ss ++ with_sorts_of q q.variables) result_range
+      with_variables in
       let entry_same : entry_names p formals ≡ entry_names q formals =
       ap (λ f. f ++ with_sorts_of p p.variables) (sorts_same formals g.formals) ∙ ap (λ v. with_sorts_of q formals ++ v) variables_same in
       let exit_same : exit_names p formals h.name h.result ss ≡ exit_names q formals h.name h.result ss =
       ap (λ f. f ++ (with_sorts_of p (result_name h.name h.result) ++ (ss ++ with_sorts_of p p.variables))) (sorts_same formals g.formals)
-      ∙ (ap (λ f. with_sorts_of q formals ++ (f ++ (ss ++ with_sorts_of p p.variables))) (sorts_same (result_name h.name h.result) result_there)
+      ∙ (ap (λ f. with_sorts_of q formals ++ (f ++ (ss ++ with_sorts_of p p.variables)))
+      (sorts_same (result_name h.name h.result) result_there)
       ∙ ap (λ v. with_sorts_of q formals ++ (with_sorts_of q (result_name h.name h.result) ++ (ss ++ v))) variables_same) in
       record {
         formals = all_longer q.forms p.forms formals l.forms g.formals;
@@ -173,7 +192,10 @@ module _ (q p : Program) (r : RightProgram q) (l : Later q p) where
         are_starts = starts_later formals h.initial ss g.are_starts;
         differ = g.differ;
         entry = ap (λ names. annotation_ok p names h.entry) entry_same
-            ∙ annotation_later (entry_names q formals) h.entry (all_append test (with_sorts_of q formals) (with_sorts_of q q.variables) formals_range variables_range) g.entry;
+            ∙ annotation_later (entry_names q formals) h.entry
+            (all_append test (with_sorts_of q formals) (with_sorts_of q q.variables) formals_range variables_range) g.entry;
         exit = ap (λ names. annotation_ok p names h.exit) exit_same
-            ∙ annotation_later (exit_names q formals h.name h.result ss) h.exit (all_append test (with_sorts_of q formals) (with_sorts_of q (result_name h.name h.result) ++ (ss ++ with_sorts_of q q.variables)) formals_range with_result) g.exit;
+            ∙ annotation_later (exit_names q formals h.name h.result ss) h.exit
+            (all_append test (with_sorts_of q formals)
+            (with_sorts_of q (result_name h.name h.result) ++ (ss ++ with_sorts_of q q.variables)) formals_range with_result) g.exit;
       }

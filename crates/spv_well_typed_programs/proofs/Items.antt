@@ -91,7 +91,8 @@ item_front (y ∷ xs) ys zero x e = e
 item_front (y ∷ xs) ys (suc i) x e = item_front xs ys i x e
 
 -- an item of a list with one more is an item of the list, or that one
-pub item_grown : {X : Type 0} (xs : List X) (y : X) (i : ℕ) (x : X) (P : Type 0) → item_at (xs ++ y ∷ []) i ≡ Some x → (item_at xs i ≡ Some x → P) → (i ≡ length xs → y ≡ x → P) → P
+pub item_grown : {X : Type 0} (xs : List X) (y : X) (i : ℕ) (x : X) (P : Type 0) → item_at (xs ++ y ∷ []) i ≡ Some x
+    → (item_at xs i ≡ Some x → P) → (i ≡ length xs → y ≡ x → P) → P
 item_grown [] y zero x P e front last = last refl (some_is e)
 item_grown [] y (suc i) x P e front last = absurd (nothing_there e)
 item_grown (z ∷ xs) y zero x P e front last = front e
@@ -102,11 +103,13 @@ form_of_item [] i f e = absurd (nothing_there e)
 form_of_item (g ∷ forms) zero f e = some_is e
 form_of_item (g ∷ forms) (suc i) f e = form_of_item forms i f e
 
-pub all_at : {X : Type 0} (test : X → Bool) (xs : List X) → ((i : ℕ) (x : X) → item_at xs i ≡ Some x → test x ≡ true) → list_all test xs ≡ true
+pub all_at : {X : Type 0} (test : X → Bool) (xs : List X) → ((i : ℕ) (x : X) → item_at xs i ≡ Some x → test x ≡ true)
+    → list_all test xs ≡ true
 all_at test [] h = refl
 all_at test (x ∷ xs) h = both_true (h 0 x refl) (all_at test xs (λ i y e. h (suc i) y e))
 
-pub at_of_all : {X : Type 0} (test : X → Bool) (xs : List X) (i : ℕ) (x : X) → list_all test xs ≡ true → item_at xs i ≡ Some x → test x ≡ true
+pub at_of_all : {X : Type 0} (test : X → Bool) (xs : List X) (i : ℕ) (x : X) → list_all test xs ≡ true → item_at xs i ≡ Some x
+    → test x ≡ true
 at_of_all test [] i x h e = absurd (nothing_there e)
 at_of_all test (y ∷ xs) zero x h e = subst (λ z. test z ≡ true) (some_is e) (left_true _ _ h)
 at_of_all test (y ∷ xs) (suc i) x h e = at_of_all test xs i x (right_true (test y) _ h) e
@@ -130,10 +133,12 @@ begins (x ∷ xs) (y ∷ ys) h =
 
 -- ---- the first item that passes a test
 
-pub first_where-same : {X : Type 0} (p q : X → Bool) (xs : List X) → ((i : ℕ) (x : X) → item_at xs i ≡ Some x → p x ≡ q x) → first_where p xs ≡ first_where q xs
+pub first_where-same : {X : Type 0} (p q : X → Bool) (xs : List X) → ((i : ℕ) (x : X) → item_at xs i ≡ Some x → p x ≡ q x)
+    → first_where p xs ≡ first_where q xs
 first_where-same p q [] h = refl
 first_where-same p q (x ∷ xs) h =
-    ap (λ b. cond b 0 (suc (first_where p xs))) (h 0 x refl) ∙ ap (λ n. cond (q x) 0 (suc n)) (first_where-same p q xs (λ i y e. h (suc i) y e))
+    ap (λ b. cond b 0 (suc (first_where p xs))) (h 0 x refl)
+    ∙ ap (λ n. cond (q x) 0 (suc n)) (first_where-same p q xs (λ i y e. h (suc i) y e))
 
 -- where an item passes, the first one is there, passes, and stands no later
 pub record FirstOf {X : Type 0} (test : X → Bool) (xs : List X) (i : ℕ) : Type 0 where
@@ -142,7 +147,8 @@ pub record FirstOf {X : Type 0} (test : X → Bool) (xs : List X) (i : ℕ) : Ty
   pub passes : test item ≡ true
   pub early : first_where test xs ≤ i
 
-pub first_where-found : {X : Type 0} (test : X → Bool) (xs : List X) (i : ℕ) (x : X) → item_at xs i ≡ Some x → test x ≡ true → FirstOf test xs i
+pub first_where-found : {X : Type 0} (test : X → Bool) (xs : List X) (i : ℕ) (x : X) → item_at xs i ≡ Some x → test x ≡ true
+    → FirstOf test xs i
 first_where-found test [] i x e h = absurd (nothing_there e)
 first_where-found {X} test (y ∷ xs) zero x e h =
     let passes : test y ≡ true = subst (λ z. test z ≡ true) (sym (some_is e)) h in

@@ -40,7 +40,8 @@ touched_is test [] = refl
 touched_is test (u ∷ us) = by_case (is_change u) (touched_is test us)
   where
     by_case : (b : Bool) → touched test us ≡ list_any (λ u. is_change u && test (of_use u)) us
-        → list_any test (map of_use (cond b (u ∷ filter is_change us) (filter is_change us))) ≡ ((b && test (of_use u)) || list_any (λ u. is_change u && test (of_use u)) us)
+        → list_any test (map of_use (cond b (u ∷ filter is_change us) (filter is_change us)))
+        ≡ ((b && test (of_use u)) || list_any (λ u. is_change u && test (of_use u)) us)
     by_case true e = ap (λ b. test (of_use u) || b) e
     by_case false e = e
 
@@ -59,11 +60,13 @@ module _ (one two : Symbol → Bool) (v : Symbol) (agree : one v ≡ two v) wher
 
   pub data Alike : List Use → List Use → Type 0 where
     none_alike : Alike [] []
-    more_alike : (u w : Use) (us ws : List Use) → u.changes ≡ w.changes → same_root (name_root one v) u.root ≡ same_root (name_root two v) w.root → Alike us ws → Alike (u ∷ us) (w ∷ ws)
+    more_alike : (u w : Use) (us ws : List Use) → u.changes ≡ w.changes
+        → same_root (name_root one v) u.root ≡ same_root (name_root two v) w.root → Alike us ws → Alike (u ∷ us) (w ∷ ws)
 
   pub alike_append : (us ws xs ys : List Use) → Alike us ws → Alike xs ys → Alike (us ++ xs) (ws ++ ys)
   alike_append us ws xs ys none_alike h = h
-  alike_append us ws xs ys (more_alike u w rest others c r g) h = more_alike u w (rest ++ xs) (others ++ ys) c r (alike_append rest others xs ys g h)
+  alike_append us ws xs ys (more_alike u w rest others c r g) h =
+      more_alike u w (rest ++ xs) (others ++ ys) c r (alike_append rest others xs ys g h)
 
   apart : (a b : Bool) (x : Symbol) → same_name v x ≡ false → same_root (root_of a v) (root_of b x) ≡ false
   apart true true x e = e
@@ -74,7 +77,8 @@ module _ (one two : Symbol → Bool) (v : Symbol) (agree : one v ≡ two v) wher
   pub root_alike : (x : Symbol) → same_root (name_root one v) (name_root one x) ≡ same_root (name_root two v) (name_root two x)
   root_alike x = by_name (same_name v x) refl
     where
-      by_name : (b : Bool) → same_name v x ≡ b → same_root (name_root one v) (name_root one x) ≡ same_root (name_root two v) (name_root two x)
+      by_name : (b : Bool) → same_name v x ≡ b
+          → same_root (name_root one v) (name_root one x) ≡ same_root (name_root two v) (name_root two x)
       by_name true e =
           subst (λ y. same_root (name_root one v) (name_root one y) ≡ same_root (name_root two v) (name_root two y)) (same_names v x e)
           (ap (λ b. same_root (root_of b v) (root_of b v)) agree)
@@ -97,26 +101,37 @@ module _ (one two : Symbol → Bool) (v : Symbol) (agree : one v ≡ two v) wher
     expression_alike (Read d) = designator_alike false d
     expression_alike (Result c) = call_alike c
     expression_alike (Through c line t others) =
-        alike_append (call_uses one c) (call_uses two c) (cell line t false ∷ selector_uses one false others) (cell line t false ∷ selector_uses two false others) (call_alike c)
-        (more_alike (cell line t false) (cell line t false) (selector_uses one false others) (selector_uses two false others) refl (class_alike t) (selectors_alike false others))
+        alike_append (call_uses one c) (call_uses two c) (cell line t false ∷ selector_uses one false others)
+        (cell line t false ∷ selector_uses two false others) (call_alike c)
+        (more_alike (cell line t false) (cell line t false) (selector_uses one false others) (selector_uses two false others) refl
+        (class_alike t) (selectors_alike false others))
     expression_alike (Negative e) = expression_alike e
-    expression_alike (Calculated o a b) = alike_append (expression_uses one a) (expression_uses two a) (expression_uses one b) (expression_uses two b) (expression_alike a) (expression_alike b)
-    expression_alike (Compared o a b) = alike_append (expression_uses one a) (expression_uses two a) (expression_uses one b) (expression_uses two b) (expression_alike a) (expression_alike b)
+    expression_alike (Calculated o a b) =
+        alike_append (expression_uses one a) (expression_uses two a) (expression_uses one b) (expression_uses two b) (expression_alike a)
+        (expression_alike b)
+    expression_alike (Compared o a b) =
+        alike_append (expression_uses one a) (expression_uses two a) (expression_uses one b) (expression_uses two b) (expression_alike a)
+        (expression_alike b)
     expression_alike (Negated e) = expression_alike e
-    expression_alike (Joined o a b) = alike_append (expression_uses one a) (expression_uses two a) (expression_uses one b) (expression_uses two b) (expression_alike a) (expression_alike b)
+    expression_alike (Joined o a b) =
+        alike_append (expression_uses one a) (expression_uses two a) (expression_uses one b) (expression_uses two b) (expression_alike a)
+        (expression_alike b)
 
     pub designator_alike : (writes : Bool) (d : Designator) → Alike (designator_uses one writes d) (designator_uses two writes d)
     designator_alike writes (designator line x others) =
-        more_alike (record { root = name_root one x; changes = writes && not_cell others; line = line }) (record { root = name_root two x; changes = writes && not_cell others; line = line })
+        more_alike (record { root = name_root one x; changes = writes && not_cell others; line = line })
+        (record { root = name_root two x; changes = writes && not_cell others; line = line })
         (selector_uses one writes others) (selector_uses two writes others) refl (root_alike x) (selectors_alike writes others)
 
     pub selectors_alike : (writes : Bool) (others : Selectors) → Alike (selector_uses one writes others) (selector_uses two writes others)
     selectors_alike writes no_selectors = none_alike
     selectors_alike writes (at_index t e others) =
-        alike_append (expression_uses one e) (expression_uses two e) (selector_uses one writes others) (selector_uses two writes others) (expression_alike e) (selectors_alike writes others)
+        alike_append (expression_uses one e) (expression_uses two e) (selector_uses one writes others) (selector_uses two writes others)
+        (expression_alike e) (selectors_alike writes others)
     selectors_alike writes (at_field t f others) = selectors_alike writes others
     selectors_alike writes (at_cell line t others) =
-        more_alike (cell line t (writes && not_cell others)) (cell line t (writes && not_cell others)) (selector_uses one writes others) (selector_uses two writes others) refl (class_alike t) (selectors_alike writes others)
+        more_alike (cell line t (writes && not_cell others)) (cell line t (writes && not_cell others)) (selector_uses one writes others)
+        (selector_uses two writes others) refl (class_alike t) (selectors_alike writes others)
 
     pub call_alike : (c : Call) → Alike (call_uses one c) (call_uses two c)
     call_alike (call r line given) = arguments_alike given
@@ -124,17 +139,22 @@ module _ (one two : Symbol → Bool) (v : Symbol) (agree : one v ≡ two v) wher
     pub arguments_alike : (given : Arguments) → Alike (argument_uses one given) (argument_uses two given)
     arguments_alike no_arguments = none_alike
     arguments_alike (by_value e others) =
-        alike_append (expression_uses one e) (expression_uses two e) (argument_uses one others) (argument_uses two others) (expression_alike e) (arguments_alike others)
+        alike_append (expression_uses one e) (expression_uses two e) (argument_uses one others) (argument_uses two others)
+        (expression_alike e) (arguments_alike others)
     arguments_alike (by_place d others) =
-        alike_append (designator_uses one true d) (designator_uses two true d) (argument_uses one others) (argument_uses two others) (designator_alike true d) (arguments_alike others)
+        alike_append (designator_uses one true d) (designator_uses two true d) (argument_uses one others) (argument_uses two others)
+        (designator_alike true d) (arguments_alike others)
 
   pub alike_touched : (us ws : List Use) → Alike us ws → touched (same_root (name_root one v)) us ≡ touched (same_root (name_root two v)) ws
   alike_touched us ws h = touched_is (same_root (name_root one v)) us ∙ (plain us ws h ∙ sym (touched_is (same_root (name_root two v)) ws))
     where
-      plain : (us ws : List Use) → Alike us ws → list_any (λ u. is_change u && same_root (name_root one v) (of_use u)) us ≡ list_any (λ u. is_change u && same_root (name_root two v) (of_use u)) ws
+      plain : (us ws : List Use) → Alike us ws
+          → list_any (λ u. is_change u && same_root (name_root one v) (of_use u)) us
+          ≡ list_any (λ u. is_change u && same_root (name_root two v) (of_use u)) ws
       plain us ws none_alike = refl
       plain us ws (more_alike u w rest others c r g) =
-          ap (λ b. (b && same_root (name_root one v) u.root) || list_any (λ k. is_change k && same_root (name_root one v) (of_use k)) rest) c
+          ap (λ b. (b && same_root (name_root one v) u.root)
+          || list_any (λ k. is_change k && same_root (name_root one v) (of_use k)) rest) c
           ∙ (ap (λ b. (w.changes && b) || list_any (λ k. is_change k && same_root (name_root one v) (of_use k)) rest) r
           ∙ ap (λ b. (w.changes && same_root (name_root two v) w.root) || b) (plain rest others g))
 
@@ -166,11 +186,13 @@ module _ (own : Symbol → Bool) where
     formula_silent (formula.ClassOf line t) = read_once (Shared (Class t)) line
     formula_silent (formula.Element a i) = silent_append (formula_uses own a) (formula_uses own i) (formula_silent a) (formula_silent i)
     formula_silent (formula.FieldOf r f) = formula_silent r
-    formula_silent (formula.Content line t q) = silent_append (formula_uses own q) (reading (Shared (Class t)) line ∷ []) (formula_silent q) (read_once (Shared (Class t)) line)
+    formula_silent (formula.Content line t q) =
+        silent_append (formula_uses own q) (reading (Shared (Class t)) line ∷ []) (formula_silent q) (read_once (Shared (Class t)) line)
     formula_silent (formula.Applied f fs) = formulas_silent fs
     formula_silent (formula.Known b fs) = formulas_silent fs
     formula_silent (formula.Negative f) = formula_silent f
-    formula_silent (formula.Calculated o f g) = silent_append (formula_uses own f) (formula_uses own g) (formula_silent f) (formula_silent g)
+    formula_silent (formula.Calculated o f g) =
+        silent_append (formula_uses own f) (formula_uses own g) (formula_silent f) (formula_silent g)
     formula_silent (formula.Compared o f g) = silent_append (formula_uses own f) (formula_uses own g) (formula_silent f) (formula_silent g)
     formula_silent (formula.Negated f) = formula_silent f
     formula_silent (formula.Joined o f g) = silent_append (formula_uses own f) (formula_uses own g) (formula_silent f) (formula_silent g)
@@ -194,31 +216,42 @@ module _ (p : Program) (test : Root → Bool) where
   pub leaves_none : Leaves p test [] []
   leaves_none = record { uses = refl; calls = refl }
 
-  calls_append : (cs ds : List Call) → list_any test (flat_map (changed_by_call p) (cs ++ ds)) ≡ (list_any test (flat_map (changed_by_call p) cs) || list_any test (flat_map (changed_by_call p) ds))
+  calls_append : (cs ds : List Call)
+      → list_any test (flat_map (changed_by_call p) (cs ++ ds))
+      ≡ (list_any test (flat_map (changed_by_call p) cs) || list_any test (flat_map (changed_by_call p) ds))
   calls_append cs ds =
-      ap (list_any test) (flat_map-append (changed_by_call p) cs ds) ∙ list_any-append test (flat_map (changed_by_call p) cs) (flat_map (changed_by_call p) ds)
+      ap (list_any test) (flat_map-append (changed_by_call p) cs ds)
+      ∙ list_any-append test (flat_map (changed_by_call p) cs) (flat_map (changed_by_call p) ds)
 
-  pub leaves_append : (us ws : List Use) (cs ds : List Call) → Leaves p test us cs → Leaves p test ws ds → Leaves p test (us ++ ws) (cs ++ ds)
+  pub leaves_append : (us ws : List Use) (cs ds : List Call) → Leaves p test us cs → Leaves p test ws ds
+      → Leaves p test (us ++ ws) (cs ++ ds)
   leaves_append us ws cs ds g h = record {
     uses = touched_append test us ws ∙ both_false (touched test us) (touched test ws) g.uses h.uses;
-    calls = calls_append cs ds ∙ both_false (list_any test (flat_map (changed_by_call p) cs)) (list_any test (flat_map (changed_by_call p) ds)) g.calls h.calls;
+    calls = calls_append cs ds ∙ both_false (list_any test (flat_map (changed_by_call p) cs))
+        (list_any test (flat_map (changed_by_call p) ds)) g.calls h.calls;
   }
 
   pub leaves_first : (us ws : List Use) (cs ds : List Call) → Leaves p test (us ++ ws) (cs ++ ds) → Leaves p test us cs
   leaves_first us ws cs ds h = record {
     uses = left_false (touched test us) (touched test ws) (sym (touched_append test us ws) ∙ h.uses);
-    calls = left_false (list_any test (flat_map (changed_by_call p) cs)) (list_any test (flat_map (changed_by_call p) ds)) (sym (calls_append cs ds) ∙ h.calls);
+    calls = left_false (list_any test (flat_map (changed_by_call p) cs)) (list_any test (flat_map (changed_by_call p) ds))
+        (sym (calls_append cs ds) ∙ h.calls);
   }
 
   pub leaves_rest : (us ws : List Use) (cs ds : List Call) → Leaves p test (us ++ ws) (cs ++ ds) → Leaves p test ws ds
   leaves_rest us ws cs ds h = record {
     uses = right_false (touched test us) (touched test ws) (sym (touched_append test us ws) ∙ h.uses);
-    calls = right_false (list_any test (flat_map (changed_by_call p) cs)) (list_any test (flat_map (changed_by_call p) ds)) (sym (calls_append cs ds) ∙ h.calls);
+    calls = right_false (list_any test (flat_map (changed_by_call p) cs)) (list_any test (flat_map (changed_by_call p) ds))
+        (sym (calls_append cs ds) ∙ h.calls);
   }
 
   -- one that is changed and does not pass the test
   pub leaves_use : (u : Use) (us : List Use) (cs : List Call) → test u.root ≡ false → Leaves p test us cs → Leaves p test (u ∷ us) cs
-  leaves_use u us cs e h = record { uses = touched_append test (u ∷ []) us ∙ both_false (touched test (u ∷ [])) (touched test us) (alone u.changes) h.uses; calls = h.calls }
+  leaves_use u us cs e h = record {
+    uses = touched_append test (u ∷ []) us ∙ both_false (touched test (u ∷ [])) (touched test us) (alone u.changes) h.uses;
+    calls =
+        h.calls;
+  }
     where
       alone : (b : Bool) → list_any test (map of_use (cond b (u ∷ []) [])) ≡ false
       alone true = both_false (test u.root) false e refl
@@ -226,24 +259,30 @@ module _ (p : Program) (test : Root → Bool) where
 
   -- behind one that is changed
   pub leaves_behind : (u : Use) (us : List Use) (cs : List Call) → Leaves p test (u ∷ us) cs → Leaves p test us cs
-  leaves_behind u us cs h = record { uses = right_false (touched test (u ∷ [])) (touched test us) (sym (touched_append test (u ∷ []) us) ∙ h.uses); calls = h.calls }
+  leaves_behind u us cs h = record
+      { uses = right_false (touched test (u ∷ [])) (touched test us) (sym (touched_append test (u ∷ []) us) ∙ h.uses); calls = h.calls }
 
   pub leaves_silent : (us : List Use) → Silent us → Leaves p test us []
   leaves_silent us h = record { uses = silent_touched test us h; calls = refl }
 
 -- what a statement leaves alone is not among what it changes
-pub not_changed : (p : Program) (here : Option Routine) (test : Root → Bool) (s : Statement) → Leaves p test (statement_uses (is_own here) s) (statement_calls s) → list_any test (changed_roots p here s) ≡ false
+pub not_changed : (p : Program) (here : Option Routine) (test : Root → Bool) (s : Statement)
+    → Leaves p test (statement_uses (is_own here) s) (statement_calls s) → list_any test (changed_roots p here s) ≡ false
 not_changed p here test s h =
     list_any-append test (map of_use (filter is_change (statement_uses (is_own here) s))) (flat_map (changed_by_call p) (statement_calls s))
-    ∙ both_false (touched test (statement_uses (is_own here) s)) (list_any test (flat_map (changed_by_call p) (statement_calls s))) h.uses h.calls
+    ∙ both_false (touched test (statement_uses (is_own here) s)) (list_any test (flat_map (changed_by_call p) (statement_calls s))) h.uses
+    h.calls
 
 -- ---- variables that count
 
-counted_none : (own : Symbol → Bool) (counted : List Symbol) (r : Root) (v : Symbol) → counted_as own counted r ≡ None → list_any (same_name v) counted ≡ true → same_root (name_root own v) r ≡ false
+counted_none : (own : Symbol → Bool) (counted : List Symbol) (r : Root) (v : Symbol) → counted_as own counted r ≡ None
+    → list_any (same_name v) counted ≡ true → same_root (name_root own v) r ≡ false
 counted_none own [] r v e k = absurd (false≢true k)
 counted_none own (w ∷ counted) r v e k = by_root (same_root (name_root own w) r) refl e (λ f. counted_none own counted r v f)
   where
-    by_root : (b : Bool) → same_root (name_root own w) r ≡ b → cond b (Some w) (counted_as own counted r) ≡ None → (counted_as own counted r ≡ None → list_any (same_name v) counted ≡ true → same_root (name_root own v) r ≡ false) → same_root (name_root own v) r ≡ false
+    by_root : (b : Bool) → same_root (name_root own w) r ≡ b → cond b (Some w) (counted_as own counted r) ≡ None
+        → (counted_as own counted r ≡ None → list_any (same_name v) counted ≡ true → same_root (name_root own v) r ≡ false)
+        → same_root (name_root own v) r ≡ false
     by_root true same f later = absurd (nothing_there (sym f))
     by_root false same f later = by_name (same_name v w) refl k
       where
@@ -251,16 +290,21 @@ counted_none own (w ∷ counted) r v e k = by_root (same_root (name_root own w) 
         by_name true is h = subst (λ x. same_root (name_root own x) r ≡ false) (sym (same_names v w is)) same
         by_name false is h = later f h
 
-pub none_of_counted : (own : Symbol → Bool) (counted : List Symbol) (r : Root) → counted_as own counted r ≡ None → (v : Symbol) → list_any (same_name v) counted ≡ true → same_root (name_root own v) r ≡ false
+pub none_of_counted : (own : Symbol → Bool) (counted : List Symbol) (r : Root) → counted_as own counted r ≡ None → (v : Symbol)
+    → list_any (same_name v) counted ≡ true → same_root (name_root own v) r ≡ false
 none_of_counted own counted r e v k = counted_none own counted r v e k
 
-pub none_counted : (own : Symbol → Bool) (counted : List Symbol) (roots : List Root) → first_counted own counted roots ≡ None → (v : Symbol) → list_any (same_name v) counted ≡ true → list_any (same_root (name_root own v)) roots ≡ false
+pub none_counted : (own : Symbol → Bool) (counted : List Symbol) (roots : List Root) → first_counted own counted roots ≡ None
+    → (v : Symbol) → list_any (same_name v) counted ≡ true → list_any (same_root (name_root own v)) roots ≡ false
 none_counted own counted [] e v k = refl
 none_counted own counted (r ∷ roots) e v k = by_root (counted_as own counted r) refl (λ f. none_counted own counted roots f v k)
   where
-    by_root : (o : Option Symbol) → counted_as own counted r ≡ o → (first_counted own counted roots ≡ None → list_any (same_root (name_root own v)) roots ≡ false) → (same_root (name_root own v) r || list_any (same_root (name_root own v)) roots) ≡ false
+    by_root : (o : Option Symbol) → counted_as own counted r ≡ o
+        → (first_counted own counted roots ≡ None → list_any (same_root (name_root own v)) roots ≡ false)
+        → (same_root (name_root own v) r || list_any (same_root (name_root own v)) roots) ≡ false
     by_root None f later =
         let rest : first_counted own counted (r ∷ roots) ≡ first_counted own counted roots = rw (f) refl in
-        both_false (same_root (name_root own v) r) (list_any (same_root (name_root own v)) roots) (counted_none own counted r v f k) (later (sym rest ∙ e))
+        both_false (same_root (name_root own v) r) (list_any (same_root (name_root own v)) roots) (counted_none own counted r v f k)
+        (later (sym rest ∙ e))
     by_root (Some w) f later =
         let first : first_counted own counted (r ∷ roots) ≡ Some w = rw (f) refl in absurd (nothing_there (sym e ∙ first))

@@ -17,7 +17,8 @@ use Rattle.spv_well_typed.proofs.Outcomes.{fine, same_value, went, held, behind_
 use Rattle.spv_well_typed_programs.proofs.Differ.{differ_one, not_true}
 
 -- what each step keeps, all steps keep
-pub each_keeps : {S X : Type 0} (P : S → Type 0) (step : S → X → Outcome S) → ((s t : S) (x : X) → P s → step s x ≡ Ok t → P t) → (xs : List X) (s t : S) → P s → each step s xs ≡ Ok t → P t
+pub each_keeps : {S X : Type 0} (P : S → Type 0) (step : S → X → Outcome S) → ((s t : S) (x : X) → P s → step s x ≡ Ok t → P t)
+    → (xs : List X) (s t : S) → P s → each step s xs ≡ Ok t → P t
 each_keeps P step keeps [] s t h e = subst P (same_value e) h
 each_keeps P step keeps (x ∷ xs) s t h e =
     let one = went (step s x) (λ next. each step next xs) t e in
@@ -29,9 +30,11 @@ pub record MoreLabels (before all : List ℤ) : Type 0 where
   pub is : all ≡ before ++ more
   pub differ : all_differ int_eq all ≡ true
 
-one_label : (s : Scope) (before labels all : List ℤ) (c : Constant) → MoreLabels before labels → new_label s labels c ≡ Ok all → MoreLabels before all
+one_label : (s : Scope) (before labels all : List ℤ) (c : Constant) → MoreLabels before labels → new_label s labels c ≡ Ok all
+    → MoreLabels before all
 one_label s before labels all c h e =
-    let one = went (constant s c) (λ z. where_so (not (list_any (int_eq z) labels)) (LabelTwice c.line z) (fine (labels ++ z ∷ []))) all e in
+    let one = went (constant s c) (λ z. where_so (not (list_any (int_eq z) labels)) (LabelTwice c.line z) (fine (labels ++ z ∷ []))) all
+    e in
     let z = one.value in
     let fresh = held (not (list_any (int_eq z) labels)) (LabelTwice c.line z) (fine (labels ++ z ∷ [])) all one.rest in
     let same = same_value (behind_test (not (list_any (int_eq z) labels)) (LabelTwice c.line z) (fine (labels ++ z ∷ [])) all one.rest) in
@@ -41,7 +44,8 @@ one_label s before labels all c h e =
       differ = differ_one int_eq int_eq-refl int_eq-true labels z h.differ (not_true (list_any (int_eq z) labels) fresh);
     })
 
-pub labels_more : (s : Scope) (before all : List ℤ) (cs : Several Constant) → all_differ int_eq before ≡ true → new_labels s before cs ≡ Ok all → MoreLabels before all
+pub labels_more : (s : Scope) (before all : List ℤ) (cs : Several Constant) → all_differ int_eq before ≡ true
+    → new_labels s before cs ≡ Ok all → MoreLabels before all
 labels_more s before all cs h e =
     each_keeps (MoreLabels before) (new_label s) (λ l m c k f. one_label s before l m c k f) (all_names cs) before all
     (record { more = []; is = sym (append-nil before); differ = h }) e

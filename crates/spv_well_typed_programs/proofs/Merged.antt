@@ -73,14 +73,16 @@ module _ (names : List (Symbol × TypeId)) (written : List Written) (good : Good
 
   -- ---- targets
 
-  target_below : (i t : ℕ) (w : Written) → FitsWritten names (length written) (ranges_in written) i w → target_number names w ≡ Some t → t < length written
+  target_below : (i t : ℕ) (w : Written) → FitsWritten names (length written) (ranges_in written) i w → target_number names w ≡ Some t
+      → t < length written
   target_below i t w (built_fits f integer_fits) e = absurd (nothing_there e)
   target_below i t w (built_fits f boolean_fits) e = absurd (nothing_there e)
   target_below i t w (built_fits f (range_fits low high k)) e = absurd (nothing_there e)
   target_below i t w (built_fits f (pointer_fits u k)) e = subst (λ n. n < length written) (some_is e) k
   target_below i t w (built_fits f (array_fits index element j k r)) e = absurd (nothing_there e)
   target_below i t w (built_fits f (record_fits fields b d)) e = absurd (nothing_there e)
-  target_below i t w (named_fits x u k h) e = subst (λ n. n < length written) (some_is (sym (ap (option_map (λ (v : TypeId). v.0)) k) ∙ e)) h
+  target_below i t w (named_fits x u k h) e =
+      subst (λ n. n < length written) (some_is (sym (ap (option_map (λ (v : TypeId). v.0)) k) ∙ e)) h
 
   there : (i t : ℕ) → item_at targets i ≡ Some (Some t) → t < length targets
   there i t e =
@@ -187,14 +189,16 @@ module _ (names : List (Symbol × TypeId)) (written : List Written) (good : Good
       ∙ (ap program.is_range (form_of_item result (number t.0) (form_with new (form_of names f.from)) f.is)
       ∙ ap (λ w. program.is_range (form_with new (form_of names w))) (sym same_from))
 
-  renamed : (fields : List TypeField) → map (λ (f : TypeField). f.name) (map (λ (f : TypeField). moved_field new f) fields) ≡ map (λ (f : TypeField). f.name) fields
+  renamed : (fields : List TypeField)
+      → map (λ (f : TypeField). f.name) (map (λ (f : TypeField). moved_field new f) fields) ≡ map (λ (f : TypeField). f.name) fields
   renamed [] = refl
   renamed (f ∷ fields) = ap (λ l. f.name ∷ l) (renamed fields)
 
   deeper : (a b c : ℕ) → a < b → b < c → a < c
   deeper a b c h g = omega arith
 
-  form_fits : (i : ℕ) (f : TypeForm) → i < length written → lead i ≡ i → Fits (length written) (ranges_in written) i f → Fits (length result) (ranges_of result) (number i) (form_with new f)
+  form_fits : (i : ℕ) (f : TypeForm) → i < length written → lead i ≡ i → Fits (length written) (ranges_in written) i f
+      → Fits (length result) (ranges_of result) (number i) (form_with new f)
   form_fits i f h e integer_fits = integer_fits
   form_fits i f h e boolean_fits = boolean_fits
   form_fits i f h e (range_fits low high k) = range_fits low high k
@@ -211,14 +215,17 @@ module _ (names : List (Symbol × TypeId)) (written : List Written) (good : Good
             let r = item_mapped (λ (q : TypeField). moved_field new q) fields k g is in
             let low = b.each k r.item r.at in
             subst (λ (q : TypeField). q.of.0 < number i) r.is
-            (subst (λ n. n < number i) (sym (new_is r.item.of (deeper r.item.of.0 i (length written) low h))) (number_less r.item.of.0 i low h e));
+            (subst (λ n. n < number i) (sym (new_is r.item.of (deeper r.item.of.0 i (length written) low h)))
+            (number_less r.item.of.0 i low h e));
       })
       (ap names_differ (renamed fields) ∙ d)
 
-  written_fits : (i : ℕ) (w : Written) → i < length written → lead i ≡ i → FitsWritten names (length written) (ranges_in written) i w → Fits (length result) (ranges_of result) (number i) (form_with new (form_of names w))
+  written_fits : (i : ℕ) (w : Written) → i < length written → lead i ≡ i → FitsWritten names (length written) (ranges_in written) i w
+      → Fits (length result) (ranges_of result) (number i) (form_with new (form_of names w))
   written_fits i w h e (built_fits f k) = form_fits i f h e k
   written_fits i w h e (named_fits x t k l) =
-      subst (λ o. Fits (length result) (ranges_of result) (number i) (Pointer (new (target_or_first o)))) (sym k) (pointer_fits (new t) (new_below t l))
+      subst (λ o. Fits (length result) (ranges_of result) (number i) (Pointer (new (target_or_first o)))) (sym k)
+      (pointer_fits (new t) (new_below t l))
 
   -- a type whose form is a pointer in the end was one
   record WasPointer (w : Written) (a : TypeId) : Type 0 where
@@ -226,7 +233,8 @@ module _ (names : List (Symbol × TypeId)) (written : List Written) (good : Good
     is : target_number names w ≡ Some target.0
     new_target : new target ≡ a
 
-  was_pointer : (i : ℕ) (w : Written) (a : TypeId) → FitsWritten names (length written) (ranges_in written) i w → form_with new (form_of names w) ≡ Pointer a → WasPointer w a
+  was_pointer : (i : ℕ) (w : Written) (a : TypeId) → FitsWritten names (length written) (ranges_in written) i w
+      → form_with new (form_of names w) ≡ Pointer a → WasPointer w a
   was_pointer i w a (built_fits f integer_fits) e = absurd (false≢true (ap is_pointer e))
   was_pointer i w a (built_fits f boolean_fits) e = absurd (false≢true (ap is_pointer e))
   was_pointer i w a (built_fits f (range_fits low high k)) e = absurd (false≢true (ap is_pointer e))
@@ -247,7 +255,8 @@ module _ (names : List (Symbol × TypeId)) (written : List Written) (good : Good
         let alone = leader r.old within r.leads in
         let is : number r.old ≡ j = ap (λ n. kinds_before n 0 same) alone ∙ r.number in
         subst (λ n. Fits (length result) (ranges_of result) n g) is
-        (subst (Fits (length result) (ranges_of result) (number r.old)) r.form (written_fits r.old r.written within alone (good.fits r.old r.written r.at)));
+        (subst (Fits (length result) (ranges_of result) (number r.old)) r.form
+        (written_fits r.old r.written within alone (good.fits r.old r.written r.at)));
     settled = λ j k a e f.
         let r = source_of names new 0 same written j (Pointer a) e in
         let s = source_of names new 0 same written k (Pointer a) f in
@@ -255,17 +264,23 @@ module _ (names : List (Symbol × TypeId)) (written : List Written) (good : Good
         let two = was_pointer s.old s.written a (good.fits s.old s.written s.at) s.form in
         let there_one = target_below r.old one.target.0 r.written (good.fits r.old r.written r.at) one.is in
         let there_two = target_below s.old two.target.0 s.written (good.fits s.old s.written s.at) two.is in
-        let numbers : number one.target.0 ≡ number two.target.0 = sym (new_is one.target there_one) ∙ (ap (λ (t : TypeId). t.0) (one.new_target ∙ sym two.new_target) ∙ new_is two.target there_two) in
+        let numbers : number one.target.0 ≡ number two.target.0 =
+        sym (new_is one.target there_one)
+        ∙ (ap (λ (t : TypeId). t.0) (one.new_target ∙ sym two.new_target) ∙ new_is two.target there_two) in
         let kinds = number_same one.target.0 two.target.0 there_one there_two numbers in
         let firsts_same = targets_decide targets r.old s.old one.target.0 two.target.0
-        (item_map (target_number names) written r.old r.written r.at ∙ ap Some one.is) (item_map (target_number names) written s.old s.written s.at ∙ ap Some two.is) kinds in
-        let old_same : r.old ≡ s.old = sym (leader r.old (item_within written r.old r.written r.at) r.leads) ∙ (firsts_same ∙ leader s.old (item_within written s.old s.written s.at) s.leads) in
+        (item_map (target_number names) written r.old r.written r.at ∙ ap Some one.is)
+        (item_map (target_number names) written s.old s.written s.at ∙ ap Some two.is) kinds in
+        let old_same : r.old ≡ s.old =
+        sym (leader r.old (item_within written r.old r.written r.at) r.leads)
+        ∙ (firsts_same ∙ leader s.old (item_within written s.old s.written s.at) s.leads) in
         sym r.number ∙ (ap (λ n. kinds_before n 0 same) old_same ∙ s.number);
   }
 
   -- ---- types that were there before
 
-  module _ (before : List TypeForm) (right : GoodForms before) (front : (i : ℕ) (f : TypeForm) → item_at before i ≡ Some f → item_at written i ≡ Some (Built f)) where
+  module _ (before : List TypeForm) (right : GoodForms before)
+      (front : (i : ℕ) (f : TypeForm) → item_at before i ≡ Some f → item_at written i ≡ Some (Built f)) where
     target_there : (i : ℕ) (f : TypeForm) → item_at before i ≡ Some f → item_at targets i ≡ Some (target_number names (Built f))
     target_there i f e = item_map (target_number names) written i (Built f) (front i f e)
 
@@ -276,23 +291,27 @@ module _ (names : List (Symbol × TypeId)) (written : List Written) (good : Good
       same_target : target.0 ≡ t
       below : t < length before
 
-    old_pointer : (i t : ℕ) (f : TypeForm) → item_at before i ≡ Some f → Fits (length before) (ranges_of before) i f → target_number names (Built f) ≡ Some t → OldPointer i t
+    old_pointer : (i t : ℕ) (f : TypeForm) → item_at before i ≡ Some f → Fits (length before) (ranges_of before) i f
+        → target_number names (Built f) ≡ Some t → OldPointer i t
     old_pointer i t f e integer_fits k = absurd (nothing_there k)
     old_pointer i t f e boolean_fits k = absurd (nothing_there k)
     old_pointer i t f e (range_fits low high q) k = absurd (nothing_there k)
-    old_pointer i t f e (pointer_fits u q) k = record { target = u; is = e; same_target = some_is k; below = subst (λ n. n < length before) (some_is k) q }
+    old_pointer i t f e (pointer_fits u q) k =
+        record { target = u; is = e; same_target = some_is k; below = subst (λ n. n < length before) (some_is k) q }
     old_pointer i t f e (array_fits index element j q r) k = absurd (nothing_there k)
     old_pointer i t f e (record_fits fields b d) k = absurd (nothing_there k)
 
     pointer_before : (i t : ℕ) → i < length before → item_at targets i ≡ Some (Some t) → OldPointer i t
     pointer_before i t h e =
-        let r = item_there before i h in old_pointer i t r.item r.is (right.fits i r.item r.is) (some_is (sym (target_there i r.item r.is) ∙ e))
+        let r = item_there before i h in
+        old_pointer i t r.item r.is (right.fits i r.item r.is) (some_is (sym (target_there i r.item r.is) ∙ e))
 
     first_before : (k i : ℕ) → i < length before → first_at targets k i ≡ i
     first_before zero i h = refl
     first_before (suc k) i h = by_target (item_at targets i) refl (λ j g. first_before k j g)
       where
-        by_target : (o : Option (Option ℕ)) → item_at targets i ≡ o → ((j : ℕ) → j < length before → first_at targets k j ≡ j) → first_at targets (suc k) i ≡ i
+        by_target : (o : Option (Option ℕ)) → item_at targets i ≡ o → ((j : ℕ) → j < length before → first_at targets k j ≡ j)
+            → first_at targets (suc k) i ≡ i
         by_target None e known = plain_first targets (suc k) i None e (λ t q. nothing_there q)
         by_target (Some None) e known = plain_first targets (suc k) i (Some None) e (λ t q. nothing_there (some_is q))
         by_target (Some (Some t)) e known =
@@ -316,12 +335,15 @@ module _ (names : List (Symbol × TypeId)) (written : List Written) (good : Good
     -- a type that was there before keeps its number
     pub new_before : (t : TypeId) → t.0 < length before → new t ≡ t
     new_before t h =
-        same_id (new t) t (new_is t (as_before t.0 h) ∙ (ap (λ n. kinds_before n 0 same) (first_before (length targets) t.0 h) ∙ number_before t.0 h))
+        same_id (new t) t (new_is t (as_before t.0 h)
+        ∙ (ap (λ n. kinds_before n 0 same) (first_before (length targets) t.0 h) ∙ number_before t.0 h))
 
-    fields_before : (i : ℕ) (fields : List TypeField) → i < length before → FieldsBelow i fields → map (λ (f : TypeField). moved_field new f) fields ≡ fields
+    fields_before : (i : ℕ) (fields : List TypeField) → i < length before → FieldsBelow i fields
+        → map (λ (f : TypeField). moved_field new f) fields ≡ fields
     fields_before i [] h b = refl
     fields_before i (f ∷ fields) h b =
-        ap (λ t. record_field f.name t ∷ map (λ (g : TypeField). moved_field new g) fields) (new_before f.of (deeper f.of.0 i (length before) (b.each 0 f refl) h))
+        ap (λ t. record_field f.name t ∷ map (λ (g : TypeField). moved_field new g) fields)
+        (new_before f.of (deeper f.of.0 i (length before) (b.each 0 f refl) h))
         ∙ ap (λ l. f ∷ l) (fields_before i fields h (record { each = λ k g e. b.each (suc k) g e }))
 
     form_before : (i : ℕ) (f : TypeForm) → i < length before → Fits (length before) (ranges_of before) i f → form_with new f ≡ f
@@ -340,4 +362,5 @@ module _ (names : List (Symbol × TypeId)) (written : List Written) (good : Good
         begins before result (λ i f e.
         let h = item_within before i f e in
         ap (item_at result) (sym (number_before i h))
-        ∙ (form_at_new names new i 0 same written (Built f) (leads_before i h) (front i f e) ∙ ap Some (form_before i f h (right.fits i f e))))
+        ∙ (form_at_new names new i 0 same written (Built f) (leads_before i h) (front i f e)
+        ∙ ap Some (form_before i f h (right.fits i f e))))

@@ -25,12 +25,14 @@ NamesApart xs ys = Apart same_name name-refl same_names xs ys
 
 -- ---- names put in between
 
-pub inserted_any : (test : Symbol → Bool) (c a ys b : List Symbol) → list_any test (c ++ ((a ++ ys) ++ b)) ≡ (list_any test (c ++ (a ++ b)) || list_any test ys)
+pub inserted_any : (test : Symbol → Bool) (c a ys b : List Symbol)
+    → list_any test (c ++ ((a ++ ys) ++ b)) ≡ (list_any test (c ++ (a ++ b)) || list_any test ys)
 inserted_any test c a ys b =
     list_any-append test c ((a ++ ys) ++ b)
     ∙ (ap (λ x. list_any test c || x) (list_any-append test (a ++ ys) b ∙ ap (λ x. x || list_any test b) (list_any-append test a ys))
     ∙ (turned (list_any test c) (list_any test a) (list_any test ys) (list_any test b)
-    ∙ ap (λ x. x || list_any test ys) (ap (λ x. list_any test c || x) (sym (list_any-append test a b)) ∙ sym (list_any-append test c (a ++ b)))))
+    ∙ ap (λ x. x || list_any test ys)
+    (ap (λ x. list_any test c || x) (sym (list_any-append test a b)) ∙ sym (list_any-append test c (a ++ b)))))
   where
     turned : (c a y b : Bool) → (c || ((a || y) || b)) ≡ ((c || (a || b)) || y)
     turned true a y b = refl
@@ -40,18 +42,28 @@ inserted_any test c a ys b =
     turned false false false true = refl
     turned false false false false = refl
 
-pub insert_in : (c a ys b : List Symbol) → names_differ (c ++ (a ++ b)) ≡ true → names_differ ys ≡ true → NamesApart ys (c ++ (a ++ b)) → names_differ (c ++ ((a ++ ys) ++ b)) ≡ true
+pub insert_in : (c a ys b : List Symbol) → names_differ (c ++ (a ++ b)) ≡ true → names_differ ys ≡ true → NamesApart ys (c ++ (a ++ b))
+    → names_differ (c ++ ((a ++ ys) ++ b)) ≡ true
 insert_in c a ys b h k apart =
     let front = c ++ a in
     let whole : front ++ b ≡ c ++ (a ++ b) = append_assoc c a b in
     let differ : names_differ (front ++ b) ≡ true = ap names_differ whole ∙ h in
     let away : NamesApart ys (front ++ b) = subst (NamesApart ys) (sym whole) apart in
-    let ys_b : NamesApart ys b = record { apart = λ x e. right_false (list_any (same_name x) front) (list_any (same_name x) b) (sym (list_any-append (same_name x) front b) ∙ away.apart x e) } in
-    let ys_front : NamesApart ys front = record { apart = λ x e. left_false (list_any (same_name x) front) (list_any (same_name x) b) (sym (list_any-append (same_name x) front b) ∙ away.apart x e) } in
-    let rest : names_differ (ys ++ b) ≡ true = differ_append same_name name-refl same_names ys b k (differ_rest same_name name-refl same_names front b differ) ys_b in
+    let ys_b : NamesApart ys b = record {
+      apart = λ x e. right_false (list_any (same_name x) front) (list_any (same_name x) b)
+          (sym (list_any-append (same_name x) front b) ∙ away.apart x e);
+    } in
+    let ys_front : NamesApart ys front =
+    record {
+      apart = λ x e. left_false (list_any (same_name x) front) (list_any (same_name x) b)
+          (sym (list_any-append (same_name x) front b) ∙ away.apart x e);
+    } in
+    let rest : names_differ (ys ++ b) ≡ true =
+    differ_append same_name name-refl same_names ys b k (differ_rest same_name name-refl same_names front b differ) ys_b in
     let all : names_differ (front ++ (ys ++ b)) ≡ true =
     differ_append same_name name-refl same_names front (ys ++ b) (differ_first same_name name-refl same_names front b differ) rest
-    (apart_both same_name name-refl same_names front ys b (apart_turned same_name name-refl same_names ys front ys_front) (differ_apart same_name name-refl same_names front b differ)) in
+    (apart_both same_name name-refl same_names front ys b (apart_turned same_name name-refl same_names ys front ys_front)
+    (differ_apart same_name name-refl same_names front b differ)) in
     ap names_differ (ap (λ l. c ++ l) (append_assoc a ys b) ∙ sym (append_assoc c a (ys ++ b))) ∙ all
 
 -- ---- the names of the program's scope
@@ -97,17 +109,24 @@ names_are k =
     let symbols : Names = map (λ (d : Decl). pair d.name (OfSymbol d)) k.program.symbols in
     let routines : Names = map (λ (h : Heading). pair h.name (OfRoutine h)) k.headings in
     let last : keys (symbols ++ routines) ≡ symbol_names k.program.symbols ++ heading_names k.headings =
-    keys_append symbols routines ∙ (ap (λ l. l ++ keys routines) (keys_symbols k.program.symbols) ∙ ap (λ l. symbol_names k.program.symbols ++ l) (keys_headings k.headings)) in
+    keys_append symbols routines ∙ (ap (λ l. l ++ keys routines) (keys_symbols k.program.symbols)
+    ∙ ap (λ l. symbol_names k.program.symbols ++ l) (keys_headings k.headings)) in
     let variables = named OfPlace k.program.variables in
     let types = named OfType k.program.types in
     let constants = named OfConstant k.program.constants in
-    let third : keys (variables ++ (symbols ++ routines)) ≡ keys k.program.variables ++ (symbol_names k.program.symbols ++ heading_names k.headings) =
-    keys_append variables (symbols ++ routines) ∙ (ap (λ l. l ++ keys (symbols ++ routines)) (keys_named OfPlace k.program.variables) ∙ ap (λ l. keys k.program.variables ++ l) last) in
+    let third : keys (variables ++ (symbols ++ routines)) ≡ keys k.program.variables
+    ++ (symbol_names k.program.symbols ++ heading_names k.headings) =
+    keys_append variables (symbols ++ routines)
+    ∙ (ap (λ l. l ++ keys (symbols ++ routines)) (keys_named OfPlace k.program.variables)
+    ∙ ap (λ l. keys k.program.variables ++ l) last) in
     let second = keys_append types (variables ++ (symbols ++ routines))
-    ∙ (ap (λ l. l ++ keys (variables ++ (symbols ++ routines))) (keys_named OfType k.program.types) ∙ ap (λ l. keys k.program.types ++ l) third) in
+    ∙ (ap (λ l. l ++ keys (variables ++ (symbols ++ routines))) (keys_named OfType k.program.types)
+    ∙ ap (λ l. keys k.program.types ++ l) third) in
     let first = keys_append constants (types ++ (variables ++ (symbols ++ routines)))
-    ∙ (ap (λ l. l ++ keys (types ++ (variables ++ (symbols ++ routines)))) (keys_named OfConstant k.program.constants) ∙ ap (λ l. keys k.program.constants ++ l) second) in
-    keys_append (names_from_start k.start) (constants ++ (types ++ (variables ++ (symbols ++ routines)))) ∙ ap (λ l. fixed_names k.start ++ l) first
+    ∙ (ap (λ l. l ++ keys (types ++ (variables ++ (symbols ++ routines)))) (keys_named OfConstant k.program.constants)
+    ∙ ap (λ l. keys k.program.constants ++ l) second) in
+    keys_append (names_from_start k.start) (constants ++ (types ++ (variables ++ (symbols ++ routines))))
+    ∙ ap (λ l. fixed_names k.start ++ l) first
 
 -- a free name is none of these
 pub record IsFree (k : Known) (x : Symbol) : Type 0 where
@@ -117,7 +136,8 @@ pub record IsFree (k : Known) (x : Symbol) : Type 0 where
 pub free_told : (k : Known) (x : Symbol) → is_free k x ≡ true → IsFree k x
 free_told k x h =
     let none = sym (list_any-append (same_name x) (fixed_names k.start) (names_in k))
-    ∙ (ap (list_any (same_name x)) (sym (names_are k)) ∙ (sym (found_there (program_names k) x) ∙ not_true (is_some (found (program_names k) x)) h)) in
+    ∙ (ap (list_any (same_name x)) (sym (names_are k))
+    ∙ (sym (found_there (program_names k) x) ∙ not_true (is_some (found (program_names k) x)) h)) in
     record {
       not_fixed = left_false (list_any (same_name x) (fixed_names k.start)) (list_any (same_name x) (names_in k)) none;
       new = right_false (list_any (same_name x) (fixed_names k.start)) (list_any (same_name x) (names_in k)) none;
@@ -138,15 +158,18 @@ one_new k x h = record { differ = refl; free = λ y e. subst (λ z. is_free k z 
     alone : (y x : Symbol) → (same_name y x || false) ≡ true → y ≡ x
     alone y x e = by_case y x (same_name y x) refl e
 
-pub names_with : (k : Known) (l : Known) (c a ys b : List Symbol) → names_in k ≡ c ++ (a ++ b) → names_in l ≡ c ++ ((a ++ ys) ++ b) → k.start ≡ l.start → RightNames k → NewNames k ys → RightNames l
+pub names_with : (k : Known) (l : Known) (c a ys b : List Symbol) → names_in k ≡ c ++ (a ++ b) → names_in l ≡ c ++ ((a ++ ys) ++ b)
+    → k.start ≡ l.start → RightNames k → NewNames k ys → RightNames l
 names_with k l c a ys b before later start r n =
-    let away : NamesApart ys (c ++ (a ++ b)) = record { apart = λ x e. ap (list_any (same_name x)) (sym before) ∙ (free_told k x (n.free x e)).new } in
+    let away : NamesApart ys (c ++ (a ++ b)) =
+    record { apart = λ x e. ap (list_any (same_name x)) (sym before) ∙ (free_told k x (n.free x e)).new } in
     record {
       differ = ap names_differ later ∙ insert_in c a ys b (ap names_differ (sym before) ∙ r.differ) n.differ away;
       fixed = record {
         apart = λ x e.
             ap (λ s. list_any (same_name x) (fixed_names s)) (sym start)
-            ∙ either (list_any (same_name x) (c ++ (a ++ b))) (list_any (same_name x) ys) (list_any (same_name x) (fixed_names k.start) ≡ false)
+            ∙ either (list_any (same_name x) (c ++ (a ++ b))) (list_any (same_name x) ys)
+            (list_any (same_name x) (fixed_names k.start) ≡ false)
             (λ h. r.fixed.apart x (ap (list_any (same_name x)) before ∙ h)) (λ h. (free_told k x (n.free x h)).not_fixed)
             (sym (inserted_any (same_name x) c a ys b) ∙ (ap (list_any (same_name x)) (sym later) ∙ e));
       };
@@ -171,17 +194,20 @@ one_fresh free done next x h e =
     let new = not_true (list_any (same_name y) done) (right_true (free y) _ both) in
     subst (Fresh free) (same_value (behind_test test (twice x) (fine (done ++ y ∷ [])) next e)) (record {
       differ = differ_one same_name name-refl same_names done y h.differ new;
-      free = λ z k. by_place z (list_any (same_name z) done) refl (same_name z y) refl (sym (list_any-append (same_name z) done (y ∷ [])) ∙ k) (left_true _ _ both);
+      free = λ z k. by_place z (list_any (same_name z) done) refl (same_name z y) refl
+          (sym (list_any-append (same_name z) done (y ∷ [])) ∙ k) (left_true _ _ both);
     })
   where
-    by_place : (z : Symbol) (a : Bool) → list_any (same_name z) done ≡ a → (b : Bool) → same_name z x.symbol ≡ b → (a || (b || false)) ≡ true → free x.symbol ≡ true → free z ≡ true
+    by_place : (z : Symbol) (a : Bool) → list_any (same_name z) done ≡ a → (b : Bool) → same_name z x.symbol ≡ b
+        → (a || (b || false)) ≡ true → free x.symbol ≡ true → free z ≡ true
     by_place z true i b j k f = h.free z i
     by_place z false i true j k f = subst (λ w. free w ≡ true) (sym (same_names z x.symbol j)) f
     by_place z false i false j k f = absurd (false≢true k)
 
 pub all_fresh : (free : Symbol → Bool) (xs : List Name) (names : List Symbol) → each (new_name free) [] xs ≡ Ok names → Fresh free names
 all_fresh free xs names e =
-    each_keeps (Fresh free) (new_name free) (λ a b x h k. one_fresh free a b x h k) xs [] names (record { differ = refl; free = λ x h. absurd (false≢true h) }) e
+    each_keeps (Fresh free) (new_name free) (λ a b x h k. one_fresh free a b x h k) xs [] names
+    (record { differ = refl; free = λ x h. absurd (false≢true h) }) e
 
 pub keys_typed : (t : TypeId) (names : List Symbol) → keys (map (λ x. pair x t) names) ≡ names
 keys_typed t [] = refl
@@ -209,13 +235,15 @@ module _ (k : Known) (x : Symbol) where
   meant_start : (m : Meaning) → found (names_from_start k.start) x ≡ Some m → Meant k x m
   meant_start m e = by_names (same_name k.start.integer x) (same_name k.start.boolean x) (same_name k.start.list x) e
     where
-      by_names : (a b c : Bool) → cond a (Some (OfType integer_type)) (cond b (Some (OfType boolean_type)) (cond c (Some OfList) None)) ≡ Some m → Meant k x m
+      by_names : (a b c : Bool) → cond a (Some (OfType integer_type)) (cond b (Some (OfType boolean_type)) (cond c (Some OfList) None))
+          ≡ Some m → Meant k x m
       by_names true b c f = subst (Meant k x) (some_is f) meant_number
       by_names false true c f = subst (Meant k x) (some_is f) meant_truth
       by_names false false true f = subst (Meant k x) (some_is f) meant_list
       by_names false false false f = absurd (nothing_there f)
 
-  mapped_to : {X : Type 0} (f : X → Meaning) (o : Option X) (m : Meaning) → ((y : X) → o ≡ Some y → Meant k x (f y)) → option_map f o ≡ Some m → Meant k x m
+  mapped_to : {X : Type 0} (f : X → Meaning) (o : Option X) (m : Meaning) → ((y : X) → o ≡ Some y → Meant k x (f y))
+      → option_map f o ≡ Some m → Meant k x m
   mapped_to f o m go e = mapped_case f o m (Meant k x m) e (λ y h same. subst (Meant k x) same (go y h))
 
   pub meant : (m : Meaning) → found (program_names k) x ≡ Some m → Meant k x m
@@ -225,14 +253,20 @@ module _ (k : Known) (x : Symbol) where
       let variables = named OfPlace k.program.variables in
       let types = named OfType k.program.types in
       let constants = named OfConstant k.program.constants in
-      first_case (found (names_from_start k.start) x) (found (constants ++ (types ++ (variables ++ (symbols ++ routines)))) x) m (Meant k x m) (sym (found_append (names_from_start k.start) (constants ++ (types ++ (variables ++ (symbols ++ routines)))) x) ∙ e)
+      first_case (found (names_from_start k.start) x) (found (constants ++ (types ++ (variables ++ (symbols ++ routines)))) x) m
+      (Meant k x m) (sym (found_append (names_from_start k.start) (constants ++ (types ++ (variables ++ (symbols ++ routines)))) x) ∙ e)
       (meant_start m)
-      (λ none_one one. first_case (found constants x) (found (types ++ (variables ++ (symbols ++ routines))) x) m (Meant k x m) (sym (found_append constants (types ++ (variables ++ (symbols ++ routines))) x) ∙ one)
+      (λ none_one one. first_case (found constants x) (found (types ++ (variables ++ (symbols ++ routines))) x) m (Meant k x m)
+      (sym (found_append constants (types ++ (variables ++ (symbols ++ routines))) x) ∙ one)
       (λ h. mapped_to OfConstant (found k.program.constants x) m meant_constant (sym (found_mapped OfConstant k.program.constants x) ∙ h))
-      (λ none_two two. first_case (found types x) (found (variables ++ (symbols ++ routines)) x) m (Meant k x m) (sym (found_append types (variables ++ (symbols ++ routines)) x) ∙ two)
+      (λ none_two two. first_case (found types x) (found (variables ++ (symbols ++ routines)) x) m (Meant k x m)
+      (sym (found_append types (variables ++ (symbols ++ routines)) x) ∙ two)
       (λ h. mapped_to OfType (found k.program.types x) m meant_type (sym (found_mapped OfType k.program.types x) ∙ h))
-      (λ none_three three. first_case (found variables x) (found (symbols ++ routines) x) m (Meant k x m) (sym (found_append variables (symbols ++ routines) x) ∙ three)
+      (λ none_three three. first_case (found variables x) (found (symbols ++ routines) x) m (Meant k x m)
+      (sym (found_append variables (symbols ++ routines) x) ∙ three)
       (λ h. mapped_to OfPlace (found k.program.variables x) m meant_place (sym (found_mapped OfPlace k.program.variables x) ∙ h))
       (λ none_four four. first_case (found symbols x) (found routines x) m (Meant k x m) (sym (found_append symbols routines x) ∙ four)
-      (λ h. mapped_to OfSymbol (found (symbols_named k.program.symbols) x) m meant_symbol (sym (found_items (λ (d : Decl). d.name) OfSymbol k.program.symbols x) ∙ h))
-      (λ none_five five. mapped_to OfRoutine (found (headings_named k.headings) x) m meant_routine (sym (found_items (λ (g : Heading). g.name) OfRoutine k.headings x) ∙ five))))))
+      (λ h. mapped_to OfSymbol (found (symbols_named k.program.symbols) x) m meant_symbol
+      (sym (found_items (λ (d : Decl). d.name) OfSymbol k.program.symbols x) ∙ h))
+      (λ none_five five. mapped_to OfRoutine (found (headings_named k.headings) x) m meant_routine
+      (sym (found_items (λ (g : Heading). g.name) OfRoutine k.headings x) ∙ five))))))

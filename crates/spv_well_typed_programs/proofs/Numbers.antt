@@ -18,7 +18,8 @@ none_more n = omega arith
 head_leads : (f place : ℕ) → Some f ≡ Some (place + 0) → nat_eq f place ≡ true
 head_leads f place e = eq-eqb f place (some_is e ∙ none_more place)
 
-kinds_step : (n place f : ℕ) (fs : List ℕ) (b : Bool) → nat_eq f place ≡ b → kinds_before (suc n) place (f ∷ fs) ≡ cond b (suc (kinds_before n (suc place) fs)) (kinds_before n (suc place) fs)
+kinds_step : (n place f : ℕ) (fs : List ℕ) (b : Bool) → nat_eq f place ≡ b
+    → kinds_before (suc n) place (f ∷ fs) ≡ cond b (suc (kinds_before n (suc place) fs)) (kinds_before n (suc place) fs)
 kinds_step n place f fs b e = ap (λ c. cond c (suc (kinds_before n (suc place) fs)) (kinds_before n (suc place) fs)) e
 
 -- one that leads its kind has a smaller new number than those behind it
@@ -36,7 +37,8 @@ kinds_less (suc i) zero place (f ∷ fs) h e = absurd (no i h)
   where
     no : (i : ℕ) → suc i < 0 → ⊥
     no i h = omega arith
-kinds_less (suc i) (suc j) place (f ∷ fs) h e = by_head (nat_eq f place) refl (kinds_less i j (suc place) fs (one_less i j h) (e ∙ ap Some (moved place i)))
+kinds_less (suc i) (suc j) place (f ∷ fs) h e =
+    by_head (nat_eq f place) refl (kinds_less i j (suc place) fs (one_less i j h) (e ∙ ap Some (moved place i)))
   where
     one_less : (i j : ℕ) → suc i < suc j → i < j
     one_less i j h = omega arith
@@ -47,7 +49,8 @@ kinds_less (suc i) (suc j) place (f ∷ fs) h e = by_head (nat_eq f place) refl 
     neither : (a b c d : ℕ) → a ≡ c → b ≡ d → c < d → a < b
     neither a b c d e f h = omega arith
 
-    by_head : (b : Bool) → nat_eq f place ≡ b → kinds_before i (suc place) fs < kinds_before j (suc place) fs → kinds_before (suc i) place (f ∷ fs) < kinds_before (suc j) place (f ∷ fs)
+    by_head : (b : Bool) → nat_eq f place ≡ b → kinds_before i (suc place) fs < kinds_before j (suc place) fs
+        → kinds_before (suc i) place (f ∷ fs) < kinds_before (suc j) place (f ∷ fs)
     by_head true k h = both _ _ _ _ (kinds_step i place f fs true k) (kinds_step j place f fs true k) h
     by_head false k h = neither _ _ _ _ (kinds_step i place f fs false k) (kinds_step j place f fs false k) h
 
@@ -73,8 +76,10 @@ module _ (names : List (Symbol × TypeId)) (new : TypeId → TypeId) where
   formed w = form_with new (form_of names w)
 
   forms_step : (place f : ℕ) (fs : List ℕ) (w : Written) (ws : List Written) (b : Bool) → nat_eq f place ≡ b
-      → forms_from names new place (f ∷ fs) (w ∷ ws) ≡ cond b (formed w ∷ forms_from names new (suc place) fs ws) (forms_from names new (suc place) fs ws)
-  forms_step place f fs w ws b e = ap (λ c. cond c (formed w ∷ forms_from names new (suc place) fs ws) (forms_from names new (suc place) fs ws)) e
+      → forms_from names new place (f ∷ fs) (w ∷ ws)
+      ≡ cond b (formed w ∷ forms_from names new (suc place) fs ws) (forms_from names new (suc place) fs ws)
+  forms_step place f fs w ws b e =
+      ap (λ c. cond c (formed w ∷ forms_from names new (suc place) fs ws) (forms_from names new (suc place) fs ws)) e
 
   -- the form of one that leads its kind stands at its new number
   pub form_at_new : (i place : ℕ) (fs : List ℕ) (ws : List Written) (w : Written) → item_at fs i ≡ Some (place + i) → item_at ws i ≡ Some w
@@ -86,8 +91,10 @@ module _ (names : List (Symbol × TypeId)) (new : TypeId → TypeId) where
   form_at_new (suc i) place (f ∷ fs) (v ∷ ws) w e h =
       by_head (nat_eq f place) refl (form_at_new i (suc place) fs ws w (e ∙ ap Some (moved place i)) h)
     where
-      by_head : (b : Bool) → nat_eq f place ≡ b → item_at (forms_from names new (suc place) fs ws) (kinds_before i (suc place) fs) ≡ Some (form_with new (form_of names w))
-          → item_at (forms_from names new place (f ∷ fs) (v ∷ ws)) (kinds_before (suc i) place (f ∷ fs)) ≡ Some (form_with new (form_of names w))
+      by_head : (b : Bool) → nat_eq f place ≡ b
+          → item_at (forms_from names new (suc place) fs ws) (kinds_before i (suc place) fs) ≡ Some (form_with new (form_of names w))
+          → item_at (forms_from names new place (f ∷ fs) (v ∷ ws)) (kinds_before (suc i) place (f ∷ fs))
+          ≡ Some (form_with new (form_of names w))
       by_head true k r =
           ap (λ l. item_at l (kinds_before (suc i) place (f ∷ fs))) (forms_step place f fs v ws true k)
           ∙ (ap (item_at (formed v ∷ forms_from names new (suc place) fs ws)) (kinds_step i place f fs true k) ∙ r)
@@ -104,7 +111,8 @@ module _ (names : List (Symbol × TypeId)) (new : TypeId → TypeId) where
     pub form : form_with new (form_of names written) ≡ g
     pub number : kinds_before old place fs ≡ j
 
-  further : (place f : ℕ) (fs : List ℕ) (w : Written) (ws : List Written) (j : ℕ) (g : TypeForm) → nat_eq f place ≡ false → Source (suc place) fs ws j g → Source place (f ∷ fs) (w ∷ ws) j g
+  further : (place f : ℕ) (fs : List ℕ) (w : Written) (ws : List Written) (j : ℕ) (g : TypeForm) → nat_eq f place ≡ false
+      → Source (suc place) fs ws j g → Source place (f ∷ fs) (w ∷ ws) j g
   further place f fs w ws j g k r = record {
     old = suc r.old;
     leads = r.leads ∙ ap Some (sym (moved place r.old));
@@ -114,7 +122,8 @@ module _ (names : List (Symbol × TypeId)) (new : TypeId → TypeId) where
     number = kinds_step r.old place f fs false k ∙ r.number;
   }
 
-  one_further : (place f : ℕ) (fs : List ℕ) (w : Written) (ws : List Written) (j : ℕ) (g : TypeForm) → nat_eq f place ≡ true → Source (suc place) fs ws j g → Source place (f ∷ fs) (w ∷ ws) (suc j) g
+  one_further : (place f : ℕ) (fs : List ℕ) (w : Written) (ws : List Written) (j : ℕ) (g : TypeForm) → nat_eq f place ≡ true
+      → Source (suc place) fs ws j g → Source place (f ∷ fs) (w ∷ ws) (suc j) g
   one_further place f fs w ws j g k r = record {
     old = suc r.old;
     leads = r.leads ∙ ap Some (sym (moved place r.old));
@@ -124,13 +133,16 @@ module _ (names : List (Symbol × TypeId)) (new : TypeId → TypeId) where
     number = kinds_step r.old place f fs true k ∙ ap suc r.number;
   }
 
-  pub source_of : (place : ℕ) (fs : List ℕ) (ws : List Written) (j : ℕ) (g : TypeForm) → item_at (forms_from names new place fs ws) j ≡ Some g → Source place fs ws j g
+  pub source_of : (place : ℕ) (fs : List ℕ) (ws : List Written) (j : ℕ) (g : TypeForm)
+      → item_at (forms_from names new place fs ws) j ≡ Some g → Source place fs ws j g
   source_of place [] ws j g e = absurd (nothing_there e)
   source_of place (f ∷ fs) [] j g e = absurd (nothing_there e)
   source_of place (f ∷ fs) (w ∷ ws) j g e = by_head (nat_eq f place) refl j e (λ k h. source_of (suc place) fs ws k g h)
     where
-      by_head : (b : Bool) → nat_eq f place ≡ b → (j : ℕ) → item_at (cond b (formed w ∷ forms_from names new (suc place) fs ws) (forms_from names new (suc place) fs ws)) j ≡ Some g
-          → ((k : ℕ) → item_at (forms_from names new (suc place) fs ws) k ≡ Some g → Source (suc place) fs ws k g) → Source place (f ∷ fs) (w ∷ ws) j g
+      by_head : (b : Bool) → nat_eq f place ≡ b → (j : ℕ)
+          → item_at (cond b (formed w ∷ forms_from names new (suc place) fs ws) (forms_from names new (suc place) fs ws)) j ≡ Some g
+          → ((k : ℕ) → item_at (forms_from names new (suc place) fs ws) k ≡ Some g → Source (suc place) fs ws k g)
+          → Source place (f ∷ fs) (w ∷ ws) j g
       by_head false k j h rest = further place f fs w ws j g k (rest j h)
       by_head true k zero h rest = record {
         old = 0;

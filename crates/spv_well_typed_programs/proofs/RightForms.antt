@@ -31,7 +31,8 @@ pub data Fits (n : ℕ) (ranges : ℕ → Bool) (i : ℕ) : TypeForm → Type 0 
   range_fits : (low high : ℤ) → not (int_lt high low) ≡ true → Fits n ranges i (Range low high)
   pointer_fits : (t : TypeId) → t.0 < n → Fits n ranges i (Pointer t)
   array_fits : (index element : TypeId) → index.0 < i → element.0 < i → ranges index.0 ≡ true → Fits n ranges i (Array index element)
-  record_fits : (fields : List TypeField) → FieldsBelow i fields → names_differ (map (λ f. f.name) fields) ≡ true → Fits n ranges i (Record fields)
+  record_fits : (fields : List TypeField) → FieldsBelow i fields → names_differ (map (λ f. f.name) fields) ≡ true
+      → Fits n ranges i (Record fields)
 
 abbrev pub ranges_of : List TypeForm → ℕ → Bool
 ranges_of forms i = is_range (form_at forms i)
@@ -69,7 +70,8 @@ module _ (forms : List TypeForm) (good : GoodForms forms) where
 
   -- ---- parts
 
-  form_may_be_part : (t : TypeId) (f : TypeForm) → t.0 < length forms → form_at forms t.0 ≡ f → Fits (length forms) (ranges_of forms) t.0 f → may_be_part here (sort_of_form f t) ≡ true
+  form_may_be_part : (t : TypeId) (f : TypeForm) → t.0 < length forms → form_at forms t.0 ≡ f
+      → Fits (length forms) (ranges_of forms) t.0 f → may_be_part here (sort_of_form f t) ≡ true
   form_may_be_part t f h e integer_fits = refl
   form_may_be_part t f h e boolean_fits = refl
   form_may_be_part t f h e (range_fits low high k) = refl
@@ -86,17 +88,22 @@ module _ (forms : List TypeForm) (good : GoodForms forms) where
   abbrev with_sort : TypeField → Field
   with_sort f = record { name = f.name; sort = sort_of forms f.of }
 
-  none_alike : (x : Symbol) (fields : List TypeField) → list_any (same_name x) (map (λ f. f.name) fields) ≡ list_any (λ (g : Field). nat_eq x.0 g.name.0) (map (λ (f : TypeField). with_sort f) fields)
+  none_alike : (x : Symbol) (fields : List TypeField)
+      → list_any (same_name x) (map (λ f. f.name) fields)
+      ≡ list_any (λ (g : Field). nat_eq x.0 g.name.0) (map (λ (f : TypeField). with_sort f) fields)
   none_alike x [] = refl
   none_alike x (f ∷ fields) = ap (λ b. nat_eq x.0 f.name.0 || b) (none_alike x fields)
 
-  differ_alike : (fields : List TypeField) → names_differ (map (λ f. f.name) fields) ≡ shapes.names_differ (map (λ (f : TypeField). with_sort f) fields)
+  differ_alike : (fields : List TypeField)
+      → names_differ (map (λ f. f.name) fields) ≡ shapes.names_differ (map (λ (f : TypeField). with_sort f) fields)
   differ_alike [] = refl
   differ_alike (f ∷ fields) =
       ap (λ b. not b && names_differ (map (λ g. g.name) fields)) (none_alike f.name fields)
-      ∙ ap (λ b. not (list_any (λ (g : Field). nat_eq f.name.0 g.name.0) (map (λ (g : TypeField). with_sort g) fields)) && b) (differ_alike fields)
+      ∙ ap (λ b. not (list_any (λ (g : Field). nat_eq f.name.0 g.name.0) (map (λ (g : TypeField). with_sort g) fields)) && b)
+      (differ_alike fields)
 
-  one_shape : (i : ℕ) (f : TypeForm) → i < length forms → Fits (length forms) (ranges_of forms) i f → shape_ok here (shape_of_form forms f) ≡ true
+  one_shape : (i : ℕ) (f : TypeForm) → i < length forms → Fits (length forms) (ranges_of forms) i f
+      → shape_ok here (shape_of_form forms f) ≡ true
   one_shape i f h integer_fits = refl
   one_shape i f h boolean_fits = refl
   one_shape i f h (range_fits low high k) = refl
@@ -105,7 +112,8 @@ module _ (forms : List TypeForm) (good : GoodForms forms) where
   one_shape i f h (record_fits fields b d) =
       both_true
       (all_map (λ (g : Field). may_be_part here g.sort) (λ (g : TypeField). with_sort g) fields
-      ∙ all_at (λ (g : TypeField). may_be_part here (sort_of forms g.of)) fields (λ k g e. part_fits g.of (lower g.of.0 i (length forms) (b.each k g e) h)))
+      ∙ all_at (λ (g : TypeField). may_be_part here (sort_of forms g.of)) fields
+      (λ k g e. part_fits g.of (lower g.of.0 i (length forms) (b.each k g e) h)))
       (sym (differ_alike fields) ∙ d)
 
   one_form : (i : ℕ) (f : TypeForm) → i < length forms → Fits (length forms) (ranges_of forms) i f → form_ok forms f ≡ true
@@ -115,7 +123,8 @@ module _ (forms : List TypeForm) (good : GoodForms forms) where
   one_form i f h (pointer_fits t k) = in_forms t k
   one_form i f h (array_fits index element j k r) = both_true r (in_forms element (lower element.0 i (length forms) k h))
   one_form i f h (record_fits fields b d) =
-      both_true (all_at (λ (g : TypeField). type_exists forms g.of) fields (λ k g e. in_forms g.of (lower g.of.0 i (length forms) (b.each k g e) h))) d
+      both_true (all_at (λ (g : TypeField). type_exists forms g.of) fields
+      (λ k g e. in_forms g.of (lower g.of.0 i (length forms) (b.each k g e) h))) d
 
   -- ---- no type contains itself
 
@@ -132,7 +141,8 @@ module _ (forms : List TypeForm) (good : GoodForms forms) where
   no_fields i [] h b = refl
   no_fields i (f ∷ fields) h b = not_below_zero i h f.of.0 (b.each 0 f refl)
 
-  ends_now : (t : TypeId) (f : TypeForm) → t.0 ≤ 0 → form_at forms t.0 ≡ f → Fits (length forms) (ranges_of forms) t.0 f → ends_within 0 here (sort_of_form f t) ≡ true
+  ends_now : (t : TypeId) (f : TypeForm) → t.0 ≤ 0 → form_at forms t.0 ≡ f → Fits (length forms) (ranges_of forms) t.0 f
+      → ends_within 0 here (sort_of_form f t) ≡ true
   ends_now t f h e integer_fits = refl
   ends_now t f h e boolean_fits = refl
   ends_now t f h e (range_fits low high k) = refl
@@ -142,8 +152,10 @@ module _ (forms : List TypeForm) (good : GoodForms forms) where
       ap (λ s. shapes.no_sorts (part_sorts s)) (shape_known t f e)
       ∙ ap (λ fs. shapes.no_sorts (map (λ (g : Field). g.sort) (map (λ (g : TypeField). with_sort g) fs))) (no_fields t.0 fields h b)
 
-  ends_later : (d : ℕ) (t : TypeId) (f : TypeForm) → t.0 ≤ suc d → t.0 < length forms → form_at forms t.0 ≡ f → Fits (length forms) (ranges_of forms) t.0 f
-      → ((u : TypeId) → u.0 ≤ d → u.0 < length forms → ends_within d here (sort_of forms u) ≡ true) → ends_within (suc d) here (sort_of_form f t) ≡ true
+  ends_later : (d : ℕ) (t : TypeId) (f : TypeForm) → t.0 ≤ suc d → t.0 < length forms → form_at forms t.0 ≡ f
+      → Fits (length forms) (ranges_of forms) t.0 f
+      → ((u : TypeId) → u.0 ≤ d → u.0 < length forms → ends_within d here (sort_of forms u) ≡ true)
+      → ends_within (suc d) here (sort_of_form f t) ≡ true
   ends_later d t f h g e integer_fits later = refl
   ends_later d t f h g e boolean_fits later = refl
   ends_later d t f h g e (range_fits low high k) later = refl
@@ -172,7 +184,8 @@ module _ (forms : List TypeForm) (good : GoodForms forms) where
       subst (λ n. ends_within n here (sort_of forms t) ≡ true) (sym (length-map forms (shape_of_form forms)))
       (ends (length forms) t (at_most t.0 i (length forms) h g) (lower t.0 i (length forms) h g))
 
-  parts_end : (i : ℕ) (f : TypeForm) → i < length forms → Fits (length forms) (ranges_of forms) i f → list_all (ends_within (length here) here) (part_sorts (shape_of_form forms f)) ≡ true
+  parts_end : (i : ℕ) (f : TypeForm) → i < length forms → Fits (length forms) (ranges_of forms) i f
+      → list_all (ends_within (length here) here) (part_sorts (shape_of_form forms f)) ≡ true
   parts_end i f h integer_fits = refl
   parts_end i f h boolean_fits = refl
   parts_end i f h (range_fits low high k) = refl
@@ -181,7 +194,8 @@ module _ (forms : List TypeForm) (good : GoodForms forms) where
   parts_end i f h (record_fits fields b d) =
       all_map (ends_within (length here) here) (λ (k : Field). k.sort) (map (λ (k : TypeField). with_sort k) fields)
       ∙ (all_map (λ (k : Field). ends_within (length here) here k.sort) (λ (k : TypeField). with_sort k) fields
-      ∙ all_at (λ (k : TypeField). ends_within (length here) here (sort_of forms k.of)) fields (λ n k is. ends_all k.of i (b.each n k is) h))
+      ∙ all_at (λ (k : TypeField). ends_within (length here) here (sort_of forms k.of)) fields
+      (λ n k is. ends_all k.of i (b.each n k is) h))
 
   -- ---- all of it
 
@@ -189,6 +203,8 @@ module _ (forms : List TypeForm) (good : GoodForms forms) where
   forms_are_right =
       both_true (all_at (form_ok forms) forms (λ i f e. one_form i f (item_within forms i f e) (good.fits i f e)))
       (both_true
-      (all_map (shape_ok here) (shape_of_form forms) forms ∙ all_at (λ f. shape_ok here (shape_of_form forms f)) forms (λ i f e. one_shape i f (item_within forms i f e) (good.fits i f e)))
+      (all_map (shape_ok here) (shape_of_form forms) forms
+      ∙ all_at (λ f. shape_ok here (shape_of_form forms f)) forms (λ i f e. one_shape i f (item_within forms i f e) (good.fits i f e)))
       (all_map (λ s. list_all (ends_within (length here) here) (part_sorts s)) (shape_of_form forms) forms
-      ∙ all_at (λ f. list_all (ends_within (length here) here) (part_sorts (shape_of_form forms f))) forms (λ i f e. parts_end i f (item_within forms i f e) (good.fits i f e))))
+      ∙ all_at (λ f. list_all (ends_within (length here) here) (part_sorts (shape_of_form forms f))) forms
+      (λ i f e. parts_end i f (item_within forms i f e) (good.fits i f e))))

@@ -46,29 +46,41 @@ pub sees_none : (q : Program) → Sees q [] []
 sees_none q = record { place = λ x t e. absurd (nothing_there e); start = λ x s e. absurd (nothing_there e); none = λ x e. refl }
 
 pub plain_none : (q : Program) → OwnPlain q []
-plain_none q = record { place_there = λ x t e. absurd (nothing_there e); start_there = λ x s e. absurd (nothing_there e); plain = λ x m e. absurd (nothing_there e) }
+plain_none q = record {
+  place_there = λ x t e. absurd (nothing_there e);
+  start_there = λ x s e. absurd (nothing_there e);
+  plain =
+      λ x m e. absurd (nothing_there e);
+}
 
-either_place : (a b : Names) (front back : program.Scope) (x : Symbol) (m : Meaning) (s : Sort) → (found a x ≡ Some m → found front x ≡ Some s) → (found a x ≡ None → found front x ≡ None) → (found b x ≡ Some m → found back x ≡ Some s)
+either_place : (a b : Names) (front back : program.Scope) (x : Symbol) (m : Meaning) (s : Sort)
+    → (found a x ≡ Some m → found front x ≡ Some s) → (found a x ≡ None → found front x ≡ None)
+    → (found b x ≡ Some m → found back x ≡ Some s)
     → found (a ++ b) x ≡ Some m → found (front ++ back) x ≡ Some s
 either_place a b front back x m s one none two e =
     first_case (found a x) (found b x) m (found (front ++ back) x ≡ Some s) (sym (found_append a b x) ∙ e)
     (λ h. found_append front back x ∙ ap (λ o. first_of o (found back x)) (one h))
     (λ h g. found_append front back x ∙ (ap (λ o. first_of o (found back x)) (none h) ∙ two g))
 
-pub sees_append : (q : Program) (a b : Names) (front back : program.Scope) → Sees q a front → Sees q b back → Sees q (a ++ b) (front ++ back)
+pub sees_append : (q : Program) (a b : Names) (front back : program.Scope) → Sees q a front → Sees q b back
+    → Sees q (a ++ b) (front ++ back)
 sees_append q a b front back g h = record {
   place = λ x t e. either_place a b front back x (OfPlace t) (sort_of q.forms t) (g.place x t) (g.none x) (h.place x t) e;
   start = λ x s e. either_place a b front back x (OfStart s) s (g.start x s) (g.none x) (h.start x s) e;
   none = λ x e.
       let both = sym (found_append a b x) ∙ e in
-      found_append front back x ∙ (ap (λ o. first_of o (found back x)) (g.none x (first_none (found a x) (found b x) both)) ∙ h.none x (second_none (found a x) (found b x) both));
+      found_append front back x ∙ (ap (λ o. first_of o (found back x)) (g.none x (first_none (found a x) (found b x) both))
+      ∙ h.none x (second_none (found a x) (found b x) both));
 }
 
 pub plain_append : (q : Program) (a b : Names) → OwnPlain q a → OwnPlain q b → OwnPlain q (a ++ b)
 plain_append q a b g h = record {
-  place_there = λ x t e. first_case (found a x) (found b x) (OfPlace t) (type_exists q.forms t ≡ true) (sym (found_append a b x) ∙ e) (g.place_there x t) (λ k f. h.place_there x t f);
-  start_there = λ x s e. first_case (found a x) (found b x) (OfStart s) (sort_in_range (shapes q) s ≡ true) (sym (found_append a b x) ∙ e) (g.start_there x s) (λ k f. h.start_there x s f);
-  plain = λ x m e. first_case (found a x) (found b x) m (is_plain m ≡ true) (sym (found_append a b x) ∙ e) (g.plain x m) (λ k f. h.plain x m f);
+  place_there = λ x t e. first_case (found a x) (found b x) (OfPlace t) (type_exists q.forms t ≡ true) (sym (found_append a b x) ∙ e)
+      (g.place_there x t) (λ k f. h.place_there x t f);
+  start_there = λ x s e. first_case (found a x) (found b x) (OfStart s) (sort_in_range (shapes q) s ≡ true) (sym (found_append a b x) ∙ e)
+      (g.start_there x s) (λ k f. h.start_there x s f);
+  plain = λ x m e. first_case (found a x) (found b x) m (is_plain m ≡ true) (sym (found_append a b x) ∙ e) (g.plain x m)
+      (λ k f. h.plain x m f);
 }
 
 abbrev pub type_in : TypeId → Meaning → TypeId
@@ -104,7 +116,8 @@ routine_in other (OfRoutine h) = h
 routine_in other _ = other
 
 -- what a named list tells
-pub named_told : {X : Type 0} (f : X → Meaning) (xs : List (Symbol × X)) (x : Symbol) (m : Meaning) (P : Type 0) → found (named f xs) x ≡ Some m → ((y : X) → found xs x ≡ Some y → f y ≡ m → P) → P
+pub named_told : {X : Type 0} (f : X → Meaning) (xs : List (Symbol × X)) (x : Symbol) (m : Meaning) (P : Type 0)
+    → found (named f xs) x ≡ Some m → ((y : X) → found xs x ≡ Some y → f y ≡ m → P) → P
 named_told f xs x m P e go = mapped_case f (found xs x) m P (sym (found_mapped f xs x) ∙ e) go
 
 pub named_none : {X : Type 0} (f : X → Meaning) (xs : List (Symbol × X)) (x : Symbol) → found (named f xs) x ≡ None → found xs x ≡ None
@@ -114,37 +127,46 @@ named_none {X} f xs x e = none_in (found xs x) (sym (found_mapped f xs x) ∙ e)
     none_in None k = refl
     none_in (Some y) k = absurd (nothing_there (sym k))
 
-pub none_named : {X Y : Type 0} (f : X → Y) (xs : List (Symbol × X)) (x : Symbol) → found xs x ≡ None → found (map (λ (n : Symbol × X). pair n.0 (f n.1)) xs) x ≡ None
+pub none_named : {X Y : Type 0} (f : X → Y) (xs : List (Symbol × X)) (x : Symbol) → found xs x ≡ None
+    → found (map (λ (n : Symbol × X). pair n.0 (f n.1)) xs) x ≡ None
 none_named f xs x e = found_mapped f xs x ∙ ap (option_map f) e
 
 pub sees_places : (q : Program) (types : List (Symbol × TypeId)) → Sees q (named OfPlace types) (with_sorts_of q types)
 sees_places q types = record {
   place = λ x t e. named_told OfPlace types x (OfPlace t) (found (with_sorts_of q types) x ≡ Some (sort_of q.forms t)) e
-      (λ u h same. found_mapped (sort_of q.forms) types x ∙ (ap (option_map (sort_of q.forms)) h ∙ ap (λ m. Some (sort_of q.forms (type_in t m))) same));
-  start = λ x s e. named_told OfPlace types x (OfStart s) (found (with_sorts_of q types) x ≡ Some s) e (λ u h same. absurd (false≢true (sym (ap is_place same))));
+      (λ u h same. found_mapped (sort_of q.forms) types x
+      ∙ (ap (option_map (sort_of q.forms)) h ∙ ap (λ m. Some (sort_of q.forms (type_in t m))) same));
+  start = λ x s e. named_told OfPlace types x (OfStart s) (found (with_sorts_of q types) x ≡ Some s) e
+      (λ u h same. absurd (false≢true (sym (ap is_place same))));
   none = λ x e. none_named (sort_of q.forms) types x (named_none OfPlace types x e);
 }
 
 pub sees_starts : (q : Program) (sorts : List (Symbol × Sort)) → Sees q (named OfStart sorts) sorts
 sees_starts q sorts = record {
-  place = λ x t e. named_told OfStart sorts x (OfPlace t) (found sorts x ≡ Some (sort_of q.forms t)) e (λ u h same. absurd (false≢true (sym (ap is_start same))));
+  place = λ x t e. named_told OfStart sorts x (OfPlace t) (found sorts x ≡ Some (sort_of q.forms t)) e
+      (λ u h same. absurd (false≢true (sym (ap is_start same))));
   start = λ x s e. named_told OfStart sorts x (OfStart s) (found sorts x ≡ Some s) e (λ u h same. h ∙ ap (λ m. Some (sort_in s m)) same);
   none = λ x e. named_none OfStart sorts x e;
 }
 
-pub plain_places : (q : Program) (types : List (Symbol × TypeId)) → list_all (λ (n : Symbol × TypeId). type_exists q.forms n.1) types ≡ true → OwnPlain q (named OfPlace types)
+pub plain_places : (q : Program) (types : List (Symbol × TypeId))
+    → list_all (λ (n : Symbol × TypeId). type_exists q.forms n.1) types ≡ true → OwnPlain q (named OfPlace types)
 plain_places q types all = record {
   place_there = λ x t e. named_told OfPlace types x (OfPlace t) (type_exists q.forms t ≡ true) e
       (λ u h same. subst (λ v. type_exists q.forms v ≡ true) (ap (type_in t) same) (found_all (type_exists q.forms) types x u all h));
-  start_there = λ x s e. named_told OfPlace types x (OfStart s) (sort_in_range (shapes q) s ≡ true) e (λ u h same. absurd (false≢true (sym (ap is_place same))));
+  start_there = λ x s e. named_told OfPlace types x (OfStart s) (sort_in_range (shapes q) s ≡ true) e
+      (λ u h same. absurd (false≢true (sym (ap is_place same))));
   plain = λ x m e. named_told OfPlace types x m (is_plain m ≡ true) e (λ u h same. ap is_plain (sym same));
 }
 
-pub plain_starts : (q : Program) (sorts : List (Symbol × Sort)) → list_all (λ (n : Symbol × Sort). sort_in_range (shapes q) n.1) sorts ≡ true → OwnPlain q (named OfStart sorts)
+pub plain_starts : (q : Program) (sorts : List (Symbol × Sort))
+    → list_all (λ (n : Symbol × Sort). sort_in_range (shapes q) n.1) sorts ≡ true → OwnPlain q (named OfStart sorts)
 plain_starts q sorts all = record {
-  place_there = λ x t e. named_told OfStart sorts x (OfPlace t) (type_exists q.forms t ≡ true) e (λ u h same. absurd (false≢true (sym (ap is_start same))));
+  place_there = λ x t e. named_told OfStart sorts x (OfPlace t) (type_exists q.forms t ≡ true) e
+      (λ u h same. absurd (false≢true (sym (ap is_start same))));
   start_there = λ x s e. named_told OfStart sorts x (OfStart s) (sort_in_range (shapes q) s ≡ true) e
-      (λ u h same. subst (λ v. sort_in_range (shapes q) v ≡ true) (ap (sort_in s) same) (found_all (sort_in_range (shapes q)) sorts x u all h));
+      (λ u h same. subst (λ v. sort_in_range (shapes q) v ≡ true) (ap (sort_in s) same)
+      (found_all (sort_in_range (shapes q)) sorts x u all h));
   plain = λ x m e. named_told OfStart sorts x m (is_plain m ≡ true) e (λ u h same. ap is_plain (sym same));
 }
 
@@ -154,8 +176,10 @@ is_constant _ = false
 
 pub plain_constants : (q : Program) (numbers : List (Symbol × ℤ)) → OwnPlain q (named OfConstant numbers)
 plain_constants q numbers = record {
-  place_there = λ x t e. named_told OfConstant numbers x (OfPlace t) (type_exists q.forms t ≡ true) e (λ u h same. absurd (false≢true (sym (ap is_constant same))));
-  start_there = λ x s e. named_told OfConstant numbers x (OfStart s) (sort_in_range (shapes q) s ≡ true) e (λ u h same. absurd (false≢true (sym (ap is_constant same))));
+  place_there = λ x t e. named_told OfConstant numbers x (OfPlace t) (type_exists q.forms t ≡ true) e
+      (λ u h same. absurd (false≢true (sym (ap is_constant same))));
+  start_there = λ x s e. named_told OfConstant numbers x (OfStart s) (sort_in_range (shapes q) s ≡ true) e
+      (λ u h same. absurd (false≢true (sym (ap is_constant same))));
   plain = λ x m e. named_told OfConstant numbers x m (is_plain m ≡ true) e (λ u h same. ap is_plain (sym same));
 }
 
@@ -165,7 +189,8 @@ pub declared_found : (ds : List Decl) (x : Symbol) → declared ds x.0 ≡ found
 declared_found [] x = refl
 declared_found (d ∷ ds) x = ap (λ o. cond (nat_eq d.name.0 x.0) (Some d) o) (declared_found ds x)
 
-symbol_right : (q : Program) (ds : List Decl) (x : ℕ) (d : Decl) → list_all (symbol_ok q) ds ≡ true → declared ds x ≡ Some d → symbol_ok q d ≡ true
+symbol_right : (q : Program) (ds : List Decl) (x : ℕ) (d : Decl) → list_all (symbol_ok q) ds ≡ true → declared ds x ≡ Some d
+    → symbol_ok q d ≡ true
 symbol_right q [] x d h e = absurd (nothing_there e)
 symbol_right q (c ∷ ds) x d h e = by_name (nat_eq c.name.0 x) e (symbol_right q ds x d (right_true (symbol_ok q c) _ h))
   where
@@ -183,7 +208,8 @@ module _ (s : Scope) (right : RightProgram s.known.program) (plain : OwnPlain s.
   -- a name that is no own one is one of the program
   pub of_program : (x : Symbol) (m : Meaning) → is_plain m ≡ false → meaning s x ≡ Some m → found (program_names s.known) x ≡ Some m
   of_program x m other e =
-      first_case (found s.own x) (found (program_names s.known) x) m (found (program_names s.known) x ≡ Some m) e (λ h. absurd (false≢true (sym other ∙ plain.plain x m h))) (λ none h. h)
+      first_case (found s.own x) (found (program_names s.known) x) m (found (program_names s.known) x ≡ Some m) e
+      (λ h. absurd (false≢true (sym other ∙ plain.plain x m h))) (λ none h. h)
 
   pub scope_types : (x : Symbol) (t : TypeId) → meaning s x ≡ Some (OfType t) → type_exists q.forms t ≡ true
   scope_types x t e = type_meant s.known x t right (of_program x (OfType t) refl e)
@@ -227,7 +253,8 @@ module _ (s : Scope) (right : RightProgram s.known.program) (plain : OwnPlain s.
       by_meaning m h (meant_symbol c g) =
           let same : c ≡ d = ap (symbol_in d) (sym h) in
           let is : found (symbols_named s.known.program.symbols) x ≡ Some d = g ∙ ap Some same in
-          ap (λ (y : Symbol). declared s.known.program.symbols y.0) (found_name (λ (a : Decl). a.name) s.known.program.symbols x d is) ∙ (declared_found s.known.program.symbols x ∙ is)
+          ap (λ (y : Symbol). declared s.known.program.symbols y.0) (found_name (λ (a : Decl). a.name) s.known.program.symbols x d is)
+          ∙ (declared_found s.known.program.symbols x ∙ is)
       by_meaning m h (meant_routine c g) = absurd (false≢true (sym (ap is_symbol h)))
 
   pub routine_meant : (x : Symbol) (h : Heading) → meaning s x ≡ Some (OfRoutine h) → found (headings_named s.known.headings) x ≡ Some h
@@ -244,29 +271,36 @@ module _ (s : Scope) (right : RightProgram s.known.program) (plain : OwnPlain s.
       by_meaning m k (meant_routine c g) = g ∙ ap (λ n. Some (routine_in h n)) (sym k)
 
   -- a place is an own one or a variable of the program
-  pub place_case : (x : Symbol) (t : TypeId) (P : Type 0) → meaning s x ≡ Some (OfPlace t) → (found s.own x ≡ Some (OfPlace t) → P) → (found s.own x ≡ None → found q.variables x ≡ Some t → P) → P
+  pub place_case : (x : Symbol) (t : TypeId) (P : Type 0) → meaning s x ≡ Some (OfPlace t) → (found s.own x ≡ Some (OfPlace t) → P)
+      → (found s.own x ≡ None → found q.variables x ≡ Some t → P) → P
   place_case x t P e one two =
       first_case (found s.own x) (found (program_names s.known) x) (OfPlace t) P e one (λ none h. two none (variable_meant x t h))
 
   pub place_there : (x : Symbol) (t : TypeId) → meaning s x ≡ Some (OfPlace t) → type_exists q.forms t ≡ true
   place_there x t e =
-      place_case x t (type_exists q.forms t ≡ true) e (plain.place_there x t) (λ none h. found_all (type_exists q.forms) q.variables x t right.variables h)
+      place_case x t (type_exists q.forms t ≡ true) e (plain.place_there x t)
+      (λ none h. found_all (type_exists q.forms) q.variables x t right.variables h)
 
   pub sees_alike : (front : program.Scope) → Sees q s.own front → SeesAlike s (front ++ with_sorts_of q q.variables)
   sees_alike front sees = record {
     places = λ x t e. place_case x t (found (front ++ with_sorts_of q q.variables) x ≡ Some (sort_of q.forms t)) e
-        (λ h. found_append front (with_sorts_of q q.variables) x ∙ ap (λ o. first_of o (found (with_sorts_of q q.variables) x)) (sees.place x t h))
-        (λ none h. found_append front (with_sorts_of q q.variables) x ∙ (ap (λ o. first_of o (found (with_sorts_of q q.variables) x)) (sees.none x none)
+        (λ h. found_append front (with_sorts_of q q.variables) x
+        ∙ ap (λ o. first_of o (found (with_sorts_of q q.variables) x)) (sees.place x t h))
+        (λ none h. found_append front (with_sorts_of q q.variables) x
+        ∙ (ap (λ o. first_of o (found (with_sorts_of q q.variables) x)) (sees.none x none)
         ∙ (found_mapped (sort_of q.forms) q.variables x ∙ ap (option_map (sort_of q.forms)) h)));
     place_types = place_there;
-    starts = λ x r e. first_case (found s.own x) (found (program_names s.known) x) (OfStart r) (found (front ++ with_sorts_of q q.variables) x ≡ Some r) e
-        (λ h. found_append front (with_sorts_of q q.variables) x ∙ ap (λ o. first_of o (found (with_sorts_of q q.variables) x)) (sees.start x r h))
+    starts = λ x r e. first_case (found s.own x) (found (program_names s.known) x) (OfStart r)
+        (found (front ++ with_sorts_of q q.variables) x ≡ Some r) e
+        (λ h. found_append front (with_sorts_of q q.variables) x
+        ∙ ap (λ o. first_of o (found (with_sorts_of q q.variables) x)) (sees.start x r h))
         (λ none h. absurd (no_start x r h));
     start_sorts = λ x r e. first_case (found s.own x) (found (program_names s.known) x) (OfStart r) (sort_in_range (shapes q) r ≡ true) e
         (plain.start_there x r) (λ none h. absurd (no_start x r h));
     types = scope_types;
     symbols = λ x d e. symbol_meant x d (of_program x (OfSymbol d) refl e);
     symbol_arguments = λ x d e. left_true _ _ (symbol_there q right d.name.0 d (symbol_meant x d (of_program x (OfSymbol d) refl e)));
-    symbol_sorts = λ x d e. right_true (list_all (sort_in_range (shapes q)) d.args) _ (symbol_there q right d.name.0 d (symbol_meant x d (of_program x (OfSymbol d) refl e)));
+    symbol_sorts = λ x d e. right_true (list_all (sort_in_range (shapes q)) d.args) _
+        (symbol_there q right d.name.0 d (symbol_meant x d (of_program x (OfSymbol d) refl e)));
     shapes_right = right_true _ _ (forms_pass q.forms right.forms);
   }

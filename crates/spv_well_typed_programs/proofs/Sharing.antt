@@ -35,12 +35,15 @@ item_turned i j = by_tests (same_item i j) refl (same_item j i) refl
     by_tests true e false f = absurd (false≢true (sym f ∙ subst (λ k. same_item j k ≡ true) (sym (same_items i j e)) (item-refl j)))
     by_tests false e true f = absurd (false≢true (sym e ∙ subst (λ k. same_item i k ≡ true) (sym (same_items j i f)) (item-refl i)))
 
-pub any_items : (item : Item) (globals : List GlobalItem) → list_any (λ (g : GlobalItem). same_item g.item item) globals ≡ list_any (same_item item) (items_in globals)
+pub any_items : (item : Item) (globals : List GlobalItem)
+    → list_any (λ (g : GlobalItem). same_item g.item item) globals ≡ list_any (same_item item) (items_in globals)
 any_items item [] = refl
 any_items item (g ∷ globals) =
-    ap (λ b. b || list_any (λ (k : GlobalItem). same_item k.item item) globals) (item_turned g.item item) ∙ ap (λ b. same_item item g.item || b) (any_items item globals)
+    ap (λ b. b || list_any (λ (k : GlobalItem). same_item k.item item) globals) (item_turned g.item item)
+    ∙ ap (λ b. same_item item g.item || b) (any_items item globals)
 
-pub variable_any : (x : Symbol) (items : List Item) → list_any (same_item (Variable x)) items ≡ list_any (same_name x) (variables_among items)
+pub variable_any : (x : Symbol) (items : List Item)
+    → list_any (same_item (Variable x)) items ≡ list_any (same_name x) (variables_among items)
 variable_any x [] = refl
 variable_any x (Variable y ∷ items) = ap (λ b. same_name x y || b) (variable_any x items)
 variable_any x (Class t ∷ items) = variable_any x items
@@ -58,5 +61,6 @@ variables_class (Class u ∷ items) t = variables_class items t
 pub variables_differ : (items : List Item) → all_differ same_item items ≡ true → names_differ (variables_among items) ≡ true
 variables_differ [] h = refl
 variables_differ (Variable x ∷ items) h =
-    both_true (ap not (sym (variable_any x items)) ∙ left_true _ _ h) (variables_differ items (right_true (not (list_any (same_item (Variable x)) items)) _ h))
+    both_true (ap not (sym (variable_any x items)) ∙ left_true _ _ h)
+    (variables_differ items (right_true (not (list_any (same_item (Variable x)) items)) _ h))
 variables_differ (Class t ∷ items) h = variables_differ items (right_true (not (list_any (same_item (Class t)) items)) _ h)

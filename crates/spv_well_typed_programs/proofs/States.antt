@@ -107,13 +107,16 @@ one_found h x g P e go = by_name (same_name h.name x) refl e
     by_name true i f = go (same_names h.name x i) (some_is f)
     by_name false i f = absurd (nothing_there f)
 
-list_case : (hs : List Heading) (h : Heading) (x : Symbol) (g : Heading) (P : Type 0) → found (headings_named (hs ++ h ∷ [])) x ≡ Some g → (found (headings_named hs) x ≡ Some g → P) → (found (headings_named hs) x ≡ None → h.name ≡ x → h ≡ g → P) → P
+list_case : (hs : List Heading) (h : Heading) (x : Symbol) (g : Heading) (P : Type 0) → found (headings_named (hs ++ h ∷ [])) x ≡ Some g
+    → (found (headings_named hs) x ≡ Some g → P) → (found (headings_named hs) x ≡ None → h.name ≡ x → h ≡ g → P) → P
 list_case hs h x g P e old new =
     first_case (found (headings_named hs) x) (found (pair h.name h ∷ []) x) g P
-    (sym (found_append (headings_named hs) (pair h.name h ∷ []) x) ∙ (ap (λ l. found l x) (sym (map-append (λ (d : Heading). pair d.name d) hs (h ∷ []))) ∙ e))
+    (sym (found_append (headings_named hs) (pair h.name h ∷ []) x)
+    ∙ (ap (λ l. found l x) (sym (map-append (λ (d : Heading). pair d.name d) hs (h ∷ []))) ∙ e))
     old (λ none f. one_found h x g P f (new none))
 
-pub new_heading : (k : Known) (h : Heading) → found (headings_named k.headings) h.name ≡ None → heading_at (with_heading k h) h.name ≡ Some h
+pub new_heading : (k : Known) (h : Heading) → found (headings_named k.headings) h.name ≡ None
+    → heading_at (with_heading k h) h.name ≡ Some h
 new_heading k h none =
     ap (λ l. found l h.name) (map-append (λ (d : Heading). pair d.name d) k.headings (h ∷ []))
     ∙ (found_append (headings_named k.headings) (pair h.name h ∷ []) h.name
@@ -126,11 +129,14 @@ free_heading k x free =
     let new = (free_told k x free).new in
     let one = right_false (list_any (same_name x) (keys p.constants)) _ (sym (list_any-append (same_name x) (keys p.constants) _) ∙ new) in
     let two = right_false (list_any (same_name x) (keys p.types)) _ (sym (list_any-append (same_name x) (keys p.types) _) ∙ one) in
-    let three = right_false (list_any (same_name x) (keys p.variables)) _ (sym (list_any-append (same_name x) (keys p.variables) _) ∙ two) in
-    let four = right_false (list_any (same_name x) (map (λ (d : Decl). d.name) p.symbols)) _ (sym (list_any-append (same_name x) (map (λ (d : Decl). d.name) p.symbols) _) ∙ three) in
+    let three = right_false (list_any (same_name x) (keys p.variables)) _
+    (sym (list_any-append (same_name x) (keys p.variables) _) ∙ two) in
+    let four = right_false (list_any (same_name x) (map (λ (d : Decl). d.name) p.symbols)) _
+    (sym (list_any-append (same_name x) (map (λ (d : Decl). d.name) p.symbols) _) ∙ three) in
     found_none (headings_named k.headings) x (ap (list_any (same_name x)) (keys_headings k.headings) ∙ four)
 
-module _ (bodies : List Symbol) (k : Known) (h : Heading) (sorts : List (Symbol × Sort)) (state : RightState bodies k []) (free : is_free k h.name ≡ true)
+module _ (bodies : List Symbol) (k : Known) (h : Heading) (sorts : List (Symbol × Sort)) (state : RightState bodies k [])
+    (free : is_free k h.name ≡ true)
     (right : RightHeading k.program h sorts) (number : h.number ≡ number_of bodies h.name) where
   none_yet : heading_at k h.name ≡ None
   none_yet = free_heading k h.name free
@@ -145,7 +151,8 @@ module _ (bodies : List Symbol) (k : Known) (h : Heading) (sorts : List (Symbol 
   }
 
   numbers_known : (x : Symbol) (g : Heading) → heading_at (with_heading k h) x ≡ Some g → g.number ≡ number_of bodies g.name
-  numbers_known x g e = list_case k.headings h x g (g.number ≡ number_of bodies g.name) e (state.numbers x g) (λ none is same. subst (λ (d : Heading). d.number ≡ number_of bodies d.name) same number)
+  numbers_known x g e = list_case k.headings h x g (g.number ≡ number_of bodies g.name) e (state.numbers x g)
+      (λ none is same. subst (λ (d : Heading). d.number ≡ number_of bodies d.name) same number)
 
   -- a routine that is done has another name
   other_name : (c : Routine) → RoutineDone k c → same_name h.name c.name ≡ false
@@ -156,25 +163,37 @@ module _ (bodies : List Symbol) (k : Known) (h : Heading) (sorts : List (Symbol 
   -- an announced routine
   pub announced_state : RightState bodies (with_awaited (with_heading k h) (k.awaited ++ h ∷ [])) []
   announced_state = record {
-    known = record { program = (heading_right k h state.known free).program; names = record { differ = (heading_right k h state.known free).names.differ; fixed = (heading_right k h state.known free).names.fixed } };
+    known = record {
+      program = (heading_right k h state.known free).program;
+      names =
+          record { differ = (heading_right k h state.known free).names.differ; fixed = (heading_right k h state.known free).names.fixed };
+    };
     headings = record { each = headings_known.each };
     numbers = numbers_known;
-    awaited = λ x g e. list_case k.awaited h x g (heading_at (with_heading k h) x ≡ Some g) e (λ f. heading_more k h x g (state.awaited x g f))
-        (λ none is same. subst (λ (d : Heading). heading_at (with_heading k h) x ≡ Some d) same (subst (λ y. heading_at (with_heading k h) y ≡ Some h) is (new_heading k h none_yet)));
+    awaited = λ x g e. list_case k.awaited h x g (heading_at (with_heading k h) x ≡ Some g) e
+        (λ f. heading_more k h x g (state.awaited x g f))
+        (λ none is same. subst (λ (d : Heading). heading_at (with_heading k h) x ≡ Some d) same
+        (subst (λ y. heading_at (with_heading k h) y ≡ Some h) is (new_heading k h none_yet)));
     routines = λ i c e.
         let d = state.routines i c e in
-        done_later k (with_awaited (with_heading k h) (k.awaited ++ h ∷ [])) c (record { later = later_same k.program; headings = heading_more k h }) (still_none c d) d;
+        done_later k (with_awaited (with_heading k h) (k.awaited ++ h ∷ [])) c
+        (record { later = later_same k.program; headings = heading_more k h }) (still_none c d) d;
     has = λ x g e. list_case k.headings h x g (Has (with_awaited (with_heading k h) (k.awaited ++ h ∷ [])) [] x g) e
         (λ f. has_more x g (state.has x g f))
-        (λ none is same. still_awaited (subst (λ (d : Heading). found (headings_named (k.awaited ++ h ∷ [])) x ≡ Some d) same (subst (λ y. found (headings_named (k.awaited ++ h ∷ [])) y ≡ Some h) is new_awaited)));
+        (λ none is same. still_awaited
+        (subst (λ (d : Heading). found (headings_named (k.awaited ++ h ∷ [])) x ≡ Some d) same
+        (subst (λ y. found (headings_named (k.awaited ++ h ∷ [])) y ≡ Some h) is new_awaited)));
     differ = state.differ;
   }
     where
-      awaited_list : (x : Symbol) → found (headings_named (k.awaited ++ h ∷ [])) x ≡ first_of (found (headings_named k.awaited) x) (found (pair h.name h ∷ []) x)
-      awaited_list x = ap (λ l. found l x) (map-append (λ (d : Heading). pair d.name d) k.awaited (h ∷ [])) ∙ found_append (headings_named k.awaited) (pair h.name h ∷ []) x
+      awaited_list : (x : Symbol) → found (headings_named (k.awaited ++ h ∷ [])) x
+          ≡ first_of (found (headings_named k.awaited) x) (found (pair h.name h ∷ []) x)
+      awaited_list x = ap (λ l. found l x) (map-append (λ (d : Heading). pair d.name d) k.awaited (h ∷ []))
+          ∙ found_append (headings_named k.awaited) (pair h.name h ∷ []) x
 
       still_none : (c : Routine) → RoutineDone k c → found (headings_named (k.awaited ++ h ∷ [])) c.name ≡ None
-      still_none c d = awaited_list c.name ∙ (ap (λ o. first_of o (found (pair h.name h ∷ []) c.name)) d.not_awaited ∙ ap (λ b. cond b (Some h) None) (other_name c d))
+      still_none c d = awaited_list c.name
+          ∙ (ap (λ o. first_of o (found (pair h.name h ∷ []) c.name)) d.not_awaited ∙ ap (λ b. cond b (Some h) None) (other_name c d))
 
       has_more : (x : Symbol) (g : Heading) → Has k [] x g → Has (with_awaited (with_heading k h) (k.awaited ++ h ∷ [])) [] x g
       has_more x g (still_awaited e) = still_awaited (awaited_list x ∙ ap (λ o. first_of o (found (pair h.name h ∷ []) x)) e)
@@ -186,7 +205,9 @@ module _ (bodies : List Symbol) (k : Known) (h : Heading) (sorts : List (Symbol 
       no_awaited (Some g) e = absurd (nothing_there (sym none_yet ∙ state.awaited h.name g e))
 
       new_awaited : found (headings_named (k.awaited ++ h ∷ [])) h.name ≡ Some h
-      new_awaited = awaited_list h.name ∙ (ap (λ o. first_of o (found (pair h.name h ∷ []) h.name)) (no_awaited (found (headings_named k.awaited) h.name) refl) ∙ ap (λ b. cond b (Some h) None) (name-refl h.name))
+      new_awaited = awaited_list h.name
+          ∙ (ap (λ o. first_of o (found (pair h.name h ∷ []) h.name)) (no_awaited (found (headings_named k.awaited) h.name) refl)
+          ∙ ap (λ b. cond b (Some h) None) (name-refl h.name))
 
   -- a routine whose body begins
   pub begun_state : RightState bodies (with_heading k h) (h.name ∷ [])
@@ -197,8 +218,11 @@ module _ (bodies : List Symbol) (k : Known) (h : Heading) (sorts : List (Symbol 
     awaited = λ x g e. heading_more k h x g (state.awaited x g e);
     routines = λ i c e. let d = state.routines i c e in done_later k (with_heading k h) c extends d.not_awaited d;
     has = λ x g e. list_case k.headings h x g (Has (with_heading k h) (h.name ∷ []) x g) e (λ f. has_more x g (state.has x g f))
-        (λ none is same. just_begun (subst (λ y. list_any (same_name y) (h.name ∷ []) ≡ true) is (or_left (same_name h.name h.name) false (name-refl h.name))));
-    differ = differ_one same_name name-refl same_names (routine_names k) h.name (ap names_differ (sym (append-nil (routine_names k))) ∙ state.differ) (no_routine k.program.routines (λ i c e. other_name c (state.routines i c e)));
+        (λ none is same. just_begun (subst (λ y. list_any (same_name y) (h.name ∷ []) ≡ true) is
+        (or_left (same_name h.name h.name) false (name-refl h.name))));
+    differ = differ_one same_name name-refl same_names (routine_names k) h.name
+        (ap names_differ (sym (append-nil (routine_names k))) ∙ state.differ)
+        (no_routine k.program.routines (λ i c e. other_name c (state.routines i c e)));
   }
     where
       has_more : (x : Symbol) (g : Heading) → Has k [] x g → Has (with_heading k h) (h.name ∷ []) x g
@@ -206,7 +230,8 @@ module _ (bodies : List Symbol) (k : Known) (h : Heading) (sorts : List (Symbol 
       has_more x g (just_begun e) = absurd (false≢true e)
       has_more x g (is_done e) = is_done e
 
-      no_routine : (cs : List Routine) → ((i : ℕ) (c : Routine) → item_at cs i ≡ Some c → same_name h.name c.name ≡ false) → list_any (same_name h.name) (map (λ (c : Routine). c.name) cs) ≡ false
+      no_routine : (cs : List Routine) → ((i : ℕ) (c : Routine) → item_at cs i ≡ Some c → same_name h.name c.name ≡ false)
+          → list_any (same_name h.name) (map (λ (c : Routine). c.name) cs) ≡ false
       no_routine [] e = refl
       no_routine (c ∷ cs) e = both_false (same_name h.name c.name) _ (e 0 c refl) (no_routine cs (λ i d f. e (suc i) d f))
 
@@ -216,19 +241,24 @@ pub without_same : (awaited : List Heading) (x : Symbol) → found (headings_nam
 without_same [] x = refl
 without_same (h ∷ awaited) x = by_name (same_name h.name x) refl (without_same awaited x)
   where
-    by_name : (b : Bool) → same_name h.name x ≡ b → found (headings_named (without awaited x)) x ≡ None → found (headings_named (cond (not b) (h ∷ without awaited x) (without awaited x))) x ≡ None
+    by_name : (b : Bool) → same_name h.name x ≡ b → found (headings_named (without awaited x)) x ≡ None
+        → found (headings_named (cond (not b) (h ∷ without awaited x) (without awaited x))) x ≡ None
     by_name true i e = e
     by_name false i e = ap (λ b. cond b (Some h) (found (headings_named (without awaited x)) x)) i ∙ e
 
-without_other : (awaited : List Heading) (x y : Symbol) → same_name x y ≡ false → found (headings_named (without awaited x)) y ≡ found (headings_named awaited) y
+without_other : (awaited : List Heading) (x y : Symbol) → same_name x y ≡ false
+    → found (headings_named (without awaited x)) y ≡ found (headings_named awaited) y
 without_other [] x y n = refl
 without_other (h ∷ awaited) x y n = by_name (same_name h.name x) refl (without_other awaited x y n)
   where
-    by_name : (b : Bool) → same_name h.name x ≡ b → found (headings_named (without awaited x)) y ≡ found (headings_named awaited) y → found (headings_named (cond (not b) (h ∷ without awaited x) (without awaited x))) y ≡ found (headings_named (h ∷ awaited)) y
+    by_name : (b : Bool) → same_name h.name x ≡ b → found (headings_named (without awaited x)) y ≡ found (headings_named awaited) y
+        → found (headings_named (cond (not b) (h ∷ without awaited x) (without awaited x))) y ≡ found (headings_named (h ∷ awaited)) y
     by_name false i e = ap (λ o. cond (same_name h.name y) (Some h) o) e
-    by_name true i e = e ∙ sym (ap (λ b. cond b (Some h) (found (headings_named awaited) y)) (subst (λ z. same_name z y ≡ false) (sym (same_names h.name x i)) n))
+    by_name true i e = e ∙ sym (ap (λ b. cond b (Some h) (found (headings_named awaited) y))
+        (subst (λ z. same_name z y ≡ false) (sym (same_names h.name x i)) n))
 
-pub again_state : (bodies : List Symbol) (k : Known) (h : Heading) → RightState bodies k [] → awaited_at k h.name ≡ Some h → RightState bodies (with_awaited k (without k.awaited h.name)) (h.name ∷ [])
+pub again_state : (bodies : List Symbol) (k : Known) (h : Heading) → RightState bodies k [] → awaited_at k h.name ≡ Some h
+    → RightState bodies (with_awaited k (without k.awaited h.name)) (h.name ∷ [])
 again_state bodies k h state waits = record {
   known = record { program = state.known.program; names = record { differ = state.known.names.differ; fixed = state.known.names.fixed } };
   headings = record { each = state.headings.each };
@@ -236,15 +266,19 @@ again_state bodies k h state waits = record {
   awaited = λ x g e. state.awaited x g (was_awaited x g e);
   routines = λ i c e.
       let d = state.routines i c e in
-      done_later k (with_awaited k (without k.awaited h.name)) c (record { later = later_same k.program; headings = λ x g f. f }) (still_none c d) d;
+      done_later k (with_awaited k (without k.awaited h.name)) c (record { later = later_same k.program; headings = λ x g f. f })
+      (still_none c d) d;
   has = λ x g e. has_more x g (state.has x g e);
-  differ = differ_one same_name name-refl same_names (routine_names k) h.name (ap names_differ (sym (append-nil (routine_names k))) ∙ state.differ) (no_routine k.program.routines (λ i c e. other_name c (state.routines i c e)));
+  differ = differ_one same_name name-refl same_names (routine_names k) h.name
+      (ap names_differ (sym (append-nil (routine_names k))) ∙ state.differ)
+      (no_routine k.program.routines (λ i c e. other_name c (state.routines i c e)));
 }
   where
     was_awaited : (x : Symbol) (g : Heading) → found (headings_named (without k.awaited h.name)) x ≡ Some g → awaited_at k x ≡ Some g
     was_awaited x g e =
         by_test (same_name h.name x) (awaited_at k x ≡ Some g)
-        (λ i. absurd (nothing_there (sym (without_same k.awaited h.name) ∙ subst (λ y. found (headings_named (without k.awaited h.name)) y ≡ Some g) (sym (same_names h.name x i)) e)))
+        (λ i. absurd (nothing_there (sym (without_same k.awaited h.name)
+        ∙ subst (λ y. found (headings_named (without k.awaited h.name)) y ≡ Some g) (sym (same_names h.name x i)) e)))
         (λ i. sym (without_other k.awaited h.name x i) ∙ e)
 
     other_name : (c : Routine) → RoutineDone k c → same_name h.name c.name ≡ false
@@ -258,28 +292,33 @@ again_state bodies k h state waits = record {
     has_more : (x : Symbol) (g : Heading) → Has k [] x g → Has (with_awaited k (without k.awaited h.name)) (h.name ∷ []) x g
     has_more x g (still_awaited e) =
         by_test (same_name h.name x) (Has (with_awaited k (without k.awaited h.name)) (h.name ∷ []) x g)
-        (λ i. just_begun (subst (λ y. list_any (same_name y) (h.name ∷ []) ≡ true) (same_names h.name x i) (or_left (same_name h.name h.name) false (name-refl h.name))))
+        (λ i. just_begun (subst (λ y. list_any (same_name y) (h.name ∷ []) ≡ true) (same_names h.name x i)
+        (or_left (same_name h.name h.name) false (name-refl h.name))))
         (λ i. still_awaited (without_other k.awaited h.name x i ∙ e))
     has_more x g (just_begun e) = absurd (false≢true e)
     has_more x g (is_done e) = is_done e
 
-    no_routine : (cs : List Routine) → ((i : ℕ) (c : Routine) → item_at cs i ≡ Some c → same_name h.name c.name ≡ false) → list_any (same_name h.name) (map (λ (c : Routine). c.name) cs) ≡ false
+    no_routine : (cs : List Routine) → ((i : ℕ) (c : Routine) → item_at cs i ≡ Some c → same_name h.name c.name ≡ false)
+        → list_any (same_name h.name) (map (λ (c : Routine). c.name) cs) ≡ false
     no_routine [] e = refl
     no_routine (c ∷ cs) e = both_false (same_name h.name c.name) _ (e 0 c refl) (no_routine cs (λ i d f. e (suc i) d f))
 
 -- ---- more types
 
-pub later_state : (bodies : List Symbol) (k l : Known) (begun : List Symbol) → RightState bodies k begun → RightKnown l → Later k.program l.program → Same k l → RightState bodies l begun
+pub later_state : (bodies : List Symbol) (k l : Known) (begun : List Symbol) → RightState bodies k begun → RightKnown l
+    → Later k.program l.program → Same k l → RightState bodies l begun
 later_state bodies k l begun state right later same = record {
   known = right;
   headings = record {
-    each = λ x g e. let old = state.headings.each x g (back x g e) in record { sorts = old.sorts; right = heading_later k.program l.program state.known.program later g old.sorts old.right };
+    each = λ x g e. let old = state.headings.each x g (back x g e) in
+        record { sorts = old.sorts; right = heading_later k.program l.program state.known.program later g old.sorts old.right };
   };
   numbers = λ x g e. state.numbers x g (back x g e);
   awaited = λ x g e. forth x g (state.awaited x g (ap (λ hs. found (headings_named hs) x) (sym same.awaited) ∙ e));
   routines = λ i c e.
       let d = state.routines i c (ap (λ cs. item_at cs i) (sym same.routines) ∙ e) in
-      done_later k l c (record { later = later; headings = forth }) (ap (λ hs. found (headings_named hs) c.name) same.awaited ∙ d.not_awaited) d;
+      done_later k l c (record { later = later; headings = forth })
+      (ap (λ hs. found (headings_named hs) c.name) same.awaited ∙ d.not_awaited) d;
   has = λ x g e. has_more x g (state.has x g (back x g e));
   differ = ap (λ cs. names_differ (map (λ (c : Routine). c.name) cs ++ begun)) same.routines ∙ state.differ;
 }
@@ -300,8 +339,10 @@ later_state bodies k l begun state right later same = record {
 abbrev pub with_one : Known → Routine → Known
 with_one k c = with_program k (with_routine k.program c)
 
-pub ended_state : (bodies : List Symbol) (k : Known) (h : Heading) (c : Routine) → RightState bodies k (h.name ∷ []) → c.name ≡ h.name → heading_at k h.name ≡ Some h → awaited_at k h.name ≡ None
-    → c.formals ≡ h.formals → c.result ≡ h.result → c.globals ≡ h.globals → ((p : Program) → Final k p → routine_ok p c ≡ true) → RightState bodies (with_program k (with_routine k.program c)) []
+pub ended_state : (bodies : List Symbol) (k : Known) (h : Heading) (c : Routine) → RightState bodies k (h.name ∷ []) → c.name ≡ h.name
+    → heading_at k h.name ≡ Some h → awaited_at k h.name ≡ None
+    → c.formals ≡ h.formals → c.result ≡ h.result → c.globals ≡ h.globals → ((p : Program) → Final k p → routine_ok p c ≡ true)
+    → RightState bodies (with_program k (with_routine k.program c)) []
 ended_state bodies k h c state name is none formals result globals ok = record {
   known = record {
     program = record {
@@ -313,7 +354,8 @@ ended_state bodies k h c state name is none formals result globals ok = record {
     names = record { differ = state.known.names.differ; fixed = state.known.names.fixed };
   };
   headings = record {
-    each = λ x g e. let old = state.headings.each x g e in record { sorts = old.sorts; right = heading_later k.program (with_one k c).program state.known.program same g old.sorts old.right };
+    each = λ x g e. let old = state.headings.each x g e in
+        record { sorts = old.sorts; right = heading_later k.program (with_one k c).program state.known.program same g old.sorts old.right };
   };
   numbers = state.numbers;
   awaited = state.awaited;
@@ -330,7 +372,8 @@ ended_state bodies k h c state name is none formals result globals ok = record {
         ok = λ p f. ok p (final_before k (with_one k c) p extends f);
       }));
   has = λ x g e. has_more x g (state.has x g e);
-  differ = ap names_differ (append-nil (routine_names (with_one k c)) ∙ (map-append (λ (d : Routine). d.name) k.program.routines (c ∷ []) ∙ ap (λ n. routine_names k ++ n ∷ []) name)) ∙ state.differ;
+  differ = ap names_differ (append-nil (routine_names (with_one k c))
+      ∙ (map-append (λ (d : Routine). d.name) k.program.routines (c ∷ []) ∙ ap (λ n. routine_names k ++ n ∷ []) name)) ∙ state.differ;
 }
   where
     same : Later k.program (with_one k c).program
@@ -343,7 +386,8 @@ ended_state bodies k h c state name is none formals result globals ok = record {
     has_more x g (still_awaited e) = still_awaited e
     has_more x g (just_begun e) =
         is_done (ap (list_any (same_name x)) (map-append (λ (d : Routine). d.name) k.program.routines (c ∷ []))
-        ∙ (list_any-append (same_name x) (routine_names k) (c.name ∷ []) ∙ or_right (list_any (same_name x) (routine_names k)) _ (ap (λ n. list_any (same_name x) (n ∷ [])) name ∙ e)))
+        ∙ (list_any-append (same_name x) (routine_names k) (c.name ∷ [])
+        ∙ or_right (list_any (same_name x) (routine_names k)) _ (ap (λ n. list_any (same_name x) (n ∷ [])) name ∙ e)))
     has_more x g (is_done e) =
         is_done (ap (list_any (same_name x)) (map-append (λ (d : Routine). d.name) k.program.routines (c ∷ []))
         ∙ (list_any-append (same_name x) (routine_names k) (c.name ∷ []) ∙ or_left (list_any (same_name x) (routine_names k)) _ e))

@@ -59,24 +59,32 @@ any_at (y ∷ names) zero x e = or_left (same_name x y) _ (subst (λ z. same_nam
 any_at (y ∷ names) (suc i) x e = or_right (same_name x y) _ (any_at names i x e)
 
 -- in a list of different names each stands at its first place
-place_of_name : (names : List Symbol) (i : ℕ) (x : Symbol) → names_differ names ≡ true → item_at names i ≡ Some x → first_where (same_name x) names ≡ i
+place_of_name : (names : List Symbol) (i : ℕ) (x : Symbol) → names_differ names ≡ true → item_at names i ≡ Some x
+    → first_where (same_name x) names ≡ i
 place_of_name [] i x d e = absurd (nothing_there e)
-place_of_name (y ∷ names) zero x d e = ap (λ b. cond b 0 (suc (first_where (same_name x) names))) (subst (λ z. same_name x z ≡ true) (sym (some_is e)) (name-refl x))
-place_of_name (y ∷ names) (suc i) x d e = by_name (same_name x y) refl (place_of_name names i x (right_true (not (list_any (same_name y) names)) _ d) e)
+place_of_name (y ∷ names) zero x d e =
+    ap (λ b. cond b 0 (suc (first_where (same_name x) names))) (subst (λ z. same_name x z ≡ true) (sym (some_is e)) (name-refl x))
+place_of_name (y ∷ names) (suc i) x d e =
+    by_name (same_name x y) refl (place_of_name names i x (right_true (not (list_any (same_name y) names)) _ d) e)
   where
-    by_name : (b : Bool) → same_name x y ≡ b → first_where (same_name x) names ≡ i → cond (same_name x y) 0 (suc (first_where (same_name x) names)) ≡ suc i
+    by_name : (b : Bool) → same_name x y ≡ b → first_where (same_name x) names ≡ i
+        → cond (same_name x y) 0 (suc (first_where (same_name x) names)) ≡ suc i
     by_name false k r = ap (λ b. cond b 0 (suc (first_where (same_name x) names))) k ∙ ap suc r
     by_name true k r =
-        absurd (false≢true (sym (not_true (list_any (same_name y) names) (left_true _ _ d)) ∙ subst (λ z. list_any (same_name z) names ≡ true) (same_names x y k) (any_at names i x e)))
+        absurd (false≢true (sym (not_true (list_any (same_name y) names) (left_true _ _ d))
+        ∙ subst (λ z. list_any (same_name z) names ≡ true) (same_names x y k) (any_at names i x e)))
 
 -- a name that is there stands at its first place
-name_at_place : (names : List Symbol) (x : Symbol) → list_any (same_name x) names ≡ true → item_at names (first_where (same_name x) names) ≡ Some x
+name_at_place : (names : List Symbol) (x : Symbol) → list_any (same_name x) names ≡ true
+    → item_at names (first_where (same_name x) names) ≡ Some x
 name_at_place [] x e = absurd (false≢true e)
 name_at_place (y ∷ names) x e = by_name (same_name x y) refl e (name_at_place names x)
   where
-    by_name : (b : Bool) → same_name x y ≡ b → (b || list_any (same_name x) names) ≡ true → (list_any (same_name x) names ≡ true → item_at names (first_where (same_name x) names) ≡ Some x)
+    by_name : (b : Bool) → same_name x y ≡ b → (b || list_any (same_name x) names) ≡ true
+        → (list_any (same_name x) names ≡ true → item_at names (first_where (same_name x) names) ≡ Some x)
         → item_at (y ∷ names) (cond (same_name x y) 0 (suc (first_where (same_name x) names))) ≡ Some x
-    by_name true k f later = ap (λ b. item_at (y ∷ names) (cond b 0 (suc (first_where (same_name x) names)))) k ∙ ap Some (sym (same_names x y k))
+    by_name true k f later = ap (λ b. item_at (y ∷ names) (cond b 0 (suc (first_where (same_name x) names)))) k
+        ∙ ap Some (sym (same_names x y k))
     by_name false k f later = ap (λ b. item_at (y ∷ names) (cond b 0 (suc (first_where (same_name x) names)))) k ∙ later f
 
 abbrev routine_name : Routine → Symbol
@@ -84,7 +92,8 @@ routine_name c = c.name
 
 -- ---- before the first routine
 
-first_state : (bodies : List Symbol) (k : Known) → RightKnown k → k.program.routines ≡ [] → k.headings ≡ [] → k.awaited ≡ [] → RightState bodies k []
+first_state : (bodies : List Symbol) (k : Known) → RightKnown k → k.program.routines ≡ [] → k.headings ≡ [] → k.awaited ≡ []
+    → RightState bodies k []
 first_state bodies k right routines headings awaited = record {
   known = right;
   headings = record { each = λ x g e. absurd (no_heading x g e) };
@@ -100,7 +109,8 @@ first_state bodies k right routines headings awaited = record {
 
 -- ---- the whole program
 
-module _ (start : KnownNames) (bodies : List Symbol) (k : Known) (state : RightState bodies k []) (all : bodies ≡ routine_names k) (none : k.awaited ≡ []) (m : Main) where
+module _ (start : KnownNames) (bodies : List Symbol) (k : Known) (state : RightState bodies k []) (all : bodies ≡ routine_names k)
+    (none : k.awaited ≡ []) (m : Main) where
   abbrev p : Program
   p = with_main start k.program m
 
@@ -112,7 +122,8 @@ module _ (start : KnownNames) (bodies : List Symbol) (k : Known) (state : RightS
 
   number_is : (g : Heading) (x : Symbol) → heading_at k x ≡ Some g → g.name ≡ x → g.number.0 ≡ first_where (same_name x) (routine_names k)
   number_is g x e name =
-      ap (λ (n : RoutineId). n.0) (state.numbers x g e) ∙ (ap (λ y. first_where (same_name y) bodies) name ∙ ap (first_where (same_name x)) all)
+      ap (λ (n : RoutineId). n.0) (state.numbers x g e)
+      ∙ (ap (λ y. first_where (same_name y) bodies) name ∙ ap (first_where (same_name x)) all)
 
   pub final : Final k p
   final = record {
@@ -121,7 +132,9 @@ module _ (start : KnownNames) (bodies : List Symbol) (k : Known) (state : RightS
         let d = state.routines r.0 c at in
         let same : d.heading ≡ g = some_is (sym d.is ∙ f) in
         let name : g.name ≡ c.name = found_name (λ (h : Heading). h.name) k.headings c.name g f in
-        let place : g.number.0 ≡ r.0 = number_is g c.name f name ∙ place_of_name (routine_names k) r.0 c.name names_apart (item_map routine_name k.program.routines r.0 c at) in
+        let place : g.number.0 ≡ r.0 =
+        number_is g c.name f name ∙ place_of_name (routine_names k) r.0 c.name names_apart
+        (item_map routine_name k.program.routines r.0 c at) in
         record {
           number = λ i. record { 0 = place i };
           formals = d.formals ∙ ap (λ (h : Heading). h.formals) same;
@@ -136,7 +149,8 @@ module _ (start : KnownNames) (bodies : List Symbol) (k : Known) (state : RightS
       has_body x g f (just_begun e) = absurd (false≢true e)
       has_body x g f (is_done e) =
           let name : g.name ≡ x = found_name (λ (h : Heading). h.name) k.headings x g f in
-          let c = item_mapped routine_name k.program.routines (first_where (same_name x) (routine_names k)) x (name_at_place (routine_names k) x e) in
+          let c = item_mapped routine_name k.program.routines (first_where (same_name x) (routine_names k)) x
+          (name_at_place (routine_names k) x e) in
           record { routine = c.item; at = ap (item_at k.program.routines) (number_is g x f name) ∙ c.at; name = c.is ∙ sym name }
 
   -- ---- routines and declarations
@@ -144,31 +158,38 @@ module _ (start : KnownNames) (bodies : List Symbol) (k : Known) (state : RightS
   pub routines_right : list_all (routine_ok p) k.program.routines ≡ true
   routines_right = all_at (routine_ok p) k.program.routines (λ i c e. (state.routines i c e).ok p final)
 
-  within : (x : Symbol) (cs : List Routine) → ((i : ℕ) (c : Routine) → item_at cs i ≡ Some c → list_any (same_name c.name) (heading_names k.headings) ≡ true)
+  within : (x : Symbol) (cs : List Routine)
+      → ((i : ℕ) (c : Routine) → item_at cs i ≡ Some c → list_any (same_name c.name) (heading_names k.headings) ≡ true)
       → list_any (same_name x) (map routine_name cs) ≡ true → list_any (same_name x) (heading_names k.headings) ≡ true
   within x [] h e = absurd (false≢true e)
   within x (c ∷ cs) h e = by_name (same_name x c.name) refl e (within x cs (λ i d f. h (suc i) d f))
     where
       by_name : (b : Bool) → same_name x c.name ≡ b → (b || list_any (same_name x) (map routine_name cs)) ≡ true
-          → (list_any (same_name x) (map routine_name cs) ≡ true → list_any (same_name x) (heading_names k.headings) ≡ true) → list_any (same_name x) (heading_names k.headings) ≡ true
+          → (list_any (same_name x) (map routine_name cs) ≡ true → list_any (same_name x) (heading_names k.headings) ≡ true)
+          → list_any (same_name x) (heading_names k.headings) ≡ true
       by_name true i f go = subst (λ y. list_any (same_name y) (heading_names k.headings) ≡ true) (sym (same_names x c.name i)) (h 0 c refl)
       by_name false i f go = go f
 
-  routine_heading : (i : ℕ) (c : Routine) → item_at k.program.routines i ≡ Some c → list_any (same_name c.name) (heading_names k.headings) ≡ true
+  routine_heading : (i : ℕ) (c : Routine) → item_at k.program.routines i ≡ Some c
+      → list_any (same_name c.name) (heading_names k.headings) ≡ true
   routine_heading i c e =
-      let d = state.routines i c e in ap (list_any (same_name c.name)) (sym (keys_headings k.headings)) ∙ found_key (headings_named k.headings) c.name d.heading d.is
+      let d = state.routines i c e in
+      ap (list_any (same_name c.name)) (sym (keys_headings k.headings)) ∙ found_key (headings_named k.headings) c.name d.heading d.is
 
-  all_differ : names_differ (keys k.program.constants ++ (keys k.program.types ++ (keys k.program.variables ++ (symbol_names k.program.symbols ++ routine_names k)))) ≡ true
+  all_differ : names_differ (keys k.program.constants
+      ++ (keys k.program.types ++ (keys k.program.variables ++ (symbol_names k.program.symbols ++ routine_names k)))) ≡ true
   all_differ =
       let q = k.program in
       let front = keys q.constants ++ (keys q.types ++ (keys q.variables ++ symbol_names q.symbols)) in
       let turn = λ (last : List Symbol). append_assoc (keys q.constants) (keys q.types ++ (keys q.variables ++ symbol_names q.symbols)) last
       ∙ ap (λ l. keys q.constants ++ l) (append_assoc (keys q.types) (keys q.variables ++ symbol_names q.symbols) last
       ∙ ap (λ l. keys q.types ++ l) (append_assoc (keys q.variables) (symbol_names q.symbols) last)) in
-      let before : names_differ (front ++ heading_names k.headings) ≡ true = ap names_differ (turn (heading_names k.headings)) ∙ state.known.names.differ in
+      let before : names_differ (front ++ heading_names k.headings) ≡ true =
+      ap names_differ (turn (heading_names k.headings)) ∙ state.known.names.differ in
       let away = differ_apart same_name name-refl same_names front (heading_names k.headings) before in
       ap names_differ (sym (turn (routine_names k)))
-      ∙ differ_append same_name name-refl same_names front (routine_names k) (differ_first same_name name-refl same_names front (heading_names k.headings) before) names_apart
+      ∙ differ_append same_name name-refl same_names front (routine_names k)
+      (differ_first same_name name-refl same_names front (heading_names k.headings) before) names_apart
       (record {
         apart = λ x e. by_test (list_any (same_name x) (routine_names k)) (list_any (same_name x) (routine_names k) ≡ false)
             (λ i. absurd (false≢true (sym (away.apart x e) ∙ within x k.program.routines routine_heading i))) (λ i. i);
@@ -188,22 +209,27 @@ module _ (start : KnownNames) (bodies : List Symbol) (k : Known) (state : RightS
   main_sees : SeesAlike (at_top k) (with_sorts_of k.program k.program.variables)
   main_sees = sees_alike (at_top k) right (plain_none k.program) [] (sees_none k.program)
 
-  pub main_noted : (f : Option formulas.Formula) (a : Option Annotation) → if_there (annotation (at_top k)) f ≡ Ok a → annotation_ok p (body_scope p None) a ≡ true
+  pub main_noted : (f : Option formulas.Formula) (a : Option Annotation) → if_there (annotation (at_top k)) f ≡ Ok a
+      → annotation_ok p (body_scope p None) a ≡ true
   main_noted f a e =
       ap (λ names. annotation_ok p names a) main_names
-      ∙ annotation_later k.program p right later (with_sorts_of k.program k.program.variables) a main_range (noted_ok (at_top k) (with_sorts_of k.program k.program.variables) main_sees f a e)
+      ∙ annotation_later k.program p right later (with_sorts_of k.program k.program.variables) a main_range
+      (noted_ok (at_top k) (with_sorts_of k.program k.program.variables) main_sees f a e)
 
   main_places : (x : Symbol) (t : TypeId) → meaning (at_top k) x ≡ Some (OfPlace t) → name_type (known_program k p) None x ≡ Some t
   main_places x t e = variable_meant (at_top k) right (plain_none k.program) x t e
 
   pub main_stands : Stands (at_top k) (at_top k) (known_program k p) p None
   main_stands = record {
-    names = belongs k p right state.headings final (at_top k) refl (plain_none k.program) None main_places (λ x t e. refl) (λ x h t e this f. absurd (false≢true this));
+    names = belongs k p right state.headings final (at_top k) refl (plain_none k.program) None main_places (λ x t e. refl)
+        (λ x h t e this f. absurd (false≢true this));
     noted_names = subst (SeesAlike (at_top k)) (sym main_names) main_sees;
     noted_grows = program_grows k p right state.headings final;
-    noted_sorts = λ x s e. found_all (sort_in_range (shapes k.program)) (with_sorts_of k.program k.program.variables) x s main_range (ap (λ l. found l x) (sym main_names) ∙ e);
+    noted_sorts = λ x s e. found_all (sort_in_range (shapes k.program)) (with_sorts_of k.program k.program.variables) x s main_range
+        (ap (λ l. found l x) (sym main_names) ∙ e);
     noted_symbols = λ x d e. right_true (list_all (sort_in_range (shapes k.program)) d.args) _ (symbol_there k.program right x d e);
-    grows = known_grows k p right state.headings final None (λ x t e. found_all (type_exists k.program.forms) k.program.variables x t right.variables e);
+    grows = known_grows k p right state.headings final None
+        (λ x t e. found_all (type_exists k.program.forms) k.program.variables x t right.variables e);
     routines = λ x h e. same_routine k p right state.headings final (at_top k) refl (plain_none k.program) x h e;
     items = λ c test e. items_known k p right state.headings final c test e;
     own = λ x t e. refl;
@@ -213,8 +239,10 @@ module _ (start : KnownNames) (bodies : List Symbol) (k : Known) (state : RightS
   pub main_block : (b : tree.Block) (s : Statement) → block_walk (main_setting k) b ≡ Ok s → statement_ok p None s ≡ true
   main_block b s e = statements_are_well_typed (main_setting k) (known_program k p) p None main_stands (λ v h. absurd (false≢true h)) b s e
 
-  pub whole : annotation_ok p (body_scope p None) m.entry ≡ true → annotation_ok p (body_scope p None) m.exit ≡ true → statement_ok p None m.body ≡ true → well_typed p ≡ true
-  whole entry exit body = both_true (declared_ok start k.program m right all_differ) (both_true routines_right (both_true entry (both_true exit body)))
+  pub whole : annotation_ok p (body_scope p None) m.entry ≡ true → annotation_ok p (body_scope p None) m.exit ≡ true
+      → statement_ok p None m.body ≡ true → well_typed p ≡ true
+  whole entry exit body = both_true (declared_ok start k.program m right all_differ)
+      (both_true routines_right (both_true entry (both_true exit body)))
 
 -- ---- whole texts
 
@@ -227,14 +255,16 @@ record AllRead (k : Known) : Type 0 where
   state : RightState bodies k []
   all : bodies ≡ routine_names k
 
-all_read : (start : KnownNames) (d : Declarations) (marks : List RoutineMark) (k end : Known) → declarations_walk (known_at_first start) d ≡ Ok k → routines_ok 0 marks ≡ true → routines_walk k marks ≡ Ok end → AllRead end
+all_read : (start : KnownNames) (d : Declarations) (marks : List RoutineMark) (k end : Known)
+    → declarations_walk (known_at_first start) d ≡ Ok k → routines_ok 0 marks ≡ true → routines_walk k marks ≡ Ok end → AllRead end
 all_read start d marks k end declared ok e =
     let bodies = names_of_bodies marks in
     let right = declarations_right (known_at_first start) k d (first_right start) declared in
     let same = declarations_same (known_at_first start) k d declared in
     let one = went (each (mark_walk bodies) (record { known = k; begun = None }) marks) (λ at. fine at.known) end e in
     let first = first_state bodies k right same.routines same.headings same.awaited in
-    let r = marks_right bodies marks (record { known = k; begun = None }) 0 [] one.value (between k first) ok (ap (λ cs. map routine_name cs ++ bodies) (sym same.routines)) one.first in
+    let r = marks_right bodies marks (record { known = k; begun = None }) 0 [] one.value (between k first) ok
+    (ap (λ cs. map routine_name cs ++ bodies) (sym same.routines)) one.first in
     subst AllRead (same_value one.rest) (record { bodies = bodies; state = r.state; all = r.all })
 
 no_one_waits : (hs : List Heading) (b : Bool) → none_awaited hs ≡ Ok b → hs ≡ []
@@ -247,8 +277,10 @@ routines_are_well_typed start d marks k all m declared ok e none =
 
 pub programs_are_well_typed : ProgramsAreWellTyped
 programs_are_well_typed start text p ok e =
-    let made = λ (all : Known) (entry exit : Option Annotation) (s : Statement). fine (with_main start all.program (main_of entry exit s)) in
-    let last = λ (all : Known) (entry exit : Option Annotation) (none : Bool). after (block_walk (main_setting all) text.block) (made all entry exit) in
+    let made = λ (all : Known) (entry exit : Option Annotation) (s : Statement).
+    fine (with_main start all.program (main_of entry exit s)) in
+    let last = λ (all : Known) (entry exit : Option Annotation) (none : Bool).
+    after (block_walk (main_setting all) text.block) (made all entry exit) in
     let waits = λ (all : Known) (entry exit : Option Annotation). after (none_awaited all.awaited) (last all entry exit) in
     let exits = λ (all : Known) (entry : Option Annotation). after (if_there (annotation (at_top all)) text.exit) (waits all entry) in
     let entries = λ (all : Known). after (if_there (annotation (at_top all)) text.entry) (exits all) in
@@ -264,12 +296,14 @@ programs_are_well_typed start text p ok e =
     let m = main_of three.value four.value six.value in
     subst (λ (q : Program). well_typed q ≡ true) (same_value six.rest)
     (whole start r.bodies all r.state r.all none m (main_noted start r.bodies all r.state r.all none m text.entry three.value three.first)
-    (main_noted start r.bodies all r.state r.all none m text.exit four.value four.first) (main_block start r.bodies all r.state r.all none m text.block six.value six.first))
+    (main_noted start r.bodies all r.state r.all none m text.exit four.value four.first)
+    (main_block start r.bodies all r.state r.all none m text.block six.value six.first))
 
 pub formula_texts_are_well_typed : FormulaTextsAreWellTyped
 formula_texts_are_well_typed start text p e =
     let made = λ (k : Known) (a : Annotation). fine (with_main start k.program (main_of None None (Assert a))) in
-    let one = went (declarations_walk (known_at_first start) text.declarations) (λ k. after (annotation (at_top k) text.formula) (made k)) p e in
+    let one = went (declarations_walk (known_at_first start) text.declarations) (λ k. after (annotation (at_top k) text.formula) (made k))
+    p e in
     let k = one.value in
     let two = went (annotation (at_top k) text.formula) (made k) p one.rest in
     let right = declarations_right (known_at_first start) k text.declarations (first_right start) one.first in
@@ -279,4 +313,5 @@ formula_texts_are_well_typed start text p e =
     let m = main_of None None (Assert two.value) in
     subst (λ (q : Program). well_typed q ≡ true) (same_value two.rest)
     (whole start [] k state all same.awaited m refl refl
-    (main_noted start [] k state all same.awaited m (Some text.formula) (Some two.value) (ap (λ o. after o (λ b. fine (Some b))) two.first)))
+    (main_noted start [] k state all same.awaited m (Some text.formula) (Some two.value)
+    (ap (λ o. after o (λ b. fine (Some b))) two.first)))

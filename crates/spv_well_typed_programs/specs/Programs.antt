@@ -35,4 +35,5 @@ ProgramsAreWellTyped =
 
 -- the program of a formula text that the walk answers is well typed
 abbrev pub FormulaTextsAreWellTyped : Type 0
-FormulaTextsAreWellTyped = (start : KnownNames) (tree : FormulaText) (p : Program) → formula_text_walk start tree ≡ Ok p → IsTrue (well_typed p)
+FormulaTextsAreWellTyped = (start : KnownNames) (tree : FormulaText) (p : Program) → formula_text_walk start tree ≡ Ok p
+    → IsTrue (well_typed p)

@@ -29,12 +29,14 @@ pub record Stands (inside noted : Scope) (q p : Program) (here : Option Routine)
   pub noted_names : SeesAlike noted (body_scope p here)
   pub noted_grows : GrowsTypes noted.known.program p
   pub noted_sorts : (x : Symbol) (r : Sort) → found (body_scope p here) x ≡ Some r → IsTrue (sort_in_range (shapes noted.known.program) r)
-  pub noted_symbols : (x : ℕ) (d : Decl) → declared noted.known.program.symbols x ≡ Some d → IsTrue (sort_in_range (shapes noted.known.program) d.result)
+  pub noted_symbols : (x : ℕ) (d : Decl) → declared noted.known.program.symbols x ≡ Some d
+      → IsTrue (sort_in_range (shapes noted.known.program) d.result)
   pub grows : Grows q p here
   -- a routine that may be called is one of the whole program
   pub routines : (x : Symbol) (h : Heading) → meaning inside x ≡ Some (OfRoutine h) → routine_at p h.number ≡ routine_at q h.number
   -- what a call of it may change is known
-  pub items : (c : Call) (test : Root → Bool) → list_any test (items_of inside.known.headings c) ≡ false → list_any test (changed_by_call q c) ≡ false
+  pub items : (c : Call) (test : Root → Bool) → list_any test (items_of inside.known.headings c) ≡ false
+      → list_any test (changed_by_call q c) ≡ false
   -- the walk and typing agree on which variables are the routine's own, and which of them may count
   pub own : (x : Symbol) (t : TypeId) → meaning inside x ≡ Some (OfPlace t) → own_in inside x ≡ is_own here x
   pub counts : (x : Symbol) (t : TypeId) → meaning inside x ≡ Some (OfPlace t) → walk.may_count inside x ≡ true → may_count here x ≡ true
