@@ -43,11 +43,13 @@ module _ (s : Scope) (p : Program) (here : Option Routine) (b : Belongs s p here
     content_of = λ line at r z h e. content_ok s p here b true line at r z h e;
   }
 
-  class_good : (line : ℕ) (x : Name) (m : Option Meaning) (o : Operand Expression) → class_at s x line m ≡ Ok o → GoodOperand (Typed p here) (Bare p here) o
+  class_good : (line : ℕ) (x : Name) (m : Option Meaning) (o : Operand Expression) → class_at s x line m ≡ Ok o
+      → GoodOperand (Typed p here) (Bare p here) o
   class_good line x None o e = absurd (no_fault e)
   class_good line x (Some m) o e = absurd (no_fault e)
 
-  finished : (r : Reached) → ReadHere r → GoodOperand (Typed p here) (Bare p here) (Of (expression_at r) (sort_of s.known.program.forms r.type))
+  finished : (r : Reached) → ReadHere r
+      → GoodOperand (Typed p here) (Bare p here) (Of (expression_at r) (sort_of s.known.program.forms r.type))
   finished r h =
       subst (λ f. GoodOperand (Typed p here) (Bare p here) (Of (expression_at r) (sort_of f r.type))) b.forms
       (of (expression_at r) (sort_of p.forms r.type) (finish_fine p here b.forms_right b.first r h))
@@ -82,16 +84,19 @@ module _ (s : Scope) (p : Program) (here : Option Routine) (b : Belongs s p here
       no_implication : false ≡ true → ⊥
       no_implication e = Rattle.std.proofs.lemmas.Bool.false≢true e
 
-  expression_typed : (wanted : Sort) → sort_in_range (shapes p) wanted ≡ true → (f : tree.Formula) (e : Expression) → expression_of s wanted f ≡ Ok e → expression_sort p here e ≡ Some wanted
+  expression_typed : (wanted : Sort) → sort_in_range (shapes p) wanted ≡ true → (f : tree.Formula) (e : Expression)
+      → expression_of s wanted f ≡ Ok e → expression_sort p here e ≡ Some wanted
   expression_typed wanted there f e k =
       let one = went (operand s f) (settled NilOf (wrong (formula_line f)) wanted) e k in
       let good = formula_good (expression_forms s) (Typed p here) (Bare p here) ReadHere WrittenHere keeps f one.value one.first in
       (settled_here s p here b (wrong (formula_line f)) wanted there one.value e good one.rest).is
 
-  place_typed : (d : tree.Designator) (r : Reached) → written s d ≡ Ok r → (place : Designator) → designator_at r ≡ Some place → IsPlaceOf p here b.forms_right b.first place r.type
+  place_typed : (d : tree.Designator) (r : Reached) → written s d ≡ Ok r → (place : Designator) → designator_at r ≡ Some place
+      → IsPlaceOf p here b.forms_right b.first place r.type
   place_typed d r k place e =
       place_fine p here b.forms_right b.first r place
-      (designator_good (expression_forms s) (Typed p here) (Bare p here) ReadHere WrittenHere keeps true (expression_forms s).begin_written keeps.begin_written d r k) e
+      (designator_good (expression_forms s) (Typed p here) (Bare p here) ReadHere WrittenHere keeps true
+      (expression_forms s).begin_written keeps.begin_written d r k) e
 
   abbrev as_argument : tree.Formula → Argument Expression Reached
   as_argument f = argument f (formula_walk (expression_forms s) f) (written_place (expression_forms s) f)
@@ -106,7 +111,8 @@ module _ (s : Scope) (p : Program) (here : Option Routine) (b : Belongs s p here
       (place_good (expression_forms s) (Typed p here) (Bare p here) ReadHere WrittenHere keeps f)) (all_good fs)
 
   -- a call that the walk answers is one of the routine that its name stands for
-  pub call_typed : (line at : ℕ) (h : Heading) (x : Symbol) (m : meaning s x ≡ Some (OfRoutine h)) (fs : List tree.Formula) (c : Call) → call_of s line at h (map as_argument fs) ≡ Ok c → callee p here c ≡ Some (b.routines x h m).routine
+  pub call_typed : (line at : ℕ) (h : Heading) (x : Symbol) (m : meaning s x ≡ Some (OfRoutine h)) (fs : List tree.Formula) (c : Call)
+      → call_of s line at h (map as_argument fs) ≡ Ok c → callee p here c ≡ Some (b.routines x h m).routine
   call_typed line at h x m fs c e = call_ok s p here b line at h x m (map as_argument fs) c (all_good fs) e
 
 pub expressions_are_well_typed : ExpressionsAreWellTyped
