@@ -1,0 +1,84 @@
+-- What a name stands for, told by the typed program and by the names of the routine in which it stands.
+use Rattle.std.specs.Prelude.{ℕ, zero, suc, Bool, true, false, List, [], ◌∷◌, ◌++◌, map, Option, Some, None, is_some, ℤ, if◌then◌else◌}
+use Rattle.std.specs.List.{list_any}
+use Rattle.spv_names.specs.declared.names.Symbol.{Symbol}
+use Rattle.spv_logic.specs.declared.types.TypeId.{TypeId}
+use Rattle.spv_logic.specs.declared.conditions.RoutineId.{RoutineId}
+use Rattle.spv_program.specs.Lists.{same_name, found}
+use Rattle.spv_program.specs.Programs.{Routine, Program}
+use Rattle.spv_program.specs.Scopes.{is_result}
+use Rattle.spv_typing.specs.Known.{KnownNames, Function}
+
+-- what a name of a routine stands for
+pub data Own : Type 0 where
+  -- a constant, which is this number
+  Constant : ℤ → Own
+  -- a parameter or a local variable; in annotations also a function's name, for its result
+  Place : Own
+  -- an INITIAL name
+  Start : Own
+
+-- what a part of the text sees: the names that are known from the start, the program, the names of the routine, which hide
+-- those of the program, and the routine in whose body the part stands
+pub record View : Type 0 where
+  pub start : KnownNames
+  pub program : Program
+  pub own : List (Symbol × Own)
+  pub here : Option Routine
+
+-- what a routine's name is to be, or where the routine has no such name, what the program has
+abbrev pub own_or : {A : Type 0} → Option Own → (Own → A) → A → A
+own_or (Some o) f other = f o
+own_or None f other = other
+
+abbrev pub number_of : Own → Option ℤ
+number_of (Constant z) = Some z
+number_of _ = None
+
+abbrev pub is_place : Own → Bool
+is_place Place = true
+is_place _ = false
+
+abbrev pub is_start : Own → Bool
+is_start Start = true
+is_start _ = false
+
+-- the place of a name in a list; one that is not there has the length of the list
+abbrev pub place_among : List Symbol → Symbol → ℕ
+place_among [] x = 0
+place_among (y ∷ names) x = if same_name x y then 0 else suc (place_among names x)
+
+module _ (v : View) where
+  -- the number that a constant of this name is
+  abbrev pub constant_named : Symbol → Option ℤ
+  constant_named x = own_or (found v.own x) number_of (found v.program.constants x)
+
+  -- whether a variable or a parameter has this name
+  abbrev pub names_place : Symbol → Bool
+  names_place x = own_or (found v.own x) is_place (is_some (found v.program.variables x))
+
+  abbrev pub names_start : Symbol → Bool
+  names_start x = own_or (found v.own x) is_start false
+
+  -- the type of this name
+  abbrev pub type_named : Symbol → Option TypeId
+  type_named x = own_or (found v.own x) (λ o. None) (found (types_from_start v.start ++ v.program.types) x)
+    where
+      types_from_start : KnownNames → List (Symbol × TypeId)
+      types_from_start k = (k.integer, record { 0 = 0 }) ∷ (k.boolean, record { 0 = 1 }) ∷ []
+
+  -- whether a declared symbol has this name
+  abbrev pub names_symbol : Symbol → Bool
+  names_symbol x = own_or (found v.own x) (λ o. false) (list_any (λ d. same_name d.name x) v.program.symbols)
+
+  -- the function of annotations of this name
+  abbrev pub function_named : Symbol → Option Function
+  function_named x = found v.start.functions x
+
+  -- the number of the routine of this name
+  abbrev pub routine_named : Symbol → Option RoutineId
+  routine_named x = own_or (found v.own x) (λ o. None) (Some (record { 0 = place_among (map (λ r. r.name) v.program.routines) x }))
+
+  -- whether this is the name of the function in whose body it stands
+  abbrev pub names_result : Symbol → Bool
+  names_result x = own_or (found v.own x) (λ o. false) (is_result v.here x)

@@ -1,0 +1,17 @@
+//! From which trees of texts a typed program may come: what the walk over names and types answers comes from its tree.
+#![tactic(auto)]
+
+ghost use Rattle.spv_origin.specs.Laws.{AnnotationsComeFromTheirTrees, ExpressionsComeFromTheirTrees, PlacesComeFromTheirTrees, CallsComeFromTheirTrees};
+
+/// An annotation that the walk answers comes from its tree.
+#[tactic(auto, using(crate::proofs::Annotations::annotations_come))]
+pub fn law_formulas()
+    ensures { AnnotationsComeFromTheirTrees }
+{}
+
+/// Expressions, places that are written, and calls that the walk answers come from their trees.
+pub fn law_expressions()
+    ensures expressions { ExpressionsComeFromTheirTrees }
+    ensures places { PlacesComeFromTheirTrees }
+    ensures calls { CallsComeFromTheirTrees }
+{}
