@@ -1,3 +1,5 @@
 pub mod Operators
 pub mod Annotations
 pub mod Expressions
+pub mod Constants
+pub mod Statements

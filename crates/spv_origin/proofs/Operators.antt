@@ -540,9 +540,6 @@ module _ {X S : Type 0} (k : Forms X S) (m : Operators X) (Reads Writes : Name �
       place_from (formula line r no_conclusion) s e = relation_place_from line r s e
       place_from (formula line r (implies f)) s e = absurd (nothing_there e)
 
-      pub one_argument_from : (f : Formula) → ArgumentFrom (argument f (formula_walk k f) (written_place k f)) f
-      one_argument_from f = argument_from f (formula_from f) (place_from f)
-
       relation_place_from : (line : ℕ) (r : Relation) (s : S) → relation_place k r ≡ Some (Ok s) → PlacedFrom (formula line r no_conclusion) s
       relation_place_from line (relation at a no_right_side) s e = simple_place_from line at a s e
       relation_place_from line (relation at a (compared o b)) s e = absurd (nothing_there e)
@@ -566,3 +563,6 @@ module _ {X S : Type 0} (k : Forms X S) (m : Operators X) (Reads Writes : Name �
       factor_place_from line at on by (application l x f more behind) s e = absurd (nothing_there e)
       factor_place_from line at on by (bracketed l f) s e = absurd (nothing_there e)
       factor_place_from line at on by (negation l f) s e = absurd (nothing_there e)
+
+    pub one_argument_from : (f : Formula) → ArgumentFrom (argument f (formula_walk k f) (written_place k f)) f
+    one_argument_from f = argument_from f (formula_from f) (place_from f)

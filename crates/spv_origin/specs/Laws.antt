@@ -4,21 +4,25 @@ use Rattle.spv_names.specs.declared.names.Symbol.{Symbol}
 use Rattle.spv_logic.specs.declared.types.TypeId.{TypeId}
 use Rattle.spv_logic.specs.declared.types.Sort.{Sort}
 use Rattle.spv_logic.specs.declared.types.Decl.{Decl}
+use Rattle.spv_syntax.specs.declared.names.Constant.{Constant}
 use Rattle.spv_syntax.specs.Formulas as tree
+use Rattle.spv_syntax.specs.Statements as statements
 use Rattle.spv_syntax.specs.declared.names.Name.{Name}
 use Rattle.spv_syntax.specs.declared.lists.Several.{Several}
 use Rattle.spv_program.specs.declared.types.TypeForm.TheVariants.{Integer}
 use Rattle.spv_program.specs.Types.{form_at, may_be_result}
 use Rattle.spv_program.specs.Expressions.{Expression, Designator, Call}
 use Rattle.spv_program.specs.Formulas.{Annotation}
+use Rattle.spv_program.specs.Statements.{Statement}
 use Rattle.spv_typing.specs.Known.{Function, OfConstant, OfType, OfPlace, OfStart, OfSymbol, OfRoutine, Heading, Scope, meaning, function}
 use Rattle.spv_typing.specs.FormulaWalk.{annotation}
 use Rattle.spv_typing.specs.ExpressionWalk.{Reached, is_this, designator_at, expression_of, written, call_of}
-use Rattle.spv_typing.specs.StatementWalk.{arguments_of}
+use Rattle.spv_typing.specs.TypeWalk.{constant}
+use Rattle.spv_typing.specs.StatementWalk.{Setting, arguments_of, statement_walk, block_walk}
 use Rattle.spv_origin.specs.Names.{View, constant_named, names_place, names_start, type_named, names_symbol, function_named, routine_named, names_result}
 use Rattle.spv_origin.specs.Formulas.{AnnotationFrom}
 use Rattle.spv_origin.specs.Expressions.{CallFrom, ExpressionFrom, PlaceFrom}
-use Rattle.spv_origin.specs.Statements.{all_of}
+use Rattle.spv_origin.specs.Statements.{all_of, ConstantFrom, StatementFrom, BlockFrom}
 
 -- the names that annotations see in a scope are those of a program
 pub record Sees (s : Scope) (v : View) : Type 0 where
@@ -60,3 +64,18 @@ abbrev pub CallsComeFromTheirTrees : Type 0
 CallsComeFromTheirTrees =
     (s : Scope) (v : View) → SeesPlaces s v → (line : ℕ) (x : Name) (h : Heading) → meaning s x.symbol ≡ Some (OfRoutine h) → (given : Option (Several tree.Formula)) (c : Call)
     → call_of s line x.line h (arguments_of s given) ≡ Ok c → CallFrom v c x (all_of given)
+
+-- a constant has the number that the walk answers
+abbrev pub ConstantsHaveTheirNumbers : Type 0
+ConstantsHaveTheirNumbers =
+    (s : Scope) (v : View) → ((x : Symbol) (z : ℤ) → meaning s x ≡ Some (OfConstant z) → constant_named v x ≡ Some z) → (c : Constant) (z : ℤ) → constant s c ≡ Ok z → ConstantFrom v z c
+
+-- a statement that the walk answers comes from its tree
+abbrev pub StatementsComeFromTheirTrees : Type 0
+StatementsComeFromTheirTrees =
+    (at : Setting) (v w : View) → SeesPlaces at.inside v → Sees at.noted w → (t : statements.Statement) (s : Statement) → statement_walk at t ≡ Ok s → StatementFrom v w s t
+
+-- and a block
+abbrev pub BlocksComeFromTheirTrees : Type 0
+BlocksComeFromTheirTrees =
+    (at : Setting) (v w : View) → SeesPlaces at.inside v → Sees at.noted w → (b : statements.Block) (s : Statement) → block_walk at b ≡ Ok s → BlockFrom v w s b

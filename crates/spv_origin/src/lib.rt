@@ -1,7 +1,7 @@
 //! From which trees of texts a typed program may come: what the walk over names and types answers comes from its tree.
 #![tactic(auto)]
 
-ghost use Rattle.spv_origin.specs.Laws.{AnnotationsComeFromTheirTrees, ExpressionsComeFromTheirTrees, PlacesComeFromTheirTrees, CallsComeFromTheirTrees};
+ghost use Rattle.spv_origin.specs.Laws.{AnnotationsComeFromTheirTrees, ExpressionsComeFromTheirTrees, PlacesComeFromTheirTrees, CallsComeFromTheirTrees, ConstantsHaveTheirNumbers, StatementsComeFromTheirTrees, BlocksComeFromTheirTrees};
 
 /// An annotation that the walk answers comes from its tree.
 #[tactic(auto, using(crate::proofs::Annotations::annotations_come))]
@@ -14,4 +14,11 @@ pub fn law_expressions()
     ensures expressions { ExpressionsComeFromTheirTrees }
     ensures places { PlacesComeFromTheirTrees }
     ensures calls { CallsComeFromTheirTrees }
+{}
+
+/// Constants, statements and blocks that the walk answers come from their trees.
+pub fn law_statements()
+    ensures constants { ConstantsHaveTheirNumbers }
+    ensures statements { StatementsComeFromTheirTrees }
+    ensures blocks { BlocksComeFromTheirTrees }
 {}
