@@ -3,3 +3,5 @@ pub mod Annotations
 pub mod Expressions
 pub mod Constants
 pub mod Statements
+pub mod Firsts
+pub mod Merged

@@ -22,3 +22,8 @@ pub fn law_statements()
     ensures statements { StatementsComeFromTheirTrees }
     ensures blocks { BlocksComeFromTheirTrees }
 {}
+
+/// temp
+pub fn law_temp()
+    ensures { Unit {0} }
+{}
