@@ -5,3 +5,6 @@ pub mod Constants
 pub mod Statements
 pub mod Firsts
 pub mod Merged
+pub mod Scopes
+pub mod Seeing
+pub mod Denoted

@@ -3,4 +3,8 @@ pub mod Operators
 pub mod Formulas
 pub mod Expressions
 pub mod Statements
+pub mod Types
+pub mod Declarations
+pub mod Routines
+pub mod Programs
 pub mod Laws

@@ -6,7 +6,6 @@ use Rattle.spv_logic.specs.declared.types.TypeId.{TypeId}
 use Rattle.spv_logic.specs.declared.conditions.RoutineId.{RoutineId}
 use Rattle.spv_program.specs.Lists.{same_name, found}
 use Rattle.spv_program.specs.Programs.{Routine, Program}
-use Rattle.spv_program.specs.Scopes.{is_result}
 use Rattle.spv_typing.specs.Known.{KnownNames, Function}
 
 -- what a name of a routine stands for
@@ -48,6 +47,14 @@ abbrev pub place_among : List Symbol → Symbol → ℕ
 place_among [] x = 0
 place_among (y ∷ names) x = if same_name x y then 0 else suc (place_among names x)
 
+-- INTEGER and BOOLEAN are the first two types
+abbrev pub types_from_start : KnownNames → List (Symbol × TypeId)
+types_from_start k = (k.integer, record { 0 = 0 }) ∷ (k.boolean, record { 0 = 1 }) ∷ []
+
+abbrev pub is_name_of : Option Routine → Symbol → Bool
+is_name_of None x = false
+is_name_of (Some r) x = same_name r.name x
+
 module _ (v : View) where
   -- the number that a constant of this name is
   abbrev pub constant_named : Symbol → Option ℤ
@@ -63,9 +70,6 @@ module _ (v : View) where
   -- the type of this name
   abbrev pub type_named : Symbol → Option TypeId
   type_named x = own_or (found v.own x) (λ o. None) (found (types_from_start v.start ++ v.program.types) x)
-    where
-      types_from_start : KnownNames → List (Symbol × TypeId)
-      types_from_start k = (k.integer, record { 0 = 0 }) ∷ (k.boolean, record { 0 = 1 }) ∷ []
 
   -- whether a declared symbol has this name
   abbrev pub names_symbol : Symbol → Bool
@@ -79,6 +83,23 @@ module _ (v : View) where
   abbrev pub routine_named : Symbol → Option RoutineId
   routine_named x = own_or (found v.own x) (λ o. None) (Some (record { 0 = place_among (map (λ r. r.name) v.program.routines) x }))
 
-  -- whether this is the name of the function in whose body it stands
+  -- whether this is the name of the routine in whose body it stands
   abbrev pub names_result : Symbol → Bool
-  names_result x = own_or (found v.own x) (λ o. false) (is_result v.here x)
+  names_result x = own_or (found v.own x) (λ o. false) (is_name_of v.here x)
+
+-- ---- what parts of a program see
+
+-- from outside all routines
+abbrev pub at_top : KnownNames → Program → View
+at_top start p = record { start = start; program = p; own = []; here = None }
+
+-- with these names of a routine
+abbrev pub seen : KnownNames → Program → Option Routine → List (Symbol × Own) → View
+seen start p here own = record { start = start; program = p; own = own; here = here }
+
+-- constants, variables and parameters as names of a routine
+abbrev pub own_constants : List (Symbol × ℤ) → List (Symbol × Own)
+own_constants xs = map (λ x. (x.0, Constant x.1)) xs
+
+abbrev pub own_places : List (Symbol × TypeId) → List (Symbol × Own)
+own_places xs = map (λ x. (x.0, Place)) xs

@@ -2,6 +2,7 @@
 #![tactic(auto)]
 
 ghost use Rattle.spv_origin.specs.Laws.{AnnotationsComeFromTheirTrees, ExpressionsComeFromTheirTrees, PlacesComeFromTheirTrees, CallsComeFromTheirTrees, ConstantsHaveTheirNumbers, StatementsComeFromTheirTrees, BlocksComeFromTheirTrees};
+ghost use Rattle.spv_origin.specs.Programs.{ProgramFrom};
 
 /// An annotation that the walk answers comes from its tree.
 #[tactic(auto, using(crate::proofs::Annotations::annotations_come))]
