@@ -149,6 +149,57 @@ module _ (s : Scope) (is_target : Symbol → Bool) where
         let one = went (field_denoted s is_target fs f) (λ next. fields_denoted s is_target next more) all e in
         longer_on fs.written one.value.written all.written (field_longer fs f one.value one.first) (fields_longer one.value more all one.rest)
 
+-- ---- the type that was read is there
+
+nested_there : (types : List Written) (indices : List Index) (e : TypeId) → There types e.0 → There (nested types indices e).written (nested types indices e).type.0
+nested_there types [] e h = h
+nested_there types (i ∷ indices) e h =
+    let inner = nested types indices e in
+    record { item = Built (form.Array i.type inner.type); is = item_behind inner.written (Built (form.Array i.type inner.type)) }
+
+last_there : (types : List Written) (w : Written) (r : Reading) → adding types w ≡ r → There r.written r.type.0
+last_there types w r e = subst (λ (q : Reading). There q.written q.type.0) e (record { item = w; is = item_behind types w })
+
+module _ (s : Scope) (is_target : Symbol → Bool) (base : List Written) (types_there : (x : Symbol) (t : TypeId) → meaning s x ≡ Some (OfType t) → There base t.0) where
+  name_there : (line : ℕ) (x : Name) (m : Option Meaning) (t : TypeId) → meaning s x.symbol ≡ m → type_named line x m ≡ Ok t → There base t.0
+  name_there line x None t h e = absurd (no_fault e)
+  name_there line x (Some (OfType u)) t h e = subst (λ (q : TypeId). There base q.0) (same_value e) (types_there x.symbol u h)
+  name_there line x (Some OfList) t h e = absurd (no_fault e)
+  name_there line x (Some (OfConstant z)) t h e = absurd (no_fault e)
+  name_there line x (Some (OfPlace u)) t h e = absurd (no_fault e)
+  name_there line x (Some (OfStart r)) t h e = absurd (no_fault e)
+  name_there line x (Some (OfSymbol d)) t h e = absurd (no_fault e)
+  name_there line x (Some (OfRoutine q)) t h e = absurd (no_fault e)
+
+  pointer_there : (types : List Written) (line : ℕ) (x : Name) (b : Bool) (m : Option Meaning) (r : Reading) → cond b (fine (adding types (PointerTo x.symbol))) (no_target line x m) ≡ Ok r → There r.written r.type.0
+  pointer_there types line x true m r f = last_there types (PointerTo x.symbol) r (same_value f)
+  pointer_there types line x false None r f = absurd (no_fault f)
+  pointer_there types line x false (Some m) r f = absurd (no_fault f)
+
+  pub denoted_there : (types : List Written) (t : TypeDenoter) (r : Reading) → Longer base types → denoted s is_target types t ≡ Ok r → There r.written r.type.0
+  denoted_there types (tree.named line x) r l e =
+      let one = went (type_named line x (meaning s x.symbol)) (λ t. fine (kept types t)) r e in
+      let h = longer_there base types one.value.0 l (name_there line x (meaning s x.symbol) one.value refl one.first) in
+      subst (λ (q : Reading). There q.written q.type.0) (same_value one.rest) h
+  denoted_there types (range line low high) r l e =
+      let one = went (constant s low) (λ a. after (constant s high) (λ b. where_so (not (int_lt b a)) (wrong line) (fine (adding types (Built (form.Range a b)))))) r e in
+      let two = went (constant s high) (λ b. where_so (not (int_lt b one.value)) (wrong line) (fine (adding types (Built (form.Range one.value b))))) r one.rest in
+      last_there types (Built (form.Range one.value two.value)) r (same_value (behind_test (not (int_lt two.value one.value)) (wrong line) (fine (adding types (Built (form.Range one.value two.value)))) r two.rest))
+  denoted_there types (pointer line x) r l e = pointer_there types line x (is_target x.symbol) (meaning s x.symbol) r e
+  denoted_there types (array line first more elements) r l e =
+      let one = went (denoted s is_target types first) (λ one. after (all_denoted s is_target (indices_of first one) more) (λ i. after (denoted s is_target i.written elements) (λ e. nested_if_ranges e.written i.indices e.type))) r e in
+      let two = went (all_denoted s is_target (indices_of first one.value) more) (λ i. after (denoted s is_target i.written elements) (λ e. nested_if_ranges e.written i.indices e.type)) r one.rest in
+      let three = went (denoted s is_target two.value.written elements) (λ e. nested_if_ranges e.written two.value.indices e.type) r two.rest in
+      let four = went (each (check_index three.value.written) [] two.value.indices) (λ all. fine (nested three.value.written all three.value.type)) r three.rest in
+      let b1 = longer_on base types one.value.written l (denoted_longer s is_target types first one.value one.first) in
+      let b2 = longer_on base one.value.written two.value.written b1 (all_longer_of s is_target (indices_of first one.value) more two.value two.first) in
+      let h = denoted_there two.value.written elements three.value b2 three.first in
+      subst (λ (q : Reading). There q.written q.type.0) (same_value four.rest) (nested_there three.value.written four.value three.value.type h)
+  denoted_there types (fields line first more) r l e =
+      let one = went (field_denoted s is_target (no_fields_yet types) first) (λ one. after (fields_denoted s is_target one more) (λ all. fine (adding all.written (Built (form.Record all.fields))))) r e in
+      let two = went (fields_denoted s is_target one.value more) (λ all. fine (adding all.written (Built (form.Record all.fields)))) r one.rest in
+      last_there two.value.written (Built (form.Record two.value.fields)) r (same_value two.rest)
+
 -- ---- with the final numbers
 
 module _ (s : Scope) (is_target : Symbol → Bool) (v : View) (targets names : List (Symbol × TypeId)) (base whole : List Written) (new : TypeId → TypeId)

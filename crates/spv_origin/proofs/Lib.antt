@@ -8,3 +8,5 @@ pub mod Merged
 pub mod Scopes
 pub mod Seeing
 pub mod Denoted
+pub mod NewTypes
+pub mod Declared
