@@ -434,3 +434,139 @@ vars_done start forms constants types variables (g ∷ gs) k right first second 
       from = λ p later same_constants same_types.
         one_group (subst (λ ts. TypeFrom (names.at_top start p) ts n.type g.of) same_types ((made p same_constants same_types).from (keeps_on n.forms rest.now p.forms rest.keeps later))) (rest.from p later same_constants same_types);
     }
+
+-- ---- declared symbols
+
+-- the sort of a type that is there stays
+pub sort_kept : (forms later : List TypeForm) (t : TypeId) → There forms t.0 → Keeps forms later → sort_of later t ≡ sort_of forms t
+sort_kept forms later t h keeps =
+    ap (λ f. sort_of_form f t) (form_at-item later t.0 h.item (keeps.kept t.0 h.item h.is) ∙ sym (form_at-item forms t.0 h.item h.is))
+
+list_told : (k : Known) (x : Symbol) → meaning (at_top k) x ≡ Some OfList → k.start.list ≡ x
+list_told k x e = by_means (means k [] [] x OfList no_own e)
+  where
+    by_means : Means k [] x OfList → k.start.list ≡ x
+    by_means (by_own m o h f) = elim h [ ]
+    by_means (by_program m none (told_list f)) = f
+
+abbrev decl_of : Symbol → List Sort → Sort → Decl
+decl_of x args r = record { name = x; args = args; result = r }
+
+module _ (start : KnownNames) (forms : List TypeForm) (constants : List (Symbol × ℤ)) (types variables : List (Symbol × TypeId)) (first : There forms 0) (second : There forms 1)
+    (there : (x : Symbol) (t : TypeId) → found types x ≡ Some t → There forms t.0) (p : Program) (keeps : Keeps forms p.forms) (types_are : types ≡ p.types) where
+  abbrev known_with : List Decl → Known
+  known_with symbols = known_at start forms constants types variables symbols
+
+  named_type : (symbols : List Decl) (x : Symbol) (t : TypeId) → meaning (at_top (known_with symbols)) x ≡ Some (OfType t) → type_named (names.at_top start p) x ≡ Some t
+  named_type symbols x t h = ap (λ ts. found (types_from_start start ++ ts) x) (sym types_are) ∙ type_told (known_with symbols) x t h
+
+  sort_come : (symbols : List Decl) (line : ℕ) (x : Name) (m : Option Meaning) (s : Sort) → meaning (at_top (known_with symbols)) x.symbol ≡ m → sort_named forms line x m ≡ Ok s → SortFrom (names.at_top start p) s (record { line = line; form = written.Name x })
+  sort_come symbols line x None s h e = absurd (no_fault e)
+  sort_come symbols line x (Some (OfType t)) s h e =
+      let at = type_there start forms types x.symbol t first second there (type_told (known_with symbols) x.symbol t h) in
+      subst (λ q. SortFrom (names.at_top start p) q (record { line = line; form = written.Name x })) (sort_kept forms p.forms t at keeps ∙ same_value e) (of_type (named_type symbols x.symbol t h))
+  sort_come symbols line x (Some OfList) s h e = subst (λ q. SortFrom (names.at_top start p) q (record { line = line; form = written.Name x })) (same_value e) (of_list (list_told (known_with symbols) x.symbol h))
+  sort_come symbols line x (Some (OfConstant z)) s h e = absurd (no_fault e)
+  sort_come symbols line x (Some (OfPlace t)) s h e = absurd (no_fault e)
+  sort_come symbols line x (Some (OfStart r)) s h e = absurd (no_fault e)
+  sort_come symbols line x (Some (OfSymbol d)) s h e = absurd (no_fault e)
+  sort_come symbols line x (Some (OfRoutine r)) s h e = absurd (no_fault e)
+
+  class_come : (symbols : List Decl) (line on : ℕ) (x : Name) (m : Option Meaning) (t : TypeId) → meaning (at_top (known_with symbols)) x.symbol ≡ m → class_named on x m ≡ Ok t → SortFrom (names.at_top start p) (sort.Class t) (record { line = line; form = written.Class x })
+  class_come symbols line on x None t h e = absurd (no_fault e)
+  class_come symbols line on x (Some (OfType u)) t h e = of_class (named_type symbols x.symbol u h ∙ ap Some (same_value e))
+  class_come symbols line on x (Some OfList) t h e = absurd (no_fault e)
+  class_come symbols line on x (Some (OfConstant z)) t h e = absurd (no_fault e)
+  class_come symbols line on x (Some (OfPlace u)) t h e = absurd (no_fault e)
+  class_come symbols line on x (Some (OfStart r)) t h e = absurd (no_fault e)
+  class_come symbols line on x (Some (OfSymbol d)) t h e = absurd (no_fault e)
+  class_come symbols line on x (Some (OfRoutine r)) t h e = absurd (no_fault e)
+
+  sort_written : (symbols : List Decl) (line : ℕ) (f : NameOrClass) (s : Sort) → sort_walk (known_with symbols) (record { line = line; form = f }) ≡ Ok s → SortFrom (names.at_top start p) s (record { line = line; form = f })
+  sort_written symbols line (written.Name x) s e = sort_come symbols line x (meaning (at_top (known_with symbols)) x.symbol) s refl e
+  sort_written symbols line (written.Class x) s e =
+      let one = went (class_named line x (meaning (at_top (known_with symbols)) x.symbol)) (λ t. fine (sort.Class t)) s e in
+      subst (λ q. SortFrom (names.at_top start p) q (record { line = line; form = written.Class x })) (same_value one.rest) (class_come symbols line line x (meaning (at_top (known_with symbols)) x.symbol) one.value refl one.first)
+
+  sorts_come : (symbols : List Decl) (ns : List SortName) (ss : List Sort) → all_of (sort_walk (known_with symbols)) ns ≡ Ok ss → SortsFrom (names.at_top start p) ss ns
+  sorts_come symbols [] ss e = subst (λ q. SortsFrom (names.at_top start p) q []) (same_value e) no_sorts
+  sorts_come symbols (n ∷ ns) ss e =
+      let one = went (sort_walk (known_with symbols) n) (λ a. after (all_of (sort_walk (known_with symbols)) ns) (λ others. fine (a ∷ others))) ss e in
+      let two = went (all_of (sort_walk (known_with symbols)) ns) (λ others. fine (one.value ∷ others)) ss one.rest in
+      subst (λ q. SortsFrom (names.at_top start p) q (n ∷ ns)) (same_value two.rest) (one_sort (sort_written symbols n.line n.form one.value one.first) (sorts_come symbols ns two.value two.first))
+
+  bracketed_come : (symbols : List Decl) (o : Option (Several SortName)) (ss : List Sort) → all_of (sort_walk (known_with symbols)) (sorts_in_brackets o) ≡ Ok ss → SortsFrom (names.at_top start p) ss (sorts_written (names.at_top start p) o)
+  bracketed_come symbols None ss e = sorts_come symbols [] ss e
+  bracketed_come symbols (Some ns) ss e = sorts_come symbols (ns.first ∷ ns.more) ss e
+
+  record SymbolsRest (symbols : List Decl) (ts : List SymbolText) (k : Known) : Type 0 where
+    pub rest : List Decl
+    pub is : known_with (symbols ++ rest) ≡ k
+    pub from : SymbolsFrom (names.at_top start p) rest ts
+
+  symbols_rest : (symbols : List Decl) (ts : List SymbolText) (k : Known) → each symbol_walk (known_with symbols) ts ≡ Ok k → SymbolsRest symbols ts k
+  symbols_rest symbols [] k e = record { rest = []; is = ap (λ q. known_with q) (append-nil symbols) ∙ same_value e; from = no_symbols }
+  symbols_rest symbols (t ∷ ts) k e =
+      let known = known_with symbols in
+      let one = went (symbol_walk known t) (λ next. each symbol_walk next ts) k e in
+      let result = λ (args : List Sort) (r : Sort). fine (with_program known (with_symbol known.program (decl_of t.name.symbol args r))) in
+      let next = after (all_of (sort_walk known) (sorts_in_brackets t.arguments)) (λ args. after (sort_walk known t.result) (result args)) in
+      let two = went (all_of (sort_walk known) (sorts_in_brackets t.arguments)) (λ args. after (sort_walk known t.result) (result args)) one.value (behind_test (is_free_for_call known t.name.symbol) (twice t.name) next one.value one.first) in
+      let three = went (sort_walk known t.result) (result two.value) one.value two.rest in
+      let d = decl_of t.name.symbol two.value three.value in
+      let rest = symbols_rest (symbols ++ d ∷ []) ts k (ap (λ q. each symbol_walk q ts) (same_value three.rest) ∙ one.rest) in
+      record {
+        rest = d ∷ rest.rest;
+        is = ap (λ q. known_with q) (sym (append_assoc symbols (d ∷ []) rest.rest)) ∙ rest.is;
+        from = one_symbol refl (bracketed_come symbols t.arguments two.value two.first) (sort_written symbols t.result.line t.result.form three.value three.first) rest.from;
+      }
+
+-- ---- all declarations
+
+pub record Declared (start : KnownNames) (d : Declarations) (k : Known) : Type 0 where
+  pub forms : List TypeForm
+  pub constants : List (Symbol × ℤ)
+  pub types : List (Symbol × TypeId)
+  pub variables : List (Symbol × TypeId)
+  pub symbols : List Decl
+  pub is : known_at start forms constants types variables symbols ≡ k
+  pub right : FormsRight forms
+  pub first : FirstTwo forms
+  pub there : (x : Symbol) (t : TypeId) → found types x ≡ Some t → There forms t.0
+  pub from : (p : Program) → Keeps forms p.forms → constants ≡ p.constants → types ≡ p.types → variables ≡ p.variables → symbols ≡ p.symbols → DeclarationsFrom start p d
+
+pub declared : (start : KnownNames) (d : Declarations) (k : Known) → declarations_walk (known_at start first_forms [] [] [] []) d ≡ Ok k → Declared start d k
+declared start d k e =
+    let k0 = known_at start first_forms [] [] [] [] in
+    let one = went (each const_walk k0 d.constants) (λ a. after (type_part_walk a d.types) (λ b. after (each vars_walk b d.variables) (λ c. each symbol_walk c d.symbols))) k e in
+    let two = went (type_part_walk one.value d.types) (λ b. after (each vars_walk b d.variables) (λ c. each symbol_walk c d.symbols)) k one.rest in
+    let three = went (each vars_walk two.value d.variables) (λ c. each symbol_walk c d.symbols) k two.rest in
+    let c = consts_done start first_forms [] d.constants one.value one.first in
+    let t = types_done start c.all d.types two.value (ap (λ q. type_part_walk q d.types) c.is ∙ two.first) in
+    let f0 : There t.forms 0 = record { item = Integer; is = t.first.zero } in
+    let f1 : There t.forms 1 = record { item = Boolean; is = t.first.one } in
+    let v = vars_done start t.forms c.all t.types [] d.variables three.value t.right f0 f1 t.there (ap (λ q. each vars_walk q d.variables) t.is ∙ three.first) in
+    let g0 = keeps_there t.forms v.now 0 v.keeps f0 in
+    let g1 = keeps_there t.forms v.now 1 v.keeps f1 in
+    let there = λ (x : Symbol) (u : TypeId) (h : found t.types x ≡ Some u). keeps_there t.forms v.now u.0 v.keeps (t.there x u h) in
+    let walk = ap (λ q. each symbol_walk q d.symbols) v.is ∙ three.rest in
+    let plain = symbols_rest start v.now c.all t.types v.all g0 g1 there (record (known_at start v.now c.all t.types v.all []).program { titles = [] }) (keeps_same v.now) refl [] d.symbols k walk in
+    record {
+      forms = v.now;
+      constants = c.all;
+      types = t.types;
+      variables = v.all;
+      symbols = plain.rest;
+      is = plain.is;
+      right = v.right;
+      first = record { zero = v.keeps.kept 0 Integer t.first.zero; one = v.keeps.kept 1 Boolean t.first.one };
+      there = there;
+      from = λ p later same_constants same_types same_variables same_symbols. record {
+        constants = subst (λ q. ConstsFrom (with_constants start p) [] d.constants q) same_constants (c.from p);
+        types = t.from p (keeps_on t.forms v.now p.forms v.keeps later) same_constants same_types;
+        variables = subst (λ q. VarsFrom (λ before. names.at_top start p) p.types [] d.variables q) same_variables (v.from p later same_constants same_types);
+        symbols =
+          let r = symbols_rest start v.now c.all t.types v.all g0 g1 there p later same_types [] d.symbols k walk in
+          subst (λ q. SymbolsFrom (names.at_top start p) q d.symbols) (ap (λ (q : Known). q.program.symbols) (r.is ∙ sym plain.is) ∙ same_symbols) r.from;
+      };
+    }
