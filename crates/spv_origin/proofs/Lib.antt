@@ -10,3 +10,4 @@ pub mod Seeing
 pub mod Denoted
 pub mod NewTypes
 pub mod Declared
+pub mod Headings

@@ -24,13 +24,17 @@ scope_of k ms r = record { known = k; own = ms; routine = r }
 abbrev pub record_of : ℕ → RoutineId
 record_of n = record { 0 = n }
 
--- what is known is the declarations of the program, and the headings are those of its routines
-pub record Knows (k : Known) (start : KnownNames) (p : Program) : Type 0 where
+-- what is known is the declarations of the program
+pub record KnowsNames (k : Known) (start : KnownNames) (p : Program) : Type 0 where
   pub start_is : k.start ≡ start
   pub constants_are : k.program.constants ≡ p.constants
   pub types_are : k.program.types ≡ p.types
   pub variables_are : k.program.variables ≡ p.variables
   pub symbols_are : k.program.symbols ≡ p.symbols
+
+-- and the headings are those of its routines
+pub record Knows (k : Known) (start : KnownNames) (p : Program) : Type 0 where
+  pub names : KnowsNames k start p
   pub numbers : (h : Heading) → In k.headings h → record_of (place_among (map (λ (r : Routine). r.name) p.routines) h.name) ≡ h.number
   pub first : form_at k.program.forms 0 ≡ Integer
   pub plain : (h : Heading) (t : TypeId) → In k.headings h → h.result ≡ Some t → may_be_result (form_at k.program.forms t.0) ≡ true
@@ -93,7 +97,7 @@ module _ (k : Known) (ms : Names) (os : List (Symbol × Own)) (own : OwnAs ms os
       by_means (by_own m o g f) = elim g [ ]
       by_means (by_program m none (told_routine w name f)) = record { none = none; name = name; listed = f }
 
-  pub sees : Knows k start p → Sees s v
+  pub sees : KnowsNames k start p → Sees s v
   sees knows = record {
     constants = constants_seen knows.constants_are;
     places = places_seen knows.variables_are;
@@ -106,8 +110,8 @@ module _ (k : Known) (ms : Names) (os : List (Symbol × Own)) (own : OwnAs ms os
   -- a routine's own heading has its name
   pub sees_places : Knows k start p → ((h : Heading) → is_this r h ≡ true → is_name_of here h.name ≡ true) → SeesPlaces s v
   sees_places knows is_its = record {
-    constants = constants_seen knows.constants_are;
-    places = places_seen knows.variables_are;
+    constants = constants_seen (knows.names).constants_are;
+    places = places_seen (knows.names).variables_are;
     routines = λ x h e.
         let g = routines_seen x h e in
         ap (λ q. own_or q (λ o. None) (Some (record_of (place_among (map (λ (r : Routine). r.name) p.routines) x)))) g.none
@@ -115,7 +119,7 @@ module _ (k : Known) (ms : Names) (os : List (Symbol × Own)) (own : OwnAs ms os
     own_result = λ x h t e own_one result.
         let g = routines_seen x h e in
         ap (λ q. own_or q (λ o. false) (is_name_of here x)) g.none ∙ (ap (is_name_of here) (sym g.name) ∙ is_its h own_one);
-    functions = λ x. ap (λ (q : KnownNames). found q.functions x) knows.start_is;
+    functions = λ x. ap (λ (q : KnownNames). found q.functions x) (knows.names).start_is;
     first = knows.first;
     plain_results = λ x h t e result. let g = routines_seen x h e in knows.plain h t g.listed result;
   }
