@@ -122,7 +122,7 @@ type_numbered start new types x t first second e = by_tests (same_name start.int
     by_tests false true f = ap Some (sym second ∙ ap new (some_is f))
     by_tests false false f = found_map new types x ∙ ap (option_map new) f
 
-type_there : {X : Type 0} (start : KnownNames) (xs : List X) (types : List (Symbol × TypeId)) (x : Symbol) (t : TypeId) → There xs 0 → There xs 1 → ((x : Symbol) (t : TypeId) → found types x ≡ Some t → There xs t.0)
+pub type_there : {X : Type 0} (start : KnownNames) (xs : List X) (types : List (Symbol × TypeId)) (x : Symbol) (t : TypeId) → There xs 0 → There xs 1 → ((x : Symbol) (t : TypeId) → found types x ≡ Some t → There xs t.0)
     → found (types_from_start start ++ types) x ≡ Some t → There xs t.0
 type_there start xs types x t first second there e = by_tests (same_name start.integer x) (same_name start.boolean x) e
   where

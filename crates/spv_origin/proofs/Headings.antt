@@ -88,7 +88,7 @@ headed_of name line is_function number ps result globals starts entry exit = rec
 
 module _ (start : KnownNames) (p : Program) (k : Known) (knows : KnowsNames k start p) where
   -- a type by its name
-  type_come : (own : Names) (os : List (Symbol × Own)) → OwnAs own os → (line : ℕ) (x : Name) (m : Option Meaning) (t : TypeId) → meaning (in_routine k own None) x.symbol ≡ m → type_named line x m ≡ Ok t → names.type_named (seen start p None os) x.symbol ≡ Some t
+  pub type_come : (own : Names) (os : List (Symbol × Own)) → OwnAs own os → (line : ℕ) (x : Name) (m : Option Meaning) (t : TypeId) → meaning (in_routine k own None) x.symbol ≡ m → type_named line x m ≡ Ok t → names.type_named (seen start p None os) x.symbol ≡ Some t
   type_come own os alike line x None t h e = absurd (no_fault e)
   type_come own os alike line x (Some (OfType u)) t h e = types_seen k own os alike None start p None knows.start_is knows.types_are x.symbol u h ∙ ap Some (same_value e)
   type_come own os alike line x (Some OfList) t h e = absurd (no_fault e)
@@ -100,7 +100,7 @@ module _ (start : KnownNames) (p : Program) (k : Known) (knows : KnowsNames k st
 
   -- ---- parameters
 
-  record ParametersFrom (before : Parameters) (gs : List Group) (ps : Parameters) : Type 0 where
+  pub record ParametersFrom (before : Parameters) (gs : List Group) (ps : Parameters) : Type 0 where
     pub own : OwnAs ps.own (parameter_names ps.formals)
     pub from : FormalsFrom start p before.formals gs ps.formals
 
@@ -130,7 +130,7 @@ module _ (start : KnownNames) (p : Program) (k : Known) (knows : KnowsNames k st
       let one = went (group_walk k routine before g) (λ next. each (group_walk k routine) next gs) ps e in
       group_come routine before g.line g.form gs one.value ps own one.first (λ next_own. groups_come routine one.value gs ps next_own one.rest)
 
-  params_come : (routine : Symbol) (params : Option Params) (ps : Parameters) → params_walk k routine params ≡ Ok ps → ParametersFrom no_parameters (groups_of params) ps
+  pub params_come : (routine : Symbol) (params : Option Params) (ps : Parameters) → params_walk k routine params ≡ Ok ps → ParametersFrom no_parameters (groups_of params) ps
   params_come routine None ps e = groups_come routine no_parameters [] ps no_own e
   params_come routine (Some params) ps e = groups_come routine no_parameters (params.groups.first ∷ params.groups.more) ps no_own e
 

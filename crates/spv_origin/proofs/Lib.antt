@@ -11,3 +11,5 @@ pub mod Denoted
 pub mod NewTypes
 pub mod Declared
 pub mod Headings
+pub mod Headed
+pub mod Locals
