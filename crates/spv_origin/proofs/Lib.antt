@@ -13,3 +13,4 @@ pub mod Declared
 pub mod Headings
 pub mod Headed
 pub mod Locals
+pub mod Bodies
