@@ -116,12 +116,13 @@ module _ (start : KnownNames) (bodies : List Symbol) where
     pub ready : Ready start bodies next
     pub later : Later k next
     pub awaited_are : next.awaited ≡ k.awaited
+    pub routines_are : k.program.routines ++ r ∷ [] ≡ next.program.routines
     pub from : (p : Program) → KnowsNames k start p → Keeps next.program.forms p.forms → map (λ (r : Routine). r.name) p.routines ≡ bodies → BodyFrom start p r ls b
 
-  abbrev routine_of : Headed → Local → Statement → Routine
+  abbrev pub routine_of : Headed → Local → Statement → Routine
   routine_of headed l body = with_body headed.heading l.variables body
 
-  abbrev known_behind : Headed → Local → Statement → Known
+  abbrev pub known_behind : Headed → Local → Statement → Known
   known_behind headed l body = with_program l.known (with_routine l.known.program (routine_of headed l body))
 
   at_body : (k : Known) (headed : Headed) (ls : Locals) (b : tree.Block) (forms : List TypeForm) (own : Names) (variables : List (Symbol × TypeId)) (constants : List (Symbol × ℤ)) (body : Statement) (p : Program) → Ready start bodies (with_forms k forms) → KnowsNames k start p
@@ -158,6 +159,7 @@ module _ (start : KnownNames) (bodies : List Symbol) where
         ready = subst (λ q. Ready start bodies (behind q)) d.known_is ready_next;
         later = subst (λ q. Later k (behind q)) d.known_is later_next;
         awaited_are = ap (λ (q : Known). q.awaited) (sym d.known_is);
+        routines_are = ap (λ (q : Known). (behind q).program.routines) d.known_is;
         from = λ p knows keeps names_are. record {
           constants = d.constants;
           constants_from = d.constants_from p knows;

@@ -14,3 +14,4 @@ pub mod Headings
 pub mod Headed
 pub mod Locals
 pub mod Bodies
+pub mod Marks
