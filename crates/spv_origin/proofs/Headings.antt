@@ -288,7 +288,7 @@ module _ (start : KnownNames) (p : Program) (k : Known) (knows : KnowsNames k st
 
   -- ---- ENTRY and EXIT
 
-  noted_come : (own : Names) (os : List (Symbol × Own)) → OwnAs own os → (f : Option formulas.Formula) (a : Option Annotation) → if_there (annotation (in_routine k own None)) f ≡ Ok a → IfThere (seen start p None os) a f
+  pub noted_come : (own : Names) (os : List (Symbol × Own)) → OwnAs own os → (f : Option formulas.Formula) (a : Option Annotation) → if_there (annotation (in_routine k own None)) f ≡ Ok a → IfThere (seen start p None os) a f
   noted_come own os alike None a e = subst (λ q. IfThere (seen start p None os) q None) (same_value e) not_there
   noted_come own os alike (Some f) a e =
       let one = went (annotation (in_routine k own None) f) (λ x. fine (Some x)) a e in

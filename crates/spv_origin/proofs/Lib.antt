@@ -15,3 +15,4 @@ pub mod Headed
 pub mod Locals
 pub mod Bodies
 pub mod Marks
+pub mod Programs

@@ -1,11 +1,14 @@
 -- What is proved of the walk over names and types: what it answers comes from its tree.
-use Rattle.std.specs.Prelude.{◌≡◌, ℕ, true, ℤ, Option, Some, Ok}
+use Rattle.std.specs.Prelude.{◌≡◌, ℕ, true, ℤ, Option, Some, Ok, IsTrue}
 use Rattle.spv_names.specs.declared.names.Symbol.{Symbol}
 use Rattle.spv_logic.specs.declared.types.TypeId.{TypeId}
 use Rattle.spv_logic.specs.declared.types.Sort.{Sort}
 use Rattle.spv_logic.specs.declared.types.Decl.{Decl}
 use Rattle.spv_syntax.specs.declared.names.Constant.{Constant}
 use Rattle.spv_syntax.specs.Formulas as tree
+use Rattle.spv_syntax.specs.declared.programs.Program.{Program as ProgramText}
+use Rattle.spv_syntax.specs.declared.formula_texts.FormulaText.{FormulaText}
+use Rattle.spv_syntax.specs.Reads.{well_formed}
 use Rattle.spv_syntax.specs.Statements as statements
 use Rattle.spv_syntax.specs.declared.names.Name.{Name}
 use Rattle.spv_syntax.specs.declared.lists.Several.{Several}
@@ -14,14 +17,17 @@ use Rattle.spv_program.specs.Types.{form_at, may_be_result}
 use Rattle.spv_program.specs.Expressions.{Expression, Designator, Call}
 use Rattle.spv_program.specs.Formulas.{Annotation}
 use Rattle.spv_program.specs.Statements.{Statement}
-use Rattle.spv_typing.specs.Known.{Function, OfConstant, OfType, OfPlace, OfStart, OfSymbol, OfRoutine, Heading, Scope, meaning, function}
+use Rattle.spv_program.specs.Programs.{Program}
+use Rattle.spv_typing.specs.Known.{KnownNames, Function, OfConstant, OfType, OfPlace, OfStart, OfSymbol, OfRoutine, Heading, Scope, meaning, function}
 use Rattle.spv_typing.specs.FormulaWalk.{annotation}
 use Rattle.spv_typing.specs.ExpressionWalk.{Reached, is_this, designator_at, expression_of, written, call_of}
 use Rattle.spv_typing.specs.TypeWalk.{constant}
 use Rattle.spv_typing.specs.StatementWalk.{Setting, arguments_of, statement_walk, block_walk}
+use Rattle.spv_typing.specs.ProgramWalk.{program_walk, formula_text_walk}
 use Rattle.spv_origin.specs.Names.{View, constant_named, names_place, names_start, type_named, names_symbol, function_named, routine_named, names_result}
 use Rattle.spv_origin.specs.Formulas.{AnnotationFrom}
 use Rattle.spv_origin.specs.Expressions.{CallFrom, ExpressionFrom, PlaceFrom}
+use Rattle.spv_origin.specs.Programs.{ProgramFrom, FormulaTextFrom}
 use Rattle.spv_origin.specs.Statements.{all_of, ConstantFrom, StatementFrom, BlockFrom}
 
 -- the names that annotations see in a scope are those of a program
@@ -79,3 +85,11 @@ StatementsComeFromTheirTrees =
 abbrev pub BlocksComeFromTheirTrees : Type 0
 BlocksComeFromTheirTrees =
     (at : Setting) (v w : View) → SeesPlaces at.inside v → Sees at.noted w → (b : statements.Block) (s : Statement) → block_walk at b ≡ Ok s → BlockFrom v w s b
+
+-- a program that the walk answers comes from its tree, in which each routine that begins ends
+abbrev pub ProgramsComeFromTheirTrees : Type 0
+ProgramsComeFromTheirTrees = (start : KnownNames) (t : ProgramText) (p : Program) → IsTrue (well_formed t) → program_walk start t ≡ Ok p → ProgramFrom start p t
+
+-- so does that of a formula text
+abbrev pub FormulaTextsComeFromTheirTrees : Type 0
+FormulaTextsComeFromTheirTrees = (start : KnownNames) (t : FormulaText) (p : Program) → formula_text_walk start t ≡ Ok p → FormulaTextFrom start p t

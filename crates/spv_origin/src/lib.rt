@@ -1,8 +1,7 @@
 //! From which trees of texts a typed program may come: what the walk over names and types answers comes from its tree.
 #![tactic(auto)]
 
-ghost use Rattle.spv_origin.specs.Laws.{AnnotationsComeFromTheirTrees, ExpressionsComeFromTheirTrees, PlacesComeFromTheirTrees, CallsComeFromTheirTrees, ConstantsHaveTheirNumbers, StatementsComeFromTheirTrees, BlocksComeFromTheirTrees};
-ghost use Rattle.spv_origin.specs.Programs.{ProgramFrom};
+ghost use Rattle.spv_origin.specs.Laws.{AnnotationsComeFromTheirTrees, ExpressionsComeFromTheirTrees, PlacesComeFromTheirTrees, CallsComeFromTheirTrees, ConstantsHaveTheirNumbers, StatementsComeFromTheirTrees, BlocksComeFromTheirTrees, ProgramsComeFromTheirTrees, FormulaTextsComeFromTheirTrees};
 
 /// An annotation that the walk answers comes from its tree.
 #[tactic(auto, using(crate::proofs::Annotations::annotations_come))]
@@ -24,7 +23,8 @@ pub fn law_statements()
     ensures blocks { BlocksComeFromTheirTrees }
 {}
 
-/// temp
-pub fn law_temp()
-    ensures { Unit {0} }
+/// Programs and formula texts that the walk answers come from their trees.
+pub fn law_programs()
+    ensures programs { ProgramsComeFromTheirTrees }
+    ensures formula_texts { FormulaTextsComeFromTheirTrees }
 {}
