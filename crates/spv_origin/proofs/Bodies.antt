@@ -1,6 +1,7 @@
 -- Bodies of routines come from their trees.
 use Rattle.std.proofs.Common.{◌≡◌, ℕ, zero, suc, Bool, true, false, cond, List, [], ◌∷◌, ◌++◌, map, Option, Some, None, refl, sym, ap, ◌∙◌, subst}
-use Rattle.std.specs.Prelude.{ℤ, Ok, Err}
+use Rattle.std.specs.Prelude.{◌||◌, option_map, ℤ, Ok, Err}
+use Rattle.std.specs.List.{list_any}
 use Rattle.std.proofs.lemmas.Bool.{false≢true}
 use Rattle.spv_names.specs.declared.names.Symbol.{Symbol}
 use Rattle.spv_logic.specs.declared.types.TypeId.{TypeId}
@@ -21,21 +22,34 @@ use Rattle.spv_typing.specs.StatementWalk.{block_walk}
 use Rattle.spv_typing.specs.RoutineWalk.{in_routine, Headed, Local, locals_walk, body_setting, with_body}
 use Rattle.spv_typing.specs.RoutineWalk as walk
 use Rattle.spv_typing.specs.ProgramWalk.{number_of, with_routine}
-use Rattle.spv_origin.specs.Names.{Own, place_among, seen, own_constants, own_places}
+use Rattle.spv_origin.specs.Names.{Own, place_among, routine_at, seen, own_constants, own_places}
 use Rattle.spv_origin.specs.Routines.{parameter_names, start_names, result_names, body_names, BodyFrom}
 use Rattle.spv_origin.proofs.Firsts.{There}
 use Rattle.spv_origin.proofs.Merged.{FormsRight}
 use Rattle.spv_origin.proofs.Scopes.{In, OwnAs, own_append}
-use Rattle.spv_origin.proofs.Seeing.{KnowsNames, Knows, record_of, sees, sees_places}
+use Rattle.spv_origin.proofs.Seeing.{KnowsNames, Knows, sees, sees_places}
 use Rattle.spv_origin.proofs.NewTypes.{Keeps, keeps_same, keeps_on, keeps_there}
 use Rattle.spv_origin.proofs.Declared.{FirstTwo, form_at-item}
 use Rattle.spv_origin.proofs.Headings.{result_own}
 use Rattle.spv_origin.proofs.Locals.{with_forms, LocalsDone, locals_done}
 use Rattle.spv_origin.proofs.Statements.{blocks_come}
 
-place_same : (names : List Symbol) (x : Symbol) → place_among names x ≡ first_where (same_name x) names
-place_same [] x = refl
-place_same (y ∷ names) x = ap (λ n. cond (same_name x y) 0 (suc n)) (place_same names x)
+-- whether a routine of this name has a body
+abbrev pub is_among : List Symbol → Symbol → Bool
+is_among names x = list_any (same_name x) names
+
+place_same : (names : List Symbol) (x : Symbol) → is_among names x ≡ true → place_among names x ≡ Some (first_where (same_name x) names)
+place_same [] x h = absurd (false≢true h)
+place_same (y ∷ names) x h = by_case (same_name x y) h (place_same names x)
+  where
+    by_case : (b : Bool) → (b || is_among names x) ≡ true → (is_among names x ≡ true → place_among names x ≡ Some (first_where (same_name x) names))
+        → cond b (Some 0) (option_map (λ n. suc n) (place_among names x)) ≡ Some (cond b 0 (suc (first_where (same_name x) names)))
+    by_case true k go = refl
+    by_case false k go = ap (option_map (λ n. suc n)) (go k)
+
+-- each heading is that of a routine with a body
+pub record AllAmong (bodies : List Symbol) (k : Known) : Type 0 where
+  pub among : (h : Heading) → In k.headings h → is_among bodies h.name ≡ true
 
 -- a type that may be a result is there
 plain_there : (forms : List TypeForm) (t : ℕ) → may_be_result (form_at forms t) ≡ true → There forms t
@@ -65,9 +79,10 @@ pub record Later (k next : Known) : Type 0 where
   pub variables_are : next.program.variables ≡ k.program.variables
   pub symbols_are : next.program.symbols ≡ k.program.symbols
   pub start_is : next.start ≡ k.start
+  pub headings_stay : (h : Heading) → In k.headings h → In next.headings h
 
 pub later_same : (k : Known) → Later k k
-later_same k = record { keeps = keeps_same k.program.forms; constants_are = refl; types_are = refl; variables_are = refl; symbols_are = refl; start_is = refl }
+later_same k = record { keeps = keeps_same k.program.forms; constants_are = refl; types_are = refl; variables_are = refl; symbols_are = refl; start_is = refl; headings_stay = λ h i. i }
 
 pub later_on : (k mid next : Known) → Later k mid → Later mid next → Later k next
 later_on k mid next g h = record {
@@ -77,7 +92,11 @@ later_on k mid next g h = record {
   variables_are = h.variables_are ∙ g.variables_are;
   symbols_are = h.symbols_are ∙ g.symbols_are;
   start_is = h.start_is ∙ g.start_is;
+  headings_stay = λ q i. h.headings_stay q (g.headings_stay q i);
 }
+
+pub among_before : (bodies : List Symbol) (k next : Known) → Later k next → AllAmong bodies next → AllAmong bodies k
+among_before bodies k next later h = record { among = λ q i. h.among q (later.headings_stay q i) }
 
 pub knows_later : (start : KnownNames) (p : Program) (k next : Known) → Later k next → KnowsNames k start p → KnowsNames next start p
 knows_later start p k next h knows = record {
@@ -102,10 +121,10 @@ abbrev local_of : Known → Names → List (Symbol × TypeId) → Local
 local_of k own variables = record { known = k; own = own; variables = variables }
 
 module _ (start : KnownNames) (bodies : List Symbol) where
-  pub knows_all : (k : Known) (p : Program) → Ready start bodies k → KnowsNames k start p → map (λ (r : Routine). r.name) p.routines ≡ bodies → Knows k start p
-  knows_all k p ready knows names_are = record {
+  pub knows_all : (k : Known) (p : Program) → Ready start bodies k → KnowsNames k start p → map (λ (r : Routine). r.name) p.routines ≡ bodies → AllAmong bodies k → Knows k start p
+  knows_all k p ready knows names_are all = record {
     names = knows;
-    numbers = λ h i. ap (λ ns. record_of (place_among ns h.name)) names_are ∙ (ap record_of (place_same bodies h.name) ∙ ready.numbers h i);
+    numbers = λ h i. ap (λ ns. option_map routine_at (place_among ns h.name)) names_are ∙ (ap (option_map routine_at) (place_same bodies h.name (all.among h i)) ∙ ap Some (ready.numbers h i));
     first = form_at-item k.program.forms 0 Integer (ready.first).zero;
     plain = ready.plain;
   }
@@ -116,8 +135,9 @@ module _ (start : KnownNames) (bodies : List Symbol) where
     pub ready : Ready start bodies next
     pub later : Later k next
     pub awaited_are : next.awaited ≡ k.awaited
+    pub headings_are : next.headings ≡ k.headings
     pub routines_are : k.program.routines ++ r ∷ [] ≡ next.program.routines
-    pub from : (p : Program) → KnowsNames k start p → Keeps next.program.forms p.forms → map (λ (r : Routine). r.name) p.routines ≡ bodies → BodyFrom start p r ls b
+    pub from : (p : Program) → KnowsNames k start p → Keeps next.program.forms p.forms → map (λ (r : Routine). r.name) p.routines ≡ bodies → AllAmong bodies k → BodyFrom start p r ls b
 
   abbrev pub routine_of : Headed → Local → Statement → Routine
   routine_of headed l body = with_body headed.heading l.variables body
@@ -126,19 +146,19 @@ module _ (start : KnownNames) (bodies : List Symbol) where
   known_behind headed l body = with_program l.known (with_routine l.known.program (routine_of headed l body))
 
   at_body : (k : Known) (headed : Headed) (ls : Locals) (b : tree.Block) (forms : List TypeForm) (own : Names) (variables : List (Symbol × TypeId)) (constants : List (Symbol × ℤ)) (body : Statement) (p : Program) → Ready start bodies (with_forms k forms) → KnowsNames k start p
-      → map (λ (r : Routine). r.name) p.routines ≡ bodies
+      → map (λ (r : Routine). r.name) p.routines ≡ bodies → AllAmong bodies k
       → OwnAs own (((parameter_names headed.heading.formals ++ start_names headed.heading.initial) ++ own_constants constants) ++ own_places variables)
       → block_walk (body_setting headed.heading (record { known = with_forms k forms; own = own; variables = variables })) b ≡ Ok body
       → Rattle.spv_origin.specs.Statements.BlockFrom (seen start p (Some (with_body headed.heading variables body)) (body_names (with_body headed.heading variables body) constants variables))
         (seen start p (Some (with_body headed.heading variables body)) (result_names headed.heading.name headed.heading.result ++ body_names (with_body headed.heading variables body) constants variables)) body b
-  at_body k headed ls b forms own variables constants body p ready knows names_are alike e =
+  at_body k headed ls b forms own variables constants body p ready knows names_are all alike e =
       let now = with_forms k forms in
       let h = headed.heading in
       let r = with_body h variables body in
       let os = body_names r constants variables in
       let known : KnowsNames now start p = record { start_is = knows.start_is; constants_are = knows.constants_are; types_are = knows.types_are; variables_are = knows.variables_are; symbols_are = knows.symbols_are } in
       let noted_own = own_append (walk.result_names h.name h.result) own (result_names h.name h.result) os (result_own start p now known h.name h.result) alike in
-      let inside = sees_places now own os alike (Some h) start p (Some r) (knows_all now p ready known names_are) (λ q f. f) in
+      let inside = sees_places now own os alike (Some h) start p (Some r) (knows_all now p ready known names_are (record { among = all.among })) (λ q f. f) in
       let noted = sees now (walk.result_names h.name h.result ++ own) (result_names h.name h.result ++ os) noted_own (Some h) start p (Some r) known in
       blocks_come (body_setting h (record { known = now; own = own; variables = variables })) (seen start p (Some r) os) (seen start p (Some r) (result_names h.name h.result ++ os)) inside noted b body e
 
@@ -154,16 +174,17 @@ module _ (start : KnownNames) (bodies : List Symbol) where
       let same : local_of now l.own l.variables ≡ l = ap (λ q. local_of q l.own l.variables) d.known_is in
       let behind = λ (q : Known). with_program q (with_routine q.program (routine_of headed l body)) in
       let ready_next : Ready start bodies (behind now) = record { starts = ready_now.starts; right = ready_now.right; first = ready_now.first; there = ready_now.there; numbers = ready_now.numbers; plain = ready_now.plain } in
-      let later_next : Later k (behind now) = record { keeps = d.keeps; constants_are = refl; types_are = refl; variables_are = refl; symbols_are = refl; start_is = refl } in
+      let later_next : Later k (behind now) = record { keeps = d.keeps; constants_are = refl; types_are = refl; variables_are = refl; symbols_are = refl; start_is = refl; headings_stay = λ q i. i } in
       record {
         ready = subst (λ q. Ready start bodies (behind q)) d.known_is ready_next;
         later = subst (λ q. Later k (behind q)) d.known_is later_next;
         awaited_are = ap (λ (q : Known). q.awaited) (sym d.known_is);
+        headings_are = ap (λ (q : Known). q.headings) (sym d.known_is);
         routines_are = ap (λ (q : Known). (behind q).program.routines) d.known_is;
-        from = λ p knows keeps names_are. record {
+        from = λ p knows keeps names_are all. record {
           constants = d.constants;
           constants_from = d.constants_from p knows;
           variables_from = d.variables_from p knows (subst (λ (q : Known). Keeps q.program.forms p.forms) (sym d.known_is) keeps);
-          body = at_body k headed ls b d.now l.own l.variables d.constants body p ready_now knows names_are d.alike (ap (λ q. block_walk (body_setting headed.heading q) b) same ∙ f);
+          body = at_body k headed ls b d.now l.own l.variables d.constants body p ready_now knows names_are all d.alike (ap (λ q. block_walk (body_setting headed.heading q) b) same ∙ f);
         };
       }

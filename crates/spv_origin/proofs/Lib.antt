@@ -16,3 +16,4 @@ pub mod Locals
 pub mod Bodies
 pub mod Marks
 pub mod Programs
+pub mod Examples

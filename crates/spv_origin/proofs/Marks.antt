@@ -1,6 +1,6 @@
 -- The routines of a text come from their trees.
 use Rattle.std.proofs.Common.{◌≡◌, ℕ, zero, suc, Bool, true, false, cond, List, [], ◌∷◌, ◌++◌, map, Option, Some, None, refl, sym, ap, ◌∙◌, subst}
-use Rattle.std.specs.Prelude.{◌&&◌, not, filter, ℤ, Ok, Err}
+use Rattle.std.specs.Prelude.{◌&&◌, ◌||◌, not, filter, ℤ, Ok, Err}
 use Rattle.std.proofs.lemmas.Bool.{false≢true}
 use Rattle.std.proofs.lemmas.List.{append_assoc, append-nil}
 use Rattle.spv_list.proofs.Tests.{left_true, right_true}
@@ -33,11 +33,11 @@ use Rattle.spv_well_typed.proofs.Outcomes.{fine, no_fault, same_value, went, hel
 use Rattle.spv_origin.specs.Names.{Own, Place, Start}
 use Rattle.spv_origin.specs.Routines.{parameter_names, start_names, name_of, announced_as, repeats, HeadingFrom, RoutinesFrom}
 use Rattle.spv_origin.specs.Routines as origin
-use Rattle.spv_origin.proofs.Scopes.{In, here, further, OwnAs, no_own, one_own, own_append, as_place, as_start, same_name-true}
+use Rattle.spv_origin.proofs.Scopes.{In, here, further, in_before, same_name-refl, OwnAs, no_own, one_own, own_append, as_place, as_start, same_name-true}
 use Rattle.spv_origin.proofs.Seeing.{KnowsNames}
 use Rattle.spv_origin.proofs.NewTypes.{Keeps, keeps_on}
 use Rattle.spv_origin.proofs.Headed.{HeadedFrom, heading_come}
-use Rattle.spv_origin.proofs.Bodies.{Ready, Later, later_same, later_on, knows_later, BodyDone, routine_of, known_behind, body_done}
+use Rattle.spv_origin.proofs.Bodies.{Ready, Later, later_same, later_on, is_among, AllAmong, among_before, knows_later, BodyDone, routine_of, known_behind, body_done}
 
 -- ---- the names of a heading
 
@@ -71,11 +71,15 @@ repeated (Function x ps r) (Function y (Some q) s) c h = absurd (false≢true h)
 repeated (Function x ps r) (Procedure y None) c h = absurd (false≢true h)
 repeated (Function x ps r) (Procedure y (Some q)) c h = absurd (false≢true h)
 
-in_last : {X : Type 0} (P : X → Type 0) (xs : List X) (y x : X) → ((x : X) → In xs x → P x) → P y → In (xs ++ y ∷ []) x → P x
+pub in_last : {X : Type 0} (P : X → Type 0) (xs : List X) (y x : X) → ((x : X) → In xs x → P x) → P y → In (xs ++ y ∷ []) x → P x
 in_last P [] y x h last (here a us) = last
 in_last P [] y x h last (further a b us k) = elim k [ ]
 in_last P (z ∷ xs) y x h last (here a us) = h z (here z xs)
 in_last P (z ∷ xs) y x h last (further a b us k) = in_last P xs y x (λ w i. h w (further w z xs i)) last k
+
+in_end : {X : Type 0} (xs : List X) (x : X) → In (xs ++ x ∷ []) x
+in_end [] x = here x []
+in_end (y ∷ xs) x = further x y (xs ++ x ∷ []) (in_end xs x)
 
 -- ---- headings that wait for their bodies
 
@@ -121,6 +125,45 @@ module _ (start : KnownNames) (p : Program) where
   waits_without [] (q ∷ qs) x h = elim h [ ]
   waits_without (a ∷ hs) [] x h = elim h [ ]
 
+-- ---- headings and bodies
+
+pub data AwaitedAt (next : Known) (names : List Symbol) (h : Heading) : Type 0 where
+  has_body : is_among names h.name ≡ true → AwaitedAt next names h
+  still_waits : In next.awaited h → AwaitedAt next names h
+
+pub data HeadingAt (k next : Known) (names : List Symbol) (h : Heading) : Type 0 where
+  before : In k.headings h → HeadingAt k next names h
+  behind : AwaitedAt next names h → HeadingAt k next names h
+
+or_true : (b : Bool) → (b || true) ≡ true
+or_true true = refl
+or_true false = refl
+
+either_true : (b c : Bool) → (b || false) ≡ true → (b || c) ≡ true
+either_true true c e = refl
+either_true false c e = absurd (false≢true e)
+
+one_name_more : (next : Known) (names : List Symbol) (x : Symbol) (h : Heading) → AwaitedAt next names h → AwaitedAt next (x ∷ names) h
+one_name_more next names x h (has_body e) = has_body (ap (λ b. same_name h.name x || b) e ∙ or_true (same_name h.name x))
+one_name_more next names x h (still_waits i) = still_waits i
+
+own_body : (next : Known) (names : List Symbol) (x : Symbol) (h : Heading) → h.name ≡ x → AwaitedAt next (x ∷ names) h
+own_body next names x h e = has_body (ap (λ y. same_name y x || is_among names y) e ∙ ap (λ b. b || is_among names x) (same_name-refl x))
+
+-- what waits has the name, or waits still
+with_or_without : (next : Known) (names : List Symbol) (x : Symbol) (hs : List Heading) (h : Heading) → In hs h → (In (without hs x) h → AwaitedAt next (x ∷ names) h) → AwaitedAt next (x ∷ names) h
+with_or_without next names x [] h i go = elim i [ ]
+with_or_without next names x (a ∷ hs) h (here b us) go = by_case (same_name a.name x) refl go
+  where
+    by_case : (c : Bool) → same_name a.name x ≡ c → (In (cond (not c) (a ∷ without hs x) (without hs x)) a → AwaitedAt next (x ∷ names) a) → AwaitedAt next (x ∷ names) a
+    by_case true e f = own_body next names x a (same_name-true a.name x e)
+    by_case false e f = f (here a (without hs x))
+with_or_without next names x (a ∷ hs) h (further b d us i) go = with_or_without next names x hs h i (λ j. by_case (not (same_name a.name x)) j go)
+  where
+    by_case : (c : Bool) → In (without hs x) h → (In (cond c (a ∷ without hs x) (without hs x)) h → AwaitedAt next (x ∷ names) h) → AwaitedAt next (x ∷ names) h
+    by_case true j f = f (further h a (without hs x) j)
+    by_case false j f = f j
+
 -- ---- the routines in a row
 
 abbrev begun_at : Headed → Local → Progress
@@ -143,7 +186,10 @@ module _ (start : KnownNames) (bodies : List Symbol) where
     pub routines : List Routine
     pub routines_are : k.program.routines ++ routines ≡ next.program.routines
     pub names_are : map (λ (r : Routine). r.name) routines ≡ names_of_bodies marks
-    pub from : (p : Program) → KnowsNames k start p → Keeps next.program.forms p.forms → map (λ (r : Routine). r.name) p.routines ≡ bodies → (waiting : List (HeadingText × Clauses)) → Waits start p k.awaited waiting → next.awaited ≡ []
+    -- what has a heading has a body, or waits for it
+    pub headings_covered : (h : Heading) → In next.headings h → HeadingAt k next (names_of_bodies marks) h
+    pub awaited_covered : (h : Heading) → In k.awaited h → AwaitedAt next (names_of_bodies marks) h
+    pub from : (p : Program) → KnowsNames k start p → Keeps next.program.forms p.forms → map (λ (r : Routine). r.name) p.routines ≡ bodies → AllAmong bodies next → (waiting : List (HeadingText × Clauses)) → Waits start p k.awaited waiting → next.awaited ≡ []
         → RoutinesFrom start p waiting marks routines
 
   -- what is known with one heading more
@@ -188,7 +234,7 @@ module _ (start : KnownNames) (bodies : List Symbol) where
       record { name_is = f.name_is; kind_is = f.kind_is; from = f.from }
 
   later_heading : (k : Known) (a : Heading) (awaited : List Heading) → Later k (with_awaited (with_heading k a) awaited)
-  later_heading k a awaited = record { keeps = (later_same k).keeps; constants_are = refl; types_are = refl; variables_are = refl; symbols_are = refl; start_is = refl }
+  later_heading k a awaited = record { keeps = (later_same k).keeps; constants_are = refl; types_are = refl; variables_are = refl; symbols_are = refl; start_is = refl; headings_stay = λ h i. in_before k.headings (a ∷ []) h i }
 
   ready_awaited : (k : Known) (awaited : List Heading) → ReadyHere k → ReadyHere (with_awaited k awaited)
   ready_awaited k awaited ready = record { starts = ready.starts; right = ready.right; first = ready.first; there = ready.there; numbers = ready.numbers; plain = ready.plain }
@@ -204,6 +250,10 @@ module _ (start : KnownNames) (bodies : List Symbol) where
       by_found None (Some q) f g x = elim x [ ]
       by_found (Some a) None f g x = elim x [ ]
 
+  announced_covered : {k next : Known} {a g : Heading} {awaited : List Heading} {names : List Symbol} → HeadingAt (with_awaited (with_heading k a) awaited) next names g → AwaitedAt next names a → HeadingAt k next names g
+  announced_covered {k} {next} {a} {g} {awaited} {names} (before i) h = in_last (λ q. HeadingAt k next names q) k.headings a g (λ q j. before j) (behind h) i
+  announced_covered {k} {next} {a} {g} {awaited} {names} (behind j) h = behind j
+
   announced_done : (k : Known) (h : HeadingText) (c : Clauses) (marks : List RoutineMark) (headed : Headed) (next : Known) → ReadyHere k → awaited_of k.awaited (heading_name h.form).symbol ≡ None → HeadingDone k h c headed
       → MarksDone (with_awaited_too k headed.heading) marks next → MarksDone k (Announced h c ∷ marks) next
   announced_done k h c marks headed next ready none d rest =
@@ -216,9 +266,11 @@ module _ (start : KnownNames) (bodies : List Symbol) where
         routines = rest.routines;
         routines_are = rest.routines_are;
         names_are = rest.names_are;
-        from = λ p knows keeps names_are waiting w done.
+        headings_covered = λ g i. announced_covered (rest.headings_covered g i) (rest.awaited_covered a (in_end k.awaited a));
+        awaited_covered = λ g i. rest.awaited_covered g (in_before k.awaited (a ∷ []) g i);
+        from = λ p knows keeps names_are all waiting w done.
           origin.announced (none_announced p k h waiting w none)
-          (rest.from p (knows_later start p k mid later knows) keeps names_are (waiting ++ (h, c) ∷ []) (waits_last start p k.awaited waiting a (h, c) w (waits_as p k h c headed knows d)) done);
+          (rest.from p (knows_later start p k mid later knows) keeps names_are all (waiting ++ (h, c) ∷ []) (waits_last start p k.awaited waiting a (h, c) w (waits_as p k h c headed knows d)) done);
       }
 
   -- ---- a routine with its body
@@ -229,9 +281,23 @@ module _ (start : KnownNames) (bodies : List Symbol) where
     pub ready : ReadyHere next
     pub later : Later k next
     pub routines_are : k.program.routines ++ routine ∷ [] ≡ next.program.routines
+    pub headings_covered : (g : Heading) → In next.headings g → HeadingAt k next ((heading_name h.form).symbol ∷ []) g
+    pub awaited_covered : (g : Heading) → In k.awaited g → AwaitedAt next ((heading_name h.form).symbol ∷ []) g
     pub name_is : routine.name ≡ (heading_name h.form).symbol
-    pub from : (p : Program) → KnowsNames k start p → Keeps next.program.forms p.forms → map (λ (r : Routine). r.name) p.routines ≡ bodies → (waiting : List (HeadingText × Clauses)) → Waits start p k.awaited waiting
+    pub from : (p : Program) → KnowsNames k start p → Keeps next.program.forms p.forms → map (λ (r : Routine). r.name) p.routines ≡ bodies → AllAmong bodies next → (waiting : List (HeadingText × Clauses)) → Waits start p k.awaited waiting
         → (marks : List RoutineMark) (rs : List Routine) → ((waiting : List (HeadingText × Clauses)) → Waits start p next.awaited waiting → RoutinesFrom start p waiting marks rs) → RoutinesFrom start p waiting (Begins h c l ∷ Ends b ∷ marks) (routine ∷ rs)
+
+  awaits_on : (mid next : Known) (x : Symbol) (names : List Symbol) (g : Heading) → AwaitedAt mid (x ∷ []) g → ((q : Heading) → In mid.awaited q → AwaitedAt next names q) → AwaitedAt next (x ∷ names) g
+  awaits_on mid next x names g (has_body e) rest = has_body (either_true (same_name g.name x) (is_among names g.name) e)
+  awaits_on mid next x names g (still_waits i) rest = one_name_more next names x g (rest g i)
+
+  routine_covered : (k mid next : Known) (x : Symbol) (names : List Symbol) (g : Heading) → HeadingAt mid next names g → ((q : Heading) → In mid.headings q → HeadingAt k mid (x ∷ []) q) → ((q : Heading) → In mid.awaited q → AwaitedAt next names q) → HeadingAt k next (x ∷ names) g
+  routine_covered k mid next x names g (behind j) first rest = behind (one_name_more next names x g j)
+  routine_covered k mid next x names g (before i) first rest = by_first (first g i)
+    where
+      by_first : HeadingAt k mid (x ∷ []) g → HeadingAt k next (x ∷ names) g
+      by_first (before j) = before j
+      by_first (behind j) = behind (awaits_on mid next x names g j rest)
 
   routine_done : (k : Known) (h : HeadingText) (c : Clauses) (l : Locals) (b : tree.Block) (marks : List RoutineMark) (mid next : Known) → RoutineDone k h c l b mid → MarksDone mid marks next → MarksDone k (Begins h c l ∷ Ends b ∷ marks) next
   routine_done k h c l b marks mid next one rest = record {
@@ -240,9 +306,11 @@ module _ (start : KnownNames) (bodies : List Symbol) where
     routines = one.routine ∷ rest.routines;
     routines_are = sym (append_assoc k.program.routines (one.routine ∷ []) rest.routines) ∙ (ap (λ q. q ++ rest.routines) one.routines_are ∙ rest.routines_are);
     names_are = ap (λ x. x ∷ map (λ (r : Routine). r.name) rest.routines) one.name_is ∙ ap (λ ns. (heading_name h.form).symbol ∷ ns) rest.names_are;
-    from = λ p knows keeps names_are waiting w done.
-      one.from p knows (keeps_on mid.program.forms next.program.forms p.forms (rest.later).keeps keeps) names_are waiting w marks rest.routines
-      (λ others v. rest.from p (knows_later start p k mid one.later knows) keeps names_are others v done);
+    headings_covered = λ g i. routine_covered k mid next (heading_name h.form).symbol (names_of_bodies marks) g (rest.headings_covered g i) one.headings_covered rest.awaited_covered;
+    awaited_covered = λ g i. awaits_on mid next (heading_name h.form).symbol (names_of_bodies marks) g (one.awaited_covered g i) rest.awaited_covered;
+    from = λ p knows keeps names_are all waiting w done.
+      one.from p knows (keeps_on mid.program.forms next.program.forms p.forms (rest.later).keeps keeps) names_are (among_before bodies mid next rest.later all) waiting w marks rest.routines
+      (λ others v. rest.from p (knows_later start p k mid one.later knows) keeps names_are all others v done);
   }
 
   -- the body of a routine that has begun, and the marks behind it
@@ -273,12 +341,14 @@ module _ (start : KnownNames) (bodies : List Symbol) where
       record {
         routine = r;
         ready = done.ready;
-        later = record { keeps = (done.later).keeps; constants_are = (done.later).constants_are; types_are = (done.later).types_are; variables_are = (done.later).variables_are; symbols_are = (done.later).symbols_are; start_is = (done.later).start_is };
+        later = record { keeps = (done.later).keeps; constants_are = (done.later).constants_are; types_are = (done.later).types_are; variables_are = (done.later).variables_are; symbols_are = (done.later).symbols_are; start_is = (done.later).start_is; headings_stay = λ g i. (done.later).headings_stay g (in_before k.headings (headed.heading ∷ []) g i) };
         routines_are = done.routines_are;
         name_is = d.name_is ∙ name_same h.form;
-        from = λ p knows keeps names_are waiting w marks rs go.
+        headings_covered = λ g i. in_last (λ q. HeadingAt k next ((heading_name h.form).symbol ∷ []) q) k.headings headed.heading g (λ q j. before j) (behind (own_body next [] (heading_name h.form).symbol headed.heading (d.name_is ∙ name_same h.form))) (subst (λ hs. In hs g) done.headings_are i);
+        awaited_covered = λ g i. still_waits (subst (λ hs. In hs g) (sym done.awaited_are) i);
+        from = λ p knows keeps names_are all waiting w marks rs go.
           let knows1 : KnowsNames k1 start p = record { start_is = knows.start_is; constants_are = knows.constants_are; types_are = knows.types_are; variables_are = knows.variables_are; symbols_are = knows.symbols_are } in
-          origin.whole (none_announced p k h waiting w none) ((waits_as p k h c headed knows d).from local.variables body) (done.from p knows1 keeps names_are)
+          origin.whole (none_announced p k h waiting w none) ((waits_as p k h c headed knows d).from local.variables body) (done.from p knows1 keeps names_are (among_before bodies k1 next done.later all))
           (go waiting (subst (λ hs. Waits start p hs waiting) (sym done.awaited_are) w));
       }
 
@@ -315,20 +385,23 @@ module _ (start : KnownNames) (bodies : List Symbol) where
       let r = routine_of start bodies headed local body in
       let done = body_done start bodies k1 headed l b local body (ready_awaited k (without k.awaited first.name) ready) (heading_own k1 first) e f in
       let named : first.name ≡ x = awaited_name k.awaited x first awaits in
+      let next = known_behind start bodies (headed_again k first) local body in
       let named_of : first.name ≡ name_of h.form = named ∙ sym (name_same h.form) in
       record {
         routine = r;
         ready = done.ready;
-        later = record { keeps = (done.later).keeps; constants_are = (done.later).constants_are; types_are = (done.later).types_are; variables_are = (done.later).variables_are; symbols_are = (done.later).symbols_are; start_is = (done.later).start_is };
+        later = record { keeps = (done.later).keeps; constants_are = (done.later).constants_are; types_are = (done.later).types_are; variables_are = (done.later).variables_are; symbols_are = (done.later).symbols_are; start_is = (done.later).start_is; headings_stay = (done.later).headings_stay };
         routines_are = done.routines_are;
         name_is = named;
-        from = λ p knows keeps names_are waiting w marks rs go.
+        headings_covered = λ g i. before (subst (λ hs. In hs g) done.headings_are i);
+        awaited_covered = λ g i. with_or_without next [] x k.awaited g i (λ j. still_waits (subst (λ hs. In hs g) (sym done.awaited_are) (subst (λ y. In (without k.awaited y) g) (sym named) j)));
+        from = λ p knows keeps names_are all waiting w marks rs go.
           let knows1 : KnowsNames k1 start p = record { start_is = knows.start_is; constants_are = knows.constants_are; types_are = knows.types_are; variables_are = knows.variables_are; symbols_are = knows.symbols_are } in
           let q = waiting_first p k.awaited x waiting first w awaits in
           let at : announced_as waiting (name_of h.form) ≡ Some q.first = ap (announced_as waiting) (name_same h.form) ∙ q.is in
           let same : repeats q.first.0.form h.form c ≡ true = repeated q.first.0.form h.form c (ap (λ z. is_bare_form z h.form && is_bare c) (sym (q.waits).kind_is) ∙ bare) in
           let left = subst (λ y. Waits start p (without k.awaited y) (origin.without waiting (name_of h.form))) (sym named_of) (waits_without start p k.awaited waiting (name_of h.form) w) in
-          origin.with_body at same ((q.waits).from local.variables body) (done.from p knows1 keeps names_are)
+          origin.with_body at same ((q.waits).from local.variables body) (done.from p knows1 keeps names_are (among_before bodies k1 next done.later all))
           (go (origin.without waiting (name_of h.form)) (subst (λ hs. Waits start p hs (origin.without waiting (name_of h.form))) (sym done.awaited_are) left));
       }
 
@@ -391,7 +464,7 @@ module _ (start : KnownNames) (bodies : List Symbol) where
   pub marks_done : (marks : List RoutineMark) (k : Known) (at : Progress) → ReadyHere k → routines_ok 0 marks ≡ true → each (mark_walk bodies) (at_rest k) marks ≡ Ok at → MarksDone k marks at.known
   marks_done [] k at ready nested e =
       subst (λ (q : Progress). MarksDone k [] q.known) (same_value e)
-      (record { ready = ready; later = later_same k; routines = []; routines_are = append-nil k.program.routines; names_are = refl; from = λ p knows keeps names_are waiting w done. none_left p k.awaited waiting w done })
+      (record { ready = ready; later = later_same k; routines = []; routines_are = append-nil k.program.routines; names_are = refl; headings_covered = λ g i. before i; awaited_covered = λ g i. still_waits i; from = λ p knows keeps names_are all waiting w done. none_left p k.awaited waiting w done })
   marks_done (Announced h c ∷ marks) k at ready nested e =
       let one = went (mark_walk bodies (at_rest k) (Announced h c)) (λ next. each (mark_walk bodies) next marks) at e in
       announces_done k h c marks one.value at (awaited_of k.awaited (heading_name h.form).symbol) ready refl one.first one.rest (λ next r f. marks_done marks next at r nested f)

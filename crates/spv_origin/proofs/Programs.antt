@@ -8,6 +8,7 @@ use Rattle.spv_logic.specs.declared.types.TypeId.{TypeId}
 use Rattle.spv_syntax.specs.declared.programs.Program.{Program as ProgramText}
 use Rattle.spv_syntax.specs.declared.formula_texts.FormulaText.{FormulaText}
 use Rattle.spv_syntax.specs.declared.declarations.Declarations.{Declarations}
+use Rattle.spv_syntax.specs.declared.routines.RoutineMark.{RoutineMark}
 use Rattle.spv_syntax.specs.Reads.{well_formed, routines_ok, block_ok}
 use Rattle.spv_program.specs.Formulas.{Annotation}
 use Rattle.spv_program.specs.Statements.{Statement, Assert}
@@ -30,8 +31,8 @@ use Rattle.spv_origin.proofs.Statements.{blocks_come}
 use Rattle.spv_origin.proofs.NewTypes.{Keeps, keeps_same, keeps_on}
 use Rattle.spv_origin.proofs.Declared.{known_at, first_forms, Declared, declared}
 use Rattle.spv_origin.proofs.Headings.{noted_come}
-use Rattle.spv_origin.proofs.Bodies.{Ready, Later, knows_later, knows_all}
-use Rattle.spv_origin.proofs.Marks.{Waits, none_waits, MarksDone, marks_done}
+use Rattle.spv_origin.proofs.Bodies.{Ready, Later, is_among, AllAmong, knows_later, knows_all}
+use Rattle.spv_origin.proofs.Marks.{Waits, none_waits, AwaitedAt, has_body, still_waits, HeadingAt, before, behind, MarksDone, marks_done}
 
 abbrev main_of : Option Annotation → Option Annotation → Statement → Main
 main_of entry exit body = record { entry = entry; exit = exit; body = body }
@@ -63,6 +64,17 @@ module _ (start : KnownNames) where
   none_left [] b e = refl
   none_left (h ∷ hs) b e = absurd (no_fault e)
 
+  -- each heading is that of a routine with a body, where none waits
+  all_among : (d : Declarations) (k all : Known) (marks : List RoutineMark) → Declared start d k → all.awaited ≡ [] → MarksDone start (names_of_bodies marks) k marks all → AllAmong (names_of_bodies marks) all
+  all_among d k all marks declared_first empty done = record { among = λ h i. by_place h (done.headings_covered h i) }
+    where
+      by_awaited : (h : Heading) → AwaitedAt all (names_of_bodies marks) h → is_among (names_of_bodies marks) h.name ≡ true
+      by_awaited h (has_body e) = e
+      by_awaited h (still_waits i) = elim (subst (λ hs. In hs h) empty i) [ ]
+      by_place : (h : Heading) → HeadingAt k all (names_of_bodies marks) h → is_among (names_of_bodies marks) h.name ≡ true
+      by_place h (before i) = elim (subst (λ (q : Known). In q.headings h) (sym declared_first.is) i) [ ]
+      by_place h (behind j) = by_awaited h j
+
   program_come : (t : ProgramText) (p : Program) → well_formed t ≡ true → program_walk start t ≡ Ok p → ProgramFrom start p t
   program_come t p formed e =
       let bodies = names_of_bodies t.routines in
@@ -93,7 +105,9 @@ module _ (start : KnownNames) where
       let known = knows_later start final d.value all done.later start_known in
       let routines_are : done.routines ≡ all.program.routines = ap (λ (k : Known). k.program.routines ++ done.routines) declared_first.is ∙ done.routines_are in
       let names_are : map (λ (q : Routine). q.name) all.program.routines ≡ bodies = ap (λ rs. map (λ (q : Routine). q.name) rs) (sym routines_are) ∙ done.names_are in
-      let right = knows_all start bodies all final done.ready known names_are in
+      let empty = none_left all.awaited none.value none.first in
+      let among = all_among t.declarations d.value all t.routines declared_first empty done in
+      let right = knows_all start bodies all final done.ready known names_are among in
       let waits : Waits start final (d.value).awaited [] = subst (λ (k : Known). Waits start final k.awaited []) declared_first.is none_waits in
       let keeps = keeps_same all.program.forms in
       subst (λ (q : Program). ProgramFrom start q t) (same_value body.rest)
@@ -102,7 +116,7 @@ module _ (start : KnownNames) where
         declarations = declared_first.from final (keeps_declared declared_first all done.later)
           (ap (λ (k : Known). k.program.constants) declared_first.is ∙ start_known.constants_are) (ap (λ (k : Known). k.program.types) declared_first.is ∙ start_known.types_are)
           (ap (λ (k : Known). k.program.variables) declared_first.is ∙ start_known.variables_are) (ap (λ (k : Known). k.program.symbols) declared_first.is ∙ start_known.symbols_are);
-        routines = subst (λ rs. Rattle.spv_origin.specs.Routines.RoutinesFrom start final [] t.routines rs) routines_are (done.from final start_known keeps names_are [] waits (none_left all.awaited none.value none.first));
+        routines = subst (λ rs. Rattle.spv_origin.specs.Routines.RoutinesFrom start final [] t.routines rs) routines_are (done.from final start_known keeps names_are among [] waits empty);
         entry = noted_come start final all known [] [] no_own t.entry entry.value entry.first;
         exit = noted_come start final all known [] [] no_own t.exit exit.value exit.first;
         body = blocks_come (main_setting all) (at_top start final) (at_top start final)

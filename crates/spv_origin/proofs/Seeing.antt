@@ -14,15 +14,12 @@ use Rattle.spv_program.specs.Types.{form_at, may_be_result}
 use Rattle.spv_program.specs.Programs.{Routine, Program}
 use Rattle.spv_typing.specs.Known.{KnownNames, Meaning, OfType, OfList, OfConstant, OfPlace, OfStart, OfSymbol, OfRoutine, Heading, Names, Known, program_names, Scope, meaning, function}
 use Rattle.spv_typing.specs.ExpressionWalk.{is_this}
-use Rattle.spv_origin.specs.Names.{Own, Constant, Place, Start, View, own_or, constant_named, names_place, names_start, type_named, names_symbol, function_named, routine_named, names_result, place_among, types_from_start, number_of, is_place, is_start, is_name_of, at_top, seen}
+use Rattle.spv_origin.specs.Names.{Own, Constant, Place, Start, View, own_or, constant_named, names_place, names_start, type_named, names_symbol, function_named, routine_named, names_result, place_among, routine_at, types_from_start, number_of, is_place, is_start, is_name_of, at_top, seen}
 use Rattle.spv_origin.specs.Laws.{Sees, SeesPlaces}
 use Rattle.spv_origin.proofs.Scopes.{In, Told, told_type, told_list, told_constant, told_place, told_symbol, told_routine, Alike, as_constant, as_place, as_start, OwnAs, Means, by_own, by_program, means, same_name-true, same_name-refl}
 
 abbrev pub scope_of : Known → Names → Option Heading → Scope
 scope_of k ms r = record { known = k; own = ms; routine = r }
-
-abbrev pub record_of : ℕ → RoutineId
-record_of n = record { 0 = n }
 
 -- what is known is the declarations of the program
 pub record KnowsNames (k : Known) (start : KnownNames) (p : Program) : Type 0 where
@@ -35,7 +32,7 @@ pub record KnowsNames (k : Known) (start : KnownNames) (p : Program) : Type 0 wh
 -- and the headings are those of its routines
 pub record Knows (k : Known) (start : KnownNames) (p : Program) : Type 0 where
   pub names : KnowsNames k start p
-  pub numbers : (h : Heading) → In k.headings h → record_of (place_among (map (λ (r : Routine). r.name) p.routines) h.name) ≡ h.number
+  pub numbers : (h : Heading) → In k.headings h → option_map routine_at (place_among (map (λ (r : Routine). r.name) p.routines) h.name) ≡ Some h.number
   pub first : form_at k.program.forms 0 ≡ Integer
   pub plain : (h : Heading) (t : TypeId) → In k.headings h → h.result ≡ Some t → may_be_result (form_at k.program.forms t.0) ≡ true
 
@@ -114,8 +111,8 @@ module _ (k : Known) (ms : Names) (os : List (Symbol × Own)) (own : OwnAs ms os
     places = places_seen (knows.names).variables_are;
     routines = λ x h e.
         let g = routines_seen x h e in
-        ap (λ q. own_or q (λ o. None) (Some (record_of (place_among (map (λ (r : Routine). r.name) p.routines) x)))) g.none
-        ∙ (ap (λ y. Some (record_of (place_among (map (λ (r : Routine). r.name) p.routines) y))) (sym g.name) ∙ ap Some (knows.numbers h g.listed));
+        ap (λ q. own_or q (λ o. None) (option_map routine_at (place_among (map (λ (r : Routine). r.name) p.routines) x))) g.none
+        ∙ (ap (λ y. option_map routine_at (place_among (map (λ (r : Routine). r.name) p.routines) y)) (sym g.name) ∙ knows.numbers h g.listed);
     own_result = λ x h t e own_one result.
         let g = routines_seen x h e in
         ap (λ q. own_or q (λ o. false) (is_name_of here x)) g.none ∙ (ap (is_name_of here) (sym g.name) ∙ is_its h own_one);

@@ -8,3 +8,4 @@ pub mod Declarations
 pub mod Routines
 pub mod Programs
 pub mod Laws
+pub mod Examples

@@ -1,5 +1,5 @@
 -- What a name stands for, told by the typed program and by the names of the routine in which it stands.
-use Rattle.std.specs.Prelude.{ℕ, zero, suc, Bool, true, false, List, [], ◌∷◌, ◌++◌, map, Option, Some, None, is_some, ℤ, if◌then◌else◌}
+use Rattle.std.specs.Prelude.{ℕ, zero, suc, Bool, true, false, List, [], ◌∷◌, ◌++◌, map, Option, Some, None, is_some, option_map, ℤ, if◌then◌else◌}
 use Rattle.std.specs.List.{list_any}
 use Rattle.spv_names.specs.declared.names.Symbol.{Symbol}
 use Rattle.spv_logic.specs.declared.types.TypeId.{TypeId}
@@ -42,10 +42,13 @@ abbrev pub is_start : Own → Bool
 is_start Start = true
 is_start _ = false
 
--- the place of a name in a list; one that is not there has the length of the list
-abbrev pub place_among : List Symbol → Symbol → ℕ
-place_among [] x = 0
-place_among (y ∷ names) x = if same_name x y then 0 else suc (place_among names x)
+-- the place of a name in a list, where it is there
+abbrev pub place_among : List Symbol → Symbol → Option ℕ
+place_among [] x = None
+place_among (y ∷ names) x = if same_name x y then Some 0 else option_map (λ n. suc n) (place_among names x)
+
+abbrev pub routine_at : ℕ → RoutineId
+routine_at n = record { 0 = n }
 
 -- INTEGER and BOOLEAN are the first two types
 abbrev pub types_from_start : KnownNames → List (Symbol × TypeId)
@@ -81,7 +84,7 @@ module _ (v : View) where
 
   -- the number of the routine of this name
   abbrev pub routine_named : Symbol → Option RoutineId
-  routine_named x = own_or (found v.own x) (λ o. None) (Some (record { 0 = place_among (map (λ r. r.name) v.program.routines) x }))
+  routine_named x = own_or (found v.own x) (λ o. None) (option_map routine_at (place_among (map (λ r. r.name) v.program.routines) x))
 
   -- whether this is the name of the routine in whose body it stands
   abbrev pub names_result : Symbol → Bool

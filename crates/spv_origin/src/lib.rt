@@ -28,3 +28,21 @@ pub fn law_programs()
     ensures programs { ProgramsComeFromTheirTrees }
     ensures formula_texts { FormulaTextsComeFromTheirTrees }
 {}
+
+ghost use Rattle.spv_origin.specs.Examples.{SumsAreKept, FromTheLeft, RelationsAreKept, NumbersAreKept, IndicesAreKept, AssignmentsAreKept, BranchesAreKept, LoopsAndArmsAreKept};
+
+/// Small expressions: which trees they come from, and which not.
+pub fn law_small_expressions()
+    ensures sums { SumsAreKept }
+    ensures from_the_left { FromTheLeft }
+    ensures relations { RelationsAreKept }
+    ensures numbers { NumbersAreKept }
+    ensures indices { IndicesAreKept }
+{}
+
+/// Small statements: which trees they come from, and which not.
+pub fn law_small_statements()
+    ensures assignments { AssignmentsAreKept }
+    ensures branches { BranchesAreKept }
+    ensures loops_and_arms { LoopsAndArmsAreKept }
+{}
