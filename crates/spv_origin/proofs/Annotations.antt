@@ -67,7 +67,7 @@ module _ (s : Scope) (v : View) (sees : Sees s v) where
   -- ---- names
 
   begun_as : (x : Name) (g : Formula) (r : Sort) (z : Sorted) → fine (with_sort g r) ≡ Ok z → Noted v x g → BegunHere x z
-  begun_as x g r z e h = subst (BegunHere x) (same_value e) (record { good = record { }; is = h })
+  begun_as x g r z e h = subst (BegunHere x) (same_value e) (record { good = record {}; is = h })
 
   name_begun : (line : ℕ) (x : Name) (m : Option Meaning) (z : Sorted) → meaning s x.symbol ≡ m → name_alone s line x m ≡ Ok z → BegunHere x z
   name_begun line x None z h e = absurd (no_fault e)
@@ -108,7 +108,7 @@ module _ (s : Scope) (v : View) (sees : Sees s v) where
   field_comes_at : (line at : ℕ) (r z : Sorted) (x : Name) (t : Sort) → fine (with_sort (FieldOf r.formula x.symbol) t) ≡ Ok z → ExtendsHere r (tree.field at x) z
   field_comes_at line at r z x t e =
       subst (ExtendsHere r (tree.field at x)) (same_value e)
-      (record { good = record { }; on = λ more y h. origin.by_field {t = record { 0 = 0 }} refl h })
+      (record { good = record {}; on = λ more y h. origin.by_field {t = record { 0 = 0 }} refl h })
 
   field_comes : (line at : ℕ) (r z : Sorted) (x : Name) (o : Option (List SortedField)) → field_in line r x o ≡ Ok z → ExtendsHere r (tree.field at x) z
   field_comes line at r z x None e = absurd (no_fault e)
@@ -119,7 +119,7 @@ module _ (s : Scope) (v : View) (sees : Sees s v) where
   content_comes : (line at : ℕ) (f : Formula) (r : Sort) (z : Sorted) → content_at s line at (with_sort f r) ≡ Ok z → ExtendsHere (with_sort f r) (tree.content at) z
   content_comes line at f (sort.Ptr t) z e =
       subst (ExtendsHere (with_sort f (sort.Ptr t)) (tree.content at)) (same_value e)
-      (record { good = record { }; on = λ more y h. origin.by_content {t = t} refl h })
+      (record { good = record {}; on = λ more y h. origin.by_content {t = t} refl h })
   content_comes line at f sort.Int z e = absurd (no_fault e)
   content_comes line at f sort.Bool z e = absurd (no_fault e)
   content_comes line at f sort.List z e = absurd (no_fault e)
@@ -181,10 +181,10 @@ module _ (s : Scope) (v : View) (sees : Sees s v) where
   last_index : (at : ℕ) (a z : Sorted) (f : tree.Formula) (x : Formula) (r : Sort) → FormulaFrom v x f → fine (with_sort (Element a.formula x) r) ≡ Ok z → ExtendsHere a (tree.index at f tree.no_more_formulas) z
   last_index at a z f x r from e =
       subst (ExtendsHere a (tree.index at f tree.no_more_formulas)) (same_value e)
-      (record { good = record { }; on = λ more y h. origin.by_index {t = record { 0 = 0 }} from refl h })
+      (record { good = record {}; on = λ more y h. origin.by_index {t = record { 0 = 0 }} from refl h })
 
   further_index : (at : ℕ) (a z : Sorted) (f g : tree.Formula) (fs : tree.MoreFormulas) (x : Formula) (r : Sort) → FormulaFrom v x f → ExtendsHere (with_sort (Element a.formula x) r) (tree.index at g fs) z → ExtendsHere a (tree.index at f (tree.more_formulas g fs)) z
-  further_index at a z f g fs x r from h = record { good = record { }; on = λ more y k. origin.by_indices {t = record { 0 = 0 }} from refl (h.on more y k) }
+  further_index at a z f g fs x r from h = record { good = record {}; on = λ more y k. origin.by_indices {t = record { 0 = 0 }} from refl (h.on more y k) }
 
   elements_come : (at : ℕ) (a z : Sorted) (os : List (ℕ × Operand Formula)) (f : tree.Formula) (more : tree.MoreFormulas) → OperandsFrom os (tree.more_formulas f more) → elements (shapes s.known.program) a os ≡ Ok z → ExtendsHere a (tree.index at f more) z
   elements_come at a z [] f more h e = elim h [ ]
@@ -221,7 +221,7 @@ module _ (s : Scope) (v : View) (sees : Sees s v) where
   -- ---- applications
 
   applied_as : (x : Name) (more : tree.MoreFormulas) (g : Formula) (r : Sort) (given : List (Given Formula)) (z : Sorted) → fine (with_sort g r) ≡ Ok z → GivenFrom given more → NotedWith v x given g → AppliedHere x more z
-  applied_as x more g r given z e from is = subst (AppliedHere x more) (same_value e) (record { given = given; from = from; is = is; good = record { } })
+  applied_as x more g r given z e from is = subst (AppliedHere x more) (same_value e) (record { given = given; from = from; is = is; good = record {} })
 
   symbol_comes : (line : ℕ) (x : Name) (d : Decl) (z : Sorted) (given : List (Argument Formula Sorted)) (more : tree.MoreFormulas) → function_named v x.symbol ≡ None → meaning s x.symbol ≡ Some (OfSymbol d) → Arguments given more → named_applied s line x (Some (OfSymbol d)) given ≡ Ok z → AppliedHere x more z
   symbol_comes line x d z given more none m h e =

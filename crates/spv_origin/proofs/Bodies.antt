@@ -150,7 +150,7 @@ module _ (start : KnownNames) (bodies : List Symbol) where
       → OwnAs own (((parameter_names headed.heading.formals ++ start_names headed.heading.initial) ++ own_constants constants) ++ own_places variables)
       → block_walk (body_setting headed.heading (record { known = with_forms k forms; own = own; variables = variables })) b ≡ Ok body
       → Rattle.spv_origin.specs.Statements.BlockFrom (seen start p (Some (with_body headed.heading variables body)) (body_names (with_body headed.heading variables body) constants variables))
-        (seen start p (Some (with_body headed.heading variables body)) (result_names headed.heading.name headed.heading.result ++ body_names (with_body headed.heading variables body) constants variables)) body b
+      (seen start p (Some (with_body headed.heading variables body)) (result_names headed.heading.name headed.heading.result ++ body_names (with_body headed.heading variables body) constants variables)) body b
   at_body k headed ls b forms own variables constants body p ready knows names_are all alike e =
       let now = with_forms k forms in
       let h = headed.heading in

@@ -100,7 +100,7 @@ module _ (start : KnownNames) where
         all = rest.all;
         is = rest.is;
         from = λ p.
-          one_const (constant_from (at_top now) (with_constants start p before) (constants_seen now [] [] no_own None start (record p { constants = before }) None refl) c.value z two.first) (rest.from p);
+            one_const (constant_from (at_top now) (with_constants start p before) (constants_seen now [] [] no_own None start (record p { constants = before }) None refl) c.value z two.first) (rest.from p);
       }
 
 -- ---- the TYPE part
@@ -142,6 +142,7 @@ found_last (n ∷ types) y u x t e P h last = by_case (found (n ∷ types) x) re
     by_last : (b : Bool) → cond b (Some u) None ≡ Some t → P t
     by_last true f = subst P (some_is f) last
     by_last false f = absurd (nothing_there f)
+
     by_case : (o : Option TypeId) → found (n ∷ types) x ≡ o → Rattle.spv_program.specs.Lists.first_of o (found ((y, u) ∷ []) x) ≡ Some t → P t
     by_case (Some w) k f = subst P (some_is f) (h x w k)
     by_case None k f = by_last (same_name y x) f
@@ -281,10 +282,12 @@ first_two_right = record { settled = λ a b u e h. no_pointer a u e; inside = λ
     is_pointer : TypeForm → Bool
     is_pointer (Pointer t) = true
     is_pointer _ = false
+
     no_pointer : {b : ℕ} (a : ℕ) (u : TypeId) → item_at first_forms a ≡ Some (Pointer u) → a ≡ b
     no_pointer zero u e = absurd (false≢true (ap is_pointer (some_is e)))
     no_pointer (suc zero) u e = absurd (false≢true (ap is_pointer (some_is e)))
     no_pointer (suc (suc a)) u e = absurd (nothing_there e)
+
     each_in : (i : ℕ) (f : TypeForm) → item_at first_forms i ≡ Some f → FormIn first_forms f
     each_in zero f e = subst (FormIn first_forms) (some_is e) integer_in
     each_in (suc zero) f e = subst (FormIn first_forms) (some_is e) boolean_in
@@ -351,7 +354,7 @@ module _ (start : KnownNames) (constants : List (Symbol × ℤ)) (ds : List Type
       let longer : Longer whole whole = longer_same whole in
       let bounded = typedefs_there start constants (names_a_type ds) [] first_written ds part zero_there one_there none_there e in
       let a = typedefs_are start constants (names_a_type ds) (plain_program start types whole constants) types whole (λ t. t) (λ i w h. plain_forms types whole i w h) refl refl refl
-          (λ x h. bounded x (target_or_first (found types x)) (found_there x h)) found_there refl [] first_written ds part zero_there one_there none_there first_in e longer in
+      (λ x h. bounded x (target_or_first (found types x)) (found_there x h)) found_there refl [] first_written ds part zero_there one_there none_there first_in e longer in
       let right = λ (i : ℕ) (w : Written) (h : item_at whole i ≡ Some w). a.all_in.each_in i w h in
       let number = λ (t : TypeId) (h : There first_forms t.0). old_number types first_forms more first_two_right right t h in
       let new_zero = number (record { 0 = 0 }) (record { item = Integer; is = refl }) in
@@ -364,8 +367,8 @@ module _ (start : KnownNames) (constants : List (Symbol × ℤ)) (ds : List Type
         first = record { zero = old_form types first_forms more first_two_right right 0 Integer refl; one = old_form types first_forms more first_two_right right 1 Boolean refl };
         there = numbered_there types m.new (λ u. There m.forms u.0) (λ x t h. new_there types whole right t (bounded x t h));
         from = λ p keeps same_constants same_types.
-          subst (λ q. TypedefsFrom (with_types start p) p.types [] ds q) same_types
-          (typedefs_are start constants (names_a_type ds) p types whole m.new (λ i w h. keeps.kept (m.new (record { 0 = i })).0 (form_with m.new (form_of types w)) (forms_kept types whole right i w h)) new_zero new_one same_constants
+            subst (λ q. TypedefsFrom (with_types start p) p.types [] ds q) same_types
+            (typedefs_are start constants (names_a_type ds) p types whole m.new (λ i w h. keeps.kept (m.new (record { 0 = i })).0 (form_with m.new (form_of types w)) (forms_kept types whole right i w h)) new_zero new_one same_constants
             (λ x h. bounded x (target_or_first (found types x)) (found_there x h)) found_there (sym same_types) [] first_written ds part zero_there one_there none_there first_in e longer).from;
       }
 
@@ -374,7 +377,7 @@ module _ (start : KnownNames) (constants : List (Symbol × ℤ)) (ds : List Type
       let one = went (each (typedef_walk (names_a_type ds)) (part_at start first_forms constants (names_a_type ds) [] first_written) ds) (λ part. fine (with_merged part)) k e in
       let done = typedefs_done start first_forms constants (names_a_type ds) [] first_written ds one.value one.first in
       let same : part_at start first_forms constants (names_a_type ds) done.types (first_written ++ done.longer.more) ≡ one.value =
-          ap (λ ws. part_at start first_forms constants (names_a_type ds) done.types ws) (sym done.longer.is) ∙ done.is in
+      ap (λ ws. part_at start first_forms constants (names_a_type ds) done.types ws) (sym done.longer.is) ∙ done.is in
       subst (TypesDone start constants ds) (ap with_merged same ∙ same_value one.rest)
       (types_at done.types done.longer.more (one.first ∙ ap (λ (q : TypePart). fine q) (sym same)) done.has)
 
@@ -415,16 +418,16 @@ vars_done start forms constants types variables (g ∷ gs) k right first second 
     let see = λ (p : Program). names.at_top start p in
     let type_at = λ (x : Symbol) (t : TypeId) (h : meaning (at_top known) x ≡ Some (OfType t)). type_there start forms types x t first second there (type_told known x t h) in
     let made = λ (p : Program) (same_constants : constants ≡ p.constants) (same_types : types ≡ p.types).
-        new_from (at_top known) (see p) right type_at there
-        (λ x t h. ap (λ ts. found (types_from_start start ++ ts) x) (sym same_types) ∙ type_told known x t h)
-        (λ x z h. constants_seen known [] [] no_own None start p None same_constants x z h) g.of n three.first in
+    new_from (at_top known) (see p) right type_at there
+    (λ x t h. ap (λ ts. found (types_from_start start ++ ts) x) (sym same_types) ∙ type_told known x t h)
+    (λ x z h. constants_seen known [] [] no_own None start p None same_constants x z h) g.of n three.first in
     let plain = made (record known.program { titles = [] }) refl refl in
     let group : map (λ x. (x, n.type)) two.value ≡ group_of (g.names.first ∷ g.names.more) n.type =
-        ap (λ xs. map (λ x. (x, n.type)) xs) (sym (names_come (is_free known) (g.names.first ∷ g.names.more) two.value two.first)) ∙ group_map (g.names.first ∷ g.names.more) n.type in
+    ap (λ xs. map (λ x. (x, n.type)) xs) (sym (names_come (is_free known) (g.names.first ∷ g.names.more) two.value two.first)) ∙ group_map (g.names.first ∷ g.names.more) n.type in
     let next : known_at start n.forms constants types (variables ++ group_of (g.names.first ∷ g.names.more) n.type) [] ≡ one.value =
-        ap (λ q. known_at start n.forms constants types (variables ++ q) []) (sym group) ∙ same_value three.rest in
+    ap (λ q. known_at start n.forms constants types (variables ++ q) []) (sym group) ∙ same_value three.rest in
     let rest = vars_done start n.forms constants types (variables ++ group_of (g.names.first ∷ g.names.more) n.type) gs k plain.right (keeps_there forms n.forms 0 plain.keeps first) (keeps_there forms n.forms 1 plain.keeps second)
-        (λ x t h. keeps_there forms n.forms t.0 plain.keeps (there x t h)) (ap (λ q. each vars_walk q gs) next ∙ one.rest) in
+    (λ x t h. keeps_there forms n.forms t.0 plain.keeps (there x t h)) (ap (λ q. each vars_walk q gs) next ∙ one.rest) in
     record {
       now = rest.now;
       all = rest.all;
@@ -432,7 +435,7 @@ vars_done start forms constants types variables (g ∷ gs) k right first second 
       right = rest.right;
       keeps = keeps_on forms n.forms rest.now plain.keeps rest.keeps;
       from = λ p later same_constants same_types.
-        one_group (subst (λ ts. TypeFrom (names.at_top start p) ts n.type g.of) same_types ((made p same_constants same_types).from (keeps_on n.forms rest.now p.forms rest.keeps later))) (rest.from p later same_constants same_types);
+          one_group (subst (λ ts. TypeFrom (names.at_top start p) ts n.type g.of) same_types ((made p same_constants same_types).from (keeps_on n.forms rest.now p.forms rest.keeps later))) (rest.from p later same_constants same_types);
     }
 
 -- ---- declared symbols
@@ -566,7 +569,7 @@ declared start d k e =
         types = t.from p (keeps_on t.forms v.now p.forms v.keeps later) same_constants same_types;
         variables = subst (λ q. VarsFrom (λ before. names.at_top start p) p.types [] d.variables q) same_variables (v.from p later same_constants same_types);
         symbols =
-          let r = symbols_rest start v.now c.all t.types v.all g0 g1 there p later same_types [] d.symbols k walk in
-          subst (λ q. SymbolsFrom (names.at_top start p) q d.symbols) (ap (λ (q : Known). q.program.symbols) (r.is ∙ sym plain.is) ∙ same_symbols) r.from;
+            let r = symbols_rest start v.now c.all t.types v.all g0 g1 there p later same_types [] d.symbols k walk in
+            subst (λ q. SymbolsFrom (names.at_top start p) q d.symbols) (ap (λ (q : Known). q.program.symbols) (r.is ∙ sym plain.is) ∙ same_symbols) r.from;
       };
     }

@@ -329,7 +329,7 @@ module _ (s : Scope) (is_target : Symbol → Bool) (v : View) (targets names : L
       record {
         there = added_there inner.written w;
         all_in = one_in inner.written w r.all_in (built_in (form.Array i.type inner.type)
-          (array_in i.type inner.type (longer_there inner.written whole i.type.0 before in_inner) (longer_there inner.written whole inner.type.0 before r.there)));
+            (array_in i.type inner.type (longer_there inner.written whole i.type.0 before in_inner) (longer_there inner.written whole inner.type.0 before r.there)));
       }
 
   nested_from : (types : List Written) (line : ℕ) (i : Index) (is : List Index) (e : TypeId) (first : TypeDenoter) (more : MoreTypes) (elements : TypeDenoter) → From i.type first → IndicesFrom is more → From e elements
@@ -378,7 +378,7 @@ module _ (s : Scope) (is_target : Symbol → Bool) (v : View) (targets names : L
       let own = map (λ x. record { name = x; of = r.type }) new_names in
       let same : so_far.fields ++ own ≡ next.fields = ap (λ (q : Fields). q.fields) is in
       let renaming : map (λ (f : TypeField). renamed f) own ≡ fields_of (names.first ∷ names.more) (new r.type) =
-          ap (λ q. map (λ (f : TypeField). renamed f) (map (λ x. record { name = x; of = r.type }) q)) (sym named) ∙ fields_renamed (names.first ∷ names.more) r.type in
+      ap (λ q. map (λ (f : TypeField). renamed f) (map (λ x. record { name = x; of = r.type }) q)) (sym named) ∙ fields_renamed (names.first ∷ names.more) r.type in
       record {
         rest = own ++ h.rest;
         is = sym (append_assoc so_far.fields own h.rest) ∙ (ap (λ q. q ++ h.rest) same ∙ h.is);
@@ -455,7 +455,7 @@ module _ (s : Scope) (is_target : Symbol → Bool) (v : View) (targets names : L
         let three = went (denoted s is_target two.value.written elements) (λ e. nested_if_ranges e.written two.value.indices e.type) r two.rest in
         let four = went (each (check_index three.value.written) [] two.value.indices) (λ all. fine (nested three.value.written all three.value.type)) r three.rest in
         let is : nested three.value.written two.value.indices three.value.type ≡ r =
-            ap (λ q. nested three.value.written q three.value.type) (checked_same three.value.written [] four.value two.value.indices four.first) ∙ same_value four.rest in
+        ap (λ q. nested three.value.written q three.value.type) (checked_same three.value.written [] four.value two.value.indices four.first) ∙ same_value four.rest in
         let end = subst (λ (q : Reading). Longer q.written whole) (sym is) later in
         let l1 = denoted_longer s is_target types first one.value one.first in
         let l2 = all_longer_of s is_target (indices_of first one.value) more two.value two.first in

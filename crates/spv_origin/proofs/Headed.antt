@@ -101,7 +101,7 @@ module _ (start : KnownNames) (p : Program) (k : Known) (knows : KnowsNames k st
       let done = clauses_come start p (with_heading k a1) (knows_with a1) x.symbol line true number ps (Some t) c h from.own two.rest in
       headed a1 (Function x params (Some of)) line true number ps (Some t) c h refl
       (λ locals body. function done.name_is (subst (λ fs. FormalsFrom start p [] (groups_of params) fs) (sym done.formals_are) from.from) done.result_is
-        (ap (λ fs. names.type_named (seen start p None (parameter_names fs)) of.symbol) done.formals_are ∙ result.named))
+      (ap (λ fs. names.type_named (seen start p None (parameter_names fs)) of.symbol) done.formals_are ∙ result.named))
       (λ u same. subst (λ (q : TypeId). may_be_result (form_at k.program.forms q.0) ≡ true) (some_is same) result.plain) done
 
   pub heading_come : (number : RoutineId) (line : ℕ) (c : Clauses) (form : HeadingForm) (h : Headed) → form_walk k number line c form ≡ Ok h → HeadedFrom start p k number line c form h

@@ -118,10 +118,10 @@ module _ (start : KnownNames) (p : Program) (k : Known) (knows : KnowsNames k st
       let names_are = names_come free (xs.first ∷ xs.more) one.value one.first in
       let formals_are : new_formals ≡ formals_of (xs.first ∷ xs.more) t by line = ap (λ q. map (λ x. record { name = x; of = t; by_place = by; line = line }) q) (sym names_are) ∙ formals_map (xs.first ∷ xs.more) t by line in
       let next_own : OwnAs (before.own ++ map (λ x. (x, OfPlace t)) one.value) (parameter_names (before.formals ++ new_formals)) =
-          subst (OwnAs (before.own ++ map (λ x. (x, OfPlace t)) one.value)) (sym (parameter_append before.formals new_formals)) (own_append before.own (map (λ x. (x, OfPlace t)) one.value) (parameter_names before.formals) (parameter_names new_formals) own (parameters_as one.value t by line)) in
+      subst (OwnAs (before.own ++ map (λ x. (x, OfPlace t)) one.value)) (sym (parameter_append before.formals new_formals)) (own_append before.own (map (λ x. (x, OfPlace t)) one.value) (parameter_names before.formals) (parameter_names new_formals) own (parameters_as one.value t by line)) in
       let rest = go (subst (λ (q : Parameters). OwnAs q.own (parameter_names q.formals)) is next_own) in
       let from : FormalsFrom start p (before.formals ++ formals_of (xs.first ∷ xs.more) t by line) gs ps.formals =
-          subst (λ q. FormalsFrom start p q gs ps.formals) (ap (λ (q : Parameters). q.formals) (sym is) ∙ ap (λ q. before.formals ++ q) formals_are) rest.from in
+      subst (λ q. FormalsFrom start p q gs ps.formals) (ap (λ (q : Parameters). q.formals) (sym is) ∙ ap (λ q. before.formals ++ q) formals_are) rest.from in
       record { own = rest.own; from = one_group (type_come before.own (parameter_names before.formals) own of.line of (meaning (in_routine k before.own None) of.symbol) t refl two.first) from }
 
   groups_come : (routine : Symbol) (before : Parameters) (gs : List Group) (ps : Parameters) → OwnAs before.own (parameter_names before.formals) → each (group_walk k routine) before gs ≡ Ok ps → ParametersFrom before gs ps
@@ -265,7 +265,7 @@ module _ (start : KnownNames) (p : Program) (k : Known) (knows : KnowsNames k st
       let two = went (initial_item s t.item.line t.item.form) last one.value one.first in
       let i = two.value in
       let next : start_at before t.name.symbol i (item_sort s i) ≡ one.value =
-          same_value (behind_test (may_be_initial formals globals i) (wrong t.item.line) (result i) one.value (behind_test (is_free_in k.start routine globals (own ++ before.own) t.name.symbol) (twice t.name) (inner i) one.value two.rest)) in
+      same_value (behind_test (may_be_initial formals globals i) (wrong t.item.line) (result i) one.value (behind_test (is_free_in k.start routine globals (own ++ before.own) t.name.symbol) (twice t.name) (inner i) one.value two.rest)) in
       let one_start_own : OwnAs ((t.name.symbol, OfStart (item_sort s i)) ∷ []) (start_names ((t.name.symbol, i) ∷ [])) = one_own t.name.symbol (OfStart (item_sort s i)) Start [] [] (as_start (item_sort s i)) no_own in
       let next_own = subst (OwnAs (before.own ++ (t.name.symbol, OfStart (item_sort s i)) ∷ [])) (sym (start_append before.initial ((t.name.symbol, i) ∷ []))) (own_append before.own ((t.name.symbol, OfStart (item_sort s i)) ∷ []) (start_names before.initial) (start_names ((t.name.symbol, i) ∷ [])) h one_start_own) in
       let rest = starts_rest routine formals globals own os alike one.value ts all (subst (λ (q : Starts). OwnAs q.own (start_names q.initial)) next next_own) one.rest in
@@ -325,7 +325,7 @@ module _ (start : KnownNames) (p : Program) (k : Known) (knows : KnowsNames k st
       let four = went (if_there (annotation (in_routine k (exit_own two.value) None)) c.exit) (λ exit. fine (headed one.value two.value three.value exit)) h three.rest in
       let starts = initial_come name ps.formals one.value ps.own (parameter_names ps.formals) own c.initial two.value two.first in
       let exit_as = own_append ps.own (walk.result_names name result ++ two.value.own) (parameter_names ps.formals) (result_names name result ++ start_names two.value.initial) own
-          (own_append (walk.result_names name result) two.value.own (result_names name result) (start_names two.value.initial) (result_own name result) starts.own) in
+      (own_append (walk.result_names name result) two.value.own (result_names name result) (start_names two.value.initial) (result_own name result) starts.own) in
       subst (ClausesDone name line is_function number ps result c) (same_value four.rest)
       (record {
         own = own_append ps.own two.value.own (parameter_names ps.formals) (start_names two.value.initial) own starts.own;

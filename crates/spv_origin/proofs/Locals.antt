@@ -77,9 +77,9 @@ module _ (start : KnownNames) (k : Known) (h : Heading) where
       let z = two.value in
       let entry = (c.name.symbol, z) ∷ [] in
       let shape : (os ++ own_constants before) ++ own_constants entry ≡ os ++ own_constants (before ++ entry) =
-          append_assoc os (own_constants before) (own_constants entry) ∙ ap (λ q. os ++ q) (sym (constants_append before entry)) in
+      append_assoc os (own_constants before) (own_constants entry) ∙ ap (λ q. os ++ q) (sym (constants_append before entry)) in
       let next_alike = subst (OwnAs (own ++ (c.name.symbol, OfConstant z) ∷ [])) shape
-          (own_append own ((c.name.symbol, OfConstant z) ∷ []) (os ++ own_constants before) (own_constants entry) alike (one_own c.name.symbol (OfConstant z) (Constant z) [] [] (as_constant z) no_own)) in
+      (own_append own ((c.name.symbol, OfConstant z) ∷ []) (os ++ own_constants before) (own_constants entry) alike (one_own c.name.symbol (OfConstant z) (Constant z) [] [] (as_constant z) no_own)) in
       let rest = consts_done os (before ++ entry) (own ++ (c.name.symbol, OfConstant z) ∷ []) variables cs l next_alike (ap (λ q. each (local_const h) q cs) (same_value two.rest) ∙ one.rest) in
       record {
         all = rest.all;
@@ -87,7 +87,7 @@ module _ (start : KnownNames) (k : Known) (h : Heading) where
         is = rest.is;
         alike = rest.alike;
         from = λ p knows.
-          one_const (constant_from (in_routine k own None) (seen start p None (os ++ own_constants before)) (constants_seen k own (os ++ own_constants before) alike None start p None knows.constants_are) c.value z two.first) (rest.from p knows);
+            one_const (constant_from (in_routine k own None) (seen start p None (os ++ own_constants before)) (constants_seen k own (os ++ own_constants before) alike None start p None knows.constants_are) c.value z two.first) (rest.from p knows);
       }
 
   -- ---- variables
@@ -118,21 +118,21 @@ module _ (start : KnownNames) (k : Known) (h : Heading) where
       let os' = os ++ own_places before in
       let type_at = λ (x : Symbol) (t : TypeId) (q : meaning s x ≡ Some (OfType t)). named_there os' own alike forms first second there starts x t q in
       let made = λ (p : Program) (knows : KnowsNames k start p).
-        new_from s (seen start p None os') right type_at there
-        (λ x t q. types_seen now own os' alike None start p None starts knows.types_are x t q)
-        (λ x z q. constants_seen now own os' alike None start p None knows.constants_are x z q) g.of n three.first in
+      new_from s (seen start p None os') right type_at there
+      (λ x t q. types_seen now own os' alike None start p None starts knows.types_are x t q)
+      (λ x z q. constants_seen now own os' alike None start p None knows.constants_are x z q) g.of n three.first in
       let plain = made k.program (record { start_is = starts; constants_are = refl; types_are = refl; variables_are = refl; symbols_are = refl }) in
       let group_is : map (λ x. (x, n.type)) two.value ≡ group_of (g.names.first ∷ g.names.more) n.type =
-          ap (λ xs. map (λ x. (x, n.type)) xs) (sym (names_come free (g.names.first ∷ g.names.more) two.value two.first)) ∙ group_map (g.names.first ∷ g.names.more) n.type in
+      ap (λ xs. map (λ x. (x, n.type)) xs) (sym (names_come free (g.names.first ∷ g.names.more) two.value two.first)) ∙ group_map (g.names.first ∷ g.names.more) n.type in
       let group = group_of (g.names.first ∷ g.names.more) n.type in
       let own' = own ++ map (λ x. (x, OfPlace n.type)) two.value in
       let shape : os' ++ own_places (map (λ x. (x, n.type)) two.value) ≡ os ++ own_places (before ++ group) =
-          append_assoc os (own_places before) (own_places (map (λ x. (x, n.type)) two.value))
-          ∙ (ap (λ q. os ++ (own_places before ++ own_places q)) group_is ∙ ap (λ q. os ++ q) (sym (places_append before group))) in
+      append_assoc os (own_places before) (own_places (map (λ x. (x, n.type)) two.value))
+      ∙ (ap (λ q. os ++ (own_places before ++ own_places q)) group_is ∙ ap (λ q. os ++ q) (sym (places_append before group))) in
       let next_alike = subst (OwnAs own') shape (own_append own (map (λ x. (x, OfPlace n.type)) two.value) os' (own_places (map (λ x. (x, n.type)) two.value)) alike (places_as two.value n.type)) in
       let next : local_at (with_forms k n.forms) own' (before ++ group) ≡ one.value = ap (λ q. local_at (with_forms k n.forms) own' (before ++ q)) (sym group_is) ∙ same_value three.rest in
       let rest = vars_done os n.forms (before ++ group) own' gs l starts next_alike plain.right (keeps_there forms n.forms 0 plain.keeps first) (keeps_there forms n.forms 1 plain.keeps second)
-          (λ x t q. keeps_there forms n.forms t.0 plain.keeps (there x t q)) (ap (λ q. each (local_vars h) q gs) next ∙ one.rest) in
+      (λ x t q. keeps_there forms n.forms t.0 plain.keeps (there x t q)) (ap (λ q. each (local_vars h) q gs) next ∙ one.rest) in
       record {
         now = rest.now;
         all = rest.all;
@@ -142,7 +142,7 @@ module _ (start : KnownNames) (k : Known) (h : Heading) where
         right = rest.right;
         keeps = keeps_on forms n.forms rest.now plain.keeps rest.keeps;
         from = λ p knows later.
-          one_group (subst (λ ts. TypeFrom (seen start p None os') ts n.type g.of) knows.types_are ((made p knows).from (keeps_on n.forms rest.now p.forms rest.keeps later))) (rest.from p knows later);
+            one_group (subst (λ ts. TypeFrom (seen start p None os') ts n.type g.of) knows.types_are ((made p knows).from (keeps_on n.forms rest.now p.forms rest.keeps later))) (rest.from p knows later);
       }
 
   -- ---- both

@@ -269,8 +269,8 @@ module _ (start : KnownNames) (bodies : List Symbol) where
         headings_covered = λ g i. announced_covered (rest.headings_covered g i) (rest.awaited_covered a (in_end k.awaited a));
         awaited_covered = λ g i. rest.awaited_covered g (in_before k.awaited (a ∷ []) g i);
         from = λ p knows keeps names_are all waiting w done.
-          origin.announced (none_announced p k h waiting w none)
-          (rest.from p (knows_later start p k mid later knows) keeps names_are all (waiting ++ (h, c) ∷ []) (waits_last start p k.awaited waiting a (h, c) w (waits_as p k h c headed knows d)) done);
+            origin.announced (none_announced p k h waiting w none)
+            (rest.from p (knows_later start p k mid later knows) keeps names_are all (waiting ++ (h, c) ∷ []) (waits_last start p k.awaited waiting a (h, c) w (waits_as p k h c headed knows d)) done);
       }
 
   -- ---- a routine with its body
@@ -309,8 +309,8 @@ module _ (start : KnownNames) (bodies : List Symbol) where
     headings_covered = λ g i. routine_covered k mid next (heading_name h.form).symbol (names_of_bodies marks) g (rest.headings_covered g i) one.headings_covered rest.awaited_covered;
     awaited_covered = λ g i. awaits_on mid next (heading_name h.form).symbol (names_of_bodies marks) g (one.awaited_covered g i) rest.awaited_covered;
     from = λ p knows keeps names_are all waiting w done.
-      one.from p knows (keeps_on mid.program.forms next.program.forms p.forms (rest.later).keeps keeps) names_are (among_before bodies mid next rest.later all) waiting w marks rest.routines
-      (λ others v. rest.from p (knows_later start p k mid one.later knows) keeps names_are all others v done);
+        one.from p knows (keeps_on mid.program.forms next.program.forms p.forms (rest.later).keeps keeps) names_are (among_before bodies mid next rest.later all) waiting w marks rest.routines
+        (λ others v. rest.from p (knows_later start p k mid one.later knows) keeps names_are all others v done);
   }
 
   -- the body of a routine that has begun, and the marks behind it
@@ -347,9 +347,9 @@ module _ (start : KnownNames) (bodies : List Symbol) where
         headings_covered = λ g i. in_last (λ q. HeadingAt k next ((heading_name h.form).symbol ∷ []) q) k.headings headed.heading g (λ q j. before j) (behind (own_body next [] (heading_name h.form).symbol headed.heading (d.name_is ∙ name_same h.form))) (subst (λ hs. In hs g) done.headings_are i);
         awaited_covered = λ g i. still_waits (subst (λ hs. In hs g) (sym done.awaited_are) i);
         from = λ p knows keeps names_are all waiting w marks rs go.
-          let knows1 : KnowsNames k1 start p = record { start_is = knows.start_is; constants_are = knows.constants_are; types_are = knows.types_are; variables_are = knows.variables_are; symbols_are = knows.symbols_are } in
-          origin.whole (none_announced p k h waiting w none) ((waits_as p k h c headed knows d).from local.variables body) (done.from p knows1 keeps names_are (among_before bodies k1 next done.later all))
-          (go waiting (subst (λ hs. Waits start p hs waiting) (sym done.awaited_are) w));
+            let knows1 : KnowsNames k1 start p = record { start_is = knows.start_is; constants_are = knows.constants_are; types_are = knows.types_are; variables_are = knows.variables_are; symbols_are = knows.symbols_are } in
+            origin.whole (none_announced p k h waiting w none) ((waits_as p k h c headed knows d).from local.variables body) (done.from p knows1 keeps names_are (among_before bodies k1 next done.later all))
+            (go waiting (subst (λ hs. Waits start p hs waiting) (sym done.awaited_are) w));
       }
 
   awaited_name : (hs : List Heading) (x : Symbol) (a : Heading) → awaited_of hs x ≡ Some a → a.name ≡ x
@@ -396,13 +396,13 @@ module _ (start : KnownNames) (bodies : List Symbol) where
         headings_covered = λ g i. before (subst (λ hs. In hs g) done.headings_are i);
         awaited_covered = λ g i. with_or_without next [] x k.awaited g i (λ j. still_waits (subst (λ hs. In hs g) (sym done.awaited_are) (subst (λ y. In (without k.awaited y) g) (sym named) j)));
         from = λ p knows keeps names_are all waiting w marks rs go.
-          let knows1 : KnowsNames k1 start p = record { start_is = knows.start_is; constants_are = knows.constants_are; types_are = knows.types_are; variables_are = knows.variables_are; symbols_are = knows.symbols_are } in
-          let q = waiting_first p k.awaited x waiting first w awaits in
-          let at : announced_as waiting (name_of h.form) ≡ Some q.first = ap (announced_as waiting) (name_same h.form) ∙ q.is in
-          let same : repeats q.first.0.form h.form c ≡ true = repeated q.first.0.form h.form c (ap (λ z. is_bare_form z h.form && is_bare c) (sym (q.waits).kind_is) ∙ bare) in
-          let left = subst (λ y. Waits start p (without k.awaited y) (origin.without waiting (name_of h.form))) (sym named_of) (waits_without start p k.awaited waiting (name_of h.form) w) in
-          origin.with_body at same ((q.waits).from local.variables body) (done.from p knows1 keeps names_are (among_before bodies k1 next done.later all))
-          (go (origin.without waiting (name_of h.form)) (subst (λ hs. Waits start p hs (origin.without waiting (name_of h.form))) (sym done.awaited_are) left));
+            let knows1 : KnowsNames k1 start p = record { start_is = knows.start_is; constants_are = knows.constants_are; types_are = knows.types_are; variables_are = knows.variables_are; symbols_are = knows.symbols_are } in
+            let q = waiting_first p k.awaited x waiting first w awaits in
+            let at : announced_as waiting (name_of h.form) ≡ Some q.first = ap (announced_as waiting) (name_same h.form) ∙ q.is in
+            let same : repeats q.first.0.form h.form c ≡ true = repeated q.first.0.form h.form c (ap (λ z. is_bare_form z h.form && is_bare c) (sym (q.waits).kind_is) ∙ bare) in
+            let left = subst (λ y. Waits start p (without k.awaited y) (origin.without waiting (name_of h.form))) (sym named_of) (waits_without start p k.awaited waiting (name_of h.form) w) in
+            origin.with_body at same ((q.waits).from local.variables body) (done.from p knows1 keeps names_are (among_before bodies k1 next done.later all))
+            (go (origin.without waiting (name_of h.form)) (subst (λ hs. Waits start p hs (origin.without waiting (name_of h.form))) (sym done.awaited_are) left));
       }
 
   -- ---- the marks in a row

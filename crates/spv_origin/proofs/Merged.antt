@@ -113,6 +113,7 @@ forms_back names new place (f ∷ fs) (v ∷ ws) a g e = by_case (nat_eq f place
           number = ap (λ c. cond c (suc (kinds_before r.place_of (suc place) fs)) (kinds_before r.place_of (suc place) fs)) k ∙ (ap (λ n. cond c (suc n) n) r.number ∙ same);
           form = r.form;
         }
+
     by_case : (c : Bool) → nat_eq f place ≡ c → (a : ℕ) → item_at (cond c (form_with new (form_of names v) ∷ forms_from names new (suc place) fs ws) (forms_from names new (suc place) fs ws)) a ≡ Some g
         → ((b : ℕ) → item_at (forms_from names new (suc place) fs ws) b ≡ Some g → Back names new (suc place) fs ws b g) → Back names new place (f ∷ fs) (v ∷ ws) a g
     by_case true k zero e go =
@@ -302,12 +303,12 @@ module _ (names : List (Symbol × TypeId)) (written : List Written) (right : (i 
       let y : stand one.target ≡ 0 + stand one.target = omega arith in
       let z : stand two.target ≡ 0 + stand two.target = omega arith in
       let equal : stand one.target ≡ stand two.target = kinds_apart 0 same (stand one.target) (stand two.target)
-          (stands_there targets inside rounds (stand one.target) first.there ∙ ap Some (first.again ∙ y))
-          (stands_there targets inside rounds (stand two.target) second.there ∙ ap Some (second.again ∙ z)) numbers in
+      (stands_there targets inside rounds (stand one.target) first.there ∙ ap Some (first.again ∙ y))
+      (stands_there targets inside rounds (stand two.target) second.there ∙ ap Some (second.again ∙ z)) numbers in
       let items = same_items targets inside rounds one.target two.target t v equal in
       let more : stands_for targets inside (suc rounds) r ≡ stands_for targets inside (suc rounds) s =
-          stands_pointer targets inside rounds r one.target at
-          ∙ (first_same (points_alike same one.target) (points_alike same two.target) targets (points_same same one.target two.target items) ∙ sym (stands_pointer targets inside rounds s two.target on)) in
+      stands_pointer targets inside rounds r one.target at
+      ∙ (first_same (points_alike same one.target) (points_alike same two.target) targets (points_same same one.target two.target items) ∙ sym (stands_pointer targets inside rounds s two.target on)) in
       let zr : 0 + r ≡ r = omega arith in
       let zs : 0 + s ≡ s = omega arith in
       let own_r : stand r ≡ r = stands_is targets inside rounds r (0 + r) p.first ∙ zr in
@@ -389,10 +390,10 @@ module _ (names : List (Symbol × TypeId)) (old : List TypeForm) (more : List Wr
       let own : stands_for old_targets old_inside (length old_targets) t.0 ≡ t.0 = stays (length old_targets) t.0 h in
       ap (λ n. record { 0 = kinds_before n 0 fs }) own
       ∙ ap (λ n. record { 0 = n }) (kinds_all 0 fs t.0 (λ j l.
-        let k : j ≤ t.0 = omega arith in
-        let g = there_below old t.0 j h k in
-        let z : j ≡ 0 + j = omega arith in
-        stands_there old_targets old_inside (length old_targets) j (old_there j g) ∙ ap Some (stays (length old_targets) j g ∙ z)))
+      let k : j ≤ t.0 = omega arith in
+      let g = there_below old t.0 j h k in
+      let z : j ≡ 0 + j = omega arith in
+      stands_there old_targets old_inside (length old_targets) j (old_there j g) ∙ ap Some (stays (length old_targets) j g ∙ z)))
 
   pub old_form : (i : ℕ) (f : TypeForm) → item_at old i ≡ Some f → item_at (merged names all).forms i ≡ Some f
   old_form i f e =

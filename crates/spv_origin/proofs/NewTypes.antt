@@ -98,7 +98,7 @@ module _ (s : Scope) (is_target : Symbol → Bool) (v : View) (names : List (Sym
   pub all_there : (types : List Written) (t : TypeDenoter) (r : Reading) → Longer base types → WrittenAll names whole types → denoted s is_target types t ≡ Ok r → Longer r.written whole → AllThere names whole r
   all_there types t r l all e later =
       let h = denoted_from s is_target (with_forms v (map (form_of names) whole)) names names base whole (λ t. t) (λ i w h. plain_forms names whole i w h) types_there types_named constants targets_there targets_found targets_found
-          types t r l (record { each_in = all.each_in }) e later in
+      types t r l (record { each_in = all.each_in }) e later in
       record { there = h.there; all = record { each_in = h.all_in.each_in } }
 
 -- ---- a type outside the TYPE part
@@ -157,7 +157,7 @@ module _ (s : Scope) (v : View) (before_right : FormsRight s.known.program.forms
         keeps = kept;
         there = new_there types whole all u a.there;
         from = λ later.
-          (denoted_from s target v types types base whole m.new (λ i w h. later.kept (m.new (record { 0 = i })).0 (form_with m.new (form_of types w)) (forms_kept types whole all i w h)) old_there
+            (denoted_from s target v types types base whole m.new (λ i w h. later.kept (m.new (record { 0 = i })).0 (form_with m.new (form_of types w)) (forms_kept types whole all i w h)) old_there
             (λ x w h. types_named x w h ∙ ap Some (sym (number w (types_there x w h)))) constants target_there found_there
             (λ x h. any_found types x h ∙ ap Some (sym (number (target_or_first (found types x)) (names_there x (target_or_first (found types x)) (any_found types x h)))))
             base t r (longer_same base) (record { each_in = (base_in more).each_in }) e (longer_same whole)).from;

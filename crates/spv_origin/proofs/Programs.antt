@@ -71,6 +71,7 @@ module _ (start : KnownNames) where
       by_awaited : (h : Heading) → AwaitedAt all (names_of_bodies marks) h → is_among (names_of_bodies marks) h.name ≡ true
       by_awaited h (has_body e) = e
       by_awaited h (still_waits i) = elim (subst (λ hs. In hs h) empty i) [ ]
+
       by_place : (h : Heading) → HeadingAt k all (names_of_bodies marks) h → is_among (names_of_bodies marks) h.name ≡ true
       by_place h (before i) = elim (subst (λ (q : Known). In q.headings h) (sym declared_first.is) i) [ ]
       by_place h (behind j) = by_awaited h j
@@ -114,13 +115,13 @@ module _ (start : KnownNames) where
       (record {
         titles = refl;
         declarations = declared_first.from final (keeps_declared declared_first all done.later)
-          (ap (λ (k : Known). k.program.constants) declared_first.is ∙ start_known.constants_are) (ap (λ (k : Known). k.program.types) declared_first.is ∙ start_known.types_are)
-          (ap (λ (k : Known). k.program.variables) declared_first.is ∙ start_known.variables_are) (ap (λ (k : Known). k.program.symbols) declared_first.is ∙ start_known.symbols_are);
+            (ap (λ (k : Known). k.program.constants) declared_first.is ∙ start_known.constants_are) (ap (λ (k : Known). k.program.types) declared_first.is ∙ start_known.types_are)
+            (ap (λ (k : Known). k.program.variables) declared_first.is ∙ start_known.variables_are) (ap (λ (k : Known). k.program.symbols) declared_first.is ∙ start_known.symbols_are);
         routines = subst (λ rs. Rattle.spv_origin.specs.Routines.RoutinesFrom start final [] t.routines rs) routines_are (done.from final start_known keeps names_are among [] waits empty);
         entry = noted_come start final all known [] [] no_own t.entry entry.value entry.first;
         exit = noted_come start final all known [] [] no_own t.exit exit.value exit.first;
         body = blocks_come (main_setting all) (at_top start final) (at_top start final)
-          (sees_places all [] [] no_own None start final None right (λ h k. absurd (false≢true k))) (sees all [] [] no_own None start final None known) t.block body.value body.first;
+            (sees_places all [] [] no_own None start final None right (λ h k. absurd (false≢true k))) (sees all [] [] no_own None start final None known) t.block body.value body.first;
       })
 
   formula_text_come : (t : FormulaText) (p : Program) → formula_text_walk start t ≡ Ok p → FormulaTextFrom start p t
@@ -138,7 +139,7 @@ module _ (start : KnownNames) where
         annotation = a.value;
         titles = refl;
         declarations = declared_first.from final (keeps_at declared_first)
-          (ap (λ (q : Known). q.program.constants) declared_first.is) (ap (λ (q : Known). q.program.types) declared_first.is) (ap (λ (q : Known). q.program.variables) declared_first.is) (ap (λ (q : Known). q.program.symbols) declared_first.is);
+            (ap (λ (q : Known). q.program.constants) declared_first.is) (ap (λ (q : Known). q.program.types) declared_first.is) (ap (λ (q : Known). q.program.variables) declared_first.is) (ap (λ (q : Known). q.program.symbols) declared_first.is);
         no_routines = ap (λ (q : Known). q.program.routines) (sym declared_first.is);
         no_entry = refl;
         no_exit = refl;

@@ -152,6 +152,7 @@ module _ (k : Known) (x : Symbol) where
     where
       rest : Option Meaning
       rest = found (constants_named ++ (types_named ++ (places_named ++ (symbols_named ++ headings_named)))) x
+
       by_tests : (a b c : Bool) → same_name k.start.integer x ≡ a → same_name k.start.boolean x ≡ b → same_name k.start.list x ≡ c
           → cond a (Some (OfType integer_type)) (cond b (Some (OfType boolean_type)) (cond c (Some OfList) (found (constants_named ++ (types_named ++ (places_named ++ (symbols_named ++ headings_named)))) x))) ≡ Some m → Told k x m
       by_tests true b c i j l f = subst (Told k x) (some_is f) (told_type integer_type (ap (λ q. cond q (Some integer_type) (cond (same_name k.start.boolean x) (Some boolean_type) (found k.program.types x))) i))

@@ -203,8 +203,8 @@ module _ (v w : View) where
         first_from = settled_from NilOf (λ q. ExpressionFrom v q from) (wrong (formula_line from)) sort.Int two.value first.value (operand_comes at.inside v sees.0 from two.value two.first) first.first;
         last_from = settled_from NilOf (λ q. ExpressionFrom v q to) (wrong (formula_line to)) sort.Int three.value last.value (operand_comes at.inside v sees.0 to three.value three.first) last.first;
         is = ap (λ d. head_with x d first.value last.value) (sym (same_direction towards))
-          ∙ (ap (λ (y : Name). head_of towards y first.value last.value) (same ∙ (counter.0 ∙ uncounted))
-          ∙ kept_by at line (If line first.value Empty Empty) (head_of towards u.value first.value last.value) count u.rest);
+            ∙ (ap (λ (y : Name). head_of towards y first.value last.value) (same ∙ (counter.0 ∙ uncounted))
+            ∙ kept_by at line (If line first.value Empty Empty) (head_of towards u.value first.value last.value) count u.rest);
       }
 
   invariant_comes : (at : Setting) → SeesBoth at → (f : Option formulas.Formula) (i : Option Annotation) → if_there (annotation at.noted) f ≡ Ok i → IfThere w i f

@@ -199,7 +199,7 @@ BranchesAreKept =
     × No (FromStatement x_first (trees.conditional 1 truth (assigning y (alone (number 1))) (trees.otherwise (assigning x (alone (number 1))))))
     × No (FromStatement x_first (trees.conditional 1 truth (assigning x (alone (number 1))) trees.nothing_otherwise))
     × No (FromStatement (Sequence (assign x one) Empty)
-      (trees.compound 1 (trees.block 1 (assigning x (alone (number 1))) (trees.more_statements (assigning y (alone (number 1))) trees.no_more_statements))))
+    (trees.compound 1 (trees.block 1 (assigning x (alone (number 1))) (trees.more_statements (assigning y (alone (number 1))) trees.no_more_statements))))
 
 abbrev pub labelled : ℕ → trees.Statement → trees.Arm
 labelled n s = trees.arm 1 (record { first = record { line = 1; sign = None; value = scalar.Number n }; more = [] }) s

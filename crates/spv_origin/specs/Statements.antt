@@ -74,7 +74,7 @@ module _ (v w : View) where
       for : {line on : ℕ} {i : Option Annotation} {x : Name} {towards : DirectionSign} {first last : Expression} {a : Statement} {invariant : Option formulas.Formula} {from to : formulas.Formula} {s : tree.Statement}
           → IfThere w i invariant → names_place v x.symbol ≡ true → ExpressionFrom v first from → ExpressionFrom v last to → StatementFrom a s
           → StatementFrom (For line i (record { variable = x.symbol; direction = direction_of towards; first = first; last = last }) a)
-            (tree.repetition line invariant (tree.for_loop on x from towards to s))
+          (tree.repetition line invariant (tree.for_loop on x from towards to s))
       assertion : {line : ℕ} {a : Annotation} {f : formulas.Formula} → AnnotationFrom w a f → StatementFrom (Assert a) (tree.assertion line f)
 
     pub data OtherwiseFrom : Statement → tree.Otherwise → Type 0 where
