@@ -42,7 +42,8 @@ place_same : (names : List Symbol) (x : Symbol) → is_among names x ≡ true �
 place_same [] x h = absurd (false≢true h)
 place_same (y ∷ names) x h = by_case (same_name x y) h (place_same names x)
   where
-    by_case : (b : Bool) → (b || is_among names x) ≡ true → (is_among names x ≡ true → place_among names x ≡ Some (first_where (same_name x) names))
+    by_case : (b : Bool) → (b || is_among names x) ≡ true
+        → (is_among names x ≡ true → place_among names x ≡ Some (first_where (same_name x) names))
         → cond b (Some 0) (option_map (λ n. suc n) (place_among names x)) ≡ Some (cond b 0 (suc (first_where (same_name x) names)))
     by_case true k go = refl
     by_case false k go = ap (option_map (λ n. suc n)) (go k)
@@ -57,7 +58,8 @@ plain_there [] t e = absurd (false≢true e)
 plain_there (f ∷ forms) zero e = record { item = f; is = refl }
 plain_there (f ∷ forms) (suc t) e = let r = plain_there forms t e in record { item = r.item; is = r.is }
 
-pub plain_later : (forms later : List TypeForm) (t : ℕ) → Keeps forms later → may_be_result (form_at forms t) ≡ true → may_be_result (form_at later t) ≡ true
+pub plain_later : (forms later : List TypeForm) (t : ℕ) → Keeps forms later → may_be_result (form_at forms t) ≡ true
+    → may_be_result (form_at later t) ≡ true
 plain_later forms later t keeps e =
     let h = plain_there forms t e in
     ap may_be_result (form_at-item later t h.item (keeps.kept t h.item h.is) ∙ sym (form_at-item forms t h.item h.is)) ∙ e
@@ -82,7 +84,8 @@ pub record Later (k next : Known) : Type 0 where
   pub headings_stay : (h : Heading) → In k.headings h → In next.headings h
 
 pub later_same : (k : Known) → Later k k
-later_same k = record { keeps = keeps_same k.program.forms; constants_are = refl; types_are = refl; variables_are = refl; symbols_are = refl; start_is = refl; headings_stay = λ h i. i }
+later_same k = record { keeps = keeps_same k.program.forms; constants_are = refl; types_are = refl; variables_are = refl;
+    symbols_are = refl; start_is = refl; headings_stay = λ h i. i }
 
 pub later_on : (k mid next : Known) → Later k mid → Later mid next → Later k next
 later_on k mid next g h = record {
@@ -107,7 +110,8 @@ knows_later start p k next h knows = record {
   symbols_are = h.symbols_are ∙ knows.symbols_are;
 }
 
-pub ready_forms : (start : KnownNames) (bodies : List Symbol) (k : Known) (forms : List TypeForm) → Ready start bodies k → FormsRight forms → Keeps k.program.forms forms → Ready start bodies (with_forms k forms)
+pub ready_forms : (start : KnownNames) (bodies : List Symbol) (k : Known) (forms : List TypeForm) → Ready start bodies k
+    → FormsRight forms → Keeps k.program.forms forms → Ready start bodies (with_forms k forms)
 ready_forms start bodies k forms ready right keeps = record {
   starts = ready.starts;
   right = right;
@@ -121,10 +125,12 @@ abbrev local_of : Known → Names → List (Symbol × TypeId) → Local
 local_of k own variables = record { known = k; own = own; variables = variables }
 
 module _ (start : KnownNames) (bodies : List Symbol) where
-  pub knows_all : (k : Known) (p : Program) → Ready start bodies k → KnowsNames k start p → map (λ (r : Routine). r.name) p.routines ≡ bodies → AllAmong bodies k → Knows k start p
+  pub knows_all : (k : Known) (p : Program) → Ready start bodies k → KnowsNames k start p
+      → map (λ (r : Routine). r.name) p.routines ≡ bodies → AllAmong bodies k → Knows k start p
   knows_all k p ready knows names_are all = record {
     names = knows;
-    numbers = λ h i. ap (λ ns. option_map routine_at (place_among ns h.name)) names_are ∙ (ap (option_map routine_at) (place_same bodies h.name (all.among h i)) ∙ ap Some (ready.numbers h i));
+    numbers = λ h i. ap (λ ns. option_map routine_at (place_among ns h.name)) names_are
+        ∙ (ap (option_map routine_at) (place_same bodies h.name (all.among h i)) ∙ ap Some (ready.numbers h i));
     first = form_at-item k.program.forms 0 Integer (ready.first).zero;
     plain = ready.plain;
   }
@@ -137,7 +143,8 @@ module _ (start : KnownNames) (bodies : List Symbol) where
     pub awaited_are : next.awaited ≡ k.awaited
     pub headings_are : next.headings ≡ k.headings
     pub routines_are : k.program.routines ++ r ∷ [] ≡ next.program.routines
-    pub from : (p : Program) → KnowsNames k start p → Keeps next.program.forms p.forms → map (λ (r : Routine). r.name) p.routines ≡ bodies → AllAmong bodies k → BodyFrom start p r ls b
+    pub from : (p : Program) → KnowsNames k start p → Keeps next.program.forms p.forms → map (λ (r : Routine). r.name) p.routines ≡ bodies
+        → AllAmong bodies k → BodyFrom start p r ls b
 
   abbrev pub routine_of : Headed → Local → Statement → Routine
   routine_of headed l body = with_body headed.heading l.variables body
@@ -145,25 +152,38 @@ module _ (start : KnownNames) (bodies : List Symbol) where
   abbrev pub known_behind : Headed → Local → Statement → Known
   known_behind headed l body = with_program l.known (with_routine l.known.program (routine_of headed l body))
 
-  at_body : (k : Known) (headed : Headed) (ls : Locals) (b : tree.Block) (forms : List TypeForm) (own : Names) (variables : List (Symbol × TypeId)) (constants : List (Symbol × ℤ)) (body : Statement) (p : Program) → Ready start bodies (with_forms k forms) → KnowsNames k start p
+  at_body : (k : Known) (headed : Headed) (ls : Locals) (b : tree.Block) (forms : List TypeForm) (own : Names)
+      (variables : List (Symbol × TypeId)) (constants : List (Symbol × ℤ)) (body : Statement) (p : Program)
+      → Ready start bodies (with_forms k forms) → KnowsNames k start p
       → map (λ (r : Routine). r.name) p.routines ≡ bodies → AllAmong bodies k
-      → OwnAs own (((parameter_names headed.heading.formals ++ start_names headed.heading.initial) ++ own_constants constants) ++ own_places variables)
+      → OwnAs own (((parameter_names headed.heading.formals ++ start_names headed.heading.initial) ++ own_constants constants) ++
+      own_places variables)
       → block_walk (body_setting headed.heading (record { known = with_forms k forms; own = own; variables = variables })) b ≡ Ok body
-      → Rattle.spv_origin.specs.Statements.BlockFrom (seen start p (Some (with_body headed.heading variables body)) (body_names (with_body headed.heading variables body) constants variables))
-      (seen start p (Some (with_body headed.heading variables body)) (result_names headed.heading.name headed.heading.result ++ body_names (with_body headed.heading variables body) constants variables)) body b
+      → Rattle.spv_origin.specs.Statements.BlockFrom (seen start p (Some (with_body headed.heading variables body))
+      (body_names (with_body headed.heading variables body) constants variables))
+      (seen start p (Some (with_body headed.heading variables body))
+          (result_names headed.heading.name headed.heading.result ++ body_names (with_body headed.heading variables body) constants
+          variables)) body b
   at_body k headed ls b forms own variables constants body p ready knows names_are all alike e =
       let now = with_forms k forms in
       let h = headed.heading in
       let r = with_body h variables body in
       let os = body_names r constants variables in
-      let known : KnowsNames now start p = record { start_is = knows.start_is; constants_are = knows.constants_are; types_are = knows.types_are; variables_are = knows.variables_are; symbols_are = knows.symbols_are } in
-      let noted_own = own_append (walk.result_names h.name h.result) own (result_names h.name h.result) os (result_own start p now known h.name h.result) alike in
-      let inside = sees_places now own os alike (Some h) start p (Some r) (knows_all now p ready known names_are (record { among = all.among })) (λ q f. f) in
-      let noted = sees now (walk.result_names h.name h.result ++ own) (result_names h.name h.result ++ os) noted_own (Some h) start p (Some r) known in
-      blocks_come (body_setting h (record { known = now; own = own; variables = variables })) (seen start p (Some r) os) (seen start p (Some r) (result_names h.name h.result ++ os)) inside noted b body e
+      let known : KnowsNames now start p = record { start_is = knows.start_is; constants_are = knows.constants_are;
+          types_are = knows.types_are; variables_are = knows.variables_are; symbols_are = knows.symbols_are } in
+      let noted_own = own_append (walk.result_names h.name h.result) own (result_names h.name h.result) os
+          (result_own start p now known h.name h.result) alike in
+      let inside = sees_places now own os alike (Some h) start p (Some r)
+          (knows_all now p ready known names_are (record { among = all.among })) (λ q f. f) in
+      let noted = sees now (walk.result_names h.name h.result ++ own) (result_names h.name h.result ++ os) noted_own (Some h) start p
+          (Some r) known in
+      blocks_come (body_setting h (record { known = now; own = own; variables = variables })) (seen start p (Some r) os)
+          (seen start p (Some r) (result_names h.name h.result ++ os)) inside noted b body e
 
-  pub body_done : (k : Known) (headed : Headed) (ls : Locals) (b : tree.Block) (l : Local) (body : Statement) → Ready start bodies k → OwnAs headed.own (parameter_names headed.heading.formals ++ start_names headed.heading.initial) → locals_walk k headed ls ≡ Ok l
-      → block_walk (body_setting headed.heading l) b ≡ Ok body → BodyDone k headed ls b (known_behind headed l body) (routine_of headed l body)
+  pub body_done : (k : Known) (headed : Headed) (ls : Locals) (b : tree.Block) (l : Local) (body : Statement) → Ready start bodies k
+      → OwnAs headed.own (parameter_names headed.heading.formals ++ start_names headed.heading.initial) → locals_walk k headed ls ≡ Ok l
+      → block_walk (body_setting headed.heading l) b ≡ Ok body
+      → BodyDone k headed ls b (known_behind headed l body) (routine_of headed l body)
   body_done k headed ls b l body ready own e f =
       let os = parameter_names headed.heading.formals ++ start_names headed.heading.initial in
       let f0 : There k.program.forms 0 = record { item = Integer; is = (ready.first).zero } in
@@ -173,8 +193,11 @@ module _ (start : KnownNames) (bodies : List Symbol) where
       let ready_now = ready_forms start bodies k d.now ready d.right d.keeps in
       let same : local_of now l.own l.variables ≡ l = ap (λ q. local_of q l.own l.variables) d.known_is in
       let behind = λ (q : Known). with_program q (with_routine q.program (routine_of headed l body)) in
-      let ready_next : Ready start bodies (behind now) = record { starts = ready_now.starts; right = ready_now.right; first = ready_now.first; there = ready_now.there; numbers = ready_now.numbers; plain = ready_now.plain } in
-      let later_next : Later k (behind now) = record { keeps = d.keeps; constants_are = refl; types_are = refl; variables_are = refl; symbols_are = refl; start_is = refl; headings_stay = λ q i. i } in
+      let ready_next : Ready start bodies (behind now) = record
+          { starts = ready_now.starts; right = ready_now.right; first = ready_now.first; there = ready_now.there;
+          numbers = ready_now.numbers; plain = ready_now.plain } in
+      let later_next : Later k (behind now) = record { keeps = d.keeps; constants_are = refl; types_are = refl; variables_are = refl;
+          symbols_are = refl; start_is = refl; headings_stay = λ q i. i } in
       record {
         ready = subst (λ q. Ready start bodies (behind q)) d.known_is ready_next;
         later = subst (λ q. Later k (behind q)) d.known_is later_next;
@@ -185,6 +208,7 @@ module _ (start : KnownNames) (bodies : List Symbol) where
           constants = d.constants;
           constants_from = d.constants_from p knows;
           variables_from = d.variables_from p knows (subst (λ (q : Known). Keeps q.program.forms p.forms) (sym d.known_is) keeps);
-          body = at_body k headed ls b d.now l.own l.variables d.constants body p ready_now knows names_are all d.alike (ap (λ q. block_walk (body_setting headed.heading q) b) same ∙ f);
+          body = at_body k headed ls b d.now l.own l.variables d.constants body p ready_now knows names_are all d.alike
+              (ap (λ q. block_walk (body_setting headed.heading q) b) same ∙ f);
         };
       }

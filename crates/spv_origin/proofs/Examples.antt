@@ -59,7 +59,8 @@ lost_term : No (From (read y) (two adding.Plus (variable y) (number 1)))
 lost_term (origin.alone (origin.one_side (origin.unsigned h (origin.one_term g k)))) = elim k [ ]
 
 invented_term : No (From (plus (read y) one) (alone (variable y)))
-invented_term (origin.alone (origin.one_side (origin.unsigned (origin.product (origin.read (origin.read_name h origin.no_more)) origin.no_factors) origin.no_terms))) = elim h [ ]
+invented_term (origin.alone (origin.one_side (origin.unsigned (origin.product (origin.read (origin.read_name h origin.no_more))
+    origin.no_factors) origin.no_terms))) = elim h [ ]
 
 other_sign : No (From (minus (read y) one) (two adding.Plus (variable y) (number 1)))
 other_sign (origin.alone (origin.one_side (origin.unsigned h (origin.one_term g k)))) = elim k [ ]
@@ -81,7 +82,8 @@ from_the_right : No (From (minus (read x) (minus (read y) one)) (less_less (vari
 from_the_right (origin.alone (origin.one_side (origin.unsigned h (origin.one_term g (origin.one_term k m))))) = elim m [ ]
 
 pub from_the_left : FromTheLeft
-from_the_left = (origin.alone (origin.one_side (origin.unsigned x_read (origin.one_term y_read (origin.one_term one_read origin.no_terms)))), from_the_right)
+from_the_left = (origin.alone (origin.one_side (origin.unsigned x_read (origin.one_term y_read
+    (origin.one_term one_read origin.no_terms)))), from_the_right)
 
 -- the two sides of a relation
 record SidesOf (o : ComparisonSign) (a b : tree.Term) (e : Expression) : Type 0 where
@@ -95,7 +97,8 @@ simple_alone : {e : Expression} {t : tree.Term} → SimpleFrom e (tree.simple 1 
 simple_alone (origin.unsigned h origin.no_terms) = h
 
 sides_of : (o : ComparisonSign) (a b : tree.Term) (e : Expression) → From e (related o a b) → SidesOf o a b e
-sides_of o a b e (origin.alone (origin.two_sides h g)) = record { left = _; right = _; left_from = simple_alone h; right_from = simple_alone g; is = refl }
+sides_of o a b e (origin.alone (origin.two_sides h g)) = record
+    { left = _; right = _; left_from = simple_alone h; right_from = simple_alone g; is = refl }
 
 abbrev is_less : Expression → Bool
 is_less (Compared comparison.Less a b) = true
@@ -106,7 +109,8 @@ left_of (Compared o a b) = a
 left_of e = e
 
 other_relation : No (From (Compared comparison.Less (read x) (read y)) (related comparing.Greater (variable x) (variable y)))
-other_relation h = let s = sides_of comparing.Greater (variable x) (variable y) (Compared comparison.Less (read x) (read y)) h in false≢true (sym (ap is_less s.is))
+other_relation h = let s = sides_of comparing.Greater (variable x) (variable y) (Compared comparison.Less (read x) (read y)) h in
+    false≢true (sym (ap is_less s.is))
 
 other_sides : No (From (Compared comparison.Greater (read y) (read x)) (related comparing.Greater (variable x) (variable y)))
 other_sides h =
@@ -114,7 +118,8 @@ other_sides h =
     no_y_in_x (subst (λ e. TermFrom e (variable x)) (sym (ap left_of s.is)) s.left_from)
 
 pub relations_are_kept : RelationsAreKept
-relations_are_kept = (origin.alone (origin.two_sides (origin.unsigned x_read origin.no_terms) (origin.unsigned y_read origin.no_terms)), other_relation, other_sides)
+relations_are_kept = (origin.alone (origin.two_sides (origin.unsigned x_read origin.no_terms) (origin.unsigned y_read origin.no_terms)),
+    other_relation, other_sides)
 
 -- ---- numbers, constants, brackets, indices
 
@@ -133,20 +138,23 @@ no_eight_alone : IsRead view (name c) (Numeral (pos 8)) → ⊥
 no_eight_alone (read_constant e) = seven_is_not_eight e
 
 no_eight : No (From (Numeral (pos 8)) (alone (variable c)))
-no_eight (origin.alone (origin.one_side (origin.unsigned (origin.product (origin.read (origin.read_name h origin.no_more)) origin.no_factors) origin.no_terms))) = no_eight_alone h
+no_eight (origin.alone (origin.one_side (origin.unsigned (origin.product (origin.read (origin.read_name h origin.no_more))
+    origin.no_factors) origin.no_terms))) = no_eight_alone h
 
 no_read_alone : IsRead view (name c) (read c) → ⊥
 no_read_alone (read_variable e) = false≢true e
 
 no_read : No (From (read c) (alone (variable c)))
-no_read (origin.alone (origin.one_side (origin.unsigned (origin.product (origin.read (origin.read_name h origin.no_more)) origin.no_factors) origin.no_terms))) = no_read_alone h
+no_read (origin.alone (origin.one_side (origin.unsigned (origin.product (origin.read (origin.read_name h origin.no_more))
+    origin.no_factors) origin.no_terms))) = no_read_alone h
 
 pub numbers_are_kept : NumbersAreKept
 numbers_are_kept = (
   origin.alone (origin.one_side (origin.minus_numeral origin.no_terms)),
   no_negative,
   no_sign_lost,
-  origin.alone (origin.one_side (origin.minus refl (origin.product (origin.in_brackets (alone_read one_read)) origin.no_factors) origin.no_terms)),
+  origin.alone (origin.one_side (origin.minus refl (origin.product (origin.in_brackets (alone_read one_read)) origin.no_factors)
+      origin.no_terms)),
   alone_read (origin.product (origin.read (origin.read_name (read_constant refl) origin.no_more)) origin.no_factors),
   no_eight,
   no_read,
@@ -168,15 +176,20 @@ record IndicesOf (e : Expression) : Type 0 where
   pub second_from : From second (alone (number 1))
   pub is : Read (designator 1 x (at_index first_type first (at_index second_type second no_selectors))) ≡ e
 
-after_two : (a b d e : Expression) (t u : TypeId) (i j : Expression) → a ≡ read x → selected a (at_index t i no_selectors) ≡ Some b → selected b (at_index u j no_selectors) ≡ Some d → SelectorsFrom d tree.no_selectors e
+after_two : (a b d e : Expression) (t u : TypeId) (i j : Expression) → a ≡ read x → selected a (at_index t i no_selectors) ≡ Some b
+    → selected b (at_index u j no_selectors) ≡ Some d → SelectorsFrom d tree.no_selectors e
     → From i (alone (variable y)) → From j (alone (number 1)) → IndicesOf e
 after_two a b d e t u i j same g h origin.no_more f k =
-    let one : Read (designator 1 x (at_index t i no_selectors)) ≡ b = some_is (ap (λ q. selected q (at_index t i no_selectors)) (sym same) ∙ g) in
-    let two : Read (designator 1 x (at_index t i (at_index u j no_selectors))) ≡ d = some_is (ap (λ q. selected q (at_index u j no_selectors)) one ∙ h) in
+    let one : Read (designator 1 x (at_index t i no_selectors)) ≡ b = some_is
+        (ap (λ q. selected q (at_index t i no_selectors)) (sym same) ∙ g) in
+    let two : Read (designator 1 x (at_index t i (at_index u j no_selectors))) ≡ d = some_is
+        (ap (λ q. selected q (at_index u j no_selectors)) one ∙ h) in
     record { first_type = t; second_type = u; first = i; second = j; first_from = f; second_from = k; is = two }
 
 indices_of : (e : Expression) → From e indexed → IndicesOf e
-indices_of e (origin.alone (origin.one_side (origin.unsigned (origin.product (origin.read (origin.read_name {x = a} h (origin.by_indices {x = i} {y = b} {t = t} f g (origin.by_index {x = j} {y = d} {t = u} k m n)))) origin.no_factors) origin.no_terms))) =
+indices_of e (origin.alone (origin.one_side (origin.unsigned (origin.product (origin.read (origin.read_name {x = a} h
+    (origin.by_indices {x = i} {y = b} {t = t} f g (origin.by_index {x = j} {y = d} {t = u} k m n)))) origin.no_factors)
+    origin.no_terms))) =
     after_two a b d e t u i j (x_alone a h) g m n f k
 
 abbrev first_index : Expression → Expression
@@ -191,17 +204,21 @@ no_one_alone : IsRead view (name y) one → ⊥
 no_one_alone (read_constant e) = nothing_there e
 
 no_one_in_y : No (From one (alone (variable y)))
-no_one_in_y (origin.alone (origin.one_side (origin.unsigned (origin.product (origin.read (origin.read_name h origin.no_more)) origin.no_factors) origin.no_terms))) = no_one_alone h
+no_one_in_y (origin.alone (origin.one_side (origin.unsigned (origin.product (origin.read (origin.read_name h origin.no_more))
+    origin.no_factors) origin.no_terms))) = no_one_alone h
 
 no_swap : No (From (behind_x one (read y)) indexed)
-no_swap h = let s = indices_of (behind_x one (read y)) h in no_one_in_y (subst (λ e. From e (alone (variable y))) (ap first_index s.is) s.first_from)
+no_swap h = let s = indices_of (behind_x one (read y)) h in no_one_in_y
+    (subst (λ e. From e (alone (variable y))) (ap first_index s.is) s.first_from)
 
 no_lost_index : No (From (Read (designator 1 x (at_index integer (read y) no_selectors))) indexed)
-no_lost_index h = let s = indices_of (Read (designator 1 x (at_index integer (read y) no_selectors))) h in false≢true (sym (ap has_two s.is))
+no_lost_index h = let s = indices_of (Read (designator 1 x (at_index integer (read y) no_selectors))) h in false≢true
+    (sym (ap has_two s.is))
 
 pub indices_are_kept : IndicesAreKept
 indices_are_kept = (
-  alone_read (origin.product (origin.read (origin.read_name (read_variable refl) (origin.by_indices {t = integer} (alone_read y_read) refl (origin.by_index {t = integer} (alone_read one_read) refl origin.no_more)))) origin.no_factors),
+  alone_read (origin.product (origin.read (origin.read_name (read_variable refl) (origin.by_indices {t = integer} (alone_read y_read) refl
+      (origin.by_index {t = integer} (alone_read one_read) refl origin.no_more)))) origin.no_factors),
   no_swap,
   no_lost_index,
 )
@@ -214,7 +231,8 @@ one_alone = alone_read one_read
 true_alone : From (Boolean true) truth
 true_alone = alone_read (origin.product origin.boolean origin.no_factors)
 
-assigned : (s : Symbol) (e : Expression) (f : tree.Formula) → names_place view s ≡ true → From e f → FromStatement (assign s e) (assigning s f)
+assigned : (s : Symbol) (e : Expression) (f : tree.Formula) → names_place view s ≡ true → From e f
+    → FromStatement (assign s e) (assigning s f)
 assigned s e f there h = statements.assignment (origin.written_name (written_variable there) origin.no_more) h
 
 no_other_target : No (FromStatement (assign x (plus (read y) one)) (assigning y (two adding.Plus (variable x) (number 1))))
@@ -228,47 +246,57 @@ no_assignment_lost h = elim h [ ]
 
 pub assignments_are_kept : AssignmentsAreKept
 assignments_are_kept = (
-  assigned x (plus (read y) one) (two adding.Plus (variable y) (number 1)) refl (origin.alone (origin.one_side (origin.unsigned y_read (origin.one_term one_read origin.no_terms)))),
+  assigned x (plus (read y) one) (two adding.Plus (variable y) (number 1)) refl
+      (origin.alone (origin.one_side (origin.unsigned y_read (origin.one_term one_read origin.no_terms)))),
   no_other_target,
   no_target_alone,
   no_assignment_lost,
 )
 
-no_other_branches : No (FromStatement x_first (trees.conditional 1 truth (assigning y (alone (number 1))) (trees.otherwise (assigning x (alone (number 1))))))
+no_other_branches : No (FromStatement x_first (trees.conditional 1 truth (assigning y (alone (number 1)))
+    (trees.otherwise (assigning x (alone (number 1))))))
 no_other_branches (statements.conditional e (statements.assignment (origin.written_name h origin.no_more) value) b) = elim h [ ]
 
 no_branch_invented : No (FromStatement x_first (trees.conditional 1 truth (assigning x (alone (number 1))) trees.nothing_otherwise))
 no_branch_invented (statements.conditional e a b) = elim b [ ]
 
-no_statement_lost : No (FromStatement (Sequence (assign x one) Empty) (trees.compound 1 (trees.block 1 (assigning x (alone (number 1))) (trees.more_statements (assigning y (alone (number 1))) trees.no_more_statements))))
+no_statement_lost : No (FromStatement (Sequence (assign x one) Empty)
+    (trees.compound 1 (trees.block 1 (assigning x (alone (number 1)))
+    (trees.more_statements (assigning y (alone (number 1))) trees.no_more_statements))))
 no_statement_lost (statements.compound (statements.block a b)) = elim b [ ]
 
 pub branches_are_kept : BranchesAreKept
 branches_are_kept = (
-  statements.conditional true_alone (assigned x one (alone (number 1)) refl one_alone) (statements.otherwise (assigned y one (alone (number 1)) refl one_alone)),
+  statements.conditional true_alone (assigned x one (alone (number 1)) refl one_alone)
+      (statements.otherwise (assigned y one (alone (number 1)) refl one_alone)),
   no_other_branches,
   no_branch_invented,
   no_statement_lost,
 )
 
-no_invariant_lost : No (FromStatement (While 1 None (Boolean true) (assign x one)) (trees.repetition 1 (Some truth) (trees.while_loop 1 truth (assigning x (alone (number 1))))))
+no_invariant_lost : No (FromStatement (While 1 None (Boolean true) (assign x one))
+    (trees.repetition 1 (Some truth) (trees.while_loop 1 truth (assigning x (alone (number 1))))))
 no_invariant_lost (statements.while i e a) = elim i [ ]
 
 -- an unsigned numeral is its number
 numeral_is : (z : ℤ) (n : ℕ) → statements.ConstantFrom view z (record { line = 1; sign = None; value = scalar.Number n }) → pos n ≡ z
 numeral_is z n (statements.unsigned statements.number) = refl
 
-no_other_label : No (FromStatement (Case 1 (read x) (arm (pos 4 ∷ []) (assign x one) no_arms)) (trees.selection 1 (alone (variable x)) (labelled 3 (assigning x (alone (number 1)))) trees.no_more_arms))
-no_other_label (statements.selection e (statements.labelled (statements.one_constant h statements.no_constants) a statements.no_more)) = false≢true (ap (λ (q : ℤ). int_eq q (pos 4)) (numeral_is (pos 4) 3 h))
+no_other_label : No (FromStatement (Case 1 (read x) (arm (pos 4 ∷ []) (assign x one) no_arms))
+    (trees.selection 1 (alone (variable x)) (labelled 3 (assigning x (alone (number 1)))) trees.no_more_arms))
+no_other_label (statements.selection e (statements.labelled (statements.one_constant h statements.no_constants) a statements.no_more)) =
+    false≢true (ap (λ (q : ℤ). int_eq q (pos 4)) (numeral_is (pos 4) 3 h))
 
-no_arm_lost : No (FromStatement (Case 1 (read x) no_arms) (trees.selection 1 (alone (variable x)) (labelled 3 (assigning x (alone (number 1)))) trees.no_more_arms))
+no_arm_lost : No (FromStatement (Case 1 (read x) no_arms)
+    (trees.selection 1 (alone (variable x)) (labelled 3 (assigning x (alone (number 1)))) trees.no_more_arms))
 no_arm_lost (statements.selection e h) = elim h [ ]
 
 pub loops_and_arms_are_kept : LoopsAndArmsAreKept
 loops_and_arms_are_kept = (
   statements.while not_there true_alone (assigned x one (alone (number 1)) refl one_alone),
   no_invariant_lost,
-  statements.selection (alone_read x_read) (statements.labelled (statements.one_constant (statements.unsigned statements.number) statements.no_constants) (assigned x one (alone (number 1)) refl one_alone) statements.no_more),
+  statements.selection (alone_read x_read) (statements.labelled (statements.one_constant (statements.unsigned statements.number)
+      statements.no_constants) (assigned x one (alone (number 1)) refl one_alone) statements.no_more),
   no_other_label,
   no_arm_lost,
 )

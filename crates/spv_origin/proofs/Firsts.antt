@@ -19,11 +19,13 @@ pub record FoundAt {X : Type 0} (p : X → Bool) (xs : List X) (at i : ℕ) : Ty
   pub holds : p item ≡ true
   pub below : at ≤ i
 
-first_found : {X : Type 0} (p : X → Bool) (xs : List X) (i : ℕ) (x : X) → item_at xs i ≡ Some x → p x ≡ true → FoundAt p xs (first_where p xs) i
+first_found : {X : Type 0} (p : X → Bool) (xs : List X) (i : ℕ) (x : X) → item_at xs i ≡ Some x → p x ≡ true
+    → FoundAt p xs (first_where p xs) i
 first_found p [] i x e h = absurd (nothing_there e)
 first_found {X} p (y ∷ ys) i x e h = by_case (p y) refl i e (λ j f. first_found p ys j x f h)
   where
-    by_case : (b : Bool) → p y ≡ b → (i : ℕ) → item_at (y ∷ ys) i ≡ Some x → ((j : ℕ) → item_at ys j ≡ Some x → FoundAt p ys (first_where p ys) j) → FoundAt p (y ∷ ys) (cond b 0 (suc (first_where p ys))) i
+    by_case : (b : Bool) → p y ≡ b → (i : ℕ) → item_at (y ∷ ys) i ≡ Some x
+        → ((j : ℕ) → item_at ys j ≡ Some x → FoundAt p ys (first_where p ys) j) → FoundAt p (y ∷ ys) (cond b 0 (suc (first_where p ys))) i
     by_case true k i e go = record { item = y; is = refl; holds = k; below = omega arith }
     by_case false k zero e go = absurd (false≢true (sym k ∙ (ap p (some_is e) ∙ h)))
     by_case false k (suc j) e go =
@@ -40,18 +42,22 @@ same_number-true None b h = absurd (false≢true h)
 same_number-true (Some n) None h = absurd (false≢true h)
 same_number-true (Some n) (Some m) h = ap Some (eqb-true n m h)
 
-pub points_same : (firsts : List ℕ) (t u : ℕ) → item_at firsts t ≡ item_at firsts u → (o : Option ℕ) → points_alike firsts t o ≡ points_alike firsts u o
+pub points_same : (firsts : List ℕ) (t u : ℕ) → item_at firsts t ≡ item_at firsts u → (o : Option ℕ)
+    → points_alike firsts t o ≡ points_alike firsts u o
 points_same firsts t u e None = refl
 points_same firsts t u e (Some w) = ap (λ a. same_number a (item_at firsts w)) e
 
 -- ---- items of the lists of firsts
 
-numbers_item : (place : ℕ) (xs : List (Option ℕ)) (j : ℕ) (o : Option ℕ) → item_at xs j ≡ Some o → item_at (numbers_from place xs) j ≡ Some (place + j)
+numbers_item : (place : ℕ) (xs : List (Option ℕ)) (j : ℕ) (o : Option ℕ) → item_at xs j ≡ Some o
+    → item_at (numbers_from place xs) j ≡ Some (place + j)
 numbers_item place [] j o e = absurd (nothing_there e)
 numbers_item place (x ∷ xs) zero o e = let k : place ≡ place + 0 = omega arith in ap Some k
-numbers_item place (x ∷ xs) (suc j) o e = let k : suc place + j ≡ place + suc j = omega arith in numbers_item (suc place) xs j o e ∙ ap Some k
+numbers_item place (x ∷ xs) (suc j) o e = let k : suc place + j ≡ place + suc j = omega arith in numbers_item (suc place) xs j o e ∙ ap
+    Some k
 
-alike_item : (targets : List (Option ℕ)) (firsts : List ℕ) (place : ℕ) (xs : List (Option ℕ)) (j : ℕ) (o : Option ℕ) → item_at xs j ≡ Some o → item_at (alike_from targets firsts place xs) j ≡ Some (first_alike targets firsts (place + j) o)
+alike_item : (targets : List (Option ℕ)) (firsts : List ℕ) (place : ℕ) (xs : List (Option ℕ)) (j : ℕ) (o : Option ℕ)
+    → item_at xs j ≡ Some o → item_at (alike_from targets firsts place xs) j ≡ Some (first_alike targets firsts (place + j) o)
 alike_item targets firsts place [] j o e = absurd (nothing_there e)
 alike_item targets firsts place (x ∷ xs) zero o e =
     let k : place ≡ place + 0 = omega arith in
@@ -64,7 +70,8 @@ numbers_length : (place : ℕ) (xs : List (Option ℕ)) → length (numbers_from
 numbers_length place [] = refl
 numbers_length place (x ∷ xs) = ap suc (numbers_length (suc place) xs)
 
-alike_length : (targets : List (Option ℕ)) (firsts : List ℕ) (place : ℕ) (xs : List (Option ℕ)) → length (alike_from targets firsts place xs) ≡ length xs
+alike_length : (targets : List (Option ℕ)) (firsts : List ℕ) (place : ℕ) (xs : List (Option ℕ))
+    → length (alike_from targets firsts place xs) ≡ length xs
 alike_length targets firsts place [] = refl
 alike_length targets firsts place (x ∷ xs) = ap suc (alike_length targets firsts (suc place) xs)
 
@@ -101,7 +108,8 @@ reps_fewer p [] (b ∷ ys) h = elim h [ ]
 reps_fewer p (a ∷ xs) [] h = elim h [ ]
 reps_fewer p (a ∷ xs) (b ∷ ys) (one_item q x y us vs h rest) = by_case (nat_eq a p) (nat_eq b p) h (reps_fewer (suc p) xs ys rest)
   where
-    by_case : (c d : Bool) → (c ≡ true → d ≡ true) → reps (suc p) xs ≤ reps (suc p) ys → cond c (suc (reps (suc p) xs)) (reps (suc p) xs) ≤ cond d (suc (reps (suc p) ys)) (reps (suc p) ys)
+    by_case : (c d : Bool) → (c ≡ true → d ≡ true) → reps (suc p) xs ≤ reps (suc p) ys
+        → cond c (suc (reps (suc p) xs)) (reps (suc p) xs) ≤ cond d (suc (reps (suc p) ys)) (reps (suc p) ys)
     by_case true true h k = omega arith
     by_case true false h k = absurd (false≢true (h refl))
     by_case false true h k = omega arith
@@ -115,14 +123,17 @@ reps_same p (a ∷ xs) [] h e = elim h [ ]
 reps_same p (a ∷ xs) (b ∷ ys) (one_item q x y us vs h rest) e =
     by_case (nat_eq a p) (nat_eq b p) refl refl e (reps_fewer (suc p) xs ys rest) (λ k. reps_same (suc p) xs ys rest k)
   where
-    by_case : (c d : Bool) → nat_eq a p ≡ c → nat_eq b p ≡ d → cond c (suc (reps (suc p) xs)) (reps (suc p) xs) ≡ cond d (suc (reps (suc p) ys)) (reps (suc p) ys) → reps (suc p) xs ≤ reps (suc p) ys
+    by_case : (c d : Bool) → nat_eq a p ≡ c → nat_eq b p ≡ d
+        → cond c (suc (reps (suc p) xs)) (reps (suc p) xs) ≡ cond d (suc (reps (suc p) ys)) (reps (suc p) ys)
+        → reps (suc p) xs ≤ reps (suc p) ys
         → (reps (suc p) xs ≡ reps (suc p) ys → Sub (suc p) ys xs) → Sub p (b ∷ ys) (a ∷ xs)
     by_case true true k l g f go = let m : reps (suc p) xs ≡ reps (suc p) ys = omega arith in one_item p b a ys xs (λ n. k) (go m)
     by_case true false k l g f go = absurd (false≢true (sym l ∙ h k))
     by_case false true k l g f go = let m : reps (suc p) xs ≡ suc (reps (suc p) ys) = g in absurd (omega arith)
     by_case false false k l g f go = one_item p b a ys xs (λ n. absurd (false≢true (sym l ∙ n))) (go g)
 
-sub_of : (p : ℕ) (xs ys : List ℕ) → length xs ≡ length ys → ((i : ℕ) → item_at xs i ≡ Some (p + i) → item_at ys i ≡ Some (p + i)) → Sub p xs ys
+sub_of : (p : ℕ) (xs ys : List ℕ) → length xs ≡ length ys → ((i : ℕ) → item_at xs i ≡ Some (p + i) → item_at ys i ≡ Some (p + i))
+    → Sub p xs ys
 sub_of p [] [] h f = no_items p
 sub_of p [] (b ∷ ys) h f = absurd (cc (h))
 sub_of p (a ∷ xs) [] h f = absurd (cc (h))
@@ -200,7 +211,8 @@ module _ (T : List (Option ℕ)) (inside : (i t : ℕ) → item_at T i ≡ Some 
     pub below : stands_for (suc k) i ≤ i
     pub again : stands_for (suc k) (stands_for (suc k) i) ≡ stands_for (suc k) i
 
-  found_pointer : (k i t r : ℕ) → stands_for (suc k) i ≡ r → r ≡ first_where (points_alike (F k) t) T → FoundAt (points_alike (F k) t) T r i → PointerStands k i t
+  found_pointer : (k i t r : ℕ) → stands_for (suc k) i ≡ r → r ≡ first_where (points_alike (F k) t) T
+      → FoundAt (points_alike (F k) t) T r i → PointerStands k i t
   found_pointer k i t r e w f = by_item f.item f.is f.holds
     where
       by_item : (o : Option ℕ) → item_at T r ≡ Some o → points_alike (F k) t o ≡ true → PointerStands k i t
@@ -213,13 +225,15 @@ module _ (T : List (Option ℕ)) (inside : (i t : ℕ) → item_at T i ≡ Some 
             is = ap (item_at T) e ∙ is;
             same = same;
             below = subst (λ q. q ≤ i) (sym e) b;
-            again = ap (stands_for (suc k)) e ∙ (stands_pointer k r u is ∙ (first_same (points_alike (F k) u) (points_alike (F k) t) T (points_same (F k) u t (sym same)) ∙ (sym w ∙ sym e)));
+            again = ap (stands_for (suc k)) e ∙ (stands_pointer k r u is ∙ (first_same (points_alike (F k) u) (points_alike (F k) t) T
+                (points_same (F k) u t (sym same)) ∙ (sym w ∙ sym e)));
           }
 
   pub pointer_stands : (k i t : ℕ) → item_at T i ≡ Some (Some t) → PointerStands k i t
   pointer_stands k i t e =
       let g = inside i t e in
-      let own : points_alike (F k) t (Some t) ≡ true = subst (λ a. same_number a a ≡ true) (sym (stands_there k t g)) (eq-eqb (stands_for k t) (stands_for k t) refl) in
+      let own : points_alike (F k) t (Some t) ≡ true = subst (λ a. same_number a a ≡ true) (sym (stands_there k t g))
+          (eq-eqb (stands_for k t) (stands_for k t) refl) in
       let w = stands_pointer k i t e in
       found_pointer k i t (first_where (points_alike (F k) t) T) w refl (first_found (points_alike (F k) t) T i (Some t) e own)
 
@@ -241,7 +255,8 @@ module _ (T : List (Option ℕ)) (inside : (i t : ℕ) → item_at T i ≡ Some 
     where
       by_item : (o : Option ℕ) → item_at T i ≡ Some o → Stands (suc k) i
       by_item None e = itself (suc k) i h (stands_plain k i e)
-      by_item (Some t) e = let p = pointer_stands k i t e in record { there = record { item = Some p.target; is = p.is }; below = p.below; again = p.again }
+      by_item (Some t) e = let p = pointer_stands k i t e in record
+          { there = record { item = Some p.target; is = p.is }; below = p.below; again = p.again }
 
   no_pointer : (i t : ℕ) → item_at T i ≡ Some None → item_at T i ≡ Some (Some t) → ⊥
   no_pointer i t e f = nothing_there (some_is (sym e ∙ f))
@@ -251,7 +266,8 @@ module _ (T : List (Option ℕ)) (inside : (i t : ℕ) → item_at T i ≡ Some 
   later_same zero i j g h e = ap (stands_for 1) (sym (stands_first i g) ∙ (e ∙ stands_first j h))
   later_same (suc k) i j g h e = by_items g.item h.item g.is h.is (λ t u a b c. later_same k t u a b c)
     where
-      by_items : (o p : Option ℕ) → item_at T i ≡ Some o → item_at T j ≡ Some p → ((t u : ℕ) → There T t → There T u → stands_for k t ≡ stands_for k u → stands_for (suc k) t ≡ stands_for (suc k) u)
+      by_items : (o p : Option ℕ) → item_at T i ≡ Some o → item_at T j ≡ Some p
+          → ((t u : ℕ) → There T t → There T u → stands_for k t ≡ stands_for k u → stands_for (suc k) t ≡ stands_for (suc k) u)
           → stands_for (suc (suc k)) i ≡ stands_for (suc (suc k)) j
       by_items None None x y go = ap (stands_for (suc (suc k))) (sym (stands_plain k i x) ∙ (e ∙ stands_plain k j y))
       by_items None (Some u) x y go =
@@ -268,7 +284,8 @@ module _ (T : List (Option ℕ)) (inside : (i t : ℕ) → item_at T i ≡ Some 
           let a = inside i t x in
           let b = inside j u y in
           let next = same_items (suc k) t u a b (go t u a b (items_same k t u a b same)) in
-          stands_pointer (suc k) i t x ∙ (first_same (points_alike (F (suc k)) t) (points_alike (F (suc k)) u) T (points_same (F (suc k)) t u next) ∙ sym (stands_pointer (suc k) j u y))
+          stands_pointer (suc k) i t x ∙ (first_same (points_alike (F (suc k)) t) (points_alike (F (suc k)) u) T
+              (points_same (F (suc k)) t u next) ∙ sym (stands_pointer (suc k) j u y))
 
   -- ---- enough rounds
 
@@ -332,7 +349,8 @@ module _ (T : List (Option ℕ)) (inside : (i t : ℕ) → item_at T i ≡ Some 
       stable_same k e
   settles (suc m) k h = by_case (nat_eq (reps 0 (F (suc k))) (reps 0 (F k))) refl (λ l. settles m (suc k) l)
     where
-      by_case : (b : Bool) → nat_eq (reps 0 (F (suc k))) (reps 0 (F k)) ≡ b → (reps 0 (F (suc k)) ≤ m → F (suc (shift m (suc k))) ≡ F (shift m (suc k))) → F (suc (shift (suc m) k)) ≡ F (shift (suc m) k)
+      by_case : (b : Bool) → nat_eq (reps 0 (F (suc k))) (reps 0 (F k)) ≡ b
+          → (reps 0 (F (suc k)) ≤ m → F (suc (shift m (suc k))) ≡ F (shift m (suc k))) → F (suc (shift (suc m) k)) ≡ F (shift (suc m) k)
       by_case true e go = persists (suc m) k (stable_same k (eqb-true (reps 0 (F (suc k))) (reps 0 (F k)) e))
       by_case false e go =
           let l : reps 0 (F (suc k)) ≤ reps 0 (F k) = fewer_now k in

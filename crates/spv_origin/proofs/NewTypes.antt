@@ -53,11 +53,13 @@ form_alike (Pointer t) = refl
 form_alike (Array i e) = refl
 form_alike (Record fs) = ap Record (fields_alike fs)
 
-fields_later : {X Y : Type 0} (xs : List X) (ys : List Y) → ((i : ℕ) → There xs i → There ys i) → (fs : List TypeField) → FieldsIn xs fs → FieldsIn ys fs
+fields_later : {X Y : Type 0} (xs : List X) (ys : List Y) → ((i : ℕ) → There xs i → There ys i) → (fs : List TypeField) → FieldsIn xs fs
+    → FieldsIn ys fs
 fields_later xs ys go [] no_fields_in = no_fields_in
 fields_later xs ys go (f ∷ fs) (one_field_in g gs h rest) = one_field_in f fs (go f.of.0 h) (fields_later xs ys go fs rest)
 
-pub form_later : {X Y : Type 0} (xs : List X) (ys : List Y) → ((i : ℕ) → There xs i → There ys i) → (f : TypeForm) → FormIn xs f → FormIn ys f
+pub form_later : {X Y : Type 0} (xs : List X) (ys : List Y) → ((i : ℕ) → There xs i → There ys i) → (f : TypeForm) → FormIn xs f
+    → FormIn ys f
 form_later xs ys go Integer integer_in = integer_in
 form_later xs ys go Boolean boolean_in = boolean_in
 form_later xs ys go (Range low high) (range_in a b) = range_in low high
@@ -65,16 +67,19 @@ form_later xs ys go (Pointer t) (pointer_in u h) = pointer_in t (go t.0 h)
 form_later xs ys go (Array i e) (array_in j u g h) = array_in i e (go i.0 g) (go e.0 h)
 form_later xs ys go (Record fs) (record_in gs h) = record_in fs (fields_later xs ys go fs h)
 
-pub any_found : (types : List (Symbol × TypeId)) (x : Symbol) → list_any (λ (n : Symbol × TypeId). same_name n.0 x) types ≡ true → found types x ≡ Some (target_or_first (found types x))
+pub any_found : (types : List (Symbol × TypeId)) (x : Symbol) → list_any (λ (n : Symbol × TypeId). same_name n.0 x) types ≡ true
+    → found types x ≡ Some (target_or_first (found types x))
 any_found [] x h = absurd (false≢true h)
 any_found (n ∷ types) x h = by_case (same_name n.0 x) h (any_found types x)
   where
-    by_case : (b : Bool) → (b || list_any (λ (n : Symbol × TypeId). same_name n.0 x) types) ≡ true → (list_any (λ (n : Symbol × TypeId). same_name n.0 x) types ≡ true → found types x ≡ Some (target_or_first (found types x)))
+    by_case : (b : Bool) → (b || list_any (λ (n : Symbol × TypeId). same_name n.0 x) types) ≡ true
+        → (list_any (λ (n : Symbol × TypeId). same_name n.0 x) types ≡ true → found types x ≡ Some (target_or_first (found types x)))
         → cond b (Some n.1) (found types x) ≡ Some (target_or_first (cond b (Some n.1) (found types x)))
     by_case true k go = refl
     by_case false k go = go k
 
-pub plain_forms : (names : List (Symbol × TypeId)) (whole : List Written) (i : ℕ) (w : Written) → item_at whole i ≡ Some w → item_at (map (form_of names) whole) i ≡ Some (form_with (λ t. t) (form_of names w))
+pub plain_forms : (names : List (Symbol × TypeId)) (whole : List Written) (i : ℕ) (w : Written) → item_at whole i ≡ Some w
+    → item_at (map (form_of names) whole) i ≡ Some (form_with (λ t. t) (form_of names w))
 plain_forms names whole i w e = item_map (form_of names) whole i w e ∙ ap Some (sym (form_alike (form_of names w)))
 
 -- ---- what is written is built of types that are there, whatever their final numbers
@@ -95,9 +100,11 @@ module _ (s : Scope) (is_target : Symbol → Bool) (v : View) (names : List (Sym
     (constants : (x : Symbol) (z : ℤ) → meaning s x ≡ Some (OfConstant z) → constant_named v x ≡ Some z)
     (targets_there : (x : Symbol) → is_target x ≡ true → There whole (target_or_first (found names x)).0)
     (targets_found : (x : Symbol) → is_target x ≡ true → found names x ≡ Some (target_or_first (found names x))) where
-  pub all_there : (types : List Written) (t : TypeDenoter) (r : Reading) → Longer base types → WrittenAll names whole types → denoted s is_target types t ≡ Ok r → Longer r.written whole → AllThere names whole r
+  pub all_there : (types : List Written) (t : TypeDenoter) (r : Reading) → Longer base types → WrittenAll names whole types
+      → denoted s is_target types t ≡ Ok r → Longer r.written whole → AllThere names whole r
   all_there types t r l all e later =
-      let h = denoted_from s is_target (with_forms v (map (form_of names) whole)) names names base whole (λ t. t) (λ i w h. plain_forms names whole i w h) types_there types_named constants targets_there targets_found targets_found
+      let h = denoted_from s is_target (with_forms v (map (form_of names) whole)) names names base whole (λ t. t)
+          (λ i w h. plain_forms names whole i w h) types_there types_named constants targets_there targets_found targets_found
       types t r l (record { each_in = all.each_in }) e later in
       record { there = h.there; all = record { each_in = h.all_in.each_in } }
 
@@ -133,7 +140,8 @@ module _ (s : Scope) (v : View) (before_right : FormsRight s.known.program.forms
   base_in more = record { each_in = λ i w e. by_item i w (map_item Built forms i w e) }
     where
       by_item : (i : ℕ) (w : Written) → MapItem Built forms i w → WrittenIn types (base ++ more) w
-      by_item i w m = subst (WrittenIn types (base ++ more)) m.same (built_in m.item (form_later forms (base ++ more) (λ j h. whole_there more j h) m.item (before_right.inside i m.item m.is)))
+      by_item i w m = subst (WrittenIn types (base ++ more)) m.same
+          (built_in m.item (form_later forms (base ++ more) (λ j h. whole_there more j h) m.item (before_right.inside i m.item m.is)))
 
   abbrev target : Symbol → Bool
   target = is_type_name s.known.program
@@ -145,10 +153,12 @@ module _ (s : Scope) (v : View) (before_right : FormsRight s.known.program.forms
       let m = merged types whole in
       let r : Reading = record { written = whole; type = u } in
       let found_there = λ (x : Symbol) (h : target x ≡ true). any_found types x h in
-      let target_there = λ (x : Symbol) (h : target x ≡ true). whole_there more (target_or_first (found types x)).0 (names_there x (target_or_first (found types x)) (any_found types x h)) in
+      let target_there = λ (x : Symbol) (h : target x ≡ true). whole_there more (target_or_first (found types x)).0
+          (names_there x (target_or_first (found types x)) (any_found types x h)) in
       let old_there = λ (x : Symbol) (w : TypeId) (h : meaning s x ≡ Some (OfType w)). base_there w.0 (types_there x w h) in
       let l = denoted_longer s target base t r e in
-      let a = all_there s target v types base whole old_there types_named constants target_there found_there base t r (longer_same base) (base_in more) e (longer_same whole) in
+      let a = all_there s target v types base whole old_there types_named constants target_there found_there base t r (longer_same base)
+          (base_in more) e (longer_same whole) in
       let all = λ (i : ℕ) (w : Written) (h : item_at whole i ≡ Some w). a.all.each_in i w h in
       let number = λ (w : TypeId) (h : There forms w.0). old_number types forms more before_right all w h in
       let kept : Keeps forms m.forms = record { kept = λ i f h. old_form types forms more before_right all i f h } in
@@ -157,9 +167,12 @@ module _ (s : Scope) (v : View) (before_right : FormsRight s.known.program.forms
         keeps = kept;
         there = new_there types whole all u a.there;
         from = λ later.
-            (denoted_from s target v types types base whole m.new (λ i w h. later.kept (m.new (record { 0 = i })).0 (form_with m.new (form_of types w)) (forms_kept types whole all i w h)) old_there
+            (denoted_from s target v types types base whole m.new
+                (λ i w h. later.kept (m.new (record { 0 = i })).0 (form_with m.new (form_of types w)) (forms_kept types whole all i w h))
+                old_there
             (λ x w h. types_named x w h ∙ ap Some (sym (number w (types_there x w h)))) constants target_there found_there
-            (λ x h. any_found types x h ∙ ap Some (sym (number (target_or_first (found types x)) (names_there x (target_or_first (found types x)) (any_found types x h)))))
+            (λ x h. any_found types x h ∙ ap Some (sym (number (target_or_first (found types x))
+                (names_there x (target_or_first (found types x)) (any_found types x h)))))
             base t r (longer_same base) (record { each_in = (base_in more).each_in }) e (longer_same whole)).from;
       }
 

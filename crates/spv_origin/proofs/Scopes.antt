@@ -30,15 +30,18 @@ pub found_append : {X : Type 0} (xs ys : List (Symbol × X)) (x : Symbol) → fo
 found_append [] ys x = refl
 found_append (n ∷ xs) ys x = by_case (same_name n.0 x) (found_append xs ys x)
   where
-    by_case : (b : Bool) → found (xs ++ ys) x ≡ first_of (found xs x) (found ys x) → cond b (Some n.1) (found (xs ++ ys) x) ≡ first_of (cond b (Some n.1) (found xs x)) (found ys x)
+    by_case : (b : Bool) → found (xs ++ ys) x ≡ first_of (found xs x) (found ys x)
+        → cond b (Some n.1) (found (xs ++ ys) x) ≡ first_of (cond b (Some n.1) (found xs x)) (found ys x)
     by_case true h = refl
     by_case false h = h
 
-pub found_map : {X Y : Type 0} (f : X → Y) (xs : List (Symbol × X)) (x : Symbol) → found (map (λ n. (n.0, f n.1)) xs) x ≡ option_map f (found xs x)
+pub found_map : {X Y : Type 0} (f : X → Y) (xs : List (Symbol × X)) (x : Symbol)
+    → found (map (λ n. (n.0, f n.1)) xs) x ≡ option_map f (found xs x)
 found_map f [] x = refl
 found_map {X} {Y} f (n ∷ xs) x = by_case (same_name n.0 x) (found_map f xs x)
   where
-    by_case : (b : Bool) → found (map (λ n. (n.0, f n.1)) xs) x ≡ option_map f (found xs x) → cond b (Some (f n.1)) (found (map (λ n. (n.0, f n.1)) xs) x) ≡ option_map f (cond b (Some n.1) (found xs x))
+    by_case : (b : Bool) → found (map (λ n. (n.0, f n.1)) xs) x ≡ option_map f (found xs x)
+        → cond b (Some (f n.1)) (found (map (λ n. (n.0, f n.1)) xs) x) ≡ option_map f (cond b (Some n.1) (found xs x))
     by_case true h = refl
     by_case false h = h
 
@@ -74,16 +77,20 @@ or_true : (b : Bool) → (b || true) ≡ true
 or_true true = refl
 or_true false = refl
 
-symbol_found : (ds : List Decl) (x : Symbol) (m : Meaning) → found (map (λ (d : Decl). (d.name, OfSymbol d)) ds) x ≡ Some m → SymbolFound ds x m
+symbol_found : (ds : List Decl) (x : Symbol) (m : Meaning) → found (map (λ (d : Decl). (d.name, OfSymbol d)) ds) x ≡ Some m
+    → SymbolFound ds x m
 symbol_found [] x m e = absurd (nothing_there e)
 symbol_found (d ∷ ds) x m e = by_case (same_name d.name x) refl e (λ k. symbol_found ds x m k)
   where
-    by_case : (b : Bool) → same_name d.name x ≡ b → cond b (Some (OfSymbol d)) (found (map (λ (d : Decl). (d.name, OfSymbol d)) ds) x) ≡ Some m
+    by_case : (b : Bool) → same_name d.name x ≡ b → cond b (Some (OfSymbol d)) (found (map (λ (d : Decl). (d.name, OfSymbol d)) ds) x) ≡
+        Some m
         → (found (map (λ (d : Decl). (d.name, OfSymbol d)) ds) x ≡ Some m → SymbolFound ds x m) → SymbolFound (d ∷ ds) x m
-    by_case true same k go = record { decl = d; is = some_is k; name = same_name-true d.name x same; listed = ap (λ b. b || list_any (λ e. same_name e.name x) ds) same }
+    by_case true same k go = record { decl = d; is = some_is k; name = same_name-true d.name x same; listed = ap
+        (λ b. b || list_any (λ e. same_name e.name x) ds) same }
     by_case false same k go =
         let r = go k in
-        record { decl = r.decl; is = r.is; name = r.name; listed = ap (λ b. same_name d.name x || b) r.listed ∙ or_true (same_name d.name x) }
+        record { decl = r.decl; is = r.is; name = r.name; listed = ap (λ b. same_name d.name x || b) r.listed ∙ or_true
+            (same_name d.name x) }
 
 record HeadingFound (hs : List Heading) (x : Symbol) (m : Meaning) : Type 0 where
   pub heading : Heading
@@ -91,14 +98,17 @@ record HeadingFound (hs : List Heading) (x : Symbol) (m : Meaning) : Type 0 wher
   pub name : heading.name ≡ x
   pub listed : In hs heading
 
-heading_found : (hs : List Heading) (x : Symbol) (m : Meaning) → found (map (λ (h : Heading). (h.name, OfRoutine h)) hs) x ≡ Some m → HeadingFound hs x m
+heading_found : (hs : List Heading) (x : Symbol) (m : Meaning) → found (map (λ (h : Heading). (h.name, OfRoutine h)) hs) x ≡ Some m
+    → HeadingFound hs x m
 heading_found [] x m e = absurd (nothing_there e)
 heading_found (h ∷ hs) x m e = by_case (same_name h.name x) refl e (λ k. heading_found hs x m k)
   where
-    by_case : (b : Bool) → same_name h.name x ≡ b → cond b (Some (OfRoutine h)) (found (map (λ (h : Heading). (h.name, OfRoutine h)) hs) x) ≡ Some m
+    by_case : (b : Bool) → same_name h.name x ≡ b → cond b (Some (OfRoutine h)) (found (map (λ (h : Heading). (h.name, OfRoutine h)) hs)
+        x) ≡ Some m
         → (found (map (λ (h : Heading). (h.name, OfRoutine h)) hs) x ≡ Some m → HeadingFound hs x m) → HeadingFound (h ∷ hs) x m
     by_case true same k go = record { heading = h; is = some_is k; name = same_name-true h.name x same; listed = here h hs }
-    by_case false same k go = let r = go k in record { heading = r.heading; is = r.is; name = r.name; listed = further r.heading h hs r.listed }
+    by_case false same k go = let r = go k in record { heading = r.heading; is = r.is; name = r.name; listed = further r.heading h hs
+        r.listed }
 
 module _ (k : Known) (x : Symbol) where
   abbrev constants_named : Names
@@ -124,26 +134,42 @@ module _ (k : Known) (x : Symbol) where
     where
       by_found : (o : Option Meaning) → found symbols_named x ≡ o → first_of o (found headings_named x) ≡ Some m → Told k x m
       by_found None h f = of_headings m f
-      by_found (Some n) h f = let s = symbol_found k.program.symbols x m (h ∙ f) in subst (Told k x) s.is (told_symbol s.decl s.name s.listed)
+      by_found (Some n) h f = let s = symbol_found k.program.symbols x m (h ∙ f) in subst (Told k x) s.is
+          (told_symbol s.decl s.name s.listed)
 
   of_places : (m : Meaning) → found (places_named ++ (symbols_named ++ headings_named)) x ≡ Some m → Told k x m
-  of_places m e = by_found (found k.program.variables x) refl (sym (found_append places_named (symbols_named ++ headings_named) x ∙ ap (λ o. first_of o (found (symbols_named ++ headings_named) x)) (found_map OfPlace k.program.variables x)) ∙ e)
+  of_places m e = by_found (found k.program.variables x) refl
+      (sym (found_append places_named (symbols_named ++ headings_named) x ∙ ap
+      (λ o. first_of o (found (symbols_named ++ headings_named) x)) (found_map OfPlace k.program.variables x)) ∙ e)
     where
-      by_found : (o : Option TypeId) → found k.program.variables x ≡ o → first_of (option_map OfPlace o) (found (symbols_named ++ headings_named) x) ≡ Some m → Told k x m
+      by_found : (o : Option TypeId) → found k.program.variables x ≡ o
+          → first_of (option_map OfPlace o) (found (symbols_named ++ headings_named) x) ≡ Some m → Told k x m
       by_found None h f = of_symbols m f
       by_found (Some t) h f = subst (Told k x) (some_is f) (told_place t h)
 
-  of_types : found (types_from_start k.start) x ≡ None → (m : Meaning) → found (types_named ++ (places_named ++ (symbols_named ++ headings_named))) x ≡ Some m → Told k x m
-  of_types none m e = by_found (found k.program.types x) refl (sym (found_append types_named (places_named ++ (symbols_named ++ headings_named)) x ∙ ap (λ o. first_of o (found (places_named ++ (symbols_named ++ headings_named)) x)) (found_map OfType k.program.types x)) ∙ e)
+  of_types : found (types_from_start k.start) x ≡ None → (m : Meaning)
+      → found (types_named ++ (places_named ++ (symbols_named ++ headings_named))) x ≡ Some m → Told k x m
+  of_types none m e = by_found (found k.program.types x) refl
+      (sym (found_append types_named (places_named ++ (symbols_named ++ headings_named)) x ∙ ap
+      (λ o. first_of o (found (places_named ++ (symbols_named ++ headings_named)) x)) (found_map OfType k.program.types x)) ∙ e)
     where
-      by_found : (o : Option TypeId) → found k.program.types x ≡ o → first_of (option_map OfType o) (found (places_named ++ (symbols_named ++ headings_named)) x) ≡ Some m → Told k x m
+      by_found : (o : Option TypeId) → found k.program.types x ≡ o
+          → first_of (option_map OfType o) (found (places_named ++ (symbols_named ++ headings_named)) x) ≡ Some m → Told k x m
       by_found None h f = of_places m f
-      by_found (Some t) h f = subst (Told k x) (some_is f) (told_type t (found_append (types_from_start k.start) k.program.types x ∙ (ap (λ o. first_of o (found k.program.types x)) none ∙ h)))
+      by_found (Some t) h f = subst (Told k x) (some_is f)
+          (told_type t (found_append (types_from_start k.start) k.program.types x
+          ∙ (ap (λ o. first_of o (found k.program.types x)) none ∙ h)))
 
-  of_constants : found (types_from_start k.start) x ≡ None → (m : Meaning) → found (constants_named ++ (types_named ++ (places_named ++ (symbols_named ++ headings_named)))) x ≡ Some m → Told k x m
-  of_constants none m e = by_found (found k.program.constants x) refl (sym (found_append constants_named (types_named ++ (places_named ++ (symbols_named ++ headings_named))) x ∙ ap (λ o. first_of o (found (types_named ++ (places_named ++ (symbols_named ++ headings_named))) x)) (found_map OfConstant k.program.constants x)) ∙ e)
+  of_constants : found (types_from_start k.start) x ≡ None → (m : Meaning)
+      → found (constants_named ++ (types_named ++ (places_named ++ (symbols_named ++ headings_named)))) x ≡ Some m → Told k x m
+  of_constants none m e = by_found (found k.program.constants x) refl
+      (sym (found_append constants_named (types_named ++ (places_named ++ (symbols_named ++ headings_named))) x ∙ ap
+      (λ o. first_of o (found (types_named ++ (places_named ++ (symbols_named ++ headings_named))) x))
+      (found_map OfConstant k.program.constants x)) ∙ e)
     where
-      by_found : (o : Option ℤ) → found k.program.constants x ≡ o → first_of (option_map OfConstant o) (found (types_named ++ (places_named ++ (symbols_named ++ headings_named))) x) ≡ Some m → Told k x m
+      by_found : (o : Option ℤ) → found k.program.constants x ≡ o
+          → first_of (option_map OfConstant o) (found (types_named ++ (places_named ++ (symbols_named ++ headings_named))) x) ≡ Some m
+          → Told k x m
       by_found None h f = of_types none m f
       by_found (Some z) h f = subst (Told k x) (some_is f) (told_constant z h)
 
@@ -154,13 +180,19 @@ module _ (k : Known) (x : Symbol) where
       rest = found (constants_named ++ (types_named ++ (places_named ++ (symbols_named ++ headings_named)))) x
 
       by_tests : (a b c : Bool) → same_name k.start.integer x ≡ a → same_name k.start.boolean x ≡ b → same_name k.start.list x ≡ c
-          → cond a (Some (OfType integer_type)) (cond b (Some (OfType boolean_type)) (cond c (Some OfList) (found (constants_named ++ (types_named ++ (places_named ++ (symbols_named ++ headings_named)))) x))) ≡ Some m → Told k x m
-      by_tests true b c i j l f = subst (Told k x) (some_is f) (told_type integer_type (ap (λ q. cond q (Some integer_type) (cond (same_name k.start.boolean x) (Some boolean_type) (found k.program.types x))) i))
+          → cond a (Some (OfType integer_type)) (cond b (Some (OfType boolean_type)) (cond c (Some OfList)
+          (found (constants_named ++ (types_named ++ (places_named ++ (symbols_named ++ headings_named)))) x))) ≡ Some m → Told k x m
+      by_tests true b c i j l f = subst (Told k x) (some_is f)
+          (told_type integer_type (ap (λ q. cond q (Some integer_type)
+          (cond (same_name k.start.boolean x) (Some boolean_type) (found k.program.types x))) i))
       by_tests false true c i j l f =
-          subst (Told k x) (some_is f) (told_type boolean_type (ap (λ q. cond q (Some integer_type) (cond (same_name k.start.boolean x) (Some boolean_type) (found k.program.types x))) i ∙ ap (λ q. cond q (Some boolean_type) (found k.program.types x)) j))
+          subst (Told k x) (some_is f) (told_type boolean_type
+              (ap (λ q. cond q (Some integer_type) (cond (same_name k.start.boolean x) (Some boolean_type) (found k.program.types x))) i
+              ∙ ap (λ q. cond q (Some boolean_type) (found k.program.types x)) j))
       by_tests false false true i j l f = subst (Told k x) (some_is f) (told_list (same_name-true k.start.list x l))
       by_tests false false false i j l f =
-          of_constants (ap (λ q. cond q (Some integer_type) (cond (same_name k.start.boolean x) (Some boolean_type) None)) i ∙ ap (λ q. cond q (Some boolean_type) None) j) m f
+          of_constants (ap (λ q. cond q (Some integer_type) (cond (same_name k.start.boolean x) (Some boolean_type) None)) i ∙ ap
+              (λ q. cond q (Some boolean_type) None) j) m f
 
 -- ---- the names of a routine
 
@@ -171,11 +203,13 @@ pub data Alike : Meaning → Own → Type 0 where
 
 pub data OwnAs : Names → List (Symbol × Own) → Type 0 where
   no_own : OwnAs [] []
-  one_own : (x : Symbol) (m : Meaning) (o : Own) (ms : Names) (os : List (Symbol × Own)) → Alike m o → OwnAs ms os → OwnAs ((x, m) ∷ ms) ((x, o) ∷ os)
+  one_own : (x : Symbol) (m : Meaning) (o : Own) (ms : Names) (os : List (Symbol × Own)) → Alike m o → OwnAs ms os
+      → OwnAs ((x, m) ∷ ms) ((x, o) ∷ os)
 
 pub own_append : (ms ns : Names) (os ps : List (Symbol × Own)) → OwnAs ms os → OwnAs ns ps → OwnAs (ms ++ ns) (os ++ ps)
 own_append [] ns [] ps no_own h = h
-own_append ((x, m) ∷ ms) ns ((y, o) ∷ os) ps (one_own z a b us vs g rest) h = one_own x m o (ms ++ ns) (os ++ ps) g (own_append ms ns os ps rest h)
+own_append ((x, m) ∷ ms) ns ((y, o) ∷ os) ps (one_own z a b us vs g rest) h = one_own x m o (ms ++ ns) (os ++ ps) g
+    (own_append ms ns os ps rest h)
 own_append [] ns (o ∷ os) ps g h = elim g [ ]
 own_append (m ∷ ms) ns [] ps g h = elim g [ ]
 
@@ -198,10 +232,12 @@ pub data Means (k : Known) (os : List (Symbol × Own)) (x : Symbol) : Meaning �
   by_own : (m : Meaning) (o : Own) → Alike m o → found os x ≡ Some o → Means k os x m
   by_program : (m : Meaning) → found os x ≡ None → Told k x m → Means k os x m
 
-pub means : (k : Known) (ms : Names) (os : List (Symbol × Own)) (x : Symbol) (m : Meaning) → OwnAs ms os → first_of (found ms x) (found (program_names k) x) ≡ Some m → Means k os x m
+pub means : (k : Known) (ms : Names) (os : List (Symbol × Own)) (x : Symbol) (m : Meaning) → OwnAs ms os
+    → first_of (found ms x) (found (program_names k) x) ≡ Some m → Means k os x m
 means k ms os x m h e = by_found (found ms x) (found os x) refl (own_found ms os x h) e
   where
-    by_found : (a : Option Meaning) (b : Option Own) → found os x ≡ b → FoundAlike a b → first_of a (found (program_names k) x) ≡ Some m → Means k os x m
+    by_found : (a : Option Meaning) (b : Option Own) → found os x ≡ b → FoundAlike a b → first_of a (found (program_names k) x) ≡ Some m
+        → Means k os x m
     by_found None None g neither f = by_program m g (told k x m f)
     by_found (Some n) (Some o) g (both u v r) f = subst (Means k os x) (some_is f) (by_own n o r g)
     by_found None (Some o) g h f = elim h [ ]

@@ -32,32 +32,37 @@ pub record KnowsNames (k : Known) (start : KnownNames) (p : Program) : Type 0 wh
 -- and the headings are those of its routines
 pub record Knows (k : Known) (start : KnownNames) (p : Program) : Type 0 where
   pub names : KnowsNames k start p
-  pub numbers : (h : Heading) → In k.headings h → option_map routine_at (place_among (map (λ (r : Routine). r.name) p.routines) h.name) ≡ Some h.number
+  pub numbers : (h : Heading) → In k.headings h → option_map routine_at (place_among (map (λ (r : Routine). r.name) p.routines) h.name) ≡
+      Some h.number
   pub first : form_at k.program.forms 0 ≡ Integer
   pub plain : (h : Heading) (t : TypeId) → In k.headings h → h.result ≡ Some t → may_be_result (form_at k.program.forms t.0) ≡ true
 
 -- ---- each kind of meaning
 
-module _ (k : Known) (ms : Names) (os : List (Symbol × Own)) (own : OwnAs ms os) (r : Option Heading) (start : KnownNames) (p : Program) (here : Option Routine) where
+module _ (k : Known) (ms : Names) (os : List (Symbol × Own)) (own : OwnAs ms os) (r : Option Heading) (start : KnownNames) (p : Program)
+    (here : Option Routine) where
   abbrev s : Scope
   s = scope_of k ms r
 
   abbrev v : View
   v = seen start p here os
 
-  pub constants_seen : k.program.constants ≡ p.constants → (x : Symbol) (z : ℤ) → meaning s x ≡ Some (OfConstant z) → constant_named v x ≡ Some z
+  pub constants_seen : k.program.constants ≡ p.constants → (x : Symbol) (z : ℤ) → meaning s x ≡ Some (OfConstant z)
+      → constant_named v x ≡ Some z
   constants_seen same x z e = by_means (means k ms os x (OfConstant z) own e)
     where
       by_means : Means k os x (OfConstant z) → constant_named v x ≡ Some z
       by_means (by_own m o (as_constant w) f) = ap (λ q. own_or q number_of (found p.constants x)) f
-      by_means (by_program m none (told_constant w f)) = ap (λ q. own_or q number_of (found p.constants x)) none ∙ (ap (λ cs. found cs x) (sym same) ∙ f)
+      by_means (by_program m none (told_constant w f)) = ap (λ q. own_or q number_of (found p.constants x)) none
+          ∙ (ap (λ cs. found cs x) (sym same) ∙ f)
 
   pub places_seen : k.program.variables ≡ p.variables → (x : Symbol) (t : TypeId) → meaning s x ≡ Some (OfPlace t) → names_place v x ≡ true
   places_seen same x t e = by_means (means k ms os x (OfPlace t) own e)
     where
       by_means : Means k os x (OfPlace t) → names_place v x ≡ true
       by_means (by_own m o (as_place w) f) = ap (λ q. own_or q is_place (is_some (found p.variables x))) f
-      by_means (by_program m none (told_place w f)) = ap (λ q. own_or q is_place (is_some (found p.variables x))) none ∙ (ap (λ cs. is_some (found cs x)) (sym same) ∙ ap is_some f)
+      by_means (by_program m none (told_place w f)) = ap (λ q. own_or q is_place (is_some (found p.variables x))) none
+          ∙ (ap (λ cs. is_some (found cs x)) (sym same) ∙ ap is_some f)
 
   pub starts_seen : (x : Symbol) (q : Sort) → meaning s x ≡ Some (OfStart q) → names_start v x ≡ true
   starts_seen x q e = by_means (means k ms os x (OfStart q) own e)
@@ -66,21 +71,26 @@ module _ (k : Known) (ms : Names) (os : List (Symbol × Own)) (own : OwnAs ms os
       by_means (by_own m o (as_start w) f) = ap (λ q. own_or q is_start false) f
       by_means (by_program m none h) = elim h [ ]
 
-  pub types_seen : k.start ≡ start → k.program.types ≡ p.types → (x : Symbol) (t : TypeId) → meaning s x ≡ Some (OfType t) → type_named v x ≡ Some t
+  pub types_seen : k.start ≡ start → k.program.types ≡ p.types → (x : Symbol) (t : TypeId) → meaning s x ≡ Some (OfType t)
+      → type_named v x ≡ Some t
   types_seen first same x t e = by_means (means k ms os x (OfType t) own e)
     where
       by_means : Means k os x (OfType t) → type_named v x ≡ Some t
       by_means (by_own m o h f) = elim h [ ]
       by_means (by_program m none (told_type w f)) =
           ap (λ q. own_or q (λ o. None) (found (types_from_start start ++ p.types) x)) none
-          ∙ (ap (λ ts. found (types_from_start start ++ ts) x) (sym same) ∙ (ap (λ q. found (types_from_start q ++ k.program.types) x) (sym first) ∙ f))
+          ∙ (ap (λ ts. found (types_from_start start ++ ts) x) (sym same)
+              ∙ (ap (λ q. found (types_from_start q ++ k.program.types) x) (sym first) ∙ f))
 
-  pub symbols_seen : k.program.symbols ≡ p.symbols → (x : Symbol) (d : Decl) → meaning s x ≡ Some (OfSymbol d) → (d.name ≡ x) × (names_symbol v x ≡ true)
+  pub symbols_seen : k.program.symbols ≡ p.symbols → (x : Symbol) (d : Decl) → meaning s x ≡ Some (OfSymbol d)
+      → (d.name ≡ x) × (names_symbol v x ≡ true)
   symbols_seen same x d e = by_means (means k ms os x (OfSymbol d) own e)
     where
       by_means : Means k os x (OfSymbol d) → (d.name ≡ x) × (names_symbol v x ≡ true)
       by_means (by_own m o h f) = elim h [ ]
-      by_means (by_program m none (told_symbol w name f)) = (name, ap (λ q. own_or q (λ o. false) (list_any (λ (e : Decl). same_name e.name x) p.symbols)) none ∙ (ap (λ ds. list_any (λ (e : Decl). same_name e.name x) ds) (sym same) ∙ f))
+      by_means (by_program m none (told_symbol w name f)) =
+          (name, ap (λ q. own_or q (λ o. false) (list_any (λ (e : Decl). same_name e.name x) p.symbols)) none
+          ∙ (ap (λ ds. list_any (λ (e : Decl). same_name e.name x) ds) (sym same) ∙ f))
 
   pub record RoutineSeen (x : Symbol) (h : Heading) : Type 0 where
     pub none : found os x ≡ None
@@ -112,7 +122,8 @@ module _ (k : Known) (ms : Names) (os : List (Symbol × Own)) (own : OwnAs ms os
     routines = λ x h e.
         let g = routines_seen x h e in
         ap (λ q. own_or q (λ o. None) (option_map routine_at (place_among (map (λ (r : Routine). r.name) p.routines) x))) g.none
-        ∙ (ap (λ y. option_map routine_at (place_among (map (λ (r : Routine). r.name) p.routines) y)) (sym g.name) ∙ knows.numbers h g.listed);
+        ∙ (ap (λ y. option_map routine_at (place_among (map (λ (r : Routine). r.name) p.routines) y)) (sym g.name) ∙ knows.numbers h
+            g.listed);
     own_result = λ x h t e own_one result.
         let g = routines_seen x h e in
         ap (λ q. own_or q (λ o. false) (is_name_of here x)) g.none ∙ (ap (is_name_of here) (sym g.name) ∙ is_its h own_one);

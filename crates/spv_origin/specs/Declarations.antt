@@ -28,31 +28,38 @@ pub data ConstsFrom (see : List (Symbol × ℤ) → View) : List (Symbol × ℤ)
       → ConstantFrom (see before) z c.value → ConstsFrom see (before ++ (c.name.symbol, z) ∷ []) cs all → ConstsFrom see before (c ∷ cs) all
 
 -- types, each by those before it, but that pointers may lead to later ones
-pub data TypedefsFrom (see : List (Symbol × TypeId) → View) (targets : List (Symbol × TypeId)) : List (Symbol × TypeId) → List Typedef → List (Symbol × TypeId) → Type 0 where
+pub data TypedefsFrom (see : List (Symbol × TypeId) → View) (targets : List (Symbol × TypeId)) : List (Symbol × TypeId) → List Typedef
+    → List (Symbol × TypeId) → Type 0 where
   no_typedefs : {before : List (Symbol × TypeId)} → TypedefsFrom see targets before [] before
   one_typedef : {before all : List (Symbol × TypeId)} {t : TypeId} {d : Typedef} {ds : List Typedef}
-      → TypeFrom (see before) targets t d.of → TypedefsFrom see targets (before ++ (d.name.symbol, t) ∷ []) ds all → TypedefsFrom see targets before (d ∷ ds) all
+      → TypeFrom (see before) targets t d.of → TypedefsFrom see targets (before ++ (d.name.symbol, t) ∷ []) ds all
+      → TypedefsFrom see targets before (d ∷ ds) all
 
 -- variables, group by group
 abbrev pub group_of : List Name → TypeId → List (Symbol × TypeId)
 group_of names t = map (λ x. (x.symbol, t)) names
 
-pub data VarsFrom (see : List (Symbol × TypeId) → View) (targets : List (Symbol × TypeId)) : List (Symbol × TypeId) → List Vars → List (Symbol × TypeId) → Type 0 where
+pub data VarsFrom (see : List (Symbol × TypeId) → View) (targets : List (Symbol × TypeId)) : List (Symbol × TypeId) → List Vars
+    → List (Symbol × TypeId) → Type 0 where
   no_vars : {before : List (Symbol × TypeId)} → VarsFrom see targets before [] before
   one_group : {before all : List (Symbol × TypeId)} {t : TypeId} {g : Vars} {gs : List Vars}
-      → TypeFrom (see before) targets t g.of → VarsFrom see targets (before ++ group_of (g.names.first ∷ g.names.more) t) gs all → VarsFrom see targets before (g ∷ gs) all
+      → TypeFrom (see before) targets t g.of → VarsFrom see targets (before ++ group_of (g.names.first ∷ g.names.more) t) gs all
+      → VarsFrom see targets before (g ∷ gs) all
 
 -- ---- declared symbols
 
 module _ (v : View) where
   pub data SortFrom : Sort → SortName → Type 0 where
-    of_type : {t : TypeId} {line : ℕ} {x : Name} → type_named v x.symbol ≡ Some t → SortFrom (sort_of v.program.forms t) (record { line = line; form = written.Name x })
+    of_type : {t : TypeId} {line : ℕ} {x : Name} → type_named v x.symbol ≡ Some t
+        → SortFrom (sort_of v.program.forms t) (record { line = line; form = written.Name x })
     of_list : {line : ℕ} {x : Name} → v.start.list ≡ x.symbol → SortFrom sort.List (record { line = line; form = written.Name x })
-    of_class : {t : TypeId} {line : ℕ} {x : Name} → type_named v x.symbol ≡ Some t → SortFrom (sort.Class t) (record { line = line; form = written.Class x })
+    of_class : {t : TypeId} {line : ℕ} {x : Name} → type_named v x.symbol ≡ Some t
+        → SortFrom (sort.Class t) (record { line = line; form = written.Class x })
 
   pub data SortsFrom : List Sort → List SortName → Type 0 where
     no_sorts : SortsFrom [] []
-    one_sort : {s : Sort} {ss : List Sort} {n : SortName} {ns : List SortName} → SortFrom s n → SortsFrom ss ns → SortsFrom (s ∷ ss) (n ∷ ns)
+    one_sort : {s : Sort} {ss : List Sort} {n : SortName} {ns : List SortName} → SortFrom s n → SortsFrom ss ns
+        → SortsFrom (s ∷ ss) (n ∷ ns)
 
   abbrev pub sorts_written : Option (Several SortName) → List SortName
   sorts_written None = []
@@ -61,7 +68,8 @@ module _ (v : View) where
   pub data SymbolsFrom : List Decl → List SymbolText → Type 0 where
     no_symbols : SymbolsFrom [] []
     one_symbol : {d : Decl} {ds : List Decl} {t : SymbolText} {ts : List SymbolText}
-        → d.name ≡ t.name.symbol → SortsFrom d.args (sorts_written t.arguments) → SortFrom d.result t.result → SymbolsFrom ds ts → SymbolsFrom (d ∷ ds) (t ∷ ts)
+        → d.name ≡ t.name.symbol → SortsFrom d.args (sorts_written t.arguments) → SortFrom d.result t.result → SymbolsFrom ds ts
+        → SymbolsFrom (d ∷ ds) (t ∷ ts)
 
 -- ---- all of them
 

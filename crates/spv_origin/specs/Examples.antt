@@ -121,7 +121,8 @@ FromTheLeft =
     × No (From (minus (read x) (minus (read y) one)) (less_less (variable x) (variable y) (number 1)))
 
 abbrev pub related : ComparisonSign → tree.Term → tree.Term → tree.Formula
-related o a b = tree.formula 1 (tree.relation 1 (tree.simple 1 None a tree.no_more_terms) (tree.compared o (tree.simple 1 None b tree.no_more_terms))) tree.no_conclusion
+related o a b = tree.formula 1 (tree.relation 1 (tree.simple 1 None a tree.no_more_terms)
+    (tree.compared o (tree.simple 1 None b tree.no_more_terms))) tree.no_conclusion
 
 -- `x > y` is neither `x < y` nor `y > x`
 abbrev pub RelationsAreKept : Type 0
@@ -155,7 +156,8 @@ alone t = whole (tree.simple 1 None t tree.no_more_terms)
 -- `x[y, 1]`
 abbrev pub indexed : tree.Formula
 indexed = alone (tree.term 1 (tree.place 1 (tree.designator 1 (name x)
-    (tree.selectors (tree.index 1 (alone (variable y)) (tree.more_formulas (alone (number 1)) tree.no_more_formulas)) tree.no_selectors))) tree.no_more_factors)
+    (tree.selectors (tree.index 1 (alone (variable y)) (tree.more_formulas (alone (number 1)) tree.no_more_formulas)) tree.no_selectors)))
+        tree.no_more_factors)
 
 abbrev pub behind_x : Expression → Expression → Expression
 behind_x i j = Read (designator 1 x (at_index integer i (at_index integer j no_selectors)))
@@ -196,10 +198,12 @@ x_first = If 1 (Boolean true) (assign x one) (assign y one)
 abbrev pub BranchesAreKept : Type 0
 BranchesAreKept =
     FromStatement x_first (trees.conditional 1 truth (assigning x (alone (number 1))) (trees.otherwise (assigning y (alone (number 1)))))
-    × No (FromStatement x_first (trees.conditional 1 truth (assigning y (alone (number 1))) (trees.otherwise (assigning x (alone (number 1))))))
+    × No (FromStatement x_first (trees.conditional 1 truth (assigning y (alone (number 1)))
+    (trees.otherwise (assigning x (alone (number 1))))))
     × No (FromStatement x_first (trees.conditional 1 truth (assigning x (alone (number 1))) trees.nothing_otherwise))
     × No (FromStatement (Sequence (assign x one) Empty)
-    (trees.compound 1 (trees.block 1 (assigning x (alone (number 1))) (trees.more_statements (assigning y (alone (number 1))) trees.no_more_statements))))
+    (trees.compound 1 (trees.block 1 (assigning x (alone (number 1)))
+        (trees.more_statements (assigning y (alone (number 1))) trees.no_more_statements))))
 
 abbrev pub labelled : ℕ → trees.Statement → trees.Arm
 labelled n s = trees.arm 1 (record { first = record { line = 1; sign = None; value = scalar.Number n }; more = [] }) s
@@ -207,8 +211,13 @@ labelled n s = trees.arm 1 (record { first = record { line = 1; sign = None; val
 -- an INVARIANT, and the arms of a CASE
 abbrev pub LoopsAndArmsAreKept : Type 0
 LoopsAndArmsAreKept =
-    FromStatement (While 1 None (Boolean true) (assign x one)) (trees.repetition 1 None (trees.while_loop 1 truth (assigning x (alone (number 1)))))
-    × No (FromStatement (While 1 None (Boolean true) (assign x one)) (trees.repetition 1 (Some truth) (trees.while_loop 1 truth (assigning x (alone (number 1))))))
-    × FromStatement (Case 1 (read x) (arm (pos 3 ∷ []) (assign x one) no_arms)) (trees.selection 1 (alone (variable x)) (labelled 3 (assigning x (alone (number 1)))) trees.no_more_arms)
-    × No (FromStatement (Case 1 (read x) (arm (pos 4 ∷ []) (assign x one) no_arms)) (trees.selection 1 (alone (variable x)) (labelled 3 (assigning x (alone (number 1)))) trees.no_more_arms))
-    × No (FromStatement (Case 1 (read x) no_arms) (trees.selection 1 (alone (variable x)) (labelled 3 (assigning x (alone (number 1)))) trees.no_more_arms))
+    FromStatement (While 1 None (Boolean true) (assign x one))
+        (trees.repetition 1 None (trees.while_loop 1 truth (assigning x (alone (number 1)))))
+    × No (FromStatement (While 1 None (Boolean true) (assign x one))
+    (trees.repetition 1 (Some truth) (trees.while_loop 1 truth (assigning x (alone (number 1))))))
+    × FromStatement (Case 1 (read x) (arm (pos 3 ∷ []) (assign x one) no_arms))
+    (trees.selection 1 (alone (variable x)) (labelled 3 (assigning x (alone (number 1)))) trees.no_more_arms)
+    × No (FromStatement (Case 1 (read x) (arm (pos 4 ∷ []) (assign x one) no_arms))
+    (trees.selection 1 (alone (variable x)) (labelled 3 (assigning x (alone (number 1)))) trees.no_more_arms))
+    × No (FromStatement (Case 1 (read x) no_arms) (trees.selection 1 (alone (variable x)) (labelled 3 (assigning x (alone (number 1))))
+    trees.no_more_arms))

@@ -78,7 +78,8 @@ module _ (v : View) where
   -- a call, from the name and the arguments
   pub data CallFrom : Call → Name → tree.MoreFormulas → Type 0 where
     call_of : {x : Name} {r : RoutineId} {given : List (Given Expression)} {more : tree.MoreFormulas} {arguments : Arguments}
-        → routine_named v x.symbol ≡ Some r → FromArguments expression_operators IsRead IsWritten IsCalled given more → arguments_of given ≡ Some arguments
+        → routine_named v x.symbol ≡ Some r → FromArguments expression_operators IsRead IsWritten IsCalled given more
+        → arguments_of given ≡ Some arguments
         → CallFrom (call r x.line arguments) x more
 
   abbrev pub ExpressionFrom : Expression → tree.Formula → Type 0

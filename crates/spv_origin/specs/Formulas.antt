@@ -63,11 +63,13 @@ module _ (v : View) where
   -- a name with arguments
   pub data NotedWith : Name → List (Given Formula) → Formula → Type 0 where
     with_symbol : {x : Name} {given : List (Given Formula)} {fs : Formulas}
-        → function_named v x.symbol ≡ None → names_symbol v x.symbol ≡ true → values given ≡ Some fs → NotedWith x given (Applied x.symbol fs)
+        → function_named v x.symbol ≡ None → names_symbol v x.symbol ≡ true → values given ≡ Some fs
+        → NotedWith x given (Applied x.symbol fs)
     with_built_in : {x : Name} {b : Function} {o : BuiltIn} {given : List (Given Formula)} {fs : Formulas}
         → function_named v x.symbol ≡ Some b → operator_of b ≡ Some o → values given ≡ Some fs → NotedWith x given (Known o fs)
     with_put : {x : Name} {r w : Formula} {f : Symbol}
-        → function_named v x.symbol ≡ Some Put → NotedWith x (Value r ∷ FieldName f ∷ Value w ∷ []) (Known (known.Put f) (formulas r (formulas w no_formulas)))
+        → function_named v x.symbol ≡ Some Put → NotedWith x (Value r ∷ FieldName f ∷ Value w ∷ [])
+        (Known (known.Put f) (formulas r (formulas w no_formulas)))
 
   -- a formula, and an annotation with the line on which its formula begins
   abbrev pub FormulaFrom : Formula → tree.Formula → Type 0

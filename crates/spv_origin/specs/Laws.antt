@@ -45,10 +45,12 @@ pub record SeesPlaces (s : Scope) (v : View) : Type 0 where
   pub constants : (x : Symbol) (z : ℤ) → meaning s x ≡ Some (OfConstant z) → constant_named v x ≡ Some z
   pub places : (x : Symbol) (t : TypeId) → meaning s x ≡ Some (OfPlace t) → names_place v x ≡ true
   pub routines : (x : Symbol) (h : Heading) → meaning s x ≡ Some (OfRoutine h) → routine_named v x ≡ Some h.number
-  pub own_result : (x : Symbol) (h : Heading) (t : TypeId) → meaning s x ≡ Some (OfRoutine h) → is_this s.routine h ≡ true → h.result ≡ Some t → names_result v x ≡ true
+  pub own_result : (x : Symbol) (h : Heading) (t : TypeId) → meaning s x ≡ Some (OfRoutine h) → is_this s.routine h ≡ true
+      → h.result ≡ Some t → names_result v x ≡ true
   pub functions : (x : Symbol) → function s x ≡ function_named v x
   pub first : form_at s.known.program.forms 0 ≡ Integer
-  pub plain_results : (x : Symbol) (h : Heading) (t : TypeId) → meaning s x ≡ Some (OfRoutine h) → h.result ≡ Some t → may_be_result (form_at s.known.program.forms t.0) ≡ true
+  pub plain_results : (x : Symbol) (h : Heading) (t : TypeId) → meaning s x ≡ Some (OfRoutine h) → h.result ≡ Some t
+      → may_be_result (form_at s.known.program.forms t.0) ≡ true
 
 -- an annotation that the walk answers comes from its tree
 abbrev pub AnnotationsComeFromTheirTrees : Type 0
@@ -58,38 +60,46 @@ AnnotationsComeFromTheirTrees =
 -- an expression that the walk answers comes from its tree
 abbrev pub ExpressionsComeFromTheirTrees : Type 0
 ExpressionsComeFromTheirTrees =
-    (s : Scope) (v : View) → SeesPlaces s v → (wanted : Sort) (f : tree.Formula) (e : Expression) → expression_of s wanted f ≡ Ok e → ExpressionFrom v e f
+    (s : Scope) (v : View) → SeesPlaces s v → (wanted : Sort) (f : tree.Formula) (e : Expression) → expression_of s wanted f ≡ Ok e
+        → ExpressionFrom v e f
 
 -- so does a place that is written
 abbrev pub PlacesComeFromTheirTrees : Type 0
 PlacesComeFromTheirTrees =
-    (s : Scope) (v : View) → SeesPlaces s v → (d : tree.Designator) (r : Reached) → written s d ≡ Ok r → (place : Designator) → designator_at r ≡ Some place → PlaceFrom v place d
+    (s : Scope) (v : View) → SeesPlaces s v → (d : tree.Designator) (r : Reached) → written s d ≡ Ok r → (place : Designator)
+        → designator_at r ≡ Some place → PlaceFrom v place d
 
 -- and a call
 abbrev pub CallsComeFromTheirTrees : Type 0
 CallsComeFromTheirTrees =
-    (s : Scope) (v : View) → SeesPlaces s v → (line : ℕ) (x : Name) (h : Heading) → meaning s x.symbol ≡ Some (OfRoutine h) → (given : Option (Several tree.Formula)) (c : Call)
+    (s : Scope) (v : View) → SeesPlaces s v → (line : ℕ) (x : Name) (h : Heading) → meaning s x.symbol ≡ Some (OfRoutine h)
+        → (given : Option (Several tree.Formula)) (c : Call)
     → call_of s line x.line h (arguments_of s given) ≡ Ok c → CallFrom v c x (all_of given)
 
 -- a constant has the number that the walk answers
 abbrev pub ConstantsHaveTheirNumbers : Type 0
 ConstantsHaveTheirNumbers =
-    (s : Scope) (v : View) → ((x : Symbol) (z : ℤ) → meaning s x ≡ Some (OfConstant z) → constant_named v x ≡ Some z) → (c : Constant) (z : ℤ) → constant s c ≡ Ok z → ConstantFrom v z c
+    (s : Scope) (v : View) → ((x : Symbol) (z : ℤ) → meaning s x ≡ Some (OfConstant z) → constant_named v x ≡ Some z)
+        → (c : Constant) (z : ℤ) → constant s c ≡ Ok z → ConstantFrom v z c
 
 -- a statement that the walk answers comes from its tree
 abbrev pub StatementsComeFromTheirTrees : Type 0
 StatementsComeFromTheirTrees =
-    (at : Setting) (v w : View) → SeesPlaces at.inside v → Sees at.noted w → (t : statements.Statement) (s : Statement) → statement_walk at t ≡ Ok s → StatementFrom v w s t
+    (at : Setting) (v w : View) → SeesPlaces at.inside v → Sees at.noted w → (t : statements.Statement) (s : Statement)
+        → statement_walk at t ≡ Ok s → StatementFrom v w s t
 
 -- and a block
 abbrev pub BlocksComeFromTheirTrees : Type 0
 BlocksComeFromTheirTrees =
-    (at : Setting) (v w : View) → SeesPlaces at.inside v → Sees at.noted w → (b : statements.Block) (s : Statement) → block_walk at b ≡ Ok s → BlockFrom v w s b
+    (at : Setting) (v w : View) → SeesPlaces at.inside v → Sees at.noted w → (b : statements.Block) (s : Statement)
+        → block_walk at b ≡ Ok s → BlockFrom v w s b
 
 -- a program that the walk answers comes from its tree, in which each routine that begins ends
 abbrev pub ProgramsComeFromTheirTrees : Type 0
-ProgramsComeFromTheirTrees = (start : KnownNames) (t : ProgramText) (p : Program) → IsTrue (well_formed t) → program_walk start t ≡ Ok p → ProgramFrom start p t
+ProgramsComeFromTheirTrees = (start : KnownNames) (t : ProgramText) (p : Program) → IsTrue (well_formed t) → program_walk start t ≡ Ok p
+    → ProgramFrom start p t
 
 -- so does that of a formula text
 abbrev pub FormulaTextsComeFromTheirTrees : Type 0
-FormulaTextsComeFromTheirTrees = (start : KnownNames) (t : FormulaText) (p : Program) → formula_text_walk start t ≡ Ok p → FormulaTextFrom start p t
+FormulaTextsComeFromTheirTrees = (start : KnownNames) (t : FormulaText) (p : Program) → formula_text_walk start t ≡ Ok p
+    → FormulaTextFrom start p t

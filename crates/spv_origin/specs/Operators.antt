@@ -110,21 +110,26 @@ module _ {X : Type 0} (k : Operators X) (Reads Writes : Name → X → Type 0) (
           → FromSimple x s → FromSimple y t → FromRelation (k.compared (comparison_of o) x y) (relation line s (compared o t))
 
     pub data FromSimple : X → Simple → Type 0 where
-      unsigned : {x z : X} {line : ℕ} {t : Term} {more : MoreTerms} → FromTerm x t → FromTerms x more z → FromSimple z (simple line None t more)
-      plus : {x z : X} {line : ℕ} {t : Term} {more : MoreTerms} → FromTerm x t → FromTerms x more z → FromSimple z (simple line (Some sign.Plus) t more)
+      unsigned : {x z : X} {line : ℕ} {t : Term} {more : MoreTerms} → FromTerm x t → FromTerms x more z
+          → FromSimple z (simple line None t more)
+      plus : {x z : X} {line : ℕ} {t : Term} {more : MoreTerms} → FromTerm x t → FromTerms x more z
+          → FromSimple z (simple line (Some sign.Plus) t more)
       -- a sign before a numeral that is the whole term makes a numeral
       minus_numeral : {z : X} {line at on n : ℕ} {more : MoreTerms}
-          → FromTerms (k.numeral (negsuc 0 *ℤ pos n)) more z → FromSimple z (simple line (Some sign.Minus) (term at (number on n) no_more_factors) more)
+          → FromTerms (k.numeral (negsuc 0 *ℤ pos n)) more z
+          → FromSimple z (simple line (Some sign.Minus) (term at (number on n) no_more_factors) more)
       minus : {x z : X} {line : ℕ} {t : Term} {more : MoreTerms}
           → is_numeral t ≡ false → FromTerm x t → FromTerms (k.negative x) more z → FromSimple z (simple line (Some sign.Minus) t more)
 
     -- the terms behind what the first ones have come to
     pub data FromTerms : X → MoreTerms → X → Type 0 where
       no_terms : {x : X} → FromTerms x no_more_terms x
-      one_term : {x y z : X} {o : Adding} {t : Term} {more : MoreTerms} → FromTerm y t → FromTerms (sum_of k o x y) more z → FromTerms x (more_terms o t more) z
+      one_term : {x y z : X} {o : Adding} {t : Term} {more : MoreTerms} → FromTerm y t → FromTerms (sum_of k o x y) more z
+          → FromTerms x (more_terms o t more) z
 
     pub data FromTerm : X → Term → Type 0 where
-      product : {x z : X} {line : ℕ} {f : Factor} {more : MoreFactors} → FromFactor x f → FromFactors x more z → FromTerm z (term line f more)
+      product : {x z : X} {line : ℕ} {f : Factor} {more : MoreFactors} → FromFactor x f → FromFactors x more z
+          → FromTerm z (term line f more)
 
     pub data FromFactors : X → MoreFactors → X → Type 0 where
       no_factors : {x : X} → FromFactors x no_more_factors x
@@ -138,23 +143,27 @@ module _ {X : Type 0} (k : Operators X) (Reads Writes : Name → X → Type 0) (
       class_of : {z : X} {line : ℕ} {c : Name} → k.class_of line c ≡ Some z → FromFactor z (class line c)
       read : {x : X} {line : ℕ} {d : Designator} → FromRead x d → FromFactor x (place line d)
       applied : {x z : X} {line : ℕ} {name : Name} {f : Formula} {more : MoreFormulas} {behind : Selectors} {gs : List (Given X)}
-          → FromArguments gs (more_formulas f more) → Applies name gs x → FromSelectors x behind z → FromFactor z (application line name f more behind)
+          → FromArguments gs (more_formulas f more) → Applies name gs x → FromSelectors x behind z
+          → FromFactor z (application line name f more behind)
       -- brackets are left out
       in_brackets : {x : X} {line : ℕ} {f : Formula} → FromFormula x f → FromFactor x (bracketed line f)
       negated : {x : X} {line : ℕ} {f : Factor} → FromFactor x f → FromFactor (k.negated x) (negation line f)
 
     -- a designator that is read, and one that is written
     pub data FromRead : X → Designator → Type 0 where
-      read_name : {x z : X} {line : ℕ} {name : Name} {behind : Selectors} → Reads name x → FromSelectors x behind z → FromRead z (designator line name behind)
+      read_name : {x z : X} {line : ℕ} {name : Name} {behind : Selectors} → Reads name x → FromSelectors x behind z
+          → FromRead z (designator line name behind)
 
     pub data FromWritten : X → Designator → Type 0 where
-      written_name : {x z : X} {line : ℕ} {name : Name} {behind : Selectors} → Writes name x → FromSelectors x behind z → FromWritten z (designator line name behind)
+      written_name : {x z : X} {line : ℕ} {name : Name} {behind : Selectors} → Writes name x → FromSelectors x behind z
+          → FromWritten z (designator line name behind)
 
     -- the selectors behind what the first ones have come to
     pub data FromSelectors : X → Selectors → X → Type 0 where
       no_more : {x : X} → FromSelectors x no_selectors x
       by_index : {a x y z : X} {t : TypeId} {at : ℕ} {f : Formula} {more : Selectors}
-          → FromFormula x f → k.element t a x ≡ Some y → FromSelectors y more z → FromSelectors a (selectors (index at f no_more_formulas) more) z
+          → FromFormula x f → k.element t a x ≡ Some y → FromSelectors y more z
+          → FromSelectors a (selectors (index at f no_more_formulas) more) z
       -- `a[i, j]` is `a[i][j]`
       by_indices : {a x y z : X} {t : TypeId} {at : ℕ} {f g : Formula} {fs : MoreFormulas} {more : Selectors}
           → FromFormula x f → k.element t a x ≡ Some y → FromSelectors y (selectors (index at g fs) more) z
@@ -167,7 +176,8 @@ module _ {X : Type 0} (k : Operators X) (Reads Writes : Name → X → Type 0) (
     pub data FromArgument : Given X → Formula → Type 0 where
       value : {x : X} {f : Formula} → FromFormula x f → FromArgument (Value x) f
       at_place : {x : X} {f : Formula} {d : Designator} → designator_of f ≡ Some d → FromWritten x d → FromArgument (AtPlace x) f
-      field_name : {line : ℕ} {name : Name} {f : Formula} → designator_of f ≡ Some (designator line name no_selectors) → FromArgument (FieldName name.symbol) f
+      field_name : {line : ℕ} {name : Name} {f : Formula} → designator_of f ≡ Some (designator line name no_selectors)
+          → FromArgument (FieldName name.symbol) f
 
     pub data FromArguments : List (Given X) → MoreFormulas → Type 0 where
       no_arguments : FromArguments [] no_more_formulas

@@ -87,7 +87,8 @@ module _ (start : KnownNames) (p : Program) where
   pub data ItemsFrom (is_var : Bool) (line : ℕ) : List GlobalItem → List ItemText → Type 0 where
     no_items : ItemsFrom is_var line [] []
     one_item : {i : Item} {is : List GlobalItem} {t : ItemText} {ts : List ItemText}
-        → ItemFrom (at_top start p) i t.form → ItemsFrom is_var line is ts → ItemsFrom is_var line (record { item = i; is_var = is_var; line = line } ∷ is) (t ∷ ts)
+        → ItemFrom (at_top start p) i t.form → ItemsFrom is_var line is ts
+        → ItemsFrom is_var line (record { item = i; is_var = is_var; line = line } ∷ is) (t ∷ ts)
 
   pub data GlobalsFrom : List GlobalItem → List GlobalGroup → Type 0 where
     no_globals : GlobalsFrom [] []
@@ -152,11 +153,16 @@ repeats _ _ c = false
 pub data RoutinesFrom (start : KnownNames) (p : Program) : List (Heading × Clauses) → List RoutineMark → List Routine → Type 0 where
   no_routines : RoutinesFrom start p [] [] []
   announced : {waiting : List (Heading × Clauses)} {h : Heading} {c : Clauses} {marks : List RoutineMark} {rs : List Routine}
-      → announced_as waiting (name_of h.form) ≡ None → RoutinesFrom start p (waiting ++ (h, c) ∷ []) marks rs → RoutinesFrom start p waiting (Announced h c ∷ marks) rs
-  whole : {waiting : List (Heading × Clauses)} {r : Routine} {h : Heading} {c : Clauses} {l : Locals} {b : tree.Block} {marks : List RoutineMark} {rs : List Routine}
+      → announced_as waiting (name_of h.form) ≡ None → RoutinesFrom start p (waiting ++ (h, c) ∷ []) marks rs
+      → RoutinesFrom start p waiting (Announced h c ∷ marks) rs
+  whole : {waiting : List (Heading × Clauses)} {r : Routine} {h : Heading} {c : Clauses} {l : Locals} {b : tree.Block}
+      {marks : List RoutineMark} {rs : List Routine}
       → announced_as waiting (name_of h.form) ≡ None → HeadingFrom start p r h c → BodyFrom start p r l b
       → RoutinesFrom start p waiting marks rs → RoutinesFrom start p waiting (Begins h c l ∷ Ends b ∷ marks) (r ∷ rs)
   -- of a routine that was announced the first heading counts
-  with_body : {waiting : List (Heading × Clauses)} {first : Heading × Clauses} {r : Routine} {h : Heading} {c : Clauses} {l : Locals} {b : tree.Block} {marks : List RoutineMark} {rs : List Routine}
-      → announced_as waiting (name_of h.form) ≡ Some first → repeats first.0.form h.form c ≡ true → HeadingFrom start p r first.0 first.1 → BodyFrom start p r l b
-      → RoutinesFrom start p (without waiting (name_of h.form)) marks rs → RoutinesFrom start p waiting (Begins h c l ∷ Ends b ∷ marks) (r ∷ rs)
+  with_body : {waiting : List (Heading × Clauses)} {first : Heading × Clauses} {r : Routine} {h : Heading} {c : Clauses} {l : Locals}
+      {b : tree.Block} {marks : List RoutineMark} {rs : List Routine}
+      → announced_as waiting (name_of h.form) ≡ Some first → repeats first.0.form h.form c ≡ true → HeadingFrom start p r first.0 first.1
+      → BodyFrom start p r l b
+      → RoutinesFrom start p (without waiting (name_of h.form)) marks rs
+      → RoutinesFrom start p waiting (Begins h c l ∷ Ends b ∷ marks) (r ∷ rs)

@@ -30,11 +30,13 @@ module _ (v : View) where
   pub data ConstantFrom : ℤ → Constant → Type 0 where
     unsigned : {z : ℤ} {line : ℕ} {s : Scalar} → ScalarFrom z s → ConstantFrom z (record { line = line; sign = None; value = s })
     plus : {z : ℤ} {line : ℕ} {s : Scalar} → ScalarFrom z s → ConstantFrom z (record { line = line; sign = Some sign.Plus; value = s })
-    minus : {z : ℤ} {line : ℕ} {s : Scalar} → ScalarFrom z s → ConstantFrom (negsuc 0 *ℤ z) (record { line = line; sign = Some sign.Minus; value = s })
+    minus : {z : ℤ} {line : ℕ} {s : Scalar} → ScalarFrom z s
+        → ConstantFrom (negsuc 0 *ℤ z) (record { line = line; sign = Some sign.Minus; value = s })
 
   pub data ConstantsFrom : List ℤ → List Constant → Type 0 where
     no_constants : ConstantsFrom [] []
-    one_constant : {z : ℤ} {zs : List ℤ} {c : Constant} {cs : List Constant} → ConstantFrom z c → ConstantsFrom zs cs → ConstantsFrom (z ∷ zs) (c ∷ cs)
+    one_constant : {z : ℤ} {zs : List ℤ} {c : Constant} {cs : List Constant} → ConstantFrom z c → ConstantsFrom zs cs
+        → ConstantsFrom (z ∷ zs) (c ∷ cs)
 
 -- ---- what a procedure is given
 
@@ -58,24 +60,33 @@ module _ (v w : View) where
       empty : {line : ℕ} → StatementFrom Empty (tree.empty line)
       assignment : {line : ℕ} {d : Designator} {e : Expression} {place : formulas.Designator} {f : formulas.Formula}
           → PlaceFrom v d place → ExpressionFrom v e f → StatementFrom (Assign d e) (tree.assignment line place f)
-      procedure : {line : ℕ} {c : Call} {x : Name} {given : Option (Several formulas.Formula)} → CallFrom v c x (all_of given) → StatementFrom (Perform c) (tree.call line x given)
-      creation : {line : ℕ} {d : Designator} {t : TypeId} {place : formulas.Designator} → PlaceFrom v d place → StatementFrom (New line d t) (tree.creation line place)
+      procedure : {line : ℕ} {c : Call} {x : Name} {given : Option (Several formulas.Formula)} → CallFrom v c x (all_of given)
+          → StatementFrom (Perform c) (tree.call line x given)
+      creation : {line : ℕ} {d : Designator} {t : TypeId} {place : formulas.Designator} → PlaceFrom v d place
+          → StatementFrom (New line d t) (tree.creation line place)
       compound : {line : ℕ} {s : Statement} {b : tree.Block} → BlockFrom s b → StatementFrom s (tree.compound line b)
       conditional : {line : ℕ} {e : Expression} {a b : Statement} {f : formulas.Formula} {s : tree.Statement} {other : tree.Otherwise}
-          → ExpressionFrom v e f → StatementFrom a s → OtherwiseFrom b other → StatementFrom (If line e a b) (tree.conditional line f s other)
+          → ExpressionFrom v e f → StatementFrom a s → OtherwiseFrom b other
+          → StatementFrom (If line e a b) (tree.conditional line f s other)
       selection : {line : ℕ} {e : Expression} {arms : Arms} {f : formulas.Formula} {first : tree.Arm} {more : tree.MoreArms}
-          → ExpressionFrom v e f → ArmsFrom arms (tree.more_arms first more) → StatementFrom (Case line e arms) (tree.selection line f first more)
-      while : {line on : ℕ} {i : Option Annotation} {e : Expression} {a : Statement} {invariant : Option formulas.Formula} {test : formulas.Formula} {s : tree.Statement}
+          → ExpressionFrom v e f → ArmsFrom arms (tree.more_arms first more)
+          → StatementFrom (Case line e arms) (tree.selection line f first more)
+      while : {line on : ℕ} {i : Option Annotation} {e : Expression} {a : Statement} {invariant : Option formulas.Formula}
+          {test : formulas.Formula} {s : tree.Statement}
           → IfThere w i invariant → ExpressionFrom v e test → StatementFrom a s
           → StatementFrom (While line i e a) (tree.repetition line invariant (tree.while_loop on test s))
-      repeat : {line on : ℕ} {i : Option Annotation} {e : Expression} {a b : Statement} {invariant : Option formulas.Formula} {test : formulas.Formula} {first : tree.Statement} {more : tree.MoreStatements}
+      repeat : {line on : ℕ} {i : Option Annotation} {e : Expression} {a b : Statement} {invariant : Option formulas.Formula}
+          {test : formulas.Formula} {first : tree.Statement} {more : tree.MoreStatements}
           → IfThere w i invariant → StatementFrom a first → StatementsFrom b more → ExpressionFrom v e test
           → StatementFrom (Repeat line i (Sequence a b) e) (tree.repetition line invariant (tree.repeat_loop on first more test))
-      for : {line on : ℕ} {i : Option Annotation} {x : Name} {towards : DirectionSign} {first last : Expression} {a : Statement} {invariant : Option formulas.Formula} {from to : formulas.Formula} {s : tree.Statement}
-          → IfThere w i invariant → names_place v x.symbol ≡ true → ExpressionFrom v first from → ExpressionFrom v last to → StatementFrom a s
+      for : {line on : ℕ} {i : Option Annotation} {x : Name} {towards : DirectionSign} {first last : Expression} {a : Statement}
+          {invariant : Option formulas.Formula} {from to : formulas.Formula} {s : tree.Statement}
+          → IfThere w i invariant → names_place v x.symbol ≡ true → ExpressionFrom v first from → ExpressionFrom v last to
+          → StatementFrom a s
           → StatementFrom (For line i (record { variable = x.symbol; direction = direction_of towards; first = first; last = last }) a)
           (tree.repetition line invariant (tree.for_loop on x from towards to s))
-      assertion : {line : ℕ} {a : Annotation} {f : formulas.Formula} → AnnotationFrom w a f → StatementFrom (Assert a) (tree.assertion line f)
+      assertion : {line : ℕ} {a : Annotation} {f : formulas.Formula} → AnnotationFrom w a f
+          → StatementFrom (Assert a) (tree.assertion line f)
 
     pub data OtherwiseFrom : Statement → tree.Otherwise → Type 0 where
       nothing : OtherwiseFrom Empty tree.nothing_otherwise
@@ -94,7 +105,9 @@ module _ (v w : View) where
     -- an arm without labels is left out
     pub data ArmsFrom : Arms → tree.MoreArms → Type 0 where
       no_more : ArmsFrom no_arms tree.no_more_arms
-      without_labels : {line : ℕ} {arms : Arms} {more : tree.MoreArms} → ArmsFrom arms more → ArmsFrom arms (tree.more_arms (tree.no_arm line) more)
-      labelled : {line : ℕ} {labels : List ℤ} {a : Statement} {arms : Arms} {cs : Several Constant} {s : tree.Statement} {more : tree.MoreArms}
+      without_labels : {line : ℕ} {arms : Arms} {more : tree.MoreArms} → ArmsFrom arms more
+          → ArmsFrom arms (tree.more_arms (tree.no_arm line) more)
+      labelled : {line : ℕ} {labels : List ℤ} {a : Statement} {arms : Arms} {cs : Several Constant} {s : tree.Statement}
+          {more : tree.MoreArms}
           → ConstantsFrom v labels (cs.first ∷ cs.more) → StatementFrom a s → ArmsFrom arms more
           → ArmsFrom (arm labels a arms) (tree.more_arms (tree.arm line cs s) more)

@@ -23,9 +23,11 @@ module _ (v : View) (targets : List (Symbol × TypeId)) where
       by_name : {t : TypeId} {line : ℕ} {x : Name} → type_named v x.symbol ≡ Some t → TypeFrom t (named line x)
       subrange : {t : TypeId} {a b : ℤ} {line : ℕ} {low high : Constant}
           → item_at v.program.forms t.0 ≡ Some (Range a b) → ConstantFrom v a low → ConstantFrom v b high → TypeFrom t (range line low high)
-      to_cells : {t u : TypeId} {line : ℕ} {x : Name} → item_at v.program.forms t.0 ≡ Some (Pointer u) → found targets x.symbol ≡ Some u → TypeFrom t (pointer line x)
+      to_cells : {t u : TypeId} {line : ℕ} {x : Name} → item_at v.program.forms t.0 ≡ Some (Pointer u) → found targets x.symbol ≡ Some u
+          → TypeFrom t (pointer line x)
       array_of : {t i e : TypeId} {line : ℕ} {index element : TypeDenoter}
-          → item_at v.program.forms t.0 ≡ Some (Array i e) → TypeFrom i index → TypeFrom e element → TypeFrom t (array line index no_more_types element)
+          → item_at v.program.forms t.0 ≡ Some (Array i e) → TypeFrom i index → TypeFrom e element
+          → TypeFrom t (array line index no_more_types element)
       -- `ARRAY [s, t] OF u` is `ARRAY [s] OF ARRAY [t] OF u`
       arrays_of : {t i e : TypeId} {line : ℕ} {index second element : TypeDenoter} {more : MoreTypes}
           → item_at v.program.forms t.0 ≡ Some (Array i e) → TypeFrom i index → TypeFrom e (array line second more element)
@@ -35,6 +37,8 @@ module _ (v : View) (targets : List (Symbol × TypeId)) where
 
     pub data FieldsFrom : List TypeField → MoreFields → Type 0 where
       no_fields : FieldsFrom [] no_more_fields
-      without_names : {fs : List TypeField} {line : ℕ} {more : MoreFields} → FieldsFrom fs more → FieldsFrom fs (more_fields (no_field line) more)
+      without_names : {fs : List TypeField} {line : ℕ} {more : MoreFields} → FieldsFrom fs more
+          → FieldsFrom fs (more_fields (no_field line) more)
       with_names : {t : TypeId} {fs : List TypeField} {line : ℕ} {names : Several Name} {of : TypeDenoter} {more : MoreFields}
-          → TypeFrom t of → FieldsFrom fs more → FieldsFrom (fields_of (names.first ∷ names.more) t ++ fs) (more_fields (field line names of) more)
+          → TypeFrom t of → FieldsFrom fs more → FieldsFrom (fields_of (names.first ∷ names.more) t ++ fs)
+          (more_fields (field line names of) more)
