@@ -18,7 +18,7 @@ use Rattle.spv_program.proofs.SortFacts.{nothing_there, some_is}
 use Rattle.spv_origin.specs.Examples.{view, name, x, y, c, integer, truth, x_first, labelled, assign, assigning, FromStatement, variable, number, two, less_less, related, minus_one, alone, indexed, behind_x, read, one, plus, minus, From, No, SumsAreKept, FromTheLeft, RelationsAreKept, NumbersAreKept, IndicesAreKept, AssignmentsAreKept, BranchesAreKept, LoopsAndArmsAreKept}
 use Rattle.spv_origin.specs.Operators as origin
 use Rattle.spv_origin.specs.Expressions.{selected, expression_operators, IsRead, IsWritten, IsCalled, written_variable, read_variable, read_constant, read_result}
-use Rattle.spv_origin.specs.Names.{names_place}
+use Rattle.spv_origin.specs.Names.{View, names_place}
 use Rattle.spv_origin.specs.Formulas.{not_there}
 use Rattle.spv_origin.specs.Statements as statements
 
@@ -40,7 +40,7 @@ y_read = origin.product (origin.read (origin.read_name (read_variable refl) orig
 one_read : TermFrom one (number 1)
 one_read = origin.product origin.numeral origin.no_factors
 
-alone_read : {e : Expression} {t : tree.Term} → TermFrom e t → From e (alone t)
+pub alone_read : {e : Expression} {t : tree.Term} → TermFrom e t → From e (alone t)
 alone_read h = origin.alone (origin.one_side (origin.unsigned h origin.no_terms))
 
 -- a variable is itself and no other
@@ -225,13 +225,13 @@ indices_are_kept = (
 
 -- ---- statements
 
-one_alone : From one (alone (number 1))
+pub one_alone : From one (alone (number 1))
 one_alone = alone_read one_read
 
 true_alone : From (Boolean true) truth
 true_alone = alone_read (origin.product origin.boolean origin.no_factors)
 
-assigned : (s : Symbol) (e : Expression) (f : tree.Formula) → names_place view s ≡ true → From e f
+pub assigned : (s : Symbol) (e : Expression) (f : tree.Formula) → names_place view s ≡ true → From e f
     → FromStatement (assign s e) (assigning s f)
 assigned s e f there h = statements.assignment (origin.written_name (written_variable there) origin.no_more) h
 
@@ -279,13 +279,13 @@ no_invariant_lost : No (FromStatement (While 1 None (Boolean true) (assign x one
 no_invariant_lost (statements.while i e a) = elim i [ ]
 
 -- an unsigned numeral is its number
-numeral_is : (z : ℤ) (n : ℕ) → statements.ConstantFrom view z (record { line = 1; sign = None; value = scalar.Number n }) → pos n ≡ z
-numeral_is z n (statements.unsigned statements.number) = refl
+pub numeral_is : (v : View) (z : ℤ) (n : ℕ) → statements.ConstantFrom v z (record { line = 1; sign = None; value = scalar.Number n }) → pos n ≡ z
+numeral_is v z n (statements.unsigned statements.number) = refl
 
 no_other_label : No (FromStatement (Case 1 (read x) (arm (pos 4 ∷ []) (assign x one) no_arms))
     (trees.selection 1 (alone (variable x)) (labelled 3 (assigning x (alone (number 1)))) trees.no_more_arms))
 no_other_label (statements.selection e (statements.labelled (statements.one_constant h statements.no_constants) a statements.no_more)) =
-    false≢true (ap (λ (q : ℤ). int_eq q (pos 4)) (numeral_is (pos 4) 3 h))
+    false≢true (ap (λ (q : ℤ). int_eq q (pos 4)) (numeral_is view (pos 4) 3 h))
 
 no_arm_lost : No (FromStatement (Case 1 (read x) no_arms)
     (trees.selection 1 (alone (variable x)) (labelled 3 (assigning x (alone (number 1)))) trees.no_more_arms))

@@ -17,3 +17,4 @@ pub mod Bodies
 pub mod Marks
 pub mod Programs
 pub mod Examples
+pub mod RoutineExamples

@@ -9,3 +9,4 @@ pub mod Routines
 pub mod Programs
 pub mod Laws
 pub mod Examples
+pub mod RoutineExamples

@@ -46,3 +46,15 @@ pub fn law_small_statements()
     ensures branches { BranchesAreKept }
     ensures loops_and_arms { LoopsAndArmsAreKept }
 {}
+
+ghost use Rattle.spv_origin.specs.RoutineExamples.{CountersAreKept, CallsAreKept, ParametersAreKept, RoutinesAreKept, RangesAreKept, NotesAreKept};
+
+/// Small loops, calls, headings, types and annotations: which trees they come from, and which not.
+pub fn law_small_routines()
+    ensures counters { CountersAreKept }
+    ensures calls { CallsAreKept }
+    ensures parameters { ParametersAreKept }
+    ensures routines { RoutinesAreKept }
+    ensures ranges { RangesAreKept }
+    ensures notes { NotesAreKept }
+{}
