@@ -12,10 +12,10 @@ use Rattle.spv_syntax.specs.Statements as trees
 use Rattle.spv_syntax.specs.declared.operators.Comparison.TheVariants as comparing
 use Rattle.spv_syntax.specs.declared.operators.Adding.TheVariants as adding
 use Rattle.spv_program.specs.declared.operators.Comparison.TheVariants as comparison
-use Rattle.spv_program.specs.Expressions.{Expression, Numeral, Boolean, Read, Negative, Compared, designator, no_selectors, at_index}
+use Rattle.spv_program.specs.Expressions.{Expression, Numeral, Boolean, Read, Negative, Negated, Compared, designator, no_selectors, at_index}
 use Rattle.spv_program.specs.Statements.{Empty, Sequence, Case, While, arm, no_arms}
 use Rattle.spv_program.proofs.SortFacts.{nothing_there, some_is}
-use Rattle.spv_origin.specs.Examples.{view, name, x, y, c, integer, truth, x_first, labelled, assign, assigning, FromStatement, variable, number, two, less_less, related, minus_one, alone, indexed, behind_x, read, one, plus, minus, From, No, SumsAreKept, FromTheLeft, RelationsAreKept, NumbersAreKept, IndicesAreKept, AssignmentsAreKept, BranchesAreKept, LoopsAndArmsAreKept}
+use Rattle.spv_origin.specs.Examples.{factor, opposite, times, in_brackets, FactorsAreKept, view, name, x, y, c, integer, truth, x_first, labelled, assign, assigning, FromStatement, variable, number, two, less_less, related, minus_one, alone, indexed, behind_x, read, one, plus, minus, From, No, SumsAreKept, FromTheLeft, RelationsAreKept, NumbersAreKept, IndicesAreKept, AssignmentsAreKept, BranchesAreKept, LoopsAndArmsAreKept}
 use Rattle.spv_origin.specs.Operators as origin
 use Rattle.spv_origin.specs.Expressions.{selected, expression_operators, IsRead, IsWritten, IsCalled, written_variable, read_variable, read_constant, read_result}
 use Rattle.spv_origin.specs.Names.{View, names_place}
@@ -50,10 +50,23 @@ no_x_in_y (origin.product (origin.read (origin.read_name h origin.no_more)) orig
 no_y_in_x : No (TermFrom (read y) (variable x))
 no_y_in_x (origin.product (origin.read (origin.read_name h origin.no_more)) origin.no_factors) = elim h [ ]
 
+no_one_alone : IsRead view (name y) one → ⊥
+no_one_alone (read_constant e) = nothing_there e
+
+no_one_in_y : No (From one (alone (variable y)))
+no_one_in_y (origin.alone (origin.one_side (origin.unsigned (origin.product (origin.read (origin.read_name h origin.no_more))
+    origin.no_factors) origin.no_terms))) = no_one_alone h
+
 -- ---- sums and relations
 
 other_variable : No (From (plus (read x) one) (two adding.Plus (variable y) (number 1)))
 other_variable (origin.alone (origin.one_side (origin.unsigned h (origin.one_term g origin.no_terms)))) = no_x_in_y h
+
+no_x_in_one : No (TermFrom (read x) (number 1))
+no_x_in_one (origin.product h origin.no_factors) = elim h [ ]
+
+other_second : No (From (plus (read y) (read x)) (two adding.Plus (variable y) (number 1)))
+other_second (origin.alone (origin.one_side (origin.unsigned h (origin.one_term g origin.no_terms)))) = no_x_in_one g
 
 lost_term : No (From (read y) (two adding.Plus (variable y) (number 1)))
 lost_term (origin.alone (origin.one_side (origin.unsigned h (origin.one_term g k)))) = elim k [ ]
@@ -72,6 +85,7 @@ pub sums_are_kept : SumsAreKept
 sums_are_kept = (
   origin.alone (origin.one_side (origin.unsigned y_read (origin.one_term one_read origin.no_terms))),
   other_variable,
+  other_second,
   lost_term,
   invented_term,
   other_sign,
@@ -117,9 +131,58 @@ other_sides h =
     let s = sides_of comparing.Greater (variable x) (variable y) (Compared comparison.Greater (read y) (read x)) h in
     no_y_in_x (subst (λ e. TermFrom e (variable x)) (sym (ap left_of s.is)) s.left_from)
 
+abbrev right_of : Expression → Expression
+right_of (Compared o a b) = b
+right_of e = e
+
+other_right : No (From (Compared comparison.Greater (read x) one) (related comparing.Greater (variable x) (variable y)))
+other_right h =
+    let s = sides_of comparing.Greater (variable x) (variable y) (Compared comparison.Greater (read x) one) h in
+    no_one_in_y (alone_read (subst (λ e. TermFrom e (variable y)) (sym (ap right_of s.is)) s.right_from))
+
+-- ---- products and NOT
+
+abbrev FactorFrom : Expression → tree.Factor → Type 0
+FactorFrom = origin.FromFactor expression_operators (IsRead view) (IsWritten view) (IsCalled view)
+
+factor_read : (s : Symbol) → names_place view s ≡ true → FactorFrom (read s) (factor s)
+factor_read s there = origin.read (origin.read_name (read_variable there) origin.no_more)
+
+no_x_factor : No (FactorFrom (read x) (factor y))
+no_x_factor (origin.read (origin.read_name h origin.no_more)) = elim h [ ]
+
+no_y_factor : No (FactorFrom (read y) (factor x))
+no_y_factor (origin.read (origin.read_name h origin.no_more)) = elim h [ ]
+
+other_first_factor : No (From (times (read y) (read y)) Rattle.spv_origin.specs.Examples.product)
+other_first_factor (origin.alone (origin.one_side (origin.unsigned (origin.product h (origin.one_factor g origin.no_factors)) origin.no_terms))) = no_y_factor h
+
+other_second_factor : No (From (times (read x) (read x)) Rattle.spv_origin.specs.Examples.product)
+other_second_factor (origin.alone (origin.one_side (origin.unsigned (origin.product h (origin.one_factor g origin.no_factors)) origin.no_terms))) = no_x_factor g
+
+lost_factor : No (From (read x) Rattle.spv_origin.specs.Examples.product)
+lost_factor (origin.alone (origin.one_side (origin.unsigned (origin.product h (origin.one_factor g k)) origin.no_terms))) = elim k [ ]
+
+other_negated : No (From (Negated (read y)) opposite)
+other_negated (origin.alone (origin.one_side (origin.unsigned (origin.product (origin.negated h) origin.no_factors) origin.no_terms))) = no_y_factor h
+
+lost_negation : No (From (read x) opposite)
+lost_negation (origin.alone (origin.one_side (origin.unsigned (origin.product h origin.no_factors) origin.no_terms))) = elim h [ ]
+
+pub factors_are_kept : FactorsAreKept
+factors_are_kept = (
+  origin.alone (origin.one_side (origin.unsigned (origin.product (factor_read x refl) (origin.one_factor (factor_read y refl) origin.no_factors)) origin.no_terms)),
+  other_first_factor,
+  other_second_factor,
+  lost_factor,
+  alone_read (origin.product (origin.negated (factor_read x refl)) origin.no_factors),
+  other_negated,
+  lost_negation,
+)
+
 pub relations_are_kept : RelationsAreKept
 relations_are_kept = (origin.alone (origin.two_sides (origin.unsigned x_read origin.no_terms) (origin.unsigned y_read origin.no_terms)),
-    other_relation, other_sides)
+    other_relation, other_sides, other_right)
 
 -- ---- numbers, constants, brackets, indices
 
@@ -148,6 +211,9 @@ no_read : No (From (read c) (alone (variable c)))
 no_read (origin.alone (origin.one_side (origin.unsigned (origin.product (origin.read (origin.read_name h origin.no_more))
     origin.no_factors) origin.no_terms))) = no_read_alone h
 
+no_brackets : No (From (read x) (alone (in_brackets (variable y))))
+no_brackets (origin.alone (origin.one_side (origin.unsigned (origin.product (origin.in_brackets (origin.alone (origin.one_side (origin.unsigned h origin.no_terms)))) origin.no_factors) origin.no_terms))) = no_x_in_y h
+
 pub numbers_are_kept : NumbersAreKept
 numbers_are_kept = (
   origin.alone (origin.one_side (origin.minus_numeral origin.no_terms)),
@@ -155,6 +221,7 @@ numbers_are_kept = (
   no_sign_lost,
   origin.alone (origin.one_side (origin.minus refl (origin.product (origin.in_brackets (alone_read one_read)) origin.no_factors)
       origin.no_terms)),
+  no_brackets,
   alone_read (origin.product (origin.read (origin.read_name (read_constant refl) origin.no_more)) origin.no_factors),
   no_eight,
   no_read,
@@ -200,13 +267,6 @@ abbrev has_two : Expression → Bool
 has_two (Read (designator line s (at_index t i (at_index u j others)))) = true
 has_two e = false
 
-no_one_alone : IsRead view (name y) one → ⊥
-no_one_alone (read_constant e) = nothing_there e
-
-no_one_in_y : No (From one (alone (variable y)))
-no_one_in_y (origin.alone (origin.one_side (origin.unsigned (origin.product (origin.read (origin.read_name h origin.no_more))
-    origin.no_factors) origin.no_terms))) = no_one_alone h
-
 no_swap : No (From (behind_x one (read y)) indexed)
 no_swap h = let s = indices_of (behind_x one (read y)) h in no_one_in_y
     (subst (λ e. From e (alone (variable y))) (ap first_index s.is) s.first_from)
@@ -241,6 +301,9 @@ no_other_target (statements.assignment (origin.written_name h origin.no_more) va
 no_target_alone : No (FromStatement (assign x (plus (read y) one)) (assigning y (two adding.Plus (variable y) (number 1))))
 no_target_alone (statements.assignment (origin.written_name h origin.no_more) value) = elim h [ ]
 
+no_other_value : No (FromStatement (assign x one) (assigning x (alone (variable y))))
+no_other_value (statements.assignment place value) = no_one_in_y value
+
 no_assignment_lost : No (FromStatement Empty (assigning x (alone (number 1))))
 no_assignment_lost h = elim h [ ]
 
@@ -250,6 +313,7 @@ assignments_are_kept = (
       (origin.alone (origin.one_side (origin.unsigned y_read (origin.one_term one_read origin.no_terms)))),
   no_other_target,
   no_target_alone,
+  no_other_value,
   no_assignment_lost,
 )
 
@@ -259,6 +323,22 @@ no_other_branches (statements.conditional e (statements.assignment (origin.writt
 
 no_branch_invented : No (FromStatement x_first (trees.conditional 1 truth (assigning x (alone (number 1))) trees.nothing_otherwise))
 no_branch_invented (statements.conditional e a b) = elim b [ ]
+
+number_in : (e : Expression) (n : ℕ) → From e (alone (number n)) → Numeral (pos n) ≡ e
+number_in e n (origin.alone (origin.one_side (origin.unsigned (origin.product origin.numeral origin.no_factors) origin.no_terms))) = refl
+
+abbrev is_boolean : Expression → Bool
+is_boolean (Boolean b) = true
+is_boolean e = false
+
+no_truth_in_one : No (From (Boolean true) (alone (number 1)))
+no_truth_in_one h = false≢true (ap is_boolean (number_in (Boolean true) 1 h))
+
+no_other_test : No (FromStatement x_first (trees.conditional 1 (alone (number 1)) (assigning x (alone (number 1))) (trees.otherwise (assigning y (alone (number 1))))))
+no_other_test (statements.conditional e a b) = no_truth_in_one e
+
+no_other_else : No (FromStatement x_first (trees.conditional 1 truth (assigning x (alone (number 1))) (trees.otherwise (assigning x (alone (number 1))))))
+no_other_else (statements.conditional e a (statements.otherwise (statements.assignment (origin.written_name h origin.no_more) value))) = elim h [ ]
 
 no_statement_lost : No (FromStatement (Sequence (assign x one) Empty)
     (trees.compound 1 (trees.block 1 (assigning x (alone (number 1)))
@@ -271,12 +351,20 @@ branches_are_kept = (
       (statements.otherwise (assigned y one (alone (number 1)) refl one_alone)),
   no_other_branches,
   no_branch_invented,
+  no_other_test,
+  no_other_else,
   no_statement_lost,
 )
 
 no_invariant_lost : No (FromStatement (While 1 None (Boolean true) (assign x one))
     (trees.repetition 1 (Some truth) (trees.while_loop 1 truth (assigning x (alone (number 1))))))
 no_invariant_lost (statements.while i e a) = elim i [ ]
+
+no_other_loop_test : No (FromStatement (While 1 None (Boolean true) (assign x one)) (trees.repetition 1 None (trees.while_loop 1 (alone (number 1)) (assigning x (alone (number 1))))))
+no_other_loop_test (statements.while i e a) = no_truth_in_one e
+
+no_other_loop : No (FromStatement (While 1 None (Boolean true) (assign x one)) (trees.repetition 1 None (trees.while_loop 1 truth (assigning y (alone (number 1))))))
+no_other_loop (statements.while i e (statements.assignment (origin.written_name h origin.no_more) value)) = elim h [ ]
 
 -- an unsigned numeral is its number
 pub numeral_is : (v : View) (z : ℤ) (n : ℕ) → statements.ConstantFrom v z (record { line = 1; sign = None; value = scalar.Number n }) → pos n ≡ z
@@ -295,6 +383,8 @@ pub loops_and_arms_are_kept : LoopsAndArmsAreKept
 loops_and_arms_are_kept = (
   statements.while not_there true_alone (assigned x one (alone (number 1)) refl one_alone),
   no_invariant_lost,
+  no_other_loop_test,
+  no_other_loop,
   statements.selection (alone_read x_read) (statements.labelled (statements.one_constant (statements.unsigned statements.number)
       statements.no_constants) (assigned x one (alone (number 1)) refl one_alone) statements.no_more),
   no_other_label,

@@ -9,12 +9,13 @@ use Rattle.spv_syntax.specs.declared.operators.Comparison.{Comparison as Compari
 use Rattle.spv_syntax.specs.declared.operators.Comparison.TheVariants as comparing
 use Rattle.spv_syntax.specs.declared.operators.Adding.{Adding}
 use Rattle.spv_syntax.specs.declared.operators.Adding.TheVariants as adding
+use Rattle.spv_syntax.specs.declared.operators.Multiplying.TheVariants as multiplying
 use Rattle.spv_syntax.specs.Formulas as tree
 use Rattle.spv_syntax.specs.Statements as trees
 use Rattle.spv_program.specs.declared.operators.Arithmetic.TheVariants as arithmetic
 use Rattle.spv_program.specs.declared.operators.Comparison.TheVariants as comparison
 use Rattle.spv_program.specs.declared.types.TypeForm.TheVariants as form
-use Rattle.spv_program.specs.Expressions.{Expression, Numeral, Boolean, Read, Negative, Calculated, Compared, designator, no_selectors, at_index}
+use Rattle.spv_program.specs.Expressions.{Expression, Numeral, Boolean, Read, Negative, Negated, Calculated, Compared, designator, no_selectors, at_index}
 use Rattle.spv_program.specs.Statements.{Statement, Assign, Empty, Sequence, If, Case, While, arm, no_arms}
 use Rattle.spv_program.specs.Programs.{Program}
 use Rattle.spv_typing.specs.Known.{KnownNames}
@@ -65,14 +66,20 @@ name s = record { line = 1; symbol = s }
 abbrev pub place : Symbol → tree.Designator
 place s = tree.designator 1 (name s) tree.no_selectors
 
+abbrev pub factor : Symbol → tree.Factor
+factor s = tree.place 1 (place s)
+
 abbrev pub variable : Symbol → tree.Term
-variable s = tree.term 1 (tree.place 1 (place s)) tree.no_more_factors
+variable s = tree.term 1 (factor s) tree.no_more_factors
 
 abbrev pub number : ℕ → tree.Term
 number n = tree.term 1 (tree.number 1 n) tree.no_more_factors
 
 abbrev pub whole : tree.Simple → tree.Formula
 whole s = tree.formula 1 (tree.relation 1 s tree.no_right_side) tree.no_conclusion
+
+abbrev pub alone : tree.Term → tree.Formula
+alone t = whole (tree.simple 1 None t tree.no_more_terms)
 
 -- `a + b`, `a - b`
 abbrev pub two : Adding → tree.Term → tree.Term → tree.Formula
@@ -109,6 +116,7 @@ abbrev pub SumsAreKept : Type 0
 SumsAreKept =
     From (plus (read y) one) (two adding.Plus (variable y) (number 1))
     × No (From (plus (read x) one) (two adding.Plus (variable y) (number 1)))
+    × No (From (plus (read y) (read x)) (two adding.Plus (variable y) (number 1)))
     × No (From (read y) (two adding.Plus (variable y) (number 1)))
     × No (From (plus (read y) one) (whole (tree.simple 1 None (variable y) tree.no_more_terms)))
     × No (From (minus (read y) one) (two adding.Plus (variable y) (number 1)))
@@ -130,6 +138,28 @@ RelationsAreKept =
     From (Compared comparison.Greater (read x) (read y)) (related comparing.Greater (variable x) (variable y))
     × No (From (Compared comparison.Less (read x) (read y)) (related comparing.Greater (variable x) (variable y)))
     × No (From (Compared comparison.Greater (read y) (read x)) (related comparing.Greater (variable x) (variable y)))
+    × No (From (Compared comparison.Greater (read x) one) (related comparing.Greater (variable x) (variable y)))
+
+-- `x * y`
+abbrev pub product : tree.Formula
+product = whole (tree.simple 1 None (tree.term 1 (factor x) (tree.more_factors multiplying.Times (factor y) tree.no_more_factors)) tree.no_more_terms)
+
+-- `NOT x`
+abbrev pub opposite : tree.Formula
+opposite = whole (tree.simple 1 None (tree.term 1 (tree.negation 1 (factor x)) tree.no_more_factors) tree.no_more_terms)
+
+abbrev pub times : Expression → Expression → Expression
+times = Calculated arithmetic.Times
+
+abbrev pub FactorsAreKept : Type 0
+FactorsAreKept =
+    From (times (read x) (read y)) product
+    × No (From (times (read y) (read y)) product)
+    × No (From (times (read x) (read x)) product)
+    × No (From (read x) product)
+    × From (Negated (read x)) opposite
+    × No (From (Negated (read y)) opposite)
+    × No (From (read x) opposite)
 
 -- ---- numbers, constants, brackets, indices
 
@@ -146,12 +176,10 @@ NumbersAreKept =
     × No (From (Negative one) minus_one)
     × No (From one minus_one)
     × From (Negative one) (whole (tree.simple 1 (Some sign.Minus) (in_brackets (number 1)) tree.no_more_terms))
+    × No (From (read x) (alone (in_brackets (variable y))))
     × From (Numeral (pos 7)) (whole (tree.simple 1 None (variable c) tree.no_more_terms))
     × No (From (Numeral (pos 8)) (whole (tree.simple 1 None (variable c) tree.no_more_terms)))
     × No (From (read c) (whole (tree.simple 1 None (variable c) tree.no_more_terms)))
-
-abbrev pub alone : tree.Term → tree.Formula
-alone t = whole (tree.simple 1 None t tree.no_more_terms)
 
 -- `x[y, 1]`
 abbrev pub indexed : tree.Formula
@@ -186,6 +214,7 @@ AssignmentsAreKept =
     FromStatement (assign x (plus (read y) one)) (assigning x (two adding.Plus (variable y) (number 1)))
     × No (FromStatement (assign x (plus (read y) one)) (assigning y (two adding.Plus (variable x) (number 1))))
     × No (FromStatement (assign x (plus (read y) one)) (assigning y (two adding.Plus (variable y) (number 1))))
+    × No (FromStatement (assign x one) (assigning x (alone (variable y))))
     × No (FromStatement Empty (assigning x (alone (number 1))))
 
 abbrev pub truth : tree.Formula
@@ -201,6 +230,10 @@ BranchesAreKept =
     × No (FromStatement x_first (trees.conditional 1 truth (assigning y (alone (number 1)))
     (trees.otherwise (assigning x (alone (number 1))))))
     × No (FromStatement x_first (trees.conditional 1 truth (assigning x (alone (number 1))) trees.nothing_otherwise))
+    × No (FromStatement x_first (trees.conditional 1 (alone (number 1)) (assigning x (alone (number 1)))
+        (trees.otherwise (assigning y (alone (number 1))))))
+    × No (FromStatement x_first (trees.conditional 1 truth (assigning x (alone (number 1)))
+        (trees.otherwise (assigning x (alone (number 1))))))
     × No (FromStatement (Sequence (assign x one) Empty)
     (trees.compound 1 (trees.block 1 (assigning x (alone (number 1)))
         (trees.more_statements (assigning y (alone (number 1))) trees.no_more_statements))))
@@ -215,6 +248,10 @@ LoopsAndArmsAreKept =
         (trees.repetition 1 None (trees.while_loop 1 truth (assigning x (alone (number 1)))))
     × No (FromStatement (While 1 None (Boolean true) (assign x one))
     (trees.repetition 1 (Some truth) (trees.while_loop 1 truth (assigning x (alone (number 1))))))
+    × No (FromStatement (While 1 None (Boolean true) (assign x one))
+        (trees.repetition 1 None (trees.while_loop 1 (alone (number 1)) (assigning x (alone (number 1))))))
+    × No (FromStatement (While 1 None (Boolean true) (assign x one))
+        (trees.repetition 1 None (trees.while_loop 1 truth (assigning y (alone (number 1))))))
     × FromStatement (Case 1 (read x) (arm (pos 3 ∷ []) (assign x one) no_arms))
     (trees.selection 1 (alone (variable x)) (labelled 3 (assigning x (alone (number 1)))) trees.no_more_arms)
     × No (FromStatement (Case 1 (read x) (arm (pos 4 ∷ []) (assign x one) no_arms))

@@ -29,13 +29,14 @@ pub fn law_programs()
     ensures formula_texts { FormulaTextsComeFromTheirTrees }
 {}
 
-ghost use Rattle.spv_origin.specs.Examples.{SumsAreKept, FromTheLeft, RelationsAreKept, NumbersAreKept, IndicesAreKept, AssignmentsAreKept, BranchesAreKept, LoopsAndArmsAreKept};
+ghost use Rattle.spv_origin.specs.Examples.{SumsAreKept, FromTheLeft, RelationsAreKept, FactorsAreKept, NumbersAreKept, IndicesAreKept, AssignmentsAreKept, BranchesAreKept, LoopsAndArmsAreKept};
 
 /// Small expressions: which trees they come from, and which not.
 pub fn law_small_expressions()
     ensures sums { SumsAreKept }
     ensures from_the_left { FromTheLeft }
     ensures relations { RelationsAreKept }
+    ensures factors { FactorsAreKept }
     ensures numbers { NumbersAreKept }
     ensures indices { IndicesAreKept }
 {}
