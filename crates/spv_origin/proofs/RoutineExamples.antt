@@ -1,7 +1,7 @@
 -- Small loops, calls, headings, types and annotations: what comes from them and what does not.
 use Rattle.std.proofs.Common.{◌≡◌, Bool, true, false, refl, sym, ap, ◌∙◌, subst}
 use Rattle.std.proofs.lemmas.Bool.{false≢true}
-use Rattle.std.specs.Prelude.{ℕ, ℤ, [], ◌∷◌, Option, Some, None, pos, is_some}
+use Rattle.std.specs.Prelude.{ℕ, ℤ, [], ◌∷◌, Option, Some, None, pos, is_some, nat_eq}
 use Rattle.std.specs.Ordering.{int_eq}
 use Rattle.spv_logic.specs.declared.types.TypeId.{TypeId}
 use Rattle.spv_logic.specs.declared.conditions.RoutineId.{RoutineId}
@@ -19,8 +19,13 @@ use Rattle.spv_program.specs.Expressions.{Expression, Arguments, Numeral, no_arg
 use Rattle.spv_program.specs.Statements.{Statement, For}
 use Rattle.spv_program.proofs.SortFacts.{nothing_there, some_is}
 use Rattle.spv_origin.specs.Examples.{name, x, y, start, integer, program, view, variable, number, alone, related, read, one, No, FromStatement, assign, assigning}
-use Rattle.spv_origin.specs.RoutineExamples.{counting, for_tree, CountersAreKept, p, with_p, routine, first_routine, calling, call_tree, CallsAreKept, formal, group, ParametersAreKept, RoutinesAreKept, numeral_text, with_range, third, RangesAreKept, noted, NotesAreKept}
-use Rattle.spv_origin.specs.Formulas.{noted_variable, not_there, annotation, AnnotationFrom, formula_operators, Noted, NotedWith}
+use Rattle.spv_origin.specs.RoutineExamples.{counting, for_tree, CountersAreKept, p, with_p, routine, first_routine, calling, call_tree, CallsAreKept, formal, group, ParametersAreKept, RoutinesAreKept, numeral_text, with_range, third, RangesAreKept, noted, NotesAreKept, Note, implication, ImplicationsAreKept, with_car, car_tree, applied, FunctionsAreKept}
+use Rattle.spv_origin.specs.Formulas.{operator_of, noted_constant, noted_variable, noted_start, noted_symbol, with_symbol, with_built_in, with_put, not_there, annotation, FormulaFrom, AnnotationFrom, formula_operators, Noted, NotedWith}
+use Rattle.spv_origin.specs.Names.{View}
+use Rattle.spv_typing.specs.Known.{Function, Put, Car}
+use Rattle.spv_program.specs.declared.operators.BuiltIn.{BuiltIn}
+use Rattle.spv_program.specs.declared.operators.BuiltIn.TheVariants as known
+use Rattle.spv_program.specs.Formulas.{Formula, Formulas, Named, Implied, Known}
 use Rattle.spv_origin.specs.Operators as origin
 use Rattle.spv_origin.specs.Expressions.{expression_operators, IsRead, IsWritten, IsCalled, read_variable, CallFrom, call_of}
 use Rattle.spv_origin.specs.Statements as statements
@@ -175,3 +180,95 @@ other_line h = elim h [ ]
 
 pub notes_are_kept : NotesAreKept
 notes_are_kept = (annotation (origin.alone (origin.two_sides (origin.unsigned x_noted origin.no_terms) (origin.unsigned y_noted origin.no_terms))), other_line)
+
+note_alone : {v : View} {f : Formula} {t : tree.Term} → origin.FromTerm (formula_operators v) (Noted v) (Noted v) (NotedWith v) f t → FormulaFrom v f (alone t)
+note_alone h = origin.alone (origin.one_side (origin.unsigned h origin.no_terms))
+
+-- an implication and its sides
+record Implies (f : Formula) : Type 0 where
+  pub left : Formula
+  pub right : Formula
+  pub left_from : origin.FromTerm (formula_operators view) (Noted view) (Noted view) (NotedWith view) left (variable x)
+  pub is : Implied left right ≡ f
+
+implies_of : (f : Formula) → Note f implication → Implies f
+implies_of f (origin.implication {x = a} {y = b} (origin.one_side (origin.unsigned h origin.no_terms)) g e) = record { left = a; right = b; left_from = h; is = some_is e }
+
+abbrev left_of : Formula → Formula
+left_of (Implied a b) = a
+left_of f = f
+
+abbrev is_implied : Formula → Bool
+is_implied (Implied a b) = true
+is_implied f = false
+
+abbrev is_y : Formula → Bool
+is_y (Named line s) = nat_eq s.0 11
+is_y f = false
+
+x_is : (f : Formula) → origin.FromTerm (formula_operators view) (Noted view) (Noted view) (NotedWith view) f (variable x) → is_y f ≡ false
+x_is f (origin.product (origin.read (origin.read_name (noted_constant e) origin.no_more)) origin.no_factors) = refl
+x_is f (origin.product (origin.read (origin.read_name (noted_variable e) origin.no_more)) origin.no_factors) = refl
+x_is f (origin.product (origin.read (origin.read_name (noted_start e) origin.no_more)) origin.no_factors) = refl
+x_is f (origin.product (origin.read (origin.read_name (noted_symbol e) origin.no_more)) origin.no_factors) = refl
+
+swapped : No (Note (Implied (Named 1 y) (Named 1 x)) implication)
+swapped h = let i = implies_of (Implied (Named 1 y) (Named 1 x)) h in false≢true (sym (x_is i.left i.left_from) ∙ ap is_y (ap left_of i.is))
+
+no_conclusion_lost : No (Note (Named 1 x) implication)
+no_conclusion_lost h = let i = implies_of (Named 1 x) h in false≢true (sym (ap is_implied i.is))
+
+abbrev line_of : Formula → ℕ
+line_of (Named line s) = line
+line_of f = 1
+
+line_is : (f : Formula) → Note f (alone (variable x)) → line_of f ≡ 1
+line_is f (origin.alone (origin.one_side (origin.unsigned (origin.product (origin.read (origin.read_name (noted_constant e) origin.no_more)) origin.no_factors) origin.no_terms))) = refl
+line_is f (origin.alone (origin.one_side (origin.unsigned (origin.product (origin.read (origin.read_name (noted_variable e) origin.no_more)) origin.no_factors) origin.no_terms))) = refl
+line_is f (origin.alone (origin.one_side (origin.unsigned (origin.product (origin.read (origin.read_name (noted_start e) origin.no_more)) origin.no_factors) origin.no_terms))) = refl
+line_is f (origin.alone (origin.one_side (origin.unsigned (origin.product (origin.read (origin.read_name (noted_symbol e) origin.no_more)) origin.no_factors) origin.no_terms))) = refl
+
+other_name_line : No (Note (Named 2 x) (alone (variable x)))
+other_name_line h = false≢true (ap (λ n. nat_eq n 1) (line_is (Named 2 x) h))
+
+pub implications_are_kept : ImplicationsAreKept
+implications_are_kept = (
+  origin.implication (origin.one_side (origin.unsigned x_noted origin.no_terms)) (note_alone y_noted) refl,
+  swapped,
+  no_conclusion_lost,
+  other_name_line,
+)
+
+-- ---- functions that are known from the start
+
+x_with_car : origin.FromTerm (formula_operators with_car) (Noted with_car) (Noted with_car) (NotedWith with_car) (Named 1 x) (variable x)
+x_with_car = origin.product (origin.read (origin.read_name (noted_variable refl) origin.no_more)) origin.no_factors
+
+abbrev is_car : Formula → Bool
+is_car (Known known.Car fs) = true
+is_car f = false
+
+abbrev is_put : Function → Bool
+is_put Put = true
+is_put b = false
+
+car_operator : (b : Function) (o : BuiltIn) (fs : Formulas) → Some Car ≡ Some b → operator_of b ≡ Some o → is_car (Known o fs) ≡ true
+car_operator b o fs e f = ap (λ q. is_car (Known q fs)) (some_is (sym f ∙ ap operator_of (sym (some_is e))))
+
+car_is : (f : Formula) → FormulaFrom with_car f car_tree → is_car f ≡ true
+car_is f (origin.alone (origin.one_side (origin.unsigned (origin.product (origin.applied gs (with_symbol none is given) origin.no_more) origin.no_factors) origin.no_terms))) = absurd (nothing_there (sym none))
+car_is f (origin.alone (origin.one_side (origin.unsigned (origin.product (origin.applied gs (with_built_in {b = b} {o = o} {fs = fs} is op given) origin.no_more) origin.no_factors) origin.no_terms))) = car_operator b o fs is op
+car_is f (origin.alone (origin.one_side (origin.unsigned (origin.product (origin.applied gs (with_put is) origin.no_more) origin.no_factors) origin.no_terms))) = absurd (false≢true (ap is_put (some_is is)))
+
+other_function : No (FormulaFrom with_car (applied known.Cdr (Named 1 x)) car_tree)
+other_function h = false≢true (car_is (applied known.Cdr (Named 1 x)) h)
+
+lost_function : No (FormulaFrom with_car (Named 1 x) car_tree)
+lost_function h = false≢true (car_is (Named 1 x) h)
+
+pub functions_are_kept : FunctionsAreKept
+functions_are_kept = (
+  note_alone (origin.product (origin.applied (origin.one_argument (origin.value (note_alone x_with_car)) origin.no_arguments) (with_built_in refl refl refl) origin.no_more) origin.no_factors),
+  other_function,
+  lost_function,
+)

@@ -25,7 +25,7 @@ pub record View : Type 0 where
   pub own : List (Symbol × Own)
   pub here : Option Routine
 
--- what a routine's name is to be, or where the routine has no such name, what the program has
+-- what a name of the routine tells, or where the routine has none, what the program has
 abbrev pub own_or : {A : Type 0} → Option Own → (Own → A) → A → A
 own_or (Some o) f other = f o
 own_or None f other = other
@@ -67,6 +67,7 @@ module _ (v : View) where
   abbrev pub names_place : Symbol → Bool
   names_place x = own_or (found v.own x) is_place (is_some (found v.program.variables x))
 
+  -- whether an INITIAL name is this
   abbrev pub names_start : Symbol → Bool
   names_start x = own_or (found v.own x) is_start false
 

@@ -22,11 +22,14 @@ use Rattle.spv_program.specs.declared.operators.Direction.{Direction}
 use Rattle.spv_program.specs.declared.operators.Direction.TheVariants as direction
 use Rattle.spv_program.specs.declared.types.TypeForm.TheVariants as form
 use Rattle.spv_program.specs.Expressions.{Arguments, call, no_arguments, by_value}
-use Rattle.spv_program.specs.Formulas.{Annotation, Compared, Named}
+use Rattle.spv_program.specs.declared.operators.BuiltIn.{BuiltIn}
+use Rattle.spv_program.specs.declared.operators.BuiltIn.TheVariants as known
+use Rattle.spv_program.specs.Formulas.{Formula, Annotation, Compared, Named, Implied, Known, formulas, no_formulas}
+use Rattle.spv_typing.specs.Known as walk
 use Rattle.spv_program.specs.Statements.{Statement, Empty, Perform, For}
 use Rattle.spv_program.specs.Programs.{Formal, Routine, Program}
 use Rattle.spv_origin.specs.Names.{View, at_top}
-use Rattle.spv_origin.specs.Formulas.{AnnotationFrom}
+use Rattle.spv_origin.specs.Formulas.{FormulaFrom, AnnotationFrom}
 use Rattle.spv_origin.specs.Statements.{StatementFrom}
 use Rattle.spv_origin.specs.Types.{TypeFrom}
 use Rattle.spv_origin.specs.Routines.{FormalsFrom, RoutinesFrom}
@@ -143,3 +146,38 @@ abbrev pub NotesAreKept : Type 0
 NotesAreKept =
     AnnotationFrom view (noted 1) (related comparing.Equal (variable x) (variable y))
     × No (AnnotationFrom view (noted 2) (related comparing.Equal (variable x) (variable y)))
+
+abbrev pub Note : Formula → tree.Formula → Type 0
+Note = FormulaFrom view
+
+-- `x -> y`
+abbrev pub implication : tree.Formula
+implication = tree.formula 1 (tree.relation 1 (tree.simple 1 None (variable x) tree.no_more_terms) tree.no_right_side) (tree.implies (alone (variable y)))
+
+abbrev pub ImplicationsAreKept : Type 0
+ImplicationsAreKept =
+    Note (Implied (Named 1 x) (Named 1 y)) implication
+    × No (Note (Implied (Named 1 y) (Named 1 x)) implication)
+    × No (Note (Named 1 x) implication)
+    × No (Note (Named 2 x) (alone (variable x)))
+
+-- ---- functions that are known from the start
+
+abbrev pub car : Symbol
+car = named 30
+
+abbrev pub with_car : View
+with_car = at_top (record start { functions = (car, walk.Car) ∷ [] }) program
+
+-- `CAR(x)`
+abbrev pub car_tree : tree.Formula
+car_tree = alone (tree.term 1 (tree.application 1 (name car) (alone (variable x)) tree.no_more_formulas tree.no_selectors) tree.no_more_factors)
+
+abbrev pub applied : BuiltIn → Formula → Formula
+applied b a = Known b (formulas a no_formulas)
+
+abbrev pub FunctionsAreKept : Type 0
+FunctionsAreKept =
+    FormulaFrom with_car (applied known.Car (Named 1 x)) car_tree
+    × No (FormulaFrom with_car (applied known.Cdr (Named 1 x)) car_tree)
+    × No (FormulaFrom with_car (Named 1 x) car_tree)

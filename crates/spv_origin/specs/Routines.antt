@@ -72,6 +72,7 @@ module _ (start : KnownNames) (p : Program) where
         → FormalsFrom (before ++ formals_of (names.first ∷ names.more) t by_place line) gs all
         → FormalsFrom before (record { line = line; form = Variables by_place names of } ∷ gs) all
 
+  -- the name, the parameters and the result
   pub data FormFrom (r : Routine) : HeadingForm → Type 0 where
     procedure : {x : Name} {params : Option Params}
         → r.name ≡ x.symbol → FormalsFrom [] (groups_of params) r.formals → r.result ≡ None → FormFrom r (Procedure x params)
@@ -79,7 +80,7 @@ module _ (start : KnownNames) (p : Program) where
         → r.name ≡ x.symbol → FormalsFrom [] (groups_of params) r.formals → r.result ≡ Some t
         → type_named (seen start p None (parameter_names r.formals)) of.symbol ≡ Some t → FormFrom r (Function x params (Some of))
 
-  -- an item of GLOBAL speaks of the program; one of INITIAL may be a parameter of this view
+  -- a variable that is seen, or a class, whose name is one of the program
   pub data ItemFrom (v : View) : Item → NameOrClass → Type 0 where
     variable : {x : Name} → names_place v x.symbol ≡ true → ItemFrom v (Variable x.symbol) (written.Name x)
     class : {t : TypeId} {x : Name} → type_named (at_top start p) x.symbol ≡ Some t → ItemFrom v (Class t) (written.Class x)
@@ -137,16 +138,13 @@ announced_as (a ∷ others) x = if same_name (name_of a.0.form) x then Some a el
 abbrev pub without : List (Heading × Clauses) → Symbol → List (Heading × Clauses)
 without waiting x = filter (λ a. not (same_name (name_of a.0.form) x)) waiting
 
+abbrev pub no_clauses : Clauses → Bool
+no_clauses c = not (is_some c.globals) && (not (is_some c.initial) && (not (is_some c.entry) && not (is_some c.exit)))
+
 -- a second heading repeats the kind and the name alone
 abbrev pub repeats : HeadingForm → HeadingForm → Clauses → Bool
-repeats (Procedure x params) (Procedure y None) c = has_none c
-  where
-    has_none : Clauses → Bool
-    has_none c = not (is_some c.globals) && (not (is_some c.initial) && (not (is_some c.entry) && not (is_some c.exit)))
-repeats (Function x params result) (Function y None None) c = has_none c
-  where
-    has_none : Clauses → Bool
-    has_none c = not (is_some c.globals) && (not (is_some c.initial) && (not (is_some c.entry) && not (is_some c.exit)))
+repeats (Procedure x params) (Procedure y None) c = no_clauses c
+repeats (Function x params result) (Function y None None) c = no_clauses c
 repeats _ _ c = false
 
 -- by the headings that wait for their bodies; none waits at the end

@@ -1,7 +1,9 @@
 //! From which trees of texts a typed program may come: what the walk over names and types answers comes from its tree.
 #![tactic(auto)]
 
+ghost use Rattle.spv_origin.specs.Examples.{SumsAreKept, FromTheLeft, RelationsAreKept, FactorsAreKept, NumbersAreKept, IndicesAreKept, AssignmentsAreKept, BranchesAreKept, LoopsAndArmsAreKept};
 ghost use Rattle.spv_origin.specs.Laws.{AnnotationsComeFromTheirTrees, ExpressionsComeFromTheirTrees, PlacesComeFromTheirTrees, CallsComeFromTheirTrees, ConstantsHaveTheirNumbers, StatementsComeFromTheirTrees, BlocksComeFromTheirTrees, ProgramsComeFromTheirTrees, FormulaTextsComeFromTheirTrees};
+ghost use Rattle.spv_origin.specs.RoutineExamples.{CountersAreKept, CallsAreKept, ParametersAreKept, RoutinesAreKept, RangesAreKept, NotesAreKept, ImplicationsAreKept, FunctionsAreKept};
 
 /// An annotation that the walk answers comes from its tree.
 #[tactic(auto, using(crate::proofs::Annotations::annotations_come))]
@@ -29,8 +31,6 @@ pub fn law_programs()
     ensures formula_texts { FormulaTextsComeFromTheirTrees }
 {}
 
-ghost use Rattle.spv_origin.specs.Examples.{SumsAreKept, FromTheLeft, RelationsAreKept, FactorsAreKept, NumbersAreKept, IndicesAreKept, AssignmentsAreKept, BranchesAreKept, LoopsAndArmsAreKept};
-
 /// Small expressions: which trees they come from, and which not.
 pub fn law_small_expressions()
     ensures sums { SumsAreKept }
@@ -48,8 +48,6 @@ pub fn law_small_statements()
     ensures loops_and_arms { LoopsAndArmsAreKept }
 {}
 
-ghost use Rattle.spv_origin.specs.RoutineExamples.{CountersAreKept, CallsAreKept, ParametersAreKept, RoutinesAreKept, RangesAreKept, NotesAreKept};
-
 /// Small loops, calls, headings, types and annotations: which trees they come from, and which not.
 pub fn law_small_routines()
     ensures counters { CountersAreKept }
@@ -58,4 +56,6 @@ pub fn law_small_routines()
     ensures routines { RoutinesAreKept }
     ensures ranges { RangesAreKept }
     ensures notes { NotesAreKept }
+    ensures implications { ImplicationsAreKept }
+    ensures functions { FunctionsAreKept }
 {}
