@@ -1,5 +1,5 @@
 -- Annotations come from their trees.
-use Rattle.std.proofs.Common.{◌≡◌, ℕ, Bool, true, false, cond, refl, sym, ap, ◌∙◌, subst}
+use Rattle.std.proofs.Common.{◌≡◌, ℕ, refl, sym, ap, ◌∙◌, subst}
 use Rattle.std.proofs.lemmas.Bool.{eqb-true}
 use Rattle.std.specs.Prelude.{List, [], ◌∷◌, length, Option, Some, None, Ok, Err, nat_eq, is_some}
 use Rattle.spv_logic.specs.declared.types.TypeId.{TypeId}
@@ -11,21 +11,19 @@ use Rattle.spv_logic.specs.declared.types.Decl.{Decl}
 use Rattle.spv_logic.specs.Shapes.{element_sort, fields_of, field_sort}
 use Rattle.spv_syntax.specs.declared.names.Name.{Name}
 use Rattle.spv_syntax.specs.Formulas as tree
-use Rattle.spv_program.specs.declared.operators.BuiltIn.{BuiltIn}
 use Rattle.spv_program.specs.declared.operators.BuiltIn.TheVariants as known
 use Rattle.spv_program.specs.Types.{sort_of}
 use Rattle.spv_program.specs.Programs.{shapes}
-use Rattle.spv_program.specs.Formulas.{Formula, Formulas, Annotation, Numeral, NilOf, Named, ClassOf, Element, FieldOf, Content, Applied, Known, Implied, no_formulas, formulas}
-use Rattle.spv_typing.specs.declared.faults.TypeFault.{TypeFault}
+use Rattle.spv_program.specs.Formulas.{Formula, Formulas, Annotation, Numeral, NilOf, Named, ClassOf, Element, FieldOf, Applied, Known, no_formulas, formulas}
 use Rattle.spv_typing.specs.declared.faults.TypeFault.TheVariants.{Count}
 use Rattle.spv_typing.specs.Outcomes.{Outcome, after, where_so, wrong}
 use Rattle.spv_typing.specs.Known.{Function, Select, Store, Put, Cell, SetCell, Extend, PointerTo, Car, Cdr, Cons, Atom, Meaning, OfType, OfList, OfConstant, OfPlace, OfStart, OfSymbol, OfRoutine, Scope, meaning, function}
 use Rattle.spv_typing.specs.DeclarationWalk.{class_named}
-use Rattle.spv_typing.specs.OperatorWalk.{Operand, Of, NilAt, Argument, settled, operands, formula_line, formula_walk}
+use Rattle.spv_typing.specs.OperatorWalk.{Operand, Of, NilAt, Argument, settled, operands, formula_walk}
 use Rattle.spv_typing.specs.FormulaWalk as walk
 use Rattle.spv_typing.specs.FormulaWalk.{Sorted, with_sort, name_alone, class_at, settled_all, arity, Signature, signature_on, on_array, on_class, on_pointer, signature_of, on_element, takes_indices, elements, indexed_at, field_named, field_in, content_at, put_at, put_with, put_applied, known_applied, named_applied, applied_of, applied, formula_forms, annotation}
 use Rattle.spv_well_typed.proofs.Outcomes.{fine, no_fault, same_value, went, held, behind_test}
-use Rattle.spv_origin.specs.Names.{View, names_symbol, function_named, type_named}
+use Rattle.spv_origin.specs.Names.{View, function_named, type_named}
 use Rattle.spv_origin.specs.Operators.{Given, Value, FieldName}
 use Rattle.spv_origin.specs.Operators as origin
 use Rattle.spv_origin.specs.Formulas.{operator_of, formula_operators, values, and_more, Noted, noted_constant, noted_variable, noted_start, noted_symbol, NotedWith, with_symbol, with_built_in, with_put, FormulaFrom, AnnotationFrom}
@@ -196,15 +194,18 @@ module _ (s : Scope) (v : View) (sees : Sees s v) where
 
   further_index : (at : ℕ) (a z : Sorted) (f g : tree.Formula) (fs : tree.MoreFormulas) (x : Formula) (r : Sort) → FormulaFrom v x f
       → ExtendsHere (with_sort (Element a.formula x) r) (tree.index at g fs) z → ExtendsHere a (tree.index at f (tree.more_formulas g fs)) z
-  further_index at a z f g fs x r from h = record { good = record {}; on = λ more y k. origin.by_indices {t = record { 0 = 0 }} from refl
-      (h.on more y k) }
+  further_index at a z f g fs x r from h = record {
+    good = record {};
+    on = λ more y k. origin.by_indices {t = record { 0 = 0 }} from refl
+        (h.on more y k);
+  }
 
   elements_come : (at : ℕ) (a z : Sorted) (os : List (ℕ × Operand Formula)) (f : tree.Formula) (more : tree.MoreFormulas)
       → OperandsFrom os (tree.more_formulas f more) → elements (shapes s.known.program) a os ≡ Ok z → ExtendsHere a (tree.index at f more) z
   elements_come at a z [] f more h e = elim h [ ]
   elements_come at a z (i ∷ []) f tree.no_more_formulas (one_operand b others g fs from rest) e =
       let one = went (settled NilOf (wrong i.0) sort.Int i.1)
-          (λ x. elements_behind i a [] x (element_sort (shapes s.known.program) a.sort)) z e in
+      (λ x. elements_behind i a [] x (element_sort (shapes s.known.program) a.sort)) z e in
       let x = settled_from NilOf (λ y. FormulaFrom v y f) (wrong i.0) sort.Int i.1 one.value from one.first in
       by_element (element_sort (shapes s.known.program) a.sort) one.value x one.rest
     where
@@ -216,10 +217,10 @@ module _ (s : Scope) (v : View) (sees : Sees s v) where
   elements_come at a z (i ∷ j ∷ os) f tree.no_more_formulas (one_operand b others h gs from rest) e = elim rest [ ]
   elements_come at a z (i ∷ j ∷ os) f (tree.more_formulas g fs) (one_operand b others h gs from rest) e =
       let one = went (settled NilOf (wrong i.0) sort.Int i.1)
-          (λ x. elements_behind i a (j ∷ os) x (element_sort (shapes s.known.program) a.sort)) z e in
+      (λ x. elements_behind i a (j ∷ os) x (element_sort (shapes s.known.program) a.sort)) z e in
       let x = settled_from NilOf (λ y. FormulaFrom v y f) (wrong i.0) sort.Int i.1 one.value from one.first in
       by_element (element_sort (shapes s.known.program) a.sort) one.value x one.rest
-          (λ n r k. elements_come at (with_sort (Element a.formula n) r) z (j ∷ os) g fs rest k)
+      (λ n r k. elements_come at (with_sort (Element a.formula n) r) z (j ∷ os) g fs rest k)
     where
       by_element : (o : Option Sort) (n : Formula) → FormulaFrom v n f → elements_behind i a (j ∷ os) n o ≡ Ok z
           → ((n : Formula) (r : Sort) → elements (shapes s.known.program) (with_sort (Element a.formula n) r) (j ∷ os) ≡ Ok z
@@ -251,12 +252,12 @@ module _ (s : Scope) (v : View) (sees : Sees s v) where
       → named_applied s line x (Some (OfSymbol d)) given ≡ Ok z → AppliedHere x more z
   symbol_comes line x d z given more none m h e =
       let one = went (operands given) (λ os. where_so (nat_eq (length os) (length d.args)) (Count line)
-          (after (settled_all d.args os) (λ fs. fine (with_sort (Applied d.name fs) d.result)))) z e in
+      (after (settled_all d.args os) (λ fs. fine (with_sort (Applied d.name fs) d.result)))) z e in
       let next = after (settled_all d.args one.value) (λ fs. fine (with_sort (Applied d.name fs) d.result)) in
       let same = eqb-true (length one.value) (length d.args)
-          (held (nat_eq (length one.value) (length d.args)) (Count line) next z one.rest) in
+      (held (nat_eq (length one.value) (length d.args)) (Count line) next z one.rest) in
       let two = went (settled_all d.args one.value) (λ fs. fine (with_sort (Applied d.name fs) d.result)) z
-          (behind_test (nat_eq (length one.value) (length d.args)) (Count line) next z one.rest) in
+      (behind_test (nat_eq (length one.value) (length d.args)) (Count line) next z one.rest) in
       let all = settled_come d.args one.value more two.value same (operands_come given more one.value h one.first) two.first in
       let is = sees.symbols x.symbol d m in
       applied_as x more (Applied d.name two.value) d.result all.given z two.rest all.from
@@ -332,17 +333,17 @@ module _ (s : Scope) (v : View) (sees : Sees s v) where
   plain_comes b line x z given more is op takes h e =
       let result = λ (sign : Signature) (fs : Formulas). fine (with_sort (Known (walk.operator_of b) fs) sign.result) in
       let next = λ (os : List (ℕ × Operand Formula)). after (signature_of s b os)
-          (λ sign. after (settled_all sign.wanted os) (result sign)) in
+      (λ sign. after (settled_all sign.wanted os) (result sign)) in
       let one = went (operands given) (λ os. where_so (nat_eq (length os) (arity b)) (Count line) (next os)) z e in
       let same = eqb-true (length one.value) (arity b) (held (nat_eq (length one.value) (arity b)) (Count line) (next one.value) z
-          one.rest) in
+      one.rest) in
       let two = went (signature_of s b one.value) (λ sign. after (settled_all sign.wanted one.value) (result sign)) z
-          (behind_test (nat_eq (length one.value) (arity b)) (Count line) (next one.value) z one.rest) in
+      (behind_test (nat_eq (length one.value) (arity b)) (Count line) (next one.value) z one.rest) in
       let three = went (settled_all two.value.wanted one.value) (result two.value) z two.rest in
       let all = settled_come two.value.wanted one.value more three.value (same ∙ sym (takes one.value two.value two.first))
-          (operands_come given more one.value h one.first) three.first in
+      (operands_come given more one.value h one.first) three.first in
       applied_as x more (Known (walk.operator_of b) three.value) two.value.result all.given z three.rest all.from
-          (with_built_in is op all.values_are)
+      (with_built_in is op all.values_are)
 
   -- PUT
   put_value : (x at : Name) (line : ℕ) (f : Formula) (r : Sort) (o : Option (List SortedField)) (w : ℕ × Operand Formula) (z : Sorted)
@@ -359,9 +360,9 @@ module _ (s : Scope) (v : View) (sees : Sees s v) where
       let y = settled_from NilOf (λ y. FormulaFrom v y fv) (wrong w.0) one.value w.1 two.value k two.first in
       applied_as x (tree.more_formulas fr (tree.more_formulas ff (tree.more_formulas fv tree.no_more_formulas)))
       (Known (known.Put at.symbol) (formulas f (formulas two.value no_formulas))) r (Value f ∷ FieldName at.symbol ∷ Value two.value ∷ [])
-          z two.rest
+      z two.rest
       (origin.one_argument (origin.value g) (origin.one_argument h (origin.one_argument (origin.value y) origin.no_arguments)))
-          (with_put is)
+      (with_put is)
 
   put_named : (x : Name) (line : ℕ) (name : Option Name) (r w : ℕ × Operand Formula) (z : Sorted) (fr ff fv : tree.Formula)
       → function_named v x.symbol ≡ Some Put
@@ -388,7 +389,7 @@ module _ (s : Scope) (v : View) (sees : Sees s v) where
       let one = went r.operand (λ a. after w.operand (λ b. put_with s field.line field.name (r.line, a) (w.line, b))) z e in
       let two = went w.operand (λ b. put_with s field.line field.name (r.line, one.value) (w.line, b)) z one.rest in
       put_named x field.line field.name (r.line, one.value) (w.line, two.value) z fr ff fv is (h.operand one.value one.first) g.name
-          (k.operand two.value two.first) two.rest
+      (k.operand two.value two.first) two.rest
 
   known_comes : (b : Function) (line : ℕ) (x : Name) (z : Sorted) (given : List (Argument Formula Sorted)) (more : tree.MoreFormulas)
       → function_named v x.symbol ≡ Some b → Arguments given more → known_applied s line b given ≡ Ok z → AppliedHere x more z
@@ -439,7 +440,7 @@ module _ (s : Scope) (v : View) (sees : Sees s v) where
       let one = went (formula_walk (formula_forms s) f) (λ o. after (settled NilOf (wrong line) sort.Bool o) (λ g. fine (noted g))) a e in
       let two = went (settled NilOf (wrong line) sort.Bool one.value) (λ g. fine (noted g)) a one.rest in
       let from = formula_from (formula_forms s) (formula_operators v) (Noted v) (Noted v) (NotedWith v) formula_of sort_for Anything
-          all_come f one.value one.first in
+      all_come f one.value one.first in
       subst (λ (b : Annotation). AnnotationFrom v b f) (same_value two.rest)
       (notes.annotation (settled_from NilOf (λ g. FormulaFrom v g f) (wrong line) sort.Bool one.value two.value from two.first))
     where

@@ -1,20 +1,18 @@
 -- Bodies of routines come from their trees.
-use Rattle.std.proofs.Common.{◌≡◌, ℕ, zero, suc, Bool, true, false, cond, List, [], ◌∷◌, ◌++◌, map, Option, Some, None, refl, sym, ap, ◌∙◌, subst}
-use Rattle.std.specs.Prelude.{◌||◌, option_map, ℤ, Ok, Err}
+use Rattle.std.proofs.Common.{◌≡◌, ℕ, zero, suc, Bool, true, false, cond, List, [], ◌∷◌, ◌++◌, map, Some, refl, sym, ap, ◌∙◌, subst}
+use Rattle.std.specs.Prelude.{◌||◌, option_map, ℤ, Ok}
 use Rattle.std.specs.List.{list_any}
 use Rattle.std.proofs.lemmas.Bool.{false≢true}
 use Rattle.spv_names.specs.declared.names.Symbol.{Symbol}
 use Rattle.spv_logic.specs.declared.types.TypeId.{TypeId}
-use Rattle.spv_logic.specs.declared.conditions.RoutineId.{RoutineId}
 use Rattle.spv_syntax.specs.declared.routines.Locals.{Locals}
 use Rattle.spv_syntax.specs.Statements as tree
 use Rattle.spv_program.specs.declared.types.TypeForm.{TypeForm}
-use Rattle.spv_program.specs.declared.types.TypeForm.TheVariants.{Integer, Boolean, Record}
-use Rattle.spv_program.specs.Lists.{same_name, found, item_at}
+use Rattle.spv_program.specs.declared.types.TypeForm.TheVariants.{Integer, Boolean}
+use Rattle.spv_program.specs.Lists.{same_name, found}
 use Rattle.spv_program.specs.Types.{form_at, may_be_result}
 use Rattle.spv_program.specs.Statements.{Statement}
 use Rattle.spv_program.specs.Programs.{Routine, Program}
-use Rattle.spv_program.proofs.SortFacts.{nothing_there, some_is}
 use Rattle.spv_typing.specs.Known.{KnownNames, Heading, Names, Known}
 use Rattle.spv_typing.specs.Merging.{first_where}
 use Rattle.spv_typing.specs.DeclarationWalk.{with_program}
@@ -22,7 +20,7 @@ use Rattle.spv_typing.specs.StatementWalk.{block_walk}
 use Rattle.spv_typing.specs.RoutineWalk.{in_routine, Headed, Local, locals_walk, body_setting, with_body}
 use Rattle.spv_typing.specs.RoutineWalk as walk
 use Rattle.spv_typing.specs.ProgramWalk.{number_of, with_routine}
-use Rattle.spv_origin.specs.Names.{Own, place_among, routine_at, seen, own_constants, own_places}
+use Rattle.spv_origin.specs.Names.{place_among, routine_at, seen, own_constants, own_places}
 use Rattle.spv_origin.specs.Routines.{parameter_names, start_names, result_names, body_names, BodyFrom}
 use Rattle.spv_origin.proofs.Firsts.{There}
 use Rattle.spv_origin.proofs.Merged.{FormsRight}
@@ -31,7 +29,7 @@ use Rattle.spv_origin.proofs.Seeing.{KnowsNames, Knows, sees, sees_places}
 use Rattle.spv_origin.proofs.NewTypes.{Keeps, keeps_same, keeps_on, keeps_there}
 use Rattle.spv_origin.proofs.Declared.{FirstTwo, form_at-item}
 use Rattle.spv_origin.proofs.Headings.{result_own}
-use Rattle.spv_origin.proofs.Locals.{with_forms, LocalsDone, locals_done}
+use Rattle.spv_origin.proofs.Locals.{with_forms, locals_done}
 use Rattle.spv_origin.proofs.Statements.{blocks_come}
 
 -- whether a routine of this name has a body
@@ -84,8 +82,15 @@ pub record Later (k next : Known) : Type 0 where
   pub headings_stay : (h : Heading) → In k.headings h → In next.headings h
 
 pub later_same : (k : Known) → Later k k
-later_same k = record { keeps = keeps_same k.program.forms; constants_are = refl; types_are = refl; variables_are = refl;
-    symbols_are = refl; start_is = refl; headings_stay = λ h i. i }
+later_same k = record {
+  keeps = keeps_same k.program.forms;
+  constants_are = refl;
+  types_are = refl;
+  variables_are = refl;
+  symbols_are = refl;
+  start_is = refl;
+  headings_stay = λ h i. i;
+}
 
 pub later_on : (k mid next : Known) → Later k mid → Later mid next → Later k next
 later_on k mid next g h = record {
@@ -162,23 +167,28 @@ module _ (start : KnownNames) (bodies : List Symbol) where
       → Rattle.spv_origin.specs.Statements.BlockFrom (seen start p (Some (with_body headed.heading variables body))
       (body_names (with_body headed.heading variables body) constants variables))
       (seen start p (Some (with_body headed.heading variables body))
-          (result_names headed.heading.name headed.heading.result ++ body_names (with_body headed.heading variables body) constants
-          variables)) body b
+      (result_names headed.heading.name headed.heading.result ++ body_names (with_body headed.heading variables body) constants
+      variables)) body b
   at_body k headed ls b forms own variables constants body p ready knows names_are all alike e =
       let now = with_forms k forms in
       let h = headed.heading in
       let r = with_body h variables body in
       let os = body_names r constants variables in
-      let known : KnowsNames now start p = record { start_is = knows.start_is; constants_are = knows.constants_are;
-          types_are = knows.types_are; variables_are = knows.variables_are; symbols_are = knows.symbols_are } in
+      let known : KnowsNames now start p = record {
+        start_is = knows.start_is;
+        constants_are = knows.constants_are;
+        types_are = knows.types_are;
+        variables_are = knows.variables_are;
+        symbols_are = knows.symbols_are;
+      } in
       let noted_own = own_append (walk.result_names h.name h.result) own (result_names h.name h.result) os
-          (result_own start p now known h.name h.result) alike in
+      (result_own start p now known h.name h.result) alike in
       let inside = sees_places now own os alike (Some h) start p (Some r)
-          (knows_all now p ready known names_are (record { among = all.among })) (λ q f. f) in
+      (knows_all now p ready known names_are (record { among = all.among })) (λ q f. f) in
       let noted = sees now (walk.result_names h.name h.result ++ own) (result_names h.name h.result ++ os) noted_own (Some h) start p
-          (Some r) known in
+      (Some r) known in
       blocks_come (body_setting h (record { known = now; own = own; variables = variables })) (seen start p (Some r) os)
-          (seen start p (Some r) (result_names h.name h.result ++ os)) inside noted b body e
+      (seen start p (Some r) (result_names h.name h.result ++ os)) inside noted b body e
 
   pub body_done : (k : Known) (headed : Headed) (ls : Locals) (b : tree.Block) (l : Local) (body : Statement) → Ready start bodies k
       → OwnAs headed.own (parameter_names headed.heading.formals ++ start_names headed.heading.initial) → locals_walk k headed ls ≡ Ok l
@@ -193,11 +203,23 @@ module _ (start : KnownNames) (bodies : List Symbol) where
       let ready_now = ready_forms start bodies k d.now ready d.right d.keeps in
       let same : local_of now l.own l.variables ≡ l = ap (λ q. local_of q l.own l.variables) d.known_is in
       let behind = λ (q : Known). with_program q (with_routine q.program (routine_of headed l body)) in
-      let ready_next : Ready start bodies (behind now) = record
-          { starts = ready_now.starts; right = ready_now.right; first = ready_now.first; there = ready_now.there;
-          numbers = ready_now.numbers; plain = ready_now.plain } in
-      let later_next : Later k (behind now) = record { keeps = d.keeps; constants_are = refl; types_are = refl; variables_are = refl;
-          symbols_are = refl; start_is = refl; headings_stay = λ q i. i } in
+      let ready_next : Ready start bodies (behind now) = record {
+        starts = ready_now.starts;
+        right = ready_now.right;
+        first = ready_now.first;
+        there = ready_now.there;
+        numbers = ready_now.numbers;
+        plain = ready_now.plain;
+      } in
+      let later_next : Later k (behind now) = record {
+        keeps = d.keeps;
+        constants_are = refl;
+        types_are = refl;
+        variables_are = refl;
+        symbols_are = refl;
+        start_is = refl;
+        headings_stay = λ q i. i;
+      } in
       record {
         ready = subst (λ q. Ready start bodies (behind q)) d.known_is ready_next;
         later = subst (λ q. Later k (behind q)) d.known_is later_next;

@@ -1,6 +1,6 @@
 -- Constants have their numbers.
-use Rattle.std.proofs.Common.{◌≡◌, ℕ, refl, sym, ap, ◌∙◌, subst}
-use Rattle.std.specs.Prelude.{List, [], ◌∷◌, ℤ, pos, Option, Some, None, Ok, Err}
+use Rattle.std.proofs.Common.{◌≡◌, ℕ, refl, ap, ◌∙◌, subst}
+use Rattle.std.specs.Prelude.{ℤ, Option, Some, None, Ok}
 use Rattle.spv_names.specs.declared.names.Symbol.{Symbol}
 use Rattle.spv_syntax.specs.declared.names.Name.{Name}
 use Rattle.spv_syntax.specs.declared.names.Scalar.{Scalar}
@@ -42,7 +42,7 @@ module _ (s : Scope) (v : View) (known : (x : Symbol) (z : ℤ) → meaning s x 
   constant_from c z e =
       let one = went (scalar_value s c.line c.value) (λ q. fine (signed c.sign q)) z e in
       subst (λ q. ConstantFrom v q c) (same_value one.rest)
-          (signed_from c.line c.sign c.value one.value (scalar_from c.line c.value one.value one.first))
+      (signed_from c.line c.sign c.value one.value (scalar_from c.line c.value one.value one.first))
 
 pub constants_have_their_numbers : ConstantsHaveTheirNumbers
 constants_have_their_numbers s v known c z e = constant_from s v known c z e

@@ -1,6 +1,6 @@
 -- Declarations come from their trees.
 use Rattle.std.proofs.Common.{◌≡◌, ℕ, zero, suc, Bool, true, false, cond, List, [], ◌∷◌, ◌++◌, map, Option, Some, None, refl, sym, ap, ◌∙◌, subst}
-use Rattle.std.specs.Prelude.{◌||◌, ◌&&◌, not, ℤ, Ok, Err, option_map, is_some}
+use Rattle.std.specs.Prelude.{◌||◌, ◌&&◌, not, ℤ, Ok, option_map, is_some}
 use Rattle.std.specs.List.{list_any}
 use Rattle.std.proofs.lemmas.Bool.{false≢true}
 use Rattle.std.proofs.lemmas.List.{append_assoc, append-nil}
@@ -25,25 +25,24 @@ use Rattle.spv_program.specs.Lists.{same_name, found, item_at}
 use Rattle.spv_program.specs.Types.{form_at, sort_of, sort_of_form}
 use Rattle.spv_program.specs.Programs.{Program}
 use Rattle.spv_program.proofs.SortFacts.{nothing_there, some_is}
-use Rattle.spv_typing.specs.Outcomes.{Outcome, after, where_so, each, all_of, undeclared, twice, wrong}
-use Rattle.spv_typing.specs.Known.{KnownNames, Meaning, OfType, OfList, OfConstant, OfPlace, OfStart, OfSymbol, OfRoutine, Known, Scope, at_top, meaning, is_free, is_free_for_call}
+use Rattle.spv_typing.specs.Outcomes.{after, each, all_of, twice}
+use Rattle.spv_typing.specs.Known.{KnownNames, Meaning, OfType, OfList, OfConstant, OfPlace, OfStart, OfSymbol, OfRoutine, Known, at_top, meaning, is_free, is_free_for_call}
 use Rattle.spv_typing.specs.Merging.{Written, Built, form_with, form_of, target_or_first, merged}
 use Rattle.spv_typing.specs.TypeWalk.{all_names, constant, Reading, denoted}
 use Rattle.spv_typing.specs.DeclarationWalk.{with_program, with_constant, const_walk, TypePart, typedef_walk, with_merged, type_part_walk, NewType, type_walk, new_name, vars_walk, with_variables, sort_named, class_named, sort_walk, sorts_in_brackets, symbol_walk, with_symbol, declarations_walk}
-use Rattle.spv_typing.specs.DeclarationWalk as walk
 use Rattle.spv_typing.specs.ProgramWalk.{no_main}
-use Rattle.spv_well_typed.proofs.Outcomes.{fine, no_fault, same_value, went, held, behind_test}
+use Rattle.spv_well_typed.proofs.Outcomes.{fine, no_fault, same_value, went, behind_test}
 use Rattle.spv_origin.specs.Names.{View, type_named, constant_named, types_from_start, seen}
 use Rattle.spv_origin.specs.Names as names
 use Rattle.spv_origin.specs.Types.{TypeFrom}
 use Rattle.spv_origin.specs.Declarations.{ConstsFrom, no_consts, one_const, TypedefsFrom, no_typedefs, one_typedef, group_of, VarsFrom, no_vars, one_group, SortFrom, of_type, of_list, of_class, SortsFrom, no_sorts, one_sort, sorts_written, SymbolsFrom, no_symbols, one_symbol, with_constants, with_types, DeclarationsFrom}
 use Rattle.spv_origin.proofs.Firsts.{There}
-use Rattle.spv_origin.proofs.Merged.{item_map, FormIn, integer_in, boolean_in, WrittenIn, built_in, FormsRight, forms_kept, forms_right, new_there, old_number, old_form}
+use Rattle.spv_origin.proofs.Merged.{FormIn, integer_in, boolean_in, WrittenIn, built_in, FormsRight, forms_kept, forms_right, new_there, old_number, old_form}
 use Rattle.spv_origin.proofs.Scopes.{found_append, found_map, Told, told_type, told_list, Means, by_own, by_program, OwnAs, no_own, means, same_name-true}
 use Rattle.spv_origin.proofs.Seeing.{constants_seen}
 use Rattle.spv_origin.proofs.Constants.{constant_from}
-use Rattle.spv_origin.proofs.Denoted.{Longer, longer_same, longer_on, longer_item, longer_there, denoted_longer, denoted_there, denoted_from}
-use Rattle.spv_origin.proofs.NewTypes.{Keeps, keeps_same, keeps_on, keeps_there, WrittenAll, NewFrom, new_from, plain_forms}
+use Rattle.spv_origin.proofs.Denoted.{Longer, longer_same, longer_on, longer_there, denoted_longer, denoted_there, denoted_from}
+use Rattle.spv_origin.proofs.NewTypes.{Keeps, keeps_same, keeps_on, keeps_there, WrittenAll, new_from, plain_forms}
 
 -- what is known where these declarations have been read
 abbrev pub known_at : KnownNames → List TypeForm → List (Symbol × ℤ) → List (Symbol × TypeId) → List (Symbol × TypeId) → List Decl → Known
@@ -96,16 +95,16 @@ module _ (start : KnownNames) where
       let one = went (const_walk now c) (λ next. each const_walk next cs) k e in
       let next = after (constant (at_top now) c.value) (λ z. fine (with_program now (with_constant now.program c.name.symbol z))) in
       let two = went (constant (at_top now) c.value) (λ z. fine (with_program now (with_constant now.program c.name.symbol z))) one.value
-          (behind_test (is_free now c.name.symbol) (twice c.name) next one.value one.first) in
+      (behind_test (is_free now c.name.symbol) (twice c.name) next one.value one.first) in
       let z = two.value in
       let rest = consts_done forms (before ++ (c.name.symbol, z) ∷ []) cs k
-          (ap (λ q. each const_walk q cs) (same_value two.rest) ∙ one.rest) in
+      (ap (λ q. each const_walk q cs) (same_value two.rest) ∙ one.rest) in
       record {
         all = rest.all;
         is = rest.is;
         from = λ p.
             one_const (constant_from (at_top now) (with_constants start p before)
-                (constants_seen now [] [] no_own None start (record p { constants = before }) None refl) c.value z two.first) (rest.from p);
+            (constants_seen now [] [] no_own None start (record p { constants = before }) None refl) c.value z two.first) (rest.from p);
       }
 
 -- ---- the TYPE part
@@ -207,13 +206,20 @@ module _ (start : KnownNames) (forms : List TypeForm) (constants : List (Symbol 
       let now = known_at start forms constants before [] [] in
       let result = λ (r : Reading). fine (part_at (before ++ (d.name.symbol, r.type) ∷ []) r.written) in
       let two = went (denoted (at_top now) is_target ws d.of) result part
-          (behind_test (is_free now d.name.symbol) (twice d.name) (after (denoted (at_top now) is_target ws d.of) result) part e) in
+      (behind_test (is_free now d.name.symbol) (twice d.name) (after (denoted (at_top now) is_target ws d.of) result) part e) in
       record { reading = two.value; read = two.first; is = same_value two.rest }
 
   typedefs_done : (before : List (Symbol × TypeId)) (ws : List Written) (ds : List Typedef) (part : TypePart)
       → each (typedef_walk is_target) (part_at before ws) ds ≡ Ok part → TypedefsDone before ws ds part
-  typedefs_done before ws [] part e = record { types = before; written = ws; is = same_value e; longer = longer_same ws; kept = λ x t k.
-      k; has = λ x h. absurd (false≢true h) }
+  typedefs_done before ws [] part e = record {
+    types = before;
+    written = ws;
+    is = same_value e;
+    longer = longer_same ws;
+    kept = λ x t k.
+        k;
+    has = λ x h. absurd (false≢true h);
+  }
   typedefs_done before ws (d ∷ ds) part e =
       let one = went (typedef_walk is_target (part_at before ws) d) (λ next. each (typedef_walk is_target) next ds) part e in
       let step = typedef_step before ws d one.value one.first in
@@ -241,26 +247,26 @@ typedefs_there start constants is_target before ws [] part first second there e 
 typedefs_there start constants is_target before ws (d ∷ ds) part first second there e =
     let known = known_at start first_forms constants before [] [] in
     let step1 = went (typedef_walk is_target (part_at start first_forms constants is_target before ws) d)
-        (λ next. each (typedef_walk is_target) next ds) part e in
+    (λ next. each (typedef_walk is_target) next ds) part e in
     let step = typedef_step start first_forms constants is_target before ws d step1.value step1.first in
     let r = step.reading in
     let more = before ++ (d.name.symbol, r.type) ∷ [] in
     let l1 = denoted_longer (at_top known) is_target ws d.of r step.read in
     let last = denoted_there (at_top known) is_target ws
-        (λ x t h. type_there start ws before x t first second there (type_told known x t h)) ws d.of r (longer_same ws) step.read in
+    (λ x t h. type_there start ws before x t first second there (type_told known x t h)) ws d.of r (longer_same ws) step.read in
     typedefs_there start constants is_target more r.written ds part (longer_there ws r.written 0 l1 first)
-        (longer_there ws r.written 1 l1 second)
+    (longer_there ws r.written 1 l1 second)
     (λ x t h. found_last before d.name.symbol r.type x t h (λ q. There r.written q.0)
-        (λ y u k. longer_there ws r.written u.0 l1 (there y u k)) last)
+    (λ y u k. longer_there ws r.written u.0 l1 (there y u k)) last)
     (ap (λ q. each (typedef_walk is_target) q ds) step.is ∙ step1.rest)
 
 -- the types of the TYPE part, with the final numbers
 module _ (start : KnownNames) (constants : List (Symbol × ℤ)) (is_target : Symbol → Bool) (p : Program) (all : List (Symbol × TypeId))
     (whole : List Written) (new : TypeId → TypeId)
     (forms_are : (i : ℕ) (w : Written) → item_at whole i ≡ Some w
-        → item_at p.forms (new (record { 0 = i })).0 ≡ Some (form_with new (form_of all w)))
+    → item_at p.forms (new (record { 0 = i })).0 ≡ Some (form_with new (form_of all w)))
     (new_zero : new (record { 0 = 0 }) ≡ record { 0 = 0 }) (new_one : new (record { 0 = 1 }) ≡ record { 0 = 1 })
-        (constants_are : constants ≡ p.constants)
+    (constants_are : constants ≡ p.constants)
     (targets_there : (x : Symbol) → is_target x ≡ true → There whole (target_or_first (found all x)).0)
     (targets_found : (x : Symbol) → is_target x ≡ true → found all x ≡ Some (target_or_first (found all x)))
     (types_are : p.types ≡ numbered new all) where
@@ -280,7 +286,7 @@ module _ (start : KnownNames) (constants : List (Symbol × ℤ)) (is_target : Sy
       let s = at_top known in
       let v = with_types start p (numbered new before) in
       let step1 = went (typedef_walk is_target (part_at start first_forms constants is_target before ws) d)
-          (λ next. each (typedef_walk is_target) next ds) part e in
+      (λ next. each (typedef_walk is_target) next ds) part e in
       let step = typedef_step start first_forms constants is_target before ws d step1.value step1.first in
       let r = step.reading in
       let more = before ++ (d.name.symbol, r.type) ∷ [] in
@@ -290,19 +296,19 @@ module _ (start : KnownNames) (constants : List (Symbol × ℤ)) (is_target : Sy
       let l2 = subst (λ (q : TypePart). Longer r.written q.written) done.is done.longer in
       let w1 = longer_on r.written part.written whole l2 later in
       let types_there = λ (x : Symbol) (t : TypeId) (h : meaning s x ≡ Some (OfType t)). type_there start ws before x t first second there
-          (type_told known x t h) in
+      (type_told known x t h) in
       let types_named = λ (x : Symbol) (t : TypeId) (h : meaning s x ≡ Some (OfType t)). type_numbered start new before x t new_zero
-          new_one (type_told known x t h) in
+      new_one (type_told known x t h) in
       let consts = λ (x : Symbol) (z : ℤ) (h : meaning s x ≡ Some (OfConstant z)). constants_seen known [] [] no_own None start
-          (record p { types = numbered new before }) None constants_are x z h in
+      (record p { types = numbered new before }) None constants_are x z h in
       let named = λ (x : Symbol) (h : is_target x ≡ true). ap (λ q. found q x) types_are
-          ∙ (found_map new all x ∙ ap (option_map new) (targets_found x h)) in
+      ∙ (found_map new all x ∙ ap (option_map new) (targets_found x h)) in
       let a = denoted_from s is_target v p.types all ws whole new forms_are types_there types_named consts targets_there targets_found
-          named ws d.of r (longer_same ws) (record { each_in = all_in.each_in }) step.read w1 in
+      named ws d.of r (longer_same ws) (record { each_in = all_in.each_in }) step.read w1 in
       let next_there = λ (x : Symbol) (t : TypeId) (h : found more x ≡ Some t). found_last before d.name.symbol r.type x t h
-          (λ q. There r.written q.0) (λ y u k. longer_there ws r.written u.0 l1 (there y u k)) a.there in
+      (λ q. There r.written q.0) (λ y u k. longer_there ws r.written u.0 l1 (there y u k)) a.there in
       let rest = typedefs_are more r.written ds part (longer_there ws r.written 0 l1 first) (longer_there ws r.written 1 l1 second)
-          next_there (record { each_in = a.all_in.each_in }) rest_walk later in
+      next_there (record { each_in = a.all_in.each_in }) rest_walk later in
       record {
         all_in = rest.all_in;
         there = rest.there;
@@ -402,9 +408,9 @@ module _ (start : KnownNames) (constants : List (Symbol × ℤ)) (ds : List Type
       let longer : Longer whole whole = longer_same whole in
       let bounded = typedefs_there start constants (names_a_type ds) [] first_written ds part zero_there one_there none_there e in
       let a = typedefs_are start constants (names_a_type ds) (plain_program start types whole constants) types whole (λ t. t)
-          (λ i w h. plain_forms types whole i w h) refl refl refl
+      (λ i w h. plain_forms types whole i w h) refl refl refl
       (λ x h. bounded x (target_or_first (found types x)) (found_there x h)) found_there refl [] first_written ds part zero_there
-          one_there none_there first_in e longer in
+      one_there none_there first_in e longer in
       let right = λ (i : ℕ) (w : Written) (h : item_at whole i ≡ Some w). a.all_in.each_in i w h in
       let number = λ (t : TypeId) (h : There first_forms t.0). old_number types first_forms more first_two_right right t h in
       let new_zero = number (record { 0 = 0 }) (record { item = Integer; is = refl }) in
@@ -414,22 +420,25 @@ module _ (start : KnownNames) (constants : List (Symbol × ℤ)) (ds : List Type
         types = numbered m.new types;
         is = refl;
         right = forms_right types whole right;
-        first = record { zero = old_form types first_forms more first_two_right right 0 Integer refl; one = old_form types first_forms
-            more first_two_right right 1 Boolean refl };
+        first = record {
+          zero = old_form types first_forms more first_two_right right 0 Integer refl;
+          one = old_form types first_forms
+              more first_two_right right 1 Boolean refl;
+        };
         there = numbered_there types m.new (λ u. There m.forms u.0) (λ x t h. new_there types whole right t (bounded x t h));
         from = λ p keeps same_constants same_types.
             subst (λ q. TypedefsFrom (with_types start p) p.types [] ds q) same_types
             (typedefs_are start constants (names_a_type ds) p types whole m.new
-                (λ i w h. keeps.kept (m.new (record { 0 = i })).0 (form_with m.new (form_of types w))
-                (forms_kept types whole right i w h)) new_zero new_one same_constants
+            (λ i w h. keeps.kept (m.new (record { 0 = i })).0 (form_with m.new (form_of types w))
+            (forms_kept types whole right i w h)) new_zero new_one same_constants
             (λ x h. bounded x (target_or_first (found types x)) (found_there x h)) found_there (sym same_types) [] first_written ds part
-                zero_there one_there none_there first_in e longer).from;
+            zero_there one_there none_there first_in e longer).from;
       }
 
   types_done : (k : Known) → type_part_walk (known_at start first_forms constants [] [] []) ds ≡ Ok k → TypesDone start constants ds k
   types_done k e =
       let one = went (each (typedef_walk (names_a_type ds)) (part_at start first_forms constants (names_a_type ds) [] first_written) ds)
-          (λ part. fine (with_merged part)) k e in
+      (λ part. fine (with_merged part)) k e in
       let done = typedefs_done start first_forms constants (names_a_type ds) [] first_written ds one.value one.first in
       let same : part_at start first_forms constants (names_a_type ds) done.types (first_written ++ done.longer.more) ≡ one.value =
       ap (λ ws. part_at start first_forms constants (names_a_type ds) done.types ws) (sym done.longer.is) ∙ done.is in
@@ -444,9 +453,9 @@ new_names free before [] all e = append-nil before ∙ same_value e
 new_names free before (x ∷ xs) all e =
     let one = went (new_name free before x) (λ next. each (new_name free) next xs) all e in
     let next = same_value (behind_test (free x.symbol && not (list_any (same_name x.symbol) before)) (twice x)
-        (fine (before ++ x.symbol ∷ [])) one.value one.first) in
+    (fine (before ++ x.symbol ∷ [])) one.value one.first) in
     sym (append_assoc before (x.symbol ∷ []) (map (λ (y : Name). y.symbol) xs))
-        ∙ (ap (λ q. q ++ map (λ (y : Name). y.symbol) xs) next ∙ new_names free one.value xs all one.rest)
+    ∙ (ap (λ q. q ++ map (λ (y : Name). y.symbol) xs) next ∙ new_names free one.value xs all one.rest)
 
 pub names_come : (free : Symbol → Bool) (xs : List Name) (all : List Symbol) → each (new_name free) [] xs ≡ Ok all
     → map (λ (x : Name). x.symbol) xs ≡ all
@@ -476,14 +485,14 @@ vars_done start forms constants types variables (g ∷ gs) k right first second 
     let known = known_at start forms constants types variables [] in
     let one = went (vars_walk known g) (λ next. each vars_walk next gs) k e in
     let result = λ (xs : List Symbol) (n : NewType). fine
-        (with_program known (with_variables known.program n.forms (map (λ x. (x, n.type)) xs))) in
+    (with_program known (with_variables known.program n.forms (map (λ x. (x, n.type)) xs))) in
     let two = went (each (new_name (is_free known)) [] (all_names g.names)) (λ xs. after (type_walk (at_top known) g.of) (result xs))
-        one.value one.first in
+    one.value one.first in
     let three = went (type_walk (at_top known) g.of) (result two.value) one.value two.rest in
     let n = three.value in
     let see = λ (p : Program). names.at_top start p in
     let type_at = λ (x : Symbol) (t : TypeId) (h : meaning (at_top known) x ≡ Some (OfType t)). type_there start forms types x t first
-        second there (type_told known x t h) in
+    second there (type_told known x t h) in
     let made = λ (p : Program) (same_constants : constants ≡ p.constants) (same_types : types ≡ p.types).
     new_from (at_top known) (see p) right type_at there
     (λ x t h. ap (λ ts. found (types_from_start start ++ ts) x) (sym same_types) ∙ type_told known x t h)
@@ -491,11 +500,11 @@ vars_done start forms constants types variables (g ∷ gs) k right first second 
     let plain = made (record known.program { titles = [] }) refl refl in
     let group : map (λ x. (x, n.type)) two.value ≡ group_of (g.names.first ∷ g.names.more) n.type =
     ap (λ xs. map (λ x. (x, n.type)) xs) (sym (names_come (is_free known) (g.names.first ∷ g.names.more) two.value two.first)) ∙ group_map
-        (g.names.first ∷ g.names.more) n.type in
+    (g.names.first ∷ g.names.more) n.type in
     let next : known_at start n.forms constants types (variables ++ group_of (g.names.first ∷ g.names.more) n.type) [] ≡ one.value =
     ap (λ q. known_at start n.forms constants types (variables ++ q) []) (sym group) ∙ same_value three.rest in
     let rest = vars_done start n.forms constants types (variables ++ group_of (g.names.first ∷ g.names.more) n.type) gs k plain.right
-        (keeps_there forms n.forms 0 plain.keeps first) (keeps_there forms n.forms 1 plain.keeps second)
+    (keeps_there forms n.forms 0 plain.keeps first) (keeps_there forms n.forms 1 plain.keeps second)
     (λ x t h. keeps_there forms n.forms t.0 plain.keeps (there x t h)) (ap (λ q. each vars_walk q gs) next ∙ one.rest) in
     record {
       now = rest.now;
@@ -505,8 +514,8 @@ vars_done start forms constants types variables (g ∷ gs) k right first second 
       keeps = keeps_on forms n.forms rest.now plain.keeps rest.keeps;
       from = λ p later same_constants same_types.
           one_group (subst (λ ts. TypeFrom (names.at_top start p) ts n.type g.of) same_types
-              ((made p same_constants same_types).from (keeps_on n.forms rest.now p.forms rest.keeps later)))
-              (rest.from p later same_constants same_types);
+          ((made p same_constants same_types).from (keeps_on n.forms rest.now p.forms rest.keeps later)))
+          (rest.from p later same_constants same_types);
     }
 
 -- ---- declared symbols
@@ -529,7 +538,7 @@ decl_of x args r = record { name = x; args = args; result = r }
 module _ (start : KnownNames) (forms : List TypeForm) (constants : List (Symbol × ℤ)) (types variables : List (Symbol × TypeId))
     (first : There forms 0) (second : There forms 1)
     (there : (x : Symbol) (t : TypeId) → found types x ≡ Some t → There forms t.0) (p : Program) (keeps : Keeps forms p.forms)
-        (types_are : types ≡ p.types) where
+    (types_are : types ≡ p.types) where
   abbrev known_with : List Decl → Known
   known_with symbols = known_at start forms constants types variables symbols
 
@@ -544,7 +553,7 @@ module _ (start : KnownNames) (forms : List TypeForm) (constants : List (Symbol 
   sort_come symbols line x (Some (OfType t)) s h e =
       let at = type_there start forms types x.symbol t first second there (type_told (known_with symbols) x.symbol t h) in
       subst (λ q. SortFrom (names.at_top start p) q (record { line = line; form = written.Name x }))
-          (sort_kept forms p.forms t at keeps ∙ same_value e) (of_type (named_type symbols x.symbol t h))
+      (sort_kept forms p.forms t at keeps ∙ same_value e) (of_type (named_type symbols x.symbol t h))
   sort_come symbols line x (Some OfList) s h e = subst
       (λ q. SortFrom (names.at_top start p) q (record { line = line; form = written.Name x })) (same_value e)
       (of_list (list_told (known_with symbols) x.symbol h))
@@ -573,17 +582,17 @@ module _ (start : KnownNames) (forms : List TypeForm) (constants : List (Symbol 
   sort_written symbols line (written.Class x) s e =
       let one = went (class_named line x (meaning (at_top (known_with symbols)) x.symbol)) (λ t. fine (sort.Class t)) s e in
       subst (λ q. SortFrom (names.at_top start p) q (record { line = line; form = written.Class x })) (same_value one.rest)
-          (class_come symbols line line x (meaning (at_top (known_with symbols)) x.symbol) one.value refl one.first)
+      (class_come symbols line line x (meaning (at_top (known_with symbols)) x.symbol) one.value refl one.first)
 
   sorts_come : (symbols : List Decl) (ns : List SortName) (ss : List Sort) → all_of (sort_walk (known_with symbols)) ns ≡ Ok ss
       → SortsFrom (names.at_top start p) ss ns
   sorts_come symbols [] ss e = subst (λ q. SortsFrom (names.at_top start p) q []) (same_value e) no_sorts
   sorts_come symbols (n ∷ ns) ss e =
       let one = went (sort_walk (known_with symbols) n) (λ a. after (all_of (sort_walk (known_with symbols)) ns)
-          (λ others. fine (a ∷ others))) ss e in
+      (λ others. fine (a ∷ others))) ss e in
       let two = went (all_of (sort_walk (known_with symbols)) ns) (λ others. fine (one.value ∷ others)) ss one.rest in
       subst (λ q. SortsFrom (names.at_top start p) q (n ∷ ns)) (same_value two.rest)
-          (one_sort (sort_written symbols n.line n.form one.value one.first) (sorts_come symbols ns two.value two.first))
+      (one_sort (sort_written symbols n.line n.form one.value one.first) (sorts_come symbols ns two.value two.first))
 
   bracketed_come : (symbols : List Decl) (o : Option (Several SortName)) (ss : List Sort)
       → all_of (sort_walk (known_with symbols)) (sorts_in_brackets o) ≡ Ok ss
@@ -604,9 +613,9 @@ module _ (start : KnownNames) (forms : List TypeForm) (constants : List (Symbol 
       let one = went (symbol_walk known t) (λ next. each symbol_walk next ts) k e in
       let result = λ (args : List Sort) (r : Sort). fine (with_program known (with_symbol known.program (decl_of t.name.symbol args r))) in
       let next = after (all_of (sort_walk known) (sorts_in_brackets t.arguments)) (λ args. after (sort_walk known t.result) (result args))
-          in
+      in
       let two = went (all_of (sort_walk known) (sorts_in_brackets t.arguments)) (λ args. after (sort_walk known t.result) (result args))
-          one.value (behind_test (is_free_for_call known t.name.symbol) (twice t.name) next one.value one.first) in
+      one.value (behind_test (is_free_for_call known t.name.symbol) (twice t.name) next one.value one.first) in
       let three = went (sort_walk known t.result) (result two.value) one.value two.rest in
       let d = decl_of t.name.symbol two.value three.value in
       let rest = symbols_rest (symbols ++ d ∷ []) ts k (ap (λ q. each symbol_walk q ts) (same_value three.rest) ∙ one.rest) in
@@ -637,22 +646,22 @@ pub declared : (start : KnownNames) (d : Declarations) (k : Known) → declarati
 declared start d k e =
     let k0 = known_at start first_forms [] [] [] [] in
     let one = went (each const_walk k0 d.constants) (λ a. after (type_part_walk a d.types)
-        (λ b. after (each vars_walk b d.variables) (λ c. each symbol_walk c d.symbols))) k e in
+    (λ b. after (each vars_walk b d.variables) (λ c. each symbol_walk c d.symbols))) k e in
     let two = went (type_part_walk one.value d.types) (λ b. after (each vars_walk b d.variables) (λ c. each symbol_walk c d.symbols)) k
-        one.rest in
+    one.rest in
     let three = went (each vars_walk two.value d.variables) (λ c. each symbol_walk c d.symbols) k two.rest in
     let c = consts_done start first_forms [] d.constants one.value one.first in
     let t = types_done start c.all d.types two.value (ap (λ q. type_part_walk q d.types) c.is ∙ two.first) in
     let f0 : There t.forms 0 = record { item = Integer; is = t.first.zero } in
     let f1 : There t.forms 1 = record { item = Boolean; is = t.first.one } in
     let v = vars_done start t.forms c.all t.types [] d.variables three.value t.right f0 f1 t.there
-        (ap (λ q. each vars_walk q d.variables) t.is ∙ three.first) in
+    (ap (λ q. each vars_walk q d.variables) t.is ∙ three.first) in
     let g0 = keeps_there t.forms v.now 0 v.keeps f0 in
     let g1 = keeps_there t.forms v.now 1 v.keeps f1 in
     let there = λ (x : Symbol) (u : TypeId) (h : found t.types x ≡ Some u). keeps_there t.forms v.now u.0 v.keeps (t.there x u h) in
     let walk = ap (λ q. each symbol_walk q d.symbols) v.is ∙ three.rest in
     let plain = symbols_rest start v.now c.all t.types v.all g0 g1 there
-        (record (known_at start v.now c.all t.types v.all []).program { titles = [] }) (keeps_same v.now) refl [] d.symbols k walk in
+    (record (known_at start v.now c.all t.types v.all []).program { titles = [] }) (keeps_same v.now) refl [] d.symbols k walk in
     record {
       forms = v.now;
       constants = c.all;
@@ -671,6 +680,6 @@ declared start d k e =
         symbols =
             let r = symbols_rest start v.now c.all t.types v.all g0 g1 there p later same_types [] d.symbols k walk in
             subst (λ q. SymbolsFrom (names.at_top start p) q d.symbols)
-                (ap (λ (q : Known). q.program.symbols) (r.is ∙ sym plain.is) ∙ same_symbols) r.from;
+            (ap (λ (q : Known). q.program.symbols) (r.is ∙ sym plain.is) ∙ same_symbols) r.from;
       };
     }

@@ -3,7 +3,6 @@ use Rattle.std.proofs.Common.{◌≡◌, ℕ, zero, suc, Bool, true, false, cond
 use Rattle.std.specs.Prelude.{ℤ, Ok, Err, not, ◌&&◌}
 use Rattle.std.specs.List.{list_any}
 use Rattle.std.specs.Int.RustNames.{int_lt}
-use Rattle.std.proofs.lemmas.Bool.{false≢true}
 use Rattle.std.proofs.lemmas.List.{append_assoc, append-nil}
 use Rattle.spv_names.specs.declared.names.Symbol.{Symbol}
 use Rattle.spv_logic.specs.declared.types.TypeId.{TypeId}
@@ -13,7 +12,6 @@ use Rattle.spv_syntax.specs.declared.names.Constant.{Constant}
 use Rattle.spv_syntax.specs.Types.{TypeDenoter, MoreTypes, Field, MoreFields, range, pointer, array, fields, no_more_types, more_types, no_field, field, no_more_fields, more_fields}
 use Rattle.spv_syntax.specs.Types as tree
 use Rattle.spv_program.specs.declared.types.TypeField.{TypeField}
-use Rattle.spv_program.specs.declared.types.TypeForm.{TypeForm}
 use Rattle.spv_program.specs.declared.types.TypeForm.TheVariants as form
 use Rattle.spv_program.specs.Lists.{same_name, found, item_at}
 use Rattle.spv_program.proofs.SortFacts.{nothing_there, some_is}
@@ -21,13 +19,13 @@ use Rattle.spv_typing.specs.Outcomes.{Outcome, after, where_so, each, undeclared
 use Rattle.spv_typing.specs.Known.{Meaning, OfType, OfList, OfConstant, OfPlace, OfStart, OfSymbol, OfRoutine, Scope, meaning}
 use Rattle.spv_typing.specs.Merging.{Written, Built, PointerTo, form_with, form_of, target_or_first}
 use Rattle.spv_typing.specs.TypeWalk.{all_names, constant, Reading, adding, type_named, pointer_named, type_line, is_range, Index, Indices, check_index, nested, nested_if_ranges, Fields, new_field, with_fields, denoted, all_denoted, field_denoted, fields_denoted}
-use Rattle.spv_well_typed.proofs.Outcomes.{fine, no_fault, same_value, went, held, behind_test}
+use Rattle.spv_well_typed.proofs.Outcomes.{fine, no_fault, same_value, went, behind_test}
 use Rattle.spv_origin.specs.Names.{View, constant_named}
 use Rattle.spv_origin.specs.Names as seen_names
 use Rattle.spv_origin.specs.Types.{fields_of, TypeFrom, FieldsFrom}
 use Rattle.spv_origin.specs.Types as origin
 use Rattle.spv_origin.proofs.Firsts.{There}
-use Rattle.spv_origin.proofs.Merged.{item_before, item_behind, FieldsIn, no_fields_in, one_field_in, FormIn, range_in, array_in, record_in, WrittenIn, built_in, target_in}
+use Rattle.spv_origin.proofs.Merged.{item_before, item_behind, FieldsIn, no_fields_in, one_field_in, range_in, array_in, record_in, WrittenIn, built_in, target_in}
 use Rattle.spv_origin.proofs.Constants.{constant_from}
 
 -- ---- lists that grow
@@ -59,9 +57,9 @@ field_names done before [] all e = append-nil before ∙ same_value e
 field_names done before (x ∷ xs) all e =
     let one = went (new_field done before x) (λ next. each (new_field done) next xs) all e in
     let next = same_value (behind_test (not (list_any (λ f. same_name f.name x.symbol) done) && not
-        (list_any (same_name x.symbol) before)) (twice x) (fine (before ++ x.symbol ∷ [])) one.value one.first) in
+    (list_any (same_name x.symbol) before)) (twice x) (fine (before ++ x.symbol ∷ [])) one.value one.first) in
     sym (append_assoc before (x.symbol ∷ []) (map (λ (y : Name). y.symbol) xs))
-        ∙ (ap (λ q. q ++ map (λ (y : Name). y.symbol) xs) next ∙ field_names done one.value xs all one.rest)
+    ∙ (ap (λ q. q ++ map (λ (y : Name). y.symbol) xs) next ∙ field_names done one.value xs all one.rest)
 
 -- indices that were checked
 checked_same : (types : List Written) (before all indices : List Index) → each (check_index types) before indices ≡ Ok all
@@ -79,7 +77,7 @@ nested_longer types [] e = longer_same types
 nested_longer types (i ∷ indices) e =
     let inner = nested types indices e in
     longer_on types inner.written (inner.written ++ Built (form.Array i.type inner.type) ∷ []) (nested_longer types indices e)
-        (longer_one inner.written (Built (form.Array i.type inner.type)))
+    (longer_one inner.written (Built (form.Array i.type inner.type)))
 
 abbrev kept : List Written → TypeId → Reading
 kept types t = record { written = types; type = t }
@@ -116,37 +114,37 @@ module _ (s : Scope) (is_target : Symbol → Bool) where
         subst (λ (q : Reading). Longer types q.written) (same_value one.rest) (longer_same types)
     denoted_longer types (range line low high) r e =
         let one = went (constant s low) (λ a. after (constant s high) (λ b. where_so (not (int_lt b a)) (wrong line)
-            (fine (adding types (Built (form.Range a b)))))) r e in
+        (fine (adding types (Built (form.Range a b)))))) r e in
         let two = went (constant s high) (λ b. where_so (not (int_lt b one.value)) (wrong line)
-            (fine (adding types (Built (form.Range one.value b))))) r one.rest in
+        (fine (adding types (Built (form.Range one.value b))))) r one.rest in
         let is = same_value (behind_test (not (int_lt two.value one.value)) (wrong line)
-            (fine (adding types (Built (form.Range one.value two.value)))) r two.rest) in
+        (fine (adding types (Built (form.Range one.value two.value)))) r two.rest) in
         subst (λ (q : Reading). Longer types q.written) is (longer_one types (Built (form.Range one.value two.value)))
     denoted_longer types (pointer line x) r e = pointer_longer types line x (meaning s x.symbol) r e
     denoted_longer types (array line first more elements) r e =
         let one = went (denoted s is_target types first) (λ one. after (all_denoted s is_target (indices_of first one) more)
-            (λ i. after (denoted s is_target i.written elements) (λ e. nested_if_ranges e.written i.indices e.type))) r e in
+        (λ i. after (denoted s is_target i.written elements) (λ e. nested_if_ranges e.written i.indices e.type))) r e in
         let two = went (all_denoted s is_target (indices_of first one.value) more)
-            (λ i. after (denoted s is_target i.written elements) (λ e. nested_if_ranges e.written i.indices e.type)) r one.rest in
+        (λ i. after (denoted s is_target i.written elements) (λ e. nested_if_ranges e.written i.indices e.type)) r one.rest in
         let three = went (denoted s is_target two.value.written elements) (λ e. nested_if_ranges e.written two.value.indices e.type) r
-            two.rest in
+        two.rest in
         let four = went (each (check_index three.value.written) [] two.value.indices)
-            (λ all. fine (nested three.value.written all three.value.type)) r three.rest in
+        (λ all. fine (nested three.value.written all three.value.type)) r three.rest in
         let first_longer = denoted_longer types first one.value one.first in
         let all_longer = all_longer_of (indices_of first one.value) more two.value two.first in
         let elements_longer = denoted_longer two.value.written elements three.value three.first in
         let last = subst (λ (q : Reading). Longer three.value.written q.written) (same_value four.rest)
-            (nested_longer three.value.written four.value three.value.type) in
+        (nested_longer three.value.written four.value three.value.type) in
         longer_on types one.value.written r.written first_longer
         (longer_on one.value.written two.value.written r.written all_longer
-            (longer_on two.value.written three.value.written r.written elements_longer last))
+        (longer_on two.value.written three.value.written r.written elements_longer last))
     denoted_longer types (fields line first more) r e =
         let one = went (field_denoted s is_target (no_fields_yet types) first)
-            (λ one. after (fields_denoted s is_target one more) (λ all. fine (adding all.written (Built (form.Record all.fields))))) r e in
+        (λ one. after (fields_denoted s is_target one more) (λ all. fine (adding all.written (Built (form.Record all.fields))))) r e in
         let two = went (fields_denoted s is_target one.value more) (λ all. fine (adding all.written (Built (form.Record all.fields)))) r
-            one.rest in
+        one.rest in
         let last = subst (λ (q : Reading). Longer two.value.written q.written) (same_value two.rest)
-            (longer_one two.value.written (Built (form.Record two.value.fields))) in
+        (longer_one two.value.written (Built (form.Record two.value.fields))) in
         longer_on types one.value.written r.written (field_longer (no_fields_yet types) first one.value one.first)
         (longer_on one.value.written two.value.written r.written (fields_longer one.value more two.value two.first) last)
 
@@ -156,13 +154,13 @@ module _ (s : Scope) (is_target : Symbol → Bool) where
     all_longer_of i (more_types t more) all e =
         let one = went (denoted s is_target i.written t) (λ r. all_denoted s is_target (index_more i t r) more) all e in
         longer_on i.written one.value.written all.written (denoted_longer i.written t one.value one.first)
-            (all_longer_of (index_more i t one.value) more all one.rest)
+        (all_longer_of (index_more i t one.value) more all one.rest)
 
     field_longer : (fs : Fields) (f : Field) (all : Fields) → field_denoted s is_target fs f ≡ Ok all → Longer fs.written all.written
     field_longer fs (no_field line) all e = subst (λ (q : Fields). Longer fs.written q.written) (same_value e) (longer_same fs.written)
     field_longer fs (field line names of) all e =
         let one = went (each (new_field fs.fields) [] (all_names names))
-            (λ new. after (denoted s is_target fs.written of) (λ r. fine (with_fields fs new r.type r.written))) all e in
+        (λ new. after (denoted s is_target fs.written of) (λ r. fine (with_fields fs new r.type r.written))) all e in
         let two = went (denoted s is_target fs.written of) (λ r. fine (with_fields fs one.value r.type r.written)) all one.rest in
         subst (λ (q : Fields). Longer fs.written q.written) (same_value two.rest) (denoted_longer fs.written of two.value two.first)
 
@@ -172,7 +170,7 @@ module _ (s : Scope) (is_target : Symbol → Bool) where
     fields_longer fs (more_fields f more) all e =
         let one = went (field_denoted s is_target fs f) (λ next. fields_denoted s is_target next more) all e in
         longer_on fs.written one.value.written all.written (field_longer fs f one.value one.first)
-            (fields_longer one.value more all one.rest)
+        (fields_longer one.value more all one.rest)
 
 -- ---- the type that was read is there
 
@@ -213,33 +211,33 @@ module _ (s : Scope) (is_target : Symbol → Bool) (base : List Written)
       subst (λ (q : Reading). There q.written q.type.0) (same_value one.rest) h
   denoted_there types (range line low high) r l e =
       let one = went (constant s low) (λ a. after (constant s high) (λ b. where_so (not (int_lt b a)) (wrong line)
-          (fine (adding types (Built (form.Range a b)))))) r e in
+      (fine (adding types (Built (form.Range a b)))))) r e in
       let two = went (constant s high) (λ b. where_so (not (int_lt b one.value)) (wrong line)
-          (fine (adding types (Built (form.Range one.value b))))) r one.rest in
+      (fine (adding types (Built (form.Range one.value b))))) r one.rest in
       last_there types (Built (form.Range one.value two.value)) r
-          (same_value (behind_test (not (int_lt two.value one.value)) (wrong line)
-          (fine (adding types (Built (form.Range one.value two.value)))) r two.rest))
+      (same_value (behind_test (not (int_lt two.value one.value)) (wrong line)
+      (fine (adding types (Built (form.Range one.value two.value)))) r two.rest))
   denoted_there types (pointer line x) r l e = pointer_there types line x (is_target x.symbol) (meaning s x.symbol) r e
   denoted_there types (array line first more elements) r l e =
       let one = went (denoted s is_target types first) (λ one. after (all_denoted s is_target (indices_of first one) more)
-          (λ i. after (denoted s is_target i.written elements) (λ e. nested_if_ranges e.written i.indices e.type))) r e in
+      (λ i. after (denoted s is_target i.written elements) (λ e. nested_if_ranges e.written i.indices e.type))) r e in
       let two = went (all_denoted s is_target (indices_of first one.value) more)
-          (λ i. after (denoted s is_target i.written elements) (λ e. nested_if_ranges e.written i.indices e.type)) r one.rest in
+      (λ i. after (denoted s is_target i.written elements) (λ e. nested_if_ranges e.written i.indices e.type)) r one.rest in
       let three = went (denoted s is_target two.value.written elements) (λ e. nested_if_ranges e.written two.value.indices e.type) r
-          two.rest in
+      two.rest in
       let four = went (each (check_index three.value.written) [] two.value.indices)
-          (λ all. fine (nested three.value.written all three.value.type)) r three.rest in
+      (λ all. fine (nested three.value.written all three.value.type)) r three.rest in
       let b1 = longer_on base types one.value.written l (denoted_longer s is_target types first one.value one.first) in
       let b2 = longer_on base one.value.written two.value.written b1
-          (all_longer_of s is_target (indices_of first one.value) more two.value two.first) in
+      (all_longer_of s is_target (indices_of first one.value) more two.value two.first) in
       let h = denoted_there two.value.written elements three.value b2 three.first in
       subst (λ (q : Reading). There q.written q.type.0) (same_value four.rest)
-          (nested_there three.value.written four.value three.value.type h)
+      (nested_there three.value.written four.value three.value.type h)
   denoted_there types (fields line first more) r l e =
       let one = went (field_denoted s is_target (no_fields_yet types) first)
-          (λ one. after (fields_denoted s is_target one more) (λ all. fine (adding all.written (Built (form.Record all.fields))))) r e in
+      (λ one. after (fields_denoted s is_target one more) (λ all. fine (adding all.written (Built (form.Record all.fields))))) r e in
       let two = went (fields_denoted s is_target one.value more) (λ all. fine (adding all.written (Built (form.Record all.fields)))) r
-          one.rest in
+      one.rest in
       last_there two.value.written (Built (form.Record two.value.fields)) r (same_value two.rest)
 
 -- ---- with the final numbers
@@ -247,7 +245,7 @@ module _ (s : Scope) (is_target : Symbol → Bool) (base : List Written)
 module _ (s : Scope) (is_target : Symbol → Bool) (v : View) (targets names : List (Symbol × TypeId)) (base whole : List Written)
     (new : TypeId → TypeId)
     (forms : (i : ℕ) (w : Written) → item_at whole i ≡ Some w
-        → item_at v.program.forms (new (record { 0 = i })).0 ≡ Some (form_with new (form_of names w)))
+    → item_at v.program.forms (new (record { 0 = i })).0 ≡ Some (form_with new (form_of names w)))
     (types_there : (x : Symbol) (t : TypeId) → meaning s x ≡ Some (OfType t) → There base t.0)
     (types_named : (x : Symbol) (t : TypeId) → meaning s x ≡ Some (OfType t) → seen_names.type_named v x ≡ Some (new t))
     (constants : (x : Symbol) (z : ℤ) → meaning s x ≡ Some (OfConstant z) → constant_named v x ≡ Some z)
@@ -302,9 +300,11 @@ module _ (s : Scope) (is_target : Symbol → Bool) (v : View) (targets names : L
       → meaning s x.symbol ≡ m → type_named on x m ≡ Ok t → There types t.0 × TypeFrom v targets (new t) (tree.named line x)
   named_from types line on x None t l h e = absurd (no_fault e)
   named_from types line on x (Some (OfType u)) t l h e =
-      let same : u ≡ t = same_value e in
-      (subst (λ (q : TypeId). There types q.0) same (longer_there base types u.0 l (types_there x.symbol u h)), origin.by_name
-          (types_named x.symbol u h ∙ ap (λ q. Some (new q)) same))
+      let same : u ≡ t = same_value e in (
+        subst (λ (q : TypeId). There types q.0) same (longer_there base types u.0 l (types_there x.symbol u h)),
+        origin.by_name
+            (types_named x.symbol u h ∙ ap (λ q. Some (new q)) same),
+      )
   named_from types line on x (Some OfList) t l h e = absurd (no_fault e)
   named_from types line on x (Some (OfConstant z)) t l h e = absurd (no_fault e)
   named_from types line on x (Some (OfPlace u)) t l h e = absurd (no_fault e)
@@ -316,12 +316,12 @@ module _ (s : Scope) (is_target : Symbol → Bool) (v : View) (targets names : L
       → denoted s is_target types (range line low high) ≡ Ok r → Longer r.written whole → ReadFrom types (range line low high) r
   range_from types line low high r all e later =
       let one = went (constant s low) (λ a. after (constant s high) (λ b. where_so (not (int_lt b a)) (wrong line)
-          (fine (adding types (Built (form.Range a b)))))) r e in
+      (fine (adding types (Built (form.Range a b)))))) r e in
       let two = went (constant s high) (λ b. where_so (not (int_lt b one.value)) (wrong line)
-          (fine (adding types (Built (form.Range one.value b))))) r one.rest in
+      (fine (adding types (Built (form.Range one.value b))))) r one.rest in
       let w = Built (form.Range one.value two.value) in
       let is : adding types w ≡ r = same_value (behind_test (not (int_lt two.value one.value)) (wrong line) (fine (adding types w)) r
-          two.rest) in
+      two.rest) in
       let end : Longer (types ++ w ∷ []) whole = subst (λ (q : Reading). Longer q.written whole) (sym is) later in
       subst (ReadFrom types (range line low high)) is
       (record {
@@ -389,7 +389,7 @@ module _ (s : Scope) (is_target : Symbol → Bool) (v : View) (targets names : L
         there = added_there inner.written w;
         all_in = one_in inner.written w r.all_in (built_in (form.Array i.type inner.type)
             (array_in i.type inner.type (longer_there inner.written whole i.type.0 before in_inner)
-                (longer_there inner.written whole inner.type.0 before r.there)));
+            (longer_there inner.written whole inner.type.0 before r.there)));
       }
 
   nested_from : (types : List Written) (line : ℕ) (i : Index) (is : List Index) (e : TypeId) (first : TypeDenoter) (more : MoreTypes)
@@ -445,7 +445,7 @@ module _ (s : Scope) (is_target : Symbol → Bool) (v : View) (targets names : L
       let same : so_far.fields ++ own ≡ next.fields = ap (λ (q : Fields). q.fields) is in
       let renaming : map (λ (f : TypeField). renamed f) own ≡ fields_of (names.first ∷ names.more) (new r.type) =
       ap (λ q. map (λ (f : TypeField). renamed f) (map (λ x. record { name = x; of = r.type }) q)) (sym named) ∙ fields_renamed
-          (names.first ∷ names.more) r.type in
+      (names.first ∷ names.more) r.type in
       record {
         rest = own ++ h.rest;
         is = sym (append_assoc so_far.fields own h.rest) ∙ (ap (λ q. q ++ h.rest) same ∙ h.is);
@@ -511,10 +511,10 @@ module _ (s : Scope) (is_target : Symbol → Bool) (v : View) (targets names : L
       let index : Index = record { type = one.type; line = type_line first } in
       let list : index ∷ i.rest ≡ two.indices = i.is in
       let at_end : Longer (nested three.written (index ∷ i.rest) three.type).written whole = subst
-          (λ q. Longer (nested three.written q three.type).written whole) (sym list) end in
+      (λ q. Longer (nested three.written q three.type).written whole) (sym list) end in
       let l13 = longer_on one.written two.written three.written l2 l3 in
       let there = one_there index i.rest (longer_there one.written three.written one.type.0 l13 f.there)
-          (indices_later two.written three.written i.rest l3 i.rest_there) in
+      (indices_later two.written three.written i.rest l3 i.rest_there) in
       let n = nested_in three.written (index ∷ i.rest) three.type g.all_in g.there there at_end in
       let from = nested_from three.written line index i.rest three.type first more elements f.from i.from g.from at_end in
       subst (ReadFrom types (array line first more elements)) (ap (λ q. nested three.written q three.type) list ∙ is)
@@ -531,16 +531,16 @@ module _ (s : Scope) (is_target : Symbol → Bool) (v : View) (targets names : L
     denoted_from types (pointer line x) r l all e later = pointer_from types line x (meaning s x.symbol) r all e later
     denoted_from types (array line first more elements) r l all e later =
         let one = went (denoted s is_target types first) (λ one. after (all_denoted s is_target (indices_of first one) more)
-            (λ i. after (denoted s is_target i.written elements) (λ e. nested_if_ranges e.written i.indices e.type))) r e in
+        (λ i. after (denoted s is_target i.written elements) (λ e. nested_if_ranges e.written i.indices e.type))) r e in
         let two = went (all_denoted s is_target (indices_of first one.value) more)
-            (λ i. after (denoted s is_target i.written elements) (λ e. nested_if_ranges e.written i.indices e.type)) r one.rest in
+        (λ i. after (denoted s is_target i.written elements) (λ e. nested_if_ranges e.written i.indices e.type)) r one.rest in
         let three = went (denoted s is_target two.value.written elements) (λ e. nested_if_ranges e.written two.value.indices e.type) r
-            two.rest in
+        two.rest in
         let four = went (each (check_index three.value.written) [] two.value.indices)
-            (λ all. fine (nested three.value.written all three.value.type)) r three.rest in
+        (λ all. fine (nested three.value.written all three.value.type)) r three.rest in
         let is : nested three.value.written two.value.indices three.value.type ≡ r =
         ap (λ q. nested three.value.written q three.value.type)
-            (checked_same three.value.written [] four.value two.value.indices four.first) ∙ same_value four.rest in
+        (checked_same three.value.written [] four.value two.value.indices four.first) ∙ same_value four.rest in
         let end = subst (λ (q : Reading). Longer q.written whole) (sym is) later in
         let l1 = denoted_longer s is_target types first one.value one.first in
         let l2 = all_longer_of s is_target (indices_of first one.value) more two.value two.first in
@@ -557,23 +557,28 @@ module _ (s : Scope) (is_target : Symbol → Bool) (v : View) (targets names : L
         array_read line types first more elements one.value two.value three.value r f l2 i l3 g is end
     denoted_from types (fields line first more) r l all e later =
         let one = went (field_denoted s is_target (no_fields_yet types) first)
-            (λ one. after (fields_denoted s is_target one more) (λ all. fine (adding all.written (Built (form.Record all.fields))))) r e in
+        (λ one. after (fields_denoted s is_target one more) (λ all. fine (adding all.written (Built (form.Record all.fields))))) r e in
         let two = went (fields_denoted s is_target one.value more) (λ all. fine (adding all.written (Built (form.Record all.fields)))) r
-            one.rest in
+        one.rest in
         let l1 = field_longer s is_target (no_fields_yet types) first one.value one.first in
         let end = subst (λ (q : Reading). Longer q.written whole) (sym (same_value two.rest)) later in
         let w2 = longer_on two.value.written (two.value.written ++ Built (form.Record two.value.fields) ∷ []) whole
-            (longer_one two.value.written (Built (form.Record two.value.fields))) end in
+        (longer_one two.value.written (Built (form.Record two.value.fields))) end in
         let w1 = longer_on one.value.written two.value.written whole (fields_longer s is_target one.value more two.value two.first) w2 in
         let h = field_read (no_fields_yet types) first more one.value two.value l all one.first w1
-            (λ a b. fields_read one.value more two.value a b two.first w2) in
+        (λ a b. fields_read one.value more two.value a b two.first w2) in
         record_read line types first more two.value r h (same_value two.rest) later
 
     all_read : (i : Indices) (more : MoreTypes) (all : Indices) → Longer base i.written → AllIn i.written
         → all_denoted s is_target i more ≡ Ok all → Longer all.written whole → AllRead i more all
     all_read i no_more_types all l h e later =
-        subst (AllRead i no_more_types) (same_value e) (record { rest = []; is = append-nil i.indices; rest_there = none_there;
-            all_in = h; from = no_indices })
+        subst (AllRead i no_more_types) (same_value e) (record {
+          rest = [];
+          is = append-nil i.indices;
+          rest_there = none_there;
+          all_in = h;
+          from = no_indices;
+        })
     all_read i (more_types t more) all l h e later =
         let one = went (denoted s is_target i.written t) (λ r. all_denoted s is_target (index_more i t r) more) all e in
         let l1 = denoted_longer s is_target i.written t one.value one.first in
@@ -581,7 +586,7 @@ module _ (s : Scope) (is_target : Symbol → Bool) (v : View) (targets names : L
         let w1 = longer_on one.value.written all.written whole l2 later in
         let f = denoted_from i.written t one.value l h one.first w1 in
         index_read i all t more one.value f l2 (all_read (index_more i t one.value) more all
-            (longer_on base i.written one.value.written l l1) f.all_in one.rest later)
+        (longer_on base i.written one.value.written l l1) f.all_in one.rest later)
 
     field_read : (fs : Fields) (f : Field) (more : MoreFields) (next all : Fields) → Longer base fs.written → AllIn fs.written
         → field_denoted s is_target fs f ≡ Ok next → Longer next.written whole
@@ -589,26 +594,26 @@ module _ (s : Scope) (is_target : Symbol → Bool) (v : View) (targets names : L
     field_read fs (no_field line) more next all l h e later go =
         let is : fs ≡ next = same_value e in
         no_group_rest fs next all line more is (go (subst (λ (q : Fields). Longer base q.written) is l)
-            (subst (λ (q : Fields). AllIn q.written) is h))
+        (subst (λ (q : Fields). AllIn q.written) is h))
     field_read fs (field line names of) more next all l h e later go =
         let one = went (each (new_field fs.fields) [] (all_names names))
-            (λ new. after (denoted s is_target fs.written of) (λ r. fine (with_fields fs new r.type r.written))) next e in
+        (λ new. after (denoted s is_target fs.written of) (λ r. fine (with_fields fs new r.type r.written))) next e in
         let two = went (denoted s is_target fs.written of) (λ r. fine (with_fields fs one.value r.type r.written)) next one.rest in
         let is : with_fields fs one.value two.value.type two.value.written ≡ next = same_value two.rest in
         let l1 = denoted_longer s is_target fs.written of two.value two.first in
         let w1 = subst (λ (q : Fields). Longer q.written whole) (sym is) later in
         let f = denoted_from fs.written of two.value l h two.first w1 in
         let rest = go (subst (λ (q : Fields). Longer base q.written) is (longer_on base fs.written two.value.written l l1))
-            (subst (λ (q : Fields). AllIn q.written) is f.all_in) in
+        (subst (λ (q : Fields). AllIn q.written) is f.all_in) in
         group_rest fs next all line names of more one.value two.value
-            (field_names fs.fields [] (names.first ∷ names.more) one.value one.first)
-            (longer_there two.value.written whole two.value.type.0 w1 f.there) f.from is rest
+        (field_names fs.fields [] (names.first ∷ names.more) one.value one.first)
+        (longer_there two.value.written whole two.value.type.0 w1 f.there) f.from is rest
 
     fields_read : (fs : Fields) (more : MoreFields) (all : Fields) → Longer base fs.written → AllIn fs.written
         → fields_denoted s is_target fs more ≡ Ok all → Longer all.written whole → FieldsRest fs more all
     fields_read fs no_more_fields all l h e later =
         subst (FieldsRest fs no_more_fields) (same_value e)
-            (record { rest = []; is = append-nil fs.fields; rest_in = no_fields_in; all_in = h; from = origin.no_fields })
+        (record { rest = []; is = append-nil fs.fields; rest_in = no_fields_in; all_in = h; from = origin.no_fields })
     fields_read fs (more_fields f more) all l h e later =
         let one = went (field_denoted s is_target fs f) (λ next. fields_denoted s is_target next more) all e in
         let w1 = longer_on one.value.written all.written whole (fields_longer s is_target one.value more all one.rest) later in

@@ -96,8 +96,11 @@ from_the_right : No (From (minus (read x) (minus (read y) one)) (less_less (vari
 from_the_right (origin.alone (origin.one_side (origin.unsigned h (origin.one_term g (origin.one_term k m))))) = elim m [ ]
 
 pub from_the_left : FromTheLeft
-from_the_left = (origin.alone (origin.one_side (origin.unsigned x_read (origin.one_term y_read
-    (origin.one_term one_read origin.no_terms)))), from_the_right)
+from_the_left = (
+  origin.alone (origin.one_side (origin.unsigned x_read (origin.one_term y_read
+      (origin.one_term one_read origin.no_terms)))),
+  from_the_right,
+)
 
 -- the two sides of a relation
 record SidesOf (o : ComparisonSign) (a b : tree.Term) (e : Expression) : Type 0 where
@@ -155,23 +158,27 @@ no_y_factor : No (FactorFrom (read y) (factor x))
 no_y_factor (origin.read (origin.read_name h origin.no_more)) = elim h [ ]
 
 other_first_factor : No (From (times (read y) (read y)) Rattle.spv_origin.specs.Examples.product)
-other_first_factor (origin.alone (origin.one_side (origin.unsigned (origin.product h (origin.one_factor g origin.no_factors)) origin.no_terms))) = no_y_factor h
+other_first_factor (origin.alone (origin.one_side (origin.unsigned (origin.product h (origin.one_factor g origin.no_factors))
+    origin.no_terms))) = no_y_factor h
 
 other_second_factor : No (From (times (read x) (read x)) Rattle.spv_origin.specs.Examples.product)
-other_second_factor (origin.alone (origin.one_side (origin.unsigned (origin.product h (origin.one_factor g origin.no_factors)) origin.no_terms))) = no_x_factor g
+other_second_factor (origin.alone (origin.one_side (origin.unsigned (origin.product h (origin.one_factor g origin.no_factors))
+    origin.no_terms))) = no_x_factor g
 
 lost_factor : No (From (read x) Rattle.spv_origin.specs.Examples.product)
 lost_factor (origin.alone (origin.one_side (origin.unsigned (origin.product h (origin.one_factor g k)) origin.no_terms))) = elim k [ ]
 
 other_negated : No (From (Negated (read y)) opposite)
-other_negated (origin.alone (origin.one_side (origin.unsigned (origin.product (origin.negated h) origin.no_factors) origin.no_terms))) = no_y_factor h
+other_negated (origin.alone (origin.one_side (origin.unsigned (origin.product (origin.negated h) origin.no_factors) origin.no_terms))) =
+    no_y_factor h
 
 lost_negation : No (From (read x) opposite)
 lost_negation (origin.alone (origin.one_side (origin.unsigned (origin.product h origin.no_factors) origin.no_terms))) = elim h [ ]
 
 pub factors_are_kept : FactorsAreKept
 factors_are_kept = (
-  origin.alone (origin.one_side (origin.unsigned (origin.product (factor_read x refl) (origin.one_factor (factor_read y refl) origin.no_factors)) origin.no_terms)),
+  origin.alone (origin.one_side (origin.unsigned (origin.product (factor_read x refl) (origin.one_factor (factor_read y refl)
+      origin.no_factors)) origin.no_terms)),
   other_first_factor,
   other_second_factor,
   lost_factor,
@@ -181,8 +188,12 @@ factors_are_kept = (
 )
 
 pub relations_are_kept : RelationsAreKept
-relations_are_kept = (origin.alone (origin.two_sides (origin.unsigned x_read origin.no_terms) (origin.unsigned y_read origin.no_terms)),
-    other_relation, other_sides, other_right)
+relations_are_kept = (
+  origin.alone (origin.two_sides (origin.unsigned x_read origin.no_terms) (origin.unsigned y_read origin.no_terms)),
+  other_relation,
+  other_sides,
+  other_right,
+)
 
 -- ---- numbers, constants, brackets, indices
 
@@ -212,7 +223,8 @@ no_read (origin.alone (origin.one_side (origin.unsigned (origin.product (origin.
     origin.no_factors) origin.no_terms))) = no_read_alone h
 
 no_brackets : No (From (read x) (alone (in_brackets (variable y))))
-no_brackets (origin.alone (origin.one_side (origin.unsigned (origin.product (origin.in_brackets (origin.alone (origin.one_side (origin.unsigned h origin.no_terms)))) origin.no_factors) origin.no_terms))) = no_x_in_y h
+no_brackets (origin.alone (origin.one_side (origin.unsigned (origin.product (origin.in_brackets
+    (origin.alone (origin.one_side (origin.unsigned h origin.no_terms)))) origin.no_factors) origin.no_terms))) = no_x_in_y h
 
 pub numbers_are_kept : NumbersAreKept
 numbers_are_kept = (
@@ -248,9 +260,9 @@ after_two : (a b d e : Expression) (t u : TypeId) (i j : Expression) → a ≡ r
     → From i (alone (variable y)) → From j (alone (number 1)) → IndicesOf e
 after_two a b d e t u i j same g h origin.no_more f k =
     let one : Read (designator 1 x (at_index t i no_selectors)) ≡ b = some_is
-        (ap (λ q. selected q (at_index t i no_selectors)) (sym same) ∙ g) in
+    (ap (λ q. selected q (at_index t i no_selectors)) (sym same) ∙ g) in
     let two : Read (designator 1 x (at_index t i (at_index u j no_selectors))) ≡ d = some_is
-        (ap (λ q. selected q (at_index u j no_selectors)) one ∙ h) in
+    (ap (λ q. selected q (at_index u j no_selectors)) one ∙ h) in
     record { first_type = t; second_type = u; first = i; second = j; first_from = f; second_from = k; is = two }
 
 indices_of : (e : Expression) → From e indexed → IndicesOf e
@@ -334,11 +346,14 @@ is_boolean e = false
 no_truth_in_one : No (From (Boolean true) (alone (number 1)))
 no_truth_in_one h = false≢true (ap is_boolean (number_in (Boolean true) 1 h))
 
-no_other_test : No (FromStatement x_first (trees.conditional 1 (alone (number 1)) (assigning x (alone (number 1))) (trees.otherwise (assigning y (alone (number 1))))))
+no_other_test : No (FromStatement x_first (trees.conditional 1 (alone (number 1)) (assigning x (alone (number 1)))
+    (trees.otherwise (assigning y (alone (number 1))))))
 no_other_test (statements.conditional e a b) = no_truth_in_one e
 
-no_other_else : No (FromStatement x_first (trees.conditional 1 truth (assigning x (alone (number 1))) (trees.otherwise (assigning x (alone (number 1))))))
-no_other_else (statements.conditional e a (statements.otherwise (statements.assignment (origin.written_name h origin.no_more) value))) = elim h [ ]
+no_other_else : No (FromStatement x_first (trees.conditional 1 truth (assigning x (alone (number 1)))
+    (trees.otherwise (assigning x (alone (number 1))))))
+no_other_else (statements.conditional e a (statements.otherwise (statements.assignment (origin.written_name h origin.no_more) value))) =
+    elim h [ ]
 
 no_statement_lost : No (FromStatement (Sequence (assign x one) Empty)
     (trees.compound 1 (trees.block 1 (assigning x (alone (number 1)))
@@ -360,14 +375,17 @@ no_invariant_lost : No (FromStatement (While 1 None (Boolean true) (assign x one
     (trees.repetition 1 (Some truth) (trees.while_loop 1 truth (assigning x (alone (number 1))))))
 no_invariant_lost (statements.while i e a) = elim i [ ]
 
-no_other_loop_test : No (FromStatement (While 1 None (Boolean true) (assign x one)) (trees.repetition 1 None (trees.while_loop 1 (alone (number 1)) (assigning x (alone (number 1))))))
+no_other_loop_test : No (FromStatement (While 1 None (Boolean true) (assign x one))
+    (trees.repetition 1 None (trees.while_loop 1 (alone (number 1)) (assigning x (alone (number 1))))))
 no_other_loop_test (statements.while i e a) = no_truth_in_one e
 
-no_other_loop : No (FromStatement (While 1 None (Boolean true) (assign x one)) (trees.repetition 1 None (trees.while_loop 1 truth (assigning y (alone (number 1))))))
+no_other_loop : No (FromStatement (While 1 None (Boolean true) (assign x one))
+    (trees.repetition 1 None (trees.while_loop 1 truth (assigning y (alone (number 1))))))
 no_other_loop (statements.while i e (statements.assignment (origin.written_name h origin.no_more) value)) = elim h [ ]
 
 -- an unsigned numeral is its number
-pub numeral_is : (v : View) (z : ℤ) (n : ℕ) → statements.ConstantFrom v z (record { line = 1; sign = None; value = scalar.Number n }) → pos n ≡ z
+pub numeral_is : (v : View) (z : ℤ) (n : ℕ) → statements.ConstantFrom v z (record { line = 1; sign = None; value = scalar.Number n })
+    → pos n ≡ z
 numeral_is v z n (statements.unsigned statements.number) = refl
 
 no_other_label : No (FromStatement (Case 1 (read x) (arm (pos 4 ∷ []) (assign x one) no_arms))

@@ -6,34 +6,31 @@ use Rattle.spv_names.specs.declared.names.Symbol.{Symbol}
 use Rattle.spv_logic.specs.declared.types.TypeId.{TypeId}
 use Rattle.spv_logic.specs.declared.types.Sort.{Sort}
 use Rattle.spv_logic.specs.declared.types.Sort.TheVariants as sort
-use Rattle.spv_logic.specs.declared.types.Decl.{Decl}
 use Rattle.spv_syntax.specs.declared.names.Name.{Name}
 use Rattle.spv_syntax.specs.declared.lists.Several.{Several}
 use Rattle.spv_syntax.specs.Formulas as tree
 use Rattle.spv_program.specs.declared.types.TypeForm.{TypeForm}
 use Rattle.spv_program.specs.declared.types.TypeForm.TheVariants as form
-use Rattle.spv_program.specs.declared.types.TypeField.{TypeField}
 use Rattle.spv_program.specs.Types.{form_at, sort_of, element_of, field_of, field_type, target_of, may_be_result, same_places}
-use Rattle.spv_program.specs.Expressions.{Expression, Designator, Selectors, Call, Arguments, Numeral, NilOf, Read, Result, Through, designator, no_selectors, at_index, at_field, at_cell, call, no_arguments, by_value, by_place}
+use Rattle.spv_program.specs.Expressions.{Expression, Designator, Call, Arguments, NilOf, Read, Result, Through, designator, no_selectors, at_index, at_field, at_cell, call, no_arguments, by_value, by_place}
 use Rattle.spv_program.specs.Programs.{Formal}
 use Rattle.spv_program.proofs.SortFacts.{nothing_there, some_is}
-use Rattle.spv_typing.specs.declared.faults.TypeFault.{TypeFault}
 use Rattle.spv_typing.specs.declared.faults.TypeFault.TheVariants.{Count}
 use Rattle.spv_typing.specs.Outcomes.{Outcome, after, where_so, wrong, undeclared}
 use Rattle.spv_typing.specs.Known.{Function, Meaning, OfType, OfList, OfConstant, OfPlace, OfStart, OfSymbol, OfRoutine, Heading, Scope, integer_type, meaning, function}
-use Rattle.spv_typing.specs.OperatorWalk.{Operand, Of, NilAt, Argument, settled, operands, formula_line, formula_walk, written_place, argument}
+use Rattle.spv_typing.specs.OperatorWalk.{Operand, Argument, settled, operands, formula_line, formula_walk, written_place, argument}
 use Rattle.spv_typing.specs.ExpressionWalk.{Base, AtName, AtResult, OfNumber, OfCall, Link, ByIndex, ByField, ByCell, Reached, reached, chained, place_at, expression_at, designator_at, function_result, name_read, own_result, name_written, is_this, may_be_selected, further, on_type, element_type, takes_indices, elements, indexed_at, field_in, field_at, content_at, AsValue, AsPlace, NoPlace, as_place, given_to, fitted, call_of, no_call, named_applied, applied_of, class_at, expression_forms, operand, expression_of, written}
 use Rattle.spv_typing.specs.ExpressionWalk as walk
 use Rattle.spv_typing.specs.StatementWalk.{arguments_of}
 use Rattle.spv_well_typed.proofs.Outcomes.{fine, no_fault, same_value, went, held, behind_test}
-use Rattle.spv_origin.specs.Names.{View, function_named, routine_named}
+use Rattle.spv_origin.specs.Names.{View, function_named}
 use Rattle.spv_origin.specs.Operators.{Given, Value, AtPlace}
 use Rattle.spv_origin.specs.Operators as origin
 use Rattle.spv_origin.specs.Expressions.{joined_with, selected, expression_operators, with_value, with_place, IsRead, read_constant, read_variable, read_result, IsWritten, written_variable, written_result, IsCalled, called, CallFrom, ExpressionFrom, PlaceFrom}
 use Rattle.spv_origin.specs.Expressions as expressions
 use Rattle.spv_origin.specs.Statements.{more_of, all_of}
 use Rattle.spv_origin.specs.Laws.{SeesPlaces, ExpressionsComeFromTheirTrees, PlacesComeFromTheirTrees, CallsComeFromTheirTrees}
-use Rattle.spv_origin.proofs.Operators.{IsFrom, from_of, settled_from, PlacedFrom, ArgumentsFrom, no_more, one_more, Extends, Begun, AppliedFrom, ClassFrom, Comes, formula_from, written_from, one_argument_from}
+use Rattle.spv_origin.proofs.Operators.{IsFrom, settled_from, PlacedFrom, ArgumentsFrom, no_more, one_more, Extends, Begun, AppliedFrom, ClassFrom, Comes, formula_from, written_from, one_argument_from}
 
 -- ---- selectors, one behind the other
 
@@ -110,12 +107,16 @@ module _ (s : Scope) (v : View) (sees : SeesPlaces s v) where
 
   behind : (b : Base) (links : List Link) (t u : TypeId) (l : Link) → Selectable b links t → may_follow l (form_at forms t.0) ≡ true
       → Behind b links t l u
-  behind b links t u l (a_name line x ls a) m = record
-      { good = record { may = a_name line x (links ++ l ∷ []) u }; is = ap (λ ss. Some (Read (designator line x ss)))
-      (chained_further links l) }
-  behind b links t u l (a_result line x ls a) m = record
-      { good = record { may = a_result line x (links ++ l ∷ []) u }; is = ap (λ ss. Some (Read (designator line x ss)))
-      (chained_further links l) }
+  behind b links t u l (a_name line x ls a) m = record {
+    good = record { may = a_name line x (links ++ l ∷ []) u };
+    is = ap (λ ss. Some (Read (designator line x ss)))
+        (chained_further links l);
+  }
+  behind b links t u l (a_result line x ls a) m = record {
+    good = record { may = a_result line x (links ++ l ∷ []) u };
+    is = ap (λ ss. Some (Read (designator line x ss)))
+        (chained_further links l);
+  }
   behind b links t u l (a_number z) m = absurd (false≢true (sym (ap (may_follow l) sees.first ∙ nothing_follows l) ∙ m))
   behind b links t u l (a_call c a plain) m = behind_call c t u l plain m
   behind b links t u l (a_cell c line w a ls) m = record
@@ -223,7 +224,7 @@ module _ (s : Scope) (v : View) (sees : SeesPlaces s v) where
   field_extends at r z x t g m e =
       let one = further_good r (ByField r.type x.symbol) t g m in
       subst (ExtendsHere r (tree.field at x)) (same_value e)
-          (record { good = one.good; on = λ more y h. origin.by_field {t = r.type} one.is h })
+      (record { good = one.good; on = λ more y h. origin.by_field {t = r.type} one.is h })
 
   field_in_comes : (line at : ℕ) (r z : Reached) (x : Name) (f : TypeForm) → form_at forms r.type.0 ≡ f → GoodReached r
       → field_in line r x f ≡ Ok z → ExtendsHere r (tree.field at x) z
@@ -248,7 +249,7 @@ module _ (s : Scope) (v : View) (sees : SeesPlaces s v) where
   content_comes line at r z g e =
       let go = λ (t : TypeId). fine (further r (ByCell at t) t) in
       by_target (target_of (form_at forms r.type.0)) refl
-          (behind_test (may_be_selected r.base) (wrong line) (on_type (Err (wrong line)) go (target_of (form_at forms r.type.0))) z e)
+      (behind_test (may_be_selected r.base) (wrong line) (on_type (Err (wrong line)) go (target_of (form_at forms r.type.0))) z e)
     where
       by_target : (o : Option TypeId) → target_of (form_at forms r.type.0) ≡ o
           → on_type (Err (wrong line)) (λ t. fine (further r (ByCell at t) t)) o ≡ Ok z → ExtendsHere r (tree.content at) z
@@ -256,7 +257,7 @@ module _ (s : Scope) (v : View) (sees : SeesPlaces s v) where
       by_target (Some t) k q =
           let one = further_good r (ByCell at t) t g (ap is_some k) in
           subst (ExtendsHere r (tree.content at)) (same_value q)
-              (record { good = one.good; on = λ more y h. origin.by_content {t = t} one.is h })
+          (record { good = one.good; on = λ more y h. origin.by_content {t = t} one.is h })
 
   -- ---- operands in a list
 
@@ -316,7 +317,7 @@ module _ (s : Scope) (v : View) (sees : SeesPlaces s v) where
       let one = went (settled NilOf (wrong i.0) sort.Int i.1) (λ x. elements_behind i r (j ∷ os) x (element_type forms r.type)) z e in
       let x = settled_from NilOf (λ y. ExpressionFrom v y f) (wrong i.0) sort.Int i.1 one.value from one.first in
       by_element (element_type forms r.type) refl one.value x one.rest
-          (λ n u q k. elements_come at (further r (ByIndex r.type n) u) z (j ∷ os) g fs q rest k)
+      (λ n u q k. elements_come at (further r (ByIndex r.type n) u) z (j ∷ os) g fs q rest k)
     where
       by_element : (o : Option TypeId) → element_type forms r.type ≡ o → (n : Expression) → ExpressionFrom v n f
           → elements_behind i r (j ∷ os) n o ≡ Ok z
@@ -381,13 +382,13 @@ module _ (s : Scope) (v : View) (sees : SeesPlaces s v) where
       let two = went (given_to [] given) (λ others. fine (itemed a.line (AsValue one.value) others)) gs one.rest in
       subst (λ q. ItemsFrom q (tree.more_formulas f more)) (same_value two.rest)
       (one_item (a.line, AsValue one.value) two.value f more (a_value one.value f (h.operand one.value one.first))
-          (items_come [] given more two.value rest two.first))
+      (items_come [] given more two.value rest two.first))
   items_come (formal ∷ formals) (a ∷ given) (tree.more_formulas f more) gs (one_more b others g fs h rest) e =
       let one = went (item_walk formal.by_place a) (λ o. after (given_to formals given) (λ others. fine (itemed a.line o others))) gs e in
       let two = went (given_to formals given) (λ others. fine (itemed a.line one.value others)) gs one.rest in
       subst (λ q. ItemsFrom q (tree.more_formulas f more)) (same_value two.rest)
       (one_item (a.line, one.value) two.value f more (item_comes formal.by_place a f one.value h.operand h.place one.first)
-          (items_come formals given more two.value rest two.first))
+      (items_come formals given more two.value rest two.first))
 
   record FittedFrom (fs : tree.MoreFormulas) (arguments : Arguments) : Type 0 where
     pub given : List (Given Expression)
@@ -406,8 +407,12 @@ module _ (s : Scope) (v : View) (sees : SeesPlaces s v) where
       let read : expression_at r ≡ Read d = designator_read r.base r.links r.type d k in
       let from = subst (λ x. origin.FromWritten expression_operators (IsRead v) (IsWritten v) (IsCalled v) x h.designator) read h.from in
       subst (FittedFrom (tree.more_formulas f more)) same
-      (record { given = AtPlace (Read d) ∷ others.given; from = origin.one_argument (origin.at_place h.is from) others.from; is = ap
-          (with_place d) others.is })
+      (record {
+        given = AtPlace (Read d) ∷ others.given;
+        from = origin.one_argument (origin.at_place h.is from) others.from;
+        is = ap
+            (with_place d) others.is;
+      })
 
   fitted_come : (formals : List Formal) (gs : List (ℕ × walk.Given)) (fs : tree.MoreFormulas) (all : Arguments)
       → length gs ≡ length formals → ItemsFrom gs fs → fitted forms formals gs ≡ Ok all → FittedFrom fs all
@@ -421,11 +426,11 @@ module _ (s : Scope) (v : View) (sees : SeesPlaces s v) where
       (one_item b others g fs (a_value p q h) rest) e =
       let wanted = sort_of forms formal.of in
       let one = went (settled NilOf (wrong line) wanted o) (λ x. after (fitted forms formals gs) (λ others. fine (by_value x others))) all
-          e in
+      e in
       let two = went (fitted forms formals gs) (λ others. fine (by_value one.value others)) all one.rest in
       let fewer : length gs ≡ length formals = cc (same) in
       value_fitted f more one.value two.value all (settled_from NilOf (λ x. ExpressionFrom v x f) (wrong line) wanted o one.value h
-          one.first) (fitted_come formals gs more two.value fewer rest two.first) (same_value two.rest)
+      one.first) (fitted_come formals gs more two.value fewer rest two.first) (same_value two.rest)
   fitted_come (formal ∷ formals) ((line, NoPlace) ∷ gs) (tree.more_formulas f more) all same h e = absurd (no_fault e)
   fitted_come (formal ∷ formals) ((line, AsPlace r) ∷ gs) (tree.more_formulas f more) all same
       (one_item b others g fs (a_place p q h) rest) e =
@@ -433,7 +438,7 @@ module _ (s : Scope) (v : View) (sees : SeesPlaces s v) where
       let next = walk.with_place (wrong line) (designator_at r) go in
       let fewer : length gs ≡ length formals = cc (same) in
       by_place_of (designator_at r) refl (behind_test (same_places forms formal.of r.type) (wrong line) next all e)
-          (λ others k. fitted_come formals gs more others fewer rest k)
+      (λ others k. fitted_come formals gs more others fewer rest k)
     where
       by_place_of : (o : Option Designator) → designator_at r ≡ o
           → walk.with_place (wrong line) o (λ d. after (fitted forms formals gs) (λ others. fine (by_place d others))) ≡ Ok all
@@ -456,9 +461,9 @@ module _ (s : Scope) (v : View) (sees : SeesPlaces s v) where
       let next = λ (gs : List (ℕ × walk.Given)). after (fitted forms h.formals gs) result in
       let one = went (given_to h.formals given) (λ gs. where_so (nat_eq (length gs) (length h.formals)) (Count line) (next gs)) c e in
       let same = eqb-true (length one.value) (length h.formals)
-          (held (nat_eq (length one.value) (length h.formals)) (Count line) (next one.value) c one.rest) in
+      (held (nat_eq (length one.value) (length h.formals)) (Count line) (next one.value) c one.rest) in
       let two = went (fitted forms h.formals one.value) result c
-          (behind_test (nat_eq (length one.value) (length h.formals)) (Count line) (next one.value) c one.rest) in
+      (behind_test (nat_eq (length one.value) (length h.formals)) (Count line) (next one.value) c one.rest) in
       record {
         arguments = two.value;
         fitted = fitted_come h.formals one.value fs two.value same (items_come h.formals given fs one.value g one.first) two.first;
@@ -479,7 +484,7 @@ module _ (s : Scope) (v : View) (sees : SeesPlaces s v) where
       let c = call_comes line x.line h given more one.value g one.first in
       let res = function_begun line x h one.value r m one.rest in
       let is : IsCalled v x c.fitted.given (Result (call h.number x.line c.arguments)) = called none (sees.routines x.symbol h m)
-          c.fitted.is in
+      c.fitted.is in
       record {
         given = c.fitted.given;
         from = c.fitted.from;
@@ -530,15 +535,15 @@ module _ (s : Scope) (v : View) (sees : SeesPlaces s v) where
   expression_comes wanted f e k =
       let one = went (operand s f) (settled NilOf (wrong (formula_line f)) wanted) e k in
       settled_from NilOf (λ x. ExpressionFrom v x f) (wrong (formula_line f)) wanted one.value e (operand_comes f one.value one.first)
-          one.rest
+      one.rest
 
   pub place_comes : (d : tree.Designator) (r : Reached) → written s d ≡ Ok r → (place : Designator) → designator_at r ≡ Some place
       → PlaceFrom v place d
   place_comes d r k place e =
       let w = written_from (expression_forms s) expression_operators (IsRead v) (IsWritten v) (IsCalled v) expression_at sort_for
-          GoodReached all_come d r k in
+      GoodReached all_come d r k in
       subst (λ x. origin.FromWritten expression_operators (IsRead v) (IsWritten v) (IsCalled v) x d)
-          (designator_read r.base r.links r.type place e) w.from
+      (designator_read r.base r.links r.type place e) w.from
 
   -- ---- the arguments of a procedure
 

@@ -1,6 +1,6 @@
 -- Which types the merging of pointer types puts together: each type stands for the first of its kind, the kinds are those of the
 -- targets, and as many rounds as there are types are enough.
-use Rattle.std.proofs.Common.{◌≡◌, ◌≢◌, ℕ, zero, suc, ◌+◌, ◌≤◌, ◌<◌, Bool, true, false, cond, nat_eq, List, [], ◌∷◌, length, Option, Some, None, refl, sym, ap, ◌∙◌, subst, arith}
+use Rattle.std.proofs.Common.{◌≡◌, ◌≢◌, ℕ, zero, suc, ◌+◌, ◌≤◌, Bool, true, false, cond, nat_eq, List, [], ◌∷◌, length, Option, Some, None, refl, sym, ap, ◌∙◌, subst, arith}
 use Rattle.std.proofs.lemmas.Bool.{false≢true, eqb-true, eq-eqb, eqb-false}
 use Rattle.spv_program.specs.Lists.{item_at}
 use Rattle.spv_program.proofs.SortFacts.{nothing_there, some_is}
@@ -233,7 +233,7 @@ module _ (T : List (Option ℕ)) (inside : (i t : ℕ) → item_at T i ≡ Some 
   pointer_stands k i t e =
       let g = inside i t e in
       let own : points_alike (F k) t (Some t) ≡ true = subst (λ a. same_number a a ≡ true) (sym (stands_there k t g))
-          (eq-eqb (stands_for k t) (stands_for k t) refl) in
+      (eq-eqb (stands_for k t) (stands_for k t) refl) in
       let w = stands_pointer k i t e in
       found_pointer k i t (first_where (points_alike (F k) t) T) w refl (first_found (points_alike (F k) t) T i (Some t) e own)
 
@@ -285,7 +285,7 @@ module _ (T : List (Option ℕ)) (inside : (i t : ℕ) → item_at T i ≡ Some 
           let b = inside j u y in
           let next = same_items (suc k) t u a b (go t u a b (items_same k t u a b same)) in
           stands_pointer (suc k) i t x ∙ (first_same (points_alike (F (suc k)) t) (points_alike (F (suc k)) u) T
-              (points_same (F (suc k)) t u next) ∙ sym (stands_pointer (suc k) j u y))
+          (points_same (F (suc k)) t u next) ∙ sym (stands_pointer (suc k) j u y))
 
   -- ---- enough rounds
 

@@ -1,7 +1,6 @@
 -- Whole headings come from their trees.
-use Rattle.std.proofs.Common.{◌≡◌, ℕ, zero, suc, Bool, true, false, cond, List, [], ◌∷◌, ◌++◌, map, Option, Some, None, refl, sym, ap, ◌∙◌, subst}
-use Rattle.std.specs.Prelude.{ℤ, Ok, Err}
-use Rattle.std.proofs.lemmas.Bool.{false≢true}
+use Rattle.std.proofs.Common.{◌≡◌, ℕ, Bool, true, false, List, [], ◌++◌, Option, Some, None, refl, sym, ap, ◌∙◌, subst}
+use Rattle.std.specs.Prelude.{Ok}
 use Rattle.spv_names.specs.declared.names.Symbol.{Symbol}
 use Rattle.spv_logic.specs.declared.types.TypeId.{TypeId}
 use Rattle.spv_logic.specs.declared.conditions.RoutineId.{RoutineId}
@@ -9,23 +8,22 @@ use Rattle.spv_syntax.specs.declared.names.Name.{Name}
 use Rattle.spv_syntax.specs.declared.routines.Params.{Params}
 use Rattle.spv_syntax.specs.declared.routines.HeadingForm.{HeadingForm}
 use Rattle.spv_syntax.specs.declared.routines.HeadingForm.TheVariants.{Procedure, Function}
-use Rattle.spv_syntax.specs.declared.routines.Heading.{Heading as HeadingText}
 use Rattle.spv_syntax.specs.declared.routines.Clauses.{Clauses}
 use Rattle.spv_program.specs.Types.{form_at, may_be_result}
 use Rattle.spv_program.specs.Statements.{Statement}
-use Rattle.spv_program.specs.Programs.{Formal, Routine, Program}
+use Rattle.spv_program.specs.Programs.{Program}
 use Rattle.spv_program.proofs.SortFacts.{nothing_there, some_is}
-use Rattle.spv_typing.specs.Outcomes.{Outcome, after, where_so, wrong}
-use Rattle.spv_typing.specs.Known.{KnownNames, Heading, Names, Known, meaning}
+use Rattle.spv_typing.specs.Outcomes.{after, where_so, wrong}
+use Rattle.spv_typing.specs.Known.{KnownNames, Heading, Known, meaning}
 use Rattle.spv_typing.specs.TypeWalk.{type_named}
-use Rattle.spv_typing.specs.RoutineWalk.{in_routine, Parameters, no_parameters, params_walk, result_walk, Headed, clauses_walk, is_function_form, announced, with_heading, form_walk, with_body}
+use Rattle.spv_typing.specs.RoutineWalk.{in_routine, Parameters, params_walk, result_walk, Headed, clauses_walk, is_function_form, announced, with_heading, form_walk, with_body}
 use Rattle.spv_well_typed.proofs.Outcomes.{fine, no_fault, same_value, went, held, behind_test}
 use Rattle.spv_origin.specs.Names.{Own, seen}
 use Rattle.spv_origin.specs.Names as names
-use Rattle.spv_origin.specs.Routines.{parameter_names, start_names, listed, groups_of, name_of, FormFrom, procedure, function, FormalsFrom, HeadingFrom}
+use Rattle.spv_origin.specs.Routines.{parameter_names, start_names, groups_of, name_of, FormFrom, procedure, function, FormalsFrom, HeadingFrom}
 use Rattle.spv_origin.proofs.Scopes.{OwnAs}
 use Rattle.spv_origin.proofs.Seeing.{KnowsNames}
-use Rattle.spv_origin.proofs.Headings.{ParametersFrom, params_come, type_come, ClausesDone, clauses_come}
+use Rattle.spv_origin.proofs.Headings.{params_come, type_come, ClausesDone, clauses_come}
 
 -- a heading that was read: what it is, and that the routine comes from it, whatever its body
 pub record HeadedFrom (start : KnownNames) (p : Program) (k : Known) (number : RoutineId) (line : ℕ) (c : Clauses) (form : HeadingForm)
@@ -40,8 +38,13 @@ pub record HeadedFrom (start : KnownNames) (p : Program) (k : Known) (number : R
 
 module _ (start : KnownNames) (p : Program) (k : Known) (knows : KnowsNames k start p) where
   knows_with : (a : Heading) → KnowsNames (with_heading k a) start p
-  knows_with a = record { start_is = knows.start_is; constants_are = knows.constants_are; types_are = knows.types_are;
-      variables_are = knows.variables_are; symbols_are = knows.symbols_are }
+  knows_with a = record {
+    start_is = knows.start_is;
+    constants_are = knows.constants_are;
+    types_are = knows.types_are;
+    variables_are = knows.variables_are;
+    symbols_are = knows.symbols_are;
+  }
 
   abbrev ClausesAt : Heading → Symbol → ℕ → Bool → RoutineId → Parameters → Option TypeId → Clauses → Headed → Type 0
   ClausesAt a name line kind number ps result c h = ClausesDone start p (with_heading k a) (knows_with a) name line kind number ps result
@@ -57,8 +60,14 @@ module _ (start : KnownNames) (p : Program) (k : Known) (knows : KnowsNames k st
     name_is = done.name_is;
     kind_is = done.kind_is ∙ sym same;
     number_is = done.number_is;
-    from = λ locals body. record { line = done.line_is; form = from locals body; globals = done.globals; initial = done.initial;
-        entry = done.entry; exit = done.exit };
+    from = λ locals body. record {
+      line = done.line_is;
+      form = from locals body;
+      globals = done.globals;
+      initial = done.initial;
+      entry = done.entry;
+      exit = done.exit;
+    };
     plain = λ t e. plain t (sym done.result_is ∙ e);
   }
 
@@ -73,7 +82,7 @@ module _ (start : KnownNames) (p : Program) (k : Known) (knows : KnowsNames k st
       let one = went (type_named of.line of (meaning (in_routine (with_heading k a) ps.own None) of.symbol)) next t e in
       let plain = held (may_be_result (form_at k.program.forms one.value.0)) (wrong of.line) (fine one.value) t one.rest in
       let is : one.value ≡ t = same_value (behind_test (may_be_result (form_at k.program.forms one.value.0)) (wrong of.line)
-          (fine one.value) t one.rest) in
+      (fine one.value) t one.rest) in
       record {
         named = type_come start p (with_heading k a) (knows_with a) ps.own (parameter_names ps.formals) own of.line of
             (meaning (in_routine (with_heading k a) ps.own None) of.symbol) one.value refl one.first ∙ ap Some is;
@@ -85,7 +94,7 @@ module _ (start : KnownNames) (p : Program) (k : Known) (knows : KnowsNames k st
   procedure_come number line c x params h e =
       let a0 = announced x.symbol line false number [] None in
       let last = λ (ps : Parameters). clauses_walk (with_heading k (announced x.symbol line false number ps.formals None)) x.symbol line
-          false number ps None c in
+      false number ps None c in
       let one = went (params_walk (with_heading k a0) x.symbol params) last h e in
       let ps = one.value in
       let a1 = announced x.symbol line false number ps.formals None in
@@ -93,23 +102,23 @@ module _ (start : KnownNames) (p : Program) (k : Known) (knows : KnowsNames k st
       let done = clauses_come start p (with_heading k a1) (knows_with a1) x.symbol line false number ps None c h from.own one.rest in
       headed a1 (Procedure x params) line false number ps None c h refl
       (λ locals body. procedure done.name_is (subst (λ fs. FormalsFrom start p [] (groups_of params) fs) (sym done.formals_are) from.from)
-          done.result_is) (λ t k. absurd (nothing_there k)) done
+      done.result_is) (λ t k. absurd (nothing_there k)) done
 
   function_come : (number : RoutineId) (line : ℕ) (c : Clauses) (x : Name) (params : Option Params) (result : Option Name) (h : Headed)
       → form_walk k number line c (Function x params result) ≡ Ok h → HeadedFrom start p k number line c (Function x params result) h
   function_come number line c x params None h e =
       let a0 = announced x.symbol line true number [] None in
       let last = λ (ps : Parameters) (t : TypeId). clauses_walk (with_heading k (announced x.symbol line true number ps.formals (Some t)))
-          x.symbol line true number ps (Some t) c in
+      x.symbol line true number ps (Some t) c in
       let one = went (params_walk (with_heading k a0) x.symbol params)
-          (λ ps. after (result_walk (with_heading k a0) line ps.own None) (last ps)) h e in
+      (λ ps. after (result_walk (with_heading k a0) line ps.own None) (last ps)) h e in
       absurd (no_fault one.rest)
   function_come number line c x params (Some of) h e =
       let a0 = announced x.symbol line true number [] None in
       let last = λ (ps : Parameters) (t : TypeId). clauses_walk (with_heading k (announced x.symbol line true number ps.formals (Some t)))
-          x.symbol line true number ps (Some t) c in
+      x.symbol line true number ps (Some t) c in
       let one = went (params_walk (with_heading k a0) x.symbol params)
-          (λ ps. after (result_walk (with_heading k a0) line ps.own (Some of)) (last ps)) h e in
+      (λ ps. after (result_walk (with_heading k a0) line ps.own (Some of)) (last ps)) h e in
       let ps = one.value in
       let two = went (result_walk (with_heading k a0) line ps.own (Some of)) (last ps) h one.rest in
       let t = two.value in
@@ -119,7 +128,7 @@ module _ (start : KnownNames) (p : Program) (k : Known) (knows : KnowsNames k st
       let done = clauses_come start p (with_heading k a1) (knows_with a1) x.symbol line true number ps (Some t) c h from.own two.rest in
       headed a1 (Function x params (Some of)) line true number ps (Some t) c h refl
       (λ locals body. function done.name_is (subst (λ fs. FormalsFrom start p [] (groups_of params) fs) (sym done.formals_are) from.from)
-          done.result_is
+      done.result_is
       (ap (λ fs. names.type_named (seen start p None (parameter_names fs)) of.symbol) done.formals_are ∙ result.named))
       (λ u same. subst (λ (q : TypeId). may_be_result (form_at k.program.forms q.0) ≡ true) (some_is same) result.plain) done
 

@@ -1,8 +1,7 @@
 -- Headings with their clauses come from their trees.
-use Rattle.std.proofs.Common.{◌≡◌, ℕ, zero, suc, Bool, true, false, cond, List, [], ◌∷◌, ◌++◌, map, Option, Some, None, refl, sym, ap, ◌∙◌, subst}
-use Rattle.std.specs.Prelude.{◌||◌, ◌&&◌, not, ℤ, Ok, Err, is_some}
+use Rattle.std.proofs.Common.{◌≡◌, ℕ, Bool, true, List, [], ◌∷◌, ◌++◌, map, Option, Some, None, refl, sym, ap, ◌∙◌, subst}
+use Rattle.std.specs.Prelude.{not, Ok, is_some}
 use Rattle.std.specs.List.{list_any}
-use Rattle.std.proofs.lemmas.Bool.{false≢true}
 use Rattle.std.proofs.lemmas.List.{append_assoc, append-nil}
 use Rattle.spv_names.specs.declared.names.Symbol.{Symbol}
 use Rattle.spv_logic.specs.declared.types.TypeId.{TypeId}
@@ -16,38 +15,33 @@ use Rattle.spv_syntax.specs.declared.routines.GroupForm.{GroupForm}
 use Rattle.spv_syntax.specs.declared.routines.GroupForm.TheVariants.{Variables, Procedures, Functions}
 use Rattle.spv_syntax.specs.declared.routines.Group.{Group}
 use Rattle.spv_syntax.specs.declared.routines.Params.{Params}
-use Rattle.spv_syntax.specs.declared.routines.HeadingForm.{HeadingForm}
-use Rattle.spv_syntax.specs.declared.routines.HeadingForm.TheVariants.{Procedure, Function}
-use Rattle.spv_syntax.specs.declared.routines.Heading.{Heading as HeadingText}
 use Rattle.spv_syntax.specs.declared.routines.Item.{Item as ItemText}
 use Rattle.spv_syntax.specs.declared.routines.GlobalGroup.{GlobalGroup}
 use Rattle.spv_syntax.specs.declared.routines.Start.{Start as StartText}
 use Rattle.spv_syntax.specs.declared.routines.Clauses.{Clauses}
 use Rattle.spv_syntax.specs.Formulas as formulas
 use Rattle.spv_program.specs.declared.types.Item.{Item}
-use Rattle.spv_program.specs.declared.types.Item.TheVariants.{Variable, Class}
-use Rattle.spv_program.specs.Lists.{same_name, found}
-use Rattle.spv_program.specs.Types.{form_at, may_be_result}
+use Rattle.spv_program.specs.declared.types.Item.TheVariants.{Class}
+use Rattle.spv_program.specs.Lists.{found}
 use Rattle.spv_program.specs.Uses.{same_item}
 use Rattle.spv_program.specs.Formulas.{Annotation}
-use Rattle.spv_program.specs.Statements.{Statement}
-use Rattle.spv_program.specs.Programs.{Formal, GlobalItem, Routine, Program}
-use Rattle.spv_program.proofs.SortFacts.{nothing_there, some_is}
-use Rattle.spv_typing.specs.Outcomes.{Outcome, after, where_so, each, if_there, twice, wrong}
-use Rattle.spv_typing.specs.Known.{KnownNames, Meaning, OfType, OfList, OfConstant, OfPlace, OfStart, OfSymbol, OfRoutine, Heading, Names, Known, Scope, meaning, program_names}
+use Rattle.spv_program.specs.Programs.{Formal, GlobalItem, Program}
+use Rattle.spv_program.proofs.SortFacts.{nothing_there}
+use Rattle.spv_typing.specs.Outcomes.{after, where_so, each, if_there, twice, wrong}
+use Rattle.spv_typing.specs.Known.{KnownNames, Meaning, OfType, OfList, OfConstant, OfPlace, OfStart, OfSymbol, OfRoutine, Names, Known, meaning, program_names}
 use Rattle.spv_typing.specs.TypeWalk.{all_names, type_named}
 use Rattle.spv_typing.specs.DeclarationWalk.{new_name, class_named}
 use Rattle.spv_typing.specs.FormulaWalk.{annotation}
 use Rattle.spv_typing.specs.RoutineWalk.{is_free_in, in_routine, Parameters, with_group, group_walk, no_parameters, params_walk, result_walk, variable_named, item_name, hides, shared_item, item_walk, global_group_walk, globals_walk, may_be_initial, initial_item, item_sort, Starts, start_walk, initial_walk, Headed, clauses_walk, heading_name, is_function_form, announced, with_heading, form_walk, with_body}
 use Rattle.spv_typing.specs.RoutineWalk as walk
-use Rattle.spv_well_typed.proofs.Outcomes.{fine, no_fault, same_value, went, held, behind_test}
+use Rattle.spv_well_typed.proofs.Outcomes.{fine, no_fault, same_value, went, behind_test}
 use Rattle.spv_origin.specs.Names.{Own, Place, Start, View, names_place, at_top, seen}
 use Rattle.spv_origin.specs.Names as names
 use Rattle.spv_origin.specs.Formulas.{IfThere, not_there, there}
 use Rattle.spv_origin.specs.Routines.{parameter_names, start_names, result_names, formals_of, groups_of, listed, name_of, FormalsFrom, no_formals, one_group, FormFrom, procedure, function, ItemFrom, ItemsFrom, no_items, one_item, GlobalsFrom, no_globals, one_list, InitialFrom, no_starts, one_start, HeadingFrom, exit_names}
 use Rattle.spv_origin.specs.Routines as origin
 use Rattle.spv_origin.proofs.Scopes.{Told, told, told_type, told_place, OwnAs, no_own, one_own, own_append, as_place, as_start}
-use Rattle.spv_origin.proofs.Seeing.{KnowsNames, scope_of, types_seen, places_seen, sees}
+use Rattle.spv_origin.proofs.Seeing.{KnowsNames, types_seen, places_seen, sees}
 use Rattle.spv_origin.proofs.Annotations.{annotations_come}
 use Rattle.spv_origin.proofs.Declared.{names_come}
 
@@ -121,27 +115,30 @@ module _ (start : KnownNames) (p : Program) (k : Known) (knows : KnowsNames k st
   group_come routine before line (Variables by xs of) gs next ps own e go =
       let free = is_free_in k.start routine [] before.own in
       let one = went (each (new_name free) [] (all_names xs))
-          (λ new. after (type_named of.line of (meaning (in_routine k before.own None) of.symbol))
-          (λ t. fine (with_group before new t by line))) next e in
+      (λ new. after (type_named of.line of (meaning (in_routine k before.own None) of.symbol))
+      (λ t. fine (with_group before new t by line))) next e in
       let two = went (type_named of.line of (meaning (in_routine k before.own None) of.symbol))
-          (λ t. fine (with_group before one.value t by line)) next one.rest in
+      (λ t. fine (with_group before one.value t by line)) next one.rest in
       let t = two.value in
       let is : with_group before one.value t by line ≡ next = same_value two.rest in
       let new_formals = map (λ x. record { name = x; of = t; by_place = by; line = line }) one.value in
       let names_are = names_come free (xs.first ∷ xs.more) one.value one.first in
       let formals_are : new_formals ≡ formals_of (xs.first ∷ xs.more) t by line = ap
-          (λ q. map (λ x. record { name = x; of = t; by_place = by; line = line }) q) (sym names_are) ∙ formals_map (xs.first ∷ xs.more) t
-          by line in
+      (λ q. map (λ x. record { name = x; of = t; by_place = by; line = line }) q) (sym names_are) ∙ formals_map (xs.first ∷ xs.more) t
+      by line in
       let next_own : OwnAs (before.own ++ map (λ x. (x, OfPlace t)) one.value) (parameter_names (before.formals ++ new_formals)) =
       subst (OwnAs (before.own ++ map (λ x. (x, OfPlace t)) one.value)) (sym (parameter_append before.formals new_formals))
-          (own_append before.own (map (λ x. (x, OfPlace t)) one.value) (parameter_names before.formals) (parameter_names new_formals) own
-          (parameters_as one.value t by line)) in
+      (own_append before.own (map (λ x. (x, OfPlace t)) one.value) (parameter_names before.formals) (parameter_names new_formals) own
+      (parameters_as one.value t by line)) in
       let rest = go (subst (λ (q : Parameters). OwnAs q.own (parameter_names q.formals)) is next_own) in
       let from : FormalsFrom start p (before.formals ++ formals_of (xs.first ∷ xs.more) t by line) gs ps.formals =
       subst (λ q. FormalsFrom start p q gs ps.formals) (ap (λ (q : Parameters). q.formals) (sym is) ∙ ap (λ q. before.formals ++ q)
-          formals_are) rest.from in
-      record { own = rest.own; from = one_group (type_come before.own (parameter_names before.formals) own of.line of
-          (meaning (in_routine k before.own None) of.symbol) t refl two.first) from }
+      formals_are) rest.from in
+      record {
+        own = rest.own;
+        from = one_group (type_come before.own (parameter_names before.formals) own of.line of
+            (meaning (in_routine k before.own None) of.symbol) t refl two.first) from;
+      }
 
   groups_come : (routine : Symbol) (before : Parameters) (gs : List Group) (ps : Parameters)
       → OwnAs before.own (parameter_names before.formals) → each (group_walk k routine) before gs ≡ Ok ps → ParametersFrom before gs ps
@@ -149,7 +146,7 @@ module _ (start : KnownNames) (p : Program) (k : Known) (knows : KnowsNames k st
   groups_come routine before (g ∷ gs) ps own e =
       let one = went (group_walk k routine before g) (λ next. each (group_walk k routine) next gs) ps e in
       group_come routine before g.line g.form gs one.value ps own one.first
-          (λ next_own. groups_come routine one.value gs ps next_own one.rest)
+      (λ next_own. groups_come routine one.value gs ps next_own one.rest)
 
   pub params_come : (routine : Symbol) (params : Option Params) (ps : Parameters) → params_walk k routine params ≡ Ok ps
       → ParametersFrom no_parameters (groups_of params) ps
@@ -195,7 +192,7 @@ module _ (start : KnownNames) (p : Program) (k : Known) (knows : KnowsNames k st
       by_told : Told k x (OfType t) → names.type_named (at_top start p) x ≡ Some t
       by_told (told_type u f) =
           ap (λ ts. found (names.types_from_start start ++ ts) x) (sym knows.types_are)
-              ∙ (ap (λ q. found (names.types_from_start q ++ k.program.types) x) (sym knows.start_is) ∙ f)
+          ∙ (ap (λ q. found (names.types_from_start q ++ k.program.types) x) (sym knows.start_is) ∙ f)
 
   class_come : (line : ℕ) (x : Name) (m : Option Meaning) (t : TypeId) → found (program_names k) x.symbol ≡ m
       → class_named line x m ≡ Ok t → names.type_named (at_top start p) x.symbol ≡ Some t
@@ -215,7 +212,7 @@ module _ (start : KnownNames) (p : Program) (k : Known) (knows : KnowsNames k st
   shared_come line (written.Class x) i e =
       let one = went (class_named line x (found (program_names k) x.symbol)) (λ t. fine (Class t)) i e in
       subst (λ q. ItemFrom start p (at_top start p) q (written.Class x)) (same_value one.rest)
-          (origin.class (class_come line x (found (program_names k) x.symbol) one.value refl one.first))
+      (origin.class (class_come line x (found (program_names k) x.symbol) one.value refl one.first))
 
   abbrev global_at : Item → Bool → ℕ → GlobalItem
   global_at i is_var line = record { item = i; is_var = is_var; line = line }
@@ -231,13 +228,13 @@ module _ (start : KnownNames) (p : Program) (k : Known) (knows : KnowsNames k st
   items_rest own is_var line before (t ∷ ts) all e =
       let one = went (item_walk k own is_var line before t) (λ next. each (item_walk k own is_var line) next ts) all e in
       let last = λ (i : Item). where_so (not (list_any (λ (g : GlobalItem). same_item g.item i) before)) (twice (item_name t.form))
-          (fine (before ++ global_at i is_var line ∷ [])) in
+      (fine (before ++ global_at i is_var line ∷ [])) in
       let two = went (shared_item k t.line t.form) last one.value
-          (behind_test (not (hides own t.form)) (twice (item_name t.form)) (after (shared_item k t.line t.form) last) one.value one.first)
-          in
+      (behind_test (not (hides own t.form)) (twice (item_name t.form)) (after (shared_item k t.line t.form) last) one.value one.first)
+      in
       let i = two.value in
       let next = same_value (behind_test (not (list_any (λ (g : GlobalItem). same_item g.item i) before)) (twice (item_name t.form))
-          (fine (before ++ global_at i is_var line ∷ [])) one.value two.rest) in
+      (fine (before ++ global_at i is_var line ∷ [])) one.value two.rest) in
       let rest = items_rest own is_var line one.value ts all one.rest in
       record {
         rest = global_at i is_var line ∷ rest.rest;
@@ -274,11 +271,11 @@ module _ (start : KnownNames) (p : Program) (k : Known) (knows : KnowsNames k st
   initial_item_come own os alike line (written.Name x) i e =
       let m = variable_meant line x (meaning (in_routine k own None) x.symbol) i e in
       variable_is line x (meaning (in_routine k own None) x.symbol) i e m.type m.is (seen start p None os)
-          (places_seen k own os alike None start p None knows.variables_are x.symbol m.type m.is)
+      (places_seen k own os alike None start p None knows.variables_are x.symbol m.type m.is)
   initial_item_come own os alike line (written.Class x) i e =
       let one = went (class_named line x (found (program_names k) x.symbol)) (λ t. fine (Class t)) i e in
       subst (λ q. ItemFrom start p (seen start p None os) q (written.Class x)) (same_value one.rest)
-          (origin.class (class_come line x (found (program_names k) x.symbol) one.value refl one.first))
+      (origin.class (class_come line x (found (program_names k) x.symbol) one.value refl one.first))
 
   record StartsRest (os : List (Symbol × Own)) (before : Starts) (ts : List StartText) (all : Starts) : Type 0 where
     pub rest : List (Symbol × Item)
@@ -293,12 +290,17 @@ module _ (start : KnownNames) (p : Program) (k : Known) (knows : KnowsNames k st
       → OwnAs own os → (before : Starts) (ts : List StartText) (all : Starts) → OwnAs before.own (start_names before.initial)
       → each (start_walk k routine formals globals own) before ts ≡ Ok all → StartsRest os before ts all
   starts_rest routine formals globals own os alike before [] all h e =
-      record { rest = []; is = append-nil before.initial ∙ ap (λ (q : Starts). q.initial) (same_value e); own = subst
-          (λ (q : Starts). OwnAs q.own (start_names q.initial)) (same_value e) h; from = no_starts }
+      record {
+        rest = [];
+        is = append-nil before.initial ∙ ap (λ (q : Starts). q.initial) (same_value e);
+        own = subst
+            (λ (q : Starts). OwnAs q.own (start_names q.initial)) (same_value e) h;
+        from = no_starts;
+      }
   starts_rest routine formals globals own os alike before (t ∷ ts) all h e =
       let s = in_routine k own None in
       let one = went (start_walk k routine formals globals own before t) (λ next. each (start_walk k routine formals globals own) next ts)
-          all e in
+      all e in
       let result = λ (i : Item). fine (start_at before t.name.symbol i (item_sort s i)) in
       let inner = λ (i : Item). where_so (may_be_initial formals globals i) (wrong t.item.line) (result i) in
       let last = λ (i : Item). where_so (is_free_in k.start routine globals (own ++ before.own) t.name.symbol) (twice t.name) (inner i) in
@@ -306,16 +308,16 @@ module _ (start : KnownNames) (p : Program) (k : Known) (knows : KnowsNames k st
       let i = two.value in
       let next : start_at before t.name.symbol i (item_sort s i) ≡ one.value =
       same_value (behind_test (may_be_initial formals globals i) (wrong t.item.line) (result i) one.value
-          (behind_test (is_free_in k.start routine globals (own ++ before.own) t.name.symbol) (twice t.name) (inner i) one.value
-          two.rest)) in
+      (behind_test (is_free_in k.start routine globals (own ++ before.own) t.name.symbol) (twice t.name) (inner i) one.value
+      two.rest)) in
       let one_start_own : OwnAs ((t.name.symbol, OfStart (item_sort s i)) ∷ []) (start_names ((t.name.symbol, i) ∷ [])) = one_own
-          t.name.symbol (OfStart (item_sort s i)) Start [] [] (as_start (item_sort s i)) no_own in
+      t.name.symbol (OfStart (item_sort s i)) Start [] [] (as_start (item_sort s i)) no_own in
       let next_own = subst (OwnAs (before.own ++ (t.name.symbol, OfStart (item_sort s i)) ∷ []))
-          (sym (start_append before.initial ((t.name.symbol, i) ∷ [])))
-          (own_append before.own ((t.name.symbol, OfStart (item_sort s i)) ∷ []) (start_names before.initial)
-          (start_names ((t.name.symbol, i) ∷ [])) h one_start_own) in
+      (sym (start_append before.initial ((t.name.symbol, i) ∷ [])))
+      (own_append before.own ((t.name.symbol, OfStart (item_sort s i)) ∷ []) (start_names before.initial)
+      (start_names ((t.name.symbol, i) ∷ [])) h one_start_own) in
       let rest = starts_rest routine formals globals own os alike one.value ts all
-          (subst (λ (q : Starts). OwnAs q.own (start_names q.initial)) next next_own) one.rest in
+      (subst (λ (q : Starts). OwnAs q.own (start_names q.initial)) next next_own) one.rest in
       record {
         rest = (t.name.symbol, i) ∷ rest.rest;
         is = sym (append_assoc before.initial ((t.name.symbol, i) ∷ []) rest.rest)
@@ -345,8 +347,8 @@ module _ (start : KnownNames) (p : Program) (k : Known) (knows : KnowsNames k st
   noted_come own os alike (Some f) a e =
       let one = went (annotation (in_routine k own None) f) (λ x. fine (Some x)) a e in
       subst (λ q. IfThere (seen start p None os) q (Some f)) (same_value one.rest)
-          (there (annotations_come (in_routine k own None) (seen start p None os) (sees k own os alike None start p None knows) f
-          one.value one.first))
+      (there (annotations_come (in_routine k own None) (seen start p None os) (sees k own os alike None start p None knows) f
+      one.value one.first))
 
   pub result_own : (x : Symbol) (t : Option TypeId) → OwnAs (walk.result_names x t) (result_names x t)
   result_own x None = no_own
@@ -373,23 +375,23 @@ module _ (start : KnownNames) (p : Program) (k : Known) (knows : KnowsNames k st
       → clauses_walk k name line is_function number ps result c ≡ Ok h → ClausesDone name line is_function number ps result c h
   clauses_come name line is_function number ps result c h own e =
       let headed = λ (globals : List GlobalItem) (starts : Starts) (entry exit : Option Annotation). headed_of name line is_function
-          number ps result globals starts entry exit in
+      number ps result globals starts entry exit in
       let exit_own = λ (starts : Starts). ps.own ++ (walk.result_names name result ++ starts.own) in
       let four_next = λ (globals : List GlobalItem) (starts : Starts) (entry : Option Annotation). after
-          (if_there (annotation (in_routine k (exit_own starts) None)) c.exit) (λ exit. fine (headed globals starts entry exit)) in
+      (if_there (annotation (in_routine k (exit_own starts) None)) c.exit) (λ exit. fine (headed globals starts entry exit)) in
       let three_next = λ (globals : List GlobalItem) (starts : Starts). after (if_there (annotation (in_routine k ps.own None)) c.entry)
-          (four_next globals starts) in
+      (four_next globals starts) in
       let one = went (globals_walk k ps.own c.globals) (λ globals. after (initial_walk k name ps.formals globals ps.own c.initial)
-          (three_next globals)) h e in
+      (three_next globals)) h e in
       let two = went (initial_walk k name ps.formals one.value ps.own c.initial) (three_next one.value) h one.rest in
       let three = went (if_there (annotation (in_routine k ps.own None)) c.entry) (four_next one.value two.value) h two.rest in
       let four = went (if_there (annotation (in_routine k (exit_own two.value) None)) c.exit)
-          (λ exit. fine (headed one.value two.value three.value exit)) h three.rest in
+      (λ exit. fine (headed one.value two.value three.value exit)) h three.rest in
       let starts = initial_come name ps.formals one.value ps.own (parameter_names ps.formals) own c.initial two.value two.first in
       let exit_as = own_append ps.own (walk.result_names name result ++ two.value.own) (parameter_names ps.formals)
-          (result_names name result ++ start_names two.value.initial) own
+      (result_names name result ++ start_names two.value.initial) own
       (own_append (walk.result_names name result) two.value.own (result_names name result) (start_names two.value.initial)
-          (result_own name result) starts.own) in
+      (result_own name result) starts.own) in
       subst (ClausesDone name line is_function number ps result c) (same_value four.rest)
       (record {
         own = own_append ps.own two.value.own (parameter_names ps.formals) (start_names two.value.initial) own starts.own;

@@ -1,24 +1,22 @@
 -- Local declarations come from their trees.
-use Rattle.std.proofs.Common.{◌≡◌, ℕ, zero, suc, Bool, true, false, cond, List, [], ◌∷◌, ◌++◌, map, Option, Some, None, refl, sym, ap, ◌∙◌, subst}
-use Rattle.std.specs.Prelude.{ℤ, Ok, Err}
-use Rattle.std.proofs.lemmas.Bool.{false≢true}
+use Rattle.std.proofs.Common.{◌≡◌, List, [], ◌∷◌, ◌++◌, map, Some, None, refl, sym, ap, ◌∙◌, subst}
+use Rattle.std.specs.Prelude.{ℤ, Ok}
 use Rattle.std.proofs.lemmas.List.{append_assoc, append-nil}
 use Rattle.spv_names.specs.declared.names.Symbol.{Symbol}
 use Rattle.spv_logic.specs.declared.types.TypeId.{TypeId}
-use Rattle.spv_syntax.specs.declared.names.Name.{Name}
 use Rattle.spv_syntax.specs.declared.declarations.Const.{Const}
 use Rattle.spv_syntax.specs.declared.declarations.Vars.{Vars}
 use Rattle.spv_syntax.specs.declared.routines.Locals.{Locals}
 use Rattle.spv_program.specs.declared.types.TypeForm.{TypeForm}
 use Rattle.spv_program.specs.Lists.{found}
 use Rattle.spv_program.specs.Programs.{Program}
-use Rattle.spv_typing.specs.Outcomes.{Outcome, after, where_so, each, twice}
+use Rattle.spv_typing.specs.Outcomes.{after, each, twice}
 use Rattle.spv_typing.specs.Known.{KnownNames, OfType, OfConstant, OfPlace, Heading, Names, Known, meaning}
 use Rattle.spv_typing.specs.TypeWalk.{all_names, constant}
 use Rattle.spv_typing.specs.DeclarationWalk.{with_program, with_types, new_name, NewType, type_walk}
 use Rattle.spv_typing.specs.RoutineWalk.{is_free_in, in_routine, Headed, Local, local_const, local_vars, locals_walk}
-use Rattle.spv_well_typed.proofs.Outcomes.{fine, no_fault, same_value, went, behind_test}
-use Rattle.spv_origin.specs.Names.{Own, Constant, Place, View, seen, own_constants, own_places, types_from_start}
+use Rattle.spv_well_typed.proofs.Outcomes.{fine, same_value, went, behind_test}
+use Rattle.spv_origin.specs.Names.{Own, Constant, Place, seen, own_constants, own_places}
 use Rattle.spv_origin.specs.Types.{TypeFrom}
 use Rattle.spv_origin.specs.Declarations.{ConstsFrom, no_consts, one_const, group_of, VarsFrom, no_vars, one_group}
 use Rattle.spv_origin.proofs.Firsts.{There}
@@ -26,7 +24,7 @@ use Rattle.spv_origin.proofs.Merged.{FormsRight}
 use Rattle.spv_origin.proofs.Scopes.{told_type, Means, by_own, by_program, means, OwnAs, no_own, one_own, own_append, as_constant, as_place}
 use Rattle.spv_origin.proofs.Seeing.{KnowsNames, constants_seen, types_seen}
 use Rattle.spv_origin.proofs.Constants.{constant_from}
-use Rattle.spv_origin.proofs.NewTypes.{Keeps, keeps_same, keeps_on, keeps_there, NewFrom, new_from}
+use Rattle.spv_origin.proofs.NewTypes.{Keeps, keeps_same, keeps_on, keeps_there, new_from}
 use Rattle.spv_origin.proofs.Declared.{names_come, group_map, type_there}
 
 -- what is known, with these types
@@ -79,17 +77,17 @@ module _ (start : KnownNames) (k : Known) (h : Heading) where
       let one = went (local_const h (local_at k own variables) c) (λ next. each (local_const h) next cs) l e in
       let result = λ (z : ℤ). fine (local_at k (own ++ (c.name.symbol, OfConstant z) ∷ []) variables) in
       let two = went (constant (in_routine k own None) c.value) result one.value
-          (behind_test (is_free_in k.start h.name h.globals own c.name.symbol) (twice c.name)
-          (after (constant (in_routine k own None) c.value) result) one.value one.first) in
+      (behind_test (is_free_in k.start h.name h.globals own c.name.symbol) (twice c.name)
+      (after (constant (in_routine k own None) c.value) result) one.value one.first) in
       let z = two.value in
       let entry = (c.name.symbol, z) ∷ [] in
       let shape : (os ++ own_constants before) ++ own_constants entry ≡ os ++ own_constants (before ++ entry) =
       append_assoc os (own_constants before) (own_constants entry) ∙ ap (λ q. os ++ q) (sym (constants_append before entry)) in
       let next_alike = subst (OwnAs (own ++ (c.name.symbol, OfConstant z) ∷ [])) shape
       (own_append own ((c.name.symbol, OfConstant z) ∷ []) (os ++ own_constants before) (own_constants entry) alike
-          (one_own c.name.symbol (OfConstant z) (Constant z) [] [] (as_constant z) no_own)) in
+      (one_own c.name.symbol (OfConstant z) (Constant z) [] [] (as_constant z) no_own)) in
       let rest = consts_done os (before ++ entry) (own ++ (c.name.symbol, OfConstant z) ∷ []) variables cs l next_alike
-          (ap (λ q. each (local_const h) q cs) (same_value two.rest) ∙ one.rest) in
+      (ap (λ q. each (local_const h) q cs) (same_value two.rest) ∙ one.rest) in
       record {
         all = rest.all;
         own = rest.own;
@@ -97,8 +95,8 @@ module _ (start : KnownNames) (k : Known) (h : Heading) where
         alike = rest.alike;
         from = λ p knows.
             one_const (constant_from (in_routine k own None) (seen start p None (os ++ own_constants before))
-                (constants_seen k own (os ++ own_constants before) alike None start p None knows.constants_are) c.value z two.first)
-                (rest.from p knows);
+            (constants_seen k own (os ++ own_constants before) alike None start p None knows.constants_are) c.value z two.first)
+            (rest.from p knows);
       }
 
   -- ---- variables
@@ -120,41 +118,55 @@ module _ (start : KnownNames) (k : Known) (h : Heading) where
       → ((x : Symbol) (t : TypeId) → found k.program.types x ≡ Some t → There forms t.0)
       → each (local_vars h) (local_at (with_forms k forms) own before) gs ≡ Ok l → VarsDone os forms before gs l
   vars_done os forms before own [] l starts alike right first second there e =
-      record { now = forms; all = before; own = own; is = same_value e; alike = alike; right = right; keeps = keeps_same forms; from = λ p
-          knows later. no_vars }
+      record {
+        now = forms;
+        all = before;
+        own = own;
+        is = same_value e;
+        alike = alike;
+        right = right;
+        keeps = keeps_same forms;
+        from = λ p
+            knows later. no_vars;
+      }
   vars_done os forms before own (g ∷ gs) l starts alike right first second there e =
       let now = with_forms k forms in
       let s = in_routine now own None in
       let free = is_free_in k.start h.name h.globals own in
       let one = went (local_vars h (local_at now own before) g) (λ next. each (local_vars h) next gs) l e in
       let result = λ (xs : List Symbol) (n : NewType). fine
-          (local_at (with_forms k n.forms) (own ++ map (λ x. (x, OfPlace n.type)) xs) (before ++ map (λ x. (x, n.type)) xs)) in
+      (local_at (with_forms k n.forms) (own ++ map (λ x. (x, OfPlace n.type)) xs) (before ++ map (λ x. (x, n.type)) xs)) in
       let two = went (each (new_name free) [] (all_names g.names)) (λ xs. after (type_walk s g.of) (result xs)) one.value one.first in
       let three = went (type_walk s g.of) (result two.value) one.value two.rest in
       let n = three.value in
       let os' = os ++ own_places before in
       let type_at = λ (x : Symbol) (t : TypeId) (q : meaning s x ≡ Some (OfType t)). named_there os' own alike forms first second there
-          starts x t q in
+      starts x t q in
       let made = λ (p : Program) (knows : KnowsNames k start p).
       new_from s (seen start p None os') right type_at there
       (λ x t q. types_seen now own os' alike None start p None starts knows.types_are x t q)
       (λ x z q. constants_seen now own os' alike None start p None knows.constants_are x z q) g.of n three.first in
-      let plain = made k.program (record { start_is = starts; constants_are = refl; types_are = refl; variables_are = refl;
-          symbols_are = refl }) in
+      let plain = made k.program (record {
+        start_is = starts;
+        constants_are = refl;
+        types_are = refl;
+        variables_are = refl;
+        symbols_are = refl;
+      }) in
       let group_is : map (λ x. (x, n.type)) two.value ≡ group_of (g.names.first ∷ g.names.more) n.type =
       ap (λ xs. map (λ x. (x, n.type)) xs) (sym (names_come free (g.names.first ∷ g.names.more) two.value two.first)) ∙ group_map
-          (g.names.first ∷ g.names.more) n.type in
+      (g.names.first ∷ g.names.more) n.type in
       let group = group_of (g.names.first ∷ g.names.more) n.type in
       let own' = own ++ map (λ x. (x, OfPlace n.type)) two.value in
       let shape : os' ++ own_places (map (λ x. (x, n.type)) two.value) ≡ os ++ own_places (before ++ group) =
       append_assoc os (own_places before) (own_places (map (λ x. (x, n.type)) two.value))
       ∙ (ap (λ q. os ++ (own_places before ++ own_places q)) group_is ∙ ap (λ q. os ++ q) (sym (places_append before group))) in
       let next_alike = subst (OwnAs own') shape (own_append own (map (λ x. (x, OfPlace n.type)) two.value) os'
-          (own_places (map (λ x. (x, n.type)) two.value)) alike (places_as two.value n.type)) in
+      (own_places (map (λ x. (x, n.type)) two.value)) alike (places_as two.value n.type)) in
       let next : local_at (with_forms k n.forms) own' (before ++ group) ≡ one.value = ap
-          (λ q. local_at (with_forms k n.forms) own' (before ++ q)) (sym group_is) ∙ same_value three.rest in
+      (λ q. local_at (with_forms k n.forms) own' (before ++ q)) (sym group_is) ∙ same_value three.rest in
       let rest = vars_done os n.forms (before ++ group) own' gs l starts next_alike plain.right
-          (keeps_there forms n.forms 0 plain.keeps first) (keeps_there forms n.forms 1 plain.keeps second)
+      (keeps_there forms n.forms 0 plain.keeps first) (keeps_there forms n.forms 1 plain.keeps second)
       (λ x t q. keeps_there forms n.forms t.0 plain.keeps (there x t q)) (ap (λ q. each (local_vars h) q gs) next ∙ one.rest) in
       record {
         now = rest.now;
@@ -166,7 +178,7 @@ module _ (start : KnownNames) (k : Known) (h : Heading) where
         keeps = keeps_on forms n.forms rest.now plain.keeps rest.keeps;
         from = λ p knows later.
             one_group (subst (λ ts. TypeFrom (seen start p None os') ts n.type g.of) knows.types_are
-                ((made p knows).from (keeps_on n.forms rest.now p.forms rest.keeps later))) (rest.from p knows later);
+            ((made p knows).from (keeps_on n.forms rest.now p.forms rest.keeps later))) (rest.from p knows later);
       }
 
   -- ---- both
@@ -189,12 +201,12 @@ module _ (start : KnownNames) (k : Known) (h : Heading) where
       → LocalsDone os ls l
   locals_done os headed ls l same starts alike right first second there e =
       let walk = ap (λ q. after (each (local_const q) (local_at k headed.own []) ls.constants) (λ a. each (local_vars q) a ls.variables))
-          (sym same) ∙ e in
+      (sym same) ∙ e in
       let one = went (each (local_const h) (local_at k headed.own []) ls.constants) (λ a. each (local_vars h) a ls.variables) l walk in
       let c = consts_done os [] headed.own [] ls.constants one.value (subst (OwnAs headed.own) (sym (append-nil os)) alike) one.first in
       let os' = os ++ own_constants c.all in
       let v = vars_done os' k.program.forms [] c.own ls.variables l starts (subst (OwnAs c.own) (sym (append-nil os')) c.alike) right
-          first second there (ap (λ q. each (local_vars h) q ls.variables) c.is ∙ one.rest) in
+      first second there (ap (λ q. each (local_vars h) q ls.variables) c.is ∙ one.rest) in
       record {
         constants = c.all;
         now = v.now;

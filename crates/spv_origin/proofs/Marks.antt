@@ -1,13 +1,12 @@
 -- The routines of a text come from their trees.
-use Rattle.std.proofs.Common.{◌≡◌, ℕ, zero, suc, Bool, true, false, cond, List, [], ◌∷◌, ◌++◌, map, Option, Some, None, refl, sym, ap, ◌∙◌, subst}
-use Rattle.std.specs.Prelude.{◌&&◌, ◌||◌, not, filter, ℤ, Ok, Err}
+use Rattle.std.proofs.Common.{◌≡◌, Bool, true, false, cond, List, [], ◌∷◌, ◌++◌, map, Option, Some, None, refl, sym, ap, ◌∙◌, subst}
+use Rattle.std.specs.Prelude.{◌&&◌, ◌||◌, not, Ok}
 use Rattle.std.proofs.lemmas.Bool.{false≢true}
 use Rattle.std.proofs.lemmas.List.{append_assoc, append-nil}
-use Rattle.spv_list.proofs.Tests.{left_true, right_true}
+use Rattle.spv_list.proofs.Tests.{right_true}
 use Rattle.spv_names.specs.declared.names.Symbol.{Symbol}
 use Rattle.spv_logic.specs.declared.types.TypeId.{TypeId}
 use Rattle.spv_logic.specs.declared.types.Sort.{Sort}
-use Rattle.spv_syntax.specs.declared.names.Name.{Name}
 use Rattle.spv_syntax.specs.declared.routines.HeadingForm.{HeadingForm}
 use Rattle.spv_syntax.specs.declared.routines.HeadingForm.TheVariants.{Procedure, Function}
 use Rattle.spv_syntax.specs.declared.routines.Heading.{Heading as HeadingText}
@@ -18,26 +17,26 @@ use Rattle.spv_syntax.specs.declared.routines.RoutineMark.TheVariants.{Announced
 use Rattle.spv_syntax.specs.Statements as tree
 use Rattle.spv_syntax.specs.Reads.{routines_ok, block_ok}
 use Rattle.spv_program.specs.declared.types.Item.{Item}
-use Rattle.spv_program.specs.Lists.{same_name, found}
+use Rattle.spv_program.specs.Lists.{same_name}
 use Rattle.spv_program.specs.Types.{form_at, may_be_result}
 use Rattle.spv_program.specs.Statements.{Statement}
 use Rattle.spv_program.specs.Programs.{Formal, Routine, Program}
 use Rattle.spv_program.proofs.SortFacts.{nothing_there, some_is}
-use Rattle.spv_typing.specs.Outcomes.{Outcome, after, where_so, each, twice}
-use Rattle.spv_typing.specs.Known.{KnownNames, OfPlace, OfStart, Heading, Names, Known, is_free_for_call}
+use Rattle.spv_typing.specs.Outcomes.{Outcome, after, each, twice}
+use Rattle.spv_typing.specs.Known.{KnownNames, OfPlace, OfStart, Heading, Known, is_free_for_call}
 use Rattle.spv_typing.specs.StatementWalk.{block_walk}
 use Rattle.spv_typing.specs.RoutineWalk.{in_routine, Headed, Local, heading_name, is_function_form, form_walk, with_heading, locals_walk, body_setting, with_body, item_sort}
 use Rattle.spv_typing.specs.RoutineWalk as walk
-use Rattle.spv_typing.specs.ProgramWalk.{Begun, Progress, names_of_bodies, number_of, awaited_of, twice_at, first_heading, is_bare_form, is_bare, without, with_awaited, begun_of, begin_again, begin_first, begin, announce, unless_begun, end_body, mark_walk, routines_walk}
+use Rattle.spv_typing.specs.ProgramWalk.{Begun, Progress, names_of_bodies, number_of, awaited_of, twice_at, first_heading, is_bare_form, is_bare, without, with_awaited, begun_of, begin, announce, unless_begun, mark_walk}
 use Rattle.spv_well_typed.proofs.Outcomes.{fine, no_fault, same_value, went, held, behind_test}
-use Rattle.spv_origin.specs.Names.{Own, Place, Start}
+use Rattle.spv_origin.specs.Names.{Place, Start}
 use Rattle.spv_origin.specs.Routines.{parameter_names, start_names, name_of, announced_as, repeats, HeadingFrom, RoutinesFrom}
 use Rattle.spv_origin.specs.Routines as origin
 use Rattle.spv_origin.proofs.Scopes.{In, here, further, in_before, same_name-refl, OwnAs, no_own, one_own, own_append, as_place, as_start, same_name-true}
 use Rattle.spv_origin.proofs.Seeing.{KnowsNames}
 use Rattle.spv_origin.proofs.NewTypes.{Keeps, keeps_on}
-use Rattle.spv_origin.proofs.Headed.{HeadedFrom, heading_come}
-use Rattle.spv_origin.proofs.Bodies.{Ready, Later, later_same, later_on, is_among, AllAmong, among_before, knows_later, BodyDone, routine_of, known_behind, body_done}
+use Rattle.spv_origin.proofs.Headed.{heading_come}
+use Rattle.spv_origin.proofs.Bodies.{Ready, Later, later_same, later_on, is_among, AllAmong, among_before, knows_later, routine_of, known_behind, body_done}
 
 -- ---- the names of a heading
 
@@ -56,7 +55,7 @@ heading_own : (k : Known) (h : Heading) → OwnAs (walk.heading_names k h) (para
 heading_own k h =
     let parameters = map (λ (f : Formal). (f.name, OfPlace f.of)) h.formals in
     own_append parameters (map (λ (i : Symbol × Item). (i.0, OfStart (item_sort (in_routine k parameters None) i.1))) h.initial)
-        (parameter_names h.formals) (start_names h.initial)
+    (parameter_names h.formals) (start_names h.initial)
     (formals_own h.formals) (initial_own (item_sort (in_routine k parameters None)) h.initial)
 
 name_same : (f : HeadingForm) → name_of f ≡ (heading_name f).symbol
@@ -115,7 +114,7 @@ module _ (start : KnownNames) (p : Program) where
   waits_found [] [] x none_waits = none_found
   waits_found (a ∷ hs) (q ∷ qs) x (one_waits b r us vs g rest) =
       subst (λ y. FoundWaits x (cond (same_name a.name x) (Some a) (awaited_of hs x)) (cond (same_name y x) (Some q) (announced_as qs x)))
-          g.name_is (by_case (same_name a.name x) refl (waits_found hs qs x rest))
+      g.name_is (by_case (same_name a.name x) refl (waits_found hs qs x rest))
     where
       by_case : (c : Bool) → same_name a.name x ≡ c → FoundWaits x (awaited_of hs x) (announced_as qs x)
           → FoundWaits x (cond c (Some a) (awaited_of hs x)) (cond c (Some q) (announced_as qs x))
@@ -129,8 +128,8 @@ module _ (start : KnownNames) (p : Program) where
   waits_without [] [] x none_waits = none_waits
   waits_without (a ∷ hs) (q ∷ qs) x (one_waits b r us vs g rest) =
       subst (λ y. Waits (cond (not (same_name a.name x)) (a ∷ without hs x) (without hs x))
-          (cond (not (same_name y x)) (q ∷ origin.without qs x) (origin.without qs x))) g.name_is
-          (by_case (not (same_name a.name x)) (waits_without hs qs x rest))
+      (cond (not (same_name y x)) (q ∷ origin.without qs x) (origin.without qs x))) g.name_is
+      (by_case (not (same_name a.name x)) (waits_without hs qs x rest))
     where
       by_case : (c : Bool) → Waits (without hs x) (origin.without qs x)
           → Waits (cond c (a ∷ without hs x) (without hs x)) (cond c (q ∷ origin.without qs x) (origin.without qs x))
@@ -230,7 +229,7 @@ module _ (start : KnownNames) (bodies : List Symbol) where
   heading_done k h c headed ready e =
       let number = number_of bodies (heading_name h.form).symbol in
       let read = behind_test (is_free_for_call k (heading_name h.form).symbol) (twice (heading_name h.form))
-          (form_walk k number h.line c h.form) headed e in
+      (form_walk k number h.line c h.form) headed e in
       let f = heading_come start k.program k (plain_knows k ready) number h.line c h.form headed read in
       let a = headed.heading in
       let numbered : number_of bodies a.name ≡ a.number = ap (number_of bodies) (f.name_is ∙ name_same h.form) ∙ sym f.number_is in
@@ -257,12 +256,25 @@ module _ (start : KnownNames) (bodies : List Symbol) where
       record { name_is = f.name_is; kind_is = f.kind_is; from = f.from }
 
   later_heading : (k : Known) (a : Heading) (awaited : List Heading) → Later k (with_awaited (with_heading k a) awaited)
-  later_heading k a awaited = record { keeps = (later_same k).keeps; constants_are = refl; types_are = refl; variables_are = refl;
-      symbols_are = refl; start_is = refl; headings_stay = λ h i. in_before k.headings (a ∷ []) h i }
+  later_heading k a awaited = record {
+    keeps = (later_same k).keeps;
+    constants_are = refl;
+    types_are = refl;
+    variables_are = refl;
+    symbols_are = refl;
+    start_is = refl;
+    headings_stay = λ h i. in_before k.headings (a ∷ []) h i;
+  }
 
   ready_awaited : (k : Known) (awaited : List Heading) → ReadyHere k → ReadyHere (with_awaited k awaited)
-  ready_awaited k awaited ready = record { starts = ready.starts; right = ready.right; first = ready.first; there = ready.there;
-      numbers = ready.numbers; plain = ready.plain }
+  ready_awaited k awaited ready = record {
+    starts = ready.starts;
+    right = ready.right;
+    first = ready.first;
+    there = ready.there;
+    numbers = ready.numbers;
+    plain = ready.plain;
+  }
 
   -- ---- an announced routine
 
@@ -303,7 +315,7 @@ module _ (start : KnownNames) (bodies : List Symbol) where
         from = λ p knows keeps names_are all waiting w done.
             origin.announced (none_announced p k h waiting w none)
             (rest.from p (knows_later start p k mid later knows) keeps names_are all (waiting ++ (h, c) ∷ [])
-                (waits_last start p k.awaited waiting a (h, c) w (waits_as p k h c headed knows d)) done);
+            (waits_last start p k.awaited waiting a (h, c) w (waits_as p k h c headed knows d)) done);
       }
 
   -- ---- a routine with its body
@@ -353,7 +365,7 @@ module _ (start : KnownNames) (bodies : List Symbol) where
         rest.awaited_covered;
     from = λ p knows keeps names_are all waiting w done.
         one.from p knows (keeps_on mid.program.forms next.program.forms p.forms (rest.later).keeps keeps) names_are
-            (among_before bodies mid next rest.later all) waiting w marks rest.routines
+        (among_before bodies mid next rest.later all) waiting w marks rest.routines
         (λ others v. rest.from p (knows_later start p k mid one.later knows) keeps names_are all others v done);
   }
 
@@ -372,10 +384,16 @@ module _ (start : KnownNames) (bodies : List Symbol) where
       let g = ap (λ q. each (mark_walk bodies) q (Ends b ∷ marks)) (same_value one.rest) ∙ f in
       let behind = λ (body : Statement). at_rest (known_behind start bodies headed one.value body) in
       let two = went (after (block_walk (body_setting headed.heading one.value) b) (λ body. fine (behind body)))
-          (λ next. each (mark_walk bodies) next marks) at g in
+      (λ next. each (mark_walk bodies) next marks) at g in
       let three = went (block_walk (body_setting headed.heading one.value) b) (λ body. fine (behind body)) two.value two.first in
-      record { local = one.value; body = three.value; locals_are = one.first; body_is = three.first; rest = ap
-          (λ q. each (mark_walk bodies) q marks) (same_value three.rest) ∙ two.rest }
+      record {
+        local = one.value;
+        body = three.value;
+        locals_are = one.first;
+        body_is = three.first;
+        rest = ap
+            (λ q. each (mark_walk bodies) q marks) (same_value three.rest) ∙ two.rest;
+      }
 
   -- a routine that was not announced
   whole_done : (k : Known) (h : HeadingText) (c : Clauses) (l : Locals) (b : tree.Block) (headed : Headed) (local : Local)
@@ -390,9 +408,15 @@ module _ (start : KnownNames) (bodies : List Symbol) where
       record {
         routine = r;
         ready = done.ready;
-        later = record { keeps = (done.later).keeps; constants_are = (done.later).constants_are; types_are = (done.later).types_are;
-            variables_are = (done.later).variables_are; symbols_are = (done.later).symbols_are; start_is = (done.later).start_is;
-            headings_stay = λ g i. (done.later).headings_stay g (in_before k.headings (headed.heading ∷ []) g i) };
+        later = record {
+          keeps = (done.later).keeps;
+          constants_are = (done.later).constants_are;
+          types_are = (done.later).types_are;
+          variables_are = (done.later).variables_are;
+          symbols_are = (done.later).symbols_are;
+          start_is = (done.later).start_is;
+          headings_stay = λ g i. (done.later).headings_stay g (in_before k.headings (headed.heading ∷ []) g i);
+        };
         routines_are = done.routines_are;
         name_is = d.name_is ∙ name_same h.form;
         headings_covered = λ g i. in_last (λ q. HeadingAt k next ((heading_name h.form).symbol ∷ []) q) k.headings headed.heading g
@@ -400,10 +424,15 @@ module _ (start : KnownNames) (bodies : List Symbol) where
             (subst (λ hs. In hs g) done.headings_are i);
         awaited_covered = λ g i. still_waits (subst (λ hs. In hs g) (sym done.awaited_are) i);
         from = λ p knows keeps names_are all waiting w marks rs go.
-            let knows1 : KnowsNames k1 start p = record { start_is = knows.start_is; constants_are = knows.constants_are;
-                types_are = knows.types_are; variables_are = knows.variables_are; symbols_are = knows.symbols_are } in
+            let knows1 : KnowsNames k1 start p = record {
+              start_is = knows.start_is;
+              constants_are = knows.constants_are;
+              types_are = knows.types_are;
+              variables_are = knows.variables_are;
+              symbols_are = knows.symbols_are;
+            } in
             origin.whole (none_announced p k h waiting w none) ((waits_as p k h c headed knows d).from local.variables body)
-                (done.from p knows1 keeps names_are (among_before bodies k1 next done.later all))
+            (done.from p knows1 keeps names_are (among_before bodies k1 next done.later all))
             (go waiting (subst (λ hs. Waits start p hs waiting) (sym done.awaited_are) w));
       }
 
@@ -446,34 +475,45 @@ module _ (start : KnownNames) (bodies : List Symbol) where
       let headed = headed_again k first in
       let r = routine_of start bodies headed local body in
       let done = body_done start bodies k1 headed l b local body (ready_awaited k (without k.awaited first.name) ready)
-          (heading_own k1 first) e f in
+      (heading_own k1 first) e f in
       let named : first.name ≡ x = awaited_name k.awaited x first awaits in
       let next = known_behind start bodies (headed_again k first) local body in
       let named_of : first.name ≡ name_of h.form = named ∙ sym (name_same h.form) in
       record {
         routine = r;
         ready = done.ready;
-        later = record { keeps = (done.later).keeps; constants_are = (done.later).constants_are; types_are = (done.later).types_are;
-            variables_are = (done.later).variables_are; symbols_are = (done.later).symbols_are; start_is = (done.later).start_is;
-            headings_stay = (done.later).headings_stay };
+        later = record {
+          keeps = (done.later).keeps;
+          constants_are = (done.later).constants_are;
+          types_are = (done.later).types_are;
+          variables_are = (done.later).variables_are;
+          symbols_are = (done.later).symbols_are;
+          start_is = (done.later).start_is;
+          headings_stay = (done.later).headings_stay;
+        };
         routines_are = done.routines_are;
         name_is = named;
         headings_covered = λ g i. before (subst (λ hs. In hs g) done.headings_are i);
         awaited_covered = λ g i. with_or_without next [] x k.awaited g i
             (λ j. still_waits (subst (λ hs. In hs g) (sym done.awaited_are) (subst (λ y. In (without k.awaited y) g) (sym named) j)));
         from = λ p knows keeps names_are all waiting w marks rs go.
-            let knows1 : KnowsNames k1 start p = record { start_is = knows.start_is; constants_are = knows.constants_are;
-                types_are = knows.types_are; variables_are = knows.variables_are; symbols_are = knows.symbols_are } in
+            let knows1 : KnowsNames k1 start p = record {
+              start_is = knows.start_is;
+              constants_are = knows.constants_are;
+              types_are = knows.types_are;
+              variables_are = knows.variables_are;
+              symbols_are = knows.symbols_are;
+            } in
             let q = waiting_first p k.awaited x waiting first w awaits in
             let at : announced_as waiting (name_of h.form) ≡ Some q.first = ap (announced_as waiting) (name_same h.form) ∙ q.is in
             let same : repeats q.first.0.form h.form c ≡ true = repeated q.first.0.form h.form c
-                (ap (λ z. is_bare_form z h.form && is_bare c) (sym (q.waits).kind_is) ∙ bare) in
+            (ap (λ z. is_bare_form z h.form && is_bare c) (sym (q.waits).kind_is) ∙ bare) in
             let left = subst (λ y. Waits start p (without k.awaited y) (origin.without waiting (name_of h.form))) (sym named_of)
-                (waits_without start p k.awaited waiting (name_of h.form) w) in
+            (waits_without start p k.awaited waiting (name_of h.form) w) in
             origin.with_body at same ((q.waits).from local.variables body)
-                (done.from p knows1 keeps names_are (among_before bodies k1 next done.later all))
+            (done.from p knows1 keeps names_are (among_before bodies k1 next done.later all))
             (go (origin.without waiting (name_of h.form)) (subst (λ hs. Waits start p hs (origin.without waiting (name_of h.form)))
-                (sym done.awaited_are) left));
+            (sym done.awaited_are) left));
       }
 
   -- ---- the marks in a row
@@ -494,7 +534,7 @@ module _ (start : KnownNames) (bodies : List Symbol) where
       let k1 = with_awaited k (without k.awaited first.name) in
       let bare = held (is_bare_form first.is_function h.form && is_bare c) (twice_at h) (begun_of k1 (headed_again k first) l) mid e in
       let next_walk = behind_test (is_bare_form first.is_function h.form && is_bare c) (twice_at h) (begun_of k1 (headed_again k first) l)
-          mid e in
+      mid e in
       let u = begun_as k1 l b (headed_again k first) marks mid at next_walk f in
       let r = again_done k h c l b first u.local u.body ready awaits bare u.locals_are u.body_is in
       let next = known_behind start bodies (headed_again k first) u.local u.body in
@@ -511,8 +551,8 @@ module _ (start : KnownNames) (bodies : List Symbol) where
       let next = with_awaited_too k (one.value).heading in
       announced_done k h c marks one.value at.known ready awaits d
       (go next (ready_awaited (with_heading k (one.value).heading)
-          ((with_heading k (one.value).heading).awaited ++ (one.value).heading ∷ []) d.ready)
-          (ap (λ q. each (mark_walk bodies) q marks) (same_value one.rest) ∙ f))
+      ((with_heading k (one.value).heading).awaited ++ (one.value).heading ∷ []) d.ready)
+      (ap (λ q. each (mark_walk bodies) q marks) (same_value one.rest) ∙ f))
 
   record HasBegun (mid : Progress) : Type 0 where
     pub begun : Begun
@@ -521,8 +561,11 @@ module _ (start : KnownNames) (bodies : List Symbol) where
   begun_is : (k : Known) (headed : Headed) (l : Locals) (mid : Progress) → begun_of k headed l ≡ Ok mid → HasBegun mid
   begun_is k headed l mid e =
       let one = went (locals_walk k headed l) (λ local. fine (begun_at headed local)) mid e in
-      record { begun = record { heading = headed.heading; local = one.value }; is = ap (λ (q : Progress). q.begun)
-          (sym (same_value one.rest)) }
+      record {
+        begun = record { heading = headed.heading; local = one.value };
+        is = ap (λ (q : Progress). q.begun)
+            (sym (same_value one.rest));
+      }
 
   has_begun : (k : Known) (h : HeadingText) (c : Clauses) (l : Locals) (mid : Progress) (o : Option Heading)
       → begin bodies k h c l o ≡ Ok mid → HasBegun mid
@@ -531,8 +574,8 @@ module _ (start : KnownNames) (bodies : List Symbol) where
       begun_is (with_heading k (one.value).heading) one.value l mid one.rest
   has_begun k h c l mid (Some first) e =
       begun_is (with_awaited k (without k.awaited first.name)) (headed_again k first) l mid
-          (behind_test (is_bare_form first.is_function h.form && is_bare c) (twice_at h)
-          (begun_of (with_awaited k (without k.awaited first.name)) (headed_again k first) l) mid e)
+      (behind_test (is_bare_form first.is_function h.form && is_bare c) (twice_at h)
+      (begun_of (with_awaited k (without k.awaited first.name)) (headed_again k first) l) mid e)
 
   no_inner : (o : Option Begun) (b : Begun) (h : HeadingText) (next : Outcome Progress) (z : Progress) → o ≡ Some b
       → unless_begun o h next ≡ Ok z → ⊥
@@ -550,28 +593,36 @@ module _ (start : KnownNames) (bodies : List Symbol) where
       → each (mark_walk bodies) (at_rest k) marks ≡ Ok at → MarksDone k marks at.known
   marks_done [] k at ready nested e =
       subst (λ (q : Progress). MarksDone k [] q.known) (same_value e)
-      (record { ready = ready; later = later_same k; routines = []; routines_are = append-nil k.program.routines; names_are = refl;
-          headings_covered = λ g i. before i; awaited_covered = λ g i. still_waits i; from = λ p knows keeps names_are all waiting w done.
-          none_left p k.awaited waiting w done })
+      (record {
+        ready = ready;
+        later = later_same k;
+        routines = [];
+        routines_are = append-nil k.program.routines;
+        names_are = refl;
+        headings_covered = λ g i. before i;
+        awaited_covered = λ g i. still_waits i;
+        from = λ p knows keeps names_are all waiting w done.
+            none_left p k.awaited waiting w done;
+      })
   marks_done (Announced h c ∷ marks) k at ready nested e =
       let one = went (mark_walk bodies (at_rest k) (Announced h c)) (λ next. each (mark_walk bodies) next marks) at e in
       announces_done k h c marks one.value at (awaited_of k.awaited (heading_name h.form).symbol) ready refl one.first one.rest
-          (λ next r f. marks_done marks next at r nested f)
+      (λ next r f. marks_done marks next at r nested f)
   marks_done (Begins h c l ∷ []) k at ready nested e = absurd (false≢true nested)
   marks_done (Begins h c l ∷ Ends b ∷ marks) k at ready nested e =
       let one = went (mark_walk bodies (at_rest k) (Begins h c l)) (λ next. each (mark_walk bodies) next (Ends b ∷ marks)) at e in
       begins_done k h c l b marks one.value at (awaited_of k.awaited (heading_name h.form).symbol) ready refl one.first one.rest
-          (λ next r f. marks_done marks next at r (right_true (block_ok b) (routines_ok 0 marks) nested) f)
+      (λ next r f. marks_done marks next at r (right_true (block_ok b) (routines_ok 0 marks) nested) f)
   marks_done (Begins h c l ∷ Announced g d ∷ marks) k at ready nested e =
       let one = went (mark_walk bodies (at_rest k) (Begins h c l)) (λ next. each (mark_walk bodies) next (Announced g d ∷ marks)) at e in
       let b = has_begun k h c l one.value (awaited_of k.awaited (heading_name h.form).symbol) one.first in
       let two = went (mark_walk bodies one.value (Announced g d)) (λ next. each (mark_walk bodies) next marks) at one.rest in
       absurd (no_inner (one.value).begun b.begun g (announce bodies (one.value).known g d (awaited_of (one.value).known.awaited
-          (heading_name g.form).symbol)) two.value b.is two.first)
+      (heading_name g.form).symbol)) two.value b.is two.first)
   marks_done (Begins h c l ∷ Begins g d m ∷ marks) k at ready nested e =
       let one = went (mark_walk bodies (at_rest k) (Begins h c l)) (λ next. each (mark_walk bodies) next (Begins g d m ∷ marks)) at e in
       let b = has_begun k h c l one.value (awaited_of k.awaited (heading_name h.form).symbol) one.first in
       let two = went (mark_walk bodies one.value (Begins g d m)) (λ next. each (mark_walk bodies) next marks) at one.rest in
       absurd (no_inner (one.value).begun b.begun g (begin bodies (one.value).known g d m (awaited_of (one.value).known.awaited
-          (heading_name g.form).symbol)) two.value b.is two.first)
+      (heading_name g.form).symbol)) two.value b.is two.first)
   marks_done (Ends b ∷ marks) k at ready nested e = absurd (false≢true nested)

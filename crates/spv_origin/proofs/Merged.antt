@@ -10,8 +10,8 @@ use Rattle.spv_program.specs.declared.types.TypeForm.{TypeForm}
 use Rattle.spv_program.specs.declared.types.TypeForm.TheVariants.{Integer, Boolean, Range, Pointer, Array, Record}
 use Rattle.spv_program.specs.Lists.{found, item_at}
 use Rattle.spv_program.proofs.SortFacts.{nothing_there, some_is}
-use Rattle.spv_typing.specs.Merging.{Written, Built, PointerTo, target_number, first_where, points_alike, firsts_after, firsts, kinds_before, number_or, renumbered, form_with, target_or_first, form_of, forms_from, Merged, merged}
-use Rattle.spv_origin.proofs.Firsts.{There, first_same, points_same, stands_for, stands_there, same_items, items_same, PointerStands, pointer_stands, Stands, stands, stands_first, stands_plain, stands_pointer, stands_is, firsts_settle}
+use Rattle.spv_typing.specs.Merging.{Written, Built, PointerTo, target_number, points_alike, firsts_after, firsts, kinds_before, number_or, form_with, target_or_first, form_of, forms_from, merged}
+use Rattle.spv_origin.proofs.Firsts.{There, first_same, points_same, stands_for, stands_there, same_items, items_same, pointer_stands, stands, stands_first, stands_plain, stands_pointer, stands_is, firsts_settle}
 
 -- ---- items
 
@@ -80,7 +80,7 @@ forms_item names new place (f ∷ fs) [] r w e h = absurd (nothing_there h)
 forms_item names new place (f ∷ fs) (v ∷ ws) zero w e h =
     let z : place + 0 ≡ place = omega arith in
     ap (λ b. item_at (cond b (form_with new (form_of names v) ∷ forms_from names new (suc place) fs ws)
-        (forms_from names new (suc place) fs ws)) 0) (eq-eqb f place (some_is e ∙ z))
+    (forms_from names new (suc place) fs ws)) 0) (eq-eqb f place (some_is e ∙ z))
     ∙ ap (λ q. Some (form_with new (form_of names q))) (some_is h)
 forms_item names new place (f ∷ fs) (v ∷ ws) (suc r) w e h =
     let z : place + suc r ≡ suc place + r = omega arith in
@@ -141,12 +141,12 @@ kinds_apart place (f ∷ fs) zero zero e h k = refl
 kinds_apart place (f ∷ fs) zero (suc q) e h k =
     let z : place + 0 ≡ place = omega arith in
     let g : 0 ≡ suc (kinds_before q (suc place) fs) = k ∙ ap
-        (λ b. cond b (suc (kinds_before q (suc place) fs)) (kinds_before q (suc place) fs)) (eq-eqb f place (some_is e ∙ z)) in
+    (λ b. cond b (suc (kinds_before q (suc place) fs)) (kinds_before q (suc place) fs)) (eq-eqb f place (some_is e ∙ z)) in
     absurd (omega arith)
 kinds_apart place (f ∷ fs) (suc r) zero e h k =
     let z : place + 0 ≡ place = omega arith in
     let g : 0 ≡ suc (kinds_before r (suc place) fs) = sym k ∙ ap
-        (λ b. cond b (suc (kinds_before r (suc place) fs)) (kinds_before r (suc place) fs)) (eq-eqb f place (some_is h ∙ z)) in
+    (λ b. cond b (suc (kinds_before r (suc place) fs)) (kinds_before r (suc place) fs)) (eq-eqb f place (some_is h ∙ z)) in
     absurd (omega arith)
 kinds_apart place (f ∷ fs) (suc r) (suc q) e h k =
     let y : place + suc r ≡ suc place + r = omega arith in
@@ -168,7 +168,7 @@ kinds_all place (f ∷ fs) (suc i) h =
     let z : place + 0 ≡ place = omega arith in
     ap (λ b. cond b (suc (kinds_before i (suc place) fs)) (kinds_before i (suc place) fs)) (eq-eqb f place (some_is (h 0 l) ∙ z))
     ∙ ap suc (kinds_all (suc place) fs i (λ j k. let m : suc (suc j) ≤ suc i = omega arith in let y : place + suc j ≡ suc place +
-        j = omega arith in h (suc j) m ∙ ap Some y))
+    j = omega arith in h (suc j) m ∙ ap Some y))
 
 -- ---- pointer types
 
@@ -264,17 +264,17 @@ module _ (names : List (Symbol × TypeId)) (written : List Written)
       by_target : (o : Option ℕ) → target_number names w ≡ o → form_with new (form_of names w) ≡ form_with new (form_of names v)
       by_target None k =
           let own : stand i ≡ i = sym (one_more_round i) ∙ stands_plain targets inside rounds i
-              (item_map (target_number names) written i w e ∙ ap Some k) in
+          (item_map (target_number names) written i w e ∙ ap Some k) in
           ap (λ q. form_with new (form_of names q)) (some_is (sym e ∙ (ap (item_at written) (sym own) ∙ h)))
       by_target (Some t) k =
           let at : item_at targets i ≡ Some (Some t) = item_map (target_number names) written i w e ∙ ap Some k in
           let p = pointer_stands targets inside rounds i t at in
           let other : target_number names v ≡ Some p.target = some_is
-              (sym (item_map (target_number names) written (stand i) v h) ∙ (ap (item_at targets) (sym (one_more_round i)) ∙ p.is)) in
+          (sym (item_map (target_number names) written (stand i) v h) ∙ (ap (item_at targets) (sym (one_more_round i)) ∙ p.is)) in
           let there = inside (stands_for targets inside (suc rounds) i) p.target p.is in
           let one : stand t ≡ stand p.target = items_same targets inside rounds t p.target (inside i t at) there p.same in
           ap (form_with new) (pointer_form names w t k) ∙ (ap (λ n. Pointer (record { 0 = kinds_before n 0 same })) one ∙ ap
-              (form_with new) (sym (pointer_form names v p.target other)))
+          (form_with new) (sym (pointer_form names v p.target other)))
 
   stand_first : (i : ℕ) → There written i → item_at same (stand i) ≡ Some (0 + stand i)
   stand_first i h =
@@ -327,7 +327,7 @@ module _ (names : List (Symbol × TypeId)) (written : List Written)
       let t = inside r one.target at in
       let v = inside s two.target on in
       let numbers : kinds_before (stand one.target) 0 same ≡ kinds_before (stand two.target) 0 same = ap (λ (x : TypeId). x.0)
-          (one.same ∙ sym two.same) in
+      (one.same ∙ sym two.same) in
       let first = stands targets inside rounds one.target t in
       let second = stands targets inside rounds two.target v in
       let y : stand one.target ≡ 0 + stand one.target = omega arith in
@@ -339,7 +339,7 @@ module _ (names : List (Symbol × TypeId)) (written : List Written)
       let more : stands_for targets inside (suc rounds) r ≡ stands_for targets inside (suc rounds) s =
       stands_pointer targets inside rounds r one.target at
       ∙ (first_same (points_alike same one.target) (points_alike same two.target) targets (points_same same one.target two.target items)
-          ∙ sym (stands_pointer targets inside rounds s two.target on)) in
+      ∙ sym (stands_pointer targets inside rounds s two.target on)) in
       let zr : 0 + r ≡ r = omega arith in
       let zs : 0 + s ≡ s = omega arith in
       let own_r : stand r ≡ r = stands_is targets inside rounds r (0 + r) p.first ∙ zr in
@@ -365,7 +365,7 @@ new_fields_same : (forms : List TypeForm) (new : TypeId → TypeId) → ((t : Ty
 new_fields_same forms new h [] no_fields_in = refl
 new_fields_same forms new h (f ∷ fs) (one_field_in g gs k rest) =
     ap (λ t. record { name = f.name; of = t } ∷ map (λ (f : TypeField). field_with new f) fs) (h f.of k) ∙ ap (λ gs. f ∷ gs)
-        (new_fields_same forms new h fs rest)
+    (new_fields_same forms new h fs rest)
 
 new_form_same : (forms : List TypeForm) (new : TypeId → TypeId) → ((t : TypeId) → There forms t.0 → new t ≡ t) → (f : TypeForm)
     → FormIn forms f → form_with new f ≡ f
@@ -413,7 +413,7 @@ module _ (names : List (Symbol × TypeId)) (old : List TypeForm) (more : List Wr
           (item_map (target_number names) all i (Built h.item) (old_item i h.item h.is) ∙ ap Some e)
       by_target (Some t) e go =
           let at : item_at old_targets i ≡ Some (Some t) = item_map (target_number names) all i (Built h.item) (old_item i h.item h.is)
-              ∙ ap Some e in
+          ∙ ap Some e in
           let p = pointer_stands old_targets old_inside k i t at in
           let r = stands_for old_targets old_inside (suc k) i in
           let g = there_below old i r h p.below in
@@ -422,9 +422,9 @@ module _ (names : List (Symbol × TypeId)) (old : List TypeForm) (more : List Wr
           let tt' = target_old i t h.item h.is mine in
           let uu = target_old r p.target g.item g.is other in
           let eq : t ≡ p.target = sym (go t tt') ∙ (items_same old_targets old_inside k t p.target (old_inside i t at)
-              (old_inside r p.target p.is) p.same ∙ go p.target uu) in
+          (old_inside r p.target p.is) p.same ∙ go p.target uu) in
           old_right.settled r i (record { 0 = t }) (g.is ∙ ap Some (other ∙ ap (λ n. Pointer (record { 0 = n })) (sym eq)))
-              (h.is ∙ ap Some mine)
+          (h.is ∙ ap Some mine)
 
   pub old_number : (t : TypeId) → There old t.0 → (merged names all).new t ≡ t
   old_number t h =
@@ -443,4 +443,4 @@ module _ (names : List (Symbol × TypeId)) (old : List TypeForm) (more : List Wr
       let same : (merged names all).new (record { 0 = i }) ≡ record { 0 = i } = old_number (record { 0 = i }) h in
       ap (λ (t : TypeId). item_at (merged names all).forms t.0) (sym same)
       ∙ (forms_kept names all right i (Built f) (old_item i f e) ∙ ap Some
-          (new_form_same old (merged names all).new old_number f (old_right.inside i f e)))
+      (new_form_same old (merged names all).new old_number f (old_right.inside i f e)))

@@ -1,6 +1,6 @@
 -- A type outside the TYPE part comes from its tree, and the types that were there stay as they were.
-use Rattle.std.proofs.Common.{◌≡◌, ℕ, zero, suc, Bool, true, false, cond, List, [], ◌∷◌, ◌++◌, map, Option, Some, None, refl, sym, ap, ◌∙◌, subst}
-use Rattle.std.specs.Prelude.{◌||◌, ℤ, Ok, Err}
+use Rattle.std.proofs.Common.{◌≡◌, ℕ, Bool, true, false, cond, List, [], ◌∷◌, ◌++◌, map, Some, refl, sym, ap, ◌∙◌, subst}
+use Rattle.std.specs.Prelude.{◌||◌, ℤ, Ok}
 use Rattle.std.specs.List.{list_any}
 use Rattle.std.proofs.lemmas.Bool.{false≢true}
 use Rattle.spv_names.specs.declared.names.Symbol.{Symbol}
@@ -10,18 +10,16 @@ use Rattle.spv_program.specs.declared.types.TypeField.{TypeField}
 use Rattle.spv_program.specs.declared.types.TypeForm.{TypeForm}
 use Rattle.spv_program.specs.declared.types.TypeForm.TheVariants.{Integer, Boolean, Range, Pointer, Array, Record}
 use Rattle.spv_program.specs.Lists.{same_name, found, item_at}
-use Rattle.spv_program.specs.Programs.{Program}
-use Rattle.spv_program.proofs.SortFacts.{nothing_there, some_is}
 use Rattle.spv_typing.specs.Known.{OfType, OfConstant, Scope, meaning}
 use Rattle.spv_typing.specs.Merging.{Written, Built, form_with, form_of, target_or_first, merged}
 use Rattle.spv_typing.specs.TypeWalk.{Reading, denoted}
 use Rattle.spv_typing.specs.DeclarationWalk.{NewType, is_type_name, type_walk}
-use Rattle.spv_well_typed.proofs.Outcomes.{fine, no_fault, same_value, went}
+use Rattle.spv_well_typed.proofs.Outcomes.{fine, same_value, went}
 use Rattle.spv_origin.specs.Names.{View, constant_named, type_named}
 use Rattle.spv_origin.specs.Types.{TypeFrom}
 use Rattle.spv_origin.proofs.Firsts.{There}
 use Rattle.spv_origin.proofs.Merged.{item_map, item_before, MapItem, map_item, FieldsIn, no_fields_in, one_field_in, FormIn, integer_in, boolean_in, range_in, pointer_in, array_in, record_in, WrittenIn, built_in, FormsRight, forms_kept, forms_right, new_there, old_number, old_form}
-use Rattle.spv_origin.proofs.Denoted.{Longer, longer_same, longer_item, longer_there, denoted_longer, denoted_from}
+use Rattle.spv_origin.proofs.Denoted.{Longer, longer_same, denoted_longer, denoted_from}
 
 -- what stands at a place stays there
 pub record Keeps {X : Type 0} (xs ys : List X) : Type 0 where
@@ -104,7 +102,7 @@ module _ (s : Scope) (is_target : Symbol → Bool) (v : View) (names : List (Sym
       → denoted s is_target types t ≡ Ok r → Longer r.written whole → AllThere names whole r
   all_there types t r l all e later =
       let h = denoted_from s is_target (with_forms v (map (form_of names) whole)) names names base whole (λ t. t)
-          (λ i w h. plain_forms names whole i w h) types_there types_named constants targets_there targets_found targets_found
+      (λ i w h. plain_forms names whole i w h) types_there types_named constants targets_there targets_found targets_found
       types t r l (record { each_in = all.each_in }) e later in
       record { there = h.there; all = record { each_in = h.all_in.each_in } }
 
@@ -154,11 +152,11 @@ module _ (s : Scope) (v : View) (before_right : FormsRight s.known.program.forms
       let r : Reading = record { written = whole; type = u } in
       let found_there = λ (x : Symbol) (h : target x ≡ true). any_found types x h in
       let target_there = λ (x : Symbol) (h : target x ≡ true). whole_there more (target_or_first (found types x)).0
-          (names_there x (target_or_first (found types x)) (any_found types x h)) in
+      (names_there x (target_or_first (found types x)) (any_found types x h)) in
       let old_there = λ (x : Symbol) (w : TypeId) (h : meaning s x ≡ Some (OfType w)). base_there w.0 (types_there x w h) in
       let l = denoted_longer s target base t r e in
       let a = all_there s target v types base whole old_there types_named constants target_there found_there base t r (longer_same base)
-          (base_in more) e (longer_same whole) in
+      (base_in more) e (longer_same whole) in
       let all = λ (i : ℕ) (w : Written) (h : item_at whole i ≡ Some w). a.all.each_in i w h in
       let number = λ (w : TypeId) (h : There forms w.0). old_number types forms more before_right all w h in
       let kept : Keeps forms m.forms = record { kept = λ i f h. old_form types forms more before_right all i f h } in
@@ -168,11 +166,11 @@ module _ (s : Scope) (v : View) (before_right : FormsRight s.known.program.forms
         there = new_there types whole all u a.there;
         from = λ later.
             (denoted_from s target v types types base whole m.new
-                (λ i w h. later.kept (m.new (record { 0 = i })).0 (form_with m.new (form_of types w)) (forms_kept types whole all i w h))
-                old_there
+            (λ i w h. later.kept (m.new (record { 0 = i })).0 (form_with m.new (form_of types w)) (forms_kept types whole all i w h))
+            old_there
             (λ x w h. types_named x w h ∙ ap Some (sym (number w (types_there x w h)))) constants target_there found_there
             (λ x h. any_found types x h ∙ ap Some (sym (number (target_or_first (found types x))
-                (names_there x (target_or_first (found types x)) (any_found types x h)))))
+            (names_there x (target_or_first (found types x)) (any_found types x h)))))
             base t r (longer_same base) (record { each_in = (base_in more).each_in }) e (longer_same whole)).from;
       }
 

@@ -1,7 +1,7 @@
 -- What the walk over operators answers comes from its tree, where what it is given does so.
 use Rattle.std.proofs.Common.{◌≡◌, ℕ, Bool, true, false, cond, refl, sym, ap, ◌∙◌, subst}
 use Rattle.std.proofs.lemmas.Bool.{false≢true}
-use Rattle.std.specs.Prelude.{List, [], ◌∷◌, ℤ, pos, Option, Some, None, Ok, Err}
+use Rattle.std.specs.Prelude.{List, [], ◌∷◌, pos, Option, Some, None, Ok, Err}
 use Rattle.spv_logic.specs.Shapes.{is_pointer}
 use Rattle.spv_logic.specs.declared.types.TypeId.{TypeId}
 use Rattle.spv_logic.specs.declared.types.Sort.{Sort}
@@ -18,15 +18,13 @@ use Rattle.spv_syntax.specs.declared.operators.Adding.TheVariants as adding
 use Rattle.spv_syntax.specs.declared.operators.Multiplying.{Multiplying}
 use Rattle.spv_syntax.specs.declared.operators.Multiplying.TheVariants as multiplying
 use Rattle.spv_syntax.specs.Formulas.{Formula, Relation, Simple, MoreTerms, Term, MoreFactors, Factor, MoreFormulas, Designator, Selectors, Selector, formula, no_conclusion, implies, relation, no_right_side, compared, simple, no_more_terms, more_terms, term, no_more_factors, more_factors, number, truth, nil, class, place, application, bracketed, negation, no_more_formulas, more_formulas, designator, no_selectors, selectors, index, field, content}
-use Rattle.spv_program.specs.declared.operators.Arithmetic.{Arithmetic}
 use Rattle.spv_program.specs.declared.operators.Arithmetic.TheVariants as arithmetic
 use Rattle.spv_program.specs.declared.operators.Comparison.{Comparison}
 use Rattle.spv_program.specs.declared.operators.Comparison.TheVariants as comparison
-use Rattle.spv_program.specs.declared.operators.Connective.{Connective}
 use Rattle.spv_program.specs.declared.operators.Connective.TheVariants as connective
 use Rattle.spv_program.proofs.SortFacts.{nothing_there, some_is}
 use Rattle.spv_typing.specs.declared.faults.TypeFault.{TypeFault}
-use Rattle.spv_typing.specs.Outcomes.{Outcome, after, where_so, wrong}
+use Rattle.spv_typing.specs.Outcomes.{after, wrong}
 use Rattle.spv_typing.specs.TypeWalk.{negative}
 use Rattle.spv_typing.specs.OperatorWalk.{Operand, Of, NilAt, Argument, Forms, settled, two_of, numbers, truths, product, total, with_sign, opposite, alike, ordered, related, conclusion, argument, bare, designator_alone, formula_walk, relation_walk, simple_walk, more_terms_walk, term_walk, more_factors_walk, factor_walk, designator_walk, selectors_walk, selector_walk, arguments, written_place, relation_place, simple_place, term_place, factor_place}
 use Rattle.spv_well_typed.proofs.Outcomes.{fine, no_fault, same_value, went, held, behind_test}
@@ -289,7 +287,7 @@ module _ {X S : Type 0} (k : Forms X S) (m : Operators X) (Reads Writes : Name �
       let y : FromFactor both.right f = from_of (subst (OperandFrom (λ y. FromFactor y f)) both.right_is g) in
       let on : On (FromFactors (product_of made sign both.left both.right) more) o = subst (λ q. FactorsFrom q more o) (sym both.is) rest in
       let all : FactorsFrom (Of both.left both.sort) (more_factors sign f more) o = record
-          { value = on.value; sort = on.sort; is = on.is; from = origin.one_factor y on.from } in
+      { value = on.value; sort = on.sort; is = on.is; from = origin.one_factor y on.from } in
       subst (λ q. FactorsFrom q (more_factors sign f more) o) (sym both.left_is) all
 
   term_more : (sign : Adding) (t : Term) (more : MoreTerms) (a b c o : Operand X) → Both (sum_of made sign) a b c
@@ -298,7 +296,7 @@ module _ {X S : Type 0} (k : Forms X S) (m : Operators X) (Reads Writes : Name �
       let y : FromTerm both.right t = from_of (subst (OperandFrom (λ y. FromTerm y t)) both.right_is g) in
       let on : On (FromTerms (sum_of made sign both.left both.right) more) o = subst (λ q. TermsFrom q more o) (sym both.is) rest in
       let all : TermsFrom (Of both.left both.sort) (more_terms sign t more) o = record
-          { value = on.value; sort = on.sort; is = on.is; from = origin.one_term y on.from } in
+      { value = on.value; sort = on.sort; is = on.is; from = origin.one_term y on.from } in
       subst (λ q. TermsFrom q (more_terms sign t more) o) (sym both.left_is) all
 
   term_of : (line : ℕ) (f : Factor) (more : MoreFactors) (a o : Operand X) → OperandFrom (λ x. FromFactor x f) a → FactorsFrom a more o
@@ -308,7 +306,7 @@ module _ {X S : Type 0} (k : Forms X S) (m : Operators X) (Reads Writes : Name �
   term_of line f more (NilAt at) o (nil_at l h) on =
       subst (λ fs. OperandFrom (λ x. FromTerm x (term line f fs)) o) (sym on.0)
       (subst (OperandFrom (λ x. FromTerm x (term line f no_more_factors))) (sym on.1)
-          (nil_at at (λ t. origin.product (h t) origin.no_factors)))
+      (nil_at at (λ t. origin.product (h t) origin.no_factors)))
 
   -- ---- signs
 
@@ -362,7 +360,7 @@ module _ {X S : Type 0} (k : Forms X S) (m : Operators X) (Reads Writes : Name �
   minus_numeral_from line at w n more b o is rest =
       let on : On (FromTerms (k.numeral (negative (pos n))) more) o = subst (λ q. TermsFrom q more o) (sym is) rest in
       subst (SimpleFrom line (Some prefix.Minus) (term at (number w n) no_more_factors) more) (sym on.is)
-          (of on.value on.sort (origin.minus_numeral on.from))
+      (of on.value on.sort (origin.minus_numeral on.from))
 
   signed_from : (line : ℕ) (sign : Option PlusOrMinus) (t : Term) (more : MoreTerms) (a b o : Operand X)
       → OperandFrom (λ x. FromTerm x t) a → with_sign k line sign t a ≡ Ok b → TermsFrom b more o → SimpleFrom line sign t more o
@@ -416,15 +414,29 @@ module _ {X S : Type 0} (k : Forms X S) (m : Operators X) (Reads Writes : Name �
   alike_pair P Q line o (Of x s) b c g h e =
       let next = after (settled k.nil_of (wrong line) s b) (λ y. fine (Of (k.compares o x y) sort.Bool)) in
       let one = went (settled k.nil_of (wrong line) s b) (λ y. fine (Of (k.compares o x y) sort.Bool)) c
-          (behind_test (k.comparable s) (wrong line) next c e) in
-      record { left = x; right = one.value; result = sort.Bool; left_from = from_of g; right_from = settled_from k.nil_of Q (wrong line) s
-          b one.value h one.first; is = same_value one.rest }
+      (behind_test (k.comparable s) (wrong line) next c e) in
+      record {
+        left = x;
+        right = one.value;
+        result = sort.Bool;
+        left_from = from_of g;
+        right_from = settled_from k.nil_of Q (wrong line) s
+            b one.value h one.first;
+        is = same_value one.rest;
+      }
   alike_pair P Q line o (NilAt at) (Of y s) c g h e =
       let next = after (settled k.nil_of (wrong line) s (NilAt at)) (λ x. fine (Of (k.compares o x y) sort.Bool)) in
       let one = went (settled k.nil_of (wrong line) s (NilAt at)) (λ x. fine (Of (k.compares o x y) sort.Bool)) c
-          (behind_test (k.comparable s) (wrong line) next c e) in
-      record { left = one.value; right = y; result = sort.Bool; left_from = settled_from k.nil_of P (wrong line) s (NilAt at) one.value g
-          one.first; right_from = from_of h; is = same_value one.rest }
+      (behind_test (k.comparable s) (wrong line) next c e) in
+      record {
+        left = one.value;
+        right = y;
+        result = sort.Bool;
+        left_from = settled_from k.nil_of P (wrong line) s (NilAt at) one.value g
+            one.first;
+        right_from = from_of h;
+        is = same_value one.rest;
+      }
   alike_pair P Q line o (NilAt at) (NilAt on) c g h e = absurd (no_fault e)
 
   related_pair : (P Q : X → Type 0) (line : ℕ) (o : ComparisonSign) (a b c : Operand X) → OperandFrom P a → OperandFrom Q b
@@ -495,7 +507,7 @@ module _ {X S : Type 0} (k : Forms X S) (m : Operators X) (Reads Writes : Name �
           let one = went (relation_walk k r) (λ a. after (formula_walk k f) (λ b. conclusion k line a b)) o e in
           let two = went (formula_walk k f) (λ b. conclusion k line one.value b) o one.rest in
           implication_from line line r f one.value two.value o (relation_from r one.value one.first) (formula_from f two.value two.first)
-              two.rest
+          two.rest
 
       relation_from : (r : Relation) (o : Operand X) → relation_walk k r ≡ Ok o → OperandFrom (λ x. FromRelation x r) o
       relation_from (relation line s no_right_side) o e = from_map o (λ x h. origin.one_side h) (simple_from s o e)
@@ -509,7 +521,7 @@ module _ {X S : Type 0} (k : Forms X S) (m : Operators X) (Reads Writes : Name �
           let one = went (term_walk k t) (λ a. after (with_sign k line sign t a) (λ b. more_terms_walk k line b more)) o e in
           let two = went (with_sign k line sign t one.value) (λ b. more_terms_walk k line b more) o one.rest in
           signed_from line sign t more one.value two.value o (term_from t one.value one.first) two.first
-              (more_terms_from line two.value more o two.rest)
+          (more_terms_from line two.value more o two.rest)
 
       more_terms_from : (line : ℕ) (a : Operand X) (more : MoreTerms) (o : Operand X) → more_terms_walk k line a more ≡ Ok o
           → TermsFrom a more o
@@ -518,7 +530,7 @@ module _ {X S : Type 0} (k : Forms X S) (m : Operators X) (Reads Writes : Name �
           let one = went (term_walk k t) (λ b. after (total k line sign a b) (λ c. more_terms_walk k line c more)) o e in
           let two = went (total k line sign a one.value) (λ c. more_terms_walk k line c more) o one.rest in
           term_more sign t more a one.value two.value o (total_both line sign a one.value two.value two.first)
-              (term_from t one.value one.first) (more_terms_from line two.value more o two.rest)
+          (term_from t one.value one.first) (more_terms_from line two.value more o two.rest)
 
       term_from : (t : Term) (o : Operand X) → term_walk k t ≡ Ok o → OperandFrom (λ x. FromTerm x t) o
       term_from (term line f more) o e =
@@ -532,7 +544,7 @@ module _ {X S : Type 0} (k : Forms X S) (m : Operators X) (Reads Writes : Name �
           let one = went (factor_walk k f) (λ b. after (product k line sign a b) (λ c. more_factors_walk k line c more)) o e in
           let two = went (product k line sign a one.value) (λ c. more_factors_walk k line c more) o one.rest in
           factor_more sign f more a one.value two.value o (product_both line sign a one.value two.value two.first)
-              (factor_from f one.value one.first) (more_factors_from line two.value more o two.rest)
+          (factor_from f one.value one.first) (more_factors_from line two.value more o two.rest)
 
       factor_from : (f : Factor) (o : Operand X) → factor_walk k f ≡ Ok o → OperandFrom (λ x. FromFactor x f) o
       factor_from (number line n) o e = subst (OperandFrom (λ x. FromFactor x (number line n))) (same_value e)
@@ -549,7 +561,7 @@ module _ {X S : Type 0} (k : Forms X S) (m : Operators X) (Reads Writes : Name �
           let one = went (k.apply line x given) (λ s. after (selectors_walk k line s behind) (λ t. fine (k.finish t))) o e in
           let two = went (selectors_walk k line one.value behind) (λ t. fine (k.finish t)) o one.rest in
           let all = one_more (argument f (formula_walk k f) (written_place k f)) (arguments k more) f more
-              (argument_from f (formula_from f) (place_from f)) (arguments_from more) in
+          (argument_from f (formula_from f) (place_from f)) (arguments_from more) in
           let app = comes.apply line x one.value given f more all one.first in
           let ss = selectors_from line one.value behind two.value app.good two.first in
           finished (λ z. FromFactor z (application line x f more behind)) two.value o two.rest (origin.applied app.from app.is ss.from)
@@ -583,7 +595,7 @@ module _ {X S : Type 0} (k : Forms X S) (m : Operators X) (Reads Writes : Name �
       selector_from line s (index at f fs) t g e =
           comes.indexed line at s t (argument f (formula_walk k f) (written_place k f) ∷ arguments k fs) f fs g
           (one_more (argument f (formula_walk k f) (written_place k f)) (arguments k fs) f fs
-              (argument_from f (formula_from f) (place_from f)) (arguments_from fs)) e
+          (argument_from f (formula_from f) (place_from f)) (arguments_from fs)) e
       selector_from line s (field at x) t g e = comes.field_of line at s t x g e
       selector_from line s (content at) t g e = comes.content_of line at s t g e
 
@@ -591,7 +603,7 @@ module _ {X S : Type 0} (k : Forms X S) (m : Operators X) (Reads Writes : Name �
       arguments_from no_more_formulas = no_more
       arguments_from (more_formulas f fs) =
           one_more (argument f (formula_walk k f) (written_place k f)) (arguments k fs) f fs
-              (argument_from f (formula_from f) (place_from f)) (arguments_from fs)
+          (argument_from f (formula_from f) (place_from f)) (arguments_from fs)
 
       pub place_from : (f : Formula) (s : S) → written_place k f ≡ Some (Ok s) → PlacedFrom f s
       place_from (formula line r no_conclusion) s e = relation_place_from line r s e

@@ -1,5 +1,5 @@
 -- Small loops, calls, headings, types and annotations: what comes from them and what does not.
-use Rattle.std.proofs.Common.{◌≡◌, Bool, true, false, refl, sym, ap, ◌∙◌, subst}
+use Rattle.std.proofs.Common.{◌≡◌, Bool, true, false, refl, sym, ap, ◌∙◌}
 use Rattle.std.proofs.lemmas.Bool.{false≢true}
 use Rattle.std.specs.Prelude.{ℕ, ℤ, [], ◌∷◌, Option, Some, None, pos, is_some, nat_eq}
 use Rattle.std.specs.Ordering.{int_eq}
@@ -8,7 +8,7 @@ use Rattle.spv_logic.specs.declared.conditions.RoutineId.{RoutineId}
 use Rattle.spv_syntax.specs.declared.operators.Comparison.TheVariants as comparing
 use Rattle.spv_syntax.specs.declared.operators.Direction.{Direction as DirectionSign}
 use Rattle.spv_syntax.specs.declared.operators.Direction.TheVariants as towards
-use Rattle.spv_syntax.specs.declared.routines.RoutineMark.TheVariants.{Announced, Begins, Ends}
+use Rattle.spv_syntax.specs.declared.routines.RoutineMark.TheVariants.{Announced}
 use Rattle.spv_syntax.specs.Formulas as tree
 use Rattle.spv_syntax.specs.Types as types
 use Rattle.spv_program.specs.declared.operators.Direction.{Direction}
@@ -19,7 +19,7 @@ use Rattle.spv_program.specs.Expressions.{Expression, Arguments, Numeral, no_arg
 use Rattle.spv_program.specs.Statements.{Statement, For}
 use Rattle.spv_program.proofs.SortFacts.{nothing_there, some_is}
 use Rattle.spv_origin.specs.Examples.{name, x, y, start, integer, program, view, variable, number, alone, related, read, one, No, FromStatement, assign, assigning}
-use Rattle.spv_origin.specs.RoutineExamples.{counting, for_tree, CountersAreKept, p, with_p, routine, first_routine, calling, call_tree, CallsAreKept, formal, group, ParametersAreKept, RoutinesAreKept, numeral_text, with_range, third, RangesAreKept, noted, NotesAreKept, Note, implication, ImplicationsAreKept, with_car, car_tree, applied, FunctionsAreKept}
+use Rattle.spv_origin.specs.RoutineExamples.{counting, for_tree, CountersAreKept, with_p, first_routine, calling, call_tree, CallsAreKept, formal, group, ParametersAreKept, RoutinesAreKept, numeral_text, with_range, third, RangesAreKept, noted, NotesAreKept, Note, implication, ImplicationsAreKept, with_car, car_tree, applied, FunctionsAreKept}
 use Rattle.spv_origin.specs.Formulas.{operator_of, noted_constant, noted_variable, noted_start, noted_symbol, with_symbol, with_built_in, with_put, not_there, annotation, FormulaFrom, AnnotationFrom, formula_operators, Noted, NotedWith}
 use Rattle.spv_origin.specs.Names.{View}
 use Rattle.spv_typing.specs.Known.{Function, Put, Car}
@@ -62,7 +62,8 @@ other_direction : No (FromStatement (counting direction.Up 1 2) (for_tree toward
 other_direction h = false≢true (sym (ap is_up (towards_of towards.Down 1 2 (counting direction.Up 1 2) h).direction_is))
 
 -- the first number of a FOR
-first_of : (d : DirectionSign) (from to : ℕ) (s : Statement) → FromStatement s (for_tree d from to) → Rattle.spv_origin.specs.Examples.From (first_in s) (alone (number from))
+first_of : (d : DirectionSign) (from to : ℕ) (s : Statement) → FromStatement s (for_tree d from to)
+    → Rattle.spv_origin.specs.Examples.From (first_in s) (alone (number from))
 first_of d from to s (statements.for i n f l a) = f
 
 number_in : (e : Expression) (n : ℕ) → Rattle.spv_origin.specs.Examples.From e (alone (number n)) → Numeral (pos n) ≡ e
@@ -87,11 +88,15 @@ counters_are_kept = (
 
 -- ---- calls
 
-x_argument : origin.FromArguments expression_operators (IsRead with_p) (IsWritten with_p) (IsCalled with_p) (origin.Value (read x) ∷ []) (tree.more_formulas (alone (variable x)) tree.no_more_formulas)
-x_argument = origin.one_argument (origin.value (origin.alone (origin.one_side (origin.unsigned (origin.product (origin.read (origin.read_name (read_variable refl) origin.no_more)) origin.no_factors) origin.no_terms)))) origin.no_arguments
+x_argument : origin.FromArguments expression_operators (IsRead with_p) (IsWritten with_p) (IsCalled with_p) (origin.Value (read x) ∷ [])
+    (tree.more_formulas (alone (variable x)) tree.no_more_formulas)
+x_argument = origin.one_argument (origin.value (origin.alone (origin.one_side (origin.unsigned
+    (origin.product (origin.read (origin.read_name (read_variable refl) origin.no_more)) origin.no_factors) origin.no_terms))))
+    origin.no_arguments
 
 second_is_not_first : Some first_routine ≡ Some (record { 0 = 1 }) → ⊥
-second_is_not_first e = let k : first_routine ≡ record { 0 = 1 } = some_is e in false≢true (ap (λ (r : RoutineId). Rattle.std.specs.Prelude.nat_eq r.0 1) k)
+second_is_not_first e = let k : first_routine ≡ record { 0 = 1 } = some_is e in false≢true
+    (ap (λ (r : RoutineId). Rattle.std.specs.Prelude.nat_eq r.0 1) k)
 
 other_routine : No (statements.StatementFrom with_p with_p (calling (record { 0 = 1 }) (by_value (read x) no_arguments)) call_tree)
 other_routine (statements.procedure (call_of e gs k)) = second_is_not_first e
@@ -110,7 +115,8 @@ some_given (origin.AtPlace (Numeral z)) = refl
 some_given (origin.AtPlace e) = refl
 
 argument_lost : No (statements.StatementFrom with_p with_p (calling first_routine no_arguments) call_tree)
-argument_lost (statements.procedure (call_of e (origin.one_argument {g = g} h origin.no_arguments) k)) = false≢true (sym (ap has_some k) ∙ some_given g)
+argument_lost (statements.procedure (call_of e (origin.one_argument {g = g} h origin.no_arguments) k)) = false≢true
+    (sym (ap has_some k) ∙ some_given g)
 
 no_routine_there : No (statements.StatementFrom view view (calling first_routine (by_value (read x) no_arguments)) call_tree)
 no_routine_there (statements.procedure (call_of e gs k)) = nothing_there e
@@ -157,7 +163,8 @@ no_subrange : No (type_trees.TypeFrom with_range [] integer (types.range 1 (nume
 no_subrange (type_trees.subrange {a = a} {b = b} e low high) = let k : Integer ≡ Range a b = some_is e in false≢true (ap is_range k)
 
 other_name : No (type_trees.TypeFrom with_range [] third (types.named 1 (name (Rattle.spv_origin.specs.Examples.named 0))))
-other_name (type_trees.by_name e) = let k : integer ≡ third = some_is e in false≢true (ap (λ (t : TypeId). Rattle.std.specs.Prelude.nat_eq t.0 2) k)
+other_name (type_trees.by_name e) = let k : integer ≡ third = some_is e in false≢true
+    (ap (λ (t : TypeId). Rattle.std.specs.Prelude.nat_eq t.0 2) k)
 
 pub ranges_are_kept : RangesAreKept
 ranges_are_kept = (
@@ -169,19 +176,26 @@ ranges_are_kept = (
 
 -- ---- annotations
 
-x_noted : origin.FromTerm (formula_operators view) (Noted view) (Noted view) (NotedWith view) (Rattle.spv_program.specs.Formulas.Named 1 x) (variable x)
+x_noted : origin.FromTerm (formula_operators view) (Noted view) (Noted view) (NotedWith view)
+    (Rattle.spv_program.specs.Formulas.Named 1 x) (variable x)
 x_noted = origin.product (origin.read (origin.read_name (noted_variable refl) origin.no_more)) origin.no_factors
 
-y_noted : origin.FromTerm (formula_operators view) (Noted view) (Noted view) (NotedWith view) (Rattle.spv_program.specs.Formulas.Named 1 y) (variable y)
+y_noted : origin.FromTerm (formula_operators view) (Noted view) (Noted view) (NotedWith view)
+    (Rattle.spv_program.specs.Formulas.Named 1 y) (variable y)
 y_noted = origin.product (origin.read (origin.read_name (noted_variable refl) origin.no_more)) origin.no_factors
 
 other_line : No (AnnotationFrom view (noted 2) (related comparing.Equal (variable x) (variable y)))
 other_line h = elim h [ ]
 
 pub notes_are_kept : NotesAreKept
-notes_are_kept = (annotation (origin.alone (origin.two_sides (origin.unsigned x_noted origin.no_terms) (origin.unsigned y_noted origin.no_terms))), other_line)
+notes_are_kept = (
+  annotation (origin.alone (origin.two_sides (origin.unsigned x_noted origin.no_terms)
+      (origin.unsigned y_noted origin.no_terms))),
+  other_line,
+)
 
-note_alone : {v : View} {f : Formula} {t : tree.Term} → origin.FromTerm (formula_operators v) (Noted v) (Noted v) (NotedWith v) f t → FormulaFrom v f (alone t)
+note_alone : {v : View} {f : Formula} {t : tree.Term} → origin.FromTerm (formula_operators v) (Noted v) (Noted v) (NotedWith v) f t
+    → FormulaFrom v f (alone t)
 note_alone h = origin.alone (origin.one_side (origin.unsigned h origin.no_terms))
 
 -- an implication and its sides
@@ -192,7 +206,8 @@ record Implies (f : Formula) : Type 0 where
   pub is : Implied left right ≡ f
 
 implies_of : (f : Formula) → Note f implication → Implies f
-implies_of f (origin.implication {x = a} {y = b} (origin.one_side (origin.unsigned h origin.no_terms)) g e) = record { left = a; right = b; left_from = h; is = some_is e }
+implies_of f (origin.implication {x = a} {y = b} (origin.one_side (origin.unsigned h origin.no_terms)) g e) = record
+    { left = a; right = b; left_from = h; is = some_is e }
 
 abbrev left_of : Formula → Formula
 left_of (Implied a b) = a
@@ -223,10 +238,14 @@ line_of (Named line s) = line
 line_of f = 1
 
 line_is : (f : Formula) → Note f (alone (variable x)) → line_of f ≡ 1
-line_is f (origin.alone (origin.one_side (origin.unsigned (origin.product (origin.read (origin.read_name (noted_constant e) origin.no_more)) origin.no_factors) origin.no_terms))) = refl
-line_is f (origin.alone (origin.one_side (origin.unsigned (origin.product (origin.read (origin.read_name (noted_variable e) origin.no_more)) origin.no_factors) origin.no_terms))) = refl
-line_is f (origin.alone (origin.one_side (origin.unsigned (origin.product (origin.read (origin.read_name (noted_start e) origin.no_more)) origin.no_factors) origin.no_terms))) = refl
-line_is f (origin.alone (origin.one_side (origin.unsigned (origin.product (origin.read (origin.read_name (noted_symbol e) origin.no_more)) origin.no_factors) origin.no_terms))) = refl
+line_is f (origin.alone (origin.one_side (origin.unsigned (origin.product (origin.read (origin.read_name (noted_constant e)
+    origin.no_more)) origin.no_factors) origin.no_terms))) = refl
+line_is f (origin.alone (origin.one_side (origin.unsigned (origin.product (origin.read (origin.read_name (noted_variable e)
+    origin.no_more)) origin.no_factors) origin.no_terms))) = refl
+line_is f (origin.alone (origin.one_side (origin.unsigned (origin.product (origin.read (origin.read_name (noted_start e) origin.no_more))
+    origin.no_factors) origin.no_terms))) = refl
+line_is f (origin.alone (origin.one_side (origin.unsigned (origin.product (origin.read (origin.read_name (noted_symbol e) origin.no_more))
+    origin.no_factors) origin.no_terms))) = refl
 
 other_name_line : No (Note (Named 2 x) (alone (variable x)))
 other_name_line h = false≢true (ap (λ n. nat_eq n 1) (line_is (Named 2 x) h))
@@ -256,9 +275,12 @@ car_operator : (b : Function) (o : BuiltIn) (fs : Formulas) → Some Car ≡ Som
 car_operator b o fs e f = ap (λ q. is_car (Known q fs)) (some_is (sym f ∙ ap operator_of (sym (some_is e))))
 
 car_is : (f : Formula) → FormulaFrom with_car f car_tree → is_car f ≡ true
-car_is f (origin.alone (origin.one_side (origin.unsigned (origin.product (origin.applied gs (with_symbol none is given) origin.no_more) origin.no_factors) origin.no_terms))) = absurd (nothing_there (sym none))
-car_is f (origin.alone (origin.one_side (origin.unsigned (origin.product (origin.applied gs (with_built_in {b = b} {o = o} {fs = fs} is op given) origin.no_more) origin.no_factors) origin.no_terms))) = car_operator b o fs is op
-car_is f (origin.alone (origin.one_side (origin.unsigned (origin.product (origin.applied gs (with_put is) origin.no_more) origin.no_factors) origin.no_terms))) = absurd (false≢true (ap is_put (some_is is)))
+car_is f (origin.alone (origin.one_side (origin.unsigned (origin.product (origin.applied gs (with_symbol none is given) origin.no_more)
+    origin.no_factors) origin.no_terms))) = absurd (nothing_there (sym none))
+car_is f (origin.alone (origin.one_side (origin.unsigned (origin.product (origin.applied gs
+    (with_built_in {b = b} {o = o} {fs = fs} is op given) origin.no_more) origin.no_factors) origin.no_terms))) = car_operator b o fs is op
+car_is f (origin.alone (origin.one_side (origin.unsigned (origin.product (origin.applied gs (with_put is) origin.no_more)
+    origin.no_factors) origin.no_terms))) = absurd (false≢true (ap is_put (some_is is)))
 
 other_function : No (FormulaFrom with_car (applied known.Cdr (Named 1 x)) car_tree)
 other_function h = false≢true (car_is (applied known.Cdr (Named 1 x)) h)
@@ -268,7 +290,8 @@ lost_function h = false≢true (car_is (Named 1 x) h)
 
 pub functions_are_kept : FunctionsAreKept
 functions_are_kept = (
-  note_alone (origin.product (origin.applied (origin.one_argument (origin.value (note_alone x_with_car)) origin.no_arguments) (with_built_in refl refl refl) origin.no_more) origin.no_factors),
+  note_alone (origin.product (origin.applied (origin.one_argument (origin.value (note_alone x_with_car)) origin.no_arguments)
+      (with_built_in refl refl refl) origin.no_more) origin.no_factors),
   other_function,
   lost_function,
 )

@@ -1,22 +1,16 @@
 -- What the names that the walk knows tell, and what scopes with them see of the program that comes out.
-use Rattle.std.proofs.Common.{◌≡◌, ℕ, zero, suc, Bool, true, false, cond, List, [], ◌∷◌, ◌++◌, map, Option, Some, None, refl, sym, ap, ◌∙◌, subst}
-use Rattle.std.specs.Prelude.{◌||◌, option_map, is_some, ℤ, nat_eq}
+use Rattle.std.proofs.Common.{◌≡◌, Bool, true, false, cond, List, [], ◌∷◌, ◌++◌, map, Option, Some, None, refl, sym, ap, ◌∙◌, subst}
+use Rattle.std.specs.Prelude.{◌||◌, option_map, ℤ}
 use Rattle.std.specs.List.{list_any}
-use Rattle.std.proofs.lemmas.Bool.{false≢true, eqb-true, eq-eqb}
+use Rattle.std.proofs.lemmas.Bool.{eqb-true, eq-eqb}
 use Rattle.spv_names.specs.declared.names.Symbol.{Symbol}
 use Rattle.spv_logic.specs.declared.types.TypeId.{TypeId}
 use Rattle.spv_logic.specs.declared.types.Sort.{Sort}
 use Rattle.spv_logic.specs.declared.types.Decl.{Decl}
-use Rattle.spv_logic.specs.declared.conditions.RoutineId.{RoutineId}
 use Rattle.spv_program.specs.Lists.{same_name, found, first_of}
-use Rattle.spv_program.specs.declared.types.TypeForm.TheVariants.{Integer}
-use Rattle.spv_program.specs.Types.{form_at, may_be_result}
-use Rattle.spv_program.specs.Programs.{Routine, Program}
 use Rattle.spv_program.proofs.SortFacts.{nothing_there, some_is}
-use Rattle.spv_typing.specs.Known.{KnownNames, Meaning, OfType, OfList, OfConstant, OfPlace, OfStart, OfSymbol, OfRoutine, Heading, Names, named, Known, names_from_start, program_names, Scope, meaning, function, integer_type, boolean_type}
-use Rattle.spv_typing.specs.ExpressionWalk.{is_this}
-use Rattle.spv_origin.specs.Names.{Own, Constant, Place, Start, View, own_or, constant_named, names_place, names_start, type_named, names_symbol, function_named, routine_named, names_result, place_among, types_from_start, number_of, is_place, is_start, is_name_of, at_top, seen}
-use Rattle.spv_origin.specs.Laws.{Sees, SeesPlaces}
+use Rattle.spv_typing.specs.Known.{Meaning, OfType, OfList, OfConstant, OfPlace, OfStart, OfSymbol, OfRoutine, Heading, Names, named, Known, program_names, integer_type, boolean_type}
+use Rattle.spv_origin.specs.Names.{Own, Constant, Place, Start, types_from_start}
 
 pub same_name-true : (x y : Symbol) → same_name x y ≡ true → x ≡ y
 same_name-true x y e = ap (λ n. record { 0 = n }) (eqb-true x.0 y.0 e)
@@ -85,12 +79,22 @@ symbol_found (d ∷ ds) x m e = by_case (same_name d.name x) refl e (λ k. symbo
     by_case : (b : Bool) → same_name d.name x ≡ b → cond b (Some (OfSymbol d)) (found (map (λ (d : Decl). (d.name, OfSymbol d)) ds) x) ≡
         Some m
         → (found (map (λ (d : Decl). (d.name, OfSymbol d)) ds) x ≡ Some m → SymbolFound ds x m) → SymbolFound (d ∷ ds) x m
-    by_case true same k go = record { decl = d; is = some_is k; name = same_name-true d.name x same; listed = ap
-        (λ b. b || list_any (λ e. same_name e.name x) ds) same }
+    by_case true same k go = record {
+      decl = d;
+      is = some_is k;
+      name = same_name-true d.name x same;
+      listed = ap
+          (λ b. b || list_any (λ e. same_name e.name x) ds) same;
+    }
     by_case false same k go =
         let r = go k in
-        record { decl = r.decl; is = r.is; name = r.name; listed = ap (λ b. same_name d.name x || b) r.listed ∙ or_true
-            (same_name d.name x) }
+        record {
+          decl = r.decl;
+          is = r.is;
+          name = r.name;
+          listed = ap (λ b. same_name d.name x || b) r.listed ∙ or_true
+              (same_name d.name x);
+        }
 
 record HeadingFound (hs : List Heading) (x : Symbol) (m : Meaning) : Type 0 where
   pub heading : Heading
@@ -107,8 +111,13 @@ heading_found (h ∷ hs) x m e = by_case (same_name h.name x) refl e (λ k. head
         x) ≡ Some m
         → (found (map (λ (h : Heading). (h.name, OfRoutine h)) hs) x ≡ Some m → HeadingFound hs x m) → HeadingFound (h ∷ hs) x m
     by_case true same k go = record { heading = h; is = some_is k; name = same_name-true h.name x same; listed = here h hs }
-    by_case false same k go = let r = go k in record { heading = r.heading; is = r.is; name = r.name; listed = further r.heading h hs
-        r.listed }
+    by_case false same k go = let r = go k in record {
+      heading = r.heading;
+      is = r.is;
+      name = r.name;
+      listed = further r.heading h hs
+          r.listed;
+    }
 
 module _ (k : Known) (x : Symbol) where
   abbrev constants_named : Names
@@ -187,12 +196,12 @@ module _ (k : Known) (x : Symbol) where
           (cond (same_name k.start.boolean x) (Some boolean_type) (found k.program.types x))) i))
       by_tests false true c i j l f =
           subst (Told k x) (some_is f) (told_type boolean_type
-              (ap (λ q. cond q (Some integer_type) (cond (same_name k.start.boolean x) (Some boolean_type) (found k.program.types x))) i
-              ∙ ap (λ q. cond q (Some boolean_type) (found k.program.types x)) j))
+          (ap (λ q. cond q (Some integer_type) (cond (same_name k.start.boolean x) (Some boolean_type) (found k.program.types x))) i
+          ∙ ap (λ q. cond q (Some boolean_type) (found k.program.types x)) j))
       by_tests false false true i j l f = subst (Told k x) (some_is f) (told_list (same_name-true k.start.list x l))
       by_tests false false false i j l f =
           of_constants (ap (λ q. cond q (Some integer_type) (cond (same_name k.start.boolean x) (Some boolean_type) None)) i ∙ ap
-              (λ q. cond q (Some boolean_type) None) j) m f
+          (λ q. cond q (Some boolean_type) None) j) m f
 
 -- ---- the names of a routine
 

@@ -1,22 +1,20 @@
 -- Scopes with the names that the walk knows see the program that comes out.
-use Rattle.std.proofs.Common.{◌≡◌, ℕ, Bool, true, false, cond, List, [], ◌∷◌, ◌++◌, map, Option, Some, None, refl, sym, ap, ◌∙◌, subst}
+use Rattle.std.proofs.Common.{◌≡◌, true, false, List, ◌++◌, map, Option, Some, None, sym, ap, ◌∙◌}
 use Rattle.std.specs.Prelude.{option_map, is_some, ℤ}
 use Rattle.std.specs.List.{list_any}
-use Rattle.std.proofs.lemmas.Bool.{false≢true}
 use Rattle.spv_names.specs.declared.names.Symbol.{Symbol}
 use Rattle.spv_logic.specs.declared.types.TypeId.{TypeId}
 use Rattle.spv_logic.specs.declared.types.Sort.{Sort}
 use Rattle.spv_logic.specs.declared.types.Decl.{Decl}
-use Rattle.spv_logic.specs.declared.conditions.RoutineId.{RoutineId}
-use Rattle.spv_program.specs.Lists.{same_name, found, first_of}
+use Rattle.spv_program.specs.Lists.{same_name, found}
 use Rattle.spv_program.specs.declared.types.TypeForm.TheVariants.{Integer}
 use Rattle.spv_program.specs.Types.{form_at, may_be_result}
 use Rattle.spv_program.specs.Programs.{Routine, Program}
-use Rattle.spv_typing.specs.Known.{KnownNames, Meaning, OfType, OfList, OfConstant, OfPlace, OfStart, OfSymbol, OfRoutine, Heading, Names, Known, program_names, Scope, meaning, function}
+use Rattle.spv_typing.specs.Known.{KnownNames, OfType, OfConstant, OfPlace, OfStart, OfSymbol, OfRoutine, Heading, Names, Known, Scope, meaning}
 use Rattle.spv_typing.specs.ExpressionWalk.{is_this}
-use Rattle.spv_origin.specs.Names.{Own, Constant, Place, Start, View, own_or, constant_named, names_place, names_start, type_named, names_symbol, function_named, routine_named, names_result, place_among, routine_at, types_from_start, number_of, is_place, is_start, is_name_of, at_top, seen}
+use Rattle.spv_origin.specs.Names.{Own, View, own_or, constant_named, names_place, names_start, type_named, names_symbol, place_among, routine_at, types_from_start, number_of, is_place, is_start, is_name_of, seen}
 use Rattle.spv_origin.specs.Laws.{Sees, SeesPlaces}
-use Rattle.spv_origin.proofs.Scopes.{In, Told, told_type, told_list, told_constant, told_place, told_symbol, told_routine, Alike, as_constant, as_place, as_start, OwnAs, Means, by_own, by_program, means, same_name-true, same_name-refl}
+use Rattle.spv_origin.proofs.Scopes.{In, told_type, told_constant, told_place, told_symbol, told_routine, as_constant, as_place, as_start, OwnAs, Means, by_own, by_program, means}
 
 abbrev pub scope_of : Known → Names → Option Heading → Scope
 scope_of k ms r = record { known = k; own = ms; routine = r }
@@ -80,7 +78,7 @@ module _ (k : Known) (ms : Names) (os : List (Symbol × Own)) (own : OwnAs ms os
       by_means (by_program m none (told_type w f)) =
           ap (λ q. own_or q (λ o. None) (found (types_from_start start ++ p.types) x)) none
           ∙ (ap (λ ts. found (types_from_start start ++ ts) x) (sym same)
-              ∙ (ap (λ q. found (types_from_start q ++ k.program.types) x) (sym first) ∙ f))
+          ∙ (ap (λ q. found (types_from_start q ++ k.program.types) x) (sym first) ∙ f))
 
   pub symbols_seen : k.program.symbols ≡ p.symbols → (x : Symbol) (d : Decl) → meaning s x ≡ Some (OfSymbol d)
       → (d.name ≡ x) × (names_symbol v x ≡ true)
@@ -88,9 +86,11 @@ module _ (k : Known) (ms : Names) (os : List (Symbol × Own)) (own : OwnAs ms os
     where
       by_means : Means k os x (OfSymbol d) → (d.name ≡ x) × (names_symbol v x ≡ true)
       by_means (by_own m o h f) = elim h [ ]
-      by_means (by_program m none (told_symbol w name f)) =
-          (name, ap (λ q. own_or q (λ o. false) (list_any (λ (e : Decl). same_name e.name x) p.symbols)) none
-          ∙ (ap (λ ds. list_any (λ (e : Decl). same_name e.name x) ds) (sym same) ∙ f))
+      by_means (by_program m none (told_symbol w name f)) = (
+        name,
+        ap (λ q. own_or q (λ o. false) (list_any (λ (e : Decl). same_name e.name x) p.symbols)) none
+            ∙ (ap (λ ds. list_any (λ (e : Decl). same_name e.name x) ds) (sym same) ∙ f),
+      )
 
   pub record RoutineSeen (x : Symbol) (h : Heading) : Type 0 where
     pub none : found os x ≡ None
@@ -123,7 +123,7 @@ module _ (k : Known) (ms : Names) (os : List (Symbol × Own)) (own : OwnAs ms os
         let g = routines_seen x h e in
         ap (λ q. own_or q (λ o. None) (option_map routine_at (place_among (map (λ (r : Routine). r.name) p.routines) x))) g.none
         ∙ (ap (λ y. option_map routine_at (place_among (map (λ (r : Routine). r.name) p.routines) y)) (sym g.name) ∙ knows.numbers h
-            g.listed);
+        g.listed);
     own_result = λ x h t e own_one result.
         let g = routines_seen x h e in
         ap (λ q. own_or q (λ o. false) (is_name_of here x)) g.none ∙ (ap (is_name_of here) (sym g.name) ∙ is_its h own_one);

@@ -1,6 +1,6 @@
 -- Statements come from their trees.
-use Rattle.std.proofs.Common.{◌≡◌, ℕ, Bool, true, false, refl, sym, ap, ◌∙◌, subst}
-use Rattle.std.specs.Prelude.{List, [], ◌∷◌, ◌++◌, ◌&&◌, not, ℤ, length, Option, Some, None, Ok, Err, is_some, nat_eq}
+use Rattle.std.proofs.Common.{◌≡◌, ℕ, true, refl, sym, ap, ◌∙◌, subst}
+use Rattle.std.specs.Prelude.{List, [], ◌∷◌, ◌++◌, ◌&&◌, not, ℤ, length, Option, Some, None, Ok, Err, is_some}
 use Rattle.std.specs.List.{list_any}
 use Rattle.std.specs.Ordering.{int_eq}
 use Rattle.std.proofs.lemmas.List.{append_assoc, append-nil}
@@ -23,17 +23,17 @@ use Rattle.spv_program.specs.Statements.{Counting, Statement, Arms, Empty, Assig
 use Rattle.spv_program.specs.Uses.{name_root}
 use Rattle.spv_typing.specs.declared.faults.TypeFault.TheVariants.{LabelTwice}
 use Rattle.spv_typing.specs.Outcomes.{Outcome, after, where_so, each, if_there, wrong}
-use Rattle.spv_typing.specs.Known.{Function, Meaning, OfType, OfList, OfConstant, OfPlace, OfStart, OfSymbol, OfRoutine, Heading, Scope, meaning, function}
-use Rattle.spv_typing.specs.TypeWalk.{all_names, constant}
+use Rattle.spv_typing.specs.Known.{Function, Meaning, OfType, OfList, OfConstant, OfPlace, OfStart, OfSymbol, OfRoutine, Heading, meaning, function}
+use Rattle.spv_typing.specs.TypeWalk.{constant}
 use Rattle.spv_typing.specs.FormulaWalk.{annotation, arity}
 use Rattle.spv_typing.specs.OperatorWalk.{Operand, Argument, settled, formula_line}
 use Rattle.spv_typing.specs.ExpressionWalk.{Reached, designator_at, call_of, no_call, operand, expression_of, written}
 use Rattle.spv_typing.specs.StatementWalk.{Setting, own_in, counted_as, unless_counted, first_counted, changes, counting_kept, with_place, assigned, on_target, designator_line, created, arguments_of, performed, no_procedure, called_function, called, test_of, new_label, may_count, counter_of, is_declared, counting, inside_for, ArmsSoFar, one_more, new_labels, dropped, statement_walk, otherwise_walk, block_walk, more_statements_walk, arm_walk, more_arms_walk, loop_walk}
 use Rattle.spv_typing.specs.StatementWalk as walk
-use Rattle.spv_well_typed.proofs.Outcomes.{fine, no_fault, same_value, went, held, behind_test}
+use Rattle.spv_well_typed.proofs.Outcomes.{fine, no_fault, same_value, went, behind_test}
 use Rattle.spv_origin.specs.Names.{View, names_place}
-use Rattle.spv_origin.specs.Formulas.{AnnotationFrom, IfThere, not_there, there}
-use Rattle.spv_origin.specs.Expressions.{CallFrom, ExpressionFrom, PlaceFrom}
+use Rattle.spv_origin.specs.Formulas.{IfThere, not_there, there}
+use Rattle.spv_origin.specs.Expressions.{ExpressionFrom}
 use Rattle.spv_origin.specs.Statements.{direction_of, all_of, ConstantFrom, ConstantsFrom, no_constants, one_constant, StatementFrom, OtherwiseFrom, BlockFrom, StatementsFrom, ArmsFrom}
 use Rattle.spv_origin.specs.Statements as origin
 use Rattle.spv_origin.specs.Laws.{Sees, SeesPlaces, StatementsComeFromTheirTrees, BlocksComeFromTheirTrees}
@@ -92,24 +92,24 @@ module _ (v w : View) where
   assigned_comes at sees line d f s e =
       let wanted = λ (r : Reached). sort_of at.inside.known.program.forms r.type in
       let last = λ (r : Reached) (x : Expression). with_place line (designator_at r)
-          (λ place. counting_kept at line (Assign place x) (Assign place x)) in
+      (λ place. counting_kept at line (Assign place x) (Assign place x)) in
       let one = went (written at.inside d) (λ r. after (operand at.inside f) (λ o. after (settled NilOf (wrong line) (wanted r) o)
-          (last r))) s e in
+      (last r))) s e in
       let two = went (operand at.inside f) (λ o. after (settled NilOf (wrong line) (wanted one.value) o) (last one.value)) s one.rest in
       let three = went (settled NilOf (wrong line) (wanted one.value) two.value) (last one.value) s two.rest in
       let four = placed line one.value (λ place. counting_kept at line (Assign place three.value) (Assign place three.value)) s three.rest
-          in
+      in
       let place = place_comes at.inside v sees.0 d one.value one.first four.place four.is in
       let value = settled_from NilOf (λ x. ExpressionFrom v x f) (wrong line) (wanted one.value) two.value three.value
-          (operand_comes at.inside v sees.0 f two.value two.first) three.first in
+      (operand_comes at.inside v sees.0 f two.value two.first) three.first in
       subst (λ q. StatementFrom v w q (tree.assignment line d f))
-          (kept_by at line (Assign four.place three.value) (Assign four.place three.value) s four.so) (origin.assignment place value)
+      (kept_by at line (Assign four.place three.value) (Assign four.place three.value) s four.so) (origin.assignment place value)
 
   created_comes : (at : Setting) → SeesBoth at → (line : ℕ) (d : formulas.Designator) (s : Statement) → created at line d ≡ Ok s
       → StatementFrom v w s (tree.creation line d)
   created_comes at sees line d s e =
       let one = went (written at.inside d) (λ r. on_target (designator_line d) (target_of (form_at at.inside.known.program.forms
-          r.type.0)) (λ t. with_place line (designator_at r) (λ place. counting_kept at line (New line place t) (New line place t)))) s e in
+      r.type.0)) (λ t. with_place line (designator_at r) (λ place. counting_kept at line (New line place t) (New line place t)))) s e in
       by_target one.value one.first (target_of (form_at at.inside.known.program.forms one.value.type.0)) one.rest
     where
       by_target : (r : Reached) → written at.inside d ≡ Ok r → (o : Option TypeId)
@@ -119,7 +119,7 @@ module _ (v w : View) where
       by_target r k (Some t) q =
           let two = placed line r (λ place. counting_kept at line (New line place t) (New line place t)) s q in
           subst (λ p. StatementFrom v w p (tree.creation line d)) (kept_by at line (New line two.place t) (New line two.place t) s two.so)
-              (origin.creation (place_comes at.inside v sees.0 d r k two.place two.is))
+          (origin.creation (place_comes at.inside v sees.0 d r k two.place two.is))
 
   no_procedure_comes : (line : ℕ) (n : Option ℕ) (given : List (Argument Expression Reached)) (s : Statement)
       → no_procedure line n given ≡ Ok s → ⊥
@@ -141,7 +141,7 @@ module _ (v w : View) where
   called_comes at sees line x (Some (OfRoutine q)) given s h e =
       let one = went (call_of at.inside line x.line q (arguments_of at.inside given)) (performed at line q) s e in
       subst (λ p. StatementFrom v w p (tree.call line x given)) (performed_comes at line q one.value s one.rest)
-          (origin.procedure (procedure_comes at.inside v sees.0 line x q h given one.value one.first))
+      (origin.procedure (procedure_comes at.inside v sees.0 line x q h given one.value one.first))
   called_comes at sees line x (Some (OfSymbol d)) given s h e = absurd
       (no_procedure_comes line (Some (length d.args)) (arguments_of at.inside given) s e)
   called_comes at sees line x (Some (OfType t)) given s h e = absurd (no_procedure_comes line None (arguments_of at.inside given) s e)
@@ -157,7 +157,7 @@ module _ (v w : View) where
   test_comes at sees line f e k =
       let one = went (expression_of at.inside sort.Bool f) (λ x. counting_kept at line (If line x Empty Empty) x) e k in
       subst (λ x. ExpressionFrom v x f) (kept_by at line (If line one.value Empty Empty) one.value e one.rest)
-          (expression_comes at.inside v sees.0 sort.Bool f one.value one.first)
+      (expression_comes at.inside v sees.0 sort.Bool f one.value one.first)
 
   -- further labels
   record Labelled (before after : List ℤ) (cs : List Constant) : Type 0 where
@@ -171,9 +171,9 @@ module _ (v w : View) where
   labels_come at sees (c ∷ cs) before after e =
       let one = went (new_label at.inside before c) (λ next. each (new_label at.inside) next cs) after e in
       let z = went (constant at.inside c) (λ z. where_so (not (list_any (int_eq z) before)) (LabelTwice c.line z)
-          (fine (before ++ z ∷ []))) one.value one.first in
+      (fine (before ++ z ∷ []))) one.value one.first in
       let next = same_value (behind_test (not (list_any (int_eq z.value) before)) (LabelTwice c.line z.value)
-          (fine (before ++ z.value ∷ [])) one.value z.rest) in
+      (fine (before ++ z.value ∷ [])) one.value z.rest) in
       let rest = labels_come at sees cs one.value after one.rest in
       record {
         own = z.value ∷ rest.own;
@@ -182,19 +182,22 @@ module _ (v w : View) where
       }
 
   record CountingFrom (x : Name) (from : formulas.Formula) (towards : DirectionSign) (to : formulas.Formula) (count : Counting) : Type 0
-      where
-    pub first : Expression
-    pub last : Expression
-    pub named : names_place v x.symbol ≡ true
-    pub first_from : ExpressionFrom v first from
-    pub last_from : ExpressionFrom v last to
-    pub is : count_of x towards first last ≡ count
+    where
+      pub first : Expression
+      pub last : Expression
+      pub named : names_place v x.symbol ≡ true
+      pub first_from : ExpressionFrom v first from
+      pub last_from : ExpressionFrom v last to
+      pub is : count_of x towards first last ≡ count
 
   counter_comes : (at : Setting) → SeesBoth at → (x y : Name) (m : Option Meaning) → meaning at.inside x.symbol ≡ m
       → counter_of at.inside x m ≡ Ok y → (x ≡ y) × (names_place v x.symbol ≡ true)
   counter_comes at sees x y None h e = absurd (no_fault e)
-  counter_comes at sees x y (Some (OfPlace t)) h e = (same_value (behind_test (may_count at.inside x.symbol && sort_eq
-      (sort_of at.inside.known.program.forms t) sort.Int) (wrong x.line) (fine x) y e), (sees.0).places x.symbol t h)
+  counter_comes at sees x y (Some (OfPlace t)) h e = (
+    same_value (behind_test (may_count at.inside x.symbol && sort_eq
+        (sort_of at.inside.known.program.forms t) sort.Int) (wrong x.line) (fine x) y e),
+    (sees.0).places x.symbol t h,
+  )
   counter_comes at sees x y (Some (OfType t)) h e = absurd (no_fault e)
   counter_comes at sees x y (Some OfList) h e = absurd (no_fault e)
   counter_comes at sees x y (Some (OfConstant z)) h e = absurd (no_fault e)
@@ -211,25 +214,25 @@ module _ (v w : View) where
   counting_comes at sees line x from towards to count e =
       let head = λ (first last : Expression) (u : Name). counting_kept at line (If line first Empty Empty) (head_of towards u first last) in
       let seven = λ (first last : Expression) (c : Name). after
-          (unless_counted line (counted_as (own_in at.inside) at.counted (name_root (own_in at.inside) c.symbol)) c) (head first last) in
+      (unless_counted line (counted_as (own_in at.inside) at.counted (name_root (own_in at.inside) c.symbol)) c) (head first last) in
       let six = λ (b : Operand Expression) (c : Name) (first : Expression). after (settled NilOf (wrong (formula_line to)) sort.Int b)
-          (λ last. seven first last c) in
+      (λ last. seven first last c) in
       let five = λ (a b : Operand Expression) (c : Name). after (settled NilOf (wrong (formula_line from)) sort.Int a) (six b c) in
       let four = λ (a b : Operand Expression) (y : Name). after (counter_of at.inside y (meaning at.inside y.symbol)) (five a b) in
       let one = went (is_declared x (meaning at.inside x.symbol))
-          (λ y. after (operand at.inside from) (λ a. after (operand at.inside to) (λ b. four a b y))) count e in
+      (λ y. after (operand at.inside from) (λ a. after (operand at.inside to) (λ b. four a b y))) count e in
       let two = went (operand at.inside from) (λ a. after (operand at.inside to) (λ b. four a b one.value)) count one.rest in
       let three = went (operand at.inside to) (λ b. four two.value b one.value) count two.rest in
       let c = went (counter_of at.inside one.value (meaning at.inside one.value.symbol)) (five two.value three.value) count three.rest in
       let first = went (settled NilOf (wrong (formula_line from)) sort.Int two.value) (six three.value c.value) count c.rest in
       let last = went (settled NilOf (wrong (formula_line to)) sort.Int three.value) (λ last. seven first.value last c.value) count
-          first.rest in
+      first.rest in
       let u = went (unless_counted line (counted_as (own_in at.inside) at.counted (name_root (own_in at.inside) c.value.symbol)) c.value)
-          (head first.value last.value) count last.rest in
+      (head first.value last.value) count last.rest in
       let same : x ≡ one.value = declared_is x one.value (meaning at.inside x.symbol) one.first in
       let counter = counter_comes at sees one.value c.value (meaning at.inside one.value.symbol) refl c.first in
       let uncounted : c.value ≡ u.value = kept line (counted_as (own_in at.inside) at.counted
-          (name_root (own_in at.inside) c.value.symbol)) c.value u.value u.first in
+      (name_root (own_in at.inside) c.value.symbol)) c.value u.value u.first in
       record {
         first = first.value;
         last = last.value;
@@ -288,35 +291,35 @@ module _ (v w : View) where
     statement_comes at sees (tree.compound line b) s e = origin.compound (block_comes at sees b s e)
     statement_comes at sees (tree.conditional line f t other) s e =
         let one = went (test_of at line f) (λ x. after (statement_walk at t) (λ a. after (otherwise_walk at other)
-            (λ b. fine (If line x a b)))) s e in
+        (λ b. fine (If line x a b)))) s e in
         let two = went (statement_walk at t) (λ a. after (otherwise_walk at other) (λ b. fine (If line one.value a b))) s one.rest in
         let three = went (otherwise_walk at other) (λ b. fine (If line one.value two.value b)) s two.rest in
         subst (λ q. StatementFrom v w q (tree.conditional line f t other)) (same_value three.rest)
         (origin.conditional (test_comes at sees line f one.value one.first) (statement_comes at sees t two.value two.first)
-            (otherwise_comes at sees other three.value three.first))
+        (otherwise_comes at sees other three.value three.first))
     statement_comes at sees (tree.selection line f first more) s e =
         let last = λ (x : Expression) (all : ArmsSoFar). fine (Case line x (all.arms no_arms)) in
         let start : ArmsSoFar = record { labels = []; arms = λ others. others } in
         let one = went (expression_of at.inside sort.Int f)
-            (λ n. after (counting_kept at line (If line n Empty Empty) n)
-            (λ x. after (arm_walk at start first) (λ a. after (more_arms_walk at a more) (last x)))) s e in
+        (λ n. after (counting_kept at line (If line n Empty Empty) n)
+        (λ x. after (arm_walk at start first) (λ a. after (more_arms_walk at a more) (last x)))) s e in
         let two = went (counting_kept at line (If line one.value Empty Empty) one.value)
-            (λ x. after (arm_walk at start first) (λ a. after (more_arms_walk at a more) (last x))) s one.rest in
+        (λ x. after (arm_walk at start first) (λ a. after (more_arms_walk at a more) (last x))) s one.rest in
         let three = went (arm_walk at start first) (λ a. after (more_arms_walk at a more) (last two.value)) s two.rest in
         let four = went (more_arms_walk at three.value more) (last two.value) s three.rest in
         let x = subst (λ q. ExpressionFrom v q f) (kept_by at line (If line one.value Empty Empty) one.value two.value two.first)
-            (expression_comes at.inside v sees.0 sort.Int f one.value one.first) in
+        (expression_comes at.inside v sees.0 sort.Int f one.value one.first) in
         let arms = arm_comes at sees start first more three.value four.value three.first
-            (more_arms_come at sees three.value more four.value four.first) in
+        (more_arms_come at sees three.value more four.value four.first) in
         subst (λ q. StatementFrom v w q (tree.selection line f first more)) (ap (Case line two.value) arms.is ∙ same_value four.rest)
-            (origin.selection x arms.from)
+        (origin.selection x arms.from)
     statement_comes at sees (tree.repetition line invariant l) s e =
         let one = went (if_there (annotation at.noted) invariant) (λ i. loop_walk at line i l) s e in
         loop_comes at sees line invariant one.value l s (invariant_comes at sees invariant one.value one.first) one.rest
     statement_comes at sees (tree.assertion line f) s e =
         let one = went (annotation at.noted f) (λ a. fine (Assert a)) s e in
         subst (λ q. StatementFrom v w q (tree.assertion line f)) (same_value one.rest)
-            (origin.assertion (annotations_come at.noted w sees.1 f one.value one.first))
+        (origin.assertion (annotations_come at.noted w sees.1 f one.value one.first))
 
     otherwise_comes : (at : Setting) → SeesBoth at → (t : tree.Otherwise) (s : Statement) → otherwise_walk at t ≡ Ok s
         → OtherwiseFrom v w s t
@@ -346,11 +349,11 @@ module _ (v w : View) where
     arm_comes at sees so_far (tree.no_arm line) more next all e h = unlabelled_rest so_far next all line more (same_value e) h
     arm_comes at sees so_far (tree.arm line cs t) more next all e h =
         let one = went (new_labels at.inside so_far.labels cs)
-            (λ ls. after (statement_walk at t) (λ a. fine (one_more so_far ls (dropped so_far.labels ls) a))) next e in
+        (λ ls. after (statement_walk at t) (λ a. fine (one_more so_far ls (dropped so_far.labels ls) a))) next e in
         let two = went (statement_walk at t) (λ a. fine (one_more so_far one.value (dropped so_far.labels one.value) a)) next one.rest in
         labelled_rest so_far next all line cs t more one.value two.value
-            (labels_come at sees (cs.first ∷ cs.more) so_far.labels one.value one.first) (same_value two.rest)
-            (statement_comes at sees t two.value two.first) h
+        (labels_come at sees (cs.first ∷ cs.more) so_far.labels one.value one.first) (same_value two.rest)
+        (statement_comes at sees t two.value two.first) h
 
     more_arms_come : (at : Setting) → SeesBoth at → (so_far : ArmsSoFar) (more : tree.MoreArms) (all : ArmsSoFar)
         → more_arms_walk at so_far more ≡ Ok all → ArmsRest so_far more all
@@ -369,20 +372,20 @@ module _ (v w : View) where
         (origin.while h (test_comes at sees line test one.value one.first) (statement_comes at sees t two.value two.first))
     loop_comes at sees line invariant i (tree.repeat_loop on first more test) s h e =
         let one = went (statement_walk at first) (λ a. after (more_statements_walk at more)
-            (λ b. after (test_of at line test) (λ x. fine (Repeat line i (Sequence a b) x)))) s e in
+        (λ b. after (test_of at line test) (λ x. fine (Repeat line i (Sequence a b) x)))) s e in
         let two = went (more_statements_walk at more) (λ b. after (test_of at line test) (λ x. fine
-            (Repeat line i (Sequence one.value b) x))) s one.rest in
+        (Repeat line i (Sequence one.value b) x))) s one.rest in
         let three = went (test_of at line test) (λ x. fine (Repeat line i (Sequence one.value two.value) x)) s two.rest in
         subst (λ q. StatementFrom v w q (tree.repetition line invariant (tree.repeat_loop on first more test))) (same_value three.rest)
         (origin.repeat h (statement_comes at sees first one.value one.first) (more_statements_come at sees more two.value two.first)
-            (test_comes at sees line test three.value three.first))
+        (test_comes at sees line test three.value three.first))
     loop_comes at sees line invariant i (tree.for_loop on x from towards to t) s h e =
         let one = went (counting at line x from towards to)
-            (λ count. after (statement_walk (inside_for at count.variable) t) (λ a. fine (For line i count a))) s e in
+        (λ count. after (statement_walk (inside_for at count.variable) t) (λ a. fine (For line i count a))) s e in
         let two = went (statement_walk (inside_for at one.value.variable) t) (λ a. fine (For line i one.value a)) s one.rest in
         let c = counting_comes at sees line x from towards to one.value one.first in
         subst (λ q. StatementFrom v w q (tree.repetition line invariant (tree.for_loop on x from towards to t)))
-            (ap (λ count. For line i count two.value) c.is ∙ same_value two.rest)
+        (ap (λ count. For line i count two.value) c.is ∙ same_value two.rest)
         (origin.for h c.named c.first_from c.last_from (statement_comes (inside_for at one.value.variable) sees t two.value two.first))
 
 pub statements_come : StatementsComeFromTheirTrees

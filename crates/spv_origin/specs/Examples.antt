@@ -142,7 +142,8 @@ RelationsAreKept =
 
 -- `x * y`
 abbrev pub product : tree.Formula
-product = whole (tree.simple 1 None (tree.term 1 (factor x) (tree.more_factors multiplying.Times (factor y) tree.no_more_factors)) tree.no_more_terms)
+product = whole (tree.simple 1 None (tree.term 1 (factor x) (tree.more_factors multiplying.Times (factor y) tree.no_more_factors))
+    tree.no_more_terms)
 
 -- `NOT x`
 abbrev pub opposite : tree.Formula
@@ -185,7 +186,7 @@ NumbersAreKept =
 abbrev pub indexed : tree.Formula
 indexed = alone (tree.term 1 (tree.place 1 (tree.designator 1 (name x)
     (tree.selectors (tree.index 1 (alone (variable y)) (tree.more_formulas (alone (number 1)) tree.no_more_formulas)) tree.no_selectors)))
-        tree.no_more_factors)
+    tree.no_more_factors)
 
 abbrev pub behind_x : Expression → Expression → Expression
 behind_x i j = Read (designator 1 x (at_index integer i (at_index integer j no_selectors)))
@@ -231,12 +232,12 @@ BranchesAreKept =
     (trees.otherwise (assigning x (alone (number 1))))))
     × No (FromStatement x_first (trees.conditional 1 truth (assigning x (alone (number 1))) trees.nothing_otherwise))
     × No (FromStatement x_first (trees.conditional 1 (alone (number 1)) (assigning x (alone (number 1)))
-        (trees.otherwise (assigning y (alone (number 1))))))
+    (trees.otherwise (assigning y (alone (number 1))))))
     × No (FromStatement x_first (trees.conditional 1 truth (assigning x (alone (number 1)))
-        (trees.otherwise (assigning x (alone (number 1))))))
+    (trees.otherwise (assigning x (alone (number 1))))))
     × No (FromStatement (Sequence (assign x one) Empty)
     (trees.compound 1 (trees.block 1 (assigning x (alone (number 1)))
-        (trees.more_statements (assigning y (alone (number 1))) trees.no_more_statements))))
+    (trees.more_statements (assigning y (alone (number 1))) trees.no_more_statements))))
 
 abbrev pub labelled : ℕ → trees.Statement → trees.Arm
 labelled n s = trees.arm 1 (record { first = record { line = 1; sign = None; value = scalar.Number n }; more = [] }) s
@@ -245,13 +246,13 @@ labelled n s = trees.arm 1 (record { first = record { line = 1; sign = None; val
 abbrev pub LoopsAndArmsAreKept : Type 0
 LoopsAndArmsAreKept =
     FromStatement (While 1 None (Boolean true) (assign x one))
-        (trees.repetition 1 None (trees.while_loop 1 truth (assigning x (alone (number 1)))))
+    (trees.repetition 1 None (trees.while_loop 1 truth (assigning x (alone (number 1)))))
     × No (FromStatement (While 1 None (Boolean true) (assign x one))
     (trees.repetition 1 (Some truth) (trees.while_loop 1 truth (assigning x (alone (number 1))))))
     × No (FromStatement (While 1 None (Boolean true) (assign x one))
-        (trees.repetition 1 None (trees.while_loop 1 (alone (number 1)) (assigning x (alone (number 1))))))
+    (trees.repetition 1 None (trees.while_loop 1 (alone (number 1)) (assigning x (alone (number 1))))))
     × No (FromStatement (While 1 None (Boolean true) (assign x one))
-        (trees.repetition 1 None (trees.while_loop 1 truth (assigning y (alone (number 1))))))
+    (trees.repetition 1 None (trees.while_loop 1 truth (assigning y (alone (number 1))))))
     × FromStatement (Case 1 (read x) (arm (pos 3 ∷ []) (assign x one) no_arms))
     (trees.selection 1 (alone (variable x)) (labelled 3 (assigning x (alone (number 1)))) trees.no_more_arms)
     × No (FromStatement (Case 1 (read x) (arm (pos 4 ∷ []) (assign x one) no_arms))

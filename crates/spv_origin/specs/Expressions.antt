@@ -1,11 +1,11 @@
 -- From which trees expressions, places and calls may come.
-use Rattle.std.specs.Prelude.{◌≡◌, ℕ, true, List, [], ◌∷◌, Option, Some, None, ℤ}
+use Rattle.std.specs.Prelude.{◌≡◌, true, List, [], ◌∷◌, Option, Some, None, ℤ}
 use Rattle.spv_logic.specs.declared.conditions.RoutineId.{RoutineId}
 use Rattle.spv_syntax.specs.declared.names.Name.{Name}
 use Rattle.spv_syntax.specs.Formulas as tree
 use Rattle.spv_program.specs.Expressions.{Expression, Designator, Selectors, Call, Arguments, Numeral, Boolean, NilOf, Read, Result, Through, Negative, Calculated, Compared, Negated, Joined, designator, no_selectors, at_index, at_field, at_cell, call, no_arguments, by_value, by_place}
 use Rattle.spv_origin.specs.Names.{View, constant_named, names_place, function_named, routine_named, names_result}
-use Rattle.spv_origin.specs.Operators.{Given, Value, AtPlace, FieldName, Operators, FromFormula, FromWritten, FromArguments}
+use Rattle.spv_origin.specs.Operators.{Given, Value, AtPlace, Operators, FromFormula, FromWritten, FromArguments}
 
 -- ---- one selector more
 

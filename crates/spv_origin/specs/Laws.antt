@@ -18,7 +18,7 @@ use Rattle.spv_program.specs.Expressions.{Expression, Designator, Call}
 use Rattle.spv_program.specs.Formulas.{Annotation}
 use Rattle.spv_program.specs.Statements.{Statement}
 use Rattle.spv_program.specs.Programs.{Program}
-use Rattle.spv_typing.specs.Known.{KnownNames, Function, OfConstant, OfType, OfPlace, OfStart, OfSymbol, OfRoutine, Heading, Scope, meaning, function}
+use Rattle.spv_typing.specs.Known.{KnownNames, OfConstant, OfType, OfPlace, OfStart, OfSymbol, OfRoutine, Heading, Scope, meaning, function}
 use Rattle.spv_typing.specs.FormulaWalk.{annotation}
 use Rattle.spv_typing.specs.ExpressionWalk.{Reached, is_this, designator_at, expression_of, written, call_of}
 use Rattle.spv_typing.specs.TypeWalk.{constant}
@@ -61,38 +61,38 @@ AnnotationsComeFromTheirTrees =
 abbrev pub ExpressionsComeFromTheirTrees : Type 0
 ExpressionsComeFromTheirTrees =
     (s : Scope) (v : View) → SeesPlaces s v → (wanted : Sort) (f : tree.Formula) (e : Expression) → expression_of s wanted f ≡ Ok e
-        → ExpressionFrom v e f
+    → ExpressionFrom v e f
 
 -- so does a place that is written
 abbrev pub PlacesComeFromTheirTrees : Type 0
 PlacesComeFromTheirTrees =
     (s : Scope) (v : View) → SeesPlaces s v → (d : tree.Designator) (r : Reached) → written s d ≡ Ok r → (place : Designator)
-        → designator_at r ≡ Some place → PlaceFrom v place d
+    → designator_at r ≡ Some place → PlaceFrom v place d
 
 -- and a call
 abbrev pub CallsComeFromTheirTrees : Type 0
 CallsComeFromTheirTrees =
     (s : Scope) (v : View) → SeesPlaces s v → (line : ℕ) (x : Name) (h : Heading) → meaning s x.symbol ≡ Some (OfRoutine h)
-        → (given : Option (Several tree.Formula)) (c : Call)
+    → (given : Option (Several tree.Formula)) (c : Call)
     → call_of s line x.line h (arguments_of s given) ≡ Ok c → CallFrom v c x (all_of given)
 
 -- a constant has the number that the walk answers
 abbrev pub ConstantsHaveTheirNumbers : Type 0
 ConstantsHaveTheirNumbers =
     (s : Scope) (v : View) → ((x : Symbol) (z : ℤ) → meaning s x ≡ Some (OfConstant z) → constant_named v x ≡ Some z)
-        → (c : Constant) (z : ℤ) → constant s c ≡ Ok z → ConstantFrom v z c
+    → (c : Constant) (z : ℤ) → constant s c ≡ Ok z → ConstantFrom v z c
 
 -- a statement that the walk answers comes from its tree
 abbrev pub StatementsComeFromTheirTrees : Type 0
 StatementsComeFromTheirTrees =
     (at : Setting) (v w : View) → SeesPlaces at.inside v → Sees at.noted w → (t : statements.Statement) (s : Statement)
-        → statement_walk at t ≡ Ok s → StatementFrom v w s t
+    → statement_walk at t ≡ Ok s → StatementFrom v w s t
 
 -- and a block
 abbrev pub BlocksComeFromTheirTrees : Type 0
 BlocksComeFromTheirTrees =
     (at : Setting) (v w : View) → SeesPlaces at.inside v → Sees at.noted w → (b : statements.Block) (s : Statement)
-        → block_walk at b ≡ Ok s → BlockFrom v w s b
+    → block_walk at b ≡ Ok s → BlockFrom v w s b
 
 -- a program that the walk answers comes from its tree, in which each routine that begins ends
 abbrev pub ProgramsComeFromTheirTrees : Type 0

@@ -1,5 +1,5 @@
 -- From which trees programs may come.
-use Rattle.std.specs.Prelude.{◌≡◌, [], Option, None}
+use Rattle.std.specs.Prelude.{◌≡◌, [], None}
 use Rattle.spv_syntax.specs.declared.programs.Program.{Program as ProgramText}
 use Rattle.spv_syntax.specs.declared.formula_texts.FormulaText.{FormulaText}
 use Rattle.spv_program.specs.Formulas.{Annotation}

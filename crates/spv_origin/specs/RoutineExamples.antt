@@ -1,5 +1,5 @@
 -- Small loops, calls, headings, types and annotations: what comes from them and what does not.
-use Rattle.std.specs.Prelude.{ℕ, Bool, true, false, List, [], ◌∷◌, Some, None, ℤ, pos}
+use Rattle.std.specs.Prelude.{ℕ, Bool, true, false, [], ◌∷◌, Some, None, pos}
 use Rattle.spv_logic.specs.declared.conditions.RoutineId.{RoutineId}
 use Rattle.spv_logic.specs.declared.types.TypeId.{TypeId}
 use Rattle.spv_names.specs.declared.names.Symbol.{Symbol}
@@ -27,7 +27,7 @@ use Rattle.spv_program.specs.declared.operators.BuiltIn.TheVariants as known
 use Rattle.spv_program.specs.Formulas.{Formula, Annotation, Compared, Named, Implied, Known, formulas, no_formulas}
 use Rattle.spv_typing.specs.Known as walk
 use Rattle.spv_program.specs.Statements.{Statement, Empty, Perform, For}
-use Rattle.spv_program.specs.Programs.{Formal, Routine, Program}
+use Rattle.spv_program.specs.Programs.{Formal, Routine}
 use Rattle.spv_origin.specs.Names.{View, at_top}
 use Rattle.spv_origin.specs.Formulas.{FormulaFrom, AnnotationFrom}
 use Rattle.spv_origin.specs.Statements.{StatementFrom}
@@ -152,7 +152,8 @@ Note = FormulaFrom view
 
 -- `x -> y`
 abbrev pub implication : tree.Formula
-implication = tree.formula 1 (tree.relation 1 (tree.simple 1 None (variable x) tree.no_more_terms) tree.no_right_side) (tree.implies (alone (variable y)))
+implication = tree.formula 1 (tree.relation 1 (tree.simple 1 None (variable x) tree.no_more_terms) tree.no_right_side)
+    (tree.implies (alone (variable y)))
 
 abbrev pub ImplicationsAreKept : Type 0
 ImplicationsAreKept =
@@ -171,7 +172,8 @@ with_car = at_top (record start { functions = (car, walk.Car) ∷ [] }) program
 
 -- `CAR(x)`
 abbrev pub car_tree : tree.Formula
-car_tree = alone (tree.term 1 (tree.application 1 (name car) (alone (variable x)) tree.no_more_formulas tree.no_selectors) tree.no_more_factors)
+car_tree = alone (tree.term 1 (tree.application 1 (name car) (alone (variable x)) tree.no_more_formulas tree.no_selectors)
+    tree.no_more_factors)
 
 abbrev pub applied : BuiltIn → Formula → Formula
 applied b a = Known b (formulas a no_formulas)

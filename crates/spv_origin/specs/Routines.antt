@@ -6,7 +6,6 @@ use Rattle.spv_syntax.specs.declared.lists.Several.{Several}
 use Rattle.spv_syntax.specs.declared.names.Name.{Name}
 use Rattle.spv_syntax.specs.declared.declarations.NameOrClass.{NameOrClass}
 use Rattle.spv_syntax.specs.declared.declarations.NameOrClass.TheVariants as written
-use Rattle.spv_syntax.specs.declared.routines.GroupForm.{GroupForm}
 use Rattle.spv_syntax.specs.declared.routines.GroupForm.TheVariants.{Variables}
 use Rattle.spv_syntax.specs.declared.routines.Group.{Group}
 use Rattle.spv_syntax.specs.declared.routines.Params.{Params}
