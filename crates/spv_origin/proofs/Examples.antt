@@ -393,6 +393,15 @@ no_other_label : No (FromStatement (Case 1 (read x) (arm (pos 4 ∷ []) (assign 
 no_other_label (statements.selection e (statements.labelled (statements.one_constant h statements.no_constants) a statements.no_more)) =
     false≢true (ap (λ (q : ℤ). int_eq q (pos 4)) (numeral_is view (pos 4) 3 h))
 
+no_other_selector : No (FromStatement (Case 1 (read y) (arm (pos 3 ∷ []) (assign x one) no_arms))
+    (trees.selection 1 (alone (variable x)) (labelled 3 (assigning x (alone (number 1)))) trees.no_more_arms))
+no_other_selector (statements.selection (origin.alone (origin.one_side (origin.unsigned h origin.no_terms))) arms) = no_y_in_x h
+
+no_other_arm : No (FromStatement (Case 1 (read x) (arm (pos 3 ∷ []) (assign y one) no_arms))
+    (trees.selection 1 (alone (variable x)) (labelled 3 (assigning x (alone (number 1)))) trees.no_more_arms))
+no_other_arm (statements.selection e (statements.labelled cs (statements.assignment (origin.written_name h origin.no_more) value)
+    statements.no_more)) = elim h [ ]
+
 no_arm_lost : No (FromStatement (Case 1 (read x) no_arms)
     (trees.selection 1 (alone (variable x)) (labelled 3 (assigning x (alone (number 1)))) trees.no_more_arms))
 no_arm_lost (statements.selection e h) = elim h [ ]
@@ -406,5 +415,7 @@ loops_and_arms_are_kept = (
   statements.selection (alone_read x_read) (statements.labelled (statements.one_constant (statements.unsigned statements.number)
       statements.no_constants) (assigned x one (alone (number 1)) refl one_alone) statements.no_more),
   no_other_label,
+  no_other_selector,
+  no_other_arm,
   no_arm_lost,
 )

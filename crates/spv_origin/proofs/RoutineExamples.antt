@@ -3,6 +3,7 @@ use Rattle.std.proofs.Common.{◌≡◌, Bool, true, false, refl, sym, ap, ◌�
 use Rattle.std.proofs.lemmas.Bool.{false≢true}
 use Rattle.std.specs.Prelude.{ℕ, ℤ, [], ◌∷◌, Option, Some, None, pos, is_some, nat_eq}
 use Rattle.std.specs.Ordering.{int_eq}
+use Rattle.spv_names.specs.declared.names.Symbol.{Symbol}
 use Rattle.spv_logic.specs.declared.types.TypeId.{TypeId}
 use Rattle.spv_logic.specs.declared.conditions.RoutineId.{RoutineId}
 use Rattle.spv_syntax.specs.declared.operators.Comparison.TheVariants as comparing
@@ -18,10 +19,10 @@ use Rattle.spv_program.specs.declared.types.TypeForm.TheVariants.{Integer, Range
 use Rattle.spv_program.specs.Expressions.{Expression, Arguments, Numeral, no_arguments, by_value, by_place, Read}
 use Rattle.spv_program.specs.Statements.{Statement, For}
 use Rattle.spv_program.proofs.SortFacts.{nothing_there, some_is}
-use Rattle.spv_origin.specs.Examples.{name, x, y, start, integer, program, view, variable, number, alone, related, read, one, No, FromStatement, assign, assigning}
-use Rattle.spv_origin.specs.RoutineExamples.{counting, for_tree, CountersAreKept, with_p, first_routine, calling, call_tree, CallsAreKept, formal, group, ParametersAreKept, RoutinesAreKept, numeral_text, with_range, third, RangesAreKept, noted, NotesAreKept, Note, implication, ImplicationsAreKept, with_car, car_tree, applied, FunctionsAreKept}
+use Rattle.spv_origin.specs.Examples.{c, name, x, y, start, integer, program, view, variable, number, alone, related, read, one, No, FromStatement, assign, assigning}
+use Rattle.spv_origin.specs.RoutineExamples.{for_of, boolean_group, counting, for_tree, CountersAreKept, with_p, first_routine, calling, call_tree, CallsAreKept, formal, group, ParametersAreKept, RoutinesAreKept, numeral_text, with_range, third, RangesAreKept, noted, NotesAreKept, Note, implication, ImplicationsAreKept, with_car, car_tree, applied, FunctionsAreKept}
 use Rattle.spv_origin.specs.Formulas.{operator_of, noted_constant, noted_variable, noted_start, noted_symbol, with_symbol, with_built_in, with_put, not_there, annotation, FormulaFrom, AnnotationFrom, formula_operators, Noted, NotedWith}
-use Rattle.spv_origin.specs.Names.{View}
+use Rattle.spv_origin.specs.Names.{View, names_place}
 use Rattle.spv_typing.specs.Known.{Function, Put, Car}
 use Rattle.spv_program.specs.declared.operators.BuiltIn.{BuiltIn}
 use Rattle.spv_program.specs.declared.operators.BuiltIn.TheVariants as known
@@ -46,6 +47,10 @@ direction_in s = direction.Up
 abbrev first_in : Statement → Expression
 first_in (For line i count s) = count.first
 first_in s = one
+
+abbrev last_in : Statement → Expression
+last_in (For line i count s) = count.last
+last_in s = one
 
 -- the direction of a FOR
 record TowardsOf (d : DirectionSign) (s : Statement) : Type 0 where
@@ -79,11 +84,27 @@ no_one_in_two h = false≢true (sym (ap is_two (number_in one 2 h)))
 other_bounds : No (FromStatement (counting direction.Up 1 2) (for_tree towards.Up 2 1))
 other_bounds h = no_one_in_two (first_of towards.Up 2 1 (counting direction.Up 1 2) h)
 
+last_of : (d : DirectionSign) (from to : ℕ) (s : Statement) → FromStatement s (for_tree d from to)
+    → Rattle.spv_origin.specs.Examples.From (last_in s) (alone (number to))
+last_of d from to s (statements.for i n f l a) = l
+
+other_last : No (FromStatement (counting direction.Up 1 2) (for_tree towards.Up 1 1))
+other_last h = false≢true (ap is_two (number_in (Numeral (pos 2)) 1 (last_of towards.Up 1 1 (counting direction.Up 1 2) h)))
+
+counter_named : (z : Symbol) (d : DirectionSign) (from to : ℕ) (s : Statement) → FromStatement s (for_of z d from to)
+    → names_place view z ≡ true
+counter_named z d from to s (statements.for i n f l a) = n
+
+no_constant_counts : (s : Statement) → No (FromStatement s (for_of c towards.Up 1 2))
+no_constant_counts s h = false≢true (counter_named c towards.Up 1 2 s h)
+
 pub counters_are_kept : CountersAreKept
 counters_are_kept = (
   statements.for not_there refl (number_alone 1) (number_alone 2) (assigned y one (alone (number 1)) refl one_alone),
   other_direction,
   other_bounds,
+  other_last,
+  no_constant_counts,
 )
 
 -- ---- calls
@@ -126,14 +147,23 @@ calls_are_kept = (statements.procedure (call_of refl x_argument refl), other_rou
 
 -- ---- headings and routines
 
+abbrev record_of : ℕ → TypeId
+record_of n = record { 0 = n }
+
+boolean_is_not_integer : Some (record_of 1) ≡ Some integer → ⊥
+boolean_is_not_integer e = let k : record_of 1 ≡ integer = some_is e in false≢true (ap (λ (t : TypeId). nat_eq t.0 0) k)
+
 var_lost : No (FormalsFrom start program [] (group true ∷ []) (formal false ∷ []))
 var_lost (one_group e h) = elim h [ ]
 
 parameter_lost : No (FormalsFrom start program [] (group true ∷ []) [])
 parameter_lost (one_group e h) = elim h [ ]
 
+boolean_parameter : No (FormalsFrom start program [] (boolean_group ∷ []) (formal true ∷ []))
+boolean_parameter (one_group e no_formals) = boolean_is_not_integer e
+
 pub parameters_are_kept : ParametersAreKept
-parameters_are_kept = (one_group refl no_formals, var_lost, parameter_lost)
+parameters_are_kept = (one_group refl no_formals, var_lost, parameter_lost, boolean_parameter)
 
 pub routines_are_kept : RoutinesAreKept
 routines_are_kept h c l b = (λ r. elim r [ ], no_body, λ r. elim r [ ], λ r. elim r [ ])
@@ -166,10 +196,21 @@ other_name : No (type_trees.TypeFrom with_range [] third (types.named 1 (name (R
 other_name (type_trees.by_name e) = let k : integer ≡ third = some_is e in false≢true
     (ap (λ (t : TypeId). Rattle.std.specs.Prelude.nat_eq t.0 2) k)
 
+abbrev low_in : TypeForm → ℤ
+low_in (Range low high) = low
+low_in f = pos 0
+
+other_low : No (type_trees.TypeFrom with_range [] third (types.range 1 (numeral_text 2) (numeral_text 9)))
+other_low (type_trees.subrange {a = a} {b = b} e low high) =
+    let k : Range (pos 1) (pos 9) ≡ Range a b = some_is e in
+    let z : pos 2 ≡ pos 1 = numeral_is with_range a 2 low ∙ sym (ap low_in k) in
+    false≢true (ap (λ (q : ℤ). int_eq q (pos 1)) z)
+
 pub ranges_are_kept : RangesAreKept
 ranges_are_kept = (
   type_trees.subrange refl (statements.unsigned statements.number) (statements.unsigned statements.number),
   other_bound,
+  other_low,
   no_subrange,
   other_name,
 )

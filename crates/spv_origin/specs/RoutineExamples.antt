@@ -33,7 +33,7 @@ use Rattle.spv_origin.specs.Formulas.{FormulaFrom, AnnotationFrom}
 use Rattle.spv_origin.specs.Statements.{StatementFrom}
 use Rattle.spv_origin.specs.Types.{TypeFrom}
 use Rattle.spv_origin.specs.Routines.{FormalsFrom, RoutinesFrom}
-use Rattle.spv_origin.specs.Examples.{named, x, y, start, integer, program, view, name, number, variable, alone, related, read, one, No, FromStatement, assign, assigning}
+use Rattle.spv_origin.specs.Examples.{c, named, x, y, start, integer, program, view, name, number, variable, alone, related, read, one, No, FromStatement, assign, assigning}
 
 -- ---- FOR
 
@@ -44,15 +44,21 @@ counting d from to =
     numeral : ℕ → Rattle.spv_program.specs.Expressions.Expression
     numeral n = Rattle.spv_program.specs.Expressions.Numeral (pos n)
 
-abbrev pub for_tree : DirectionSign → ℕ → ℕ → trees.Statement
-for_tree d from to =
-    trees.repetition 1 None (trees.for_loop 1 (name x) (alone (number from)) d (alone (number to)) (assigning y (alone (number 1))))
+abbrev pub for_of : Symbol → DirectionSign → ℕ → ℕ → trees.Statement
+for_of s d from to =
+    trees.repetition 1 None (trees.for_loop 1 (name s) (alone (number from)) d (alone (number to)) (assigning y (alone (number 1))))
 
+abbrev pub for_tree : DirectionSign → ℕ → ℕ → trees.Statement
+for_tree = for_of x
+
+-- nothing counts with the constant c
 abbrev pub CountersAreKept : Type 0
 CountersAreKept =
     FromStatement (counting direction.Up 1 2) (for_tree towards.Up 1 2)
     × No (FromStatement (counting direction.Up 1 2) (for_tree towards.Down 1 2))
     × No (FromStatement (counting direction.Up 1 2) (for_tree towards.Up 2 1))
+    × No (FromStatement (counting direction.Up 1 2) (for_tree towards.Up 1 1))
+    × ((s : Statement) → No (FromStatement s (for_of c towards.Up 1 2)))
 
 -- ---- calls
 
@@ -103,11 +109,16 @@ formal by_place = record { name = named 21; of = integer; by_place = by_place; l
 abbrev pub group : Bool → Group
 group is_var = record { line = 1; form = Variables is_var (record { first = name (named 21); more = [] }) (name (named 0)) }
 
+-- `VAR a: BOOLEAN`
+abbrev pub boolean_group : Group
+boolean_group = record { line = 1; form = Variables true (record { first = name (named 21); more = [] }) (name (named 1)) }
+
 abbrev pub ParametersAreKept : Type 0
 ParametersAreKept =
     FormalsFrom start program [] (group true ∷ []) (formal true ∷ [])
     × No (FormalsFrom start program [] (group true ∷ []) (formal false ∷ []))
     × No (FormalsFrom start program [] (group true ∷ []) [])
+    × No (FormalsFrom start program [] (boolean_group ∷ []) (formal true ∷ []))
 
 -- no routine is lost, none is without a body, and no body without a heading
 abbrev pub RoutinesAreKept : Type 0
@@ -134,6 +145,7 @@ abbrev pub RangesAreKept : Type 0
 RangesAreKept =
     TypeFrom with_range [] third (types.range 1 (numeral_text 1) (numeral_text 9))
     × No (TypeFrom with_range [] third (types.range 1 (numeral_text 1) (numeral_text 8)))
+    × No (TypeFrom with_range [] third (types.range 1 (numeral_text 2) (numeral_text 9)))
     × No (TypeFrom with_range [] integer (types.range 1 (numeral_text 1) (numeral_text 9)))
     × No (TypeFrom with_range [] third (types.named 1 (name (named 0))))
 
