@@ -6,7 +6,6 @@ use Rattle.std.proofs.lemmas.List.Folds.{list_any-append}
 use Rattle.spv_names.specs.declared.names.Symbol.{Symbol}
 use Rattle.spv_list.proofs.Tests.{left_false, right_false}
 use Rattle.spv_logic.specs.declared.types.TypeId.{TypeId}
-use Rattle.spv_logic.specs.declared.types.Sort.{Sort}
 use Rattle.spv_logic.specs.declared.conditions.RoutineId.{RoutineId}
 use Rattle.spv_program.specs.Lists.{same_name, found, item_at}
 use Rattle.spv_program.specs.Types.{type_exists}
@@ -48,13 +47,8 @@ pub record Final (k : Known) (p : Program) : Type 0 where
       → AgreesWith c g r
   pub bodies : (x : Symbol) (g : Heading) → found (headings_named k.headings) x ≡ Some g → HasBody p g
 
--- a heading that is right, with the sorts of its INITIAL names
-pub record HeadingKnown (q : Program) (g : Heading) : Type 0 where
-  pub sorts : List (Symbol × Sort)
-  pub right : RightHeading q g sorts
-
 pub record HeadingsKnown (k : Known) : Type 0 where
-  pub each : (x : Symbol) (g : Heading) → found (headings_named k.headings) x ≡ Some g → HeadingKnown k.program g
+  pub each : (x : Symbol) (g : Heading) → found (headings_named k.headings) x ≡ Some g → RightHeading k.program g
 
 -- a routine whose heading is not known is one that nothing can call
 abbrev hidden_if : Bool → Routine → Routine
@@ -116,9 +110,9 @@ module _ (k : Known) (p : Program) (right : RightProgram k.program) (headings : 
           let same : d ≡ c = ap (λ o. hidden_if (is_some o) d) (sym f) ∙ is in
           is_shown g (at ∙ ap Some same) (ap (λ (x : Routine). found (headings_named k.headings) x.name) (sym same) ∙ f)
 
-  formals_there : (g : Heading) (sorts : List (Symbol × Sort)) → RightHeading k.program g sorts
+  formals_there : (g : Heading) → RightHeading k.program g
       → list_all (λ (f : Formal). type_exists k.program.forms f.of) g.formals ≡ true
-  formals_there g sorts h = sym (all_map (λ (n : Symbol × TypeId). type_exists k.program.forms n.1) (λ (f : Formal). pair f.name f.of)
+  formals_there g h = sym (all_map (λ (n : Symbol × TypeId). type_exists k.program.forms n.1) (λ (f : Formal). pair f.name f.of)
       g.formals) ∙ h.formals
 
   -- ---- the whole program has more
@@ -141,12 +135,12 @@ module _ (k : Known) (p : Program) (right : RightProgram k.program) (headings : 
     names = names;
     routines = λ r c t e h. by_kind r c t h (routine_at p r ≡ Some c) (known_as r c e) (λ g at f. at);
     results = λ r c t e h. by_kind r c t h (type_exists k.program.forms t ≡ true) (known_as r c e)
-        (λ g at f. (headings.each c.name g f).right.result t (sym (final.agree r c g at f).result ∙ h));
+        (λ g at f. (headings.each c.name g f).result t (sym (final.agree r c g at f).result ∙ h));
     parameters = λ r c t e h. by_kind r c t h (list_all (λ (f : Formal). type_exists k.program.forms f.of) c.formals ≡ true)
         (known_as r c e)
-        (λ g at f. let known = headings.each c.name g f in
-        subst (λ fs. list_all (λ (f : Formal). type_exists k.program.forms f.of) fs ≡ true) (sym (final.agree r c g at f).formals)
-        (formals_there g known.sorts known.right));
+        (λ g at f. subst (λ fs. list_all (λ (f : Formal). type_exists k.program.forms f.of) fs ≡ true)
+        (sym (final.agree r c g at f).formals)
+        (formals_there g (headings.each c.name g f)));
   }
     where
       by_kind : (r : RoutineId) (c : Routine) (t : TypeId) → c.result ≡ Some t → (P : Type 0) → Known_as r c
@@ -246,8 +240,8 @@ module _ (k : Known) (p : Program) (right : RightProgram k.program) (headings : 
       place_types = λ x t m. subst (λ (n : Known). type_exists n.program.forms t ≡ true) known (place_there s here_right plain x t m);
       no_results = no_results;
       routines = body_of;
-      results = λ x h t m e. (headings.each x h (heading_found x h m)).right.result t e;
-      plain_results = λ x h t m e. (headings.each x h (heading_found x h m)).right.plain_result t e;
+      results = λ x h t m e. (headings.each x h (heading_found x h m)).result t e;
+      plain_results = λ x h t m e. (headings.each x h (heading_found x h m)).plain_result t e;
       own_result = own_result;
-      parameters = λ x h m. let g = headings.each x h (heading_found x h m) in formals_there h g.sorts g.right;
+      parameters = λ x h m. formals_there h (headings.each x h (heading_found x h m));
     }

@@ -24,7 +24,7 @@ use Rattle.spv_program.specs.Scopes.{with_sorts_of, result_name}
 use Rattle.spv_program.specs.Typing.{variables_among}
 use Rattle.spv_program.proofs.SortFacts.{nothing_there, some_is}
 use Rattle.spv_typing.specs.Outcomes.{after, each, if_there, twice}
-use Rattle.spv_typing.specs.Known.{Heading, OfConstant, OfPlace, OfStart, Names, named, Known, is_free}
+use Rattle.spv_typing.specs.Known.{Heading, Specified, OfConstant, OfPlace, OfStart, Names, named, Known, is_free}
 use Rattle.spv_typing.specs.TypeWalk.{all_names, constant}
 use Rattle.spv_typing.specs.DeclarationWalk.{with_program, with_types, NewType, type_walk, new_name}
 use Rattle.spv_typing.specs.FormulaWalk.{annotation}
@@ -38,17 +38,17 @@ use Rattle.spv_well_typed_programs.proofs.Naming.{NamesApart, heading_names, ins
 use Rattle.spv_well_typed_programs.proofs.Declaring.{all_there, all_longer, all_append, all_typed, symbols_longer, RightKnown, type_kept}
 use Rattle.spv_well_typed_programs.proofs.Declared.{Same, same_then}
 use Rattle.spv_well_typed_programs.proofs.Seeing.{OwnPlain, sees_append, plain_append, sees_places, sees_starts, plain_places, plain_starts, plain_constants, named_none, scope_types, sees_alike}
-use Rattle.spv_well_typed_programs.proofs.Headings.{formal_types, starts_keys, items_in, starts_in_range, result_in_range, entry_names, exit_names, RightHeading, Later, heading_later}
+use Rattle.spv_well_typed_programs.proofs.Headings.{formal_types, starts_keys, items_in, starts_in_range, result_in_range, entry_names, exit_names, RightSpecified, Later, specified_later}
 use Rattle.spv_well_typed_programs.proofs.Sharing.{variables_differ}
 use Rattle.spv_well_typed_programs.proofs.HeadingWalk.{heading_right, noted_ok, free_in, named_append, named_typed, RightParams, params_right, ResultOk, result_right, globals_right, starts_right}
 
 -- a heading that is right, with the names that its routine has
 pub record RightHeaded (q : Program) (routine : Symbol) (place : RoutineId) (headed : Headed) : Type 0 where
   pub sorts : List (Symbol × Sort)
-  pub right : RightHeading q headed.heading sorts
-  pub own : headed.own ≡ named OfPlace (formal_types headed.heading.formals) ++ named OfStart sorts
-  pub name : headed.heading.name ≡ routine
-  pub number : headed.heading.number ≡ place
+  pub right : RightSpecified q headed.specified sorts
+  pub own : headed.own ≡ named OfPlace (formal_types headed.specified.heading.formals) ++ named OfStart sorts
+  pub name : headed.specified.heading.name ≡ routine
+  pub number : headed.specified.heading.number ≡ place
 
 -- a program is no earlier than itself
 pub later_same : (q : Program) → Later q q
@@ -65,11 +65,11 @@ headed_with name line is_function number ps result globals starts entry exit =
       formals = ps.formals;
       result = result;
       globals = globals;
-      initial = starts.initial;
-      entry = entry;
-      exit = exit;
     } in
-    record { heading = heading; own = ps.own ++ starts.own }
+    record {
+      specified = record { heading = heading; initial = starts.initial; entry = entry; exit = exit };
+      own = ps.own ++ starts.own;
+    }
 
 abbrev with_number : Local → Symbol → ℤ → Local
 with_number l x z = record { known = l.known; own = l.own ++ pair x (OfConstant z) ∷ []; variables = l.variables }
@@ -151,11 +151,13 @@ module _ (k : Known) (right : RightKnown k) (routine : Symbol)
       subst (RightHeaded q routine number) (same_value four.rest) (record {
         sorts = s.sorts;
         right = record {
-          formals = params.there;
-          result = λ t h. (results t h).there;
-          plain_result = λ t h. (results t h).plain;
-          globals = shared.exist;
-          globals_differ = shared.differ;
+          heading = record {
+            formals = params.there;
+            result = λ t h. (results t h).there;
+            plain_result = λ t h. (results t h).plain;
+            globals = shared.exist;
+            globals_differ = shared.differ;
+          };
           initial = s.may;
           are_starts = s.starts;
           differ = ap (λ l. names_differ (routine ∷ l)) (sym (append_assoc (keys F) I G)) ∙ differ_all;
@@ -256,7 +258,10 @@ own_plain q formals sorts constants locals h s l =
     (plain_append q (named OfPlace formals) (named OfStart sorts) (plain_places q formals h) s) (plain_constants q constants))
     (plain_places q locals l)
 
-module _ (k : Known) (right : RightKnown k) (h : Heading) (sorts : List (Symbol × Sort)) (good : RightHeading k.program h sorts) where
+module _ (k : Known) (right : RightKnown k) (s : Specified) (sorts : List (Symbol × Sort)) (good : RightSpecified k.program s sorts) where
+  abbrev h : Heading
+  h = s.heading
+
   abbrev F : List (Symbol × TypeId)
   F = formal_types h.formals
 
@@ -278,7 +283,7 @@ module _ (k : Known) (right : RightKnown k) (h : Heading) (sorts : List (Symbol 
     pub constants : List (Symbol × ℤ)
     pub own : l.own ≡ own_of F sorts constants l.variables
     pub there : all_there l.known.program.forms l.variables ≡ true
-    pub differ : names_differ (h.name ∷ (keys F ++ (keys h.initial ++ (keys l.variables ++ G)))) ≡ true
+    pub differ : names_differ (h.name ∷ (keys F ++ (keys s.initial ++ (keys l.variables ++ G)))) ≡ true
 
   constant_more : (l next : Local) (c : Const) → WithConstants l → local_const h l c ≡ Ok next → WithConstants next
   constant_more l next c r e =
@@ -299,25 +304,25 @@ module _ (k : Known) (right : RightKnown k) (h : Heading) (sorts : List (Symbol 
   plain_now : (l : Local) (r : RightLocal l) → OwnPlain l.known.program l.own
   plain_now l r =
       let p = l.known.program in
-      let now = heading_later k.program p right.program r.later h sorts good in
+      let now = specified_later k.program p right.program r.later s sorts good in
       subst (OwnPlain p) (sym r.own)
-      (own_plain p F sorts r.constants l.variables now.formals
-      (plain_starts p sorts (starts_in_range p F h.initial sorts r.known.program.forms now.are_starts)) r.there)
+      (own_plain p F sorts r.constants l.variables now.heading.formals
+      (plain_starts p sorts (starts_in_range p F s.initial sorts r.known.program.forms now.are_starts)) r.there)
 
   away_from : (new : List Symbol) (l : Local) (r : RightLocal l) → Fresh (is_free_in l.known.start h.name h.globals l.own) new
-      → NamesApart new (h.name ∷ ((keys F ++ keys h.initial) ++ (keys l.variables ++ G)))
+      → NamesApart new (h.name ∷ ((keys F ++ keys s.initial) ++ (keys l.variables ++ G)))
   away_from new l r fresh = record {
     apart = λ x e.
         let f = free_in l.known.start h.name h.globals l.own x (fresh.free x e) in
         let none = own_none F sorts r.constants l.variables x (sym (ap (λ o. found o x) r.own) ∙ found_none l.own x f.not_own) in
-        let no_start : list_any (same_name x) (keys h.initial) ≡ false =
-        ap (list_any (same_name x)) (sym (starts_keys k.program F h.initial sorts good.are_starts))
+        let no_start : list_any (same_name x) (keys s.initial) ≡ false =
+        ap (list_any (same_name x)) (sym (starts_keys k.program F s.initial sorts good.are_starts))
         ∙ (sym (found_there sorts x) ∙ ap is_some none.start) in
         both_false (same_name x h.name) _ (sym (any_turned x h.name) ∙ f.not_routine)
-        (list_any-append (same_name x) (keys F ++ keys h.initial) (keys l.variables ++ G)
-        ∙ both_false (list_any (same_name x) (keys F ++ keys h.initial)) (list_any (same_name x) (keys l.variables ++ G))
-        (list_any-append (same_name x) (keys F) (keys h.initial)
-        ∙ both_false (list_any (same_name x) (keys F)) (list_any (same_name x) (keys h.initial))
+        (list_any-append (same_name x) (keys F ++ keys s.initial) (keys l.variables ++ G)
+        ∙ both_false (list_any (same_name x) (keys F ++ keys s.initial)) (list_any (same_name x) (keys l.variables ++ G))
+        (list_any-append (same_name x) (keys F) (keys s.initial)
+        ∙ both_false (list_any (same_name x) (keys F)) (list_any (same_name x) (keys s.initial))
         (sym (found_there F x) ∙ ap is_some none.formal) no_start)
         (list_any-append (same_name x) (keys l.variables) G
         ∙ both_false (list_any (same_name x) (keys l.variables)) (list_any (same_name x) G)
@@ -343,8 +348,8 @@ module _ (k : Known) (right : RightKnown k) (h : Heading) (sorts : List (Symbol 
       let now = after_it.known.program in
       let new_keys : keys (l.variables ++ more) ≡ keys l.variables ++ new =
       keys_append l.variables more ∙ ap (λ ns. keys l.variables ++ ns) (keys_typed t.type new) in
-      let c = h.name ∷ (keys F ++ keys h.initial) in
-      let turn = λ (rest : List Symbol). ap (λ ns. h.name ∷ ns) (append_assoc (keys F) (keys h.initial) rest) in
+      let c = h.name ∷ (keys F ++ keys s.initial) in
+      let turn = λ (rest : List Symbol). ap (λ ns. h.name ∷ ns) (append_assoc (keys F) (keys s.initial) rest) in
       let before : names_differ (c ++ (keys l.variables ++ G)) ≡ true = ap names_differ (turn (keys l.variables ++ G)) ∙ r.differ in
       subst RightLocal (same_value two.rest) (record {
         known = record {
@@ -366,16 +371,17 @@ module _ (k : Known) (right : RightKnown k) (h : Heading) (sorts : List (Symbol 
             (ap (λ o. named OfPlace l.variables ++ o) (sym (named_typed t.type new)) ∙ sym (named_append OfPlace l.variables more)));
         there = all_append (λ (n : Symbol × TypeId). type_exists t.forms n.1) l.variables more
             (all_longer p.forms t.forms l.variables kept.begins r.there) (all_typed t.forms t.type new kept.there);
-        differ = ap (λ ns. names_differ (h.name ∷ (keys F ++ (keys h.initial ++ (ns ++ G))))) new_keys
+        differ = ap (λ ns. names_differ (h.name ∷ (keys F ++ (keys s.initial ++ (ns ++ G))))) new_keys
             ∙ (ap names_differ (sym (turn ((keys l.variables ++ new) ++ G)))
             ∙ insert_in c (keys l.variables) new G before fresh.differ (away_from new l r fresh));
       })
 
-  pub locals_right : (headed : Headed) (ls : Locals) (l : Local) → headed.heading ≡ h
+  pub locals_right : (headed : Headed) (ls : Locals) (l : Local) → headed.specified.heading ≡ h
       → headed.own ≡ named OfPlace F ++ named OfStart sorts → locals_walk k headed ls ≡ Ok l → RightLocal l
   locals_right headed ls l is own e =
       let start : Local = record { known = k; own = headed.own; variables = [] } in
-      let one = went (each (local_const headed.heading) start ls.constants) (λ a. each (local_vars headed.heading) a ls.variables) l e in
+      let one = went (each (local_const headed.specified.heading) start ls.constants)
+      (λ a. each (local_vars headed.specified.heading) a ls.variables) l e in
       let first = subst (λ (g : Heading). each (local_const g) start ls.constants ≡ Ok one.value) is one.first in
       let rest = subst (λ (g : Heading). each (local_vars g) one.value ls.variables ≡ Ok l) is one.rest in
       let c = each_keeps WithConstants (local_const h) (λ s t x g f. constant_more s t x g f) ls.constants start one.value
@@ -392,6 +398,6 @@ module _ (k : Known) (right : RightKnown k) (h : Heading) (sorts : List (Symbol 
         own = c.own ∙ (sym (append-nil ((named OfPlace F ++ named OfStart sorts) ++ named OfConstant c.constants))
             ∙ ap (λ vs. ((named OfPlace F ++ named OfStart sorts) ++ named OfConstant c.constants) ++ named OfPlace vs) (sym c.variables));
         there = ap (all_there v.known.program.forms) c.variables;
-        differ = ap (λ vs. names_differ (h.name ∷ (keys F ++ (keys h.initial ++ (keys vs ++ G))))) c.variables ∙ good.differ;
+        differ = ap (λ vs. names_differ (h.name ∷ (keys F ++ (keys s.initial ++ (keys vs ++ G))))) c.variables ∙ good.differ;
       } in
       each_keeps RightLocal (local_vars h) (λ s t x g f. variables_more s t x g f) ls.variables v l begun rest

@@ -18,7 +18,7 @@ use Rattle.spv_program.specs.Programs.{Formal, GlobalItem, Program, shapes}
 use Rattle.spv_program.specs.Scopes.{Scope, with_sorts_of, result_name}
 use Rattle.spv_program.specs.Uses.{same_item}
 use Rattle.spv_program.specs.Typing.{item_exists, variables_among}
-use Rattle.spv_typing.specs.Known.{Heading}
+use Rattle.spv_typing.specs.Known.{Heading, Specified}
 use Rattle.spv_typing.specs.RoutineWalk.{may_be_initial}
 use Rattle.spv_well_typed_programs.specs.Grown.{GrowsTypes}
 use Rattle.spv_well_typed_programs.proofs.Growing.{form_more, exists_more, sort_more}
@@ -87,18 +87,23 @@ abbrev pub exit_names : Program → List (Symbol × TypeId) → Symbol → Optio
 exit_names q formals name result starts =
     with_sorts_of q formals ++ (with_sorts_of q (result_name name result) ++ (starts ++ with_sorts_of q q.variables))
 
--- a heading whose INITIAL names have these sorts
-pub record RightHeading (q : Program) (h : Heading) (starts : List (Symbol × Sort)) : Type 0 where
+-- what callers know of a routine is right
+pub record RightHeading (q : Program) (h : Heading) : Type 0 where
   pub formals : all_there q.forms (formal_types h.formals) ≡ true
   pub result : (t : TypeId) → h.result ≡ Some t → type_exists q.forms t ≡ true
   pub plain_result : (t : TypeId) → h.result ≡ Some t → may_be_result (form_at q.forms t.0) ≡ true
   pub globals : list_all (λ g. item_exists q g.item) h.globals ≡ true
   pub globals_differ : all_differ same_item (items_in h.globals) ≡ true
-  pub initial : list_all (λ i. may_be_initial h.formals h.globals i.1) h.initial ≡ true
-  pub are_starts : Starts q (formal_types h.formals) h.initial starts
-  pub differ : names_differ (h.name ∷ (keys (formal_types h.formals) ++ (keys h.initial ++ variables_among (items_in h.globals)))) ≡ true
-  pub entry : annotation_ok q (entry_names q (formal_types h.formals)) h.entry ≡ true
-  pub exit : annotation_ok q (exit_names q (formal_types h.formals) h.name h.result starts) h.exit ≡ true
+
+-- a heading with its clauses, whose INITIAL names have these sorts
+pub record RightSpecified (q : Program) (s : Specified) (starts : List (Symbol × Sort)) : Type 0 where
+  pub heading : RightHeading q s.heading
+  pub initial : list_all (λ i. may_be_initial s.heading.formals s.heading.globals i.1) s.initial ≡ true
+  pub are_starts : Starts q (formal_types s.heading.formals) s.initial starts
+  pub differ : names_differ (s.heading.name
+      ∷ (keys (formal_types s.heading.formals) ++ (keys s.initial ++ variables_among (items_in s.heading.globals)))) ≡ true
+  pub entry : annotation_ok q (entry_names q (formal_types s.heading.formals)) s.entry ≡ true
+  pub exit : annotation_ok q (exit_names q (formal_types s.heading.formals) s.heading.name s.heading.result starts) s.exit ≡ true
 
 -- a program with more types and more routines
 pub record Later (q p : Program) : Type 0 where
@@ -163,39 +168,47 @@ module _ (q p : Program) (r : RightProgram q) (l : Later q p) where
   result_in_range name None h = refl
   result_in_range name (Some t) h = both_true (h t refl) refl
 
-  pub heading_later : (h : Heading) (ss : List (Symbol × Sort)) → RightHeading q h ss → RightHeading p h ss
-  heading_later h ss g =
+  pub heading_later : (h : Heading) → RightHeading q h → RightHeading p h
+  heading_later h g = record {
+    formals = all_longer q.forms p.forms (formal_types h.formals) l.forms g.formals;
+    result = λ t e. exists_more q p grows t (g.result t e);
+    plain_result = λ t e. ap may_be_result (form_more q p grows t (g.result t e)) ∙ g.plain_result t e;
+    globals = items_later h.globals g.globals;
+    globals_differ = g.globals_differ;
+  }
+
+  pub specified_later : (s : Specified) (ss : List (Symbol × Sort)) → RightSpecified q s ss → RightSpecified p s ss
+  specified_later s ss g =
+      let h = s.heading in
       let formals = formal_types h.formals in
-      let formals_range = sorts_in_range q formals r.forms g.formals in
+      let formals_range = sorts_in_range q formals r.forms g.heading.formals in
       let variables_range = sorts_in_range q q.variables r.forms r.variables in
-      let result_there = result_in_range h.name h.result g.result in
+      let result_there = result_in_range h.name h.result g.heading.result in
       let result_range = sorts_in_range q (result_name h.name h.result) r.forms result_there in
-      let starts_range = starts_in_range q formals h.initial ss r.forms g.are_starts in
+      let starts_range = starts_in_range q formals s.initial ss r.forms g.are_starts in
       let test = λ (n : Symbol × Sort). sort_in_range (shapes q) n.1 in
       let with_variables = all_append test ss (with_sorts_of q q.variables) starts_range variables_range in
       let with_result = all_append test (with_sorts_of q (result_name h.name h.result)) (ss ++ with_sorts_of q q.variables) result_range
       with_variables in
       let entry_same : entry_names p formals ≡ entry_names q formals =
-      ap (λ f. f ++ with_sorts_of p p.variables) (sorts_same formals g.formals) ∙ ap (λ v. with_sorts_of q formals ++ v) variables_same in
+      ap (λ f. f ++ with_sorts_of p p.variables) (sorts_same formals g.heading.formals)
+      ∙ ap (λ v. with_sorts_of q formals ++ v) variables_same in
       let exit_same : exit_names p formals h.name h.result ss ≡ exit_names q formals h.name h.result ss =
-      ap (λ f. f ++ (with_sorts_of p (result_name h.name h.result) ++ (ss ++ with_sorts_of p p.variables))) (sorts_same formals g.formals)
+      ap (λ f. f ++ (with_sorts_of p (result_name h.name h.result) ++ (ss ++ with_sorts_of p p.variables)))
+      (sorts_same formals g.heading.formals)
       ∙ (ap (λ f. with_sorts_of q formals ++ (f ++ (ss ++ with_sorts_of p p.variables)))
       (sorts_same (result_name h.name h.result) result_there)
       ∙ ap (λ v. with_sorts_of q formals ++ (with_sorts_of q (result_name h.name h.result) ++ (ss ++ v))) variables_same) in
       record {
-        formals = all_longer q.forms p.forms formals l.forms g.formals;
-        result = λ t e. exists_more q p grows t (g.result t e);
-        plain_result = λ t e. ap may_be_result (form_more q p grows t (g.result t e)) ∙ g.plain_result t e;
-        globals = items_later h.globals g.globals;
-        globals_differ = g.globals_differ;
+        heading = heading_later h g.heading;
         initial = g.initial;
-        are_starts = starts_later formals h.initial ss g.are_starts;
+        are_starts = starts_later formals s.initial ss g.are_starts;
         differ = g.differ;
-        entry = ap (λ names. annotation_ok p names h.entry) entry_same
-            ∙ annotation_later (entry_names q formals) h.entry
+        entry = ap (λ names. annotation_ok p names s.entry) entry_same
+            ∙ annotation_later (entry_names q formals) s.entry
             (all_append test (with_sorts_of q formals) (with_sorts_of q q.variables) formals_range variables_range) g.entry;
-        exit = ap (λ names. annotation_ok p names h.exit) exit_same
-            ∙ annotation_later (exit_names q formals h.name h.result ss) h.exit
+        exit = ap (λ names. annotation_ok p names s.exit) exit_same
+            ∙ annotation_later (exit_names q formals h.name h.result ss) s.exit
             (all_append test (with_sorts_of q formals)
             (with_sorts_of q (result_name h.name h.result) ++ (ss ++ with_sorts_of q q.variables)) formals_range with_result) g.exit;
       }

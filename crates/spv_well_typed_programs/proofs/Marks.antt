@@ -25,7 +25,7 @@ use Rattle.spv_program.specs.Scopes.{result_name}
 use Rattle.spv_program.specs.Typing.{variables_among, routine_ok}
 use Rattle.spv_program.proofs.SortFacts.{nothing_there}
 use Rattle.spv_typing.specs.Outcomes.{each, twice}
-use Rattle.spv_typing.specs.Known.{Heading, OfPlace, OfStart, OfSymbol, OfRoutine, OfType, OfConstant, Names, named, Known, names_from_start, program_names, is_free, is_free_for_call}
+use Rattle.spv_typing.specs.Known.{Heading, Specified, OfPlace, OfStart, OfSymbol, OfRoutine, OfType, OfConstant, Names, named, Known, names_from_start, program_names, is_free, is_free_for_call}
 use Rattle.spv_typing.specs.StatementWalk.{Setting, block_walk}
 use Rattle.spv_typing.specs.RoutineWalk.{in_routine, Headed, Local, item_sort, place_sort, result_names, heading_name, form_walk, with_heading, locals_walk, body_setting, with_body}
 use Rattle.spv_typing.specs.RoutineWalk as walk
@@ -35,13 +35,13 @@ use Rattle.spv_well_typed_programs.proofs.Differ.{or_left, or_right, name-refl, 
 use Rattle.spv_well_typed_programs.proofs.Finding.{pair, keys, found_append, found_mapped, found_key, found_none, found_name}
 use Rattle.spv_well_typed_programs.proofs.Naming.{symbol_names, heading_names, headings_named, names_in, RightNames}
 use Rattle.spv_well_typed_programs.proofs.Declaring.{all_there, RightKnown}
-use Rattle.spv_well_typed_programs.proofs.Headings.{formal_types, IsStart, start_formal, start_variable, start_class, Starts, starts_none, starts_more, items_in, RightHeading, heading_later}
+use Rattle.spv_well_typed_programs.proofs.Headings.{formal_types, IsStart, start_formal, start_variable, start_class, Starts, starts_none, starts_more, items_in, RightSpecified, specified_later}
 use Rattle.spv_well_typed_programs.proofs.ClauseWalk.{RightHeaded, form_right, result_named, own_of, locals_right}
 use Rattle.spv_well_typed_programs.proofs.Statements.{statements_are_well_typed}
 use Rattle.spv_well_typed_programs.proofs.Bodies.{Final, known_program}
 use Rattle.spv_well_typed_programs.proofs.RoutineBody.{r, body_stands, routine_right}
 use Rattle.spv_well_typed_programs.proofs.RoutineBody as body
-use Rattle.spv_well_typed_programs.proofs.States.{heading_at, awaited_at, routine_names, awaited_is, RightState, new_heading, free_heading, announced_state, begun_state, without_same, again_state, later_state, with_one, ended_state}
+use Rattle.spv_well_typed_programs.proofs.States.{heading_at, awaited_at, routine_names, specified_named, awaited_is, RightState, new_heading, free_heading, announced_state, begun_state, without_same, again_state, later_state, with_one, ended_state}
 
 -- ---- the names that a heading gives its routine
 
@@ -107,45 +107,45 @@ module _ (k : Known) (right : RightNames k) (types : List (Symbol × TypeId)) wh
       (λ (j : Symbol × Item). pair j.0 (OfStart (item_sort (in_routine k (named OfPlace types) None) j.1))) js) (start_sort i s h)
       ∙ ap (λ l. pair y (OfStart s) ∷ l) (start_names js us g)
 
-own_again : (k : Known) (h : Heading) (sorts : List (Symbol × Sort)) → RightNames k → RightHeading k.program h sorts
-    → walk.heading_names k h ≡ named OfPlace (formal_types h.formals) ++ named OfStart sorts
-own_again k h sorts right good =
-    let types = formal_types h.formals in
-    ap (λ ps. ps ++ map (λ (i : Symbol × Item). pair i.0 (OfStart (item_sort (in_routine k ps None) i.1))) h.initial)
-    (parameters_are h.formals)
-    ∙ ap (λ l. named OfPlace types ++ l) (start_names k right types h.initial sorts good.are_starts)
+own_again : (k : Known) (s : Specified) (sorts : List (Symbol × Sort)) → RightNames k → RightSpecified k.program s sorts
+    → walk.heading_names k s ≡ named OfPlace (formal_types s.heading.formals) ++ named OfStart sorts
+own_again k s sorts right good =
+    let types = formal_types s.heading.formals in
+    ap (λ ps. ps ++ map (λ (i : Symbol × Item). pair i.0 (OfStart (item_sort (in_routine k ps None) i.1))) s.initial)
+    (parameters_are s.heading.formals)
+    ∙ ap (λ l. named OfPlace types ++ l) (start_names k right types s.initial sorts good.are_starts)
 
 -- ---- bodies
 
 -- a body that has begun
 pub record RightBegun (k : Known) (b : Begun) : Type 0 where
   pub known : b.local.known ≡ k
-  pub is : heading_at k b.heading.name ≡ Some b.heading
-  pub none : awaited_at k b.heading.name ≡ None
+  pub is : heading_at k b.specified.heading.name ≡ Some b.specified.heading
+  pub none : awaited_at k b.specified.heading.name ≡ None
   pub sorts : List (Symbol × Sort)
   pub constants : List (Symbol × ℤ)
-  pub own : b.local.own ≡ own_of (formal_types b.heading.formals) sorts constants b.local.variables
-  pub right : RightHeading k.program b.heading sorts
+  pub own : b.local.own ≡ own_of (formal_types b.specified.heading.formals) sorts constants b.local.variables
+  pub right : RightSpecified k.program b.specified sorts
   pub there : all_there k.program.forms b.local.variables ≡ true
-  pub differ : names_differ (b.heading.name
-      ∷ (keys (formal_types b.heading.formals)
-      ++ (keys b.heading.initial ++ (keys b.local.variables ++ variables_among (items_in b.heading.globals))))) ≡ true
+  pub differ : names_differ (b.specified.heading.name
+      ∷ (keys (formal_types b.specified.heading.formals)
+      ++ (keys b.specified.initial ++ (keys b.local.variables ++ variables_among (items_in b.specified.heading.globals))))) ≡ true
 
 abbrev setting_of : Heading → Known → Names → Names → Setting
 setting_of h k results own = record { inside = in_routine k own (Some h); noted = in_routine k (results ++ own) (Some h); counted = [] }
 
-body_ok : (bodies : List Symbol) (k : Known) (b : Begun) (t : tree.Block) (s : Statement) → RightState bodies k (b.heading.name ∷ [])
-    → RightBegun k b → block_walk (body_setting b.heading b.local) t ≡ Ok s
-    → (p : Program) → Final k p → routine_ok p (with_body b.heading b.local.variables s) ≡ true
+body_ok : (bodies : List Symbol) (k : Known) (b : Begun) (t : tree.Block) (s : Statement)
+    → RightState bodies k (b.specified.heading.name ∷ []) → RightBegun k b → block_walk (body_setting b.specified.heading b.local) t ≡ Ok s
+    → (p : Program) → Final k p → routine_ok p (with_body b.specified b.local.variables s) ≡ true
 body_ok bodies k b t s state begun e p final =
-    let h = b.heading in
+    let h = b.specified.heading in
     let locals = b.local.variables in
     let own = own_of (formal_types h.formals) begun.sorts begun.constants locals in
-    let begins : body.Begins k h begun.sorts begun.constants locals =
+    let begins : body.Begins k b.specified begun.sorts begun.constants locals =
     record {
       known = state.known;
       headings = state.headings;
-      heading = begun.right;
+      specified = begun.right;
       itself = begun.is;
       there = begun.there;
       differ =
@@ -157,25 +157,25 @@ body_ok bodies k b t s state begun e p final =
     subst (λ o. block_walk (setting_of h k (result_names h.name h.result) o) t ≡ Ok s) begun.own one in
     let three : block_walk (setting_of h k (named OfPlace (result_name h.name h.result)) own) t ≡ Ok s =
     subst (λ o. block_walk (setting_of h k o own) t ≡ Ok s) (result_named h.name h.result) two in
-    let stands = body_stands k h begun.sorts begun.constants locals begins p final s in
-    routine_right k h begun.sorts begun.constants locals begins p final s
+    let stands = body_stands k b.specified begun.sorts begun.constants locals begins p final s in
+    routine_right k b.specified begun.sorts begun.constants locals begins p final s
     (statements_are_well_typed (setting_of h k (named OfPlace (result_name h.name h.result)) own) (known_program k p) p
-    (Some (r k h begun.sorts begun.constants locals begins p final s)) stands (λ v none. absurd (false≢true none)) t s three)
+    (Some (r k b.specified begun.sorts begun.constants locals begins p final s)) stands (λ v none. absurd (false≢true none)) t s three)
 
 -- ---- between two marks
 
 abbrev waiting : Known → Progress
 waiting k = record { known = k; begun = None }
 
-abbrev started : Known → Heading → Local → Progress
-started k h local = record { known = k; begun = Some (record { heading = h; local = local }) }
+abbrev started : Known → Specified → Local → Progress
+started k s local = record { known = k; begun = Some (record { specified = s; local = local }) }
 
 module _ (bodies : List Symbol) where
   -- where the walk stands, how many bodies have begun and not ended, and of which routine
   pub data AtMark : Progress → ℕ → List Symbol → Type 0 where
     between : (k : Known) → RightState bodies k [] → AtMark (record { known = k; begun = None }) 0 []
-    inside : (k : Known) (b : Begun) → RightState bodies k (b.heading.name ∷ []) → RightBegun k b
-        → AtMark (record { known = k; begun = Some b }) 1 (b.heading.name ∷ [])
+    inside : (k : Known) (b : Begun) → RightState bodies k (b.specified.heading.name ∷ []) → RightBegun k b
+        → AtMark (record { known = k; begun = Some b }) 1 (b.specified.heading.name ∷ [])
 
   -- a step that brings no further routine to its end
   record Stepped (k : Known) (next : Progress) (n : ℕ) (name : Symbol) : Type 0 where
@@ -190,8 +190,8 @@ module _ (bodies : List Symbol) where
 
   record NewHeading (k : Known) (h : HeadingText) (headed : Headed) : Type 0 where
     right : RightHeaded k.program (heading_name h.form).symbol (number_of bodies (heading_name h.form).symbol) headed
-    free : is_free k headed.heading.name ≡ true
-    number : headed.heading.number ≡ number_of bodies headed.heading.name
+    free : is_free k headed.specified.heading.name ≡ true
+    number : headed.specified.heading.number ≡ number_of bodies headed.specified.heading.name
 
   new_right : (k : Known) (h : HeadingText) (c : Clauses) (headed : Headed) → RightKnown k → first_heading bodies k h c ≡ Ok headed
       → NewHeading k h headed
@@ -208,42 +208,44 @@ module _ (bodies : List Symbol) where
         number = right.number ∙ ap (number_of bodies) (sym right.name);
       }
 
-  announce_right : (k : Known) (h : HeadingText) (c : Clauses) (o : Option Heading) (next : Progress) → RightState bodies k []
+  announce_right : (k : Known) (h : HeadingText) (c : Clauses) (o : Option Specified) (next : Progress) → RightState bodies k []
       → announce bodies k h c o ≡ Ok next → StillBetween k next
   announce_right k h c (Some first) next state e = absurd (no_fault e)
   announce_right k h c None next state e =
-      let made = λ (headed : Headed). fine (waiting (with_awaited (with_heading k headed.heading) (k.awaited ++ headed.heading ∷ []))) in
+      let made = λ (headed : Headed). fine
+      (waiting (with_awaited (with_heading k headed.specified.heading) (k.awaited ++ headed.specified ∷ []))) in
       let one = went (first_heading bodies k h c) made next e in
       let n = new_right k h c one.value state.known one.first in
       subst (StillBetween k) (same_value one.rest) (record {
-        at = between (with_awaited (with_heading k one.value.heading) (k.awaited ++ one.value.heading ∷ []))
-            (announced_state bodies k one.value.heading n.right.sorts state n.free n.right.right n.number);
+        at = between (with_awaited (with_heading k one.value.specified.heading) (k.awaited ++ one.value.specified ∷ []))
+            (announced_state bodies k one.value.specified n.right.sorts state n.free n.right.right n.number);
         routines = refl;
       })
 
   -- a body begins, where its heading is known
   begun_right : (k : Known) (headed : Headed) (l : Locals) (next : Progress) (sorts : List (Symbol × Sort))
-      → RightState bodies k (headed.heading.name ∷ []) → heading_at k headed.heading.name ≡ Some headed.heading
-      → awaited_at k headed.heading.name ≡ None
-      → RightHeading k.program headed.heading sorts
-      → headed.own ≡ named OfPlace (formal_types headed.heading.formals) ++ named OfStart sorts → begun_of k headed l ≡ Ok next
-      → Stepped k next 1 headed.heading.name
+      → RightState bodies k (headed.specified.heading.name ∷ [])
+      → heading_at k headed.specified.heading.name ≡ Some headed.specified.heading
+      → awaited_at k headed.specified.heading.name ≡ None
+      → RightSpecified k.program headed.specified sorts
+      → headed.own ≡ named OfPlace (formal_types headed.specified.heading.formals) ++ named OfStart sorts → begun_of k headed l ≡ Ok next
+      → Stepped k next 1 headed.specified.heading.name
   begun_right k headed l next sorts state is none right own e =
-      let h = headed.heading in
-      let one = went (locals_walk k headed l) (λ local. fine (started local.known h local)) next e in
+      let h = headed.specified.heading in
+      let one = went (locals_walk k headed l) (λ local. fine (started local.known headed.specified local)) next e in
       let local = one.value in
-      let rl = locals_right k state.known h sorts right headed l local refl own one.first in
+      let rl = locals_right k state.known headed.specified sorts right headed l local refl own one.first in
       let now = later_state bodies k local.known (h.name ∷ []) state rl.known rl.later rl.same in
       subst (λ (n : Progress). Stepped k n 1 h.name) (same_value one.rest) (record {
         begun = h.name ∷ [];
-        at = inside local.known (record { heading = h; local = local }) now (record {
+        at = inside local.known (record { specified = headed.specified; local = local }) now (record {
           known = refl;
           is = ap (λ hs. found (headings_named hs) h.name) rl.same.headings ∙ is;
-          none = ap (λ hs. found (headings_named hs) h.name) rl.same.awaited ∙ none;
+          none = ap (λ ss. found (specified_named ss) h.name) rl.same.awaited ∙ none;
           sorts = sorts;
           constants = rl.constants;
           own = rl.own;
-          right = heading_later k.program local.known.program state.known.program rl.later h sorts right;
+          right = specified_later k.program local.known.program state.known.program rl.later headed.specified sorts right;
           there = rl.there;
           differ = rl.differ;
         });
@@ -254,45 +256,45 @@ module _ (bodies : List Symbol) where
   no_heading_no_wait : (k : Known) (x : Symbol) → RightState bodies k [] → heading_at k x ≡ None → awaited_at k x ≡ None
   no_heading_no_wait k x state none = by_awaited (awaited_at k x) refl
     where
-      by_awaited : (o : Option Heading) → awaited_at k x ≡ o → awaited_at k x ≡ None
+      by_awaited : (o : Option Specified) → awaited_at k x ≡ o → awaited_at k x ≡ None
       by_awaited None e = e
-      by_awaited (Some g) e = absurd (nothing_there (sym none ∙ state.awaited x g e))
+      by_awaited (Some s) e = absurd (nothing_there (sym none ∙ (state.awaited x s e).is))
 
   first_right : (k : Known) (h : HeadingText) (c : Clauses) (l : Locals) (next : Progress) → RightState bodies k []
       → begin_first bodies k h c l ≡ Ok next → Stepped k next 1 (heading_name h.form).symbol
   first_right k h c l next state e =
-      let one = went (first_heading bodies k h c) (λ headed. begun_of (with_heading k headed.heading) headed l) next e in
+      let one = went (first_heading bodies k h c) (λ headed. begun_of (with_heading k headed.specified.heading) headed l) next e in
       let headed = one.value in
       let n = new_right k h c headed state.known one.first in
-      let none = free_heading k headed.heading.name n.free in
+      let none = free_heading k headed.specified.heading.name n.free in
       subst (λ x. Stepped k next 1 x) n.right.name
-      (again_from k next headed.heading.name headed.heading
-      (begun_right (with_heading k headed.heading) headed l next n.right.sorts
-      (begun_state bodies k headed.heading n.right.sorts state n.free n.right.right n.number) (new_heading k headed.heading none)
-      (no_heading_no_wait k headed.heading.name state none) n.right.right n.right.own one.rest))
+      (again_from k next headed.specified.heading.name headed.specified.heading
+      (begun_right (with_heading k headed.specified.heading) headed l next n.right.sorts
+      (begun_state bodies k headed.specified n.right.sorts state n.free n.right.right n.number)
+      (new_heading k headed.specified.heading none)
+      (no_heading_no_wait k headed.specified.heading.name state none) n.right.right n.right.own one.rest))
     where
       again_from : (k : Known) (next : Progress) (x : Symbol) (g : Heading) → Stepped (with_heading k g) next 1 x → Stepped k next 1 x
       again_from k next x g s = record { begun = s.begun; at = s.at; routines = s.routines; is = s.is }
 
-  again_right : (k : Known) (first : Heading) (h : HeadingText) (c : Clauses) (l : Locals) (next : Progress) → RightState bodies k []
+  again_right : (k : Known) (first : Specified) (h : HeadingText) (c : Clauses) (l : Locals) (next : Progress) → RightState bodies k []
       → awaited_at k (heading_name h.form).symbol ≡ Some first → begin_again k first h c l ≡ Ok next
       → Stepped k next 1 (heading_name h.form).symbol
   again_right k first h c l next state waits e =
       let x = (heading_name h.form).symbol in
-      let name : first.name ≡ x = found_name (λ (g : Heading). g.name) k.awaited x first waits in
-      let here : awaited_at k first.name ≡ Some first = ap (awaited_at k) name ∙ waits in
-      let rest = with_awaited k (without k.awaited first.name) in
-      let headed : Headed = record { heading = first; own = walk.heading_names rest first } in
-      let test = is_bare_form first.is_function h.form && is_bare c in
+      let name : first.heading.name ≡ x = found_name (λ (s : Specified). s.heading.name) k.awaited x first waits in
+      let here : awaited_at k first.heading.name ≡ Some first = ap (awaited_at k) name ∙ waits in
+      let rest = with_awaited k (without k.awaited first.heading.name) in
+      let headed : Headed = record { specified = first; own = walk.heading_names rest first } in
+      let test = is_bare_form first.heading.is_function h.form && is_bare c in
       let step = begun_of rest headed l in
-      let again = again_state bodies k first state here in
-      let is = state.awaited first.name first here in
-      let g = state.headings.each first.name first is in
-      let s = begun_right rest headed l next g.sorts again is (without_same k.awaited first.name) g.right
+      let again = again_state bodies k first.heading.name first state here in
+      let g = state.awaited first.heading.name first here in
+      let s = begun_right rest headed l next g.sorts again g.is (without_same k.awaited first.heading.name) g.right
       (own_again rest first g.sorts again.known.names g.right) (behind_test test (twice_at h) step next e) in
       subst (λ y. Stepped k next 1 y) name (record { begun = s.begun; at = s.at; routines = s.routines; is = s.is })
 
-  begin_right : (k : Known) (h : HeadingText) (c : Clauses) (l : Locals) (o : Option Heading) (next : Progress) → RightState bodies k []
+  begin_right : (k : Known) (h : HeadingText) (c : Clauses) (l : Locals) (o : Option Specified) (next : Progress) → RightState bodies k []
       → awaited_at k (heading_name h.form).symbol ≡ o → begin bodies k h c l o ≡ Ok next → Stepped k next 1 (heading_name h.form).symbol
   begin_right k h c l None next state waits e = first_right k h c l next state e
   begin_right k h c l (Some first) next state waits e = again_right k first h c l next state waits e
@@ -301,13 +303,14 @@ module _ (bodies : List Symbol) where
     at : AtMark next 0 []
     routines : routine_names next.known ≡ routine_names k ++ name ∷ []
 
-  end_right : (k : Known) (b : Begun) (t : tree.Block) (next : Progress) → RightState bodies k (b.heading.name ∷ []) → RightBegun k b
-      → end_body k (Some b) t ≡ Ok next → EndedAt k b.heading.name next
+  end_right : (k : Known) (b : Begun) (t : tree.Block) (next : Progress)
+      → RightState bodies k (b.specified.heading.name ∷ []) → RightBegun k b → end_body k (Some b) t ≡ Ok next
+      → EndedAt k b.specified.heading.name next
   end_right k b t next state begun e =
-      let h = b.heading in
-      let made = λ (s : Statement). fine (waiting (with_one k (with_body h b.local.variables s))) in
+      let h = b.specified.heading in
+      let made = λ (s : Statement). fine (waiting (with_one k (with_body b.specified b.local.variables s))) in
       let one = went (block_walk (body_setting h b.local) t) made next e in
-      let c = with_body h b.local.variables one.value in
+      let c = with_body b.specified b.local.variables one.value in
       subst (EndedAt k h.name) (same_value one.rest) (record {
         at = between (with_one k c) (ended_state bodies k h c state refl begun.is begun.none refl refl refl
             (body_ok bodies k b t one.value state begun one.first));
@@ -349,5 +352,5 @@ module _ (bodies : List Symbol) where
       e in
       let s = end_right k b t one.value state right one.first in
       marks_right marks one.value 0 [] end s.at (right_true (block_ok t) _ ok)
-      (all ∙ (sym (append_assoc (routine_names k) (b.heading.name ∷ []) (names_of_bodies marks))
+      (all ∙ (sym (append_assoc (routine_names k) (b.specified.heading.name ∷ []) (names_of_bodies marks))
       ∙ ap (λ ns. ns ++ names_of_bodies marks) (sym s.routines))) one.rest

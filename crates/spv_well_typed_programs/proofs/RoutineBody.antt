@@ -23,7 +23,7 @@ use Rattle.spv_program.specs.Frames.{lists}
 use Rattle.spv_program.specs.FormulaTypes.{annotation_ok}
 use Rattle.spv_program.specs.Typing.{statement_ok, may_count, may_be_initial, variables_among, result_ok, heading_ok, routine_ok}
 use Rattle.spv_program.proofs.SortFacts.{nothing_there, some_is}
-use Rattle.spv_typing.specs.Known.{Heading, Meaning, OfConstant, OfPlace, OfStart, OfRoutine, Names, named, Known, Scope, meaning}
+use Rattle.spv_typing.specs.Known.{Heading, Specified, Meaning, OfConstant, OfPlace, OfStart, OfRoutine, Names, named, Known, Scope, meaning}
 use Rattle.spv_typing.specs.RoutineWalk.{in_routine, result_names, Local, body_setting, with_body}
 use Rattle.spv_typing.specs.RoutineWalk as walk
 use Rattle.spv_typing.specs.ExpressionWalk.{is_this}
@@ -37,22 +37,23 @@ use Rattle.spv_well_typed_programs.proofs.Items.{all_map}
 use Rattle.spv_well_typed_programs.proofs.Naming.{heading_names, headings_named}
 use Rattle.spv_well_typed_programs.proofs.Declaring.{all_there, all_longer, all_append, RightProgram, RightKnown}
 use Rattle.spv_well_typed_programs.proofs.Seeing.{is_place as is_a_place, is_start as is_a_start, routine_meant, type_in, sort_in, named_told, Sees, OwnPlain, plain_append, plain_places, plain_starts, named_none, symbol_there, place_case, sees_alike}
-use Rattle.spv_well_typed_programs.proofs.Headings.{formal_types, IsStart, start_formal, start_variable, start_class, Starts, starts_none, starts_more, starts_keys, items_in, all_in_range, sorts_in_range, starts_in_range, result_in_range, RightHeading, sorts_same, variables_same, heading_later}
+use Rattle.spv_well_typed_programs.proofs.Headings.{formal_types, IsStart, start_formal, start_variable, start_class, Starts, starts_none, starts_more, starts_keys, items_in, all_in_range, sorts_in_range, starts_in_range, result_in_range, RightHeading, RightSpecified, sorts_same, variables_same, specified_later}
 use Rattle.spv_well_typed_programs.proofs.Sharing.{any_items, variable_any}
 use Rattle.spv_well_typed_programs.proofs.HeadingWalk.{own_place, variable_no_routine}
 use Rattle.spv_well_typed_programs.proofs.ClauseWalk.{own_of, OwnNone, own_none, own_plain}
 use Rattle.spv_well_typed_programs.proofs.Bodies.{Final, HeadingsKnown, known_program, program_grows, known_grows, items_known, same_routine, belongs}
 
 -- what is known where a body begins
-pub record Begins (k : Known) (h : Heading) (sorts : List (Symbol × Sort)) (constants : List (Symbol × ℤ))
+pub record Begins (k : Known) (s : Specified) (sorts : List (Symbol × Sort)) (constants : List (Symbol × ℤ))
     (locals : List (Symbol × TypeId)) : Type 0 where
   pub known : RightKnown k
   pub headings : HeadingsKnown k
-  pub heading : RightHeading k.program h sorts
-  pub itself : found (headings_named k.headings) h.name ≡ Some h
+  pub specified : RightSpecified k.program s sorts
+  pub itself : found (headings_named k.headings) s.heading.name ≡ Some s.heading
   pub there : all_there k.program.forms locals ≡ true
-  pub differ : names_differ (h.name
-      ∷ (keys (formal_types h.formals) ++ (keys h.initial ++ (keys locals ++ variables_among (items_in h.globals))))) ≡ true
+  pub differ : names_differ (s.heading.name
+      ∷ (keys (formal_types s.heading.formals)
+      ++ (keys s.initial ++ (keys locals ++ variables_among (items_in s.heading.globals))))) ≡ true
 
 pub keys_headings : (hs : List Heading) → keys (headings_named hs) ≡ heading_names hs
 keys_headings [] = refl
@@ -78,9 +79,12 @@ second_true : (a b : Bool) → a ≡ false → (a || b) ≡ true → b ≡ true
 second_true true b e h = absurd (false≢true (sym e))
 second_true false b e h = h
 
-module _ (k : Known) (h : Heading) (sorts : List (Symbol × Sort)) (constants : List (Symbol × ℤ)) (locals : List (Symbol × TypeId))
-    (begins : Begins k h sorts constants locals)
+module _ (k : Known) (given : Specified) (sorts : List (Symbol × Sort)) (constants : List (Symbol × ℤ)) (locals : List (Symbol × TypeId))
+    (begins : Begins k given sorts constants locals)
     (p : Program) (final : Final k p) (body : Statement) where
+  abbrev h : Heading
+  h = given.heading
+
   abbrev F : List (Symbol × TypeId)
   F = formal_types h.formals
 
@@ -91,7 +95,7 @@ module _ (k : Known) (h : Heading) (sorts : List (Symbol × Sort)) (constants : 
   R = result_name h.name h.result
 
   abbrev pub r : Routine
-  r = with_body h locals body
+  r = with_body given locals body
 
   abbrev q : Program
   q = known_program k p
@@ -99,13 +103,16 @@ module _ (k : Known) (h : Heading) (sorts : List (Symbol × Sort)) (constants : 
   right : RightProgram k.program
   right = begins.known.program
 
-  heading : RightHeading k.program h sorts
-  heading = begins.heading
+  specified : RightSpecified k.program given sorts
+  specified = begins.specified
+
+  heading : RightHeading k.program h
+  heading = begins.specified.heading
 
   -- ---- names that differ
 
   abbrev others : List Symbol
-  others = keys F ++ (keys h.initial ++ (keys locals ++ G))
+  others = keys F ++ (keys given.initial ++ (keys locals ++ G))
 
   other_name : (x : Symbol) → list_any (same_name x) others ≡ true → same_name h.name x ≡ false
   other_name x e =
@@ -117,26 +124,27 @@ module _ (k : Known) (h : Heading) (sorts : List (Symbol × Sort)) (constants : 
   tail_differ : names_differ others ≡ true
   tail_differ = right_true (not (list_any (same_name h.name) others)) _ begins.differ
 
-  starts_rest : Apart same_name name-refl same_names (keys h.initial) (keys locals ++ G)
-  starts_rest = differ_apart same_name name-refl same_names (keys h.initial) (keys locals ++ G)
-      (differ_rest same_name name-refl same_names (keys F) (keys h.initial ++ (keys locals ++ G)) tail_differ)
+  starts_rest : Apart same_name name-refl same_names (keys given.initial) (keys locals ++ G)
+  starts_rest = differ_apart same_name name-refl same_names (keys given.initial) (keys locals ++ G)
+      (differ_rest same_name name-refl same_names (keys F) (keys given.initial ++ (keys locals ++ G)) tail_differ)
 
   formal_name : (x : Symbol) (t : TypeId) → found F x ≡ Some t → same_name h.name x ≡ false
   formal_name x t e =
-      other_name x (list_any-append (same_name x) (keys F) (keys h.initial ++ (keys locals ++ G))
+      other_name x (list_any-append (same_name x) (keys F) (keys given.initial ++ (keys locals ++ G))
       ∙ or_left (list_any (same_name x) (keys F)) _ (found_key F x t e))
 
-  behind_formals : (x : Symbol) → list_any (same_name x) (keys h.initial ++ (keys locals ++ G)) ≡ true → same_name h.name x ≡ false
+  behind_formals : (x : Symbol) → list_any (same_name x) (keys given.initial ++ (keys locals ++ G)) ≡ true → same_name h.name x ≡ false
   behind_formals x e = other_name x
-      (list_any-append (same_name x) (keys F) (keys h.initial ++ (keys locals ++ G)) ∙ or_right (list_any (same_name x) (keys F)) _ e)
+      (list_any-append (same_name x) (keys F) (keys given.initial ++ (keys locals ++ G)) ∙ or_right (list_any (same_name x) (keys F)) _ e)
 
-  start_key : (x : Symbol) (s : Sort) → found sorts x ≡ Some s → list_any (same_name x) (keys h.initial) ≡ true
-  start_key x s e = ap (list_any (same_name x)) (sym (starts_keys k.program F h.initial sorts heading.are_starts)) ∙ found_key sorts x s e
+  start_key : (x : Symbol) (s : Sort) → found sorts x ≡ Some s → list_any (same_name x) (keys given.initial) ≡ true
+  start_key x s e = ap (list_any (same_name x)) (sym (starts_keys k.program F given.initial sorts specified.are_starts))
+      ∙ found_key sorts x s e
 
   start_name : (x : Symbol) (s : Sort) → found sorts x ≡ Some s → same_name h.name x ≡ false
   start_name x s e =
-      behind_formals x (list_any-append (same_name x) (keys h.initial) (keys locals ++ G)
-      ∙ or_left (list_any (same_name x) (keys h.initial)) _ (start_key x s e))
+      behind_formals x (list_any-append (same_name x) (keys given.initial) (keys locals ++ G)
+      ∙ or_left (list_any (same_name x) (keys given.initial)) _ (start_key x s e))
 
   start_no_local : (x : Symbol) (s : Sort) → found sorts x ≡ Some s → found locals x ≡ None
   start_no_local x s e =
@@ -145,20 +153,20 @@ module _ (k : Known) (h : Heading) (sorts : List (Symbol × Sort)) (constants : 
 
   local_name : (x : Symbol) (t : TypeId) → found locals x ≡ Some t → same_name h.name x ≡ false
   local_name x t e =
-      behind_formals x (list_any-append (same_name x) (keys h.initial) (keys locals ++ G)
-      ∙ or_right (list_any (same_name x) (keys h.initial)) _
+      behind_formals x (list_any-append (same_name x) (keys given.initial) (keys locals ++ G)
+      ∙ or_right (list_any (same_name x) (keys given.initial)) _
       (list_any-append (same_name x) (keys locals) G ∙ or_left (list_any (same_name x) (keys locals)) _ (found_key locals x t e)))
 
   shared_name : (x : Symbol) → list_any (same_name x) G ≡ true → same_name h.name x ≡ false
   shared_name x e =
-      behind_formals x (list_any-append (same_name x) (keys h.initial) (keys locals ++ G)
-      ∙ or_right (list_any (same_name x) (keys h.initial)) _
+      behind_formals x (list_any-append (same_name x) (keys given.initial) (keys locals ++ G)
+      ∙ or_right (list_any (same_name x) (keys given.initial)) _
       (list_any-append (same_name x) (keys locals) G ∙ or_right (list_any (same_name x) (keys locals)) _ e))
 
   shared_no_local : (x : Symbol) → list_any (same_name x) G ≡ true → found locals x ≡ None
   shared_no_local x e =
-      let rest = differ_rest same_name name-refl same_names (keys h.initial) (keys locals ++ G)
-      (differ_rest same_name name-refl same_names (keys F) (keys h.initial ++ (keys locals ++ G)) tail_differ) in
+      let rest = differ_rest same_name name-refl same_names (keys given.initial) (keys locals ++ G)
+      (differ_rest same_name name-refl same_names (keys F) (keys given.initial ++ (keys locals ++ G)) tail_differ) in
       let away = differ_apart same_name name-refl same_names (keys locals) G rest in
       found_none locals x (by_test (list_any (same_name x) (keys locals)) (list_any (same_name x) (keys locals) ≡ false)
       (λ i. absurd (false≢true (sym (away.apart x i) ∙ e))) (λ i. i))
@@ -229,7 +237,7 @@ module _ (k : Known) (h : Heading) (sorts : List (Symbol × Sort)) (constants : 
       subst (OwnMeant x) same (own_is_local t (named_none OfPlace F x no_formal) i)))
 
   starts_range : all_in_range k.program sorts ≡ true
-  starts_range = starts_in_range k.program F h.initial sorts right.forms heading.are_starts
+  starts_range = starts_in_range k.program F given.initial sorts right.forms specified.are_starts
 
   plain : OwnPlain k.program own
   plain = own_plain k.program F sorts constants locals heading.formals (plain_starts k.program sorts starts_range) begins.there
@@ -286,7 +294,7 @@ module _ (k : Known) (h : Heading) (sorts : List (Symbol × Sort)) (constants : 
       let at : found R h.name ≡ Some t = ap (λ o. found (result_name h.name o) h.name) result ∙ result_at_name h.name t in
       let no_formal : found F h.name ≡ None =
       found_none F h.name (left_false (list_any (same_name h.name) (keys F)) _
-      (sym (list_any-append (same_name h.name) (keys F) (keys h.initial ++ (keys locals ++ G)))
+      (sym (list_any-append (same_name h.name) (keys F) (keys given.initial ++ (keys locals ++ G)))
       ∙ not_true (list_any (same_name h.name) others) (left_true _ _ begins.differ))) in
       subst (λ y. name_type q (Some r) y ≡ Some t) is
       (ap (λ o. first_of o (found p.variables h.name)) (own_result_found h.name t no_formal at))
@@ -388,7 +396,7 @@ module _ (k : Known) (h : Heading) (sorts : List (Symbol × Sort)) (constants : 
       let no_formal : found F x ≡ None =
       subst (λ y. found F y ≡ None) is
       (found_none F h.name (left_false (list_any (same_name h.name) (keys F)) _
-      (sym (list_any-append (same_name h.name) (keys F) (keys h.initial ++ (keys locals ++ G)))
+      (sym (list_any-append (same_name h.name) (keys F) (keys given.initial ++ (keys locals ++ G)))
       ∙ not_true (list_any (same_name h.name) others) (left_true _ _ begins.differ)))) in
       front_own x t (own_result_found x t no_formal e)
 
@@ -408,8 +416,8 @@ module _ (k : Known) (h : Heading) (sorts : List (Symbol × Sort)) (constants : 
 
   -- ---- the sorts of INITIAL names
 
-  now : RightHeading p h sorts
-  now = heading_later k.program p right final.later h sorts heading
+  now : RightSpecified p given sorts
+  now = specified_later k.program p right final.later given sorts specified
 
   listed_variable : (x : Symbol) → lists h.globals (Variable x) true ≡ true → list_any (same_name x) G ≡ true
   listed_variable x e = sym (any_items (Variable x) h.globals ∙ variable_any x (items_in h.globals)) ∙ weaker h.globals e
@@ -456,7 +464,7 @@ module _ (k : Known) (h : Heading) (sorts : List (Symbol × Sort)) (constants : 
       ∙ ap (λ l. pair y s ∷ l) (all_sorts js us (right_true (walk.may_be_initial h.formals h.globals i) _ may) rest)
 
   initial_sorts : initial_names p (Some r) ≡ sorts
-  initial_sorts = all_sorts h.initial sorts heading.initial now.are_starts
+  initial_sorts = all_sorts given.initial sorts specified.initial now.are_starts
 
   body_names : body_scope p (Some r) ≡ front ++ with_sorts_of k.program k.program.variables
   body_names =
@@ -521,18 +529,18 @@ module _ (k : Known) (h : Heading) (sorts : List (Symbol × Sort)) (constants : 
   heading_fits : heading_ok p r ≡ true
   heading_fits =
       both_true (sym (all_map (λ (n : Symbol × TypeId). type_exists p.forms n.1) (λ (f : Formal). pair f.name f.of) h.formals)
-      ∙ now.formals)
-      (both_true (result_fits h.result now.result now.plain_result)
+      ∙ now.heading.formals)
+      (both_true (result_fits h.result now.heading.result now.heading.plain_result)
       (both_true (all_longer k.program.forms p.forms locals final.later.forms begins.there)
-      (both_true now.globals
-      (both_true now.globals_differ
-      (both_true (all_may h.initial now.initial)
-      (ap (λ l. names_differ (h.name ∷ (l ++ (keys h.initial ++ (keys locals ++ G))))) (sym (names_of_formals h.formals))
+      (both_true now.heading.globals
+      (both_true now.heading.globals_differ
+      (both_true (all_may given.initial now.initial)
+      (ap (λ l. names_differ (h.name ∷ (l ++ (keys given.initial ++ (keys locals ++ G))))) (sym (names_of_formals h.formals))
       ∙ begins.differ))))))
 
   pub routine_right : statement_ok p (Some r) body ≡ true → routine_ok p r ≡ true
   routine_right done =
       both_true heading_fits
       (both_true now.entry
-      (both_true (ap (λ l. annotation_ok p (with_sorts_of p F ++ (with_sorts_of p R ++ (l ++ with_sorts_of p p.variables))) h.exit)
+      (both_true (ap (λ l. annotation_ok p (with_sorts_of p F ++ (with_sorts_of p R ++ (l ++ with_sorts_of p p.variables))) given.exit)
       initial_sorts ∙ now.exit) done))

@@ -25,7 +25,7 @@ use Rattle.spv_program.specs.Scopes.{name_type, with_sorts_of, body_scope}
 use Rattle.spv_program.specs.Typing.{statement_ok, routine_ok, well_typed}
 use Rattle.spv_program.proofs.SortFacts.{nothing_there, some_is}
 use Rattle.spv_typing.specs.Outcomes.{after, if_there, each}
-use Rattle.spv_typing.specs.Known.{KnownNames, Heading, OfPlace, Known, at_top, meaning}
+use Rattle.spv_typing.specs.Known.{KnownNames, Heading, Specified, OfPlace, Known, at_top, meaning}
 use Rattle.spv_typing.specs.Merging.{first_where}
 use Rattle.spv_typing.specs.DeclarationWalk.{declarations_walk}
 use Rattle.spv_typing.specs.FormulaWalk.{annotation}
@@ -48,7 +48,7 @@ use Rattle.spv_well_typed_programs.proofs.HeadingWalk.{noted_ok}
 use Rattle.spv_well_typed_programs.proofs.Statements.{statements_are_well_typed}
 use Rattle.spv_well_typed_programs.proofs.Bodies.{HasBody, Final, known_program, program_grows, known_grows, items_known, same_routine, belongs}
 use Rattle.spv_well_typed_programs.proofs.RoutineBody.{keys_headings}
-use Rattle.spv_well_typed_programs.proofs.States.{heading_at, routine_names, Has, still_awaited, just_begun, is_done, RightState}
+use Rattle.spv_well_typed_programs.proofs.States.{heading_at, routine_names, specified_named, Has, still_awaited, just_begun, is_done, RightState}
 use Rattle.spv_well_typed_programs.proofs.Marks.{between, marks_right}
 
 -- ---- routines by their numbers
@@ -98,7 +98,7 @@ first_state bodies k right routines headings awaited = record {
   known = right;
   headings = record { each = λ x g e. absurd (no_heading x g e) };
   numbers = λ x g e. absurd (no_heading x g e);
-  awaited = λ x g e. absurd (nothing_there (sym (ap (λ hs. found (headings_named hs) x) awaited) ∙ e));
+  awaited = λ x s e. absurd (nothing_there (sym (ap (λ ss. found (specified_named ss) x) awaited) ∙ e));
   routines = λ i c e. absurd (nothing_there (sym (ap (λ cs. item_at cs i) routines) ∙ e));
   has = λ x g e. absurd (no_heading x g e);
   differ = ap (λ cs. names_differ (map routine_name cs ++ [])) routines;
@@ -145,7 +145,7 @@ module _ (start : KnownNames) (bodies : List Symbol) (k : Known) (state : RightS
   }
     where
       has_body : (x : Symbol) (g : Heading) → heading_at k x ≡ Some g → Has k [] x g → HasBody (with_main start k.program m) g
-      has_body x g f (still_awaited e) = absurd (nothing_there (sym (ap (λ hs. found (headings_named hs) x) none) ∙ e))
+      has_body x g f (still_awaited s is e) = absurd (nothing_there (sym (ap (λ ss. found (specified_named ss) x) none) ∙ e))
       has_body x g f (just_begun e) = absurd (false≢true e)
       has_body x g f (is_done e) =
           let name : g.name ≡ x = found_name (λ (h : Heading). h.name) k.headings x g f in
@@ -267,7 +267,7 @@ all_read start d marks k end declared ok e =
     (ap (λ cs. map routine_name cs ++ bodies) (sym same.routines)) one.first in
     subst AllRead (same_value one.rest) (record { bodies = bodies; state = r.state; all = r.all })
 
-no_one_waits : (hs : List Heading) (b : Bool) → none_awaited hs ≡ Ok b → hs ≡ []
+no_one_waits : (hs : List Specified) (b : Bool) → none_awaited hs ≡ Ok b → hs ≡ []
 no_one_waits [] b e = refl
 no_one_waits (h ∷ hs) b e = absurd (no_fault e)
 
