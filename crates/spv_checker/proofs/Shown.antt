@@ -7,16 +7,16 @@ use Rattle.spv_logic.specs.Formulas.{equation}
 use Rattle.spv_logic.specs.Conditions.{Sequent}
 use Rattle.spv_term.specs.Arena.{Arena, tree}
 use Rattle.spv_atoms.specs.declared.proofs.Relation.TheVariants.{Equal}
-use Rattle.spv_proof.specs.Sums.{refutes}
 use Rattle.spv_proof.specs.Effects.{adds_if}
 use Rattle.spv_proof.specs.Stops.{Halt}
 use Rattle.spv_proof.specs.Outcomes.{Trial, Does, Halts, does_unless, first_halt, only_where}
 use Rattle.spv_sums.specs.declared.reading.Claim.{Claim}
 use Rattle.spv_sums.specs.Readings.{number_in}
+use Rattle.spv_sums.specs.Added.{halt_of_claim, is_shown}
 use Rattle.spv_checker.specs.declared.stops.CheckStop.{CheckStop}
 use Rattle.spv_checker.specs.declared.stops.CheckStop.TheVariants.{Wide, Form, Size, Memory}
 use Rattle.spv_checker.specs.Ends.{halt_at, IsTrialStop}
-use Rattle.spv_checker.specs.Shown.{linear_trial, halt_of_claim, IsSumStop}
+use Rattle.spv_checker.specs.Shown.{linear_trial, IsSumStop}
 
 -- ---- two sums
 
@@ -52,9 +52,6 @@ module _ (a : Arena) (c : Sequent) (facts : List TermId) (l r : TermId) (first s
   abbrev shown : Arena → Term
   shown b = equation (tree b l) (tree b r)
 
-  abbrev refuted : Arena → Claim → List (Fraction × ℕ) → Bool
-  refuted b d multiples = refutes (number_in b) (map (tree b) facts) (tree b d.left) (tree b d.right) multiples
-
   abbrev trial : Trial
   trial = linear_trial a c facts (Equal l r) first second
 
@@ -62,40 +59,40 @@ module _ (a : Arena) (c : Sequent) (facts : List TermId) (l r : TermId) (first s
   pub record FirstShows (n b : Bool) : Type 0 where
     pub are_numbers : n ≡ (number_in a (tree a l) && number_in a (tree a r))
     pub numbers : n ≡ true
-    pub value : b ≡ refuted a claim first
+    pub value : b ≡ is_shown a facts claim first
     pub is_shown : b ≡ true
-    pub unstopped : halt_of_claim a facts (shown a) claim first ≡ None
+    pub unstopped : halt_of_claim a facts claim first a.most (shown a) ≡ None
 
   module _ (n b : Bool) (one : FirstShows n b) where
     numbered : (number_in a (tree a l) && number_in a (tree a r)) ≡ true
     numbered = sym one.are_numbers ∙ one.numbers
 
-    shows_first : refuted a claim first ≡ true
+    shows_first : is_shown a facts claim first ≡ true
     shows_first = sym one.value ∙ one.is_shown
 
-    here-comes : (s : Bool) → s ≡ refuted a back second → halt_of_claim a facts (shown a) back second ≡ None → trial ≡ Does (adds_if s (shown a))
+    here-comes : (s : Bool) → s ≡ is_shown a facts back second → halt_of_claim a facts back second a.most (shown a) ≡ None → trial ≡ Does (adds_if s (shown a))
     here-comes s is none =
-        both_made (number_in a (tree a l)) (number_in a (tree a r)) (halt_of_claim a facts (shown a) claim first) (halt_of_claim a facts (shown a) back second) (refuted a claim first) (refuted a back second) (shown a)
+        both_made (number_in a (tree a l)) (number_in a (tree a r)) (halt_of_claim a facts claim first a.most (shown a)) (halt_of_claim a facts back second a.most (shown a)) (is_shown a facts claim first) (is_shown a facts back second) (shown a)
         numbered one.unstopped shows_first none
         ∙ ap (λ s. Does (adds_if s (shown a))) (sym is)
 
-    pub equal_comes : (now : Arena) → now ≡ a → (s : Bool) → s ≡ refuted now back second → halt_of_claim now facts (shown now) back second ≡ None → trial ≡ Does (adds_if s (shown a))
+    pub equal_comes : (now : Arena) → now ≡ a → (s : Bool) → s ≡ is_shown now facts back second → halt_of_claim now facts back second now.most (shown now) ≡ None → trial ≡ Does (adds_if s (shown a))
     equal_comes now same s is none =
-        here-comes s (is ∙ ap (λ w. refuted w back second) same) (ap (λ w. halt_of_claim w facts (shown w) back second) (sym same) ∙ none)
+        here-comes s (is ∙ ap (λ w. is_shown w facts back second) same) (ap (λ w. halt_of_claim w facts back second w.most (shown w)) (sym same) ∙ none)
 
-    here-stops : (new : Arena) (e : CheckStop) → IsSumStop a new e (halt_of_claim a facts (shown a) back second) → IsTrialStop a new e trial
+    here-stops : (new : Arena) (e : CheckStop) → IsSumStop a new e (halt_of_claim a facts back second a.most (shown a)) → IsTrialStop a new e trial
     here-stops new e stop = record { told = by_stop e stop; form = stop.form; unchanged = stop.unchanged }
       where
-        halted : (x : Halt) → halt_of_claim a facts (shown a) back second ≡ Some x → trial ≡ Halts x
+        halted : (x : Halt) → halt_of_claim a facts back second a.most (shown a) ≡ Some x → trial ≡ Halts x
         halted x is =
-            second_halts (number_in a (tree a l)) (number_in a (tree a r)) (halt_of_claim a facts (shown a) claim first) (halt_of_claim a facts (shown a) back second) (refuted a claim first) (refuted a back second) (shown a) x
+            second_halts (number_in a (tree a l)) (number_in a (tree a r)) (halt_of_claim a facts claim first a.most (shown a)) (halt_of_claim a facts back second a.most (shown a)) (is_shown a facts claim first) (is_shown a facts back second) (shown a) x
             numbered one.unstopped shows_first is
 
-        by_stop : (e : CheckStop) → IsSumStop a new e (halt_of_claim a facts (shown a) back second) → IfSome (halt_at new e) (λ h. trial ≡ Halts h)
+        by_stop : (e : CheckStop) → IsSumStop a new e (halt_of_claim a facts back second a.most (shown a)) → IfSome (halt_at new e) (λ h. trial ≡ Halts h)
         by_stop (Wide op x y) s = halted _ s.told
         by_stop (Form t) s = halted _ s.told
         by_stop Size s = halted _ s.told
         by_stop Memory s = tt
 
-    pub equal_stops : (now new : Arena) (e : CheckStop) → now ≡ a → IsSumStop now new e (halt_of_claim now facts (shown now) back second) → IsTrialStop a new e trial
-    equal_stops now new e same stop = here-stops new e (subst (λ (w : Arena). IsSumStop w new e (halt_of_claim w facts (shown w) back second)) same stop)
+    pub equal_stops : (now new : Arena) (e : CheckStop) → now ≡ a → IsSumStop now new e (halt_of_claim now facts back second now.most (shown now)) → IsTrialStop a new e trial
+    equal_stops now new e same stop = here-stops new e (subst (λ (w : Arena). IsSumStop w new e (halt_of_claim w facts back second w.most (shown w))) same stop)

@@ -2,16 +2,13 @@
 use Rattle.std.specs.Prelude.{◌≡◌, ℕ, List, map, Option, Some, IfSome}
 use Rattle.spv_whole.specs.Fraction.{Fraction}
 use Rattle.spv_logic.specs.declared.conditions.TermId.{TermId}
-use Rattle.spv_logic.specs.Terms.{Term}
 use Rattle.spv_logic.specs.Conditions.{Sequent}
 use Rattle.spv_term.specs.Arena.{Arena, tree, trees_of}
 use Rattle.spv_atoms.specs.declared.proofs.Relation.{Relation}
 use Rattle.spv_proof.specs.Effects as effects
-use Rattle.spv_proof.specs.Stops.{Halt, halt_in}
+use Rattle.spv_proof.specs.Stops.{Halt}
 use Rattle.spv_proof.specs.Outcomes.{Trial, does_unless, halt_of_sums}
 use Rattle.spv_proof_steps.specs.Steps.{asked}
-use Rattle.spv_sums.specs.declared.reading.Claim.{Claim}
-use Rattle.spv_sums.specs.Readings.{number_in}
 use Rattle.spv_checker.specs.declared.stops.CheckStop.{CheckStop}
 use Rattle.spv_checker.specs.declared.stops.CheckStop.TheVariants.{Memory}
 use Rattle.spv_checker.specs.Ends.{halt_at, FormIn}
@@ -20,10 +17,6 @@ use Rattle.spv_checker.specs.Ends.{halt_at, FormIn}
 abbrev pub linear_trial : Arena → Sequent → List TermId → Relation → List (Fraction × ℕ) → List (Fraction × ℕ) → Trial
 linear_trial a c facts r first second =
     does_unless (halt_of_sums a.most (asked a c) (trees_of a.nodes) (map (tree a) facts) r first second) (effects.linear (asked a c) (map (tree a) facts) r first second)
-
--- what stops the sum that is to show a claim, in a step that adds `shown`
-abbrev pub halt_of_claim : Arena → List TermId → Term → Claim → List (Fraction × ℕ) → Option Halt
-halt_of_claim a facts shown c multiples = halt_in (number_in a) a.most (trees_of a.nodes) (map (tree a) facts) shown (tree a c.left) (tree a c.right) multiples
 
 -- an error is how a sum halts; for want of memory the arena is as it was
 pub record IsSumStop (old new : Arena) (e : CheckStop) (o : Option Halt) : Type 0 where

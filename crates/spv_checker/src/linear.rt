@@ -4,15 +4,14 @@ ghost use Rattle.std.specs.Prelude.{◌≡◌, ◌<◌, map, length, None, IfOk,
 ghost use Rattle.spv_logic.specs.Conditions.{Sequent};
 ghost use Rattle.spv_term.specs.Arena.{Extends, AllBelow, IsArena, tree, trees_of};
 ghost use Rattle.spv_atoms.specs.declared.proofs.Relation.TheVariants as shown;
-ghost use Rattle.spv_proof.specs.Sums as sums;
 ghost use Rattle.spv_proof.specs.Effects as spec;
 ghost use Rattle.spv_proof.specs.Outcomes.{Does, does_unless, halt_of_sums};
 ghost use Rattle.spv_proof.specs.Stand.{RelationIn};
 ghost use Rattle.spv_proof_steps.specs.Steps.{fact_of, FactStands, effect_of, MayAdd, asked};
-ghost use Rattle.spv_sums.specs.Readings.{number_in, ClaimIn};
-ghost use Rattle.spv_sums.specs.Added.{fault_halt, FaultIn};
+ghost use Rattle.spv_sums.specs.Readings.{ClaimIn};
+ghost use Rattle.spv_sums.specs.Added.{fault_halt, FaultIn, halt_of_claim, is_shown};
 ghost use Rattle.spv_checker.specs.Ends.{IsTrialStop};
-ghost use Rattle.spv_checker.specs.Shown.{linear_trial, halt_of_claim, IsSumStop};
+ghost use Rattle.spv_checker.specs.Shown.{linear_trial, IsSumStop};
 
 use crate::casing::are_numbers;
 use crate::keeping::make;
@@ -55,12 +54,12 @@ fn shows(
     requires facts { AllBelow (length terms.old.nodes) facts.now }
     requires relation { FactStands terms.old relation }
     requires claim { ClaimIn terms.old claim }
-    ensures value { IfOk result (λ b. b ≡ sums.refutes (number_in terms.old) (map (tree terms.old) facts.now)
-        (tree terms.old claim.left) (tree terms.old claim.right) multiples.now) }
-    ensures unstopped { OnOk result (halt_of_claim terms.old facts.now (fact_of terms.old relation) claim multiples.now ≡ None) }
+    ensures value { IfOk result (λ b. b ≡ is_shown terms.old facts.now claim multiples.now) }
+    ensures unstopped { OnOk result
+        (halt_of_claim terms.old facts.now claim multiples.now terms.old.most (fact_of terms.old relation) ≡ None) }
     ensures same { OnOk result (terms.new ≡ terms.old) }
     ensures stop { IfErr result (λ e. IsSumStop terms.old terms.new e
-        (halt_of_claim terms.old facts.now (fact_of terms.old relation) claim multiples.now)) }
+        (halt_of_claim terms.old facts.now claim multiples.now terms.old.most (fact_of terms.old relation))) }
     ensures grows { Extends terms.old terms.new }
 {
     match refutes(alloc, terms, facts, claim, multiples) {
@@ -80,8 +79,8 @@ fn at_most(
 ) -> Result<Effect, CheckStop>
     requires facts { AllBelow (length terms.old.nodes) facts.now }
     requires claim { ClaimIn terms.old claim }
-    ensures value { IfOk result (λ e. (c : Sequent) → linear_trial terms.old c facts.now (shown.AtMost claim.left claim.right) first.now second.now
-        ≡ Does (effect_of terms.old e)) }
+    ensures value { IfOk result (λ e. (c : Sequent)
+        → linear_trial terms.old c facts.now (shown.AtMost claim.left claim.right) first.now second.now ≡ Does (effect_of terms.old e)) }
     ensures may { IfOk result (MayAdd terms.old) }
     ensures same { OnOk result (terms.new ≡ terms.old) }
     ensures stop { IfErr result (λ e. (c : Sequent) → IsTrialStop terms.old terms.new e
@@ -113,8 +112,8 @@ fn equal(
 ) -> Result<Effect, CheckStop>
     requires facts { AllBelow (length terms.old.nodes) facts.now }
     requires claim { ClaimIn terms.old claim }
-    ensures value { IfOk result (λ e. (c : Sequent) → linear_trial terms.old c facts.now (shown.Equal claim.left claim.right) first.now second.now
-        ≡ Does (effect_of terms.old e)) }
+    ensures value { IfOk result (λ e. (c : Sequent)
+        → linear_trial terms.old c facts.now (shown.Equal claim.left claim.right) first.now second.now ≡ Does (effect_of terms.old e)) }
     ensures may { IfOk result (MayAdd terms.old) }
     ensures same { OnOk result (terms.new ≡ terms.old) }
     ensures stop { IfErr result (λ e. (c : Sequent) → IsTrialStop terms.old terms.new e
@@ -151,12 +150,14 @@ pub(crate) fn linear(
     requires facts { AllBelow (length terms.old.nodes) facts.now }
     requires relation { RelationIn terms.old relation }
     ensures value { IfOk result (λ e. (c : Sequent) →
-        does_unless (halt_of_sums terms.old.most (asked terms.old c) (trees_of terms.old.nodes) (map (tree terms.old) facts.now) relation first.now second.now)
+        does_unless (halt_of_sums terms.old.most (asked terms.old c) (trees_of terms.old.nodes) (map (tree terms.old) facts.now)
+        relation first.now second.now)
         (spec.linear (asked terms.old c) (map (tree terms.old) facts.now) relation first.now second.now) ≡ Does (effect_of terms.old e)) }
     ensures may { IfOk result (MayAdd terms.old) }
     ensures same { OnOk result (terms.new ≡ terms.old) }
     ensures stop { IfErr result (λ e. (c : Sequent) → IsTrialStop terms.old terms.new e
-        (does_unless (halt_of_sums terms.old.most (asked terms.old c) (trees_of terms.old.nodes) (map (tree terms.old) facts.now) relation first.now second.now)
+        (does_unless (halt_of_sums terms.old.most (asked terms.old c) (trees_of terms.old.nodes) (map (tree terms.old) facts.now)
+        relation first.now second.now)
         (spec.linear (asked terms.old c) (map (tree terms.old) facts.now) relation first.now second.now))) }
     ensures grows { Extends terms.old terms.new }
 {

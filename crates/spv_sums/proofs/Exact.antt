@@ -1,24 +1,22 @@
 -- A sum in fractions, where nothing stops it, is the exact sum.
-use Rattle.std.proofs.Common.{◌≡◌, Bool, true, false, cond, ◌&&◌, ◌||◌, List, [], ◌∷◌, ℤ, pos, refl, sym, ap, ◌∙◌, subst, Option, Some, None}
+use Rattle.std.proofs.Common.{◌≡◌, Bool, true, false, cond, ◌&&◌, ◌||◌, List, [], ◌∷◌, ℤ, pos, refl, sym, ap, ◌∙◌, subst}
 use Rattle.std.specs.List.{list_all}
 use Rattle.std.specs.Ordering.{int_eq}
-use Rattle.std.specs.Int.RustNames.{int_lt}
 use Rattle.std.proofs.lemmas.Bool.{false≢true}
-use mathlib.Core.Path.{ap₂}
 use Rattle.spv_list.proofs.Tests.{left_true, right_true}
 use Rattle.spv_whole.specs.Fraction.{Fraction}
 use Rattle.spv_whole.specs.Fraction as fraction
 use Rattle.spv_whole.proofs.Arithmetic.{product_comm}
 use Rattle.spv_frac.specs.declared.frac.Op.TheVariants.{Add, Mul}
 use Rattle.spv_frac.specs.Range.{op_fits}
-use Rattle.spv_rational.specs.Rational.{Rational, whole, number, plus, times, is_zero, is_positive}
+use Rattle.spv_rational.specs.Rational.{Rational, whole, plus, times, is_zero}
 use Rattle.spv_rational.proofs.Field.{plus_zero, zero_plus, times_zero}
 use Rattle.spv_logic.specs.Terms.{Term, term_eq}
 use Rattle.spv_logic.proofs.Equality.{term_eq-true, term_eq-refl}
 use Rattle.spv_atoms.specs.Forms.{Form, with_part, with_parts}
 use Rattle.spv_atoms.specs.Linear.{coefficient}
 use Rattle.spv_atoms.proofs.Coefficients.{AreDifferent, has_part, none_listed}
-use Rattle.spv_proof.specs.Sums.{Combination, add_form, is_above_zero}
+use Rattle.spv_proof.specs.Sums.{Combination, add_form}
 use Rattle.spv_proof.specs.Stops.{Halt, Partial, Tally, Stands, Ended, Halted, then_tally, operate, add_number, factor_of, with_factor, with_constant, add_parts}
 use Rattle.spv_sums.specs.Partials.{has_term, AreOnce, IsExact}
 use Rattle.spv_sums.specs.Added.{add_ordered}
@@ -168,8 +166,8 @@ parts-stand known m (p ∷ parts) s new y d h o e =
     let k = stood (add_number known m.fraction (factor_of (fraction.whole (pos 0)) s.parts p.0) p.1) (λ f. add_parts known m.fraction parts (with_factor s p.0 f)) new e in
     let number : k.value ≡ (plus (y p.0) (times m (whole p.1))).fraction = number-stands known m (y p.0) p.1 k.value (ap (λ f. add_number known m.fraction f p.1) (sym (h p.0)) ∙ k.first) in
     let later = parts-stand known m parts (with_factor s p.0 k.value) new (λ x. cond (term_eq p.0 x) (plus (y x) (times m (whole p.1))) (y x)) d.1
-        (λ x. part-factor (fraction.whole (pos 0)) (λ old now. now) (λ n. refl) p.0 k.value s.parts x ∙ by_case x (term_eq p.0 x) refl k.value number)
-        (part-once (fraction.whole (pos 0)) (λ old now. now) (λ n. refl) p.0 k.value s.parts o) k.rest in
+    (λ x. part-factor (fraction.whole (pos 0)) (λ old now. now) (λ n. refl) p.0 k.value s.parts x ∙ by_case x (term_eq p.0 x) refl k.value number)
+    (part-once (fraction.whole (pos 0)) (λ old now. now) (λ n. refl) p.0 k.value s.parts o) k.rest in
     record {
       factors = λ x. later.factors x ∙ ap (λ (z : Rational). z.fraction) (first-more m p parts x (y x) d);
       constant = later.constant;
@@ -191,7 +189,7 @@ exact-added known m f exact s new c d k same constant is e =
     let second = stood (add_number known m.fraction first.value.constant f.constant) (λ z. Stands (with_constant first.value z)) new first.rest in
     let at : first.value.constant ≡ c.constant.fraction = parts.constant ∙ is.constant in
     let number : second.value ≡ (plus c.constant (times m (whole f.constant))).fraction =
-        number-stands known m c.constant f.constant second.value (ap (λ z. add_number known m.fraction z f.constant) (sym at) ∙ second.first) in
+    number-stands known m c.constant f.constant second.value (ap (λ z. add_number known m.fraction z f.constant) (sym at) ∙ second.first) in
     let made : with_constant first.value second.value ≡ new = cc in
     subst (λ (r : Partial). IsExact r (add_form m exact c)) made (record {
       factors = λ x. parts.factors x ∙ ap (λ (z : Rational). z.fraction)

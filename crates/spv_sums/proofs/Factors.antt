@@ -1,10 +1,10 @@
 -- Sums over ids, and what they are over the terms of an arena.
-use Rattle.std.proofs.Common.{◌≡◌, ◌<◌, Bool, true, false, cond, ◌&&◌, List, [], ◌∷◌, map, length, pos, refl, sym, ap, ◌∙◌, unwrap_or, Some}
+use Rattle.std.proofs.Common.{◌≡◌, ◌<◌, Bool, true, false, cond, List, [], ◌∷◌, length, pos, refl, sym, ap, ◌∙◌, unwrap_or, Some}
 use Rattle.std.specs.Map.{lookup}
 use Rattle.indexmap.specs.IndexMap.{insert_entry}
 use Rattle.spv_whole.specs.Fraction.{Fraction, whole}
 use Rattle.spv_logic.specs.declared.conditions.TermId.{TermId}
-use Rattle.spv_logic.specs.Terms.{Term, term_eq}
+use Rattle.spv_logic.specs.Terms.{term_eq}
 use Rattle.spv_term.specs.Arena.{Arena, IsArena, tree}
 use Rattle.spv_atoms.specs.Order.{same_id}
 use Rattle.spv_atoms.specs.Forms.{with_part}

@@ -1,7 +1,7 @@
 -- The difference of two terms, from the difference of their forms over ids.
 use Rattle.std.proofs.Common.{◌≡◌, ℕ, zero, suc, ◌<◌, ◌≤◌, Bool, true, false, cond, ◌&&◌, List, [], ◌∷◌, length, ℤ, pos, negsuc, ◌+ℤ◌, ◌*ℤ◌, nat_eq, refl, sym, ap, ◌∙◌, subst, Option, Some, None, inl, inr, arith}
 use mathlib.Core.Path.{ap₂}
-use Rattle.std.proofs.lemmas.Bool.{false≢true, cases_lt, eqb-true}
+use Rattle.std.proofs.lemmas.Bool.{cases_lt, eqb-true}
 use Rattle.std.proofs.lemmas.Bool.Decides.{nat_tests}
 use Rattle.spv_logic.specs.declared.conditions.TermId.{TermId}
 use Rattle.spv_logic.specs.Terms.{Term, term, no_terms, terms, term_eq}
@@ -9,13 +9,13 @@ use Rattle.spv_logic.specs.declared.operators.Head.TheVariants.{Sub}
 use Rattle.spv_logic.proofs.Equality.{term_eq-true}
 use Rattle.spv_term.specs.Arena.{Arena, IsArena, tree}
 use Rattle.spv_frac.specs.Range.{fits}
-use Rattle.spv_atoms.specs.Forms.{Form, minus, form, form_fits, is_narrow}
+use Rattle.spv_atoms.specs.Forms.{form, form_fits, is_narrow}
 use Rattle.spv_atoms.specs.Linear.{coefficient, IsSameForm, IdForm, coefficient_at, ArePartsFrom, IsIdForm, PartsIn, over_trees, form_over, IsFormOf}
 use Rattle.spv_atoms.proofs.Coefficients.{AreDifferent, minus-coefficient, form-different, both_true, same-fits, not-all-fit}
 use Rattle.spv_atoms.proofs.Forming.{out-of-range, id-form-fits, over-at}
 use Rattle.spv_proof.specs.Sums.{difference}
 use Rattle.spv_proof.specs.Stops.{is_measured}
-use Rattle.spv_sums.specs.Differences.{more, IsDifferenceWith, IsWideWith, IsDifferenceForm, IsNarrowForm, IsOver, IsMeasureOf, IsMeasure}
+use Rattle.spv_sums.specs.Differences.{more, IsDifferenceWith, IsWideWith, IsDifferenceForm, IsNarrowForm, IsMeasureOf, IsMeasure}
 
 -- ---- where a term stands
 

@@ -16,20 +16,20 @@ use Rattle.spv_logic.specs.declared.operators.Head.TheVariants.{Num, Sub}
 use Rattle.spv_logic.specs.Terms.{Term, term, no_terms, terms, term_eq}
 use Rattle.spv_term.specs.Arena.{Arena, IsArena, tree, trees_of}
 use Rattle.spv_atoms.specs.Forms.{Form}
-use Rattle.spv_atoms.specs.Linear.{IdForm, IsIdForm, IsPart, ArePartsFrom, PartsIn, over_trees, form_over}
+use Rattle.spv_atoms.specs.Linear.{IdForm, IsIdForm, ArePartsFrom, PartsIn, over_trees, form_over}
 use Rattle.spv_atoms.proofs.Coefficients.{has_part, AreDifferent, form-different}
 use Rattle.spv_atoms.proofs.Walks.{term_eq-ids}
-use Rattle.spv_proof.specs.Sums.{Reading, Combination, nothing, difference, add_form, may_multiply, add_reading, then_add, sum_of, shows_above_zero, refutes}
+use Rattle.spv_proof.specs.Sums.{Combination, nothing, difference, add_form, may_multiply, add_reading, then_add, sum_of, shows_above_zero, refutes}
 use Rattle.spv_proof.specs.Stops.{Halt, Source, Partial, empty, Tally, Stands, Ended, Halted, then_tally, in_order, add_multiple, add_source, add_all, denied, halt_of}
 use Rattle.spv_proof.specs.Stops as stops
 use Rattle.spv_sums.specs.declared.fault.SumFault.{SumFault}
 use Rattle.spv_sums.specs.declared.fault.SumFault.TheVariants as fault
 use Rattle.spv_sums.specs.declared.reading.Claim.{Claim}
 use Rattle.spv_sums.specs.declared.reading.Cited.{Cited}
-use Rattle.spv_sums.specs.Differences.{more, IsOver, IsMeasureOf}
-use Rattle.spv_sums.specs.Readings.{number_in, halt_in, reading_in, source_in, CitedIn, NamedIn, source_of, reading_of, denial}
+use Rattle.spv_sums.specs.Differences.{more, IsMeasureOf}
+use Rattle.spv_sums.specs.Readings.{number_in, halt_in, reading_in, source_in, source_of, reading_of, denial}
 use Rattle.spv_sums.specs.Partials.{IdSum, sum_over, FactorsIn, IsExact, is_above_zero, factors_over}
-use Rattle.spv_sums.specs.Added.{HaltsAs, FaultIn, fault_halt, tally_of, SumsTo, only_if, add_ordered, AddsForm, StopsForm, IsAdded, IsSummed, StopsAt, StopsSum}
+use Rattle.spv_sums.specs.Added.{FaultIn, fault_halt, add_ordered, AddsForm, StopsForm, IsAdded, IsSummed, StopsAt, StopsSum}
 use Rattle.spv_sums.proofs.Ordered.{ordered-over}
 use Rattle.spv_sums.proofs.Relations.{reading-source}
 use Rattle.spv_sums.proofs.Exact.{exact-added, exact-zeros}
@@ -134,12 +134,14 @@ module _ (a : Arena) (ok : IsArena a) (facts : List TermId) (c : Claim) (m : Fra
         pub multiple_added : (new : IdSum) → FactorsIn a old.parts → AddsForm m f old new → IsAdded a facts c m k old new true
         multiple_added new i adds = record {
           tally = λ most shown. becomes most shown ∙ stands;
-          exact = λ d e.
-              (add_form (number m) exact_form d, exactly d ∙ ap (λ b. cond b (Some (add_form (number m) exact_form d)) None) may,
-              exact-added (trees_of a.nodes) (number m) (form_over a f) exact_form (sum_over a old) (sum_over a new) d
-              (over-different a ok 0 f.parts form.parts measure.over.in_range) (form-different (term Sub (terms x (terms y no_terms))))
-              measure.over.same.parts measure.over.same.constant e
-              (ap (λ n. add_ordered (trees_of a.nodes) n (form_over a f) (sum_over a old)) (number_is m lowest) ∙ stands));
+          exact = λ d e. (
+            add_form (number m) exact_form d,
+            exactly d ∙ ap (λ b. cond b (Some (add_form (number m) exact_form d)) None) may,
+            exact-added (trees_of a.nodes) (number m) (form_over a f) exact_form (sum_over a old) (sum_over a new) d
+                (over-different a ok 0 f.parts form.parts measure.over.in_range) (form-different (term Sub (terms x (terms y no_terms))))
+                measure.over.same.parts measure.over.same.constant e
+                (ap (λ n. add_ordered (trees_of a.nodes) n (form_over a f) (sum_over a old)) (number_is m lowest) ∙ stands),
+          );
           in_range = adds.in_range a measure.over.in_range i;
         }
           where
@@ -217,10 +219,6 @@ summing_done a facts c multiples now at h s = summing_ends a facts c multiples n
 
 -- ---- whether a sum shows a claim
 
-shown_by : Option IdSum → Bool
-shown_by None = false
-shown_by (Some s) = is_above_zero s
-
 values-over : (a : Arena) (parts : List (TermId × Fraction)) → list_all (λ (f : Fraction). int_eq f.num (pos 0)) (values_of parts) ≡ list_all (λ (p : Term × Fraction). int_eq p.1.num (pos 0)) (factors_over a parts)
 values-over a [] = refl
 values-over a (p ∷ parts) = ap (λ b. int_eq p.1.num (pos 0) && b) (values-over a parts)
@@ -231,10 +229,6 @@ sum_shows a facts c multiples s summed =
     let d = summed.exact in
     ap (λ b. b && int_lt (pos 0) s.constant.num) (values-over a s.parts ∙ exact-zeros (sum_over a s) d.0 d.2)
     ∙ (ap (λ (f : Fraction). list_all (λ (p : Term × Rational). rational.is_zero p.1) d.0.parts && int_lt (pos 0) f.num) d.2.constant ∙ ap shows_above_zero (sym d.1))
-
-pub none_shows : (a : Arena) (facts : List TermId) (c : Claim) (multiples : List (Fraction × ℕ)) → IsSummed a facts c multiples None
-    → false ≡ refutes (number_in a) (map (tree a) facts) (tree a c.left) (tree a c.right) multiples
-none_shows a facts c multiples summed = ap shows_above_zero (sym summed.exact)
 
 pub unstopped : (a : Arena) (facts : List TermId) (c : Claim) (multiples : List (Fraction × ℕ)) (s : Option IdSum) → IsSummed a facts c multiples s → (most : ℕ) (shown : Term)
     → stops.halt_in (number_in a) most (trees_of a.nodes) (map (tree a) facts) shown (tree a c.left) (tree a c.right) multiples ≡ None

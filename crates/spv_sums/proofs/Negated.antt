@@ -3,7 +3,6 @@ use Rattle.std.proofs.Common.{◌≡◌, ℕ, zero, suc, ◌+◌, ◌<◌, Bool,
 use mathlib.Core.Path.{ap₂}
 use mir.Val.{to_z, of_z}
 use mir.Syntax.{w128}
-use Rattle.std.specs.Option.{option_map}
 use Rattle.std.specs.Int.RustNames.{int_lt}
 use Rattle.std.proofs.lemmas.Bool.Decides.{nat_tests}
 use Rattle.std.proofs.lemmas.Int.{ints}
@@ -11,10 +10,10 @@ use Rattle.std.proofs.lemmas.Bool.{false≢true}
 use Rattle.std.proofs.lemmas.Option.{same_Some}
 use Rattle.spv_logic.specs.declared.conditions.TermId.{TermId}
 use Rattle.spv_frac.specs.Range.{fits}
-use Rattle.spv_atoms.specs.Linear.{IdForm, IsIdForm, coefficient_at, IsPart, ArePartsFrom}
-use Rattle.spv_atoms.specs.Sums.{number_in_front, behind, lesser_id, least_id, with_number, AreSummed, IsWideAt, SummedParts}
+use Rattle.spv_atoms.specs.Linear.{IdForm, IsIdForm, coefficient_at, ArePartsFrom}
+use Rattle.spv_atoms.specs.Sums.{number_in_front, behind, lesser_id, least_id, with_number, IsWideAt, SummedParts}
 use Rattle.spv_atoms.proofs.Sums.{Summing, summing_less, summing_step, summing_wide, narrow, front-fits}
-use Rattle.spv_sums.specs.Differences.{more, IsConstant, negated_parts, IsDifferenceWith, IsWideWith, IsDifferenceForm}
+use Rattle.spv_sums.specs.Differences.{more, IsConstant, negated_parts, IsDifferenceWith, IsWideWith}
 
 -- ---- numbers
 
@@ -131,9 +130,6 @@ module _ (left right out l r : List (TermId × ℤ)) (s : Summing left (negated_
       let first : length l' ≡ length (behind l t) = ap length lb in
       omega (arith, less, all, rest, first)
 
-  pub left-fits : (t : TermId) (x : ℤ) → x ≡ number_in_front l t → fits x ≡ true
-  left-fits t x e = ap fits e ∙ front-fits s.low l t s.left_from
-
   right_from : ArePartsFrom s.low r
   right_from = un-negated s.low r s.right_from
     where
@@ -142,9 +138,10 @@ module _ (left right out l r : List (TermId × ℤ)) (s : Summing left (negated_
 
       un-negated : (low : ℕ) (parts : List (TermId × ℤ)) → ArePartsFrom low (negated_parts parts) → ArePartsFrom low parts
       un-negated low [] h = tt
-      un-negated low (p ∷ parts) h =
-          (record { order = h.0.order; nonzero = λ e. h.0.nonzero (ap (λ z. negsuc 0 *ℤ z) e ∙ sym times_zero); fits = ap fits (sym (back p.1)) ∙ negated-fits (negsuc 0 *ℤ p.1) h.0.fits },
-          un-negated (suc p.0.0) parts h.1)
+      un-negated low (p ∷ parts) h = (
+        record { order = h.0.order; nonzero = λ e. h.0.nonzero (ap (λ z. negsuc 0 *ℤ z) e ∙ sym times_zero); fits = ap fits (sym (back p.1)) ∙ negated-fits (negsuc 0 *ℤ p.1) h.0.fits },
+        un-negated (suc p.0.0) parts h.1,
+      )
 
   pub right-fits : (t : TermId) (x : ℤ) → x ≡ number_in_front r t → fits x ≡ true
   right-fits t x e = ap fits e ∙ front-fits s.low r t right_from

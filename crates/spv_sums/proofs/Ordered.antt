@@ -1,21 +1,19 @@
 -- The parts of a form in the order of the terms of an arena.
-use Rattle.std.proofs.Common.{◌≡◌, ◌≢◌, ℕ, zero, suc, ◌+◌, ◌<◌, ◌≤◌, Bool, true, false, cond, List, [], ◌∷◌, ◌++◌, length, drop, get_or, slice_index_or, ℤ, pos, negsuc, ◌+ℤ◌, ◌*ℤ◌, nat_eq, refl, sym, ap, ◌∙◌, subst, Option, Some, None, inl, inr, arith}
+use Rattle.std.proofs.Common.{◌≡◌, ◌≢◌, ℕ, zero, suc, ◌+◌, ◌<◌, ◌≤◌, Bool, true, false, cond, List, [], ◌∷◌, ◌++◌, length, drop, get_or, ℤ, pos, nat_eq, refl, sym, ap, ◌∙◌, subst, arith}
 use Rattle.std.specs.Ordering.{int_eq}
-use Rattle.std.proofs.lemmas.Bool.{false≢true, eqb-true}
+use Rattle.std.proofs.lemmas.Bool.{eqb-true}
 use Rattle.std.proofs.lemmas.Bool.Decides.{nat_tests}
 use Rattle.std.proofs.lemmas.List.{drop_more, drop_all}
 use Rattle.spv_logic.specs.declared.conditions.TermId.{TermId}
 use Rattle.spv_logic.specs.declared.operators.Head.TheVariants.{Num}
 use Rattle.spv_logic.specs.Terms.{Term, term, no_terms, term_eq}
-use Rattle.spv_logic.proofs.Equality.{int_eq-true, term_eq-true}
+use Rattle.spv_logic.proofs.Equality.{int_eq-true}
 use Rattle.spv_term.specs.Arena.{Arena, IsArena, tree, trees_of}
 use Rattle.spv_term.proofs.TreeLemmas.{length-trees_of}
-use Rattle.spv_atoms.specs.Forms.{Form}
-use Rattle.spv_atoms.specs.Linear.{coefficient, coefficient_at, IsPart, ArePartsFrom, PartsIn, over_trees}
+use Rattle.spv_atoms.specs.Linear.{coefficient, coefficient_at, ArePartsFrom, PartsIn, over_trees}
 use Rattle.spv_atoms.proofs.Sums.{not-from}
 use Rattle.spv_atoms.proofs.Forming.{over-at}
 use Rattle.spv_proof.specs.Stops.{factor_of, in_order}
-use Rattle.spv_sums.specs.Differences.{IsOver}
 
 factor-coefficient : (parts : List (Term × ℤ)) (x : Term) → factor_of (pos 0) parts x ≡ coefficient parts x
 factor-coefficient [] x = refl
@@ -36,9 +34,6 @@ above n m k e = grind (arith, nat_tests)
 
 differ : (n m : ℕ) → n < m → nat_eq n m ≡ false
 differ n m h = grind (arith, nat_tests)
-
-same-self : (n : ℕ) → nat_eq n n ≡ true
-same-self n = grind (arith, nat_tests)
 
 module _ (a : Arena) (form_parts : List (Term × ℤ)) where
   abbrev known : List Term
@@ -72,7 +67,7 @@ module _ (a : Arena) (form_parts : List (Term × ℤ)) where
       by_case true f =
           let at : p.0.0 ≡ k = nat-same p.0.0 k f in
           let number : factor_of (pos 0) form_parts here ≡ p.1 =
-              factor-coefficient form_parts here ∙ (ap (coefficient form_parts) is ∙ (g k (omega arith) within ∙ ap (λ b. cond b p.1 (coefficient_at parts (id k))) f)) in
+          factor-coefficient form_parts here ∙ (ap (coefficient form_parts) is ∙ (g k (omega arith) within ∙ ap (λ b. cond b p.1 (coefficient_at parts (id k))) f)) in
           one here (pos 0) rest p.1 number
           ∙ (ap (λ b. cond b [] ((here, p.1) ∷ []) ++ in_order form_parts rest) (not-int_eq p.1 (pos 0) h.0.nonzero)
           ∙ (ap (λ ps. (here, p.1) ∷ ps)

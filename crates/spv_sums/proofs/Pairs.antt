@@ -1,5 +1,5 @@
 -- Two terms of a list, where there are two.
-use Rattle.std.proofs.Common.{◌≡◌, ◌≢◌, ℕ, suc, Bool, List, [], ◌∷◌, length, slice_get, ◌<◌, refl, sym, subst, Option, Some, None, arith}
+use Rattle.std.proofs.Common.{◌≡◌, ◌≢◌, Bool, List, [], ◌∷◌, length, slice_get, refl, sym, subst, Some, None}
 use Rattle.spv_logic.specs.declared.conditions.TermId.{TermId}
 use Rattle.spv_logic.specs.Terms.{Term}
 use Rattle.std.specs.Option.{ForSome}
@@ -17,9 +17,6 @@ not-two a is_number (t ∷ u ∷ v ∷ ts) h = refl
 
 pub args-below : (a : Arena) → IsArena a → (t : TermId) (n : Node) → slice_get a.nodes t.0 ≡ Some n → (args : List TermId) → args ≡ n.args → AllBelow (length a.nodes) args
 args-below a ok t n at args e = subst (AllBelow (length a.nodes)) (sym e) (args_in_range a ok t n at)
-
-pub some_in : {T : Type 0} (P : T → Type 0) (x : T) → P x → ForSome (Some x) P
-some_in P x h y e = let same : x ≡ y = cc in subst P same h
 
 pub none_in : {T : Type 0} (P : T → Type 0) → ForSome None P
 none_in P y e = absurd (cc)

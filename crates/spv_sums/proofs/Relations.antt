@@ -1,23 +1,19 @@
 -- What is read of relations, by their heads and the terms that they relate.
-use Rattle.std.proofs.Common.{◌≡◌, ℕ, zero, suc, ◌<◌, Bool, true, false, cond, ◌&&◌, List, length, slice_get, refl, sym, ap, ◌∙◌, Option, Some, None, pos, ℤ}
+use Rattle.std.proofs.Common.{◌≡◌, ℕ, zero, suc, Bool, true, false, cond, ◌&&◌, List, slice_get, refl, sym, ap, ◌∙◌, Option, Some, None}
 use Rattle.std.specs.Option.{option_map}
-use Rattle.std.specs.Int.RustNames.{int_lt}
-use Rattle.spv_list.proofs.Tests.{left_true, right_true}
 use Rattle.spv_logic.specs.declared.conditions.TermId.{TermId}
 use Rattle.spv_logic.specs.declared.operators.Head.{Head}
 use Rattle.spv_logic.specs.declared.operators.Head.TheVariants.{Eq, Lt, Le}
 use Rattle.spv_logic.specs.Terms.{Term, Terms, term}
 use Rattle.spv_term.specs.declared.nodes.Node.{Node}
-use Rattle.spv_term.specs.Arena.{Arena, IsArena, AllBelow, tree, trees, trees_of}
+use Rattle.spv_term.specs.Arena.{Arena, IsArena, tree, trees, trees_of}
 use Rattle.spv_term.proofs.ArenaLemmas.{tree-node}
-use Rattle.spv_proof.specs.Sums.{Reading, Comparison, Equals, IsBelow, IsAtMost, pair, comparison, negated, read_if, reading, read_cited, cited_reading}
+use Rattle.spv_proof.specs.Sums.{Reading, pair, comparison, read_if, reading, read_cited, cited_reading}
 use Rattle.spv_proof.specs.Effects as effects
-use Rattle.spv_proof.specs.Stops.{WideForm, Halt, Source, is_narrow_fact, fact_source, source}
+use Rattle.spv_proof.specs.Stops.{WideForm, Source, is_narrow_fact, fact_source, source}
 use Rattle.spv_proof.specs.Evaluation.{bare}
-use Rattle.spv_proof_steps.specs.Candidates.{pair_of}
-use Rattle.spv_sums.specs.declared.reading.Claim.{Claim}
 use Rattle.spv_sums.specs.declared.reading.Cited.{Cited}
-use Rattle.spv_sums.specs.Readings.{number_in, number_pair, source_in, reading_in, true_source, false_source, related, source_of, reading_of, denial}
+use Rattle.spv_sums.specs.Readings.{number_in, number_pair, source_in, true_source, false_source, related}
 
 -- a reading of a relation as a source
 abbrev with_halt : List Term → Term → Bool → Reading → Source
@@ -129,24 +125,6 @@ module _ (a : Arena) (ok : IsArena a) (t : TermId) (n : Node) (at : slice_get a.
     pub le-false : (most : ℕ) (shown : Term) (c : Cited) → n.head ≡ Le → c ≡ record { left = y; right = x; is_above = true; is_equal = false; relation = Some t }
         → Some (source_in a most shown c) ≡ false_source (number_in a) (trees_of a.nodes) (tree a t) (comparison (tree a t))
     le-false most shown c e is = rw (is, related-here Le e, two.numbers) refl
-
--- ---- facts
-
--- what a fact says, by what it negates
-abbrev by_negated : (Term → Bool) → List Term → Term → Option Term → Option Source
-by_negated is_number known t None = true_source is_number known t (comparison t)
-by_negated is_number known t (Some u) = false_source is_number known u (comparison u)
-
-fact-by : (is_number : Term → Bool) (known : List Term) (t : Term) (o : Option Term) → negated t ≡ o
-    → fact_source is_number known (Some t) ≡ by_negated is_number known t o
-fact-by is_number known t None e = rw e refl
-fact-by is_number known t (Some u) e = rw e refl
-
-pub fact-true : (is_number : Term → Bool) (known : List Term) (t : Term) → None ≡ negated t → true_source is_number known t (comparison t) ≡ fact_source is_number known (Some t)
-fact-true is_number known t e = sym (fact-by is_number known t None (sym e))
-
-pub fact-false : (is_number : Term → Bool) (known : List Term) (t u : Term) → Some u ≡ negated t → false_source is_number known u (comparison u) ≡ fact_source is_number known (Some t)
-fact-false is_number known t u e = sym (fact-by is_number known t (Some u) (sym e))
 
 -- ---- cited numbers
 

@@ -1,23 +1,22 @@
 -- Sums that are made number by number, as the definition makes them.
-use Rattle.std.proofs.Common.{◌≡◌, ℕ, ◌+◌, ◌<◌, ◌≤◌, Bool, true, false, cond, ◌&&◌, List, [], ◌∷◌, map, length, drop, get_or, ℤ, pos, refl, sym, ap, ◌∙◌, subst, Option, Some, None, Result, Ok, Err, IfErr}
+use Rattle.std.proofs.Common.{◌≡◌, ℕ, ◌+◌, ◌<◌, ◌≤◌, true, List, [], ◌∷◌, length, drop, get_or, ℤ, refl, sym, ap, ◌∙◌, subst, Result, Ok, Err, IfErr}
 use mathlib.Core.Path.{ap₂}
 use mir.Val.{to_z, of_z}
 use mir.Syntax.{w128}
 use Rattle.std.specs.Result.{IsErrAnd}
 use Rattle.std.proofs.lemmas.List.{drop_more, drop_all}
-use Rattle.spv_whole.specs.Fraction.{Fraction, whole, sum, product}
-use Rattle.spv_frac.specs.declared.frac.Op.TheVariants.{Add, Mul}
-use Rattle.spv_frac.specs.Range.{fits, op_fits}
+use Rattle.spv_whole.specs.Fraction.{Fraction}
+use Rattle.spv_frac.specs.Range.{fits}
 use Rattle.spv_logic.specs.declared.conditions.TermId.{TermId}
 use Rattle.spv_logic.specs.Terms.{Term}
 use Rattle.spv_term.specs.Arena.{Arena, IsArena, tree, trees_of}
-use Rattle.spv_atoms.specs.Linear.{IdForm, IsPart, ArePartsFrom, PartsIn, over_trees, form_over}
+use Rattle.spv_atoms.specs.Linear.{IdForm, ArePartsFrom, PartsIn, over_trees, form_over}
 use Rattle.spv_atoms.proofs.Sums.{narrow}
-use Rattle.spv_proof.specs.Stops.{WideSum, Halt, Partial, Tally, Stands, Ended, Halted, then_tally, operate, add_number, factor_of, with_factor, with_constant, add_parts}
+use Rattle.spv_proof.specs.Stops.{Halt, Tally, Stands, Halted, then_tally, add_number, with_factor, with_constant, add_parts}
 use Rattle.spv_sums.specs.declared.fault.SumFault.{SumFault}
 use Rattle.spv_sums.specs.declared.fault.SumFault.TheVariants as fault
 use Rattle.spv_sums.specs.Partials.{IdSum, factor_at, with_factor_at, sum_over, FactorsIn}
-use Rattle.spv_sums.specs.Added.{HaltsAs, fault_halt, add_ordered, AddsParts, StopsParts, AddsForm, StopsForm}
+use Rattle.spv_sums.specs.Added.{HaltsAs, add_ordered, AddsParts, StopsParts, AddsForm, StopsForm}
 use Rattle.spv_sums.proofs.Factors.{factor-over, sum-with, with-factor-in}
 
 -- ---- faults
@@ -29,39 +28,6 @@ halts-too a (fault.Wide op x y) t u way h = record { told = λ most shown. way m
 halts-too a (fault.Form r) t u way h = record { told = λ most shown. way most shown _ (h.told most shown); in_range = h.in_range }
 halts-too a fault.Shown t u way h = record { told = λ most shown. way most shown _ (h.told most shown); in_range = h.in_range }
 halts-too a fault.Memory t u way h = record { told = λ most shown. tt; in_range = tt }
-
--- of want of memory nothing is said
-pub no-memory : {T : Type 0} (a : Arena) (e : SumFault) (t : ℕ → Term → Tally T) → e ≡ fault.Memory → HaltsAs a e t
-no-memory a e t is = subst (λ (f : SumFault). HaltsAs a f t) (sym is) (record { told = λ most shown. tt; in_range = tt })
-
--- ---- one number
-
--- both operations fit
-pub number_added : (known : List Term) (m stood p f : Fraction) (n : ℤ) → op_fits Mul (whole n) m ≡ true → p ≡ product (whole n) m → op_fits Add stood p ≡ true → f ≡ sum stood p
-    → add_number known m stood n ≡ Stands f
-number_added known m stood p f n fit is fits_too made =
-    ap (λ b. then_tally (cond b (Stands (product (whole n) m)) (Halted (record { known = known; stop = WideSum Mul (whole n) m }))) (λ q. operate known Add stood q (sum stood q))) fit
-    ∙ (ap (λ q. operate known Add stood q (sum stood q)) (sym is)
-    ∙ (ap (λ b. cond b (Stands (sum stood p)) (Halted (record { known = known; stop = WideSum Add stood p }))) fits_too ∙ ap Stands (sym made)))
-
-pub product_halts : (a : Arena) (m stood w : Fraction) (n : ℤ) → w ≡ whole n → op_fits Mul w m ≡ false → HaltsAs a (fault.Wide Mul w m) (λ most shown. add_number (trees_of a.nodes) m stood n)
-product_halts a m stood w n is wide =
-    subst (λ (v : Fraction). HaltsAs a (fault.Wide Mul v m) (λ most shown. add_number (trees_of a.nodes) m stood n)) (sym is) (record {
-      told = λ most shown.
-          ap (λ b. then_tally (cond b (Stands (product (whole n) m)) (Halted (record { known = trees_of a.nodes; stop = WideSum Mul (whole n) m }))) (λ q. operate (trees_of a.nodes) Add stood q (sum stood q)))
-          (ap (λ v. op_fits Mul v m) (sym is) ∙ wide);
-      in_range = tt;
-    })
-
-pub sum_halts : (a : Arena) (m stood p : Fraction) (n : ℤ) → op_fits Mul (whole n) m ≡ true → p ≡ product (whole n) m → op_fits Add stood p ≡ false
-    → HaltsAs a (fault.Wide Add stood p) (λ most shown. add_number (trees_of a.nodes) m stood n)
-sum_halts a m stood p n fit is wide = record {
-  told = λ most shown.
-      ap (λ b. then_tally (cond b (Stands (product (whole n) m)) (Halted (record { known = trees_of a.nodes; stop = WideSum Mul (whole n) m }))) (λ q. operate (trees_of a.nodes) Add stood q (sum stood q))) fit
-      ∙ (ap (λ q. operate (trees_of a.nodes) Add stood q (sum stood q)) (sym is)
-      ∙ ap (λ b. cond b (Stands (sum stood p)) (Halted (record { known = trees_of a.nodes; stop = WideSum Add stood p }))) wide);
-  in_range = tt;
-}
 
 -- ---- parts
 
@@ -137,19 +103,9 @@ module _ (m : Fraction) (parts : List (TermId × ℤ)) (start now : IdSum) (at :
 pub adding_done : (m : Fraction) (parts : List (TermId × ℤ)) (start now : IdSum) (at : ℕ) → length parts ≤ at → AddingParts m parts (drop at parts) start now → AddsParts m parts start now
 adding_done m parts start now at h s = adding_ends m parts start now (subst (λ (ps : List (TermId × ℤ)). AddingParts m parts ps start now) (drop_all at parts h) s)
 
-pub parts-memory : (m : Fraction) (parts : List (TermId × ℤ)) (start : IdSum) (e : SumFault) → e ≡ fault.Memory → StopsParts m parts start e
-parts-memory m parts start e is = record { halt = λ a ok i k. no-memory a e (λ most shown. add_parts (trees_of a.nodes) m (over_trees a parts) (sum_over a start)) is }
-
 -- ---- forms
 
 module _ (m : Fraction) (f : IdForm) (start : IdSum) where
-  pub form-stops : (e : SumFault) → StopsParts m f.parts start e → StopsForm m f start e
-  form-stops e s = record {
-    halt = λ a ok i k. halts-too a e (λ most shown. add_parts (trees_of a.nodes) m (over_trees a f.parts) (sum_over a start)) (λ most shown. add_ordered (trees_of a.nodes) m (form_over a f) (sum_over a start))
-        (λ most shown h g. ap (λ t. then_tally t (λ r. then_tally (add_number (trees_of a.nodes) m r.constant f.constant) (λ c. Stands (with_constant r c)))) g)
-        (s.halt a ok i k);
-  }
-
   module _ (middle : IdSum) (added : AddsParts m f.parts start middle) where
     constant-stops : (e : SumFault) → ((a : Arena) → HaltsAs a e (λ most shown. add_number (trees_of a.nodes) m middle.constant f.constant)) → StopsForm m f start e
     constant-stops e halts = record {

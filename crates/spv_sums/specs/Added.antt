@@ -7,8 +7,8 @@ use Rattle.spv_logic.specs.Terms.{Term}
 use Rattle.spv_term.specs.Arena.{Arena, IsArena, tree, trees_of}
 use Rattle.spv_atoms.specs.Forms.{Form}
 use Rattle.spv_atoms.specs.Linear.{IdForm, PartsIn, over_trees, form_over}
-use Rattle.spv_proof.specs.Sums.{Combination, nothing, add_reading, sum_of}
-use Rattle.spv_proof.specs.Stops.{WideSum, Halt, Partial, empty, Tally, Stands, Ended, Halted, then_tally, add_number, with_constant, add_parts, add_source, add_all}
+use Rattle.spv_proof.specs.Sums.{Combination, nothing, add_reading, sum_of, refutes}
+use Rattle.spv_proof.specs.Stops.{WideSum, Halt, Partial, empty, Tally, Stands, Ended, Halted, then_tally, add_number, with_constant, add_parts, add_source, add_all, halt_in as halt_in_sum}
 use Rattle.spv_sums.specs.declared.fault.SumFault.{SumFault}
 use Rattle.spv_sums.specs.declared.fault.SumFault.TheVariants as fault
 use Rattle.spv_sums.specs.declared.reading.Claim.{Claim}
@@ -87,3 +87,13 @@ StopsAt a facts c m k old e = HaltsAs a e (λ most shown. add_source (trees_of a
 
 abbrev pub StopsSum : Arena → List TermId → Claim → List (Fraction × ℕ) → SumFault → Type 0
 StopsSum a facts c multiples e = HaltsAs a e (λ most shown. add_all (trees_of a.nodes) (source_of a facts c most shown) multiples empty)
+
+-- ---- what is shown
+
+-- what stops the sum that is to show a claim, in a step that adds `shown`
+abbrev pub halt_of_claim : Arena → List TermId → Claim → List (Fraction × ℕ) → ℕ → Term → Option Halt
+halt_of_claim a facts c multiples most shown = halt_in_sum (number_in a) most (trees_of a.nodes) (map (tree a) facts) shown (tree a c.left) (tree a c.right) multiples
+
+-- whether the multiples contradict that a claim is false
+abbrev pub is_shown : Arena → List TermId → Claim → List (Fraction × ℕ) → Bool
+is_shown a facts c multiples = refutes (number_in a) (map (tree a) facts) (tree a c.left) (tree a c.right) multiples

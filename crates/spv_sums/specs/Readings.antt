@@ -1,5 +1,5 @@
 -- What cited numbers stand for, over the ids of an arena.
-use Rattle.std.specs.Prelude.{◌≡◌, ◌<◌, ℕ, Bool, ◌&&◌, List, map, length, pos, Option, Some, None, if◌then◌else◌}
+use Rattle.std.specs.Prelude.{◌<◌, ℕ, Bool, ◌&&◌, List, map, length, pos, Option, Some, None, if◌then◌else◌}
 use Rattle.std.specs.Option.{option_map}
 use Rattle.spv_logic.specs.declared.conditions.TermId.{TermId}
 use Rattle.spv_logic.specs.Terms.{Term}
@@ -8,7 +8,7 @@ use Rattle.spv_atoms.specs.Atoms as atoms
 use Rattle.spv_logic.specs.declared.operators.Head.{Head}
 use Rattle.spv_logic.specs.declared.operators.Head.TheVariants.{Eq, Lt, Le}
 use Rattle.spv_proof.specs.Sums.{Reading, Comparison, Equals, IsBelow, IsAtMost, relate, difference, is_at_most_zero, read_true, read_false, read_relation, cited_reading}
-use Rattle.spv_proof.specs.Stops.{Stop, WideForm, Halt, is_measured, narrow_true, narrow_false, narrow_by, Source, kept, halt_after, denied, source}
+use Rattle.spv_proof.specs.Stops.{WideForm, Halt, is_measured, narrow_true, narrow_false, narrow_by, Source, kept, halt_after, denied, source}
 use Rattle.spv_sums.specs.declared.reading.Claim.{Claim}
 use Rattle.spv_sums.specs.declared.reading.Cited.{Cited}
 use Rattle.spv_sums.specs.Differences.{more}

@@ -41,13 +41,7 @@ pub struct Cited {
 
 impl Cited {
     // What is read of a relation.
-    fn new(
-        left: TermId,
-        right: TermId,
-        is_above: bool,
-        is_equal: bool,
-        relation: TermId,
-    ) -> Cited
+    fn new(left: TermId, right: TermId, is_above: bool, is_equal: bool, relation: TermId) -> Cited
         ensures { result ≡ record { left = left; right = right; is_above = is_above; is_equal = is_equal; relation = Some relation } }
     {
         Cited {
@@ -150,7 +144,12 @@ fn read(terms: &Terms, t: TermId) -> Option<Cited>
 }
 
 // What a number stands for in a sum that is to show a claim: a fact, or for 0 that the claim is false.
-pub(crate) fn find_cited(terms: &Terms, facts: &[TermId], claim: Claim, number: u32) -> Option<Cited>
+pub(crate) fn find_cited(
+    terms: &Terms,
+    facts: &[TermId],
+    claim: Claim,
+    number: u32,
+) -> Option<Cited>
     requires facts { AllBelow (length terms.now.nodes) facts.now }
     requires claim { ClaimIn terms.now claim }
     ensures value { (most : ℕ) → (shown : Term) → option_map (source_in terms.now most shown) result

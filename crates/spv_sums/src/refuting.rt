@@ -1,12 +1,10 @@
 // Whether sums of multiples show a claim.
 
-ghost use Rattle.std.specs.Prelude.{◌≡◌, ℕ, length, map, None, Some, IfOk, OnOk, IfErr, IfSome};
+ghost use Rattle.std.specs.Prelude.{◌≡◌, ℕ, length, None, Some, IfOk, OnOk, IfErr, IfSome};
 ghost use Rattle.spv_logic.specs.Terms.{Term};
-ghost use Rattle.spv_term.specs.Arena.{AllBelow, tree, trees_of};
-ghost use Rattle.spv_proof.specs.Sums as sums;
-ghost use Rattle.spv_proof.specs.Stops as stops;
-ghost use Rattle.spv_sums.specs.Readings.{number_in, ClaimIn};
-ghost use Rattle.spv_sums.specs.Added.{fault_halt, FaultIn};
+ghost use Rattle.spv_term.specs.Arena.{AllBelow};
+ghost use Rattle.spv_sums.specs.Readings.{ClaimIn};
+ghost use Rattle.spv_sums.specs.Added.{fault_halt, FaultIn, halt_of_claim, is_shown};
 
 use crate::adding::sum_of;
 use crate::fault::SumFault;
@@ -30,12 +28,11 @@ pub fn refutes(
 ) -> Result<bool, SumFault>
     requires facts { AllBelow (length terms.now.nodes) facts.now }
     requires claim { ClaimIn terms.now claim }
-    ensures value { IfOk result (λ b. b
-        ≡ sums.refutes (number_in terms.now) (map (tree terms.now) facts.now) (tree terms.now claim.left) (tree terms.now claim.right) multiples.now) }
+    ensures value { IfOk result (λ b. b ≡ is_shown terms.now facts.now claim multiples.now) }
     ensures unstopped { OnOk result ((most : ℕ) → (shown : Term)
-        → stops.halt_in (number_in terms.now) most (trees_of terms.now.nodes) (map (tree terms.now) facts.now) shown (tree terms.now claim.left) (tree terms.now claim.right) multiples.now ≡ None) }
+        → halt_of_claim terms.now facts.now claim multiples.now most shown ≡ None) }
     ensures stop { IfErr result (λ e. (most : ℕ) → (shown : Term)
-        → IfSome (fault_halt terms.now most shown e) (λ h. stops.halt_in (number_in terms.now) most (trees_of terms.now.nodes) (map (tree terms.now) facts.now) shown (tree terms.now claim.left) (tree terms.now claim.right) multiples.now ≡ Some h)) }
+        → IfSome (fault_halt terms.now most shown e) (λ h. halt_of_claim terms.now facts.now claim multiples.now most shown ≡ Some h)) }
     ensures in_range { IfErr result (FaultIn terms.now) }
 {
     match sum_of(alloc, terms, facts, claim, multiples)? {

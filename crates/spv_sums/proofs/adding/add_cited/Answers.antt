@@ -1,4 +1,4 @@
-use Rattle.std.proofs.Common.{sym, ◌∙◌, refl, Some}
+use Rattle.std.proofs.Common.{sym, ◌∙◌, refl}
 use Rattle.spv_term.specs.Arena.{tree}
 use Rattle.spv_sums.specs.declared.fault.SumFault.{SumFault}
 use Rattle.spv_sums.specs.Added.{StopsAt}

@@ -1,4 +1,4 @@
-use Rattle.std.proofs.Common.{◌<◌, ◌≤◌, length, refl, arith}
+use Rattle.std.proofs.Common.{◌<◌, ◌≤◌, length, arith}
 use Rattle.spv_sums.specs.declared.fault.SumFault.{SumFault}
 use Rattle.spv_sums.specs.Added.{StopsSum}
 use Rattle.spv_sums.proofs.Tallies.{if_same}

@@ -1,4 +1,3 @@
-use Rattle.spv_term.proofs.ArenaLemmas.{args_in_range}
 use Rattle.spv_sums.proofs.Pairs.{args-below, none_in}
 use Rattle.spv_sums.proofs.Relations.{nothing-true, no-truth, eq-true, lt-true, le-true}
 use Rattle.spv_sums.proofs.reading.read_true.Goals as goal
