@@ -101,8 +101,11 @@ fn by_sums(
     first: List<(Frac, u32)>,
     second: List<(Frac, u32)>,
 ) -> Result<Vec<ProofNode>, AllocError>
-    ensures { IfOk result (λ v. v.items ≡ record { steps = Step.Given 1 ∷ Step.Given 2 ∷ Step.Linear relation first second
-        ∷ Step.Given 0 ∷ Step.Contra 3 (Some 4) ∷ []; split = None } ∷ []) }
+    ensures { IfOk result (λ v. v.items ≡ record {
+      steps = Step.Given 1 ∷ Step.Given 2 ∷ Step.Linear relation first second
+          ∷ Step.Given 0 ∷ Step.Contra 3 (Some 4) ∷ [];
+      split = None;
+    } ∷ []) }
 {
     let mut steps = Vec::new(alloc);
     steps.push(Step::Given(1))?;

@@ -28,7 +28,7 @@ pub struct Claim {
 
 /// What a cited number stands for: that left - right, or 1 more, is at most 0, or that it is 0.
 #[derive(Clone, Copy, Debug)]
-pub struct Cited {
+pub(crate) struct Cited {
     pub(crate) left: TermId,
     pub(crate) right: TermId,
     /// Whether it is 1 more.

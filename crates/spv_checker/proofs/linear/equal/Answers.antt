@@ -9,7 +9,7 @@ use Rattle.spv_checker.specs.declared.stops.CheckStop.{CheckStop}
 use Rattle.spv_checker.specs.Ends.{IsTrialStop}
 use Rattle.spv_checker.specs.Shown.{linear_trial}
 use Rattle.spv_checker.proofs.Goings.{if_same}
-use Rattle.spv_checker.proofs.Shown.{FirstShows, equal_comes, equal_stops}
+use Rattle.spv_checker.proofs.Shown.{equal_comes, equal_stops}
 use Rattle.spv_checker.proofs.linear.equal.Goals as goal
 
 pub returns-in_err-shows-2-clause-stop : goal.returns-in_err-shows-2-clause-stop
