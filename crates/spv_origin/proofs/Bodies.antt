@@ -152,7 +152,7 @@ module _ (start : KnownNames) (bodies : List Symbol) where
         → AllAmong bodies k → BodyFrom start p r ls b
 
   abbrev pub routine_of : Headed → Local → Statement → Routine
-  routine_of headed l body = with_body headed.heading l.variables body
+  routine_of headed l body = with_body headed.specified l.variables body
 
   abbrev pub known_behind : Headed → Local → Statement → Known
   known_behind headed l body = with_program l.known (with_routine l.known.program (routine_of headed l body))
@@ -161,18 +161,19 @@ module _ (start : KnownNames) (bodies : List Symbol) where
       (variables : List (Symbol × TypeId)) (constants : List (Symbol × ℤ)) (body : Statement) (p : Program)
       → Ready start bodies (with_forms k forms) → KnowsNames k start p
       → map (λ (r : Routine). r.name) p.routines ≡ bodies → AllAmong bodies k
-      → OwnAs own (((parameter_names headed.heading.formals ++ start_names headed.heading.initial) ++ own_constants constants) ++
-      own_places variables)
-      → block_walk (body_setting headed.heading (record { known = with_forms k forms; own = own; variables = variables })) b ≡ Ok body
-      → Rattle.spv_origin.specs.Statements.BlockFrom (seen start p (Some (with_body headed.heading variables body))
-      (body_names (with_body headed.heading variables body) constants variables))
-      (seen start p (Some (with_body headed.heading variables body))
-      (result_names headed.heading.name headed.heading.result ++ body_names (with_body headed.heading variables body) constants
-      variables)) body b
+      → OwnAs own (((parameter_names headed.specified.heading.formals ++ start_names headed.specified.initial)
+      ++ own_constants constants) ++ own_places variables)
+      → block_walk (body_setting headed.specified.heading (record { known = with_forms k forms; own = own; variables = variables })) b
+      ≡ Ok body
+      → Rattle.spv_origin.specs.Statements.BlockFrom (seen start p (Some (with_body headed.specified variables body))
+      (body_names (with_body headed.specified variables body) constants variables))
+      (seen start p (Some (with_body headed.specified variables body))
+      (result_names headed.specified.heading.name headed.specified.heading.result
+      ++ body_names (with_body headed.specified variables body) constants variables)) body b
   at_body k headed ls b forms own variables constants body p ready knows names_are all alike e =
       let now = with_forms k forms in
-      let h = headed.heading in
-      let r = with_body h variables body in
+      let h = headed.specified.heading in
+      let r = with_body headed.specified variables body in
       let os = body_names r constants variables in
       let known : KnowsNames now start p = record {
         start_is = knows.start_is;
@@ -191,14 +192,15 @@ module _ (start : KnownNames) (bodies : List Symbol) where
       (seen start p (Some r) (result_names h.name h.result ++ os)) inside noted b body e
 
   pub body_done : (k : Known) (headed : Headed) (ls : Locals) (b : tree.Block) (l : Local) (body : Statement) → Ready start bodies k
-      → OwnAs headed.own (parameter_names headed.heading.formals ++ start_names headed.heading.initial) → locals_walk k headed ls ≡ Ok l
-      → block_walk (body_setting headed.heading l) b ≡ Ok body
+      → OwnAs headed.own (parameter_names headed.specified.heading.formals ++ start_names headed.specified.initial)
+      → locals_walk k headed ls ≡ Ok l
+      → block_walk (body_setting headed.specified.heading l) b ≡ Ok body
       → BodyDone k headed ls b (known_behind headed l body) (routine_of headed l body)
   body_done k headed ls b l body ready own e f =
-      let os = parameter_names headed.heading.formals ++ start_names headed.heading.initial in
+      let os = parameter_names headed.specified.heading.formals ++ start_names headed.specified.initial in
       let f0 : There k.program.forms 0 = record { item = Integer; is = (ready.first).zero } in
       let f1 : There k.program.forms 1 = record { item = Boolean; is = (ready.first).one } in
-      let d = locals_done start k headed.heading os headed ls l refl ready.starts own ready.right f0 f1 ready.there e in
+      let d = locals_done start k headed.specified.heading os headed ls l refl ready.starts own ready.right f0 f1 ready.there e in
       let now = with_forms k d.now in
       let ready_now = ready_forms start bodies k d.now ready d.right d.keeps in
       let same : local_of now l.own l.variables ≡ l = ap (λ q. local_of q l.own l.variables) d.known_is in
@@ -231,6 +233,6 @@ module _ (start : KnownNames) (bodies : List Symbol) where
           constants_from = d.constants_from p knows;
           variables_from = d.variables_from p knows (subst (λ (q : Known). Keeps q.program.forms p.forms) (sym d.known_is) keeps);
           body = at_body k headed ls b d.now l.own l.variables d.constants body p ready_now knows names_are all d.alike
-              (ap (λ q. block_walk (body_setting headed.heading q) b) same ∙ f);
+              (ap (λ q. block_walk (body_setting headed.specified.heading q) b) same ∙ f);
         };
       }

@@ -28,13 +28,13 @@ use Rattle.spv_origin.proofs.Headings.{params_come, type_come, ClausesDone, clau
 -- a heading that was read: what it is, and that the routine comes from it, whatever its body
 pub record HeadedFrom (start : KnownNames) (p : Program) (k : Known) (number : RoutineId) (line : ℕ) (c : Clauses) (form : HeadingForm)
     (h : Headed) : Type 0 where
-  pub own : OwnAs h.own (parameter_names h.heading.formals ++ start_names h.heading.initial)
-  pub name_is : h.heading.name ≡ name_of form
-  pub kind_is : h.heading.is_function ≡ is_function_form form
-  pub number_is : h.heading.number ≡ number
+  pub own : OwnAs h.own (parameter_names h.specified.heading.formals ++ start_names h.specified.initial)
+  pub name_is : h.specified.heading.name ≡ name_of form
+  pub kind_is : h.specified.heading.is_function ≡ is_function_form form
+  pub number_is : h.specified.heading.number ≡ number
   pub from : (locals : List (Symbol × TypeId)) (body : Statement)
-      → HeadingFrom start p (with_body h.heading locals body) (record { line = line; form = form }) c
-  pub plain : (t : TypeId) → h.heading.result ≡ Some t → may_be_result (form_at k.program.forms t.0) ≡ true
+      → HeadingFrom start p (with_body h.specified locals body) (record { line = line; form = form }) c
+  pub plain : (t : TypeId) → h.specified.heading.result ≡ Some t → may_be_result (form_at k.program.forms t.0) ≡ true
 
 module _ (start : KnownNames) (p : Program) (k : Known) (knows : KnowsNames k start p) where
   knows_with : (a : Heading) → KnowsNames (with_heading k a) start p
@@ -52,7 +52,7 @@ module _ (start : KnownNames) (p : Program) (k : Known) (knows : KnowsNames k st
 
   headed : (a : Heading) (form : HeadingForm) (line : ℕ) (kind : Bool) (number : RoutineId) (ps : Parameters) (result : Option TypeId)
       (c : Clauses) (h : Headed) → is_function_form form ≡ kind
-      → ((locals : List (Symbol × TypeId)) (body : Statement) → FormFrom start p (with_body h.heading locals body) form)
+      → ((locals : List (Symbol × TypeId)) (body : Statement) → FormFrom start p (with_body h.specified locals body) form)
       → ((t : TypeId) → result ≡ Some t → may_be_result (form_at k.program.forms t.0) ≡ true)
       → ClausesAt a (name_of form) line kind number ps result c h → HeadedFrom start p k number line c form h
   headed a form line kind number ps result c h same from plain done = record {

@@ -70,14 +70,16 @@ formals_map (x ∷ xs) t by line = ap (λ q. record { name = x.symbol; of = t; b
 abbrev headed_of : Symbol → ℕ → Bool → RoutineId → Parameters → Option TypeId → List GlobalItem → Starts → Option Annotation
     → Option Annotation → Headed
 headed_of name line is_function number ps result globals starts entry exit = record {
-  heading = record {
-    name = name;
-    line = line;
-    is_function = is_function;
-    number = number;
-    formals = ps.formals;
-    result = result;
-    globals = globals;
+  specified = record {
+    heading = record {
+      name = name;
+      line = line;
+      is_function = is_function;
+      number = number;
+      formals = ps.formals;
+      result = result;
+      globals = globals;
+    };
     initial = starts.initial;
     entry = entry;
     exit = exit;
@@ -357,18 +359,19 @@ module _ (start : KnownNames) (p : Program) (k : Known) (knows : KnowsNames k st
   -- the heading, all but its parameters and its result
   pub record ClausesDone (name : Symbol) (line : ℕ) (is_function : Bool) (number : RoutineId) (ps : Parameters) (result : Option TypeId)
       (c : Clauses) (h : Headed) : Type 0 where
-    pub own : OwnAs h.own (parameter_names h.heading.formals ++ start_names h.heading.initial)
-    pub name_is : h.heading.name ≡ name
-    pub line_is : h.heading.line ≡ line
-    pub kind_is : h.heading.is_function ≡ is_function
-    pub number_is : h.heading.number ≡ number
-    pub formals_are : h.heading.formals ≡ ps.formals
-    pub result_is : h.heading.result ≡ result
-    pub globals : GlobalsFrom start p h.heading.globals (listed c.globals)
-    pub initial : InitialFrom start p (seen start p None (parameter_names h.heading.formals)) h.heading.initial (listed c.initial)
-    pub entry : IfThere (seen start p None (parameter_names h.heading.formals)) h.heading.entry c.entry
-    pub exit : IfThere (seen start p None (parameter_names h.heading.formals ++ (result_names h.heading.name
-        h.heading.result ++ start_names h.heading.initial))) h.heading.exit c.exit
+    pub own : OwnAs h.own (parameter_names h.specified.heading.formals ++ start_names h.specified.initial)
+    pub name_is : h.specified.heading.name ≡ name
+    pub line_is : h.specified.heading.line ≡ line
+    pub kind_is : h.specified.heading.is_function ≡ is_function
+    pub number_is : h.specified.heading.number ≡ number
+    pub formals_are : h.specified.heading.formals ≡ ps.formals
+    pub result_is : h.specified.heading.result ≡ result
+    pub globals : GlobalsFrom start p h.specified.heading.globals (listed c.globals)
+    pub initial : InitialFrom start p (seen start p None (parameter_names h.specified.heading.formals)) h.specified.initial
+        (listed c.initial)
+    pub entry : IfThere (seen start p None (parameter_names h.specified.heading.formals)) h.specified.entry c.entry
+    pub exit : IfThere (seen start p None (parameter_names h.specified.heading.formals ++ (result_names h.specified.heading.name
+        h.specified.heading.result ++ start_names h.specified.initial))) h.specified.exit c.exit
 
   pub clauses_come : (name : Symbol) (line : ℕ) (is_function : Bool) (number : RoutineId) (ps : Parameters) (result : Option TypeId)
       (c : Clauses) (h : Headed) → OwnAs ps.own (parameter_names ps.formals)

@@ -195,7 +195,7 @@ module _ (start : KnownNames) (k : Known) (h : Heading) where
     pub variables_from : (p : Program) → KnowsNames k start p → Keeps now p.forms
         → VarsFrom (λ q. seen start p None ((os ++ own_constants constants) ++ own_places q)) p.types [] ls.variables l.variables
 
-  pub locals_done : (os : List (Symbol × Own)) (headed : Headed) (ls : Locals) (l : Local) → headed.heading ≡ h → k.start ≡ start
+  pub locals_done : (os : List (Symbol × Own)) (headed : Headed) (ls : Locals) (l : Local) → headed.specified.heading ≡ h → k.start ≡ start
       → OwnAs headed.own os → FormsRight k.program.forms → There k.program.forms 0 → There k.program.forms 1
       → ((x : Symbol) (t : TypeId) → found k.program.types x ≡ Some t → There k.program.forms t.0) → locals_walk k headed ls ≡ Ok l
       → LocalsDone os ls l

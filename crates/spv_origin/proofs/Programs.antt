@@ -13,7 +13,7 @@ use Rattle.spv_program.specs.Formulas.{Annotation}
 use Rattle.spv_program.specs.Statements.{Statement, Assert}
 use Rattle.spv_program.specs.Programs.{Routine, Main, Program}
 use Rattle.spv_typing.specs.Outcomes.{after, each, if_there}
-use Rattle.spv_typing.specs.Known.{KnownNames, Heading, Known}
+use Rattle.spv_typing.specs.Known.{KnownNames, Heading, Specified, Known}
 use Rattle.spv_typing.specs.Known as walk
 use Rattle.spv_typing.specs.DeclarationWalk.{declarations_walk}
 use Rattle.spv_typing.specs.FormulaWalk.{annotation}
@@ -60,7 +60,7 @@ module _ (start : KnownNames) where
         plain = λ g t i. elim i [ ];
       })
 
-  none_left : (hs : List Heading) (b : Bool) → none_awaited hs ≡ Ok b → hs ≡ []
+  none_left : (hs : List Specified) (b : Bool) → none_awaited hs ≡ Ok b → hs ≡ []
   none_left [] b e = refl
   none_left (h ∷ hs) b e = absurd (no_fault e)
 
@@ -71,7 +71,7 @@ module _ (start : KnownNames) where
     where
       by_awaited : (h : Heading) → AwaitedAt all (names_of_bodies marks) h → is_among (names_of_bodies marks) h.name ≡ true
       by_awaited h (has_body e) = e
-      by_awaited h (still_waits i) = elim (subst (λ hs. In hs h) empty i) [ ]
+      by_awaited h (still_waits q i same) = elim (subst (λ hs. In hs q) empty i) [ ]
 
       by_place : (h : Heading) → HeadingAt k all (names_of_bodies marks) h → is_among (names_of_bodies marks) h.name ≡ true
       by_place h (before i) = elim (subst (λ (q : Known). In q.headings h) (sym declared_first.is) i) [ ]

@@ -212,7 +212,8 @@ module _ (v w : View) where
   counting_comes : (at : Setting) → SeesBoth at → (line : ℕ) (x : Name) (from : formulas.Formula) (towards : DirectionSign)
       (to : formulas.Formula) (count : Counting) → counting at line x from towards to ≡ Ok count → CountingFrom x from towards to count
   counting_comes at sees line x from towards to count e =
-      let head = λ (first last : Expression) (u : Name). counting_kept at line (If line first Empty Empty) (head_of towards u first last) in
+      let head = λ (first last : Expression) (u : Name). counting_kept at line (For line None (head_of towards u first last) Empty)
+      (head_of towards u first last) in
       let seven = λ (first last : Expression) (c : Name). after
       (unless_counted line (counted_as (own_in at.inside) at.counted (name_root (own_in at.inside) c.symbol)) c) (head first last) in
       let six = λ (b : Operand Expression) (c : Name) (first : Expression). after (settled NilOf (wrong (formula_line to)) sort.Int b)
@@ -243,7 +244,8 @@ module _ (v w : View) where
             (operand_comes at.inside v sees.0 to three.value three.first) last.first;
         is = ap (λ d. head_with x d first.value last.value) (sym (same_direction towards))
             ∙ (ap (λ (y : Name). head_of towards y first.value last.value) (same ∙ (counter.0 ∙ uncounted))
-            ∙ kept_by at line (If line first.value Empty Empty) (head_of towards u.value first.value last.value) count u.rest);
+            ∙ kept_by at line (For line None (head_of towards u.value first.value last.value) Empty)
+            (head_of towards u.value first.value last.value) count u.rest);
       }
 
   invariant_comes : (at : Setting) → SeesBoth at → (f : Option formulas.Formula) (i : Option Annotation)
