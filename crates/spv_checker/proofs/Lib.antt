@@ -1,6 +1,6 @@
 pub mod Kept
 pub mod Staying
 pub mod Goings
-pub mod Numbers
 pub mod Stacks
 pub mod Nodes
+pub mod Shown

@@ -1,7 +1,7 @@
 -- Worked checks: what stops them, and where.
-use Rattle.std.specs.Prelude.{◌≡◌, ℕ, ◌^◌, ◌-◌, Bool, true, false, List, [], ◌∷◌, ◌++◌, Some, None, pos, negsuc, slice_index_or}
+use Rattle.std.specs.Prelude.{◌≡◌, ℕ, ◌^◌, ◌-◌, Bool, true, false, List, [], ◌∷◌, Some, None, pos, negsuc, slice_index_or}
 use Rattle.spv_whole.specs.Fraction.{Fraction, whole}
-use Rattle.spv_frac.specs.declared.frac.Op.TheVariants.{Add, Mul}
+use Rattle.spv_frac.specs.declared.frac.Op.TheVariants.{Add}
 use Rattle.spv_logic.specs.declared.conditions.TermId.{TermId}
 use Rattle.spv_logic.specs.declared.types.Sort.TheVariants as sort
 use Rattle.spv_logic.specs.declared.operators.Head.TheVariants as head
@@ -11,7 +11,7 @@ use Rattle.spv_atoms.specs.declared.proofs.Relation.TheVariants.{AtMost}
 use Rattle.spv_atoms.specs.declared.proofs.Step.{Step}
 use Rattle.spv_atoms.specs.declared.proofs.Step.TheVariants.{Given, Refl, Linear, Contra}
 use Rattle.spv_atoms.specs.declared.proofs.ProofNode.{ProofNode}
-use Rattle.spv_proof.specs.Effects.{Question, at_most}
+use Rattle.spv_proof.specs.Effects.{Question}
 use Rattle.spv_proof.specs.Stops.{WideSum, WideForm, TooMany}
 use Rattle.spv_proof.specs.Outcomes.{Outcome, comes, stops, outcome}
 

@@ -11,7 +11,8 @@ ghost use Rattle.spv_proof_steps.specs.Steps.{fact_of, asked};
 ghost use Rattle.spv_checker.specs.Stacks.{facts_in, AllStand};
 
 use spv_proof_steps::sides;
-use spv_term::{Sort, TermId, Terms};
+use spv_sums::is_number;
+use spv_term::{TermId, Terms};
 
 /// How an atom splits.
 #[derive(Clone, Copy, Debug)]
@@ -22,21 +23,8 @@ pub enum Cases {
     Three(TermId, TermId),
 }
 
-// Whether a term is of sort Int.
-pub(crate) fn is_number(terms: &Terms, t: TermId) -> bool
-    requires { t.0 < length terms.now.nodes }
-    ensures value { result ≡ atoms.is_number terms.now.shapes terms.now.decls (tree terms.now t) }
-    ensures sort { IsTrue result → sort_at terms.now t ≡ sort.Int }
-{
-    terms.law_arena();
-    match terms.sort(t) {
-        Sort::Int => true,
-        _ => false,
-    }
-}
-
 // Whether two terms are of sort Int.
-fn are_numbers(terms: &Terms, s: TermId, t: TermId) -> bool
+pub(crate) fn are_numbers(terms: &Terms, s: TermId, t: TermId) -> bool
     requires s { s.0 < length terms.now.nodes }
     requires t { t.0 < length terms.now.nodes }
     ensures value { result ≡ (atoms.is_number terms.now.shapes terms.now.decls (tree terms.now s)

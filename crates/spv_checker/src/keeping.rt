@@ -11,7 +11,7 @@ use spv_proof_steps::Fact;
 use spv_term::{Head, TermFault, TermId, Terms};
 
 // Puts a fact into the arena, where it does not stand there.
-fn make(terms: &mut Terms, fact: Fact) -> Result<TermId, TermFault>
+pub(crate) fn make(terms: &mut Terms, fact: Fact) -> Result<TermId, TermFault>
     requires { FactStands terms.old fact }
     ensures in_range { IfOk result (λ t. t.0 < length terms.new.nodes) }
     ensures tree { IfOk result (λ t. tree terms.new t ≡ fact_of terms.old fact) }

@@ -5,3 +5,5 @@
 mod checks;
 #[cfg(test)]
 mod formulas;
+#[cfg(test)]
+mod sums;

@@ -188,6 +188,7 @@ Counting = AllTold (
     ∷ (codes "PROGRAM a; BEGIN FOR i := y TO 2 DO END.", undeclared 1 (codes "I"))
     ∷ (codes "PROGRAM a; VAR i: INTEGER; BEGIN FOR i := 1 TO 2 DO FOR i := 1 TO 2 DO END.", counts 1 (codes "I"))
     ∷ (codes "PROGRAM a; VAR i: INTEGER; PROCEDURE p(VAR x: INTEGER); BEGIN END; BEGIN FOR i := 1 TO 2 DO p(i) END.", counts 1 (codes "I"))
+    ∷ (codes "PROGRAM a; VAR i, j: INTEGER; FUNCTION f(VAR n: INTEGER): INTEGER; BEGIN f := n END; BEGIN FOR i := 1 TO 2 DO FOR j := 1 TO f(i) DO END.", counts 1 (codes "I"))
     ∷ (codes "PROGRAM a; VAR i: INTEGER; PROCEDURE p(x: INTEGER); BEGIN END; BEGIN FOR i := 1 TO 2 DO p(i) END.", typed)
     ∷ (codes "PROGRAM a; VAR i: INTEGER; PROCEDURE p; GLOBAL (VAR i); BEGIN i := 1 END; BEGIN FOR i := 1 TO 2 DO p END.", counts 1 (codes "I"))
     ∷ (codes "PROGRAM a; VAR i: INTEGER; PROCEDURE p; GLOBAL (i); BEGIN END; BEGIN FOR i := 1 TO 2 DO p; i := 1 END.", typed)

@@ -184,7 +184,7 @@ counting at line x from towards to =
     after (settled NilOf (wrong (formula_line to)) sort.Int b) (λ last.
     after (unless_counted line (counted_as (own_in at.inside) at.counted (name_root (own_in at.inside) w.symbol)) w) (λ u.
     let count : Counting = record { variable = u.symbol; direction = direction_of towards; first = first; last = last } in
-    counting_kept at line (If line first Empty Empty) count)))))))
+    counting_kept at line (For line None count Empty) count)))))))
 
 abbrev pub inside_for : Setting → Symbol → Setting
 inside_for at v = record { inside = at.inside; noted = at.noted; counted = v ∷ at.counted }

@@ -59,9 +59,11 @@ module _ (s : Scope) (names : program.Scope) (sees : SeesAlike s names) where
 
   annotation_fine : (f : tree.Formula) (a : Annotation) → annotation s f ≡ Ok a → annotation_ok p names (Some a) ≡ true
   annotation_fine f a e =
-      let one = went (formula_walk (formula_forms s) f) (λ o. after (settled NilOf (wrong (formula_line f)) sort.Bool o) (λ g. fine (noted g))) a e in
+      let one = went (formula_walk (formula_forms s) f)
+      (λ o. after (settled NilOf (wrong (formula_line f)) sort.Bool o) (λ g. fine (noted g))) a e in
       let two = went (settled NilOf (wrong (formula_line f)) sort.Bool one.value) (λ g. fine (noted g)) a one.rest in
-      let good = formula_good (formula_forms s) (Sorted p names) (Bare p names) (FineResult s names sees) (FineResult s names sees) keeps f one.value one.first in
+      let good = formula_good (formula_forms s) (Sorted p names) (Bare p names) (FineResult s names sees) (FineResult s names sees) keeps
+      f one.value one.first in
       let truth = settled_here s names sees (wrong (formula_line f)) sort.Bool refl one.value two.value good two.first in
       subst (λ (b : Annotation). annotation_ok p names (Some b) ≡ true) (same_value two.rest) (ap (is_sort sort.Bool) truth.is)
     where

@@ -35,7 +35,8 @@ module _ (p : Program) (here : Option Routine) where
   abbrev pub FineExpression : Expression → Sort → Type 0
   FineExpression e s = Fine Typed Bare e s
 
-  pub fine_is : (e : Expression) (s : Sort) → expression_sort p here e ≡ Some s → sort_in_range (shapes p) s ≡ true → is_nil e ≡ false → FineExpression e s
+  pub fine_is : (e : Expression) (s : Sort) → expression_sort p here e ≡ Some s → sort_in_range (shapes p) s ≡ true → is_nil e ≡ false
+      → FineExpression e s
   fine_is e s h there bare = record { good = record { is = h; there = there }; bare = bare }
 
   -- a type whose pointers are there is there
@@ -48,7 +49,8 @@ module _ (p : Program) (here : Option Routine) where
   pub negative_fine : (x : Expression) → Typed x sort.Int → FineExpression (Negative x) sort.Int
   negative_fine x h = fine_is (Negative x) sort.Int (ap (λ o. sort_if (is_sort sort.Int o) sort.Int) h.is) refl refl
 
-  pub calculated_fine : (o : Arithmetic) (x y : Expression) → Typed x sort.Int → Typed y sort.Int → FineExpression (Calculated o x y) sort.Int
+  pub calculated_fine : (o : Arithmetic) (x y : Expression) → Typed x sort.Int → Typed y sort.Int
+      → FineExpression (Calculated o x y) sort.Int
   calculated_fine o x y g h =
       fine_is (Calculated o x y) sort.Int
       (ap (λ a. numbers a (expression_sort p here y) sort.Int) g.is ∙ ap (λ b. numbers (Some sort.Int) b sort.Int) h.is) refl refl
@@ -63,26 +65,32 @@ module _ (p : Program) (here : Option Routine) where
 
   -- ---- comparisons
 
-  compared_fine : (o : Comparison) (x y : Expression) (s : Sort) → (is_nil x && is_nil y) ≡ false → Typed x s → Typed y s → compared_sort comparable o (Some s) (Some s) ≡ Some sort.Bool → FineExpression (Compared o x y) sort.Bool
+  compared_fine : (o : Comparison) (x y : Expression) (s : Sort) → (is_nil x && is_nil y) ≡ false → Typed x s → Typed y s
+      → compared_sort comparable o (Some s) (Some s) ≡ Some sort.Bool → FineExpression (Compared o x y) sort.Bool
   compared_fine o x y s bare g h e =
       fine_is (Compared o x y) sort.Bool
       (ap (λ b. cond b None (compared_sort comparable o (expression_sort p here x) (expression_sort p here y))) bare
-      ∙ (ap (λ a. compared_sort comparable o a (expression_sort p here y)) g.is ∙ (ap (λ b. compared_sort comparable o (Some s) b) h.is ∙ e)))
+      ∙ (ap (λ a. compared_sort comparable o a (expression_sort p here y)) g.is
+      ∙ (ap (λ b. compared_sort comparable o (Some s) b) h.is ∙ e)))
       refl refl
 
   same_sorts : (s : Sort) → comparable s ≡ true → sort_if (sort_eq s s && comparable s) sort.Bool ≡ Some sort.Bool
   same_sorts s c = ap (λ b. sort_if b sort.Bool) (both_true (sort_eq-refl s) c)
 
-  pub equal_left : (x y : Expression) (s : Sort) → comparable s ≡ true → FineExpression x s → Typed y s → FineExpression (Compared comparison.Equal x y) sort.Bool
+  pub equal_left : (x y : Expression) (s : Sort) → comparable s ≡ true → FineExpression x s → Typed y s
+      → FineExpression (Compared comparison.Equal x y) sort.Bool
   equal_left x y s c g h = compared_fine comparison.Equal x y s (ap (λ b. b && is_nil y) g.bare) g.good h (same_sorts s c)
 
-  pub equal_right : (x y : Expression) (s : Sort) → comparable s ≡ true → Typed x s → FineExpression y s → FineExpression (Compared comparison.Equal x y) sort.Bool
+  pub equal_right : (x y : Expression) (s : Sort) → comparable s ≡ true → Typed x s → FineExpression y s
+      → FineExpression (Compared comparison.Equal x y) sort.Bool
   equal_right x y s c g h = compared_fine comparison.Equal x y s (and_false (is_nil x) (is_nil y) h.bare) g h.good (same_sorts s c)
 
-  pub unequal_left : (x y : Expression) (s : Sort) → comparable s ≡ true → FineExpression x s → Typed y s → FineExpression (Compared comparison.NotEqual x y) sort.Bool
+  pub unequal_left : (x y : Expression) (s : Sort) → comparable s ≡ true → FineExpression x s → Typed y s
+      → FineExpression (Compared comparison.NotEqual x y) sort.Bool
   unequal_left x y s c g h = compared_fine comparison.NotEqual x y s (ap (λ b. b && is_nil y) g.bare) g.good h (same_sorts s c)
 
-  pub unequal_right : (x y : Expression) (s : Sort) → comparable s ≡ true → Typed x s → FineExpression y s → FineExpression (Compared comparison.NotEqual x y) sort.Bool
+  pub unequal_right : (x y : Expression) (s : Sort) → comparable s ≡ true → Typed x s → FineExpression y s
+      → FineExpression (Compared comparison.NotEqual x y) sort.Bool
   unequal_right x y s c g h = compared_fine comparison.NotEqual x y s (and_false (is_nil x) (is_nil y) h.bare) g h.good (same_sorts s c)
 
   -- a number is not NIL

@@ -35,7 +35,8 @@ module _ (p : Program) (names : program.Scope) where
   abbrev pub FineFormula : Formula → Sort → Type 0
   FineFormula g s = Fine Sorted Bare g s
 
-  pub fine_is : (g : Formula) (s : Sort) → formula_sort p names g ≡ Some s → sort_in_range (shapes p) s ≡ true → is_nil g ≡ false → FineFormula g s
+  pub fine_is : (g : Formula) (s : Sort) → formula_sort p names g ≡ Some s → sort_in_range (shapes p) s ≡ true → is_nil g ≡ false
+      → FineFormula g s
   fine_is g s e there bare = record { good = record { is = e; there = there }; bare = bare }
 
   -- a type whose pointers are there is there
@@ -68,7 +69,8 @@ module _ (p : Program) (names : program.Scope) where
 
   -- ---- comparisons
 
-  compared_fine : (o : Comparison) (x y : Formula) (s : Sort) → (is_nil x && is_nil y) ≡ false → Sorted x s → Sorted y s → compared_sort any_sort o (Some s) (Some s) ≡ Some sort.Bool → FineFormula (Compared o x y) sort.Bool
+  compared_fine : (o : Comparison) (x y : Formula) (s : Sort) → (is_nil x && is_nil y) ≡ false → Sorted x s → Sorted y s
+      → compared_sort any_sort o (Some s) (Some s) ≡ Some sort.Bool → FineFormula (Compared o x y) sort.Bool
   compared_fine o x y s bare g h e =
       fine_is (Compared o x y) sort.Bool
       (ap (λ b. cond b None (compared_sort any_sort o (formula_sort p names x) (formula_sort p names y))) bare
@@ -78,16 +80,20 @@ module _ (p : Program) (names : program.Scope) where
   same_sorts : (s : Sort) → sort_if (sort_eq s s && any_sort s) sort.Bool ≡ Some sort.Bool
   same_sorts s = ap (λ b. sort_if b sort.Bool) (both_true (sort_eq-refl s) refl)
 
-  pub equal_left : (x y : Formula) (s : Sort) → any_sort s ≡ true → FineFormula x s → Sorted y s → FineFormula (Compared comparison.Equal x y) sort.Bool
+  pub equal_left : (x y : Formula) (s : Sort) → any_sort s ≡ true → FineFormula x s → Sorted y s
+      → FineFormula (Compared comparison.Equal x y) sort.Bool
   equal_left x y s any g h = compared_fine comparison.Equal x y s (ap (λ b. b && is_nil y) g.bare) g.good h (same_sorts s)
 
-  pub equal_right : (x y : Formula) (s : Sort) → any_sort s ≡ true → Sorted x s → FineFormula y s → FineFormula (Compared comparison.Equal x y) sort.Bool
+  pub equal_right : (x y : Formula) (s : Sort) → any_sort s ≡ true → Sorted x s → FineFormula y s
+      → FineFormula (Compared comparison.Equal x y) sort.Bool
   equal_right x y s any g h = compared_fine comparison.Equal x y s (and_false (is_nil x) (is_nil y) h.bare) g h.good (same_sorts s)
 
-  pub unequal_left : (x y : Formula) (s : Sort) → any_sort s ≡ true → FineFormula x s → Sorted y s → FineFormula (Compared comparison.NotEqual x y) sort.Bool
+  pub unequal_left : (x y : Formula) (s : Sort) → any_sort s ≡ true → FineFormula x s → Sorted y s
+      → FineFormula (Compared comparison.NotEqual x y) sort.Bool
   unequal_left x y s any g h = compared_fine comparison.NotEqual x y s (ap (λ b. b && is_nil y) g.bare) g.good h (same_sorts s)
 
-  pub unequal_right : (x y : Formula) (s : Sort) → any_sort s ≡ true → Sorted x s → FineFormula y s → FineFormula (Compared comparison.NotEqual x y) sort.Bool
+  pub unequal_right : (x y : Formula) (s : Sort) → any_sort s ≡ true → Sorted x s → FineFormula y s
+      → FineFormula (Compared comparison.NotEqual x y) sort.Bool
   unequal_right x y s any g h = compared_fine comparison.NotEqual x y s (and_false (is_nil x) (is_nil y) h.bare) g h.good (same_sorts s)
 
   -- a number is not NIL

@@ -40,17 +40,22 @@ pub data GoodOperand {X : Type 0} (Good : X → Sort → Type 0) (Bare : X → T
   of : (x : X) (s : Sort) → Fine Good Bare x s → GoodOperand Good Bare (Of x s)
   nil_at : (line : ℕ) → GoodOperand Good Bare (NilAt line)
 
-pub record GoodArgument {X S : Type 0} (Good : X → Sort → Type 0) (Bare : X → Type 0) (Written : S → Type 0) (a : Argument X S) : Type 0 where
-  pub operand : (o : Operand X) → a.operand ≡ Ok o → GoodOperand Good Bare o
-  pub place : (s : S) → a.place ≡ Some (Ok s) → Written s
+pub record GoodArgument {X S : Type 0} (Good : X → Sort → Type 0) (Bare : X → Type 0) (Written : S → Type 0) (a : Argument X S) : Type 0
+  where
+    pub operand : (o : Operand X) → a.operand ≡ Ok o → GoodOperand Good Bare o
+    pub place : (s : S) → a.place ≡ Some (Ok s) → Written s
 
-pub data GoodArguments {X S : Type 0} (Good : X → Sort → Type 0) (Bare : X → Type 0) (Written : S → Type 0) : List (Argument X S) → Type 0 where
+pub data GoodArguments {X S : Type 0} (Good : X → Sort → Type 0) (Bare : X → Type 0) (Written : S → Type 0) : List (Argument X S)
+    → Type 0 where
   no_more : GoodArguments Good Bare Written []
-  one_more : (a : Argument X S) (others : List (Argument X S)) → GoodArgument Good Bare Written a → GoodArguments Good Bare Written others → GoodArguments Good Bare Written (a ∷ others)
+  one_more : (a : Argument X S) (others : List (Argument X S)) → GoodArgument Good Bare Written a → GoodArguments Good Bare Written others
+      → GoodArguments Good Bare Written (a ∷ others)
 
 -- what selectors keep
-pub record Selects {X S : Type 0} (k : Forms X S) (Good : X → Sort → Type 0) (Bare : X → Type 0) (Written : S → Type 0) (Reached : S → Type 0) : Type 0 where
-  pub indexed : (line : ℕ) (s t : S) (given : List (Argument X S)) → Reached s → GoodArguments Good Bare Written given → k.indexed line s given ≡ Ok t → Reached t
+pub record Selects {X S : Type 0} (k : Forms X S) (Good : X → Sort → Type 0) (Bare : X → Type 0) (Written : S → Type 0)
+    (Reached : S → Type 0) : Type 0 where
+  pub indexed : (line : ℕ) (s t : S) (given : List (Argument X S)) → Reached s → GoodArguments Good Bare Written given
+      → k.indexed line s given ≡ Ok t → Reached t
   pub field_of : (line : ℕ) (s t : S) (x : Name) → Reached s → k.field_of line s x ≡ Ok t → Reached t
   pub content_of : (line at : ℕ) (s t : S) → Reached s → k.content_of line at s ≡ Ok t → Reached t
 
@@ -61,10 +66,14 @@ pub record Keeps {X S : Type 0} (k : Forms X S) (Good : X → Sort → Type 0) (
   pub nil_of : (t : TypeId) (y : X) → Good y (sort.Ptr t) → Good (k.nil_of t) (sort.Ptr t)
   pub negative_of : (x : X) → Good x sort.Int → Fine Good Bare (k.negative_of x) sort.Int
   pub calculated : (o : Arithmetic) (x y : X) → Good x sort.Int → Good y sort.Int → Fine Good Bare (k.calculated o x y) sort.Int
-  pub equal_left : (x y : X) (s : Sort) → k.comparable s ≡ true → Fine Good Bare x s → Good y s → Fine Good Bare (k.compares comparison.Equal x y) sort.Bool
-  pub equal_right : (x y : X) (s : Sort) → k.comparable s ≡ true → Good x s → Fine Good Bare y s → Fine Good Bare (k.compares comparison.Equal x y) sort.Bool
-  pub unequal_left : (x y : X) (s : Sort) → k.comparable s ≡ true → Fine Good Bare x s → Good y s → Fine Good Bare (k.compares comparison.NotEqual x y) sort.Bool
-  pub unequal_right : (x y : X) (s : Sort) → k.comparable s ≡ true → Good x s → Fine Good Bare y s → Fine Good Bare (k.compares comparison.NotEqual x y) sort.Bool
+  pub equal_left : (x y : X) (s : Sort) → k.comparable s ≡ true → Fine Good Bare x s → Good y s
+      → Fine Good Bare (k.compares comparison.Equal x y) sort.Bool
+  pub equal_right : (x y : X) (s : Sort) → k.comparable s ≡ true → Good x s → Fine Good Bare y s
+      → Fine Good Bare (k.compares comparison.Equal x y) sort.Bool
+  pub unequal_left : (x y : X) (s : Sort) → k.comparable s ≡ true → Fine Good Bare x s → Good y s
+      → Fine Good Bare (k.compares comparison.NotEqual x y) sort.Bool
+  pub unequal_right : (x y : X) (s : Sort) → k.comparable s ≡ true → Good x s → Fine Good Bare y s
+      → Fine Good Bare (k.compares comparison.NotEqual x y) sort.Bool
   pub less : (x y : X) → Good x sort.Int → Good y sort.Int → Fine Good Bare (k.compares comparison.Less x y) sort.Bool
   pub at_most : (x y : X) → Good x sort.Int → Good y sort.Int → Fine Good Bare (k.compares comparison.AtMost x y) sort.Bool
   pub greater : (x y : X) → Good x sort.Int → Good y sort.Int → Fine Good Bare (k.compares comparison.Greater x y) sort.Bool
@@ -75,26 +84,31 @@ pub record Keeps {X S : Type 0} (k : Forms X S) (Good : X → Sort → Type 0) (
   pub class_of : (line : ℕ) (x : Name) (o : Operand X) → k.class_of line x ≡ Ok o → GoodOperand Good Bare o
   pub begin : (line : ℕ) (x : Name) (s : S) → k.begin line x ≡ Ok s → Read s
   pub begin_written : (line : ℕ) (x : Name) (s : S) → k.begin_written line x ≡ Ok s → Written s
-  pub apply : (line : ℕ) (x : Name) (s : S) (given : List (Argument X S)) → GoodArguments Good Bare Written given → k.apply line x given ≡ Ok s → Read s
+  pub apply : (line : ℕ) (x : Name) (s : S) (given : List (Argument X S)) → GoodArguments Good Bare Written given
+      → k.apply line x given ≡ Ok s → Read s
   pub reads : Selects k Good Bare Written Read
   pub writes : Selects k Good Bare Written Written
   pub finish : (s : S) → Read s → GoodOperand Good Bare (k.finish s)
 
 -- an operand that was settled to a sort; NIL is good where it is of that sort
-pub settled_at : {X : Type 0} (Good : X → Sort → Type 0) (Bare : X → Type 0) (nil_of : TypeId → X) (fault : TypeFault) (s : Sort) → ((t : TypeId) → s ≡ sort.Ptr t → Good (nil_of t) (sort.Ptr t)) → (o : Operand X) (x : X) → GoodOperand Good Bare o → settled nil_of fault s o ≡ Ok x → Good x s
+pub settled_at : {X : Type 0} (Good : X → Sort → Type 0) (Bare : X → Type 0) (nil_of : TypeId → X) (fault : TypeFault) (s : Sort)
+    → ((t : TypeId) → s ≡ sort.Ptr t → Good (nil_of t) (sort.Ptr t)) → (o : Operand X) (x : X) → GoodOperand Good Bare o
+    → settled nil_of fault s o ≡ Ok x → Good x s
 settled_at {X} Good Bare nil_of fault s nil_is (Of y u) x (of z v h) e = by_case (sort_eq u s) refl e
   where
     by_case : (b : Bool) → sort_eq u s ≡ b → cond b (fine y) (Err fault) ≡ Ok x → Good x s
     by_case true same f = subst (λ z. Good z s) (same_value f) (subst (λ r. Good y r) (sort_eq-true u s same) h.good)
     by_case false same f = absurd (no_fault f)
-settled_at {X} Good Bare nil_of fault (sort.Ptr t) nil_is (NilAt line) x h e = subst (λ z. Good z (sort.Ptr t)) (same_value e) (nil_is t refl)
+settled_at {X} Good Bare nil_of fault (sort.Ptr t) nil_is (NilAt line) x h e =
+    subst (λ z. Good z (sort.Ptr t)) (same_value e) (nil_is t refl)
 settled_at {X} Good Bare nil_of fault sort.Int nil_is (NilAt line) x h e = absurd (no_fault e)
 settled_at {X} Good Bare nil_of fault sort.Bool nil_is (NilAt line) x h e = absurd (no_fault e)
 settled_at {X} Good Bare nil_of fault sort.List nil_is (NilAt line) x h e = absurd (no_fault e)
 settled_at {X} Good Bare nil_of fault (sort.Whole t) nil_is (NilAt line) x h e = absurd (no_fault e)
 settled_at {X} Good Bare nil_of fault (sort.Class t) nil_is (NilAt line) x h e = absurd (no_fault e)
 
-module _ {X S : Type 0} (k : Forms X S) (Good : X → Sort → Type 0) (Bare : X → Type 0) (Read Written : S → Type 0) (keeps : Keeps k Good Bare Read Written) where
+module _ {X S : Type 0} (k : Forms X S) (Good : X → Sort → Type 0) (Bare : X → Type 0) (Read Written : S → Type 0)
+    (keeps : Keeps k Good Bare Read Written) where
   no_pointer : (s : Sort) → is_pointer s ≡ false → (t : TypeId) → s ≡ sort.Ptr t → Good (k.nil_of t) (sort.Ptr t)
   no_pointer s plain t e = absurd (false≢true (sym plain ∙ ap is_pointer e))
 
@@ -106,7 +120,8 @@ module _ {X S : Type 0} (k : Forms X S) (Good : X → Sort → Type 0) (Bare : X
     pub right_good : Good right s
     pub is : result left right ≡ o
 
-  both_of : (line : ℕ) (s : Sort) → is_pointer s ≡ false → (a b o : Operand X) (result : X → X → Operand X) → GoodOperand Good Bare a → GoodOperand Good Bare b → two_of k line s a b result ≡ Ok o → Both s result o
+  both_of : (line : ℕ) (s : Sort) → is_pointer s ≡ false → (a b o : Operand X) (result : X → X → Operand X) → GoodOperand Good Bare a
+      → GoodOperand Good Bare b → two_of k line s a b result ≡ Ok o → Both s result o
   both_of line s plain a b o result g h e =
       let one = went (settled k.nil_of (wrong line) s a) (λ x. after (settled k.nil_of (wrong line) s b) (λ y. Ok (result x y))) o e in
       let two = went (settled k.nil_of (wrong line) s b) (λ y. Ok (result one.value y)) o one.rest in
@@ -121,46 +136,57 @@ module _ {X S : Type 0} (k : Forms X S) (Good : X → Sort → Type 0) (Bare : X
   become : (x : X) (s : Sort) (o : Operand X) → Of x s ≡ o → Fine Good Bare x s → GoodOperand Good Bare o
   become x s o e h = subst (GoodOperand Good Bare) e (of x s h)
 
-  numbers_good : (line : ℕ) (o : Arithmetic) (a b c : Operand X) → GoodOperand Good Bare a → GoodOperand Good Bare b → numbers k line o a b ≡ Ok c → GoodOperand Good Bare c
+  numbers_good : (line : ℕ) (o : Arithmetic) (a b c : Operand X) → GoodOperand Good Bare a → GoodOperand Good Bare b
+      → numbers k line o a b ≡ Ok c → GoodOperand Good Bare c
   numbers_good line o a b c g h e =
       let two = both_of line sort.Int refl a b c (λ x y. Of (k.calculated o x y) sort.Int) g h e in
       become (k.calculated o two.left two.right) sort.Int c two.is (keeps.calculated o two.left two.right two.left_good two.right_good)
 
-  truths_good : (line : ℕ) (o : Connective) (a b c : Operand X) → GoodOperand Good Bare a → GoodOperand Good Bare b → truths k line o a b ≡ Ok c → GoodOperand Good Bare c
+  truths_good : (line : ℕ) (o : Connective) (a b c : Operand X) → GoodOperand Good Bare a → GoodOperand Good Bare b
+      → truths k line o a b ≡ Ok c → GoodOperand Good Bare c
   truths_good line o a b c g h e =
       let two = both_of line sort.Bool refl a b c (λ x y. Of (k.joined o x y) sort.Bool) g h e in
       become (k.joined o two.left two.right) sort.Bool c two.is (keeps.joined o two.left two.right two.left_good two.right_good)
 
-  product_good : (line : ℕ) (o : Multiplying) (a b c : Operand X) → GoodOperand Good Bare a → GoodOperand Good Bare b → product k line o a b ≡ Ok c → GoodOperand Good Bare c
+  product_good : (line : ℕ) (o : Multiplying) (a b c : Operand X) → GoodOperand Good Bare a → GoodOperand Good Bare b
+      → product k line o a b ≡ Ok c → GoodOperand Good Bare c
   product_good line multiplying.Times = numbers_good line arithmetic.Times
   product_good line multiplying.Div = numbers_good line arithmetic.Div
   product_good line multiplying.Mod = numbers_good line arithmetic.Mod
   product_good line multiplying.And = truths_good line connective.And
 
-  total_good : (line : ℕ) (o : Adding) (a b c : Operand X) → GoodOperand Good Bare a → GoodOperand Good Bare b → total k line o a b ≡ Ok c → GoodOperand Good Bare c
+  total_good : (line : ℕ) (o : Adding) (a b c : Operand X) → GoodOperand Good Bare a → GoodOperand Good Bare b → total k line o a b ≡ Ok c
+      → GoodOperand Good Bare c
   total_good line adding.Plus = numbers_good line arithmetic.Plus
   total_good line adding.Minus = numbers_good line arithmetic.Minus
   total_good line adding.Or = truths_good line connective.Or
 
   -- one operand of a sort that no pointer has
-  one_of : (line : ℕ) (s : Sort) → is_pointer s ≡ false → (a : Operand X) (o : Operand X) (result : X → Operand X) → GoodOperand Good Bare a → after (settled k.nil_of (wrong line) s a) (λ x. Ok (result x)) ≡ Ok o → ((x : X) → Good x s → GoodOperand Good Bare (result x)) → GoodOperand Good Bare o
+  one_of : (line : ℕ) (s : Sort) → is_pointer s ≡ false → (a : Operand X) (o : Operand X) (result : X → Operand X)
+      → GoodOperand Good Bare a → after (settled k.nil_of (wrong line) s a) (λ x. Ok (result x)) ≡ Ok o
+      → ((x : X) → Good x s → GoodOperand Good Bare (result x)) → GoodOperand Good Bare o
   one_of line s plain a o result g e f =
       let one = went (settled k.nil_of (wrong line) s a) (λ x. Ok (result x)) o e in
-      subst (GoodOperand Good Bare) (same_value one.rest) (f one.value (settled_at Good Bare k.nil_of (wrong line) s (no_pointer s plain) a one.value g one.first))
+      subst (GoodOperand Good Bare) (same_value one.rest)
+      (f one.value (settled_at Good Bare k.nil_of (wrong line) s (no_pointer s plain) a one.value g one.first))
 
   opposite_good : (line : ℕ) (a c : Operand X) → GoodOperand Good Bare a → opposite k line a ≡ Ok c → GoodOperand Good Bare c
   opposite_good line a c g e =
       one_of line sort.Bool refl a c (λ x. Of (k.negated x) sort.Bool) g e (λ x h. of (k.negated x) sort.Bool (keeps.negated x h))
 
-  ordered_good : (line : ℕ) (o : Comparison) → ((x y : X) → Good x sort.Int → Good y sort.Int → Fine Good Bare (k.compares o x y) sort.Bool) → (a b c : Operand X) → GoodOperand Good Bare a → GoodOperand Good Bare b → ordered k line o a b ≡ Ok c → GoodOperand Good Bare c
+  ordered_good : (line : ℕ) (o : Comparison)
+      → ((x y : X) → Good x sort.Int → Good y sort.Int → Fine Good Bare (k.compares o x y) sort.Bool) → (a b c : Operand X)
+      → GoodOperand Good Bare a → GoodOperand Good Bare b → ordered k line o a b ≡ Ok c → GoodOperand Good Bare c
   ordered_good line o keep a b c g h e =
       let two = both_of line sort.Int refl a b c (λ x y. Of (k.compares o x y) sort.Bool) g h e in
       become (k.compares o two.left two.right) sort.Bool c two.is (keep two.left two.right two.left_good two.right_good)
 
-  conclusion_good : (line : ℕ) (a b c : Operand X) → GoodOperand Good Bare a → GoodOperand Good Bare b → conclusion k line a b ≡ Ok c → GoodOperand Good Bare c
+  conclusion_good : (line : ℕ) (a b c : Operand X) → GoodOperand Good Bare a → GoodOperand Good Bare b → conclusion k line a b ≡ Ok c
+      → GoodOperand Good Bare c
   conclusion_good line a b c g h e =
       let next = two_of k line sort.Bool a b (λ x y. Of (k.implied x y) sort.Bool) in
-      let two = both_of line sort.Bool refl a b c (λ x y. Of (k.implied x y) sort.Bool) g h (behind_test k.may_imply (wrong line) next c e) in
+      let two = both_of line sort.Bool refl a b c (λ x y. Of (k.implied x y) sort.Bool) g h
+      (behind_test k.may_imply (wrong line) next c e) in
       become (k.implied two.left two.right) sort.Bool c two.is
       (keeps.implied two.left two.right (held k.may_imply (wrong line) next c e) two.left_good two.right_good)
 
@@ -171,17 +197,24 @@ module _ {X S : Type 0} (k : Forms X S) (Good : X → Sort → Type 0) (Bare : X
       → (a b c : Operand X) → GoodOperand Good Bare a → GoodOperand Good Bare b → alike k line o a b ≡ Ok c → GoodOperand Good Bare c
   alike_good line o left right (Of x s) b c (of y u h) g e =
       let next = after (settled k.nil_of (wrong line) s b) (λ z. fine (Of (k.compares o x z) sort.Bool)) in
-      let one = went (settled k.nil_of (wrong line) s b) (λ z. fine (Of (k.compares o x z) sort.Bool)) c (behind_test (k.comparable s) (wrong line) next c e) in
-      let other = settled_at Good Bare k.nil_of (wrong line) s (λ t q. keeps.nil_of t x (subst (Good x) q h.good)) b one.value g one.first in
-      become (k.compares o x one.value) sort.Bool c (same_value one.rest) (left x one.value s (held (k.comparable s) (wrong line) next c e) h other)
+      let one = went (settled k.nil_of (wrong line) s b) (λ z. fine (Of (k.compares o x z) sort.Bool)) c
+      (behind_test (k.comparable s) (wrong line) next c e) in
+      let other = settled_at Good Bare k.nil_of (wrong line) s (λ t q. keeps.nil_of t x (subst (Good x) q h.good)) b one.value g
+      one.first in
+      become (k.compares o x one.value) sort.Bool c (same_value one.rest)
+      (left x one.value s (held (k.comparable s) (wrong line) next c e) h other)
   alike_good line o left right (NilAt at) (Of y s) c g (of z u h) e =
       let next = after (settled k.nil_of (wrong line) s (NilAt at)) (λ x. fine (Of (k.compares o x y) sort.Bool)) in
-      let one = went (settled k.nil_of (wrong line) s (NilAt at)) (λ x. fine (Of (k.compares o x y) sort.Bool)) c (behind_test (k.comparable s) (wrong line) next c e) in
-      let other = settled_at Good Bare k.nil_of (wrong line) s (λ t q. keeps.nil_of t y (subst (Good y) q h.good)) (NilAt at) one.value (nil_at at) one.first in
-      become (k.compares o one.value y) sort.Bool c (same_value one.rest) (right one.value y s (held (k.comparable s) (wrong line) next c e) other h)
+      let one = went (settled k.nil_of (wrong line) s (NilAt at)) (λ x. fine (Of (k.compares o x y) sort.Bool)) c
+      (behind_test (k.comparable s) (wrong line) next c e) in
+      let other = settled_at Good Bare k.nil_of (wrong line) s (λ t q. keeps.nil_of t y (subst (Good y) q h.good)) (NilAt at) one.value
+      (nil_at at) one.first in
+      become (k.compares o one.value y) sort.Bool c (same_value one.rest)
+      (right one.value y s (held (k.comparable s) (wrong line) next c e) other h)
   alike_good line o left right (NilAt at) (NilAt on) c g h e = absurd (no_fault e)
 
-  related_good : (line : ℕ) (o : ComparisonSign) (a b c : Operand X) → GoodOperand Good Bare a → GoodOperand Good Bare b → related k line o a b ≡ Ok c → GoodOperand Good Bare c
+  related_good : (line : ℕ) (o : ComparisonSign) (a b c : Operand X) → GoodOperand Good Bare a → GoodOperand Good Bare b
+      → related k line o a b ≡ Ok c → GoodOperand Good Bare c
   related_good line comparison_sign.Equal = alike_good line comparison.Equal keeps.equal_left keeps.equal_right
   related_good line comparison_sign.NotEqual = alike_good line comparison.NotEqual keeps.unequal_left keeps.unequal_right
   related_good line comparison_sign.Less = ordered_good line comparison.Less keeps.less
@@ -189,20 +222,24 @@ module _ {X S : Type 0} (k : Forms X S) (Good : X → Sort → Type 0) (Bare : X
   related_good line comparison_sign.Greater = ordered_good line comparison.Greater keeps.greater
   related_good line comparison_sign.AtLeast = ordered_good line comparison.AtLeast keeps.at_least
 
-  minus_good : (line : ℕ) (a c : Operand X) → GoodOperand Good Bare a → after (settled k.nil_of (wrong line) sort.Int a) (λ x. fine (Of (k.negative_of x) sort.Int)) ≡ Ok c → GoodOperand Good Bare c
+  minus_good : (line : ℕ) (a c : Operand X) → GoodOperand Good Bare a
+      → after (settled k.nil_of (wrong line) sort.Int a) (λ x. fine (Of (k.negative_of x) sort.Int)) ≡ Ok c → GoodOperand Good Bare c
   minus_good line a c g e =
       one_of line sort.Int refl a c (λ x. Of (k.negative_of x) sort.Int) g e (λ x h. of (k.negative_of x) sort.Int (keeps.negative_of x h))
 
   -- a number that stays as it is; it was no NIL, since NIL is no number
-  kept_number : (line : ℕ) (a c : Operand X) → GoodOperand Good Bare a → after (settled k.nil_of (wrong line) sort.Int a) (λ x. fine (Of x sort.Int)) ≡ Ok c → GoodOperand Good Bare c
+  kept_number : (line : ℕ) (a c : Operand X) → GoodOperand Good Bare a
+      → after (settled k.nil_of (wrong line) sort.Int a) (λ x. fine (Of x sort.Int)) ≡ Ok c → GoodOperand Good Bare c
   kept_number line (Of x s) c (of y u h) e = by_case (sort_eq s sort.Int) refl e
     where
-      by_case : (b : Bool) → sort_eq s sort.Int ≡ b → after (cond b (fine x) (Err (wrong line))) (λ y. fine (Of y sort.Int)) ≡ Ok c → GoodOperand Good Bare c
+      by_case : (b : Bool) → sort_eq s sort.Int ≡ b → after (cond b (fine x) (Err (wrong line))) (λ y. fine (Of y sort.Int)) ≡ Ok c
+          → GoodOperand Good Bare c
       by_case true same f = become x sort.Int c (same_value f) (subst (λ r. Fine Good Bare x r) (sort_eq-true s sort.Int same) h)
       by_case false same f = absurd (no_fault f)
   kept_number line (NilAt at) c g e = absurd (no_fault e)
 
-  signed_good : (line : ℕ) (sign : Option PlusOrMinus) (t : Term) (a c : Operand X) → GoodOperand Good Bare a → with_sign k line sign t a ≡ Ok c → GoodOperand Good Bare c
+  signed_good : (line : ℕ) (sign : Option PlusOrMinus) (t : Term) (a c : Operand X) → GoodOperand Good Bare a
+      → with_sign k line sign t a ≡ Ok c → GoodOperand Good Bare c
   signed_good line None t a c g e = subst (GoodOperand Good Bare) (same_value e) g
   signed_good line (Some prefix.Plus) t a c g e = kept_number line a c g e
   signed_good line (Some prefix.Minus) (term at (number on n) no_more_factors) a c g e =
@@ -227,7 +264,9 @@ module _ {X S : Type 0} (k : Forms X S) (Good : X → Sort → Type 0) (Bare : X
   selects true = keeps.writes
   selects false = keeps.reads
 
-  argument_good : (f : Formula) → ((o : Operand X) → formula_walk k f ≡ Ok o → GoodOperand Good Bare o) → ((s : S) → written_place k f ≡ Some (Ok s) → Written s) → GoodArgument Good Bare Written (argument f (formula_walk k f) (written_place k f))
+  pub argument_good : (f : Formula) → ((o : Operand X) → formula_walk k f ≡ Ok o → GoodOperand Good Bare o)
+      → ((s : S) → written_place k f ≡ Some (Ok s) → Written s)
+      → GoodArgument Good Bare Written (argument f (formula_walk k f) (written_place k f))
   argument_good f good placed = record { operand = good; place = placed }
 
   mutual
@@ -249,26 +288,31 @@ module _ {X S : Type 0} (k : Forms X S) (Good : X → Sort → Type 0) (Bare : X
     simple_good (simple line sign t more) o e =
         let one = went (term_walk k t) (λ a. after (with_sign k line sign t a) (λ b. more_terms_walk k line b more)) o e in
         let two = went (with_sign k line sign t one.value) (λ b. more_terms_walk k line b more) o one.rest in
-        more_terms_good line two.value more o (signed_good line sign t one.value two.value (term_good t one.value one.first) two.first) two.rest
+        more_terms_good line two.value more o (signed_good line sign t one.value two.value (term_good t one.value one.first) two.first)
+        two.rest
 
-    more_terms_good : (line : ℕ) (a : Operand X) (more : MoreTerms) (o : Operand X) → GoodOperand Good Bare a → more_terms_walk k line a more ≡ Ok o → GoodOperand Good Bare o
+    more_terms_good : (line : ℕ) (a : Operand X) (more : MoreTerms) (o : Operand X) → GoodOperand Good Bare a
+        → more_terms_walk k line a more ≡ Ok o → GoodOperand Good Bare o
     more_terms_good line a no_more_terms o g e = subst (GoodOperand Good Bare) (same_value e) g
     more_terms_good line a (more_terms sign t more) o g e =
         let one = went (term_walk k t) (λ b. after (total k line sign a b) (λ c. more_terms_walk k line c more)) o e in
         let two = went (total k line sign a one.value) (λ c. more_terms_walk k line c more) o one.rest in
-        more_terms_good line two.value more o (total_good line sign a one.value two.value g (term_good t one.value one.first) two.first) two.rest
+        more_terms_good line two.value more o (total_good line sign a one.value two.value g (term_good t one.value one.first) two.first)
+        two.rest
 
     term_good : (t : Term) (o : Operand X) → term_walk k t ≡ Ok o → GoodOperand Good Bare o
     term_good (term line f more) o e =
         let one = went (factor_walk k f) (λ a. more_factors_walk k line a more) o e in
         more_factors_good line one.value more o (factor_good f one.value one.first) one.rest
 
-    more_factors_good : (line : ℕ) (a : Operand X) (more : MoreFactors) (o : Operand X) → GoodOperand Good Bare a → more_factors_walk k line a more ≡ Ok o → GoodOperand Good Bare o
+    more_factors_good : (line : ℕ) (a : Operand X) (more : MoreFactors) (o : Operand X) → GoodOperand Good Bare a
+        → more_factors_walk k line a more ≡ Ok o → GoodOperand Good Bare o
     more_factors_good line a no_more_factors o g e = subst (GoodOperand Good Bare) (same_value e) g
     more_factors_good line a (more_factors sign f more) o g e =
         let one = went (factor_walk k f) (λ b. after (product k line sign a b) (λ c. more_factors_walk k line c more)) o e in
         let two = went (product k line sign a one.value) (λ c. more_factors_walk k line c more) o one.rest in
-        more_factors_good line two.value more o (product_good line sign a one.value two.value g (factor_good f one.value one.first) two.first) two.rest
+        more_factors_good line two.value more o
+        (product_good line sign a one.value two.value g (factor_good f one.value one.first) two.first) two.rest
 
     factor_good : (f : Factor) (o : Operand X) → factor_walk k f ≡ Ok o → GoodOperand Good Bare o
     factor_good (number line n) o e = become (k.numeral (pos n)) sort.Int o (same_value e) (keeps.numeral (pos n))
@@ -277,12 +321,14 @@ module _ {X S : Type 0} (k : Forms X S) (Good : X → Sort → Type 0) (Bare : X
     factor_good (class line x) o e = keeps.class_of line x o e
     factor_good (place line d) o e =
         let one = went (designator_walk k k.begin d) (λ s. fine (k.finish s)) o e in
-        subst (GoodOperand Good Bare) (same_value one.rest) (keeps.finish one.value (designator_good false k.begin keeps.begin d one.value one.first))
+        subst (GoodOperand Good Bare) (same_value one.rest)
+        (keeps.finish one.value (designator_good false k.begin keeps.begin d one.value one.first))
     factor_good (application line x f more behind) o e =
         let given = argument f (formula_walk k f) (written_place k f) ∷ arguments k more in
         let one = went (k.apply line x given) (λ s. after (selectors_walk k line s behind) (λ t. fine (k.finish t))) o e in
         let two = went (selectors_walk k line one.value behind) (λ t. fine (k.finish t)) o one.rest in
-        let all = one_more (argument f (formula_walk k f) (written_place k f)) (arguments k more) (argument_good f (formula_good f) (place_good f)) (arguments_good more) in
+        let all = one_more (argument f (formula_walk k f) (written_place k f)) (arguments k more)
+        (argument_good f (formula_good f) (place_good f)) (arguments_good more) in
         subst (GoodOperand Good Bare) (same_value two.rest) (keeps.finish two.value
         (selectors_good false line one.value behind two.value (keeps.apply line x one.value given all one.first) two.first))
     factor_good (bracketed line f) o e = formula_good f o e
@@ -290,30 +336,36 @@ module _ {X S : Type 0} (k : Forms X S) (Good : X → Sort → Type 0) (Bare : X
         let one = went (factor_walk k f) (λ a. opposite k line a) o e in
         opposite_good line one.value o (factor_good f one.value one.first) one.rest
 
-    pub designator_good : (written : Bool) (start : ℕ → Name → Outcome S) → ((line : ℕ) (x : Name) (s : S) → start line x ≡ Ok s → reached written s) → (d : Designator) (s : S) → designator_walk k start d ≡ Ok s → reached written s
+    pub designator_good : (written : Bool) (start : ℕ → Name → Outcome S)
+        → ((line : ℕ) (x : Name) (s : S) → start line x ≡ Ok s → reached written s) → (d : Designator) (s : S)
+        → designator_walk k start d ≡ Ok s → reached written s
     designator_good written start first (designator line x behind) s e =
         let one = went (start line x) (λ s. selectors_walk k line s behind) s e in
         selectors_good written line one.value behind s (first line x one.value one.first) one.rest
 
-    selectors_good : (written : Bool) (line : ℕ) (s : S) (ss : Selectors) (t : S) → reached written s → selectors_walk k line s ss ≡ Ok t → reached written t
+    selectors_good : (written : Bool) (line : ℕ) (s : S) (ss : Selectors) (t : S) → reached written s → selectors_walk k line s ss ≡ Ok t
+        → reached written t
     selectors_good written line s no_selectors t g e = subst (reached written) (same_value e) g
     selectors_good written line s (selectors one ss) t g e =
         let step = went (selector_walk k line s one) (λ next. selectors_walk k line next ss) t e in
         selectors_good written line step.value ss t (selector_good written line s one step.value g step.first) step.rest
 
-    selector_good : (written : Bool) (line : ℕ) (s : S) (one : Selector) (t : S) → reached written s → selector_walk k line s one ≡ Ok t → reached written t
+    selector_good : (written : Bool) (line : ℕ) (s : S) (one : Selector) (t : S) → reached written s → selector_walk k line s one ≡ Ok t
+        → reached written t
     selector_good written line s (index at f fs) t g e =
         (selects written).indexed line s t (argument f (formula_walk k f) (written_place k f) ∷ arguments k fs) g
-        (one_more (argument f (formula_walk k f) (written_place k f)) (arguments k fs) (argument_good f (formula_good f) (place_good f)) (arguments_good fs)) e
+        (one_more (argument f (formula_walk k f) (written_place k f)) (arguments k fs) (argument_good f (formula_good f) (place_good f))
+        (arguments_good fs)) e
     selector_good written line s (field at x) t g e = (selects written).field_of line s t x g e
     selector_good written line s (content at) t g e = (selects written).content_of line at s t g e
 
     arguments_good : (fs : MoreFormulas) → GoodArguments Good Bare Written (arguments k fs)
     arguments_good no_more_formulas = no_more
     arguments_good (more_formulas f fs) =
-        one_more (argument f (formula_walk k f) (written_place k f)) (arguments k fs) (argument_good f (formula_good f) (place_good f)) (arguments_good fs)
+        one_more (argument f (formula_walk k f) (written_place k f)) (arguments k fs) (argument_good f (formula_good f) (place_good f))
+        (arguments_good fs)
 
-    place_good : (f : Formula) (s : S) → written_place k f ≡ Some (Ok s) → Written s
+    pub place_good : (f : Formula) (s : S) → written_place k f ≡ Some (Ok s) → Written s
     place_good (formula line r no_conclusion) s e = relation_place_good r s e
     place_good (formula line r (implies f)) s e = absurd (nothing_there e)
 

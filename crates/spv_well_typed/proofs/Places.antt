@@ -21,18 +21,21 @@ same_type-refl t = eq-eqb t.0 t.0 refl
 module _ (p : Program) (here : Option Routine) where
   -- a selector from a type to another one
   pub data Leads : Link → TypeId → TypeId → Type 0 where
-    by_index : (t u : TypeId) (e : Expression) → Typed p here e sort.Int → element_of (form_at p.forms t.0) ≡ Some u → Leads (ByIndex t e) t u
+    by_index : (t u : TypeId) (e : Expression) → Typed p here e sort.Int → element_of (form_at p.forms t.0) ≡ Some u
+        → Leads (ByIndex t e) t u
     by_field : (t u : TypeId) (f : Symbol) → field_of (form_at p.forms t.0) f ≡ Some u → Leads (ByField t f) t u
     by_cell : (line : ℕ) (t u : TypeId) → target_of (form_at p.forms t.0) ≡ Some u → Leads (ByCell line u) t u
 
   -- what follows a selector is selected from the type that it leads to
-  pub step_on : (l : Link) (t u : TypeId) (links : List Link) → Leads l t u → selected_type p here t (chained (l ∷ links)) ≡ selected_type p here u (chained links)
+  pub step_on : (l : Link) (t u : TypeId) (links : List Link) → Leads l t u
+      → selected_type p here t (chained (l ∷ links)) ≡ selected_type p here u (chained links)
   step_on (ByIndex a e) t u links (by_index b v x h k) =
       ap (λ c. cond c (option_and_then (λ w. selected_type p here w (chained links)) (element_of (form_at p.forms t.0))) None)
       (both_true (same_type-refl t) (ap (is_sort sort.Int) h.is))
       ∙ ap (λ o. option_and_then (λ w. selected_type p here w (chained links)) o) k
   step_on (ByField a f) t u links (by_field b v g k) =
-      ap (λ c. cond c (option_and_then (λ w. selected_type p here w (chained links)) (field_of (form_at p.forms t.0) f)) None) (same_type-refl t)
+      ap (λ c. cond c (option_and_then (λ w. selected_type p here w (chained links)) (field_of (form_at p.forms t.0) f)) None)
+      (same_type-refl t)
       ∙ ap (λ o. option_and_then (λ w. selected_type p here w (chained links)) o) k
   step_on (ByCell line c) t u links (by_cell at b v k) =
       ap (λ o. option_and_then (λ w. cond (same_type c w) (selected_type p here w (chained links)) None) o) k

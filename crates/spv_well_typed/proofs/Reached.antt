@@ -36,11 +36,14 @@ form_ok-at [] all i h = refl
 form_ok-at (f ∷ forms) all zero h = left_true _ _ h
 form_ok-at (f ∷ forms) all (suc i) h = form_ok-at forms all i (right_true (form_ok all f) _ h)
 
-field_exists : (forms : List TypeForm) (fields : List TypeField) (x : Symbol) (u : TypeId) → list_all (λ f. type_exists forms f.of) fields ≡ true → field_type fields x ≡ Some u → type_exists forms u ≡ true
+field_exists : (forms : List TypeForm) (fields : List TypeField) (x : Symbol) (u : TypeId)
+    → list_all (λ f. type_exists forms f.of) fields ≡ true → field_type fields x ≡ Some u → type_exists forms u ≡ true
 field_exists forms [] x u h e = absurd (nothing_there e)
-field_exists forms (f ∷ fields) x u h e = by_name (same_name f.name x) e (field_exists forms fields x u (right_true (type_exists forms f.of) _ h))
+field_exists forms (f ∷ fields) x u h e =
+    by_name (same_name f.name x) e (field_exists forms fields x u (right_true (type_exists forms f.of) _ h))
   where
-    by_name : (b : Bool) → cond b (Some f.of) (field_type fields x) ≡ Some u → (field_type fields x ≡ Some u → type_exists forms u ≡ true) → type_exists forms u ≡ true
+    by_name : (b : Bool) → cond b (Some f.of) (field_type fields x) ≡ Some u → (field_type fields x ≡ Some u → type_exists forms u ≡ true)
+        → type_exists forms u ≡ true
     by_name true k rest = subst (λ v. type_exists forms v ≡ true) (some_is k) (left_true _ _ h)
     by_name false k rest = rest k
 
@@ -109,10 +112,13 @@ module _ (p : Program) (here : Option Routine) (forms_right : forms_ok p.forms �
   -- ---- what is read
 
   pub data Reads : Base → List Link → TypeId → Type 0 where
-    reads_name : (line : ℕ) (x : Symbol) (links : List Link) (u t : TypeId) → name_type p here x ≡ Some u → is_result here x ≡ false → Way p here u links t → Reads (AtName line x) links t
+    reads_name : (line : ℕ) (x : Symbol) (links : List Link) (u t : TypeId) → name_type p here x ≡ Some u → is_result here x ≡ false
+        → Way p here u links t → Reads (AtName line x) links t
     reads_number : (z : ℤ) → Reads (OfNumber z) [] integer_type
-    reads_result : (c : Call) (t : TypeId) → option_and_then result_type (callee p here c) ≡ Some t → may_be_result (form_at p.forms t.0) ≡ true → Reads (OfCall c) [] t
-    reads_through : (c : Call) (line : ℕ) (q u t : TypeId) (links : List Link) → option_and_then result_type (callee p here c) ≡ Some q → target_of (form_at p.forms q.0) ≡ Some u → Way p here u links t → Reads (OfCall c) (ByCell line u ∷ links) t
+    reads_result : (c : Call) (t : TypeId) → option_and_then result_type (callee p here c) ≡ Some t
+        → may_be_result (form_at p.forms t.0) ≡ true → Reads (OfCall c) [] t
+    reads_through : (c : Call) (line : ℕ) (q u t : TypeId) (links : List Link) → option_and_then result_type (callee p here c) ≡ Some q
+        → target_of (form_at p.forms q.0) ≡ Some u → Way p here u links t → Reads (OfCall c) (ByCell line u ∷ links) t
 
   pub record ReadOk (r : Reached) : Type 0 where
     pub reads : Reads r.base r.links r.type
@@ -141,32 +147,41 @@ module _ (p : Program) (here : Option Routine) (forms_right : forms_ok p.forms �
   no_record (form.Array index element) f u m k = nothing_there k
 
   -- behind a function's result only `^` stands
-  result_further : (c : Call) (t u : TypeId) (l : Link) → option_and_then result_type (callee p here c) ≡ Some t → may_be_result (form_at p.forms t.0) ≡ true → Leads p here l t u → Reads (OfCall c) (l ∷ []) u
+  result_further : (c : Call) (t u : TypeId) (l : Link) → option_and_then result_type (callee p here c) ≡ Some t
+      → may_be_result (form_at p.forms t.0) ≡ true → Leads p here l t u → Reads (OfCall c) (l ∷ []) u
   result_further c t u (ByIndex a x) e m (by_index b v y g k) = absurd (no_array (form_at p.forms t.0) u m k)
   result_further c t u (ByField a f) e m (by_field b v g k) = absurd (no_record (form_at p.forms t.0) f u m k)
   result_further c t u (ByCell line v) e m (by_cell at b w k) = reads_through c line t u u [] e k (at_once u)
 
-  read_further : (b : Base) (links : List Link) (t u : TypeId) (l : Link) → Reads b links t → Leads p here l t u → Reads b (links ++ l ∷ []) u
-  read_further b links t u l (reads_name line x ls a v e n way) h = reads_name line x (ls ++ l ∷ []) a u e n (way_further p here a ls t u l way h)
+  read_further : (b : Base) (links : List Link) (t u : TypeId) (l : Link) → Reads b links t → Leads p here l t u
+      → Reads b (links ++ l ∷ []) u
+  read_further b links t u l (reads_name line x ls a v e n way) h =
+      reads_name line x (ls ++ l ∷ []) a u e n (way_further p here a ls t u l way h)
   read_further b links t u l (reads_number z) h = absurd (no_number l u h)
   read_further b links t u l (reads_result c q e m) h = result_further c t u l e m h
-  read_further b links t u l (reads_through c line q w x ls e k way) h = reads_through c line q w u (ls ++ l ∷ []) e k (way_further p here w ls t u l way h)
+  read_further b links t u l (reads_through c line q w x ls e k way) h =
+      reads_through c line q w u (ls ++ l ∷ []) e k (way_further p here w ls t u l way h)
 
   pub read_on : (r : Reached) (l : Link) (u : TypeId) → ReadOk r → Leads p here l r.type u → ReadOk (further r l u)
   read_on r l u h g = record { reads = read_further r.base r.links r.type u l h.reads g; exists = leads_there l r.type u g }
 
-  read_of_designator : (line : ℕ) (x : Symbol) (links : List Link) (u t : TypeId) → name_type p here x ≡ Some u → Way p here u links t → designator_type p here (place_at line x links) ≡ Some t
-  read_of_designator line x links u t e way = ap (λ o. option_and_then (λ v. selected_type p here v (chained links)) o) e ∙ way_selects p here u links t way
+  read_of_designator : (line : ℕ) (x : Symbol) (links : List Link) (u t : TypeId) → name_type p here x ≡ Some u → Way p here u links t
+      → designator_type p here (place_at line x links) ≡ Some t
+  read_of_designator line x links u t e way =
+      ap (λ o. option_and_then (λ v. selected_type p here v (chained links)) o) e ∙ way_selects p here u links t way
 
-  read_fine : (b : Base) (links : List Link) (t : TypeId) → Reads b links t → type_exists p.forms t ≡ true → FineExpression p here (expression_at (record { base = b; links = links; type = t })) (sort_of p.forms t)
+  read_fine : (b : Base) (links : List Link) (t : TypeId) → Reads b links t → type_exists p.forms t ≡ true
+      → FineExpression p here (expression_at (record { base = b; links = links; type = t })) (sort_of p.forms t)
   read_fine b links t (reads_name line x ls u v e n way) there =
       fine_is p here (Read (place_at line x ls)) (sort_of p.forms v)
       (ap (λ c. cond c (sort_of_type p (designator_type p here (place_at line x ls))) None) (ap not n)
       ∙ ap (sort_of_type p) (read_of_designator line x ls u v e way))
       (type_range v there) refl
   read_fine b links t (reads_number z) there =
-      fine_is p here (Numeral z) (sort_of p.forms integer_type) (ap Some (sym (ap (λ f. sort_of_form f integer_type) first))) (type_range integer_type there) refl
-  read_fine b links t (reads_result c u e m) there = fine_is p here (ResultOf c) (sort_of p.forms u) (ap (sort_of_type p) e) (type_range u there) refl
+      fine_is p here (Numeral z) (sort_of p.forms integer_type) (ap Some (sym (ap (λ f. sort_of_form f integer_type) first)))
+      (type_range integer_type there) refl
+  read_fine b links t (reads_result c u e m) there =
+      fine_is p here (ResultOf c) (sort_of p.forms u) (ap (sort_of_type p) e) (type_range u there) refl
   read_fine b links t (reads_through c line q u v ls e k way) there =
       fine_is p here (Through c line u (chained ls)) (sort_of p.forms v)
       (ap (λ o. cond (is_sort (sort.Ptr u) (sort_of_type p o)) (sort_of_type p (selected_type p here u (chained ls))) None) e
@@ -181,7 +196,8 @@ module _ (p : Program) (here : Option Routine) (forms_right : forms_ok p.forms �
   -- ---- what is written
 
   pub data Writes : Base → List Link → TypeId → Type 0 where
-    writes_name : (line : ℕ) (x : Symbol) (links : List Link) (u t : TypeId) → name_type p here x ≡ Some u → is_result here x ≡ false → Way p here u links t → Writes (AtName line x) links t
+    writes_name : (line : ℕ) (x : Symbol) (links : List Link) (u t : TypeId) → name_type p here x ≡ Some u → is_result here x ≡ false
+        → Way p here u links t → Writes (AtName line x) links t
     writes_result : (line : ℕ) (x : Symbol) (t : TypeId) → name_type p here x ≡ Some t → Writes (AtResult line x) [] t
 
   pub record WrittenOk (r : Reached) : Type 0 where
@@ -191,10 +207,13 @@ module _ (p : Program) (here : Option Routine) (forms_right : forms_ok p.forms �
   pub data IsSelected : Base → Type 0 where
     selected : (line : ℕ) (x : Symbol) → IsSelected (AtName line x)
 
-  write_further : (b : Base) (links : List Link) (t u : TypeId) (l : Link) → IsSelected b → Writes b links t → Leads p here l t u → Writes b (links ++ l ∷ []) u
-  write_further b links t u l (selected at y) (writes_name line x ls a v e n way) h = writes_name line x (ls ++ l ∷ []) a u e n (way_further p here a ls t u l way h)
+  write_further : (b : Base) (links : List Link) (t u : TypeId) (l : Link) → IsSelected b → Writes b links t → Leads p here l t u
+      → Writes b (links ++ l ∷ []) u
+  write_further b links t u l (selected at y) (writes_name line x ls a v e n way) h =
+      writes_name line x (ls ++ l ∷ []) a u e n (way_further p here a ls t u l way h)
 
-  pub write_on : (r : Reached) (l : Link) (u : TypeId) → IsSelected r.base → WrittenOk r → Leads p here l r.type u → WrittenOk (further r l u)
+  pub write_on : (r : Reached) (l : Link) (u : TypeId) → IsSelected r.base → WrittenOk r → Leads p here l r.type u
+      → WrittenOk (further r l u)
   write_on r l u k h g = record { writes = write_further r.base r.links r.type u l k h.writes g; exists = leads_there l r.type u g }
 
   -- a place that may be written, of this type
@@ -202,12 +221,18 @@ module _ (p : Program) (here : Option Routine) (forms_right : forms_ok p.forms �
     pub type : designator_type p here d ≡ Some t
     pub may : may_write here d ≡ true
 
-  written_place : (b : Base) (links : List Link) (t : TypeId) → Writes b links t → (d : Designator) → designator_at (record { base = b; links = links; type = t }) ≡ Some d → IsPlaceOf d t
+  written_place : (b : Base) (links : List Link) (t : TypeId) → Writes b links t → (d : Designator)
+      → designator_at (record { base = b; links = links; type = t }) ≡ Some d → IsPlaceOf d t
   written_place b links t (writes_name line x ls u v e n way) d k =
       subst (λ q. IsPlaceOf q v) (some_is k)
-      (record { type = read_of_designator line x ls u v e way; may = ap (λ c. not c || Rattle.spv_program.specs.ExpressionTypes.has_none (chained ls)) n })
+      (record {
+        type = read_of_designator line x ls u v e way;
+        may =
+            ap (λ c. not c || Rattle.spv_program.specs.ExpressionTypes.has_none (chained ls)) n;
+      })
   written_place b links t (writes_result line x v e) d k =
-      subst (λ q. IsPlaceOf q v) (some_is k) (record { type = read_of_designator line x [] v v e (at_once v); may = or_true (not (is_result here x)) })
+      subst (λ q. IsPlaceOf q v) (some_is k)
+      (record { type = read_of_designator line x [] v v e (at_once v); may = or_true (not (is_result here x)) })
     where
       or_true : (c : Bool) → (c || true) ≡ true
       or_true true = refl

@@ -2,8 +2,8 @@ use Rattle.std.proofs.Common.{◌∙◌, sym, ap}
 use Rattle.std.proofs.lemmas.Bool.{false≢true}
 use Rattle.spv_logic.specs.declared.types.Sort.TheVariants as sort
 use Rattle.spv_logic.specs.Terms.{sort_eq}
-use Rattle.spv_checker.proofs.Numbers.{number-at, sort_eq-other}
-use Rattle.spv_checker.proofs.casing.is_number.Goals as goal
+use Rattle.spv_sums.proofs.Numeric.{number-at, sort_eq-other}
+use Rattle.spv_sums.proofs.numbers.is_number.Goals as goal
 
 pub returns-in-Int : goal.returns-in-Int
 returns-in-Int c = record {

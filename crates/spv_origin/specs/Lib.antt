@@ -1,0 +1,12 @@
+pub mod Names
+pub mod Operators
+pub mod Formulas
+pub mod Expressions
+pub mod Statements
+pub mod Types
+pub mod Declarations
+pub mod Routines
+pub mod Programs
+pub mod Laws
+pub mod Examples
+pub mod RoutineExamples

@@ -1,0 +1,10 @@
+pub mod Numeric
+pub mod Negated
+pub mod Factors
+pub mod Ordered
+pub mod Pairs
+pub mod Exact
+pub mod Relations
+pub mod Measures
+pub mod Tallies
+pub mod Multiples

@@ -1,0 +1,4 @@
+pub mod Differences
+pub mod Readings
+pub mod Partials
+pub mod Added
