@@ -1,15 +1,14 @@
 -- What is called, with its arguments read as it wants them, is what the definition makes of the application.
-use Rattle.std.proofs.Common.{◌≡◌, ◌≤◌, ℕ, zero, suc, Bool, true, false, cond, List, [], ◌∷◌, length, map, Option, Some, None, Result, Ok, Err, IfOk, refl, sym, ap, subst, ◌∙◌, option_map, nat_eq, arith}
+use Rattle.std.proofs.Common.{◌≡◌, ◌≤◌, ℕ, suc, false, cond, List, [], ◌∷◌, length, map, Option, Some, None, Result, Ok, Err, IfOk, refl, sym, ap, subst, ◌∙◌, option_map, nat_eq, arith}
 use Rattle.std.proofs.lemmas.Bool.Decides.{nat_tests}
 use Rattle.spv_syntax.specs.declared.names.Name.{Name}
 use Rattle.spv_program.specs.Formulas.{Formula}
 use Rattle.spv_typing.specs.declared.faults.TypeFault.{TypeFault}
 use Rattle.spv_typing.specs.declared.faults.TypeFault.TheVariants.{Count}
-use Rattle.spv_typing.specs.Outcomes.{Outcome, after, where_so, wrong, undeclared}
+use Rattle.spv_typing.specs.Outcomes.{Outcome, after, where_so, wrong}
 use Rattle.spv_typing.specs.Known as known
 use Rattle.spv_typing.specs.OperatorWalk.{Operand, Argument, operands}
 use Rattle.spv_typing.specs.FormulaWalk.{Sorted, known_applied, put_applied, put_with, named_applied, applied, applied_of}
-use Rattle.spv_scopes.specs.Answers.{Stops}
 use Rattle.spv_scopes.specs.declared.functions.Function.{Function}
 use Rattle.spv_scopes.specs.declared.functions.Function.TheVariants as function
 use Rattle.spv_scopes.specs.declared.scopes.Meaning.{Meaning}
@@ -22,7 +21,6 @@ use Rattle.spv_formula_typing.specs.declared.forms.Way.{Way}
 use Rattle.spv_formula_typing.specs.declared.forms.Way.TheVariants as way
 use Rattle.spv_formula_typing.specs.Arguments.{Given, AsValue, AsField, given_one, given_as}
 use Rattle.spv_annotation_typing.specs.declared.callee.Callee.{Callee}
-use Rattle.spv_annotation_typing.specs.declared.callee.Callee.TheVariants as callee
 use Rattle.spv_annotation_typing.specs.Applied.{function_callee, meaning_callee, put_way, way_in, values, put_given, known_on, symbol_on, applied_to}
 
 module _ (S : Type 0) where

@@ -1,5 +1,5 @@
 -- The signatures of the definition by their first arguments.
-use Rattle.std.proofs.Common.{◌≡◌, ℕ, true, false, List, [], ◌∷◌, Option, Some, None, Ok, Err, refl}
+use Rattle.std.proofs.Common.{◌≡◌, ℕ, true, false, List, [], ◌∷◌, Option, Some, None, Ok, refl}
 use Rattle.spv_logic.specs.declared.types.TypeId.{TypeId}
 use Rattle.spv_logic.specs.declared.types.Sort.{Sort}
 use Rattle.spv_logic.specs.declared.types.Sort.TheVariants as sort
@@ -7,11 +7,11 @@ use Rattle.spv_logic.specs.declared.types.Shape.{Shape}
 use Rattle.spv_logic.specs.Shapes.{element_sort}
 use Rattle.spv_program.specs.Programs.{shapes}
 use Rattle.spv_program.specs.Formulas.{Formula}
-use Rattle.spv_typing.specs.Outcomes.{Outcome, after, wrong}
+use Rattle.spv_typing.specs.Outcomes.{after}
 use Rattle.spv_typing.specs.Known as known
 use Rattle.spv_typing.specs.OperatorWalk.{Operand, Of, NilAt}
 use Rattle.spv_typing.specs.FormulaWalk.{Signature, signature_of, signature_on, on_array, on_class, on_pointer}
-use Rattle.spv_annotation_typing.specs.Signatures.{ArraySorts, first_array, array_in, array_with, first_class, class_in, class_sort, class_behind, behind_operand, behind_pointer_sort, array_signature, content_signature, member_signature}
+use Rattle.spv_annotation_typing.specs.Signatures.{first_array, array_with, first_class, class_behind, array_signature, content_signature, member_signature}
 
 array_on : (line : ℕ) (a : Sort) (o : Option Sort) (f : Sort → Sort → Signature) → signature_on line a f o ≡ after (array_with line a o) (λ s. Ok (f s.array s.element))
 array_on line a None f = refl

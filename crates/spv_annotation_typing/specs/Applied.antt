@@ -1,13 +1,12 @@
 -- Applications, by what is called and its arguments as they were read.
-use Rattle.std.specs.Prelude.{ℕ, List, [], ◌∷◌, length, map, Option, Some, None, Result, Ok, Err, nat_eq, if◌then◌else◌}
-use Rattle.spv_logic.specs.declared.types.Sort.{Sort}
+use Rattle.std.specs.Prelude.{ℕ, List, [], ◌∷◌, length, Option, Some, None, Result, Ok, Err, nat_eq, if◌then◌else◌}
 use Rattle.spv_logic.specs.declared.types.Decl.{Decl}
 use Rattle.spv_syntax.specs.declared.names.Name.{Name}
 use Rattle.spv_program.specs.Formulas.{Formula, Applied, Known as KnownApplied}
 use Rattle.spv_typing.specs.declared.faults.TypeFault.{TypeFault}
 use Rattle.spv_typing.specs.declared.faults.TypeFault.TheVariants.{Count}
 use Rattle.spv_typing.specs.Outcomes.{Outcome, after, where_so, wrong, undeclared}
-use Rattle.spv_typing.specs.Known.{Scope, Function, Put}
+use Rattle.spv_typing.specs.Known.{Scope, Function}
 use Rattle.spv_typing.specs.OperatorWalk.{Operand}
 use Rattle.spv_typing.specs.FormulaWalk.{Sorted, with_sort, arity, signature_of, settled_all, operator_of, put_with}
 use Rattle.spv_scopes.specs.declared.functions.Function.{Function as FunctionText}

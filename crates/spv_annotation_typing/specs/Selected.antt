@@ -1,5 +1,5 @@
 -- Selectors over what is known of the program.
-use Rattle.std.specs.Prelude.{ℕ, List, [], ◌∷◌, Ok, Err, is_some}
+use Rattle.std.specs.Prelude.{ℕ, List, Ok, Err, is_some}
 use Rattle.spv_logic.specs.declared.types.Sort.{Sort}
 use Rattle.spv_logic.specs.declared.types.Sort.TheVariants as sort
 use Rattle.spv_logic.specs.Shapes.{element_sort}

@@ -7,7 +7,7 @@ use Rattle.spv_logic.specs.declared.types.Sort.{Sort}
 use Rattle.spv_logic.specs.declared.types.Sort.TheVariants as sort
 use Rattle.spv_logic.specs.declared.types.Shape.{Shape}
 use Rattle.spv_logic.specs.Shapes.{element_sort}
-use Rattle.spv_program.specs.Formulas.{Formula, Formulas, no_formulas, formulas}
+use Rattle.spv_program.specs.Formulas.{Formula, Formulas, formulas}
 use Rattle.spv_typing.specs.Outcomes.{Outcome, after, wrong}
 use Rattle.spv_typing.specs.OperatorWalk.{Operand, Of, NilAt}
 use Rattle.spv_typing.specs.FormulaWalk.{Signature}

@@ -25,7 +25,7 @@ use spv_typed::{Formula, FormulaForm};
 use spv_typing::TypeFault;
 use std::alloc::{AllocError, Global};
 
-fn push<T: Drop>(items: &mut Vec<T>, item: T) -> Result<(), AllocError>
+pub(crate) fn push<T: Drop>(items: &mut Vec<T>, item: T) -> Result<(), AllocError>
     ensures { OnOk result (items.new.items ≡ items.old.items ++ item ∷ []) }
 {
     items.push(item)?;

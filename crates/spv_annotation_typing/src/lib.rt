@@ -4,6 +4,7 @@
 mod applying;
 mod callee;
 mod naming;
+mod putting;
 mod selecting;
 mod settling;
 mod signatures;

@@ -46,6 +46,13 @@ impl Sorted {
         }
     }
 
+    /// A formula with its sort.
+    pub(crate) fn of(formula: Formula, sort: Sort) -> Sorted
+        ensures { result ≡ spec.with_sort formula sort }
+    {
+        Sorted { formula, sort }
+    }
+
     /// Its sort.
     pub fn sort(&self) -> Sort
         ensures { result ≡ self.now.sort }

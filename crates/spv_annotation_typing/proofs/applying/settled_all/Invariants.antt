@@ -1,4 +1,4 @@
-use Rattle.std.proofs.Common.{◌≡◌, ◌≤◌, length, drop}
+use Rattle.std.proofs.Common.{◌≡◌, length}
 use Rattle.std.specs.Vec.Iter.{into_iter_items, into_iter_len}
 use Rattle.spv_annotation_typing.proofs.SettledLoops.{SettledSoFar}
 use Rattle.spv_formula_typing.specs.Operands.{operands_of}

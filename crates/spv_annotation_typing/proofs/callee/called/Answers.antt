@@ -1,4 +1,4 @@
-use Rattle.std.proofs.Common.{◌≡◌, ap, sym, ◌∙◌, option_map}
+use Rattle.std.proofs.Common.{ap, sym, ◌∙◌, option_map}
 use Rattle.spv_typing.specs.Outcomes.{after}
 use Rattle.spv_typing.specs.FormulaWalk.{Sorted}
 use Rattle.spv_scopes.specs.Views.{function_of}
