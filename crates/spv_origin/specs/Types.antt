@@ -28,7 +28,7 @@ module _ (v : View) (targets : List (Symbol × TypeId)) where
       array_of : {t i e : TypeId} {line : ℕ} {index element : TypeDenoter}
           → item_at v.program.forms t.0 ≡ Some (Array i e) → TypeFrom i index → TypeFrom e element
           → TypeFrom t (array line index no_more_types element)
-      -- `ARRAY [s, t] OF u` is `ARRAY [s] OF ARRAY [t] OF u`
+      -- with a second index the elements are arrays over the other indices
       arrays_of : {t i e : TypeId} {line : ℕ} {index second element : TypeDenoter} {more : MoreTypes}
           → item_at v.program.forms t.0 ≡ Some (Array i e) → TypeFrom i index → TypeFrom e (array line second more element)
           → TypeFrom t (array line index (more_types second more) element)

@@ -11,27 +11,27 @@ use spv_names::{Names, Symbol};
 /// A function of formulas that is known from the start.
 #[derive(Clone, Copy, PartialEq, Eq, Debug)]
 pub enum Function {
-    /// `SELECT(a, i)`
+    /// SELECT: an element.
     Select,
-    /// `STORE(a, i, v)`
+    /// STORE: an array with another element.
     Store,
-    /// `PUT(r, f, v)`, where `f` is the name of a field.
+    /// PUT: a record with another field; its second argument is the field's name.
     Put,
-    /// `CELL(c, p)`
+    /// CELL: what a pointer leads to.
     Cell,
-    /// `SETCELL(c, p, v)`
+    /// SETCELL: cells with other content at one pointer.
     SetCell,
-    /// `EXTEND(c, p, v)`
+    /// EXTEND: cells with a new one.
     Extend,
-    /// `POINTERTO(p, c)`
+    /// POINTERTO: whether a pointer leads to a cell.
     PointerTo,
-    /// `CAR(x)`
+    /// CAR: the first part of a pair.
     Car,
-    /// `CDR(x)`
+    /// CDR: the second part.
     Cdr,
-    /// `CONS(x, y)`
+    /// CONS: a pair.
     Cons,
-    /// `ATOM(x)`
+    /// ATOM: whether a list is no pair.
     Atom,
 }
 
