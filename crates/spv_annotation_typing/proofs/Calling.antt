@@ -1,5 +1,6 @@
 -- What is called, with its arguments read as it wants them, is what the definition makes of the application.
-use Rattle.std.proofs.Common.{◌≡◌, ◌≤◌, ℕ, suc, false, cond, List, [], ◌∷◌, length, map, Option, Some, None, Result, Ok, Err, IfOk, refl, sym, ap, subst, ◌∙◌, option_map, nat_eq, arith}
+use Rattle.std.proofs.Common.{◌≡◌, Bool, true, false, cond, ◌≤◌, ℕ, suc, List, [], ◌∷◌, length, map, Option, Some, None, Result, Ok, Err, IfOk, refl, sym, ap, subst, ◌∙◌, option_map, nat_eq, arith}
+use Rattle.std.proofs.Math.Path.{fun_ext}
 use Rattle.std.proofs.lemmas.Bool.Decides.{nat_tests}
 use Rattle.spv_syntax.specs.declared.names.Name.{Name}
 use Rattle.spv_program.specs.Formulas.{Formula}
@@ -21,7 +22,7 @@ use Rattle.spv_formula_typing.specs.declared.forms.Way.{Way}
 use Rattle.spv_formula_typing.specs.declared.forms.Way.TheVariants as way
 use Rattle.spv_formula_typing.specs.Arguments.{Given, AsValue, AsField, given_one, given_as}
 use Rattle.spv_annotation_typing.specs.declared.callee.Callee.{Callee}
-use Rattle.spv_annotation_typing.specs.Applied.{function_callee, meaning_callee, put_way, way_in, values, put_given, known_on, symbol_on, applied_to}
+use Rattle.spv_annotation_typing.specs.Applied.{function_callee, meaning_callee, put_way, way_in, values, put_given, known_on, symbol_on, routine_fault, applied_to}
 
 module _ (S : Type 0) where
   abbrev valued : List (ℕ × Operand Formula) → List (ℕ × Given Formula S)
@@ -147,7 +148,15 @@ found_called s line x (meaning.Start t) given = by_values Sorted (λ os. Err (wr
 found_called s line x (meaning.Declared name signature) given = by_values Sorted (symbol_on line (decl_of name signature.now)) given
 found_called s line x (meaning.Routine name heading) given =
     ap (λ n. after (operands given) (λ os. where_so (nat_eq (length os) n) (Count line) (Err (wrong line)))) (same_length formal_of heading.now.formals)
-    ∙ by_values Sorted (λ os. where_so (nat_eq (length os) (length heading.now.formals)) (Count line) (Err (wrong line))) given
+    ∙ ap (after (operands given)) (fun_ext (λ os. counted (nat_eq (length os) (length heading.now.formals))))
+    ∙ by_values Sorted (λ os. Err (routine_fault line (length heading.now.formals) os)) given
+  where
+    to_sorted : Outcome Sorted → Outcome Sorted
+    to_sorted o = o
+
+    counted : (b : Bool) → where_so b (Count line) (Err (wrong line)) ≡ to_sorted (Err (cond b (wrong line) (Count line)))
+    counted true = refl
+    counted false = refl
 
 pub meaning_called : (s : known.Scope) (line : ℕ) (x : Name) (found : Option Meaning) (r : Result Callee TypeFault) → known.function s x.symbol ≡ None
     → option_map meaning_of found ≡ known.meaning s x.symbol → r ≡ meaning_callee x found

@@ -2,3 +2,5 @@ pub mod Calling
 pub mod Indices
 pub mod Signing
 pub mod SettledLoops
+pub mod Threes
+pub mod Contents

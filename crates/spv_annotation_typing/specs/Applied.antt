@@ -46,6 +46,13 @@ way_in (callee.Declared x s) n = way.Value
 way_in (callee.Routine count) n = way.Value
 way_in callee.Other n = way.Value
 
+-- the parts of PUT, each with its line, where each is what it has to be
+abbrev pub put_parts : Scope → ℕ → ℕ → ℕ → ℕ → Option (Operand Formula) → Option (Option Name) → Option (Operand Formula) → Outcome Sorted
+put_parts s line on at behind r None v = Err (Count line)
+put_parts s line on at behind None (Some x) v = Err (Count line)
+put_parts s line on at behind (Some r) (Some x) None = Err (Count line)
+put_parts s line on at behind (Some r) (Some x) (Some v) = put_with s at x (on, r) (behind, v)
+
 module _ {S : Type 0} where
   -- the arguments that are values
   abbrev pub values : List (ℕ × Given Formula S) → List (ℕ × Operand Formula)
@@ -57,23 +64,20 @@ module _ {S : Type 0} where
 
   -- ---- PUT
 
-  abbrev pub put_value : Scope → ℕ → ℕ × Operand Formula → ℕ → Option Name → ℕ × Given Formula S → Outcome Sorted
-  put_value s line r at x (n, AsValue v) = put_with s at x r (n, v)
-  put_value s line r at x (n, AsPlace p) = Err (Count line)
-  put_value s line r at x (n, NoPlace) = Err (Count line)
-  put_value s line r at x (n, AsField y) = Err (Count line)
+  abbrev pub value_in : Given Formula S → Option (Operand Formula)
+  value_in (AsValue o) = Some o
+  value_in (AsPlace p) = None
+  value_in NoPlace = None
+  value_in (AsField x) = None
 
-  abbrev pub put_field : Scope → ℕ → ℕ × Operand Formula → ℕ × Given Formula S → ℕ × Given Formula S → Outcome Sorted
-  put_field s line r (at, AsField x) v = put_value s line r at x v
-  put_field s line r (at, AsValue o) v = Err (Count line)
-  put_field s line r (at, AsPlace p) v = Err (Count line)
-  put_field s line r (at, NoPlace) v = Err (Count line)
+  abbrev pub field_in : Given Formula S → Option (Option Name)
+  field_in (AsValue o) = None
+  field_in (AsPlace p) = None
+  field_in NoPlace = None
+  field_in (AsField x) = Some x
 
   abbrev pub put_three : Scope → ℕ → ℕ × Given Formula S → ℕ × Given Formula S → ℕ × Given Formula S → Outcome Sorted
-  put_three s line (n, AsValue r) f v = put_field s line (n, r) f v
-  put_three s line (n, AsPlace p) f v = Err (Count line)
-  put_three s line (n, NoPlace) f v = Err (Count line)
-  put_three s line (n, AsField y) f v = Err (Count line)
+  put_three s line r f v = put_parts s line r.0 f.0 v.0 (value_in r.1) (field_in f.1) (value_in v.1)
 
   abbrev pub put_given : Scope → ℕ → List (ℕ × Given Formula S) → Outcome Sorted
   put_given s line (r ∷ f ∷ v ∷ []) = put_three s line r f v
@@ -92,9 +96,12 @@ symbol_on line d os =
     where_so (nat_eq (length os) (length d.args)) (Count line)
     (after (settled_all d.args os) (λ fs. Ok (with_sort (Applied d.name fs) d.result)))
 
+abbrev pub routine_fault : ℕ → ℕ → List (ℕ × Operand Formula) → TypeFault
+routine_fault line count os = if nat_eq (length os) count then wrong line else Count line
+
 abbrev pub applied_to : {S : Type 0} → Scope → ℕ → Callee → List (ℕ × Given Formula S) → Outcome Sorted
 applied_to s line callee.Put gs = put_given s line gs
 applied_to s line (callee.Known b) gs = known_on s line (function_of b) (values gs)
 applied_to s line (callee.Declared x signature) gs = symbol_on line (decl_of x signature.now) (values gs)
-applied_to s line (callee.Routine count) gs = where_so (nat_eq (length (values gs)) count) (Count line) (Err (wrong line))
+applied_to s line (callee.Routine count) gs = Err (routine_fault line count (values gs))
 applied_to s line callee.Other gs = Err (wrong line)

@@ -9,9 +9,10 @@ ghost use Rattle.spv_scopes.specs.Views.{function_of};
 ghost use Rattle.spv_typed.specs.FormulaViews.{formulas_of};
 ghost use Rattle.spv_formula_typing.specs.Operands.{operands_of};
 ghost use Rattle.spv_formula_typing.specs.Arguments.{all_given};
-ghost use Rattle.spv_annotation_typing.specs.Applied.{applied_to, known_on, put_given, symbol_on, values};
+ghost use Rattle.spv_annotation_typing.specs.Applied.{applied_to, known_on, routine_fault, put_given, symbol_on, values};
 
 use crate::callee::Callee;
+use crate::putting::put_applied;
 use crate::settling::settled_formula;
 use crate::signatures::{arity, operator_of, signature_of};
 use crate::sorted::{Sorted, boxed};
@@ -109,4 +110,44 @@ fn symbol_applied(
     }
     let formulas = settled_all(alloc, signature.args.as_slice(), given)?;
     Ok(Sorted::new(FormulaForm::Applied(name, formulas), signature.result))
+}
+
+// What has no place in an annotation, but has its arguments counted.
+fn routine_applied(line: u32, count: usize, given: &[(u32, Operand<Formula>)]) -> TypeFault
+    ensures { result ≡ routine_fault line count (operands_of given.now) }
+{
+    if given.len() == count {
+        TypeFault::WrongType(line)
+    } else {
+        TypeFault::Count(line)
+    }
+}
+
+/// What is called, with its arguments as they were read.
+pub(crate) fn applied(
+    scope: &Scope<'_>,
+    alloc: Global,
+    line: u32,
+    callee: Callee<'_>,
+    given: Vec<(u32, Given<Formula, Sorted>)>,
+) -> Result<Sorted, TypeFault>
+    ensures ok { IfOk result (λ r. applied_to (scope_of scope.now) line callee.entry (all_given given.items) ≡ Ok r) }
+    ensures err { IfErr result (λ e. Stops e (applied_to (scope_of scope.now) line callee.entry (all_given given.items))) }
+{
+    match callee {
+        Callee::Put => put_applied(scope, alloc, line, given),
+        Callee::Known(b) => {
+            let values = values_of(alloc, given)?;
+            known_applied(scope, alloc, line, b, values)
+        }
+        Callee::Declared(name, signature) => {
+            let values = values_of(alloc, given)?;
+            symbol_applied(alloc, line, name, signature, values)
+        }
+        Callee::Routine(count) => {
+            let values = values_of(alloc, given)?;
+            Err(routine_applied(line, count, values.as_slice()))
+        }
+        Callee::Other => Err(TypeFault::WrongType(line)),
+    }
 }

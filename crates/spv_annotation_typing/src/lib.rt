@@ -3,6 +3,7 @@
 
 mod applying;
 mod callee;
+mod forms;
 mod naming;
 mod putting;
 mod selecting;
@@ -10,5 +11,7 @@ mod settling;
 mod signatures;
 mod sorted;
 
+pub use callee::Callee;
+pub use forms::{Annotations, annotation};
 pub use settling::settled_formula;
 pub use sorted::Sorted;
