@@ -74,7 +74,7 @@ fn values_of(
 
 // A function that is known from the start, other than PUT.
 fn known_applied(
-    scope: &Scope<'_>,
+    scope: &Scope<'_, '_>,
     alloc: Global,
     line: u32,
     b: Function,
@@ -125,7 +125,7 @@ fn routine_applied(line: u32, count: usize, given: &[(u32, Operand<Formula>)]) -
 
 /// What is called, with its arguments as they were read.
 pub(crate) fn applied(
-    scope: &Scope<'_>,
+    scope: &Scope<'_, '_>,
     alloc: Global,
     line: u32,
     callee: Callee<'_>,

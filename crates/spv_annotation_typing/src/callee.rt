@@ -67,7 +67,7 @@ fn called_meaning<'a>(x: Name, found: Option<Meaning<'a>>) -> Result<Callee<'a>,
 }
 
 /// What a name with arguments calls; a name that nothing has is a fault before the arguments are looked at.
-pub(crate) fn called<'a>(scope: &Scope<'a>, line: u32, x: Name) -> Result<Callee<'a>, TypeFault>
+pub(crate) fn called<'k>(scope: &Scope<'k, '_>, line: u32, x: Name) -> Result<Callee<'k>, TypeFault>
     ensures ok { IfOk result (λ c. (given : List (Argument FormulaText spec.Sorted)) →
         spec.applied (scope_of scope.now) line x given ≡ after (given_as (way_in c) 0 given) (applied_to (scope_of scope.now) line c)) }
     ensures err { IfErr result (λ e. (given : List (Argument FormulaText spec.Sorted)) → Stops e (spec.applied (scope_of scope.now) line x given)) }

@@ -23,12 +23,12 @@ use std::alloc::{AllocError, Global};
 
 /// Annotations, where they stand.
 #[derive(Clone, Copy)]
-pub struct Annotations<'a> {
+pub struct Annotations<'k, 'o> {
     /// The names that they see.
-    pub scope: Scope<'a>,
+    pub scope: Scope<'k, 'o>,
 }
 
-impl<'a> Forms for Annotations<'a> {
+impl<'k, 'o> Forms for Annotations<'k, 'o> {
     ghost use Rattle.spv_annotation_typing.specs.Applied.{way_in, applied_to};
     ghost use Rattle.std.specs.Prelude.{List};
     ghost use Rattle.spv_program.specs.Formulas.{Formula as FormulaText};
@@ -41,7 +41,7 @@ impl<'a> Forms for Annotations<'a> {
 
     type Reached = Sorted;
 
-    type Callee = Callee<'a>;
+    type Callee = Callee<'k>;
 
     ghost forms = { λ a. spec.formula_forms (scope_of a.scope) };
 
@@ -149,7 +149,7 @@ impl<'a> Forms for Annotations<'a> {
         name_alone(&self.scope, alloc, line, x)
     }
 
-    fn callee(&self, line: u32, x: Name) -> Result<Callee<'a>, TypeFault>
+    fn callee(&self, line: u32, x: Name) -> Result<Callee<'k>, TypeFault>
         ensures ok { IfOk result (λ c. (given : List (Argument FormulaText spec.Sorted)) →
             spec.applied (scope_of self.now.scope) line x given ≡ after (given_as (way_in c) 0 given) (applied_to (scope_of self.now.scope) line c)) }
         ensures err { IfErr result (λ e. (given : List (Argument FormulaText spec.Sorted)) → Stops e (spec.applied (scope_of self.now.scope) line x given)) }
@@ -157,7 +157,7 @@ impl<'a> Forms for Annotations<'a> {
         called(&self.scope, line, x)
     }
 
-    fn way(&self, callee: &Callee<'a>, place: usize) -> Way {
+    fn way(&self, callee: &Callee<'k>, place: usize) -> Way {
         callee.way(place)
     }
 
@@ -166,7 +166,7 @@ impl<'a> Forms for Annotations<'a> {
         alloc: Global,
         line: u32,
         _x: Name,
-        callee: Callee<'a>,
+        callee: Callee<'k>,
         given: Vec<(u32, Given<Formula, Sorted>)>,
     ) -> Result<Sorted, TypeFault>
         ensures ok { IfOk result (λ r. applied_to (scope_of self.now.scope) line callee.entry (all_given given.items) ≡ Ok r) }
@@ -219,7 +219,7 @@ impl<'a> Forms for Annotations<'a> {
 
 /// The annotation of a formula's tree, or the first fault in it. An annotation is a truth value.
 pub fn annotation(
-    scope: &Scope<'_>,
+    scope: &Scope<'_, '_>,
     alloc: Global,
     tree: &spv_syntax::Formula,
 ) -> Result<Annotation, TypeFault>

@@ -40,7 +40,7 @@ fn symbol_alone(
 }
 
 // A name that nothing declares.
-fn unknown_alone(scope: &Scope<'_>, line: u32, x: Name) -> TypeFault
+fn unknown_alone(scope: &Scope<'_, '_>, line: u32, x: Name) -> TypeFault
     ensures { result ≡ unknown_alone (scope_of scope.now) line x }
 {
     match scope.function(x.symbol) {
@@ -51,7 +51,7 @@ fn unknown_alone(scope: &Scope<'_>, line: u32, x: Name) -> TypeFault
 
 // A name alone; a function that is known from the start lacks its arguments.
 pub(crate) fn name_alone(
-    scope: &Scope<'_>,
+    scope: &Scope<'_, '_>,
     alloc: Global,
     line: u32,
     x: Name,
@@ -75,7 +75,7 @@ pub(crate) fn name_alone(
 }
 
 // `#T`
-pub(crate) fn class_at(scope: &Scope<'_>, line: u32, x: Name) -> Result<Operand<Formula>, TypeFault>
+pub(crate) fn class_at(scope: &Scope<'_, '_>, line: u32, x: Name) -> Result<Operand<Formula>, TypeFault>
     ensures ok { IfOk result (λ o. spec.class_at (scope_of scope.now) line x ≡ Ok (operand_of o)) }
     ensures err { IfErr result (λ e. Stops e (spec.class_at (scope_of scope.now) line x)) }
 {

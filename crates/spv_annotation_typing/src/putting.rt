@@ -53,7 +53,7 @@ fn put_at(
 
 // PUT with its three arguments, each with its line.
 fn put_with(
-    scope: &Scope<'_>,
+    scope: &Scope<'_, '_>,
     alloc: Global,
     line: u32,
     x: Option<Name>,
@@ -94,7 +94,7 @@ fn field_of(given: Given<Formula, Sorted>) -> Option<Option<Name>>
 }
 
 fn put_parts(
-    scope: &Scope<'_>,
+    scope: &Scope<'_, '_>,
     alloc: Global,
     line: u32,
     on: u32,
@@ -135,7 +135,7 @@ fn three<T: Drop>(given: Vec<T>) -> Option<(T, T, T)>
 }
 
 fn put_three(
-    scope: &Scope<'_>,
+    scope: &Scope<'_, '_>,
     alloc: Global,
     line: u32,
     first: (u32, Given<Formula, Sorted>),
@@ -157,7 +157,7 @@ fn put_three(
 /// PUT with its arguments as they were read.
 #[tactic(auto, using(crate::proofs::Threes::not_three))]
 pub(crate) fn put_applied(
-    scope: &Scope<'_>,
+    scope: &Scope<'_, '_>,
     alloc: Global,
     line: u32,
     given: Vec<(u32, Given<Formula, Sorted>)>,

@@ -137,7 +137,7 @@ fn member_signature(
 /// The sorts that the arguments of a function must have, and that of its result.
 #[tactic(auto, using(crate::proofs::Signing::select_is, crate::proofs::Signing::store_is, crate::proofs::Signing::cell_is, crate::proofs::Signing::set_cell_is, crate::proofs::Signing::extend_is, crate::proofs::Signing::pointer_to_is))]
 pub(crate) fn signature_of(
-    scope: &Scope<'_>,
+    scope: &Scope<'_, '_>,
     alloc: Global,
     b: Function,
     given: &[(u32, Operand<Formula>)],

@@ -45,15 +45,15 @@ pub enum Meaning<'a> {
 
 /// Where a formula or a statement stands: the names of the routine's scope, which hide those of the program, and the routine.
 #[derive(Clone, Copy)]
-pub struct Scope<'a> {
+pub struct Scope<'k, 'o> {
     /// The program so far.
-    pub known: &'a Known,
+    pub known: &'k Known,
     /// In annotations, a function's name and the type of its result.
     pub result: Option<(Symbol, TypeId)>,
     /// The names of the routine.
-    pub own: &'a Named<Own>,
+    pub own: &'o Named<Own>,
     /// The routine in whose body this is.
-    pub routine: Option<(Symbol, &'a Heading)>,
+    pub routine: Option<(Symbol, &'k Heading)>,
 }
 
 fn meaning_of_own<'a>(own: Own) -> Meaning<'a>
@@ -143,9 +143,9 @@ impl Known {
     }
 }
 
-impl<'a> Scope<'a> {
+impl<'k, 'o> Scope<'k, 'o> {
     #[tactic(auto, using(crate::proofs::Meanings::own_found, crate::proofs::Meanings::own_missing))]
-    fn table_meaning(&self, x: Symbol) -> Option<Meaning<'a>>
+    fn table_meaning(&self, x: Symbol) -> Option<Meaning<'k>>
         ensures { option_map meaning_of result ≡ found (spec.named own_of self.now.own.now) x }
     {
         match self.own.get(x) {
@@ -154,7 +154,7 @@ impl<'a> Scope<'a> {
         }
     }
 
-    fn own_meaning(&self, x: Symbol) -> Option<Meaning<'a>>
+    fn own_meaning(&self, x: Symbol) -> Option<Meaning<'k>>
         ensures { option_map meaning_of result ≡ found (scope_of self.now).own x }
     {
         match self.result {
@@ -170,7 +170,7 @@ impl<'a> Scope<'a> {
     }
 
     /// What a name stands for.
-    pub fn meaning(&self, x: Symbol) -> Option<Meaning<'a>>
+    pub fn meaning(&self, x: Symbol) -> Option<Meaning<'k>>
         ensures { option_map meaning_of result ≡ spec.meaning (scope_of self.now) x }
     {
         match self.own_meaning(x) {
