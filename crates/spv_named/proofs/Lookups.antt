@@ -1,8 +1,12 @@
 -- Entries under names as entries of a map of numbers.
-use Rattle.std.proofs.Common.{◌≡◌, ℕ, Bool, true, false, cond, List, [], ◌∷◌, ◌++◌, map, Some, None, refl, sym, ap, ◌∙◌, nat_eq}
+use Rattle.std.proofs.Common.{◌≡◌, ℕ, zero, suc, Bool, true, false, cond, List, [], ◌∷◌, ◌++◌, map, length, take, slice_get, Option, ◌<◌, arith, subst, Some, None, refl, sym, ap, ◌∙◌, nat_eq}
 use Rattle.std.proofs.lemmas.Bool.{false≢true, eqb-true, eq-eqb}
+use Rattle.std.proofs.lemmas.Option.{none-some}
+use Rattle.std.proofs.lemmas.Bool.Decides.{nat_tests}
 use Rattle.std.proofs.lemmas.List.{map-append}
-use Rattle.std.specs.Map.{lookup}
+use Rattle.std.specs.Map.{lookup, keys_of}
+use Rattle.std.specs.List.{AllByRecursion, IsDistinct}
+use Rattle.std.proofs.lemmas.Map.Keys.{IsDistinct-head, IsDistinct-tail}
 use Rattle.indexmap.specs.IndexMap.{IndexMap, insert_entry}
 use Rattle.indexmap.proofs.CallerLemmas.{insert_entry-new}
 use Rattle.spv_names.specs.declared.names.Symbol.{Symbol}
@@ -26,3 +30,28 @@ pub put_last : {X S : Type 0} (m : IndexMap ℕ X S) (name : Symbol) (x : X)
     → found (map named m.entries) name ≡ None → map named (insert_entry nat_eq m.entries name.0 x) ≡ map named m.entries ++ (name, x) ∷ []
 put_last m name x none =
     ap (map named) (insert_entry-new nat_eq m name.0 x (found_is m.entries name ∙ none)) ∙ map-append named m.entries ((name.0, x) ∷ [])
+
+pub last_taken : {X : Type 0} (old new : List (ℕ × X)) (e : ℕ × X) → old ≡ new ++ e ∷ [] → map named old ≡ map named new ++ named e ∷ []
+last_taken old new e h = ap (map named) h ∙ map-append named new (e ∷ [])
+
+pub none_left : {X : Type 0} (old : List (ℕ × X)) → (0 < length old → false ≡ true) → map named old ≡ []
+none_left [] h = refl
+none_left (e ∷ old) h = absurd (false≢true (h (grind (arith, nat_tests))))
+
+abbrev key_or : {X : Type 0} → ℕ → Option (ℕ × X) → ℕ
+key_or other None = other
+key_or other (Some e) = e.0
+
+-- no earlier entry of a map has the key of an entry
+apart_at : {X : Type 0} (key : ℕ) (es : List (ℕ × X)) (n : ℕ) (e : ℕ × X) → AllByRecursion (λ y. nat_eq key y ≡ false) (keys_of es) → slice_get es n ≡ Some e → nat_eq key e.0 ≡ false
+apart_at key [] n e h at = absurd (none-some _ at)
+apart_at {X} key (d ∷ es) zero e h at = subst (λ (o : Option (ℕ × X)). nat_eq key (key_or key o) ≡ false) at h.0
+apart_at key (d ∷ es) (suc n) e h at = apart_at key es n e h.1 at
+
+pub none_earlier : {X : Type 0} (es : List (ℕ × X)) (n : ℕ) (e : ℕ × X) → IsDistinct nat_eq (keys_of es) → slice_get es n ≡ Some e
+    → found (take n (map named es)) (record { 0 = e.0 }) ≡ None
+none_earlier [] n e h at = absurd (none-some _ at)
+none_earlier (d ∷ es) zero e h at = refl
+none_earlier (d ∷ es) (suc n) e h at =
+    ap (λ b. cond b (Some d.1) (found (take n (map named es)) (record { 0 = e.0 }))) (apart_at d.0 es n e (IsDistinct-head nat_eq d.0 (keys_of es) h) at)
+    ∙ none_earlier es n e (IsDistinct-tail nat_eq d.0 (keys_of es) h) at

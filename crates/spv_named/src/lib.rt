@@ -1,8 +1,10 @@
 //! Values under names, in the order in which they came, which contracts see as a list of pairs.
 #![tactic(auto)]
 
-ghost use Rattle.std.specs.Prelude.{◌≡◌, ◌<◌, ◌↔◌, [], ◌∷◌, ◌++◌, None, Some, IfSome, IsSome, IsTrue, OnOk, OnErr, is_some, length, option_copied, slice_get};
+ghost use Rattle.std.specs.Prelude.{◌≡◌, ◌<◌, ◌↔◌, IfNone, [], ◌∷◌, ◌++◌, None, Some, IfSome, IsSome, IsTrue, OnOk, OnErr, is_some, length, option_copied, slice_get, take};
 ghost use Rattle.spv_program.specs.Lists.{found};
+
+mod joining;
 
 use indexmap::IndexMap;
 use spv_names::Symbol;
@@ -65,11 +67,15 @@ impl<T: Drop> Named<T> {
         self.entries.contains_key(&name.0)
     }
 
-    /// The place of a name, from 0, and what stands there.
+    /// The name at a place, counted from 0, and what stands under it.
+    #[tactic(auto, using(crate::proofs::Lookups::none_earlier))]
     pub fn entry(&self, place: usize) -> Option<(Symbol, &T)>
         ensures entry { IfSome result (λ e. slice_get self.now place ≡ Some (e.0, e.1.now)) }
         ensures within { IsSome result ↔ (place < length self.now) }
+        ensures earlier { IfSome result (λ e. found (take place self.now) e.0 ≡ None) }
     {
+        // What is called says that no two keys are the same.
+        let _count = self.entries.len();
         let (name, value) = self.entries.get_index(place)?;
         Some((Symbol(*name), value))
     }
@@ -83,5 +89,17 @@ impl<T: Drop> Named<T> {
     {
         self.entries.insert(name.0, value)?;
         Ok(())
+    }
+
+    /// Takes the last name away, with what stands under it.
+    #[tactic(auto, using(crate::proofs::Lookups::last_taken, crate::proofs::Lookups::none_left))]
+    pub fn pop(&mut self) -> Option<(Symbol, T)>
+        ensures taken { IfSome result (λ e. self.old ≡ self.new ++ e ∷ []) }
+        ensures empty { IfNone result (self.old ≡ []) }
+    {
+        let Some((name, value)) = self.entries.pop() else {
+            return None;
+        };
+        Some((Symbol(name), value))
     }
 }

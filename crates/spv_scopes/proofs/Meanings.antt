@@ -124,3 +124,11 @@ own_found table x o e = own_looked_up table x ∙ ap (option_map own_of) e
 
 pub own_missing : (table : List (Symbol × Own)) (x : Symbol) → found table x ≡ None → found (spec.named own_of table) x ≡ None
 own_missing table x e = own_looked_up table x ∙ ap (option_map own_of) e
+
+pub parameter_found : (table : List (Symbol × Own)) (names : spec.Names) (x : Symbol) (o : Own)
+    → found table x ≡ Some o → found (spec.named own_of table ++ names) x ≡ Some (own_of o)
+parameter_found table names x o e = found_first own_of x table names ∙ ap (λ p. first_of (option_map own_of p) (found names x)) e
+
+pub parameter_missing : (table : List (Symbol × Own)) (names : spec.Names) (x : Symbol)
+    → found table x ≡ None → found (spec.named own_of table ++ names) x ≡ found names x
+parameter_missing table names x e = found_first own_of x table names ∙ ap (λ p. first_of (option_map own_of p) (found names x)) e

@@ -32,7 +32,7 @@ result_of (Some entry) = (entry.0, spec.OfPlace entry.1) ∷ []
 abbrev pub scope_of : Scope → spec.Scope
 scope_of s = record {
   known = s.known.now;
-  own = result_of s.result ++ spec.named own_of s.own.now;
+  own = spec.named own_of s.parameters.now ++ (result_of s.result ++ spec.named own_of s.own.now);
   routine = option_map (λ r. heading_of r.0 r.1.now) s.routine;
 }
 

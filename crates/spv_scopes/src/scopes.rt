@@ -1,10 +1,10 @@
 // What a name stands for where a formula or a statement is read.
 
-ghost use Rattle.std.specs.Prelude.{◌≡◌, IfSome, option_copied, option_map};
+ghost use Rattle.std.specs.Prelude.{◌≡◌, ◌++◌, IfSome, option_copied, option_map};
 ghost use Rattle.spv_program.specs.Lists.{found};
 ghost use Rattle.spv_typing.specs.Known as spec;
 ghost use Rattle.spv_scopes.specs.Views.{function_of, heading_of};
-ghost use Rattle.spv_scopes.specs.Scopes.{own_of, meaning_of, scope_of, routines, callables, places, declared_types, declared_names};
+ghost use Rattle.spv_scopes.specs.Scopes.{own_of, meaning_of, result_of, scope_of, routines, callables, places, declared_types, declared_names};
 
 use crate::functions::Function;
 use crate::known::{Known, Signature};
@@ -44,13 +44,16 @@ pub enum Meaning<'a> {
 }
 
 /// Where a formula or a statement stands: the names of the routine's scope, which hide those of the program, and the routine.
+/// Of two names that are the same the first counts, in the order of the fields.
 #[derive(Clone, Copy)]
 pub struct Scope<'k, 'o> {
     /// The program so far.
     pub known: &'k Known,
+    /// In EXIT the parameters, else no names.
+    pub parameters: &'o Named<Own>,
     /// In annotations, a function's name and the type of its result.
     pub result: Option<(Symbol, TypeId)>,
-    /// The names of the routine.
+    /// The names of the routine, in EXIT without its parameters.
     pub own: &'o Named<Own>,
     /// The routine in whose body this is.
     pub routine: Option<(Symbol, &'k Heading)>,
@@ -63,6 +66,16 @@ fn meaning_of_own<'a>(own: Own) -> Meaning<'a>
         Own::Constant(z) => Meaning::Constant(z),
         Own::Place(t) => Meaning::Place(t),
         Own::Start(s) => Meaning::Start(s),
+    }
+}
+
+#[tactic(auto, using(crate::proofs::Meanings::own_found, crate::proofs::Meanings::own_missing))]
+fn table_meaning<'a>(names: &Named<Own>, x: Symbol) -> Option<Meaning<'a>>
+    ensures { option_map meaning_of result ≡ found (spec.named own_of names.now) x }
+{
+    match names.get(x) {
+        Some(own) => Some(meaning_of_own(*own)),
+        None => None,
     }
 }
 
@@ -144,28 +157,29 @@ impl Known {
 }
 
 impl<'k, 'o> Scope<'k, 'o> {
-    #[tactic(auto, using(crate::proofs::Meanings::own_found, crate::proofs::Meanings::own_missing))]
-    fn table_meaning(&self, x: Symbol) -> Option<Meaning<'k>>
-        ensures { option_map meaning_of result ≡ found (spec.named own_of self.now.own.now) x }
-    {
-        match self.own.get(x) {
-            Some(own) => Some(meaning_of_own(*own)),
-            None => None,
-        }
-    }
-
-    fn own_meaning(&self, x: Symbol) -> Option<Meaning<'k>>
-        ensures { option_map meaning_of result ≡ found (scope_of self.now).own x }
+    fn later_meaning(&self, x: Symbol) -> Option<Meaning<'k>>
+        ensures { option_map meaning_of result ≡ found (result_of self.now.result ++ spec.named own_of self.now.own.now) x }
     {
         match self.result {
             Some((name, t)) => {
                 if name.0 == x.0 {
                     Some(Meaning::Place(t))
                 } else {
-                    self.table_meaning(x)
+                    table_meaning(self.own, x)
                 }
             }
-            None => self.table_meaning(x),
+            None => table_meaning(self.own, x),
+        }
+    }
+
+    /// What a name of the routine stands for.
+    #[tactic(auto, using(crate::proofs::Meanings::parameter_found, crate::proofs::Meanings::parameter_missing))]
+    pub fn own_meaning(&self, x: Symbol) -> Option<Meaning<'k>>
+        ensures { option_map meaning_of result ≡ found (scope_of self.now).own x }
+    {
+        match self.parameters.get(x) {
+            Some(own) => Some(meaning_of_own(*own)),
+            None => self.later_meaning(x),
         }
     }
 
