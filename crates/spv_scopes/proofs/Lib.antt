@@ -1,4 +1,5 @@
 pub mod Forms
+pub mod Heads
 pub mod Meanings
 pub mod Numbers
 pub mod Pieces

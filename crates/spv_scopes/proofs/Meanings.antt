@@ -72,7 +72,7 @@ symbol_first table ys x =
     map-map [] = refl
     map-map (e ∷ table) = ap (λ (l : spec.Names). entry e ∷ l) (map-map table)
 
-routine_first : (table : List (Symbol × Heading)) (x : Symbol)
+pub routine_first : (table : List (Symbol × Heading)) (x : Symbol)
     → found (map (λ h. (h.name, spec.OfRoutine h)) (headings_of table)) x ≡ option_map (λ h. spec.OfRoutine (heading_of x h)) (found table x)
 routine_first [] x = refl
 routine_first (e ∷ table) x = by_case (same_name e.0 x) refl (routine_first table x)

@@ -1,0 +1,32 @@
+// Headings that come and go.
+
+ghost use Rattle.std.specs.Prelude.{◌≡◌, [], true, OnOk, IfSome, IfNone};
+ghost use Rattle.spv_typing.specs.Known as spec;
+ghost use Rattle.spv_typing.specs.RoutineWalk.{with_heading};
+ghost use Rattle.spv_scopes.specs.Views.{heading_of};
+
+use crate::known::Known;
+use crate::routines::Heading;
+use spv_names::Symbol;
+use std::alloc::AllocError;
+
+impl Known {
+    /// Puts the heading of a routine whose name is free behind the others.
+    #[tactic(auto, using(crate::proofs::Heads::routine_is_new, crate::proofs::Heads::heading_last))]
+    pub fn announce(&mut self, name: Symbol, heading: Heading) -> Result<(), AllocError>
+        requires free { spec.is_free self.old name ≡ true }
+        ensures { OnOk result (self.new ≡ with_heading self.old (heading_of name heading)) }
+    {
+        self.headings.insert(name, heading)?;
+        Ok(())
+    }
+
+    /// Takes the last heading away, with the name of its routine.
+    #[tactic(auto, using(crate::proofs::Heads::heading_last, crate::proofs::Heads::no_headings))]
+    pub fn withdraw(&mut self) -> Option<(Symbol, Heading)>
+        ensures taken { IfSome result (λ e. self.old ≡ with_heading self.new (heading_of e.0 e.1)) }
+        ensures none { IfNone result (self.old.headings ≡ []) }
+    {
+        self.headings.pop()
+    }
+}
