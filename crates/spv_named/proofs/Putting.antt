@@ -1,5 +1,5 @@
 -- Names that are put behind others one by one.
-use Rattle.std.proofs.Common.{◌≡◌, ℕ, zero, suc, Bool, true, false, cond, List, [], ◌∷◌, ◌++◌, map, length, take, slice_get, Option, Some, None, is_some, refl, sym, ap, subst, ◌∙◌, ◌+◌}
+use Rattle.std.proofs.Common.{◌≡◌, ℕ, zero, suc, Bool, true, false, cond, List, [], ◌∷◌, ◌++◌, map, take, slice_get, Option, Some, None, is_some, refl, sym, ap, subst, ◌∙◌, ◌+◌}
 use Rattle.std.proofs.lemmas.Option.{none-some}
 use Rattle.std.proofs.lemmas.List.{append_assoc}
 use Rattle.std.proofs.lemmas.Bool.{true≢false}
@@ -54,9 +54,9 @@ next_is_new old put ys n e h at earlier =
     still_new old put e.0 (is_none (found old e.0) (none_at ys (λ x. is_some (found old x)) n e h at)) earlier
 
 -- one name more is put
-pub one_more : {X Y : Type 0} (f : Symbol × Y → Symbol × X) (old : List (Symbol × X)) (ys : List (Symbol × Y)) (n : ℕ) (e : Symbol × Y)
+pub one_more : {Z Y : Type 0} (f : Symbol × Y → Z) (old : List Z) (ys : List (Symbol × Y)) (n : ℕ) (e : Symbol × Y)
     → slice_get ys n ≡ Some e → (old ++ map f (take n ys)) ++ f e ∷ [] ≡ old ++ map f (take (n + 1) ys)
-one_more {X} {Y} f old ys n e at = simp unary_clauses (append_assoc old (map f (take n ys)) (f e ∷ []) ∙ ap (λ zs. old ++ zs) (step ys n at))
+one_more {Z} {Y} f old ys n e at = simp unary_clauses (append_assoc old (map f (take n ys)) (f e ∷ []) ∙ ap (λ zs. old ++ zs) (step ys n at))
   where
     step : (zs : List _) (k : ℕ) → slice_get zs k ≡ Some e → map f (take k zs) ++ f e ∷ [] ≡ map f (take (suc k) zs)
     step [] k h = absurd (none-some _ h)

@@ -3,7 +3,7 @@
 ghost use Rattle.std.specs.Prelude.{◌≡◌, [], IfOk, IfSome, IfNone};
 ghost use Rattle.spv_program.specs.Types as types;
 ghost use Rattle.spv_program.specs.declared.types.TypeForm.TheVariants.{Record};
-ghost use Rattle.spv_typing.specs.Known.{known_in};
+ghost use Rattle.spv_typing.specs.Known.{known_in, is_fixed};
 ghost use Rattle.spv_typing.specs.ProgramWalk.{known_at_first};
 
 use crate::functions::KnownNames;
@@ -92,6 +92,13 @@ impl Known {
             awaited: Named::new(alloc),
             routines: List::new(alloc),
         })
+    }
+
+    /// Whether a name is that of a type or sort that is known from the start.
+    pub fn is_fixed(&self, x: Symbol) -> bool
+        ensures { result ≡ is_fixed self.now.start x }
+    {
+        self.start.is_fixed(x)
     }
 
     /// The form of a type, none of a number that is not there.

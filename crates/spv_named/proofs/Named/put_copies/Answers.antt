@@ -1,6 +1,5 @@
-use Rattle.std.proofs.Common.{◌≡◌, ◌++◌, ◌∷◌, [], map, take, ap, ◌∙◌}
-use Rattle.spv_named.specs.Entries.{under}
-use Rattle.spv_named.proofs.Putting.{next_is_new, none_under, one_more, one_copied}
+use Rattle.std.proofs.Common.{◌++◌, ◌∷◌, [], take, ap, ◌∙◌}
+use Rattle.spv_named.proofs.Putting.{next_is_new, one_copied}
 use Rattle.spv_named.proofs.Named.put_copies.Goals as goal
 
 pub insert-requires : goal.insert-requires

@@ -1,5 +1,4 @@
-use Rattle.std.proofs.Common.{◌≡◌, ◌++◌, map, take}
-use Rattle.spv_named.specs.Entries.{under}
+use Rattle.std.proofs.Common.{◌≡◌, ◌++◌, take}
 use Rattle.spv_named.proofs.Named.put_copies.Given as goal
 
 abbrev pub invariant-loop-place : goal.invariant-loop-place

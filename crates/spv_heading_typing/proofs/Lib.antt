@@ -1,0 +1,4 @@
+pub mod Bridges
+pub mod Indexing
+pub mod NewNames
+pub mod Params

@@ -1,0 +1,11 @@
+//! Headings of routines with their clauses: what a routine is to those who call it, and the names that it has.
+#![tactic(auto)]
+
+mod finding;
+pub mod names;
+pub mod parameters;
+pub mod shared;
+
+pub use names::{RoutineNames, new_names};
+pub use parameters::Parameters;
+pub use shared::Shared;
