@@ -49,7 +49,7 @@ named_in table names x =
     ap is_some (found_first own_of x table names)
     ∙ (some_first (option_map own_of (found table x)) (found names x) ∙ ap (λ b. b || is_some (found names x)) (some_mapped own_of (found table x)))
 
-named_alone : (table : List (Symbol × Own)) (x : Symbol) → known.is_named (known.named own_of table) x ≡ has table x
+pub named_alone : (table : List (Symbol × Own)) (x : Symbol) → known.is_named (known.named own_of table) x ≡ has table x
 named_alone table x =
     ap (λ (l : known.Names). known.is_named l x) (sym (append-nil (known.named own_of table))) ∙ (named_in table [] x ∙ or_false (has table x))
   where
@@ -69,13 +69,13 @@ regrouped false false false d e = not_or d e
 
 module _ (start : known.KnownNames) (routine : Symbol) (listed : List (Symbol × Bool)) (parameters own : List (Symbol × Own)) where
   module _ (globals : List GlobalItem) (same : (x : Symbol) → has listed x ≡ spec.is_listed globals x) where
-    free_at : (x : Symbol) → free_by start routine listed parameters own x ≡ spec.is_free_in start routine globals (known.named own_of parameters ++ known.named own_of own) x
+    pub free_at : (x : Symbol) → free_by start routine listed parameters own x ≡ spec.is_free_in start routine globals (known.named own_of parameters ++ known.named own_of own) x
     free_at x =
         regrouped (known.is_fixed start x) (same_name routine x) (has parameters x) (has own x) (has listed x)
         ∙ ap (λ b. not (known.is_fixed start x) && (not (same_name routine x) && (not b && not (has listed x))))
-            (sym (named_in parameters (known.named own_of own) x ∙ ap (λ b. has parameters x || b) (named_alone own x)))
+        (sym (named_in parameters (known.named own_of own) x ∙ ap (λ b. has parameters x || b) (named_alone own x)))
         ∙ ap (λ b. not (known.is_fixed start x) && (not (same_name routine x) && (not (known.is_named (known.named own_of parameters ++ known.named own_of own) x) && not b)))
-            (same x)
+        (same x)
 
     pub free_is : free_by start routine listed parameters own ≡ spec.is_free_in start routine globals (known.named own_of parameters ++ known.named own_of own)
     free_is = λ i x. free_at x i
@@ -130,7 +130,7 @@ all_free free taken done out (x ∷ names) h none e =
         → ((d : List Symbol) → list_any taken d ≡ false → each (new_name free) d names ≡ Ok out → list_any taken out ≡ false) → list_any taken out ≡ false
     by_case true is f more =
         more (done ++ x.symbol ∷ [])
-            (list_any-append taken done (x.symbol ∷ []) ∙ both_false _ _ none (both_false (taken x.symbol) false (h x.symbol (left_true (free x.symbol) _ is)) refl)) f
+        (list_any-append taken done (x.symbol ∷ []) ∙ both_false _ _ none (both_false (taken x.symbol) false (h x.symbol (left_true (free x.symbol) _ is)) refl)) f
     by_case false is f more = absurd (no_fault f)
 
 -- none of the names that were read has the routine already
@@ -142,6 +142,22 @@ names_are_new start routine listed parameters own names new h =
     not_own : (x : Symbol) → free_by start routine listed parameters own x ≡ true → has own x ≡ false
     not_own x free =
         middle_false (has parameters x) (has own x) (has listed x) (not_true _ (right_true (not (known.is_fixed start x || same_name routine x)) _ free))
+
+-- a name that is free is none of the second table's
+pub free_is_new : (start : known.KnownNames) (routine : Symbol) (listed : List (Symbol × Bool)) (parameters own : List (Symbol × Own)) (x : Symbol)
+    → free_by start routine listed parameters own x ≡ true → found own x ≡ None
+free_is_new start routine listed parameters own x free =
+    none_there (found own x)
+    (middle_false (has parameters x) (has own x) (has listed x) (not_true _ (right_true (not (known.is_fixed start x || same_name routine x)) _ free)))
+  where
+    none_there : {X : Type 0} (o : Option X) → is_some o ≡ false → o ≡ None
+    none_there None h = refl
+    none_there (Some y) h = absurd (true≢false h)
+
+pub free_is_apart : (start : known.KnownNames) (routine : Symbol) (listed : List (Symbol × Bool)) (parameters own : List (Symbol × Own)) (x : Symbol)
+    → free_by start routine listed parameters own x ≡ true → has parameters x ≡ false
+free_is_apart start routine listed parameters own x free =
+    left_false (has parameters x) _ (not_true _ (right_true (not (known.is_fixed start x || same_name routine x)) _ free))
 
 -- ---- a further group
 

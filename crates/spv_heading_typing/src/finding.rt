@@ -2,6 +2,7 @@
 
 ghost use Rattle.std.specs.Prelude.{◌≡◌, IfOk, IfErr, Ok, Some};
 ghost use Rattle.spv_program.specs.Lists.{found};
+ghost use Rattle.spv_program.specs.Types.{form_at, may_be_result};
 ghost use Rattle.spv_typing.specs.Known as spec;
 ghost use Rattle.spv_typing.specs.TypeWalk as types;
 ghost use Rattle.spv_typing.specs.DeclarationWalk.{class_named};
@@ -11,7 +12,7 @@ ghost use Rattle.spv_scopes.specs.Scopes.{meaning_of, scope_of};
 ghost use Rattle.std.specs.Prelude.{option_map};
 
 use spv_logic::TypeId;
-use spv_program::Item;
+use spv_program::TypeForm;
 use spv_scopes::{Known, Meaning, Scope};
 use spv_syntax::Name;
 use spv_typing::TypeFault;
@@ -68,5 +69,17 @@ pub(crate) fn variable_item(
         Some(Meaning::Declared(_, _)) => Err(TypeFault::WrongType(line)),
         Some(Meaning::Routine(_, _)) => Err(TypeFault::WrongType(line)),
         None => Err(TypeFault::Undeclared(x.line, x.symbol)),
+    }
+}
+
+// Whether a function may have a result of this type: it is no array and no record.
+pub(crate) fn may_be_result(known: &Known, t: TypeId) -> bool
+    ensures { result ≡ may_be_result (form_at known.now.program.forms t.0) }
+{
+    match known.form(t) {
+        Some(TypeForm::Array(_, _)) => false,
+        Some(TypeForm::Record(_)) => false,
+        Some(_) => true,
+        None => false,
     }
 }

@@ -1,6 +1,6 @@
 // Headings that come and go.
 
-ghost use Rattle.std.specs.Prelude.{◌≡◌, [], true, OnOk, IfSome, IfNone};
+ghost use Rattle.std.specs.Prelude.{◌≡◌, true, OnOk};
 ghost use Rattle.spv_typing.specs.Known as spec;
 ghost use Rattle.spv_typing.specs.RoutineWalk.{with_heading};
 ghost use Rattle.spv_scopes.specs.Views.{heading_of};
@@ -21,12 +21,10 @@ impl Known {
         Ok(())
     }
 
-    /// Takes the last heading away, with the name of its routine.
-    #[tactic(auto, using(crate::proofs::Heads::heading_last, crate::proofs::Heads::no_headings))]
-    pub fn withdraw(&mut self) -> Option<(Symbol, Heading)>
-        ensures taken { IfSome result (λ e. self.old ≡ with_heading self.new (heading_of e.0 e.1)) }
-        ensures none { IfNone result (self.old.headings ≡ []) }
+    /// Takes the last heading away, which is that of a routine that waits for no body.
+    pub fn withdraw(&mut self)
+        ensures { (k : spec.Known) (h : spec.Heading) → self.old ≡ with_heading k h → self.new ≡ k }
     {
-        self.headings.pop()
+        let _heading = self.headings.pop();
     }
 }

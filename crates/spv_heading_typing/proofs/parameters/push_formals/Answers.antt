@@ -7,4 +7,4 @@ loop-place-preserved c =
     c.in_ok-push.ensures.ok
     ∙ (ap (λ l. l ++ record { name = c.in-Some.name; of = c.args.of; by_place = c.args.by_place; line = c.args.line } ∷ []) c.loop-place.invariant
     ∙ one_more (λ e. record { name = e.0; of = c.args.of; by_place = c.args.by_place; line = c.args.line }) c.args.formals.now c.args.names.now c.loop-place.place
-        (c.in-Some.name, c.in-Some.field-0-1.now) c.in-Some.ensures.entry)
+    (c.in-Some.name, c.in-Some.field-0-1.now) c.in-Some.ensures.entry)

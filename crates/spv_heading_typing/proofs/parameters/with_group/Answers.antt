@@ -8,4 +8,4 @@ more_places-requires c = not_among_places c.args.parameters c.args.names.now c.r
 pub returns-clause-ok : goal.returns-clause-ok
 returns-clause-ok c =
     group_put c.args.parameters (record { formals = c.push_formals.new.formals; own = c.put_names.new.self; places = c.in_ok-places.places })
-        c.args.names.now c.args.of c.args.by_place c.args.line c.in_ok-push_formals.ensures c.in_ok-put_names.ensures
+    c.args.names.now c.args.of c.args.by_place c.args.line c.in_ok-push_formals.ensures c.in_ok-put_names.ensures
