@@ -3,3 +3,4 @@ pub mod Indexing
 pub mod Items
 pub mod NewNames
 pub mod Params
+pub mod Rests
