@@ -9,7 +9,6 @@ use Rattle.spv_names.specs.declared.names.Symbol.{Symbol}
 use Rattle.spv_logic.specs.declared.types.TypeId.{TypeId}
 use Rattle.spv_list.proofs.Tests.{left_true, right_true, left_false, right_false, both_false}
 use Rattle.spv_named.specs.Entries.{under}
-use Rattle.spv_named.proofs.Lookups.{nat_eq_turned}
 use Rattle.spv_syntax.specs.declared.names.Name.{Name}
 use Rattle.spv_syntax.specs.declared.lists.Several.{Several}
 use Rattle.spv_syntax.specs.declared.routines.Group.{Group}
@@ -17,7 +16,6 @@ use Rattle.spv_syntax.specs.declared.routines.GroupForm.{GroupForm}
 use Rattle.spv_syntax.specs.declared.routines.GroupForm.TheVariants.{Variables}
 use Rattle.spv_program.specs.Lists.{found, first_of, same_name}
 use Rattle.spv_program.specs.Programs.{GlobalItem}
-use Rattle.spv_typed.specs.declared.programs.Formal.{Formal as FormalText}
 use Rattle.spv_typed.specs.ProgramViews.{formal_of}
 use Rattle.spv_typing.specs.Known as known
 use Rattle.spv_typing.specs.declared.faults.TypeFault.{TypeFault}

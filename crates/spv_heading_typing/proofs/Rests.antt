@@ -2,8 +2,6 @@
 use Rattle.std.proofs.Common.{◌≡◌, List, ◌++◌, Option, None, Ok, Err, refl, sym, ap, subst, ◌∙◌}
 use Rattle.spv_logic.specs.declared.types.TypeId.{TypeId}
 use Rattle.spv_syntax.specs.declared.routines.Clauses.{Clauses as ClausesText}
-use Rattle.spv_program.specs.Formulas.{Annotation}
-use Rattle.spv_program.specs.Programs.{GlobalItem}
 use Rattle.spv_typed.specs.declared.programs.Formal.{Formal as FormalText}
 use Rattle.spv_typing.specs.declared.faults.TypeFault.{TypeFault}
 use Rattle.spv_typing.specs.Known.{Known}
@@ -47,7 +45,7 @@ module _ (k inner : Known) (t : Title) (ps : Parameters) (of : Option TypeId) (c
   rest_is : rest_walk k t (parameters_of ps) of c ≡ after (clauses_in inner t.name ps of c) (λ said. Ok (headed_with t (parameters_of ps).formals of said))
   rest_is =
       ap (λ (known : Known). spec.clauses_walk known t.name t.line t.is_function t.number (parameters_of ps) of c)
-          (sym (is ∙ ap (λ (l : List FormalText). spec.with_heading k (announced t l of)) copied))
+      (sym (is ∙ ap (λ (l : List FormalText). spec.with_heading k (announced t l of)) copied))
       ∙ clauses_same inner t ps of c
 
   pub rest_stops : (e : TypeFault) → Stops e (clauses_in inner t.name ps of c) → Stops e (rest_walk k t (parameters_of ps) of c)

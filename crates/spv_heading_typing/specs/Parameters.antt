@@ -16,7 +16,7 @@ use Rattle.spv_typing.specs.RoutineWalk as spec
 use Rattle.spv_scopes.specs.declared.scopes.Own.{Own}
 use Rattle.spv_scopes.specs.Scopes.{own_of}
 use Rattle.spv_heading_typing.specs.declared.parameters.Parameters.{Parameters}
-use Rattle.spv_heading_typing.specs.Names.{symbols_of, has}
+use Rattle.spv_heading_typing.specs.Names.{has}
 
 abbrev pub parameters_of : Parameters → spec.Parameters
 parameters_of p = record { formals = map formal_of p.formals; own = known.named own_of p.own }

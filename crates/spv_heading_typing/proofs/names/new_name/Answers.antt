@@ -1,4 +1,4 @@
-use Rattle.std.proofs.Common.{sym, ◌∙◌}
+use Rattle.std.proofs.Common.{sym}
 use Rattle.spv_heading_typing.specs.Names.{free_in}
 use Rattle.spv_heading_typing.proofs.NewNames.{name_taken, name_repeated, name_new}
 use Rattle.spv_heading_typing.proofs.names.new_name.Goals as goal

@@ -1,14 +1,8 @@
-use Rattle.std.proofs.Common.{◌≡◌, List, Ok, false}
-use Rattle.std.specs.Bool.{⊤}
+use Rattle.std.proofs.Common.{◌≡◌, Ok, false}
 use Rattle.std.specs.List.{list_any}
-use Rattle.spv_names.specs.declared.names.Symbol.{Symbol}
-use Rattle.spv_typing.specs.declared.faults.TypeFault.{TypeFault}
-use Rattle.spv_typing.specs.Outcomes.{each}
 use Rattle.spv_typing.specs.TypeWalk.{all_names}
-use Rattle.spv_typing.specs.DeclarationWalk.{new_name}
 use Rattle.spv_scopes.specs.Answers.{Stops}
-use Rattle.spv_heading_typing.specs.declared.names.RoutineNames.{RoutineNames}
-use Rattle.spv_heading_typing.specs.Names.{symbols_of, has, free_in}
+use Rattle.spv_heading_typing.specs.Names.{symbols_of, has}
 use Rattle.spv_heading_typing.specs.Parameters.{names_walk}
 use Rattle.spv_heading_typing.proofs.Bridges.{if_ok, if_err}
 use Rattle.spv_heading_typing.proofs.Params.{group_names_read, group_names_stop, names_are_new}

@@ -1,4 +1,4 @@
-use Rattle.std.proofs.Common.{◌≡◌, ◌++◌, ◌∷◌, [], map, take, ap, ◌∙◌}
+use Rattle.std.proofs.Common.{◌++◌, ◌∷◌, [], ap, ◌∙◌}
 use Rattle.spv_named.proofs.Putting.{one_more}
 use Rattle.spv_heading_typing.proofs.parameters.push_formals.Goals as goal
 

@@ -1,4 +1,3 @@
-use Rattle.spv_heading_typing.specs.declared.parameters.Parameters.{Parameters}
 use Rattle.spv_heading_typing.proofs.Params.{group_put, not_among_places}
 use Rattle.spv_heading_typing.proofs.parameters.with_group.Goals as goal
 

@@ -1,5 +1,4 @@
 use Rattle.std.proofs.Common.{[]}
-use Rattle.spv_typing.specs.RoutineWalk.{Starts}
 use Rattle.spv_heading_typing.specs.Starts.{starts_of, start_in}
 use Rattle.spv_scopes.specs.Scopes.{own_of}
 use Rattle.spv_typing.specs.Known.{named}

@@ -1,4 +1,4 @@
-use Rattle.std.proofs.Common.{sym, ap, ◌∙◌}
+use Rattle.std.proofs.Common.{sym}
 use Rattle.spv_program.specs.declared.types.Item.TheVariants.{Variable}
 use Rattle.spv_heading_typing.proofs.shared.Shared.variables.Goals as goal
 
