@@ -2,3 +2,4 @@ pub mod Forms
 pub mod Meanings
 pub mod Numbers
 pub mod Pieces
+pub mod Headings

@@ -3,6 +3,7 @@
 
 pub mod functions;
 pub mod known;
+pub mod numbered;
 mod parts;
 pub mod routines;
 pub mod scopes;
