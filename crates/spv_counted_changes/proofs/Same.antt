@@ -86,7 +86,7 @@ module _ (own : Symbol → Bool) where
       by_case true h later = ap Some (same_symbol v x h)
       by_case false h later = later
 
-  name_counted : (counted : List Symbol) (x : Symbol) → counted_as own counted (name_root own x) ≡ if_counted counted x
+  pub name_counted : (counted : List Symbol) (x : Symbol) → counted_as own counted (name_root own x) ≡ if_counted counted x
   name_counted counted x = counted_by (name_root own x) x (λ v. same_roots own v x) counted
 
   never_counted : (r : Root) → ((v : Symbol) → same_root (name_root own v) r ≡ false) → (counted : List Symbol) → counted_as own counted r ≡ None
