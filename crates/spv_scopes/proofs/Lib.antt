@@ -3,3 +3,4 @@ pub mod Heads
 pub mod Meanings
 pub mod Numbers
 pub mod Pieces
+pub mod Headings

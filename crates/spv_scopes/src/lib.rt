@@ -4,6 +4,7 @@
 mod announcing;
 pub mod functions;
 pub mod known;
+pub mod numbered;
 mod parts;
 pub mod routines;
 pub mod scopes;

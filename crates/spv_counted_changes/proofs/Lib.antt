@@ -1,0 +1,4 @@
+pub mod Counters
+pub mod Same
+pub mod Statements
+pub mod Stacks

@@ -1,0 +1,40 @@
+use Rattle.std.proofs.Common.{ap, sym, ◌∙◌, ◌+◌, ◌*◌, List}
+use Rattle.spv_program.specs.Expressions.{Expression}
+use Rattle.spv_typed.specs.declared.expressions.Selector.{Selector}
+use Rattle.spv_typed.specs.ExpressionViews.{selectors_of, expression_of}
+use Rattle.spv_typed.specs.Model.ExpressionSizes.{expression_size, selectors_size}
+use Rattle.spv_counted_changes.specs.Events.{expression_events, selector_events}
+use Rattle.spv_counted_changes.proofs.Stacks.{on_ok, read_opens, negative_opens, negated_opens, result_opens}
+use Rattle.spv_counted_changes.proofs.works.open_value.Goals as goal
+
+pub returns-in-Read : goal.returns-in-Read
+returns-in-Read c =
+    on_ok c.push.result c.push.ensures (λ k.
+    read_opens _ _ _ k c.args.value.now c.in-Read.d c.d.inside.line c.d.inside.name c.d.inside.selectors.items (ap expression_of (sym c.in-Read.is) ∙ c.value.view_is) c.d.view_is
+    (record {
+      events = ap (λ (ss : List Selector). selector_events (selectors_of ss)) c.as_slice.ensures.value;
+      size = ap (λ (ss : List Selector). 3 * selectors_size (selectors_of ss) + 1) c.as_slice.ensures.value;
+    }))
+
+pub returns-in_ok-push-in-Through : goal.returns-in_ok-push-in-Through
+returns-in_ok-push-in-Through c =
+    on_ok c.open_call-in-Through.result c.open_call-in-Through.ensures (λ k.
+    result_opens _ _ _ _ c.args.value.now c.in-Through.c c.in-Through.field-1 c.in-Through.field-2 c.in-Through.behind.items c.in_ok-push-in-Through.ensures
+    (ap expression_of (sym c.in-Through.is) ∙ c.value.view_is)
+    (record {
+      events = ap (λ (ss : List Selector). selector_events (selectors_of ss)) c.as_slice-in-Through.ensures.value;
+      size = ap (λ (ss : List Selector). 3 * selectors_size (selectors_of ss) + 1) c.as_slice-in-Through.ensures.value;
+    })
+    k)
+
+pub returns-in-Negative : goal.returns-in-Negative
+returns-in-Negative c =
+    on_ok c.push-in-Negative.result c.push-in-Negative.ensures (λ k.
+    negative_opens _ _ _ k c.args.value.now c.in-Negative.a.value (ap expression_of (sym c.in-Negative.is) ∙ c.value.view_is)
+    (record { events = ap expression_events c.deref.ensures; size = ap (λ (e : Expression). 3 * expression_size e) c.deref.ensures }))
+
+pub returns-in-Negated : goal.returns-in-Negated
+returns-in-Negated c =
+    on_ok c.push-in-Negated.result c.push-in-Negated.ensures (λ k.
+    negated_opens _ _ _ k c.args.value.now c.in-Negated.a.value (ap expression_of (sym c.in-Negated.is) ∙ c.value.view_is)
+    (record { events = ap expression_events c.deref-in-Negated.ensures; size = ap (λ (e : Expression). 3 * expression_size e) c.deref-in-Negated.ensures }))

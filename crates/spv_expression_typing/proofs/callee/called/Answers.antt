@@ -1,0 +1,19 @@
+use Rattle.std.proofs.Common.{ℕ, Some, ap, sym, ◌∙◌, option_map}
+use Rattle.spv_scopes.specs.Views.{function_of}
+use Rattle.spv_scopes.specs.Scopes.{scope_of}
+use Rattle.spv_typing.specs.Outcomes.{after}
+use Rattle.spv_formula_typing.specs.Arguments.{given_as}
+use Rattle.spv_expression_typing.specs.declared.callee.Callee.TheVariants as callee
+use Rattle.spv_expression_typing.specs.Applied.{way_in, applied_to}
+use Rattle.spv_expression_typing.proofs.Callees.{function_called, meaning_called}
+use Rattle.spv_expression_typing.proofs.callee.called.Goals as goal
+
+pub returns-in-Some-clause-ok : goal.returns-in-Some-clause-ok
+returns-in-Some-clause-ok c = λ given.
+    function_called (scope_of c.args.scope.now) c.args.line c.args.x (function_of c.in-Some.b) given (sym c.function.ensures ∙ ap (option_map function_of) c.in-Some.is)
+    ∙ ap (λ (n : ℕ). after (given_as (way_in (callee.Other (Some n))) 0 given) (applied_to (scope_of c.args.scope.now) c.args.line c.args.x (callee.Other (Some n)))) (sym c.arity.ensures)
+
+pub returns-in-None-clause-ok : goal.returns-in-None-clause-ok
+returns-in-None-clause-ok c =
+    meaning_called (scope_of c.args.scope.now) c.args.line c.args.x c.meaning.result c.called_meaning.result
+    (sym c.function.ensures ∙ ap (option_map function_of) c.in-None.is) c.meaning.ensures c.called_meaning.ensures

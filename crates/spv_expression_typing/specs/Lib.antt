@@ -1,0 +1,5 @@
+pub mod Alone
+pub mod Applied
+pub mod Model
+pub mod Selected
+pub mod Views

@@ -1,0 +1,4 @@
+pub mod Counters
+pub mod Faults
+pub mod Formals
+pub mod Loops

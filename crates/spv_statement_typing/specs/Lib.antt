@@ -1,0 +1,5 @@
+pub mod Calls
+pub mod Chains
+pub mod Counters
+pub mod Parts
+pub mod Settings

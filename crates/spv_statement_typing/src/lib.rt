@@ -1,0 +1,13 @@
+//! Statements: the walk over the statements of a text.
+#![tactic(auto)]
+
+mod assigning;
+mod calling;
+mod constants;
+mod heads;
+mod labels;
+mod setting;
+mod walk;
+
+pub use setting::Setting;
+pub use walk::{block, statement};

@@ -1,0 +1,32 @@
+// Where a statement stands.
+
+ghost use Rattle.std.specs.Prelude.{◌≡◌, IfOk, IfErr, Ok};
+ghost use Rattle.spv_typing.specs.StatementWalk.{unless_counted};
+ghost use Rattle.spv_scopes.specs.Answers.{Stops};
+
+use spv_names::Symbol;
+use spv_scopes::Scope;
+use spv_typing::TypeFault;
+
+/// Where a statement stands: what its expressions see, what its annotations see, and the variables that the FORs around
+/// it count with, innermost first.
+#[derive(Clone, Copy)]
+pub struct Setting<'k, 'o, 'n, 'c> {
+    /// What its expressions see.
+    pub inside: Scope<'k, 'o>,
+    /// What its annotations see.
+    pub noted: Scope<'k, 'n>,
+    /// The variables that the FORs around it count with.
+    pub counted: &'c [Symbol],
+}
+
+// What was made, where no variable that counts was changed.
+pub(crate) fn kept<T: Drop>(line: u32, changed: Option<Symbol>, made: T) -> Result<T, TypeFault>
+    ensures ok { IfOk result (λ x. unless_counted line changed made ≡ Ok x) }
+    ensures err { IfErr result (λ e. Stops e (unless_counted line changed made)) }
+{
+    match changed {
+        None => Ok(made),
+        Some(v) => Err(TypeFault::ControlChanged(line, v)),
+    }
+}
