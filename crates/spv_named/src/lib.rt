@@ -4,6 +4,8 @@
 ghost use Rattle.std.specs.Prelude.{◌≡◌, ◌<◌, ◌↔◌, [], ◌∷◌, ◌++◌, None, Some, IfSome, IsSome, IsTrue, OnOk, OnErr, is_some, length, option_copied, slice_get};
 ghost use Rattle.spv_program.specs.Lists.{found};
 
+mod values;
+
 use indexmap::IndexMap;
 use spv_names::Symbol;
 use std::alloc::{AllocError, Global};

@@ -1,3 +1,4 @@
+pub mod Free
 pub mod Forms
 pub mod Meanings
 pub mod Numbers

@@ -1,6 +1,7 @@
 //! What names stand for while a text is typed: the tables of the walk over names and types.
 #![tactic(auto)]
 
+mod adding;
 pub mod functions;
 pub mod known;
 mod parts;

@@ -1,0 +1,18 @@
+-- Items of lists by their places.
+use Rattle.std.proofs.Common.{◌≡◌, ℕ, zero, suc, ◌<◌, ◌≤◌, ◌+◌, List, [], ◌∷◌, ◌++◌, map, drop, length, get_or, Option, Some, None, refl, sym, ap, ◌∙◌, arith}
+use Rattle.spv_program.specs.Lists.{item_at}
+
+pub item_there : (xs : List ℕ) (n : ℕ) → n < length xs → item_at xs n ≡ Some (get_or xs n 0)
+item_there [] n h = absurd (omega (arith, h))
+item_there (x ∷ xs) zero h = refl
+item_there (x ∷ xs) (suc n) h = item_there xs n (omega (arith, h))
+
+pub item_missing : {X : Type 0} (xs : List X) (n : ℕ) → length xs ≤ n → item_at xs n ≡ None
+item_missing [] n h = refl
+item_missing (x ∷ xs) zero h = absurd (omega (arith, h))
+item_missing (x ∷ xs) (suc n) h = item_missing xs n (omega (arith, h))
+
+pub item_of : {X : Type 0} (xs : List X) (n : ℕ) (d : X) → n < length xs → item_at xs n ≡ Some (get_or xs n d)
+item_of [] n d h = absurd (omega (arith, h))
+item_of (x ∷ xs) zero d h = refl
+item_of (x ∷ xs) (suc n) d h = item_of xs n d (omega (arith, h))
