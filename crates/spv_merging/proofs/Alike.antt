@@ -66,16 +66,32 @@ module _ (targets : List (Option ℕ)) (firsts : List ℕ) where
 
   -- ---- the loop over the types
 
-  pub alike_more : (n : ℕ) (done : List ℕ) (o : Option ℕ) (whole : List ℕ) → n < length targets → o ≡ get_or targets n o
-      → done ++ alike_from targets firsts n (drop n targets) ≡ whole
-      → (done ++ first_alike targets firsts n o ∷ []) ++ alike_from targets firsts (suc n) (drop (suc n) targets) ≡ whole
-  alike_more n done o whole within is so_far =
-      append_assoc done (first_alike targets firsts n o ∷ []) (alike_from targets firsts (suc n) (drop (suc n) targets))
-      ∙ (ap (λ (xs : List (Option ℕ)). done ++ alike_from targets firsts n xs) (sym (drop-cons targets n o within ∙ ap (λ (y : Option ℕ). y ∷ drop (suc n) targets) (sym is))) ∙ so_far)
+  pub alike_more : (n : ℕ) (old new : List ℕ) (r : ℕ) (whole : List ℕ) → n < length targets → r ≡ first_alike targets firsts n (get_or targets n None)
+      → new ≡ old ++ r ∷ [] → old ++ alike_from targets firsts n (drop n targets) ≡ whole → new ++ alike_from targets firsts (n + 1) (drop (n + 1) targets) ≡ whole
+  alike_more n old new r whole within is pushed so_far =
+      ap (λ (l : List ℕ). l ++ alike_from targets firsts (n + 1) (drop (n + 1) targets)) pushed
+      ∙ (append_assoc old (r ∷ []) (alike_from targets firsts (n + 1) (drop (n + 1) targets))
+      ∙ (ap (λ (m : ℕ). old ++ r ∷ alike_from targets firsts m (drop m targets)) (next n)
+      ∙ (ap (λ (m : ℕ). old ++ m ∷ alike_from targets firsts (suc n) (drop (suc n) targets)) is
+      ∙ (ap (λ (xs : List (Option ℕ)). old ++ alike_from targets firsts n xs) (sym (drop-cons targets n None within)) ∙ so_far))))
+    where
+      next : (n : ℕ) → n + 1 ≡ suc n
+      next n = omega arith
 
   pub alike_all : (n : ℕ) (done whole : List ℕ) → length targets ≤ n → done ++ alike_from targets firsts n (drop n targets) ≡ whole → done ≡ whole
   alike_all n done whole past so_far =
       sym (append-nil done) ∙ (ap (λ (xs : List (Option ℕ)). done ++ alike_from targets firsts n xs) (sym (drop_all n targets past)) ∙ so_far)
+
+pub numbers_more : (targets : List (Option ℕ)) (n : ℕ) (old new whole : List ℕ) → n < length targets
+    → new ≡ old ++ n ∷ [] → old ++ numbers_from n (drop n targets) ≡ whole → new ++ numbers_from (n + 1) (drop (n + 1) targets) ≡ whole
+numbers_more targets n old new whole within pushed so_far =
+    ap (λ (l : List ℕ). l ++ numbers_from (n + 1) (drop (n + 1) targets)) pushed
+    ∙ (append_assoc old (n ∷ []) (numbers_from (n + 1) (drop (n + 1) targets))
+    ∙ (ap (λ (m : ℕ). old ++ n ∷ numbers_from m (drop m targets)) (next n)
+    ∙ (ap (λ (xs : List (Option ℕ)). old ++ numbers_from n xs) (sym (drop-cons targets n None within)) ∙ so_far)))
+  where
+    next : (n : ℕ) → n + 1 ≡ suc n
+    next n = omega arith
 
 -- ---- rounds
 
@@ -103,8 +119,14 @@ module _ (targets : List (Option ℕ)) where
   alike_within known place (t ∷ ts) (suc i) f h e = alike_within known (suc place) ts i f (omega (arith, h)) e
 
   pub after_within : (rounds : ℕ) → IsWithin (length targets) (firsts_after rounds targets)
-  after_within zero = record { within = λ i f e. numbers_within 0 targets i f e }
-  after_within (suc rounds) = record { within = λ i f e. alike_within (firsts_after rounds targets) 0 targets i f (omega arith) e }
+  after_within zero = record { within = λ i f e. none (length targets) f (numbers_within 0 targets i f e) }
+    where
+      none : (n m : ℕ) → m ≤ 0 + n → m ≤ n
+      none n m h = omega (arith, h)
+  after_within (suc rounds) = record { within = λ i f e. alike_within (firsts_after rounds targets) 0 targets i f (none (length targets)) e }
+    where
+      none : (n : ℕ) → 0 + n ≤ n
+      none n = omega arith
 
   -- a round that changes nothing: nor does any later one
   pub stays : (k more : ℕ) → firsts_after (suc k) targets ≡ firsts_after k targets → firsts_after (more + k) targets ≡ firsts_after k targets

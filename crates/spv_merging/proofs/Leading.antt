@@ -1,7 +1,7 @@
 -- For each type the first pointer whose target is the same, found from the last pointer on.
-use Rattle.std.proofs.Common.{◌≡◌, ◌≢◌, ℕ, zero, suc, ◌<◌, ◌≤◌, ◌+◌, ◌-◌, Bool, true, false, cond, nat_eq, List, [], ◌∷◌, ◌++◌, map, take, drop, length, get_or, set, replicate, Option, Some, None, refl, sym, ap, ◌∙◌, subst, arith, length-set, length-replicate, get_or-set_same, get_or-set_other}
+use Rattle.std.proofs.Common.{◌≡◌, ◌≢◌, ℕ, zero, suc, ◌<◌, ◌≤◌, ◌+◌, ◌-◌, Bool, true, false, cond, nat_eq, List, [], ◌∷◌, ◌++◌, map, take, drop, length, get_or, set, replicate, Option, Some, None, refl, sym, ap, ◌∙◌, subst, arith, length-set, get_or-set_same, get_or-set_other}
 use Rattle.std.proofs.lemmas.Bool.{false≢true, eqb-true, eq-eqb}
-use Rattle.std.proofs.lemmas.List.{get_or-replicate, drop_all}
+use Rattle.std.proofs.lemmas.List.{length-replicate, get_or-replicate, drop_all}
 use Rattle.std.proofs.Math.Seq.{drop-cons}
 use Rattle.spv_program.specs.Lists.{item_at}
 use Rattle.spv_typing.specs.Merging.{first_where, same_number, points_alike, first_alike, alike_from, numbers_from, firsts_after}
@@ -28,7 +28,7 @@ led_at_end seen = record {
     same : (n : ℕ) → n ≤ n
     same n = omega arith
 
-pub led_before : (seen : List (Option ℕ)) (place : ℕ) (leaders : List ℕ) (o : Option ℕ) → place < length seen → o ≡ get_or seen place o → LedFrom seen (suc place) leaders
+pub led_before : (seen : List (Option ℕ)) (place : ℕ) (leaders : List ℕ) (o : Option ℕ) → place < length seen → o ≡ get_or seen place None → LedFrom seen (suc place) leaders
     → LedFrom seen place (marked leaders o place)
 led_before seen place leaders None within is so_far = record {
   many = so_far.many;
@@ -44,7 +44,7 @@ led_before seen place leaders (Some g) within is so_far = record {
   many = length-set leaders g place ∙ so_far.many;
   led = λ f h.
       by_case f h (nat_eq f g) refl
-      ∙ ap (λ (xs : List (Option ℕ)). first_where (same_number (Some f)) xs + place) (sym (drop-cons seen place (Some g) within ∙ ap (λ (y : Option ℕ). y ∷ drop (suc place) seen) (sym is)));
+      ∙ ap (λ (xs : List (Option ℕ)). first_where (same_number (Some f)) xs + place) (sym (drop-cons seen place None within ∙ ap (λ (y : Option ℕ). y ∷ drop (suc place) seen) (sym is)));
 }
   where
     moved : (n m : ℕ) → n + suc m ≡ suc n + m

@@ -55,7 +55,8 @@ fn all_rounds(alloc: Global, targets: &[Option<usize>]) -> Result<Vec<usize>, Al
     ensures { IfOk result (λ v. v.items ≡ spec.firsts targets.now) }
 {
     let mut now = numbers(alloc, targets)?;
-    for _round in 0..targets.len() {
+    for round in 0..targets.len() {
+        let _ = round;
         let next = alike(alloc, targets, now.as_slice())?;
         if next.as_slice() == now.as_slice() {
             return Ok(now);

@@ -2,9 +2,7 @@
 #![tactic(auto)]
 
 mod firsts;
-mod merged;
 mod rounds;
 mod written;
 
-pub use merged::{Merged, merged};
-pub use written::{Written, whole};
+pub use written::{Written, copied, whole};

@@ -96,9 +96,11 @@ pub(crate) fn alike(
 {
     let seen = targets_seen(alloc, targets, firsts)?;
     let leaders = leaders(alloc, seen.as_slice())?;
+    let led = leaders.as_slice();
     let mut next = Vec::new(alloc);
     for place in 0..targets.len() {
-        let first = next_first(leaders.as_slice(), place, targets[place], seen[place]);
+        let target = targets[place];
+        let first = next_first(led, place, target, first_of_target(firsts, target));
         push(&mut next, first)?;
     }
     Ok(next)
