@@ -151,3 +151,19 @@ module _ (targets : List (Option ℕ)) where
 
   pub one_round_more : (k : ℕ) (now next : List ℕ) → now ≡ firsts_after k targets → next ≡ alike_from targets now 0 targets → next ≡ firsts_after (suc k) targets
   one_round_more k now next is round = round ∙ ap (λ (known : List ℕ). alike_from targets known 0 targets) is
+
+  -- as many as there are types
+  numbers_many : (place : ℕ) (ts : List (Option ℕ)) → length (numbers_from place ts) ≡ length ts
+  numbers_many place [] = refl
+  numbers_many place (t ∷ ts) = ap suc (numbers_many (suc place) ts)
+
+  alike_many : (known : List ℕ) (place : ℕ) (ts : List (Option ℕ)) → length (alike_from targets known place ts) ≡ length ts
+  alike_many known place [] = refl
+  alike_many known place (t ∷ ts) = ap suc (alike_many known (suc place) ts)
+
+  after_many : (rounds : ℕ) → length (firsts_after rounds targets) ≡ length targets
+  after_many zero = numbers_many 0 targets
+  after_many (suc rounds) = alike_many (firsts_after rounds targets) 0 targets
+
+  pub many_firsts : length (firsts targets) ≡ length targets
+  many_firsts = after_many (length targets)
