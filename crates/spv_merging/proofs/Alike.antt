@@ -5,7 +5,6 @@ use Rattle.std.proofs.Math.Seq.{drop-cons}
 use Rattle.spv_program.specs.Lists.{item_at}
 use Rattle.spv_typing.specs.Merging.{first_where, same_number, points_alike, first_alike, alike_from, numbers_from, firsts_after, firsts}
 use Rattle.spv_merging.specs.Rounds.{target_first, leader_of, next_of, Below, IsLed, IsWithin}
-use Rattle.spv_merging.proofs.Places.{item_missing, item_of}
 
 module _ (targets : List (Option ℕ)) (firsts : List ℕ) where
   -- ---- pointers to the same, by the first type of each target

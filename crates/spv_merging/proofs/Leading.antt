@@ -1,12 +1,10 @@
 -- For each type the first pointer whose target is the same, found from the last pointer on.
-use Rattle.std.proofs.Common.{◌≡◌, ◌≢◌, ℕ, zero, suc, ◌<◌, ◌≤◌, ◌+◌, ◌-◌, Bool, true, false, cond, nat_eq, List, [], ◌∷◌, ◌++◌, map, take, drop, length, get_or, set, replicate, Option, Some, None, refl, sym, ap, ◌∙◌, subst, arith, length-set, get_or-set_same, get_or-set_other}
+use Rattle.std.proofs.Common.{◌≡◌, ◌≢◌, ℕ, suc, ◌<◌, ◌≤◌, ◌+◌, Bool, true, false, cond, nat_eq, List, ◌∷◌, drop, length, get_or, set, replicate, Option, Some, None, refl, sym, ap, ◌∙◌, subst, arith, length-set, get_or-set_same, get_or-set_other}
 use Rattle.std.proofs.lemmas.Bool.{false≢true, eqb-true, eq-eqb}
 use Rattle.std.proofs.lemmas.List.{length-replicate, get_or-replicate, drop_all}
 use Rattle.std.proofs.Math.Seq.{drop-cons}
-use Rattle.spv_program.specs.Lists.{item_at}
-use Rattle.spv_typing.specs.Merging.{first_where, same_number, points_alike, first_alike, alike_from, numbers_from, firsts_after}
-use Rattle.spv_merging.specs.Rounds.{target_first, marked, leader_of, next_of, Below, IsLed, IsWithin}
-use Rattle.spv_merging.proofs.Places.{item_there, item_missing, item_of}
+use Rattle.spv_typing.specs.Merging.{first_where, same_number}
+use Rattle.spv_merging.specs.Rounds.{marked, IsLed}
 
 -- ---- leaders, from the last place on
 

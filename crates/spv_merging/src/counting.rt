@@ -83,7 +83,11 @@ impl Renumbering {
         let before = self.before.as_slice();
         let firsts = self.firsts.as_slice();
         let count = firsts.len();
-        if place < count { before[place] } else { before[count] }
+        if place < count {
+            before[place]
+        } else {
+            before[count]
+        }
     }
 
     /// The new number of a type.

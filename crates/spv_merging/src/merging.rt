@@ -50,11 +50,7 @@ fn fields_with(
 }
 
 // A form with the new numbers in it.
-fn form_with(
-    alloc: Global,
-    numbers: &Renumbering,
-    form: &TypeForm,
-) -> Result<TypeForm, AllocError>
+fn form_with(alloc: Global, numbers: &Renumbering, form: &TypeForm) -> Result<TypeForm, AllocError>
     ensures { IfOk result (λ f. f ≡ spec.form_with (spec.renumbered numbers.now) form.now) }
 {
     match form {

@@ -67,12 +67,7 @@ fn leaders(alloc: Global, seen: &[Option<usize>]) -> Result<Vec<usize>, AllocErr
     Ok(leaders)
 }
 
-fn next_first(
-    leaders: &[usize],
-    place: usize,
-    target: Option<usize>,
-    seen: Option<usize>,
-) -> usize
+fn next_first(leaders: &[usize], place: usize, target: Option<usize>, seen: Option<usize>) -> usize
     requires { Below (length leaders.now) seen }
     ensures { result ≡ next_of leaders.now place target seen }
 {

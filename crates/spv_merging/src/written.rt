@@ -57,7 +57,11 @@ fn built(alloc: Global, forms: &[TypeForm]) -> Result<Vec<Written>, AllocError>
 }
 
 /// The types that have forms, and those behind them.
-pub fn whole(alloc: Global, forms: &[TypeForm], further: Vec<Written>) -> Result<Vec<Written>, AllocError>
+pub fn whole(
+    alloc: Global,
+    forms: &[TypeForm],
+    further: Vec<Written>,
+) -> Result<Vec<Written>, AllocError>
     ensures { IfOk result (λ v. all_written v.items ≡ map spec.Built forms.now ++ all_written further.items) }
 {
     let mut types = built(alloc, forms)?;

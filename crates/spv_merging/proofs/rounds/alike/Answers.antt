@@ -1,4 +1,4 @@
-use Rattle.std.proofs.Common.{◌≡◌, Option, List, map, None, ℕ, length, get_or, sym, ap, ◌∙◌, subst}
+use Rattle.std.proofs.Common.{Option, List, map, None, ℕ, length, get_or, sym, ap, ◌∙◌, subst}
 use Rattle.spv_merging.specs.Rounds.{Below, IsLed, next_of, target_first}
 use Rattle.spv_merging.proofs.Alike.{alike_more, next_is, next_below}
 use Rattle.spv_merging.proofs.rounds.alike.Goals as goal

@@ -1,5 +1,4 @@
 use Rattle.std.proofs.Common.{◌≡◌, ◌<◌, ◌-◌, suc, None, List, ℕ, length, get_or, refl, sym, subst, arith}
-use Rattle.spv_merging.specs.Rounds.{marked}
 use Rattle.spv_merging.proofs.Leading.{LedFrom, led_before}
 use Rattle.spv_merging.proofs.rounds.leaders.Goals as goal
 
