@@ -8,7 +8,6 @@ use Rattle.spv_syntax.specs.Types.{TypeDenoter}
 use Rattle.spv_program.specs.declared.types.TypeField.{TypeField}
 use Rattle.spv_typing.specs.declared.faults.TypeFault.{TypeFault}
 use Rattle.spv_typing.specs.Outcomes.{Outcome, after, each}
-use Rattle.spv_typing.specs.Merging as merging
 use Rattle.spv_typing.specs.TypeWalk as spec
 use Rattle.spv_scopes.specs.Answers.{Stops}
 use Rattle.spv_scopes.specs.declared.scopes.Scope.{Scope}

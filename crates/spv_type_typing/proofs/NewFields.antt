@@ -1,5 +1,5 @@
 -- Names that are declared together are new, and what they add.
-use Rattle.std.proofs.Common.{◌≡◌, ℕ, zero, suc, ◌<◌, ◌≤◌, ◌+◌, Bool, true, false, cond, ◌&&◌, ◌||◌, not, List, [], ◌∷◌, ◌++◌, map, take, drop, length, Option, Some, None, Result, Ok, Err, is_some, slice_get, refl, sym, ap, ◌∙◌, subst, arith}
+use Rattle.std.proofs.Common.{◌≡◌, ℕ, zero, suc, ◌≤◌, ◌+◌, Bool, true, false, cond, ◌&&◌, ◌||◌, not, List, [], ◌∷◌, ◌++◌, map, take, length, Option, Some, None, Result, Ok, Err, is_some, slice_get, refl, sym, ap, ◌∙◌, subst, arith}
 use Rattle.std.specs.List.{list_any}
 use Rattle.std.specs.Result.{IfOk}
 use Rattle.std.proofs.lemmas.Bool.{false≢true}
@@ -102,7 +102,7 @@ module _ (free : Symbol → Bool) where
 
 -- ---- what they add
 
-found_append : {X : Type 0} (xs ys : List (Symbol × X)) (x : Symbol) → found (xs ++ ys) x ≡ first_of (found xs x) (found ys x)
+pub found_append : {X : Type 0} (xs ys : List (Symbol × X)) (x : Symbol) → found (xs ++ ys) x ≡ first_of (found xs x) (found ys x)
 found_append [] ys x = refl
 found_append (n ∷ xs) ys x = by_name (same_name n.0 x) (found_append xs ys x)
   where

@@ -3,7 +3,6 @@ use Rattle.std.specs.Prelude.{ℕ, Bool, List, [], ◌∷◌, ◌++◌, map, is_
 use Rattle.spv_names.specs.declared.names.Symbol.{Symbol}
 use Rattle.spv_logic.specs.declared.types.TypeId.{TypeId}
 use Rattle.spv_program.specs.declared.types.TypeField.{TypeField}
-use Rattle.spv_program.specs.declared.types.TypeForm.TheVariants.{Array}
 use Rattle.spv_program.specs.Lists.{found}
 use Rattle.spv_syntax.specs.Types.{TypeDenoter, Field, MoreTypes, MoreFields}
 use Rattle.spv_typing.specs.Outcomes.{Outcome}

@@ -1,5 +1,5 @@
 -- Lines of the walk over types that do not call it again.
-use Rattle.std.specs.Prelude.{ℕ, not, List, [], Option, Some, None, Ok, Err}
+use Rattle.std.specs.Prelude.{ℕ, not, List, [], Option, Some, None, Ok}
 use Rattle.std.specs.Int.RustNames.{int_lt}
 use Rattle.spv_logic.specs.declared.types.TypeId.{TypeId}
 use Rattle.spv_syntax.specs.declared.names.Name.{Name}

@@ -39,7 +39,11 @@ fn new_name<F: Free>(free: &F, names: &mut Named<u32>, x: Name) -> Result<(), Ty
 }
 
 /// The names, in order, with their lines; each is free and none stands twice.
-pub fn new_names<F: Free>(free: &F, alloc: Global, names: &Several<Name>) -> Result<Named<u32>, TypeFault>
+pub fn new_names<F: Free>(
+    free: &F,
+    alloc: Global,
+    names: &Several<Name>,
+) -> Result<Named<u32>, TypeFault>
     ensures ok { IfOk result (λ n. each (new_name (F.free free.now)) [] (all_names names.now) ≡ Ok (only_names n)) }
     ensures err { IfErr result (λ e. Stops e (each (new_name (F.free free.now)) [] (all_names names.now))) }
 {

@@ -24,11 +24,7 @@ pub struct Index {
 }
 
 // Each index is of a subrange.
-fn check_indices(
-    scope: &Scope<'_, '_>,
-    new: &[Written],
-    indices: &[Index],
-) -> Result<(), TypeFault>
+fn check_indices(scope: &Scope<'_, '_>, new: &[Written], indices: &[Index]) -> Result<(), TypeFault>
     ensures ok { OnOk result (indices_checked scope.now new.now indices.now ≡ Ok (indices_of indices.now)) }
     ensures err { IfErr result (λ e. Stops e (indices_checked scope.now new.now indices.now)) }
 {

@@ -1,4 +1,4 @@
-use Rattle.std.proofs.Common.{◌≤◌, length, ap, arith, ◌≡◌}
+use Rattle.std.proofs.Common.{length, arith, ◌≡◌}
 use Rattle.std.proofs.lemmas.List.{length-map}
 use Rattle.spv_type_typing.specs.Names.{only_names}
 use Rattle.spv_type_typing.proofs.Entries.{name_at}

@@ -1,4 +1,4 @@
-use Rattle.std.proofs.Common.{◌≡◌, []}
+use Rattle.std.proofs.Common.{[]}
 use Rattle.spv_typing.specs.Outcomes.{each}
 use Rattle.spv_typing.specs.TypeWalk.{all_names}
 use Rattle.spv_typing.specs.DeclarationWalk.{new_name}

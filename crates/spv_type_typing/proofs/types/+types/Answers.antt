@@ -1,4 +1,4 @@
-use Rattle.std.proofs.Common.{◌≡◌, ◌≤◌, ◌<◌, ◌+◌, ◌*◌, rules, sym, subst, arith}
+use Rattle.std.proofs.Common.{◌≤◌, ◌<◌, ◌+◌, ◌*◌, rules, sym, subst, arith}
 use Rattle.spv_syntax.specs.Types.{TypeDenoter, Field}
 use Rattle.spv_syntax.specs.Model.TypeSizes.{more_types_of, more_fields_of, type_size, more_types_size, field_size, more_fields_size}
 use Rattle.spv_scopes.specs.Answers.{Stops}
