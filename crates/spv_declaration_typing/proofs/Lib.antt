@@ -1,3 +1,5 @@
+pub mod AllOf
+pub mod Part
 pub mod Renumbered
 pub mod Settled
-pub mod Part
+pub mod Varying
