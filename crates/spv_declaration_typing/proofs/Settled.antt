@@ -1,5 +1,5 @@
 -- A type that was read, put among those of the program.
-use Rattle.std.proofs.Common.{◌≡◌, List, [], ◌++◌, map, Ok, refl, sym, ap, ◌∙◌, subst}
+use Rattle.std.proofs.Common.{◌≡◌, List, [], ◌++◌, map, Ok, sym, ap, ◌∙◌, subst}
 use Rattle.std.proofs.lemmas.List.{append-nil}
 use Rattle.spv_logic.specs.declared.types.TypeId.{TypeId}
 use Rattle.spv_syntax.specs.Types.{TypeDenoter}
@@ -13,9 +13,8 @@ use Rattle.spv_scopes.specs.declared.scopes.Scope.{Scope}
 use Rattle.spv_scopes.specs.Scopes.{scope_of}
 use Rattle.spv_merging.specs.declared.written.Written.{Written}
 use Rattle.spv_merging.specs.Views.{all_written}
-use Rattle.spv_type_typing.specs.declared.targets.Targets.{Targets}
 use Rattle.spv_type_typing.specs.declared.targets.Targets.TheVariants as targets
-use Rattle.spv_type_typing.specs.Reading.{types_of, read_as, denoted}
+use Rattle.spv_type_typing.specs.Reading.{read_as, denoted}
 use Rattle.spv_type_typing.proofs.Each.{stops_after}
 use Rattle.spv_declaration_typing.specs.Parts.{types_with}
 

@@ -1,5 +1,5 @@
 -- Variables, one after the other.
-use Rattle.std.proofs.Common.{◌≡◌, ℕ, ◌≤◌, ◌+◌, List, [], ◌∷◌, ◌++◌, map, take, length, Some, None, Result, Ok, Err, slice_get, refl, sym, ap, ◌∙◌, subst}
+use Rattle.std.proofs.Common.{◌≡◌, ℕ, ◌≤◌, ◌+◌, List, [], ◌∷◌, ◌++◌, map, take, length, Some, None, Result, Ok, Err, slice_get, sym, ap, ◌∙◌, subst}
 use Rattle.std.specs.Result.{IfOk}
 use Rattle.std.proofs.lemmas.List.{append_assoc, append-nil, map-append, take_all}
 use Rattle.spv_names.specs.declared.names.Symbol.{Symbol}
@@ -7,9 +7,7 @@ use Rattle.spv_logic.specs.declared.types.TypeId.{TypeId}
 use Rattle.spv_syntax.specs.declared.lists.Several.{Several}
 use Rattle.spv_syntax.specs.declared.names.Name.{Name}
 use Rattle.spv_syntax.specs.declared.declarations.Vars.{Vars}
-use Rattle.spv_program.specs.declared.types.TypeForm.{TypeForm}
 use Rattle.spv_program.specs.Lists.{found}
-use Rattle.spv_program.specs.Programs.{Program}
 use Rattle.spv_typing.specs.declared.faults.TypeFault.{TypeFault}
 use Rattle.spv_typing.specs.Outcomes.{Outcome, after, each}
 use Rattle.spv_typing.specs.Known.{Known, at_top, is_free}

@@ -26,7 +26,11 @@ pub struct NewType {
 }
 
 /// The type that is written. The program stays as it is until it is settled.
-pub fn read_type(scope: &Scope<'_, '_>, alloc: Global, tree: &TypeDenoter) -> Result<NewType, TypeFault>
+pub fn read_type(
+    scope: &Scope<'_, '_>,
+    alloc: Global,
+    tree: &TypeDenoter,
+) -> Result<NewType, TypeFault>
     ensures ok { IfOk result (λ n. spec.type_walk (scope_of scope.now) tree.now ≡ Ok (settled scope.now.known.now n)) }
     ensures err { IfErr result (λ e. Stops e (spec.type_walk (scope_of scope.now) tree.now)) }
 {

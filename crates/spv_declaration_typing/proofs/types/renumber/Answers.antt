@@ -1,4 +1,4 @@
-use Rattle.std.proofs.Common.{◌≡◌, ◌<◌, length, sym, ap, ◌∙◌, arith}
+use Rattle.std.proofs.Common.{◌≡◌, length, ap, arith}
 use Rattle.spv_typing.specs.Merging.{renumbered}
 use Rattle.spv_type_typing.proofs.Entries.{entry_at}
 use Rattle.spv_declaration_typing.proofs.Renumbered.{many_names, one_renamed, all_renamed}
