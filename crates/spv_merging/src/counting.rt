@@ -1,31 +1,31 @@
 // New numbers, without gaps.
 
-ghost use Rattle.std.specs.Prelude.{◌≡◌, ◌<◌, ◌≤◌, ◌+◌, ◌-◌, ◌^◌, length, nat_eq, slice_index, IfOk};
+ghost use Rattle.std.specs.Prelude.{◌≡◌, ◌<◌, ◌+◌, ◌^◌, length, nat_eq, slice_index, IfOk};
 ghost use Rattle.spv_program.specs.Lists.{item_at};
 ghost use Rattle.spv_typing.specs.Merging.{kinds_before, number_or, renumbered};
-ghost use Rattle.spv_merging.specs.Counting.{IsCounted, one_more_if};
+ghost use Rattle.spv_merging.specs.Counting.{IsCounted, one_more_if, all_firsts};
 
 use crate::rounds::push;
 use spv_logic::TypeId;
 use std::alloc::{AllocError, Global};
 use std::marker::Model;
 
-/// The new numbers of types, from the first type that each is the same as.
+/// The new numbers of types: so many keep theirs, and for those behind it is known which type each is the same as.
 #[derive(Drop)]
 pub struct Renumbering {
+    base: usize,
     firsts: Vec<usize>,
     before: Vec<u32>,
 }
 
 impl Model for Renumbering {
-    ghost use Rattle.std.specs.Prelude.{ℕ, List};
-    ghost use Rattle.spv_merging.specs.Counting.{IsCounted};
+    ghost use Rattle.spv_merging.specs.Counting.{IsCounted, Numbering};
 
-    ghost Value = { List ℕ };
+    ghost Value = { Numbering };
 
-    ghost view = { λ r. r.firsts.items };
+    ghost view = { λ r. record { base = r.base; firsts = r.firsts.items } };
 
-    ghost invariant = { λ r. IsCounted r.firsts.items r.before.items };
+    ghost invariant = { λ r. IsCounted r.base r.firsts.items r.before.items };
 }
 
 fn one_more_if(is: bool, count: u32) -> u32
@@ -35,64 +35,77 @@ fn one_more_if(is: bool, count: u32) -> u32
     if is { count + 1 } else { count }
 }
 
-fn counted(alloc: Global, firsts: &[usize]) -> Result<Vec<u32>, AllocError>
-    requires { length firsts.now < 2 ^ 32 }
-    ensures { IfOk result (λ v. IsCounted firsts.now v.items) }
+fn counted(alloc: Global, base: usize, firsts: &[usize]) -> Result<Vec<u32>, AllocError>
+    requires { base + length firsts.now < 2 ^ 32 }
+    ensures { IfOk result (λ v. IsCounted base firsts.now v.items) }
 {
     let mut before = Vec::new(alloc);
-    let mut count: u32 = 0;
-    push(&mut before, 0)?;
+    let mut count = base as u32;
+    push(&mut before, count)?;
     for place in 0..firsts.len() {
-        count = one_more_if(firsts[place] == place, count);
+        count = one_more_if(firsts[place] == base + place, count);
         push(&mut before, count)?;
     }
     Ok(before)
 }
 
 impl Renumbering {
-    /// The new numbers where each type's first is known.
-    pub(crate) fn new(alloc: Global, firsts: Vec<usize>) -> Result<Renumbering, AllocError>
-        requires { length firsts.items < 2 ^ 32 }
-        ensures { IfOk result (λ r. r ≡ firsts.items) }
+    /// The new numbers where it is known which type each is the same as.
+    pub(crate) fn new(
+        alloc: Global,
+        base: usize,
+        firsts: Vec<usize>,
+    ) -> Result<Renumbering, AllocError>
+        requires { base + length firsts.items < 2 ^ 32 }
+        ensures { IfOk result (λ r. r ≡ record { base = base; firsts = firsts.items }) }
     {
-        let before = counted(alloc, firsts.as_slice())?;
-        Ok(Renumbering { firsts, before })
+        let before = counted(alloc, base, firsts.as_slice())?;
+        Ok(Renumbering {
+            base,
+            firsts,
+            before,
+        })
     }
 
-    /// Whether a type is the first of its kind.
+    /// Whether a type behind is the first of its kind.
     pub(crate) fn leads(&self, place: usize) -> bool
-        requires { place < length self.now }
-        ensures { result ≡ nat_eq (slice_index self.now place) place }
+        requires { place < length self.now.firsts }
+        ensures { result ≡ nat_eq (slice_index self.now.firsts place) (self.now.base + place) }
     {
-        self.firsts[place] == place
+        self.firsts[place] == self.base + place
     }
 
+    #[tactic(auto, using(crate::proofs::Counts::item_kept, crate::proofs::Counts::item_behind, crate::proofs::Counts::item_past))]
     fn first(&self, place: usize) -> usize
-        ensures { result ≡ number_or place (item_at self.now place) }
+        ensures { result ≡ number_or place (item_at (all_firsts self.now) place) }
     {
-        if place < self.firsts.len() {
-            self.firsts[place]
-        } else {
-            place
+        let firsts = self.firsts.as_slice();
+        if place < self.base {
+            return place;
         }
+        if place - self.base < firsts.len() {
+            return firsts[place - self.base];
+        }
+        place
     }
 
     fn kinds(&self, place: usize) -> u32
-        ensures { result ≡ kinds_before place 0 self.now }
+        ensures { result ≡ kinds_before place 0 (all_firsts self.now) }
     {
-        let before = self.before.as_slice();
         let firsts = self.firsts.as_slice();
-        let count = firsts.len();
-        if place < count {
-            before[place]
-        } else {
-            before[count]
+        let before = self.before.as_slice();
+        if place < self.base {
+            return place as u32;
         }
+        if place - self.base < firsts.len() {
+            return before[place - self.base];
+        }
+        before[firsts.len()]
     }
 
     /// The new number of a type.
     pub fn number(&self, t: TypeId) -> TypeId
-        ensures { result ≡ renumbered self.now t }
+        ensures { result ≡ renumbered (all_firsts self.now) t }
     {
         let first = self.first(t.0 as usize);
         TypeId(self.kinds(first))

@@ -27,7 +27,8 @@ fn target(names: &Named<TypeId>, written: &Written) -> Option<usize>
     }
 }
 
-fn targets(
+/// For each type the number of its target, where it is a pointer.
+pub fn targets(
     alloc: Global,
     names: &Named<TypeId>,
     written: &[Written],

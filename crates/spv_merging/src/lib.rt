@@ -8,5 +8,6 @@ mod rounds;
 pub mod written;
 
 pub use counting::Renumbering;
-pub use merging::{Merged, merge};
+pub use firsts::targets;
+pub use merging::{Merged, merge, merge_behind};
 pub use written::{Written, copied, whole};

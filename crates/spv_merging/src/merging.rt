@@ -4,7 +4,7 @@ ghost use Rattle.std.specs.Prelude.{◌≡◌, ◌++◌, map, IfOk, OnOk, length
 ghost use Rattle.spv_program.specs.Lists.{found};
 ghost use Rattle.spv_typing.specs.Merging as spec;
 ghost use Rattle.spv_merging.specs.Views.{written_of, all_written};
-ghost use Rattle.spv_merging.specs.Counting.{alone_if};
+ghost use Rattle.spv_merging.specs.Counting.{alone_if, all_firsts, counting};
 
 use crate::counting::Renumbering;
 use crate::firsts::firsts;
@@ -27,7 +27,7 @@ pub struct Merged {
 }
 
 fn field_with(numbers: &Renumbering, field: TypeField) -> TypeField
-    ensures { result ≡ record { name = field.name; of = spec.renumbered numbers.now field.of } }
+    ensures { result ≡ record { name = field.name; of = spec.renumbered (all_firsts numbers.now) field.of } }
 {
     TypeField {
         name: field.name,
@@ -40,7 +40,7 @@ fn fields_with(
     numbers: &Renumbering,
     fields: &[TypeField],
 ) -> Result<List<TypeField>, AllocError>
-    ensures { IfOk result (λ l. l ≡ map (λ f. record { name = f.name; of = spec.renumbered numbers.now f.of }) fields.now) }
+    ensures { IfOk result (λ l. l ≡ map (λ f. record { name = f.name; of = spec.renumbered (all_firsts numbers.now) f.of }) fields.now) }
 {
     let mut made = Vec::new(alloc);
     for field in fields {
@@ -51,7 +51,7 @@ fn fields_with(
 
 // A form with the new numbers in it.
 fn form_with(alloc: Global, numbers: &Renumbering, form: &TypeForm) -> Result<TypeForm, AllocError>
-    ensures { IfOk result (λ f. f ≡ spec.form_with (spec.renumbered numbers.now) form.now) }
+    ensures { IfOk result (λ f. f ≡ spec.form_with (spec.renumbered (all_firsts numbers.now)) form.now) }
 {
     match form {
         TypeForm::Integer => Ok(TypeForm::Integer),
@@ -84,7 +84,7 @@ fn new_form(
     numbers: &Renumbering,
     written: &Written,
 ) -> Result<TypeForm, AllocError>
-    ensures { IfOk result (λ f. f ≡ spec.form_with (spec.renumbered numbers.now) (spec.form_of names.now (written_of written.now))) }
+    ensures { IfOk result (λ f. f ≡ spec.form_with (spec.renumbered (all_firsts numbers.now)) (spec.form_of names.now (written_of written.now))) }
 {
     match written {
         Written::Built(form) => form_with(alloc, numbers, form),
@@ -100,7 +100,7 @@ fn add_if(
     leads: bool,
     forms: &mut Vec<TypeForm>,
 ) -> Result<(), AllocError>
-    ensures { OnOk result (forms.new.items ≡ forms.old.items ++ alone_if leads (spec.form_with (spec.renumbered numbers.now) (spec.form_of names.now (written_of written.now)))) }
+    ensures { OnOk result (forms.new.items ≡ forms.old.items ++ alone_if leads (spec.form_with (spec.renumbered (all_firsts numbers.now)) (spec.form_of names.now (written_of written.now)))) }
 {
     if !leads {
         return Ok(());
@@ -115,8 +115,8 @@ fn forms(
     numbers: &Renumbering,
     written: &[Written],
 ) -> Result<List<TypeForm>, AllocError>
-    requires { length numbers.now ≡ length written.now }
-    ensures { IfOk result (λ l. l ≡ spec.forms_from names.now (spec.renumbered numbers.now) 0 numbers.now (all_written written.now)) }
+    requires { length numbers.now.firsts ≡ length written.now }
+    ensures { IfOk result (λ l. l ≡ spec.forms_from names.now (spec.renumbered (all_firsts numbers.now)) numbers.now.base numbers.now.firsts (all_written written.now)) }
 {
     let mut made = Vec::new(alloc);
     for place in 0..written.len() {
@@ -126,20 +126,36 @@ fn forms(
     Ok(List::from_vec(made))
 }
 
+/// New numbers of types, and the forms of those behind others that keep their numbers, where it is known which type each is
+/// the same as.
+pub fn merge_behind(
+    alloc: Global,
+    names: &Named<TypeId>,
+    base: usize,
+    firsts: Vec<usize>,
+    written: &[Written],
+) -> Result<Merged, AllocError>
+    requires { length firsts.items ≡ length written.now }
+    ensures numbers { IfOk result (λ m. m.numbers ≡ record { base = base; firsts = firsts.items }) }
+    ensures forms { IfOk result (λ m. m.forms ≡ spec.forms_from names.now (spec.renumbered (counting 0 base ++ firsts.items)) base firsts.items (all_written written.now)) }
+{
+    if base > 4294967295 || firsts.len() > 4294967295 - base {
+        return Err(AllocError);
+    }
+    let numbers = Renumbering::new(alloc, base, firsts)?;
+    let forms = forms(alloc, names, &numbers, written)?;
+    Ok(Merged { forms, numbers })
+}
+
 /// Forms and new numbers of types as they are written, with the names of types; equal pointer types are one.
 pub fn merge(
     alloc: Global,
     names: &Named<TypeId>,
     written: &[Written],
 ) -> Result<Merged, AllocError>
-    ensures numbers { IfOk result (λ m. m.numbers ≡ spec.firsts (map (spec.target_number names.now) (all_written written.now))) }
+    ensures numbers { IfOk result (λ m. all_firsts m.numbers ≡ spec.firsts (map (spec.target_number names.now) (all_written written.now))) }
     ensures forms { IfOk result (λ m. m.forms ≡ (spec.merged names.now (all_written written.now)).forms) }
 {
-    if written.len() > 4294967295 {
-        return Err(AllocError);
-    }
     let firsts = firsts(alloc, names, written)?;
-    let numbers = Renumbering::new(alloc, firsts)?;
-    let forms = forms(alloc, names, &numbers, written)?;
-    Ok(Merged { forms, numbers })
+    merge_behind(alloc, names, 0, firsts, written)
 }

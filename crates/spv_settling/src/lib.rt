@@ -1,0 +1,4 @@
+//! A type that was read is put among the types of the program.
+#![tactic(auto)]
+
+mod behind;
