@@ -1,5 +1,5 @@
 -- Types that are told apart: each is built of types that are there, and no two pointer types have one target.
-use Rattle.std.specs.Prelude.{◌≡◌, ⊤, ℕ, ◌+◌, ◌<◌, Bool, true, ◌&&◌, List, ◌∷◌, [], ◌++◌, length, Option, Some, None, nat_lt}
+use Rattle.std.specs.Prelude.{◌≡◌, ℕ, ◌<◌, Bool, true, ◌&&◌, not, List, length, Option, Some, None, is_some, nat_lt, slice_set, slice_index_or}
 use Rattle.std.specs.List.{list_all}
 use Rattle.spv_logic.specs.declared.types.TypeId.{TypeId}
 use Rattle.spv_program.specs.declared.types.TypeField.{TypeField}
@@ -24,3 +24,13 @@ pub record IndexedTo (place : ℕ) (forms : List TypeForm) (pointers : List (Opt
 
 abbrev pub IsIndexed : List TypeForm → List (Option ℕ) → Type 0
 IsIndexed forms pointers = IndexedTo (length forms) forms pointers
+
+-- a further form, noted under its target where it is a pointer
+abbrev pub noted : List (Option ℕ) → ℕ → TypeForm → List (Option ℕ)
+noted pointers place (Pointer t) = slice_set pointers t.0 (Some place)
+noted pointers place other = pointers
+
+-- whether no pointer type to the same target is noted
+abbrev pub is_alone : List (Option ℕ) → TypeForm → Bool
+is_alone pointers (Pointer t) = not (is_some (slice_index_or pointers t.0 None))
+is_alone pointers other = true

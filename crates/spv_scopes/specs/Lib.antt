@@ -1,4 +1,5 @@
 pub mod Answers
+pub mod Indexed
 pub mod Scopes
 pub mod Symbols
 pub mod Views

@@ -1,19 +1,21 @@
 // What declarations add to what is known.
 
-ghost use Rattle.std.specs.Prelude.{◌≡◌, ◌<◌, [], ◌∷◌, ◌++◌, true, None, OnOk, length};
+ghost use Rattle.std.specs.Prelude.{◌≡◌, ◌<◌, [], ◌∷◌, ◌++◌, true, None, IfSome, OnOk, length};
 ghost use Rattle.spv_named.specs.Entries.{with_value};
 ghost use Rattle.spv_program.specs.Lists.{found};
 ghost use Rattle.spv_typing.specs.Known as spec;
 ghost use Rattle.spv_typing.specs.DeclarationWalk.{with_program, with_constant, with_types, with_variables, with_symbol};
+ghost use Rattle.spv_scopes.specs.Indexed.{IsIndexed};
 ghost use Rattle.spv_scopes.specs.Symbols.{decl_of};
 
+use crate::indexed::IndexedForms;
 use crate::known::{Known, Signature};
 use spv_list::List;
 use spv_logic::TypeId;
 use spv_named::Named;
 use spv_names::Symbol;
 use spv_program::TypeForm;
-use std::alloc::AllocError;
+use std::alloc::{AllocError, Global};
 
 impl Known {
     /// Whether constants, types and variables of the program may take a name.
@@ -81,11 +83,27 @@ impl Known {
         self.forms.as_slice()
     }
 
-    /// Puts other forms in the place of those so far.
-    pub fn set_forms(&mut self, forms: List<TypeForm>)
-        ensures { self.new ≡ with_program self.old (with_types self.old.program forms self.old.program.types) }
+    /// For each type the pointer type to it, where all are told apart.
+    pub fn pointers(&self) -> Option<&[Option<usize>]>
+        ensures { IfSome result (λ s. IsIndexed self.now.program.forms s.now) }
     {
-        self.forms = forms;
+        self.forms.pointers()
+    }
+
+    /// Puts other forms in the place of those so far.
+    pub fn set_forms(&mut self, alloc: Global, forms: List<TypeForm>) -> Result<(), AllocError>
+        ensures { OnOk result (self.new ≡ with_program self.old (with_types self.old.program forms self.old.program.types)) }
+    {
+        self.forms = IndexedForms::of(alloc, forms)?;
+        Ok(())
+    }
+
+    /// Adds a type with this form.
+    pub fn add_form(&mut self, form: TypeForm) -> Result<(), AllocError>
+        ensures { OnOk result (self.new ≡ with_program self.old (with_types self.old.program (self.old.program.forms ++ form ∷ []) self.old.program.types)) }
+    {
+        self.forms.push(form)?;
+        Ok(())
     }
 
     /// The names of types, with their types.

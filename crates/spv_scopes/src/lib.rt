@@ -3,12 +3,14 @@
 
 mod adding;
 pub mod functions;
+pub mod indexed;
 pub mod known;
 mod parts;
 pub mod routines;
 pub mod scopes;
 
 pub use functions::{Function, KnownNames};
+pub use indexed::IndexedForms;
 pub use known::{Known, Signature};
 pub use routines::{Heading, Specified};
 pub use scopes::{Meaning, Own, Scope};
