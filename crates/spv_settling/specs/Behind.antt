@@ -1,5 +1,6 @@
 -- The first types that are the same, for types behind others that are told apart already.
-use Rattle.std.specs.Prelude.{ℕ, zero, suc, ◌+◌, Bool, false, List, [], ◌∷◌, Option, Some, None, nat_eq}
+use Rattle.std.specs.Prelude.{ℕ, zero, suc, ◌+◌, Bool, true, false, List, [], ◌∷◌, ◌++◌, Option, Some, None, nat_eq, nat_lt}
+use Rattle.std.specs.Map.{lookup}
 use Rattle.spv_program.specs.Lists.{item_at}
 use Rattle.spv_typing.specs.Merging.{first_where}
 
@@ -25,3 +26,25 @@ first_behind pointers base targets place (Some t) = known_or (base + first_where
 
 abbrev pub firsts_behind : List (Option ℕ) → ℕ → List (Option ℕ) → List ℕ
 firsts_behind pointers base targets = placed (first_behind pointers base targets) base targets
+
+abbrev pub is_low : ℕ → Option ℕ → Bool
+is_low base None = true
+is_low base (Some t) = nat_lt t base
+
+-- ---- the steps of the code: under each type the first pointer behind that leads there, of those so far
+
+abbrev pub seen_or : ℕ → Option ℕ → ℕ
+seen_or place None = place
+seen_or place (Some n) = n
+
+abbrev pub seen_with : List (ℕ × ℕ) → ℕ → ℕ → Option ℕ → List (ℕ × ℕ)
+seen_with entries target place None = entries ++ (target, place) ∷ []
+seen_with entries target place (Some n) = entries
+
+abbrev pub seen_after : List (ℕ × ℕ) → ℕ → Option ℕ → List (ℕ × ℕ)
+seen_after entries place None = entries
+seen_after entries place (Some t) = seen_with entries t place (lookup (nat_eq t) entries)
+
+abbrev pub first_told : List (Option ℕ) → List (ℕ × ℕ) → ℕ → Option ℕ → ℕ
+first_told pointers entries place None = place
+first_told pointers entries place (Some t) = known_or (seen_or place (lookup (nat_eq t) entries)) (item_at pointers t)

@@ -2,3 +2,6 @@
 #![tactic(auto)]
 
 mod behind;
+pub mod settling;
+
+pub use settling::{NewType, read_type, settle};

@@ -2,8 +2,8 @@ use Rattle.std.proofs.Common.{rules}
 use Rattle.spv_typing.specs.DeclarationWalk as spec
 use Rattle.spv_scopes.specs.Answers.{Stops}
 use Rattle.spv_scopes.specs.Scopes.{scope_of}
-use Rattle.spv_declaration_typing.proofs.Settled.{read_settled, read_stops}
-use Rattle.spv_declaration_typing.proofs.settling.read_type.Goals as goal
+use Rattle.spv_settling.proofs.Settled.{read_settled, read_stops}
+use Rattle.spv_settling.proofs.settling.read_type.Goals as goal
 
 pub returns-in_err-of-clause-err : goal.returns-in_err-of-clause-err
 returns-in_err-of-clause-err c =

@@ -16,7 +16,7 @@ use Rattle.spv_merging.specs.Views.{all_written}
 use Rattle.spv_type_typing.specs.declared.targets.Targets.TheVariants as targets
 use Rattle.spv_type_typing.specs.Reading.{read_as, denoted}
 use Rattle.spv_type_typing.proofs.Each.{stops_after}
-use Rattle.spv_declaration_typing.specs.Parts.{types_with}
+use Rattle.spv_settling.specs.Types.{types_with}
 
 module _ (s : Scope) (tree : TypeDenoter) where
   abbrev settling : types.Reading → Outcome spec.NewType
