@@ -19,8 +19,8 @@ use Rattle.spv_type_typing.specs.Names.{only_names}
 use Rattle.spv_type_typing.specs.Fields.{NoneThere, under}
 use Rattle.spv_type_typing.proofs.Each.{stops_after}
 use Rattle.spv_type_typing.proofs.NewFields.{all_new, none_there, next_missing, take_one}
-use Rattle.spv_declaration_typing.specs.declared.settling.NewType.{NewType}
-use Rattle.spv_declaration_typing.specs.Parts.{settled}
+use Rattle.spv_settling.specs.declared.settling.NewType.{NewType}
+use Rattle.spv_settling.specs.Types.{settled}
 
 abbrev with_these : Known → List (Symbol × TypeId) → Known
 with_these k more = spec.with_program k (spec.with_variables k.program k.program.forms more)

@@ -3,14 +3,12 @@
 
 mod all;
 mod constants;
-pub mod settling;
 mod symbols;
 mod types;
 pub mod variables;
 
 pub use all::declarations;
 pub use constants::const_part;
-pub use settling::{NewType, read_type, settle};
 pub use symbols::{class_named, symbol_part};
 pub use types::type_part;
 pub use variables::{FreeNames, var_part};

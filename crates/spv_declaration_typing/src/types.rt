@@ -10,7 +10,9 @@ ghost use Rattle.spv_typing.specs.Known.{at_top};
 ghost use Rattle.spv_typing.specs.TypeWalk as types;
 ghost use Rattle.spv_typing.specs.DeclarationWalk as spec;
 ghost use Rattle.spv_scopes.specs.Answers.{Stops};
-ghost use Rattle.spv_declaration_typing.specs.Parts.{part_of, types_with, is_in};
+ghost use Rattle.spv_merging.specs.Counting.{all_firsts};
+ghost use Rattle.spv_settling.specs.Types.{types_with};
+ghost use Rattle.spv_declaration_typing.specs.Parts.{part_of, is_in};
 
 use spv_logic::TypeId;
 use spv_merging::{Merged, Renumbering, Written, merge, whole};
@@ -101,7 +103,7 @@ fn typedefs(
 
 // The names of types stand for the types under their new numbers.
 fn renumber(known: &mut Known, numbers: &Renumbering)
-    ensures { known.new ≡ spec.with_program known.old (spec.with_types known.old.program known.old.program.forms (map (λ n. (n.0, renumbered numbers.now n.1)) known.old.program.types)) }
+    ensures { known.new ≡ spec.with_program known.old (spec.with_types known.old.program known.old.program.forms (map (λ n. (n.0, renumbered (all_firsts numbers.now) n.1)) known.old.program.types)) }
 {
     for place in 0..known.types().len() {
         let (_, t) = known.types().entry(place).unwrap();
@@ -116,7 +118,7 @@ fn put_together(known: &mut Known, alloc: Global, new: Vec<Written>) -> Result<(
 {
     let all = whole(alloc, known.forms(), new)?;
     let Merged { forms, numbers } = merge(alloc, known.types(), all.as_slice())?;
-    known.set_forms(forms);
+    known.set_forms(alloc, forms)?;
     renumber(known, &numbers);
     Ok(())
 }

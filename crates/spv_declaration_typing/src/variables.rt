@@ -8,13 +8,13 @@ ghost use Rattle.spv_typing.specs.DeclarationWalk as spec;
 ghost use Rattle.spv_scopes.specs.Answers.{Stops};
 ghost use Rattle.spv_type_typing.specs.Names.{only_names};
 ghost use Rattle.spv_type_typing.specs.Fields.{NoneThere, under};
-ghost use Rattle.spv_declaration_typing.specs.Parts.{settled};
+ghost use Rattle.spv_settling.specs.Types.{settled};
 
-use crate::settling::{NewType, read_type, settle};
 use spv_logic::TypeId;
 use spv_named::Named;
 use spv_names::Symbol;
 use spv_scopes::{Known, Own, Scope};
+use spv_settling::{NewType, read_type, settle};
 use spv_syntax::{Name, Several, TypeDenoter, Vars};
 use spv_type_typing::{Free, new_names};
 use spv_typing::TypeFault;

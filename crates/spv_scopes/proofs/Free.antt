@@ -3,7 +3,6 @@ use Rattle.std.proofs.Common.{◌≡◌, Bool, true, false, not, List, [], ◌�
 use Rattle.std.proofs.lemmas.Bool.{false≢true}
 use Rattle.std.proofs.lemmas.List.{map-append}
 use Rattle.spv_names.specs.declared.names.Symbol.{Symbol}
-use Rattle.spv_logic.specs.declared.types.TypeId.{TypeId}
 use Rattle.spv_logic.specs.declared.types.Decl.{Decl}
 use Rattle.spv_program.specs.Lists.{found, first_of, same_name}
 use Rattle.spv_typing.specs.Known as spec

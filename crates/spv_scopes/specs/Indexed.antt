@@ -2,7 +2,6 @@
 use Rattle.std.specs.Prelude.{◌≡◌, ℕ, ◌<◌, Bool, true, ◌&&◌, not, List, length, Option, Some, None, is_some, nat_lt, slice_set, slice_index_or}
 use Rattle.std.specs.List.{list_all}
 use Rattle.spv_logic.specs.declared.types.TypeId.{TypeId}
-use Rattle.spv_program.specs.declared.types.TypeField.{TypeField}
 use Rattle.spv_program.specs.declared.types.TypeForm.{TypeForm}
 use Rattle.spv_program.specs.declared.types.TypeForm.TheVariants.{Pointer, Array, Record}
 use Rattle.spv_program.specs.Lists.{item_at}

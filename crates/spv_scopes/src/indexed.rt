@@ -67,12 +67,7 @@ fn note_pointer(pointers: &mut Vec<Option<usize>>, target: usize, place: usize) 
 }
 
 // Notes a form where it is told apart from those before it.
-fn note(
-    pointers: &mut Vec<Option<usize>>,
-    place: usize,
-    form: &TypeForm,
-    count: usize,
-) -> bool
+fn note(pointers: &mut Vec<Option<usize>>, place: usize, form: &TypeForm, count: usize) -> bool
     requires { count ≡ length pointers.old.items }
     ensures noted { IsTrue result → pointers.new.items ≡ noted pointers.old.items place form.now }
     ensures alone { IsTrue result → is_alone pointers.old.items form.now ≡ true }
@@ -93,10 +88,7 @@ fn none_noted(alloc: Global, count: usize) -> Result<Vec<Option<usize>>, AllocEr
     vec![in alloc; None; count]
 }
 
-fn index(
-    alloc: Global,
-    forms: &[TypeForm],
-) -> Result<Option<Vec<Option<usize>>>, AllocError>
+fn index(alloc: Global, forms: &[TypeForm]) -> Result<Option<Vec<Option<usize>>>, AllocError>
     ensures { IfOk result (λ o. IfSome o (λ v. IsIndexed forms.now v.items)) }
 {
     let count = forms.len();

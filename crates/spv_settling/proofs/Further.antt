@@ -1,5 +1,5 @@
 -- Types of the program that are told apart keep their forms and numbers when others stand behind them.
-use Rattle.std.proofs.Common.{◌≡◌, ℕ, zero, suc, ◌+◌, ◌<◌, ◌≤◌, ◌-◌, Bool, true, false, cond, ◌&&◌, nat_lt, nat_eq, List, [], ◌∷◌, ◌++◌, map, length, Option, Some, None, option_map, refl, sym, ap, ◌∙◌, subst, arith}
+use Rattle.std.proofs.Common.{◌≡◌, ℕ, zero, suc, ◌+◌, ◌<◌, ◌≤◌, true, cond, nat_lt, List, [], ◌∷◌, ◌++◌, map, length, Option, Some, refl, sym, ap, ◌∙◌, subst, arith}
 use Rattle.std.specs.List.{list_all}
 use Rattle.std.proofs.lemmas.Bool.{ltb-true, eq-eqb}
 use Rattle.std.proofs.lemmas.List.{length-map, map-append}
@@ -10,14 +10,14 @@ use Rattle.spv_program.specs.declared.types.TypeField.{TypeField}
 use Rattle.spv_program.specs.declared.types.TypeForm.{TypeForm}
 use Rattle.spv_program.specs.declared.types.TypeForm.TheVariants.{Integer, Boolean, Range, Pointer, Array, Record}
 use Rattle.spv_program.specs.Lists.{item_at}
-use Rattle.spv_typing.specs.Merging.{Written as WrittenText, Built, PointerTo, target_number, numbers_from, firsts, kinds_before, number_or, renumbered, form_with, form_of, forms_from, merged}
+use Rattle.spv_typing.specs.Merging.{Written as WrittenText, Built, target_number, numbers_from, firsts, kinds_before, number_or, renumbered, form_with, forms_from, merged}
 use Rattle.spv_typing.specs.Known.{Known}
 use Rattle.spv_merging.specs.declared.written.Written.{Written}
 use Rattle.spv_merging.specs.declared.merging.Merged.{Merged}
 use Rattle.spv_merging.specs.Counting.{counting, Numbering, all_firsts}
 use Rattle.spv_merging.specs.Views.{written_of, all_written}
 use Rattle.spv_merging.proofs.Counts.{item_kept, kinds_kept}
-use Rattle.spv_scopes.specs.Indexed.{built_below, IndexedTo, IsIndexed}
+use Rattle.spv_scopes.specs.Indexed.{built_below, IsIndexed}
 use Rattle.spv_settling.specs.Behind.{placed, first_behind, firsts_behind, is_low}
 use Rattle.spv_settling.specs.Types.{types_with, IsFurther}
 use Rattle.spv_settling.proofs.Apart.{IsApart, firsts_are}
@@ -101,7 +101,7 @@ module _ (n : ℕ) (new : TypeId → TypeId) (keeps : (t : TypeId) → t.0 < n �
       zero_more n = omega arith
   forms_kept names place (f ∷ forms) behind written closed =
       ap (λ b. cond b (form_with new f ∷ forms_from names new (suc place) (counting (suc place) (length forms) ++ behind) (map Built forms ++ written))
-          (forms_from names new (suc place) (counting (suc place) (length forms) ++ behind) (map Built forms ++ written))) (eq-eqb place place refl)
+      (forms_from names new (suc place) (counting (suc place) (length forms) ++ behind) (map Built forms ++ written))) (eq-eqb place place refl)
       ∙ (ap (λ (g : TypeForm). g ∷ forms_from names new (suc place) (counting (suc place) (length forms) ++ behind) (map Built forms ++ written)) (form_kept f (closed 0 f refl))
       ∙ ap (λ (l : List TypeForm). f ∷ l) (forms_kept names (suc place) forms behind written (λ i g e. closed (suc i) g e) ∙ ap (λ m. forms ++ forms_from names new m behind written) (moved (length forms) place)))
     where

@@ -1,5 +1,5 @@
 -- The first types that are the same, for types behind others that are told apart already.
-use Rattle.std.specs.Prelude.{ℕ, zero, suc, ◌+◌, Bool, true, false, List, [], ◌∷◌, ◌++◌, Option, Some, None, nat_eq, nat_lt}
+use Rattle.std.specs.Prelude.{ℕ, suc, ◌+◌, Bool, true, false, List, [], ◌∷◌, ◌++◌, Option, Some, None, nat_eq, nat_lt}
 use Rattle.std.specs.Map.{lookup}
 use Rattle.spv_program.specs.Lists.{item_at}
 use Rattle.spv_typing.specs.Merging.{first_where}

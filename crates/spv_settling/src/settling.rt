@@ -40,11 +40,7 @@ pub fn read_type(
 }
 
 // The forms of the types behind those of the program, where these keep theirs; none where that is not known.
-fn further(
-    known: &Known,
-    alloc: Global,
-    new: &[Written],
-) -> Result<Option<Merged>, AllocError>
+fn further(known: &Known, alloc: Global, new: &[Written]) -> Result<Option<Merged>, AllocError>
     ensures { IfOk result (λ o. IfSome o (λ m. IsFurther known.now new.now m)) }
 {
     let Some(pointers) = known.pointers() else {

@@ -1,4 +1,4 @@
-use Rattle.std.proofs.Common.{◌≡◌, ◌<◌, length, sym, ap, ◌∙◌, subst, List}
+use Rattle.std.proofs.Common.{◌<◌, length, sym, ap, ◌∙◌, subst, List}
 use Rattle.spv_names.specs.declared.names.Symbol.{Symbol}
 use Rattle.spv_named.specs.Entries.{with_value}
 use Rattle.spv_named.proofs.Lookups.{value_put, length-named}

@@ -1,4 +1,3 @@
-use Rattle.std.proofs.Common.{◌≡◌, length}
 use Rattle.spv_scopes.specs.Indexed.{IndexedTo}
 use Rattle.spv_scopes.proofs.indexed.index.Given as goal
 

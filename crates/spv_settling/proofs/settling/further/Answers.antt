@@ -1,6 +1,6 @@
-use Rattle.std.proofs.Common.{◌≡◌, true, length, Option, List, ℕ, sym, ap, ◌∙◌}
+use Rattle.std.proofs.Common.{◌≡◌, true, length, sym, ap, ◌∙◌}
 use Rattle.std.specs.List.{list_all}
-use Rattle.spv_settling.specs.Behind.{is_low, firsts_behind}
+use Rattle.spv_settling.specs.Behind.{is_low}
 use Rattle.spv_settling.proofs.Further.{many_led, told_further}
 use Rattle.spv_settling.proofs.settling.further.Goals as goal
 
