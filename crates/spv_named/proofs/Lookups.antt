@@ -3,15 +3,15 @@ use Rattle.std.proofs.Common.{◌≡◌, ℕ, zero, suc, Bool, true, false, cond
 use Rattle.std.proofs.lemmas.Bool.{false≢true, eqb-true, eq-eqb}
 use Rattle.std.proofs.lemmas.Option.{none-some}
 use Rattle.std.proofs.lemmas.Bool.Decides.{nat_tests}
-use Rattle.std.proofs.lemmas.List.{map-append}
+use Rattle.std.proofs.lemmas.List.{map-append, length-map}
 use Rattle.std.specs.Map.{lookup, keys_of}
 use Rattle.std.specs.List.{AllByRecursion, IsDistinct}
 use Rattle.std.proofs.lemmas.Map.Keys.{IsDistinct-head, IsDistinct-tail}
-use Rattle.indexmap.specs.IndexMap.{IndexMap, insert_entry}
+use Rattle.indexmap.specs.IndexMap.{IndexMap, insert_entry, set_value_at}
 use Rattle.indexmap.proofs.CallerLemmas.{insert_entry-new}
 use Rattle.spv_names.specs.declared.names.Symbol.{Symbol}
 use Rattle.spv_program.specs.Lists.{found}
-use Rattle.spv_named.specs.Entries.{named}
+use Rattle.spv_named.specs.Entries.{named, with_value}
 
 pub nat_eq_turned : (m n : ℕ) → nat_eq m n ≡ nat_eq n m
 nat_eq_turned m n = by_case (nat_eq m n) (nat_eq n m) refl refl
@@ -55,3 +55,11 @@ none_earlier (d ∷ es) zero e h at = refl
 none_earlier (d ∷ es) (suc n) e h at =
     ap (λ b. cond b (Some d.1) (found (take n (map named es)) (record { 0 = e.0 }))) (apart_at d.0 es n e (IsDistinct-head nat_eq d.0 (keys_of es) h) at)
     ∙ none_earlier es n e (IsDistinct-tail nat_eq d.0 (keys_of es) h) at
+
+pub value_put : {X : Type 0} (es : List (ℕ × X)) (place : ℕ) (x : X) → map named (set_value_at es place x) ≡ with_value (map named es) place x
+value_put [] place x = refl
+value_put (e ∷ es) zero x = refl
+value_put {X = X} (e ∷ es) (suc place) x = ap (λ (l : List (Symbol × X)). named e ∷ l) (value_put es place x)
+
+pub length-named : {X : Type 0} (es : List (ℕ × X)) → length (map named es) ≡ length es
+length-named es = length-map es named

@@ -1,5 +1,5 @@
 -- Entries of a map of numbers as entries under names.
-use Rattle.std.specs.Prelude.{ℕ}
+use Rattle.std.specs.Prelude.{ℕ, zero, suc, List, [], ◌∷◌}
 use Rattle.spv_names.specs.declared.names.Symbol.{Symbol}
 
 abbrev pub named : {X : Type 0} → ℕ × X → Symbol × X
@@ -8,3 +8,9 @@ named e = (record { 0 = e.0 }, e.1)
 -- a name with another value under it
 abbrev pub under : {X Y : Type 0} → X → Symbol × Y → Symbol × X
 under x e = (e.0, x)
+
+-- the entries with this value under the name at a place
+abbrev pub with_value : {X : Type 0} → List (Symbol × X) → ℕ → X → List (Symbol × X)
+with_value [] place x = []
+with_value (e ∷ es) zero x = (e.0, x) ∷ es
+with_value (e ∷ es) (suc place) x = e ∷ with_value es place x

@@ -5,6 +5,7 @@ ghost use Rattle.std.specs.Prelude.{◌≡◌, ◌<◌, ◌↔◌, IfNone, [], �
 ghost use Rattle.spv_program.specs.Lists.{found};
 
 mod joining;
+mod values;
 
 use indexmap::IndexMap;
 use spv_names::Symbol;

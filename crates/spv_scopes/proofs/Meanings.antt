@@ -57,7 +57,7 @@ module _ (k : spec.Known) (x : Symbol) where
   place_missing h = found_first spec.OfPlace x k.program.variables (callables k) ∙ ap (λ o. first_of (option_map spec.OfPlace o) (found (callables k) x)) h
 
 -- declared symbols and routines, which have their names in them
-symbol_first : (table : List (Symbol × Signature)) (ys : spec.Names) (x : Symbol)
+pub symbol_first : (table : List (Symbol × Signature)) (ys : spec.Names) (x : Symbol)
     → found (map (λ d. (d.name, spec.OfSymbol d)) (symbols_of table) ++ ys) x ≡ first_of (option_map (λ s. spec.OfSymbol (decl_of x s)) (found table x)) (found ys x)
 symbol_first table ys x =
     ap (λ (l : spec.Names). found (l ++ ys) x) (map-map table) ∙ found_named (λ n s. spec.OfSymbol (decl_of n s)) x table ys

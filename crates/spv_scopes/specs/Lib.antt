@@ -1,5 +1,6 @@
 pub mod Answers
 pub mod Numbered
+pub mod Indexed
 pub mod Scopes
 pub mod Symbols
 pub mod Views

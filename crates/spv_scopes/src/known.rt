@@ -7,6 +7,7 @@ ghost use Rattle.spv_typing.specs.Known.{known_in, is_fixed};
 ghost use Rattle.spv_typing.specs.ProgramWalk.{known_at_first};
 
 use crate::functions::KnownNames;
+use crate::indexed::IndexedForms;
 use crate::routines::{Heading, Specified};
 use spv_list::List;
 use spv_logic::{Sort, TypeId};
@@ -30,7 +31,7 @@ pub struct Signature {
 #[derive(Drop)]
 pub struct Known {
     pub(crate) start: KnownNames,
-    pub(crate) forms: List<TypeForm>,
+    pub(crate) forms: IndexedForms,
     pub(crate) types: Named<TypeId>,
     pub(crate) constants: Named<i64>,
     pub(crate) variables: Named<TypeId>,
@@ -78,7 +79,7 @@ impl Known {
     pub fn new(alloc: Global, names: &Names) -> Result<Known, AllocError>
         ensures { IfOk result (λ k. k ≡ known_at_first (known_in names.now)) }
     {
-        let mut forms = List::new(alloc);
+        let mut forms = IndexedForms::new(alloc);
         forms.push(TypeForm::Integer)?;
         forms.push(TypeForm::Boolean)?;
         Ok(Known {

@@ -1,8 +1,10 @@
 //! What names stand for while a text is typed: the tables of the walk over names and types.
 #![tactic(auto)]
 
+mod adding;
 mod announcing;
 pub mod functions;
+pub mod indexed;
 pub mod known;
 pub mod numbered;
 mod parts;
@@ -10,6 +12,7 @@ pub mod routines;
 pub mod scopes;
 
 pub use functions::{Function, KnownNames};
+pub use indexed::IndexedForms;
 pub use known::{Known, Signature};
 pub use routines::{Heading, Specified};
 pub use scopes::{Meaning, Own, Scope};

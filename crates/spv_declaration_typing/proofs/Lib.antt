@@ -1,0 +1,4 @@
+pub mod AllOf
+pub mod Part
+pub mod Renumbered
+pub mod Varying

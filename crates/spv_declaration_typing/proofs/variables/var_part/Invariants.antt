@@ -1,0 +1,7 @@
+use Rattle.spv_typing.specs.Outcomes.{each}
+use Rattle.spv_typing.specs.DeclarationWalk as spec
+use Rattle.spv_type_typing.proofs.Each.{EachFrom}
+use Rattle.spv_declaration_typing.proofs.variables.var_part.Given as goal
+
+abbrev pub invariant-loop-item : goal.invariant-loop-item
+invariant-loop-item l = EachFrom spec.vars_walk l.items l.item-index l.known (each spec.vars_walk l.initial.known l.items)

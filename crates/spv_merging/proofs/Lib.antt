@@ -1,0 +1,4 @@
+pub mod Alike
+pub mod Counts
+pub mod Leading
+pub mod Places

@@ -1,0 +1,4 @@
+pub mod Apart
+pub mod Further
+pub mod Seeing
+pub mod Settled

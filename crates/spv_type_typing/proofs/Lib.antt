@@ -1,0 +1,9 @@
+pub mod Each
+pub mod Entries
+pub mod Indices
+pub mod Lines
+pub mod NamedFields
+pub mod NewFields
+pub mod NewNames
+pub mod Sizes
+pub mod TypeNames
