@@ -19,5 +19,6 @@ pub use laws::{law_form, law_truth};
 pub use linear_form::Linear;
 pub use proofs::{Proof, ProofNode, Relation, Split, Stated, Step};
 pub use sets::TermSet;
-pub use valued::truth;
-pub use walk::{Through, has_meaning_head, in_order, is_sum_head};
+pub use numerals::numeral_relation;
+pub use valued::{computed, computed_over, connected, truth, values_in_order};
+pub use walk::{Through, all_in_order, has_meaning_head, in_order, is_sum_head};

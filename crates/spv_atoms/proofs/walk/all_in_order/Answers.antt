@@ -1,5 +1,5 @@
-use Rattle.spv_atoms.proofs.Walks.{popped_in, turn_less, turn_same}
-use Rattle.spv_atoms.proofs.walk.in_order.Goals as goal
+use Rattle.spv_atoms.proofs.Walks.{popped_in, starts_with, turn_less, turn_same}
+use Rattle.spv_atoms.proofs.walk.all_in_order.Goals as goal
 
 pub step-requires-clause-work : goal.step-requires-clause-work
 step-requires-clause-work c =
@@ -19,3 +19,8 @@ loop-work-preserved c = record {
   works_in = c.in_ok-step.ensures.works_in;
   done_in = c.in_ok-step.ensures.done_in;
 }
+
+pub loop-work-init : goal.loop-work-init
+loop-work-init c =
+    let s = starts_with c.args.terms.now c.law_arena.ensures c.args.through c.args.roots.now c.push_visits.new.works.items c.new-works.result.items c.new-done.result c.in_ok-push_visits.ensures c.new-works.ensures.items c.new-done.ensures c.requires in
+    record { same = s.same; works_in = s.works_in; done_in = s.done_in }
