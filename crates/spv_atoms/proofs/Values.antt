@@ -1,7 +1,7 @@
 -- Values of terms of an arena, over plain variables.
 use Rattle.std.proofs.Common.{◌≡◌, ℕ, zero, suc, ◌<◌, ◌≤◌, ◌+◌, Bool, true, false, cond, ◌||◌, List, [], ◌∷◌, ◌++◌, map, length, drop, get_or, slice_get, refl, sym, ap, ◌∙◌, subst, inl, inr, Option, Some, None, ℤ, pos, negsuc, nat_lt, ◌^◌, arith}
 use Rattle.std.proofs.lemmas.Bool.{cases_lt}
-use Rattle.std.proofs.lemmas.List.{length_push, length-take-le, length-map, map-append, take_more}
+use Rattle.std.proofs.lemmas.List.{length_push, length-take-le, length-map}
 use Rattle.std.specs.List.{list_any}
 use Rattle.std.proofs.Math.Facts.{sfits_lit}
 use Rattle.std.proofs.lemmas.Int.{to_z-of_z}
@@ -371,12 +371,6 @@ inside_of a ids found t layered len there n node connective =
     let few : List (Option Bool) = take p.place found in
     let count : length few ≡ p.place = length-take-le p.place found (omega (arith, within, len)) in
     valued_longer ids few found n.args (omega (arith, count, within, len)) (layered few t (ap (slice_get ids) count ∙ p.at) n node connective)
-
--- one more given value
-pub AreGiven-push : (a : Arena) (given : Term → Option Bool) (ids : List TermId) (i : ℕ) (d : TermId) (own more : List (Option Bool)) (v : Option Bool) → i < length ids → AreGiven a given (take i ids) own
-    → v ≡ given (tree a (get_or ids i d)) → more ≡ own ++ v ∷ [] → AreGiven a given (take (i + 1) ids) more
-AreGiven-push a given ids i d own more v h is e f =
-    f ∙ ((λ k. is k ++ e k ∷ []) ∙ (sym (map-append (λ t. given (tree a t)) (take i ids) (get_or ids i d ∷ [])) ∙ ap (map (λ t. given (tree a t))) (sym (take_more ids i d h))))
 
 -- the given value at a place
 pub own_is : (a : Arena) (given : Term → Option Bool) (ids items : List TermId) (own : List (Option Bool)) (i : ℕ) (d : TermId) (e : Option Bool) → items ≡ ids → AreGiven a given ids own → i < length ids

@@ -1,8 +1,8 @@
-use Rattle.std.proofs.Common.{sym, subst, length, ◌∙◌, ap, ◌≡◌}
+use Rattle.std.proofs.Common.{subst}
 use Rattle.spv_logic.specs.declared.conditions.TermId.{TermId}
-use Rattle.std.proofs.Common.{List, Option, Bool}
+use Rattle.std.proofs.Common.{List}
 use Rattle.spv_atoms.specs.Tables.{assigned}
-use Rattle.spv_atoms.specs.Valued.{pairs, AreGiven, AreValued}
+use Rattle.spv_atoms.specs.Valued.{pairs, AreGiven}
 use Rattle.spv_atoms.proofs.Values.{truth_is}
 use Rattle.spv_atoms.proofs.valued.truth.Goals as goal
 
