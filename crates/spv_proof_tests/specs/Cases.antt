@@ -1,13 +1,12 @@
 -- SPLIT: proofs that are accepted, and what each way to break them makes of them.
-use Rattle.std.specs.Prelude.{◌≡◌, ℕ, Bool, true, false, List, [], ◌∷◌, Some, None}
+use Rattle.std.specs.Prelude.{◌≡◌, ℕ, Bool, true, false, List, [], ◌∷◌, Some}
 use Rattle.spv_logic.specs.declared.conditions.TermId.{TermId}
 use Rattle.spv_logic.specs.Terms.{Term}
-use Rattle.spv_logic.specs.Formulas.{negation, below}
-use Rattle.spv_atoms.specs.declared.proofs.Step.{Step}
+use Rattle.spv_logic.specs.Formulas.{below}
 use Rattle.spv_atoms.specs.declared.proofs.Step.TheVariants.{Given, Contra}
 use Rattle.spv_atoms.specs.declared.proofs.ProofNode.{ProofNode}
 use Rattle.spv_proof.specs.Accepted.{accepts}
-use Rattle.spv_proof_tests.specs.Named.{x, y, p, same, never, the_x, the_p, the_both, the_same, the_always, the_truths_agree, asks, node, split_by}
+use Rattle.spv_proof_tests.specs.Named.{x, y, p, same, the_x, the_p, the_both, the_same, the_always, the_truths_agree, asks, node, split_by}
 
 -- ---- two cases
 
