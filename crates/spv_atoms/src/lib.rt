@@ -6,7 +6,7 @@ mod formulas;
 mod laws;
 mod linear_form;
 mod numerals;
-mod parts;
+pub mod parts;
 pub mod proofs;
 mod sets;
 mod tables;
