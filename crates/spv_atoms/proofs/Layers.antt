@@ -89,3 +89,9 @@ module _ (enters : Term → Bool) where
 
   pub order_has : (t : Term) → has (order enters t []) t ≡ true
   order_has t = (reaches t [] layered_nothing).all.0
+
+  pub order_all_layered : (ts : Terms) → Layered (order_all enters ts [])
+  order_all_layered ts = (reaches_all ts [] layered_nothing).layered
+
+  pub order_all_has : (ts : Terms) → AllIn (order_all enters ts []) (listed ts)
+  order_all_has ts = (reaches_all ts [] layered_nothing).all

@@ -1,7 +1,7 @@
 -- Values of terms of an arena, over plain variables.
 use Rattle.std.proofs.Common.{◌≡◌, ℕ, zero, suc, ◌<◌, ◌≤◌, ◌+◌, Bool, true, false, cond, ◌||◌, List, [], ◌∷◌, ◌++◌, map, length, drop, get_or, slice_get, refl, sym, ap, ◌∙◌, subst, inl, inr, Option, Some, None, ℤ, pos, negsuc, nat_lt, ◌^◌, arith}
 use Rattle.std.proofs.lemmas.Bool.{cases_lt}
-use Rattle.std.proofs.lemmas.List.{length_push}
+use Rattle.std.proofs.lemmas.List.{length_push, length-take-le, length-map}
 use Rattle.std.specs.List.{list_any}
 use Rattle.std.proofs.Math.Facts.{sfits_lit}
 use Rattle.std.proofs.lemmas.Int.{to_z-of_z}
@@ -29,10 +29,10 @@ use Rattle.std.proofs.lemmas.List.{drop_more, drop_all, take-map, take_all}
 use Rattle.std.proofs.lemmas.List.Folds.{list_any_more}
 use Rattle.spv_atoms.specs.Tables as spec
 use Rattle.spv_atoms.specs.Atoms.{is_truth, connects, is_connective}
-use Rattle.spv_atoms.specs.Order.{order, same_id}
-use Rattle.spv_atoms.specs.Valued.{pairs, KnownIn, truth_in, value_at, AreValued, AllValued, IsInside, IsLayered, first_at, second_at}
+use Rattle.spv_atoms.specs.Order.{order_all, same_id}
+use Rattle.spv_atoms.specs.Valued.{pairs, KnownIn, truth_in, valued_in, value_at, AreGiven, AreValued, AllAmong, AllValued, AreInside, IsInside, IsLayered, first_at, second_at}
 use Rattle.spv_atoms.proofs.Members.{AllIn}
-use Rattle.spv_atoms.proofs.Layers.{listed, arguments, Layered, order_layered, order_has}
+use Rattle.spv_atoms.proofs.Layers.{listed, arguments, Layered, order_all_layered, order_all_has}
 use Rattle.spv_atoms.proofs.Walks.{term_eq-ids, has-trees, are_truths, connective_at}
 
 -- ---- numerals
@@ -151,12 +151,12 @@ value_at-new t (u ∷ ids) (w ∷ found) v d l h e = by_case (same_id t u) h (λ
     by_case true h later = absurd (false≢true (sym h))
     by_case false h later = later h
 
-module _ (a : Arena) (known : List (TermId × Bool)) where
-  pub nothing_valued : (ids : List TermId) → AreValued a known ids []
+module _ (a : Arena) (given : Term → Option Bool) where
+  pub nothing_valued : (ids : List TermId) → AreValued a given ids []
   nothing_valued ids t h = absurd (false≢true h)
 
-  pub more_valued : (ids : List TermId) (found more : List (Option Bool)) (n : ℕ) (d : TermId) (v : Option Bool) → AreValued a known ids found → length found ≡ n → n < length ids
-      → more ≡ found ++ v ∷ [] → v ≡ truth_in a known (get_or ids n d) → AreValued a known ids more
+  pub more_valued : (ids : List TermId) (found more : List (Option Bool)) (n : ℕ) (d : TermId) (v : Option Bool) → AreValued a given ids found → length found ≡ n → n < length ids
+      → more ≡ found ++ v ∷ [] → v ≡ valued_in a given (get_or ids n d) → AreValued a given ids more
   more_valued ids found more n d v valued len below e is t h =
       ap (λ vs. value_at ids vs t) e ∙ by_case (list_any (same_id t) (take (length found) ids)) refl
     where
@@ -168,20 +168,20 @@ module _ (a : Arena) (known : List (TermId × Bool)) where
           sym (list_any_more (same_id t) ids (length found) d within)
           ∙ (ap (λ k. list_any (same_id t) (take k ids)) (omega (arith, ap length e, length_push found v)) ∙ h)
 
-      by_case : (b : Bool) → list_any (same_id t) (take (length found) ids) ≡ b → value_at ids (found ++ v ∷ []) t ≡ truth_in a known t
+      by_case : (b : Bool) → list_any (same_id t) (take (length found) ids) ≡ b → value_at ids (found ++ v ∷ []) t ≡ valued_in a given t
       by_case true f = value_at-push t ids found v f ∙ valued t f
       by_case false f =
           let last : same_id t (get_or ids (length found) d) ≡ true = sym (ap (λ b. b || same_id t (get_or ids (length found) d)) f) ∙ among in
           let same : t ≡ get_or ids (length found) d = ap (λ k. record { 0 = k }) (eqb-true t.0 (get_or ids (length found) d).0 last) in
-          value_at-new t ids found v d within f last ∙ (is ∙ (ap (λ k. truth_in a known (get_or ids k d)) (sym len) ∙ sym (ap (truth_in a known) same)))
+          value_at-new t ids found v d within f last ∙ (is ∙ (ap (λ k. valued_in a given (get_or ids k d)) (sym len) ∙ sym (ap (valued_in a given) same)))
 
-  pub first_is : (ids : List TermId) (found : List (Option Bool)) (ts : List TermId) → AreValued a known ids found → AllValued ids found ts
-      → first_at ids found ts ≡ spec.first_of (spec.values (is_truth a.shapes a.decls) (spec.assigned (pairs a known)) (trees a ts))
+  pub first_is : (ids : List TermId) (found : List (Option Bool)) (ts : List TermId) → AreValued a given ids found → AllValued ids found ts
+      → first_at ids found ts ≡ spec.first_of (spec.values (is_truth a.shapes a.decls) given (trees a ts))
   first_is ids found [] valued h = refl
   first_is ids found (t ∷ ts) valued h = valued t h.0
 
-  pub second_is : (ids : List TermId) (found : List (Option Bool)) (ts : List TermId) → AreValued a known ids found → AllValued ids found ts
-      → second_at ids found ts ≡ spec.second_of (spec.values (is_truth a.shapes a.decls) (spec.assigned (pairs a known)) (trees a ts))
+  pub second_is : (ids : List TermId) (found : List (Option Bool)) (ts : List TermId) → AreValued a given ids found → AllValued ids found ts
+      → second_at ids found ts ≡ spec.second_of (spec.values (is_truth a.shapes a.decls) given (trees a ts))
   second_is ids found [] valued h = refl
   second_is ids found (t ∷ ts) valued h = first_is ids found ts valued h.1
 
@@ -224,28 +224,32 @@ AllBelow-take n zero ts h = tt
 AllBelow-take n (suc k) [] h = tt
 AllBelow-take n (suc k) (t ∷ ts) h = (h.0, AllBelow-take n k ts h.1)
 
-module _ (a : Arena) (ok : IsArena a) where
-  pub computed_plain : (t : TermId) (n : Node) (args : List TermId) (given : Term → Option Bool) (v : Option Bool) → slice_get a.nodes t.0 ≡ Some n → args ≡ n.args
-      → false ≡ connects (are_truths a args) n.head → v ≡ spec.combined (are_truths a args) n.head None None (trees a args) → v ≡ spec.computed (is_truth a.shapes a.decls) given (tree a t)
-  computed_plain t n args given v at e f g =
+module _ (a : Arena) (h : Head) (args : List TermId) (given : Term → Option Bool) (v : Option Bool) where
+  pub computed_plain : false ≡ connects (are_truths a args) h → v ≡ spec.combined (are_truths a args) h None None (trees a args) → v ≡ spec.computed (is_truth a.shapes a.decls) given (term h (trees a args))
+  computed_plain f g =
       g
-      ∙ (combined-plain (are_truths a args) n.head (spec.first_of (spec.values (is_truth a.shapes a.decls) given (trees a args))) (spec.second_of (spec.values (is_truth a.shapes a.decls) given (trees a args))) (trees a args) (sym f)
-      ∙ (ap (λ ts. spec.computed (is_truth a.shapes a.decls) given (term n.head (trees a ts))) e ∙ ap (spec.computed (is_truth a.shapes a.decls) given) (sym (tree-node a ok t n at))))
+      ∙ combined-plain (are_truths a args) h (spec.first_of (spec.values (is_truth a.shapes a.decls) given (trees a args))) (spec.second_of (spec.values (is_truth a.shapes a.decls) given (trees a args))) (trees a args) (sym f)
 
-  pub computed_inside : (known : List (TermId × Bool)) (ids : List TermId) (found : List (Option Bool)) (t : TermId) (n : Node) (args : List TermId) (x y v : Option Bool) → slice_get a.nodes t.0 ≡ Some n
-      → args ≡ n.args → AreValued a known ids found → AllValued ids found n.args → x ≡ first_at ids found args → y ≡ second_at ids found args
-      → v ≡ spec.combined (are_truths a args) n.head x y (trees a args) → v ≡ spec.computed (is_truth a.shapes a.decls) (spec.assigned (pairs a known)) (tree a t)
-  computed_inside known ids found t n args x y v at e valued inside f g h =
-      let here : AllValued ids found args = subst (AllValued ids found) (sym e) inside in
-      let first = f ∙ first_is a known ids found args valued here in
-      let second = g ∙ second_is a known ids found args valued here in
-      h
-      ∙ (λ i. spec.combined (are_truths a args) n.head (first i) (second i) (trees a args))
-      ∙ (ap (λ ts. spec.computed (is_truth a.shapes a.decls) (spec.assigned (pairs a known)) (term n.head (trees a ts))) e
-      ∙ ap (spec.computed (is_truth a.shapes a.decls) (spec.assigned (pairs a known))) (sym (tree-node a ok t n at)))
+  pub computed_inside : (ids : List TermId) (found : List (Option Bool)) (x y : Option Bool) → AreValued a given ids found → AllValued ids found args → x ≡ first_at ids found args → y ≡ second_at ids found args
+      → v ≡ spec.combined (are_truths a args) h x y (trees a args) → v ≡ spec.computed (is_truth a.shapes a.decls) given (term h (trees a args))
+  computed_inside ids found x y valued inside f g k =
+      let first = f ∙ first_is a given ids found args valued inside in
+      let second = g ∙ second_is a given ids found args valued inside in
+      k ∙ (λ i. spec.combined (are_truths a args) h (first i) (second i) (trees a args))
 
-  pub connective_is : (t : TermId) (n : Node) (args : List TermId) → slice_get a.nodes t.0 ≡ Some n → args ≡ n.args → true ≡ connects (are_truths a args) n.head → is_connective (is_truth a.shapes a.decls) (tree a t) ≡ true
-  connective_is t n args at e f = sym (connective_at a ok t n at args true e f)
+module _ (a : Arena) (ok : IsArena a) where
+  pub computed_at : (t : TermId) (n : Node) (args : List TermId) (given : Term → Option Bool) (v : Option Bool) → slice_get a.nodes t.0 ≡ Some n → args ≡ n.args
+      → v ≡ spec.computed (is_truth a.shapes a.decls) given (term n.head (trees a args)) → v ≡ spec.computed (is_truth a.shapes a.decls) given (tree a t)
+  computed_at t n args given v at e g =
+      g
+      ∙ (ap (λ ts. spec.computed (is_truth a.shapes a.decls) given (term n.head (trees a ts))) e ∙ ap (spec.computed (is_truth a.shapes a.decls) given) (sym (tree-node a ok t n at)))
+
+  pub inside_at : (ids : List TermId) (found : List (Option Bool)) (t : TermId) (n : Node) (args : List TermId) → slice_get a.nodes t.0 ≡ Some n → args ≡ n.args → IsInside a ids found t → AreInside a ids found n.head args
+  inside_at ids found t n args at e inside f =
+      subst (AllValued ids found) (sym e) (inside n at (sym (connective_at a ok t n at args true e (sym f))))
+
+  pub relation_at : (t : TermId) (n : Node) (args : List TermId) → slice_get a.nodes t.0 ≡ Some n → args ≡ n.args → spec.numeral_relation (term n.head (trees a args)) ≡ spec.numeral_relation (tree a t)
+  relation_at t n args at e = ap (λ ts. spec.numeral_relation (term n.head (trees a ts))) e ∙ ap spec.numeral_relation (sym (tree-node a ok t n at))
 
   -- layers of terms are layers of ids
   pub layered_ids : (ids : List TermId) → AllBelow (length a.nodes) ids → Layered (is_connective (is_truth a.shapes a.decls)) (map (tree a) ids) → IsLayered a ids
@@ -291,22 +295,99 @@ module _ (a : Arena) (ok : IsArena a) where
       ap (λ k. slice_get ids k) (ap length f ∙ len) ∙ (ap (λ xs. slice_get xs i) (sym e) ∙ slice_get-get_or items i d h) in
       layered slice (get_or items i d) at
 
-  pub item_valued : (known : List (TermId × Bool)) (ids items : List TermId) (found more : List (Option Bool)) (i : ℕ) (d : TermId) (v : Option Bool) → AreValued a known ids found → length found ≡ i
-      → items ≡ ids → i < length items → more ≡ found ++ v ∷ [] → v ≡ truth_in a known (get_or items i d) → AreValued a known ids more
-  item_valued known ids items found more i d v valued len e h f is =
-      more_valued a known ids found more i d v valued len (subst (λ (xs : List TermId). i < length xs) e h) f (is ∙ ap (λ xs. truth_in a known (get_or xs i d)) e)
+  pub item_valued : (given : Term → Option Bool) (ids items : List TermId) (found more : List (Option Bool)) (i : ℕ) (d : TermId) (v : Option Bool) → AreValued a given ids found → length found ≡ i
+      → items ≡ ids → i < length items → more ≡ found ++ v ∷ [] → v ≡ valued_in a given (get_or items i d) → AreValued a given ids more
+  item_valued given ids items found more i d v valued len e h f is =
+      more_valued a given ids found more i d v valued len (subst (λ (xs : List TermId). i < length xs) e h) f (is ∙ ap (λ xs. valued_in a given (get_or xs i d)) e)
 
   pub one_more_value : (found more : List (Option Bool)) (i : ℕ) (v : Option Bool) → length found ≡ i → more ≡ found ++ v ∷ [] → length more ≡ i + 1
   one_more_value found more i v len e = omega (arith, len, ap length e, length_push found v)
 
-  pub order_is_layered : (ids : List TermId) (f : TermId) → AllBelow (length a.nodes) ids → map (tree a) ids ≡ order (is_connective (is_truth a.shapes a.decls)) (tree a f) [] → IsLayered a ids
-  order_is_layered ids f inside e =
-      layered_ids ids inside (subst (Layered (is_connective (is_truth a.shapes a.decls))) (sym e) (order_layered (is_connective (is_truth a.shapes a.decls)) (tree a f)))
+  module _ (ids roots : List TermId) (inside : AllBelow (length a.nodes) ids) (roots_in : AllBelow (length a.nodes) roots)
+      (e : map (tree a) ids ≡ order_all (is_connective (is_truth a.shapes a.decls)) (trees a roots) []) where
+    pub order_is_layered : IsLayered a ids
+    order_is_layered =
+        layered_ids ids inside (subst (Layered (is_connective (is_truth a.shapes a.decls))) (sym e) (order_all_layered (is_connective (is_truth a.shapes a.decls)) (trees a roots)))
 
-  pub whole_valued : (known : List (TermId × Bool)) (ids : List TermId) (found slice : List (Option Bool)) (f : TermId) (v : Option Bool) → slice ≡ found → AreValued a known ids found → length found ≡ length ids
-      → f.0 < length a.nodes → AllBelow (length a.nodes) ids → map (tree a) ids ≡ order (is_connective (is_truth a.shapes a.decls)) (tree a f) [] → v ≡ value_at ids slice f → v ≡ truth_in a known f
-  whole_valued known ids found slice f v e valued len f_in inside o g =
-      let there : list_any (same_id f) ids ≡ true =
-      has-trees a ok f ids f_in inside ∙ (ap (λ xs. list_any (term_eq (tree a f)) xs) o ∙ order_has (is_connective (is_truth a.shapes a.decls)) (tree a f)) in
-      let all : list_any (same_id f) (take (length found) ids) ≡ true = ap (λ xs. list_any (same_id f) xs) (take_all (length found) ids (omega (arith, len))) ∙ there in
-      g ∙ (ap (λ vs. value_at ids vs f) e ∙ valued f all)
+    pub order_has_roots : AllAmong ids roots
+    order_has_roots = among roots roots_in (subst (λ (xs : List Term). AllIn xs (listed (trees a roots))) (sym e) (order_all_has (is_connective (is_truth a.shapes a.decls)) (trees a roots)))
+      where
+        among : (ts : List TermId) → AllBelow (length a.nodes) ts → AllIn (map (tree a) ids) (listed (trees a ts)) → AllAmong ids ts
+        among [] k g = tt
+        among (t ∷ ts) k g = (has-trees a ok t ids k.0 inside ∙ g.0, among ts k.1 g.1)
+
+-- ---- where each of the ids has its value
+
+all_there : (ids : List TermId) (found : List (Option Bool)) (t : TermId) → length found ≡ length ids → list_any (same_id t) ids ≡ true → list_any (same_id t) (take (length found) ids) ≡ true
+all_there ids found t len h = ap (λ xs. list_any (same_id t) xs) (take_all (length found) ids (omega (arith, len))) ∙ h
+
+pub whole_valued : (a : Arena) (given : Term → Option Bool) (ids : List TermId) (found : List (Option Bool)) (t : TermId) (v : Option Bool) → AreValued a given ids found → length found ≡ length ids
+    → list_any (same_id t) ids ≡ true → v ≡ value_at ids found t → v ≡ valued_in a given t
+whole_valued a given ids found t v valued len there g = g ∙ valued t (all_there ids found t len there)
+
+pub among_valued : (ids : List TermId) (found : List (Option Bool)) (ts : List TermId) → length found ≡ length ids → AllAmong ids ts → AllValued ids found ts
+among_valued ids found [] len h = tt
+among_valued ids found (t ∷ ts) len h = (all_there ids found t len h.0, among_valued ids found ts len h.1)
+
+-- what is among the first ids is among more of them
+among_longer : (ids : List TermId) (k m : ℕ) (t : TermId) → k ≤ m → list_any (same_id t) (take k ids) ≡ true → list_any (same_id t) (take m ids) ≡ true
+among_longer [] zero m t le h = absurd (false≢true h)
+among_longer [] (suc k) m t le h = absurd (false≢true h)
+among_longer (u ∷ ids) zero m t le h = absurd (false≢true h)
+among_longer (u ∷ ids) (suc k) zero t le h = absurd (omega (arith, le))
+among_longer (u ∷ ids) (suc k) (suc m) t le h = by_case (same_id t u) h (among_longer ids k m t (omega (arith, le)))
+  where
+    by_case : (b : Bool) → (b || list_any (same_id t) (take k ids)) ≡ true → (list_any (same_id t) (take k ids) ≡ true → list_any (same_id t) (take m ids) ≡ true)
+        → (b || list_any (same_id t) (take m ids)) ≡ true
+    by_case true g later = refl
+    by_case false g later = later g
+
+valued_longer : (ids : List TermId) (few found : List (Option Bool)) (ts : List TermId) → length few ≤ length found → AllValued ids few ts → AllValued ids found ts
+valued_longer ids few found [] le h = tt
+valued_longer ids few found (t ∷ ts) le h = (among_longer ids (length few) (length found) t le h.0, valued_longer ids few found ts le h.1)
+
+-- an id that is there has a place
+pub record HasPlace (ids : List TermId) (t : TermId) : Type 0 where
+  pub place : ℕ
+  pub at : slice_get ids place ≡ Some t
+  pub below : place < length ids
+
+pub has_place : (ids : List TermId) (t : TermId) → list_any (same_id t) ids ≡ true → HasPlace ids t
+has_place [] t h = absurd (false≢true h)
+has_place (u ∷ ids) t h = by_case (same_id t u) refl h (has_place ids t)
+  where
+    by_case : (b : Bool) → same_id t u ≡ b → (b || list_any (same_id t) ids) ≡ true → (list_any (same_id t) ids ≡ true → HasPlace ids t) → HasPlace (u ∷ ids) t
+    by_case true e g later = record { place = 0; at = ap (λ (k : ℕ). Some (record { 0 = k })) (sym (eqb-true t.0 u.0 e)); below = omega arith }
+    by_case false e g later =
+        let p = later g in
+        let within = p.below in
+        record { place = suc p.place; at = p.at; below = omega (arith, within) }
+
+-- of a term among the ids the arguments are valued, where each id has its value
+pub inside_of : (a : Arena) (ids : List TermId) (found : List (Option Bool)) (t : TermId) → IsLayered a ids → length found ≡ length ids → list_any (same_id t) ids ≡ true → IsInside a ids found t
+inside_of a ids found t layered len there n node connective =
+    let p = has_place ids t there in
+    let within = p.below in
+    let few : List (Option Bool) = take p.place found in
+    let count : length few ≡ p.place = length-take-le p.place found (omega (arith, within, len)) in
+    valued_longer ids few found n.args (omega (arith, count, within, len)) (layered few t (ap (slice_get ids) count ∙ p.at) n node connective)
+
+-- the given value at a place
+pub own_is : (a : Arena) (given : Term → Option Bool) (ids items : List TermId) (own : List (Option Bool)) (i : ℕ) (d : TermId) (e : Option Bool) → items ≡ ids → AreGiven a given ids own → i < length ids
+    → get_or own i e ≡ given (tree a (get_or items i d))
+own_is a given ids items own i d e same is h =
+    same_Some (get_or own i e) (given (tree a (get_or items i d)))
+    (sym (slice_get-get_or own i e (subst (λ (n : ℕ). i < n) (sym (ap length is ∙ length-map ids (λ t. given (tree a t)))) h))
+    ∙ (ap (λ xs. slice_get xs i) is
+    ∙ (slice_get-map (λ t. given (tree a t)) ids i
+    ∙ (ap (option_map (λ t. given (tree a t))) (slice_get-get_or ids i d h) ∙ ap (λ xs. Some (given (tree a (get_or xs i d)))) (sym same)))))
+
+pub truth_is : (a : Arena) (known : List (TermId × Bool)) (ids : List TermId) (own own_slice found slice : List (Option Bool)) (t : TermId) (v : Option Bool) → AreGiven a (spec.assigned (pairs a known)) ids own → own_slice ≡ own
+    → ((given : Term → Option Bool) → AreGiven a given ids own_slice → AreValued a given ids found) → length found ≡ length ids → list_any (same_id t) ids ≡ true → slice ≡ found → v ≡ value_at ids slice t → v ≡ truth_in a known t
+truth_is a known ids own own_slice found slice t v is e valued len there f g =
+    whole_valued a (spec.assigned (pairs a known)) ids found t v (valued (spec.assigned (pairs a known)) (e ∙ is)) len there (g ∙ ap (λ vs. value_at ids vs t) f)
+
+pub own_at : (a : Arena) (given : Term → Option Bool) (ids items : List TermId) (own : List (Option Bool)) (i : ℕ) (d : TermId) (e : Option Bool) (k : ℕ) → k ≡ i → items ≡ ids → AreGiven a given ids own → i < length items
+    → get_or own k e ≡ given (tree a (get_or items i d))
+own_at a given ids items own i d e k at same is h =
+    ap (λ n. get_or own n e) at ∙ own_is a given ids items own i d e same is (subst (λ (xs : List TermId). i < length xs) same h)

@@ -114,7 +114,7 @@ module _ (a : Arena) (ok : IsArena a) where
     after-append [] ys done = refl
     after-append (x ∷ xs) ys done = ap (done_by a through x) (after-append xs ys done)
 
-    after-visits : (ts : List TermId) (done : List Term) → after a through (visits ts) done ≡ order_all (enters_in a through) (trees a ts) done
+    pub after-visits : (ts : List TermId) (done : List Term) → after a through (visits ts) done ≡ order_all (enters_in a through) (trees a ts) done
     after-visits [] done = refl
     after-visits (t ∷ ts) done = after-append (visits ts) (Visit t ∷ []) done ∙ after-visits ts (order (enters_in a through) (tree a t) done)
 
@@ -138,7 +138,7 @@ module _ (a : Arena) (ok : IsArena a) where
     WorksIn-append [] ys h k = k
     WorksIn-append (x ∷ xs) ys h k = (h.0, WorksIn-append xs ys h.1 k)
 
-    WorksIn-visits : (ts : List TermId) → AllBelow (length a.nodes) ts → WorksIn a (visits ts)
+    pub WorksIn-visits : (ts : List TermId) → AllBelow (length a.nodes) ts → WorksIn a (visits ts)
     WorksIn-visits [] h = tt
     WorksIn-visits (t ∷ ts) h = WorksIn-append (visits ts) (Visit t ∷ []) (WorksIn-visits ts h.1) (h.0, tt)
 
@@ -239,6 +239,21 @@ module _ (a : Arena) (ok : IsArena a) where
               smaller l w v n s e f g = omega (arith, e, f, g)
 
     -- ---- turns of the loop
+
+    -- all of it is still to be done
+    pub record Starts (roots : List TermId) (works : List Work) (done : List TermId) : Type 0 where
+      pub same : after a through works (map (tree a) done) ≡ order_all (enters_in a through) (trees a roots) []
+      pub works_in : WorksIn a works
+      pub done_in : AllBelow (length a.nodes) done
+
+    pub starts_with : (roots : List TermId) (works before : List Work) (done : List TermId) → works ≡ before ++ visits roots → before ≡ [] → done ≡ [] → AllBelow (length a.nodes) roots → Starts roots works done
+    starts_with roots works before done e f g h =
+        let all : works ≡ visits roots = e ∙ ap (λ ws. ws ++ visits roots) f in
+        record {
+          same = (λ i. after a through (all i) (map (tree a) (g i))) ∙ after-visits roots [];
+          works_in = subst (WorksIn a) (sym all) (WorksIn-visits roots h);
+          done_in = subst (AllBelow (length a.nodes)) (sym g) tt;
+        }
 
     pub popped_in : (works rest : List Work) (w : Work) → works ≡ rest ++ w ∷ [] → WorksIn a works → WorksIn a rest × WorkIn a w
     popped_in works rest w e h = parts rest (subst (WorksIn a) e h)

@@ -46,3 +46,13 @@ pub(crate) fn relation(terms: &Terms, head: Head, args: &[TermId]) -> Option<boo
         _ => None,
     }
 }
+
+/// The truth of a term that is a relation of two numerals.
+pub fn numeral_relation(terms: &Terms, t: TermId) -> Option<bool>
+    requires { t.0 < length terms.now.nodes }
+    ensures { result ≡ spec.numeral_relation (tree terms.now t) }
+{
+    terms.law_arena();
+    let node = terms.node(t);
+    relation(terms, node.head, node.args.as_slice())
+}

@@ -1,4 +1,4 @@
-// Lists of parts, each an id with a number, in ascending order of the ids: sums and multiples.
+//! Lists of parts, each an id with a number, in ascending order of the ids: sums and multiples.
 
 ghost use Rattle.std.specs.Prelude.{◌≡◌, OnOk, IfOk, length};
 ghost use Rattle.std.specs.Option.{option_map};
@@ -10,8 +10,8 @@ use spv_frac::{plus, times};
 use spv_term::TermId;
 use std::alloc::{AllocError, Global};
 
-// The number of an id, where it is the first one.
-fn number_in_front(parts: &[(TermId, i128)], t: TermId) -> i128
+/// The number of an id, where it is the first one.
+pub fn number_in_front(parts: &[(TermId, i128)], t: TermId) -> i128
     ensures { result ≡ spec.number_in_front parts.now t }
 {
     match parts {
@@ -20,8 +20,8 @@ fn number_in_front(parts: &[(TermId, i128)], t: TermId) -> i128
     }
 }
 
-// The parts behind an id, where it is the first one.
-fn behind(parts: &[(TermId, i128)], t: TermId) -> &[(TermId, i128)]
+/// The parts behind an id, where it is the first one.
+pub fn behind(parts: &[(TermId, i128)], t: TermId) -> &[(TermId, i128)]
     ensures { result.now ≡ spec.behind parts.now t }
 {
     match parts {
@@ -50,8 +50,8 @@ fn lesser_id(t: TermId, parts: &[(TermId, i128)]) -> TermId
     }
 }
 
-// The lesser of the first ids of both.
-fn least_id(left: &[(TermId, i128)], right: &[(TermId, i128)]) -> Option<TermId>
+/// The lesser of the first ids of both.
+pub fn least_id(left: &[(TermId, i128)], right: &[(TermId, i128)]) -> Option<TermId>
     ensures { result ≡ spec.least_id left.now right.now }
 {
     match left {
@@ -60,8 +60,12 @@ fn least_id(left: &[(TermId, i128)], right: &[(TermId, i128)]) -> Option<TermId>
     }
 }
 
-// Puts a part at the end, unless its number is zero.
-fn push_number(parts: &mut Vec<(TermId, i128)>, t: TermId, number: i128) -> Result<(), AllocError>
+/// Puts a part at the end, unless its number is zero.
+pub fn push_number(
+    parts: &mut Vec<(TermId, i128)>,
+    t: TermId,
+    number: i128,
+) -> Result<(), AllocError>
     ensures { OnOk result (parts.new.items ≡ spec.with_number parts.old.items t number) }
 {
     if number == 0 {

@@ -198,6 +198,28 @@ fn step(
     }
 }
 
+/// Terms and those that they are gone through to, each once and behind its arguments.
+pub fn all_in_order(
+    alloc: Global,
+    terms: &Terms,
+    through: Through,
+    roots: &[TermId],
+) -> Result<TermSet, AllocError>
+    requires { AllBelow (length terms.now.nodes) roots.now }
+    ensures order { IfOk result (λ done. map (tree terms.now) done
+        ≡ order.order_all (enters_in terms.now through) (trees terms.now roots.now) []) }
+    ensures in_range { IfOk result (AllBelow (length terms.now.nodes)) }
+{
+    terms.law_arena();
+    let mut done = TermSet::new(alloc);
+    let mut works = Vec::new(alloc);
+    push_visits(&mut works, roots)?;
+    while let Some(work) = works.pop() {
+        step(terms, through, work, &mut works, &mut done)?;
+    }
+    Ok(done)
+}
+
 /// A term and those that it is gone through to, each once and behind its arguments.
 pub fn in_order(
     alloc: Global,
@@ -210,12 +232,5 @@ pub fn in_order(
         (λ done. map (tree terms.now) done ≡ order.order (enters_in terms.now through) (tree terms.now t) []) }
     ensures in_range { IfOk result (AllBelow (length terms.now.nodes)) }
 {
-    terms.law_arena();
-    let mut done = TermSet::new(alloc);
-    let mut works = Vec::new(alloc);
-    works.push(Work::Visit(t))?;
-    while let Some(work) = works.pop() {
-        step(terms, through, work, &mut works, &mut done)?;
-    }
-    Ok(done)
+    all_in_order(alloc, terms, through, &[t])
 }

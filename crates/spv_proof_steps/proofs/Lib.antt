@@ -5,3 +5,4 @@ pub mod ValuedLemmas
 pub mod StepLemmas
 pub mod Heads
 pub mod Congruences
+pub mod GivenLemmas

@@ -1,94 +1,30 @@
 -- Values of terms of an arena, over plain variables.
-use Rattle.std.proofs.Common.{◌≡◌, ℕ, zero, suc, ◌<◌, ◌≤◌, ◌+◌, Bool, true, false, cond, List, [], ◌∷◌, ◌++◌, map, length, drop, get_or, slice_get, refl, sym, ap, ◌∙◌, subst, inl, inr, Option, Some, None, ℤ, pos, negsuc, add-one, nat_lt, ◌^◌, arith}
-use Rattle.std.proofs.lemmas.Bool.{cases_lt}
-use Rattle.std.proofs.lemmas.List.{at_drop_more, length_push}
+use Rattle.std.proofs.Common.{◌≡◌, ℕ, zero, suc, ◌<◌, ◌+◌, Bool, true, false, ◌||◌, cond, List, [], ◌∷◌, ◌++◌, map, length, take, drop, ◌-◌, get_or, refl, sym, ap, ◌∙◌, subst, Option, Some, None, add-one, arith}
+use Rattle.std.proofs.lemmas.List.{append_assoc, at_drop_more, drop_more, drop-map, length-drop, map-append, take_all, take_more}
 use Rattle.std.specs.List.{list_any, flat_map}
-use Rattle.std.proofs.Math.Facts.{sfits_lit}
-use Rattle.std.proofs.lemmas.Int.{to_z-of_z}
-use mir.Val.{SFits, to_z, of_z}
-use mir.Syntax.{w128}
-use lib.Dec.{T}
-use Rattle.std.proofs.lemmas.Bool.Decides.{nat_tests}
-use Rattle.std.specs.Prelude.{IsTrue}
-use Rattle.spv_logic.specs.Sorts.{numeral_fits}
 use Rattle.spv_logic.specs.declared.conditions.TermId.{TermId}
 use Rattle.spv_logic.specs.declared.types.Sort.{Sort}
 use Rattle.spv_logic.specs.declared.types.Sort.TheVariants as sort
-use Rattle.spv_logic.specs.declared.operators.Head.{Head}
-use Rattle.spv_logic.specs.declared.operators.Head.TheVariants as head
-use Rattle.spv_logic.specs.Terms.{Term, Terms, term, term_eq, sort_eq}
-use Rattle.spv_term.specs.declared.nodes.Node.{Node}
-use Rattle.spv_term.specs.Arena.{Arena, IsArena, AllBelow, tree, trees, sort_at}
-use Rattle.spv_term.proofs.ListLemmas.{slice_get-append_left, slice_get_push}
-use Rattle.spv_term.proofs.ArenaLemmas.{tree-node, args_before, IsWellSorted-arena}
+use Rattle.spv_logic.specs.Terms.{Term, term_eq, sort_eq}
+use Rattle.spv_term.specs.Arena.{Arena, IsArena, AllBelow, tree, sort_at}
+use Rattle.spv_term.proofs.ArenaLemmas.{HasOneId-arena, IsWellSorted-arena}
 use Rattle.spv_proof_steps.specs.declared.candidates.Candidate.{Candidate}
+use Rattle.spv_proof_steps.specs.declared.candidates.Candidate.TheVariants.{Equation}
 use Rattle.spv_logic.specs.Formulas as formulas
 use Rattle.spv_atoms.specs.Tables as tables
 use Rattle.spv_proof.specs.Evaluation as spec
 use Rattle.spv_atoms.specs.Atoms.{has_sort}
+use Rattle.spv_atoms.specs.Valued.{AllAmong, AllValued, IsInside, IsLayered}
+use Rattle.spv_atoms.specs.Order.{same_id}
+use Rattle.spv_atoms.proofs.Values.{inside_of}
+use Rattle.spv_names.proofs.NameTable.{list_any-map}
 use Rattle.spv_proof_steps.specs.Candidates.{formula_of}
-use Rattle.spv_proof_steps.specs.Valued.{truth_in, given_in, computed_in, AreComputed}
-
--- ---- numerals
-
-pub numeral-at : (a : Arena) → IsArena a → (t : TermId) (n : Node) → slice_get a.nodes t.0 ≡ Some n → tables.numeral (tree a t) ≡ tables.numeral (term n.head (trees a n.args))
-numeral-at a ok t n at = ap tables.numeral (tree-node a ok t n at)
-
-pub numeral-num : (a : Arena) → IsArena a → (t : TermId) (n : Node) (z : ℤ) → slice_get a.nodes t.0 ≡ Some n → n.head ≡ head.Num z → Some z ≡ tables.numeral (tree a t)
-numeral-num a ok t n z at e = sym (numeral-at a ok t n at ∙ ap (λ h. tables.numeral (term h (trees a n.args))) e)
-
-numeral-other_head : (h : Head) (ts : Terms) → ((z : ℤ) → h ≡ head.Num z → ⊥) → None ≡ tables.numeral (term h ts)
-numeral-other_head (head.Num z) ts e = absurd (e z refl)
-numeral-other_head _ ts e = refl
-
-pub numeral-other : (a : Arena) → IsArena a → (t : TermId) (n : Node) → slice_get a.nodes t.0 ≡ Some n → ((z : ℤ) → n.head ≡ head.Num z → ⊥) → None ≡ tables.numeral (tree a t)
-numeral-other a ok t n at e = numeral-other_head n.head (trees a n.args) e ∙ sym (numeral-at a ok t n at)
-
-pub compare-few : (test : ℤ → ℤ → Bool) (a : Arena) (ts : List TermId) → length ts < 2 → None ≡ tables.compare_numerals test (trees a ts)
-compare-few test a [] h = refl
-compare-few test a (t ∷ []) h = refl
-compare-few test a (t ∷ u ∷ ts) h = absurd (omega arith)
-
-pub compare-many : (test : ℤ → ℤ → Bool) (a : Arena) (ts : List TermId) → 3 ≤ length ts → None ≡ tables.compare_numerals test (trees a ts)
-compare-many test a [] h = absurd (omega arith)
-compare-many test a (t ∷ []) h = absurd (omega arith)
-compare-many test a (t ∷ u ∷ []) h = absurd (omega arith)
-compare-many test a (t ∷ u ∷ v ∷ ts) h = refl
-
-pub relation-at : (a : Arena) → IsArena a → (t : TermId) (n : Node) (us : List TermId) → slice_get a.nodes t.0 ≡ Some n → us ≡ n.args → tables.numeral_relation (term n.head (trees a us)) ≡ tables.numeral_relation (tree a t)
-relation-at a ok t n us at e = sym (ap tables.numeral_relation (tree-node a ok t n at) ∙ ap (λ vs. tables.numeral_relation (term n.head (trees a vs))) (sym e))
-
-one_less : (n m : ℕ) → nat_lt (suc n) m ≡ true → nat_lt n m ≡ true
-one_less n m h = grind (arith, nat_tests)
-
--- a numeral's number fits an `i128`
-number-fits : (z : ℤ) → IsTrue (numeral_fits (head.Num z)) → SFits w128 z
-number-fits (pos n) h = sfits_lit {w = w128} (subst T (sym h) tt)
-number-fits (negsuc n) h = sfits_lit {w = w128} (subst T (sym (one_less n (2 ^ 127) h)) tt)
-
-pub number-in-arena : (a : Arena) → IsArena a → (t : TermId) (n : Node) (z : ℤ) → slice_get a.nodes t.0 ≡ Some n → n.head ≡ head.Num z → to_z w128 (of_z w128 z) ≡ z
-number-in-arena a ok t n z at e = to_z-of_z w128 z (number-fits z (subst (λ h. IsTrue (numeral_fits h)) e (ok.nodes t.0 n at).numeral))
+use Rattle.spv_proof_steps.specs.Valued.{truth_in, given_in, computed_in, clash_in, AllInside}
 
 -- ---- sorts
 
 pub truth-at : (a : Arena) → IsArena a → (t : TermId) → t.0 < length a.nodes → truth_in a (tree a t) ≡ sort_eq (sort_at a t) sort.Bool
 truth-at a ok t h = ap (has_sort sort.Bool) (IsWellSorted-arena a ok t h)
-
--- ---- heads
-
-pub combined-other : (truths : Bool) (h : Head) (x y : Option Bool) (ts : Terms)
-    → (h ≡ head.Not → ⊥) → (h ≡ head.And → ⊥) → (h ≡ head.Or → ⊥) → (h ≡ head.Implies → ⊥) → (h ≡ head.Eq → ⊥) → (h ≡ head.Lt → ⊥) → (h ≡ head.Le → ⊥) → (h ≡ head.True → ⊥) → (h ≡ head.False → ⊥)
-    → None ≡ tables.combined truths h x y ts
-combined-other truths head.Not x y ts e1 e2 e3 e4 e5 e6 e7 e8 e9 = absurd (e1 refl)
-combined-other truths head.And x y ts e1 e2 e3 e4 e5 e6 e7 e8 e9 = absurd (e2 refl)
-combined-other truths head.Or x y ts e1 e2 e3 e4 e5 e6 e7 e8 e9 = absurd (e3 refl)
-combined-other truths head.Implies x y ts e1 e2 e3 e4 e5 e6 e7 e8 e9 = absurd (e4 refl)
-combined-other truths head.Eq x y ts e1 e2 e3 e4 e5 e6 e7 e8 e9 = absurd (e5 refl)
-combined-other truths head.Lt x y ts e1 e2 e3 e4 e5 e6 e7 e8 e9 = absurd (e6 refl)
-combined-other truths head.Le x y ts e1 e2 e3 e4 e5 e6 e7 e8 e9 = absurd (e7 refl)
-combined-other truths head.True x y ts e1 e2 e3 e4 e5 e6 e7 e8 e9 = absurd (e8 refl)
-combined-other truths head.False x y ts e1 e2 e3 e4 e5 e6 e7 e8 e9 = absurd (e9 refl)
-combined-other truths _ x y ts e1 e2 e3 e4 e5 e6 e7 e8 e9 = refl
 
 -- ---- lists of given values
 
@@ -109,17 +45,11 @@ facts_give a t facts = tables.assigned (flat_map (spec.given_by true) (map (tree
 abbrev pub orders : Arena → TermId → TermId → List TermId → Bool
 orders a s t facts = spec.cites (map (tree a) facts) (formulas.below (tree a s) (tree a t))
 
-abbrev pub are_truths : Arena → List TermId → Bool
-are_truths a ts = tables.all_truths (truth_in a) (trees a ts)
-
-abbrev pub some_clash : Arena → List TermId → Candidate → List TermId → Bool
-some_clash a cited formula facts = list_any (λ t. spec.clashes (truth_in a) (given_in a cited formula) (spec.bare t)) (map (tree a) facts)
-
 pub sort_eq-other : (s : Sort) → (s ≡ sort.Bool → ⊥) → false ≡ sort_eq s sort.Bool
 sort_eq-other sort.Bool e = absurd (e refl)
 sort_eq-other _ e = refl
 
-facts_give-cons : (a : Arena) (t : Candidate) (fact : TermId) (facts : List TermId)
+pub facts_give-cons : (a : Arena) (t : Candidate) (fact : TermId) (facts : List TermId)
     → facts_give a t (fact ∷ facts) ≡ tables.or_else (tables.assigned (spec.given_by true (tree a fact)) (formula_of a t)) (facts_give a t facts)
 facts_give-cons a t fact facts = assigned-append (spec.given_by true (tree a fact)) (flat_map (spec.given_by true) (map (tree a) facts)) (formula_of a t)
 
@@ -166,20 +96,91 @@ module _ (a : Arena) (cited : List TermId) (formula t : Candidate) where
   pub given-by_order : (o : Option Bool) → None ≡ facts_give a t cited → None ≡ by_formula → o ≡ by_order → o ≡ given_in a cited formula (formula_of a t)
   given-by_order o e f g = (λ i. tables.or_else (tables.or_else (e i) (f i)) (g i)) ∙ sym given_parts
 
--- ---- the sweep
+-- ---- clashes
 
-pub args_found : (a : Arena) → IsArena a → (t : TermId) (n : Node) (found us : List TermId) (k : ℕ) → slice_get a.nodes t.0 ≡ Some n → t.0 ≡ k → us ≡ n.args → AllBelow k us
-args_found a ok t n found us k at e f = subst (AllBelow k) (sym f) (subst (λ m. AllBelow m n.args) e (args_before a ok t n at))
+abbrev pub some_clash : Arena → List TermId → Candidate → List TermId → Bool
+some_clash a cited formula ts = list_any (clash_in a cited formula) (map (tree a) ts)
 
-pub AreComputed-push : (a : Arena) → IsArena a → (cited : List TermId) (formula : Candidate) (found more : List (Option Bool)) (o : Option Bool) (t : TermId) (n : Node) (us : List TermId)
-    → slice_get a.nodes t.0 ≡ Some n → us ≡ n.args → length found ≡ t.0 → AreComputed a cited formula found → o ≡ computed_in a cited formula (term n.head (trees a us)) → more ≡ found ++ o ∷ [] → AreComputed a cited formula more
-AreComputed-push a ok cited formula found more o t n us at args len known e f u below =
-    elim (cases_lt u.0 (length found)) [
-      | inl old ↦ ap (λ l. slice_get l u.0) f ∙ (slice_get-append_left found (o ∷ []) u.0 old ∙ known u old)
-      | inr new ↦
-          let here : u.0 ≡ length found = omega (arith, ap length f, length_push found o) in
-          let same : t ≡ u = ap (λ k. record { 0 = k }) (sym (here ∙ len)) in
-          let value : o ≡ computed_in a cited formula (tree a u) =
-          e ∙ (ap (λ vs. computed_in a cited formula (term n.head (trees a vs))) args ∙ (ap (computed_in a cited formula) (sym (tree-node a ok t n at)) ∙ ap (λ w. computed_in a cited formula (tree a w)) same)) in
-          ap (λ l. slice_get l u.0) f ∙ (ap (slice_get (found ++ o ∷ [])) here ∙ (slice_get_push found o ∙ ap Some value))
-    ]
+-- facts without their outer negations
+abbrev pub bare_terms : Arena → List TermId → List Term
+bare_terms a facts = map spec.bare (map (tree a) facts)
+
+-- the clashes of the roots are those of the formula and the facts
+pub term_evaluates : (a : Arena) (cited roots slice : List TermId) (formula : Candidate) (inner : TermId) (b : Bool) → tree a inner ≡ spec.bare (formula_of a formula)
+    → map (tree a) roots ≡ tree a inner ∷ bare_terms a cited → slice ≡ roots → b ≡ some_clash a cited formula slice → b ≡ spec.evaluates (truth_in a) (map (tree a) cited) (formula_of a formula)
+term_evaluates a cited roots slice formula inner b is e f g =
+    g
+    ∙ (ap (λ ts. list_any (clash_in a cited formula) (map (tree a) ts)) f
+    ∙ (ap (list_any (clash_in a cited formula)) e
+    ∙ ((λ i. clash_in a cited formula (is i) || list_any-map (clash_in a cited formula) spec.bare (map (tree a) cited) i))))
+
+pub all_inside : (a : Arena) (ids : List TermId) (found : List (Option Bool)) (ts : List TermId) → IsLayered a ids → length found ≡ length ids → AllAmong ids ts → AllInside a ids found ts
+all_inside a ids found [] layered len h = tt
+all_inside a ids found (t ∷ ts) layered len h = (inside_of a ids found t layered len h.0, all_inside a ids found ts layered len h.1)
+
+pub inside-at : (a : Arena) (ids : List TermId) (found : List (Option Bool)) (ts : List TermId) (i : ℕ) (d : TermId) → i < length ts → AllInside a ids found (drop i ts) → IsInside a ids found (get_or ts i d)
+inside-at a ids found ts i d below h = (subst (AllInside a ids found) (drop_more ts i d below) h).0
+
+pub inside-more : (a : Arena) (ids : List TermId) (found : List (Option Bool)) (ts : List TermId) (i : ℕ) (d : TermId) → i < length ts → AllInside a ids found (drop i ts) → AllInside a ids found (drop (i + 1) ts)
+inside-more a ids found ts i d below h = (subst (AllInside a ids found) (drop_more ts i d below) h).1
+
+pub below-at : (n : ℕ) (ts : List TermId) (i : ℕ) (d : TermId) → i < length ts → AllBelow n (drop i ts) → (get_or ts i d).0 < n
+below-at n ts i d below h = (subst (AllBelow n) (drop_more ts i d below) h).0
+
+pub bare_more : (a : Arena) (start out more : List TermId) (facts : List TermId) (i : ℕ) (d t : TermId) → i < length facts → map (tree a) out ≡ map (tree a) start ++ bare_terms a (take i facts)
+    → tree a t ≡ spec.bare (tree a (get_or facts i d)) → more ≡ out ++ t ∷ [] → map (tree a) more ≡ map (tree a) start ++ bare_terms a (take (i + 1) facts)
+bare_more a start out more facts i d t below same is e =
+    ap (map (tree a)) e
+    ∙ (map-append (tree a) out (t ∷ [])
+    ∙ ((λ k. same k ++ is k ∷ [])
+    ∙ (append_assoc (map (tree a) start) (bare_terms a (take i facts)) (spec.bare (tree a (get_or facts i d)) ∷ [])
+    ∙ ap (λ xs. map (tree a) start ++ xs) (
+    sym (ap (bare_terms a) (take_more facts i d below)
+    ∙ (ap (map spec.bare) (map-append (tree a) (take i facts) (get_or facts i d ∷ [])) ∙ map-append spec.bare (map (tree a) (take i facts)) (tree a (get_or facts i d) ∷ [])))))))
+
+-- ---- a stated equation
+
+pub behind_two : (a : Arena) (roots slice rest : List TermId) (s t : TermId) (ys : List Term) → map (tree a) roots ≡ tree a s ∷ tree a t ∷ ys → slice ≡ roots → rest ≡ take (length slice - 2) (drop 2 slice) → map (tree a) rest ≡ ys
+behind_two a roots slice rest s t ys e f g =
+    let same : rest ≡ drop 2 roots = g ∙ (take_all (length slice - 2) (drop 2 slice) (omega (arith, length-drop 2 slice)) ∙ ap (drop 2) f) in
+    ap (map (tree a)) same ∙ (sym (drop-map (tree a) 2 roots) ∙ ap (drop 2) e)
+
+pub inside-behind : (a : Arena) (ids : List TermId) (found : List (Option Bool)) (roots slice : List TermId) → slice ≡ roots → AllInside a ids found roots → AllInside a ids found (take (length slice - 2) (drop 2 slice))
+inside-behind a ids found roots slice e h =
+    subst (AllInside a ids found) (sym (take_all (length slice - 2) (drop 2 slice) (omega (arith, length-drop 2 slice)) ∙ ap (drop 2) e)) (later roots h)
+  where
+    later : (ts : List TermId) → AllInside a ids found ts → AllInside a ids found (drop 2 ts)
+    later [] h = h
+    later (t ∷ []) h = h.1
+    later (t ∷ u ∷ ts) h = h.1.1
+
+pub first_two : (a : Arena) → IsArena a → (ids : List TermId) (found : List (Option Bool)) (roots slice : List TermId) (s t : TermId) (ys : List Term) → s.0 < length a.nodes → t.0 < length a.nodes → AllBelow (length a.nodes) roots
+    → map (tree a) roots ≡ tree a s ∷ tree a t ∷ ys → slice ≡ roots → AllValued ids found slice → AllValued ids found (s ∷ t ∷ [])
+first_two a ok ids found roots slice s t ys h k inside e f valued = there roots inside e (subst (AllValued ids found) f valued)
+  where
+    there : (rs : List TermId) → AllBelow (length a.nodes) rs → map (tree a) rs ≡ tree a s ∷ tree a t ∷ ys → AllValued ids found rs → AllValued ids found (s ∷ t ∷ [])
+    there [] i e g = absurd (cc)
+    there (p ∷ []) i e g = absurd (cc)
+    there (p ∷ q ∷ rs) i e g =
+        let first : tree a p ≡ tree a s = cc in
+        let second : tree a q ≡ tree a t = cc in
+        let P : TermId → Type 0 = λ u. list_any (same_id u) (take (length found) ids) ≡ true in
+        (subst P (HasOneId-arena a ok p s i.0 h first) g.0, (subst P (HasOneId-arena a ok q t i.1.0 k second) g.1.0, tt))
+
+module _ (a : Arena) (cited : List TermId) (s t : TermId) (own given : Option Bool) (clash : Bool)
+    (e : own ≡ computed_in a cited (Equation s t) (formula_of a (Equation s t))) (f : given ≡ given_in a cited (Equation s t) (formula_of a (Equation s t))) (g : clash ≡ spec.opposite own given) where
+  abbrev whole : Bool → Bool
+  whole b = b || list_any (λ x. clash_in a cited (Equation s t) (spec.bare x)) (map (tree a) cited)
+
+  clash_is : clash ≡ clash_in a cited (Equation s t) (formula_of a (Equation s t))
+  clash_is = g ∙ (λ i. spec.opposite (e i) (f i))
+
+  pub equation_clashes : clash ≡ true → true ≡ spec.evaluates (truth_in a) (map (tree a) cited) (formula_of a (Equation s t))
+  equation_clashes h = ap whole (sym h ∙ clash_is)
+
+  pub equation_evaluates : clash ≡ false → (rest : List TermId) (b : Bool) → map (tree a) rest ≡ bare_terms a cited → b ≡ some_clash a cited (Equation s t) rest
+      → b ≡ spec.evaluates (truth_in a) (map (tree a) cited) (formula_of a (Equation s t))
+  equation_evaluates h rest b k is =
+      is
+      ∙ (ap (list_any (clash_in a cited (Equation s t))) k
+      ∙ (list_any-map (clash_in a cited (Equation s t)) spec.bare (map (tree a) cited) ∙ ap whole (sym h ∙ clash_is)))

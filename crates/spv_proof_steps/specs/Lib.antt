@@ -1,3 +1,4 @@
 pub mod Candidates
 pub mod Valued
 pub mod Steps
+pub mod Given

@@ -202,28 +202,3 @@ pub(crate) fn negated_by(terms: &Terms, formula: Candidate) -> Option<TermId>
         Candidate::Equation(_, _) => None,
     }
 }
-
-/// A formula without its outer negation.
-pub(crate) fn bare(terms: &Terms, formula: Candidate) -> Candidate
-    requires { MayStand terms.now formula }
-    ensures value { formula_of terms.now result ≡ spec.bare (formula_of terms.now formula) }
-    ensures stands { MayStand terms.now result }
-{
-    match negated_by(terms, formula) {
-        Some(t) => Candidate::Known(t),
-        None => formula,
-    }
-}
-
-/// The two sides, where a formula is an equation.
-pub(crate) fn sides_of(terms: &Terms, formula: Candidate) -> Option<(TermId, TermId)>
-    requires { MayStand terms.now formula }
-    ensures value { option_map (pair_of terms.now) result ≡ spec.sides (formula_of terms.now formula) }
-    ensures in_range { ForSome result (PairIn terms.now) }
-{
-    match formula {
-        Candidate::Known(t) => sides(terms, t),
-        Candidate::Negation(_) => None,
-        Candidate::Equation(s, t) => Some((s, t)),
-    }
-}

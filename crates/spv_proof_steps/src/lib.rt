@@ -4,9 +4,8 @@
 pub mod candidates;
 mod congruence;
 pub mod facts;
-mod numerals;
+mod known;
 pub mod steps;
-mod tables;
 mod valued;
 
 pub use candidates::{Candidate, sides};

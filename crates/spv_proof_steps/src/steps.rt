@@ -18,9 +18,8 @@ ghost use Rattle.spv_proof_steps.specs.Steps.{effect_of, MayAdd, asked};
 
 use crate::candidates::{Candidate, negated, same_term, sides};
 use crate::facts::{Effect, Fact, stated_fact};
-use crate::numerals::numeral_relation;
 use crate::valued::{evaluates, is_truth};
-use spv_atoms::Stated;
+use spv_atoms::{Stated, numeral_relation};
 use spv_term::{Condition, Head, TermId, Terms};
 use std::alloc::{AllocError, Global};
 

@@ -1,19 +1,22 @@
 //! The step that evaluates: the values that are given, and what is computed from them.
 
-ghost use Rattle.std.specs.Prelude.{◌≡◌, ◌<◌, ◌≤◌, map, length, true, false, Some, IsTrue, IfOk};
+ghost use Rattle.std.specs.Prelude.{◌≡◌, ◌<◌, ◌++◌, List, Bool, map, length, true, false, Some, IsTrue, OnOk, IfOk};
 ghost use Rattle.std.specs.List.{flat_map, list_any};
-ghost use Rattle.std.specs.Option.{option_map, ForSome};
-ghost use Rattle.spv_logic.specs.Terms.{term};
-ghost use Rattle.spv_term.specs.Arena.{AllBelow, tree, trees, IsArena};
-ghost use Rattle.spv_logic.specs.Formulas as formulas;
+ghost use Rattle.spv_logic.specs.declared.conditions.TermId.{TermId};
+ghost use Rattle.spv_logic.specs.declared.operators.Head.TheVariants.{Eq};
+ghost use Rattle.spv_logic.specs.Terms.{Term};
+ghost use Rattle.spv_term.specs.Arena.{AllBelow, tree, IsArena};
 ghost use Rattle.spv_atoms.specs.Tables as tables;
+ghost use Rattle.spv_atoms.specs.Valued.{AreGiven, AreValued, AllValued, IsInside};
 ghost use Rattle.spv_proof.specs.Evaluation as spec;
-ghost use Rattle.spv_proof_steps.specs.Candidates.{formula_of, pair_of, IsBool, MayStand, PairIn};
-ghost use Rattle.spv_proof_steps.specs.Valued.{truth_in, given_in, computed_in, value_in, AreComputed};
+ghost use Rattle.spv_proof_steps.specs.declared.candidates.Candidate.TheVariants.{Equation};
+ghost use Rattle.spv_proof_steps.specs.Candidates.{formula_of, IsBool, MayStand};
+ghost use Rattle.spv_proof_steps.specs.Given.{IsKnown, GivesOrders};
+ghost use Rattle.spv_proof_steps.specs.Valued.{truth_in, given_in, computed_in, clash_in, AllInside};
 
-use crate::candidates::{Candidate, bare, is_below, is_term, negated_by, same, sides_of};
-use crate::numerals::relation;
-use crate::tables::{and_of, implied, not_of, opposite, or_of, same_of};
+use crate::candidates::{Candidate, is_term, negated, negated_by, same, sides};
+use crate::known::{GivenOrders, Known, known_by};
+use spv_atoms::{TermSet, computed, computed_over, connected, values_in_order};
 use spv_term::{Head, Sort, TermId, Terms};
 use std::alloc::{AllocError, Global};
 
@@ -62,31 +65,15 @@ fn given_by_facts(terms: &Terms, cited: &[TermId], t: Candidate) -> Option<bool>
     None
 }
 
-// Whether one of these facts puts a term below another.
-fn cites_below(terms: &Terms, cited: &[TermId], s: TermId, t: TermId) -> bool
-    requires cited { AllBelow (length terms.now.nodes) cited.now }
-    requires s { s.0 < length terms.now.nodes }
-    requires t { t.0 < length terms.now.nodes }
-    ensures { result
-        ≡ spec.cites (map (tree terms.now) cited.now) (formulas.below (tree terms.now s) (tree terms.now t)) }
+// That an equation is false, where one of its sides is known to be below the other.
+fn apart(terms: &Terms, orders: &GivenOrders, t: TermId) -> Option<bool>
+    requires { t.0 < length terms.now.nodes }
+    ensures { (cited : List TermId) → GivesOrders terms.now cited orders.now
+        → result ≡ spec.apart (map (tree terms.now) cited) (spec.sides (tree terms.now t)) }
 {
-    for fact in cited {
-        if is_below(terms, *fact, s, t) {
-            return true;
-        }
-    }
-    false
-}
-
-// That an equation is false, where one of these facts puts one of its sides below the other.
-fn apart(terms: &Terms, cited: &[TermId], pair: Option<(TermId, TermId)>) -> Option<bool>
-    requires cited { AllBelow (length terms.now.nodes) cited.now }
-    requires pair { ForSome pair (PairIn terms.now) }
-    ensures { result ≡ spec.apart (map (tree terms.now) cited.now) (option_map (pair_of terms.now) pair) }
-{
-    match pair {
-        Some((s, t)) => {
-            if cites_below(terms, cited, s, t) || cites_below(terms, cited, t, s) {
+    match sides(terms, t) {
+        Some((left, right)) => {
+            if orders.has(left, right) || orders.has(right, left) {
                 Some(false)
             } else {
                 None
@@ -96,20 +83,32 @@ fn apart(terms: &Terms, cited: &[TermId], pair: Option<(TermId, TermId)>) -> Opt
     }
 }
 
-// The value that is given to a formula, where these facts are true and the stated formula is false.
-fn given(terms: &Terms, cited: &[TermId], formula: Candidate, t: Candidate) -> Option<bool>
-    requires cited { AllBelow (length terms.now.nodes) cited.now }
+// The value that is given to a term, where what is known is true and the stated formula is false.
+fn given(terms: &Terms, known: &Known, formula: Candidate, t: TermId) -> Option<bool>
     requires formula { MayStand terms.now formula }
-    requires t { MayStand terms.now t }
-    ensures { result ≡ given_in terms.now cited.now formula (formula_of terms.now t) }
+    requires t { t.0 < length terms.now.nodes }
+    ensures { (cited : List TermId) → IsKnown terms.now cited known.now
+        → result ≡ given_in terms.now cited formula (tree terms.now t) }
 {
-    if let Some(value) = given_by_facts(terms, cited, t) {
+    if let Some(value) = known.values.value(t) {
         return Some(value);
     }
-    if let Some(value) = given_by(terms, false, formula, t) {
+    if let Some(value) = given_by(terms, false, formula, Candidate::Known(t)) {
         return Some(value);
     }
-    apart(terms, cited, sides_of(terms, t))
+    apart(terms, &known.orders, t)
+}
+
+// The value that is given to a stated equation itself.
+fn given_to_equation(terms: &Terms, cited: &[TermId], s: TermId, t: TermId) -> Option<bool>
+    requires cited { AllBelow (length terms.now.nodes) cited.now }
+    requires equation { MayStand terms.now (Equation s t) }
+    ensures { result ≡ given_in terms.now cited.now (Equation s t) (formula_of terms.now (Equation s t)) }
+{
+    match given_by_facts(terms, cited, Candidate::Equation(s, t)) {
+        Some(value) => Some(value),
+        None => Some(false),
+    }
 }
 
 /// Whether a term is of sort Bool.
@@ -125,237 +124,176 @@ pub fn is_truth(terms: &Terms, t: TermId) -> bool
     }
 }
 
-// Whether terms are all of sort Bool.
-fn all_truths(terms: &Terms, args: &[TermId]) -> bool
-    requires { AllBelow (length terms.now.nodes) args.now }
-    ensures { result ≡ tables.all_truths (truth_in terms.now) (trees terms.now args.now) }
-{
-    for t in args {
-        if !is_truth(terms, *t) {
-            return false;
-        }
-    }
-    true
-}
-
-// The value of an equation of these terms, of which the first two have the values x and y.
-fn equation_value(terms: &Terms, args: &[TermId], x: Option<bool>, y: Option<bool>) -> Option<bool>
-    requires { AllBelow (length terms.now.nodes) args.now }
-    ensures { result
-        ≡ tables.equation_value (tables.all_truths (truth_in terms.now) (trees terms.now args.now)) x y (trees terms.now args.now) }
-{
-    if all_truths(terms, args) {
-        same_of(x, y)
-    } else {
-        relation(terms, Head::Eq, args)
-    }
-}
-
-// The value of a head over these terms, of which the first two have the values x and y.
-fn combined(
-    terms: &Terms,
-    head: Head,
-    args: &[TermId],
-    x: Option<bool>,
-    y: Option<bool>,
-) -> Option<bool>
-    requires { AllBelow (length terms.now.nodes) args.now }
-    ensures { result
-        ≡ tables.combined (tables.all_truths (truth_in terms.now) (trees terms.now args.now)) head x y (trees terms.now args.now) }
-{
-    match head {
-        Head::Not => not_of(x),
-        Head::And => and_of(x, y),
-        Head::Or => or_of(x, y),
-        Head::Implies => implied(x, y),
-        Head::Eq => equation_value(terms, args, x, y),
-        Head::Lt => relation(terms, Head::Lt, args),
-        Head::Le => relation(terms, Head::Le, args),
-        Head::True => Some(true),
-        Head::False => Some(false),
-        _ => None,
-    }
-}
-
-// The value of a term: the given one, else the computed one, which is found already.
-fn value_of(
-    terms: &Terms,
-    cited: &[TermId],
-    formula: Candidate,
-    found: &[Option<bool>],
-    t: TermId,
-) -> Option<bool>
-    requires cited { AllBelow (length terms.now.nodes) cited.now }
-    requires formula { MayStand terms.now formula }
-    requires found { AreComputed terms.now cited.now formula found.now }
-    requires t { t.0 < length found.now }
-    requires room { length found.now ≤ length terms.now.nodes }
-    ensures { result ≡ value_in terms.now cited.now formula (tree terms.now t) }
-{
-    match given(terms, cited, formula, Candidate::Known(t)) {
-        Some(value) => Some(value),
-        None => found[t.0 as usize],
-    }
-}
-
-// The value of the first of these terms.
-fn first_value(
-    terms: &Terms,
-    cited: &[TermId],
-    formula: Candidate,
-    found: &[Option<bool>],
-    args: &[TermId],
-) -> Option<bool>
-    requires cited { AllBelow (length terms.now.nodes) cited.now }
-    requires formula { MayStand terms.now formula }
-    requires found { AreComputed terms.now cited.now formula found.now }
-    requires args { AllBelow (length found.now) args.now }
-    requires room { length found.now ≤ length terms.now.nodes }
-    ensures { result
-        ≡ tables.first_of (tables.values (truth_in terms.now) (given_in terms.now cited.now formula) (trees terms.now args.now)) }
-{
-    match args {
-        [t, ..] => value_of(terms, cited, formula, found, *t),
-        [] => None,
-    }
-}
-
-// The value of the second of these terms.
-fn second_value(
-    terms: &Terms,
-    cited: &[TermId],
-    formula: Candidate,
-    found: &[Option<bool>],
-    args: &[TermId],
-) -> Option<bool>
-    requires cited { AllBelow (length terms.now.nodes) cited.now }
-    requires formula { MayStand terms.now formula }
-    requires found { AreComputed terms.now cited.now formula found.now }
-    requires args { AllBelow (length found.now) args.now }
-    requires room { length found.now ≤ length terms.now.nodes }
-    ensures { result
-        ≡ tables.second_of (tables.values (truth_in terms.now) (given_in terms.now cited.now formula) (trees terms.now args.now)) }
-{
-    match args {
-        [_, others @ ..] => first_value(terms, cited, formula, found, others),
-        [] => None,
-    }
-}
-
-// The computed value of a head over these terms, whose computed values are found already.
-fn computed(
-    terms: &Terms,
-    cited: &[TermId],
-    formula: Candidate,
-    found: &[Option<bool>],
-    head: Head,
-    args: &[TermId],
-) -> Option<bool>
-    requires cited { AllBelow (length terms.now.nodes) cited.now }
-    requires formula { MayStand terms.now formula }
-    requires found { AreComputed terms.now cited.now formula found.now }
-    requires args { AllBelow (length found.now) args.now }
-    requires room { length found.now ≤ length terms.now.nodes }
-    ensures { result ≡ computed_in terms.now cited.now formula (term head (trees terms.now args.now)) }
-{
-    let x = first_value(terms, cited, formula, found, args);
-    let y = second_value(terms, cited, formula, found, args);
-    combined(terms, head, args, x, y)
-}
-
-// The computed value of each term, in the order of their ids: the arguments of a term come before it.
-fn computed_values(
+// What is given to each of these terms.
+fn all_given(
     alloc: Global,
     terms: &Terms,
-    cited: &[TermId],
+    known: &Known,
     formula: Candidate,
+    ids: &[TermId],
 ) -> Result<Vec<Option<bool>>, AllocError>
-    requires cited { AllBelow (length terms.now.nodes) cited.now }
     requires formula { MayStand terms.now formula }
-    ensures length { IfOk result (λ found. length found.items ≡ length terms.now.nodes) }
-    ensures values { IfOk result (λ found. AreComputed terms.now cited.now formula found.items) }
+    requires ids { AllBelow (length terms.now.nodes) ids.now }
+    ensures length { IfOk result (λ own. length own.items ≡ length ids.now) }
+    ensures values { IfOk result (λ own. (cited : List TermId) → IsKnown terms.now cited known.now
+        → AreGiven terms.now (given_in terms.now cited formula) ids.now own.items) }
 {
-    terms.law_arena();
-    let mut found = Vec::new(alloc);
-    for place in 0..terms.len() {
-        let node = terms.node(TermId(place));
-        let value = computed(
-            terms,
-            cited,
-            formula,
-            found.as_slice(),
-            node.head,
-            node.args.as_slice(),
-        );
-        found.push(value)?;
+    let mut own = Vec::new(alloc);
+    for t in ids {
+        own.push(given(terms, known, formula, *t))?;
     }
-    Ok(found)
+    Ok(own)
 }
 
-// The computed value of a formula, where those of all terms are found.
-fn computed_of(
-    terms: &Terms,
-    cited: &[TermId],
-    formula: Candidate,
-    found: &[Option<bool>],
-    t: Candidate,
-) -> Option<bool>
-    requires cited { AllBelow (length terms.now.nodes) cited.now }
-    requires formula { MayStand terms.now formula }
-    requires found { AreComputed terms.now cited.now formula found.now }
-    requires all { length found.now ≡ length terms.now.nodes }
-    requires t { MayStand terms.now t }
-    ensures { result ≡ computed_in terms.now cited.now formula (formula_of terms.now t) }
-{
-    match t {
-        Candidate::Known(u) => found[u.0 as usize],
-        Candidate::Negation(u) => computed(terms, cited, formula, found, Head::Not, &[u]),
-        Candidate::Equation(s, u) => computed(terms, cited, formula, found, Head::Eq, &[s, u]),
-    }
+// Terms in order with their values.
+#[derive(Drop)]
+struct TermValues {
+    order: TermSet,
+    found: Vec<Option<bool>>,
 }
 
-// Whether a formula, an outer NOT taken off, is computed as true where it is given as false, or the other way round.
-fn clashes(
+// The values of these terms and of those that they are gone through to through connectives.
+fn valued_terms(
+    alloc: Global,
     terms: &Terms,
-    cited: &[TermId],
+    known: &Known,
     formula: Candidate,
-    found: &[Option<bool>],
-    t: Candidate,
-) -> bool
-    requires cited { AllBelow (length terms.now.nodes) cited.now }
+    roots: &[TermId],
+) -> Result<TermValues, AllocError>
     requires formula { MayStand terms.now formula }
-    requires found { AreComputed terms.now cited.now formula found.now }
-    requires all { length found.now ≡ length terms.now.nodes }
-    requires t { MayStand terms.now t }
-    ensures { result ≡ spec.clashes (truth_in terms.now) (given_in terms.now cited.now formula)
-        (spec.bare (formula_of terms.now t)) }
+    requires roots { AllBelow (length terms.now.nodes) roots.now }
+    ensures values { IfOk result (λ v. (cited : List TermId) → IsKnown terms.now cited known.now
+        → AreValued terms.now (given_in terms.now cited formula) v.order v.found.items) }
+    ensures roots { IfOk result (λ v. AllValued v.order v.found.items roots.now) }
+    ensures inside { IfOk result (λ v. AllInside terms.now v.order v.found.items roots.now) }
 {
-    let inner = bare(terms, t);
+    let order = connected(alloc, terms, roots)?;
+    let own = all_given(alloc, terms, known, formula, order.as_slice())?;
+    let found = values_in_order(alloc, terms, &order, own.as_slice())?;
+    Ok(TermValues { order, found })
+}
+
+// Whether a term is computed as true where it is given as false, or the other way round.
+fn clashes(terms: &Terms, known: &Known, formula: Candidate, valued: &TermValues, t: TermId) -> bool
+    requires formula { MayStand terms.now formula }
+    requires t { t.0 < length terms.now.nodes }
+    requires inside { IsInside terms.now valued.now.order valued.now.found.items t }
+    ensures { (cited : List TermId) → IsKnown terms.now cited known.now
+        → AreValued terms.now (given_in terms.now cited formula) valued.now.order valued.now.found.items
+        → result ≡ clash_in terms.now cited formula (tree terms.now t) }
+{
     opposite(
-        computed_of(terms, cited, formula, found, inner),
-        given(terms, cited, formula, inner),
+        computed(terms, &valued.order, valued.found.as_slice(), t),
+        given(terms, known, formula, t),
     )
 }
 
-// Whether one of these facts clashes.
-fn any_clashes(terms: &Terms, cited: &[TermId], formula: Candidate, found: &[Option<bool>]) -> bool
-    requires cited { AllBelow (length terms.now.nodes) cited.now }
+// Whether one of these terms clashes.
+fn any_clashes(
+    terms: &Terms,
+    known: &Known,
+    formula: Candidate,
+    valued: &TermValues,
+    ts: &[TermId],
+) -> bool
     requires formula { MayStand terms.now formula }
-    requires found { AreComputed terms.now cited.now formula found.now }
-    requires all { length found.now ≡ length terms.now.nodes }
-    ensures { result ≡ list_any (λ t. spec.clashes (truth_in terms.now) (given_in terms.now cited.now formula) (spec.bare t))
-        (map (tree terms.now) cited.now) }
+    requires ts { AllBelow (length terms.now.nodes) ts.now }
+    requires inside { AllInside terms.now valued.now.order valued.now.found.items ts.now }
+    ensures { (cited : List TermId) → IsKnown terms.now cited known.now
+        → AreValued terms.now (given_in terms.now cited formula) valued.now.order valued.now.found.items
+        → result ≡ list_any (clash_in terms.now cited formula) (map (tree terms.now) ts.now) }
 {
-    for fact in cited {
-        if clashes(terms, cited, formula, found, Candidate::Known(*fact)) {
+    for t in ts {
+        if clashes(terms, known, formula, valued, *t) {
             return true;
         }
     }
     false
 }
 
+// A term without its outer negation.
+fn bare(terms: &Terms, t: TermId) -> TermId
+    requires { t.0 < length terms.now.nodes }
+    ensures value { tree terms.now result ≡ spec.bare (tree terms.now t) }
+    ensures in_range { result.0 < length terms.now.nodes }
+{
+    match negated(terms, t) {
+        Some(u) => u,
+        None => t,
+    }
+}
+
+// Puts facts without their outer negations behind other terms.
+fn push_bare(terms: &Terms, facts: &[TermId], out: &mut Vec<TermId>) -> Result<(), AllocError>
+    requires facts { AllBelow (length terms.now.nodes) facts.now }
+    requires out { AllBelow (length terms.now.nodes) out.old.items }
+    ensures terms { OnOk result
+        (map (tree terms.now) out.new.items ≡ map (tree terms.now) out.old.items ++ map spec.bare (map (tree terms.now) facts.now)) }
+    ensures in_range { OnOk result (AllBelow (length terms.now.nodes) out.new.items) }
+{
+    for fact in facts {
+        out.push(bare(terms, *fact))?;
+    }
+    Ok(())
+}
+
+// Whether a formula follows, where this is it without its outer negation.
+fn evaluates_term(
+    alloc: Global,
+    terms: &Terms,
+    cited: &[TermId],
+    formula: Candidate,
+    inner: TermId,
+) -> Result<bool, AllocError>
+    requires cited { AllBelow (length terms.now.nodes) cited.now }
+    requires formula { MayStand terms.now formula }
+    requires inner { inner.0 < length terms.now.nodes }
+    requires is { tree terms.now inner ≡ spec.bare (formula_of terms.now formula) }
+    ensures { IfOk result (λ b. b
+        ≡ spec.evaluates (truth_in terms.now) (map (tree terms.now) cited.now) (formula_of terms.now formula)) }
+{
+    let known = known_by(alloc, terms, cited)?;
+    let mut roots = Vec::new(alloc);
+    roots.push(inner)?;
+    push_bare(terms, cited, &mut roots)?;
+    let valued = valued_terms(alloc, terms, &known, formula, roots.as_slice())?;
+    Ok(any_clashes(terms, &known, formula, &valued, roots.as_slice()))
+}
+
+// Whether the equation of two terms follows.
+fn evaluates_equation(
+    alloc: Global,
+    terms: &Terms,
+    cited: &[TermId],
+    s: TermId,
+    t: TermId,
+) -> Result<bool, AllocError>
+    requires cited { AllBelow (length terms.now.nodes) cited.now }
+    requires equation { MayStand terms.now (Equation s t) }
+    ensures { IfOk result (λ b. b
+        ≡ spec.evaluates (truth_in terms.now) (map (tree terms.now) cited.now) (formula_of terms.now (Equation s t))) }
+{
+    terms.law_arena();
+    let formula = Candidate::Equation(s, t);
+    let known = known_by(alloc, terms, cited)?;
+    let mut roots = Vec::from_slice(alloc, &[s, t])?;
+    push_bare(terms, cited, &mut roots)?;
+    let valued = valued_terms(alloc, terms, &known, formula, roots.as_slice())?;
+    let own = computed_over(
+        terms,
+        &valued.order,
+        valued.found.as_slice(),
+        Head::Eq,
+        &[s, t],
+    );
+    if opposite(own, given_to_equation(terms, cited, s, t)) {
+        return Ok(true);
+    }
+    Ok(any_clashes(terms, &known, formula, &valued, &roots.as_slice()[2..]))
+}
+
 /// Whether a formula follows from cited facts by the tables of the connectives: were it false, one of
-/// them or it itself would have two values.
+/// them or it itself would have two values. It looks at each different subterm once.
 pub(crate) fn evaluates(
     alloc: Global,
     terms: &Terms,
@@ -367,9 +305,20 @@ pub(crate) fn evaluates(
     ensures { IfOk result (λ b. b
         ≡ spec.evaluates (truth_in terms.now) (map (tree terms.now) cited.now) (formula_of terms.now formula)) }
 {
-    let found = computed_values(alloc, terms, cited, formula)?;
-    if clashes(terms, cited, formula, found.as_slice(), formula) {
-        return Ok(true);
+    match formula {
+        Candidate::Known(t) => evaluates_term(alloc, terms, cited, formula, bare(terms, t)),
+        Candidate::Negation(t) => evaluates_term(alloc, terms, cited, formula, t),
+        Candidate::Equation(s, t) => evaluates_equation(alloc, terms, cited, s, t),
     }
-    Ok(any_clashes(terms, cited, formula, found.as_slice()))
+}
+
+// Whether two values are known and differ.
+fn opposite(a: Option<bool>, b: Option<bool>) -> bool
+    ensures { result ≡ spec.opposite a b }
+{
+    match a {
+        Some(true) => matches!(b, Some(false)),
+        Some(false) => matches!(b, Some(true)),
+        None => false,
+    }
 }

@@ -2,6 +2,7 @@
 
 ghost use Rattle.std.specs.Prelude.{◌≡◌, ◌<◌, length, IfOk};
 
+use crate::rules::{law_ends, law_equations, law_evaluations, law_multiples, law_splits};
 use spv_atoms::{atoms, law_form, law_truth, truth};
 use spv_list::List;
 use spv_names::Symbol;
@@ -56,4 +57,9 @@ fn laws_may_be_called(_rt: HostRuntime) {
     law_check(&PlainWorld);
     law_examples();
     law_outcome();
+    law_equations();
+    law_evaluations();
+    law_ends();
+    law_multiples();
+    law_splits();
 }

@@ -5,5 +5,8 @@
 mod checks;
 #[cfg(test)]
 mod formulas;
+pub mod rules;
+#[cfg(test)]
+mod splits;
 #[cfg(test)]
 mod sums;

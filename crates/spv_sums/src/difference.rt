@@ -1,14 +1,14 @@
 // The difference of two linear forms.
 
-ghost use Rattle.std.specs.Prelude.{◌≡◌, OnOk, IfOk, IsTrue, ◌+ℤ◌, ◌*ℤ◌, negsuc};
+ghost use Rattle.std.specs.Prelude.{◌≡◌, IfOk, IsTrue, ◌+ℤ◌, ◌*ℤ◌, negsuc};
 ghost use Rattle.std.specs.Option.{option_map};
 ghost use Rattle.spv_frac.specs.Range.{fits};
 ghost use Rattle.spv_atoms.specs.Linear.{ArePartsFrom, IsIdForm};
-ghost use Rattle.spv_atoms.specs.Sums as spec;
 ghost use Rattle.spv_atoms.specs.Sums.{SummedParts};
 ghost use Rattle.spv_sums.specs.Differences.{more, negated_parts, IsConstant, IsDifferenceForm};
 
 use spv_atoms::Linear;
+use spv_atoms::parts::{behind, least_id, number_in_front, push_number};
 use spv_frac::plus;
 use spv_term::TermId;
 use std::alloc::{AllocError, Global};
@@ -53,67 +53,6 @@ impl Form {
     {
         let _parts = &self.parts;
     }
-}
-
-// The number of an id, where it is the first one.
-fn number_in_front(parts: &[(TermId, i128)], t: TermId) -> i128
-    ensures { result ≡ spec.number_in_front parts.now t }
-{
-    match parts {
-        [part, ..] => { if part.0 == t { part.1 } else { 0 } }
-        [] => 0,
-    }
-}
-
-// The parts behind an id, where it is the first one.
-fn behind(parts: &[(TermId, i128)], t: TermId) -> &[(TermId, i128)]
-    ensures { result.now ≡ spec.behind parts.now t }
-{
-    match parts {
-        [part, rest @ ..] => { if part.0 == t { rest } else { parts } }
-        [] => parts,
-    }
-}
-
-// The first id.
-fn first_id(parts: &[(TermId, i128)]) -> Option<TermId>
-    ensures { result ≡ spec.first_id parts.now }
-{
-    match parts {
-        [part, ..] => Some(part.0),
-        [] => None,
-    }
-}
-
-// The lesser of an id and the first one.
-fn lesser_id(t: TermId, parts: &[(TermId, i128)]) -> TermId
-    ensures { result ≡ spec.lesser_id t parts.now }
-{
-    match parts {
-        [part, ..] => { if part.0.0 < t.0 { part.0 } else { t } }
-        [] => t,
-    }
-}
-
-// The lesser of the first ids of both.
-fn least_id(left: &[(TermId, i128)], right: &[(TermId, i128)]) -> Option<TermId>
-    ensures { result ≡ spec.least_id left.now right.now }
-{
-    match left {
-        [part, ..] => Some(lesser_id(part.0, right)),
-        [] => first_id(right),
-    }
-}
-
-// Puts a part at the end, unless its number is zero.
-fn push_number(parts: &mut Vec<(TermId, i128)>, t: TermId, number: i128) -> Result<(), AllocError>
-    ensures { OnOk result (parts.new.items ≡ spec.with_number parts.old.items t number) }
-{
-    if number == 0 {
-        return Ok(());
-    }
-    parts.push((t, number))?;
-    Ok(())
 }
 
 // The difference of two numbers, where it fits.
