@@ -21,6 +21,7 @@ fn constant_at_top(known: &Known, alloc: Global, tree: &Constant) -> Result<i64,
     let own: Named<Own> = Named::new(alloc);
     let scope = Scope {
         known,
+        parameters: &own,
         result: None,
         own: &own,
         routine: None,

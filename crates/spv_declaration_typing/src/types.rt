@@ -58,6 +58,7 @@ fn type_at_top(
     let own: Named<Own> = Named::new(alloc);
     let scope = Scope {
         known,
+        parameters: &own,
         result: None,
         own: &own,
         routine: None,

@@ -59,6 +59,7 @@ fn type_at_top(known: &Known, alloc: Global, tree: &TypeDenoter) -> Result<NewTy
     let own: Named<Own> = Named::new(alloc);
     let scope = Scope {
         known,
+        parameters: &own,
         result: None,
         own: &own,
         routine: None,
