@@ -34,7 +34,7 @@ none_mapped f (Some x) h = absurd (none-some _ (sym h))
 pub routine_is_new : (k : spec.Known) (table : List (Symbol × Heading)) (x : Symbol) → k.headings ≡ headings_of table → spec.is_free k x ≡ true → found table x ≡ None
 routine_is_new k table x same free =
     none_mapped (λ h. spec.OfRoutine (heading_of x h)) (found table x)
-        (sym (routine_first table x) ∙ (ap (λ l. found (map (λ h. (h.name, spec.OfRoutine h)) l) x) (sym same) ∙ in_last))
+    (sym (routine_first table x) ∙ (ap (λ l. found (map (λ h. (h.name, spec.OfRoutine h)) l) x) (sym same) ∙ in_last))
   where
     in_last : found (routines k) x ≡ None
     in_last =
