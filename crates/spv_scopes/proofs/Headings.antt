@@ -1,5 +1,5 @@
 -- Headings by the numbers of their routines.
-use Rattle.std.proofs.Common.{◌≡◌, ◌≤◌, ◌+◌, ℕ, zero, suc, Bool, true, false, cond, List, [], ◌∷◌, length, drop, map, filter, Some, refl, sym, ap, ◌∙◌, nat_eq, slice_get, arith}
+use Rattle.std.proofs.Common.{◌≡◌, ◌≤◌, ◌+◌, ℕ, zero, suc, Bool, true, false, cond, List, [], ◌∷◌, length, drop, filter, Some, refl, sym, ap, ◌∙◌, nat_eq, slice_get, arith}
 use Rattle.std.proofs.lemmas.List.{drop_all}
 use Rattle.spv_names.specs.declared.names.Symbol.{Symbol}
 use Rattle.spv_logic.specs.declared.conditions.RoutineId.{RoutineId}

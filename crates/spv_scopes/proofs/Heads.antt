@@ -1,13 +1,10 @@
 -- Headings that come and go.
 use Rattle.std.proofs.Common.{◌≡◌, Bool, true, false, cond, not, List, [], ◌∷◌, ◌++◌, map, Option, Some, None, is_some, refl, sym, ap, ◌∙◌, option_map}
-use Rattle.std.specs.Prelude.{IfSome, IfNone}
 use Rattle.std.proofs.lemmas.Bool.{false≢true}
 use Rattle.std.proofs.lemmas.List.{map-append}
 use Rattle.std.proofs.lemmas.Option.{none-some}
 use Rattle.spv_names.specs.declared.names.Symbol.{Symbol}
 use Rattle.spv_program.specs.Lists.{found, same_name}
-use Rattle.spv_program.specs.Programs.{Program}
-use Rattle.spv_typing.specs.RoutineWalk.{with_heading}
 use Rattle.spv_typing.specs.Known as spec
 use Rattle.spv_scopes.specs.declared.routines.Heading.{Heading}
 use Rattle.spv_scopes.specs.Views.{heading_of, headings_of}

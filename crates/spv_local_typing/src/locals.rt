@@ -1,0 +1,94 @@
+// Local declarations.
+
+ghost use Rattle.std.specs.Prelude.{◌≡◌, IfOk, IfErr, Ok};
+ghost use Rattle.spv_typing.specs.Outcomes.{each};
+ghost use Rattle.spv_typing.specs.RoutineWalk as spec;
+ghost use Rattle.spv_scopes.specs.Answers.{Stops};
+ghost use Rattle.spv_local_typing.specs.Locals.{const_by, vars_by, locals_by, local_of, IsHeaded};
+
+use crate::places::{Local, constant_in, is_free, new_locals, put_constant, put_variables, type_in};
+use spv_list::List;
+use spv_named::Named;
+use spv_names::Symbol;
+use spv_scopes::{Known, Own};
+use spv_settling::settle;
+use spv_syntax::{Const, Locals, Vars};
+use spv_typing::TypeFault;
+use std::alloc::Global;
+
+fn constant(
+    known: &Known,
+    alloc: Global,
+    routine: Symbol,
+    listed: &Named<bool>,
+    local: Local,
+    tree: &Const,
+) -> Result<Local, TypeFault>
+    ensures ok { IfOk result (λ l. const_by routine listed.now (local_of known.now local) tree.now ≡ Ok (local_of known.now l)) }
+    ensures err { IfErr result (λ e. Stops e (const_by routine listed.now (local_of known.now local) tree.now)) }
+{
+    let name = tree.name;
+    if !is_free(known, alloc, routine, listed, &local.own, name.symbol) {
+        return Err(TypeFault::DeclaredTwice(name.line, name.symbol));
+    }
+    let z = constant_in(known, alloc, &local.own, &tree.value)?;
+    Ok(put_constant(local, name.symbol, z)?)
+}
+
+fn variables(
+    known: &mut Known,
+    alloc: Global,
+    routine: Symbol,
+    listed: &Named<bool>,
+    local: Local,
+    tree: &Vars,
+) -> Result<Local, TypeFault>
+    ensures ok { IfOk result (λ l. vars_by routine listed.now (local_of known.old local) tree.now ≡ Ok (local_of known.new l)) }
+    ensures err { IfErr result (λ e. Stops e (vars_by routine listed.now (local_of known.old local) tree.now)) }
+{
+    let names = new_locals(known, alloc, routine, listed, &local.own, &tree.names)?;
+    let read = type_in(known, alloc, &local.own, &tree.of)?;
+    let t = settle(known, alloc, read)?;
+    Ok(put_variables(local, &names, t)?)
+}
+
+// Constants, then variables.
+fn in_order(
+    known: &mut Known,
+    alloc: Global,
+    routine: Symbol,
+    own: Named<Own>,
+    listed: &Named<bool>,
+    tree: &Locals,
+) -> Result<Local, TypeFault>
+    ensures ok { IfOk result (λ l. locals_by routine listed.now known.old own tree.now ≡ Ok (local_of known.new l)) }
+    ensures err { IfErr result (λ e. Stops e (locals_by routine listed.now known.old own tree.now)) }
+{
+    let mut local = Local {
+        own,
+        variables: List::new(alloc),
+    };
+    for item in tree.constants.as_slice() {
+        local = constant(known, alloc, routine, listed, local, item)?;
+    }
+    for item in tree.variables.as_slice() {
+        local = variables(known, alloc, routine, listed, local, item)?;
+    }
+    Ok(local)
+}
+
+/// The local declarations of a routine of this name, whose heading gave it these names and whose GLOBAL list has these variables.
+/// Types that they are built of are put among those of the program. After a fault nothing is known of it.
+pub fn locals(
+    known: &mut Known,
+    alloc: Global,
+    name: Symbol,
+    own: Named<Own>,
+    listed: &Named<bool>,
+    tree: &Locals,
+) -> Result<Local, TypeFault>
+    ensures ok { IfOk result (λ l. (h : spec.Headed) → IsHeaded h name own listed.now → spec.locals_walk known.old h tree.now ≡ Ok (local_of known.new l)) }
+    ensures err { IfErr result (λ e. (h : spec.Headed) → IsHeaded h name own listed.now → Stops e (spec.locals_walk known.old h tree.now)) }
+{
+    in_order(known, alloc, name, own, listed, tree)
+}
