@@ -3,7 +3,6 @@ use Rattle.std.proofs.Common.{◌≡◌, ℕ, Bool, true, false, cond, ◌&&◌,
 use Rattle.std.proofs.lemmas.Bool.{false≢true, true≢false}
 use Rattle.std.proofs.lemmas.List.{map-append, append-nil}
 use Rattle.std.proofs.lemmas.List.Folds.{list_any-append}
-use Rattle.std.specs.Bool.{⊤}
 use Rattle.std.specs.List.{list_any}
 use Rattle.spv_names.specs.declared.names.Symbol.{Symbol}
 use Rattle.spv_logic.specs.declared.types.TypeId.{TypeId}
@@ -132,7 +131,7 @@ all_free free taken done out (x ∷ names) h none e =
     by_case false is f more = absurd (no_fault f)
 
 -- none of the names that were read has the routine already
-pub names_are_new : (start : known.KnownNames) (routine : Symbol) (listed : List (Symbol × Bool)) (parameters own : List (Symbol × Own)) (names : List Name) (new : List (Symbol × ⊤))
+pub names_are_new : (start : known.KnownNames) (routine : Symbol) (listed : List (Symbol × Bool)) (parameters own : List (Symbol × Own)) (names : List Name) (new : List (Symbol × ℕ))
     → each (new_name (free_by start routine listed parameters own)) [] names ≡ Ok (symbols_of new) → list_any (λ e. has own e.0) new ≡ false
 names_are_new start routine listed parameters own names new h =
     sym (any_named (has own) new) ∙ all_free (free_by start routine listed parameters own) (has own) [] (symbols_of new) names not_own refl h
@@ -159,19 +158,12 @@ free_is_apart start routine listed parameters own x free =
 
 -- ---- a further group
 
-pub all_places : (places names : List (Symbol × ⊤)) → places ++ map (under tt) names ≡ places ++ group_of true names
-all_places places names = ap (λ (l : List (Symbol × ⊤)). places ++ l) (as_they_are names)
-  where
-    as_they_are : (names : List (Symbol × ⊤)) → map (under tt) names ≡ names
-    as_they_are [] = refl
-    as_they_are (e ∷ names) = ap (λ (l : List (Symbol × ⊤)). e ∷ l) (as_they_are names)
-
-module _ (p q : Parameters) (names : List (Symbol × ⊤)) (of : TypeId) (by_place : Bool) (line : ℕ)
+module _ (p q : Parameters) (names : List (Symbol × ℕ)) (of : TypeId) (by_place : Bool) (line : ℕ)
     (formals : q.formals ≡ p.formals ++ formals_named names of by_place line) (own : q.own ≡ p.own ++ map (under (Place of)) names) where
   formals_are : map formal_of q.formals ≡ map formal_of p.formals ++ map (λ x. record { name = x; of = of; by_place = by_place; line = line }) (symbols_of names)
   formals_are = ap (map formal_of) formals ∙ (map-append formal_of p.formals (formals_named names of by_place line) ∙ ap (λ l. map formal_of p.formals ++ l) (one_by_one names))
     where
-      one_by_one : (names : List (Symbol × ⊤))
+      one_by_one : (names : List (Symbol × ℕ))
           → map formal_of (formals_named names of by_place line) ≡ map (λ x. record { name = x; of = of; by_place = by_place; line = line }) (symbols_of names)
       one_by_one [] = refl
       one_by_one (e ∷ names) = ap (λ l. record { name = e.0; of = of; by_place = by_place; line = line } ∷ l) (one_by_one names)
@@ -179,7 +171,7 @@ module _ (p q : Parameters) (names : List (Symbol × ⊤)) (of : TypeId) (by_pla
   own_is : known.named own_of q.own ≡ known.named own_of p.own ++ map (λ x. (x, known.OfPlace of)) (symbols_of names)
   own_is = ap (known.named own_of) own ∙ (map-append (λ e. (e.0, own_of e.1)) p.own (map (under (Place of)) names) ∙ ap (λ (l : known.Names). known.named own_of p.own ++ l) (one_by_one names))
     where
-      one_by_one : (names : List (Symbol × ⊤)) → known.named own_of (map (under (Place of)) names) ≡ map (λ x. (x, known.OfPlace of)) (symbols_of names)
+      one_by_one : (names : List (Symbol × ℕ)) → known.named own_of (map (under (Place of)) names) ≡ map (λ x. (x, known.OfPlace of)) (symbols_of names)
       one_by_one [] = refl
       one_by_one (e ∷ names) = ap (λ (l : known.Names). (e.0, known.OfPlace of) ∷ l) (one_by_one names)
 
@@ -206,7 +198,7 @@ has_under y (e ∷ names) x = by_case (same_name e.0 x) (has_under y names x)
     by_case true later = refl
     by_case false later = later
 
-group_has : (names : List (Symbol × ⊤)) (of : TypeId) (by_place : Bool) (line : ℕ) (x : Symbol)
+group_has : (names : List (Symbol × ℕ)) (of : TypeId) (by_place : Bool) (line : ℕ) (x : Symbol)
     → list_any (λ f. same_name f.name x && f.by_place) (map formal_of (formals_named names of by_place line)) ≡ has (group_of by_place names) x
 group_has [] of true line x = refl
 group_has [] of false line x = refl
@@ -223,24 +215,24 @@ group_has (e ∷ names) of false line x = by_case (same_name e.0 x) (group_has n
     by_case true later = later
     by_case false later = later
 
-none_in_group : (by_place : Bool) (names : List (Symbol × ⊤)) (x : Symbol) → has names x ≡ false → has (group_of by_place names) x ≡ false
+none_in_group : (by_place : Bool) (names : List (Symbol × ℕ)) (x : Symbol) → has names x ≡ false → has (group_of by_place names) x ≡ false
 none_in_group true names x h = h
 none_in_group false names x h = refl
 
-module _ (p q : Parameters) (names : List (Symbol × ⊤)) (of : TypeId) (by_place : Bool) (line : ℕ)
+module _ (p q : Parameters) (names : List (Symbol × ℕ)) (of : TypeId) (by_place : Bool) (line : ℕ)
     (formals : q.formals ≡ p.formals ++ formals_named names of by_place line) (own : q.own ≡ p.own ++ map (under (Place of)) names)
     (places : q.places ≡ p.places ++ group_of by_place names) (h : IsPlaces p) where
   pub places_kept : IsPlaces q
   places_kept = record {
     places = λ x.
-        ap (λ (l : List (Symbol × ⊤)). has l x) places
+        ap (λ (l : List (Symbol × ℕ)). has l x) places
         ∙ (has_both p.places (group_of by_place names) x
         ∙ (ap (λ b. b || has (group_of by_place names) x) (h.places x)
         ∙ (ap (λ b. list_any (λ f. same_name f.name x && f.by_place) (map formal_of p.formals) || b) (sym (group_has names of by_place line x))
         ∙ (sym (list_any-append (λ f. same_name f.name x && f.by_place) (map formal_of p.formals) (map formal_of (formals_named names of by_place line)))
         ∙ ap (list_any (λ f. same_name f.name x && f.by_place)) (sym (ap (map formal_of) formals ∙ map-append formal_of p.formals (formals_named names of by_place line)))))));
     within = λ x none.
-        ap (λ (l : List (Symbol × ⊤)). has l x) places
+        ap (λ (l : List (Symbol × ℕ)). has l x) places
         ∙ (has_both p.places (group_of by_place names) x
         ∙ both_false _ _ (h.within x (in_own x none)) (none_in_group by_place names x (in_group x none)));
   }
@@ -256,15 +248,15 @@ module _ (p q : Parameters) (names : List (Symbol × ⊤)) (of : TypeId) (by_pla
       in_group x none = right_false (has p.own x) _ (in_all x none)
 
 -- what no parameter has, none with VAR has
-pub not_among_places : (p : Parameters) (names : List (Symbol × ⊤)) → IsPlaces p → list_any (λ e. has p.own e.0) names ≡ false → list_any (λ e. has p.places e.0) names ≡ false
+pub not_among_places : (p : Parameters) (names : List (Symbol × ℕ)) → IsPlaces p → list_any (λ e. has p.own e.0) names ≡ false → list_any (λ e. has p.places e.0) names ≡ false
 not_among_places p [] h none = refl
 not_among_places p (e ∷ names) h none =
     both_false (has p.places e.0) _ (h.within e.0 (left_false (has p.own e.0) _ none)) (not_among_places p names h (right_false (has p.own e.0) _ none))
 
 pub no_places : (p : Parameters) → p.formals ≡ [] → p.places ≡ [] → IsPlaces p
 no_places p formals places = record {
-  places = λ x. ap (λ (l : List (Symbol × ⊤)). has l x) places ∙ ap (λ l. list_any (λ f. same_name f.name x && f.by_place) (map formal_of l)) (sym formals);
-  within = λ x none. ap (λ (l : List (Symbol × ⊤)). has l x) places;
+  places = λ x. ap (λ (l : List (Symbol × ℕ)). has l x) places ∙ ap (λ l. list_any (λ f. same_name f.name x && f.by_place) (map formal_of l)) (sym formals);
+  within = λ x none. ap (λ (l : List (Symbol × ℕ)). has l x) places;
 }
 
 pub variables_stop : (k : known.Known) (routine : Symbol) (ps : spec.Parameters) (g : Group) (by_place : Bool) (names : Several Name) (of : Name) (e : TypeFault)

@@ -11,6 +11,6 @@ pub mod shared;
 pub mod starts;
 
 pub use headings::{Headed, heading};
-pub use names::{RoutineNames, new_names};
+pub use names::RoutineNames;
 pub use parameters::Parameters;
 pub use shared::Shared;

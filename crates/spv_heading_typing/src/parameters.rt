@@ -8,13 +8,14 @@ ghost use Rattle.spv_heading_typing.specs.Names.{symbols_of, has};
 ghost use Rattle.spv_heading_typing.specs.Parameters.{IsPlaces, parameters_of, formals_named, group_of, names_walk, type_walk, variables_walk};
 
 use crate::finding::type_named;
-use crate::names::{RoutineNames, new_names};
+use crate::names::RoutineNames;
 use spv_list::List;
 use spv_logic::TypeId;
 use spv_named::Named;
 use spv_names::Symbol;
 use spv_scopes::{Known, Own, Scope};
 use spv_syntax::{Group, GroupForm, Name, Params, Several};
+use spv_type_typing::new_names;
 use spv_typed::Formal;
 use spv_typing::TypeFault;
 use std::alloc::{AllocError, Global};
@@ -27,13 +28,13 @@ pub struct Parameters {
     /// What their names stand for in the routine.
     pub own: Named<Own>,
     /// The names of those with VAR.
-    pub places: Named<()>,
+    pub places: Named<u32>,
 }
 
 // Parameters of one group, behind the others.
 fn push_formals(
     formals: &mut List<Formal>,
-    names: &Named<()>,
+    names: &Named<u32>,
     of: TypeId,
     by_place: bool,
     line: u32,
@@ -56,10 +57,10 @@ fn push_formals(
 
 // The names of parameters with VAR, with those of a group.
 fn more_places(
-    places: Named<()>,
-    names: &Named<()>,
+    places: Named<u32>,
+    names: &Named<u32>,
     by_place: bool,
-) -> Result<Named<()>, AllocError>
+) -> Result<Named<u32>, AllocError>
     requires { list_any (λ e. has places e.0) names.now ≡ false }
     ensures { IfOk result (λ p. p ≡ places ++ group_of by_place names.now) }
 {
@@ -67,7 +68,7 @@ fn more_places(
         return Ok(places);
     }
     let mut more = places;
-    more.put_names(names, ())?;
+    more.put_copies(names)?;
     Ok(more)
 }
 
@@ -75,7 +76,7 @@ fn more_places(
 #[tactic(auto, using(crate::proofs::Params::group_put, crate::proofs::Params::places_kept, crate::proofs::Params::not_among_places))]
 fn with_group(
     parameters: Parameters,
-    names: &Named<()>,
+    names: &Named<u32>,
     of: TypeId,
     by_place: bool,
     line: u32,
@@ -107,7 +108,7 @@ fn group_names(
     routine: Symbol,
     own: &Named<Own>,
     tree: &Several<Name>,
-) -> Result<Named<()>, TypeFault>
+) -> Result<Named<u32>, TypeFault>
     ensures ok { IfOk result (λ n. names_walk known.now routine own.now tree.now ≡ Ok (symbols_of n)) }
     ensures err { IfErr result (λ e. Stops e (names_walk known.now routine own.now tree.now)) }
     ensures new { IfOk result (λ n. list_any (λ e. has own.now e.0) n ≡ false) }

@@ -22,6 +22,7 @@ use spv_names::Symbol;
 use spv_program::Item;
 use spv_scopes::{Known, Own, Scope};
 use spv_syntax::{Name, NameOrClass, Several, Start};
+use spv_type_typing::Free;
 use spv_typing::TypeFault;
 use std::alloc::{AllocError, Global};
 

@@ -11,7 +11,7 @@ use std::alloc::AllocError;
 impl<T: Copy + Drop> Named<T> {
     #[tactic(auto, using(crate::proofs::Putting::next_is_new, crate::proofs::Putting::one_more, crate::proofs::Putting::none_under))]
     /// Puts one value under each of some names, all of which are new, in their order.
-    pub fn put_names(&mut self, names: &Named<()>, value: T) -> Result<(), AllocError>
+    pub fn put_names<U: Drop>(&mut self, names: &Named<U>, value: T) -> Result<(), AllocError>
         requires new { list_any (λ e. is_some (found self.old e.0)) names.now ≡ false }
         ensures { OnOk result (self.new ≡ self.old ++ map (under value) names.now) }
     {
