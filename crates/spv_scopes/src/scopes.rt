@@ -154,7 +154,8 @@ impl<'k, 'o> Scope<'k, 'o> {
         }
     }
 
-    fn own_meaning(&self, x: Symbol) -> Option<Meaning<'k>>
+    /// What a name stands for among those of the routine's scope alone.
+    pub fn own_meaning(&self, x: Symbol) -> Option<Meaning<'k>>
         ensures { option_map meaning_of result ≡ found (scope_of self.now).own x }
     {
         match self.result {
