@@ -3,16 +3,14 @@
 ghost use Rattle.std.specs.Prelude.{◌≡◌, map};
 ghost use Rattle.spv_program.specs.Lists.{found};
 ghost use Rattle.spv_typed.specs.ProgramViews.{global_of};
-ghost use Rattle.spv_typing.specs.Known.{named};
 ghost use Rattle.spv_typing.specs.StatementWalk.{is_name_of, is_place, own_in};
-ghost use Rattle.spv_scopes.specs.Scopes.{own_of, scope_of};
+ghost use Rattle.spv_scopes.specs.Scopes.{scope_of};
 ghost use Rattle.spv_counted_changes.specs.Counted.{callee_counted, global_counted, globals_counted, is_counted, item_counted};
 
 use spv_logic::RoutineId;
-use spv_named::Named;
 use spv_names::Symbol;
 use spv_program::Item;
-use spv_scopes::{Known, Own, Scope};
+use spv_scopes::{Known, Meaning, Scope};
 use spv_typed::GlobalItem;
 
 /// Whether a variable is among those that count.
@@ -28,30 +26,18 @@ pub fn is_counted(counted: &[Symbol], x: Symbol) -> bool
     false
 }
 
-#[tactic(auto, using(spv_scopes::proofs::Meanings::own_found, spv_scopes::proofs::Meanings::own_missing))]
-fn is_place_in(own: &Named<Own>, x: Symbol) -> bool
-    ensures { result ≡ is_place (found (named own_of own.now) x) }
-{
-    match own.get(x) {
-        Some(Own::Place(_)) => true,
-        Some(Own::Constant(_)) => false,
-        Some(Own::Start(_)) => false,
-        None => false,
-    }
-}
-
 fn is_place(scope: &Scope<'_, '_>, x: Symbol) -> bool
     ensures { result ≡ is_place (found (scope_of scope.now).own x) }
 {
-    match scope.result {
-        Some((name, _)) => {
-            if name.0 == x.0 {
-                true
-            } else {
-                is_place_in(scope.own, x)
-            }
-        }
-        None => is_place_in(scope.own, x),
+    match scope.own_meaning(x) {
+        Some(Meaning::Place(_)) => true,
+        Some(Meaning::Type(_)) => false,
+        Some(Meaning::List) => false,
+        Some(Meaning::Constant(_)) => false,
+        Some(Meaning::Start(_)) => false,
+        Some(Meaning::Declared(_, _)) => false,
+        Some(Meaning::Routine(_, _)) => false,
+        None => false,
     }
 }
 

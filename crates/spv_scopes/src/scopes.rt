@@ -172,7 +172,7 @@ impl<'k, 'o> Scope<'k, 'o> {
         }
     }
 
-    /// What a name of the routine stands for.
+    /// What a name stands for among those of the routine's scope alone.
     #[tactic(auto, using(crate::proofs::Meanings::parameter_found, crate::proofs::Meanings::parameter_missing))]
     pub fn own_meaning(&self, x: Symbol) -> Option<Meaning<'k>>
         ensures { option_map meaning_of result ≡ found (scope_of self.now).own x }
