@@ -75,7 +75,11 @@ pub(crate) fn name_alone(
 }
 
 // `#T`
-pub(crate) fn class_at(scope: &Scope<'_, '_>, line: u32, x: Name) -> Result<Operand<Formula>, TypeFault>
+pub(crate) fn class_at(
+    scope: &Scope<'_, '_>,
+    line: u32,
+    x: Name,
+) -> Result<Operand<Formula>, TypeFault>
     ensures ok { IfOk result (λ o. spec.class_at (scope_of scope.now) line x ≡ Ok (operand_of o)) }
     ensures err { IfErr result (λ e. Stops e (spec.class_at (scope_of scope.now) line x)) }
 {
