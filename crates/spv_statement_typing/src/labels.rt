@@ -7,11 +7,11 @@ ghost use Rattle.spv_typing.specs.StatementWalk as spec;
 ghost use Rattle.spv_scopes.specs.Answers.{Stops};
 ghost use Rattle.spv_scopes.specs.Scopes.{scope_of};
 
-use crate::constants::constant;
 use indexmap::IndexSet;
 use spv_list::List;
 use spv_scopes::Scope;
 use spv_syntax::{Constant, Several};
+use spv_type_typing::constant;
 use spv_typing::TypeFault;
 use std::alloc::{AllocError, Global};
 use std::marker::Model;

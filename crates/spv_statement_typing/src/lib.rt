@@ -3,7 +3,6 @@
 
 mod assigning;
 mod calling;
-mod constants;
 mod heads;
 mod labels;
 mod setting;
