@@ -1,2 +1,3 @@
 pub mod Lookups
 pub mod Putting
+pub mod Replacing

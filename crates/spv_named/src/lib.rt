@@ -3,6 +3,7 @@
 
 ghost use Rattle.std.specs.Prelude.{◌≡◌, ◌<◌, ◌↔◌, IfNone, [], ◌∷◌, ◌++◌, None, Some, IfSome, IsSome, IsTrue, OnOk, OnErr, is_some, length, option_copied, slice_get, take};
 ghost use Rattle.spv_program.specs.Lists.{found};
+ghost use Rattle.spv_named.specs.Entries.{AreApart};
 
 mod joining;
 mod values;
@@ -50,6 +51,15 @@ impl<T: Drop> Named<T> {
         ensures { IsTrue result ↔ (self.now ≡ []) }
     {
         self.entries.is_empty()
+    }
+
+    /// No name stands twice.
+    #[tactic(auto, using(crate::proofs::Replacing::all_apart))]
+    pub fn law_apart(&self)
+        ensures { AreApart self.now }
+    {
+        // What is called says that no two keys are the same.
+        let _count = self.entries.len();
     }
 
     /// What stands under a name.

@@ -10,6 +10,7 @@ pub mod numbered;
 mod parts;
 pub mod routines;
 pub mod scopes;
+mod waiting;
 
 pub use functions::{Function, KnownNames};
 pub use indexed::IndexedForms;

@@ -1,10 +1,13 @@
 // Headings of routines.
 
+ghost use Rattle.std.specs.Prelude.{◌≡◌, IfOk};
+
 use spv_list::List;
 use spv_logic::{RoutineId, TypeId};
 use spv_names::Symbol;
 use spv_program::Item;
 use spv_typed::{Annotation, Formal, GlobalItem};
+use std::alloc::{AllocError, Global};
 
 /// What those who call a routine know of it, but for its name.
 #[derive(Drop)]
@@ -34,4 +37,33 @@ pub struct Specified {
     pub entry: Option<Annotation>,
     /// EXIT, where there is one.
     pub exit: Option<Annotation>,
+}
+
+// A copy of a list.
+fn copied<T: Copy + Drop>(alloc: Global, items: &List<T>) -> Result<List<T>, AllocError>
+    ensures { IfOk result (λ l. l ≡ items.now) }
+{
+    let mut copy = List::new(alloc);
+    for item in items.as_slice() {
+        copy.push(*item)?;
+    }
+    Ok(copy)
+}
+
+impl Heading {
+    /// A copy.
+    pub fn copied(&self, alloc: Global) -> Result<Heading, AllocError>
+        ensures { IfOk result (λ h. h ≡ self.now) }
+    {
+        let formals = copied(alloc, &self.formals)?;
+        let globals = copied(alloc, &self.globals)?;
+        Ok(Heading {
+            line: self.line,
+            is_function: self.is_function,
+            number: self.number,
+            formals,
+            result: self.result,
+            globals,
+        })
+    }
 }
