@@ -6,4 +6,4 @@ pub mod Noting
 pub mod Numbers
 pub mod Pieces
 pub mod Headings
-pub mod Waiting
+pub mod Bodies

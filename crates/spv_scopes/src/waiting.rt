@@ -16,7 +16,7 @@ use spv_typing::TypeFault;
 use std::alloc::AllocError;
 
 // That nothing in a table waits, or the fault of the first that does.
-#[tactic(auto, using(crate::proofs::Waiting::first_waits, crate::proofs::Waiting::first_has_begun, crate::proofs::Waiting::all_have_begun))]
+#[tactic(auto, using(crate::proofs::Bodies::first_waits, crate::proofs::Bodies::first_has_begun, crate::proofs::Bodies::all_have_begun))]
 fn nothing_waits(table: &Named<Option<Specified>>) -> Result<(), TypeFault>
     ensures ok { OnOk result (spec.none_awaited (waiting table.now) ≡ Ok true) }
     ensures err { IfErr result (λ e. Stops e (spec.none_awaited (waiting table.now))) }
@@ -33,7 +33,7 @@ fn nothing_waits(table: &Named<Option<Specified>>) -> Result<(), TypeFault>
 
 impl Known {
     /// Whether a routine of this name waits for its body.
-    #[tactic(auto, using(crate::proofs::Waiting::name_waits, crate::proofs::Waiting::name_has_begun, crate::proofs::Waiting::name_missing))]
+    #[tactic(auto, using(crate::proofs::Bodies::name_waits, crate::proofs::Bodies::name_has_begun, crate::proofs::Bodies::name_missing))]
     pub fn is_awaited(&self, name: Symbol) -> bool
         ensures { result ≡ is_some (spec.awaited_of self.now.awaited name) }
     {
@@ -46,7 +46,7 @@ impl Known {
     }
 
     /// Lets a routine wait for its body, behind those that wait. None of its name does.
-    #[tactic(auto, using(crate::proofs::Waiting::waits_last))]
+    #[tactic(auto, using(crate::proofs::Bodies::waits_last))]
     pub fn await_body(&mut self, name: Symbol, specified: Specified) -> Result<(), AllocError>
         requires new { spec.awaited_of self.old.awaited name ≡ None }
         ensures { OnOk result (self.new ≡ spec.with_awaited self.old (self.old.awaited ++ specified_of name specified ∷ [])) }
@@ -58,7 +58,7 @@ impl Known {
     }
 
     /// Takes the routine of this name out of those that wait for their bodies.
-    #[tactic(auto, using(crate::proofs::Waiting::name_waits, crate::proofs::Waiting::name_has_begun, crate::proofs::Waiting::name_missing, crate::proofs::Waiting::others_wait, crate::proofs::Waiting::none_taken, crate::proofs::Waiting::none_there))]
+    #[tactic(auto, using(crate::proofs::Bodies::name_waits, crate::proofs::Bodies::name_has_begun, crate::proofs::Bodies::name_missing, crate::proofs::Bodies::others_wait, crate::proofs::Bodies::none_taken, crate::proofs::Bodies::none_there))]
     pub fn take_awaited(&mut self, name: Symbol) -> Option<Specified>
         ensures taken { option_map (specified_of name) result ≡ spec.awaited_of self.old.awaited name }
         ensures others { self.new ≡ spec.with_awaited self.old (spec.without self.old.awaited name) }
@@ -81,7 +81,7 @@ impl Known {
     }
 
     /// Adds a routine with its body.
-    #[tactic(auto, using(crate::proofs::Waiting::routine_last))]
+    #[tactic(auto, using(crate::proofs::Bodies::routine_last))]
     pub fn add_routine(&mut self, routine: Routine) -> Result<(), AllocError>
         ensures { OnOk result (self.new ≡ with_program self.old (spec.with_routine self.old.program (routine_of routine))) }
     {

@@ -2,4 +2,4 @@ use Rattle.std.proofs.Common.{◌≡◌, take}
 use Rattle.spv_scopes.proofs.routines.copied.Given as goal
 
 abbrev pub invariant-loop-item : goal.invariant-loop-item
-invariant-loop-item l = l.copy ≡ take l.item-index l.item-items
+invariant-loop-item g l = l.copy ≡ take l.item-index l.item-items

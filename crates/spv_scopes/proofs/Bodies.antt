@@ -1,11 +1,10 @@
 -- Routines that wait for their bodies.
-use Rattle.std.proofs.Common.{◌≡◌, ◌≤◌, ◌+◌, ℕ, zero, suc, Bool, true, false, cond, not, List, [], ◌∷◌, ◌++◌, length, drop, map, filter, Option, Some, None, Ok, Err, is_some, option_map, refl, sym, ap, subst, ◌∙◌, slice_get, arith}
+use Rattle.std.proofs.Common.{◌≡◌, ◌≤◌, ◌+◌, ℕ, zero, suc, Bool, true, false, cond, not, List, [], ◌∷◌, ◌++◌, length, drop, map, Option, Some, None, Ok, Err, refl, sym, ap, ◌∙◌, slice_get, arith}
 use Rattle.std.proofs.lemmas.Bool.{eqb-true}
 use Rattle.std.proofs.lemmas.Option.{none-some}
 use Rattle.std.proofs.lemmas.List.{map-append, drop_all}
 use Rattle.spv_names.specs.declared.names.Symbol.{Symbol}
 use Rattle.spv_program.specs.Lists.{found, changed, same_name}
-use Rattle.spv_program.specs.Programs.{Routine}
 use Rattle.spv_named.specs.Entries.{without_name, AreApart}
 use Rattle.spv_typed.specs.declared.programs.Routine.{Routine as RoutineText}
 use Rattle.spv_typed.specs.ProgramViews.{routine_of}
