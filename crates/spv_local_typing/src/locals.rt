@@ -6,7 +6,9 @@ ghost use Rattle.spv_typing.specs.RoutineWalk as spec;
 ghost use Rattle.spv_scopes.specs.Answers.{Stops};
 ghost use Rattle.spv_local_typing.specs.Locals.{const_by, vars_by, locals_by, local_of, IsHeaded};
 
-use crate::places::{Local, constant_in, is_free, new_locals, put_constant, put_variables, type_in};
+use crate::places::{
+    Local, constant_in, is_free, new_locals, put_constant, put_variables, type_in,
+};
 use spv_list::List;
 use spv_named::Named;
 use spv_names::Symbol;
