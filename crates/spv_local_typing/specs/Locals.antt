@@ -28,6 +28,9 @@ free_among start routine listed own x =
 abbrev pub local_of : Known → Local → spec.Local
 local_of k l = record { known = k; own = named own_of l.own; variables = l.variables }
 
+abbrev pub no_locals : Known → List (Symbol × Own) → spec.Local
+no_locals k own = record { known = k; own = named own_of own; variables = [] }
+
 abbrev pub with_constant : spec.Local → Symbol → ℤ → spec.Local
 with_constant l x z = record { known = l.known; own = l.own ++ (x, OfConstant z) ∷ []; variables = l.variables }
 
@@ -52,7 +55,7 @@ module _ (routine : Symbol) (listed : List (Symbol × Bool)) where
 
   abbrev pub locals_by : Known → List (Symbol × Own) → Locals → Outcome spec.Local
   locals_by k own l =
-      after (each const_by (record { known = k; own = named own_of own; variables = [] }) l.constants) (λ a. each vars_by a l.variables)
+      after (each const_by (no_locals k own) l.constants) (λ a. each vars_by a l.variables)
 
 -- a heading of this name, with these names of its own and these listed variables
 pub record IsHeaded (h : Headed) (name : Symbol) (own : List (Symbol × Own)) (listed : List (Symbol × Bool)) : Type 0 where

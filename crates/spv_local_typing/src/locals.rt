@@ -4,7 +4,7 @@ ghost use Rattle.std.specs.Prelude.{◌≡◌, IfOk, IfErr, Ok};
 ghost use Rattle.spv_typing.specs.Outcomes.{each};
 ghost use Rattle.spv_typing.specs.RoutineWalk as spec;
 ghost use Rattle.spv_scopes.specs.Answers.{Stops};
-ghost use Rattle.spv_local_typing.specs.Locals.{const_by, vars_by, locals_by, local_of, IsHeaded};
+ghost use Rattle.spv_local_typing.specs.Locals.{const_by, vars_by, locals_by, local_of, no_locals, IsHeaded};
 
 use crate::places::{
     Local, constant_in, is_free, new_locals, put_constant, put_variables, type_in,
@@ -54,6 +54,47 @@ fn variables(
     Ok(put_variables(local, &names, t)?)
 }
 
+// The constants, in order.
+fn constants(
+    known: &Known,
+    alloc: Global,
+    routine: Symbol,
+    own: Named<Own>,
+    listed: &Named<bool>,
+    items: &[Const],
+) -> Result<Local, TypeFault>
+    ensures ok { IfOk result (λ l. each (const_by routine listed.now) (no_locals known.now own) items.now ≡ Ok (local_of known.now l)) }
+    ensures err { IfErr result (λ e. Stops e (each (const_by routine listed.now) (no_locals known.now own) items.now)) }
+{
+    let mut local = Local {
+        own,
+        variables: List::new(alloc),
+    };
+    for item in items {
+        local = constant(known, alloc, routine, listed, local, item)?;
+    }
+    Ok(local)
+}
+
+// The variables, in order.
+fn all_variables(
+    known: &mut Known,
+    alloc: Global,
+    routine: Symbol,
+    listed: &Named<bool>,
+    begun: Local,
+    items: &[Vars],
+) -> Result<Local, TypeFault>
+    ensures ok { IfOk result (λ l. each (vars_by routine listed.now) (local_of known.old begun) items.now ≡ Ok (local_of known.new l)) }
+    ensures err { IfErr result (λ e. Stops e (each (vars_by routine listed.now) (local_of known.old begun) items.now)) }
+{
+    let mut local = begun;
+    for item in items {
+        local = variables(known, alloc, routine, listed, local, item)?;
+    }
+    Ok(local)
+}
+
 // Constants, then variables.
 fn in_order(
     known: &mut Known,
@@ -66,19 +107,11 @@ fn in_order(
     ensures ok { IfOk result (λ l. locals_by routine listed.now known.old own tree.now ≡ Ok (local_of known.new l)) }
     ensures err { IfErr result (λ e. Stops e (locals_by routine listed.now known.old own tree.now)) }
 {
-    let mut local = Local {
-        own,
-        variables: List::new(alloc),
-    };
-    for item in tree.constants.as_slice() {
-        local = constant(known, alloc, routine, listed, local, item)?;
-    }
-    for item in tree.variables.as_slice() {
-        local = variables(known, alloc, routine, listed, local, item)?;
-    }
-    Ok(local)
+    let begun = constants(known, alloc, routine, own, listed, tree.constants.as_slice())?;
+    all_variables(known, alloc, routine, listed, begun, tree.variables.as_slice())
 }
 
+#[tactic(auto, using(crate::proofs::Steps::locals_are, crate::proofs::Steps::locals_stop))]
 /// The local declarations of a routine of this name, whose heading gave it these names and whose GLOBAL list has these variables.
 /// Types that they are built of are put among those of the program. After a fault nothing is known of it.
 pub fn locals(
