@@ -1,24 +1,21 @@
 -- Which names a routine may take, and what it has with them.
-use Rattle.std.proofs.Common.{◌≡◌, ℤ, ℕ, Bool, true, false, ◌&&◌, ◌||◌, not, List, [], ◌∷◌, ◌++◌, map, None, Ok, refl, sym, ap, subst, ◌∙◌}
-use Rattle.std.specs.List.{list_any}
+use Rattle.std.proofs.Common.{◌≡◌, ℤ, ℕ, Bool, ◌&&◌, ◌||◌, not, List, [], ◌∷◌, ◌++◌, map, refl, sym, ap, subst, ◌∙◌}
 use Rattle.std.proofs.lemmas.List.{map-append}
 use Rattle.spv_names.specs.declared.names.Symbol.{Symbol}
 use Rattle.spv_logic.specs.declared.types.TypeId.{TypeId}
 use Rattle.spv_named.specs.Entries.{under}
 use Rattle.spv_syntax.specs.declared.names.Name.{Name}
-use Rattle.spv_program.specs.Lists.{found, same_name}
-use Rattle.spv_program.specs.Programs.{GlobalItem}
+use Rattle.spv_program.specs.Lists.{same_name}
 use Rattle.spv_typing.specs.declared.faults.TypeFault.{TypeFault}
-use Rattle.spv_typing.specs.Known.{KnownNames, is_fixed, Names, OfConstant, OfPlace, is_named, named, Known}
+use Rattle.spv_typing.specs.Known.{KnownNames, is_fixed, Names, OfPlace, named, Known}
 use Rattle.spv_typing.specs.Outcomes.{Outcome, each}
 use Rattle.spv_typing.specs.DeclarationWalk.{new_name}
-use Rattle.spv_typing.specs.RoutineWalk.{is_free_in, is_listed}
 use Rattle.spv_scopes.specs.Answers.{Stops}
 use Rattle.spv_scopes.specs.declared.scopes.Own.{Own}
 use Rattle.spv_scopes.specs.declared.scopes.Own.TheVariants.{Constant, Place}
 use Rattle.spv_scopes.specs.Scopes.{own_of}
 use Rattle.spv_heading_typing.specs.Names.{has, free_by}
-use Rattle.spv_heading_typing.proofs.Params.{named_alone, free_is_new, names_are_new}
+use Rattle.spv_heading_typing.proofs.Params.{named_alone}
 use Rattle.spv_local_typing.specs.declared.places.Local.{Local}
 use Rattle.spv_local_typing.specs.Locals.{free_among, names_of, local_of, with_constant, with_variables}
 
@@ -53,11 +50,11 @@ own_named : {X : Type 0} (names : List (Symbol × X)) (t : TypeId) → named own
 own_named [] t = refl
 own_named (e ∷ names) t = ap (λ (l : Names). (e.0, OfPlace t) ∷ l) (own_named names t)
 
-pairs_named : {X : Type 0} (names : List (Symbol × X)) (t : TypeId) → map (λ e. (e.0, t)) names ≡ map (λ x. (x, t)) (names_of names)
+pairs_named : {X : Type 0} (names : List (Symbol × X)) (t : TypeId) → map {B = Symbol × TypeId} (λ e. (e.0, t)) names ≡ map {B = Symbol × TypeId} (λ x. (x, t)) (names_of names)
 pairs_named [] t = refl
 pairs_named (e ∷ names) t = ap (λ (l : List (Symbol × TypeId)). (e.0, t) ∷ l) (pairs_named names t)
 
-pub variables_put : (l m : Local) (names : List (Symbol × ℕ)) (t : TypeId) → m.own ≡ l.own ++ map (under (Place t)) names → m.variables ≡ l.variables ++ map (λ e. (e.0, t)) names
+pub variables_put : (l m : Local) (names : List (Symbol × ℕ)) (t : TypeId) → m.own ≡ l.own ++ map (under (Place t)) names → m.variables ≡ l.variables ++ map {B = Symbol × TypeId} (λ e. (e.0, t)) names
     → (k : Known) → local_of k m ≡ with_variables (local_of k l) (names_of names) t
 variables_put l m names t own variables k = λ i. record {
   known = k;

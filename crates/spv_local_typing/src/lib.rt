@@ -1,8 +1,8 @@
 //! Local declarations of routines.
 #![tactic(auto)]
 
-pub mod locals;
+mod declaring;
 mod places;
 
-pub use locals::locals;
+pub use declaring::locals;
 pub use places::Local;

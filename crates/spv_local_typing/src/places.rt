@@ -21,7 +21,7 @@ use spv_names::Symbol;
 use spv_scopes::{Known, Own, Scope};
 use spv_settling::{NewType, read_type};
 use spv_syntax::{Constant, Name, Several, TypeDenoter};
-use spv_type_typing::{constant, new_names};
+use spv_type_typing::{Free, constant, new_names};
 use spv_typing::TypeFault;
 use std::alloc::{AllocError, Global};
 

@@ -1,4 +1,4 @@
-use Rattle.std.proofs.Common.{◌≡◌, ◌++◌, ◌∷◌, [], ap, ◌∙◌}
+use Rattle.std.proofs.Common.{◌++◌, ◌∷◌, [], ap, ◌∙◌}
 use Rattle.spv_named.proofs.Putting.{one_more}
 use Rattle.spv_local_typing.proofs.places.push_variables.Goals as goal
 

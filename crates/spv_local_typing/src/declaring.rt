@@ -107,11 +107,24 @@ fn in_order(
     ensures ok { IfOk result (λ l. locals_by routine listed.now known.old own tree.now ≡ Ok (local_of known.new l)) }
     ensures err { IfErr result (λ e. Stops e (locals_by routine listed.now known.old own tree.now)) }
 {
-    let begun = constants(known, alloc, routine, own, listed, tree.constants.as_slice())?;
-    all_variables(known, alloc, routine, listed, begun, tree.variables.as_slice())
+    let begun = constants(
+        known,
+        alloc,
+        routine,
+        own,
+        listed,
+        tree.constants.as_slice(),
+    )?;
+    all_variables(
+        known,
+        alloc,
+        routine,
+        listed,
+        begun,
+        tree.variables.as_slice(),
+    )
 }
 
-#[tactic(auto, using(crate::proofs::Steps::locals_are, crate::proofs::Steps::locals_stop))]
 /// The local declarations of a routine of this name, whose heading gave it these names and whose GLOBAL list has these variables.
 /// Types that they are built of are put among those of the program. After a fault nothing is known of it.
 pub fn locals(
