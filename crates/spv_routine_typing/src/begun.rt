@@ -1,0 +1,16 @@
+// Routines whose bodies have begun.
+
+use spv_local_typing::Local;
+use spv_names::Symbol;
+use spv_scopes::Specified;
+
+/// A routine whose body has begun and has not ended.
+#[derive(Drop)]
+pub struct Begun {
+    /// Its name.
+    pub name: Symbol,
+    /// Its heading with its clauses.
+    pub specified: Specified,
+    /// Its names and its local variables.
+    pub local: Local,
+}
