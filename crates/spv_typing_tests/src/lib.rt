@@ -1,0 +1,5 @@
+//! Tests of the walk over names and types.
+#![tactic(auto)]
+
+#[cfg(test)]
+mod programs;
