@@ -27,23 +27,36 @@ Uses = AllTold (
     ∷ (codes "PROGRAM a; VAR x, y: INTEGER; PROCEDURE p; GLOBAL (VAR x; y); BEGIN x := y END; BEGIN END.", fits)
     ∷ (codes "PROGRAM a; VAR x, y: INTEGER; PROCEDURE p; GLOBAL (VAR x); BEGIN x := y END; BEGIN END.", missing 1 (codes "Y"))
     ∷ (codes "PROGRAM a; VAR x, y: INTEGER; PROCEDURE p(x: INTEGER); VAR y: INTEGER; BEGIN y := x; x := y END; BEGIN END.", fits)
-    ∷ (codes "PROGRAM a; VAR x, y: INTEGER; PROCEDURE p; ENTRY x = 1; BEGIN END; BEGIN END.", missing 1 (codes "X"))
+    ∷ (codes "PROGRAM a; VAR x, y: INTEGER; PROCEDURE q(n: INTEGER); BEGIN END; PROCEDURE p; BEGIN q(x) END; BEGIN END.", missing 1 (codes "X"))
+    ∷ (codes "PROGRAM a; VAR x, y: INTEGER; PROCEDURE q(n: INTEGER); BEGIN END; PROCEDURE p; GLOBAL (x); BEGIN q(x) END; BEGIN END.", fits)
+    ∷ (codes "PROGRAM a; VAR x, y: INTEGER; PROCEDURE q(VAR n: INTEGER); BEGIN END; PROCEDURE p; GLOBAL (x); BEGIN q(x) END; BEGIN END.", missing 1 (codes "X"))
+    ∷ (codes "PROGRAM a; VAR x, y: INTEGER; PROCEDURE q(VAR n: INTEGER); BEGIN END; PROCEDURE p; GLOBAL (VAR x); BEGIN q(x) END; BEGIN END.", fits)
+    ∷ [])
+
+-- an annotation reads what it names
+abbrev pub Annotations : Type 0
+Annotations = AllTold (
+    (codes "PROGRAM a; VAR x, y: INTEGER; PROCEDURE p; ENTRY x = 1; BEGIN END; BEGIN END.", missing 1 (codes "X"))
     ∷ (codes "PROGRAM a; VAR x, y: INTEGER; PROCEDURE p; EXIT x = 1; BEGIN END; BEGIN END.", missing 1 (codes "X"))
     ∷ (codes "PROGRAM a; VAR x, y: INTEGER; PROCEDURE p; GLOBAL (x); ENTRY x = 1; EXIT x = 1; BEGIN END; BEGIN END.", fits)
     ∷ (codes "PROGRAM a; VAR x, y: INTEGER; PROCEDURE p; GLOBAL (VAR x); INITIAL x = s; EXIT x = s; BEGIN ASSERT x = s END; BEGIN END.", fits)
     ∷ (codes "PROGRAM a; VAR x, y: INTEGER; FUNCTION f: INTEGER; EXIT f = 1; BEGIN f := 1 END; BEGIN END.", fits)
     ∷ (codes "PROGRAM a; VAR x, y: INTEGER; PROCEDURE p; BEGIN ASSERT x = 1 END; BEGIN END.", missing 1 (codes "X"))
     ∷ (codes "PROGRAM a; VAR x, y: INTEGER; PROCEDURE p; BEGIN INVARIANT x = 1 WHILE FALSE DO END; BEGIN END.", missing 1 (codes "X"))
-    ∷ (codes "PROGRAM a; VAR x, y: INTEGER; PROCEDURE p; BEGIN FOR x := 1 TO 2 DO END; BEGIN END.", missing 1 (codes "X"))
-    ∷ (codes "PROGRAM a; VAR x, y: INTEGER; PROCEDURE p; GLOBAL (x); BEGIN FOR x := 1 TO 2 DO END; BEGIN END.", missing 1 (codes "X"))
-    ∷ (codes "PROGRAM a; VAR x, y: INTEGER; PROCEDURE p; GLOBAL (VAR x); BEGIN FOR x := 1 TO 2 DO END; BEGIN END.", fits)
+    ∷ (codes "PROGRAM a; VAR x, y: INTEGER; ENTRY x = 1; EXIT y = 1; BEGIN x := y END.", fits)
+    ∷ [])
+
+-- what statements read and write
+abbrev pub Statements : Type 0
+Statements = AllTold (
+    (codes "PROGRAM a; VAR x, y: INTEGER; PROCEDURE p(i: INTEGER); BEGIN FOR i := 1 TO x DO END; BEGIN END.", missing 1 (codes "X"))
+    ∷ (codes "PROGRAM a; VAR x, y: INTEGER; PROCEDURE p(i: INTEGER); BEGIN FOR i := 1 TO 2 DO x := i END; BEGIN END.", missing 1 (codes "X"))
+    ∷ (codes "PROGRAM a; VAR x, y: INTEGER; PROCEDURE p(i: INTEGER); GLOBAL (x); BEGIN FOR i := 1 TO x DO END; BEGIN END.", fits)
+    ∷ (codes "PROGRAM a; VAR x, y: INTEGER; BEGIN FOR x := 1 TO y DO END.", fits)
+    ∷ (codes "PROGRAM a; VAR x, y: INTEGER; PROCEDURE p; BEGIN REPEAT UNTIL x = 1 END; BEGIN END.", missing 1 (codes "X"))
+    ∷ (codes "PROGRAM a; VAR x, y: INTEGER; PROCEDURE p; BEGIN WHILE x = 1 DO END; BEGIN END.", missing 1 (codes "X"))
     ∷ (codes "PROGRAM a; VAR x, y: INTEGER; PROCEDURE p; BEGIN IF x = 1 THEN END; BEGIN END.", missing 1 (codes "X"))
     ∷ (codes "PROGRAM a; VAR x, y: INTEGER; PROCEDURE p; BEGIN CASE x OF 1: END END; BEGIN END.", missing 1 (codes "X"))
-    ∷ (codes "PROGRAM a; VAR x, y: INTEGER; PROCEDURE q(n: INTEGER); BEGIN END; PROCEDURE p; BEGIN q(x) END; BEGIN END.", missing 1 (codes "X"))
-    ∷ (codes "PROGRAM a; VAR x, y: INTEGER; PROCEDURE q(n: INTEGER); BEGIN END; PROCEDURE p; GLOBAL (x); BEGIN q(x) END; BEGIN END.", fits)
-    ∷ (codes "PROGRAM a; VAR x, y: INTEGER; PROCEDURE q(VAR n: INTEGER); BEGIN END; PROCEDURE p; GLOBAL (x); BEGIN q(x) END; BEGIN END.", missing 1 (codes "X"))
-    ∷ (codes "PROGRAM a; VAR x, y: INTEGER; PROCEDURE q(VAR n: INTEGER); BEGIN END; PROCEDURE p; GLOBAL (VAR x); BEGIN q(x) END; BEGIN END.", fits)
-    ∷ (codes "PROGRAM a; VAR x, y: INTEGER; ENTRY x = 1; EXIT y = 1; BEGIN x := y END.", fits)
     ∷ [])
 
 -- pointers and the class of their cells

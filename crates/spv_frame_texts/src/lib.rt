@@ -1,7 +1,7 @@
 //! Small texts and what the walk over frames tells of them, each computed from the bytes on.
 #![tactic(auto, unfolding(spv_lexer::specs::Front::comment, spv_lexer::specs::Front::letters, spv_lexer::specs::Front::numeral, spv_lexer::specs::Front::longest_sign, spv_lexer::specs::Front::front, spv_lexer::specs::Reading::by_front, spv_lexer::specs::Reading::pieces, spv_lexer::specs::Reading::reading_from, spv_lexer::specs::Tokens::numbered))]
 
-ghost use Rattle.spv_frame_texts.specs.Texts.{Functions, Items, Uses, Callees, Roots, Orders};
+ghost use Rattle.spv_frame_texts.specs.Texts.{Annotations, Callees, Functions, Items, Orders, Roots, Statements, Uses};
 
 /// A function has no VAR parameter and no VAR group: each text has the fault that is told of it, or none.
 pub fn law_functions()
@@ -11,6 +11,16 @@ pub fn law_functions()
 /// What a routine reads and writes stands in its list: each text has the fault that is told of it, or none.
 pub fn law_uses()
     ensures { Uses }
+{}
+
+/// What an annotation names stands in the list: each text has the fault that is told of it, or none.
+pub fn law_annotations()
+    ensures { Annotations }
+{}
+
+/// What tests and a FOR read and write stands in the list: each text has the fault that is told of it, or none.
+pub fn law_statements()
+    ensures { Statements }
 {}
 
 /// Pointers and the class of their cells: each text has the fault that is told of it, or none.
