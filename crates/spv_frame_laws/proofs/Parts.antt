@@ -3,12 +3,13 @@ use Rattle.std.proofs.Common.{◌≡◌, Bool, true, false, not, ◌&&◌, List,
 use Rattle.std.proofs.lemmas.List.{append-nil}
 use Rattle.spv_names.specs.declared.names.Symbol.{Symbol}
 use Rattle.spv_program.specs.Expressions.{Expression, Designator, Selectors, Call, Arguments, Numeral, Boolean, NilOf, Read, Result, Through, Negative, Calculated, Compared, Negated, Joined, designator, no_selectors, at_index, at_field, at_cell, call, no_arguments, by_value, by_place}
-use Rattle.spv_program.specs.Formulas.{Annotation}
+use Rattle.spv_program.specs.Formulas as formula
+use Rattle.spv_program.specs.Formulas.{Formula, Formulas, Annotation, no_formulas, formulas}
 use Rattle.spv_program.specs.Statements.{Statement, Arms, Empty, Assign, Perform, New, Sequence, If, Case, While, Repeat, For, Assert, no_arms, arm}
 use Rattle.spv_program.specs.Programs.{Routine}
-use Rattle.spv_program.specs.Uses.{Use, expression_uses, designator_uses, selector_uses, call_uses, argument_uses, expression_calls, designator_calls, selector_calls, calls_with, argument_calls, annotation_uses, statement_uses, arms_uses, statement_calls, arms_calls}
+use Rattle.spv_program.specs.Uses.{Use, expression_uses, designator_uses, selector_uses, call_uses, argument_uses, expression_calls, designator_calls, selector_calls, calls_with, argument_calls, formula_uses, formulas_uses, annotation_uses, statement_uses, arms_uses, statement_calls, arms_calls}
 use Rattle.spv_program.specs.Frames.{is_formal, routine_uses}
-use Rattle.spv_frame_walk.specs.Events.{Event, Used, Called, expression_events, designator_events, selector_events, call_events, argument_events, annotation_events, statement_events, arms_events, own_at_exit, own_in_body, routine_events, uses_in, calls_in}
+use Rattle.spv_frame_walk.specs.Events.{Event, Used, Called, expression_events, designator_events, selector_events, call_events, argument_events, formula_events, formulas_events, annotation_events, statement_events, arms_events, own_at_exit, own_in_body, routine_events, uses_in, calls_in}
 use Rattle.spv_frame_laws.specs.Laws.{EventsAreUsesAndCalls}
 
 -- these are the uses and the calls, in order
@@ -52,10 +53,6 @@ call_last c {es} {us} {cs} a = record {
   calls = calls_both es (Called c ∷ []) ∙ ap (λ (l : List Call). l ++ c ∷ []) a.calls;
 }
 
-all_used : (us : List Use) → Parts (map Used us) us []
-all_used [] = none
-all_used (u ∷ us) = use_first u (all_used us)
-
 module _ (own : Symbol → Bool) where
   mutual
     expression_parts : (e : Expression) → Parts (expression_events own e) (expression_uses own e) (expression_calls e)
@@ -88,8 +85,32 @@ module _ (own : Symbol → Bool) where
     argument_parts (by_value e others) = join (expression_parts e) (argument_parts others)
     argument_parts (by_place d others) = join (designator_parts true d) (argument_parts others)
 
+  mutual
+    formula_parts : (f : Formula) → Parts (formula_events own f) (formula_uses own f) []
+    formula_parts (formula.Numeral z) = none
+    formula_parts (formula.Boolean b) = none
+    formula_parts (formula.NilOf t) = none
+    formula_parts (formula.Named line x) = use_first _ none
+    formula_parts (formula.ClassOf line t) = use_first _ none
+    formula_parts (formula.Element a i) = join (formula_parts a) (formula_parts i)
+    formula_parts (formula.FieldOf r f) = formula_parts r
+    formula_parts (formula.Content line t q) = use_last _ (formula_parts q)
+    formula_parts (formula.Applied f fs) = formulas_parts fs
+    formula_parts (formula.Known b fs) = formulas_parts fs
+    formula_parts (formula.Negative f) = formula_parts f
+    formula_parts (formula.Calculated o f g) = join (formula_parts f) (formula_parts g)
+    formula_parts (formula.Compared o f g) = join (formula_parts f) (formula_parts g)
+    formula_parts (formula.Negated f) = formula_parts f
+    formula_parts (formula.Joined o f g) = join (formula_parts f) (formula_parts g)
+    formula_parts (formula.Implied f g) = join (formula_parts f) (formula_parts g)
+
+    formulas_parts : (fs : Formulas) → Parts (formulas_events own fs) (formulas_uses own fs) []
+    formulas_parts no_formulas = none
+    formulas_parts (formulas f fs) = join (formula_parts f) (formulas_parts fs)
+
   annotation_parts : (a : Option Annotation) → Parts (annotation_events own a) (annotation_uses own a) []
-  annotation_parts a = all_used (annotation_uses own a)
+  annotation_parts None = none
+  annotation_parts (Some a) = formula_parts a.formula
 
   mutual
     statement_parts : (s : Statement) → Parts (statement_events own s) (statement_uses own s) (statement_calls s)
@@ -104,7 +125,7 @@ module _ (own : Symbol → Bool) where
     statement_parts (Repeat line f s e) = join (annotation_parts f) (join (statement_parts s) (expression_parts e))
     statement_parts (For line f count s) =
         join (annotation_parts f) (use_first _ (join (expression_parts count.first) (join (expression_parts count.last) (statement_parts s))))
-    statement_parts (Assert a) = annotation_parts (Some a)
+    statement_parts (Assert a) = formula_parts a.formula
 
     arms_parts : (arms : Arms) → Parts (arms_events own arms) (arms_uses own arms) (arms_calls arms)
     arms_parts no_arms = none

@@ -1,15 +1,16 @@
 -- What statements and annotations use, and what they call, in the order of the text: a call stands behind what its arguments
 -- use and call.
-use Rattle.std.specs.Prelude.{Bool, true, false, not, ◌&&◌, ◌||◌, List, [], ◌∷◌, ◌++◌, map, Option, Some, is_some}
+use Rattle.std.specs.Prelude.{Bool, true, false, not, ◌&&◌, ◌||◌, List, [], ◌∷◌, ◌++◌, Option, Some, None, is_some}
 use Rattle.spv_names.specs.declared.names.Symbol.{Symbol}
 use Rattle.spv_program.specs.declared.types.Item.TheVariants.{Class}
 use Rattle.spv_program.specs.Lists.{found}
 use Rattle.spv_program.specs.Expressions.{Expression, Designator, Selectors, Call, Arguments, Numeral, Boolean, NilOf, Read, Result, Through, Negative, Calculated, Compared, Negated, Joined, designator, no_selectors, at_index, at_field, at_cell, call, no_arguments, by_value, by_place}
-use Rattle.spv_program.specs.Formulas.{Annotation}
+use Rattle.spv_program.specs.Formulas as formula
+use Rattle.spv_program.specs.Formulas.{Formula, Formulas, Annotation, no_formulas, formulas}
 use Rattle.spv_program.specs.Statements.{Statement, Arms, Empty, Assign, Perform, New, Sequence, If, Case, While, Repeat, For, Assert, no_arms, arm}
 use Rattle.spv_program.specs.Programs.{Routine}
 use Rattle.spv_program.specs.Scopes.{is_own, result_name}
-use Rattle.spv_program.specs.Uses.{Use, Shared, name_root, has_cell, formula_uses, annotation_uses, reading}
+use Rattle.spv_program.specs.Uses.{Use, Shared, name_root, has_cell, reading}
 use Rattle.spv_program.specs.Frames.{is_formal, is_initial}
 
 pub data Event : Type 0 where
@@ -51,10 +52,36 @@ abbrev mutual
   argument_events own (by_value e others) = expression_events own e ++ argument_events own others
   argument_events own (by_place d others) = designator_events own true d ++ argument_events own others
 
--- ---- statements
+-- ---- formulas
+
+abbrev mutual
+  pub formula_events : (Symbol → Bool) → Formula → List Event
+  formula_events own (formula.Numeral z) = []
+  formula_events own (formula.Boolean b) = []
+  formula_events own (formula.NilOf t) = []
+  formula_events own (formula.Named line x) = Used (reading (name_root own x) line) ∷ []
+  formula_events own (formula.ClassOf line t) = Used (reading (Shared (Class t)) line) ∷ []
+  formula_events own (formula.Element a i) = formula_events own a ++ formula_events own i
+  formula_events own (formula.FieldOf r f) = formula_events own r
+  formula_events own (formula.Content line t q) = formula_events own q ++ Used (reading (Shared (Class t)) line) ∷ []
+  formula_events own (formula.Applied f fs) = formulas_events own fs
+  formula_events own (formula.Known b fs) = formulas_events own fs
+  formula_events own (formula.Negative f) = formula_events own f
+  formula_events own (formula.Calculated o f g) = formula_events own f ++ formula_events own g
+  formula_events own (formula.Compared o f g) = formula_events own f ++ formula_events own g
+  formula_events own (formula.Negated f) = formula_events own f
+  formula_events own (formula.Joined o f g) = formula_events own f ++ formula_events own g
+  formula_events own (formula.Implied f g) = formula_events own f ++ formula_events own g
+
+  pub formulas_events : (Symbol → Bool) → Formulas → List Event
+  formulas_events own no_formulas = []
+  formulas_events own (formulas f fs) = formula_events own f ++ formulas_events own fs
 
 abbrev pub annotation_events : (Symbol → Bool) → Option Annotation → List Event
-annotation_events own a = map Used (annotation_uses own a)
+annotation_events own None = []
+annotation_events own (Some a) = formula_events own a.formula
+
+-- ---- statements
 
 abbrev mutual
   pub statement_events : (Symbol → Bool) → Statement → List Event
@@ -72,7 +99,7 @@ abbrev mutual
       annotation_events own f
       ++ Used (record { root = name_root own count.variable; changes = true; line = line })
       ∷ (expression_events own count.first ++ (expression_events own count.last ++ statement_events own s))
-  statement_events own (Assert a) = annotation_events own (Some a)
+  statement_events own (Assert a) = formula_events own a.formula
 
   pub arms_events : (Symbol → Bool) → Arms → List Event
   arms_events own no_arms = []
