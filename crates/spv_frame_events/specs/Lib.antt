@@ -1,0 +1,4 @@
+pub mod Names
+pub mod EventViews
+pub mod Weights
+pub mod Works
