@@ -1,0 +1,5 @@
+pub mod Logic
+pub mod Members
+pub mod Owns
+pub mod Meeting
+pub mod Collected

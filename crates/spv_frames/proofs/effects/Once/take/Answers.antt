@@ -1,0 +1,6 @@
+use Rattle.std.proofs.Common.{sym, ◌∙◌, ap}
+use Rattle.spv_frames.proofs.Collected.{taken_before, taken}
+use Rattle.spv_frames.proofs.effects.Once.take.Goals as goal
+
+pub returns-then-has : goal.returns-then-has
+returns-then-has c = taken_before _ c.args.item (sym c.has.ensures ∙ c.if-has.true)

@@ -1,0 +1,10 @@
+use Rattle.std.proofs.Common.{◌≡◌, ◌++◌, drop, map}
+use Rattle.spv_program.specs.Frames.{effects_of}
+use Rattle.spv_typed.specs.ProgramViews.{routine_of}
+use Rattle.spv_frame_walk.specs.FrameWalk.{routines_fault}
+use Rattle.spv_frames.proofs.programs.routines.Given as goal
+
+abbrev pub invariant-loop-r : goal.invariant-loop-r
+invariant-loop-r l =
+    (routines_fault l.program (map routine_of (drop l.r-index l.routines)) ≡ routines_fault l.program (map routine_of l.routines))
+    × (l.all ++ map effects_of (map routine_of (drop l.r-index l.routines)) ≡ map effects_of (map routine_of l.routines))

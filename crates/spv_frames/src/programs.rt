@@ -1,0 +1,70 @@
+// Programs against the rules.
+
+ghost use Rattle.std.specs.Prelude.{◌≡◌, IfOk, IfErr, None, map};
+ghost use Rattle.spv_program.specs.Frames as plain;
+ghost use Rattle.spv_typed.specs.ProgramViews.{routine_of};
+ghost use Rattle.spv_frame_walk.specs.FrameWalk.{frame_fault, main_fault, routines_fault};
+ghost use Rattle.spv_frames.specs.Answers.{Stops};
+
+use crate::allowed::Allowed;
+use crate::calls::events_fault;
+use crate::effects::Effects;
+use crate::framed_programs::Framed;
+use crate::routines::routine;
+use spv_frame_events::{NameSet, gather_statement};
+use spv_frame_walk::FrameFault;
+use spv_list::List;
+use spv_typed::{Program, Routine};
+use std::alloc::{AllocError, Global};
+
+// What each of these routines reads and writes, or the first fault in them.
+fn routines(
+    program: &Program,
+    alloc: Global,
+    routines: &[Routine],
+) -> Result<List<Effects>, FrameFault>
+    ensures ok { IfOk result (λ es. routines_fault program.now (map routine_of routines.now) ≡ None) }
+    ensures effects { IfOk result (λ es. es ≡ map plain.effects_of (map routine_of routines.now)) }
+    ensures err { IfErr result (λ e. Stops e (routines_fault program.now (map routine_of routines.now))) }
+{
+    let mut all = List::new(alloc);
+    for r in routines {
+        let effects = routine(program, alloc, r)?;
+        all.push(effects)?;
+    }
+    Ok(all)
+}
+
+// The first fault in the main block.
+fn main_fault(program: &Program, alloc: Global) -> Result<Option<FrameFault>, AllocError>
+    ensures { IfOk result (λ o. o ≡ main_fault program.now) }
+{
+    let own = NameSet::new(alloc);
+    let mut events = Vec::new(alloc);
+    gather_statement(&own, alloc, &program.main.body, &mut events)?;
+    events_fault(program, &own, &Allowed::Everything, alloc, events.as_slice())
+}
+
+// What each routine reads and writes, or the first fault of the program.
+fn checked(program: &Program, alloc: Global) -> Result<List<Effects>, FrameFault>
+    ensures ok { IfOk result (λ es. frame_fault program.now ≡ None) }
+    ensures effects { IfOk result (λ es. es ≡ map plain.effects_of program.now.routines) }
+    ensures err { IfErr result (λ e. Stops e (frame_fault program.now)) }
+{
+    let effects = routines(program, alloc, program.routines.as_slice())?;
+    if let Some(fault) = main_fault(program, alloc)? {
+        return Err(fault);
+    }
+    Ok(effects)
+}
+
+/// The program with what each of its routines reads and writes, where the walk over frames meets no fault; else the first
+/// fault of the walk.
+pub fn framed(alloc: Global, program: Program) -> Result<Framed, FrameFault>
+    ensures program { IfOk result (λ f. f.program ≡ program) }
+    ensures ok { IfOk result (λ f. frame_fault program ≡ None) }
+    ensures err { IfErr result (λ e. Stops e (frame_fault program)) }
+{
+    let effects = checked(&program, alloc)?;
+    Ok(Framed::of(program, effects))
+}
