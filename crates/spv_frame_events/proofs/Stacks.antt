@@ -1,5 +1,5 @@
 -- Lists of works whose last one comes first.
-use Rattle.std.proofs.Common.{◌≡◌, ◌<◌, ◌+◌, ℕ, Bool, true, false, ◌&&◌, cond, List, [], ◌∷◌, ◌++◌, Result, Ok, Err, OnOk, refl, sym, ap, ◌∙◌, arith}
+use Rattle.std.proofs.Common.{◌≡◌, ◌<◌, ◌+◌, Bool, true, false, ◌&&◌, cond, List, [], ◌∷◌, ◌++◌, Result, Ok, Err, OnOk, refl, sym, ap, ◌∙◌, arith}
 use Rattle.std.proofs.lemmas.Bool.{false≢true}
 use Rattle.std.proofs.lemmas.List.{append_assoc, append-nil}
 use Rattle.spv_names.specs.declared.names.Symbol.{Symbol}
@@ -9,7 +9,7 @@ use Rattle.spv_frame_events.specs.declared.works.Work.TheVariants as work
 use Rattle.spv_frame_events.specs.declared.works.Opened.{Opened}
 use Rattle.spv_frame_events.specs.declared.events.Event.{Event}
 use Rattle.spv_frame_events.specs.EventViews.{event_of, events_of}
-use Rattle.spv_frame_events.specs.Works.{work_events, work_weight, stack_events, stack_weight, is_nothing, behind, opened_events, put_weight, opened_weight, Opens, Pushed, PushedAll, IsStep}
+use Rattle.spv_frame_events.specs.Works.{work_events, work_weight, stack_events, stack_weight, is_nothing, behind, opened_events, Opens, Pushed, PushedAll, IsStep}
 
 stack_last : (own : Symbol → Bool) (works : List Work) (w : Work) → stack_events own (works ++ w ∷ []) ≡ work_events own w ++ stack_events own works
 stack_last own [] w = sym (append-nil (work_events own w))

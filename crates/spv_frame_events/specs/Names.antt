@@ -1,5 +1,5 @@
 -- Sets of names as lists.
-use Rattle.std.specs.Prelude.{Bool, List, [], ◌∷◌, ◌++◌, nat_eq, if◌then◌else◌}
+use Rattle.std.specs.Prelude.{Bool, List, [], ◌∷◌, ◌++◌, if◌then◌else◌}
 use Rattle.std.specs.List.{list_any}
 use Rattle.spv_names.specs.declared.names.Symbol.{Symbol}
 use Rattle.spv_program.specs.Lists.{same_name}

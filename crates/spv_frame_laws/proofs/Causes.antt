@@ -2,7 +2,6 @@
 use Rattle.std.proofs.Common.{◌≡◌, ℕ, Bool, true, false, not, ◌&&◌, ◌||◌, cond, nat_eq, List, [], ◌∷◌, Option, Some, None, is_some, option_map, refl, sym, ap, subst, ◌∙◌, arith}
 use Rattle.std.specs.List.{list_any}
 use Rattle.std.proofs.lemmas.Bool.Decides.{nat_tests}
-use Rattle.spv_names.specs.declared.names.Symbol.{Symbol}
 use Rattle.spv_program.specs.declared.types.Item.{Item}
 use Rattle.spv_program.specs.declared.types.Item.TheVariants.{Variable, Class}
 use Rattle.spv_program.specs.Lists.{first_of, all_differ}
@@ -13,7 +12,7 @@ use Rattle.spv_program.specs.Scopes.{is_own}
 use Rattle.spv_program.specs.Uses.{Root, Own, Shared, Use, same_item, same_root, statement_calls}
 use Rattle.spv_program.specs.Frames.{lists, place_roots, is_item_of, globals_of, routine_uses}
 use Rattle.spv_frame_walk.specs.Events.{Event, Used, Called, statement_events, routine_events, uses_in, calls_in}
-use Rattle.spv_frame_walk.specs.FrameWalk.{var_parameter, var_group, writes_at, heading_fault, anything, root_fault, use_fault, missing_item, twice, listed, root_item, meeting_fault, call_fault, event_fault, events_fault, routine_fault, routines_fault, main_fault, frame_fault, alias}
+use Rattle.spv_frame_walk.specs.FrameWalk.{var_parameter, var_group, writes_at, heading_fault, anything, root_fault, use_fault, missing_item, twice, listed, root_item, meeting_fault, call_fault, events_fault, routine_fault, routines_fault, main_fault, alias}
 use Rattle.spv_frame_walk.specs.declared.faults.FrameFault.{FrameFault}
 use Rattle.spv_frame_walk.specs.declared.faults.FrameFault.TheVariants.{Alias, GlobalMissing, FunctionWrites, Memory}
 use Rattle.spv_frame_laws.specs.Causes.{has_var_group, writes_function, is_missing_use, is_missing_call, misses, meets, is_alias, aliases, has_cause}

@@ -1,5 +1,5 @@
 -- Where the walk meets no fault.
-use Rattle.std.proofs.Common.{◌≡◌, ℕ, Bool, true, false, not, ◌&&◌, ◌||◌, cond, List, [], ◌∷◌, ◌++◌, Option, Some, None, is_some, option_map, refl, sym, ap, ◌∙◌}
+use Rattle.std.proofs.Common.{◌≡◌, ℕ, Bool, true, false, not, ◌&&◌, ◌||◌, cond, List, [], ◌∷◌, Option, Some, None, is_some, option_map, refl, sym, ap, ◌∙◌}
 use Rattle.std.specs.List.{list_all, list_any}
 use Rattle.spv_names.specs.declared.names.Symbol.{Symbol}
 use Rattle.spv_program.specs.declared.types.Item.{Item}
@@ -7,11 +7,10 @@ use Rattle.spv_program.specs.Lists.{first_of, all_differ}
 use Rattle.spv_program.specs.Expressions.{Call, call}
 use Rattle.spv_program.specs.Programs.{Formal, GlobalItem, Routine, Program, routine_at}
 use Rattle.spv_program.specs.Scopes.{is_own}
-use Rattle.spv_program.specs.Uses.{Root, Own, Shared, Use, same_root, statement_uses, statement_calls}
-use Rattle.spv_program.specs.Frames.{lists, use_allowed, lists_cover, place_roots, is_item_of, roots_apart, globals_of, arguments_apart, callee_covered, changes_nothing, routine_uses, routine_framed, framed}
+use Rattle.spv_program.specs.Uses.{Root, Own, Shared, Use, same_root, statement_calls}
+use Rattle.spv_program.specs.Frames.{lists, use_allowed, place_roots, is_item_of, roots_apart, globals_of, arguments_apart, callee_covered, changes_nothing, routine_uses, routine_framed}
 use Rattle.spv_frame_walk.specs.Events.{Event, Used, Called, statement_events, routine_events, uses_in, calls_in}
-use Rattle.spv_frame_walk.specs.FrameWalk.{var_parameter, var_group, writes_at, heading_fault, anything, root_fault, use_fault, missing_item, twice, listed, meeting_fault, call_fault, event_fault, events_fault, routine_fault, routines_fault, main_fault, frame_fault, alias}
-use Rattle.spv_frame_walk.specs.declared.faults.FrameFault.{FrameFault}
+use Rattle.spv_frame_walk.specs.FrameWalk.{var_parameter, var_group, writes_at, heading_fault, anything, root_fault, use_fault, missing_item, twice, listed, meeting_fault, call_fault, events_fault, routine_fault, routines_fault, main_fault, alias}
 use Rattle.spv_frame_walk.specs.declared.faults.FrameFault.TheVariants.{GlobalMissing, FunctionWrites}
 use Rattle.spv_frame_laws.specs.Laws.{FramedWithoutFault}
 use Rattle.spv_frame_laws.proofs.Parts.{parts_of_routine, parts_of_statement}

@@ -8,7 +8,7 @@ use Rattle.spv_program.specs.Expressions.{Call, call}
 use Rattle.spv_program.specs.Statements.{Statement}
 use Rattle.spv_program.specs.Programs.{GlobalItem, Routine, Program, routine_at}
 use Rattle.spv_program.specs.Scopes.{is_own}
-use Rattle.spv_program.specs.Uses.{Root, Own, Shared, Use, same_item, same_root, statement_calls}
+use Rattle.spv_program.specs.Uses.{Root, Shared, Use, same_item, same_root, statement_calls}
 use Rattle.spv_program.specs.Frames.{lists, place_roots, is_item_of, globals_of, routine_uses}
 use Rattle.spv_frame_walk.specs.declared.faults.FrameFault.{FrameFault}
 use Rattle.spv_frame_walk.specs.declared.faults.FrameFault.TheVariants.{Alias, GlobalMissing, FunctionWrites, Memory}

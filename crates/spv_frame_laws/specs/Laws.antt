@@ -1,5 +1,5 @@
 -- What is proved of the walk over what routines use and call.
-use Rattle.std.specs.Prelude.{◌≡◌, Bool, true, not, Some, None, is_some}
+use Rattle.std.specs.Prelude.{◌≡◌, Bool, true, not, Some, is_some}
 use Rattle.spv_names.specs.declared.names.Symbol.{Symbol}
 use Rattle.spv_program.specs.Statements.{Statement}
 use Rattle.spv_program.specs.Programs.{Routine, Program}

@@ -3,3 +3,4 @@ pub mod Members
 pub mod Owns
 pub mod Meeting
 pub mod Collected
+pub mod Effecting

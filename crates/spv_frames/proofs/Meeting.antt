@@ -1,12 +1,13 @@
 -- Roots that meet.
-use Rattle.std.proofs.Common.{◌≡◌, Bool, true, false, ◌||◌, cond, List, [], ◌∷◌, ◌++◌, map, Option, Some, None, option_map, refl, sym, ap, ◌∙◌}
+use Rattle.std.proofs.Common.{◌≡◌, Bool, false, ◌||◌, cond, List, [], ◌∷◌, ◌++◌, Option, Some, None, refl, sym, ap, ◌∙◌}
 use Rattle.std.specs.List.{list_any}
-use Rattle.std.proofs.lemmas.List.{append_assoc, append-nil, map-append}
+use Rattle.std.proofs.lemmas.List.{map-append}
 use Rattle.spv_names.specs.declared.names.Symbol.{Symbol}
-use Rattle.spv_program.specs.Expressions.{Arguments, Selectors, no_arguments, no_selectors, by_value, by_place}
+use Rattle.spv_program.specs.declared.types.Item.TheVariants.{Variable, Class}
+use Rattle.spv_program.specs.Expressions.{no_arguments, no_selectors}
 use Rattle.spv_program.specs.Uses as plain
 use Rattle.spv_program.specs.Uses.{Own, Shared, same_root}
-use Rattle.spv_program.specs.Frames.{place_roots, root_of, root_behind}
+use Rattle.spv_program.specs.Frames.{place_roots, root_behind}
 use Rattle.spv_typed.specs.declared.expressions.Argument.{Argument}
 use Rattle.spv_typed.specs.declared.expressions.Argument.TheVariants as argument
 use Rattle.spv_typed.specs.declared.expressions.Selector.{Selector}
@@ -44,7 +45,8 @@ twice_by-none (r ∷ roots) = ap (λ b. cond b (Some r) (twice_by (has_root (rec
   where
     empty : (q : plain.Root) → has_root (record { own = []; shared = no_items }) q ≡ false
     empty (Own x) = refl
-    empty (Shared i) = refl
+    empty (Shared (Variable x)) = refl
+    empty (Shared (Class t)) = refl
 
     none : (q : plain.Root) → list_any (same_root q) roots || has_root (record { own = []; shared = no_items }) q ≡ list_any (same_root q) roots
     none q = ap (λ b. list_any (same_root q) roots || b) (empty q) ∙ or_false (list_any (same_root q) roots)

@@ -1,11 +1,10 @@
 use Rattle.std.proofs.Common.{List, map, ap, ◌∙◌}
 use Rattle.spv_typed.specs.declared.programs.Formal.{Formal}
 use Rattle.spv_names.specs.declared.names.Symbol.{Symbol}
-use Rattle.spv_logic.specs.declared.types.TypeId.{TypeId}
 use Rattle.spv_program.specs.declared.types.Item.{Item}
 use Rattle.spv_typed.specs.ProgramViews.{formal_of, routine_of}
 use Rattle.spv_frames.specs.Sets.{with_names}
-use Rattle.spv_frames.specs.Owned.{formal_names, initial_names, typed_names}
+use Rattle.spv_frames.specs.Owned.{formal_names, initial_names}
 use Rattle.spv_frames.proofs.Owns.{exit_is}
 use Rattle.spv_frames.proofs.owned.exit_names.Goals as goal
 

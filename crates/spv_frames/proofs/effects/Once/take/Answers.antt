@@ -1,5 +1,5 @@
-use Rattle.std.proofs.Common.{sym, ◌∙◌, ap}
-use Rattle.spv_frames.proofs.Collected.{taken_before, taken}
+use Rattle.std.proofs.Common.{sym, ◌∙◌}
+use Rattle.spv_frames.proofs.Collected.{taken_before}
 use Rattle.spv_frames.proofs.effects.Once.take.Goals as goal
 
 pub returns-then-has : goal.returns-then-has
