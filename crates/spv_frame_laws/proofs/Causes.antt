@@ -1,5 +1,5 @@
 -- What a fault of the walk names.
-use Rattle.std.proofs.Common.{◌≡◌, ℕ, Bool, true, false, not, ◌&&◌, ◌||◌, cond, nat_eq, List, [], ◌∷◌, Option, Some, None, is_some, option_map, refl, sym, ap, subst, ◌∙◌, arith}
+use Rattle.std.proofs.Common.{◌≡◌, ℕ, nat_lt, Bool, true, false, not, ◌&&◌, ◌||◌, cond, nat_eq, List, [], ◌∷◌, ◌++◌, Option, Some, None, is_some, option_map, refl, sym, ap, subst, ◌∙◌, arith}
 use Rattle.std.specs.List.{list_any}
 use Rattle.std.proofs.lemmas.Bool.Decides.{nat_tests}
 use Rattle.spv_program.specs.declared.types.Item.{Item}
@@ -11,8 +11,8 @@ use Rattle.spv_program.specs.Programs.{Formal, GlobalItem, Routine, Program, rou
 use Rattle.spv_program.specs.Scopes.{is_own}
 use Rattle.spv_program.specs.Uses.{Root, Own, Shared, Use, same_item, same_root, statement_calls}
 use Rattle.spv_program.specs.Frames.{lists, place_roots, is_item_of, globals_of, routine_uses}
-use Rattle.spv_frame_walk.specs.Events.{Event, Used, Called, statement_events, routine_events, uses_in, calls_in}
-use Rattle.spv_frame_walk.specs.FrameWalk.{var_parameter, var_group, writes_at, heading_fault, anything, root_fault, use_fault, missing_item, twice, listed, root_item, meeting_fault, call_fault, events_fault, routine_fault, routines_fault, main_fault, alias}
+use Rattle.spv_frame_walk.specs.Events.{Event, Used, Called, statement_events, clause_events, body_events, uses_in, calls_in}
+use Rattle.spv_frame_walk.specs.FrameWalk.{var_parameter, var_group, writes_at, heading_fault, anything, root_fault, use_fault, missing_item, twice, listed, root_item, meeting_fault, call_fault, event_fault, events_fault, line_of, earliest, part_fault, routine_fault, routines_fault, main_fault, alias}
 use Rattle.spv_frame_walk.specs.declared.faults.FrameFault.{FrameFault}
 use Rattle.spv_frame_walk.specs.declared.faults.FrameFault.TheVariants.{Alias, GlobalMissing, FunctionWrites, Memory}
 use Rattle.spv_frame_laws.specs.Causes.{has_var_group, writes_function, is_missing_use, is_missing_call, misses, meets, is_alias, aliases, has_cause}
@@ -32,6 +32,18 @@ some_same x y h = ap (value_or x) h
 of_first : {X : Type 0} (P : Type 0) (a b : Option X) (x : X) → first_of a b ≡ Some x → (a ≡ Some x → P) → (b ≡ Some x → P) → P
 of_first P (Some y) b x h here there = here h
 of_first P None b x h here there = there h
+
+of_earliest : (P : Type 0) (a b : Option FrameFault) (f : FrameFault) → earliest a b ≡ Some f → (a ≡ Some f → P) → (b ≡ Some f → P) → P
+of_earliest P None b f h here there = there h
+of_earliest P (Some g) None f h here there = here h
+of_earliest P (Some g) (Some e) f h here there = by_case (nat_lt (line_of e) (line_of g)) h
+  where
+    by_case : (b : Bool) → cond b (Some e) (Some g) ≡ Some f → P
+    by_case true k = there k
+    by_case false k = here k
+
+none_some : {X : Type 0} (x : X) → None ≡ Some x → ⊥
+none_some x h = cc
 
 of_map : {X Y : Type 0} (P : Type 0) (f : X → Y) (o : Option X) (y : Y) → option_map f o ≡ Some y → ((x : X) → o ≡ Some x → f x ≡ y → P) → P
 of_map P f None y h found = absurd cc
@@ -270,12 +282,32 @@ module _ (p : Program) where
   in_routine r (Alias line i j) h = h
   in_routine r Memory h = h
 
+  events_later : (r : Routine) (es fs : List Event) (f : FrameFault) → cause r (uses_in fs) (calls_in fs) f ≡ true → cause r (uses_in (es ++ fs)) (calls_in (es ++ fs)) f ≡ true
+  events_later r [] fs f h = h
+  events_later r (Used u ∷ es) fs f h = later_use r u (uses_in (es ++ fs)) (calls_in (es ++ fs)) f (events_later r es fs f h)
+  events_later r (Called c ∷ es) fs f h = later_call r c (uses_in (es ++ fs)) (calls_in (es ++ fs)) f (events_later r es fs f h)
+
+  first_events : (r : Routine) (es fs : List Event) (f : FrameFault) → part_fault p r es ≡ Some f → part_fault p r (es ++ fs) ≡ Some f
+  first_events r [] fs f h = absurd cc
+  first_events r (e ∷ es) fs f h = by_case (event_fault p (is_own (Some r)) (lists r.globals) e) h (first_events r es fs f)
+    where
+      by_case : (o : Option FrameFault) → first_of o (part_fault p r es) ≡ Some f → (part_fault p r es ≡ Some f → part_fault p r (es ++ fs) ≡ Some f)
+          → first_of o (part_fault p r (es ++ fs)) ≡ Some f
+      by_case (Some g) k later = k
+      by_case None k later = later k
+
+  parts_cause : (r : Routine) (f : FrameFault) → cause r (uses_in (clause_events r ++ body_events r)) (calls_in (clause_events r ++ body_events r)) f ≡ true → routine_cause r f ≡ true
+  parts_cause r f h =
+      in_routine r f
+      (subst (λ (cs : List Call). cause r (routine_uses r) cs f ≡ true) (parts_of_routine r).calls
+      (subst (λ (us : List Use). cause r us (calls_in (clause_events r ++ body_events r)) f ≡ true) (parts_of_routine r).uses h))
+
   one_routine : (r : Routine) (f : FrameFault) → routine_fault p r ≡ Some f → routine_cause r f ≡ true
   one_routine r f h =
-      of_first (routine_cause r f ≡ true) (heading_fault r) (events_fault p (is_own (Some r)) (lists r.globals) (routine_events r)) f h (heading_cause r f)
-      (λ k. in_routine r f
-      (subst (λ (cs : List Call). cause r (routine_uses r) cs f ≡ true) (parts_of_routine r).calls
-      (subst (λ (us : List Use). cause r us (calls_in (routine_events r)) f ≡ true) (parts_of_routine r).uses (events_cause r (routine_events r) f k))))
+      of_earliest (routine_cause r f ≡ true) (first_of (heading_fault r) (part_fault p r (clause_events r))) (part_fault p r (body_events r)) f h
+      (λ k. of_first (routine_cause r f ≡ true) (heading_fault r) (part_fault p r (clause_events r)) f k (heading_cause r f)
+      (λ l. parts_cause r f (events_cause r (clause_events r ++ body_events r) f (first_events r (clause_events r) (body_events r) f l))))
+      (λ k. parts_cause r f (events_later r (clause_events r) (body_events r) f (events_cause r (body_events r) f k)))
 
   -- a cause in one of these routines
   abbrev routines_cause : List Routine → FrameFault → Bool
@@ -296,11 +328,13 @@ module _ (p : Program) where
   later_routine r rs (Alias line i j) h = and_more (same_item i j) _ _ (any_later (λ r. aliases p line i (Some r) r.body) r rs) h
   later_routine r rs Memory h = h
 
-  all_routines : (rs : List Routine) (f : FrameFault) → routines_fault p rs ≡ Some f → routines_cause rs f ≡ true
-  all_routines [] f h = absurd cc
-  all_routines (r ∷ rs) f h =
-      of_first (routines_cause (r ∷ rs) f ≡ true) (routine_fault p r) (routines_fault p rs) f h
-      (λ k. first_routine r rs f (one_routine r f k)) (λ k. later_routine r rs f (all_routines rs f k))
+  all_routines : (found : Option FrameFault) (rs : List Routine) (f : FrameFault) (P : Type 0) → routines_fault p found rs ≡ Some f
+      → (found ≡ Some f → P) → (routines_cause rs f ≡ true → P) → P
+  all_routines found [] f P h before here = before h
+  all_routines found (r ∷ rs) f P h before here =
+      all_routines (earliest found (routine_fault p r)) rs f P h
+      (λ k. of_earliest P found (routine_fault p r) f k before (λ l. here (first_routine r rs f (one_routine r f l))))
+      (λ k. here (later_routine r rs f k))
 
   -- ---- the main block
 
@@ -353,6 +387,6 @@ module _ (p : Program) where
 
 pub faults_have_causes : FaultsHaveCauses
 faults_have_causes p f h =
-    of_first (has_cause p f ≡ true) (routines_fault p p.routines) (main_fault p) f h
-    (λ k. in_routines p f (all_routines p p.routines f k))
+    of_earliest (has_cause p f ≡ true) (routines_fault p None p.routines) (main_fault p) f h
+    (λ k. all_routines p None p.routines f (has_cause p f ≡ true) k (λ l. absurd (none_some f l)) (λ l. in_routines p f l))
     (λ k. in_main p f (subst (λ (cs : List Call). main_cause p cs f ≡ true) (parts_of_statement (is_own None) p.main.body).calls (main_events p (statement_events (is_own None) p.main.body) f k)))

@@ -1,5 +1,5 @@
 -- Where the walk meets no fault.
-use Rattle.std.proofs.Common.{◌≡◌, ℕ, Bool, true, false, not, ◌&&◌, ◌||◌, cond, List, [], ◌∷◌, Option, Some, None, is_some, option_map, refl, sym, ap, ◌∙◌}
+use Rattle.std.proofs.Common.{◌≡◌, ℕ, nat_lt, Bool, true, false, not, ◌&&◌, ◌||◌, cond, List, [], ◌∷◌, ◌++◌, Option, Some, None, is_some, option_map, refl, sym, ap, ◌∙◌}
 use Rattle.std.specs.List.{list_all, list_any}
 use Rattle.spv_names.specs.declared.names.Symbol.{Symbol}
 use Rattle.spv_program.specs.declared.types.Item.{Item}
@@ -9,8 +9,9 @@ use Rattle.spv_program.specs.Programs.{Formal, GlobalItem, Routine, Program, rou
 use Rattle.spv_program.specs.Scopes.{is_own}
 use Rattle.spv_program.specs.Uses.{Root, Own, Shared, Use, same_root, statement_calls}
 use Rattle.spv_program.specs.Frames.{lists, use_allowed, place_roots, is_item_of, roots_apart, globals_of, arguments_apart, callee_covered, changes_nothing, routine_uses, routine_framed}
-use Rattle.spv_frame_walk.specs.Events.{Event, Used, Called, statement_events, routine_events, uses_in, calls_in}
-use Rattle.spv_frame_walk.specs.FrameWalk.{var_parameter, var_group, writes_at, heading_fault, anything, root_fault, use_fault, missing_item, twice, listed, meeting_fault, call_fault, events_fault, routine_fault, routines_fault, main_fault, alias}
+use Rattle.spv_frame_walk.specs.declared.faults.FrameFault.{FrameFault}
+use Rattle.spv_frame_walk.specs.Events.{Event, Used, Called, statement_events, clause_events, body_events, uses_in, calls_in}
+use Rattle.spv_frame_walk.specs.FrameWalk.{var_parameter, var_group, writes_at, heading_fault, anything, root_fault, use_fault, missing_item, twice, listed, meeting_fault, call_fault, event_fault, events_fault, line_of, earliest, part_fault, routine_fault, routines_fault, main_fault, alias}
 use Rattle.spv_frame_walk.specs.declared.faults.FrameFault.TheVariants.{GlobalMissing, FunctionWrites}
 use Rattle.spv_frame_laws.specs.Laws.{FramedWithoutFault}
 use Rattle.spv_frame_laws.proofs.Parts.{parts_of_routine, parts_of_statement}
@@ -42,6 +43,10 @@ all_alike f g same (x ∷ xs) = ap (λ b. b && list_all f xs) (same x) ∙ ap (�
 all_hold : {X : Type 0} (f : X → Bool) → ((x : X) → f x ≡ true) → (xs : List X) → list_all f xs ≡ true
 all_hold f holds [] = refl
 all_hold f holds (x ∷ xs) = ap (λ b. b && list_all f xs) (holds x) ∙ all_hold f holds xs
+
+and_true : (b : Bool) → b && true ≡ b
+and_true true = refl
+and_true false = refl
 
 and_grouped : (a b c : Bool) → (a && b) && c ≡ a && (b && c)
 and_grouped true b c = refl
@@ -166,24 +171,55 @@ module _ (p : Program) (own : Symbol → Bool) (may : Item → Bool → Bool) wh
       free_both (call_fault p own may c) (events_fault p own may es) ∙ ap (λ b. free (call_fault p own may c) && b) (events_free es)
       ∙ and_swapped (free (call_fault p own may c)) (list_all (λ u. free (use_fault may u)) (uses_in es)) (list_all (λ c. free (call_fault p own may c)) (calls_in es))
 
-routine_free : (p : Program) (r : Routine) → free (routine_fault p r) ≡ routine_framed p r
-routine_free p r =
-    free_both (heading_fault r) (events_fault p (is_own (Some r)) (lists r.globals) (routine_events r))
-    ∙ ap (λ b. b && free (events_fault p (is_own (Some r)) (lists r.globals) (routine_events r))) (heading_free r)
-    ∙ ap (λ b. (changes_nothing r || not (is_some r.result)) && b)
-    (events_free p (is_own (Some r)) (lists r.globals) (routine_events r)
-    ∙ ap (λ us. list_all (λ u. free (use_fault (lists r.globals) u)) us && list_all (λ c. free (call_fault p (is_own (Some r)) (lists r.globals) c)) (calls_in (routine_events r))) (parts_of_routine r).uses
-    ∙ ap (λ cs. list_all (λ u. free (use_fault (lists r.globals) u)) (routine_uses r) && list_all (λ c. free (call_fault p (is_own (Some r)) (lists r.globals) c)) cs) (parts_of_routine r).calls
-    ∙ ap (λ b. b && list_all (λ c. free (call_fault p (is_own (Some r)) (lists r.globals) c)) (statement_calls r.body))
-    (all_alike (λ u. free (use_fault (lists r.globals) u)) (λ u. use_allowed r.globals u.root u.changes) (use_free r) (routine_uses r))
-    ∙ ap (λ b. list_all (λ u. use_allowed r.globals u.root u.changes) (routine_uses r) && b)
-    (all_alike (λ c. free (call_fault p (is_own (Some r)) (lists r.globals) c)) (λ c. callee_covered p r.globals c && arguments_apart p (Some r) c) (routine_call_free p r) (statement_calls r.body)))
+free_earliest : (a b : Option FrameFault) → free (earliest a b) ≡ free a && free b
+free_earliest None b = refl
+free_earliest (Some f) None = refl
+free_earliest (Some f) (Some g) = by_case (nat_lt (line_of g) (line_of f))
+  where
+    by_case : (b : Bool) → free (cond b (Some g) (Some f)) ≡ false
+    by_case true = refl
+    by_case false = refl
 
-routines_free : (p : Program) (rs : List Routine) → free (routines_fault p rs) ≡ list_all (routine_framed p) rs
-routines_free p [] = refl
-routines_free p (r ∷ rs) =
-    free_both (routine_fault p r) (routines_fault p rs) ∙ ap (λ b. b && free (routines_fault p rs)) (routine_free p r)
-    ∙ ap (λ b. routine_framed p r && b) (routines_free p rs)
+parts_both : (p : Program) (r : Routine) (es fs : List Event) → free (part_fault p r es) && free (part_fault p r fs) ≡ free (part_fault p r (es ++ fs))
+parts_both p r [] fs = refl
+parts_both p r (e ∷ es) fs =
+    ap (λ b. b && free (part_fault p r fs)) (free_both (event_fault p (is_own (Some r)) (lists r.globals) e) (part_fault p r es))
+    ∙ and_grouped (free (event_fault p (is_own (Some r)) (lists r.globals) e)) (free (part_fault p r es)) (free (part_fault p r fs))
+    ∙ ap (λ b. free (event_fault p (is_own (Some r)) (lists r.globals) e) && b) (parts_both p r es fs)
+    ∙ sym (free_both (event_fault p (is_own (Some r)) (lists r.globals) e) (part_fault p r (es ++ fs)))
+
+module _ (p : Program) (r : Routine) where
+  abbrev use_free_all : List Use → Bool
+  use_free_all us = list_all (λ u. free (use_fault (lists r.globals) u)) us
+
+  abbrev call_free_all : List Call → Bool
+  call_free_all cs = list_all (λ c. free (call_fault p (is_own (Some r)) (lists r.globals) c)) cs
+
+  all_parts_free : free (part_fault p r (clause_events r ++ body_events r))
+      ≡ list_all (λ u. use_allowed r.globals u.root u.changes) (routine_uses r) && list_all (λ c. callee_covered p r.globals c && arguments_apart p (Some r) c) (statement_calls r.body)
+  all_parts_free =
+      events_free p (is_own (Some r)) (lists r.globals) (clause_events r ++ body_events r)
+      ∙ ap (λ us. use_free_all us && call_free_all (calls_in (clause_events r ++ body_events r))) (parts_of_routine r).uses
+      ∙ ap (λ cs. use_free_all (routine_uses r) && call_free_all cs) (parts_of_routine r).calls
+      ∙ ap (λ b. b && call_free_all (statement_calls r.body))
+      (all_alike (λ u. free (use_fault (lists r.globals) u)) (λ u. use_allowed r.globals u.root u.changes) (use_free r) (routine_uses r))
+      ∙ ap (λ b. list_all (λ u. use_allowed r.globals u.root u.changes) (routine_uses r) && b)
+      (all_alike (λ c. free (call_fault p (is_own (Some r)) (lists r.globals) c)) (λ c. callee_covered p r.globals c && arguments_apart p (Some r) c) (routine_call_free p r) (statement_calls r.body))
+
+  routine_free : free (routine_fault p r) ≡ routine_framed p r
+  routine_free =
+      free_earliest (first_of (heading_fault r) (part_fault p r (clause_events r))) (part_fault p r (body_events r))
+      ∙ ap (λ b. b && free (part_fault p r (body_events r))) (free_both (heading_fault r) (part_fault p r (clause_events r)))
+      ∙ and_grouped (free (heading_fault r)) (free (part_fault p r (clause_events r))) (free (part_fault p r (body_events r)))
+      ∙ ap (λ b. free (heading_fault r) && b) (parts_both p r (clause_events r) (body_events r) ∙ all_parts_free)
+      ∙ ap (λ b. b && (list_all (λ u. use_allowed r.globals u.root u.changes) (routine_uses r) && list_all (λ c. callee_covered p r.globals c && arguments_apart p (Some r) c) (statement_calls r.body))) (heading_free r)
+
+routines_free : (p : Program) (found : Option FrameFault) (rs : List Routine) → free (routines_fault p found rs) ≡ free found && list_all (routine_framed p) rs
+routines_free p found [] = sym (and_true (free found))
+routines_free p found (r ∷ rs) =
+    routines_free p (earliest found (routine_fault p r)) rs
+    ∙ ap (λ b. b && list_all (routine_framed p) rs) (free_earliest found (routine_fault p r) ∙ ap (λ b. free found && b) (routine_free p r))
+    ∙ and_grouped (free found) (routine_framed p r) (list_all (routine_framed p) rs)
 
 main_free : (p : Program) → free (main_fault p) ≡ list_all (arguments_apart p None) (statement_calls p.main.body)
 main_free p =
@@ -195,6 +231,5 @@ main_free p =
 
 pub framed_is : FramedWithoutFault
 framed_is p =
-    free_both (routines_fault p p.routines) (main_fault p)
-    ∙ ap (λ b. b && free (main_fault p)) (routines_free p p.routines)
+    free_earliest (routines_fault p None p.routines) (main_fault p) ∙ ap (λ b. b && free (main_fault p)) (routines_free p None p.routines)
     ∙ ap (λ b. list_all (routine_framed p) p.routines && b) (main_free p)

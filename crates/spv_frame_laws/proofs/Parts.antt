@@ -1,6 +1,6 @@
 -- The uses and the calls among what the walk goes over.
 use Rattle.std.proofs.Common.{◌≡◌, Bool, true, false, List, [], ◌∷◌, ◌++◌, Option, Some, None, refl, ap, ◌∙◌}
-use Rattle.std.proofs.lemmas.List.{append-nil}
+use Rattle.std.proofs.lemmas.List.{append_assoc, append-nil}
 use Rattle.spv_names.specs.declared.names.Symbol.{Symbol}
 use Rattle.spv_program.specs.Expressions.{Expression, Designator, Selectors, Call, Arguments, Numeral, Boolean, NilOf, Read, Result, Through, Negative, Calculated, Compared, Negated, Joined, designator, no_selectors, at_index, at_field, at_cell, call, no_arguments, by_value, by_place}
 use Rattle.spv_program.specs.Formulas as formula
@@ -9,7 +9,7 @@ use Rattle.spv_program.specs.Statements.{Statement, Arms, Empty, Assign, Perform
 use Rattle.spv_program.specs.Programs.{Routine}
 use Rattle.spv_program.specs.Uses.{Use, expression_uses, designator_uses, selector_uses, call_uses, argument_uses, expression_calls, designator_calls, selector_calls, calls_with, argument_calls, formula_uses, formulas_uses, annotation_uses, statement_uses, arms_uses, statement_calls, arms_calls}
 use Rattle.spv_program.specs.Frames.{is_formal, routine_uses}
-use Rattle.spv_frame_walk.specs.Events.{Event, Used, Called, expression_events, designator_events, selector_events, call_events, argument_events, formula_events, formulas_events, annotation_events, statement_events, arms_events, own_at_exit, own_in_body, routine_events, uses_in, calls_in}
+use Rattle.spv_frame_walk.specs.Events.{Event, Used, Called, expression_events, designator_events, selector_events, call_events, argument_events, formula_events, formulas_events, annotation_events, statement_events, arms_events, own_at_exit, own_in_body, clause_events, body_events, uses_in, calls_in}
 use Rattle.spv_frame_laws.specs.Laws.{EventsAreUsesAndCalls}
 
 -- these are the uses and the calls, in order
@@ -134,9 +134,18 @@ module _ (own : Symbol → Bool) where
 pub parts_of_statement : (own : Symbol → Bool) (s : Statement) → Parts (statement_events own s) (statement_uses own s) (statement_calls s)
 parts_of_statement own s = statement_parts own s
 
-pub parts_of_routine : (r : Routine) → Parts (routine_events r) (routine_uses r) (statement_calls r.body)
+pub parts_of_routine : (r : Routine) → Parts (clause_events r ++ body_events r) (routine_uses r) (statement_calls r.body)
 parts_of_routine r =
-    join (annotation_parts (is_formal r) r.entry) (join (annotation_parts (own_at_exit r) r.exit) (statement_parts (own_in_body r) r.body))
+    let entry = annotation_parts (is_formal r) r.entry in
+    let exit = annotation_parts (own_at_exit r) r.exit in
+    let body = statement_parts (own_in_body r) r.body in
+    let all = join (join entry exit) body in
+    record {
+      uses =
+          all.uses
+          ∙ append_assoc (annotation_uses (is_formal r) r.entry) (annotation_uses (own_at_exit r) r.exit) (statement_uses (own_in_body r) r.body);
+      calls = all.calls;
+    }
 
 pub events_are : EventsAreUsesAndCalls
 events_are = record {

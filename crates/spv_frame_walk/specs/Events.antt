@@ -115,10 +115,12 @@ own_at_exit r x = is_formal r x || (is_some (found (result_name r.name r.result)
 abbrev pub own_in_body : Routine → Symbol → Bool
 own_in_body r x = is_own (Some r) x || is_initial r x
 
-abbrev pub routine_events : Routine → List Event
-routine_events r =
-    annotation_events (is_formal r) r.entry
-    ++ (annotation_events (own_at_exit r) r.exit ++ statement_events (own_in_body r) r.body)
+-- in ENTRY and EXIT
+abbrev pub clause_events : Routine → List Event
+clause_events r = annotation_events (is_formal r) r.entry ++ annotation_events (own_at_exit r) r.exit
+
+abbrev pub body_events : Routine → List Event
+body_events r = statement_events (own_in_body r) r.body
 
 -- ---- the uses alone, and the calls alone
 

@@ -1,6 +1,7 @@
--- The walk over what routines use and call: the first fault in the order of the text. The routines come in the order of
--- their bodies, each with its heading first, and the main block last.
-use Rattle.std.specs.Prelude.{ℕ, Bool, true, List, [], ◌∷◌, Option, Some, None, is_some, option_map, if◌then◌else◌}
+-- The walk over what routines use and call: the first fault in the order of the text. A routine that is announced has its
+-- heading, with ENTRY and EXIT, before other routines and its body behind them; so the two are parts of their own, and of
+-- the parts' first faults the one on the first line counts. On one line the routines come in the order of their bodies.
+use Rattle.std.specs.Prelude.{ℕ, nat_lt, Bool, true, List, [], ◌∷◌, Option, Some, None, is_some, option_map, if◌then◌else◌}
 use Rattle.std.specs.List.{list_any}
 use Rattle.spv_names.specs.declared.names.Symbol.{Symbol}
 use Rattle.spv_program.specs.declared.types.Item.{Item}
@@ -12,8 +13,8 @@ use Rattle.spv_program.specs.Scopes.{is_own}
 use Rattle.spv_program.specs.Uses.{Root, Own, Shared, Use, same_root}
 use Rattle.spv_program.specs.Frames.{lists, place_roots, is_item_of, globals_of}
 use Rattle.spv_frame_walk.specs.declared.faults.FrameFault.{FrameFault}
-use Rattle.spv_frame_walk.specs.declared.faults.FrameFault.TheVariants.{Alias, GlobalMissing, FunctionWrites}
-use Rattle.spv_frame_walk.specs.Events.{Event, Used, Called, statement_events, routine_events}
+use Rattle.spv_frame_walk.specs.declared.faults.FrameFault.TheVariants.{Alias, GlobalMissing, FunctionWrites, Memory}
+use Rattle.spv_frame_walk.specs.Events.{Event, Used, Called, statement_events, clause_events, body_events}
 
 -- ---- headings: a function has no VAR parameter and no VAR group
 
@@ -90,12 +91,29 @@ abbrev pub events_fault : Program → (Symbol → Bool) → (Item → Bool → B
 events_fault p own may [] = None
 events_fault p own may (e ∷ events) = first_of (event_fault p own may e) (events_fault p own may events)
 
-abbrev pub routine_fault : Program → Routine → Option FrameFault
-routine_fault p r = first_of (heading_fault r) (events_fault p (is_own (Some r)) (lists r.globals) (routine_events r))
+abbrev pub line_of : FrameFault → ℕ
+line_of (Alias line i j) = line
+line_of (GlobalMissing line i) = line
+line_of (FunctionWrites line name) = line
+line_of Memory = 0
 
-abbrev pub routines_fault : Program → List Routine → Option FrameFault
-routines_fault p [] = None
-routines_fault p (r ∷ routines) = first_of (routine_fault p r) (routines_fault p routines)
+-- the first of two faults; on one line the first one
+abbrev pub earliest : Option FrameFault → Option FrameFault → Option FrameFault
+earliest None g = g
+earliest (Some f) None = Some f
+earliest (Some f) (Some g) = if nat_lt (line_of g) (line_of f) then Some g else Some f
+
+abbrev pub part_fault : Program → Routine → List Event → Option FrameFault
+part_fault p r events = events_fault p (is_own (Some r)) (lists r.globals) events
+
+-- the heading with its clauses, and the body
+abbrev pub routine_fault : Program → Routine → Option FrameFault
+routine_fault p r = earliest (first_of (heading_fault r) (part_fault p r (clause_events r))) (part_fault p r (body_events r))
+
+-- behind a fault that was found
+abbrev pub routines_fault : Program → Option FrameFault → List Routine → Option FrameFault
+routines_fault p found [] = found
+routines_fault p found (r ∷ routines) = routines_fault p (earliest found (routine_fault p r)) routines
 
 -- the annotations of the main block may name everything
 abbrev pub main_fault : Program → Option FrameFault
@@ -103,4 +121,4 @@ main_fault p = events_fault p (is_own None) anything (statement_events (is_own N
 
 -- the first fault of a program
 abbrev pub frame_fault : Program → Option FrameFault
-frame_fault p = first_of (routines_fault p p.routines) (main_fault p)
+frame_fault p = earliest (routines_fault p None p.routines) (main_fault p)

@@ -12,7 +12,3 @@ use Rattle.spv_frame_walk.specs.FrameWalk.{events_fault}
 abbrev pub Stops : FrameFault → Option FrameFault → Type 0
 Stops Memory o = ⊤
 Stops fault o = o ≡ Some fault
-
--- the first fault among these events of a routine
-abbrev pub fault_in : Program → Routine → List Event → Option FrameFault
-fault_in p r events = events_fault p (is_own (Some r)) (lists r.globals) events

@@ -10,29 +10,26 @@ use crate::allowed::Allowed;
 use crate::calls::events_fault;
 use crate::effects::Effects;
 use crate::framed_programs::Framed;
-use crate::routines::routine;
+use crate::routines::{earliest, routine_effects, routine_fault};
 use spv_frame_events::{NameSet, gather_statement};
 use spv_frame_walk::FrameFault;
 use spv_list::List;
 use spv_typed::{Program, Routine};
 use std::alloc::{AllocError, Global};
 
-// What each of these routines reads and writes, or the first fault in them.
-fn routines(
+// The first fault in these routines.
+fn routines_fault(
     program: &Program,
     alloc: Global,
     routines: &[Routine],
-) -> Result<List<Effects>, FrameFault>
-    ensures ok { IfOk result (λ es. routines_fault program.now (map routine_of routines.now) ≡ None) }
-    ensures effects { IfOk result (λ es. es ≡ map plain.effects_of (map routine_of routines.now)) }
-    ensures err { IfErr result (λ e. Stops e (routines_fault program.now (map routine_of routines.now))) }
+) -> Result<Option<FrameFault>, AllocError>
+    ensures { IfOk result (λ o. o ≡ routines_fault program.now None (map routine_of routines.now)) }
 {
-    let mut all = List::new(alloc);
+    let mut found = None;
     for r in routines {
-        let effects = routine(program, alloc, r)?;
-        all.push(effects)?;
+        found = earliest(found, routine_fault(program, alloc, r)?);
     }
-    Ok(all)
+    Ok(found)
 }
 
 // The first fault in the main block.
@@ -45,17 +42,37 @@ fn main_fault(program: &Program, alloc: Global) -> Result<Option<FrameFault>, Al
     events_fault(program, &own, &Allowed::Everything, alloc, events.as_slice())
 }
 
+// The first fault of a program.
+fn frame_fault(program: &Program, alloc: Global) -> Result<Option<FrameFault>, AllocError>
+    ensures { IfOk result (λ o. o ≡ frame_fault program.now) }
+{
+    let in_routines = routines_fault(program, alloc, program.routines.as_slice())?;
+    let in_main = main_fault(program, alloc)?;
+    Ok(earliest(in_routines, in_main))
+}
+
+// What each routine reads and writes.
+fn all_effects(alloc: Global, routines: &[Routine]) -> Result<List<Effects>, AllocError>
+    ensures { IfOk result (λ es. es ≡ map plain.effects_of (map routine_of routines.now)) }
+{
+    let mut all = List::new(alloc);
+    for r in routines {
+        let effects = routine_effects(alloc, r)?;
+        all.push(effects)?;
+    }
+    Ok(all)
+}
+
 // What each routine reads and writes, or the first fault of the program.
 fn checked(program: &Program, alloc: Global) -> Result<List<Effects>, FrameFault>
     ensures ok { IfOk result (λ es. frame_fault program.now ≡ None) }
     ensures effects { IfOk result (λ es. es ≡ map plain.effects_of program.now.routines) }
     ensures err { IfErr result (λ e. Stops e (frame_fault program.now)) }
 {
-    let effects = routines(program, alloc, program.routines.as_slice())?;
-    if let Some(fault) = main_fault(program, alloc)? {
+    if let Some(fault) = frame_fault(program, alloc)? {
         return Err(fault);
     }
-    Ok(effects)
+    Ok(all_effects(alloc, program.routines.as_slice())?)
 }
 
 /// The program with what each of its routines reads and writes, where the walk over frames meets no fault; else the first
