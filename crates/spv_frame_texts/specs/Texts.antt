@@ -123,4 +123,6 @@ Orders = AllTold (
     ∷ (codes "PROGRAM a;\nVAR x, y: INTEGER;\nFUNCTION f: INTEGER;\nGLOBAL (x;\nVAR\ny);\nBEGIN END; BEGIN END.", writes 5 (codes "F"))
     ∷ (codes "PROGRAM a; TYPE Ref = ^Node; Node = RECORD key: INTEGER; left: Ref END; \nVAR r: Ref; PROCEDURE p(q: Ref); BEGIN\nq\n^\n.key :=\n1 END; BEGIN END.", missing 4 (codes "#NODE"))
     ∷ (codes "PROGRAM a; VAR x, y: INTEGER; PROCEDURE q; GLOBAL (x); BEGIN END;\nPROCEDURE p; BEGIN\nq END; BEGIN END.", missing 3 (codes "X"))
+    ∷ (codes "PROGRAM a;\nVAR x: INTEGER;\nFUNCTION f(VAR n: INTEGER): INTEGER; FORWARD;\nPROCEDURE p;\nBEGIN x := 1 END;\nFUNCTION f; BEGIN f := 1 END; BEGIN END.", writes 3 (codes "F"))
+    ∷ (codes "PROGRAM a;\nVAR x: INTEGER;\nPROCEDURE p; FORWARD;\nFUNCTION f(VAR n: INTEGER): INTEGER; FORWARD;\nPROCEDURE p; BEGIN x := 1 END;\nFUNCTION f; BEGIN f := 1 END; BEGIN END.", writes 4 (codes "F"))
     ∷ [])
