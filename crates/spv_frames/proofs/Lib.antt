@@ -4,3 +4,4 @@ pub mod Owns
 pub mod Meeting
 pub mod Collected
 pub mod Effecting
+pub mod Callee

@@ -25,7 +25,7 @@ module _ {X : Type 0} (key : X → ℕ) where
   any_last y x xs = any_both (same y) xs (x ∷ []) ∙ ap (λ b. list_any (same y) xs || b) (or_false (same y x))
 
   -- one more, if it is new
-  one_more : (xs : List X) (x y : X) → list_any (same y) (cond (list_any (same x) xs) xs (xs ++ x ∷ [])) ≡ list_any (same y) xs || same x y
+  pub one_more : (xs : List X) (x y : X) → list_any (same y) (cond (list_any (same x) xs) xs (xs ++ x ∷ [])) ≡ list_any (same y) xs || same x y
   one_more xs x y = by_case (list_any (same x) xs) refl
     where
       when_same : (b : Bool) → same x y ≡ b → list_any (same x) xs ≡ true → list_any (same y) xs ≡ list_any (same y) xs || b

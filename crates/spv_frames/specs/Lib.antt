@@ -5,3 +5,4 @@ pub mod Effects
 pub mod Owned
 pub mod Answers
 pub mod Framed
+pub mod Tables

@@ -1,22 +1,26 @@
 // Roots of VAR arguments, and where they meet.
 
 ghost use Rattle.std.specs.Prelude.{◌≡◌, ◌++◌, ◌∷◌, [], IfOk, OnOk, Some, map, option_map, if◌then◌else◌};
-ghost use Rattle.spv_program.specs.Frames.{is_item_of, place_roots, root_behind, root_of};
-ghost use Rattle.spv_program.specs.Uses.{Shared, name_root, same_item};
+ghost use Rattle.spv_program.specs.Frames.{place_roots, root_behind, root_of};
+ghost use Rattle.spv_program.specs.Uses.{name_root};
 ghost use Rattle.spv_typed.specs.ExpressionViews.{argument_before, arguments_of, selector_before, selectors_of};
-ghost use Rattle.spv_typed.specs.ProgramViews.{global_of};
-ghost use Rattle.spv_frame_walk.specs.FrameWalk.{alias, listed, meeting_fault, root_item, twice};
+ghost use Rattle.spv_frame_walk.specs.FrameWalk.{alias, root_item, twice};
 ghost use Rattle.spv_frame_events.specs.Names.{named};
 ghost use Rattle.spv_program.specs.Expressions.{no_arguments, no_selectors};
 ghost use Rattle.spv_frames.specs.Sets.{no_items};
+ghost use Rattle.spv_frames.specs.Allowed.{allows};
+ghost use Rattle.spv_frames.specs.Tables.{has_root_in, listed_in, meeting_in};
 ghost use Rattle.spv_frames.specs.Roots.{has_root, plain_root, plain_roots, with_root};
 
+use crate::allowed::Allowed;
+use crate::callees::in_list_of;
 use crate::items::ItemSet;
 use spv_frame_events::NameSet;
 use spv_frame_walk::FrameFault;
+use spv_logic::RoutineId;
 use spv_names::Symbol;
 use spv_program::Item;
-use spv_typed::{Argument, Designator, GlobalItem, Selector};
+use spv_typed::{Argument, Call, Designator, Selector};
 use std::alloc::{AllocError, Global};
 
 /// What a VAR argument is a part of.
@@ -159,47 +163,21 @@ fn twice(alloc: Global, given: Vec<Root>) -> Result<Option<Root>, AllocError>
     Ok(found)
 }
 
-fn same_item(i: Item, j: Item) -> bool
-    ensures { result ≡ same_item i j }
-{
-    match i {
-        Item::Variable(x) => match j {
-            Item::Variable(y) => x.0 == y.0,
-            Item::Class(_) => false,
-        },
-        Item::Class(t) => match j {
-            Item::Variable(_) => false,
-            Item::Class(u) => t.0 == u.0,
-        },
-    }
-}
-
-fn is_item(globals: &[GlobalItem], item: Item) -> bool
-    ensures { result ≡ is_item_of (map global_of globals.now) (Shared item) }
-{
-    for g in globals {
-        if same_item(g.item, item) {
-            return true;
-        }
-    }
-    false
-}
-
-fn is_listed(globals: &[GlobalItem], root: Root) -> bool
-    ensures { result ≡ is_item_of (map global_of globals.now) (plain_root root) }
+fn is_listed(tables: &[Allowed], number: RoutineId, root: Root) -> bool
+    ensures { result ≡ has_root_in (map allows tables.now) number (plain_root root) }
 {
     match root {
         Root::Own(_) => false,
-        Root::Shared(item) => is_item(globals, item),
+        Root::Shared(item) => in_list_of(tables, number, item),
     }
 }
 
 // The first root that is an item of the callee's list.
-fn listed(globals: &[GlobalItem], roots: &[Root]) -> Option<Root>
-    ensures { option_map plain_root result ≡ listed (map global_of globals.now) (plain_roots roots.now) }
+fn listed(tables: &[Allowed], number: RoutineId, roots: &[Root]) -> Option<Root>
+    ensures { option_map plain_root result ≡ listed_in (map allows tables.now) number (plain_roots roots.now) }
 {
     for root in roots {
-        if is_listed(globals, *root) {
+        if is_listed(tables, number, *root) {
             return Some(*root);
         }
     }
@@ -223,21 +201,20 @@ fn alias(line: u32, root: Root) -> FrameFault
 
 // Where the roots of VAR arguments meet, or one is an item of the callee's list.
 pub(crate) fn meeting_fault(
+    tables: &[Allowed],
     own: &NameSet,
     alloc: Global,
-    line: u32,
-    globals: &[GlobalItem],
-    arguments: &[Argument],
+    call: &Call,
 ) -> Result<Option<FrameFault>, AllocError>
-    ensures { IfOk result (λ o. o ≡ meeting_fault line (map global_of globals.now) (place_roots (named own.now) (arguments_of arguments.now))) }
+    ensures { IfOk result (λ o. o ≡ meeting_in (map allows tables.now) (named own.now) call.now) }
 {
-    let roots = place_roots(own, alloc, arguments)?;
-    let shared = listed(globals, roots.as_slice());
+    let roots = place_roots(own, alloc, call.arguments.as_slice())?;
+    let shared = listed(tables, call.routine, roots.as_slice());
     if let Some(root) = twice(alloc, roots)? {
-        return Ok(Some(alias(line, root)));
+        return Ok(Some(alias(call.line, root)));
     }
     match shared {
-        Some(root) => Ok(Some(alias(line, root))),
+        Some(root) => Ok(Some(alias(call.line, root))),
         None => Ok(None),
     }
 }

@@ -3,6 +3,7 @@
 
 mod aliases;
 mod allowed;
+mod callees;
 mod calls;
 mod effects;
 mod framed_programs;

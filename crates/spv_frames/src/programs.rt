@@ -4,9 +4,12 @@ ghost use Rattle.std.specs.Prelude.{◌≡◌, IfOk, IfErr, None, map};
 ghost use Rattle.spv_program.specs.Frames as plain;
 ghost use Rattle.spv_typed.specs.ProgramViews.{routine_of};
 ghost use Rattle.spv_frame_walk.specs.FrameWalk.{frame_fault, main_fault, routines_fault};
+ghost use Rattle.spv_frames.specs.Allowed.{allows};
 ghost use Rattle.spv_frames.specs.Answers.{Stops};
+ghost use Rattle.spv_frames.specs.Tables.{tables_of};
 
 use crate::allowed::Allowed;
+use crate::callees::tables;
 use crate::calls::events_fault;
 use crate::effects::Effects;
 use crate::framed_programs::Framed;
@@ -20,34 +23,50 @@ use std::alloc::{AllocError, Global};
 // The first fault in these routines.
 fn routines_fault(
     program: &Program,
+    tables: &[Allowed],
     alloc: Global,
     routines: &[Routine],
 ) -> Result<Option<FrameFault>, AllocError>
+    requires tables { map allows tables.now ≡ tables_of program.now.routines }
     ensures { IfOk result (λ o. o ≡ routines_fault program.now None (map routine_of routines.now)) }
 {
     let mut found = None;
     for r in routines {
-        found = earliest(found, routine_fault(program, alloc, r)?);
+        found = earliest(found, routine_fault(program, tables, alloc, r)?);
     }
     Ok(found)
 }
 
 // The first fault in the main block.
-fn main_fault(program: &Program, alloc: Global) -> Result<Option<FrameFault>, AllocError>
+fn main_fault(
+    program: &Program,
+    tables: &[Allowed],
+    alloc: Global,
+) -> Result<Option<FrameFault>, AllocError>
+    requires tables { map allows tables.now ≡ tables_of program.now.routines }
     ensures { IfOk result (λ o. o ≡ main_fault program.now) }
 {
     let own = NameSet::new(alloc);
     let mut events = Vec::new(alloc);
     gather_statement(&own, alloc, &program.main.body, &mut events)?;
-    events_fault(program, &own, &Allowed::Everything, alloc, events.as_slice())
+    events_fault(
+        program,
+        tables,
+        &own,
+        &Allowed::Everything,
+        alloc,
+        events.as_slice(),
+    )
 }
 
 // The first fault of a program.
 fn frame_fault(program: &Program, alloc: Global) -> Result<Option<FrameFault>, AllocError>
     ensures { IfOk result (λ o. o ≡ frame_fault program.now) }
 {
-    let in_routines = routines_fault(program, alloc, program.routines.as_slice())?;
-    let in_main = main_fault(program, alloc)?;
+    let tables = tables(alloc, program.routines.as_slice())?;
+    let in_routines =
+        routines_fault(program, tables.as_slice(), alloc, program.routines.as_slice())?;
+    let in_main = main_fault(program, tables.as_slice(), alloc)?;
     Ok(earliest(in_routines, in_main))
 }
 

@@ -9,6 +9,7 @@ ghost use Rattle.spv_frame_walk.specs.FrameWalk.{earliest, events_fault, heading
 ghost use Rattle.spv_frame_events.specs.EventViews.{events_of};
 ghost use Rattle.spv_frame_events.specs.Names.{named};
 ghost use Rattle.spv_frames.specs.Allowed.{allows};
+ghost use Rattle.spv_frames.specs.Tables.{tables_of};
 
 use crate::allowed::{Allowed, allowed_by};
 use crate::calls::events_fault;
@@ -116,47 +117,53 @@ fn line_of(fault: FrameFault) -> u32
 // The first fault in the heading of a routine and in its clauses.
 fn heading_part(
     program: &Program,
+    tables: &[Allowed],
     alloc: Global,
     own: &NameSet,
     allowed: &Allowed,
     routine: &Routine,
 ) -> Result<Option<FrameFault>, AllocError>
+    requires tables { map allows tables.now ≡ tables_of program.now.routines }
     ensures { IfOk result (λ o. o ≡ first_of (heading_fault (routine_of routine.now)) (events_fault program.now (named own.now) (allows allowed.now) (clause_events (routine_of routine.now)))) }
 {
     if let Some(fault) = heading_fault(routine) {
         return Ok(Some(fault));
     }
     let events = clause_events(alloc, routine)?;
-    events_fault(program, own, allowed, alloc, events.as_slice())
+    events_fault(program, tables, own, allowed, alloc, events.as_slice())
 }
 
 // The first fault in the body of a routine.
 fn body_part(
     program: &Program,
+    tables: &[Allowed],
     alloc: Global,
     own: &NameSet,
     allowed: &Allowed,
     routine: &Routine,
 ) -> Result<Option<FrameFault>, AllocError>
+    requires tables { map allows tables.now ≡ tables_of program.now.routines }
     ensures { IfOk result (λ o. o ≡ events_fault program.now (named own.now) (allows allowed.now) (body_events (routine_of routine.now))) }
 {
     let mut events = Vec::new(alloc);
     gather_body(alloc, routine, &mut events)?;
-    events_fault(program, own, allowed, alloc, events.as_slice())
+    events_fault(program, tables, own, allowed, alloc, events.as_slice())
 }
 
 // The first fault in a routine.
 pub(crate) fn routine_fault(
     program: &Program,
+    tables: &[Allowed],
     alloc: Global,
     routine: &Routine,
 ) -> Result<Option<FrameFault>, AllocError>
+    requires tables { map allows tables.now ≡ tables_of program.now.routines }
     ensures { IfOk result (λ o. o ≡ routine_fault program.now (routine_of routine.now)) }
 {
     let own = own_names(alloc, routine)?;
     let allowed = allowed_by(alloc, routine.globals.as_slice())?;
-    let in_heading = heading_part(program, alloc, &own, &allowed, routine)?;
-    let in_body = body_part(program, alloc, &own, &allowed, routine)?;
+    let in_heading = heading_part(program, tables, alloc, &own, &allowed, routine)?;
+    let in_body = body_part(program, tables, alloc, &own, &allowed, routine)?;
     Ok(earliest(in_heading, in_body))
 }
 

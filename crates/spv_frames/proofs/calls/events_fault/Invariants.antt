@@ -3,8 +3,10 @@ use Rattle.spv_frame_walk.specs.FrameWalk.{events_fault}
 use Rattle.spv_frame_events.specs.EventViews.{events_of}
 use Rattle.spv_frame_events.specs.Names.{named}
 use Rattle.spv_frames.specs.Allowed.{allows}
+use Rattle.spv_frames.specs.Tables.{IsCovered}
 use Rattle.spv_frames.proofs.calls.events_fault.Given as goal
 
 abbrev pub invariant-loop-event : goal.invariant-loop-event
 invariant-loop-event l =
-    events_fault l.program (named l.own) (allows l.allowed) (events_of (drop l.event-index l.events)) ≡ events_fault l.program (named l.own) (allows l.allowed) (events_of l.events)
+    (events_fault l.program (named l.own) (allows l.allowed) (events_of (drop l.event-index l.events)) ≡ events_fault l.program (named l.own) (allows l.allowed) (events_of l.events))
+    × IsCovered l.program (allows l.allowed) l.covered
