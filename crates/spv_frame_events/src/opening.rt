@@ -108,9 +108,7 @@ pub(crate) fn open_noted<'a>(own: &NameSet, noted: &'a Formula) -> Opened<'a>
         FormulaForm::Boolean(_) => nothing(),
         FormulaForm::Nil(_) => nothing(),
         FormulaForm::Named(line, x) => one(Work::Known(name_use(own, *x, false, *line))),
-        FormulaForm::Class(line, t) => {
-            one(Work::Known(cell_use(*t, false, *line)))
-        }
+        FormulaForm::Class(line, t) => { one(Work::Known(cell_use(*t, false, *line))) }
         FormulaForm::Element(a, i) => two(Work::Noted(a), Work::Noted(i)),
         FormulaForm::Field(r, _) => one(Work::Noted(r)),
         FormulaForm::Content(line, t, q) => two(

@@ -23,9 +23,7 @@ pub(crate) fn open_statement<'a>(own: &NameSet, statement: &'a Statement) -> Ope
         StatementForm::If(_, e, a, b) => {
             three(Work::Value(e), Work::Statement(a), Work::Statement(b))
         }
-        StatementForm::Case(_, e, arms) => {
-            two(Work::Value(e), Work::Arms(arms.as_slice()))
-        }
+        StatementForm::Case(_, e, arms) => { two(Work::Value(e), Work::Arms(arms.as_slice())) }
         StatementForm::While(_, f, e, s) => {
             three(Work::Annotation(f), Work::Value(e), Work::Statement(s))
         }
@@ -69,10 +67,7 @@ pub(crate) fn open_arms<'a>(own: &NameSet, arms: &'a [Arm]) -> Opened<'a>
     }
 }
 
-pub(crate) fn open_annotation<'a>(
-    own: &NameSet,
-    annotation: &'a Option<Annotation>,
-) -> Opened<'a>
+pub(crate) fn open_annotation<'a>(own: &NameSet, annotation: &'a Option<Annotation>) -> Opened<'a>
     ensures { Opens (named own.now) (work.Annotation annotation.entry) result }
 {
     match annotation {

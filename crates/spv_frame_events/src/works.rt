@@ -6,7 +6,7 @@ ghost use Rattle.spv_frame_events.specs.declared.works.Work.TheVariants.{Nothing
 
 use crate::events::Event;
 use spv_typed::{
-    Annotation, Arm, Argument, Call, Counting, Designator, Expression, Formula, Selector, Statement,
+    Annotation, Argument, Arm, Call, Counting, Designator, Expression, Formula, Selector, Statement,
 };
 use std::alloc::AllocError;
 

@@ -1,5 +1,5 @@
 -- What a routine reads and writes.
-use Rattle.std.proofs.Common.{◌≡◌, Bool, true, false, not, List, [], ◌++◌, map, filter, Result, Ok, Err, IfOk, refl, sym, ap, ◌∙◌}
+use Rattle.std.proofs.Common.{◌≡◌, Bool, true, false, List, [], ◌++◌, map, filter, Result, Ok, Err, IfOk, ap, ◌∙◌}
 use Rattle.spv_program.specs.Programs.{Routine}
 use Rattle.spv_program.specs.Uses.{Use}
 use Rattle.spv_program.specs.Frames.{Effects, items_once, effects_of, routine_uses}

@@ -77,11 +77,7 @@ fn push(roots: &mut Vec<Root>, root: Root) -> Result<(), AllocError>
     Ok(())
 }
 
-fn push_place(
-    own: &NameSet,
-    argument: &Argument,
-    roots: &mut Vec<Root>,
-) -> Result<(), AllocError>
+fn push_place(own: &NameSet, argument: &Argument, roots: &mut Vec<Root>) -> Result<(), AllocError>
     ensures { OnOk result (plain_roots roots.new.items ≡ plain_roots roots.old.items ++ place_roots (named own.now) (argument_before argument.now no_arguments)) }
 {
     match argument {

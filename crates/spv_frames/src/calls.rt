@@ -76,9 +76,15 @@ pub(crate) fn events_fault(
 {
     let mut covered = CalleeSet::new(alloc);
     for event in events {
-        if let Some(fault) =
-            event_fault(program, tables, own, allowed, &mut covered, alloc, *event)?
-        {
+        if let Some(fault) = event_fault(
+            program,
+            tables,
+            own,
+            allowed,
+            &mut covered,
+            alloc,
+            *event,
+        )? {
             return Ok(Some(fault));
         }
     }

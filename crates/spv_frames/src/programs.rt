@@ -64,8 +64,12 @@ fn frame_fault(program: &Program, alloc: Global) -> Result<Option<FrameFault>, A
     ensures { IfOk result (λ o. o ≡ frame_fault program.now) }
 {
     let tables = tables(alloc, program.routines.as_slice())?;
-    let in_routines =
-        routines_fault(program, tables.as_slice(), alloc, program.routines.as_slice())?;
+    let in_routines = routines_fault(
+        program,
+        tables.as_slice(),
+        alloc,
+        program.routines.as_slice(),
+    )?;
     let in_main = main_fault(program, tables.as_slice(), alloc)?;
     Ok(earliest(in_routines, in_main))
 }

@@ -1,7 +1,6 @@
 use Rattle.std.proofs.Common.{◌≡◌, List, ◌++◌, Option, IfOk, ap, subst, ◌∙◌}
 use Rattle.spv_program.specs.Programs.{Program}
 use Rattle.spv_frame_walk.specs.declared.faults.FrameFault.{FrameFault}
-use Rattle.spv_frame_walk.specs.Events as plain
 use Rattle.spv_frame_walk.specs.Events.{statement_events}
 use Rattle.spv_frame_events.specs.declared.events.Event.{Event}
 use Rattle.spv_frame_events.specs.EventViews.{events_of}
