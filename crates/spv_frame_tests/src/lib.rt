@@ -1,0 +1,5 @@
+//! Tests of the walk over frames.
+#![tactic(auto)]
+
+#[cfg(test)]
+mod programs;
