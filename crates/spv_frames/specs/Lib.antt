@@ -1,8 +1,1 @@
-pub mod Sets
-pub mod Allowed
-pub mod Roots
-pub mod Effects
-pub mod Owned
-pub mod Answers
 pub mod Framed
-pub mod Tables

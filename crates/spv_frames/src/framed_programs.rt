@@ -3,7 +3,7 @@
 ghost use Rattle.std.specs.Prelude.{◌≡◌, IsTrue, map};
 ghost use Rattle.spv_program.specs.Frames as plain;
 
-use crate::effects::Effects;
+use spv_frame_check::Effects;
 use spv_list::List;
 use spv_typed::Program;
 use std::marker::Model;

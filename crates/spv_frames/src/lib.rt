@@ -1,17 +1,9 @@
-//! Frames: what routines use and call, against the rules, and what each reads and writes.
+//! Frames: programs whose routines use what their lists have, change nothing as functions, and whose calls keep roots apart.
 #![tactic(auto)]
 
-mod aliases;
-mod allowed;
-mod callees;
-mod calls;
-mod effects;
 mod framed_programs;
-mod items;
-mod owned;
-mod programs;
-mod routines;
+mod framing;
 
-pub use effects::Effects;
 pub use framed_programs::Framed;
-pub use programs::framed;
+pub use framing::framed;
+pub use spv_frame_check::Effects;

@@ -1,9 +1,0 @@
-use Rattle.std.proofs.Common.{◌≡◌, ◌++◌, drop, map}
-use Rattle.spv_typed.specs.ProgramViews.{routine_of}
-use Rattle.spv_frames.specs.Allowed.{allows}
-use Rattle.spv_frames.specs.Tables.{tables_of}
-use Rattle.spv_frames.proofs.callees.tables.Given as goal
-
-abbrev pub invariant-loop-r : goal.invariant-loop-r
-invariant-loop-r l =
-    map allows l.tables.items ++ tables_of (map routine_of (drop l.r-index l.routines)) ≡ tables_of (map routine_of l.routines)

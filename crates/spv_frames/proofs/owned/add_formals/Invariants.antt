@@ -1,9 +1,0 @@
-use Rattle.std.proofs.Common.{◌≡◌, drop, map}
-use Rattle.spv_typed.specs.ProgramViews.{formal_of}
-use Rattle.spv_frames.specs.Sets.{with_names}
-use Rattle.spv_frames.specs.Owned.{formal_names}
-use Rattle.spv_frames.proofs.owned.add_formals.Given as goal
-
-abbrev pub invariant-loop-formal : goal.invariant-loop-formal
-invariant-loop-formal l =
-    with_names l.set (formal_names (map formal_of (drop l.formal-index l.formals))) ≡ with_names l.initial.set (formal_names (map formal_of l.formals))
