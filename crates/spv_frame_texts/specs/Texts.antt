@@ -126,3 +126,19 @@ Orders = AllTold (
     ∷ (codes "PROGRAM a;\nVAR x: INTEGER;\nFUNCTION f(VAR n: INTEGER): INTEGER; FORWARD;\nPROCEDURE p;\nBEGIN x := 1 END;\nFUNCTION f; BEGIN f := 1 END; BEGIN END.", writes 3 (codes "F"))
     ∷ (codes "PROGRAM a;\nVAR x: INTEGER;\nPROCEDURE p; FORWARD;\nFUNCTION f(VAR n: INTEGER): INTEGER; FORWARD;\nPROCEDURE p; BEGIN x := 1 END;\nFUNCTION f; BEGIN f := 1 END; BEGIN END.", writes 4 (codes "F"))
     ∷ [])
+
+-- what comes first where uses and calls stand one among the other
+abbrev pub Interleaved : Type 0
+Interleaved = AllTold (
+    (codes "PROGRAM a; VAR x, y: INTEGER; FUNCTION f: INTEGER; GLOBAL (x); BEGIN f := x END; PROCEDURE p; BEGIN y := f END; BEGIN END.", missing 1 (codes "Y"))
+    ∷ (codes "PROGRAM a; VAR x, y: INTEGER; FUNCTION f: INTEGER; GLOBAL (x); BEGIN f := x END; PROCEDURE p; BEGIN IF f = 1 THEN y := 1 END; BEGIN END.", missing 1 (codes "X"))
+    ∷ (codes "PROGRAM a; VAR x, y: INTEGER; FUNCTION f: INTEGER; GLOBAL (x); BEGIN f := x END; PROCEDURE p; BEGIN WHILE f = 1 DO y := 1 END; BEGIN END.", missing 1 (codes "X"))
+    ∷ (codes "PROGRAM a; VAR x, y: INTEGER; FUNCTION f: INTEGER; GLOBAL (x); BEGIN f := x END; PROCEDURE p; BEGIN REPEAT y := 1 UNTIL f = 1 END; BEGIN END.", missing 1 (codes "Y"))
+    ∷ (codes "PROGRAM a; VAR x, y: INTEGER; FUNCTION f: INTEGER; GLOBAL (x); BEGIN f := x END; PROCEDURE p; BEGIN CASE f OF 1: y := 1 END END; BEGIN END.", missing 1 (codes "X"))
+    ∷ (codes "PROGRAM a; VAR x, y: INTEGER; FUNCTION f: INTEGER; GLOBAL (x); BEGIN f := x END; PROCEDURE p(i: INTEGER); BEGIN FOR i := f TO y DO END; BEGIN END.", missing 1 (codes "X"))
+    ∷ (codes "PROGRAM a; VAR x, y: INTEGER; FUNCTION f: INTEGER; GLOBAL (x); BEGIN f := x END; PROCEDURE q(m, n: INTEGER); BEGIN END; PROCEDURE p; BEGIN q(f, y) END; BEGIN END.", missing 1 (codes "X"))
+    ∷ (codes "PROGRAM a; VAR x, y: INTEGER; FUNCTION f: INTEGER; GLOBAL (x); BEGIN f := x END; PROCEDURE q(m, n: INTEGER); BEGIN END; PROCEDURE p; BEGIN q(y, f) END; BEGIN END.", missing 1 (codes "Y"))
+    ∷ (codes "PROGRAM a; TYPE Ref = ^Node; Node = RECORD key: INTEGER; left: Ref END; VAR r: Ref; FUNCTION f: Ref; GLOBAL (r); BEGIN f := r END; PROCEDURE p(n: INTEGER); BEGIN n := f^.key END; BEGIN END.", missing 1 (codes "R"))
+    ∷ (codes "PROGRAM a; VAR x, y: INTEGER; PROCEDURE p; ENTRY x = 1; EXIT y = 1; BEGIN END; BEGIN END.", missing 1 (codes "X"))
+    ∷ (codes "PROGRAM a; VAR x, y: INTEGER; PROCEDURE p; EXIT x = 1; BEGIN y := 1 END; BEGIN END.", missing 1 (codes "X"))
+    ∷ [])

@@ -1,7 +1,7 @@
 //! Small texts and what the walk over frames tells of them, each computed from the bytes on.
 #![tactic(auto, unfolding(spv_lexer::specs::Front::comment, spv_lexer::specs::Front::letters, spv_lexer::specs::Front::numeral, spv_lexer::specs::Front::longest_sign, spv_lexer::specs::Front::front, spv_lexer::specs::Reading::by_front, spv_lexer::specs::Reading::pieces, spv_lexer::specs::Reading::reading_from, spv_lexer::specs::Tokens::numbered))]
 
-ghost use Rattle.spv_frame_texts.specs.Texts.{Annotations, Callees, Functions, Items, Orders, Roots, Statements, Uses};
+ghost use Rattle.spv_frame_texts.specs.Texts.{Annotations, Callees, Functions, Interleaved, Items, Orders, Roots, Statements, Uses};
 
 /// A function has no VAR parameter and no VAR group: each text has the fault that is told of it, or none.
 pub fn law_functions()
@@ -41,4 +41,9 @@ pub fn law_roots()
 /// Which of two faults comes first, and on which line: each text has the fault that is told of it.
 pub fn law_orders()
     ensures { Orders }
+{}
+
+/// Uses and calls that stand one among the other: each text has the fault that is told of it.
+pub fn law_interleaved()
+    ensures { Interleaved }
 {}
