@@ -3,3 +3,7 @@ pub mod Sums
 pub mod Points
 pub mod Directions
 pub mod Pivoting
+pub mod Starting
+pub mod Tests
+pub mod Contradicting
+pub mod Stuck

@@ -173,20 +173,18 @@ module _ (rows : Rows) (places : Places) (t : Entries) (leaving : ℕ) (side : S
           ∙ ap₂ plus (s.others b c inside stays.basic c_in c_stays.basic different) (ap (λ x. times x (t b entering)) (solved_other f) ∙ zero_times (t b entering))
           ∙ plus_zero nothing
 
-  basis_after : IsBasis rows after
-  basis_after = sym (count_more (columns rows) entering without (λ c. is_basic (after c)) entering_in without_entering (entered places leaving side entering entering (eq_self entering)) agree_after
-      ∙ sym (count_more (columns rows) leaving without (λ c. is_basic (places c)) leaving_in without_leaving leaves agree_before)) ∙ s.basis
-    where
-      -- the basis without the leaving column
-      without : ℕ → Bool
-      without c = if nat_eq c leaving then false else is_basic (places c)
+  -- the basis without the leaving column
+  abbrev without : ℕ → Bool
+  without c = if nat_eq c leaving then false else is_basic (places c)
 
+  basis_after : IsBasis rows after
+  basis_after = count_more (columns rows) entering without (λ c. is_basic (after c)) entering_in without_entering (entered places leaving side entering entering (eq_self entering)) agree_after
+      ∙ sym (count_more (columns rows) leaving without (λ c. is_basic (places c)) leaving_in without_leaving leaves agree_before) ∙ s.basis
+    where
       without_leaving : without leaving ≡ false
-      unfolding without
       without_leaving = rw (eq_self leaving) refl
 
       without_other : (c : ℕ) → nat_eq c leaving ≡ false → without c ≡ is_basic (places c)
-      unfolding without
       without_other c l = rw l refl
 
       without_entering : without entering ≡ false
