@@ -46,8 +46,8 @@ unfolding value_sum
 value_is rows bounds v solution [] each = sym (sum_nothing rows.parts _ (λ c below. zero_times (v c)))
 value_is rows bounds v solution (m ∷ multiples) each =
     ap₂ plus
-      (ap (λ x. signed m.side (times m.factor x)) (solution m.row (row_below rows bounds m (and_left (is_multiple rows bounds m) _ each))) ∙ signed_sum m.side rows.parts m.factor (rows.coefficient m.row) v)
-      (value_is rows bounds v solution multiples (and_right (is_multiple rows bounds m) _ each))
+    (ap (λ x. signed m.side (times m.factor x)) (solution m.row (row_below rows bounds m (and_left (is_multiple rows bounds m) _ each))) ∙ signed_sum m.side rows.parts m.factor (rows.coefficient m.row) v)
+    (value_is rows bounds v solution multiples (and_right (is_multiple rows bounds m) _ each))
     ∙ sym (sum_plus rows.parts (λ c. times (signed m.side (times m.factor (rows.coefficient m.row c))) (v c)) (λ c. times (coefficient_sum rows multiples c) (v c)))
     ∙ sum_same rows.parts _ _ (λ c below. sym (plus_times (signed m.side (times m.factor (rows.coefficient m.row c))) (coefficient_sum rows multiples c) (v c)))
 
@@ -77,9 +77,9 @@ all_at_most rows bounds v meets (m ∷ multiples) each =
     let c : Rational = signed m.side (times m.factor (or_nothing (bound_on bounds m.row m.side))) in
     ap is_positive (differences a (value_sum rows v multiples) c (bound_sum bounds multiples))
     ∙ not_positive_plus (minus a c) (minus (value_sum rows v multiples) (bound_sum bounds multiples))
-      (at_most m.side m.factor (v (rows.parts + m.row)) (bound_on bounds m.row m.side) (not_true _ (and_left _ _ stands)) (not_true _ (and_right _ _ stands))
-        (ap (λ b. breaks_limit m.side b (v (rows.parts + m.row))) (sym (limit_row rows bounds m.row m.side)) ∙ meets_side (limits rows bounds) v meets (rows.parts + m.row) m.side))
-      (all_at_most rows bounds v meets multiples (and_right (is_multiple rows bounds m) _ each))
+    (at_most m.side m.factor (v (rows.parts + m.row)) (bound_on bounds m.row m.side) (not_true _ (and_left _ _ stands)) (not_true _ (and_right _ _ stands))
+    (ap (λ b. breaks_limit m.side b (v (rows.parts + m.row))) (sym (limit_row rows bounds m.row m.side)) ∙ meets_side (limits rows bounds) v meets (rows.parts + m.row) m.side))
+    (all_at_most rows bounds v meets multiples (and_right (is_multiple rows bounds m) _ each))
 
 pub refutes : ContradictionRefutes
 refutes rows bounds multiples h v solution meets =

@@ -77,7 +77,6 @@ was_basic places leaving side entering c e h = by_case (nat_eq c leaving) refl
 module _ (rows : Rows) (places : Places) (t : Entries) (leaving : ℕ) (side : Side) (entering : ℕ) (s : IsSolved rows places t)
     (leaving_in : leaving < columns rows) (leaves : is_basic (places leaving) ≡ true) (entering_in : entering < columns rows)
     (enters : is_basic (places entering) ≡ false) (nonzero : is_zero (t leaving entering) ≡ false) where
-
   abbrev after : Places
   after = exchanged places leaving side entering
 
@@ -110,8 +109,8 @@ module _ (rows : Rows) (places : Places) (t : Entries) (leaving : ℕ) (side : S
           ap (λ x. times x (v c)) (pivot_other t leaving entering b c e)
           ∙ plus_times (t b c) (times (solved_for t leaving entering c) (t b entering)) (v c)
           ∙ ap (λ x. plus (times (t b c) (v c)) x)
-            (ap (λ x. times x (v c)) (times_comm (solved_for t leaving entering c) (t b entering)) ∙ times_assoc (t b entering) (solved_for t leaving entering c) (v c)
-            ∙ ap (λ x. times (t b entering) (times x (v c))) (sym (pivot_entering t leaving entering entering c (eq_self entering))))
+          (ap (λ x. times x (v c)) (times_comm (solved_for t leaving entering c) (t b entering)) ∙ times_assoc (t b entering) (solved_for t leaving entering c) (v c)
+          ∙ ap (λ x. times (t b entering) (times x (v c))) (sym (pivot_entering t leaving entering entering c (eq_self entering))))
 
   entering_zero : (v : Point) → MeetsEntries rows places t v → (b : ℕ) → nat_eq b entering ≡ true → equation_sum rows u b v ≡ nothing
   entering_zero v m b e = entering_sum b e v ∙ ap (times (factor t leaving entering)) (m leaving leaving_in leaves) ∙ times_zero (factor t leaving entering)

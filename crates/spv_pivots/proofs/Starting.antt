@@ -63,7 +63,7 @@ pub start_sum : (rows : Rows) (i : ℕ) → i < rows.count → (v : Point)
 start_sum rows i inside v =
     sum_split rows.parts rows.count (λ c. times (row_entries rows (rows.parts + i) c) (v c))
     ∙ ap₂ plus (sum_same rows.parts _ (λ c. times (rows.coefficient i c) (v c)) at_part)
-      (sum_same rows.count _ (only i (opposite (v (rows.parts + i)))) at_row ∙ sum_only rows.count i (opposite (v (rows.parts + i))) inside)
+    (sum_same rows.count _ (only i (opposite (v (rows.parts + i)))) at_row ∙ sum_only rows.count i (opposite (v (rows.parts + i))) inside)
   where
     not_part : (p i c : ℕ) → c < p → nat_eq (p + i) c ≡ false
     not_part p i c h = grind arith
@@ -96,7 +96,7 @@ start_basis : (rows : Rows) → IsBasis rows (row_places rows)
 start_basis rows =
     count_split rows.parts rows.count (λ c. is_basic (row_places rows c))
     ∙ ap₂ (λ (a b : ℕ). a + b) (count_none rows.parts (λ c. is_basic (row_places rows c)) (λ c below. place_part rows c (below_is c rows.parts below)))
-      (count_all rows.count (λ i. is_basic (row_places rows (rows.parts + i))) (λ i below. place_row rows (rows.parts + i) (above_is rows.parts i)))
+    (count_all rows.count (λ i. is_basic (row_places rows (rows.parts + i))) (λ i below. place_row rows (rows.parts + i) (above_is rows.parts i)))
     ∙ no_more rows.count
   where
     no_more : (n : ℕ) → 0 + n ≡ n

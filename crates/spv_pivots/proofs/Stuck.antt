@@ -126,8 +126,8 @@ all_multiples rows bounds (suc n) entry x inside kept =
     multiple_is e =
         and_both _ _ (ap (λ j. nat_lt j rows.count) (row_is n (entry n)) ∙ below n rows.count here)
         (and_both _ _
-          (not_false _ (ap₂ (λ (j : ℕ) (s : Side). is_none (bound_on bounds j s)) (row_is n (entry n)) (is_chosen n (entry n)).side ∙ k.stands e))
-          (not_false _ (is_chosen n (entry n)).factor))
+        (not_false _ (ap₂ (λ (j : ℕ) (s : Side). is_none (bound_on bounds j s)) (row_is n (entry n)) (is_chosen n (entry n)).side ∙ k.stands e))
+        (not_false _ (is_chosen n (entry n)).factor))
 
     by_zero : (b : Bool) → is_zero (entry n) ≡ b → list_all (is_multiple rows bounds) (multiples_at n (entry n)) ≡ true
     by_zero true e = rw e refl
@@ -239,7 +239,6 @@ second false b c h k e = absurd (false≢true h)
 
 module _ (rows : Rows) (bounds : List Bound) (held : Point) (places : Places) (t : Entries) (leaving : ℕ) (side : Side) (s : IsSolved rows places t)
     (stuck : IsStuck rows (limits rows bounds) places (point rows (limits rows bounds) held places t) t leaving side) where
-
   abbrev v : Point
   v = point rows (limits rows bounds) held places t
 
@@ -275,8 +274,8 @@ module _ (rows : Rows) (bounds : List Bound) (held : Point) (places : Places) (t
       by_place true e = s.others leaving c stuck.leaving_in leaves (inside c rows.parts rows.count below) e (apart leaving c rows.parts leaving_not_part below)
       by_place false e =
           zero_is (t leaving c) (second (not (is_basic (places c))) (is_zero (t leaving c)) _ (not_false _ e)
-            (ap (λ b. has_room (way side (t leaving c)) b (v c)) (limit_part rows bounds c (way side (t leaving c)) (is_part c rows.parts below)))
-            (no_entrance c (inside c rows.parts rows.count below)))
+          (ap (λ b. has_room (way side (t leaving c)) b (v c)) (limit_part rows bounds c (way side (t leaving c)) (is_part c rows.parts below)))
+          (no_entrance c (inside c rows.parts rows.count below)))
 
   kept : (i : ℕ) → i < rows.count → IsKept bounds i (entry i) (v (rows.parts + i))
   kept i below = by_leaving (nat_eq (rows.parts + i) leaving) refl
@@ -291,8 +290,8 @@ module _ (rows : Rows) (bounds : List Bound) (held : Point) (places : Places) (t
       at_leaving e =
           subst (λ (x : Rational). IsKept bounds i x (v (rows.parts + i))) (sym (ap (signed (other_side side)) (ap (t leaving) e ∙ s.own leaving stuck.leaving_in leaves)))
           (broken_kept bounds i (signed (other_side side) minus_one) (v (rows.parts + i))
-            (broken bounds i side (v (rows.parts + i))
-              (ap (λ b. breaks_limit side b (v (rows.parts + i))) (sym (limit_row rows bounds i side)) ∙ ap (λ c. breaks_limit side (limits rows bounds c side) (v c)) e ∙ stuck.breaks)))
+          (broken bounds i side (v (rows.parts + i))
+          (ap (λ b. breaks_limit side b (v (rows.parts + i))) (sym (limit_row rows bounds i side)) ∙ ap (λ c. breaks_limit side (limits rows bounds c side) (v c)) e ∙ stuck.breaks)))
 
       outside : is_basic (places (rows.parts + i)) ≡ false → (z : Bool) → is_zero (t leaving (rows.parts + i)) ≡ z → IsKept bounds i (entry i) (v (rows.parts + i))
       outside out true z = zero_kept bounds i (entry i) (v (rows.parts + i)) (turned_zero t leaving side (rows.parts + i) (zero_is (t leaving (rows.parts + i)) z))
@@ -317,7 +316,7 @@ module _ (rows : Rows) (bounds : List Bound) (held : Point) (places : Places) (t
       sym (sym (turned_sum rows t leaving side w (s.meets w solution leaving stuck.leaving_in leaves))
       ∙ sum_split rows.parts rows.count (λ c. times (turned t leaving side c) (w c))
       ∙ ap (λ x. plus x (sum_to rows.count (λ i. times (entry i) (w (rows.parts + i)))))
-        (sum_nothing rows.parts (λ c. times (turned t leaving side c) (w c)) (λ c below. ap (λ x. times x (w c)) (turned_zero t leaving side c (part_zero c below)) ∙ zero_times (w c)))
+      (sum_nothing rows.parts (λ c. times (turned t leaving side c) (w c)) (λ c below. ap (λ x. times x (w c)) (turned_zero t leaving side c (part_zero c below)) ∙ zero_times (w c)))
       ∙ zero_plus (sum_to rows.count (λ i. times (entry i) (w (rows.parts + i)))))
 
   -- ---- all parts cancel
@@ -370,7 +369,7 @@ module _ (rows : Rows) (bounds : List Bound) (held : Point) (places : Places) (t
       sym (sum_same rows.count gap (λ i. plus (times (entry i) (bound_for bounds i (entry i))) (opposite (times (entry i) (v (rows.parts + i))))) (λ i inside. times_minus (entry i) (bound_for bounds i (entry i)) (v (rows.parts + i)))
       ∙ sum_plus rows.count (λ i. times (entry i) (bound_for bounds i (entry i))) (λ i. opposite (times (entry i) (v (rows.parts + i))))
       ∙ ap (plus (sum_to rows.count (λ i. times (entry i) (bound_for bounds i (entry i)))))
-        (sum_opposite rows.count (λ i. times (entry i) (v (rows.parts + i))) ∙ ap opposite (rows_sum v (point_solves rows (limits rows bounds) held places t s)) ∙ opposite_nothing)
+      (sum_opposite rows.count (λ i. times (entry i) (v (rows.parts + i))) ∙ ap opposite (rows_sum v (point_solves rows (limits rows bounds) held places t s)) ∙ opposite_nothing)
       ∙ plus_zero (sum_to rows.count (λ i. times (entry i) (bound_for bounds i (entry i)))))
 
   gap_negative : is_negative (sum_to rows.count gap) ≡ true
@@ -382,7 +381,7 @@ module _ (rows : Rows) (bounds : List Bound) (held : Point) (places : Places) (t
       at_row i e =
           ap (λ x. is_negative (times x (minus (bound_for bounds i x) (v (rows.parts + i))))) (ap (signed (other_side side)) (ap (t leaving) e ∙ s.own leaving stuck.leaving_in leaves))
           ∙ (broken bounds i side (v (rows.parts + i))
-              (ap (λ b. breaks_limit side b (v (rows.parts + i))) (sym (limit_row rows bounds i side)) ∙ ap (λ c. breaks_limit side (limits rows bounds c side) (v c)) e ∙ stuck.breaks)).below
+          (ap (λ b. breaks_limit side b (v (rows.parts + i))) (sym (limit_row rows bounds i side)) ∙ ap (λ c. breaks_limit side (limits rows bounds c side) (v c)) e ∙ stuck.breaks)).below
 
   pub contradicts : IsContradiction rows bounds (stuck_multiples rows t leaving side)
   contradicts = record {

@@ -1,5 +1,5 @@
 -- Multiples of bounds that sum to 0 <= c, with c below 0.
-use Rattle.std.specs.Prelude.{◌≡◌, ℕ, ◌<◌, Bool, true, false, ◌&&◌, not, List, [], ◌∷◌, nat_lt}
+use Rattle.std.specs.Prelude.{◌≡◌, ℕ, ◌<◌, Bool, true, ◌&&◌, not, List, [], ◌∷◌, nat_lt}
 use Rattle.std.specs.List.{list_all}
 use Rattle.spv_rational.specs.Rational.{Rational, plus, times, opposite, is_negative}
 use Rattle.spv_tableaux.specs.declared.side.Side.{Side}

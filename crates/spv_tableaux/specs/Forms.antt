@@ -1,5 +1,5 @@
 -- The rows of linear forms: their parts in the order in which they come first, each once; the constants do not count.
-use Rattle.std.specs.Prelude.{ℕ, List, [], ◌∷◌, length, Option, Some, None, ℤ, slice_get}
+use Rattle.std.specs.Prelude.{List, [], ◌∷◌, length, Option, Some, ℤ, slice_get}
 use Rattle.spv_logic.specs.declared.conditions.TermId.{TermId}
 use Rattle.spv_rational.specs.Rational.{Rational, whole}
 use Rattle.spv_atoms.specs.Order.{with_id}

@@ -1,5 +1,5 @@
 -- Rational numbers as rows and bounds take them: differences, quotients, their order, and sums over columns.
-use Rattle.std.specs.Prelude.{ℕ, zero, suc, Bool, ◌+◌, ℤ, pos, negsuc, ◌*ℤ◌, if◌then◌else◌}
+use Rattle.std.specs.Prelude.{ℕ, zero, suc, Bool, pos, negsuc, ◌*ℤ◌, if◌then◌else◌}
 use Rattle.std.specs.Int.RustNames.{int_lt}
 use Rattle.spv_whole.specs.Fraction.{reciprocal}
 use Rattle.spv_rational.specs.Rational.{Rational, whole, number, plus, times, opposite}

@@ -1,6 +1,6 @@
 -- The operations of a check, each with its two operands.
 use Rattle.std.specs.Prelude.{◌≡◌, ℕ, ◌<◌, Bool, true, false, Some, nat_eq}
-use Rattle.spv_rational.specs.Rational.{Rational, plus, times}
+use Rattle.spv_rational.specs.Rational.{Rational, times}
 use Rattle.spv_frac.specs.declared.frac.Op.{Op}
 use Rattle.spv_frac.specs.declared.frac.Op.TheVariants.{Add, Sub, Mul, Div, Cmp}
 use Rattle.spv_frac.specs.Range.{op_fits}
@@ -8,7 +8,7 @@ use Rattle.spv_tableaux.specs.declared.side.Side.{Side}
 use Rattle.spv_tableaux.specs.Numbers.{one, minus, divided}
 use Rattle.spv_tableaux.specs.Rows.{Rows, columns, Point}
 use Rattle.spv_tableaux.specs.Bounds.{Limits, breaks}
-use Rattle.spv_tableaux.specs.Solved.{Place, Held, Places, is_basic, Entries, solved_for}
+use Rattle.spv_tableaux.specs.Solved.{Held, Places, is_basic, Entries, solved_for}
 use Rattle.spv_tableaux.specs.Steps.{IsStep}
 
 -- an operation and its operands

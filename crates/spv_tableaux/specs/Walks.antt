@@ -1,11 +1,11 @@
 -- Walks: the steps of a check, from the basis and the values that it found, and what its answers mean.
-use Rattle.std.specs.Prelude.{◌≡◌, ℕ, ◌+◌, ◌<◌, Bool, true, false, List, [], ◌∷◌, ◌++◌, length, ◌⊎◌, Some, nat_eq, slice_get, if◌then◌else◌}
+use Rattle.std.specs.Prelude.{◌≡◌, ℕ, ◌<◌, false, List, [], ◌∷◌, ◌++◌, length, ◌⊎◌, Some, nat_eq, slice_get, if◌then◌else◌}
 use Rattle.spv_rational.specs.Rational.{Rational}
 use Rattle.spv_tableaux.specs.declared.side.Side.{Side}
 use Rattle.spv_tableaux.specs.Numbers.{nothing}
-use Rattle.spv_tableaux.specs.Rows.{Rows, columns, column_of, Point}
+use Rattle.spv_tableaux.specs.Rows.{Rows, column_of, Point}
 use Rattle.spv_tableaux.specs.Bounds.{Bound, Limits, limits}
-use Rattle.spv_tableaux.specs.Solved.{Place, Places, is_basic, basis_of, Entries, IsSolved, point, exchanged}
+use Rattle.spv_tableaux.specs.Solved.{Places, is_basic, basis_of, Entries, IsSolved, point, exchanged}
 use Rattle.spv_tableaux.specs.Steps.{IsStep, inside}
 use Rattle.spv_tableaux.specs.Operations.{Operation, fits, IsFirst, IsNext}
 

@@ -2,6 +2,11 @@
 //! what the answers of a check mean.
 #![tactic(auto)]
 
+mod laws;
 mod side;
 
+pub use laws::{
+    law_example_contradiction, law_example_forms, law_example_inside, law_example_solved,
+    law_example_steps,
+};
 pub use side::Side;
