@@ -1,20 +1,19 @@
 -- What differences, quotients and the order of rational numbers obey.
-use Rattle.std.proofs.Common.{◌≡◌, ℕ, zero, suc, ◌+◌, ◌*◌, ◌<◌, Bool, true, false, refl, sym, ap, ◌∙◌, subst, arith, ℤ, pos, negsuc, ◌+ℤ◌, ◌*ℤ◌, ◌<ℤ◌, neg_ℤ}
+use Rattle.std.proofs.Common.{◌≡◌, ℕ, ◌*◌, ◌<◌, Bool, true, false, refl, sym, ap, ◌∙◌, subst, arith, ℤ, pos, negsuc, ◌+ℤ◌, ◌*ℤ◌, ◌<ℤ◌, neg_ℤ}
 use Rattle.std.specs.Prelude.{unsigned_abs}
 use Rattle.std.proofs.Math.Nat.{mul-pos}
 use Rattle.std.proofs.lemmas.Int.{ints}
 use Rattle.std.proofs.lemmas.Bool.{false≢true}
 use Rattle.std.specs.Int.RustNames.{int_lt}
 use Rattle.std.specs.Ordering.{int_eq}
-use mathlib.Core.Path.{ap₂}
 use Rattle.spv_whole.specs.Fraction.{Fraction, IsLowest}
 use Rattle.spv_whole.specs.Fraction as fraction
 use Rattle.spv_whole.proofs.Lowest.{lowest-value, lowest-IsLowest}
 use Rattle.spv_whole.proofs.Ring.{<ℤ-scaled, <ℤ-unscaled, by_diff2, diff_same, diff-neg, diff-*ℤ}
 use Rattle.spv_whole.proofs.Units.{reciprocal-IsLowest, product-reciprocal, product-negated, sum_of_negated, negated-negated}
-use Rattle.spv_rational.specs.Rational.{Rational, whole, number, plus, times, opposite, is_zero, is_positive, is_negative}
-use Rattle.spv_rational.proofs.Field.{same, plus_comm, plus_assoc, plus_zero, zero_plus, plus_opposite, plus_middle, times_comm, times_assoc, times_one, times_zero, zero_times, times_plus, plus_times, number_is}
-use Rattle.spv_rational.proofs.Signs.{not_positive_plus, not_positive_times, zero_is}
+use Rattle.spv_rational.specs.Rational.{Rational, plus, times, opposite, is_zero, is_positive, is_negative}
+use Rattle.spv_rational.proofs.Field.{same, plus_comm, plus_assoc, plus_zero, zero_plus, plus_opposite, times_comm, times_assoc, times_one, zero_times, times_plus, number_is}
+use Rattle.spv_rational.proofs.Signs.{not_positive_plus}
 use Rattle.spv_tableaux.specs.Numbers.{nothing, one, minus_one, minus, inverse, divided, is_less}
 
 -- ---- opposites

@@ -1,5 +1,5 @@
 -- A contradiction of the bounds means that no solution meets them.
-use Rattle.std.proofs.Common.{◌≡◌, ℕ, ◌+◌, ◌<◌, Bool, true, false, ◌&&◌, not, List, [], ◌∷◌, Option, Some, None, nat_lt, refl, sym, ap, ◌∙◌, arith}
+use Rattle.std.proofs.Common.{◌≡◌, ℕ, ◌+◌, ◌<◌, true, false, List, [], ◌∷◌, Option, Some, None, nat_lt, sym, ap, ◌∙◌, arith}
 use Rattle.std.specs.List.{list_all}
 use Rattle.std.proofs.lemmas.Bool.{false≢true}
 use Rattle.std.proofs.lemmas.Bool.Decides.{nat_tests}
@@ -9,10 +9,10 @@ use Rattle.spv_rational.proofs.Field.{plus_comm, plus_opposite, zero_plus, plus_
 use Rattle.spv_rational.proofs.Signs.{not_positive_plus, not_positive_times}
 use Rattle.spv_tableaux.specs.declared.side.Side.{Side}
 use Rattle.spv_tableaux.specs.declared.side.Side.TheVariants.{Lower, Upper}
-use Rattle.spv_tableaux.specs.Numbers.{nothing, minus, is_less, sum_to}
-use Rattle.spv_tableaux.specs.Rows.{Rows, Point, IsSolution, row_sum}
+use Rattle.spv_tableaux.specs.Numbers.{nothing, minus, sum_to}
+use Rattle.spv_tableaux.specs.Rows.{Rows, Point, IsSolution}
 use Rattle.spv_tableaux.specs.Bounds.{Bound, bound_on, is_none, or_nothing, limits, breaks_limit, Meets}
-use Rattle.spv_tableaux.specs.Contradictions.{Multiple, signed, coefficient_sum, bound_sum, is_multiple, IsContradiction}
+use Rattle.spv_tableaux.specs.Contradictions.{Multiple, signed, coefficient_sum, bound_sum, is_multiple}
 use Rattle.spv_pivots.specs.Laws.{ContradictionRefutes}
 use Rattle.spv_pivots.proofs.Algebra.{clash, opposite_times, opposite_opposite, opposite_sum, times_minus, positive_opposite, less_is}
 use Rattle.spv_pivots.proofs.Sums.{sum_same, sum_plus, sum_times, sum_opposite, sum_nothing}

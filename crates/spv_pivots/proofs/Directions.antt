@@ -1,16 +1,16 @@
 -- The direction in which a point goes where a column outside the basis moves; that there is one solved form.
-use Rattle.std.proofs.Common.{◌≡◌, ℕ, ◌<◌, Bool, true, false, nat_eq, refl, sym, ap, ◌∙◌, arith, if◌then◌else◌}
+use Rattle.std.proofs.Common.{◌≡◌, ℕ, ◌<◌, Bool, true, false, nat_eq, refl, sym, ap, ◌∙◌, if◌then◌else◌}
 use Rattle.std.proofs.lemmas.Bool.{false≢true}
 use mathlib.Core.Path.{ap₂}
 use Rattle.spv_rational.specs.Rational.{Rational, plus, times, opposite}
 use Rattle.spv_rational.proofs.Field.{plus_zero, zero_plus, plus_opposite, times_zero, zero_times, times_comm, times_one, times_plus}
-use Rattle.spv_tableaux.specs.Numbers.{nothing, one, minus_one, sum_to}
-use Rattle.spv_tableaux.specs.Rows.{Rows, columns, Point, IsSolution}
-use Rattle.spv_tableaux.specs.Solved.{Place, Basic, Held, At, Places, is_basic, Entries, equation_sum, MeetsEntries, IsSolved}
+use Rattle.spv_tableaux.specs.Numbers.{nothing, one}
+use Rattle.spv_tableaux.specs.Rows.{Rows, columns, Point}
+use Rattle.spv_tableaux.specs.Solved.{Places, is_basic, Entries, equation_sum, MeetsEntries, IsSolved}
 use Rattle.spv_pivots.specs.Laws.{OneSolvedForm, MovedSolves}
 use Rattle.spv_pivots.specs.Moved.{moved}
-use Rattle.spv_pivots.proofs.Algebra.{one_times, minus_one_times, times_opposite, equal_of, opposite_plus}
-use Rattle.spv_pivots.proofs.Sums.{sum_same, sum_plus, sum_two, only, only_here, only_there, eq_is, eq_self, eq_flip}
+use Rattle.spv_pivots.proofs.Algebra.{one_times, minus_one_times, equal_of}
+use Rattle.spv_pivots.proofs.Sums.{sum_same, sum_plus, sum_two, only, only_here, only_there, eq_is, eq_flip}
 
 -- how far each column goes where one moves by a distance
 abbrev pub direction : Places → Entries → ℕ → Rational → Point

@@ -7,3 +7,4 @@ pub mod Starting
 pub mod Tests
 pub mod Contradicting
 pub mod Stuck
+pub mod Stepping

@@ -1,16 +1,16 @@
 -- An exchange of two columns leads from a solved form to one.
-use Rattle.std.proofs.Common.{◌≡◌, ℕ, suc, ◌<◌, Bool, true, false, nat_eq, refl, sym, ap, ◌∙◌, arith, if◌then◌else◌}
+use Rattle.std.proofs.Common.{◌≡◌, ℕ, ◌<◌, Bool, true, false, nat_eq, refl, sym, ap, ◌∙◌, if◌then◌else◌}
 use Rattle.std.proofs.lemmas.Bool.{false≢true}
 use mathlib.Core.Path.{ap₂}
 use Rattle.spv_rational.specs.Rational.{Rational, plus, times, opposite, is_zero}
-use Rattle.spv_rational.proofs.Field.{plus_zero, zero_plus, plus_opposite, times_zero, zero_times, times_comm, times_assoc, times_one, plus_times}
+use Rattle.spv_rational.proofs.Field.{plus_zero, plus_opposite, times_zero, zero_times, times_comm, times_assoc, times_one, plus_times}
 use Rattle.spv_tableaux.specs.declared.side.Side.{Side}
-use Rattle.spv_tableaux.specs.Numbers.{nothing, one, minus_one, inverse, divided, sum_to, count_to}
-use Rattle.spv_tableaux.specs.Rows.{Rows, columns, Point, IsSolution}
-use Rattle.spv_tableaux.specs.Solved.{Place, Basic, Held, At, Places, is_basic, Entries, equation_sum, MeetsEntries, IsBasis, IsSolved, exchanged, solved_for, pivot}
+use Rattle.spv_tableaux.specs.Numbers.{nothing, one, minus_one, inverse, divided}
+use Rattle.spv_tableaux.specs.Rows.{Rows, columns, Point}
+use Rattle.spv_tableaux.specs.Solved.{Places, is_basic, Entries, equation_sum, MeetsEntries, IsBasis, IsSolved, exchanged, solved_for, pivot}
 use Rattle.spv_pivots.specs.Laws.{PivotSolves}
-use Rattle.spv_pivots.proofs.Algebra.{minus_one_is, opposite_nothing, opposite_times, both_opposite, times_inverse, divided_itself, nothing_divided, minus_one_times, opposite_plus}
-use Rattle.spv_pivots.proofs.Sums.{sum_same, sum_plus, sum_times, count_same, count_more, eq_is, eq_self, eq_flip}
+use Rattle.spv_pivots.proofs.Algebra.{minus_one_is, opposite_nothing, opposite_times, both_opposite, times_inverse, divided_itself, nothing_divided, minus_one_times}
+use Rattle.spv_pivots.proofs.Sums.{sum_same, sum_plus, sum_times, count_more, eq_is, eq_self, eq_flip}
 use Rattle.spv_pivots.proofs.Directions.{differ}
 
 -- ---- the entries of the pivot
@@ -48,14 +48,14 @@ solved_entering t leaving entering h = ap opposite (divided_itself (t leaving en
 
 -- ---- which columns are in the basis
 
-entered : (places : Places) (leaving : ℕ) (side : Side) (entering c : ℕ) → nat_eq c entering ≡ true → is_basic (exchanged places leaving side entering c) ≡ true
+pub entered : (places : Places) (leaving : ℕ) (side : Side) (entering c : ℕ) → nat_eq c entering ≡ true → is_basic (exchanged places leaving side entering c) ≡ true
 entered places leaving side entering c e = rw e refl
 
-left : (places : Places) (leaving : ℕ) (side : Side) (entering c : ℕ) → nat_eq c entering ≡ false → nat_eq c leaving ≡ true
+pub left : (places : Places) (leaving : ℕ) (side : Side) (entering c : ℕ) → nat_eq c entering ≡ false → nat_eq c leaving ≡ true
     → is_basic (exchanged places leaving side entering c) ≡ false
 left places leaving side entering c e h = rw (e, h) refl
 
-stayed : (places : Places) (leaving : ℕ) (side : Side) (entering c : ℕ) → nat_eq c entering ≡ false → nat_eq c leaving ≡ false
+pub stayed : (places : Places) (leaving : ℕ) (side : Side) (entering c : ℕ) → nat_eq c entering ≡ false → nat_eq c leaving ≡ false
     → is_basic (exchanged places leaving side entering c) ≡ is_basic (places c)
 stayed places leaving side entering c e h = rw (e, h) refl
 

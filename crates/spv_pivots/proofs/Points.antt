@@ -1,17 +1,16 @@
 -- The point of a placed basis: the only solution in which the columns outside the basis rest.
-use Rattle.std.proofs.Common.{◌≡◌, ℕ, ◌<◌, Bool, true, false, nat_eq, refl, sym, ap, ◌∙◌, arith, if◌then◌else◌}
+use Rattle.std.proofs.Common.{◌≡◌, ℕ, ◌<◌, Bool, true, false, nat_eq, refl, sym, ap, ◌∙◌, arith}
 use Rattle.std.proofs.lemmas.Bool.{false≢true}
 use mathlib.Core.Path.{ap₂}
 use Rattle.spv_rational.specs.Rational.{Rational, plus, times, opposite}
-use Rattle.spv_rational.proofs.Field.{plus_zero, zero_plus, plus_opposite, times_zero, zero_times, times_comm, times_assoc, times_plus}
-use Rattle.spv_tableaux.specs.Numbers.{nothing, minus_one, sum_to}
-use Rattle.spv_tableaux.specs.Rows.{Rows, columns, Point, IsSolution}
-use Rattle.spv_tableaux.specs.Bounds.{Limits, or_nothing}
+use Rattle.spv_rational.proofs.Field.{plus_zero, zero_plus, plus_opposite, times_zero, zero_times}
+use Rattle.spv_tableaux.specs.Numbers.{nothing, sum_to}
+use Rattle.spv_tableaux.specs.Rows.{Rows, columns, Point}
+use Rattle.spv_tableaux.specs.Bounds.{Limits}
 use Rattle.spv_tableaux.specs.Solved.{Place, Basic, Held, At, Places, is_basic, Entries, equation_sum, MeetsEntries, IsSolved, point, at_rest, resting}
-use Rattle.spv_pivots.specs.Laws.{PointSolves, OnlyPoint, MovedSolves}
-use Rattle.spv_pivots.specs.Moved.{moved}
-use Rattle.spv_pivots.proofs.Algebra.{minus_one_times, times_opposite, equal_of, opposite_opposite, opposite_plus}
-use Rattle.spv_pivots.proofs.Sums.{sum_same, sum_plus, sum_times, sum_only, only, only_here, only_there, eq_is, eq_self}
+use Rattle.spv_pivots.specs.Laws.{PointSolves, OnlyPoint}
+use Rattle.spv_pivots.proofs.Algebra.{minus_one_times, equal_of}
+use Rattle.spv_pivots.proofs.Sums.{sum_same, sum_plus, sum_only, only, only_here, only_there, eq_is}
 
 -- a sum over all columns, where what is in the basis counts for nothing but at one column
 pub with_own : (n b : ℕ) (f g : ℕ → Rational) (k : Rational) → b < n → ((c : ℕ) → c < n → f c ≡ plus (g c) (only b k c)) → sum_to n f ≡ plus (sum_to n g) k

@@ -1,16 +1,16 @@
 -- The rows are a solved form for their own columns.
-use Rattle.std.proofs.Common.{◌≡◌, ℕ, zero, suc, ◌+◌, ◌-◌, ◌<◌, Bool, true, false, nat_eq, nat_lt, refl, sym, ap, ◌∙◌, arith, if◌then◌else◌}
+use Rattle.std.proofs.Common.{◌≡◌, ℕ, ◌+◌, ◌-◌, ◌<◌, Bool, true, false, nat_eq, nat_lt, refl, sym, ap, ◌∙◌, arith}
 use Rattle.std.proofs.lemmas.Bool.{false≢true}
 use Rattle.std.proofs.lemmas.Bool.Decides.{nat_tests}
 use mathlib.Core.Path.{ap₂}
-use Rattle.spv_rational.specs.Rational.{Rational, plus, times, opposite}
+use Rattle.spv_rational.specs.Rational.{plus, times, opposite}
 use Rattle.spv_rational.proofs.Field.{plus_opposite, zero_times}
-use Rattle.spv_tableaux.specs.Numbers.{nothing, minus_one, sum_to, count_to}
-use Rattle.spv_tableaux.specs.Rows.{Rows, columns, column_of, Point, IsSolution, row_sum}
-use Rattle.spv_tableaux.specs.Solved.{Place, Basic, Held, At, is_basic, equation_sum, MeetsEntries, IsBasis, IsSolved, row_places, row_entries}
+use Rattle.spv_tableaux.specs.Numbers.{nothing, minus_one}
+use Rattle.spv_tableaux.specs.Rows.{Rows, columns, Point, IsSolution, row_sum}
+use Rattle.spv_tableaux.specs.Solved.{is_basic, equation_sum, MeetsEntries, IsBasis, row_places, row_entries}
 use Rattle.spv_pivots.specs.Laws.{RowsAreSolved}
 use Rattle.spv_pivots.proofs.Algebra.{minus_one_times, equal_of}
-use Rattle.spv_pivots.proofs.Sums.{sum_same, sum_only, sum_split, only, only_here, only_there, count_split, count_all, count_none, eq_self, eq_is, eq_flip}
+use Rattle.spv_pivots.proofs.Sums.{sum_same, sum_only, sum_split, only, only_here, only_there, count_split, count_all, count_none, eq_self, eq_is}
 
 -- a row's column, by its number
 pub record IsRow (rows : Rows) (b : ℕ) : Type 0 where

@@ -9,18 +9,18 @@ use Rattle.spv_rational.proofs.Field.{plus_assoc, plus_zero, zero_plus, times_on
 use Rattle.spv_rational.proofs.Signs.{not_positive_times, zero_is}
 use Rattle.spv_tableaux.specs.declared.side.Side.{Side}
 use Rattle.spv_tableaux.specs.declared.side.Side.TheVariants.{Lower, Upper}
-use Rattle.spv_tableaux.specs.Numbers.{nothing, one, minus_one, minus, is_less, sum_to}
-use Rattle.spv_tableaux.specs.Rows.{Rows, columns, Point, IsSolution, row_sum}
-use Rattle.spv_tableaux.specs.Bounds.{Bound, bound_on, is_none, or_nothing, Limits, limits, other_side, breaks_limit, has_room, is_out}
+use Rattle.spv_tableaux.specs.Numbers.{nothing, one, minus_one, minus, sum_to}
+use Rattle.spv_tableaux.specs.Rows.{Rows, columns, Point, IsSolution}
+use Rattle.spv_tableaux.specs.Bounds.{Bound, bound_on, is_none, or_nothing, limits, other_side, breaks_limit, has_room, is_out}
 use Rattle.spv_tableaux.specs.Solved.{Places, is_basic, Entries, equation_sum, IsSolved, point}
-use Rattle.spv_tableaux.specs.Steps.{way, may_leave, may_enter, IsStuck}
+use Rattle.spv_tableaux.specs.Steps.{way, may_enter, IsStuck}
 use Rattle.spv_tableaux.specs.Contradictions.{Multiple, signed, coefficient_sum, bound_sum, is_multiple, IsContradiction}
 use Rattle.spv_pivots.specs.Laws.{StuckContradicts}
 use Rattle.spv_pivots.specs.Moved.{turned, multiple_of, multiples_at, multiples_to, stuck_multiples}
 use Rattle.spv_pivots.proofs.Algebra.{clash, opposite_times, both_opposite, opposite_nothing, opposite_opposite, opposite_minus, one_times, minus_one_times, minus_one_is, times_minus, negative_opposite, positive_opposite, positive_not_negative, negative_not_positive, negative_of, less_is}
-use Rattle.spv_pivots.proofs.Sums.{sum_same, sum_plus, sum_opposite, sum_nothing, sum_split, sum_only, sum_negative, only, only_here, only_there, eq_is, eq_self, eq_flip}
-use Rattle.spv_pivots.proofs.Tests.{and_left, and_right, and_both, not_true, not_false, none_below, all_append, limit_row, limit_part}
-use Rattle.spv_pivots.proofs.Starting.{above_is, row_of, IsRow}
+use Rattle.spv_pivots.proofs.Sums.{sum_same, sum_plus, sum_opposite, sum_nothing, sum_split, sum_only, sum_negative, only, only_here, only_there, eq_is, eq_flip}
+use Rattle.spv_pivots.proofs.Tests.{and_left, and_both, not_false, none_below, all_append, limit_row, limit_part}
+use Rattle.spv_pivots.proofs.Starting.{above_is, row_of}
 use Rattle.spv_pivots.proofs.Points.{point_solves}
 
 -- ---- the side that an entry is multiplied with

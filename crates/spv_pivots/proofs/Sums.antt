@@ -1,6 +1,5 @@
 -- What sums over columns obey.
 use Rattle.std.proofs.Common.{◌≡◌, ℕ, zero, suc, ◌+◌, ◌<◌, Bool, true, false, nat_eq, refl, sym, ap, ◌∙◌, arith, if◌then◌else◌}
-use Rattle.std.proofs.lemmas.Bool.{false≢true}
 use mathlib.Core.Path.{ap₂}
 use Rattle.spv_rational.specs.Rational.{Rational, plus, times, opposite, is_positive, is_negative}
 use Rattle.spv_rational.proofs.Field.{plus_assoc, plus_zero, zero_plus, plus_middle, times_zero, times_plus}

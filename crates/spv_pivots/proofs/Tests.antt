@@ -1,12 +1,11 @@
 -- Tests taken apart.
-use Rattle.std.proofs.Common.{◌≡◌, ℕ, zero, suc, ◌+◌, ◌-◌, ◌<◌, Bool, true, false, ◌&&◌, ◌||◌, not, List, [], ◌∷◌, ◌++◌, Option, Some, None, nat_eq, nat_lt, refl, sym, ap, ◌∙◌, arith, if◌then◌else◌}
+use Rattle.std.proofs.Common.{◌≡◌, ℕ, zero, suc, ◌+◌, ◌-◌, ◌<◌, Bool, true, false, ◌&&◌, ◌||◌, not, List, [], ◌∷◌, ◌++◌, None, nat_eq, nat_lt, refl, sym, ap, ◌∙◌, arith}
 use Rattle.std.specs.List.{list_all}
 use Rattle.std.proofs.lemmas.Bool.{false≢true}
-use Rattle.spv_rational.specs.Rational.{Rational}
 use Rattle.spv_tableaux.specs.declared.side.Side.{Side}
 use Rattle.spv_tableaux.specs.declared.side.Side.TheVariants.{Lower, Upper}
 use Rattle.spv_tableaux.specs.Rows.{Rows, Point}
-use Rattle.spv_tableaux.specs.Bounds.{Bound, bound_on, Limits, limit_from, limits, breaks, breaks_limit, is_out, Meets}
+use Rattle.spv_tableaux.specs.Bounds.{Bound, bound_on, Limits, limit_from, limits, breaks_limit, Meets}
 use Rattle.spv_tableaux.specs.Steps.{none_to}
 use Rattle.spv_pivots.proofs.Starting.{above_is}
 use Rattle.spv_pivots.proofs.Sums.{eq_is}

@@ -1,17 +1,25 @@
 -- How a point goes on along a solved form, and the multiples that a sum is read as.
-use Rattle.std.specs.Prelude.{ℕ, zero, suc, ◌+◌, Bool, true, false, List, [], ◌∷◌, ◌++◌, nat_eq, if◌then◌else◌}
+use Rattle.std.specs.Prelude.{ℕ, zero, suc, ◌+◌, List, [], ◌∷◌, ◌++◌, nat_eq, if◌then◌else◌}
 use Rattle.spv_rational.specs.Rational.{Rational, plus, times, opposite, is_zero, is_positive}
 use Rattle.spv_tableaux.specs.declared.side.Side.{Side}
 use Rattle.spv_tableaux.specs.declared.side.Side.TheVariants.{Lower, Upper}
 use Rattle.spv_tableaux.specs.Rows.{Rows, Point}
 use Rattle.spv_tableaux.specs.Bounds.{other_side}
-use Rattle.spv_tableaux.specs.Solved.{Places, is_basic, Entries}
+use Rattle.spv_tableaux.specs.Solved.{Place, Basic, Held, Places, is_basic, Entries}
 use Rattle.spv_tableaux.specs.Contradictions.{Multiple, signed}
 
 -- a column outside the basis moves by a distance, and the columns in the basis with it
 abbrev pub moved : Point → Places → Entries → ℕ → Rational → Point
 moved v places t entering distance c =
     if nat_eq c entering then plus (v c) distance else if is_basic (places c) then plus (v c) (times distance (t c entering)) else v c
+
+-- one column in another place
+abbrev pub placed : Places → ℕ → Place → Places
+placed places column place c = if nat_eq c column then place else places c
+
+-- the basis, and each other column at the value that it holds
+abbrev pub as_held : Places → Places
+as_held places c = if is_basic (places c) then Basic else Held
 
 -- the sum of a leaving column, with the sign by which it is at most 0 where the column is out of its bounds on this side
 abbrev pub turned : Entries → ℕ → Side → ℕ → Rational

@@ -3,4 +3,4 @@
 
 mod laws;
 
-pub use laws::{law_contradiction, law_pivot, law_point, law_start, law_unique};
+pub use laws::{law_contradiction, law_pivot, law_point, law_start, law_step, law_unique};

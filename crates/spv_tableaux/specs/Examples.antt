@@ -109,10 +109,10 @@ may_enter_second = may_enter_all places_after_one second_point second 3 Upper
 abbrev pub greatest_enters : Bool
 greatest_enters = is_least (may_enter bounded start first_point first 2 Lower) 1
 
--- ---- a check that begins with 1 at x + y and with 5 at x - y, which are both outside the basis
+-- ---- a check that begins with 1 at x + y and with 5 at x - y, which are both outside the basis; what x and y held does not count
 
 abbrev pub held : Point
-held c = if nat_eq c 2 then one else if nat_eq c 3 then whole (pos 5) else nothing
+held c = if nat_eq c 2 then one else if nat_eq c 3 then whole (pos 5) else whole (pos 7)
 
 abbrev outside : Places
 outside c = if nat_eq c 2 then Held else if nat_eq c 3 then Held else Basic
@@ -140,6 +140,11 @@ three_rows = record { parts = 2; count = 3; coefficient = coefficient_of_three }
 
 abbrev pub three_bounds : List Bound
 three_bounds = at_least 0 two ∷ at_most 1 nothing ∷ at_most 2 one ∷ []
+
+-- y is no part of the row x
+abbrev pub absent_part_enters : Bool
+absent_part_enters =
+    may_enter (limits three_rows three_bounds) (row_places three_rows) (point three_rows (limits three_rows three_bounds) zeros (row_places three_rows) (row_entries three_rows)) (row_entries three_rows) 3 Upper 1
 
 abbrev times_bound : Rational → ℕ → Side → Multiple
 times_bound factor row side = record { row = row; side = side; factor = factor }

@@ -22,6 +22,7 @@ pub fn law_example_steps()
     ensures enters_first { examples.may_enter_first ≡ true ∷ true ∷ false ∷ false ∷ [] }
     ensures enters_second { examples.may_enter_second ≡ false ∷ true ∷ false ∷ false ∷ [] }
     ensures least { examples.greatest_enters ≡ false }
+    ensures absent { examples.absent_part_enters ≡ false }
     ensures out { examples.are_out examples.first_point ≡ false ∷ false ∷ true ∷ true ∷ [] }
     ensures met { examples.are_out examples.third_point ≡ false ∷ false ∷ false ∷ false ∷ [] }
 {}

@@ -1,3 +1,4 @@
+use Rattle.spv_pivots.proofs.Stepping.{held_point}
 use Rattle.spv_pivots.proofs.Points.{point_solves, only_point}
 use Rattle.spv_pivots.proofs.Directions.{moved_solves}
 use Rattle.spv_pivots.proofs.laws.law_point.Goals as goal
@@ -10,3 +11,6 @@ returns-clause-only c = only_point
 
 pub returns-clause-moved : goal.returns-clause-moved
 returns-clause-moved c = moved_solves
+
+pub returns-clause-held : goal.returns-clause-held
+returns-clause-held c = held_point

@@ -23,6 +23,10 @@ pub returns-clause-least : goal.returns-clause-least
 unfolding fraction.sum fraction.product fraction.lowest gcd
 returns-clause-least c = refl
 
+pub returns-clause-absent : goal.returns-clause-absent
+unfolding fraction.sum fraction.product fraction.lowest gcd
+returns-clause-absent c = refl
+
 pub returns-clause-out : goal.returns-clause-out
 unfolding fraction.sum fraction.product fraction.lowest gcd
 returns-clause-out c = refl
