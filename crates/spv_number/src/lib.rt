@@ -3,4 +3,4 @@
 
 mod number;
 
-pub use number::Number;
+pub use number::{Number, Refused};

@@ -1,6 +1,6 @@
 // Fractions of 128 bits, seen as the rational numbers that they are.
 
-ghost use Rattle.std.specs.Prelude.{◌≡◌, ◌↔◌, IsTrue, IsOk, IfOk, false};
+ghost use Rattle.std.specs.Prelude.{◌≡◌, ◌↔◌, IsTrue, IsOk, IfOk, IfErr, false};
 ghost use Rattle.spv_frac.specs.declared.frac.Op.TheVariants.{Add, Sub, Mul, Div, Cmp};
 ghost use Rattle.spv_frac.specs.Range as range;
 ghost use Rattle.spv_whole.specs.Fraction as fraction;
@@ -8,7 +8,7 @@ ghost use Rattle.spv_rational.specs.Rational.{whole, number, plus, times, opposi
 ghost use Rattle.spv_tableaux.specs.Numbers.{minus, divided, is_less};
 ghost use Rattle.spv_tableaux.specs.Operations.{operation, fits};
 
-use spv_frac::{Frac, TooWide, law_frac};
+use spv_frac::{Frac, Op, TooWide, law_frac};
 use std::cmp::Ordering;
 use std::marker::Model;
 
@@ -34,6 +34,51 @@ impl Model for Number {
     ghost use Rattle.spv_rational.proofs.Field.{number_is};
 
     ghost inverse_ok = { λ n h. ap (λ f. record n { frac = f }) (number_is n.frac h) };
+}
+
+/// An operation that does not fit, and its operands.
+#[derive(Clone, Copy, Debug)]
+pub struct Refused {
+    op: Op,
+    left: Number,
+    right: Number,
+}
+
+impl Model for Refused {
+    ghost use Rattle.spv_tableaux.specs.Operations.{Operation};
+
+    ghost Value = { Operation };
+
+    ghost view = { λ o. record { op = o.op; left = o.left; right = o.right } };
+
+    ghost inverse = { λ o. record { op = o.op; left = o.left; right = o.right } };
+
+    ghost use Rattle.std.specs.Prelude.{refl};
+
+    ghost inverse_ok = { λ o h. refl };
+}
+
+impl Refused {
+    /// The operation.
+    pub fn op(self) -> Op
+        ensures { result ≡ self.op }
+    {
+        self.op
+    }
+
+    /// What stood on its left.
+    pub fn left(self) -> Number
+        ensures { result ≡ self.left }
+    {
+        self.left
+    }
+
+    /// What stood on its right.
+    pub fn right(self) -> Number
+        ensures { result ≡ self.right }
+    {
+        self.right
+    }
 }
 
 impl Number {
@@ -89,58 +134,83 @@ impl Number {
     }
 
     /// The sum.
-    pub fn add(self, other: Number) -> Result<Number, TooWide>
+    pub fn add(self, other: Number) -> Result<Number, Refused>
         ensures fits { IsOk result ↔ IsTrue (fits (operation Add self other)) }
+        ensures refused { IfErr result (λ o. o ≡ operation Add self other) }
         ensures value { IfOk result (λ answer. answer ≡ plus self other) }
     {
         match self.frac().add(other.frac()) {
             Ok(frac) => Ok(Number::of(frac)),
-            Err(fault) => Err(fault),
+            Err(TooWide) => Err(Refused {
+                op: Op::Add,
+                left: self,
+                right: other,
+            }),
         }
     }
 
     /// The difference.
-    pub fn sub(self, other: Number) -> Result<Number, TooWide>
+    pub fn sub(self, other: Number) -> Result<Number, Refused>
         ensures fits { IsOk result ↔ IsTrue (fits (operation Sub self other)) }
+        ensures refused { IfErr result (λ o. o ≡ operation Sub self other) }
         ensures value { IfOk result (λ answer. answer ≡ minus self other) }
     {
         match self.frac().sub(other.frac()) {
             Ok(frac) => Ok(Number::of(frac)),
-            Err(fault) => Err(fault),
+            Err(TooWide) => Err(Refused {
+                op: Op::Sub,
+                left: self,
+                right: other,
+            }),
         }
     }
 
     /// The product.
-    pub fn mul(self, other: Number) -> Result<Number, TooWide>
+    pub fn mul(self, other: Number) -> Result<Number, Refused>
         ensures fits { IsOk result ↔ IsTrue (fits (operation Mul self other)) }
+        ensures refused { IfErr result (λ o. o ≡ operation Mul self other) }
         ensures value { IfOk result (λ answer. answer ≡ times self other) }
     {
         match self.frac().mul(other.frac()) {
             Ok(frac) => Ok(Number::of(frac)),
-            Err(fault) => Err(fault),
+            Err(TooWide) => Err(Refused {
+                op: Op::Mul,
+                left: self,
+                right: other,
+            }),
         }
     }
 
     /// The quotient.
-    pub fn div(self, other: Number) -> Result<Number, TooWide>
+    pub fn div(self, other: Number) -> Result<Number, Refused>
         requires { is_zero other ≡ false }
         ensures fits { IsOk result ↔ IsTrue (fits (operation Div self other)) }
+        ensures refused { IfErr result (λ o. o ≡ operation Div self other) }
         ensures value { IfOk result (λ answer. answer ≡ divided self other) }
     {
         match self.frac().div(other.frac()) {
             Ok(frac) => Ok(Number::of(frac)),
-            Err(fault) => Err(fault),
+            Err(TooWide) => Err(Refused {
+                op: Op::Div,
+                left: self,
+                right: other,
+            }),
         }
     }
 
     /// Whether it is less than the other.
-    pub fn is_less(self, other: Number) -> Result<bool, TooWide>
+    pub fn is_less(self, other: Number) -> Result<bool, Refused>
         ensures fits { IsOk result ↔ IsTrue (fits (operation Cmp self other)) }
+        ensures refused { IfErr result (λ o. o ≡ operation Cmp self other) }
         ensures value { IfOk result (λ answer. answer ≡ is_less self other) }
     {
         match self.frac().cmp(other.frac()) {
             Ok(order) => Ok(order == Ordering::Less),
-            Err(fault) => Err(fault),
+            Err(TooWide) => Err(Refused {
+                op: Op::Cmp,
+                left: self,
+                right: other,
+            }),
         }
     }
 }
