@@ -1,0 +1,10 @@
+//! Solved forms of rows, as rows of numbers with a slot for each column outside the basis.
+#![tactic(auto)]
+
+mod dictionary;
+mod row;
+mod spot;
+
+pub use dictionary::Dictionary;
+pub use row::Row;
+pub use spot::Spot;
