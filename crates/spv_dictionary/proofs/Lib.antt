@@ -1,2 +1,4 @@
 pub mod Lists
 pub mod First
+pub mod Exchanging
+pub mod Mixed

@@ -2,9 +2,12 @@
 #![tactic(auto)]
 
 mod dictionary;
+mod laws;
+mod mixing;
 mod row;
 mod spot;
 
 pub use dictionary::Dictionary;
+pub use laws::law_exchange;
 pub use row::Row;
 pub use spot::Spot;

@@ -1,0 +1,72 @@
+-- The operations of an exchange on the numbers, and whether they fit.
+use Rattle.std.specs.Prelude.{◌≡◌, ℕ, ◌<◌, Bool, true, false, ◌&&◌, ◌||◌, not, List, [], length, nat_eq, slice_index_or, if◌then◌else◌}
+use Rattle.spv_rational.specs.Rational.{Rational, plus, times, opposite, is_zero}
+use Rattle.spv_frac.specs.declared.frac.Op.TheVariants.{Add, Mul, Div}
+use Rattle.spv_tableaux.specs.Numbers.{one, divided}
+use Rattle.spv_tableaux.specs.Operations.{Operation, operation, fits}
+use Rattle.spv_dictionary.specs.Cells.{cell}
+use Rattle.spv_dictionary.specs.Exchanges.{solved_at, mixed_at}
+
+-- what a number becomes where a solved number times a factor is added; the factor's own place has nothing to be added to
+abbrev pub mixed : Bool → Rational → Rational → Rational → Rational
+mixed is_slot number solved factor = if is_slot then times solved factor else plus number (times solved factor)
+
+-- the operations of this fit
+abbrev pub can_mix : Bool → Rational → Rational → Rational → Bool
+can_mix is_slot number solved factor = fits (operation Mul solved factor) && (is_slot || fits (operation Add number (times solved factor)))
+
+-- nothing is added where the solved number is 0
+abbrev pub is_idle : Bool → Rational → Bool
+is_idle is_slot solved = not is_slot && is_zero solved
+
+-- one of them does not
+pub data IsMixing (is_slot : Bool) (number solved factor : Rational) : Operation → Type 0 where
+  scaling : IsMixing is_slot number solved factor (operation Mul solved factor)
+  adding : is_slot ≡ false → IsMixing is_slot number solved factor (operation Add number (times solved factor))
+
+-- ---- rows
+
+-- an operation by which a row is solved for the column of a slot
+pub data IsSolving (row : List Rational) (j : ℕ) : Operation → Type 0 where
+  inverting : IsSolving row j (operation Div one (cell row j))
+  dividing : (x : ℕ) → x < length row → nat_eq x j ≡ false → IsSolving row j (operation Div (cell row x) (cell row j))
+
+-- an operation by which a solved row is put into another
+pub data IsRowMixing (row solved : List Rational) (j : ℕ) : Operation → Type 0 where
+  mixing : (x : ℕ) (o : Operation) → x < length row → IsMixing (nat_eq x j) (cell row x) (cell solved x) (cell row j) o → IsRowMixing row solved j o
+
+pub record IsSolved (row solved : List Rational) (j : ℕ) : Type 0 where
+  pub count : length solved ≡ length row
+  pub each : (x : ℕ) → x < length row → cell solved x ≡ solved_at row j x
+
+pub record IsMixed (row solved : List Rational) (j : ℕ) (new : List Rational) : Type 0 where
+  pub count : length new ≡ length row
+  pub each : (x : ℕ) → x < length row → cell new x ≡ mixed_at row solved j x
+
+-- all operations on this row fit, if there are any
+pub record CanMixRow (row solved : List Rational) (j : ℕ) : Type 0 where
+  pub each : is_zero (cell row j) ≡ false → (x : ℕ) → x < length row → is_idle (nat_eq x j) (cell solved x) ≡ false → can_mix (nat_eq x j) (cell row x) (cell solved x) (cell row j) ≡ true
+
+-- ---- all rows
+
+abbrev pub number_row : List (List Rational) → ℕ → List Rational
+number_row rows k = slice_index_or rows k []
+
+pub record CanMixRows (rows : List (List Rational)) (solved : List Rational) (i j : ℕ) : Type 0 where
+  pub each : (k : ℕ) → k < length rows → nat_eq k i ≡ false → CanMixRow (number_row rows k) solved j
+
+-- all rows but one are mixed
+pub record AreMixed (rows : List (List Rational)) (solved : List Rational) (i j : ℕ) (new : List (List Rational)) : Type 0 where
+  pub count : length new ≡ length rows
+  pub each : (k : ℕ) → k < length rows → nat_eq k i ≡ false → IsMixed (number_row rows k) solved j (number_row new k)
+  pub here : number_row new i ≡ number_row rows i
+
+-- all rows have slots up to here
+pub record AreWide (rows : List (List Rational)) (width : ℕ) : Type 0 where
+  pub each : (k : ℕ) → k < length rows → length (number_row rows k) ≡ width
+
+-- an operation of an exchange
+pub data IsExchanging (rows : List (List Rational)) (solved : List Rational) (i j : ℕ) : Operation → Type 0 where
+  solving : (o : Operation) → IsSolving (number_row rows i) j o → IsExchanging rows solved i j o
+  mixing : (k : ℕ) (o : Operation) → k < length rows → nat_eq k i ≡ false → IsSolved (number_row rows i) solved j → IsRowMixing (number_row rows k) solved j o
+      → IsExchanging rows solved i j o

@@ -1,0 +1,9 @@
+// What an exchange on the numbers is, as the contract of a function that does nothing.
+
+ghost use Rattle.spv_dictionary.specs.Laws.{ExchangesBasis, IsPivot};
+
+/// The exchange of a row's column with that of a slot is the pivot of the solved form.
+pub fn law_exchange()
+    ensures basis { ExchangesBasis }
+    ensures pivot { IsPivot }
+{}
