@@ -1,9 +1,10 @@
 -- The numbers of an exchange, as they are computed.
-use Rattle.std.proofs.Common.{◌≡◌, ℕ, ◌+◌, ◌<◌, Bool, true, false, ◌&&◌, List, [], length, nat_eq, slice_index_or, slice_set, Result, Ok, Err, IfErr, IfOk, refl, sym, ap, ◌∙◌, subst, arith, if◌then◌else◌}
+use Rattle.std.proofs.Common.{◌≡◌, ℕ, ◌+◌, ◌<◌, ◌≤◌, Bool, true, false, ◌&&◌, not, List, [], length, nat_eq, slice_index_or, slice_set, Result, Ok, Err, IfErr, IfOk, refl, sym, ap, ◌∙◌, subst, arith, if◌then◌else◌}
 use Rattle.std.proofs.lemmas.Bool.{false≢true}
 use Rattle.std.proofs.lemmas.List.{get_or-set_same, get_or-set_other, length-set}
 use mathlib.Core.Path.{ap₂}
 use Rattle.spv_rational.specs.Rational.{Rational, plus, times, opposite, is_zero}
+use Rattle.spv_rational.proofs.Field.{plus_zero, times_zero, zero_times}
 use Rattle.spv_rational.proofs.Signs.{zero_is}
 use Rattle.spv_frac.specs.declared.frac.Op.TheVariants.{Add, Mul, Div}
 use Rattle.spv_tableaux.specs.Numbers.{nothing, one, divided}
@@ -11,7 +12,7 @@ use Rattle.spv_tableaux.specs.Operations.{Operation, operation, fits}
 use Rattle.spv_pivots.proofs.Sums.{eq_is, eq_self}
 use Rattle.spv_dictionary.specs.Cells.{cell}
 use Rattle.spv_dictionary.specs.Exchanges.{solved_at, mixed_at}
-use Rattle.spv_dictionary.specs.Mixing.{mixed, can_mix, IsMixing, scaling, adding, IsSolving, inverting, dividing, IsSolved}
+use Rattle.spv_dictionary.specs.Mixing.{mixed, can_mix, IsMixing, scaling, adding, IsSolving, inverting, dividing, IsSolved, is_idle, IsRowMixing, mixing, CanMixRow, CanMixTo, MixedTo, IsMixedAt, IsMixed}
 use Rattle.spv_dictionary.proofs.Exchanging.{differ_of}
 
 -- a refusal is that of this operation, of which something holds
@@ -56,3 +57,102 @@ solved_more row solved j place n s below e = record {
 
 pub solved_all : (row solved : List Rational) (j : ℕ) → SolvedTo row solved j (length row) → IsSolved row solved j
 solved_all row solved j s = record { count = s.count; each = s.each }
+
+-- ---- whether a row can be mixed
+
+pub can_none : (row solved : List Rational) (j : ℕ) → CanMixTo row solved j 0
+can_none row solved j = record { each = λ x h. absurd (omega arith) }
+
+pub can_more : (row solved : List Rational) (j place : ℕ) → CanMixTo row solved j place
+    → (is_idle (nat_eq place j) (cell solved place) ≡ false → can_mix (nat_eq place j) (cell row place) (cell solved place) (cell row j) ≡ true)
+    → CanMixTo row solved j (place + 1)
+can_more row solved j place c here = record { each = λ x h. by_case x h (nat_eq x place) refl }
+  where
+    nearer : (x p : ℕ) → x < p + 1 → nat_eq x p ≡ false → x < p
+    nearer x p h k = grind arith
+
+    by_case : (x : ℕ) → x < place + 1 → (b : Bool) → nat_eq x place ≡ b → is_idle (nat_eq x j) (cell solved x) ≡ false
+        → can_mix (nat_eq x j) (cell row x) (cell solved x) (cell row j) ≡ true
+    by_case x h true k =
+        subst (λ (y : ℕ). is_idle (nat_eq y j) (cell solved y) ≡ false → can_mix (nat_eq y j) (cell row y) (cell solved y) (cell row j) ≡ true) (sym (eq_is x place k)) here
+    by_case x h false k = c.each x (nearer x place h k)
+
+pub can_all : (row solved : List Rational) (j : ℕ) → CanMixTo row solved j (length row) → CanMixRow row solved j
+can_all row solved j c = record { each = λ nonzero x below. c.each x below }
+
+-- ---- a mixed row
+
+mixed_slot : (row solved : List Rational) (j x : ℕ) → nat_eq x j ≡ true → mixed_at row solved j x ≡ times (cell solved j) (cell row j)
+mixed_slot row solved j x h = rw h refl
+
+mixed_other : (row solved : List Rational) (j x : ℕ) → nat_eq x j ≡ false → mixed_at row solved j x ≡ plus (cell row x) (times (cell solved x) (cell row j))
+mixed_other row solved j x h = rw h refl
+
+-- a row without the column of the slot stays as it is
+pub unmixed : (row solved : List Rational) (j : ℕ) → is_zero (cell row j) ≡ true → IsMixed row solved j row
+unmixed row solved j h = record { count = refl; each = λ x below. by_case x (nat_eq x j) refl }
+  where
+    zero_here : cell row j ≡ nothing
+    zero_here = zero_is (cell row j) h
+
+    by_case : (x : ℕ) → (b : Bool) → nat_eq x j ≡ b → cell row x ≡ mixed_at row solved j x
+    by_case x true e = ap (cell row) (eq_is x j e) ∙ zero_here ∙ sym (mixed_slot row solved j x e ∙ ap (times (cell solved j)) zero_here ∙ times_zero (cell solved j))
+    by_case x false e = sym (mixed_other row solved j x e ∙ ap (λ y. plus (cell row x) (times (cell solved x) y)) zero_here ∙ ap (plus (cell row x)) (times_zero (cell solved x)) ∙ plus_zero (cell row x))
+
+-- what a place becomes is what it is to become
+place_is : (row solved : List Rational) (j x : ℕ)
+    → (if is_idle (nat_eq x j) (cell solved x) then cell row x else mixed (nat_eq x j) (cell row x) (cell solved x) (cell row j)) ≡ mixed_at row solved j x
+place_is row solved j x = by_case (nat_eq x j) refl (is_zero (cell solved x)) refl
+  where
+    by_case : (b : Bool) → nat_eq x j ≡ b → (z : Bool) → is_zero (cell solved x) ≡ z
+        → (if is_idle (nat_eq x j) (cell solved x) then cell row x else mixed (nat_eq x j) (cell row x) (cell solved x) (cell row j)) ≡ mixed_at row solved j x
+    by_case true e z h = rw e (ap (λ y. times (cell solved y) (cell row j)) (eq_is x j e))
+    by_case false e true h =
+        rw (e, h) (sym (ap (λ y. plus (cell row x) (times y (cell row j))) (zero_is (cell solved x) h) ∙ ap (plus (cell row x)) (zero_times (cell row j)) ∙ plus_zero (cell row x)))
+    by_case false e false h = rw (e, h) refl
+
+pub mixed_none : (row solved : List Rational) (j : ℕ) → MixedTo row solved j 0 row
+mixed_none row solved j = record { count = refl; each = λ x h. absurd (omega arith); rest = λ x h. refl }
+
+pub mixed_more : (row solved : List Rational) (j place : ℕ) (factor : Rational) (now new : List Rational) → factor ≡ cell row j → MixedTo row solved j place now
+    → IsMixedAt now solved j place factor new → MixedTo row solved j (place + 1) new
+mixed_more row solved j place factor now new is m a = record {
+  count = a.count ∙ m.count;
+  each = λ x h. by_case x h (nat_eq x place) refl;
+  rest = λ x h. a.others x (above x place h) ∙ m.rest x (later x place h);
+}
+  where
+    above : (x p : ℕ) → p + 1 ≤ x → nat_eq x p ≡ false
+    above x p h = grind arith
+
+    later : (x p : ℕ) → p + 1 ≤ x → p ≤ x
+    later x p h = omega arith
+
+    nearer : (x p : ℕ) → x < p + 1 → nat_eq x p ≡ false → x < p
+    nearer x p h k = grind arith
+
+    itself : (p : ℕ) → p ≤ p
+    itself p = omega arith
+
+    here : cell new place ≡ mixed_at row solved j place
+    here =
+        a.here
+        ∙ ap₂ (λ (n f : Rational). if is_idle (nat_eq place j) (cell solved place) then n else mixed (nat_eq place j) n (cell solved place) f) (m.rest place (itself place)) is
+        ∙ place_is row solved j place
+
+    by_case : (x : ℕ) → x < place + 1 → (b : Bool) → nat_eq x place ≡ b → cell new x ≡ mixed_at row solved j x
+    by_case x h true k = ap (cell new) (eq_is x place k) ∙ here ∙ ap (mixed_at row solved j) (sym (eq_is x place k))
+    by_case x h false k = a.others x k ∙ m.each x (nearer x place h k)
+
+pub mixed_all : (row solved : List Rational) (j : ℕ) (now : List Rational) → MixedTo row solved j (length row) now → IsMixed row solved j now
+mixed_all row solved j now m = record { count = m.count; each = m.each }
+
+-- the next place can be mixed
+pub mixed_next : (row solved : List Rational) (j place : ℕ) (factor : Rational) (now : List Rational) → factor ≡ cell row j → is_zero factor ≡ false → MixedTo row solved j place now
+    → CanMixRow row solved j → place < length row → is_idle (nat_eq place j) (cell solved place) ≡ false
+    → can_mix (nat_eq place j) (cell now place) (cell solved place) factor ≡ true
+mixed_next row solved j place factor now is nonzero m c below idle =
+    ap₂ (λ (n f : Rational). can_mix (nat_eq place j) n (cell solved place) f) (m.rest place (itself place)) is ∙ c.each (ap is_zero (sym is) ∙ nonzero) place below idle
+  where
+    itself : (p : ℕ) → p ≤ p
+    itself p = omega arith

@@ -1,5 +1,5 @@
 -- The operations of an exchange on the numbers, and whether they fit.
-use Rattle.std.specs.Prelude.{◌≡◌, ℕ, ◌<◌, Bool, true, false, ◌&&◌, ◌||◌, not, List, [], length, nat_eq, slice_index_or, if◌then◌else◌}
+use Rattle.std.specs.Prelude.{◌≡◌, ℕ, ◌<◌, ◌≤◌, Bool, true, false, ◌&&◌, ◌||◌, not, List, [], length, nat_eq, slice_index_or, if◌then◌else◌}
 use Rattle.spv_rational.specs.Rational.{Rational, plus, times, opposite, is_zero}
 use Rattle.spv_frac.specs.declared.frac.Op.TheVariants.{Add, Mul, Div}
 use Rattle.spv_tableaux.specs.Numbers.{one, divided}
@@ -47,6 +47,22 @@ pub record IsMixed (row solved : List Rational) (j : ℕ) (new : List Rational) 
 pub record CanMixRow (row solved : List Rational) (j : ℕ) : Type 0 where
   pub each : is_zero (cell row j) ≡ false → (x : ℕ) → x < length row → is_idle (nat_eq x j) (cell solved x) ≡ false → can_mix (nat_eq x j) (cell row x) (cell solved x) (cell row j) ≡ true
 
+-- the operations up to a place fit
+pub record CanMixTo (row solved : List Rational) (j place : ℕ) : Type 0 where
+  pub each : (x : ℕ) → x < place → is_idle (nat_eq x j) (cell solved x) ≡ false → can_mix (nat_eq x j) (cell row x) (cell solved x) (cell row j) ≡ true
+
+-- mixed up to a place
+pub record MixedTo (row solved : List Rational) (j place : ℕ) (now : List Rational) : Type 0 where
+  pub count : length now ≡ length row
+  pub each : (x : ℕ) → x < place → cell now x ≡ mixed_at row solved j x
+  pub rest : (x : ℕ) → place ≤ x → cell now x ≡ cell row x
+
+-- one place is mixed, and all others are as they were
+pub record IsMixedAt (row solved : List Rational) (j place : ℕ) (factor : Rational) (new : List Rational) : Type 0 where
+  pub count : length new ≡ length row
+  pub here : cell new place ≡ (if is_idle (nat_eq place j) (cell solved place) then cell row place else mixed (nat_eq place j) (cell row place) (cell solved place) factor)
+  pub others : (x : ℕ) → nat_eq x place ≡ false → cell new x ≡ cell row x
+
 -- ---- all rows
 
 abbrev pub number_row : List (List Rational) → ℕ → List Rational
@@ -55,18 +71,32 @@ number_row rows k = slice_index_or rows k []
 pub record CanMixRows (rows : List (List Rational)) (solved : List Rational) (i j : ℕ) : Type 0 where
   pub each : (k : ℕ) → k < length rows → nat_eq k i ≡ false → CanMixRow (number_row rows k) solved j
 
--- all rows but one are mixed
-pub record AreMixed (rows : List (List Rational)) (solved : List Rational) (i j : ℕ) (new : List (List Rational)) : Type 0 where
+-- an operation by which a solved row is put into one of the others
+pub record IsRowsMixing (rows : List (List Rational)) (solved : List Rational) (i j : ℕ) (o : Operation) : Type 0 where
+  pub row : ℕ
+  pub row_in : row < length rows
+  pub other : nat_eq row i ≡ false
+  pub mixing : IsRowMixing (number_row rows row) solved j o
+
+-- all rows but one are mixed, up to a row
+pub record AreMixedTo (rows : List (List Rational)) (solved : List Rational) (i j row : ℕ) (new : List (List Rational)) : Type 0 where
   pub count : length new ≡ length rows
-  pub each : (k : ℕ) → k < length rows → nat_eq k i ≡ false → IsMixed (number_row rows k) solved j (number_row new k)
+  pub each : (k : ℕ) → k < row → nat_eq k i ≡ false → IsMixed (number_row rows k) solved j (number_row new k)
   pub here : number_row new i ≡ number_row rows i
+  pub rest : (k : ℕ) → row ≤ k → number_row new k ≡ number_row rows k
+
+-- one row is mixed, if it is not that one, and all others are as they were
+pub record IsMixedRow (rows : List (List Rational)) (solved : List Rational) (i j row : ℕ) (new : List (List Rational)) : Type 0 where
+  pub count : length new ≡ length rows
+  pub mixed : nat_eq row i ≡ false → IsMixed (number_row rows row) solved j (number_row new row)
+  pub here : number_row new i ≡ number_row rows i
+  pub others : (k : ℕ) → nat_eq k row ≡ false → number_row new k ≡ number_row rows k
 
 -- all rows have slots up to here
 pub record AreWide (rows : List (List Rational)) (width : ℕ) : Type 0 where
   pub each : (k : ℕ) → k < length rows → length (number_row rows k) ≡ width
 
 -- an operation of an exchange
-pub data IsExchanging (rows : List (List Rational)) (solved : List Rational) (i j : ℕ) : Operation → Type 0 where
-  solving : (o : Operation) → IsSolving (number_row rows i) j o → IsExchanging rows solved i j o
-  mixing : (k : ℕ) (o : Operation) → k < length rows → nat_eq k i ≡ false → IsSolved (number_row rows i) solved j → IsRowMixing (number_row rows k) solved j o
-      → IsExchanging rows solved i j o
+pub data IsExchanging (rows : List (List Rational)) (solved : List Rational) (i j : ℕ) (o : Operation) : Type 0 where
+  solving : IsSolving (number_row rows i) j o → IsExchanging rows solved i j o
+  mixing : IsSolved (number_row rows i) solved j → IsRowsMixing rows solved i j o → IsExchanging rows solved i j o

@@ -7,7 +7,7 @@ ghost use Rattle.spv_tableaux.specs.Operations.{fits};
 ghost use Rattle.spv_dictionary.specs.Cells.{cell};
 ghost use Rattle.spv_dictionary.specs.Exchanges.{solved_at};
 ghost use Rattle.spv_dictionary.specs.Mixing as spec;
-ghost use Rattle.spv_dictionary.specs.Mixing.{can_mix, IsMixing, IsSolving, IsRowMixing, IsSolved, IsMixed, CanMixRow, CanMixRows, AreMixed, AreWide, IsExchanging, number_row};
+ghost use Rattle.spv_dictionary.specs.Mixing.{can_mix, IsMixing, IsSolving, IsRowMixing, IsSolved, IsMixed, CanMixRow, CanMixRows, AreMixedTo, AreWide, IsMixedAt, IsMixedRow, IsRowsMixing, number_row, is_idle};
 
 use crate::row::Row;
 use spv_number::{Number, Refused};
@@ -64,5 +64,77 @@ fn mixed(is_slot: bool, number: Number, solved: Number, factor: Number) -> Resul
             number.add(product)
         }
         Err(refused) => Err(refused),
+    }
+}
+
+// Whether a place of a row can be mixed.
+fn test_place(row: &Row, solved: &Row, slot: usize, place: usize) -> Result<(), Refused>
+    requires slot { slot < length row.now }
+    requires place { place < length row.now }
+    requires width { length solved.now ≡ length row.now }
+    ensures ok { OnOk result (is_idle (nat_eq place slot) (cell solved.now place) ≡ false
+        → can_mix (nat_eq place slot) (cell row.now place) (cell solved.now place) (cell row.now slot) ≡ true) }
+    ensures refused { IfErr result (λ o. IsMixing (nat_eq place slot) (cell row.now place) (cell solved.now place) (cell row.now slot) o) }
+    ensures unfit { IfErr result (λ o. fits o ≡ false) }
+{
+    let is_slot = place == slot;
+    if !is_slot && solved.get(place).is_zero() {
+        return Ok(());
+    }
+    match mixed(is_slot, row.get(place), solved.get(place), row.get(slot)) {
+        Ok(_) => Ok(()),
+        Err(refused) => Err(refused),
+    }
+}
+
+// Whether a solved row can be put into another one.
+fn test_row(row: &Row, solved: &Row, slot: usize) -> Result<(), Refused>
+    requires slot { slot < length row.now }
+    requires width { length solved.now ≡ length row.now }
+    ensures ok { OnOk result (CanMixRow row.now solved.now slot) }
+    ensures refused { IfErr result (λ o. IsRowMixing row.now solved.now slot o) }
+    ensures unfit { IfErr result (λ o. fits o ≡ false) }
+{
+    if row.get(slot).is_zero() {
+        return Ok(());
+    }
+    for place in 0..row.len() {
+        match test_place(row, solved, slot, place) {
+            Ok(()) => {}
+            Err(refused) => return Err(refused),
+        }
+    }
+    Ok(())
+}
+
+// Mixes a place of a row.
+fn mix_place(row: &mut Row, solved: &Row, slot: usize, factor: Number, place: usize)
+    requires place { place < length row.old }
+    requires width { length solved.now ≡ length row.old }
+    requires can { is_idle (nat_eq place slot) (cell solved.now place) ≡ false
+        → can_mix (nat_eq place slot) (cell row.old place) (cell solved.now place) factor ≡ true }
+    ensures { IsMixedAt row.old solved.now slot place factor row.new }
+{
+    let is_slot = place == slot;
+    if !is_slot && solved.get(place).is_zero() {
+        return;
+    }
+    let number = mixed(is_slot, row.get(place), solved.get(place), factor).unwrap();
+    row.set(place, number);
+}
+
+// Puts a solved row into another one.
+fn mix_row(row: &mut Row, solved: &Row, slot: usize)
+    requires slot { slot < length row.old }
+    requires width { length solved.now ≡ length row.old }
+    requires can { CanMixRow row.old solved.now slot }
+    ensures { IsMixed row.old solved.now slot row.new }
+{
+    let factor = row.get(slot);
+    if factor.is_zero() {
+        return;
+    }
+    for place in 0..row.len() {
+        mix_place(row, solved, slot, factor, place);
     }
 }
