@@ -1,7 +1,7 @@
 -- The numbers of an exchange, as they are computed.
 use Rattle.std.proofs.Common.{◌≡◌, ℕ, ◌+◌, ◌<◌, ◌≤◌, Bool, true, false, ◌&&◌, not, List, [], length, nat_eq, slice_index_or, slice_set, Result, Ok, Err, IfErr, IfOk, refl, sym, ap, ◌∙◌, subst, arith, if◌then◌else◌}
 use Rattle.std.proofs.lemmas.Bool.{false≢true}
-use Rattle.std.proofs.lemmas.List.{get_or-set_same, get_or-set_other, length-set}
+use Rattle.std.proofs.lemmas.List.{get_or_default, get_or-set_same, get_or-set_other, length-set}
 use mathlib.Core.Path.{ap₂}
 use Rattle.spv_rational.specs.Rational.{Rational, plus, times, opposite, is_zero}
 use Rattle.spv_rational.proofs.Field.{plus_zero, times_zero, zero_times}
@@ -12,7 +12,7 @@ use Rattle.spv_tableaux.specs.Operations.{Operation, operation, fits}
 use Rattle.spv_pivots.proofs.Sums.{eq_is, eq_self}
 use Rattle.spv_dictionary.specs.Cells.{cell}
 use Rattle.spv_dictionary.specs.Exchanges.{solved_at, mixed_at}
-use Rattle.spv_dictionary.specs.Mixing.{mixed, can_mix, IsMixing, scaling, adding, IsSolving, inverting, dividing, IsSolved, is_idle, IsRowMixing, mixing, CanMixRow, CanMixTo, MixedTo, IsMixedAt, IsMixed}
+use Rattle.spv_dictionary.specs.Mixing.{mixed, can_mix, IsMixing, scaling, adding, IsSolving, inverting, dividing, IsSolved, is_idle, IsRowMixing, mixing, IsRowsMixing, CanMixRow, CanMixTo, MixedTo, IsMixedAt, IsMixed, number_row, CanMixRowsTo, CanMixRows, IsMixedRow, AreMixedTo, AreWide}
 use Rattle.spv_dictionary.proofs.Exchanging.{differ_of}
 
 -- a refusal is that of this operation, of which something holds
@@ -156,3 +156,76 @@ mixed_next row solved j place factor now is nonzero m c below idle =
   where
     itself : (p : ℕ) → p ≤ p
     itself p = omega arith
+
+-- ---- all rows
+
+pub can_rows_more : (rows : List (List Rational)) (solved : List Rational) (i j row : ℕ) → CanMixRowsTo rows solved i j row
+    → (nat_eq row i ≡ false → CanMixRow (number_row rows row) solved j) → CanMixRowsTo rows solved i j (row + 1)
+can_rows_more rows solved i j row c here = record { each = λ k h. by_case k h (nat_eq k row) refl }
+  where
+    nearer : (x p : ℕ) → x < p + 1 → nat_eq x p ≡ false → x < p
+    nearer x p h k = grind arith
+
+    by_case : (k : ℕ) → k < row + 1 → (b : Bool) → nat_eq k row ≡ b → nat_eq k i ≡ false → CanMixRow (number_row rows k) solved j
+    by_case k h true e = subst (λ (y : ℕ). nat_eq y i ≡ false → CanMixRow (number_row rows y) solved j) (sym (eq_is k row e)) here
+    by_case k h false e = c.each k (nearer k row h e)
+
+pub rows_none : (rows : List (List Rational)) (solved : List Rational) (i j : ℕ) → AreMixedTo rows solved i j 0 rows
+rows_none rows solved i j = record { count = refl; each = λ k h. absurd (omega arith); here = refl; rest = λ k h. refl }
+
+pub rows_more : (rows : List (List Rational)) (solved : List Rational) (i j row : ℕ) (now new : List (List Rational)) → AreMixedTo rows solved i j row now
+    → IsMixedRow now solved i j row new → AreMixedTo rows solved i j (row + 1) new
+rows_more rows solved i j row now new m a = record {
+  count = a.count ∙ m.count;
+  each = λ k h. by_case k h (nat_eq k row) refl;
+  here = a.here ∙ m.here;
+  rest = λ k h. a.others k (above k row h) ∙ m.rest k (later k row h);
+}
+  where
+    above : (x p : ℕ) → p + 1 ≤ x → nat_eq x p ≡ false
+    above x p h = grind arith
+
+    later : (x p : ℕ) → p + 1 ≤ x → p ≤ x
+    later x p h = omega arith
+
+    nearer : (x p : ℕ) → x < p + 1 → nat_eq x p ≡ false → x < p
+    nearer x p h k = grind arith
+
+    itself : (p : ℕ) → p ≤ p
+    itself p = omega arith
+
+    mixed_row : nat_eq row i ≡ false → IsMixed (number_row rows row) solved j (number_row new row)
+    mixed_row other = subst (λ (r : List Rational). IsMixed r solved j (number_row new row)) (m.rest row (itself row)) (a.mixed other)
+
+    by_case : (k : ℕ) → k < row + 1 → (b : Bool) → nat_eq k row ≡ b → nat_eq k i ≡ false → IsMixed (number_row rows k) solved j (number_row new k)
+    by_case k h true e other = subst (λ (y : ℕ). nat_eq y i ≡ false → IsMixed (number_row rows y) solved j (number_row new y)) (sym (eq_is k row e)) mixed_row other
+    by_case k h false e other = subst (λ (r : List Rational). IsMixed (number_row rows k) solved j r) (sym (a.others k e)) (m.each k (nearer k row h e) other)
+
+-- the next row can be mixed
+pub rows_next : (rows : List (List Rational)) (solved : List Rational) (i j row : ℕ) (now : List (List Rational)) → AreMixedTo rows solved i j row now
+    → CanMixRows rows solved i j → row < length rows → nat_eq row i ≡ false → CanMixRow (number_row now row) solved j
+rows_next rows solved i j row now m c below other = subst (λ (r : List Rational). CanMixRow r solved j) (sym (m.rest row (itself row))) (c.each row below other)
+  where
+    itself : (p : ℕ) → p ≤ p
+    itself p = omega arith
+
+pub next_width : (rows : List (List Rational)) (solved : List Rational) (i j row width : ℕ) (now : List (List Rational)) → AreMixedTo rows solved i j row now
+    → AreWide rows width → row < length rows → length (number_row now row) ≡ width
+next_width rows solved i j row width now m w below = ap length (m.rest row (itself row)) ∙ w.each row below
+  where
+    itself : (p : ℕ) → p ≤ p
+    itself p = omega arith
+
+pub if_err : {T : Type 0} (r : Result T Operation) (P Q : Operation → Type 0) → IfErr r P → ((o : Operation) → P o → Q o) → IfErr r Q
+if_err (Ok t) P Q h more = tt
+if_err (Err o) P Q h more = more o h
+
+-- what is refused of a row that was read
+pub in_row : (rows : List (List Rational)) (solved r : List Rational) (i j k : ℕ) (o : Operation) → k < length rows → nat_eq k i ≡ false → r ≡ slice_index_or rows k r
+    → IsRowMixing r solved j o → IsRowsMixing rows solved i j o
+in_row rows solved r i j k o below other is m = record {
+  row = k;
+  row_in = below;
+  other = other;
+  mixing = subst (λ (y : List Rational). IsRowMixing y solved j o) (is ∙ get_or_default rows k r [] below) m;
+}

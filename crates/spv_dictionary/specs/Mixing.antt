@@ -68,6 +68,11 @@ pub record IsMixedAt (row solved : List Rational) (j place : ℕ) (factor : Rati
 abbrev pub number_row : List (List Rational) → ℕ → List Rational
 number_row rows k = slice_index_or rows k []
 
+-- the operations on all rows but one fit, up to a row
+pub record CanMixRowsTo (rows : List (List Rational)) (solved : List Rational) (i j row : ℕ) : Type 0 where
+  pub each : (k : ℕ) → k < row → nat_eq k i ≡ false → CanMixRow (number_row rows k) solved j
+
+-- the operations on all rows but one fit
 pub record CanMixRows (rows : List (List Rational)) (solved : List Rational) (i j : ℕ) : Type 0 where
   pub each : (k : ℕ) → k < length rows → nat_eq k i ≡ false → CanMixRow (number_row rows k) solved j
 

@@ -1,15 +1,16 @@
 // The exchange of a row's column with that of a slot, on the numbers. It is computed twice: first only to see
 // that all of it fits, and then to keep it.
 
-ghost use Rattle.std.specs.Prelude.{◌≡◌, ℕ, Bool, true, false, ◌<◌, ◌↔◌, length, nat_eq, IsOk, IfOk, IfErr, OnOk};
+ghost use Rattle.std.specs.Prelude.{◌≡◌, ℕ, Bool, true, false, ◌<◌, ◌↔◌, length, nat_eq, slice_set, IsOk, IfOk, IfErr, OnOk};
 ghost use Rattle.spv_rational.specs.Rational.{is_zero};
 ghost use Rattle.spv_tableaux.specs.Operations.{fits};
 ghost use Rattle.spv_dictionary.specs.Cells.{cell};
 ghost use Rattle.spv_dictionary.specs.Exchanges.{solved_at};
 ghost use Rattle.spv_dictionary.specs.Mixing as spec;
-ghost use Rattle.spv_dictionary.specs.Mixing.{can_mix, IsMixing, IsSolving, IsRowMixing, IsSolved, IsMixed, CanMixRow, CanMixRows, AreMixedTo, AreWide, IsMixedAt, IsMixedRow, IsRowsMixing, number_row, is_idle};
+ghost use Rattle.spv_dictionary.specs.Mixing.{can_mix, IsMixing, IsSolving, IsRowMixing, IsSolved, IsMixed, CanMixRow, CanMixRows, AreMixedTo, AreWide, IsMixedAt, IsMixedRow, IsRowsMixing, IsExchanging, number_row, is_idle};
 
 use crate::row::Row;
+use std::mem;
 use spv_number::{Number, Refused};
 
 // A number of the row that is solved for the column of a slot.
@@ -137,4 +138,95 @@ fn mix_row(row: &mut Row, solved: &Row, slot: usize)
     for place in 0..row.len() {
         mix_place(row, solved, slot, factor, place);
     }
+}
+
+// Whether a solved row can be put into one row, if that is another one.
+fn test_other(rows: &[Row], solved: &Row, here: usize, slot: usize, row: usize) -> Result<(), Refused>
+    requires wide { AreWide rows.now (length solved.now) }
+    requires slot { slot < length solved.now }
+    requires row { row < length rows.now }
+    ensures ok { OnOk result (nat_eq row here ≡ false → CanMixRow (number_row rows.now row) solved.now slot) }
+    ensures refused { IfErr result (λ o. IsRowsMixing rows.now solved.now here slot o) }
+    ensures unfit { IfErr result (λ o. fits o ≡ false) }
+{
+    if row == here {
+        return Ok(());
+    }
+    test_row(&rows[row], solved, slot)
+}
+
+// Whether a solved row can be put into all rows but one.
+fn test_rows(rows: &[Row], solved: &Row, here: usize, slot: usize) -> Result<(), Refused>
+    requires wide { AreWide rows.now (length solved.now) }
+    requires slot { slot < length solved.now }
+    ensures ok { OnOk result (CanMixRows rows.now solved.now here slot) }
+    ensures refused { IfErr result (λ o. IsRowsMixing rows.now solved.now here slot o) }
+    ensures unfit { IfErr result (λ o. fits o ≡ false) }
+{
+    for row in 0..rows.len() {
+        match test_other(rows, solved, here, slot, row) {
+            Ok(()) => {}
+            Err(refused) => return Err(refused),
+        }
+    }
+    Ok(())
+}
+
+// Puts a solved row into one row, if that is another one.
+fn mix_other(rows: &mut [Row], solved: &Row, here: usize, slot: usize, row: usize)
+    requires width { length (number_row rows.old row) ≡ length solved.now }
+    requires slot { slot < length solved.now }
+    requires row { row < length rows.old }
+    requires can { nat_eq row here ≡ false → CanMixRow (number_row rows.old row) solved.now slot }
+    ensures { IsMixedRow rows.old solved.now here slot row rows.new }
+{
+    if row == here {
+        return;
+    }
+    mix_row(&mut rows[row], solved, slot);
+}
+
+// Puts a solved row into all rows but one.
+fn mix_rows(rows: &mut [Row], solved: &Row, here: usize, slot: usize)
+    requires wide { AreWide rows.old (length solved.now) }
+    requires slot { slot < length solved.now }
+    requires can { CanMixRows rows.old solved.now here slot }
+    ensures { AreMixedTo rows.old solved.now here slot (length rows.old) rows.new }
+{
+    for row in 0..rows.len() {
+        mix_other(rows, solved, here, slot, row);
+    }
+}
+
+// Whether a row can be solved for the column of a slot, and put into all others. The solved row is what
+// another row holds then.
+pub(crate) fn test(rows: &[Row], solved: &mut Row, row: usize, slot: usize) -> Result<(), Refused>
+    requires wide { AreWide rows.now (length solved.old) }
+    requires slot { slot < length solved.old }
+    requires row { row < length rows.now }
+    requires nonzero { is_zero (cell (number_row rows.now row) slot) ≡ false }
+    ensures count { length solved.new ≡ length solved.old }
+    ensures solved { OnOk result (IsSolved (number_row rows.now row) solved.new slot) }
+    ensures ok { OnOk result (CanMixRows rows.now solved.new row slot) }
+    ensures refused { IfErr result (λ o. IsExchanging rows.now solved.new row slot o) }
+    ensures unfit { IfErr result (λ o. fits o ≡ false) }
+{
+    match solve(&rows[row], slot, solved) {
+        Ok(()) => {}
+        Err(refused) => return Err(refused),
+    }
+    test_rows(rows, solved, row, slot)
+}
+
+// Puts the solved row into all others, and exchanges it with the row that it was made of.
+pub(crate) fn exchange(rows: &mut Vec<Row>, solved: &mut Row, row: usize, slot: usize)
+    requires wide { AreWide rows.old.items (length solved.old) }
+    requires slot { slot < length solved.old }
+    requires row { row < length rows.old.items }
+    requires can { CanMixRows rows.old.items solved.old row slot }
+    ensures mixed { (kept : _) × AreMixedTo rows.old.items solved.old row slot (length rows.old.items) kept × (rows.new.items ≡ slice_set kept row solved.old) }
+    ensures out { length solved.new ≡ length solved.old }
+{
+    mix_rows(rows.as_mut_slice(), solved, row, slot);
+    mem::swap(&mut rows[row], solved);
 }
