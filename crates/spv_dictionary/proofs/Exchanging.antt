@@ -35,7 +35,6 @@ row≢slot i j e = false≢true (ap (λ s. is_slot s) e)
 
 module _ (old new : Dictionary) (i j : ℕ) (d : IsDictionary old) (x : IsExchanged old new i j) (row_in : i < length old.basic) (slot_in : j < length old.outside)
     (nonzero : is_zero (cell (row_at old i) j) ≡ false) where
-
   abbrev l : ℕ
   l = basic_at old i
 
@@ -190,7 +189,7 @@ module _ (old new : Dictionary) (i j : ℕ) (d : IsDictionary old) (x : IsExchan
           let y_apart : nat_eq y j ≡ false = slot_apart c y c_below p h in
           entry_is new b c (spot.Row k) (spot.Slot y) now (spot_other c h q ∙ p) ∙ mixed_other k y k_below k_apart y_below y_apart
           ∙ sym (ap₂ plus (entry_is old b c (spot.Row k) (spot.Slot y) s p)
-              (ap₂ times (solved_entry c (cell (row_at old i) y) (entry_is old l c (spot.Row i) (spot.Slot y) l_spot p) ∙ sym (new_other y y_below y_apart)) at_entering))
+          (ap₂ times (solved_entry c (cell (row_at old i) y) (entry_is old l c (spot.Row i) (spot.Slot y) l_spot p) ∙ sym (new_other y y_below y_apart)) at_entering))
 
       by_cases : (p : Bool) → nat_eq c e ≡ p → (q : Bool) → nat_eq c l ≡ q → entries new b c ≡ plus (t b c) (times (solved_for t l e c) (t b e))
       by_cases true h q w =
@@ -199,8 +198,8 @@ module _ (old new : Dictionary) (i j : ℕ) (d : IsDictionary old) (x : IsExchan
       by_cases false h true w =
           entry_is new b c (spot.Row k) (spot.Slot j) now (spot_leaving c h w) ∙ mixed_slot k k_below k_apart
           ∙ sym (ap₂ plus (ap (t b) (eq_is c l w) ∙ entry_is old b l (spot.Row k) (spot.Row i) s l_spot ∙ rows_apart old k i k_apart)
-              (ap₂ times (ap (solved_for t l e) (eq_is c l w) ∙ solved_leaving ∙ sym new_at) at_entering)
-            ∙ zero_plus (times (cell (row_at new i) j) (cell (row_at old k) j)))
+          (ap₂ times (ap (solved_for t l e) (eq_is c l w) ∙ solved_leaving ∙ sym new_at) at_entering)
+          ∙ zero_plus (times (cell (row_at new i) j) (cell (row_at old k) j)))
       by_cases false h false w = at_old h w (spot_of old c) refl
 
   pivot_other : (b c : ℕ) → nat_eq b e ≡ false → pivot t l e b c ≡ plus (t b c) (times (solved_for t l e c) (t b e))
@@ -257,16 +256,18 @@ module _ (old new : Dictionary) (i j : ℕ) (d : IsDictionary old) (x : IsExchan
 
       by_case : (p : Bool) → nat_eq k i ≡ p → IsColumn new (basic_at new k) (spot.Row k)
       by_case true h =
-          let is : basic_at new k ≡ e = ap (basic_at new) (eq_is k i h) ∙ basic_here in
-          (subst (λ (y : ℕ). basic_at new k < y) (sym spot_count) (subst (λ (y : ℕ). y < length old.spots) (sym is) (d.slots j slot_in).0),
-          ap (spot_of new) is ∙ spot_entering e (eq_self e) ∙ ap spot.Row (sym (eq_is k i h)))
+          let is : basic_at new k ≡ e = ap (basic_at new) (eq_is k i h) ∙ basic_here in (
+            subst (λ (y : ℕ). basic_at new k < y) (sym spot_count) (subst (λ (y : ℕ). y < length old.spots) (sym is) (d.slots j slot_in).0),
+            ap (spot_of new) is ∙ spot_entering e (eq_self e) ∙ ap spot.Row (sym (eq_is k i h)),
+          )
       by_case false h =
           let is : basic_at new k ≡ basic_at old k = basic_else k h in
-          let s : spot_of old (basic_at old k) ≡ spot.Row k = (d.rows k below).1 in
-          (subst (λ (y : ℕ). basic_at new k < y) (sym spot_count) (subst (λ (y : ℕ). y < length old.spots) (sym is) (d.rows k below).0),
-          ap (spot_of new) is ∙ spot_other (basic_at old k)
-            (false_of (basic_at old k) e (λ same. row≢slot k j (sym s ∙ ap (spot_of old) same ∙ e_spot)))
-            (false_of (basic_at old k) l (λ same. differ_of k i h (row_one (sym s ∙ ap (spot_of old) same ∙ l_spot)))) ∙ s)
+          let s : spot_of old (basic_at old k) ≡ spot.Row k = (d.rows k below).1 in (
+            subst (λ (y : ℕ). basic_at new k < y) (sym spot_count) (subst (λ (y : ℕ). y < length old.spots) (sym is) (d.rows k below).0),
+            ap (spot_of new) is ∙ spot_other (basic_at old k)
+                (false_of (basic_at old k) e (λ same. row≢slot k j (sym s ∙ ap (spot_of old) same ∙ e_spot)))
+                (false_of (basic_at old k) l (λ same. differ_of k i h (row_one (sym s ∙ ap (spot_of old) same ∙ l_spot)))) ∙ s,
+          )
 
   slots_said : (y : ℕ) → y < length old.outside → IsColumn new (outside_at new y) (spot.Slot y)
   slots_said y below = by_case (nat_eq y j) refl
@@ -280,16 +281,18 @@ module _ (old new : Dictionary) (i j : ℕ) (d : IsDictionary old) (x : IsExchan
 
       by_case : (p : Bool) → nat_eq y j ≡ p → IsColumn new (outside_at new y) (spot.Slot y)
       by_case true h =
-          let is : outside_at new y ≡ l = ap (outside_at new) (eq_is y j h) ∙ outside_here in
-          (subst (λ (k : ℕ). outside_at new y < k) (sym spot_count) (subst (λ (k : ℕ). k < length old.spots) (sym is) (d.rows i row_in).0),
-          ap (spot_of new) is ∙ spot_leaving l apart (eq_self l) ∙ ap spot.Slot (sym (eq_is y j h)))
+          let is : outside_at new y ≡ l = ap (outside_at new) (eq_is y j h) ∙ outside_here in (
+            subst (λ (k : ℕ). outside_at new y < k) (sym spot_count) (subst (λ (k : ℕ). k < length old.spots) (sym is) (d.rows i row_in).0),
+            ap (spot_of new) is ∙ spot_leaving l apart (eq_self l) ∙ ap spot.Slot (sym (eq_is y j h)),
+          )
       by_case false h =
           let is : outside_at new y ≡ outside_at old y = outside_else y h in
-          let s : spot_of old (outside_at old y) ≡ spot.Slot y = (d.slots y below).1 in
-          (subst (λ (k : ℕ). outside_at new y < k) (sym spot_count) (subst (λ (k : ℕ). k < length old.spots) (sym is) (d.slots y below).0),
-          ap (spot_of new) is ∙ spot_other (outside_at old y)
-            (false_of (outside_at old y) e (λ same. differ_of y j h (slot_one (sym s ∙ ap (spot_of old) same ∙ e_spot))))
-            (false_of (outside_at old y) l (λ same. row≢slot i y (sym l_spot ∙ ap (spot_of old) (sym same) ∙ s))) ∙ s)
+          let s : spot_of old (outside_at old y) ≡ spot.Slot y = (d.slots y below).1 in (
+            subst (λ (k : ℕ). outside_at new y < k) (sym spot_count) (subst (λ (k : ℕ). k < length old.spots) (sym is) (d.slots y below).0),
+            ap (spot_of new) is ∙ spot_other (outside_at old y)
+                (false_of (outside_at old y) e (λ same. differ_of y j h (slot_one (sym s ∙ ap (spot_of old) same ∙ e_spot))))
+                (false_of (outside_at old y) l (λ same. row≢slot i y (sym l_spot ∙ ap (spot_of old) (sym same) ∙ s))) ∙ s,
+          )
 
   columns_said : (c : ℕ) → c < length old.spots → IsSpot new c (spot_of new c)
   columns_said c below = by_cases (nat_eq c e) refl (nat_eq c l) refl
@@ -315,4 +318,5 @@ module _ (old new : Dictionary) (i j : ℕ) (d : IsDictionary old) (x : IsExchan
     rows = λ k h. rows_said k (subst (λ (y : ℕ). k < y) basic_count h);
     slots = λ y h. slots_said y (subst (λ (k : ℕ). y < k) outside_count h);
     columns = λ c h. columns_said c (subst (λ (y : ℕ). c < y) spot_count h);
+    solved_width = x.solved_width ∙ d.solved_width ∙ sym outside_count;
   }

@@ -1,9 +1,10 @@
 -- The dictionary of rows as they begin is one.
 use Rattle.std.proofs.Common.{◌≡◌, ℕ, ◌+◌, ◌-◌, ◌<◌, ◌≤◌, Bool, true, false, List, [], ◌∷◌, ◌++◌, length, nat_lt, slice_index_or, refl, sym, ap, ◌∙◌, subst, arith}
 use Rattle.std.proofs.lemmas.Bool.Decides.{nat_tests}
-use Rattle.std.proofs.lemmas.List.{get_or_append_left, get_or-append-add, length-append}
+use Rattle.std.proofs.lemmas.List.{length-replicate, get_or_append_left, get_or-append-add, length-append}
 use mathlib.Core.Path.{ap₂}
 use Rattle.spv_rational.specs.Rational.{Rational}
+use Rattle.spv_tableaux.specs.Numbers.{nothing}
 use Rattle.spv_dictionary.specs.declared.spot.Spot.{Spot}
 use Rattle.spv_dictionary.specs.declared.spot.Spot.TheVariants as spot
 use Rattle.spv_dictionary.specs.Cells.{listed, numbers_from}
@@ -11,7 +12,6 @@ use Rattle.spv_dictionary.specs.Dictionary.{Dictionary, IsDictionary, IsSpot, Is
 use Rattle.spv_dictionary.proofs.Lists.{length_listed, get_listed}
 
 module _ (width : ℕ) (cells : List (List Rational)) (widths : (i : ℕ) → i < length cells → length (slice_index_or cells i []) ≡ width) where
-
   abbrev d : Dictionary
   d = first width cells
 
@@ -91,4 +91,5 @@ module _ (width : ℕ) (cells : List (List Rational)) (widths : (i : ℕ) → i 
     rows = rows_said;
     slots = slots_said;
     columns = columns_said;
+    solved_width = length-replicate width nothing ∙ sym outside_count;
   }

@@ -2,3 +2,4 @@ pub mod Lists
 pub mod First
 pub mod Exchanging
 pub mod Mixed
+pub mod Making

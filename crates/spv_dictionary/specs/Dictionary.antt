@@ -1,5 +1,5 @@
 -- A solved form as rows of numbers: a row for each column in the basis, a slot for each column outside it.
-use Rattle.std.specs.Prelude.{◌≡◌, ℕ, zero, suc, ◌+◌, ◌<◌, List, [], ◌∷◌, ◌++◌, length, nat_eq, slice_index_or, if◌then◌else◌}
+use Rattle.std.specs.Prelude.{◌≡◌, ℕ, zero, suc, ◌+◌, ◌<◌, List, [], ◌∷◌, ◌++◌, length, replicate, nat_eq, slice_index_or, if◌then◌else◌}
 use Rattle.spv_rational.specs.Rational.{Rational}
 use Rattle.spv_tableaux.specs.Numbers.{nothing, minus_one}
 use Rattle.spv_tableaux.specs.Solved.{Place, Basic, Held, Places, Entries}
@@ -15,6 +15,12 @@ pub record Dictionary : Type 0 where
   pub outside : List ℕ
   -- the numbers of each row, slot by slot
   pub cells : List (List Rational)
+  -- what a row would be after an exchange that is being tested
+  pub solved : List Rational
+
+-- the same solved form, with another row that is tested
+abbrev pub with_solved : Dictionary → List Rational → Dictionary
+with_solved d solved = record { spots = d.spots; basic = d.basic; outside = d.outside; cells = d.cells; solved = solved }
 
 abbrev pub spot_of : Dictionary → ℕ → Spot
 spot_of d c = slice_index_or d.spots c (spot.Slot 0)
@@ -64,6 +70,7 @@ pub record IsDictionary (d : Dictionary) : Type 0 where
   pub rows : (i : ℕ) → i < length d.basic → IsColumn d (basic_at d i) (spot.Row i)
   pub slots : (j : ℕ) → j < length d.outside → IsColumn d (outside_at d j) (spot.Slot j)
   pub columns : (c : ℕ) → c < length d.spots → IsSpot d c (spot_of d c)
+  pub solved_width : length d.solved ≡ length d.outside
 
 -- ---- as it begins
 
@@ -80,4 +87,5 @@ first width cells = record {
   basic = numbers_from width (length cells);
   outside = numbers_from 0 width;
   cells = cells;
+  solved = replicate width nothing;
 }

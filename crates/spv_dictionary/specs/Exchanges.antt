@@ -26,4 +26,5 @@ pub record IsExchanged (old new : Dictionary) (i j : ℕ) : Type 0 where
   pub row_count : length new.cells ≡ length old.cells
   pub widths : (k : ℕ) → k < length old.basic → length (row_at new k) ≡ length (row_at old k)
   pub solved : (x : ℕ) → x < length old.outside → cell (row_at new i) x ≡ solved_at (row_at old i) j x
+  pub solved_width : length new.solved ≡ length old.solved
   pub mixed : (k x : ℕ) → k < length old.basic → nat_eq k i ≡ false → x < length old.outside → cell (row_at new k) x ≡ mixed_at (row_at old k) (row_at new i) j x

@@ -5,6 +5,7 @@ use Rattle.spv_frac.specs.declared.frac.Op.TheVariants.{Add, Mul, Div}
 use Rattle.spv_tableaux.specs.Numbers.{one, divided}
 use Rattle.spv_tableaux.specs.Operations.{Operation, operation, fits}
 use Rattle.spv_dictionary.specs.Cells.{cell}
+use Rattle.spv_dictionary.specs.Dictionary.{Dictionary, row_at}
 use Rattle.spv_dictionary.specs.Exchanges.{solved_at, mixed_at}
 
 -- what a number becomes where a solved number times a factor is added; the factor's own place has nothing to be added to
@@ -105,3 +106,15 @@ pub record AreWide (rows : List (List Rational)) (width : ℕ) : Type 0 where
 pub data IsExchanging (rows : List (List Rational)) (solved : List Rational) (i j : ℕ) (o : Operation) : Type 0 where
   solving : IsSolving (number_row rows i) j o → IsExchanging rows solved i j o
   mixing : IsSolved (number_row rows i) solved j → IsRowsMixing rows solved i j o → IsExchanging rows solved i j o
+
+-- ---- in a dictionary
+
+-- the exchange was tested: the solved row is there, and all operations fit
+pub record IsReady (d : Dictionary) (i j : ℕ) : Type 0 where
+  pub solved : IsSolved (row_at d i) d.solved j
+  pub can : CanMixRows d.cells d.solved i j
+
+-- an operation of the exchange of a row's column with that of a slot
+pub record IsRefused (d : Dictionary) (i j : ℕ) (o : Operation) : Type 0 where
+  pub solved : List Rational
+  pub exchanging : IsExchanging d.cells solved i j o

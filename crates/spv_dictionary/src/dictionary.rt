@@ -1,14 +1,19 @@
 // Solved forms as rows of numbers.
 
-ghost use Rattle.std.specs.Prelude.{◌≡◌, ℕ, ◌<◌, ◌+◌, ◌^◌, ◌++◌, [], length, slice_index_or, IfOk, OnOk};
-
+ghost use Rattle.std.specs.Prelude.{◌≡◌, ℕ, ◌<◌, ◌+◌, ◌^◌, ◌++◌, [], length, slice_index_or, slice_set, false, IfOk, IfErr, OnOk};
 ghost use Rattle.spv_dictionary.specs.Cells.{cell};
-ghost use Rattle.spv_dictionary.specs.Dictionary.{IsDictionary, first, spot_of, basic_at, outside_at, row_at, slots_to, rows_to};
+ghost use Rattle.spv_rational.specs.Rational.{is_zero};
+ghost use Rattle.spv_tableaux.specs.Operations.{fits};
+ghost use Rattle.spv_dictionary.specs.declared.spot.Spot.TheVariants as at;
+ghost use Rattle.spv_dictionary.specs.Exchanges.{IsExchanged};
+ghost use Rattle.spv_dictionary.specs.Mixing.{IsReady, IsRefused};
+ghost use Rattle.spv_dictionary.specs.Dictionary.{with_solved, IsDictionary, first, spot_of, basic_at, outside_at, row_at, slots_to, rows_to};
 ghost use Rattle.spv_dictionary.specs.Cells.{numbers_from};
 
+use crate::mixing;
 use crate::row::Row;
 use crate::spot::Spot;
-use spv_number::Number;
+use spv_number::Refused;
 use std::alloc::{AllocError, Global};
 use std::marker::Model;
 
@@ -20,6 +25,8 @@ pub struct Dictionary {
     basic: Vec<u32>,
     outside: Vec<u32>,
     rows: Vec<Row>,
+    // What a row would be after an exchange that is being tested.
+    solved: Row,
 }
 
 impl Model for Dictionary {
@@ -27,9 +34,9 @@ impl Model for Dictionary {
 
     ghost Value = { Dictionary };
 
-    ghost view = { λ d. record { spots = d.spots.items; basic = d.basic.items; outside = d.outside.items; cells = d.rows.items } };
+    ghost view = { λ d. record { spots = d.spots.items; basic = d.basic.items; outside = d.outside.items; cells = d.rows.items; solved = d.solved } };
 
-    ghost invariant = { λ d. IsDictionary (record { spots = d.spots.items; basic = d.basic.items; outside = d.outside.items; cells = d.rows.items }) };
+    ghost invariant = { λ d. IsDictionary (record { spots = d.spots.items; basic = d.basic.items; outside = d.outside.items; cells = d.rows.items; solved = d.solved }) };
 }
 
 impl Dictionary {
@@ -103,13 +110,71 @@ impl Dictionary {
         let spots = spots(alloc, width, count)?;
         let basic = numbers(alloc, width as u32, count as u32)?;
         let outside = numbers(alloc, 0, width as u32)?;
+        let solved = Row::zeros(alloc, width)?;
         Ok(Dictionary {
             spots,
             basic,
             outside,
             rows,
+            solved,
         })
     }
+
+    /// Tests whether the column of a row can be exchanged with that of a slot. The solved form stays as it is.
+    pub fn test(&mut self, row: usize, slot: usize) -> Result<(), Refused>
+        requires row { row < length self.old.basic }
+        requires slot { slot < length self.old.outside }
+        requires nonzero { is_zero (cell (row_at self.old row) slot) ≡ false }
+        ensures same { self.new ≡ with_solved self.old self.new.solved }
+        ensures ok { OnOk result (IsReady self.new row slot) }
+        ensures refused { IfErr result (λ o. IsRefused self.old row slot o) }
+        ensures unfit { IfErr result (λ o. fits o ≡ false) }
+    {
+        mixing::test(self.rows.as_slice(), &mut self.solved, row, slot)
+    }
+
+    /// Exchanges the column of a row with that of a slot, after this was tested.
+    pub fn exchange(&mut self, row: usize, slot: usize)
+        requires row { row < length self.old.basic }
+        requires slot { slot < length self.old.outside }
+        requires nonzero { is_zero (cell (row_at self.old row) slot) ≡ false }
+        requires ready { IsReady self.old row slot }
+        ensures { IsExchanged self.old self.new row slot }
+    {
+        mixing::exchange(&mut self.rows, &mut self.solved, row, slot);
+        relabel(
+            &mut self.spots,
+            &mut self.basic,
+            &mut self.outside,
+            row,
+            slot,
+        );
+    }
+}
+
+// The column of a row goes to a slot, and that of the slot to the row.
+fn relabel(
+    spots: &mut Vec<Spot>,
+    basic: &mut Vec<u32>,
+    outside: &mut Vec<u32>,
+    row: usize,
+    slot: usize,
+)
+    requires row { row < length basic.old.items }
+    requires slot { slot < length outside.old.items }
+    requires basic { slice_index_or basic.old.items row 0 < length spots.old.items }
+    requires outside { slice_index_or outside.old.items slot 0 < length spots.old.items }
+    ensures spots { spots.new.items ≡ slice_set (slice_set spots.old.items (slice_index_or basic.old.items row 0) (at.Slot slot))
+        (slice_index_or outside.old.items slot 0) (at.Row row) }
+    ensures basic { basic.new.items ≡ slice_set basic.old.items row (slice_index_or outside.old.items slot 0) }
+    ensures outside { outside.new.items ≡ slice_set outside.old.items slot (slice_index_or basic.old.items row 0) }
+{
+    let leaving = basic[row];
+    let entering = outside[slot];
+    spots[leaving as usize] = Spot::Slot(slot);
+    spots[entering as usize] = Spot::Row(row);
+    basic[row] = entering;
+    outside[slot] = leaving;
 }
 
 // So many numbers, from one on.

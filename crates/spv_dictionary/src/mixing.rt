@@ -10,8 +10,8 @@ ghost use Rattle.spv_dictionary.specs.Mixing as spec;
 ghost use Rattle.spv_dictionary.specs.Mixing.{can_mix, IsMixing, IsSolving, IsRowMixing, IsSolved, IsMixed, CanMixRow, CanMixRows, AreMixedTo, AreWide, IsMixedAt, IsMixedRow, IsRowsMixing, IsExchanging, number_row, is_idle};
 
 use crate::row::Row;
-use std::mem;
 use spv_number::{Number, Refused};
+use std::mem;
 
 // A number of the row that is solved for the column of a slot.
 fn solved(row: &Row, slot: usize, place: usize) -> Result<Number, Refused>
@@ -141,7 +141,13 @@ fn mix_row(row: &mut Row, solved: &Row, slot: usize)
 }
 
 // Whether a solved row can be put into one row, if that is another one.
-fn test_other(rows: &[Row], solved: &Row, here: usize, slot: usize, row: usize) -> Result<(), Refused>
+fn test_other(
+    rows: &[Row],
+    solved: &Row,
+    here: usize,
+    slot: usize,
+    row: usize,
+) -> Result<(), Refused>
     requires wide { AreWide rows.now (length solved.now) }
     requires slot { slot < length solved.now }
     requires row { row < length rows.now }
