@@ -26,7 +26,7 @@ false_of a b h = by_case (nat_eq a b) refl
     by_case true e = absurd (h (eq_is a b e))
     by_case false e = refl
 
-row≢slot : (i j : ℕ) → spot.Row i ≡ spot.Slot j → ⊥
+pub row≢slot : (i j : ℕ) → spot.Row i ≡ spot.Slot j → ⊥
 row≢slot i j e = false≢true (ap (λ s. is_slot s) e)
   where
     is_slot : Spot → Bool

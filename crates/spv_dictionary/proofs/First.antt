@@ -11,6 +11,18 @@ use Rattle.spv_dictionary.specs.Cells.{listed, numbers_from}
 use Rattle.spv_dictionary.specs.Dictionary.{Dictionary, IsDictionary, IsSpot, IsColumn, first, spot_of, basic_at, outside_at, row_at, slots_to, rows_to}
 use Rattle.spv_dictionary.proofs.Lists.{length_listed, get_listed}
 
+module _ (width : ℕ) (cells : List (List Rational)) where
+  abbrev begun : Dictionary
+  begun = first width cells
+
+  pub slot_spot : (j : ℕ) → j < width → spot_of begun j ≡ spot.Slot j
+  slot_spot j h = get_or_append_left (slots_to width) (rows_to (length cells)) (spot.Slot 0) j (subst (λ (k : ℕ). j < k) (sym (length_listed spot.Slot width)) h) ∙ get_listed spot.Slot width j (spot.Slot 0) h
+
+  pub row_spot : (i : ℕ) → i < length cells → spot_of begun (width + i) ≡ spot.Row i
+  row_spot i h =
+      ap (λ k. slice_index_or (slots_to width ++ rows_to (length cells)) (k + i) (spot.Slot 0)) (sym (length_listed spot.Slot width))
+      ∙ get_or-append-add (slots_to width) (rows_to (length cells)) i (spot.Slot 0) ∙ get_listed spot.Row (length cells) i (spot.Slot 0) h
+
 module _ (width : ℕ) (cells : List (List Rational)) (widths : (i : ℕ) → i < length cells → length (slice_index_or cells i []) ≡ width) where
   abbrev d : Dictionary
   d = first width cells
@@ -27,14 +39,6 @@ module _ (width : ℕ) (cells : List (List Rational)) (widths : (i : ℕ) → i 
   spot_count : length d.spots ≡ width + n
   spot_count = length-append (slots_to width) (rows_to n) ∙ ap₂ (λ (a b : ℕ). a + b) (length_listed spot.Slot width) (length_listed spot.Row n)
 
-  pub slot_spot : (j : ℕ) → j < width → spot_of d j ≡ spot.Slot j
-  slot_spot j h = get_or_append_left (slots_to width) (rows_to n) (spot.Slot 0) j (subst (λ (k : ℕ). j < k) (sym (length_listed spot.Slot width)) h) ∙ get_listed spot.Slot width j (spot.Slot 0) h
-
-  pub row_spot : (i : ℕ) → i < n → spot_of d (width + i) ≡ spot.Row i
-  row_spot i h =
-      ap (λ k. slice_index_or (slots_to width ++ rows_to n) (k + i) (spot.Slot 0)) (sym (length_listed spot.Slot width))
-      ∙ get_or-append-add (slots_to width) (rows_to n) i (spot.Slot 0) ∙ get_listed spot.Row n i (spot.Slot 0) h
-
   basic_is : (i : ℕ) → i < n → basic_at d i ≡ width + i
   basic_is i h = get_listed (λ k. width + k) n i 0 h
 
@@ -47,7 +51,7 @@ module _ (width : ℕ) (cells : List (List Rational)) (widths : (i : ℕ) → i 
   rows_said : (i : ℕ) → i < length d.basic → IsColumn d (basic_at d i) (spot.Row i)
   rows_said i h =
       let below : i < n = subst (λ (k : ℕ). i < k) basic_count h in
-      (subst (λ (k : ℕ). basic_at d i < k) (sym spot_count) (subst (λ (k : ℕ). k < width + n) (sym (basic_is i below)) (more width i n below)), ap (spot_of d) (basic_is i below) ∙ row_spot i below)
+      (subst (λ (k : ℕ). basic_at d i < k) (sym spot_count) (subst (λ (k : ℕ). k < width + n) (sym (basic_is i below)) (more width i n below)), ap (spot_of d) (basic_is i below) ∙ row_spot width cells i below)
     where
       more : (w i n : ℕ) → i < n → w + i < w + n
       more w i n h = omega arith
@@ -55,7 +59,7 @@ module _ (width : ℕ) (cells : List (List Rational)) (widths : (i : ℕ) → i 
   slots_said : (j : ℕ) → j < length d.outside → IsColumn d (outside_at d j) (spot.Slot j)
   slots_said j h =
       let below : j < width = subst (λ (k : ℕ). j < k) outside_count h in
-      (subst (λ (k : ℕ). outside_at d j < k) (sym spot_count) (subst (λ (k : ℕ). k < width + n) (sym (outside_is j below)) (more j width n below)), ap (spot_of d) (outside_is j below) ∙ slot_spot j below)
+      (subst (λ (k : ℕ). outside_at d j < k) (sym spot_count) (subst (λ (k : ℕ). k < width + n) (sym (outside_is j below)) (more j width n below)), ap (spot_of d) (outside_is j below) ∙ slot_spot width cells j below)
     where
       more : (j w n : ℕ) → j < w → j < w + n
       more j w n h = omega arith
@@ -77,11 +81,11 @@ module _ (width : ℕ) (cells : List (List Rational)) (widths : (i : ℕ) → i 
 
       by_case : (b : Bool) → nat_lt c width ≡ b → IsSpot d c (spot_of d c)
       by_case true e =
-          subst (IsSpot d c) (sym (slot_spot c (below c width e))) (subst (λ (k : ℕ). c < k) (sym outside_count) (below c width e), outside_is c (below c width e))
+          subst (IsSpot d c) (sym (slot_spot width cells c (below c width e))) (subst (λ (k : ℕ). c < k) (sym outside_count) (below c width e), outside_is c (below c width e))
       by_case false e =
           let i : ℕ = c - width in
           let under : i < n = row_below c width n inside e in
-          subst (IsSpot d c) (sym (ap (spot_of d) (sym (whole c width e)) ∙ row_spot i under)) (subst (λ (k : ℕ). i < k) (sym basic_count) under, basic_is i under ∙ whole c width e)
+          subst (IsSpot d c) (sym (ap (spot_of d) (sym (whole c width e)) ∙ row_spot width cells i under)) (subst (λ (k : ℕ). i < k) (sym basic_count) under, basic_is i under ∙ whole c width e)
 
   pub is_first : IsDictionary d
   is_first = record {

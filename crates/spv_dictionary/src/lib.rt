@@ -8,6 +8,6 @@ mod row;
 mod spot;
 
 pub use dictionary::Dictionary;
-pub use laws::law_exchange;
+pub use laws::{law_exchange, law_first};
 pub use row::Row;
 pub use spot::Spot;
