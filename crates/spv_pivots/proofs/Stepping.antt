@@ -6,13 +6,13 @@ use Rattle.spv_tableaux.specs.declared.side.Side.{Side}
 use Rattle.spv_tableaux.specs.Numbers.{minus}
 use Rattle.spv_tableaux.specs.Rows.{Rows, columns, Point}
 use Rattle.spv_tableaux.specs.Bounds.{Limits, or_nothing, is_out}
-use Rattle.spv_tableaux.specs.Solved.{Place, Basic, Held, At, Places, is_basic, Entries, point, at_rest, resting, exchanged, pivot}
+use Rattle.spv_tableaux.specs.Solved.{Place, Basic, Held, At, Places, is_basic, Entries, point, at_rest, resting, exchanged, pivot, equation_sum}
 use Rattle.spv_tableaux.specs.Steps.{may_leave, may_enter, none_to, IsStep}
 use Rattle.spv_tableaux.specs.Operations.{shift}
 use Rattle.spv_pivots.specs.Moved.{moved, placed, as_held}
-use Rattle.spv_pivots.specs.Laws.{BasisAlone, StepSolves, StepMoves, InsideMoves, HeldPoint}
+use Rattle.spv_pivots.specs.Laws.{BasisAlone, EntriesAlone, StepSolves, StepMoves, InsideMoves, HeldPoint}
 use Rattle.spv_pivots.proofs.Algebra.{plus_minus, divided_times}
-use Rattle.spv_pivots.proofs.Sums.{count_same, eq_is, eq_flip}
+use Rattle.spv_pivots.proofs.Sums.{sum_same, count_same, eq_is, eq_flip}
 use Rattle.spv_pivots.proofs.Tests.{and_left, and_right, not_true}
 use Rattle.spv_pivots.proofs.Points.{point_solves, only_point, point_outside}
 use Rattle.spv_pivots.proofs.Directions.{differ, moved_solves}
@@ -26,6 +26,18 @@ basis_alone rows places others t same s = record {
   meets = λ v solution b inside basic. s.meets v solution b inside (sym (same b) ∙ basic);
   solves = λ v m. s.solves v (λ b inside basic. m b inside (same b ∙ basic));
 }
+
+pub entries_alone : EntriesAlone
+entries_alone rows places t u same s = record {
+  basis = s.basis;
+  own = λ b inside basic. same b b inside basic inside ∙ s.own b inside basic;
+  others = λ b c inside basic c_in c_basic different. same b c inside basic c_in ∙ s.others b c inside basic c_in c_basic different;
+  meets = λ v solution b inside basic. sums b inside basic v ∙ s.meets v solution b inside basic;
+  solves = λ v m. s.solves v (λ b inside basic. sym (sums b inside basic v) ∙ m b inside basic);
+}
+  where
+    sums : (b : ℕ) → b < columns rows → is_basic (places b) ≡ true → (v : Point) → equation_sum rows u b v ≡ equation_sum rows t b v
+    sums b inside basic v = sum_same (columns rows) _ _ (λ c below. ap (λ x. times x (v c)) (same b c inside basic below))
 
 -- what a step needs for its pivot
 pub record IsExchange (places : Places) (t : Entries) (leaving entering : ℕ) : Type 0 where

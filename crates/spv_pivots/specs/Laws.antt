@@ -25,6 +25,11 @@ PivotSolves = (rows : Rows) (places : Places) (t : Entries) (leaving : ℕ) (sid
 abbrev pub BasisAlone : Type 0
 BasisAlone = (rows : Rows) (places others : Places) (t : Entries) → ((c : ℕ) → is_basic (others c) ≡ is_basic (places c)) → IsSolved rows places t → IsSolved rows others t
 
+-- nor what its entries are at columns outside the basis, or behind the last column
+abbrev pub EntriesAlone : Type 0
+EntriesAlone = (rows : Rows) (places : Places) (t u : Entries) → ((b c : ℕ) → b < columns rows → is_basic (places b) ≡ true → c < columns rows → u b c ≡ t b c)
+    → IsSolved rows places t → IsSolved rows places u
+
 -- a step leads from a solved form to one
 abbrev pub StepSolves : Type 0
 StepSolves = (rows : Rows) (limits : Limits) (places : Places) (v : Point) (t : Entries) (leaving : ℕ) (side : Side) (entering : ℕ) → IsSolved rows places t

@@ -1,6 +1,6 @@
 // What solved forms obey, each law the contract of a function that does nothing.
 
-ghost use Rattle.spv_pivots.specs.Laws.{RowsAreSolved, PivotSolves, StepSolves, BasisAlone, HeldPoint, StepMoves, InsideMoves, OneSolvedForm, PointSolves, OnlyPoint, MovedSolves, StuckContradicts, ContradictionRefutes};
+ghost use Rattle.spv_pivots.specs.Laws.{RowsAreSolved, PivotSolves, StepSolves, BasisAlone, EntriesAlone, HeldPoint, StepMoves, InsideMoves, OneSolvedForm, PointSolves, OnlyPoint, MovedSolves, StuckContradicts, ContradictionRefutes};
 
 /// The rows that a tableau begins with are a solved form.
 pub fn law_start()
@@ -12,6 +12,7 @@ pub fn law_pivot()
     ensures solved { PivotSolves }
     ensures step { StepSolves }
     ensures basis { BasisAlone }
+    ensures entries { EntriesAlone }
 {}
 
 /// There is at most one solved form for a basis.
