@@ -1,0 +1,9 @@
+//! Bounds on linear forms over the rational numbers: which of them a point meets, and which contradict each
+//! other.
+#![tactic(auto)]
+
+mod forms;
+mod tableau;
+
+pub use spv_tableaux::Side;
+pub use tableau::{Mark, Tableau};
