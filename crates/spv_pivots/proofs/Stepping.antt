@@ -20,11 +20,11 @@ use Rattle.spv_pivots.proofs.Pivoting.{pivot_solves, entered, stayed}
 
 pub basis_alone : BasisAlone
 basis_alone rows places others t same s = record {
-  basis = count_same (columns rows) (λ c. is_basic (others c)) (λ c. is_basic (places c)) (λ c below. same c) ∙ s.basis;
-  own = λ b inside basic. s.own b inside (sym (same b) ∙ basic);
-  others = λ b c inside basic c_in c_basic. s.others b c inside (sym (same b) ∙ basic) c_in (sym (same c) ∙ c_basic);
-  meets = λ v solution b inside basic. s.meets v solution b inside (sym (same b) ∙ basic);
-  solves = λ v m. s.solves v (λ b inside basic. m b inside (same b ∙ basic));
+  basis = count_same (columns rows) (λ c. is_basic (others c)) (λ c. is_basic (places c)) same ∙ s.basis;
+  own = λ b inside basic. s.own b inside (sym (same b inside) ∙ basic);
+  others = λ b c inside basic c_in c_basic different. s.others b c inside (sym (same b inside) ∙ basic) c_in (sym (same c c_in) ∙ c_basic) different;
+  meets = λ v solution b inside basic. s.meets v solution b inside (sym (same b inside) ∙ basic);
+  solves = λ v m. s.solves v (λ b inside basic. m b inside (same b inside ∙ basic));
 }
 
 pub entries_alone : EntriesAlone
@@ -141,7 +141,7 @@ same_basis places column side out c = by_case (nat_eq c column) refl
 
 pub inside_moves : InsideMoves
 inside_moves rows limits held places t column side bound s column_in out is_bound =
-    only_point rows limits held (placed places column (At side)) t (basis_alone rows places (placed places column (At side)) t (same_basis places column side out) s) w
+    only_point rows limits held (placed places column (At side)) t (basis_alone rows places (placed places column (At side)) t (λ c below. same_basis places column side out c) s) w
     (moved_solves rows places t s v (point_solves rows limits held places t s) column distance column_in out) rests
   where
     v : Point
@@ -179,5 +179,5 @@ held_outside places c e = rw e refl
 
 pub held_point : HeldPoint
 held_point rows limits places t v s solution =
-    only_point rows limits v (as_held places) t (basis_alone rows places (as_held places) t (held_basic places) s) v solution
+    only_point rows limits v (as_held places) t (basis_alone rows places (as_held places) t (λ c below. held_basic places c) s) v solution
     (λ c below out. sym (ap (resting limits v c) (held_outside places c (sym (held_basic places c) ∙ out))))

@@ -23,7 +23,7 @@ PivotSolves = (rows : Rows) (places : Places) (t : Entries) (leaving : ℕ) (sid
 
 -- a solved form is one whatever the places of the columns outside the basis
 abbrev pub BasisAlone : Type 0
-BasisAlone = (rows : Rows) (places others : Places) (t : Entries) → ((c : ℕ) → is_basic (others c) ≡ is_basic (places c)) → IsSolved rows places t → IsSolved rows others t
+BasisAlone = (rows : Rows) (places others : Places) (t : Entries) → ((c : ℕ) → c < columns rows → is_basic (others c) ≡ is_basic (places c)) → IsSolved rows places t → IsSolved rows others t
 
 -- nor what its entries are at columns outside the basis, or behind the last column
 abbrev pub EntriesAlone : Type 0

@@ -2,6 +2,7 @@
 //! other.
 #![tactic(auto)]
 
+mod cells;
 mod forms;
 mod tableau;
 
