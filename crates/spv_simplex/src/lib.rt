@@ -5,6 +5,7 @@
 mod cells;
 mod forms;
 mod tableau;
+mod trail;
 
 pub use spv_tableaux::Side;
 pub use tableau::{Mark, Tableau};

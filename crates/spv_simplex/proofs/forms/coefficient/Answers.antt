@@ -1,3 +1,4 @@
+use Rattle.spv_simplex.proofs.Standing.{pop_keeps}
 use Rattle.std.proofs.Common.{rules, ◌<◌, length, subst, sym}
 use Rattle.spv_atoms.specs.Linear.{ArePartsFrom}
 use Rattle.spv_simplex.proofs.Fitting.{read_fits}
