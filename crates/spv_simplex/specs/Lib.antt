@@ -1,3 +1,4 @@
 pub mod State
 pub mod Cells
 pub mod Trail
+pub mod Evidence

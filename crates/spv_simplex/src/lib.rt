@@ -3,9 +3,13 @@
 #![tactic(auto)]
 
 mod cells;
+mod checked;
+mod evidence;
 mod forms;
 mod tableau;
 mod trail;
 
+pub use checked::Checked;
+pub use evidence::Evidence;
 pub use spv_tableaux::Side;
 pub use tableau::{Mark, Tableau};
