@@ -2,3 +2,4 @@ pub mod State
 pub mod Cells
 pub mod Trail
 pub mod Evidence
+pub mod Checks

@@ -10,9 +10,13 @@ use Rattle.spv_tableaux.specs.declared.side.Side.TheVariants.{Lower, Upper}
 use Rattle.spv_tableaux.specs.Numbers.{nothing, is_less}
 use Rattle.spv_tableaux.specs.Rows.{Rows, columns, Point, IsSolution}
 use Rattle.spv_tableaux.specs.Bounds.{Bound, bound_on, other_side, AreBounds}
-use Rattle.spv_tableaux.specs.Solved.{is_basic, Places, Entries, IsSolved}
+use Rattle.spv_tableaux.specs.Solved.{is_basic, row_places, Places, Entries, IsSolved}
 use Rattle.spv_tableaux.specs.Forms.{rows_of, part_ids}
-use Rattle.spv_dictionary.specs.Dictionary.{Dictionary, entries, places}
+use Rattle.spv_tableaux.specs.Contradictions.{Multiple}
+use Rattle.spv_dictionary.specs.Dictionary.{Dictionary, entries, places, first}
+use Rattle.spv_simplex.specs.declared.checked.Checked.{Checked}
+use Rattle.spv_simplex.specs.Evidence.{EvidenceValue, no_evidence}
+use Rattle.spv_simplex.specs.Trail.{Trail}
 
 pub record State : Type 0 where
   -- the forms whose rows these are
@@ -26,6 +30,10 @@ pub record State : Type 0 where
   pub form : Dictionary
   -- the value of each column at the kept point
   pub values : List Rational
+  -- what the last check came to, and what it left
+  pub answer : Option Checked
+  pub combination : List Multiple
+  pub evidence : EvidenceValue
 
 abbrev pub rows_in : State → Rows
 rows_in s = rows_of s.forms
@@ -49,27 +57,43 @@ pub record IsTableau (s : State) : Type 0 where
   pub solution : IsSolution (rows_in s) (kept_point s)
   pub parts : (c : ℕ) → c < (rows_in s).parts → is_basic (places s.form c) ≡ false → kept_point s c ≡ nothing
 
+-- what its fields have in common
+pub record IsKept (s : State) (ids : List TermId) (trail : Trail) : Type 0 where
+  pub tableau : IsTableau s
+  pub ids_are : ids ≡ part_ids s.forms
+  pub rows_are : trail.rows ≡ length s.forms
+
 -- ---- calls
+
+-- as it begins: no bounds, the rows in the basis, and 0 for each column
+pub record IsOpened (forms : List IdForm) (trail pivots : ℕ) (s : State) : Type 0 where
+  pub forms_are : s.forms ≡ forms
+  pub trail_is : s.trail ≡ trail
+  pub pivots_are : s.pivots ≡ pivots
+  pub no_bounds : s.bounds ≡ []
+  pub all_rows : (c : ℕ) → c < columns (rows_of forms) → is_basic (places s.form c) ≡ is_basic (row_places (rows_of forms) c)
+  pub zeros : (c : ℕ) → kept_point s c ≡ nothing
+  pub not_checked : s.answer ≡ None
 
 -- one bound more
 abbrev pub with_bound : State → Bound → State
-with_bound s b = record { forms = s.forms; trail = s.trail; pivots = s.pivots; bounds = s.bounds ++ b ∷ []; form = s.form; values = s.values }
+with_bound s b = record s { bounds = s.bounds ++ b ∷ [] }
 
 -- the first bounds
 abbrev pub with_first : State → ℕ → State
-with_first s n = record { forms = s.forms; trail = s.trail; pivots = s.pivots; bounds = take n s.bounds; form = s.form; values = s.values }
+with_first s n = record s { bounds = take n s.bounds }
 
--- a bound does not contradict the one on the other side of its row
-abbrev pub agrees : Side → Rational → Rational → Bool
-agrees Lower value other = is_less other value
-agrees Upper value other = is_less value other
+-- a bound contradicts the one on the other side of its row
+abbrev pub clashes : Side → Rational → Rational → Bool
+clashes Lower value other = is_less other value
+clashes Upper value other = is_less value other
 
 -- the bound may be asserted
 pub record MayAssert (s : State) (b : Bound) : Type 0 where
   pub row_in : b.row < length s.forms
   pub room : length s.bounds < s.trail
   pub free : bound_on s.bounds b.row b.side ≡ None
-  pub ordered : (other : Rational) → bound_on s.bounds b.row (other_side b.side) ≡ Some other → agrees b.side b.value other ≡ false
+  pub ordered : (other : Rational) → bound_on s.bounds b.row (other_side b.side) ≡ Some other → clashes b.side b.value other ≡ false
 
 -- the value of a term that is a column, 0 for any other
 abbrev pub value_from : State → Option ℕ → Rational
