@@ -15,6 +15,9 @@ module _ (width : ℕ) (cells : List (List Rational)) where
   abbrev begun : Dictionary
   begun = first width cells
 
+  pub spot_total : length begun.spots ≡ width + length cells
+  spot_total = length-append (slots_to width) (rows_to (length cells)) ∙ ap₂ (λ (a b : ℕ). a + b) (length_listed spot.Slot width) (length_listed spot.Row (length cells))
+
   pub slot_spot : (j : ℕ) → j < width → spot_of begun j ≡ spot.Slot j
   slot_spot j h = get_or_append_left (slots_to width) (rows_to (length cells)) (spot.Slot 0) j (subst (λ (k : ℕ). j < k) (sym (length_listed spot.Slot width)) h) ∙ get_listed spot.Slot width j (spot.Slot 0) h
 

@@ -6,7 +6,7 @@ use mathlib.Core.Path.{ap₂}
 use Rattle.spv_rational.specs.Rational.{Rational}
 use Rattle.spv_tableaux.specs.Numbers.{nothing, minus_one}
 use Rattle.spv_tableaux.specs.Rows.{Rows, columns}
-use Rattle.spv_tableaux.specs.Solved.{is_basic, row_entries}
+use Rattle.spv_tableaux.specs.Solved.{is_basic, row_places, row_entries}
 use Rattle.spv_pivots.proofs.Sums.{eq_is, eq_self}
 use Rattle.spv_dictionary.specs.declared.spot.Spot.{Spot}
 use Rattle.spv_dictionary.specs.declared.spot.Spot.TheVariants as spot
@@ -83,6 +83,13 @@ module _ (rows : Rows) (cells : List (List Rational)) (count : length cells ≡ 
       by_part : (h : Bool) → nat_lt b rows.parts ≡ h → entries d b c ≡ row_entries rows b c
       by_part true h = absurd (false≢true (sym (ap (λ s. is_basic (place_of s)) (slot_at b h)) ∙ basic))
       by_part false h = form_at b c b_in h c_in
+
+  pub first_basis : (c : ℕ) → c < columns rows → is_basic (places d c) ≡ is_basic (row_places rows c)
+  first_basis c c_in = by_part (nat_lt c rows.parts) refl
+    where
+      by_part : (h : Bool) → nat_lt c rows.parts ≡ h → is_basic (places d c) ≡ is_basic (row_places rows c)
+      by_part true h = ap (λ s. is_basic (place_of s)) (slot_at c h) ∙ sym (rw h refl)
+      by_part false h = ap (λ s. is_basic (place_of s)) (row_spot_at c c_in h) ∙ sym (rw h refl)
 
 pub is_first_form : IsFirstForm
 is_first_form rows cells count same b c b_in basic c_in = is_form rows cells count same b c b_in basic c_in

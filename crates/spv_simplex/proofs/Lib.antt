@@ -1,3 +1,4 @@
 pub mod Fitting
 pub mod Standing
 pub mod Reading
+pub mod Calls

@@ -16,14 +16,14 @@ use Rattle.spv_simplex.specs.Trail.{Trail, bound_of, written, IsTrail}
 
 -- ---- looking for a bound
 
-abbrev or_else : Option Rational → Option Rational → Option Rational
+abbrev pub or_else : Option Rational → Option Rational → Option Rational
 or_else None y = y
 or_else (Some x) y = Some x
 
-abbrev is_on : Bound → ℕ → Side → Bool
+abbrev pub is_on : Bound → ℕ → Side → Bool
 is_on b i side = nat_eq b.row i && same_side b.side side
 
-abbrev if_on : Bound → ℕ → Side → Option Rational
+abbrev pub if_on : Bound → ℕ → Side → Option Rational
 if_on b i side = if is_on b i side then Some b.value else None
 
 found_push : (bounds : List Bound) (b : Bound) (i : ℕ) (side : Side) → bound_on (bounds ++ b ∷ []) i side ≡ or_else (bound_on bounds i side) (if_on b i side)
@@ -44,10 +44,10 @@ no_else None = refl
 no_else (Some x) = refl
 
 -- another bound does not count
-found_other : (bounds : List Bound) (b : Bound) (i : ℕ) (side : Side) → is_on b i side ≡ false → bound_on (bounds ++ b ∷ []) i side ≡ bound_on bounds i side
+pub found_other : (bounds : List Bound) (b : Bound) (i : ℕ) (side : Side) → is_on b i side ≡ false → bound_on (bounds ++ b ∷ []) i side ≡ bound_on bounds i side
 found_other bounds b i side h = found_push bounds b i side ∙ ap (or_else (bound_on bounds i side)) (rw h refl) ∙ no_else (bound_on bounds i side)
 
-found_here : (bounds : List Bound) (b : Bound) → bound_on bounds b.row b.side ≡ None → bound_on (bounds ++ b ∷ []) b.row b.side ≡ Some b.value
+pub found_here : (bounds : List Bound) (b : Bound) → bound_on bounds b.row b.side ≡ None → bound_on (bounds ++ b ∷ []) b.row b.side ≡ Some b.value
 found_here bounds b h = found_push bounds b b.row b.side ∙ ap (λ o. or_else o (if_on b b.row b.side)) h ∙ rw (eq_self b.row, side_self b.side) refl
   where
     side_self : (side : Side) → same_side side side ≡ true

@@ -39,7 +39,13 @@ impl Model for Evidence {
 
 impl Evidence {
     // None yet, and room for it.
-    pub(crate) fn new(alloc: Global, trail: usize, rows: usize, parts: usize, pivots: usize) -> Result<Evidence, AllocError>
+    pub(crate) fn new(
+        alloc: Global,
+        trail: usize,
+        rows: usize,
+        parts: usize,
+        pivots: usize,
+    ) -> Result<Evidence, AllocError>
         ensures { IfOk result (λ e. e ≡ no_evidence) }
     {
         Ok(Evidence {

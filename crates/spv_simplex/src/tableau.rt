@@ -100,6 +100,59 @@ impl Tableau {
         let _pivots = self.pivots;
     }
 
+    /// Rows of these forms, without bounds; at most `trail` bounds may stand, and a check makes at most `pivots`
+    /// steps. All memory is taken here.
+    pub fn open(
+        alloc: Global,
+        rows: &[Linear],
+        trail: usize,
+        pivots: u64,
+    ) -> Result<Tableau, AllocError>
+        requires pivots { pivots ≤ 1000000 }
+        requires columns { columns (rows_of rows.now) < 2 ^ 32 }
+        ensures { IfOk result (λ t. IsOpened rows.now trail pivots t) }
+    {
+        let forms = forms_of(alloc, rows)?;
+        let parts = Parts::of(alloc, rows)?;
+        let cells = cells::rows(alloc, rows, &parts)?;
+        let width = parts.len();
+        let dictionary = Dictionary::start(alloc, width, cells)?;
+        let values = vec![in alloc; Number::whole(0); width + rows.len()]?;
+        let bounds = Trail::new(alloc, rows.len(), trail)?;
+        let combination = Vec::with_capacity(alloc, rows.len())?;
+        let evidence = Evidence::new(alloc, trail, rows.len(), width, pivots as usize)?;
+        Ok(Tableau {
+            forms,
+            parts,
+            trail: bounds,
+            pivots,
+            dictionary,
+            values,
+            answer: None,
+            combination,
+            evidence,
+        })
+    }
+
+    /// Asserts a bound on a side of a row that has none there.
+    pub fn assert_bound(&mut self, row: u32, side: Side, bound: Frac)
+        requires { MayAssert self.old (bound_of row side (number bound)) }
+        ensures { self.new ≡ with_bound self.old (bound_of row side (number bound)) }
+    {
+        let value = Number::of(bound);
+        self.trail.push(row as usize, side, value);
+        self.trail.law_trail();
+    }
+
+    /// Lets go all bounds that came after a mark. The basis stays.
+    pub fn undo(&mut self, mark: Mark)
+        requires { mark ≤ length self.old.bounds }
+        ensures { self.new ≡ with_first self.old mark }
+    {
+        self.trail.keep(mark.count);
+        self.trail.law_trail();
+    }
+
     /// How many bounds stand.
     pub fn mark(&self) -> Mark
         ensures { result ≡ length self.now.bounds }
