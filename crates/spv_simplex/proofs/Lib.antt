@@ -2,3 +2,4 @@ pub mod Fitting
 pub mod Standing
 pub mod Reading
 pub mod Calls
+pub mod Held

@@ -3,3 +3,4 @@ pub mod Cells
 pub mod Trail
 pub mod Evidence
 pub mod Checks
+pub mod Laws

@@ -6,10 +6,12 @@ mod cells;
 mod checked;
 mod evidence;
 mod forms;
+mod laws;
 mod tableau;
 mod trail;
 
 pub use checked::Checked;
 pub use evidence::Evidence;
+pub use laws::law_asserted;
 pub use spv_tableaux::Side;
 pub use tableau::{Mark, Tableau};
