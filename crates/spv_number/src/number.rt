@@ -213,6 +213,22 @@ impl Number {
             }),
         }
     }
+
+    /// Whether it is greater than the other.
+    pub fn is_greater(self, other: Number) -> Result<bool, Refused>
+        ensures fits { IsOk result ↔ IsTrue (fits (operation Cmp self other)) }
+        ensures refused { IfErr result (λ o. o ≡ operation Cmp self other) }
+        ensures value { IfOk result (λ answer. answer ≡ is_less other self) }
+    {
+        match self.frac().cmp(other.frac()) {
+            Ok(order) => Ok(order == Ordering::Greater),
+            Err(TooWide) => Err(Refused {
+                op: Op::Cmp,
+                left: self,
+                right: other,
+            }),
+        }
+    }
 }
 
 // A whole number as a fraction.
