@@ -3,3 +3,4 @@ pub mod Standing
 pub mod Reading
 pub mod Calls
 pub mod Held
+pub mod Choices

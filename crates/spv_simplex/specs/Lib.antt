@@ -4,3 +4,4 @@ pub mod Trail
 pub mod Evidence
 pub mod Checks
 pub mod Laws
+pub mod Choosing

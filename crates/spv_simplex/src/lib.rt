@@ -4,6 +4,7 @@
 
 mod cells;
 mod checked;
+mod choosing;
 mod evidence;
 mod forms;
 mod laws;
