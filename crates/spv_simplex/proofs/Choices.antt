@@ -12,15 +12,15 @@ use Rattle.spv_tableaux.specs.Numbers.{nothing}
 use Rattle.spv_tableaux.specs.Rows.{Point}
 use Rattle.spv_tableaux.specs.Bounds.{Bound, bound_on, Limits, limit_from, breaks_limit, is_out}
 use Rattle.spv_tableaux.specs.Solved.{Places, is_basic}
-use Rattle.spv_tableaux.specs.Steps.{none_to, is_least, may_leave}
+use Rattle.spv_tableaux.specs.Steps.{none_to, is_least, may_leave, may_enter}
 use Rattle.spv_tableaux.specs.Operations.{Operation, operation, Compares, comparing}
 use Rattle.spv_pivots.proofs.Starting.{above_is}
 use Rattle.spv_pivots.proofs.Tests.{and_both, not_false}
 use Rattle.spv_dictionary.specs.declared.spot.Spot.{Spot}
 use Rattle.spv_dictionary.specs.declared.spot.Spot.TheVariants as spot
-use Rattle.spv_dictionary.specs.Dictionary.{Dictionary, IsDictionary, spot_of, place_of, places}
+use Rattle.spv_dictionary.specs.Dictionary.{Dictionary, IsDictionary, spot_of, basic_at, entries, place_of, places}
 use Rattle.spv_shifts.specs.Shifts.{value_in}
-use Rattle.spv_simplex.specs.Choosing.{limits_of, broken_side, IsComparing, with_lower, with_upper, out_side, leaving_side, IsLeaving}
+use Rattle.spv_simplex.specs.Choosing.{limits_of, broken_side, IsComparing, with_lower, with_upper, out_side, leaving_side, IsLeaving, IsSlotOf, IsEntering}
 
 none≢some : (x : Rational) → None ≡ Some x → ⊥
 none≢some x e = false≢true (sym (ap is_there e))
@@ -163,3 +163,21 @@ row_value d values rows row i r known count same below at read =
   where
     inside : (n p m q i : ℕ) → n ≡ p + m → q ≡ m → i < q → p + i < n
     inside n p m q i e f h = omega (arith, e, f)
+
+-- a column's value compared with its bound on a side
+compares_on : (limits : Limits) (v : Point) (column : ℕ) (side : Side) (bound : Option Rational) (value : Rational) (o : Operation) → bound ≡ limits column side → value ≡ v column
+    → IsComparing bound bound value o → Compares limits v o
+compares_on limits v column side bound value o eb ev (with_lower b e) = subst (λ (x : Rational). Compares limits v (operation Cmp x b)) (sym ev) (comparing column side b (sym eb ∙ e))
+compares_on limits v column side bound value o eb ev (with_upper b e) = subst (λ (x : Rational). Compares limits v (operation Cmp x b)) (sym ev) (comparing column side b (sym eb ∙ e))
+
+pub column_compares : (width : ℕ) (bounds : List Bound) (values : List Rational) (column : ℕ) (side : Side) (bound : Option Rational) (value : Rational) (o : Operation)
+    → bound ≡ limits_of width bounds column side → column < length values → value ≡ slice_index_or values column value → IsComparing bound bound value o
+    → Compares (limits_of width bounds) (value_in values) o
+column_compares width bounds values column side bound value o eb below read is =
+    compares_on (limits_of width bounds) (value_in values) column side bound value o eb (read ∙ get_or_default values column value nothing below) is
+
+pub is_entering : (limits : Limits) (d : Dictionary) (v : Point) (row : ℕ) (side : Side) (column slot : ℕ) (found : Option ℕ) → column < length d.spots
+    → none_to column (may_enter limits (places d) v (entries d) (basic_at d row) side) ≡ true → IsSlotOf limits d v row side column found → found ≡ Some slot
+    → IsEntering limits d v row side column slot
+is_entering limits d v row side column slot found inside none s e =
+    let both = s.some slot e in record { inside = inside; spot = both.0; least = and_both _ _ both.1 none }

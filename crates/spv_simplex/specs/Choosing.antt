@@ -7,8 +7,10 @@ use Rattle.spv_tableaux.specs.declared.side.Side.TheVariants.{Lower, Upper}
 use Rattle.spv_tableaux.specs.Rows.{Point}
 use Rattle.spv_tableaux.specs.Bounds.{Bound, Limits, limit_from, breaks_limit}
 use Rattle.spv_tableaux.specs.Solved.{Places, is_basic}
-use Rattle.spv_tableaux.specs.Steps.{none_to, is_least, may_leave}
+use Rattle.spv_tableaux.specs.Steps.{none_to, is_least, may_leave, may_enter}
 use Rattle.spv_tableaux.specs.Operations.{Operation, operation}
+use Rattle.spv_dictionary.specs.declared.spot.Spot.TheVariants as spot
+use Rattle.spv_dictionary.specs.Dictionary.{Dictionary, spot_of, basic_at, entries, places}
 
 -- the limits that bounds on rows are, behind so many parts
 abbrev pub limits_of : ℕ → List Bound → Limits
@@ -35,3 +37,14 @@ pub record IsLeaving (limits : Limits) (places : Places) (v : Point) (count colu
   pub inside : column < count
   pub least : is_least (may_leave limits places v) column ≡ true
   pub breaks : breaks_limit side (limits column side) (v column) ≡ true
+
+-- the least column that may enter for the leaving one, and its slot
+pub record IsEntering (limits : Limits) (d : Dictionary) (v : Point) (row : ℕ) (side : Side) (column slot : ℕ) : Type 0 where
+  pub inside : column < length d.spots
+  pub spot : spot_of d column ≡ spot.Slot slot
+  pub least : is_least (may_enter limits (places d) v (entries d) (basic_at d row) side) column ≡ true
+
+-- the slot of a column that may enter, none for any other
+pub record IsSlotOf (limits : Limits) (d : Dictionary) (v : Point) (row : ℕ) (side : Side) (column : ℕ) (found : Option ℕ) : Type 0 where
+  pub some : (slot : ℕ) → found ≡ Some slot → (spot_of d column ≡ spot.Slot slot) × (may_enter limits (places d) v (entries d) (basic_at d row) side column ≡ true)
+  pub none : found ≡ None → may_enter limits (places d) v (entries d) (basic_at d row) side column ≡ false
