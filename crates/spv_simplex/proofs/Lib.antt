@@ -4,3 +4,4 @@ pub mod Reading
 pub mod Calls
 pub mod Held
 pub mod Choices
+pub mod Steps

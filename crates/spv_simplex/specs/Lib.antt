@@ -5,3 +5,4 @@ pub mod Evidence
 pub mod Checks
 pub mod Laws
 pub mod Choosing
+pub mod Stepping

@@ -9,6 +9,7 @@ mod entering;
 mod evidence;
 mod forms;
 mod laws;
+mod stepping;
 mod tableau;
 mod trail;
 
