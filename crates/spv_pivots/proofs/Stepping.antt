@@ -63,14 +63,14 @@ step_solves rows limits places v t leaving side entering s step =
 
 -- ---- where a moved point is
 
-moved_entering : (v : Point) (places : Places) (t : Entries) (entering : ℕ) (k : Rational) (c : ℕ) → nat_eq c entering ≡ true → moved v places t entering k c ≡ plus (v c) k
+pub moved_entering : (v : Point) (places : Places) (t : Entries) (entering : ℕ) (k : Rational) (c : ℕ) → nat_eq c entering ≡ true → moved v places t entering k c ≡ plus (v c) k
 moved_entering v places t entering k c e = rw e refl
 
-moved_basic : (v : Point) (places : Places) (t : Entries) (entering : ℕ) (k : Rational) (c : ℕ) → nat_eq c entering ≡ false → is_basic (places c) ≡ true
+pub moved_basic : (v : Point) (places : Places) (t : Entries) (entering : ℕ) (k : Rational) (c : ℕ) → nat_eq c entering ≡ false → is_basic (places c) ≡ true
     → moved v places t entering k c ≡ plus (v c) (times k (t c entering))
 moved_basic v places t entering k c e h = rw (e, h) refl
 
-moved_other : (v : Point) (places : Places) (t : Entries) (entering : ℕ) (k : Rational) (c : ℕ) → nat_eq c entering ≡ false → is_basic (places c) ≡ false
+pub moved_other : (v : Point) (places : Places) (t : Entries) (entering : ℕ) (k : Rational) (c : ℕ) → nat_eq c entering ≡ false → is_basic (places c) ≡ false
     → moved v places t entering k c ≡ v c
 moved_other v places t entering k c e h = rw (e, h) refl
 

@@ -5,3 +5,4 @@ pub mod Calls
 pub mod Held
 pub mod Choices
 pub mod Steps
+pub mod Going

@@ -6,3 +6,4 @@ pub mod Checks
 pub mod Laws
 pub mod Choosing
 pub mod Stepping
+pub mod Along

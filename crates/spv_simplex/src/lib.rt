@@ -15,6 +15,6 @@ mod trail;
 
 pub use checked::Checked;
 pub use evidence::Evidence;
-pub use laws::law_asserted;
+pub use laws::{law_asserted, law_step};
 pub use spv_tableaux::Side;
 pub use tableau::{Mark, Tableau};

@@ -1,0 +1,8 @@
+use Rattle.spv_simplex.proofs.Going.{makes_step, step_is_at}
+use Rattle.spv_simplex.proofs.laws.law_step.Goals as goal
+
+pub returns-clause-step : goal.returns-clause-step
+returns-clause-step c = makes_step
+
+pub returns-clause-after : goal.returns-clause-after
+returns-clause-after c = step_is_at
