@@ -7,3 +7,4 @@ pub mod Laws
 pub mod Choosing
 pub mod Stepping
 pub mod Along
+pub mod Combining

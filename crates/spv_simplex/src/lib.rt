@@ -5,6 +5,7 @@
 mod cells;
 mod checked;
 mod choosing;
+mod combining;
 mod entering;
 mod evidence;
 mod forms;
