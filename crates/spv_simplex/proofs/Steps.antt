@@ -10,6 +10,7 @@ use Rattle.spv_dictionary.proofs.Exchanging.{differ_of, false_of, row≢slot}
 use Rattle.spv_shifts.specs.Shifts.{value_in, entry_in, HasGoneTo}
 use Rattle.spv_shifts.proofs.Going.{columns_apart}
 use Rattle.spv_simplex.specs.Stepping.{AreStepped}
+use Rattle.spv_simplex.specs.Moving.{way_to, AreMovedTo}
 
 module _ (d : Dictionary) (known : IsDictionary d) where
   pub row_slot_apart : (k j : ℕ) → k < length d.basic → j < length d.outside → nat_eq (basic_at d k) (outside_at d j) ≡ false
@@ -53,3 +54,25 @@ module _ (d : Dictionary) (known : IsDictionary d) where
 
       at_other : (c : ℕ) → nat_eq c e ≡ false → value_in (slice_set (slice_set gone l bound) e next) c ≡ value_in (slice_set gone l bound) c
       at_other c h = get_or-set_other (slice_set gone l bound) e c next nothing (differ_of c e h)
+
+-- ---- a column that moves to a bound
+
+pub are_moved : (d : Dictionary) → IsDictionary d → (values gone : List Rational) (slot : ℕ) (bound way : Rational) → length values ≡ length d.spots → slot < length d.outside
+    → way ≡ way_to d values slot bound → HasGoneTo d values slot way (length d.basic) (length d.basic) gone → AreMovedTo d values slot bound (slice_set gone (outside_at d slot) bound)
+are_moved d known values gone slot bound way count slot_in is g = record {
+  count = length-set gone e bound ∙ g.count;
+  column = get_or-set_same gone e bound nothing (subst (λ (n : ℕ). e < n) (sym (g.count ∙ count)) (known.slots slot slot_in).0);
+  rows = λ k below. at_other (basic_at d k) (row_slot_apart d known k slot below slot_in) ∙ g.each k below (no_row k (length d.basic) below)
+      ∙ ap (λ w. plus (value_in values (basic_at d k)) (times w (entry_in d k slot))) is;
+  slots = λ j below other. at_other (outside_at d j) (slots_apart d known j slot below slot_in other)
+      ∙ g.others (outside_at d j) (λ k k_in other_row. slot_row_apart d known j k below k_in);
+}
+  where
+    e : ℕ
+    e = outside_at d slot
+
+    at_other : (c : ℕ) → nat_eq c e ≡ false → value_in (slice_set gone e bound) c ≡ value_in gone c
+    at_other c h = get_or-set_other gone e c bound nothing (differ_of c e h)
+
+    no_row : (k n : ℕ) → k < n → nat_eq k n ≡ false
+    no_row k n h = grind arith

@@ -8,3 +8,4 @@ pub mod Choosing
 pub mod Stepping
 pub mod Along
 pub mod Combining
+pub mod Moving

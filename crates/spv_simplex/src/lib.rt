@@ -10,6 +10,7 @@ mod entering;
 mod evidence;
 mod forms;
 mod laws;
+mod moving;
 mod stepping;
 mod tableau;
 mod trail;
