@@ -1,5 +1,5 @@
 -- An exchange on the numbers is the pivot of the solved form.
-use Rattle.std.proofs.Common.{◌≡◌, ◌≢◌, ℕ, ◌+◌, ◌<◌, Bool, true, false, List, [], length, nat_eq, slice_index_or, slice_set, refl, sym, ap, ◌∙◌, subst, arith, if◌then◌else◌}
+use Rattle.std.proofs.Common.{◌≡◌, ◌≢◌, ℕ, ◌+◌, ◌<◌, Bool, true, false, length, nat_eq, slice_index_or, slice_set, refl, sym, ap, ◌∙◌, subst}
 use Rattle.std.proofs.lemmas.Bool.{false≢true}
 use Rattle.std.proofs.lemmas.List.{get_or-set_same, get_or-set_other, length-set}
 use mathlib.Core.Path.{ap₂}
@@ -7,14 +7,14 @@ use Rattle.spv_rational.specs.Rational.{Rational, plus, times, opposite, is_zero
 use Rattle.spv_rational.proofs.Field.{plus_zero, zero_plus, plus_opposite, zero_times}
 use Rattle.spv_tableaux.specs.declared.side.Side.{Side}
 use Rattle.spv_tableaux.specs.Numbers.{nothing, one, minus_one, inverse, divided}
-use Rattle.spv_tableaux.specs.Solved.{Place, Basic, Held, At, is_basic, Entries, exchanged, solved_for, pivot}
+use Rattle.spv_tableaux.specs.Solved.{is_basic, Entries, exchanged, solved_for, pivot}
 use Rattle.spv_pivots.proofs.Algebra.{minus_one_is, minus_one_times, opposite_times, opposite_opposite, opposite_nothing, nothing_divided, divided_itself}
 use Rattle.spv_pivots.proofs.Sums.{eq_is, eq_self, eq_flip}
 use Rattle.spv_dictionary.specs.declared.spot.Spot.{Spot}
 use Rattle.spv_dictionary.specs.declared.spot.Spot.TheVariants as spot
 use Rattle.spv_dictionary.specs.Cells.{cell}
 use Rattle.spv_dictionary.specs.Dictionary.{Dictionary, IsDictionary, IsSpot, IsColumn, spot_of, basic_at, outside_at, row_at, entry_between, entries, place_of, places}
-use Rattle.spv_dictionary.specs.Exchanges.{solved_at, mixed_at, IsExchanged}
+use Rattle.spv_dictionary.specs.Exchanges.{IsExchanged}
 
 pub differ_of : (a b : ℕ) → nat_eq a b ≡ false → a ≢ b
 differ_of a b h e = false≢true (sym h ∙ ap (nat_eq a) (sym e) ∙ eq_self a)

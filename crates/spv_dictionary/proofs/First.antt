@@ -1,14 +1,12 @@
 -- The dictionary of rows as they begin is one.
-use Rattle.std.proofs.Common.{◌≡◌, ℕ, ◌+◌, ◌-◌, ◌<◌, ◌≤◌, Bool, true, false, List, [], ◌∷◌, ◌++◌, length, nat_lt, slice_index_or, refl, sym, ap, ◌∙◌, subst, arith}
+use Rattle.std.proofs.Common.{◌≡◌, ℕ, ◌+◌, ◌-◌, ◌<◌, Bool, true, false, List, [], ◌++◌, length, nat_lt, slice_index_or, refl, sym, ap, ◌∙◌, subst, arith}
 use Rattle.std.proofs.lemmas.Bool.Decides.{nat_tests}
 use Rattle.std.proofs.lemmas.List.{length-replicate, get_or_append_left, get_or-append-add, length-append}
 use mathlib.Core.Path.{ap₂}
 use Rattle.spv_rational.specs.Rational.{Rational}
 use Rattle.spv_tableaux.specs.Numbers.{nothing}
-use Rattle.spv_dictionary.specs.declared.spot.Spot.{Spot}
 use Rattle.spv_dictionary.specs.declared.spot.Spot.TheVariants as spot
-use Rattle.spv_dictionary.specs.Cells.{listed, numbers_from}
-use Rattle.spv_dictionary.specs.Dictionary.{Dictionary, IsDictionary, IsSpot, IsColumn, first, spot_of, basic_at, outside_at, row_at, slots_to, rows_to}
+use Rattle.spv_dictionary.specs.Dictionary.{Dictionary, IsDictionary, IsSpot, IsColumn, first, spot_of, basic_at, outside_at, slots_to, rows_to}
 use Rattle.spv_dictionary.proofs.Lists.{length_listed, get_listed}
 
 module _ (width : ℕ) (cells : List (List Rational)) where

@@ -7,11 +7,9 @@ use Rattle.spv_rational.specs.Rational.{Rational}
 use Rattle.spv_tableaux.specs.Numbers.{nothing, minus_one}
 use Rattle.spv_tableaux.specs.Rows.{Rows, columns}
 use Rattle.spv_tableaux.specs.Solved.{is_basic, row_places, row_entries}
-use Rattle.spv_pivots.proofs.Sums.{eq_is, eq_self}
-use Rattle.spv_dictionary.specs.declared.spot.Spot.{Spot}
 use Rattle.spv_dictionary.specs.declared.spot.Spot.TheVariants as spot
 use Rattle.spv_dictionary.specs.Cells.{cell}
-use Rattle.spv_dictionary.specs.Dictionary.{Dictionary, first, spot_of, row_at, entry_between, entries, place_of, places}
+use Rattle.spv_dictionary.specs.Dictionary.{Dictionary, first, spot_of, entry_between, entries, place_of, places}
 use Rattle.spv_dictionary.specs.Laws.{IsFirstForm}
 use Rattle.spv_dictionary.proofs.First.{slot_spot, row_spot}
 

@@ -1,14 +1,12 @@
 -- An exchange as it is made.
-use Rattle.std.proofs.Common.{◌≡◌, ℕ, ◌<◌, Bool, true, false, List, [], length, nat_eq, slice_index_or, slice_set, refl, sym, ap, ◌∙◌, subst, arith}
+use Rattle.std.proofs.Common.{◌≡◌, ℕ, ◌<◌, Bool, true, false, List, [], length, nat_eq, slice_index_or, slice_set, refl, sym, ap, ◌∙◌, subst}
 use Rattle.std.proofs.lemmas.List.{get_or-set_same, get_or-set_other, length-set}
 use Rattle.spv_rational.specs.Rational.{Rational, is_zero}
 use Rattle.spv_pivots.proofs.Sums.{eq_is}
-use Rattle.spv_dictionary.specs.declared.spot.Spot.{Spot}
-use Rattle.spv_dictionary.specs.declared.spot.Spot.TheVariants as spot
 use Rattle.spv_dictionary.specs.Cells.{cell}
 use Rattle.spv_dictionary.specs.Dictionary.{Dictionary, IsDictionary, basic_at, outside_at, row_at}
 use Rattle.spv_dictionary.specs.Exchanges.{solved_at, mixed_at, exchanged_spots, IsExchanged}
-use Rattle.spv_dictionary.specs.Mixing.{IsSolved, IsMixed, AreMixedTo, IsReady, number_row}
+use Rattle.spv_dictionary.specs.Mixing.{IsMixed, AreMixedTo, IsReady, number_row}
 use Rattle.spv_dictionary.proofs.Exchanging.{differ_of, stays_dictionary}
 
 -- the fields that an exchange has written

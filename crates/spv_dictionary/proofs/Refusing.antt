@@ -1,8 +1,7 @@
 -- What is refused is an operation of the pivot.
-use Rattle.std.proofs.Common.{◌≡◌, ℕ, ◌<◌, Bool, true, false, List, length, nat_eq, slice_index_or, refl, sym, ap, ◌∙◌, subst, arith, if◌then◌else◌}
-use Rattle.std.proofs.lemmas.Bool.{false≢true}
+use Rattle.std.proofs.Common.{◌≡◌, ℕ, ◌<◌, Bool, true, false, List, length, nat_eq, refl, sym, ap, ◌∙◌, subst}
 use mathlib.Core.Path.{ap₂}
-use Rattle.spv_rational.specs.Rational.{Rational, plus, times, opposite}
+use Rattle.spv_rational.specs.Rational.{Rational, times, opposite}
 use Rattle.spv_frac.specs.declared.frac.Op.TheVariants.{Add, Mul, Div}
 use Rattle.spv_tableaux.specs.Numbers.{one, minus_one, inverse, divided}
 use Rattle.spv_tableaux.specs.Rows.{Rows, columns}
@@ -16,7 +15,7 @@ use Rattle.spv_dictionary.specs.declared.spot.Spot.TheVariants as spot
 use Rattle.spv_dictionary.specs.Cells.{cell}
 use Rattle.spv_dictionary.specs.Dictionary.{Dictionary, IsDictionary, spot_of, basic_at, outside_at, row_at, entry_between, entries, place_of, places}
 use Rattle.spv_dictionary.specs.Exchanges.{solved_at}
-use Rattle.spv_dictionary.specs.Mixing.{IsMixing, scaling, adding, IsSolving, inverting, dividing, IsSolved, IsRowMixing, IsRowsMixing, IsExchanging, solving, mixing, IsRefused, number_row}
+use Rattle.spv_dictionary.specs.Mixing.{IsMixing, scaling, adding, IsSolving, inverting, dividing, IsSolved, IsRowMixing, IsExchanging, solving, mixing}
 use Rattle.spv_dictionary.specs.Laws.{RefusesPivot}
 use Rattle.spv_dictionary.proofs.Exchanging.{differ_of, false_of, row≢slot}
 

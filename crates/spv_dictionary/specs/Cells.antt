@@ -1,5 +1,5 @@
 -- Rows of numbers, by their slots.
-use Rattle.std.specs.Prelude.{◌≡◌, ℕ, zero, suc, ◌+◌, List, [], ◌∷◌, ◌++◌, slice_index_or}
+use Rattle.std.specs.Prelude.{ℕ, zero, suc, ◌+◌, List, [], ◌∷◌, ◌++◌, slice_index_or}
 use Rattle.spv_rational.specs.Rational.{Rational}
 use Rattle.spv_tableaux.specs.Numbers.{nothing}
 

@@ -1,5 +1,5 @@
 -- A solved form as rows of numbers: a row for each column in the basis, a slot for each column outside it.
-use Rattle.std.specs.Prelude.{◌≡◌, ℕ, zero, suc, ◌+◌, ◌<◌, List, [], ◌∷◌, ◌++◌, length, replicate, nat_eq, slice_index_or, if◌then◌else◌}
+use Rattle.std.specs.Prelude.{◌≡◌, ℕ, ◌+◌, ◌<◌, List, [], ◌++◌, length, replicate, nat_eq, slice_index_or, if◌then◌else◌}
 use Rattle.spv_rational.specs.Rational.{Rational}
 use Rattle.spv_tableaux.specs.Numbers.{nothing, minus_one}
 use Rattle.spv_tableaux.specs.Solved.{Place, Basic, Held, Places, Entries}

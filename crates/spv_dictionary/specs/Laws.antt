@@ -1,5 +1,5 @@
 -- What an exchange on the numbers is.
-use Rattle.std.specs.Prelude.{◌≡◌, ℕ, ◌<◌, Bool, true, false, List, [], length, slice_index_or}
+use Rattle.std.specs.Prelude.{◌≡◌, ℕ, ◌<◌, true, false, List, [], length, slice_index_or}
 use Rattle.spv_rational.specs.Rational.{Rational, is_zero}
 use Rattle.spv_tableaux.specs.declared.side.Side.{Side}
 use Rattle.spv_tableaux.specs.Rows.{Rows, columns}

@@ -1,5 +1,5 @@
 -- The fractions that operations answer, as rational numbers.
-use Rattle.std.proofs.Common.{◌≡◌, ℕ, ◌<◌, ◌^◌, nat_lt, true, false, refl, sym, ap, ◌∙◌, arith, ℤ, pos}
+use Rattle.std.proofs.Common.{◌≡◌, ℕ, ◌<◌, ◌^◌, nat_lt, true, false, sym, ap, ◌∙◌, arith, ℤ, pos}
 use Rattle.std.specs.Prelude.{unsigned_abs}
 use Rattle.std.specs.Ordering.{int_eq}
 use Rattle.std.proofs.lemmas.Int.{ints}
@@ -7,12 +7,11 @@ use Rattle.std.proofs.lemmas.Bool.Decides.{nat_tests}
 use mathlib.Core.Path.{ap₂}
 use Rattle.spv_whole.specs.Fraction.{Fraction}
 use Rattle.spv_whole.specs.Fraction as fraction
-use Rattle.spv_whole.proofs.Arithmetic.{sum-IsLowest, product-IsLowest}
-use Rattle.spv_whole.proofs.Units.{whole-IsLowest, negated-IsLowest, reciprocal-IsLowest}
+use Rattle.spv_whole.proofs.Units.{whole-IsLowest, reciprocal-IsLowest}
 use Rattle.spv_frac.specs.Range.{fits, IsFrac}
-use Rattle.spv_rational.specs.Rational.{Rational, whole, number, plus, times, opposite, is_zero}
-use Rattle.spv_rational.proofs.Field.{same, number_is, number_whole}
-use Rattle.spv_tableaux.specs.Numbers.{minus, inverse, divided}
+use Rattle.spv_rational.specs.Rational.{Rational, number, plus, times, opposite, is_zero}
+use Rattle.spv_rational.proofs.Field.{same, number_is}
+use Rattle.spv_tableaux.specs.Numbers.{minus, divided}
 
 seen : (f : Fraction) (r : Rational) → f ≡ r.fraction → number f ≡ r
 seen f r e = ap number e ∙ same (number r.fraction) r (number_is r.fraction r.is_lowest)

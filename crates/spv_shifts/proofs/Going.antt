@@ -1,18 +1,16 @@
 -- Values that go on, row by row.
-use Rattle.std.proofs.Common.{◌≡◌, ◌≢◌, ℕ, ◌+◌, ◌<◌, ◌≤◌, Bool, true, false, List, length, nat_eq, slice_index_or, slice_set, refl, sym, ap, ◌∙◌, subst, arith}
-use Rattle.std.proofs.lemmas.Bool.{false≢true}
+use Rattle.std.proofs.Common.{◌≡◌, ℕ, ◌+◌, ◌<◌, Bool, true, false, List, length, nat_eq, slice_index_or, slice_set, refl, sym, ap, ◌∙◌, subst, arith}
 use Rattle.std.proofs.lemmas.List.{get_or_default, get_or-set_same, get_or-set_other, length-set}
-use mathlib.Core.Path.{ap₂}
-use Rattle.spv_rational.specs.Rational.{Rational, plus, times, is_zero}
+use Rattle.spv_rational.specs.Rational.{Rational, plus, is_zero}
 use Rattle.spv_rational.proofs.Field.{plus_zero, times_zero}
 use Rattle.spv_rational.proofs.Signs.{zero_is}
 use Rattle.spv_tableaux.specs.Numbers.{nothing}
 use Rattle.spv_tableaux.specs.Operations.{Operation}
-use Rattle.spv_pivots.proofs.Sums.{eq_is, eq_self, eq_flip}
+use Rattle.spv_pivots.proofs.Sums.{eq_is}
 use Rattle.spv_pivots.proofs.Algebra.{clash}
 use Rattle.spv_dictionary.specs.declared.spot.Spot.{Spot}
 use Rattle.spv_dictionary.specs.declared.spot.Spot.TheVariants as spot
-use Rattle.spv_dictionary.specs.Dictionary.{Dictionary, IsDictionary, spot_of, basic_at, row_at}
+use Rattle.spv_dictionary.specs.Dictionary.{Dictionary, IsDictionary, spot_of, basic_at}
 use Rattle.spv_dictionary.proofs.Exchanging.{differ_of, false_of}
 use Rattle.spv_shifts.specs.Shifts.{value_in, entry_in, gone, can_go, IsGoing, IsRowGoing, CanGoTo, IsOther, HasGoneTo, HasGone}
 

@@ -1,5 +1,5 @@
 -- Calls keep what a tableau keeps.
-use Rattle.std.proofs.Common.{◌≡◌, ◌≢◌, ℕ, zero, suc, ◌+◌, ◌<◌, ◌≤◌, ◌^◌, Bool, true, false, ◌&&◌, List, [], ◌∷◌, ◌++◌, take, length, replicate, Option, Some, None, nat_eq, nat_lt, slice_index_or, refl, sym, ap, ◌∙◌, subst, arith, if◌then◌else◌}
+use Rattle.std.proofs.Common.{◌≡◌, ℕ, zero, suc, ◌+◌, ◌<◌, ◌≤◌, ◌^◌, Bool, true, false, ◌&&◌, List, [], ◌∷◌, ◌++◌, take, length, replicate, Option, Some, None, nat_eq, nat_lt, slice_index_or, refl, sym, ap, ◌∙◌, subst, arith, if◌then◌else◌}
 use Rattle.std.specs.List.{list_all}
 use Rattle.std.proofs.lemmas.Bool.{false≢true}
 use Rattle.std.proofs.lemmas.List.{length-replicate}
@@ -9,9 +9,9 @@ use Rattle.spv_rational.proofs.Field.{times_zero}
 use Rattle.spv_atoms.specs.Linear.{IdForm}
 use Rattle.spv_tableaux.specs.declared.side.Side.{Side}
 use Rattle.spv_tableaux.specs.declared.side.Side.TheVariants.{Lower, Upper}
-use Rattle.spv_tableaux.specs.Numbers.{nothing, is_less, sum_to}
-use Rattle.spv_tableaux.specs.Rows.{Rows, columns}
-use Rattle.spv_tableaux.specs.Bounds.{Bound, same_side, other_side, bound_on, is_none, AreBounds}
+use Rattle.spv_tableaux.specs.Numbers.{nothing, is_less}
+use Rattle.spv_tableaux.specs.Rows.{columns}
+use Rattle.spv_tableaux.specs.Bounds.{Bound, same_side, other_side, bound_on, is_none}
 use Rattle.spv_tableaux.specs.Solved.{is_basic, row_places, row_entries, IsSolved}
 use Rattle.spv_tableaux.specs.Forms.{rows_of, part_ids}
 use Rattle.spv_tableaux.specs.Contradictions.{Multiple}
@@ -25,7 +25,7 @@ use Rattle.spv_dictionary.proofs.First.{spot_total}
 use Rattle.spv_dictionary.proofs.FirstForm.{first_basis, is_first_form}
 use Rattle.spv_simplex.specs.Cells.{AreRowsTo}
 use Rattle.spv_simplex.specs.Evidence.{EvidenceValue}
-use Rattle.spv_simplex.specs.State.{State, IsTableau, IsKept, IsOpened, MayAssert, clashes, rows_in, kept_point}
+use Rattle.spv_simplex.specs.State.{State, IsKept, IsOpened, MayAssert, clashes, kept_point}
 use Rattle.spv_simplex.specs.Trail.{Trail, KeepsApart, bound_of, more, first_of}
 use Rattle.spv_simplex.proofs.Standing.{is_on, found_other, found_here}
 

@@ -1,5 +1,5 @@
 -- Which column leaves the basis.
-use Rattle.std.proofs.Common.{◌≡◌, ℕ, zero, suc, ◌+◌, ◌-◌, ◌<◌, Bool, true, false, ◌&&◌, ◌||◌, not, List, length, Option, Some, None, Result, Ok, Err, IfOk, IfErr, nat_lt, slice_index_or, refl, sym, ap, ◌∙◌, subst, arith, if◌then◌else◌}
+use Rattle.std.proofs.Common.{◌≡◌, ℕ, zero, suc, ◌+◌, ◌-◌, ◌<◌, Bool, true, false, ◌&&◌, ◌||◌, List, length, Option, Some, None, Result, Ok, Err, IfOk, nat_lt, slice_index_or, refl, sym, ap, ◌∙◌, subst, arith, if◌then◌else◌}
 use Rattle.std.proofs.lemmas.Bool.{false≢true}
 use Rattle.std.proofs.lemmas.Bool.Decides.{nat_tests}
 use Rattle.std.proofs.lemmas.List.{get_or_default}
@@ -12,13 +12,12 @@ use Rattle.spv_tableaux.specs.Numbers.{nothing}
 use Rattle.spv_tableaux.specs.Rows.{Point}
 use Rattle.spv_tableaux.specs.Bounds.{Bound, bound_on, Limits, limit_from, breaks_limit, is_out}
 use Rattle.spv_tableaux.specs.Solved.{Places, is_basic}
-use Rattle.spv_tableaux.specs.Steps.{none_to, is_least, may_leave, may_enter}
+use Rattle.spv_tableaux.specs.Steps.{none_to, may_leave, may_enter}
 use Rattle.spv_tableaux.specs.Operations.{Operation, operation, Compares, comparing}
 use Rattle.spv_pivots.proofs.Starting.{above_is}
 use Rattle.spv_pivots.proofs.Tests.{and_both, not_false}
-use Rattle.spv_dictionary.specs.declared.spot.Spot.{Spot}
 use Rattle.spv_dictionary.specs.declared.spot.Spot.TheVariants as spot
-use Rattle.spv_dictionary.specs.Dictionary.{Dictionary, IsDictionary, spot_of, basic_at, entries, place_of, places}
+use Rattle.spv_dictionary.specs.Dictionary.{Dictionary, IsDictionary, spot_of, basic_at, entries, places}
 use Rattle.spv_shifts.specs.Shifts.{value_in}
 use Rattle.spv_simplex.specs.Choosing.{limits_of, broken_side, IsComparing, with_lower, with_upper, out_side, leaving_side, IsLeaving, IsSlotOf, IsEntering}
 

@@ -1,5 +1,5 @@
 -- The numbers of a form fit.
-use Rattle.std.proofs.Common.{◌≡◌, ℕ, zero, suc, ◌<◌, true, List, [], ◌∷◌, length, slice_index_or, ap, ◌∙◌, arith, ℤ, pos}
+use Rattle.std.proofs.Common.{◌≡◌, ℕ, zero, suc, ◌<◌, true, List, [], ◌∷◌, length, slice_index_or, ap, ◌∙◌, arith, ℤ}
 use mir.Val.{to_z, of_z}
 use mir.Syntax.{w128}
 use Rattle.spv_logic.specs.declared.conditions.TermId.{TermId}

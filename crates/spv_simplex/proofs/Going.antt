@@ -1,5 +1,5 @@
 -- A step that was made is a step, and leads to the solved form and the point after it.
-use Rattle.std.proofs.Common.{◌≡◌, ℕ, zero, suc, ◌+◌, ◌<◌, Bool, true, false, ◌&&◌, ◌||◌, not, List, length, Option, Some, nat_eq, slice_set, refl, sym, ap, ◌∙◌, subst, arith, if◌then◌else◌}
+use Rattle.std.proofs.Common.{◌≡◌, ℕ, zero, suc, ◌<◌, Bool, true, false, ◌&&◌, ◌||◌, not, List, length, Some, nat_eq, refl, sym, ap, ◌∙◌, subst, arith, if◌then◌else◌}
 use Rattle.std.proofs.lemmas.Bool.{false≢true}
 use Rattle.std.proofs.lemmas.List.{length-set}
 use mathlib.Core.Path.{ap₂}
@@ -8,23 +8,24 @@ use Rattle.spv_tableaux.specs.declared.side.Side.{Side}
 use Rattle.spv_tableaux.specs.declared.side.Side.TheVariants.{Lower, Upper}
 use Rattle.spv_tableaux.specs.Numbers.{minus, divided}
 use Rattle.spv_tableaux.specs.Rows.{Rows, columns, Point}
-use Rattle.spv_tableaux.specs.Bounds.{Limits, breaks_limit, has_room, is_out}
-use Rattle.spv_tableaux.specs.Solved.{Place, Basic, At, Places, is_basic, Entries, equation_sum, IsSolved, point, at_rest, exchanged, pivot}
+use Rattle.spv_tableaux.specs.Bounds.{Limits, breaks_limit, has_room}
+use Rattle.spv_tableaux.specs.Solved.{Basic, At, Places, is_basic, Entries, point, at_rest, exchanged, pivot}
 use Rattle.spv_tableaux.specs.Steps.{none_to, is_least, may_leave, may_enter, way, IsStep}
 use Rattle.spv_tableaux.specs.Operations as operations
-use Rattle.spv_pivots.specs.Moved.{moved}
+use Rattle.spv_pivots.specs.Moved.{moved, placed}
+use Rattle.spv_pivots.proofs.Stepping as stepping
 use Rattle.spv_pivots.proofs.Algebra.{plus_minus, divided_times}
 use Rattle.spv_pivots.proofs.Sums.{sum_same, eq_is, eq_self}
-use Rattle.spv_pivots.proofs.Stepping.{IsExchange, exchange, step_solves, step_moves, entries_alone, moved_entering, moved_basic, moved_other}
+use Rattle.spv_pivots.proofs.Stepping.{IsExchange, exchange, step_solves, step_moves, entries_alone, basis_alone, inside_moves, moved_entering, moved_basic, moved_other}
 use Rattle.spv_dictionary.specs.declared.spot.Spot.{Spot}
 use Rattle.spv_dictionary.specs.declared.spot.Spot.TheVariants as spot
 use Rattle.spv_dictionary.specs.Dictionary as form
 use Rattle.spv_dictionary.specs.Dictionary.{Dictionary, IsDictionary, IsSpot, spot_of, basic_at, outside_at, entry_between, entries, place_of, with_solved}
 use Rattle.spv_dictionary.proofs.Exchanging.{same_basis, is_pivot, spot_count, differ_of}
 use Rattle.spv_shifts.specs.Shifts.{value_in, entry_in}
-use Rattle.spv_simplex.specs.Choosing.{IsLeaving, IsEntering}
-use Rattle.spv_simplex.specs.Stepping.{shift_of, AreStepped, IsMade}
-use Rattle.spv_simplex.specs.Along.{IsAt, IsGone, MakesStep, StepIsAt}
+use Rattle.spv_simplex.specs.Stepping.{shift_of, AreStepped}
+use Rattle.spv_simplex.specs.Along.{IsAt, IsGone, MakesStep, StepIsAt, MoveIsAt}
+use Rattle.spv_simplex.specs.Moving.{way_to, AreMovedTo}
 
 -- ---- tests that agree
 
@@ -229,3 +230,85 @@ makes_step rows limits held places d values row slot leaving entering side bound
 
 pub step_is_at : StepIsAt
 step_is_at rows limits held places d values row slot leaving entering side bound new after here gone = is_at rows limits held places d values row slot leaving entering side bound new after here gone
+
+-- ---- a column that was moved
+
+module _ (rows : Rows) (limits : Limits) (held : Point) (places : Places) (d : Dictionary) (values : List Rational) (slot column : ℕ) (side : Side) (bound : Rational) (after : List Rational)
+    (known : IsDictionary d) (here : IsAt rows limits held places d values) (column_in : column < columns rows) (at_slot : spot_of d column ≡ spot.Slot slot)
+    (bound_is : limits column side ≡ Some bound) (gone : AreMovedTo d values slot bound after) where
+  abbrev w : Point
+  w = point rows limits held places (entries d)
+
+  abbrev distance : Rational
+  distance = minus bound (w column)
+
+  spots_in : (c : ℕ) → c < columns rows → c < length d.spots
+  spots_in c h = subst (λ (n : ℕ). c < n) (sym here.spots) h
+
+  column_spot : IsSpot d column (spot.Slot slot)
+  column_spot = subst (IsSpot d column) at_slot (known.columns column (spots_in column column_in))
+
+  column_out : is_basic (places column) ≡ false
+  column_out = sym (here.basis column column_in) ∙ ap (λ p. is_basic (place_of p)) at_slot
+
+  way_is : way_to d values slot bound ≡ distance
+  way_is = ap (minus bound) (ap (value_in values) column_spot.1 ∙ here.point_is column column_in)
+
+  value_moved : (c : ℕ) → c < columns rows → (s : Spot) → spot_of d c ≡ s → value_in after c ≡ moved w places (entries d) column distance c
+  value_moved c c_in (spot.Row k) s =
+      ap (value_in after) (sym at.1) ∙ gone.rows k at.0
+      ∙ ap₂ plus (ap (value_in values) at.1 ∙ here.point_is c c_in) (ap₂ times way_is (sym (ap₂ (entry_between d) s at_slot)))
+      ∙ sym (moved_basic w places (entries d) column distance c other basic)
+    where
+      at : IsSpot d c (spot.Row k)
+      at = subst (IsSpot d c) s (known.columns c (spots_in c c_in))
+
+      basic : is_basic (places c) ≡ true
+      basic = sym (here.basis c c_in) ∙ ap (λ p. is_basic (place_of p)) s
+
+      other : nat_eq c column ≡ false
+      other = by_case (nat_eq c column) refl
+        where
+          by_case : (b : Bool) → nat_eq c column ≡ b → b ≡ false
+          by_case true e = absurd (false≢true (sym column_out ∙ ap (λ y. is_basic (places y)) (sym (eq_is c column e)) ∙ basic))
+          by_case false e = refl
+  value_moved c c_in (spot.Slot j) s = by_slot (nat_eq j slot) refl
+    where
+      at : IsSpot d c (spot.Slot j)
+      at = subst (IsSpot d c) s (known.columns c (spots_in c c_in))
+
+      out : is_basic (places c) ≡ false
+      out = sym (here.basis c c_in) ∙ ap (λ p. is_basic (place_of p)) s
+
+      slot_number : Spot → ℕ
+      slot_number (spot.Row n) = n
+      slot_number (spot.Slot n) = n
+
+      by_slot : (b : Bool) → nat_eq j slot ≡ b → value_in after c ≡ moved w places (entries d) column distance c
+      by_slot true e =
+          let c_is : c ≡ column = sym at.1 ∙ ap (outside_at d) (eq_is j slot e) ∙ column_spot.1 in
+          ap (value_in after) (c_is ∙ sym column_spot.1) ∙ gone.column ∙ sym (plus_minus (w column) bound) ∙ ap (λ y. plus (w y) distance) (sym c_is)
+          ∙ sym (moved_entering w places (entries d) column distance c (ap (λ y. nat_eq y column) c_is ∙ eq_self column))
+      by_slot false e =
+          ap (value_in after) (sym at.1) ∙ gone.slots j at.0 e ∙ ap (value_in values) at.1 ∙ here.point_is c c_in
+          ∙ sym (moved_other w places (entries d) column distance c other out)
+        where
+          other : nat_eq c column ≡ false
+          other = by_case (nat_eq c column) refl
+            where
+              by_case : (b : Bool) → nat_eq c column ≡ b → b ≡ false
+              by_case true f = absurd (differ_of j slot e (ap slot_number (sym s ∙ ap (spot_of d) (eq_is c column f) ∙ at_slot)))
+              by_case false f = refl
+
+  pub moved_is_at : IsAt rows limits held (placed places column (At side)) d after
+  moved_is_at = record {
+    solved = basis_alone rows places (placed places column (At side)) (entries d) (λ c below. stepping.same_basis places column side column_out c) here.solved;
+    spots = here.spots;
+    basis = λ c h. here.basis c h ∙ sym (stepping.same_basis places column side column_out c);
+    count = gone.count ∙ here.count;
+    point_is = λ c h. value_moved c h (spot_of d c) refl ∙ inside_moves rows limits held places (entries d) column side bound here.solved column_in column_out bound_is c h;
+  }
+
+pub move_is_at : MoveIsAt
+move_is_at rows limits held places d values slot column side bound after known here column_in at_slot bound_is gone =
+    moved_is_at rows limits held places d values slot column side bound after known here column_in at_slot bound_is gone

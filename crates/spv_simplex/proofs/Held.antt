@@ -1,5 +1,5 @@
 -- The bounds that were ever asserted.
-use Rattle.std.proofs.Common.{◌≡◌, ℕ, ◌+◌, ◌<◌, ◌≤◌, Bool, true, false, List, [], ◌∷◌, ◌++◌, take, length, Option, Some, None, nat_lt, nat_eq, slice_get, refl, sym, ap, ◌∙◌, subst, arith}
+use Rattle.std.proofs.Common.{◌≡◌, ℕ, ◌+◌, ◌<◌, ◌≤◌, Bool, true, false, List, [], ◌∷◌, ◌++◌, take, length, Option, Some, None, nat_lt, slice_get, refl, sym, ap, ◌∙◌, subst, arith}
 use Rattle.std.proofs.lemmas.Bool.{false≢true}
 use Rattle.std.proofs.lemmas.Bool.Decides.{nat_tests}
 use Rattle.std.proofs.lemmas.Grind.{common_steps}
@@ -8,16 +8,15 @@ use Rattle.std.proofs.lemmas.List.{length-append}
 use Rattle.spv_term.proofs.ListLemmas.{slice_get-append_left, slice_get_push, slice_get-take}
 use Rattle.spv_rational.specs.Rational.{Rational}
 use Rattle.spv_atoms.specs.Linear.{IdForm}
-use Rattle.spv_tableaux.specs.Rows.{Rows, columns, column_of}
+use Rattle.spv_tableaux.specs.Rows.{Rows, column_of}
 use Rattle.spv_tableaux.specs.Bounds.{Bound}
 use Rattle.spv_tableaux.specs.Solved.{is_basic, row_places}
 use Rattle.spv_tableaux.specs.Forms.{rows_of}
-use Rattle.spv_tableaux.specs.Walks.{IsBoundOf, HoldsBounds}
+use Rattle.spv_tableaux.specs.Walks.{IsBoundOf}
 use Rattle.spv_pivots.proofs.Starting.{above_is}
-use Rattle.spv_pivots.proofs.Sums.{eq_is}
 use Rattle.spv_dictionary.specs.Dictionary.{places}
-use Rattle.spv_simplex.specs.State.{State, IsOpened, with_bound, with_first, rows_in, kept_point}
-use Rattle.spv_simplex.specs.Checks.{IsAmong, HoldsAsserted}
+use Rattle.spv_simplex.specs.State.{rows_in, kept_point}
+use Rattle.spv_simplex.specs.Checks.{IsAmong}
 use Rattle.spv_simplex.specs.Laws.{OpensWithNone, AssertsOne, UndoesNone}
 
 -- what is at a place stays there

@@ -1,5 +1,5 @@
 -- The value of a term at the kept point.
-use Rattle.std.proofs.Common.{◌≡◌, ℕ, ◌+◌, ◌<◌, ◌≤◌, Bool, true, List, length, take, Option, Some, None, slice_index_or, refl, sym, ap, ◌∙◌, subst, arith}
+use Rattle.std.proofs.Common.{◌≡◌, ℕ, ◌+◌, ◌<◌, true, List, length, Option, Some, slice_index_or, sym, ap, ◌∙◌, arith}
 use Rattle.std.specs.List.{list_any, position}
 use Rattle.std.specs.Option.{IsSome}
 use Rattle.std.proofs.lemmas.List.{take_all, get_or_default}
@@ -11,9 +11,7 @@ use Rattle.spv_rational.proofs.Field.{same, number_is}
 use Rattle.spv_atoms.specs.Order.{same_id}
 use Rattle.spv_atoms.proofs.Places.{place_there}
 use Rattle.spv_tableaux.specs.Numbers.{nothing}
-use Rattle.spv_tableaux.specs.Rows.{columns}
-use Rattle.spv_tableaux.specs.Forms.{part_ids}
-use Rattle.spv_simplex.specs.State.{State, IsTableau, IsKept, rows_in, kept_point, value_from, value_of}
+use Rattle.spv_simplex.specs.State.{State, IsKept, rows_in, value_from, value_of}
 use Rattle.spv_simplex.specs.Trail.{Trail}
 
 pub is_there : (t : TermId) (ids : List TermId) (o : Option ℕ) → list_any (same_id t) ids ≡ true → o ≡ position (same_id t) ids → IsSome o

@@ -1,5 +1,5 @@
 -- The values of a step.
-use Rattle.std.proofs.Common.{◌≡◌, ◌≢◌, ℕ, ◌<◌, Bool, true, false, List, length, nat_eq, slice_index_or, slice_set, refl, sym, ap, ◌∙◌, subst, arith}
+use Rattle.std.proofs.Common.{◌≡◌, ℕ, ◌<◌, false, List, length, nat_eq, slice_set, sym, ap, ◌∙◌, subst, arith}
 use Rattle.std.proofs.lemmas.List.{get_or-set_same, get_or-set_other, length-set}
 use Rattle.spv_rational.specs.Rational.{Rational, plus, times}
 use Rattle.spv_tableaux.specs.Numbers.{nothing}

@@ -1,15 +1,17 @@
 -- A solved form and values along the steps of a check.
-use Rattle.std.specs.Prelude.{◌≡◌, ℕ, ◌<◌, Bool, true, false, List, length, Some}
+use Rattle.std.specs.Prelude.{◌≡◌, ℕ, ◌<◌, List, length, Some}
 use Rattle.spv_rational.specs.Rational.{Rational}
 use Rattle.spv_tableaux.specs.declared.side.Side.{Side}
 use Rattle.spv_tableaux.specs.Rows.{Rows, columns, Point}
 use Rattle.spv_tableaux.specs.Bounds.{Limits}
-use Rattle.spv_tableaux.specs.Solved.{Places, is_basic, Entries, IsSolved, point, exchanged}
+use Rattle.spv_tableaux.specs.Solved.{At, Places, is_basic, IsSolved, point, exchanged}
 use Rattle.spv_tableaux.specs.Steps.{IsStep}
 use Rattle.spv_dictionary.specs.declared.spot.Spot.TheVariants as spot
 use Rattle.spv_dictionary.specs.Dictionary as form
 use Rattle.spv_dictionary.specs.Dictionary.{Dictionary, IsDictionary, spot_of, entries}
 use Rattle.spv_shifts.specs.Shifts.{value_in}
+use Rattle.spv_pivots.specs.Moved.{placed}
+use Rattle.spv_simplex.specs.Moving.{AreMovedTo}
 use Rattle.spv_simplex.specs.Choosing.{IsLeaving, IsEntering}
 use Rattle.spv_simplex.specs.Stepping.{IsMade}
 
@@ -41,3 +43,9 @@ abbrev pub StepIsAt : Type 0
 StepIsAt = (rows : Rows) (limits : Limits) (held : Point) (places : Places) (d : Dictionary) (values : List Rational) (row slot leaving entering : ℕ) (side : Side) (bound : Rational)
     (new : Dictionary) (after : List Rational) → IsAt rows limits held places d values → IsGone limits d values row slot leaving entering side bound new after
     → IsAt rows limits held (exchanged places leaving side entering) new after
+
+-- a column outside the basis that was moved to its bound leads to the point of the basis with it there
+abbrev pub MoveIsAt : Type 0
+MoveIsAt = (rows : Rows) (limits : Limits) (held : Point) (places : Places) (d : Dictionary) (values : List Rational) (slot column : ℕ) (side : Side) (bound : Rational) (after : List Rational)
+    → IsDictionary d → IsAt rows limits held places d values → column < columns rows → spot_of d column ≡ spot.Slot slot → limits column side ≡ Some bound
+    → AreMovedTo d values slot bound after → IsAt rows limits held (placed places column (At side)) d after

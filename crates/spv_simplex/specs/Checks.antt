@@ -1,17 +1,14 @@
 -- What a check promises.
-use Rattle.std.specs.Prelude.{◌≡◌, ℕ, ◌<◌, Bool, true, false, List, map, length, Option, Some, None, slice_get}
-use Rattle.spv_rational.specs.Rational.{Rational, whole}
-use Rattle.spv_frac.specs.declared.frac.Op.TheVariants.{Cmp}
-use Rattle.spv_atoms.specs.Linear.{IdForm}
-use Rattle.spv_tableaux.specs.Rows.{Rows, columns}
-use Rattle.spv_tableaux.specs.Bounds.{Bound, Limits, limits, Meets}
+use Rattle.std.specs.Prelude.{◌≡◌, ℕ, ◌<◌, false, List, Some, slice_get}
+use Rattle.spv_tableaux.specs.Rows.{columns}
+use Rattle.spv_tableaux.specs.Bounds.{Bound, limits, Meets}
 use Rattle.spv_tableaux.specs.Solved.{is_basic}
-use Rattle.spv_tableaux.specs.Walks.{Start, Exchange, held_at, IsWide, IsUnfinished, IsBoundOf, HoldsBounds}
+use Rattle.spv_tableaux.specs.Walks.{Start, held_at, IsWide, IsUnfinished, HoldsBounds}
 use Rattle.spv_tableaux.specs.Contradictions.{IsContradiction}
-use Rattle.spv_dictionary.specs.Dictionary.{Dictionary, places}
+use Rattle.spv_dictionary.specs.Dictionary.{places}
 use Rattle.spv_simplex.specs.declared.checked.Checked.{Checked}
 use Rattle.spv_simplex.specs.declared.checked.Checked.TheVariants as checked
-use Rattle.spv_simplex.specs.Evidence.{EvidenceValue, no_operation}
+use Rattle.spv_simplex.specs.Evidence.{no_operation}
 use Rattle.spv_simplex.specs.State.{State, rows_in, kept_point}
 
 -- the evidence begins with the bounds that stand, the kept basis and the values that the other columns hold

@@ -1,5 +1,5 @@
 -- Which column leaves the basis.
-use Rattle.std.specs.Prelude.{◌≡◌, ℕ, ◌-◌, ◌<◌, Bool, true, false, List, length, Option, Some, None, nat_lt, if◌then◌else◌}
+use Rattle.std.specs.Prelude.{◌≡◌, ℕ, ◌-◌, ◌<◌, true, false, List, length, Option, Some, None, nat_lt, if◌then◌else◌}
 use Rattle.spv_rational.specs.Rational.{Rational}
 use Rattle.spv_frac.specs.declared.frac.Op.TheVariants.{Cmp}
 use Rattle.spv_tableaux.specs.declared.side.Side.{Side}
@@ -7,7 +7,7 @@ use Rattle.spv_tableaux.specs.declared.side.Side.TheVariants.{Lower, Upper}
 use Rattle.spv_tableaux.specs.Rows.{Point}
 use Rattle.spv_tableaux.specs.Bounds.{Bound, Limits, limit_from, breaks_limit}
 use Rattle.spv_tableaux.specs.Solved.{Places, is_basic}
-use Rattle.spv_tableaux.specs.Steps.{none_to, is_least, may_leave, may_enter}
+use Rattle.spv_tableaux.specs.Steps.{is_least, may_leave, may_enter}
 use Rattle.spv_tableaux.specs.Operations.{Operation, operation}
 use Rattle.spv_dictionary.specs.declared.spot.Spot.TheVariants as spot
 use Rattle.spv_dictionary.specs.Dictionary.{Dictionary, spot_of, basic_at, entries, places}

@@ -1,6 +1,5 @@
 -- The combination that a stuck column is read as, on the numbers.
-use Rattle.std.specs.Prelude.{◌≡◌, ℕ, ◌+◌, List, map}
-use Rattle.spv_rational.specs.Rational.{Rational}
+use Rattle.std.specs.Prelude.{ℕ, ◌+◌, List}
 use Rattle.spv_tableaux.specs.declared.side.Side.{Side}
 use Rattle.spv_pivots.specs.Moved.{turned, multiples_to}
 use Rattle.spv_tableaux.specs.Contradictions.{Multiple}

@@ -1,7 +1,7 @@
 -- The evidence for an answer, as contracts see it.
 use Rattle.std.specs.Prelude.{ℕ, List, [], pos}
 use Rattle.spv_whole.specs.Fraction.{Fraction}
-use Rattle.spv_rational.specs.Rational.{Rational, whole, number}
+use Rattle.spv_rational.specs.Rational.{Rational, number}
 use Rattle.spv_frac.specs.declared.frac.Op.TheVariants.{Cmp}
 use Rattle.spv_tableaux.specs.declared.side.Side.{Side}
 use Rattle.spv_tableaux.specs.Bounds.{Bound}

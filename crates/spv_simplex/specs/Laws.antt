@@ -1,9 +1,8 @@
 -- What is known of the bounds that were ever asserted.
-use Rattle.std.specs.Prelude.{◌≡◌, ℕ, ◌<◌, List, [], ◌∷◌, ◌++◌}
+use Rattle.std.specs.Prelude.{ℕ, List, [], ◌∷◌, ◌++◌}
 use Rattle.spv_atoms.specs.Linear.{IdForm}
-use Rattle.spv_tableaux.specs.Rows.{columns}
 use Rattle.spv_tableaux.specs.Bounds.{Bound}
-use Rattle.spv_simplex.specs.State.{State, IsTableau, IsOpened, with_bound, with_first, rows_in, kept_point}
+use Rattle.spv_simplex.specs.State.{State, IsOpened, with_bound, with_first}
 use Rattle.spv_simplex.specs.Checks.{HoldsAsserted}
 
 -- as it begins, none was asserted

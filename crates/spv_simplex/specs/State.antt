@@ -1,5 +1,5 @@
 -- A tableau, as contracts see it.
-use Rattle.std.specs.Prelude.{◌≡◌, ℕ, ◌+◌, ◌<◌, ◌≤◌, ◌^◌, Bool, true, false, List, [], ◌∷◌, ◌++◌, take, length, Option, Some, None, slice_index_or}
+use Rattle.std.specs.Prelude.{◌≡◌, ℕ, ◌<◌, ◌≤◌, ◌^◌, Bool, false, List, [], ◌∷◌, ◌++◌, take, length, Option, Some, None, slice_index_or}
 use Rattle.std.specs.List.{position}
 use Rattle.spv_logic.specs.declared.conditions.TermId.{TermId}
 use Rattle.spv_rational.specs.Rational.{Rational}
@@ -10,12 +10,12 @@ use Rattle.spv_tableaux.specs.declared.side.Side.TheVariants.{Lower, Upper}
 use Rattle.spv_tableaux.specs.Numbers.{nothing, is_less}
 use Rattle.spv_tableaux.specs.Rows.{Rows, columns, Point, IsSolution}
 use Rattle.spv_tableaux.specs.Bounds.{Bound, bound_on, other_side, AreBounds}
-use Rattle.spv_tableaux.specs.Solved.{is_basic, row_places, Places, Entries, IsSolved}
+use Rattle.spv_tableaux.specs.Solved.{is_basic, row_places, IsSolved}
 use Rattle.spv_tableaux.specs.Forms.{rows_of, part_ids}
 use Rattle.spv_tableaux.specs.Contradictions.{Multiple}
-use Rattle.spv_dictionary.specs.Dictionary.{Dictionary, entries, places, first}
+use Rattle.spv_dictionary.specs.Dictionary.{Dictionary, entries, places}
 use Rattle.spv_simplex.specs.declared.checked.Checked.{Checked}
-use Rattle.spv_simplex.specs.Evidence.{EvidenceValue, no_evidence}
+use Rattle.spv_simplex.specs.Evidence.{EvidenceValue}
 use Rattle.spv_simplex.specs.Trail.{Trail}
 
 pub record State : Type 0 where

@@ -1,6 +1,6 @@
 -- A step on the numbers: the column of a row goes to a bound, and that of a slot enters for it.
-use Rattle.std.specs.Prelude.{◌≡◌, ℕ, ◌<◌, Bool, true, false, List, length, nat_eq}
-use Rattle.spv_rational.specs.Rational.{Rational, plus, times, is_zero}
+use Rattle.std.specs.Prelude.{◌≡◌, ℕ, ◌<◌, false, List, length, nat_eq}
+use Rattle.spv_rational.specs.Rational.{Rational, plus, times}
 use Rattle.spv_frac.specs.declared.frac.Op.TheVariants.{Add, Sub, Div}
 use Rattle.spv_tableaux.specs.Numbers.{minus, divided}
 use Rattle.spv_tableaux.specs.Operations.{Operation, operation}

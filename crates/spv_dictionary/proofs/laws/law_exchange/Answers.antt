@@ -1,5 +1,5 @@
 use Rattle.spv_dictionary.proofs.Refusing.{refuses_pivot}
-use Rattle.spv_dictionary.proofs.Exchanging.{same_basis, is_pivot, stays_dictionary}
+use Rattle.spv_dictionary.proofs.Exchanging.{same_basis, is_pivot}
 use Rattle.spv_dictionary.proofs.laws.law_exchange.Goals as goal
 
 pub returns-clause-basis : goal.returns-clause-basis

@@ -1,6 +1,6 @@
-use Rattle.std.proofs.Common.{◌≡◌, ◌∙◌, sym, ap, subst}
-use Rattle.spv_tableaux.specs.Operations.{Operation, operation}
-use Rattle.spv_frac.specs.declared.frac.Op.TheVariants.{Add, Mul, Div}
+use Rattle.std.proofs.Common.{sym, subst}
+use Rattle.spv_tableaux.specs.Operations.{operation}
+use Rattle.spv_frac.specs.declared.frac.Op.TheVariants.{Add}
 use Rattle.spv_rational.specs.Rational.{Rational}
 use Rattle.spv_dictionary.specs.Mixing.{IsMixing, scaling, adding}
 use Rattle.spv_dictionary.proofs.Mixed.{if_refused}

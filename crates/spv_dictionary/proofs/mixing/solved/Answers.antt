@@ -1,7 +1,7 @@
 use Rattle.spv_dictionary.proofs.Exchanging.{false_of}
-use Rattle.std.proofs.Common.{◌≡◌, ◌∙◌, sym, ap, subst}
-use Rattle.spv_tableaux.specs.Operations.{Operation, operation}
-use Rattle.spv_frac.specs.declared.frac.Op.TheVariants.{Add, Mul, Div}
+use Rattle.std.proofs.Common.{◌∙◌, sym, subst}
+use Rattle.spv_tableaux.specs.Operations.{operation}
+use Rattle.spv_frac.specs.declared.frac.Op.TheVariants.{Div}
 use mathlib.Core.Path.{ap₂}
 use Rattle.spv_rational.specs.Rational.{Rational}
 use Rattle.spv_tableaux.specs.Numbers.{one, divided}

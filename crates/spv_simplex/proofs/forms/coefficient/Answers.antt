@@ -1,4 +1,3 @@
-use Rattle.spv_simplex.proofs.Standing.{pop_keeps}
 use Rattle.std.proofs.Common.{rules, ◌<◌, length, subst, sym}
 use Rattle.spv_atoms.specs.Linear.{ArePartsFrom}
 use Rattle.spv_simplex.proofs.Fitting.{read_fits}

@@ -1,5 +1,4 @@
-use Rattle.std.proofs.Common.{◌≡◌, ◌∙◌, sym, ap, refl}
-use Rattle.spv_dictionary.proofs.Making.{IsMade, Made, made_as}
+use Rattle.spv_dictionary.proofs.Making.{made_as}
 use Rattle.spv_dictionary.proofs.dictionary.Dictionary.exchange.Goals as goal
 
 pub invariant_of-self : goal.invariant_of-self

@@ -1,4 +1,3 @@
-use Rattle.std.proofs.Common.{◌≡◌}
 use Rattle.spv_dictionary.proofs.dictionary.Dictionary.start.Goals as goal
 use Rattle.spv_dictionary.proofs.First.{is_first}
 

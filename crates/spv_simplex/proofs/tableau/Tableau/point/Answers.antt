@@ -5,7 +5,7 @@ use Rattle.spv_atoms.specs.Order.{same_id}
 use Rattle.spv_rational.specs.Rational.{Rational}
 use Rattle.spv_tableaux.specs.Forms.{part_ids}
 use Rattle.spv_simplex.specs.State.{State, value_of}
-use Rattle.spv_simplex.proofs.Reading.{is_there, has_value, value_is}
+use Rattle.spv_simplex.proofs.Reading.{is_there, value_is}
 use Rattle.spv_simplex.proofs.tableau.Tableau.point.Goals as goal
 
 pub unwrap-place-requires : goal.unwrap-place-requires

@@ -1,7 +1,5 @@
-use Rattle.std.proofs.Common.{rules, ◌≡◌, ◌≤◌, ◌<◌, ◌++◌, ◌∷◌, [], None, List, length, sym, subst}
+use Rattle.std.proofs.Common.{rules, ◌≡◌, ◌≤◌, ◌++◌, ◌∷◌, [], List, subst}
 use Rattle.std.specs.Prelude.{vec_capacity}
-use Rattle.spv_tableaux.specs.Bounds.{bound_on}
-use Rattle.spv_simplex.specs.Trail.{Trail, bound_of}
 use Rattle.spv_simplex.proofs.Standing.{pop_keeps, trail_of}
 use Rattle.spv_simplex.specs.Trail.{IsTrail}
 use Rattle.spv_tableaux.specs.Bounds.{Bound}
