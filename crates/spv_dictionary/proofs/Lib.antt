@@ -1,0 +1,7 @@
+pub mod Lists
+pub mod First
+pub mod Exchanging
+pub mod Mixed
+pub mod Making
+pub mod Refusing
+pub mod FirstForm

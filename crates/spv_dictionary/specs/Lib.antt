@@ -1,0 +1,5 @@
+pub mod Cells
+pub mod Dictionary
+pub mod Exchanges
+pub mod Laws
+pub mod Mixing

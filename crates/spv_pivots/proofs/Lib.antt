@@ -1,0 +1,10 @@
+pub mod Algebra
+pub mod Sums
+pub mod Points
+pub mod Directions
+pub mod Pivoting
+pub mod Starting
+pub mod Tests
+pub mod Contradicting
+pub mod Stuck
+pub mod Stepping

@@ -1,0 +1,66 @@
+-- What a check promises.
+use Rattle.std.specs.Prelude.{◌≡◌, ℕ, ◌<◌, false, List, Some, slice_get}
+use Rattle.spv_tableaux.specs.Rows.{columns}
+use Rattle.spv_tableaux.specs.Bounds.{Bound, limits, Meets}
+use Rattle.spv_tableaux.specs.Solved.{is_basic}
+use Rattle.spv_tableaux.specs.Walks.{Start, held_at, IsWide, IsUnfinished, HoldsBounds}
+use Rattle.spv_tableaux.specs.Contradictions.{IsContradiction}
+use Rattle.spv_dictionary.specs.Dictionary.{places}
+use Rattle.spv_simplex.specs.declared.checked.Checked.{Checked}
+use Rattle.spv_simplex.specs.declared.checked.Checked.TheVariants as checked
+use Rattle.spv_simplex.specs.Evidence.{no_operation}
+use Rattle.spv_simplex.specs.State.{State, rows_in, kept_point}
+
+-- the evidence begins with the bounds that stand, the kept basis and the values that the other columns hold
+pub record BeginsWith (s : State) (start : Start) : Type 0 where
+  pub bounds : start.bounds ≡ s.bounds
+  pub basis : start.basis ≡ s.form.basic
+  pub held : (c : ℕ) → c < columns (rows_in s) → is_basic (places s.form c) ≡ false → held_at start.held c ≡ kept_point s c
+
+-- ---- the four answers
+
+-- the kept point meets all bounds
+abbrev pub IsFeasible : State → Type 0
+IsFeasible s = Meets (limits (rows_in s) s.bounds) (kept_point s)
+
+-- the kept combination is a contradiction of the bounds
+abbrev pub IsInfeasible : State → Type 0
+IsInfeasible s = IsContradiction (rows_in s) s.bounds s.combination
+
+-- the kept operation, after the kept steps, does not fit
+pub record IsTooWide (old new : State) : Type 0 where
+  pub begins : BeginsWith old new.evidence.start
+  pub wide : IsWide (rows_in old) new.evidence.start new.evidence.steps new.evidence.operation
+
+-- the kept steps are as many as may be, and one more would follow
+pub record HasAllPivots (old new : State) : Type 0 where
+  pub begins : BeginsWith old new.evidence.start
+  pub unfinished : IsUnfinished (rows_in old) new.evidence.start new.evidence.steps old.pivots
+  pub operation : new.evidence.operation ≡ no_operation
+
+abbrev pub Means : Checked → State → State → Type 0
+Means checked.Feasible old new = IsFeasible new
+Means checked.Infeasible old new = IsInfeasible new
+Means checked.Wide old new = IsTooWide old new
+Means checked.Pivots old new = HasAllPivots old new
+
+-- what a check leaves as it was, and its answer
+pub record IsChecked (old new : State) (answer : Checked) : Type 0 where
+  pub forms : new.forms ≡ old.forms
+  pub trail : new.trail ≡ old.trail
+  pub pivots : new.pivots ≡ old.pivots
+  pub bounds : new.bounds ≡ old.bounds
+  pub answered : new.answer ≡ Some answer
+  pub means : Means answer old new
+
+-- ---- the bounds that were asserted since the tableau was opened, undone or not
+
+-- a bound is among those that were asserted
+pub record IsAmong (asserted : List Bound) (b : Bound) : Type 0 where
+  pub place : ℕ
+  pub there : slice_get asserted place ≡ Some b
+
+-- all bounds that stand are among them, and what the columns of rows outside the basis hold are bounds of them on their rows
+pub record HoldsAsserted (asserted : List Bound) (s : State) : Type 0 where
+  pub standing : (place : ℕ) (b : Bound) → slice_get s.bounds place ≡ Some b → IsAmong asserted b
+  pub held : HoldsBounds (rows_in s) asserted (places s.form) (kept_point s)

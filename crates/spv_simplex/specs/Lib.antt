@@ -1,0 +1,11 @@
+pub mod State
+pub mod Cells
+pub mod Trail
+pub mod Evidence
+pub mod Checks
+pub mod Laws
+pub mod Choosing
+pub mod Stepping
+pub mod Along
+pub mod Combining
+pub mod Moving

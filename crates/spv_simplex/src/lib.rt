@@ -1,0 +1,22 @@
+//! Bounds on linear forms over the rational numbers: which of them a point meets, and which contradict each
+//! other.
+#![tactic(auto)]
+
+mod cells;
+mod checked;
+mod choosing;
+mod combining;
+mod entering;
+mod evidence;
+mod forms;
+mod laws;
+mod moving;
+mod stepping;
+mod tableau;
+mod trail;
+
+pub use checked::Checked;
+pub use evidence::Evidence;
+pub use laws::{law_asserted, law_step};
+pub use spv_tableaux::Side;
+pub use tableau::{Mark, Tableau};

@@ -1,0 +1,175 @@
+// Bounds on linear forms.
+
+ghost use Rattle.std.specs.Prelude.{◌≡◌, ◌<◌, ◌≤◌, ◌^◌, ◌++◌, ◌∷◌, [], length, Some, IfOk, IsTrue};
+ghost use Rattle.std.specs.List.{list_any};
+ghost use Rattle.spv_rational.specs.Rational.{number};
+ghost use Rattle.spv_atoms.specs.Order.{same_id};
+ghost use Rattle.spv_tableaux.specs.Bounds.{Bound};
+ghost use Rattle.spv_tableaux.specs.Rows.{columns};
+ghost use Rattle.spv_tableaux.specs.Forms.{rows_of, part_ids};
+ghost use Rattle.spv_simplex.specs.declared.checked.Checked.TheVariants as checked;
+ghost use Rattle.spv_simplex.specs.State.{IsTableau, IsOpened, MayAssert, with_bound, with_first, value_of};
+ghost use Rattle.spv_simplex.specs.Checks.{HoldsAsserted};
+ghost use Rattle.spv_simplex.specs.Trail.{bound_of};
+
+use crate::cells;
+use crate::checked::Checked;
+use crate::evidence::Evidence;
+use crate::forms::{Form, Parts, forms_of};
+use crate::trail::Trail;
+use spv_atoms::Linear;
+use spv_dictionary::Dictionary;
+use spv_frac::Frac;
+use spv_number::Number;
+use spv_tableaux::Side;
+use spv_term::TermId;
+use std::alloc::{AllocError, Global};
+use std::marker::Model;
+
+/// How many bounds stood.
+#[derive(Clone, Copy, Debug)]
+pub struct Mark {
+    count: usize,
+}
+
+impl Model for Mark {
+    ghost use Rattle.std.specs.Prelude.{ℕ, refl};
+
+    ghost Value = { ℕ };
+
+    ghost view = { λ m. m.count };
+
+    ghost inverse = { λ n. record { count = n } };
+
+    ghost inverse_ok = { λ m h. refl };
+}
+
+/// Bounds on linear forms over the rational numbers. Each form has a row, whose place is its place among the
+/// forms.
+#[derive(Drop)]
+pub struct Tableau {
+    forms: Vec<Form>,
+    parts: Parts,
+    trail: Trail,
+    pivots: u64,
+    dictionary: Dictionary,
+    values: Vec<Number>,
+    answer: Option<Checked>,
+    combination: Vec<(u32, Side, Frac)>,
+    evidence: Evidence,
+}
+
+impl Model for Tableau {
+    ghost use Rattle.std.specs.Prelude.{map};
+    ghost use Rattle.spv_simplex.specs.Evidence.{multiple_in};
+    ghost use Rattle.spv_simplex.specs.State.{State, IsKept};
+
+    ghost Value = { State };
+
+    ghost view = { λ t. record {
+      forms = t.forms.items;
+      trail = t.trail.most;
+      pivots = t.pivots;
+      bounds = t.trail.bounds;
+      form = t.dictionary;
+      values = t.values.items;
+      answer = t.answer;
+      combination = map multiple_in t.combination.items;
+      evidence = t.evidence;
+    } };
+
+    ghost invariant = { λ t. IsKept (record {
+      forms = t.forms.items;
+      trail = t.trail.most;
+      pivots = t.pivots;
+      bounds = t.trail.bounds;
+      form = t.dictionary;
+      values = t.values.items;
+      answer = t.answer;
+      combination = map multiple_in t.combination.items;
+      evidence = t.evidence;
+    }) t.parts t.trail };
+}
+
+impl Tableau {
+    /// What is true of every tableau: the kept basis has a solved form, the kept point solves the rows, and each
+    /// part outside the basis is 0.
+    pub fn law_tableau(&self)
+        ensures { IsTableau self.now }
+    {
+        let _pivots = self.pivots;
+    }
+
+    /// Rows of these forms, without bounds; at most `trail` bounds may stand, and a check makes at most `pivots`
+    /// steps. All memory is taken here.
+    pub fn open(
+        alloc: Global,
+        rows: &[Linear],
+        trail: usize,
+        pivots: u64,
+    ) -> Result<Tableau, AllocError>
+        requires pivots { pivots ≤ 1000000 }
+        requires columns { columns (rows_of rows.now) < 2 ^ 32 }
+        ensures { IfOk result (λ t. IsOpened rows.now trail pivots t) }
+    {
+        let forms = forms_of(alloc, rows)?;
+        let parts = Parts::of(alloc, rows)?;
+        let cells = cells::rows(alloc, rows, &parts)?;
+        let width = parts.len();
+        let dictionary = Dictionary::start(alloc, width, cells)?;
+        let values = vec![in alloc; Number::whole(0); width + rows.len()]?;
+        let bounds = Trail::new(alloc, rows.len(), trail)?;
+        let combination = Vec::with_capacity(alloc, rows.len())?;
+        let evidence = Evidence::new(alloc, trail, rows.len(), width, pivots as usize)?;
+        Ok(Tableau {
+            forms,
+            parts,
+            trail: bounds,
+            pivots,
+            dictionary,
+            values,
+            answer: None,
+            combination,
+            evidence,
+        })
+    }
+
+    /// Asserts a bound on a side of a row that has none there.
+    pub fn assert_bound(&mut self, row: u32, side: Side, bound: Frac)
+        requires { MayAssert self.old (bound_of row side (number bound)) }
+        ensures { self.new ≡ with_bound self.old (bound_of row side (number bound)) }
+    {
+        let value = Number::of(bound);
+        self.trail.push(row as usize, side, value);
+        self.trail.law_trail();
+    }
+
+    /// Lets go all bounds that came after a mark. The basis stays.
+    pub fn undo(&mut self, mark: Mark)
+        requires { mark ≤ length self.old.bounds }
+        ensures { self.new ≡ with_first self.old mark }
+    {
+        self.trail.keep(mark.count);
+        self.trail.law_trail();
+    }
+
+    /// How many bounds stand.
+    pub fn mark(&self) -> Mark
+        ensures { result ≡ length self.now.bounds }
+    {
+        Mark {
+            count: self.trail.len(),
+        }
+    }
+
+    /// The value of a term at the kept point.
+    pub fn point(&self, t: TermId) -> Frac
+        requires checked { self.now.answer ≡ Some checked.Feasible }
+        requires column { IsTrue (list_any (same_id t) (part_ids self.now.forms)) }
+        ensures { number result ≡ value_of self.now t }
+    {
+        let place = self.parts.place(t).unwrap();
+        let values = self.values.as_slice();
+        values[place].frac()
+    }
+}

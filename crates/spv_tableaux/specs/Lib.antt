@@ -1,0 +1,10 @@
+pub mod Numbers
+pub mod Rows
+pub mod Bounds
+pub mod Solved
+pub mod Steps
+pub mod Operations
+pub mod Walks
+pub mod Contradictions
+pub mod Forms
+pub mod Examples
