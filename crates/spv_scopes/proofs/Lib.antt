@@ -1,3 +1,6 @@
+pub mod PlacesOfHeadings
+pub mod Tables
+pub mod FieldTables
 pub mod Free
 pub mod Forms
 pub mod Heads
@@ -5,5 +8,5 @@ pub mod Meanings
 pub mod Noting
 pub mod Numbers
 pub mod Pieces
-pub mod Headings
 pub mod Bodies
+pub mod NumberedHeadings

@@ -1,6 +1,9 @@
 pub mod Answers
+pub mod Ended
+pub mod Fields
 pub mod Numbered
 pub mod Indexed
+pub mod IndexedHeadings
 pub mod Scopes
 pub mod Symbols
 pub mod Views

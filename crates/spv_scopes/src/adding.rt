@@ -99,10 +99,10 @@ impl Known {
     }
 
     /// Adds a type with this form.
-    pub fn add_form(&mut self, form: TypeForm) -> Result<(), AllocError>
+    pub fn add_form(&mut self, alloc: Global, form: TypeForm) -> Result<(), AllocError>
         ensures { OnOk result (self.new ≡ with_program self.old (with_types self.old.program (self.old.program.forms ++ form ∷ []) self.old.program.types)) }
     {
-        self.forms.push(form)?;
+        self.forms.push(alloc, form)?;
         Ok(())
     }
 

@@ -17,7 +17,7 @@ impl Known {
         requires free { spec.is_free self.old name ≡ true }
         ensures { OnOk result (self.new ≡ with_heading self.old (heading_of name heading)) }
     {
-        self.headings.insert(name, heading)?;
+        self.headings.push(name, heading)?;
         Ok(())
     }
 

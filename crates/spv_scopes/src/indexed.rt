@@ -2,9 +2,14 @@
 
 ghost use Rattle.std.specs.Prelude.{◌≡◌, ◌<◌, [], ◌∷◌, ◌++◌, length, slice_get, slice_set, slice_index_or, replicate, is_some, not, nat_lt, true, IsTrue, IfOk, IfSome, OnOk};
 ghost use Rattle.std.specs.List.{list_all};
+ghost use Rattle.spv_program.specs.Types as types;
 ghost use Rattle.spv_scopes.specs.Indexed.{built_below, noted, is_alone, IsIndexed};
 
+use crate::fields::{field_at, field_type, tables, with_form};
 use spv_list::List;
+use spv_logic::TypeId;
+use spv_named::Named;
+use spv_names::Symbol;
 use spv_program::{TypeField, TypeForm};
 use std::alloc::{AllocError, Global};
 use std::marker::Model;
@@ -15,18 +20,20 @@ use std::marker::Model;
 pub struct IndexedForms {
     forms: List<TypeForm>,
     pointers: Option<Vec<Option<usize>>>,
+    fields: Option<Vec<Named<TypeId>>>,
 }
 
 impl Model for IndexedForms {
     ghost use Rattle.std.specs.Prelude.{List, IfSome};
     ghost use Rattle.spv_program.specs.declared.types.TypeForm.{TypeForm};
+    ghost use Rattle.spv_scopes.specs.Fields.{AreFields};
     ghost use Rattle.spv_scopes.specs.Indexed.{IsIndexed};
 
     ghost Value = { List TypeForm };
 
     ghost view = { λ f. f.forms };
 
-    ghost invariant = { λ f. IfSome f.pointers (λ v. IsIndexed f.forms v.items) };
+    ghost invariant = { λ f. IfSome f.pointers (λ v. IsIndexed f.forms v.items) × IfSome f.fields (λ v. AreFields f.forms v.items) };
 }
 
 fn fields_below(fields: &[TypeField], count: usize) -> bool
@@ -126,6 +133,7 @@ impl IndexedForms {
         IndexedForms {
             forms: List::new(alloc),
             pointers: Some(Vec::new(alloc)),
+            fields: Some(Vec::new(alloc)),
         }
     }
 
@@ -134,7 +142,19 @@ impl IndexedForms {
         ensures { IfOk result (λ f. f ≡ forms) }
     {
         let pointers = index(alloc, forms.as_slice())?;
-        Ok(IndexedForms { forms, pointers })
+        let fields = tables(alloc, forms.as_slice())?;
+        Ok(IndexedForms {
+            forms,
+            pointers,
+            fields: Some(fields),
+        })
+    }
+
+    /// The forms as a list.
+    pub fn into_list(self) -> List<TypeForm>
+        ensures { result ≡ self }
+    {
+        self.forms
     }
 
     /// The forms as a slice.
@@ -169,16 +189,43 @@ impl IndexedForms {
         }
     }
 
+    /// The type of a field of the type at a place, none where it is no record or has no such field.
+    pub fn field(&self, place: usize, x: Symbol) -> Option<TypeId>
+        requires { place < length self.now }
+        ensures { result ≡ types.field_of (types.form_at self.now place) x }
+    {
+        match &self.fields {
+            Some(tables) => field_at(tables.as_slice(), self.forms.as_slice(), place, x),
+            None => self.field_anew(place, x),
+        }
+    }
+
+    #[tactic(auto, using(crate::proofs::Forms::form_there))]
+    fn field_anew(&self, place: usize, x: Symbol) -> Option<TypeId>
+        requires { place < length self.now }
+        ensures { result ≡ types.field_of (types.form_at self.now place) x }
+    {
+        match self.forms.get(place) {
+            TypeForm::Record(fields) => field_type(fields.as_slice(), x),
+            _ => None,
+        }
+    }
+
     /// Adds a type. After want of memory nothing is known of the types.
-    pub fn push(&mut self, form: TypeForm) -> Result<(), AllocError>
+    pub fn push(&mut self, alloc: Global, form: TypeForm) -> Result<(), AllocError>
         ensures { OnOk result (self.new ≡ self.old ++ form ∷ []) }
     {
         let pointers = match self.pointers.take() {
             Some(pointers) => with_one(pointers, self.forms.as_slice(), &form)?,
             None => None,
         };
+        let fields = match self.fields.take() {
+            Some(tables) => Some(with_form(alloc, tables, self.forms.as_slice(), &form)?),
+            None => None,
+        };
         self.forms.push(form)?;
         self.pointers = pointers;
+        self.fields = fields;
         Ok(())
     }
 }

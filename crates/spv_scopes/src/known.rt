@@ -7,6 +7,7 @@ ghost use Rattle.spv_typing.specs.Known.{known_in, is_fixed};
 ghost use Rattle.spv_typing.specs.ProgramWalk.{known_at_first};
 
 use crate::functions::KnownNames;
+use crate::headings::IndexedHeadings;
 use crate::indexed::IndexedForms;
 use crate::routines::{Heading, Specified};
 use spv_list::List;
@@ -36,7 +37,7 @@ pub struct Known {
     pub(crate) constants: Named<i64>,
     pub(crate) variables: Named<TypeId>,
     pub(crate) symbols: Named<Signature>,
-    pub(crate) headings: Named<Heading>,
+    pub(crate) headings: IndexedHeadings,
     pub(crate) awaited: Named<Option<Specified>>,
     pub(crate) routines: List<Routine>,
 }
@@ -80,8 +81,8 @@ impl Known {
         ensures { IfOk result (λ k. k ≡ known_at_first (known_in names.now)) }
     {
         let mut forms = IndexedForms::new(alloc);
-        forms.push(TypeForm::Integer)?;
-        forms.push(TypeForm::Boolean)?;
+        forms.push(alloc, TypeForm::Integer)?;
+        forms.push(alloc, TypeForm::Boolean)?;
         Ok(Known {
             start: KnownNames::of(names),
             forms,
@@ -89,7 +90,7 @@ impl Known {
             constants: Named::new(alloc),
             variables: Named::new(alloc),
             symbols: Named::new(alloc),
-            headings: Named::new(alloc),
+            headings: IndexedHeadings::new(alloc),
             awaited: Named::new(alloc),
             routines: List::new(alloc),
         })

@@ -3,7 +3,10 @@
 
 mod adding;
 mod announcing;
+mod ending;
+mod fields;
 pub mod functions;
+mod headings;
 pub mod indexed;
 pub mod known;
 pub mod numbered;

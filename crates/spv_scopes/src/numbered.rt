@@ -12,7 +12,7 @@ use spv_names::Symbol;
 impl Known {
     /// The first heading at or behind a place, from 0, whose routine has this number: the place behind it, its name, and what
     /// else is known of it.
-    #[tactic(auto, using(crate::proofs::Headings::number_first, crate::proofs::Headings::number_other, crate::proofs::Headings::number_past, crate::proofs::Headings::headings_count))]
+    #[tactic(auto, using(crate::proofs::NumberedHeadings::headings_count))]
     pub fn heading_numbered(
         &self,
         number: RoutineId,
@@ -23,13 +23,6 @@ impl Known {
         ensures within { IfSome result (λ f. f.0 ≤ length self.now.headings) }
         ensures missing { IfNone result (numbered number (drop from self.now.headings) ≡ []) }
     {
-        for place in from..self.headings.len() {
-            if let Some((name, heading)) = self.headings.entry(place) {
-                if heading.number.0 == number.0 {
-                    return Some((place + 1, name, heading));
-                }
-            }
-        }
-        None
+        self.headings.numbered(number, from)
     }
 }

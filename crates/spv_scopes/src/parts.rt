@@ -7,28 +7,18 @@ ghost use Rattle.spv_program.specs.Types as types;
 use crate::known::Known;
 use spv_logic::{Sort, TypeId};
 use spv_names::Symbol;
-use spv_program::{TypeField, TypeForm};
-
-#[tactic(auto, using(crate::proofs::Pieces::field_first, crate::proofs::Pieces::field_behind))]
-fn field_type(fields: &[TypeField], x: Symbol) -> Option<TypeId>
-    ensures { result ≡ types.field_type fields.now x }
-{
-    for field in fields {
-        if field.name.0 == x.0 {
-            return Some(field.of);
-        }
-    }
-    None
-}
 
 impl Known {
     /// The type of a record's field, none of another type.
+    #[tactic(auto, using(crate::proofs::Forms::form_past))]
     pub fn field_type(&self, t: TypeId, x: Symbol) -> Option<TypeId>
         ensures { result ≡ types.field_of (types.form_at self.now.program.forms t.0) x }
     {
-        match self.form(t) {
-            Some(TypeForm::Record(fields)) => field_type(fields.as_slice(), x),
-            _ => None,
+        let place = t.0 as usize;
+        if place < self.forms.len() {
+            self.forms.field(place, x)
+        } else {
+            None
         }
     }
 

@@ -40,7 +40,7 @@ pub struct Specified {
 }
 
 // A copy of a list.
-fn copied<T: Copy + Drop>(alloc: Global, items: &List<T>) -> Result<List<T>, AllocError>
+pub(crate) fn copied<T: Copy + Drop>(alloc: Global, items: &List<T>) -> Result<List<T>, AllocError>
     ensures { IfOk result (λ l. l ≡ items.now) }
 {
     let mut copy = List::new(alloc);

@@ -99,7 +99,7 @@ impl Known {
     fn routine_meaning(&self, x: Symbol) -> Option<Meaning<'_>>
         ensures { option_map meaning_of result ≡ found (routines self.now) x }
     {
-        match self.headings.get(x) {
+        match self.headings.named().get(x) {
             Some(heading) => Some(Meaning::Routine(x, heading)),
             None => None,
         }

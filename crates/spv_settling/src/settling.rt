@@ -60,7 +60,7 @@ fn add_forms(known: &mut Known, alloc: Global, forms: &[TypeForm]) -> Result<(),
 {
     for form in forms {
         let copy = copied(alloc, form)?;
-        known.add_form(copy)?;
+        known.add_form(alloc, copy)?;
     }
     Ok(())
 }

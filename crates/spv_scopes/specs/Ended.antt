@@ -1,0 +1,17 @@
+-- What is known at the end of a program, with its main block.
+use Rattle.std.specs.Prelude.{List, Option}
+use Rattle.spv_names.specs.declared.names.Symbol.{Symbol}
+use Rattle.spv_program.specs.Programs.{Main, Program}
+
+-- a program with these titles and this main block
+abbrev pub ended : Program → List (Option Symbol) → Main → Program
+ended p titles main = record {
+  forms = p.forms;
+  titles = titles;
+  types = p.types;
+  constants = p.constants;
+  variables = p.variables;
+  symbols = p.symbols;
+  routines = p.routines;
+  main = main;
+}

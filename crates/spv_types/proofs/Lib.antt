@@ -1,0 +1,3 @@
+pub mod Entitling
+pub mod Whole
+pub mod Tops
