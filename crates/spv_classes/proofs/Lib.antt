@@ -1,0 +1,4 @@
+pub mod Lists
+pub mod Labels
+pub mod RingLemmas
+pub mod Growing

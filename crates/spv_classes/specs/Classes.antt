@@ -1,0 +1,80 @@
+-- Classes of numbers, as the joins that put them together, each with one number of each class as its label.
+use Rattle.std.specs.Prelude.{◌≡◌, ◌≢◌, ℕ, zero, suc, ◌+◌, ◌<◌, ◌≤◌, List, [], ◌∷◌, take, length, fold, Option, Some, None, nat_eq, slice_get, slice_set, slice_index_or, if◌then◌else◌, ◌⊎◌}
+use Rattle.spv_classes.specs.declared.joins.Join.{Join}
+use Rattle.spv_classes.specs.declared.joins.Point.{Point}
+
+-- what contracts see: how many numbers there are, and what was joined, in order
+pub record Classes : Type 0 where
+  pub count : ℕ
+  pub joins : List Join
+
+-- ---- labels
+
+-- a label after one more join
+abbrev pub one_label : ℕ → Join → ℕ
+one_label l j = if nat_eq l j.lower then j.upper else l
+
+-- the label of the class of a number, after these joins
+abbrev pub label : List Join → ℕ → ℕ
+label joins x = fold one_label x joins
+
+-- ---- members
+
+-- how many members a class has, by its label
+abbrev pub with_size : (ℕ → ℕ) → Join → ℕ → ℕ
+with_size f j l = if nat_eq l j.upper then f j.upper + f j.lower else f l
+
+abbrev pub size : List Join → ℕ → ℕ
+size joins = fold with_size (λ l. 1) joins
+
+-- the next member of the same class, round about: a join links two rings into one
+abbrev pub with_next : (ℕ → ℕ) → Join → ℕ → ℕ
+with_next f j x = if nat_eq x j.lower then f j.upper else (if nat_eq x j.upper then f j.lower else f x)
+
+abbrev pub next : List Join → ℕ → ℕ
+next joins = fold with_next (λ x. x) joins
+
+-- ---- joins
+
+-- where the join stands that took a label away; the first join stands at this place
+abbrev pub taken_from : ℕ → List Join → ℕ → Option ℕ
+taken_from place [] x = None
+taken_from place (j ∷ joins) x = if nat_eq x j.lower then Some place else taken_from (suc place) joins x
+
+abbrev pub taken_at : List Join → ℕ → Option ℕ
+taken_at joins x = taken_from 0 joins x
+
+-- a join of two classes of numbers below a count
+pub record IsJoin (count : ℕ) (before : List Join) (j : Join) : Type 0 where
+  pub lower_in : j.lower < count
+  pub upper_in : j.upper < count
+  pub left_in : j.left < count
+  pub right_in : j.right < count
+  pub apart : j.lower ≢ j.upper
+  pub lower_is : label before j.lower ≡ j.lower
+  pub upper_is : label before j.upper ≡ j.upper
+  pub sides : ((label before j.left ≡ j.lower) × (label before j.right ≡ j.upper)) ⊎ ((label before j.left ≡ j.upper) × (label before j.right ≡ j.lower))
+  pub smaller : size before j.lower ≤ size before j.upper
+
+pub record AreJoins (count : ℕ) (joins : List Join) : Type 0 where
+  pub each : (i : ℕ) (j : Join) → slice_get joins i ≡ Some j → IsJoin count (take i joins) j
+
+-- ---- points
+
+-- what is kept for a number
+abbrev pub point : List Join → ℕ → Point
+point joins x = record { label = label joins x; size = size joins x; next = next joins x; taken = taken_at joins x }
+
+abbrev pub point_at : List Point → ℕ → Point
+point_at points x = slice_index_or points x (point [] 0)
+
+pub record ArePoints (joins : List Join) (points : List Point) : Type 0 where
+  pub each : (x : ℕ) → x < length points → point_at points x ≡ point joins x
+
+-- the label of so many points on a ring is this one
+abbrev pub with_label : Point → ℕ → Point
+with_label p l = record p { label = l }
+
+abbrev pub relabelled : List Point → ℕ → ℕ → ℕ → List Point
+relabelled points at zero to = points
+relabelled points at (suc n) to = relabelled (slice_set points at (with_label (point_at points at) to)) (point_at points at).next n to

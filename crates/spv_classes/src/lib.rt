@@ -1,0 +1,9 @@
+//! Classes of numbers that are joined, and joins that are taken back.
+#![tactic(auto)]
+
+mod classes;
+mod joins;
+mod rings;
+
+pub use classes::Classes;
+pub use joins::{Cause, Join};
