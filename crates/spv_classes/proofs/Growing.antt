@@ -3,12 +3,9 @@ use Rattle.std.proofs.Common.{◌≡◌, ◌≢◌, ℕ, zero, suc, ◌+◌, ◌
 use Rattle.std.proofs.lemmas.List.{get_or_append_left, get_or_push, length_push}
 use Rattle.spv_classes.specs.declared.joins.Join.{Join}
 use Rattle.spv_classes.specs.declared.joins.Point.{Point}
-use Rattle.spv_classes.specs.Classes.{label, size, next, with_size, with_next, taken_at, point, point_at, ArePoints, IsJoin, AreJoins}
+use Rattle.spv_classes.specs.Classes.{label, size, next, with_size, with_next, taken_at, made, point, point_at, ArePoints, IsJoin, AreJoins}
 use Rattle.spv_classes.proofs.Lists.{by_last, same_or_apart, nat_same, nat_apart, get_push, get_left, get_within, of_push, take_push, take_whole}
 use Rattle.spv_classes.proofs.Labels.{label_push, size_push, next_push, by_joins, label_past, taken_label}
-
-abbrev made : ℕ → ℕ → ℕ → Option ℕ → Point
-made l s n o = record { label = l; size = s; next = n; taken = o }
 
 module _ (count : ℕ) where
   pub size_past : (js : List Join) → AreJoins count js → (x : ℕ) → count ≤ x → size js x ≡ 1
@@ -49,7 +46,7 @@ module _ (count : ℕ) where
         right_in = (let h = is.right_in in omega (arith, h));
         apart = is.apart; lower_is = is.lower_is; upper_is = is.upper_is; sides = is.sides; smaller = is.smaller } }
 
-  pub point_past : (js : List Join) → AreJoins count js → (x : ℕ) → count ≤ x → point js x ≡ record { label = x; size = 1; next = x; taken = None }
+  pub point_past : (js : List Join) → AreJoins count js → (x : ℕ) → count ≤ x → point js x ≡ made x 1 x None
   point_past js are x past =
       let l = label_past count js are x past in
       let s = size_past js are x past in
@@ -65,9 +62,9 @@ pub record Grown (js : List Join) (ps : List Point) : Type 0 where
   pub points : ArePoints js ps
   pub joins : AreJoins (length ps) js
 
-pub grown : (js ks : List Join) (ps qs : List Point) (p : Point) → ks ≡ js → qs ≡ ps ++ p ∷ [] → ArePoints js ps → AreJoins (length ps) js
-    → p ≡ record { label = length ps; size = 1; next = length ps; taken = None } → Grown ks qs
-grown js ks ps qs p e f points joins is = subst (λ k. Grown k qs) (sym e) (subst (λ q. Grown js q) (sym f) (record {
+grown_by : (js ks : List Join) (ps qs : List Point) (p : Point) → ks ≡ js → qs ≡ ps ++ p ∷ [] → ArePoints js ps → AreJoins (length ps) js
+    → p ≡ made (length ps) 1 (length ps) None → Grown ks qs
+grown_by js ks ps qs p e f points joins is = subst (λ k. Grown k qs) (sym e) (subst (λ q. Grown js q) (sym f) (record {
   points = record { each = λ x within. by x within (same_or_apart x (length ps)) };
   joins = subst (λ n. AreJoins n js) (sym (length_push ps p)) (more_in (length ps) js joins);
   }))
@@ -75,7 +72,10 @@ grown js ks ps qs p e f points joins is = subst (λ k. Grown k qs) (sym e) (subs
     by : (x : ℕ) → x < length (ps ++ p ∷ []) → (x ≡ length ps) ⊎ (x ≢ length ps) → point_at (ps ++ p ∷ []) x ≡ point js x
     by x within (inl g) =
         get_or_push ps p (point [] 0) x (sym g)
-        ∙ (is ∙ sym (subst (λ n. point js x ≡ record { label = n; size = 1; next = n; taken = None }) g (point_past (length ps) js joins x (omega (arith, g)))))
+        ∙ (is ∙ sym (subst (λ n. point js x ≡ made n 1 n None) g (point_past (length ps) js joins x (omega (arith, g)))))
     by x within (inr h) =
         let less : x < length ps = omega (arith, length_push ps p, h, within) in
         get_or_append_left ps (p ∷ []) (point [] 0) x less ∙ points.each x less
+
+pub grown : (js ks : List Join) (ps qs : List Point) (n : ℕ) → ks ≡ js → qs ≡ ps ++ made n 1 n None ∷ [] → ArePoints js ps → AreJoins (length ps) js → n ≡ length ps → Grown ks qs
+grown js ks ps qs n e f points joins m = grown_by js ks ps qs (made n 1 n None) e f points joins (ap (λ k. made k 1 k None) m)

@@ -41,3 +41,11 @@ turn_next points at to here p within h e old x less =
     let n = ap (λ q. (point_at (slice_set points at q) x).next) f ∙ next-labelled points at to x within in
     let o : (point_at points x).next < length points = old x (omega (arith, len, less)) in
     omega (arith, len, n, o)
+
+pub turn_at : (points : List Point) (at : ℕ) (here p : Point) → at < length points → here ≡ point_at points at
+    → ((x : ℕ) → x < length points → (point_at points x).next < length points) → here.next < length (slice_set points at p)
+turn_at points at here p within h old =
+    let len : length (slice_set points at p) ≡ length points = length-labelled points at p in
+    let n = ap (λ q. q.next) h in
+    let o : (point_at points at).next < length points = old at within in
+    omega (arith, len, n, o)

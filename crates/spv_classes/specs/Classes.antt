@@ -1,5 +1,6 @@
 -- Classes of numbers, as the joins that put them together, each with one number of each class as its label.
-use Rattle.std.specs.Prelude.{◌≡◌, ◌≢◌, ℕ, zero, suc, ◌+◌, ◌<◌, ◌≤◌, List, [], ◌∷◌, take, length, fold, Option, Some, None, nat_eq, slice_get, slice_set, slice_index_or, if◌then◌else◌, ◌⊎◌}
+use Rattle.std.specs.Prelude.{◌≡◌, ◌≢◌, ℕ, zero, suc, ◌+◌, ◌-◌, ◌<◌, ◌≤◌, List, [], ◌∷◌, ◌++◌, take, length, fold, Option, Some, None, Bool, nat_eq, nat_le, slice_get, slice_set, slice_index_or, if◌then◌else◌, ◌⊎◌}
+use Rattle.spv_classes.specs.declared.joins.Cause.{Cause}
 use Rattle.spv_classes.specs.declared.joins.Join.{Join}
 use Rattle.spv_classes.specs.declared.joins.Point.{Point}
 
@@ -78,3 +79,53 @@ with_label p l = record p { label = l }
 abbrev pub relabelled : List Point → ℕ → ℕ → ℕ → List Point
 relabelled points at zero to = points
 relabelled points at (suc n) to = relabelled (slice_set points at (with_label (point_at points at) to)) (point_at points at).next n to
+
+abbrev pub made : ℕ → ℕ → ℕ → Option ℕ → Point
+made l s n o = record { label = l; size = s; next = n; taken = o }
+
+-- the points after one more join, which stands at this place
+abbrev pub linked : List Point → ℕ → ℕ → ℕ → List Point
+linked points lower upper place =
+    slice_set
+      (slice_set (relabelled points lower (point_at points lower).size upper) lower
+        (made upper (point_at points lower).size (point_at points upper).next (Some place)))
+      upper
+      (made upper ((point_at points upper).size + (point_at points lower).size) (point_at points lower).next (point_at points upper).taken)
+
+-- the points before a join
+abbrev pub parted : List Point → ℕ → ℕ → List Point
+parted points lower upper =
+    slice_set
+      (slice_set points lower (made (point_at points lower).label (point_at points lower).size (point_at points upper).next None))
+      upper
+      (made (point_at points upper).label ((point_at points upper).size - (point_at points lower).size) (point_at points lower).next (point_at points upper).taken)
+
+abbrev pub unlinked : List Point → ℕ → ℕ → List Point
+unlinked points lower upper = relabelled (parted points lower upper) lower (point_at points lower).size lower
+
+-- the join of the classes of two numbers: the smaller class gets the other label
+abbrev pub join_of : List Join → ℕ → ℕ → Cause → Join
+join_of joins left right cause =
+    if nat_le (size joins (label joins left)) (size joins (label joins right))
+    then record { lower = label joins left; upper = label joins right; left = left; right = right; cause = cause }
+    else record { lower = label joins right; upper = label joins left; left = left; right = right; cause = cause }
+
+abbrev pub count_of : (ℕ → Bool) → ℕ → ℕ
+count_of p zero = 0
+count_of p (suc n) = if p n then suc (count_of p n) else count_of p n
+
+-- how many numbers have this label
+abbrev pub members : List Join → ℕ → ℕ → ℕ
+members joins count l = count_of (λ x. nat_eq (label joins x) l) count
+
+-- so many numbers on the ring of a number, from it on
+abbrev pub ring_from : List Join → ℕ → ℕ → List ℕ
+ring_from joins at zero = []
+ring_from joins at (suc n) = at ∷ ring_from joins (next joins at) n
+
+abbrev pub AreWithin : ℕ → List ℕ → Type 0
+AreWithin count xs = (i x : ℕ) → slice_get xs i ≡ Some x → x < count
+
+-- each number with this label is among these
+abbrev pub HasMembers : Classes → ℕ → List ℕ → Type 0
+HasMembers c l xs = (x : ℕ) → label c.joins x ≡ l → (i : ℕ) × (slice_get xs i ≡ Some x)

@@ -1,10 +1,10 @@
 // Classes of numbers.
 
-ghost use Rattle.std.specs.Prelude.{◌≡◌, ◌≢◌, ◌<◌, ◌≤◌, ◌+◌, [], ◌∷◌, ◌++◌, OnOk, OnErr, length, take};
+ghost use Rattle.std.specs.Prelude.{◌≡◌, ◌≢◌, ◌<◌, ◌+◌, ◌-◌, [], ◌∷◌, ◌++◌, IfOk, OnOk, OnErr, length, take};
 ghost use Rattle.spv_classes.specs.Classes as spec;
 
 use crate::joins::{Cause, Join, Point};
-use crate::rings::{point, relabel};
+use crate::rings::{link, point, unlink};
 use std::alloc::{AllocError, Global};
 use std::marker::Model;
 
@@ -56,6 +56,13 @@ impl Classes {
         self.joins.as_slice()
     }
 
+    /// What is true of the joins.
+    pub fn law_joins(&self)
+        ensures { spec.AreJoins self.now.count self.now.joins }
+    {
+        let _points = &self.points;
+    }
+
     /// The label of a number's class.
     pub fn label(&self, x: usize) -> usize
         requires { x < self.now.count }
@@ -79,5 +86,117 @@ impl Classes {
             taken: None,
         })?;
         Ok(())
+    }
+
+    // Writes a join behind the others.
+    fn add(&mut self, join: Join)
+        requires { spec.IsJoin self.old.count self.old.joins join }
+        ensures { self.new ≡ record self.old { joins = self.old.joins ++ join ∷ [] } }
+    {
+        let place = self.joins.as_slice().len();
+        link(self.points.as_mut_slice(), join.lower, join.upper, place);
+        self.joins.push(join).unwrap();
+    }
+
+    // Takes the last join back.
+    fn pop(&mut self)
+        requires { 0 < length self.old.joins }
+        ensures { self.new ≡ record self.old { joins = take (length self.old.joins - 1) self.old.joins } }
+    {
+        let join = self.joins.pop().unwrap();
+        unlink(self.points.as_mut_slice(), join.lower, join.upper);
+    }
+
+    /// Joins the classes of two numbers that have two; the smaller one gets the label of the other. It takes no memory.
+    pub fn unite(&mut self, left: usize, right: usize, cause: Cause)
+        requires left { left < self.old.count }
+        requires right { right < self.old.count }
+        requires apart { spec.label self.old.joins left ≢ spec.label self.old.joins right }
+        ensures { self.new ≡ record self.old { joins = self.old.joins ++ spec.join_of self.old.joins left right cause ∷ [] } }
+    {
+        self.law_joins();
+        let join = self.join_of(left, right, cause);
+        self.add(join);
+    }
+
+    // The join of the classes of two numbers.
+    fn join_of(&self, left: usize, right: usize, cause: Cause) -> Join
+        requires left { left < self.now.count }
+        requires right { right < self.now.count }
+        ensures { result ≡ spec.join_of self.now.joins left right cause }
+    {
+        let points = self.points.as_slice();
+        let first = point(points, left).label;
+        let second = point(points, right).label;
+        if point(points, first).size <= point(points, second).size {
+            Join {
+                lower: first,
+                upper: second,
+                left,
+                right,
+                cause,
+            }
+        } else {
+            Join {
+                lower: second,
+                upper: first,
+                left,
+                right,
+                cause,
+            }
+        }
+    }
+
+    /// Takes joins back until so many are left. It takes no memory.
+    pub fn cut(&mut self, count: usize)
+        ensures { self.new ≡ record self.old { joins = take count self.old.joins } }
+    {
+        while self.joins().len() > count {
+            self.pop();
+        }
+    }
+
+    /// How many members a class has, by its label.
+    pub fn size(&self, label: usize) -> usize
+        requires { label < self.now.count }
+        ensures { result ≡ spec.size self.now.joins label }
+    {
+        point(self.points.as_slice(), label).size
+    }
+
+    /// The next member of a number's class, round about.
+    pub fn next(&self, x: usize) -> usize
+        requires { x < self.now.count }
+        ensures next { result ≡ spec.next self.now.joins x }
+        ensures within { result < self.now.count }
+    {
+        self.law_joins();
+        point(self.points.as_slice(), x).next
+    }
+
+    /// Where the join stands that took a label away.
+    pub fn taken_at(&self, label: usize) -> Option<usize>
+        requires { label < self.now.count }
+        ensures { result ≡ spec.taken_at self.now.joins label }
+    {
+        point(self.points.as_slice(), label).taken
+    }
+
+    /// The members of a class, by its label.
+    pub fn members(&self, alloc: Global, label: usize) -> Result<Vec<usize>, AllocError>
+        requires within { label < self.now.count }
+        requires label { spec.label self.now.joins label ≡ label }
+        ensures ring { IfOk result (λ v. v.items ≡ spec.ring_from self.now.joins label (spec.size self.now.joins label)) }
+        ensures within { IfOk result (λ v. spec.AreWithin self.now.count v.items) }
+        ensures all { IfOk result (λ v. spec.HasMembers self.now label v.items) }
+    {
+        self.law_joins();
+        let mut members = Vec::new(alloc);
+        let mut at = label;
+        for _ in 0..self.size(label) {
+            members.push(at)?;
+            at = self.next(at);
+        }
+        Ok(members)
     }
 }
