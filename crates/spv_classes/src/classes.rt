@@ -88,8 +88,8 @@ impl Classes {
         Ok(())
     }
 
-    // Writes a join behind the others.
-    fn add(&mut self, join: Join)
+    /// Joins two classes. It takes no memory.
+    pub fn add(&mut self, join: Join)
         requires { spec.IsJoin self.old.count self.old.joins join }
         ensures { self.new ≡ record self.old { joins = self.old.joins ++ join ∷ [] } }
     {
@@ -107,20 +107,8 @@ impl Classes {
         unlink(self.points.as_mut_slice(), join.lower, join.upper);
     }
 
-    /// Joins the classes of two numbers that have two; the smaller one gets the label of the other. It takes no memory.
-    pub fn unite(&mut self, left: usize, right: usize, cause: Cause)
-        requires left { left < self.old.count }
-        requires right { right < self.old.count }
-        requires apart { spec.label self.old.joins left ≢ spec.label self.old.joins right }
-        ensures { self.new ≡ record self.old { joins = self.old.joins ++ spec.join_of self.old.joins left right cause ∷ [] } }
-    {
-        self.law_joins();
-        let join = self.join_of(left, right, cause);
-        self.add(join);
-    }
-
-    // The join of the classes of two numbers.
-    fn join_of(&self, left: usize, right: usize, cause: Cause) -> Join
+    /// The join of the classes of two numbers: the smaller class gets the label of the other.
+    pub fn join_of(&self, left: usize, right: usize, cause: Cause) -> Join
         requires left { left < self.now.count }
         requires right { right < self.now.count }
         ensures { result ≡ spec.join_of self.now.joins left right cause }

@@ -1,0 +1,4 @@
+pub mod Dues
+pub mod Keeping
+pub mod Entering
+pub mod Joining
