@@ -93,7 +93,7 @@ module _ (all js : List Join) (j : Join) (points ps : List Point) (all_are : all
         many = many;
       }
 
-abbrev five : ℕ → ℕ → ℕ → ℕ → Cause → Join
+abbrev pub five : ℕ → ℕ → ℕ → ℕ → Cause → Join
 five l k left right cause = record { lower = l; upper = k; left = left; right = right; cause = cause }
 
 two : (l k m n left right : ℕ) (cause : Cause) → l ≡ m → k ≡ n → five l k left right cause ≡ five m n left right cause

@@ -6,7 +6,7 @@ use Rattle.spv_classes.specs.Classes.{label, one_label}
 use Rattle.spv_classes.proofs.Lists.{same_or_apart, by_last, get_left, get_push, get_within}
 use Rattle.spv_classes.proofs.Labels.{label_push, label_stays, label_was_lower}
 use Rattle.spv_congruence.specs.declared.facts.Equal.{Equal}
-use Rattle.spv_congruence.specs.Graph.{id, label_of, Agrees, Due, Waits}
+use Rattle.spv_congruence.specs.Graph.{id, label_of, Agrees, Due, Waits, HasLabel}
 
 module _ (f : ℕ → ℕ) (js : List Join) where
   pub agrees_front : (es : List Equal) (e : Equal) → Agrees f js (es ++ e ∷ []) → Agrees f js es
@@ -74,12 +74,6 @@ pub args_joined : (js : List Join) (j : Join) (us vs : List TermId) → map (lab
 args_joined js j us vs e = joined_terms js j us ∙ (ap (map (λ l. one_label l j)) e ∙ sym (joined_terms js j vs))
 
 -- a list of terms has one with this label, or it is none of their labels
-pub record HasLabel (js : List Join) (l : ℕ) (us : List TermId) : Type 0 where
-  pub place : ℕ
-  pub term : TermId
-  pub there : slice_get us place ≡ Some term
-  pub is : label_of js term ≡ l
-
 pub has_or_stays : (js : List Join) (j : Join) (us : List TermId) → HasLabel js j.lower us ⊎ (map (label_of (js ++ j ∷ [])) us ≡ map (label_of js) us)
 has_or_stays js j [] = inr refl
 has_or_stays js j (u ∷ us) = by (same_or_apart (label_of js u) j.lower) (has_or_stays js j us)

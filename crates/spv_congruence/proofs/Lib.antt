@@ -1,4 +1,6 @@
+pub mod Args
 pub mod Dues
 pub mod Keeping
-pub mod Entering
-pub mod Joining
+pub mod EnterLemmas
+pub mod JoinLemmas
+pub mod Goings

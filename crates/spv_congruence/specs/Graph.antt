@@ -48,6 +48,13 @@ labels joins n = map (label_of joins) n.args
 abbrev pub are_same : Graph → TermId → TermId → Bool
 are_same g s t = nat_eq (label_of g.joins s) (label_of g.joins t)
 
+-- one of these terms has this label
+pub record HasLabel (js : List Join) (l : ℕ) (us : List TermId) : Type 0 where
+  pub place : ℕ
+  pub term : TermId
+  pub there : slice_get us place ≡ Some term
+  pub is : label_of js term ≡ l
+
 -- ---- causes
 
 -- two terms of one head whose arguments have equal labels
@@ -133,9 +140,12 @@ pub record AreTerms (nodes : List (Option Node)) (added : List TermId) : Type 0 
 abbrev pub now_at : Graph → Level
 now_at g = record { added = length g.added; joins = length g.joins; rows = length g.rows }
 
+abbrev pub nowhere : Level
+nowhere = record { added = 0; joins = 0; rows = 0 }
+
 -- how far it was when it had so many facts
 abbrev pub level_at : Graph → ℕ → Level
-level_at g n = slice_index_or g.levels n (now_at g)
+level_at g n = slice_index_or g.levels n nowhere
 
 abbrev pub joins_at : Graph → ℕ → List Join
 joins_at g n = take (level_at g n).joins g.joins
@@ -156,14 +166,22 @@ abbrev pub weight_of : List (Option Node) → List TermId → ℕ
 weight_of nodes [] = 0
 weight_of nodes (t ∷ ts) = weight (slice_get nodes t.0) + weight_of nodes ts
 
-pub record Rises (g : Graph) (m n : ℕ) : Type 0 where
-  pub added : (level_at g m).added ≤ (level_at g n).added
-  pub joins : (level_at g m).joins ≤ (level_at g n).joins
-  pub rows : (level_at g m).rows ≤ (level_at g n).rows
-  pub cells : cells_of (rows_at g m) + weight_of g.nodes (terms_at g n) ≤ cells_of (rows_at g n) + weight_of g.nodes (terms_at g m)
+-- from one level to another one, the graph grew; and each further term has brought its signature
+pub record Rises (nodes : List (Option Node)) (m n : Level) (rows more : List Signature) (terms further : List TermId) : Type 0 where
+  pub added : m.added ≤ n.added
+  pub joins : m.joins ≤ n.joins
+  pub rows : m.rows ≤ n.rows
+  pub cells : cells_of rows + weight_of nodes further ≤ cells_of more + weight_of nodes terms
 
-pub record IsGraph (g : Graph) : Type 0 where
+-- the graph with so many of its terms entered
+pub record IsUpTo (g : Graph) (count : ℕ) : Type 0 where
   pub terms : AreTerms g.nodes g.added
   pub many : length g.levels ≡ length g.told
-  pub level : (n : ℕ) → n ≤ length g.told → IsLevel g.nodes g.added (level_at g n).added g.told n (joins_at g n) (rows_at g n) [] []
-  pub rises : (m n : ℕ) → m ≤ n → n ≤ length g.told → Rises g m n
+  pub few : count ≤ length g.added
+  pub past : (n : ℕ) → n < length g.told → IsLevel g.nodes g.added (level_at g n).added g.told n (joins_at g n) (rows_at g n) [] []
+  pub now : IsLevel g.nodes g.added count g.told (length g.told) g.joins g.rows [] []
+  pub rises : (m n : ℕ) → m ≤ n → n < length g.told → Rises g.nodes (level_at g m) (level_at g n) (rows_at g m) (rows_at g n) (terms_at g m) (terms_at g n)
+  pub up : (m : ℕ) → m < length g.told → Rises g.nodes (level_at g m) (record { added = count; joins = length g.joins; rows = length g.rows }) (rows_at g m) g.rows (terms_at g m) (take count g.added)
+
+abbrev pub IsGraph : Graph → Type 0
+IsGraph g = IsUpTo g (length g.added)

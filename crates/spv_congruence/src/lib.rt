@@ -1,7 +1,11 @@
 //! The congruence graph: terms in classes, which equalities join, and what is told can be taken back.
 #![tactic(auto)]
 
+mod entering;
 mod facts;
+mod joining;
+mod kept;
+mod telling;
 
-pub use facts::Link;
+pub use facts::{Fact, Link};
 pub use spv_classes::Cause;

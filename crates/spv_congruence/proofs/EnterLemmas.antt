@@ -19,6 +19,7 @@ use Rattle.spv_signatures.proofs.RowLemmas.{held_push}
 use Rattle.spv_congruence.specs.declared.facts.Fact.{Fact}
 use Rattle.spv_congruence.specs.declared.facts.Equal.{Equal}
 use Rattle.spv_congruence.specs.Graph.{label_of, labels, HasNode, IsEarly, IsCause, AreCongruent, IsRow, IsLink, IsDue, IsEntered, IsLevel, Due, Waits}
+use Rattle.spv_congruence.specs.Keep.{signed, first_for}
 use Rattle.spv_congruence.proofs.Dues.{due_more, due_last, due_label, waits_pop}
 use Rattle.spv_congruence.proofs.Keeping.{Keeps, row_kept, link_kept, due_kept}
 
@@ -35,9 +36,6 @@ same_numbers (x ∷ xs) (y ∷ ys) h =
 numbers_same : (xs : List ℕ) → pointwise nat_eq xs xs ≡ true
 numbers_same [] = refl
 numbers_same (x ∷ xs) = ap (λ b. b && pointwise nat_eq xs xs) (nat_same x) ∙ numbers_same xs
-
-abbrev pub signed : Head → List ℕ → TermId → Signature
-signed h ls t = record { head = h; labels = ls; term = t }
 
 for_itself : (h : Head) (ls : List ℕ) (t : TermId) → is_for h ls (signed h ls t) ≡ true
 for_itself h ls t = ap (λ b. b && pointwise nat_eq ls ls) (head_eq-refl h) ∙ numbers_same ls
@@ -110,11 +108,6 @@ labels_again limit js are (u ∷ us) = two (label_of_label limit js are u.0) (la
   where
     two : {a b : ℕ} {xs ys : List ℕ} → a ≡ b → xs ≡ ys → a ∷ xs ≡ b ∷ ys
     two {a} {b} {xs} {ys} e f = ap (λ z. z ∷ xs) e ∙ ap (λ zs. b ∷ zs) f
-
--- the first term of a signature: the one that is held, else the term itself
-abbrev pub first_for : Option TermId → TermId → TermId
-first_for None t = t
-first_for (Some q) t = q
 
 module _ (nodes : List (Option Node)) (added : List TermId) (count : ℕ) (told : List Fact) (n limit : ℕ) (js : List Join) (are : AreJoins limit js) (rs : List Signature) (es : List Equal) (rest : List TermId) (t : TermId) (m : Node) (q : TermId)
     (h : IsLevel nodes added count told n js rs es (rest ++ t ∷ [])) (early : IsEarly added count t) (is : HasNode nodes t m) (q_is : q ≡ first_for (held rs m.head (labels js m)) t) where

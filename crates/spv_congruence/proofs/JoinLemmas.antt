@@ -12,8 +12,8 @@ use Rattle.spv_classes.proofs.Labels.{label_was_lower, label_stays, same_stays}
 use Rattle.spv_signatures.specs.Signatures.{Signature, held}
 use Rattle.spv_congruence.specs.declared.facts.Fact.{Fact}
 use Rattle.spv_congruence.specs.declared.facts.Equal.{Equal}
-use Rattle.spv_congruence.specs.Graph.{id, label_of, labels, HasNode, IsEarly, IsFact, AreCongruent, IsCause, IsRow, IsLink, IsDue, IsEntered, IsLevel, Due, Waits}
-use Rattle.spv_congruence.proofs.Dues.{due_joined, due_same, row_joined, args_joined, HasLabel, has_or_stays, IsUpper, label_cases}
+use Rattle.spv_congruence.specs.Graph.{id, label_of, labels, HasNode, IsEarly, IsFact, AreCongruent, IsCause, IsRow, IsLink, IsDue, IsEntered, IsLevel, Due, Waits, HasLabel}
+use Rattle.spv_congruence.proofs.Dues.{due_joined, due_same, row_joined, args_joined, has_or_stays, IsUpper, label_cases}
 
 module _ (nodes : List (Option Node)) (added : List TermId) (count : ℕ) (told : List Fact) (n : ℕ) where
   -- the label of a term is that of a term

@@ -1,0 +1,110 @@
+-- What is kept for a graph, and how it changes.
+use Rattle.std.specs.Prelude.{◌≡◌, ℕ, suc, ◌+◌, ◌<◌, ◌≤◌, List, [], ◌∷◌, ◌++◌, map, take, length, slice_get, slice_index_or, Option, Some, None, if◌then◌else◌, ◌⊎◌}
+use Rattle.spv_logic.specs.declared.conditions.TermId.{TermId}
+use Rattle.spv_logic.specs.declared.operators.Head.{Head}
+use Rattle.spv_term.specs.declared.nodes.Node.{Node}
+use Rattle.spv_term.specs.Arena.{AllBelow}
+use Rattle.spv_classes.specs.declared.joins.Cause.TheVariants.{Told}
+use Rattle.spv_classes.specs.declared.joins.Join.{Join}
+use Rattle.spv_classes.specs.Classes.{Classes}
+use Rattle.spv_signatures.specs.Signatures.{Signature, Table, held}
+use Rattle.spv_congruence.specs.declared.facts.Fact.{Fact}
+use Rattle.spv_congruence.specs.declared.facts.Level.{Level}
+use Rattle.spv_congruence.specs.declared.facts.Equal.{Equal}
+use Rattle.spv_congruence.specs.Graph.{Graph, now_at, level_at, joins_at, rows_at, HasNode, IsEarly, label_of, labels, HasLabel, Waits, AreTerms, IsLevel}
+
+-- all that is kept: the graph, the terms that use each term, and for how long lists of arguments there is memory
+pub record Kept : Type 0 where
+  pub nodes : List (Option Node)
+  pub added : List TermId
+  pub told : List Fact
+  pub levels : List Level
+  pub classes : Classes
+  pub table : Table
+  pub uses : List (List TermId)
+  pub room : ℕ
+
+abbrev pub graph : Kept → Graph
+graph k = record { nodes = k.nodes; added = k.added; told = k.told; levels = k.levels; joins = k.classes.joins; rows = k.table.rows }
+
+abbrev pub IsNode : List (Option Node) → TermId → Type 0
+IsNode nodes t = (n : Node) × HasNode nodes t n
+
+abbrev pub uses_at : List (List TermId) → ℕ → List TermId
+uses_at uses x = slice_index_or uses x []
+
+-- the lists go with the terms
+pub record Fits (k : Kept) : Type 0 where
+  pub count : (t : TermId) (n : Node) → HasNode k.nodes t n → t.0 < k.classes.count
+  pub args : (t : TermId) (n : Node) → HasNode k.nodes t n → AllBelow k.classes.count n.args
+  pub room : (t : TermId) (n : Node) → HasNode k.nodes t n → length n.args ≤ k.room
+  pub uses : (t : TermId) (n : Node) → HasNode k.nodes t n → (i : ℕ) (u : TermId) → slice_get n.args i ≡ Some u → Waits (uses_at k.uses u.0) t
+  pub terms : AreTerms k.nodes k.added
+
+-- ---- entering a term
+
+abbrev pub signed : Head → List ℕ → TermId → Signature
+signed h ls t = record { head = h; labels = ls; term = t }
+
+-- the one that is held, else the term itself
+abbrev pub first_for : Option TermId → TermId → TermId
+first_for None t = t
+first_for (Some q) t = q
+
+pub record Enters (old new : Kept) (t q : TermId) : Type 0 where
+  pub node : Node
+  pub is : HasNode old.nodes t node
+  pub first : q ≡ first_for (held old.table.rows node.head (labels old.classes.joins node)) t
+  pub rows : new.table.rows ≡ old.table.rows ++ signed node.head (labels old.classes.joins node) q ∷ []
+
+-- a graph with another table, which has as much room
+pub record OtherTable (old new : Kept) : Type 0 where
+  pub is : new ≡ record old { table = new.table; room = new.room }
+  pub table : old.table.room ≤ new.table.room
+  pub room : old.room ≤ new.room
+
+-- a graph that goes on from another one by joins and signatures alone
+pub record GoesOn (old new : Kept) : Type 0 where
+  pub is : new ≡ record old { table = new.table; classes = new.classes; room = new.room }
+  pub count : new.classes.count ≡ old.classes.count
+  pub joins : List Join
+  pub joins_are : new.classes.joins ≡ old.classes.joins ++ joins
+  pub rows : List Signature
+  pub rows_are : new.table.rows ≡ old.table.rows ++ rows
+  pub table : old.table.room ≤ new.table.room
+  pub room : old.room ≤ new.room
+
+-- the graph as it is now, with so many terms entered, and what is still to be joined and entered
+abbrev pub IsNow : Kept → ℕ → List Equal → List TermId → Type 0
+IsNow k count es ws = IsLevel k.nodes k.added count k.told (length k.told) k.classes.joins k.table.rows es ws
+
+-- each term with an argument of this label is among these
+abbrev pub HasUsers : Kept → ℕ → List TermId → Type 0
+HasUsers k l ws = (t : TermId) (n : Node) → HasNode k.nodes t n → HasLabel k.classes.joins l n.args → Waits ws t
+
+-- the graph with one more join
+abbrev pub with_join : Kept → Join → Kept
+with_join k j = record k { classes = record k.classes { joins = k.classes.joins ++ j ∷ [] } }
+
+-- the graph with one more fact, which is not joined yet
+abbrev pub with_fact : Kept → Fact → Kept
+with_fact k x = record k { told = k.told ++ x ∷ []; levels = k.levels ++ now_at (graph k) ∷ [] }
+
+-- the equality that a fact tells, which has this place
+abbrev pub equal_of : Fact → ℕ → List Equal
+equal_of x place = if x.equal then record { left = x.left; right = x.right; cause = Told place } ∷ [] else []
+
+-- the graph as it was before a fact, but for the terms that were added since
+pub record IsRewound (old : Kept) (n : ℕ) (new : Kept) : Type 0 where
+  pub is : new ≡ record old { told = take n old.told; levels = take n old.levels; classes = record old.classes { joins = joins_at (graph old) n }; table = new.table }
+  pub rows : new.table.rows ≡ rows_at (graph old) n
+  pub table : old.table.room ≤ new.table.room
+
+-- one more fact is told
+pub record Tells (old new : Kept) (x : Fact) : Type 0 where
+  pub goes : GoesOn (with_fact old x) new
+  pub now : IsNow new (length new.added) [] []
+
+-- nothing was done, or something after a fact was written
+abbrev pub IsStopped : Kept → Kept → Fact → Type 0
+IsStopped old new x = (new ≡ old) ⊎ GoesOn (with_fact old x) new
