@@ -4,3 +4,5 @@ pub mod Keeping
 pub mod EnterLemmas
 pub mod JoinLemmas
 pub mod Goings
+pub mod FactLemmas
+pub mod Levels

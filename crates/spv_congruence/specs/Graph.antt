@@ -167,11 +167,11 @@ weight_of nodes [] = 0
 weight_of nodes (t ∷ ts) = weight (slice_get nodes t.0) + weight_of nodes ts
 
 -- from one level to another one, the graph grew; and each further term has brought its signature
-pub record Rises (nodes : List (Option Node)) (m n : Level) (rows more : List Signature) (terms further : List TermId) : Type 0 where
+pub record Rises (nodes : List (Option Node)) (m n : Level) (first more : List Signature) (terms further : List TermId) : Type 0 where
   pub added : m.added ≤ n.added
   pub joins : m.joins ≤ n.joins
   pub rows : m.rows ≤ n.rows
-  pub cells : cells_of rows + weight_of nodes further ≤ cells_of more + weight_of nodes terms
+  pub cells : cells_of first + weight_of nodes further ≤ cells_of more + weight_of nodes terms
 
 -- the graph with so many of its terms entered
 pub record IsUpTo (g : Graph) (count : ℕ) : Type 0 where
