@@ -11,7 +11,7 @@ use Rattle.spv_congruence.specs.declared.facts.Level.{Level}
 use Rattle.spv_congruence.specs.Graph.{Graph, HasNode, IsEarly, AreTerms, IsLevel, Rises, IsUpTo, IsGraph, now_at, nowhere, level_at, joins_at, rows_at, terms_at, weight, weight_of}
 use Rattle.spv_congruence.proofs.Keeping.{Keeps, Same, level_same}
 
-cells_append : (rs more : List Signature) → cells_of (rs ++ more) ≡ cells_of rs + cells_of more
+pub cells_append : (rs more : List Signature) → cells_of (rs ++ more) ≡ cells_of rs + cells_of more
 cells_append [] more = omega arith
 cells_append (r ∷ rs) more = let h = cells_append rs more in omega (arith, h)
 

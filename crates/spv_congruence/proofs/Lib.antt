@@ -6,3 +6,6 @@ pub mod JoinLemmas
 pub mod Goings
 pub mod FactLemmas
 pub mod Levels
+pub mod Tells
+pub mod NextTerm
+pub mod Nexts

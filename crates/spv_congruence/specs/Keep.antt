@@ -7,11 +7,11 @@ use Rattle.spv_term.specs.Arena.{AllBelow}
 use Rattle.spv_classes.specs.declared.joins.Cause.TheVariants.{Told}
 use Rattle.spv_classes.specs.declared.joins.Join.{Join}
 use Rattle.spv_classes.specs.Classes.{Classes}
-use Rattle.spv_signatures.specs.Signatures.{Signature, Table, held}
+use Rattle.spv_signatures.specs.Signatures.{Signature, Table, held, cells_of}
 use Rattle.spv_congruence.specs.declared.facts.Fact.{Fact}
 use Rattle.spv_congruence.specs.declared.facts.Level.{Level}
 use Rattle.spv_congruence.specs.declared.facts.Equal.{Equal}
-use Rattle.spv_congruence.specs.Graph.{Graph, now_at, level_at, joins_at, rows_at, HasNode, IsEarly, label_of, labels, HasLabel, Waits, AreTerms, IsLevel}
+use Rattle.spv_congruence.specs.Graph.{Graph, IsUpTo, IsGraph, now_at, level_at, joins_at, rows_at, HasNode, IsEarly, label_of, labels, HasLabel, Waits, AreTerms, IsLevel}
 
 -- all that is kept: the graph, the terms that use each term, and for how long lists of arguments there is memory
 pub record Kept : Type 0 where
@@ -108,3 +108,25 @@ pub record Tells (old new : Kept) (x : Fact) : Type 0 where
 -- nothing was done, or something after a fact was written
 abbrev pub IsStopped : Kept → Kept → Fact → Type 0
 IsStopped old new x = (new ≡ old) ⊎ GoesOn (with_fact old x) new
+
+-- the next term of the list is entered
+pub record EntersNext (old new : Kept) (place : ℕ) : Type 0 where
+  pub goes : GoesOn old new
+  pub upto : IsUpTo (graph new) (suc place)
+  pub labels_stay : (u : TermId) → IsEarly old.added place u → label_of new.classes.joins u ≡ label_of old.classes.joins u
+  pub cells : (t : TermId) (n : Node) → slice_get old.added place ≡ Some t → HasNode old.nodes t n → cells_of new.table.rows ≡ cells_of old.table.rows + suc (length n.args)
+
+-- the terms of the list from a place on are entered
+pub record EntersRest (old new : Kept) (from : ℕ) : Type 0 where
+  pub goes : GoesOn old new
+  pub graph_is : IsGraph (graph new)
+  pub labels_stay : (u : TermId) → IsEarly old.added from u → label_of new.classes.joins u ≡ label_of old.classes.joins u
+
+-- what was told is taken back but for so many facts; the labels are those of then
+pub record Undoes (old : Kept) (n : ℕ) (new : Kept) : Type 0 where
+  pub nodes : new.nodes ≡ old.nodes
+  pub added : new.added ≡ old.added
+  pub told : new.told ≡ take n old.told
+  pub graph_is : IsGraph (graph new)
+  pub labels_are : (u : TermId) → IsEarly old.added (level_at (graph old) n).added u → label_of new.classes.joins u ≡ label_of (joins_at (graph old) n) u
+  pub past : (m : ℕ) → m < n → (level_at (graph new) m ≡ level_at (graph old) m) × (joins_at (graph new) m ≡ joins_at (graph old) m)

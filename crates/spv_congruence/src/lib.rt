@@ -2,6 +2,7 @@
 #![tactic(auto)]
 
 mod entering;
+mod entries;
 mod facts;
 mod joining;
 mod kept;

@@ -95,6 +95,16 @@ impl Signatures {
         Ok(())
     }
 
+    /// Makes memory for one more signature with so many labels.
+    pub fn make_room(&mut self, labels: usize) -> Result<(), AllocError>
+        ensures rows { self.new.rows ≡ self.old.rows }
+        ensures room { self.old.room ≤ self.new.room }
+        ensures ok { OnOk result (spec.cells_of self.new.rows + suc labels ≤ self.new.room) }
+    {
+        let wanted = self.wanted(labels)?;
+        self.reserve(wanted)
+    }
+
     // Puts a row behind the others, for which there is memory.
     fn put(&mut self, head: Head, labels: &[usize], term: TermId)
         requires { spec.cells_of self.old.rows + suc (length labels.now) ≤ self.old.room }

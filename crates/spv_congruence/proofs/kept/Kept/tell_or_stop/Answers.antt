@@ -1,4 +1,5 @@
+use Rattle.spv_congruence.proofs.Tells.{settle_level}
 use Rattle.spv_congruence.proofs.kept.Kept.tell_or_stop.Goals as goal
 
 pub settle-requires-clause-level : goal.settle-requires-clause-level
-settle-requires-clause-level c = ?
+settle-requires-clause-level c = settle_level c.args.self.now c.write.new.self c.args.fact _ c.in_ok-write.ensures.ok c.requires.equals c.requires.fits c.requires.graph c.requires.left c.requires.right
