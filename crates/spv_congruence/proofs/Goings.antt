@@ -80,10 +80,10 @@ module _ (a b : Kept) (t q : TermId) (o : OtherTable a b) (e : Enters a b t q) (
 
 -- ---- terms that use a class
 
-waits_left : (ws more : List TermId) (t : TermId) → Waits ws t → Waits (ws ++ more) t
+pub waits_left : (ws more : List TermId) (t : TermId) → Waits ws t → Waits (ws ++ more) t
 waits_left ws more t w = (w.0, get_left ws more w.0 (get_within ws w.0 t w.1) ∙ w.1)
 
-waits_right : (ws more : List TermId) (t : TermId) → Waits more t → Waits (ws ++ more) t
+pub waits_right : (ws more : List TermId) (t : TermId) → Waits more t → Waits (ws ++ more) t
 waits_right [] more t w = w
 waits_right (v ∷ ws) more t w = let r = waits_right ws more t w in (suc r.0, r.1)
 

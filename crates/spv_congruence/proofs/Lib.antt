@@ -9,3 +9,4 @@ pub mod Levels
 pub mod Tells
 pub mod NextTerm
 pub mod Nexts
+pub mod AddLemmas

@@ -1,5 +1,5 @@
 -- What is kept for a graph, and how it changes.
-use Rattle.std.specs.Prelude.{◌≡◌, ℕ, suc, ◌+◌, ◌<◌, ◌≤◌, List, [], ◌∷◌, ◌++◌, map, take, length, slice_get, slice_index_or, Option, Some, None, if◌then◌else◌, ◌⊎◌}
+use Rattle.std.specs.Prelude.{◌≡◌, ◌≢◌, ℕ, suc, ◌+◌, ◌<◌, ◌≤◌, List, [], ◌∷◌, ◌++◌, map, take, length, slice_get, slice_index_or, Option, Some, None, if◌then◌else◌, ◌⊎◌}
 use Rattle.spv_logic.specs.declared.conditions.TermId.{TermId}
 use Rattle.spv_logic.specs.declared.operators.Head.{Head}
 use Rattle.spv_term.specs.declared.nodes.Node.{Node}
@@ -130,3 +130,22 @@ pub record Undoes (old : Kept) (n : ℕ) (new : Kept) : Type 0 where
   pub graph_is : IsGraph (graph new)
   pub labels_are : (u : TermId) → IsEarly old.added (level_at (graph old) n).added u → label_of new.classes.joins u ≡ label_of (joins_at (graph old) n) u
   pub past : (m : ℕ) → m < n → (level_at (graph new) m ≡ level_at (graph old) m) × (joins_at (graph new) m ≡ joins_at (graph old) m)
+
+-- a node is put at a place
+pub record HasPut (old : List (Option Node)) (x : ℕ) (n : Node) (new : List (Option Node)) : Type 0 where
+  pub there : slice_get new x ≡ Some (Some n)
+  pub kept : (t : TermId) (m : Node) → t.0 ≢ x → HasNode old t m → HasNode new t m
+  pub back : (t : TermId) (m : Node) → t.0 ≢ x → HasNode new t m → HasNode old t m
+
+-- what uses a term still does
+abbrev pub KeepsUses : List (List TermId) → List (List TermId) → Type 0
+KeepsUses old new = (x : ℕ) (t : TermId) → Waits (uses_at old x) t → Waits (uses_at new x) t
+
+-- there is memory for one more term, over arguments of which there are so many
+pub record MakesRoom (old new : Kept) : Type 0 where
+  pub is : new ≡ record old { classes = record old.classes { count = new.classes.count }; table = new.table; uses = new.uses; room = new.room }
+  pub count : old.classes.count ≤ new.classes.count
+  pub rows : new.table.rows ≡ old.table.rows
+  pub table : old.table.room ≤ new.table.room
+  pub uses : KeepsUses old.uses new.uses
+  pub room : old.room ≤ new.room

@@ -1,8 +1,9 @@
 // What is kept for a graph.
 
-ghost use Rattle.std.specs.Prelude.{◌≡◌, ◌<◌, false, IsTrue, length};
+ghost use Rattle.std.specs.Prelude.{◌≡◌, ◌<◌, ◌≤◌, false, IsTrue, length};
 ghost use Rattle.spv_term.specs.declared.nodes.Node.{Node};
 ghost use Rattle.spv_classes.specs.Classes.{AreJoins};
+ghost use Rattle.spv_signatures.specs.Signatures.{cells_of};
 ghost use Rattle.spv_congruence.specs.Graph.{HasNode, label_of};
 ghost use Rattle.spv_congruence.specs.Keep.{IsNode};
 
@@ -82,5 +83,12 @@ impl Kept {
         ensures { AreJoins self.now.classes.count self.now.classes.joins }
     {
         self.classes.law_joins();
+    }
+
+    // There is memory for the signatures that there are.
+    pub(crate) fn law_room(&self)
+        ensures { cells_of self.now.table.rows ≤ self.now.table.room }
+    {
+        self.table.law_room();
     }
 }

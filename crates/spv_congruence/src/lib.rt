@@ -1,6 +1,7 @@
 //! The congruence graph: terms in classes, which equalities join, and what is told can be taken back.
 #![tactic(auto)]
 
+mod adding;
 mod entering;
 mod entries;
 mod facts;

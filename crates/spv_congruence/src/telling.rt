@@ -146,6 +146,7 @@ impl Kept {
         if count >= self.count() {
             return;
         }
+        self.law_room();
         let from = self.rewound(count);
         self.enter_rest(from);
     }
