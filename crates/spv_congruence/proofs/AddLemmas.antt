@@ -36,7 +36,7 @@ pub record SameNodes (old new : List (Option Node)) : Type 0 where
 pub same_nodes : (nodes : List (Option Node)) → SameNodes nodes nodes
 same_nodes nodes = record { kept = λ t m is. is; back = λ t m is. is }
 
-of_last : {X : Type 0} (xs : List X) (y z : X) (i : ℕ) → slice_get (xs ++ y ∷ []) i ≡ Some z → (slice_get xs i ≡ Some z) ⊎ ((i ≡ length xs) × (y ≡ z))
+pub of_last : {X : Type 0} (xs : List X) (y z : X) (i : ℕ) → slice_get (xs ++ y ∷ []) i ≡ Some z → (slice_get xs i ≡ Some z) ⊎ ((i ≡ length xs) × (y ≡ z))
 of_last [] y z zero e = inr (refl, one _ _ e)
   where
     one : {X : Type 0} (a b : X) → Some a ≡ Some b → a ≡ b

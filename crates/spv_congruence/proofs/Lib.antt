@@ -10,3 +10,4 @@ pub mod Tells
 pub mod NextTerm
 pub mod Nexts
 pub mod AddLemmas
+pub mod PutLemmas

@@ -149,3 +149,30 @@ pub record MakesRoom (old new : Kept) : Type 0 where
   pub table : old.table.room ≤ new.table.room
   pub uses : KeepsUses old.uses new.uses
   pub room : old.room ≤ new.room
+
+-- a term and its node are put behind the others, and the term is not entered yet
+pub record Puts (old : Kept) (t : TermId) (n : Node) (new : Kept) : Type 0 where
+  pub is : new ≡ record old { nodes = new.nodes; added = old.added ++ t ∷ [] }
+  pub node : HasPut old.nodes t.0 n new.nodes
+
+-- one more term is added
+pub record Adds (old new : Graph) (t : TermId) (n : Node) : Type 0 where
+  pub added : new.added ≡ old.added ++ t ∷ []
+  pub node : HasPut old.nodes t.0 n new.nodes
+  pub told : new.told ≡ old.told
+  pub levels : new.levels ≡ old.levels
+  pub labels_stay : (u : TermId) → IsEarly old.added (length old.added) u → label_of new.joins u ≡ label_of old.joins u
+  pub past : (m : ℕ) → m < length old.told → joins_at new m ≡ joins_at old m
+
+-- all room is there for a term over arguments
+pub record IsPrepared (k : Kept) (t : TermId) (args : List TermId) : Type 0 where
+  pub count : t.0 < k.classes.count
+  pub room : length args ≤ k.room
+  pub cells : cells_of k.table.rows + suc (length args) ≤ k.table.room
+  pub uses : (i : ℕ) (u : TermId) → slice_get args i ≡ Some u → Waits (uses_at k.uses u.0) t
+
+abbrev pub IsMissing : List (Option Node) → TermId → Type 0
+IsMissing nodes t = (n : Node) → HasNode nodes t n → ⊥
+
+abbrev pub AreNodes : List (Option Node) → List TermId → Type 0
+AreNodes nodes args = (i : ℕ) (u : TermId) → slice_get args i ≡ Some u → IsNode nodes u

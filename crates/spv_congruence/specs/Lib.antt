@@ -1,3 +1,4 @@
 pub mod Graph
 pub mod Told
 pub mod Keep
+pub mod Walk

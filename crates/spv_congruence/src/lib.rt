@@ -8,6 +8,7 @@ mod facts;
 mod joining;
 mod kept;
 mod telling;
+mod walking;
 
 pub use facts::{Fact, Link};
 pub use spv_classes::Cause;
