@@ -41,6 +41,7 @@ goes_fits a b g fits = subst Fits (sym g.is) (record {
   room = λ t n is. (let h = fits.room t n is in let e = g.room in omega (arith, h, e));
   uses = fits.uses;
   terms = fits.terms;
+  facts = fits.facts;
   })
 
 pub classes_of : (a b : Kept) → OtherTable a b → b.classes ≡ a.classes
@@ -194,7 +195,7 @@ module _ (k : Kept) (fits : Fits k) (are : AreJoins k.classes.count k.classes.jo
       k.classes.count is_join h due ws users
 
   pub fits_joined : Fits (with_join k j)
-  fits_joined = record { count = fits.count; args = fits.args; room = fits.room; uses = fits.uses; terms = fits.terms }
+  fits_joined = record { count = fits.count; args = fits.args; room = fits.room; uses = fits.uses; terms = fits.terms; facts = fits.facts }
 
   pub goes_joined : GoesOn k (with_join k j)
   goes_joined = record { is = refl; count = refl; joins = j ∷ []; joins_are = refl; rows = []; rows_are = sym (append-nil k.table.rows); table = omega arith; room = omega arith }

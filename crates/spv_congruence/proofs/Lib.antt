@@ -11,3 +11,4 @@ pub mod NextTerm
 pub mod Nexts
 pub mod AddLemmas
 pub mod PutLemmas
+pub mod Paths

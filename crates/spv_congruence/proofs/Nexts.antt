@@ -103,7 +103,7 @@ module _ (a b : Kept) (place : ℕ) (t q : TermId) (o : OtherTable a b) (e : Ent
     pub next_fits : Fits c
     next_fits =
         let f = goes_fits a b (goes_table a b _ o e.rows) fits in
-        subst Fits (sym c_is) (record { count = f.count; args = f.args; room = f.room; uses = f.uses; terms = f.terms })
+        subst Fits (sym c_is) (record { count = f.count; args = f.args; room = f.room; uses = f.uses; terms = f.terms; facts = f.facts })
 
     goes_c : GoesOn b (with_join b j)
     goes_c = record { is = refl; count = refl; joins = j ∷ []; joins_are = refl; rows = []; rows_are = sym (append-nil b.table.rows); table = omega arith; room = omega arith }

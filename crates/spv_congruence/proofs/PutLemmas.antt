@@ -52,6 +52,7 @@ room_fits a b m fits = subst Fits (sym m.is) (record {
   room = λ t n is. (let h = fits.room t n is in let c = m.room in omega (arith, h, c));
   uses = λ t n is i u at. m.uses u.0 t (fits.uses t n is i u at);
   terms = fits.terms;
+  facts = fits.facts;
   })
 
 pub room_graph : (a b : Kept) → MakesRoom a b → graph b ≡ graph a
@@ -185,8 +186,12 @@ module _ (a b : Kept) (t : TermId) (n : Node) (p : Puts a t n b) (is : IsGraph (
       room = λ u m h. room u m h (same_or_apart u.0 t.0);
       uses = λ u m h. uses u m h (same_or_apart u.0 t.0);
       terms = put_terms a.nodes b.nodes a.added t n p.node is.terms missing args;
+      facts = λ i x at. let h = fits.facts i x at in ((h.0.0, kept x.left h.0.0 h.0.1), (h.1.0, kept x.right h.1.0 h.1.1));
       })
       where
+        kept : (u : TermId) (m : Node) → HasNode a.nodes u m → HasNode b.nodes u m
+        kept u m h = p.node.kept u m (λ e. missing m (subst (λ x. HasNode a.nodes x m) (id_from u t e) h)) h
+
         is_new : (u : TermId) (m : Node) → HasNode b.nodes u m → u.0 ≡ t.0 → n ≡ m
         is_new u m h e = one_node m (subst (λ x. HasNode b.nodes x m) (id_from u t e) h)
 

@@ -1,11 +1,11 @@
 -- What telling keeps.
-use Rattle.std.proofs.Common.{◌≡◌, ℕ, suc, ◌+◌, ◌<◌, ◌≤◌, List, [], ◌∷◌, ◌++◌, take, drop, length, get_or, slice_get, Option, Some, refl, sym, ap, ◌∙◌, subst, inl, inr, ◌⊎◌, arith}
+use Rattle.std.proofs.Common.{◌≡◌, ℕ, zero, suc, ◌+◌, ◌<◌, ◌≤◌, List, [], ◌∷◌, ◌++◌, take, drop, length, get_or, slice_get, Option, Some, refl, sym, ap, ◌∙◌, subst, inl, inr, ◌⊎◌, arith}
 use Rattle.std.proofs.lemmas.List.{length_push, length-take-le, take-append-drop, take-take, get_or-take, take_all, take-append-le, get_or_push}
 use Rattle.spv_logic.specs.declared.conditions.TermId.{TermId}
 use Rattle.spv_term.specs.declared.nodes.Node.{Node}
 use Rattle.spv_classes.specs.declared.joins.Join.{Join}
 use Rattle.spv_classes.specs.Classes.{Classes}
-use Rattle.spv_classes.proofs.Lists.{take_whole}
+use Rattle.spv_classes.proofs.Lists.{take_whole, of_push}
 use Rattle.spv_signatures.specs.Signatures.{Signature, Table, cells_of}
 use Rattle.spv_congruence.specs.declared.facts.Fact.{Fact}
 use Rattle.spv_congruence.specs.declared.facts.Level.{Level}
@@ -17,8 +17,9 @@ use Rattle.spv_congruence.proofs.Goings.{goes_fits}
 use Rattle.spv_congruence.proofs.Levels.{graph_told, told_more, graph_back, back_to}
 use Rattle.spv_congruence.proofs.NextTerm.{weight_append}
 
-pub fits_fact : (k : Kept) (x : Fact) → Fits k → Fits (with_fact k x)
-fits_fact k x fits = record { count = fits.count; args = fits.args; room = fits.room; uses = fits.uses; terms = fits.terms }
+pub fits_fact : (k : Kept) (x : Fact) → IsNode k.nodes x.left → IsNode k.nodes x.right → Fits k → Fits (with_fact k x)
+fits_fact k x left right fits = record { count = fits.count; args = fits.args; room = fits.room; uses = fits.uses; terms = fits.terms;
+  facts = of_push (λ i y. IsNode k.nodes y.left × IsNode k.nodes y.right) k.told x fits.facts (left, right) }
 
 pub settle_level : (k k' : Kept) (x : Fact) (es : List Equal) → k' ≡ with_fact k x → es ≡ equal_of x (length k.told) → Fits k → IsGraph (graph k) → IsNode k.nodes x.left → IsNode k.nodes x.right → IsNow k' (length k'.added) es []
 settle_level k k' x es e f fits is l r =
@@ -48,11 +49,18 @@ same_graph : (nodes : List (Option Node)) (added : List TermId) (told told' : Li
     → told ≡ told' → levels ≡ levels' → joins ≡ joins' → rows ≡ rows' → the_graph nodes added told levels joins rows ≡ the_graph nodes added told' levels' joins' rows'
 same_graph nodes added told told' levels levels' joins joins' rows rows' a b c d = cc
 
+pub taken : (told : List Fact) (n i : ℕ) (x : Fact) → slice_get (take n told) i ≡ Some x → slice_get told i ≡ Some x
+taken [] zero i x at = absurd (cc)
+taken [] (suc n) i x at = absurd (cc)
+taken (y ∷ told) zero i x at = absurd (cc)
+taken (y ∷ told) (suc n) zero x at = at
+taken (y ∷ told) (suc n) (suc i) x at = taken told n i x at
+
 pub record IsBack (k new : Kept) : Type 0 where
   pub same : graph new ≡ graph k
   pub fits : Fits new
 
-module _ (k mid new : Kept) (x : Fact) (is : IsGraph (graph k)) (fits : Fits k) (less : length mid.told ≤ length k.told → new ≡ mid) (more : length k.told < length mid.told → IsRewound mid (length k.told) new) where
+module _ (k mid new : Kept) (x : Fact) (left : IsNode k.nodes x.left) (right : IsNode k.nodes x.right) (is : IsGraph (graph k)) (fits : Fits k) (less : length mid.told ≤ length k.told → new ≡ mid) (more : length k.told < length mid.told → IsRewound mid (length k.told) new) where
   by_rest : GoesOn (with_fact k x) mid → IsBack k new
   by_rest g =
       let told_is : mid.told ≡ k.told ++ x ∷ [] = ap (λ (i : Kept). i.told) g.is in
@@ -79,8 +87,8 @@ module _ (k mid new : Kept) (x : Fact) (is : IsGraph (graph k)) (fits : Fits k) 
 
       fits_at : (g : GoesOn (with_fact k x) mid) (r : IsRewound mid (length k.told) new) → Fits (record mid { told = take (length k.told) mid.told; levels = take (length k.told) mid.levels; classes = record mid.classes { joins = joins_at (graph mid) (length k.told) }; table = new.table })
       fits_at g r =
-          let f = goes_fits (with_fact k x) mid g (fits_fact k x fits) in
-          record { count = f.count; args = f.args; room = f.room; uses = f.uses; terms = f.terms }
+          let f = goes_fits (with_fact k x) mid g (fits_fact k x left right fits) in
+          record { count = f.count; args = f.args; room = f.room; uses = f.uses; terms = f.terms; facts = λ i y at. f.facts i y (taken mid.told (length k.told) i y at) }
 
   pub stopped_back : IsStopped k mid x → IsBack k new
   stopped_back (inl e) =
@@ -92,7 +100,7 @@ module _ (k mid new : Kept) (x : Fact) (is : IsGraph (graph k)) (fits : Fits k) 
 
 module _ (k mid : Kept) (n : ℕ) (r : IsRewound k n mid) (fits : Fits k) (is : IsGraph (graph k)) (less : n < length k.told) where
   pub rewound_fits : Fits mid
-  rewound_fits = subst Fits (sym r.is) (record { count = fits.count; args = fits.args; room = fits.room; uses = fits.uses; terms = fits.terms })
+  rewound_fits = subst Fits (sym r.is) (record { count = fits.count; args = fits.args; room = fits.room; uses = fits.uses; terms = fits.terms; facts = λ i y at. fits.facts i y (taken k.told n i y at) })
 
   mid_graph : graph mid ≡ back_to (graph k) n
   mid_graph = ap graph r.is ∙ ap (λ rs. record (back_to (graph k) n) { rows = rs }) r.rows

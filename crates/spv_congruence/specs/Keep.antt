@@ -40,6 +40,7 @@ pub record Fits (k : Kept) : Type 0 where
   pub room : (t : TermId) (n : Node) → HasNode k.nodes t n → length n.args ≤ k.room
   pub uses : (t : TermId) (n : Node) → HasNode k.nodes t n → (i : ℕ) (u : TermId) → slice_get n.args i ≡ Some u → Waits (uses_at k.uses u.0) t
   pub terms : AreTerms k.nodes k.added
+  pub facts : (i : ℕ) (x : Fact) → slice_get k.told i ≡ Some x → IsNode k.nodes x.left × IsNode k.nodes x.right
 
 -- ---- entering a term
 

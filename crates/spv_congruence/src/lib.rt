@@ -5,10 +5,12 @@ mod adding;
 mod entering;
 mod entries;
 mod facts;
+mod graph;
 mod joining;
 mod kept;
 mod telling;
 mod walking;
 
-pub use facts::{Fact, Link};
+pub use facts::{Fact, Level, Link};
+pub use graph::{ClassId, Graph, Mark};
 pub use spv_classes::Cause;

@@ -10,9 +10,9 @@ invariant-loop-x l = record {
   fits : Fits l.self;
   graph_is : IsGraph (graph l.self);
   of : IsOf l.terms (graph l.self);
-  parts : AddsParts l.terms l.t (graph l.fn.self) (graph l.self);
-  path : IsPath l.terms l.t l.self.nodes (length l.terms.nodes) l.path.items;
-  first : (slice_get l.path.items 0 ≡ Some l.t) ⊎ IsNode l.self.nodes l.t;
+  parts : AddsParts l.terms l.fn.t (graph l.fn.self) (graph l.self);
+  path : IsPath l.terms l.fn.t l.self.nodes (length l.terms.nodes) l.path.items;
+  first : (slice_get l.path.items 0 ≡ Some l.fn.t) ⊎ IsNode l.self.nodes l.fn.t;
 }
 
 abbrev pub decreases-loop-x : goal.decreases-loop-x
