@@ -12,3 +12,5 @@ pub mod Nexts
 pub mod AddLemmas
 pub mod PutLemmas
 pub mod Paths
+pub mod Promises
+pub mod Exact

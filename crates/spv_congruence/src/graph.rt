@@ -108,12 +108,14 @@ impl Graph {
         ensures ok { OnOk result (Joins self.old (record { left = s; right = t; why = why; equal = true }) self.new) }
         ensures err { OnErr result (self.new ≡ self.old) }
     {
-        self.kept.tell(Fact {
+        let told = self.kept.tell(Fact {
             left: s,
             right: t,
             why,
             equal: true,
-        })
+        });
+        self.kept.law_joins();
+        told
     }
 
     /// Tells that two terms are separate. For want of memory the graph stays as it was.
@@ -123,12 +125,14 @@ impl Graph {
         ensures ok { OnOk result (Joins self.old (record { left = s; right = t; why = why; equal = false }) self.new) }
         ensures err { OnErr result (self.new ≡ self.old) }
     {
-        self.kept.tell(Fact {
+        let told = self.kept.tell(Fact {
             left: s,
             right: t,
             why,
             equal: false,
-        })
+        });
+        self.kept.law_joins();
+        told
     }
 
     /// Whether two terms are the same.
@@ -153,6 +157,6 @@ impl Graph {
     pub fn law_same(&self)
         ensures { IsExact self.now }
     {
-        let _kept = &self.kept;
+        self.kept.law_joins();
     }
 }
