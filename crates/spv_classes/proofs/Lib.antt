@@ -6,3 +6,4 @@ pub mod Circles
 pub mod Counts
 pub mod Links
 pub mod Steps
+pub mod Moments

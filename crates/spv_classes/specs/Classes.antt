@@ -1,5 +1,5 @@
 -- Classes of numbers, as the joins that put them together, each with one number of each class as its label.
-use Rattle.std.specs.Prelude.{◌≡◌, ◌≢◌, ℕ, zero, suc, ◌+◌, ◌-◌, ◌<◌, ◌≤◌, List, [], ◌∷◌, ◌++◌, take, length, fold, Option, Some, None, Bool, nat_eq, nat_le, slice_get, slice_set, slice_index_or, if◌then◌else◌, ◌⊎◌}
+use Rattle.std.specs.Prelude.{◌≡◌, ◌≢◌, ℕ, zero, suc, ◌+◌, ◌-◌, ◌<◌, ◌≤◌, List, [], ◌∷◌, ◌++◌, take, length, fold, Option, Some, None, Bool, nat_eq, nat_le, nat_lt, slice_get, slice_set, slice_index_or, if◌then◌else◌, ◌⊎◌}
 use Rattle.spv_classes.specs.declared.joins.Cause.{Cause}
 use Rattle.spv_classes.specs.declared.joins.Join.{Join}
 use Rattle.spv_classes.specs.declared.joins.Point.{Point}
@@ -129,3 +129,20 @@ AreWithin count xs = (i x : ℕ) → slice_get xs i ≡ Some x → x < count
 -- each number with this label is among these
 abbrev pub HasMembers : Classes → ℕ → List ℕ → Type 0
 HasMembers c l xs = (x : ℕ) → label c.joins x ≡ l → (i : ℕ) × (slice_get xs i ≡ Some x)
+
+-- the last join that was needed to bring two numbers into one class
+pub record IsLatest (joins : List Join) (x y m : ℕ) : Type 0 where
+  pub within : m < length joins
+  pub apart : label (take m joins) x ≢ label (take m joins) y
+  pub same : label (take (suc m) joins) x ≡ label (take (suc m) joins) y
+
+-- the first join that takes one of two labels away
+pub record IsNextTaken (joins : List Join) (a b p : ℕ) : Type 0 where
+  pub within : p < length joins
+  pub before : (i : ℕ) (j : Join) → i < p → slice_get joins i ≡ Some j → (j.lower ≢ a) × (j.lower ≢ b)
+  pub here : (j : Join) → slice_get joins p ≡ Some j → (j.lower ≡ a) ⊎ (j.lower ≡ b)
+
+-- a place that is before a time
+abbrev pub before_time : ℕ → Option ℕ → Option ℕ
+before_time time None = None
+before_time time (Some p) = if nat_lt p time then Some p else None

@@ -4,6 +4,7 @@
 mod classes;
 mod joins;
 mod rings;
+mod times;
 
 pub use classes::Classes;
 pub use joins::{Cause, Join};
