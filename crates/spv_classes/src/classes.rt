@@ -108,14 +108,14 @@ impl Classes {
     }
 
     /// The join of the classes of two numbers: the smaller class gets the label of the other.
-    pub fn join_of(&self, left: usize, right: usize, cause: Cause) -> Join
+    pub fn join_of(&self, left: u32, right: u32, cause: Cause) -> Join
         requires left { left < self.now.count }
         requires right { right < self.now.count }
         ensures { result ≡ spec.join_of self.now.joins left right cause }
     {
         let points = self.points.as_slice();
-        let first = point(points, left).label;
-        let second = point(points, right).label;
+        let first = point(points, left as usize).label;
+        let second = point(points, right as usize).label;
         if point(points, first).size <= point(points, second).size {
             Join {
                 lower: first,

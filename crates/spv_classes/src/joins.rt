@@ -17,9 +17,9 @@ pub struct Join {
     /// The label that both have.
     pub upper: usize,
     /// A number of the one class.
-    pub left: usize,
+    pub left: u32,
     /// A number of the other class, for which there is a cause.
-    pub right: usize,
+    pub right: u32,
     /// Why `left` and `right` were joined.
     pub cause: Cause,
 }

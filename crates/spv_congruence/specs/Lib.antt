@@ -2,3 +2,4 @@ pub mod Graph
 pub mod Told
 pub mod Keep
 pub mod Walk
+pub mod Explained

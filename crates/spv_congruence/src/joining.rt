@@ -66,7 +66,7 @@ impl Kept {
         ensures { result ≡ join_of self.now.classes.joins equal.left.0 equal.right.0 equal.cause }
     {
         self.classes
-            .join_of(equal.left.0 as usize, equal.right.0 as usize, equal.cause)
+            .join_of(equal.left.0, equal.right.0, equal.cause)
     }
 
     // Joins two classes.

@@ -4,6 +4,7 @@
 mod adding;
 mod entering;
 mod entries;
+mod explaining;
 mod facts;
 mod graph;
 mod joining;
