@@ -14,3 +14,4 @@ pub mod PutLemmas
 pub mod Paths
 pub mod Promises
 pub mod Exact
+pub mod Splits

@@ -51,7 +51,7 @@ Explains g s t ls = (k : ℕ) → k ≤ length g.joins → SameAt g k s t → Le
 -- ---- what is still to be explained
 
 abbrev pub GoesBy : Graph → ℕ → Work → TermId → TermId → Type 0
-GoesBy g k (Between x y) s t = (x ≡ s) × (y ≡ t) × SameAt g k s t
+GoesBy g k (Between x y) s t = (x ≡ s) × (y ≡ t) × SameAt g k x y
 GoesBy g k (Write l) s t = IsLinkOf g k l s t
 
 -- works lead from one term to another one, the last of them first

@@ -3,3 +3,4 @@ pub mod Told
 pub mod Keep
 pub mod Walk
 pub mod Explained
+pub mod Clashes

@@ -1,11 +1,14 @@
 // The graph, with what is true of it.
 
-ghost use Rattle.std.specs.Prelude.{◌≡◌, ◌<◌, ◌≤◌, ◌++◌, [], ◌∷◌, true, false, IsTrue, OnOk, OnErr, length, take};
+ghost use Rattle.std.specs.Prelude.{◌≡◌, ◌<◌, ◌≤◌, ◌++◌, [], ◌∷◌, true, false, IfOk, IfSome, IfNone, OnOk, OnErr, length};
+ghost use Rattle.spv_logic.specs.declared.conditions.TermId.{TermId};
 ghost use Rattle.spv_congruence.specs.Graph as spec;
+ghost use Rattle.spv_congruence.specs.Clashes.{Clashes};
+ghost use Rattle.spv_congruence.specs.Explained.{Explains};
 ghost use Rattle.spv_congruence.specs.Keep.{IsNode};
 ghost use Rattle.spv_congruence.specs.Told.{AddsParts, IsExact, IsOf, Joins, Undone, empty};
 
-use crate::facts::Fact;
+use crate::facts::{Fact, Link};
 use crate::kept::Kept;
 use spv_classes::Classes;
 use spv_signatures::Signatures;
@@ -150,6 +153,28 @@ impl Graph {
         ensures { result.0 ≡ spec.label_of self.now.joins t }
     {
         ClassId(self.kept.label(t))
+    }
+
+    /// Links that lead from one term to another one that is the same. Each is an equality that was told and stands, or two terms of one
+    /// head whose arguments were the same before: after fewer joins than the two terms.
+    pub fn explain(&self, s: TermId, t: TermId) -> Result<Vec<Link>, AllocError>
+        requires left { IsNode self.now.nodes s }
+        requires right { IsNode self.now.nodes t }
+        requires same { spec.label_of self.now.joins s ≡ spec.label_of self.now.joins t }
+        ensures { IfOk result (λ v. Explains self.now s t v.items) }
+    {
+        self.kept.explain(s, t)
+    }
+
+    /// Two terms that are the same and cannot be: they were told to be separate, or they are two numerals, or TRUE and FALSE.
+    pub fn clash(&self) -> Option<(TermId, TermId)>
+        ensures some { IfSome result (λ p. Clashes self.now p.0 p.1) }
+        ensures none { IfNone result ((s t : TermId) → Clashes self.now s t → ⊥) }
+    {
+        match self.kept.separate_clash() {
+            Some(pair) => Some(pair),
+            None => self.kept.opposed_clash(),
+        }
     }
 
     /// Two terms are the same exactly where it follows from what was told: by reflexivity, symmetry, transitivity and the congruence of

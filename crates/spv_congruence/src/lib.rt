@@ -2,6 +2,7 @@
 #![tactic(auto)]
 
 mod adding;
+mod clashing;
 mod entering;
 mod entries;
 mod explaining;
