@@ -15,3 +15,4 @@ pub mod Paths
 pub mod Promises
 pub mod Exact
 pub mod Splits
+pub mod ClashLemmas

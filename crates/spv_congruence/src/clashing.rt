@@ -76,9 +76,10 @@ impl Kept {
         ensures some { IfSome result (λ t. Clashes (graph self.now) s t) }
         ensures none { IfNone result ((t : TermId) → IsTrue (are_same (graph self.now) s t) → AreOpposed (graph self.now) s t → ⊥) }
     {
-        for t in self.added.as_slice() {
-            if self.clash_with(s, *t) {
-                return Some(*t);
+        for place in 0..self.terms() {
+            let t = self.term_at(place);
+            if self.clash_with(s, t) {
+                return Some(t);
             }
         }
         None

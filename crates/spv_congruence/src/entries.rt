@@ -29,7 +29,7 @@ impl Kept {
     }
 
     // The term at a place of the list.
-    fn term_at(&self, place: usize) -> TermId
+    pub(crate) fn term_at(&self, place: usize) -> TermId
         requires { place < length self.now.added }
         ensures { slice_get self.now.added place ≡ Some result }
     {
