@@ -133,8 +133,8 @@ module _ (count : ℕ) (js : List Join) (j : Join) (are : AreJoins count js) (is
         let second = walk_agrees (next js) f (next js j.upper) (others js j.upper) j.upper high.walk agrees_high in
         let behind : Walk f j.lower (j.lower ∷ others js j.upper) j.upper = (refl, subst (λ u. Walk f u (others js j.upper) j.upper) (sym next_lower) second) in
         subst (λ zs. Walk f (f j.upper) zs j.upper) (sym others_upper)
-          (subst (λ u. Walk f u (others js j.lower ++ j.lower ∷ others js j.upper) j.upper) (sym next_upper)
-            (walk_append f (next js j.lower) (others js j.lower) j.lower (j.lower ∷ others js j.upper) j.upper first behind))
+        (subst (λ u. Walk f u (others js j.lower ++ j.lower ∷ others js j.upper) j.upper) (sym next_upper)
+        (walk_append f (next js j.lower) (others js j.lower) j.lower (j.lower ∷ others js j.upper) j.upper first behind))
 
     parts : (x : ℕ) → In x (others (js ++ j ∷ []) j.upper) → In x (others js j.lower) ⊎ ((x ≡ j.lower) ⊎ In x (others js j.upper))
     parts x i = in_append x (others js j.lower) (j.lower ∷ others js j.upper) (subst (In x) others_upper i)
@@ -147,7 +147,7 @@ module _ (count : ℕ) (js : List Join) (j : Join) (are : AreJoins count js) (is
       apart = λ x i. apart x (parts x i);
       within = λ x i. within x (parts x i);
       all = λ x e. all x e (same_or_apart (label js x) j.lower);
-      }
+    }
       where
         labels : (x : ℕ) → In x (others js j.lower) ⊎ ((x ≡ j.lower) ⊎ In x (others js j.upper)) → label (js ++ j ∷ []) x ≡ j.upper
         labels x (inl i) = label_was_lower js j x (low.labels x i)
@@ -185,13 +185,13 @@ module _ (count : ℕ) (js : List Join) (j : Join) (are : AreJoins count js) (is
       let f = next (js ++ j ∷ []) in
       let lower = not_lower l alive in
       let agrees : (z : ℕ) → In z (others js l) → f z ≡ next js z = λ z i. next_other z
-            (λ e. lower (sym (old.labels z i) ∙ (ap (label js) e ∙ is.lower_is)))
-            (λ e. other (sym (old.labels z i) ∙ (ap (label js) e ∙ is.upper_is))) in
+      (λ e. lower (sym (old.labels z i) ∙ (ap (label js) e ∙ is.lower_is)))
+      (λ e. other (sym (old.labels z i) ∙ (ap (label js) e ∙ is.upper_is))) in
       let same = others_other l other in
       let back : (x : ℕ) → In x (others (js ++ j ∷ []) l) → In x (others js l) = λ x i. subst (In x) same i in
       record {
         walk = subst (λ zs. Walk f (f l) zs l) (sym same)
-          (subst (λ u. Walk f u (others js l) l) (sym (next_other l lower other)) (walk_agrees (next js) f (next js l) (others js l) l old.walk agrees));
+            (subst (λ u. Walk f u (others js l) l) (sym (next_other l lower other)) (walk_agrees (next js) f (next js l) (others js l) l old.walk agrees));
         many = size_other l other ∙ (old.many ∙ ap (λ zs. suc (length zs)) (sym same));
         labels = λ x i. label_stays js j x (λ e. lower (sym (old.labels x (back x i)) ∙ e)) ∙ old.labels x (back x i);
         apart = λ x i. old.apart x (back x i);

@@ -86,8 +86,9 @@ members_size count = by_joins count (λ js. (l : ℕ) → l < count → label js
             cases : (label js x ≡ j.lower) ⊎ (label js x ≢ j.lower) → ((nat_eq (label (js ++ j ∷ []) x) j.upper ≡ nat_eq (label js x) j.upper) × (nat_eq (label js x) j.lower ≡ false))
                 ⊎ ((nat_eq (label (js ++ j ∷ []) x) j.upper ≡ nat_eq (label js x) j.lower) × (nat_eq (label js x) j.upper ≡ false))
             cases (inl e) = inr (
-                (ap (λ k. nat_eq k j.upper) (label_was_lower js j x e) ∙ (nat_same j.upper ∙ sym (ap (λ k. nat_eq k j.lower) e ∙ nat_same j.lower))),
-                nat_apart (label js x) j.upper (λ f. is.apart (sym e ∙ f)))
+              (ap (λ k. nat_eq k j.upper) (label_was_lower js j x e) ∙ (nat_same j.upper ∙ sym (ap (λ k. nat_eq k j.lower) e ∙ nat_same j.lower))),
+              nat_apart (label js x) j.upper (λ f. is.apart (sym e ∙ f)),
+            )
             cases (inr a) = inl (ap (λ k. nat_eq k j.upper) (label_stays js j x a), nat_apart (label js x) j.lower a)
 
         by : (l ≡ j.upper) ⊎ (l ≢ j.upper) → members (js ++ j ∷ []) count l ≡ size (js ++ j ∷ []) l
@@ -120,9 +121,9 @@ labels_left count = by_joins count (λ js. count_of (λ x. nat_eq (label js x) x
         → count_of (λ x. nat_eq (label (js ++ j ∷ []) x) x) count + length (js ++ j ∷ []) ≡ count
     step js j are is old =
         let e = count_less (λ x. nat_eq (label js x) x) (λ x. nat_eq (label (js ++ j ∷ []) x) x) count j.lower is.lower_in
-              (ap (λ k. nat_eq k j.lower) is.lower_is ∙ nat_same j.lower)
-              (ap (λ k. nat_eq k j.lower) (lower_gone count js j are is) ∙ nat_apart j.upper j.lower (λ f. is.apart (sym f)))
-              (λ x h. cases x h (same_or_apart (label js x) j.lower)) in
+        (ap (λ k. nat_eq k j.lower) is.lower_is ∙ nat_same j.lower)
+        (ap (λ k. nat_eq k j.lower) (lower_gone count js j are is) ∙ nat_apart j.upper j.lower (λ f. is.apart (sym f)))
+        (λ x h. cases x h (same_or_apart (label js x) j.lower)) in
         omega (arith, e, old, length_push js j)
       where
         cases : (x : ℕ) → x ≢ j.lower → (label js x ≡ j.lower) ⊎ (label js x ≢ j.lower) → nat_eq (label js x) x ≡ nat_eq (label (js ++ j ∷ []) x) x

@@ -37,14 +37,21 @@ module _ (count : ℕ) where
           not_lower e = let h = is.lower_in in omega (arith, e, h, past)
 
   pub more_in : (js : List Join) → AreJoins count js → AreJoins (count + 1) js
-  more_in js are = record { each = λ i j at.
-      let is = are.each i j at in
-      record {
-        lower_in = (let h = is.lower_in in omega (arith, h));
-        upper_in = (let h = is.upper_in in omega (arith, h));
-        left_in = (let h = is.left_in in omega (arith, h));
-        right_in = (let h = is.right_in in omega (arith, h));
-        apart = is.apart; lower_is = is.lower_is; upper_is = is.upper_is; sides = is.sides; smaller = is.smaller } }
+  more_in js are = record {
+    each = λ i j at.
+        let is = are.each i j at in
+        record {
+          lower_in = (let h = is.lower_in in omega (arith, h));
+          upper_in = (let h = is.upper_in in omega (arith, h));
+          left_in = (let h = is.left_in in omega (arith, h));
+          right_in = (let h = is.right_in in omega (arith, h));
+          apart = is.apart;
+          lower_is = is.lower_is;
+          upper_is = is.upper_is;
+          sides = is.sides;
+          smaller = is.smaller;
+        };
+  }
 
   pub point_past : (js : List Join) → AreJoins count js → (x : ℕ) → count ≤ x → point js x ≡ made x 1 x None
   point_past js are x past =
@@ -67,7 +74,7 @@ grown_by : (js ks : List Join) (ps qs : List Point) (p : Point) → ks ≡ js �
 grown_by js ks ps qs p e f points joins is = subst (λ k. Grown k qs) (sym e) (subst (λ q. Grown js q) (sym f) (record {
   points = record { each = λ x within. by x within (same_or_apart x (length ps)) };
   joins = subst (λ n. AreJoins n js) (sym (length_push ps p)) (more_in (length ps) js joins);
-  }))
+}))
   where
     by : (x : ℕ) → x < length (ps ++ p ∷ []) → (x ≡ length ps) ⊎ (x ≢ length ps) → point_at (ps ++ p ∷ []) x ≡ point js x
     by x within (inl g) =

@@ -62,17 +62,21 @@ same_stays js j x y e = label_push js j x ∙ (ap (λ l. one_label l j) e ∙ sy
 
 module _ (count : ℕ) where
   pub all_but_last : (js : List Join) (j : Join) → AreJoins count (js ++ j ∷ []) → AreJoins count js
-  all_but_last js j are = record { each = λ i k at.
-      let within : i < length js = get_within js i k at in
-      subst (λ before. IsJoin count before k) (take_push i js j (omega arith)) (are.each i k (get_left js (j ∷ []) i within ∙ at)) }
+  all_but_last js j are = record {
+    each = λ i k at.
+        let within : i < length js = get_within js i k at in
+        subst (λ before. IsJoin count before k) (take_push i js j (omega arith)) (are.each i k (get_left js (j ∷ []) i within ∙ at));
+  }
 
   pub last_join : (js : List Join) (j : Join) → AreJoins count (js ++ j ∷ []) → IsJoin count js j
   last_join js j are = subst (λ before. IsJoin count before j) (take_whole js (j ∷ [])) (are.each (length js) j (get_push js j))
 
   pub one_more : (js : List Join) (j : Join) → AreJoins count js → IsJoin count js j → AreJoins count (js ++ j ∷ [])
-  one_more js j are is = record { each = of_push (λ i k. IsJoin count (take i (js ++ j ∷ [])) k) js j
-      (λ i k at. subst (λ before. IsJoin count before k) (sym (take_push i js j (omega (arith, get_within js i k at)))) (are.each i k at))
-      (subst (λ before. IsJoin count before j) (sym (take_whole js (j ∷ []))) is) }
+  one_more js j are is = record {
+    each = of_push (λ i k. IsJoin count (take i (js ++ j ∷ [])) k) js j
+        (λ i k at. subst (λ before. IsJoin count before k) (sym (take_push i js j (omega (arith, get_within js i k at)))) (are.each i k at))
+        (subst (λ before. IsJoin count before j) (sym (take_whole js (j ∷ []))) is);
+  }
 
   -- induction over joins
   pub by_joins : (P : List Join → Type 0) → P [] → ((js : List Join) (j : Join) → AreJoins count js → IsJoin count js j → P js → P (js ++ j ∷ [])) → (js : List Join) → AreJoins count js → P js

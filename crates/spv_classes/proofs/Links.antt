@@ -32,8 +32,8 @@ put (z ∷ zs) points f at y to walk next_is within =
     let at_in : at < length points = subst (λ w. w < length points) (sym walk.0) (within z (inl refl)) in
     let goes : f z ≡ (point_at points at).next = next_is z (inl refl) ∙ ap (λ w. (point_at points w).next) (sym walk.0) in
     let rest = put zs ps f (point_at points at).next y to (subst (λ u. Walk f u zs y) goes walk.1)
-          (λ w i. next_is w (inr i) ∙ sym (next-labelled points at to w at_in))
-          (λ w i. subst (λ n. w < n) (sym (length-labelled points at (with_label (point_at points at) to))) (within w (inr i))) in
+    (λ w i. next_is w (inr i) ∙ sym (next-labelled points at to w at_in))
+    (λ w i. subst (λ n. w < n) (sym (length-labelled points at (with_label (point_at points at) to))) (within w (inr i))) in
     record {
       inside = λ x i. inside rest at_in x (in_or_not x zs) (same_or_apart x at) (by_head x i);
       outside = λ x h. rest.outside x (λ i. h (inr i)) ∙ get_or-set_other points at x (with_label (point_at points at) to) (point [] 0) (λ e. h (inl (e ∙ walk.0)));
@@ -67,7 +67,7 @@ class_put count js points l to are alive l_in count_is next_is =
     let r = ring count js are l alive in
     let within : (z : ℕ) → In z (l ∷ others js l) → z < length points = λ z i. inside z i in
     subst (λ n. IsPut points (relabelled points l n to) (l ∷ others js l) to) (sym r.many)
-      (put (l ∷ others js l) points (next js) l l to (refl, r.walk) (λ z i. sym (next_is z (within z i))) within)
+    (put (l ∷ others js l) points (next js) l l to (refl, r.walk) (λ z i. sym (next_is z (within z i))) within)
   where
     inside : (z : ℕ) → In z (l ∷ others js l) → z < length points
     inside z (inl e) = subst (λ w. w < length points) (sym e) l_in
@@ -146,12 +146,12 @@ module _ (js : List Join) (j : Join) (points : List Point) (points_are : ArePoin
       by : (x : ℕ) → x < length points → (x ≡ j.upper) ⊎ (x ≢ j.upper) → (x ≡ j.lower) ⊎ (x ≢ j.lower) → point_at (linked points j.lower j.upper (length js)) x ≡ point (js ++ j ∷ []) x
       by x within (inl e) d = subst (λ w. point_at (linked points j.lower j.upper (length js)) w ≡ point (js ++ j ∷ []) w) (sym e)
           (get_or-set_same (slice_set (relabelled points j.lower (point_at points j.lower).size j.upper) j.lower _) j.upper _ (point [] 0)
-            (subst (λ n. j.upper < n) (sym (length-set (relabelled points j.lower (point_at points j.lower).size j.upper) j.lower _ ∙ length-relabelled (point_at points j.lower).size points j.lower j.upper)) is.upper_in)
+          (subst (λ n. j.upper < n) (sym (length-set (relabelled points j.lower (point_at points j.lower).size j.upper) j.lower _ ∙ length-relabelled (point_at points j.lower).size points j.lower j.upper)) is.upper_in)
           ∙ (four _ _ _ _ _ _ _ _ refl (ap (λ p. p.size + (point_at points j.lower).size) high_is ∙ ap (λ p. size js j.upper + p.size) low_is) (ap (λ p. p.next) low_is) (ap (λ p. p.taken) high_is) ∙ sym upper_point))
       by x within (inr k) (inl e) = get_or-set_other (slice_set (relabelled points j.lower (point_at points j.lower).size j.upper) j.lower _) j.upper x _ (point [] 0) k
           ∙ subst (λ w. point_at (slice_set (relabelled points j.lower (point_at points j.lower).size j.upper) j.lower (made j.upper (point_at points j.lower).size (point_at points j.upper).next (Some (length js)))) w ≡ point (js ++ j ∷ []) w) (sym e)
           (get_or-set_same (relabelled points j.lower (point_at points j.lower).size j.upper) j.lower _ (point [] 0)
-            (subst (λ n. j.lower < n) (sym (length-relabelled (point_at points j.lower).size points j.lower j.upper)) is.lower_in)
+          (subst (λ n. j.lower < n) (sym (length-relabelled (point_at points j.lower).size points j.lower j.upper)) is.lower_in)
           ∙ (four _ _ _ _ _ _ _ _ refl (ap (λ p. p.size) low_is) (ap (λ p. p.next) high_is) refl ∙ sym lower_point))
       by x within (inr k) (inr h) =
           get_or-set_other (slice_set (relabelled points j.lower (point_at points j.lower).size j.upper) j.lower _) j.upper x _ (point [] 0) k
@@ -203,15 +203,15 @@ module _ (js : List Join) (j : Join) (points : List Point) (points_are : ArePoin
       by (inl e) d = subst (λ w. point_at (parted points j.lower j.upper) w ≡ made (label (js ++ j ∷ []) w) (size js w) (next js w) (taken_at js w)) (sym e)
           (get_or-set_same (slice_set points j.lower _) j.upper _ (point [] 0) (subst (λ n. j.upper < n) (sym (length-set points j.lower _)) is.upper_in)
           ∙ four _ _ _ _ _ _ _ _ (ap (λ p. p.label) high_was)
-            (let e = low_size in let f = high_size in omega (arith, e, f))
-            (ap (λ p. p.next) low_was ∙ next_lower (length points) js j are is)
-            (ap (λ p. p.taken) high_was ∙ taken_other js j j.upper (λ e. is.apart (sym e))))
+          (let e = low_size in let f = high_size in omega (arith, e, f))
+          (ap (λ p. p.next) low_was ∙ next_lower (length points) js j are is)
+          (ap (λ p. p.taken) high_was ∙ taken_other js j j.upper (λ e. is.apart (sym e))))
       by (inr k) (inl e) = get_or-set_other (slice_set points j.lower _) j.upper x _ (point [] 0) k
           ∙ subst (λ w. point_at (slice_set points j.lower (made (point_at points j.lower).label (point_at points j.lower).size (point_at points j.upper).next None)) w ≡ made (label (js ++ j ∷ []) w) (size js w) (next js w) (taken_at js w)) (sym e)
           (get_or-set_same points j.lower _ (point [] 0) is.lower_in
           ∙ four _ _ _ _ _ _ _ _ (ap (λ p. p.label) low_was) low_size
-            (ap (λ p. p.next) high_was ∙ next_upper (length points) js j are is)
-            (sym (taken_label (length points) js are j.lower is.lower_is)))
+          (ap (λ p. p.next) high_was ∙ next_upper (length points) js j are is)
+          (sym (taken_label (length points) js are j.lower is.lower_is)))
       by (inr k) (inr h) = get_or-set_other (slice_set points j.lower _) j.upper x _ (point [] 0) k
           ∙ (get_or-set_other points j.lower x _ (point [] 0) h
           ∙ (points_are.each x within ∙ four _ _ _ _ _ _ _ _ refl (size_other (length points) js j are is x k) (next_other (length points) js j are is x h k) (taken_other js j x h)))

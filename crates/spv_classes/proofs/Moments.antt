@@ -10,9 +10,11 @@ use Rattle.spv_classes.proofs.Labels.{label_push, one_label-lower, one_label-oth
 
 -- the first so many joins are joins
 pub are_taken : (count : ℕ) (js : List Join) (n : ℕ) → AreJoins count js → AreJoins count (take n js)
-are_taken count js n are = record { each = λ i j at.
-    let w = taken_less js n i j at in
-    subst (λ ks. IsJoin count ks j) (sym (take-take i n js (omega (arith, w)))) (are.each i j (sym (get_take js i n w) ∙ at)) }
+are_taken count js n are = record {
+  each = λ i j at.
+      let w = taken_less js n i j at in
+      subst (λ ks. IsJoin count ks j) (sym (take-take i n js (omega (arith, w)))) (are.each i j (sym (get_take js i n w) ∙ at));
+}
   where
     taken_less : (ks : List Join) (n i : ℕ) (j : Join) → slice_get (take n ks) i ≡ Some j → i < n
     taken_less [] zero i j at = absurd (cc)
@@ -174,7 +176,7 @@ next_turned js a b i n = record {
   within = n.within;
   before = λ m q less at. ((n.before m q less at).1, (n.before m q less at).0);
   here = λ q at. turn (n.here q at);
-  }
+}
   where
     turn : {A B : Type 0} → A ⊎ B → B ⊎ A
     turn (inl h) = inr h

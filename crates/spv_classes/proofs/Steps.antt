@@ -111,13 +111,29 @@ join_of-is count js left right cause are l r apart = by (nat_le (size js (label 
   where
     low_first : size js (label js left) ≤ size js (label js right) → IsJoin count js (record { lower = label js left; upper = label js right; left = left; right = right; cause = cause })
     low_first h = record {
-      lower_in = label_in count js are left l; upper_in = label_in count js are right r; left_in = l; right_in = r; apart = apart;
-      lower_is = label_of_label count js are left; upper_is = label_of_label count js are right; sides = inl (refl, refl); smaller = h }
+      lower_in = label_in count js are left l;
+      upper_in = label_in count js are right r;
+      left_in = l;
+      right_in = r;
+      apart = apart;
+      lower_is = label_of_label count js are left;
+      upper_is = label_of_label count js are right;
+      sides = inl (refl, refl);
+      smaller = h;
+    }
 
     high_first : size js (label js right) ≤ size js (label js left) → IsJoin count js (record { lower = label js right; upper = label js left; left = left; right = right; cause = cause })
     high_first h = record {
-      lower_in = label_in count js are right r; upper_in = label_in count js are left l; left_in = l; right_in = r; apart = λ e. apart (sym e);
-      lower_is = label_of_label count js are right; upper_is = label_of_label count js are left; sides = inr (refl, refl); smaller = h }
+      lower_in = label_in count js are right r;
+      upper_in = label_in count js are left l;
+      left_in = l;
+      right_in = r;
+      apart = λ e. apart (sym e);
+      lower_is = label_of_label count js are right;
+      upper_is = label_of_label count js are left;
+      sides = inr (refl, refl);
+      smaller = h;
+    }
 
     by : (b : Bool) → nat_le (size js (label js left)) (size js (label js right)) ≡ b
         → IsJoin count js (if b then record { lower = label js left; upper = label js right; left = left; right = right; cause = cause } else record { lower = label js right; upper = label js left; left = left; right = right; cause = cause })

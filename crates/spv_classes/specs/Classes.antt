@@ -87,18 +87,18 @@ made l s n o = record { label = l; size = s; next = n; taken = o }
 abbrev pub linked : List Point → ℕ → ℕ → ℕ → List Point
 linked points lower upper place =
     slice_set
-      (slice_set (relabelled points lower (point_at points lower).size upper) lower
-        (made upper (point_at points lower).size (point_at points upper).next (Some place)))
-      upper
-      (made upper ((point_at points upper).size + (point_at points lower).size) (point_at points lower).next (point_at points upper).taken)
+    (slice_set (relabelled points lower (point_at points lower).size upper) lower
+    (made upper (point_at points lower).size (point_at points upper).next (Some place)))
+    upper
+    (made upper ((point_at points upper).size + (point_at points lower).size) (point_at points lower).next (point_at points upper).taken)
 
 -- the points before a join
 abbrev pub parted : List Point → ℕ → ℕ → List Point
 parted points lower upper =
     slice_set
-      (slice_set points lower (made (point_at points lower).label (point_at points lower).size (point_at points upper).next None))
-      upper
-      (made (point_at points upper).label ((point_at points upper).size - (point_at points lower).size) (point_at points lower).next (point_at points upper).taken)
+    (slice_set points lower (made (point_at points lower).label (point_at points lower).size (point_at points upper).next None))
+    upper
+    (made (point_at points upper).label ((point_at points upper).size - (point_at points lower).size) (point_at points lower).next (point_at points upper).taken)
 
 abbrev pub unlinked : List Point → ℕ → ℕ → List Point
 unlinked points lower upper = relabelled (parted points lower upper) lower (point_at points lower).size lower

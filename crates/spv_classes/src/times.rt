@@ -51,13 +51,7 @@ impl Classes {
     {
         match self.taken_at(a) {
             Some(i) => match self.taken_at(b) {
-                Some(j) => {
-                    if i < j {
-                        i
-                    } else {
-                        j
-                    }
-                }
+                Some(j) => { if i < j { i } else { j } }
                 None => i,
             },
             None => match self.taken_at(b) {
@@ -110,13 +104,7 @@ impl Classes {
         ensures { result ≡ spec.before_time time (spec.taken_at self.now.joins label) }
     {
         match self.taken_at(label) {
-            Some(place) => {
-                if place < time {
-                    Some(place)
-                } else {
-                    None
-                }
-            }
+            Some(place) => { if place < time { Some(place) } else { None } }
             None => None,
         }
     }

@@ -26,7 +26,7 @@ put_within nodes x n h = record {
   there = set_same nodes x (Some n) h;
   kept = λ t m a is. set_other nodes x t.0 (Some n) a ∙ is;
   back = λ t m a is. sym (set_other nodes x t.0 (Some n) a) ∙ is;
-  }
+}
 
 -- the same nodes are there
 pub record SameNodes (old new : List (Option Node)) : Type 0 where
@@ -53,7 +53,7 @@ pub none_more : (old ns ms : List (Option Node)) → ms ≡ ns ++ None ∷ [] �
 none_more old ns ms e same = subst (SameNodes old) (sym e) (record {
   kept = λ t m is. let h = same.kept t m is in get_left ns (None ∷ []) t.0 (get_within ns t.0 (Some m) h) ∙ h;
   back = λ t m is. same.back t m (by t m (of_last ns None (Some m) t.0 is));
-  })
+})
   where
     by : (t : TermId) (m : Node) → (slice_get ns t.0 ≡ Some (Some m)) ⊎ ((t.0 ≡ length ns) × (None ≡ Some m)) → slice_get ns t.0 ≡ Some (Some m)
     by t m (inl h) = h
@@ -67,7 +67,7 @@ put_past old ns ms x n e f same = subst (HasPut old x n) (sym e) (record {
   there = ap (slice_get (ns ++ Some n ∷ [])) f ∙ get_push ns (Some n);
   kept = λ t m a is. let h = same.kept t m is in get_left ns (Some n ∷ []) t.0 (get_within ns t.0 (Some m) h) ∙ h;
   back = λ t m a is. same.back t m (by t m a (of_last ns (Some n) (Some m) t.0 is));
-  })
+})
   where
     by : (t : TermId) (m : Node) → t.0 ≢ x → (slice_get ns t.0 ≡ Some (Some m)) ⊎ ((t.0 ≡ length ns) × (Some n ≡ Some m)) → slice_get ns t.0 ≡ Some (Some m)
     by t m a (inl h) = h

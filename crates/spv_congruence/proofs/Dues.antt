@@ -24,7 +24,7 @@ module _ (f : ℕ → ℕ) (js : List Join) where
 agrees_back : (f : ℕ → ℕ) (js : List Join) (j : Join) (es : List Equal) → Agrees f (js ++ j ∷ []) es → Agrees (λ l. f (one_label l j)) js es
 agrees_back f js j [] a = tt
 agrees_back f js j (e ∷ es) a =
-    ( sym (ap f (label_push js j e.left.0)) ∙ (a.0 ∙ ap f (label_push js j e.right.0)), agrees_back f js j es a.1 )
+    (sym (ap f (label_push js j e.left.0)) ∙ (a.0 ∙ ap f (label_push js j e.right.0)), agrees_back f js j es a.1)
 
 pub due_more : (js : List Join) (es : List Equal) (e : Equal) (s t : TermId) → Due js es s t → Due js (es ++ e ∷ []) s t
 due_more js es e s t h f a = h f (agrees_front f js es e a)

@@ -65,7 +65,10 @@ held_row h ls = by_last (λ rs. (q : TermId) → held rs h ls ≡ Some q → Hol
         by true f =
             let g : Some r.term ≡ Some q = sym (ap (λ b. if b then Some r.term else held rs h ls) f) ∙ (sym (held_push rs r h ls) ∙ e) in
             record {
-              place = length rs; row = r; there = get_push rs r; term = one r.term q g;
+              place = length rs;
+              row = r;
+              there = get_push rs r;
+              term = one r.term q g;
               head = head_eq-true r.head h (left_true (head_eq r.head h) (pointwise nat_eq r.labels ls) f);
               labels_are = same_numbers r.labels ls (right_true (head_eq r.head h) (pointwise nat_eq r.labels ls) f);
             }
@@ -125,8 +128,12 @@ module _ (nodes : List (Option Node)) (added : List TermId) (count : ℕ) (told 
           let r = h.rows_are k.place k.row k.there in
           let g : k.row.term ≡ q = k.term ∙ sym f in
           record {
-            node = r.node; is = subst (λ x. HasNode nodes x r.node) g r.is; early = subst (IsEarly added count) g r.early; head = sym k.head ∙ r.head;
-            labels_are = ap (map (label js)) (sym k.labels_are) ∙ r.labels_are }
+            node = r.node;
+            is = subst (λ x. HasNode nodes x r.node) g r.is;
+            early = subst (IsEarly added count) g r.early;
+            head = sym k.head ∙ r.head;
+            labels_are = ap (map (label js)) (sym k.labels_are) ∙ r.labels_are;
+          }
 
   was_held : held rs m.head (labels js m) ≡ Some q ⊎ (held rs m.head (labels js m) ≡ None)
   was_held = by (held rs m.head (labels js m)) refl
@@ -147,7 +154,7 @@ module _ (nodes : List (Option Node)) (added : List TermId) (count : ℕ) (told 
       rows_are = of_push (λ i r. IsRow nodes added count js r) rs (signed m.head (labels js m) q) h.rows_are found_row;
       joins_are = h.joins_are;
       equals_are = fs_are;
-      }
+    }
       where
         itself : (u : TermId) (k : Node) → HasNode nodes u k → t ≡ u → IsEntered js (rs ++ signed m.head (labels js m) q ∷ []) fs u k
         itself u k at e =
@@ -197,7 +204,7 @@ not_a_term nodes added count told n js rs es rest t none h = record {
   rows_are = h.rows_are;
   joins_are = h.joins_are;
   equals_are = h.equals_are;
-  }
+}
   where
     other : (u : TermId) (k : Node) → HasNode nodes u k → Waits rest u ⊎ (t ≡ u) → Waits rest u ⊎ IsEntered js rs es u k
     other u k at (inl w) = inl w
@@ -216,7 +223,7 @@ next_waits nodes added count told n js rs t at h = record {
   rows_are = λ i r there. row_kept nodes nodes added added count (suc count) told told n n keeps js r (h.rows_are i r there);
   joins_are = λ i j there. link_kept nodes nodes added added count (suc count) told told n n keeps (take i js) j (h.joins_are i j there);
   equals_are = λ i e there. absurd (no e there);
-  }
+}
   where
     no : (e : Equal) → None ≡ Some e → ⊥
     no e h = cc

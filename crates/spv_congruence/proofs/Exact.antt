@@ -61,9 +61,9 @@ module _ (a : Arena) (ok : IsArena a) (g : Graph) (of : IsOf a g) where
         let t_is : tree a t ≡ term h.left.head (trees a h.right.args) = tree-node a ok t h.right (of.node t h.right h.right_is) ∙ ap (λ k. term k (trees a h.right.args)) (sym h.heads) in
         subst (λ u. Joined (IsAmong a (IsAdded g)) (joined.IsTold a (IsTold g)) u (tree a t)) (sym s_is)
         (subst (λ u. Joined (IsAmong a (IsAdded g)) (joined.IsTold a (IsTold g)) (term h.left.head (trees a h.left.args)) u) (sym t_is)
-          (congruent h.left.head (trees a h.left.args) (trees a h.right.args)
-            (record { id = s; added = added_early s es; is = s_is }) (record { id = t; added = added_early t et; is = t_is })
-            (args_joined js one h.left.args h.right.args h.args)))
+        (congruent h.left.head (trees a h.left.args) (trees a h.right.args)
+        (record { id = s; added = added_early s es; is = s_is }) (record { id = t; added = added_early t et; is = t_is })
+        (args_joined js one h.left.args h.right.args h.args)))
 
     -- terms of one class are joined
     sound : (count : ℕ) (js : List Join) → AreJoins count js → ((i : ℕ) (j : Join) → slice_get js i ≡ Some j → IsLink g.nodes g.added c g.told n (take i js) j) → (s t : TermId) → label_of js s ≡ label_of js t → Same s t
@@ -112,18 +112,18 @@ module _ (k : Kept) (fits : Fits k) (is : IsGraph (graph k)) (a : Arena) (ok : I
   respects = record {
     within = λ t h. let n = fits.terms.noded h.0 t h.1 in in_arena t n.0 n.1;
     sides = λ s t h. let f = h.1 in let ns = fits.facts h.0 f.fact f.there in
-      (subst (λ u. u.0 < length a.nodes) f.left (in_arena f.fact.left ns.0.0 ns.0.1), subst (λ u. u.0 < length a.nodes) f.right (in_arena f.fact.right ns.1.0 ns.1.1));
+        (subst (λ u. u.0 < length a.nodes) f.left (in_arena f.fact.left ns.0.0 ns.0.1), subst (λ u. u.0 < length a.nodes) f.right (in_arena f.fact.right ns.1.0 ns.1.1));
     told = λ s t h. let f = h.1 in
-      ap (label_of k.classes.joins) (sym f.left) ∙ (due_none k.classes.joins f.fact.left f.fact.right (is.now.told_due h.0 f.fact (get_within k.told h.0 f.fact f.there) f.there f.equal) ∙ ap (label_of k.classes.joins) f.right);
+        ap (label_of k.classes.joins) (sym f.left) ∙ (due_none k.classes.joins f.fact.left f.fact.right (is.now.told_due h.0 f.fact (get_within k.told h.0 f.fact f.there) f.there f.equal) ∙ ap (label_of k.classes.joins) f.right);
     congruent = λ s t m n hs ht ms nt heads args.
-      let p = fits.terms.noded hs.0 s hs.1 in
-      let q = fits.terms.noded ht.0 t ht.1 in
-      let e : p.0 ≡ m = one p.0 m (sym (of.node s p.0 p.1) ∙ ms) in
-      let f : q.0 ≡ n = one q.0 n (sym (of.node t q.0 q.1) ∙ nt) in
-      by s t p.0 q.0 (is.now.entered s p.0 (record { place = hs.0; early = get_within k.added hs.0 s hs.1; there = hs.1 }) p.1) (is.now.entered t q.0 (record { place = ht.0; early = get_within k.added ht.0 t ht.1; there = ht.1 }) q.1)
+        let p = fits.terms.noded hs.0 s hs.1 in
+        let q = fits.terms.noded ht.0 t ht.1 in
+        let e : p.0 ≡ m = one p.0 m (sym (of.node s p.0 p.1) ∙ ms) in
+        let f : q.0 ≡ n = one q.0 n (sym (of.node t q.0 q.1) ∙ nt) in
+        by s t p.0 q.0 (is.now.entered s p.0 (record { place = hs.0; early = get_within k.added hs.0 s hs.1; there = hs.1 }) p.1) (is.now.entered t q.0 (record { place = ht.0; early = get_within k.added ht.0 t ht.1; there = ht.1 }) q.1)
         (ap (λ (x : Node). x.head) e ∙ (heads ∙ ap (λ (x : Node). x.head) (sym f)))
         (ap (λ (x : Node). labels k.classes.joins x) e ∙ (args ∙ ap (λ (x : Node). labels k.classes.joins x) (sym f)));
-    }
+  }
     where
       in_arena : (t : TermId) (n : Node) → HasNode k.nodes t n → t.0 < length a.nodes
       in_arena t n h = get_within a.nodes t.0 n (of.node t n h)
@@ -146,9 +146,10 @@ module _ (k : Kept) (fits : Fits k) (is : IsGraph (graph k)) (a : Arena) (ok : I
           sym (due_none k.classes.joins x.first s x.due) ∙ (ap (label_of k.classes.joins) e ∙ due_none k.classes.joins y.first t y.due)
 
   pub exact_at : AreJoins k.classes.count k.classes.joins → (s t : TermId) (m n : Node) → HasNode k.nodes s m → HasNode k.nodes t n → IsTrue (are_same (graph k) s t) ↔ spec.Joined a (graph k) s t
-  exact_at are s t m n hs ht =
-      ( (λ h. sound a ok (graph k) of (length k.added) (length k.told) k.classes.count k.classes.joins are is.now.joins_are s t (equal _ _ h)),
-        (λ d. tested _ _ (kept a ok (IsAdded (graph k)) (IsTold (graph k)) (label_of k.classes.joins) respects s t (get_within a.nodes s.0 m (of.node s m hs)) (get_within a.nodes t.0 n (of.node t n ht)) d)) )
+  exact_at are s t m n hs ht = (
+    (λ h. sound a ok (graph k) of (length k.added) (length k.told) k.classes.count k.classes.joins are is.now.joins_are s t (equal _ _ h)),
+    (λ d. tested _ _ (kept a ok (IsAdded (graph k)) (IsTold (graph k)) (label_of k.classes.joins) respects s t (get_within a.nodes s.0 m (of.node s m hs)) (get_within a.nodes t.0 n (of.node t n ht)) d)),
+  )
     where
       equal : (x y : ℕ) → nat_eq x y ≡ true → x ≡ y
       equal x y h = grind (arith, nat_tests)

@@ -20,9 +20,11 @@ due_any js es s t h f a = h f tt
 module _ (nodes : List (Option Node)) (added : List TermId) (c : ℕ) (told : List Fact) (js : List Join) (rs : List Signature) (x : Fact) (left : IsEarly added c x.left) (right : IsEarly added c x.right) (h : IsLevel nodes added c told (length told) js rs [] []) where
   keeps : Keeps nodes nodes added added c c told (told ++ x ∷ []) (length told) (length (told ++ x ∷ []))
   keeps = record {
-    node = λ t m is. is; early = λ t e. e;
+    node = λ t m is. is;
+    early = λ t e. e;
     fact = λ i y less at. get_left told (x ∷ []) i less ∙ at;
-    more = (let e = length_push told x in omega (arith, e)) }
+    more = (let e = length_push told x in omega (arith, e));
+  }
 
   told_due : (i : ℕ) (y : Fact) → slice_get (told ++ x ∷ []) i ≡ Some y → y.equal ≡ true → Due js (equal_of x (length told)) y.left y.right
   told_due = of_push (λ i y. y.equal ≡ true → Due js (equal_of x (length told)) y.left y.right) told x
@@ -51,8 +53,10 @@ module _ (nodes : List (Option Node)) (added : List TermId) (c : ℕ) (told : Li
   due_at : (b : Bool) → x.equal ≡ b → (i : ℕ) (e : Equal) → slice_get (if b then record { left = x.left; right = x.right; cause = Told (length told) } ∷ [] else []) i ≡ Some e
       → IsDue nodes added c (told ++ x ∷ []) (length (told ++ x ∷ [])) js e
   due_at true eq i e at = new_due (record {
-      left = left; right = right;
-      cause = (omega (arith, length_push told x), record { fact = x; there = get_push told x; equal = eq; left = refl; right = refl }) }) true eq i e at
+    left = left;
+    right = right;
+    cause = (omega (arith, length_push told x), record { fact = x; there = get_push told x; equal = eq; left = refl; right = refl });
+  }) true eq i e at
   due_at false eq i e at = absurd (no e at)
     where
       no : (e : Equal) → None ≡ Some e → ⊥
@@ -66,7 +70,7 @@ module _ (nodes : List (Option Node)) (added : List TermId) (c : ℕ) (told : Li
     rows_are = λ i r at. row_kept nodes nodes added added c c told (told ++ x ∷ []) (length told) (length (told ++ x ∷ [])) keeps js r (h.rows_are i r at);
     joins_are = λ i j at. link_kept nodes nodes added added c c told (told ++ x ∷ []) (length told) (length (told ++ x ∷ [])) keeps (take i js) j (h.joins_are i j at);
     equals_are = due_at x.equal refl;
-    }
+  }
     where
       by : (t : TermId) (m : Node) → Waits [] t ⊎ IsEntered js rs [] t m → Waits [] t ⊎ IsEntered js rs (equal_of x (length told)) t m
       by t m (inl w) = inl w

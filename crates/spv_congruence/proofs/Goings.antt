@@ -32,7 +32,7 @@ goes_trans a b c f g = record {
   rows_are = g.rows_are ∙ (ap (λ rs. rs ++ g.rows) f.rows_are ∙ append_assoc a.table.rows f.rows g.rows);
   table = (let h = f.table in let k = g.table in omega (arith, h, k));
   room = (let h = f.room in let k = g.room in omega (arith, h, k));
-  }
+}
 
 pub goes_fits : (a b : Kept) → GoesOn a b → Fits a → Fits b
 goes_fits a b g fits = subst Fits (sym g.is) (record {
@@ -42,7 +42,7 @@ goes_fits a b g fits = subst Fits (sym g.is) (record {
   uses = fits.uses;
   terms = fits.terms;
   facts = fits.facts;
-  })
+})
 
 pub classes_of : (a b : Kept) → OtherTable a b → b.classes ≡ a.classes
 classes_of a b o = ap (λ k. k.classes) o.is
@@ -51,10 +51,13 @@ pub goes_table : (a b : Kept) (more : List Signature) → OtherTable a b → b.t
 goes_table a b more o e = record {
   is = o.is ∙ ap (λ (c : Classes). record a { table = b.table; classes = c; room = b.room }) (sym (classes_of a b o));
   count = ap (λ c. c.count) (classes_of a b o);
-  joins = []; joins_are = ap (λ c. c.joins) (classes_of a b o) ∙ sym (append-nil a.classes.joins);
-  rows = more; rows_are = e;
-  table = o.table; room = o.room;
-  }
+  joins = [];
+  joins_are = ap (λ c. c.joins) (classes_of a b o) ∙ sym (append-nil a.classes.joins);
+  rows = more;
+  rows_are = e;
+  table = o.table;
+  room = o.room;
+}
 
 pub goes_still : (a b : Kept) → OtherTable a b → b.table.rows ≡ a.table.rows → GoesOn a b
 goes_still a b o e = goes_table a b [] o (e ∙ sym (append-nil a.table.rows))
@@ -121,15 +124,15 @@ entered_ok_same a b t q o e fits are es rest same h =
     let early = fits.terms.listed t e.node e.is in
     let c = classes_of a b o in
     subst (λ n. IsNow b n es rest) (sym (ap (λ k. length k.added) o.is))
-      (now_same a b t q o e fits are (length a.added) early es rest h
-        (sym (ap (λ (k : Classes). label_of k.joins q) c) ∙ (same ∙ ap (λ (k : Classes). label_of k.joins t) c)))
+    (now_same a b t q o e fits are (length a.added) early es rest h
+    (sym (ap (λ (k : Classes). label_of k.joins q) c) ∙ (same ∙ ap (λ (k : Classes). label_of k.joins t) c)))
 
 pub entered_ok_apart : (a b : Kept) (t q : TermId) → OtherTable a b → Enters a b t q → Fits a → AreJoins a.classes.count a.classes.joins → (es fs : List Equal) (rest : List TermId)
     → fs ≡ es ++ record { left = t; right = q; cause = Congruent } ∷ [] → IsNow a (length a.added) es (rest ++ t ∷ []) → IsNow b (length b.added) fs rest
 entered_ok_apart a b t q o e fits are es fs rest f h =
     let early = fits.terms.listed t e.node e.is in
     subst (λ n. IsNow b n fs rest) (sym (ap (λ k. length k.added) o.is))
-      (subst (λ gs. IsNow b (length a.added) gs rest) (sym f) (now_apart a b t q o e fits are (length a.added) early es rest h))
+    (subst (λ gs. IsNow b (length a.added) gs rest) (sym f) (now_apart a b t q o e fits are (length a.added) early es rest h))
 
 pub first_in : (a b : Kept) (t q : TermId) → OtherTable a b → Enters a b t q → Fits a → AreJoins a.classes.count a.classes.joins → (es : List Equal) → (rest : List TermId) × IsNow a (length a.added) es (rest ++ t ∷ []) → q.0 < b.classes.count
 first_in a b t q o e fits are es h =

@@ -38,7 +38,7 @@ module _ (nodes : List (Option Node)) (added : List TermId) (count : ℕ) (told 
       rows_are = h.rows_are;
       joins_are = h.joins_are;
       equals_are = λ i d at. h.equals_are i d (get_left rest (e ∷ []) i (get_within rest i d at) ∙ at);
-      }
+    }
       where
         by : (t : TermId) (m : Node) → Waits [] t ⊎ IsEntered js rs (rest ++ e ∷ []) t m → Waits [] t ⊎ IsEntered js rs rest t m
         by t m (inl w) = inl w
@@ -63,7 +63,7 @@ module _ (nodes : List (Option Node)) (added : List TermId) (count : ℕ) (told 
           lower = lower is.sides;
           upper = upper is.sides;
           cause = subst (λ c. IsCause nodes told n js (id j.left) (id j.right) c) (sym cause) (subst (λ x. IsCause nodes told n js (id x) (id j.right) e.cause) (sym left) (subst (λ x. IsCause nodes told n js e.left (id x) e.cause) (sym right) d.cause));
-          }
+        }
           where
             left_label : IsEarly added count (id (label js j.left))
             left_label = subst (λ x. IsEarly added count (id (label js x))) (sym left) (label_early js h.joins_are e.left d.left)
@@ -85,13 +85,13 @@ module _ (nodes : List (Option Node)) (added : List TermId) (count : ℕ) (told 
           told_due = λ i x less at eq. due_joined js j rest e x.left x.right ends_same (h.told_due i x less at eq);
           entered = λ t m early at. by t m early at (h.entered t m early at) (has_or_stays js j m.args);
           rows_are = λ i r at. let k = h.rows_are i r at in
-            record { node = k.node; is = k.is; early = k.early; head = k.head; labels_are = row_joined js j r.labels k.node.args k.labels_are };
+              record { node = k.node; is = k.is; early = k.early; head = k.head; labels_are = row_joined js j r.labels k.node.args k.labels_are };
           joins_are = of_push (λ i k. IsLink nodes added count told n (take i (js ++ j ∷ [])) k) js j
-            (λ i k at. subst (λ before. IsLink nodes added count told n before k) (sym (take_push i js j (omega (arith, get_within js i k at)))) (h.joins_are i k at))
-            (subst (λ before. IsLink nodes added count told n before j) (sym (take_whole js (j ∷ []))) link);
+              (λ i k at. subst (λ before. IsLink nodes added count told n before k) (sym (take_push i js j (omega (arith, get_within js i k at)))) (h.joins_are i k at))
+              (subst (λ before. IsLink nodes added count told n before j) (sym (take_whole js (j ∷ []))) link);
           equals_are = λ i k at. let g = h.equals_are i k (get_left rest (e ∷ []) i (get_within rest i k at) ∙ at) in
-            record { left = g.left; right = g.right; cause = cause_joined js j k.left k.right k.cause g.cause };
-          }
+              record { left = g.left; right = g.right; cause = cause_joined js j k.left k.right k.cause g.cause };
+        }
           where
             by : (t : TermId) (m : Node) → IsEarly added count t → HasNode nodes t m → Waits [] t ⊎ IsEntered js rs (rest ++ e ∷ []) t m
                 → HasLabel js j.lower m.args ⊎ (map (label_of (js ++ j ∷ [])) m.args ≡ map (label_of js) m.args) → Waits ws t ⊎ IsEntered (js ++ j ∷ []) rs rest t m

@@ -36,8 +36,10 @@ between_itself g l = record { added = omega arith; joins = omega arith; rows = o
 at_told : (g : Graph) (told' : List Fact) (l : Level) (n : ℕ) → ((i : ℕ) → i < n → slice_get told' i ≡ slice_get g.told i) → At g l n → At (record g { told = told' }) l n
 at_told g told' l n same h = level_same g.nodes g.nodes g.added g.added l.added g.told told' n (record {
   keeps = record { node = λ t m is. is; early = λ t e. e; fact = λ i x less at. same i less ∙ at; more = omega arith };
-  node_back = λ t m e is. is; early_back = λ t e. e; fact_back = λ i x less at. sym (same i less) ∙ at;
-  }) (take l.joins g.joins) (take l.rows g.rows) [] [] h
+  node_back = λ t m e is. is;
+  early_back = λ t e. e;
+  fact_back = λ i x less at. sym (same i less) ∙ at;
+}) (take l.joins g.joins) (take l.rows g.rows) [] [] h
 
 abbrev pub told_more : Graph → Fact → List Join → List Signature → Graph
 told_more g x js rs = record g { told = g.told ++ x ∷ []; levels = g.levels ++ now_at g ∷ []; joins = g.joins ++ js; rows = g.rows ++ rs }
@@ -54,7 +56,7 @@ module _ (g : Graph) (x : Fact) (js : List Join) (rs : List Signature) (is : IsG
   at_more l n j r less h =
       subst (λ ks. IsLevel g.nodes g.added l.added (g.told ++ x ∷ []) n ks (take l.rows (g.rows ++ rs)) [] []) (sym (take-append-le l.joins g.joins js j))
       (subst (λ ks. IsLevel g.nodes g.added l.added (g.told ++ x ∷ []) n (take l.joins g.joins) ks [] []) (sym (take-append-le l.rows g.rows rs r))
-        (at_told g (g.told ++ x ∷ []) l n (λ i h. get_left g.told (x ∷ []) i (omega (arith, h, less))) h))
+      (at_told g (g.told ++ x ∷ []) l n (λ i h. get_left g.told (x ∷ []) i (omega (arith, h, less))) h))
 
   between_more : (l m : Level) → l.rows ≤ length g.rows → m.rows ≤ length g.rows → Between g l m → Between (told_more g x js rs) l m
   between_more l m r q h =
@@ -128,7 +130,7 @@ module _ (g : Graph) (x : Fact) (js : List Join) (rs : List Signature) (is : IsG
     now = now;
     rises = rises_told;
     up = up_told;
-    }
+  }
 
 -- ---- facts are taken back
 
@@ -152,7 +154,7 @@ module _ (g : Graph) (n : ℕ) (is : IsGraph g) (less : n < length g.told) where
   at_back l m j r le h =
       subst (λ ks. IsLevel g.nodes g.added l.added (take n g.told) m ks (take l.rows (rows_at g n)) [] []) (sym (take-take l.joins (level_at g n).joins g.joins j))
       (subst (λ ks. IsLevel g.nodes g.added l.added (take n g.told) m (take l.joins g.joins) ks [] []) (sym (take-take l.rows (level_at g n).rows g.rows r))
-        (at_told g (take n g.told) l m (λ i k. get_take g.told i n (omega (arith, k, le))) h))
+      (at_told g (take n g.told) l m (λ i k. get_take g.told i n (omega (arith, k, le))) h))
 
   between_back : (l m : Level) → l.rows ≤ (level_at g n).rows → m.rows ≤ (level_at g n).rows → Between g l m → Between (back_to g n) l m
   between_back l m r q h =
@@ -168,7 +170,7 @@ module _ (g : Graph) (n : ℕ) (is : IsGraph g) (less : n < length g.told) where
     now = now;
     rises = λ k m le h. rises k m le (subst (λ i. m < i) told_len h);
     up = λ m h. up m (subst (λ i. m < i) told_len h);
-    }
+  }
     where
       past : (m : ℕ) → m < n → At (back_to g n) (level_at (back_to g n) m) m
       past m h =
@@ -200,4 +202,4 @@ module _ (g : Graph) (n : ℕ) (is : IsGraph g) (less : n < length g.told) where
           let f = rows_len in
           subst (λ l. Rises g.nodes l (record { added = (level_at g n).added; joins = length (joins_at g n); rows = length (rows_at g n) }) (take l.rows (rows_at g n)) (rows_at g n) (take l.added g.added) (take (level_at g n).added g.added)) (sym (level_back m h))
           (subst (λ ks. Rises g.nodes (level_at g m) (record { added = (level_at g n).added; joins = length (joins_at g n); rows = length (rows_at g n) }) ks (rows_at g n) (terms_at g m) (take (level_at g n).added g.added)) (sym (take-take (level_at g m).rows (level_at g n).rows g.rows d))
-            (record { added = a; joins = omega (arith, b, e); rows = omega (arith, d, f); cells = c }))
+          (record { added = a; joins = omega (arith, b, e); rows = omega (arith, d, f); cells = c }))

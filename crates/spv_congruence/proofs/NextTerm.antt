@@ -122,22 +122,22 @@ graph_entered g e t m js r is at node labels now = record {
   many = is.many;
   few = (let w = get_within g.added e t at in omega (arith, w));
   past = λ n less. let u = is.up n less in let a = u.joins in let b = u.rows in
-    subst (λ ks. IsLevel g.nodes g.added (level_at g n).added g.told n ks (take (level_at g n).rows (g.rows ++ r ∷ [])) [] []) (sym (take-append-le (level_at g n).joins g.joins js a))
-    (subst (λ ks. IsLevel g.nodes g.added (level_at g n).added g.told n (joins_at g n) ks [] []) (sym (take-append-le (level_at g n).rows g.rows (r ∷ []) b)) (is.past n less));
+      subst (λ ks. IsLevel g.nodes g.added (level_at g n).added g.told n ks (take (level_at g n).rows (g.rows ++ r ∷ [])) [] []) (sym (take-append-le (level_at g n).joins g.joins js a))
+      (subst (λ ks. IsLevel g.nodes g.added (level_at g n).added g.told n (joins_at g n) ks [] []) (sym (take-append-le (level_at g n).rows g.rows (r ∷ []) b)) (is.past n less));
   now = now;
   rises = λ k n le less. let a = (is.up k (omega (arith, le, less))).rows in let b = (is.up n less).rows in
-    subst (λ ks. Rises g.nodes (level_at g k) (level_at g n) ks (take (level_at g n).rows (g.rows ++ r ∷ [])) (terms_at g k) (terms_at g n)) (sym (take-append-le (level_at g k).rows g.rows (r ∷ []) a))
-    (subst (λ ks. Rises g.nodes (level_at g k) (level_at g n) (rows_at g k) ks (terms_at g k) (terms_at g n)) (sym (take-append-le (level_at g n).rows g.rows (r ∷ []) b)) (is.rises k n le less));
+      subst (λ ks. Rises g.nodes (level_at g k) (level_at g n) ks (take (level_at g n).rows (g.rows ++ r ∷ [])) (terms_at g k) (terms_at g n)) (sym (take-append-le (level_at g k).rows g.rows (r ∷ []) a))
+      (subst (λ ks. Rises g.nodes (level_at g k) (level_at g n) (rows_at g k) ks (terms_at g k) (terms_at g n)) (sym (take-append-le (level_at g n).rows g.rows (r ∷ []) b)) (is.rises k n le less));
   up = λ k less. let u = is.up k less in let a = u.added in let b = u.joins in let d = u.rows in let c = u.cells in
-    subst (λ ks. Rises g.nodes (level_at g k) (record { added = suc e; joins = length (g.joins ++ js); rows = length (g.rows ++ r ∷ []) }) ks (g.rows ++ r ∷ []) (terms_at g k) (take (suc e) g.added)) (sym (take-append-le (level_at g k).rows g.rows (r ∷ []) d))
-    (record {
-      added = omega (arith, a);
-      joins = (let f = length-append g.joins js in omega (arith, b, f));
-      rows = (let f = length_push g.rows r in omega (arith, d, f));
-      cells = (
-        let f = cells_append g.rows (r ∷ []) in
-        let w = ap (weight_of g.nodes) (take_next g.added e t at) ∙ weight_append g.nodes (take e g.added) (t ∷ []) in
-        let v : weight (slice_get g.nodes t.0) ≡ suc (length m.args) = ap weight node in
-        omega (arith, c, f, w, v, labels));
-    });
-  }
+      subst (λ ks. Rises g.nodes (level_at g k) (record { added = suc e; joins = length (g.joins ++ js); rows = length (g.rows ++ r ∷ []) }) ks (g.rows ++ r ∷ []) (terms_at g k) (take (suc e) g.added)) (sym (take-append-le (level_at g k).rows g.rows (r ∷ []) d))
+      (record {
+        added = omega (arith, a);
+        joins = (let f = length-append g.joins js in omega (arith, b, f));
+        rows = (let f = length_push g.rows r in omega (arith, d, f));
+        cells = (
+            let f = cells_append g.rows (r ∷ []) in
+            let w = ap (weight_of g.nodes) (take_next g.added e t at) ∙ weight_append g.nodes (take e g.added) (t ∷ []) in
+            let v : weight (slice_get g.nodes t.0) ≡ suc (length m.args) = ap weight node in
+            omega (arith, c, f, w, v, labels));
+      });
+}

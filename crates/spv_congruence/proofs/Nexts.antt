@@ -68,14 +68,14 @@ module _ (a b : Kept) (place : ℕ) (t q : TermId) (o : OtherTable a b) (e : Ent
   pub next_same : label_of b.classes.joins q ≡ label_of b.classes.joins t → EntersNext a b place
   next_same same =
       let h = entered_same a.nodes a.added (suc place) a.told (length a.told) a.classes.count a.classes.joins are a.table.rows [] [] t e.node q waiting early e.is e.first
-            (sym (same_label q) ∙ (same ∙ same_label t)) in
+      (sym (same_label q) ∙ (same ∙ same_label t)) in
       let u = graph_entered (graph a) place t e.node [] (signed e.node.head (labels a.classes.joins e.node) q) is at e.is labels_len
-            (subst (λ js. IsLevel a.nodes a.added (suc place) a.told (length a.told) js (a.table.rows ++ signed e.node.head (labels a.classes.joins e.node) q ∷ []) [] []) (sym (append-nil a.classes.joins)) h) in
+      (subst (λ js. IsLevel a.nodes a.added (suc place) a.told (length a.told) js (a.table.rows ++ signed e.node.head (labels a.classes.joins e.node) q ∷ []) [] []) (sym (append-nil a.classes.joins)) h) in
       record {
         goes = goes_table a b _ o e.rows;
         upto = subst (λ i. IsUpTo (graph i) (suc place)) (sym o.is)
-          (subst (λ js. IsUpTo (record (graph a) { joins = js; rows = b.table.rows }) (suc place)) (append-nil a.classes.joins)
-          (subst (λ rs. IsUpTo (record (graph a) { joins = a.classes.joins ++ []; rows = rs }) (suc place)) (sym e.rows) u));
+            (subst (λ js. IsUpTo (record (graph a) { joins = js; rows = b.table.rows }) (suc place)) (append-nil a.classes.joins)
+            (subst (λ rs. IsUpTo (record (graph a) { joins = a.classes.joins ++ []; rows = rs }) (suc place)) (sym e.rows) u));
         labels_stay = λ v early. same_label v;
         cells = cells_now;
       }
@@ -91,8 +91,8 @@ module _ (a b : Kept) (place : ℕ) (t q : TermId) (o : OtherTable a b) (e : Ent
     is_join : IsJoin a.classes.count a.classes.joins j
     is_join = subst (λ i. IsJoin a.classes.count a.classes.joins i) (sym j_was)
         (join_of-is a.classes.count a.classes.joins t.0 q.0 Congruent are (fits.count t e.node e.is)
-          (let n = first_is_node a b t q o e fits are (suc place) early [] [] waiting in fits.count q n.0 n.1)
-          (λ f. apart (same_label q ∙ (sym f ∙ sym (same_label t)))))
+        (let n = first_is_node a b t q o e fits are (suc place) early [] [] waiting in fits.count q n.0 n.1)
+        (λ f. apart (same_label q ∙ (sym f ∙ sym (same_label t)))))
 
     low : j.lower ≡ t.0
     low = ap (λ i. i.lower) j_was ∙ own_lower a.nodes a.added place a.told (length a.told) a.classes.joins is.terms is.now.joins_are t at a.classes.count are q
@@ -111,22 +111,22 @@ module _ (a b : Kept) (place : ℕ) (t q : TermId) (o : OtherTable a b) (e : Ent
     pub next_apart : EntersNext a c place
     next_apart =
         let h = entered_apart a.nodes a.added (suc place) a.told (length a.told) a.classes.count a.classes.joins are a.table.rows [] [] t e.node q waiting early e.is e.first
-              (record { left = t; right = q; cause = Congruent }) refl refl refl in
+        (record { left = t; right = q; cause = Congruent }) refl refl refl in
         let d = h.equals_are 0 (record { left = t; right = q; cause = Congruent }) refl in
         let l = one_joined a.nodes a.added (suc place) a.told (length a.told) a.classes.joins (a.table.rows ++ signed e.node.head (labels a.classes.joins e.node) q ∷ []) [] (record { left = t; right = q; cause = Congruent }) j
-              (ap (λ i. i.left) j_was ∙ join_left a.classes.joins t.0 q.0 Congruent) (ap (λ i. i.right) j_was ∙ join_right a.classes.joins t.0 q.0 Congruent) (ap (λ i. i.cause) j_was ∙ join_cause a.classes.joins t.0 q.0 Congruent)
-              a.classes.count is_join h d []
-              (λ u m ear node has. absurd (no_users a.nodes a.added place a.told (length a.told) a.classes.joins is.terms is.now.joins_are t at a.classes.count are q j low u m ear node has)) in
+        (ap (λ i. i.left) j_was ∙ join_left a.classes.joins t.0 q.0 Congruent) (ap (λ i. i.right) j_was ∙ join_right a.classes.joins t.0 q.0 Congruent) (ap (λ i. i.cause) j_was ∙ join_cause a.classes.joins t.0 q.0 Congruent)
+        a.classes.count is_join h d []
+        (λ u m ear node has. absurd (no_users a.nodes a.added place a.told (length a.told) a.classes.joins is.terms is.now.joins_are t at a.classes.count are q j low u m ear node has)) in
         let u = graph_entered (graph a) place t e.node (j ∷ []) (signed e.node.head (labels a.classes.joins e.node) q) is at e.is labels_len l in
         let same : graph c ≡ record (graph a) { joins = a.classes.joins ++ j ∷ []; rows = b.table.rows } =
-              ap graph c_is ∙ ap (λ (i : Kept). graph (with_join i j)) o.is in
+        ap graph c_is ∙ ap (λ (i : Kept). graph (with_join i j)) o.is in
         record {
           goes = goes_trans a b c (goes_table a b _ o e.rows) (subst (GoesOn b) (sym c_is) goes_c);
           upto = subst (λ g. IsUpTo g (suc place)) (sym same)
-            (subst (λ rs. IsUpTo (record (graph a) { joins = a.classes.joins ++ j ∷ []; rows = rs }) (suc place)) (sym e.rows) u);
+              (subst (λ rs. IsUpTo (record (graph a) { joins = a.classes.joins ++ j ∷ []; rows = rs }) (suc place)) (sym e.rows) u);
           labels_stay = λ v ear. ap (λ (i : Kept). label_of i.classes.joins v) c_is
-            ∙ (ap (λ (k : Classes). label_of (k.joins ++ j ∷ []) v) (classes_of a b o)
-            ∙ labels_stay a.nodes a.added place a.told (length a.told) a.classes.joins is.terms is.now.joins_are t at a.classes.count are q j low v ear);
+              ∙ (ap (λ (k : Classes). label_of (k.joins ++ j ∷ []) v) (classes_of a b o)
+              ∙ labels_stay a.nodes a.added place a.told (length a.told) a.classes.joins is.terms is.now.joins_are t at a.classes.count are q j low v ear);
           cells = λ v n x y. ap (λ (i : Kept). cells_of i.table.rows) c_is ∙ cells_now v n x y;
         }
 

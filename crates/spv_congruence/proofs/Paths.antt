@@ -140,7 +140,7 @@ module _ (a : Arena) (ok : IsArena a) (t : TermId) (start old new : Kept) (xs re
       levels = d.adds.levels ∙ p.levels;
       labels_stay = λ u e. d.adds.labels_stay u (early u e) ∙ p.labels_stay u e;
       past = λ m l. d.adds.past m (let w = ap length p.told in omega (arith, w, l)) ∙ p.past m l;
-      }
+    }
       where
         by : (u : TermId) (n : Node) → HasNode new.nodes u n → (u.0 ≡ x.0) ⊎ (u.0 ≢ x.0) → (HasNode start.nodes u n) ⊎ IsPart a t u
         by u n is (inl e) = inr (subst (IsPart a t) (sym (id_from u x e)) part)
@@ -167,7 +167,7 @@ module _ (a : Arena) (ok : IsArena a) (t : TermId) (start old new : Kept) (xs re
   step_path (inl h) =
       let g = h.1 in
       subst (λ (k : Kept). IsPath a t k.nodes (length a.nodes) rest) (sym h.0) (subst (IsPath a t old.nodes (length a.nodes)) (sym g.path)
-        (path_down a t old.nodes (length a.nodes) xs x g.to path (down_less g) g.missing (argument x g.node g.place g.to part g.is g.there)))
+      (path_down a t old.nodes (length a.nodes) xs x g.to path (down_less g) g.missing (argument x g.node g.place g.to part g.is g.there)))
   step_path (inr d) = subst (IsPath a t new.nodes (length a.nodes)) (sym d.path_is) (path_done a t old.nodes new.nodes d.node (length a.nodes) xs x d.adds.node path)
 
   pub step_first : Steps a old new xs x rest → (slice_get (xs ++ x ∷ []) 0 ≡ Some t) ⊎ IsNode old.nodes t → (slice_get rest 0 ≡ Some t) ⊎ IsNode new.nodes t

@@ -76,11 +76,11 @@ joins_is k k' x tells is are =
       told = ap (λ (i : Kept). i.told) g.is;
       here = ap (λ (l : Level). take l.joins k'.classes.joins) level_here ∙ (ap (take (length k.classes.joins)) g.joins_are ∙ take_whole k.classes.joins g.joins);
       past = λ m less. let j = (is.up m less).joins in
-        ap (λ (l : Level). take l.joins k'.classes.joins) (level_past m less) ∙ (ap (take (level_at (graph k) m).joins) g.joins_are ∙ take-append-le (level_at (graph k) m).joins k.classes.joins g.joins j);
+          ap (λ (l : Level). take l.joins k'.classes.joins) (level_past m less) ∙ (ap (take (level_at (graph k) m).joins) g.joins_are ∙ take-append-le (level_at (graph k) m).joins k.classes.joins g.joins j);
       terms_here = ap (λ (l : Level). l.added) level_here;
       terms_past = λ m less. ap (λ (l : Level). l.added) (level_past m less);
       doubled = λ t. subst (λ ks. (label ks t.0 ≡ label k.classes.joins t.0) ⊎ (2 * size k.classes.joins (label k.classes.joins t.0) ≤ size ks (label ks t.0))) (sym g.joins_are)
-        (bigger k'.classes.count k.classes.joins g.joins (subst (AreJoins k'.classes.count) g.joins_are are) t.0).changed;
+          (bigger k'.classes.count k.classes.joins g.joins (subst (AreJoins k'.classes.count) g.joins_are are) t.0).changed;
     }
   where
     levels_are : k'.levels ≡ k.levels ++ now_at (graph k) ∷ []
@@ -116,16 +116,20 @@ undone_is k k' n le is same back = by (less_or_same n (length k.told) le)
 
     by : (n < length k.told) ⊎ (n ≡ length k.told) → Undone (graph k) n (graph k')
     by (inl h) = let b = back h in record {
-      nodes = b.nodes; added = b.added; told = b.told;
+      nodes = b.nodes;
+      added = b.added;
+      told = b.told;
       same = λ e. absurd (no h e);
       classes = λ t l early. b.labels_are t early;
       past = λ m l j. (b.past m l).1;
       terms_past = λ m l j. ap (λ (v : Level). v.added) (b.past m l).0;
-      }
+    }
     by (inr e) = let f = same e in record {
-      nodes = ap (λ (i : Kept). i.nodes) f; added = ap (λ (i : Kept). i.added) f; told = ap (λ (i : Kept). i.told) f ∙ sym (take_all n k.told (omega (arith, e)));
+      nodes = ap (λ (i : Kept). i.nodes) f;
+      added = ap (λ (i : Kept). i.added) f;
+      told = ap (λ (i : Kept). i.told) f ∙ sym (take_all n k.told (omega (arith, e)));
       same = λ g. ap graph f;
       classes = λ t l early. absurd (no l e);
       past = λ m l j. ap (λ (i : Kept). joins_at (graph i) m) f;
       terms_past = λ m l j. ap (λ (i : Kept). (level_at (graph i) m).added) f;
-      }
+    }

@@ -27,7 +27,7 @@ room_trans a b c f g = record {
   table = (let h = f.table in let k = g.table in omega (arith, h, k));
   uses = λ x t w. g.uses x t (f.uses x t w);
   room = (let h = f.room in let k = g.room in omega (arith, h, k));
-  }
+}
 
 pub room_uses : (a b : Kept) → b ≡ record a { uses = b.uses } → KeepsUses a.uses b.uses → MakesRoom a b
 room_uses a b e k = record {
@@ -37,7 +37,7 @@ room_uses a b e k = record {
   table = (let c = ap (λ (i : Kept). i.table.room) e in omega (arith, c));
   uses = k;
   room = (let c = ap (λ (i : Kept). i.room) e in omega (arith, c));
-  }
+}
   where
     six : a.classes ≡ b.classes → a.table ≡ b.table → a.room ≡ b.room → record a { uses = b.uses } ≡ record a { classes = record a.classes { count = b.classes.count }; table = b.table; uses = b.uses; room = b.room }
     six c t r =
@@ -53,7 +53,7 @@ room_fits a b m fits = subst Fits (sym m.is) (record {
   uses = λ t n is i u at. m.uses u.0 t (fits.uses t n is i u at);
   terms = fits.terms;
   facts = fits.facts;
-  })
+})
 
 pub room_graph : (a b : Kept) → MakesRoom a b → graph b ≡ graph a
 room_graph a b m = ap graph m.is ∙ ap (λ rs. record (graph a) { rows = rs }) m.rows
@@ -86,7 +86,7 @@ module _ (nodes nodes' : List (Option Node)) (added : List TermId) (t : TermId) 
     listed = λ u m is. listed u m is (same_or_apart u.0 t.0);
     apart = λ i k u a b. apart i k u (of_last added t u i a) (of_last added t u k b);
     args = λ i u m at is. args_at i u m is (of_last added t u i at);
-    }
+  }
     where
       noded : (i : ℕ) (u : TermId) → (slice_get added i ≡ Some u) ⊎ ((i ≡ length added) × (t ≡ u)) → (m : Node) × HasNode nodes' u m
       noded i u (inl h) = let k = terms.noded i u h in (k.0, node_kept u k.0 k.1)
@@ -123,7 +123,7 @@ module _ (nodes nodes' : List (Option Node)) (added : List TermId) (t : TermId) 
     node_back = λ u m e is. node_back c u m (early_back c le u e) is;
     early_back = early_back c le;
     fact_back = λ i x less at. at;
-    }
+  }
 
   same_weight : (c : ℕ) (ts : List TermId) → ((i : ℕ) (u : TermId) → slice_get ts i ≡ Some u → IsEarly added c u) → weight_of nodes' ts ≡ weight_of nodes ts
   same_weight c [] all = refl
@@ -158,15 +158,15 @@ module _ (g : Graph) (nodes' : List (Option Node)) (t : TermId) (n : Node) (put 
     many = is.many;
     few = (let p = length_push g.added t in omega (arith, p));
     past = λ k less. let u = (is.up k less).added in
-      level_same g.nodes nodes' g.added (g.added ++ t ∷ []) (level_at g k).added g.told g.told k (same_here (level_at g k).added u k) (joins_at g k) (rows_at g k) [] [] (is.past k less);
+        level_same g.nodes nodes' g.added (g.added ++ t ∷ []) (level_at g k).added g.told g.told k (same_here (level_at g k).added u k) (joins_at g k) (rows_at g k) [] [] (is.past k less);
     now = level_same g.nodes nodes' g.added (g.added ++ t ∷ []) (length g.added) g.told g.told (length g.told) (same_here (length g.added) (omega arith) (length g.told)) g.joins g.rows [] [] is.now;
     rises = λ k m le less. let a = (is.up k (omega (arith, le, less))).added in let b = (is.up m less).added in let r = is.rises k m le less in let c = r.cells in
-      let v = weights (level_at g k).added a in let w = weights (level_at g m).added b in
-      record { added = r.added; joins = r.joins; rows = r.rows; cells = omega (arith, c, v, w) };
+        let v = weights (level_at g k).added a in let w = weights (level_at g m).added b in
+        record { added = r.added; joins = r.joins; rows = r.rows; cells = omega (arith, c, v, w) };
     up = λ k less. let u = is.up k less in let a = u.added in let c = u.cells in
-      let v = weights (level_at g k).added a in let w = weights (length g.added) (omega arith) in
-      record { added = u.added; joins = u.joins; rows = u.rows; cells = omega (arith, c, v, w) };
-    }
+        let v = weights (level_at g k).added a in let w = weights (length g.added) (omega arith) in
+        record { added = u.added; joins = u.joins; rows = u.rows; cells = omega (arith, c, v, w) };
+  }
 
 module _ (a b : Kept) (t : TermId) (n : Node) (p : Puts a t n b) (is : IsGraph (graph a)) (missing : IsMissing a.nodes t) (args : AreNodes a.nodes n.args) where
   pub put_graph : (place : ℕ) → place ≡ length a.added → IsUpTo (graph b) place
@@ -187,7 +187,7 @@ module _ (a b : Kept) (t : TermId) (n : Node) (p : Puts a t n b) (is : IsGraph (
       uses = λ u m h. uses u m h (same_or_apart u.0 t.0);
       terms = put_terms a.nodes b.nodes a.added t n p.node is.terms missing args;
       facts = λ i x at. let h = fits.facts i x at in ((h.0.0, kept x.left h.0.0 h.0.1), (h.1.0, kept x.right h.1.0 h.1.1));
-      })
+    })
       where
         kept : (u : TermId) (m : Node) → HasNode a.nodes u m → HasNode b.nodes u m
         kept u m h = p.node.kept u m (λ e. missing m (subst (λ x. HasNode a.nodes x m) (id_from u t e) h)) h
@@ -241,13 +241,13 @@ module _ (a b : Kept) (t : TermId) (n : Node) (p : Puts a t n b) (is : IsGraph (
         told = ap (λ (i : Kept). i.told) next.goes.is ∙ ap (λ (i : Kept). i.told) p.is;
         levels = ap (λ (i : Kept). i.levels) next.goes.is ∙ ap (λ (i : Kept). i.levels) p.is;
         labels_stay = λ u early.
-          next.labels_stay u (record { place = early.place; early = (let l = early.early in omega (arith, l, e)); there = ap (λ ts. slice_get ts early.place) b_added ∙ (get_left a.added (t ∷ []) early.place (get_within a.added early.place u early.there) ∙ early.there) })
-          ∙ ap (λ (i : Kept). label_of i.classes.joins u) p.is;
+            next.labels_stay u (record { place = early.place; early = (let l = early.early in omega (arith, l, e)); there = ap (λ ts. slice_get ts early.place) b_added ∙ (get_left a.added (t ∷ []) early.place (get_within a.added early.place u early.there) ∙ early.there) })
+            ∙ ap (λ (i : Kept). label_of i.classes.joins u) p.is;
         past = λ m less.
-          let levels = ap (λ (i : Kept). get_or i.levels m nowhere) next.goes.is ∙ ap (λ (i : Kept). get_or i.levels m nowhere) p.is in
-          let j = (is.up m less).joins in
-          let js = next.goes.joins_are ∙ ap (λ ks. ks ++ next.goes.joins) (ap (λ (i : Kept). i.classes.joins) p.is) in
-          ap (λ (l : Level). take l.joins c.classes.joins) levels ∙ (ap (take (level_at (graph a) m).joins) js ∙ take-append-le (level_at (graph a) m).joins a.classes.joins next.goes.joins j);
+            let levels = ap (λ (i : Kept). get_or i.levels m nowhere) next.goes.is ∙ ap (λ (i : Kept). get_or i.levels m nowhere) p.is in
+            let j = (is.up m less).joins in
+            let js = next.goes.joins_are ∙ ap (λ ks. ks ++ next.goes.joins) (ap (λ (i : Kept). i.classes.joins) p.is) in
+            ap (λ (l : Level). take l.joins c.classes.joins) levels ∙ (ap (take (level_at (graph a) m).joins) js ∙ take-append-le (level_at (graph a) m).joins a.classes.joins next.goes.joins j);
       }
 
 -- ---- uses of arguments

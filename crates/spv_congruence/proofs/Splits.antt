@@ -79,12 +79,16 @@ module _ (g : Graph) (count : ℕ) (are : AreJoins count g.joins) (is : IsGraph 
 
   pub split_forth : (l : Link) → nat_eq (label_of (take m g.joins) s) (label (take m g.joins) j.left) ≡ true → IsCauseLink g.told j.cause (id j.left) (id j.right) l → IsSplit g s t (record { from = id j.left; to = id j.right; link = l })
   split_forth l h c = record {
-    place = m; within = late.within; apart = late.apart; same = late.same;
+    place = m;
+    within = late.within;
+    apart = late.apart;
+    same = late.same;
     first = test _ _ h;
     second = second two_classes join_is.sides;
     link = λ k less. link_forth g m k less (id j.left) (id j.right) j.cause l link.cause c;
-    from_node = node_of (id j.left) link.left; to_node = node_of (id j.right) link.right;
-    }
+    from_node = node_of (id j.left) link.left;
+    to_node = node_of (id j.right) link.right;
+  }
     where
       here : label_of (take m g.joins) s ≡ label (take m g.joins) j.left
       here = test _ _ h
@@ -100,10 +104,15 @@ module _ (g : Graph) (count : ℕ) (are : AreJoins count g.joins) (is : IsGraph 
   split_back l h c =
       let b = both two_classes join_is.sides in
       record {
-        place = m; within = late.within; apart = late.apart; same = late.same;
-        first = b.0; second = b.1;
+        place = m;
+        within = late.within;
+        apart = late.apart;
+        same = late.same;
+        first = b.0;
+        second = b.1;
         link = λ k less. link_back g m k less (id j.left) (id j.right) j.cause l link.cause c;
-        from_node = node_of (id j.right) link.right; to_node = node_of (id j.left) link.left;
+        from_node = node_of (id j.right) link.right;
+        to_node = node_of (id j.left) link.left;
       }
     where
       both : ((label_of (take m g.joins) s ≡ j.lower) × (label_of (take m g.joins) t ≡ j.upper)) ⊎ ((label_of (take m g.joins) s ≡ j.upper) × (label_of (take m g.joins) t ≡ j.lower))
@@ -265,8 +274,8 @@ module _ (g : Graph) where
           let i = h.1 in
           subst (AreWorks g) (sym h.2)
           (works_more g ((ws ++ Between p.to y ∷ []) ++ Write p.link ∷ []) (Between x p.from)
-            (works_more g (ws ++ Between p.to y ∷ []) (Write p.link) (works_more g ws (Between p.to y) rest (i.to_node, here.1, at_end p.to y i.place i.within i.second)) tt)
-            (here.0, i.from_node, at_end x p.from i.place i.within i.first))
+          (works_more g (ws ++ Between p.to y ∷ []) (Write p.link) (works_more g ws (Between p.to y) rest (i.to_node, here.1, at_end p.to y i.place i.within i.second)) tt)
+          (here.0, i.from_node, at_end x p.from i.place i.within i.first))
 
   pub done_leads : (w : Work) (ws vs : List Work) (ls ks : List Link) → Done g w ws ls vs ks → (s t : TermId) (k : ℕ) → k ≤ length g.joins → (u : TermId) × Leads g k s ls u × Owes g k u (ws ++ w ∷ []) t → (u : TermId) × Leads g k s ks u × Owes g k u vs t
   done_leads (Write l) ws vs ls ks d s t k lim h =

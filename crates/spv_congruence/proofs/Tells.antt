@@ -18,27 +18,33 @@ use Rattle.spv_congruence.proofs.Levels.{graph_told, told_more, graph_back, back
 use Rattle.spv_congruence.proofs.NextTerm.{weight_append}
 
 pub fits_fact : (k : Kept) (x : Fact) → IsNode k.nodes x.left → IsNode k.nodes x.right → Fits k → Fits (with_fact k x)
-fits_fact k x left right fits = record { count = fits.count; args = fits.args; room = fits.room; uses = fits.uses; terms = fits.terms;
-  facts = of_push (λ i y. IsNode k.nodes y.left × IsNode k.nodes y.right) k.told x fits.facts (left, right) }
+fits_fact k x left right fits = record {
+  count = fits.count;
+  args = fits.args;
+  room = fits.room;
+  uses = fits.uses;
+  terms = fits.terms;
+  facts = of_push (λ i y. IsNode k.nodes y.left × IsNode k.nodes y.right) k.told x fits.facts (left, right);
+}
 
 pub settle_level : (k k' : Kept) (x : Fact) (es : List Equal) → k' ≡ with_fact k x → es ≡ equal_of x (length k.told) → Fits k → IsGraph (graph k) → IsNode k.nodes x.left → IsNode k.nodes x.right → IsNow k' (length k'.added) es []
 settle_level k k' x es e f fits is l r =
     let left = fits.terms.listed x.left l.0 l.1 in
     let right = fits.terms.listed x.right r.0 r.1 in
     subst (λ (i : Kept). IsNow i (length i.added) es []) (sym e) (subst (λ gs. IsNow (with_fact k x) (length k.added) gs []) (sym f)
-      (now_told k.nodes k.added (length k.added) k.told k.classes.joins k.table.rows x left right is.now))
+    (now_told k.nodes k.added (length k.added) k.told k.classes.joins k.table.rows x left right is.now))
 
 pub told_graph : (k k' : Kept) (x : Fact) → Tells k k' x → IsGraph (graph k) → IsGraph (graph k')
 told_graph k k' x tells is =
     let g = tells.goes in
     let now : IsLevel k.nodes k.added (length k.added) (k.told ++ x ∷ []) (length (k.told ++ x ∷ [])) (k.classes.joins ++ g.joins) (k.table.rows ++ g.rows) [] [] =
-          subst (λ js. IsLevel k.nodes k.added (length k.added) (k.told ++ x ∷ []) (length (k.told ++ x ∷ [])) js (k.table.rows ++ g.rows) [] []) g.joins_are
-          (subst (λ rs. IsLevel k.nodes k.added (length k.added) (k.told ++ x ∷ []) (length (k.told ++ x ∷ [])) k'.classes.joins rs [] []) g.rows_are
-          (subst (λ (i : Kept). IsLevel i.nodes i.added (length i.added) i.told (length i.told) k'.classes.joins k'.table.rows [] []) g.is tells.now)) in
+    subst (λ js. IsLevel k.nodes k.added (length k.added) (k.told ++ x ∷ []) (length (k.told ++ x ∷ [])) js (k.table.rows ++ g.rows) [] []) g.joins_are
+    (subst (λ rs. IsLevel k.nodes k.added (length k.added) (k.told ++ x ∷ []) (length (k.told ++ x ∷ [])) k'.classes.joins rs [] []) g.rows_are
+    (subst (λ (i : Kept). IsLevel i.nodes i.added (length i.added) i.told (length i.told) k'.classes.joins k'.table.rows [] []) g.is tells.now)) in
     subst (λ i. IsGraph (graph i)) (sym g.is)
     (subst (λ js. IsGraph (record (graph (with_fact k x)) { joins = js; rows = k'.table.rows })) (sym g.joins_are)
     (subst (λ rs. IsGraph (record (graph (with_fact k x)) { joins = k.classes.joins ++ g.joins; rows = rs })) (sym g.rows_are)
-      (graph_told (graph k) x g.joins g.rows is now)))
+    (graph_told (graph k) x g.joins g.rows is now)))
 
 -- ---- a fact that was told in part
 
@@ -71,12 +77,12 @@ module _ (k mid new : Kept) (x : Fact) (left : IsNode k.nodes x.left) (right : I
       let r = more longer in
       let level_is : level_at (graph mid) (length k.told) ≡ now_at (graph k) = ap (λ ls. get_or ls (length k.told) nowhere) levels_is ∙ get_or_push k.levels (now_at (graph k)) nowhere (length k.told) is.many in
       let joins_back : joins_at (graph mid) (length k.told) ≡ k.classes.joins =
-            ap (λ (l : Level). take l.joins mid.classes.joins) level_is ∙ (ap (take (length k.classes.joins)) g.joins_are ∙ take_whole k.classes.joins g.joins) in
+      ap (λ (l : Level). take l.joins mid.classes.joins) level_is ∙ (ap (take (length k.classes.joins)) g.joins_are ∙ take_whole k.classes.joins g.joins) in
       let rows_back : rows_at (graph mid) (length k.told) ≡ k.table.rows =
-            ap (λ (l : Level). take l.rows mid.table.rows) level_is ∙ (ap (take (length k.table.rows)) g.rows_are ∙ take_whole k.table.rows g.rows) in
+      ap (λ (l : Level). take l.rows mid.table.rows) level_is ∙ (ap (take (length k.table.rows)) g.rows_are ∙ take_whole k.table.rows g.rows) in
       let told_back : take (length k.told) mid.told ≡ k.told = ap (take (length k.told)) told_is ∙ take_whole k.told (x ∷ []) in
       let levels_back : take (length k.told) mid.levels ≡ k.levels =
-            ap (take (length k.told)) levels_is ∙ (take-append-le (length k.told) k.levels (now_at (graph k) ∷ []) (let m = is.many in omega (arith, m)) ∙ take_all (length k.told) k.levels (let m = is.many in omega (arith, m))) in
+      ap (take (length k.told)) levels_is ∙ (take-append-le (length k.told) k.levels (now_at (graph k) ∷ []) (let m = is.many in omega (arith, m)) ∙ take_all (length k.told) k.levels (let m = is.many in omega (arith, m))) in
       record {
         same = ap graph r.is ∙ (same_nodes _ _ _ _ _ _ _ _ nodes_is added_is ∙ same_graph k.nodes k.added _ _ _ _ _ _ _ _ told_back levels_back joins_back (r.rows ∙ rows_back));
         fits = subst Fits (sym r.is) (fits_at g r);
@@ -138,7 +144,7 @@ module _ (k mid : Kept) (n : ℕ) (r : IsRewound k n mid) (fits : Fits k) (is : 
       graph_is = h.graph_is;
       labels_are = λ u early. h.labels_stay u (subst (λ ts. IsEarly ts (level_at (graph k) n).added u) (sym (ap (λ (i : Kept). i.added) r.is)) early) ∙ ap (λ (i : Kept). label_of i.classes.joins u) r.is;
       past = λ m l. (level_now m l, joins_now m l);
-      }
+    }
       where
         joins_now : (m : ℕ) → m < n → joins_at (graph new) m ≡ joins_at (graph k) m
         joins_now m l =

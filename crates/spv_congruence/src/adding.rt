@@ -135,7 +135,12 @@ impl Kept {
     }
 
     // Adds a term whose arguments were added. For want of memory the graph stays as it was.
-    pub(crate) fn add_one(&mut self, t: TermId, head: Head, args: &[TermId]) -> Result<(), AllocError>
+    pub(crate) fn add_one(
+        &mut self,
+        t: TermId,
+        head: Head,
+        args: &[TermId],
+    ) -> Result<(), AllocError>
         requires fits { Fits self.old }
         requires graph { IsGraph (graph self.old) }
         requires missing { IsMissing self.old.nodes t }

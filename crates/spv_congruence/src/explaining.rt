@@ -5,7 +5,6 @@ ghost use Rattle.spv_classes.specs.Classes.{IsLatest};
 ghost use Rattle.spv_congruence.specs.Graph.{IsGraph, label_of};
 ghost use Rattle.spv_congruence.specs.Keep.{graph, Fits, IsNode};
 ghost use Rattle.spv_congruence.specs.Explained.{AreWorks, Done, Explains, IsCauseLink, IsSplit, IsWork, PlaceWithin};
-
 ghost use Rattle.spv_congruence.specs.declared.explaining.Work.TheVariants.{Between, Write};
 
 use crate::facts::{Fact, Link};

@@ -13,11 +13,7 @@ use spv_term::TermId;
 use std::alloc::AllocError;
 
 // Adds the terms that use a term.
-fn add_uses(
-    users: &mut Vec<TermId>,
-    uses: &[Vec<TermId>],
-    x: usize,
-) -> Result<(), AllocError>
+fn add_uses(users: &mut Vec<TermId>, uses: &[Vec<TermId>], x: usize) -> Result<(), AllocError>
     ensures { OnOk result (users.new.items ≡ users.old.items ++ uses_at (map (λ v. v.items) uses.now) x) }
 {
     if x < uses.len() {
@@ -101,11 +97,7 @@ impl Kept {
     }
 
     // Enters terms again.
-    fn enter_users(
-        &mut self,
-        equals: &mut Vec<Equal>,
-        users: Vec<TermId>,
-    ) -> Result<(), AllocError>
+    fn enter_users(&mut self, equals: &mut Vec<Equal>, users: Vec<TermId>) -> Result<(), AllocError>
         requires fits { Fits self.old }
         requires level { IsNow self.old (length self.old.added) equals.old.items users.items }
         ensures ok { OnOk result (IsNow self.new (length self.new.added) equals.new.items []) }

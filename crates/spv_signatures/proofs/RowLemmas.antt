@@ -153,4 +153,3 @@ module _ (rows rs : List Row) (cells cs : List ℕ) (n : ℕ) (r : Row) (at : sl
       let split : cs ++ drop r.start cells ≡ cells = ap (λ zs. zs ++ drop r.start cells) e ∙ take-append-drop r.start cells in
       sym (same_signatures cs (drop r.start cells) 0 rs (length cs) cut_laid (omega arith))
       ∙ (ap (λ zs. map (signature zs) rs) split ∙ (ap (map (signature cells)) f ∙ sym (take-map (signature cells) n rows)))
-

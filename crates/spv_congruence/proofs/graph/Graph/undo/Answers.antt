@@ -9,7 +9,7 @@ pub invariant_of-self : goal.invariant_of-self
 invariant_of-self c = record {
   fits = c.undo.ensures.fits;
   graph_is = undone_graph c.self.inside.kept c.undo.new.self c.mark.inside.facts
-    (let e = c.mark.view_is in let f = ap (λ (g : Graph). length g.told) c.self.view_is in omega (arith, e, f, c.requires)) c.self.invariant.graph_is c.undo.ensures.same c.undo.ensures.back;
+      (let e = c.mark.view_is in let f = ap (λ (g : Graph). length g.told) c.self.view_is in omega (arith, e, f, c.requires)) c.self.invariant.graph_is c.undo.ensures.same c.undo.ensures.back;
 }
 
 pub returns : goal.returns

@@ -39,5 +39,5 @@ loop-x-preserved c =
       parts = step_parts c.args.terms.now c.law_arena.ensures c.args.t c.args.self.now c.loop-x.self c.step.new.self _ _ _ path c.in_ok-step.ensures.ok i.parts;
       path = step_path c.args.terms.now c.law_arena.ensures c.args.t c.args.self.now c.loop-x.self c.step.new.self _ _ _ path c.in_ok-step.ensures.ok;
       first = step_first c.args.terms.now c.law_arena.ensures c.args.t c.args.self.now c.loop-x.self c.step.new.self _ _ _ path c.in_ok-step.ensures.ok
-        (subst (λ ts. (slice_get ts 0 ≡ Some c.args.t) ⊎ IsNode c.loop-x.self.nodes c.args.t) c.in-Some.ensures.items i.first);
+          (subst (λ ts. (slice_get ts 0 ≡ Some c.args.t) ⊎ IsNode c.loop-x.self.nodes c.args.t) c.in-Some.ensures.items i.first);
     }

@@ -19,5 +19,5 @@ loop-work-preserved c =
     record {
       works = done_works (graph c.args.self.now) c.in-Some.work _ _ _ _ c.in_ok-explain_one.ensures (subst (AreWorks (graph c.args.self.now)) c.in-Some.ensures.items i.works);
       leads = λ k lim same. done_leads (graph c.args.self.now) c.in-Some.work _ _ _ _ c.in_ok-explain_one.ensures c.args.s c.args.t k lim
-        (let h = i.leads k lim same in (h.0, h.1, subst (λ ws. Owes (graph c.args.self.now) k h.0 ws c.args.t) c.in-Some.ensures.items h.2));
+          (let h = i.leads k lim same in (h.0, h.1, subst (λ ws. Owes (graph c.args.self.now) k h.0 ws c.args.t) c.in-Some.ensures.items h.2));
     }

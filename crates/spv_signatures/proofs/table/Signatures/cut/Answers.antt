@@ -13,16 +13,16 @@ invariant_of-self c =
     record {
       laid = cut_laid _ _ _ _ _ _ at c.self.invariant.laid c.truncate.ensures.items c.truncate-2.ensures.items;
       fit = (
-        let e = ap length c.truncate.ensures.items in
-        let f = ap length c.truncate-2.ensures.items in
-        let n = length-take c.row_at-row.result.start c.self.inside.cells.items in
-        let m = length-take c.args.count c.self.inside.rows.items in
-        let w = min-le_right c.row_at-row.result.start (length c.self.inside.cells.items) in
-        let v = min-le_right c.args.count (length c.self.inside.rows.items) in
-        let l = min-le_left (vec_capacity c.self.inside.rows) (vec_capacity c.self.inside.cells) in
-        let r = min-le_right (vec_capacity c.self.inside.rows) (vec_capacity c.self.inside.cells) in
-        let i = c.self.invariant.fit in
-        le-min
+          let e = ap length c.truncate.ensures.items in
+          let f = ap length c.truncate-2.ensures.items in
+          let n = length-take c.row_at-row.result.start c.self.inside.cells.items in
+          let m = length-take c.args.count c.self.inside.rows.items in
+          let w = min-le_right c.row_at-row.result.start (length c.self.inside.cells.items) in
+          let v = min-le_right c.args.count (length c.self.inside.rows.items) in
+          let l = min-le_left (vec_capacity c.self.inside.rows) (vec_capacity c.self.inside.cells) in
+          let r = min-le_right (vec_capacity c.self.inside.rows) (vec_capacity c.self.inside.cells) in
+          let i = c.self.invariant.fit in
+          le-min
           (omega (arith, e, f, n, m, w, v, l, i, c.truncate.ensures.capacity, c.truncate-2.ensures.capacity))
           (omega (arith, e, f, n, m, w, v, r, i, c.truncate.ensures.capacity, c.truncate-2.ensures.capacity)));
     }
