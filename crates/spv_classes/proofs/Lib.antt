@@ -1,0 +1,9 @@
+pub mod Lists
+pub mod Labels
+pub mod RingLemmas
+pub mod Growing
+pub mod Circles
+pub mod Counts
+pub mod Links
+pub mod Steps
+pub mod Moments

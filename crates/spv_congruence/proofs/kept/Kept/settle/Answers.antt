@@ -1,0 +1,6 @@
+use Rattle.std.proofs.Common.{◌≡◌, length, arith}
+use Rattle.spv_congruence.proofs.Goings.{goes_refl, goes_trans, goes_fits}
+use Rattle.spv_congruence.proofs.kept.Kept.settle.Goals as goal
+
+pub loop-equal-init : goal.loop-equal-init
+loop-equal-init c = record { fits = c.requires.fits; level = c.requires.level; goes = goes_refl _ }

@@ -1,0 +1,15 @@
+use Rattle.spv_congruence_tests.specs.Bench.{Bench}
+use Rattle.spv_congruence_tests.proofs.Benches.{number_in}
+use Rattle.spv_congruence_tests.proofs.bench.Bench.explain.Goals as goal
+
+pub same-requires-clause-left : goal.same-requires-clause-left
+same-requires-clause-left c = (number_in _ _ c.self.view_is c.self.invariant _ _ c.in_ok-left.ensures).node
+
+pub same-requires-clause-right : goal.same-requires-clause-right
+same-requires-clause-right c = (number_in _ _ c.self.view_is c.self.invariant _ _ c.in_ok-right.ensures).node
+
+pub explain-requires-clause-left : goal.explain-requires-clause-left
+explain-requires-clause-left c = (number_in _ _ c.self.view_is c.self.invariant _ _ c.in_ok-left.ensures).node
+
+pub explain-requires-clause-right : goal.explain-requires-clause-right
+explain-requires-clause-right c = (number_in _ _ c.self.view_is c.self.invariant _ _ c.in_ok-right.ensures).node
