@@ -9,9 +9,9 @@ use spv_tableaux::Side;
 use std::alloc::{AllocError, Global};
 use std::marker::Model;
 
-/// What a check met that stopped at a limit: the bounds that stood, the basis when the check began, the values
-/// that the other columns held then, the steps with their leaving and entering columns, and the operation
-/// that does not fit. Where the check made all steps that are allowed, the operation is `Cmp` of 0 with 0.
+/// Why a check stopped at a limit. It tells where the check set out (its bounds, its basis and what every column
+/// outside held), each of its steps by the column that left and the one that entered, and the operation that
+/// does not fit. Where the check made all steps that are allowed, the operation is `Cmp` of 0 with 0.
 #[derive(Debug, Drop)]
 pub struct Evidence {
     bounds: Vec<(u32, Side, Frac)>,
@@ -59,7 +59,7 @@ impl Evidence {
         })
     }
 
-    /// The bounds that stood.
+    /// The bounds of the rows at that time.
     pub fn bounds(&self) -> &[(u32, Side, Frac)]
         ensures { map bound_in result.now ≡ self.now.start.bounds }
     {
