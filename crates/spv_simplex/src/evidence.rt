@@ -66,14 +66,14 @@ impl Evidence {
         self.bounds.as_slice()
     }
 
-    /// The basis when the check began.
+    /// The columns in the basis before the first step.
     pub fn start(&self) -> &[u32]
         ensures { result.now ≡ self.now.start.basis }
     {
         self.start.as_slice()
     }
 
-    /// The values that the other columns held then.
+    /// What each column outside it held.
     pub fn held(&self) -> &[(u32, Frac)]
         ensures { map held_in result.now ≡ self.now.start.held }
     {
