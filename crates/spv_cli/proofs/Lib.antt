@@ -1,4 +1,3 @@
 pub mod Lines
 pub mod Told
 pub mod Promises
-pub mod Refused

@@ -1,22 +1,20 @@
 -- What a run promises follows from what it does.
-use Rattle.std.proofs.Common.{◌≡◌, inl, inr, ℕ, ◌≤◌, ◌<◌, ◌-◌, ◌^◌, Bool, true, false, cond, List, [], ◌∷◌, length, Option, Some, None, IfSome, refl, sym, ◌∙◌, subst, arith}
+use Rattle.std.proofs.Common.{◌≡◌, inl, inr, ℕ, ◌≤◌, ◌<◌, ◌-◌, ◌^◌, Bool, true, false, cond, List, [], ◌∷◌, Option, Some, None, IfSome, refl, sym, ◌∙◌, subst, arith}
 use Rattle.std.proofs.lemmas.Bool.{false≢true}
 use Rattle.spv_io.specs.Faults.{raised, Rose, DidNotRise}
 use Rattle.spv_io.specs.Sink.{added, AddsPrefix}
 use Rattle.spv_logic.specs.Conditions.{Meaning}
 use Rattle.spv_meaning.specs.Correct.{Correct}
 use Rattle.spv_form.specs.Program.{program_of}
-use Rattle.spv_form.proofs.Lists.{nothing}
 use Rattle.spv_report.specs.Reports.{Findings, IsReport, all_proved}
 use Rattle.spv_report.proofs.Reports.{proved_correct}
 use Rattle.spv_listing.specs.Page.{page}
-use Rattle.spv_cli.specs.declared.refusal.Refusal.{Refusal}
-use Rattle.spv_cli.specs.declared.refusal.Refusal.TheVariants.{BadByte, OpenComment, NumeralTooLarge, TextTooLong, Syntax, TooDeep, Profile, NotOfForm}
+use Rattle.spv_refusals.specs.declared.refusal.Refusal.{Refusal}
+use Rattle.spv_verify.specs.Refusals.{IsRefused, IsReportOf, HaveNotBoth}
 use Rattle.spv_cli.specs.declared.found.Found.{Found}
 use Rattle.spv_cli.specs.declared.found.Found.TheVariants.{ReadFailed, Refusing, Reporting}
 use Rattle.spv_cli.specs.declared.running.Ran.{Ran}
 use Rattle.spv_cli.specs.Output.{words_line}
-use Rattle.spv_cli.specs.Refusals.{IsRefused, IsReportOf}
 use Rattle.spv_cli.specs.Runs.{Reading, Writing, IsUnread, IsWritten, IsCut, IsFound, IsOutOfMemory, HasRunFor, output, status, report}
 use Rattle.spv_cli.specs.Promises.{IsOneOf, IsThere, IsDueFor}
 
@@ -53,19 +51,9 @@ map_there (Some x) h f = f x h
 
 -- ---- a text is not refused and reported
 
-never : (text : List ℕ) (f : Findings) (r : Refusal) → IsReportOf text f → IsRefused text r → ⊥
-never text f (BadByte line) is (short, stop) = nothing (sym is.tree.cut.read ∙ stop)
-never text f (OpenComment line) is (short, stop) = nothing (sym is.tree.cut.read ∙ stop)
-never text f (NumeralTooLarge line) is (short, stop) = nothing (sym is.tree.cut.read ∙ stop)
-never text f TextTooLong is (above, long) = let short : length text ≤ 4194304 = is.tree.cut.short in omega (arith, short, long)
-never text f (Profile line word) is (cut, out) = nothing (sym is.tree.allowed.known ∙ out)
-never text f (TooDeep line) is (cut, (known, deep)) = nothing (sym is.tree.allowed.shallow ∙ deep)
-never text f (Syntax line) is (cut, (allowed, none)) = none is.program is.tree.is_tree
-never text f NotOfForm is (program, none) = none f.form (is.program, is.tree, is.form)
-
-never_told : (told : Option (List ℕ)) (f : Findings) → IfSome told (λ text. IsReportOf text f) → IsThere told (λ text. (r : Refusal) × IsRefused text r) → ⊥
-never_told None f is h = h
-never_told (Some text) f is (r, h) = never text f r is h
+never_told : HaveNotBoth → (told : Option (List ℕ)) (f : Findings) → IfSome told (λ text. IsReportOf text f) → IsThere told (λ text. (r : Refusal) × IsRefused text r) → ⊥
+never_told never None f is h = h
+never_told never (Some text) f is (r, h) = never text f r is h
 
 rose_not : (old new : ℕ) → Rose old new → DidNotRise old new → ⊥
 rose_not old new rose (low, below) = let a : raised old ≤ new = rose in let b : new ≤ old = low in let c : new < 2 ^ 64 - 1 = below in omega (arith, a, b, c)
@@ -127,8 +115,8 @@ module _ (o : Reading) (w : Writing) (ran : Ran) where
 
   -- ---- refusals
 
-  pub refused : (c : Option (List ℕ)) → HasRunFor c o w ran → IsThere c (λ file. IsThere (o.told file) (λ text. (r : Refusal) × IsRefused text r)) → DidNotRise o.faults_before o.faults_after → IsOneOf (3 ∷ 5 ∷ 6 ∷ []) ran.status
-  refused = by_case (λ c. IsThere c (λ file. IsThere (o.told file) (λ text. (r : Refusal) × IsRefused text r)) → DidNotRise o.faults_before o.faults_after → IsOneOf (3 ∷ 5 ∷ 6 ∷ []) ran.status)
+  pub refused : HaveNotBoth → (c : Option (List ℕ)) → HasRunFor c o w ran → IsThere c (λ file. IsThere (o.told file) (λ text. (r : Refusal) × IsRefused text r)) → DidNotRise o.faults_before o.faults_after → IsOneOf (3 ∷ 5 ∷ 6 ∷ []) ran.status
+  refused never = by_case (λ c. IsThere c (λ file. IsThere (o.told file) (λ text. (r : Refusal) × IsRefused text r)) → DidNotRise o.faults_before o.faults_after → IsOneOf (3 ∷ 5 ∷ 6 ∷ []) ran.status)
       (λ unread none s written h d. absurd h)
       (λ unread none s cut h d. absurd h)
       (λ file f is r s written h d. not_of (3 ∷ 5 ∷ 6 ∷ []) (found file f is h d) (sym s))
@@ -138,4 +126,4 @@ module _ (o : Reading) (w : Writing) (ran : Ran) where
       found : (file : List ℕ) (f : Found) → IsFound o file f → IsThere (o.told file) (λ text. (r : Refusal) × IsRefused text r) → DidNotRise o.faults_before o.faults_after → IsOneOf (3 ∷ 5 ∷ 6 ∷ []) (status f)
       found file ReadFailed is h d = absurd (rose_not o.faults_before o.faults_after is.rose d)
       found file (Refusing r) is h d = refl
-      found file (Reporting r) (read, findings, told) h d = absurd (never_told (o.told file) r told h)
+      found file (Reporting r) (read, findings, told) h d = absurd (never_told never (o.told file) r told h)

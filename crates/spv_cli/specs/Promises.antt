@@ -4,10 +4,10 @@ use Rattle.std.specs.List.{list_any}
 use Rattle.spv_io.specs.Faults.{Rose}
 use Rattle.spv_report.specs.Reports.{Findings}
 use Rattle.spv_listing.specs.Page.{page}
-use Rattle.spv_cli.specs.declared.refusal.Refusal.{Refusal}
+use Rattle.spv_verify.specs.Refusals.{IsRefused}
+use Rattle.spv_refusals.specs.declared.refusal.Refusal.{Refusal}
 use Rattle.spv_cli.specs.Commands.{command_of}
 use Rattle.spv_cli.specs.Output.{words_line, read_fault_line, refusal_line}
-use Rattle.spv_cli.specs.Refusals.{IsRefused}
 
 -- a number is one of these
 abbrev pub IsOneOf : List ℕ → ℕ → Type 0

@@ -3,45 +3,14 @@ use Rattle.std.specs.Prelude.{◌≡◌, ℕ, ◌⊎◌, List, Option, Some, Non
 use Rattle.spv_io.specs.Faults.{Rose}
 use Rattle.spv_io.specs.Sink.{added, AddsPrefix}
 use Rattle.spv_io.specs.Texts.{named}
-use Rattle.spv_lexer.specs.declared.LexFault.TheVariants as lex
-use Rattle.spv_parser.specs.declared.refused.SyntaxFault.TheVariants as syntax
-use Rattle.spv_language.specs.declared.fault.LanguageFault.{LanguageFault}
-use Rattle.spv_language.specs.declared.fault.LanguageFault.TheVariants.{Tokens, Tree}
-use Rattle.spv_form.specs.declared.fault.FormFault.{FormFault}
-use Rattle.spv_form.specs.declared.fault.FormFault.TheVariants as form
 use Rattle.spv_report.specs.Reports.{Findings, IsReport}
 use Rattle.spv_listing.specs.Page.{page}
-use Rattle.spv_cli.specs.declared.refusal.Refusal.TheVariants as refusal
-use Rattle.spv_cli.specs.declared.reading.ReadFault.{ReadFault}
-use Rattle.spv_cli.specs.declared.reading.ReadFault.TheVariants.{Refused, Memory}
+use Rattle.spv_verify.specs.Refusals.{IsRefused, IsReportOf}
 use Rattle.spv_cli.specs.declared.found.Found.{Found}
 use Rattle.spv_cli.specs.declared.found.Found.TheVariants.{ReadFailed, Refusing, Reporting}
 use Rattle.spv_cli.specs.declared.running.Ran.{Ran}
 use Rattle.spv_cli.specs.Commands.{command_of}
 use Rattle.spv_cli.specs.Output.{words_line, read_fault_line, refusal_line, page_status}
-use Rattle.spv_cli.specs.Refusals.{IsRefused, IsReportOf}
-
--- ---- faults of reading
-
-abbrev pub of_text : LanguageFault → ReadFault
-of_text (Tokens (lex.BadByte line)) = Refused (refusal.BadByte line)
-of_text (Tokens (lex.OpenComment line)) = Refused (refusal.OpenComment line)
-of_text (Tokens (lex.NumeralTooLarge line)) = Refused (refusal.NumeralTooLarge line)
-of_text (Tokens lex.TextTooLong) = Refused refusal.TextTooLong
-of_text (Tokens lex.Memory) = Memory
-of_text (Tree (syntax.Profile line word)) = Refused (refusal.Profile line word)
-of_text (Tree (syntax.TooDeep line)) = Refused (refusal.TooDeep line)
-of_text (Tree (syntax.Syntax line)) = Refused (refusal.Syntax line)
-of_text (Tree syntax.Memory) = Memory
-
-abbrev pub of_form : FormFault → ReadFault
-of_form form.NotOfForm = Refused refusal.NotOfForm
-of_form form.Memory = Memory
-
--- a refusal is one of the text; want of memory has no cause in it
-abbrev pub IsCause : List ℕ → ReadFault → Type 0
-IsCause text (Refused r) = IsRefused text r
-IsCause text Memory = Unit {0}
 
 -- ---- what the objects outside tell
 

@@ -5,11 +5,11 @@ ghost use Rattle.spv_cli.specs.Runs as spec;
 ghost use Rattle.spv_cli.specs.Runs.{IsFound, MayBeRead};
 
 use crate::output::{read_fault_line, refusal_line};
-use crate::reading::{ReadFault, report_of};
-use crate::refusal::Refusal;
 use spv_io::{TextFault, Texts};
 use spv_lexer::LONGEST_TEXT;
+use spv_refusals::{Refusal, VerifyFault};
 use spv_report::{Report, all_proved};
+use spv_verify::verify;
 use std::alloc::{AllocError, Global};
 
 /// What is found of a file.
@@ -52,10 +52,10 @@ pub(crate) fn find<T: Texts>(alloc: Global, file: &str, texts: &mut T) -> Result
         Err(TextFault::Failed) => return Ok(Found::ReadFailed),
         Err(TextFault::Memory) => return Err(NoMemory),
     };
-    match report_of(alloc, &text) {
+    match verify(alloc, &text) {
         Ok(report) => Ok(Found::Reporting(report)),
-        Err(ReadFault::Refused(refusal)) => Ok(Found::Refusing(refusal)),
-        Err(ReadFault::Memory) => Err(NoMemory),
+        Err(VerifyFault::Refused(refusal)) => Ok(Found::Refusing(refusal)),
+        Err(VerifyFault::Memory) => Err(NoMemory),
     }
 }
 
@@ -65,7 +65,7 @@ pub(crate) fn output(alloc: Global, file: &str, found: &Found) -> Result<Vec<u8>
 {
     match found {
         Found::ReadFailed => read_fault_line(alloc, file),
-        Found::Refusing(refusal) => refusal_line(alloc, file, *refusal),
+        Found::Refusing(refusal) => refusal_line(alloc, file, refusal),
         Found::Reporting(report) => spv_listing::page(alloc, report),
     }
 }

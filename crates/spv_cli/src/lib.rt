@@ -3,10 +3,7 @@
 
 mod found;
 mod output;
-mod reading;
-mod refusal;
 mod running;
 
-pub use refusal::Refusal;
 pub use running::{Ran, run};
-pub use spv_report::{Report, law_report};
+pub use spv_verify::{Refusal, Report, law_report};

@@ -8,10 +8,10 @@ ghost use Rattle.spv_meaning.specs.Correct.{Correct};
 ghost use Rattle.spv_form.specs.Program.{program_of};
 ghost use Rattle.spv_report.specs.Reports.{IsReport, all_proved};
 ghost use Rattle.spv_listing.specs.Page.{page};
-ghost use Rattle.spv_cli.specs.declared.refusal.Refusal.{Refusal};
+ghost use Rattle.spv_refusals.specs.declared.refusal.Refusal.{Refusal};
 ghost use Rattle.spv_cli.specs.Commands.{command_of};
 ghost use Rattle.spv_cli.specs.Output.{words_line, read_fault_line};
-ghost use Rattle.spv_cli.specs.Refusals.{IsRefused, IsReportOf};
+ghost use Rattle.spv_verify.specs.Refusals.{IsRefused, IsReportOf};
 ghost use Rattle.spv_cli.specs.Runs.{IsAnswered, HasRunFor, HasRun};
 ghost use Rattle.spv_cli.specs.Promises.{IsOneOf, IsThere, IsTold, IsRefusalLine, IsDueFor};
 
@@ -19,6 +19,7 @@ use crate::found::{NoMemory, find, into_report, output, status};
 use spv_io::{Failed, Sink, Texts};
 use spv_report::Report;
 use spv_term::World;
+use spv_verify::law_not_both;
 use std::alloc::{AllocError, Global};
 
 /// How a run ended.
@@ -203,6 +204,7 @@ pub fn run<W: World, T: Texts, K: Sink>(
 
     ensures statuses { IsOneOf (0 ∷ 1 ∷ 3 ∷ 4 ∷ 5 ∷ 6 ∷ 7 ∷ []) result.status }
 {
+    law_not_both();
     let _ = world;
     attempt(alloc, words, texts, sink)
 }

@@ -2,17 +2,18 @@
 
 ghost use Rattle.std.specs.Prelude.{◌≡◌, IsTrue, map};
 ghost use Rattle.spv_program.specs.Frames as plain;
+ghost use Rattle.spv_program.specs.Typing.{well_typed};
 
 use spv_frame_check::Effects;
 use spv_list::List;
-use spv_typed::Program;
+use spv_types::Typed;
 use std::marker::Model;
 
-/// A program whose routines use what their GLOBAL lists have, whose functions change nothing, and in which no two roots meet
+/// A typed program whose routines use what their GLOBAL lists have, whose functions change nothing, and in which no two roots meet
 /// at a call, with what each routine reads and writes. That it is so is a fact of this type.
 #[derive(Drop)]
 pub struct Framed {
-    program: Program,
+    typed: Typed,
     effects: List<Effects>,
 }
 
@@ -28,26 +29,27 @@ impl Model for Framed {
 
     ghost coded = { Prim.hlevel (codes, coded_by way_formula, coded_by way_statement) };
 
-    ghost view = { λ f. record { program = f.program; effects = f.effects } };
+    ghost view = { λ f. record { program = f.typed; effects = f.effects } };
 
-    ghost invariant = { λ f. IsFramed (record { program = f.program; effects = f.effects }) };
+    ghost invariant = { λ f. IsFramed (record { program = f.typed; effects = f.effects }) };
 }
 
 impl Framed {
     // A program that the walk met no fault in.
-    pub(crate) fn of(program: Program, effects: List<Effects>) -> Framed
-        requires framed { IsTrue (plain.framed program) }
-        requires effects { effects ≡ map plain.effects_of program.routines }
-        ensures { result ≡ record { program = program; effects = effects } }
+    pub(crate) fn of(typed: Typed, effects: List<Effects>) -> Framed
+        requires typed { IsTrue (well_typed typed) }
+        requires framed { IsTrue (plain.framed typed) }
+        requires effects { effects ≡ map plain.effects_of typed.routines }
+        ensures { result ≡ record { program = typed; effects = effects } }
     {
-        Framed { program, effects }
+        Framed { typed, effects }
     }
 
-    /// The program.
-    pub fn program(&self) -> &Program
+    /// The typed program.
+    pub fn typed(&self) -> &Typed
         ensures { result.now ≡ self.now.program }
     {
-        &self.program
+        &self.typed
     }
 
     /// What each routine reads and writes, in the order of their bodies.
@@ -57,8 +59,9 @@ impl Framed {
         self.effects.as_slice()
     }
 
-    /// The rules of frames hold in the program, and the effects are those of its routines.
+    /// The program is well typed, the rules of frames hold in it, and the effects are those of its routines.
     pub fn law_framed(&self)
+        ensures typed { IsTrue (well_typed self.now.program) }
         ensures framed { IsTrue (plain.framed self.now.program) }
         ensures effects { self.now.effects ≡ map plain.effects_of self.now.program.routines }
     {

@@ -7,16 +7,17 @@ ghost use Rattle.spv_frame_check.specs.Answers.{Stops};
 use crate::framed_programs::Framed;
 use spv_frame_check::checked;
 use spv_frame_walk::FrameFault;
-use spv_typed::Program;
+use spv_types::Typed;
 use std::alloc::Global;
 
 /// The program with what each of its routines reads and writes, where the walk over frames meets no fault; else the first
-/// fault of the walk.
-pub fn framed(alloc: Global, program: Program) -> Result<Framed, FrameFault>
-    ensures program { IfOk result (λ f. f.program ≡ program) }
-    ensures ok { IfOk result (λ f. frame_fault program ≡ None) }
-    ensures err { IfErr result (λ e. Stops e (frame_fault program)) }
+/// fault of the walk. Memory: there was not enough of it.
+pub fn framed(alloc: Global, typed: Typed) -> Result<Framed, FrameFault>
+    ensures program { IfOk result (λ f. f.program ≡ typed) }
+    ensures ok { IfOk result (λ f. frame_fault typed ≡ None) }
+    ensures err { IfErr result (λ e. Stops e (frame_fault typed)) }
 {
-    let effects = checked(&program, alloc)?;
-    Ok(Framed::of(program, effects))
+    typed.law_well_typed();
+    let effects = checked(typed.program(), alloc)?;
+    Ok(Framed::of(typed, effects))
 }

@@ -1,25 +1,60 @@
-// The messages of refusals.
+// The messages of refusals, and of what else leaves a text without a report.
 
-use spv_cli::Refusal;
-use spv_tokens::Word;
+use spv_list::List;
+use spv_refusals::{Refusal, VerifyFault};
 use std::alloc::{AllocError, Global};
 
-const REFUSALS: [Refusal; 8] = [
-    Refusal::BadByte(1),
-    Refusal::OpenComment(4294967295),
-    Refusal::NumeralTooLarge(3),
-    Refusal::TextTooLong,
-    Refusal::Syntax(2),
-    Refusal::TooDeep(4),
-    Refusal::Profile(5, Word::Set),
-    Refusal::NotOfForm,
-];
+// Adds the message of a refusal.
+fn add(alloc: Global, refusal: Refusal, out: &mut Vec<u8>) -> Result<(), AllocError> {
+    let line = format!(in alloc; "{refusal}\n")?;
+    out.extend_from_slice(line.as_str().as_bytes())
+}
 
-/// Adds the message of each refusal.
+// Adds the message of a fault.
+fn add_fault(alloc: Global, fault: VerifyFault, out: &mut Vec<u8>) -> Result<(), AllocError> {
+    let line = format!(in alloc; "{fault}\n")?;
+    out.extend_from_slice(line.as_str().as_bytes())
+}
+
+// Those of reading.
+fn show_reading(alloc: Global, out: &mut Vec<u8>) -> Result<(), AllocError> {
+    add(alloc, Refusal::Byte(1, List::new(alloc)), out)?;
+    add(alloc, Refusal::Comment(4294967295, List::new(alloc)), out)?;
+    add(alloc, Refusal::Numeral(3, List::new(alloc)), out)?;
+    add(alloc, Refusal::Length(1, List::new(alloc)), out)?;
+    add(alloc, Refusal::Syntax(2, List::new(alloc)), out)?;
+    add(alloc, Refusal::Depth(4, List::new(alloc)), out)?;
+    add(alloc, Refusal::Profile(5, List::new(alloc)), out)
+}
+
+// Those of names and types.
+fn show_types(alloc: Global, out: &mut Vec<u8>) -> Result<(), AllocError> {
+    add(alloc, Refusal::Undeclared(6, List::new(alloc)), out)?;
+    add(alloc, Refusal::Twice(7, List::new(alloc)), out)?;
+    add(alloc, Refusal::Typing(8, List::new(alloc)), out)?;
+    add(alloc, Refusal::Count(9, List::new(alloc)), out)?;
+    add(alloc, Refusal::Nested(10, List::new(alloc)), out)?;
+    add(alloc, Refusal::Parameter(11, List::new(alloc)), out)?;
+    add(alloc, Refusal::Control(12, List::new(alloc)), out)
+}
+
+// Those of frames, and of what is not built yet.
+fn show_frames(alloc: Global, out: &mut Vec<u8>) -> Result<(), AllocError> {
+    add(alloc, Refusal::Alias(13, List::new(alloc)), out)?;
+    add(alloc, Refusal::Global(14, List::new(alloc)), out)?;
+    add(alloc, Refusal::Function(15, List::new(alloc)), out)?;
+    add(alloc, Refusal::Form(1, List::new(alloc)), out)
+}
+
+/// Adds the message of each refusal and fault.
 pub fn show(alloc: Global, out: &mut Vec<u8>) -> Result<(), AllocError> {
-    for refusal in REFUSALS {
-        let line = format!(in alloc; "{refusal}\n")?;
-        out.extend_from_slice(line.as_str().as_bytes())?;
-    }
-    Ok(())
+    show_reading(alloc, out)?;
+    show_types(alloc, out)?;
+    show_frames(alloc, out)?;
+    add_fault(
+        alloc,
+        VerifyFault::Refused(Refusal::Form(1, List::new(alloc))),
+        out,
+    )?;
+    add_fault(alloc, VerifyFault::Memory, out)
 }

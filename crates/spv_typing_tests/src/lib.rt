@@ -1,5 +1,5 @@
-//! Tests of the walk over names and types.
+//! Tests of typed and framed programs.
 #![tactic(auto)]
 
 #[cfg(test)]
-mod programs;
+mod texts;

@@ -1,15 +1,16 @@
 use Rattle.std.proofs.Common.{subst}
-use Rattle.spv_cli.specs.Refusals.{IsReportOf, IsRefused}
-use Rattle.spv_cli.specs.Runs.{IsCause}
-use Rattle.spv_cli.proofs.Told.{if_told, report_whole, refused_whole}
+use Rattle.spv_verify.specs.Refusals.{IsReportOf, IsRefused}
+use Rattle.spv_verify.specs.Causes.{IsCause}
+use Rattle.spv_verify.proofs.Whole.{report_whole, refused_whole}
+use Rattle.spv_cli.proofs.Told.{if_told}
 use Rattle.spv_cli.proofs.found.find.Goals as goal
 
-pub returns-in-Ok-report_of-clause-found : goal.returns-in-Ok-report_of-clause-found
-returns-in-Ok-report_of-clause-found g c =
-    let r = c.in-Ok-report_of.report in (
+pub returns-in-Ok-verify-clause-found : goal.returns-in-Ok-verify-clause-found
+returns-in-Ok-verify-clause-found g c =
+    let r = c.in-Ok-verify.report in (
       record { asked = c.in-Ok.ensures.asked_ok; faults = c.in-Ok.ensures.faults_ok },
-      c.in-Ok-report_of.ensures.findings,
-      if_told (g.T.Texts.told c.args.texts.now c.args.file.now) c.in-Ok.text.items (λ text. IsReportOf text r) c.in-Ok.ensures.text (λ text h. report_whole text r h) (subst (λ t. IsReportOf t r) c.deref.ensures.value c.in-Ok-report_of.ensures.report),
+      c.in-Ok-verify.ensures.findings,
+      if_told (g.T.Texts.told c.args.texts.now c.args.file.now) c.in-Ok.text.items (λ text. IsReportOf text r) c.in-Ok.ensures.text (λ text h. report_whole text r h) (subst (λ t. IsReportOf t r) c.deref.ensures.value c.in-Ok-verify.ensures.report),
     )
 
 pub returns-in-Err-Refused-clause-found : goal.returns-in-Err-Refused-clause-found

@@ -11,4 +11,4 @@ pub returns-clause-cut : goal.returns-clause-cut
 returns-clause-cut g c = part_written _ _ c.attempt.result _ c.attempt.ensures
 
 pub returns-clause-refused : goal.returns-clause-refused
-returns-clause-refused g c = refused _ _ c.attempt.result _ c.attempt.ensures
+returns-clause-refused g c = refused _ _ c.attempt.result c.law_not_both.ensures _ c.attempt.ensures

@@ -5,5 +5,5 @@ use Rattle.spv_frames.proofs.framing.framed.Goals as goal
 
 pub of-requires-clause-framed : goal.of-requires-clause-framed
 of-requires-clause-framed c =
-    subst (λ (b : Bool). IsTrue b) (framed_is c.args.program)
+    subst (λ (b : Bool). IsTrue b) (framed_is c.args.typed)
     (subst (λ (o : Option FrameFault). IsTrue (not (is_some o))) (sym c.in_ok-effects.ensures.ok) refl)

@@ -1,5 +1,0 @@
-//! Tests of the walk over frames.
-#![tactic(auto)]
-
-#[cfg(test)]
-mod programs;

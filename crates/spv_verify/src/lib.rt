@@ -1,0 +1,8 @@
+//! The verification of a text: from its bytes to the report, or to what the text is refused for.
+#![tactic(auto)]
+
+mod verifying;
+
+pub use spv_refusals::{Refusal, VerifyFault};
+pub use spv_report::{Report, law_report};
+pub use verifying::{law_not_both, verify};
