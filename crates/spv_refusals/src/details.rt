@@ -99,10 +99,7 @@ pub(crate) fn number_detail(alloc: Global, number: i64) -> Result<List<u8>, Allo
     ensures { IfOk result (λ d. d ≡ signed_decimal number) }
 {
     let mut buffer = Buffer::new();
-    Ok(List::from_vec(Vec::from_slice(
-        alloc,
-        buffer.format(number).as_bytes(),
-    )?))
+    Ok(List::from_vec(Vec::from_slice(alloc, buffer.format(number).as_bytes())?))
 }
 
 /// An item.

@@ -2,8 +2,8 @@
 
 use spv_frames::{Framed, framed};
 use spv_language::{formula, program};
-use spv_names::{Names, Symbol};
 use spv_logic::TypeId;
+use spv_names::{Names, Symbol};
 use spv_program::Item;
 use spv_types::{TypeFault, typed, typed_formula};
 use std::alloc::Global;
@@ -19,9 +19,15 @@ fn formula_fault(alloc: Global, text: &[u8]) -> Result<Option<TypeFault>, Fail> 
 #[test]
 fn formula_texts_are_typed(rt: HostRuntime) -> Result<(), Fail> {
     let alloc = rt.alloc();
-    let kept = formula_fault(alloc, b"PROGRAM a; DECLARE f(INTEGER): INTEGER; ASSERT f(1) = 2.")?;
+    let kept = formula_fault(
+        alloc,
+        b"PROGRAM a; DECLARE f(INTEGER): INTEGER; ASSERT f(1) = 2.",
+    )?;
     assert_eq!(rt; kept, None);
-    let broken = formula_fault(alloc, b"PROGRAM a; DECLARE f(INTEGER): INTEGER;\nASSERT f(TRUE) = 2.")?;
+    let broken = formula_fault(
+        alloc,
+        b"PROGRAM a; DECLARE f(INTEGER): INTEGER;\nASSERT f(TRUE) = 2.",
+    )?;
     assert_eq!(rt; broken, Some(TypeFault::WrongType(2)));
     Ok(())
 }
@@ -35,12 +41,7 @@ fn is_told(known: &Framed, reads: &[Item], writes: &[Item]) -> bool {
 }
 
 // The same of a text.
-fn is_told_of(
-    alloc: Global,
-    text: &[u8],
-    reads: &[Item],
-    writes: &[Item],
-) -> Result<bool, Fail> {
+fn is_told_of(alloc: Global, text: &[u8], reads: &[Item], writes: &[Item]) -> Result<bool, Fail> {
     let mut names = Names::new(alloc);
     let tree = program(alloc, text, &mut names)?;
     let Ok(program) = typed(alloc, &tree, &names) else {
