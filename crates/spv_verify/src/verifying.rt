@@ -19,6 +19,7 @@ use spv_walks::check;
 use std::alloc::Global;
 
 // The tree of a text, or what the text is refused for.
+#[tactic(auto, using(crate::proofs::Found::text_cause))]
 fn tree_of(alloc: Global, text: &[u8], names: &mut Names) -> Result<Program, VerifyFault>
     requires empty { names.old ≡ [] }
     ensures tree { IfOk result (IsTreeOf Reads [] text.now) }
@@ -33,6 +34,7 @@ fn tree_of(alloc: Global, text: &[u8], names: &mut Names) -> Result<Program, Ver
 }
 
 // The form of a tree without faults, or that it has none.
+#[tactic(auto, using(crate::proofs::Found::no_form, crate::proofs::Found::form_in))]
 fn form_of(alloc: Global, tree: &Program, names: &Names) -> Result<Form, VerifyFault>
     ensures form { IfOk result (IsFormIn names.now tree.now) }
     ensures cause { IfErr result (IsFormCause names.now tree.now) }
@@ -45,24 +47,31 @@ fn form_of(alloc: Global, tree: &Program, names: &Names) -> Result<Form, VerifyF
 }
 
 // The form of a tree that keeps the rules, or what it is refused for.
+#[tactic(auto, using(crate::proofs::Found::walk_cause, crate::proofs::Found::form_causes, crate::proofs::Found::still_sound))]
 fn checked_form(alloc: Global, tree: &Program, names: &Names) -> Result<Form, VerifyFault>
     requires formed { IsTrue (well_formed tree.now) }
     ensures sound { OnOk result (IsSound names.now tree.now) }
     ensures form { IfOk result (IsFormIn names.now tree.now) }
     ensures cause { IfErr result (IsTreeCause names.now tree.now) }
 {
-    check(alloc, tree, names)?;
-    form_of(alloc, tree, names)
+    match check(alloc, tree, names) {
+        Ok(()) => form_of(alloc, tree, names),
+        Err(fault) => Err(fault),
+    }
 }
 
 // The form of a text, with its names in the table, or what the text is refused for.
+#[tactic(auto, using(crate::proofs::Found::reading_cause, crate::proofs::Found::tree_causes, crate::proofs::Found::form_of_text))]
 fn form_of_text(alloc: Global, text: &[u8], names: &mut Names) -> Result<Form, VerifyFault>
     requires empty { names.old ≡ [] }
     ensures form { IfOk result (IsFormOfText text.now) }
     ensures names { OnOk result (names.new ≡ names_with [] text.now) }
     ensures cause { IfErr result (IsCause text.now) }
 {
-    let tree = tree_of(alloc, text, names)?;
+    let tree = match tree_of(alloc, text, names) {
+        Ok(tree) => tree,
+        Err(fault) => return Err(fault),
+    };
     let form = checked_form(alloc, &tree, names);
     drop(tree);
     form
@@ -70,13 +79,17 @@ fn form_of_text(alloc: Global, text: &[u8], names: &mut Names) -> Result<Form, V
 
 /// The report of a text. Or what it is refused for: its first fault, in the order of reading, names and types, frames; and where it has
 /// none, that it is not of the form that is accepted so far. Memory: there was not enough of it.
+#[tactic(auto, using(crate::proofs::Found::report_of))]
 pub fn verify(alloc: Global, text: &[u8]) -> Result<Report, VerifyFault>
     ensures report { IfOk result (IsReportOf text.now) }
     ensures findings { IfOk result IsReport }
     ensures cause { IfErr result (IsCause text.now) }
 {
     let mut names = Names::new(alloc);
-    let form = form_of_text(alloc, text, &mut names)?;
+    let form = match form_of_text(alloc, text, &mut names) {
+        Ok(form) => form,
+        Err(fault) => return Err(fault),
+    };
     match spv_report::verify(alloc, names, form) {
         Ok(report) => {
             report.law_findings();

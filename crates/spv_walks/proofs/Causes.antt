@@ -1,5 +1,5 @@
 -- A fault of a walk, and what is told of it, are a cause.
-use Rattle.std.proofs.Common.{◌≡◌, inl, inr, ℕ, List, Some, Result, Ok, Err, IfErr, OnOk}
+use Rattle.std.proofs.Common.{◌≡◌, inl, inr, ℕ, List, None, Result, Ok, Err, IfErr, OnOk}
 use Rattle.spv_syntax.specs.declared.programs.Program.{Program as Tree}
 use Rattle.spv_program.specs.Programs.{Program}
 use Rattle.spv_typing.specs.declared.faults.TypeFault.{TypeFault}
@@ -14,7 +14,7 @@ use Rattle.spv_frame_check.specs.Answers.{Stops as FrameStops}
 use Rattle.spv_refusals.specs.declared.fault.VerifyFault.{VerifyFault}
 use Rattle.spv_refusals.specs.declared.fault.VerifyFault.TheVariants.{Refused, Memory}
 use Rattle.spv_refusals.specs.Told.{Tells, type_refusal, frame_refusal}
-use Rattle.spv_walks.specs.Walks.{IsTypeCause, IsFrameCause, IsWalkCause, is_typed_as}
+use Rattle.spv_walks.specs.Walks.{IsSound, IsTypeCause, IsFrameCause, IsWalkCause, is_typed_as}
 
 pub type_cause : (names : List (List ℕ)) (tree : Tree) (fault : TypeFault) (v : VerifyFault)
     → TypeStops fault (program_walk (known_in names) tree) → Tells (type_refusal names fault) v → IsTypeCause names tree v
@@ -37,14 +37,20 @@ frame_cause names p (frames.GlobalMissing line i) (Refused r) stops tells = reco
 frame_cause names p (frames.FunctionWrites line x) (Refused r) stops tells = record { fault = frames.FunctionWrites line x; stops = stops; told = tells }
 frame_cause names p frames.Memory (Refused r) stops tells = elim tells [ ]
 
-pub of_types : (names : List (List ℕ)) (tree : Tree) (v : VerifyFault) → IsTypeCause names tree v → IsWalkCause names tree v
-of_types names tree (Refused r) is = inl is
-of_types names tree Memory is = tt
+pub type_walk_cause : (names : List (List ℕ)) (tree : Tree) (v : VerifyFault) → IsTypeCause names tree v → IsWalkCause names tree v
+type_walk_cause names tree (Refused r) is = inl is
+type_walk_cause names tree Memory is = tt
 
-pub of_frames : (names : List (List ℕ)) (tree : Tree) (p : Program) → is_typed_as names tree p → (v : VerifyFault) → IsFrameCause names p v → IsWalkCause names tree v
-of_frames names tree p typed (Refused r) is = inr (p, typed, is)
-of_frames names tree p typed Memory is = tt
+module _ (names : List (List ℕ)) (tree : Tree) (p : Program) (typed : is_typed_as names tree p) where
+  frame_walk_cause : (v : VerifyFault) → IsFrameCause names p v → IsWalkCause names tree v
+  frame_walk_cause (Refused r) is = inr (p, typed, is)
+  frame_walk_cause Memory is = tt
 
-pub if_err : {T E : Type 0} (P Q : E → Type 0) (r : Result T E) → IfErr r P → ((e : E) → P e → Q e) → IfErr r Q
-if_err P Q (Ok t) h f = tt
-if_err P Q (Err e) h f = f e h
+  -- what the check of frames answers, said of the tree
+  pub frame_walk_causes : {T : Type 0} (r : Result T VerifyFault) → IfErr r (IsFrameCause names p) → IfErr r (IsWalkCause names tree)
+  frame_walk_causes (Ok x) h = tt
+  frame_walk_causes (Err v) h = frame_walk_cause v h
+
+  pub is_sound : {T : Type 0} (r : Result T VerifyFault) → OnOk r (frame_fault p ≡ None) → OnOk r (IsSound names tree)
+  is_sound (Ok x) h = record { program = p; typed = typed; framed = h }
+  is_sound (Err v) h = tt

@@ -1,6 +1,6 @@
 // Trees against the rules of names, types and frames.
 
-ghost use Rattle.std.specs.Prelude.{◌≡◌, IfErr, IfOk, IsTrue, None, Ok, OnOk};
+ghost use Rattle.std.specs.Prelude.{◌≡◌, IfErr, IfOk, IsTrue, None, OnOk};
 ghost use Rattle.spv_syntax.specs.Reads.{well_formed};
 ghost use Rattle.spv_frame_walk.specs.FrameWalk.{frame_fault};
 ghost use Rattle.spv_walks.specs.Walks.{IsSound, IsFrameCause, IsTypeCause, IsWalkCause, is_typed_as};
@@ -13,6 +13,7 @@ use spv_types::{Typed, typed};
 use std::alloc::Global;
 
 // Whether a typed program keeps the rules of frames.
+#[tactic(auto, using(crate::proofs::Causes::frame_cause))]
 fn check_frames(
     alloc: Global,
     program: &spv_typed::Program,
@@ -28,6 +29,7 @@ fn check_frames(
 }
 
 // The typed program of a tree, or what the tree is refused for.
+#[tactic(auto, using(crate::proofs::Causes::type_cause))]
 fn typed_program(alloc: Global, tree: &Program, names: &Names) -> Result<Typed, VerifyFault>
     requires formed { IsTrue (well_formed tree.now) }
     ensures typed { IfOk result (λ p. is_typed_as names.now tree.now p) }
@@ -41,12 +43,16 @@ fn typed_program(alloc: Global, tree: &Program, names: &Names) -> Result<Typed, 
 
 /// Whether a text's tree keeps the rules of names, types and frames; else what the text is refused for, by its first fault. The tree is
 /// well formed, as each tree is that a reading answers, and the names are those of the table. Memory: there was not enough of it.
+#[tactic(auto, using(crate::proofs::Causes::type_walk_cause, crate::proofs::Causes::is_sound, crate::proofs::Causes::frame_walk_causes))]
 pub fn check(alloc: Global, tree: &Program, names: &Names) -> Result<(), VerifyFault>
     requires formed { IsTrue (well_formed tree.now) }
     ensures sound { OnOk result (IsSound names.now tree.now) }
     ensures cause { IfErr result (IsWalkCause names.now tree.now) }
 {
-    let program = typed_program(alloc, tree, names)?;
+    let program = match typed_program(alloc, tree, names) {
+        Ok(program) => program,
+        Err(fault) => return Err(fault),
+    };
     let answer = check_frames(alloc, program.program(), names);
     drop(program);
     answer
