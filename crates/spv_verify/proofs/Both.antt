@@ -43,5 +43,5 @@ by_tree text f r is (inr none) = none.none f.form is.form
 
 pub not_both : TextsHaveOneTree Reads → HaveNotBoth
 not_both one text f r is (inl reading) = by_reading text f r is reading.fault reading.stops reading.told
-not_both one text f r is (inr (tree, (tree_is, refused))) =
+not_both one text f r is (inr (tree, tree_is, refused)) =
     by_tree text f r is (subst (λ t. IsTreeRefusal (names_of text) t r) (one [] text tree is.program tree_is is.tree) refused)

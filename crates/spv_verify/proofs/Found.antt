@@ -7,7 +7,8 @@ use Rattle.spv_syntax.specs.declared.programs.Program.{Program}
 use Rattle.spv_syntax.specs.Reads.{Reads}
 use Rattle.spv_form.specs.declared.form.Form.{Form}
 use Rattle.spv_form.specs.Known.{known_in}
-use Rattle.spv_form.specs.Trees.{IsForm, equations_of_form}
+use Rattle.spv_form.specs.Trees.{IsForm}
+use Rattle.spv_form.specs.Sizes.{equations_of_form}
 use Rattle.spv_report.specs.Reports.{Findings}
 use Rattle.spv_refusals.specs.declared.refusal.Refusal.TheVariants as refusal
 use Rattle.spv_refusals.specs.declared.fault.VerifyFault.{VerifyFault}
@@ -53,7 +54,7 @@ reading_cause text Memory is = tt
 -- what is found of the tree of a text, with the names of the text, said of the text
 module _ (text : List ℕ) (tree : Program) (tree_is : IsProgramOf text tree) (names : List (List ℕ)) (same : names ≡ names_with [] text) where
   tree_cause : (v : VerifyFault) → IsTreeCause names tree v → IsCause text v
-  tree_cause (Refused r) is = inr (tree, (tree_is, subst (λ n. IsTreeCause n tree (Refused r)) same is))
+  tree_cause (Refused r) is = inr (tree, tree_is, subst (λ n. IsTreeCause n tree (Refused r)) same is)
   tree_cause Memory is = tt
 
   pub tree_causes : {T : Type 0} (r : Result T VerifyFault) → IfErr r (IsTreeCause names tree) → IfErr r (IsCause text)

@@ -48,4 +48,4 @@ fault_whole text (Tree syntax.Memory) is = subst (λ t. IsFaultOf Reads [] t (Tr
 
 pub refused_whole : (text : List ℕ) (r : Refusal) → IsRefused (take 4194305 text) r → IsRefused text r
 refused_whole text r (inl reading) = inl (record { fault = reading.fault; stops = fault_whole text reading.fault reading.stops; told = reading.told })
-refused_whole text r (inr (tree, (tree_is, refused))) = subst (λ t. IsRefused t r) (whole text tree_is.cut.short) (inr (tree, (tree_is, refused)))
+refused_whole text r (inr (tree, tree_is, refused)) = subst (λ t. IsRefused t r) (whole text tree_is.cut.short) (inr (tree, tree_is, refused))

@@ -6,7 +6,8 @@ use Rattle.spv_syntax.specs.Reads.{Reads}
 use Rattle.spv_language.specs.Texts.{longest_text}
 use Rattle.spv_form.specs.declared.form.Form.{Form}
 use Rattle.spv_form.specs.Known.{known_in}
-use Rattle.spv_form.specs.Trees.{IsForm, equations_of_form}
+use Rattle.spv_form.specs.Trees.{IsForm}
+use Rattle.spv_form.specs.Sizes.{equations_of_form}
 use Rattle.spv_refusals.specs.declared.fault.VerifyFault.{VerifyFault}
 use Rattle.spv_refusals.specs.declared.fault.VerifyFault.TheVariants.{Refused, Memory}
 use Rattle.spv_walks.specs.Walks.{IsSound}

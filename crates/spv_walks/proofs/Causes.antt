@@ -1,5 +1,6 @@
 -- A fault of a walk, and what is told of it, are a cause.
 use Rattle.std.proofs.Common.{◌≡◌, inl, inr, ℕ, List, None, Result, Ok, Err, IfErr, OnOk}
+use Rattle.std.proofs.lemmas.Option.{none-some}
 use Rattle.spv_syntax.specs.declared.programs.Program.{Program as Tree}
 use Rattle.spv_program.specs.Programs.{Program}
 use Rattle.spv_typing.specs.declared.faults.TypeFault.{TypeFault}
@@ -27,7 +28,7 @@ type_cause names tree (types.Count line) (Refused r) stops tells = record { faul
 type_cause names tree (types.Nested line x) (Refused r) stops tells = record { fault = types.Nested line x; stops = stops; told = tells }
 type_cause names tree (types.ProcParameter line x) (Refused r) stops tells = record { fault = types.ProcParameter line x; stops = stops; told = tells }
 type_cause names tree (types.ControlChanged line x) (Refused r) stops tells = record { fault = types.ControlChanged line x; stops = stops; told = tells }
-type_cause names tree types.Memory (Refused r) stops tells = elim tells [ ]
+type_cause names tree types.Memory (Refused r) stops tells = absurd (none-some _ tells)
 
 pub frame_cause : (names : List (List ℕ)) (p : Program) (fault : FrameFault) (v : VerifyFault)
     → FrameStops fault (frame_fault p) → Tells (frame_refusal names p.titles fault) v → IsFrameCause names p v
@@ -35,7 +36,7 @@ frame_cause names p fault Memory stops tells = tt
 frame_cause names p (frames.Alias line a b) (Refused r) stops tells = record { fault = frames.Alias line a b; stops = stops; told = tells }
 frame_cause names p (frames.GlobalMissing line i) (Refused r) stops tells = record { fault = frames.GlobalMissing line i; stops = stops; told = tells }
 frame_cause names p (frames.FunctionWrites line x) (Refused r) stops tells = record { fault = frames.FunctionWrites line x; stops = stops; told = tells }
-frame_cause names p frames.Memory (Refused r) stops tells = elim tells [ ]
+frame_cause names p frames.Memory (Refused r) stops tells = absurd (none-some _ tells)
 
 pub type_walk_cause : (names : List (List ℕ)) (tree : Tree) (v : VerifyFault) → IsTypeCause names tree v → IsWalkCause names tree v
 type_walk_cause names tree (Refused r) is = inl is
