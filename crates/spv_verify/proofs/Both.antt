@@ -15,7 +15,7 @@ use Rattle.spv_form.proofs.Lists.{nothing}
 use Rattle.spv_report.specs.Reports.{Findings}
 use Rattle.spv_refusals.specs.declared.refusal.Refusal.{Refusal}
 use Rattle.spv_refusals.specs.Told.{text_refusal}
-use Rattle.spv_walks.specs.Walks.{IsSound, IsWalkRefusal, is_typed_as}
+use Rattle.spv_text_checks.specs.Walks.{IsSound, IsWalkRefusal, is_typed_as}
 use Rattle.spv_verify.specs.Refusals.{names_of, IsProgramOf, IsTreeRefusal, IsRefused, IsReportOf, HaveNotBoth}
 
 -- a text with a report has no fault of reading

@@ -14,7 +14,7 @@ use Rattle.spv_refusals.specs.declared.refusal.Refusal.TheVariants as refusal
 use Rattle.spv_refusals.specs.declared.fault.VerifyFault.{VerifyFault}
 use Rattle.spv_refusals.specs.declared.fault.VerifyFault.TheVariants.{Refused, Memory}
 use Rattle.spv_refusals.specs.Told.{Tells, text_refusal}
-use Rattle.spv_walks.specs.Walks.{IsSound, IsWalkCause}
+use Rattle.spv_text_checks.specs.Walks.{IsSound, IsWalkCause}
 use Rattle.spv_verify.specs.Refusals.{names_of, IsProgramOf, IsReportOf, IsFormRefusal}
 use Rattle.spv_verify.specs.Causes.{IsFormIn, IsFormOfText, IsTextCause, IsFormCause, IsTreeCause, IsCause}
 

@@ -10,7 +10,7 @@ use Rattle.spv_form.specs.Trees.{IsForm}
 use Rattle.spv_form.specs.Sizes.{equations_of_form}
 use Rattle.spv_refusals.specs.declared.fault.VerifyFault.{VerifyFault}
 use Rattle.spv_refusals.specs.declared.fault.VerifyFault.TheVariants.{Refused, Memory}
-use Rattle.spv_walks.specs.Walks.{IsSound}
+use Rattle.spv_text_checks.specs.Walks.{IsSound}
 use Rattle.spv_verify.specs.Refusals.{names_of, IsProgramOf, IsReadingRefusal, IsFormRefusal, IsTreeRefusal, IsRefused}
 
 -- the form of a tree, which has fewer equations than any tokens of the tree

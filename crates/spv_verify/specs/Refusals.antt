@@ -11,7 +11,7 @@ use Rattle.spv_report.specs.Reports.{Findings}
 use Rattle.spv_refusals.specs.declared.refusal.Refusal.{Refusal}
 use Rattle.spv_refusals.specs.declared.refusal.Refusal.TheVariants as refusal
 use Rattle.spv_refusals.specs.Told.{text_refusal}
-use Rattle.spv_walks.specs.Walks.{IsSound, IsWalkRefusal}
+use Rattle.spv_text_checks.specs.Walks.{IsSound, IsWalkRefusal}
 
 -- the names of a text, in the order in which they first stand there
 abbrev pub names_of : List ℕ → List (List ℕ)

@@ -4,7 +4,7 @@ ghost use Rattle.std.specs.Prelude.{◌≡◌, ◌≤◌, [], IfErr, IfOk, IsTru
 ghost use Rattle.spv_syntax.specs.Reads.{Reads, well_formed};
 ghost use Rattle.spv_language.specs.Texts.{IsTreeOf, longest_text, names_with, tokens_of};
 ghost use Rattle.spv_report.specs.Reports.{IsReport};
-ghost use Rattle.spv_walks.specs.Walks.{IsSound};
+ghost use Rattle.spv_text_checks.specs.Walks.{IsSound};
 ghost use Rattle.spv_verify.specs.Refusals.{HaveNotBoth, IsReportOf};
 ghost use Rattle.spv_verify.specs.Causes.{IsCause, IsFormCause, IsFormIn, IsFormOfText, IsTextCause, IsTreeCause};
 
@@ -15,7 +15,7 @@ use spv_names::Names;
 use spv_refusals::{Refusal, VerifyFault, of_text};
 use spv_report::Report;
 use spv_syntax::Program;
-use spv_walks::check;
+use spv_text_checks::check;
 use std::alloc::Global;
 
 // The tree of a text, or what the text is refused for.

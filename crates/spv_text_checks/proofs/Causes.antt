@@ -15,7 +15,7 @@ use Rattle.spv_frame_check.specs.Answers.{Stops as FrameStops}
 use Rattle.spv_refusals.specs.declared.fault.VerifyFault.{VerifyFault}
 use Rattle.spv_refusals.specs.declared.fault.VerifyFault.TheVariants.{Refused, Memory}
 use Rattle.spv_refusals.specs.Told.{Tells, type_refusal, frame_refusal}
-use Rattle.spv_walks.specs.Walks.{IsSound, IsTypeCause, IsFrameCause, IsWalkCause, is_typed_as}
+use Rattle.spv_text_checks.specs.Walks.{IsSound, IsTypeCause, IsFrameCause, IsWalkCause, is_typed_as}
 
 pub type_cause : (names : List (List ℕ)) (tree : Tree) (fault : TypeFault) (v : VerifyFault)
     → TypeStops fault (program_walk (known_in names) tree) → Tells (type_refusal names fault) v → IsTypeCause names tree v

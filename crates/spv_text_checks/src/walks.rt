@@ -3,7 +3,7 @@
 ghost use Rattle.std.specs.Prelude.{◌≡◌, IfErr, IfOk, IsTrue, None, OnOk};
 ghost use Rattle.spv_syntax.specs.Reads.{well_formed};
 ghost use Rattle.spv_frame_walk.specs.FrameWalk.{frame_fault};
-ghost use Rattle.spv_walks.specs.Walks.{IsSound, IsFrameCause, IsTypeCause, IsWalkCause, is_typed_as};
+ghost use Rattle.spv_text_checks.specs.Walks.{IsSound, IsFrameCause, IsTypeCause, IsWalkCause, is_typed_as};
 
 use spv_frame_check::checked;
 use spv_names::Names;
