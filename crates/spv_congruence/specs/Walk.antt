@@ -1,11 +1,10 @@
 -- Going down to terms that were not added.
-use Rattle.std.specs.Prelude.{◌≡◌, ℕ, ◌+◌, ◌*◌, ◌<◌, Bool, true, false, not, List, [], ◌∷◌, ◌++◌, length, slice_get, Option, Some, None, ◌⊎◌}
+use Rattle.std.specs.Prelude.{◌≡◌, ℕ, ◌+◌, ◌<◌, Bool, true, false, not, List, [], ◌∷◌, ◌++◌, slice_get, Option, Some, None, ◌⊎◌}
 use Rattle.spv_logic.specs.declared.conditions.TermId.{TermId}
 use Rattle.spv_term.specs.declared.nodes.Node.{Node}
 use Rattle.spv_term.specs.Arena.{Arena}
 use Rattle.spv_classes.specs.Classes.{count_of}
-use Rattle.spv_congruence.specs.Graph.{HasNode}
-use Rattle.spv_congruence.specs.Keep.{Kept, graph, Adds, IsMissing, IsNode}
+use Rattle.spv_congruence.specs.Keep.{Kept, graph, Adds, IsMissing}
 use Rattle.spv_congruence.specs.Told.{IsPart}
 
 abbrev pub known : Option (Option Node) → Bool

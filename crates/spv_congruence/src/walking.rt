@@ -2,7 +2,7 @@
 
 ghost use Rattle.std.specs.Prelude.{◌≡◌, ◌<◌, ◌++◌, [], ◌∷◌, ℕ, false, IsTrue, IfSome, IfNone, OnOk, OnErr, Some, length, slice_get};
 ghost use Rattle.spv_congruence.specs.Graph.{IsGraph};
-ghost use Rattle.spv_congruence.specs.Keep.{graph, AreNodes, Fits, IsMissing, IsNode};
+ghost use Rattle.spv_congruence.specs.Keep.{graph, AreNodes, Fits, HasGrown, IsMissing, IsNode};
 ghost use Rattle.spv_congruence.specs.Told.{AddsParts, IsOf};
 ghost use Rattle.spv_congruence.specs.Walk.{Steps};
 
@@ -56,14 +56,15 @@ impl Kept {
         self.add_one(x, node.head, args)
     }
 
-    // Adds a term with all its parts.
-    pub(crate) fn add(&mut self, terms: &Terms, t: TermId) -> Result<(), AllocError>
+    // Adds a term with all its parts. For want of memory some of them may be there.
+    fn add_or_stop(&mut self, terms: &Terms, t: TermId) -> Result<(), AllocError>
         requires fits { Fits self.old }
         requires graph { IsGraph (graph self.old) }
         requires of { IsOf terms.now (graph self.old) }
         requires within { t.0 < length terms.now.nodes }
         ensures ok { OnOk result (IsNode self.new.nodes t) }
         ensures parts { AddsParts terms.now t (graph self.old) (graph self.new) }
+        ensures grown { HasGrown (graph self.old) (graph self.new) }
         ensures of { IsOf terms.now (graph self.new) }
         ensures fits { Fits self.new }
         ensures graph { IsGraph (graph self.new) }
@@ -78,5 +79,29 @@ impl Kept {
             self.step(terms, &mut path, x)?;
         }
         Ok(())
+    }
+
+    // Adds a term with all its parts. For want of memory the graph stays as it was.
+    pub(crate) fn add(&mut self, terms: &Terms, t: TermId) -> Result<(), AllocError>
+        requires fits { Fits self.old }
+        requires graph { IsGraph (graph self.old) }
+        requires of { IsOf terms.now (graph self.old) }
+        requires within { t.0 < length terms.now.nodes }
+        ensures ok { OnOk result (IsNode self.new.nodes t) }
+        ensures parts { OnOk result (AddsParts terms.now t (graph self.old) (graph self.new)) }
+        ensures of { OnOk result (IsOf terms.now (graph self.new)) }
+        ensures err { OnErr result (graph self.new ≡ graph self.old) }
+        ensures fits { Fits self.new }
+        ensures graph { IsGraph (graph self.new) }
+    {
+        let level = self.level();
+        let places = self.places();
+        match self.add_or_stop(terms, t) {
+            Ok(()) => Ok(()),
+            Err(fault) => {
+                self.take_back(level, places);
+                Err(fault)
+            }
+        }
     }
 }
