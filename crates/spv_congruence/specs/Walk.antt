@@ -17,6 +17,12 @@ abbrev pub IsPath : Arena → TermId → List (Option Node) → ℕ → List Ter
 IsPath a t nodes bound [] = Unit {0}
 IsPath a t nodes bound (x ∷ xs) = (x.0 < bound) × IsMissing nodes x × IsPart a t x × IsPath a t nodes x.0 xs
 
+-- a term of a list that was not added, by its place
+pub record IsMissingAt (nodes : List (Option Node)) (args : List TermId) (place : ℕ) : Type 0 where
+  pub term : TermId
+  pub there : slice_get args place ≡ Some term
+  pub missing : IsMissing nodes term
+
 -- a path goes on to an argument of its last term
 pub record GoesDown (a : Arena) (nodes : List (Option Node)) (old : List TermId) (x : TermId) (new : List TermId) : Type 0 where
   pub to : TermId
