@@ -1,6 +1,6 @@
 -- Nodes and uses that are put into lists.
-use Rattle.std.proofs.Common.{◌≡◌, ◌≢◌, ℕ, zero, suc, ◌+◌, ◌<◌, ◌≤◌, List, [], ◌∷◌, ◌++◌, map, length, get_or, set, slice_get, slice_set, Option, Some, None, refl, sym, ap, ◌∙◌, subst, inl, inr, ◌⊎◌, arith}
-use Rattle.std.proofs.lemmas.List.{append-nil, map-set, map_push, length-map, length_push, get_or-set_same, get_or-set_other, get_or_append_left, get_or_push, get_or_past}
+use Rattle.std.proofs.Common.{◌≡◌, ◌≢◌, ℕ, zero, suc, ◌<◌, ◌≤◌, List, [], ◌∷◌, ◌++◌, length, get_or, set, slice_get, slice_set, Option, Some, None, refl, sym, ap, ◌∙◌, subst, inl, inr, ◌⊎◌, arith}
+use Rattle.std.proofs.lemmas.List.{length-set, length_push, get_or-set_same, get_or-set_other, get_or_append_left, get_or_past}
 use Rattle.spv_logic.specs.declared.conditions.TermId.{TermId}
 use Rattle.spv_term.specs.declared.nodes.Node.{Node}
 use Rattle.spv_classes.proofs.Lists.{same_or_apart, get_left, get_push, get_within}
@@ -8,12 +8,12 @@ use Rattle.spv_congruence.specs.Graph.{HasNode, Waits}
 use Rattle.spv_congruence.specs.Keep.{HasPut, KeepsUses, uses_at}
 use Rattle.spv_congruence.proofs.Goings.{waits_left, waits_right}
 
-set_same : {X : Type 0} (xs : List X) (i : ℕ) (y : X) → i < length xs → slice_get (slice_set xs i y) i ≡ Some y
+pub set_same : {X : Type 0} (xs : List X) (i : ℕ) (y : X) → i < length xs → slice_get (slice_set xs i y) i ≡ Some y
 set_same [] i y h = absurd (omega arith)
 set_same (x ∷ xs) zero y h = refl
 set_same (x ∷ xs) (suc i) y h = set_same xs i y (omega arith)
 
-set_other : {X : Type 0} (xs : List X) (i k : ℕ) (y : X) → k ≢ i → slice_get (slice_set xs i y) k ≡ slice_get xs k
+pub set_other : {X : Type 0} (xs : List X) (i k : ℕ) (y : X) → k ≢ i → slice_get (slice_set xs i y) k ≡ slice_get xs k
 set_other [] i k y h = refl
 set_other (x ∷ xs) zero zero y h = absurd (h refl)
 set_other (x ∷ xs) zero (suc k) y h = refl
@@ -26,15 +26,19 @@ put_within nodes x n h = record {
   there = set_same nodes x (Some n) h;
   kept = λ t m a is. set_other nodes x t.0 (Some n) a ∙ is;
   back = λ t m a is. sym (set_other nodes x t.0 (Some n) a) ∙ is;
+  places = (let e = length-set nodes x (Some n) in omega (arith, e));
+  stays = λ y k a. set_other nodes x y (Some n) a;
 }
 
 -- the same nodes are there
 pub record SameNodes (old new : List (Option Node)) : Type 0 where
   pub kept : (t : TermId) (m : Node) → HasNode old t m → HasNode new t m
   pub back : (t : TermId) (m : Node) → HasNode new t m → HasNode old t m
+  pub places : length old ≤ length new
+  pub stays : (y : ℕ) → y < length old → slice_get new y ≡ slice_get old y
 
 pub same_nodes : (nodes : List (Option Node)) → SameNodes nodes nodes
-same_nodes nodes = record { kept = λ t m is. is; back = λ t m is. is }
+same_nodes nodes = record { kept = λ t m is. is; back = λ t m is. is; places = omega arith; stays = λ y h. refl }
 
 pub of_last : {X : Type 0} (xs : List X) (y z : X) (i : ℕ) → slice_get (xs ++ y ∷ []) i ≡ Some z → (slice_get xs i ≡ Some z) ⊎ ((i ≡ length xs) × (y ≡ z))
 of_last [] y z zero e = inr (refl, one _ _ e)
@@ -53,6 +57,8 @@ pub none_more : (old ns ms : List (Option Node)) → ms ≡ ns ++ None ∷ [] �
 none_more old ns ms e same = subst (SameNodes old) (sym e) (record {
   kept = λ t m is. let h = same.kept t m is in get_left ns (None ∷ []) t.0 (get_within ns t.0 (Some m) h) ∙ h;
   back = λ t m is. same.back t m (by t m (of_last ns None (Some m) t.0 is));
+  places = (let p = same.places in let e = length_push ns None in omega (arith, p, e));
+  stays = λ y h. get_left ns (None ∷ []) y (let p = same.places in omega (arith, p, h)) ∙ same.stays y h;
 })
   where
     by : (t : TermId) (m : Node) → (slice_get ns t.0 ≡ Some (Some m)) ⊎ ((t.0 ≡ length ns) × (None ≡ Some m)) → slice_get ns t.0 ≡ Some (Some m)
@@ -67,6 +73,8 @@ put_past old ns ms x n e f same = subst (HasPut old x n) (sym e) (record {
   there = ap (slice_get (ns ++ Some n ∷ [])) f ∙ get_push ns (Some n);
   kept = λ t m a is. let h = same.kept t m is in get_left ns (Some n ∷ []) t.0 (get_within ns t.0 (Some m) h) ∙ h;
   back = λ t m a is. same.back t m (by t m a (of_last ns (Some n) (Some m) t.0 is));
+  places = (let p = same.places in let e = length_push ns (Some n) in omega (arith, p, e));
+  stays = λ y h a. get_left ns (Some n ∷ []) y (let p = same.places in omega (arith, p, h)) ∙ same.stays y h;
 })
   where
     by : (t : TermId) (m : Node) → t.0 ≢ x → (slice_get ns t.0 ≡ Some (Some m)) ⊎ ((t.0 ≡ length ns) × (Some n ≡ Some m)) → slice_get ns t.0 ≡ Some (Some m)

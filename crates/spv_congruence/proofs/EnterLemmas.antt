@@ -1,7 +1,6 @@
 -- One more term is entered.
-use Rattle.std.proofs.Common.{◌≡◌, ◌≢◌, ℕ, zero, suc, ◌+◌, ◌<◌, ◌≤◌, Bool, true, false, ◌&&◌, nat_eq, List, [], ◌∷◌, ◌++◌, map, take, length, slice_get, Option, Some, None, refl, sym, ap, ◌∙◌, subst, inl, inr, ◌⊎◌, arith, if◌then◌else◌}
+use Rattle.std.proofs.Common.{◌≡◌, ◌≢◌, ℕ, suc, ◌<◌, Bool, true, false, ◌&&◌, nat_eq, List, [], ◌∷◌, ◌++◌, map, take, length, slice_get, Option, Some, None, refl, sym, ap, ◌∙◌, subst, inl, inr, ◌⊎◌, arith, if◌then◌else◌}
 use Rattle.std.specs.Cmp.Lexicographic.{pointwise}
-use Rattle.std.specs.Cmp.Derive.{both_true}
 use Rattle.std.proofs.lemmas.Bool.{false≢true, eqb-true}
 use Rattle.spv_list.proofs.Tests.{left_true, right_true}
 use Rattle.spv_logic.specs.declared.conditions.TermId.{TermId}
@@ -14,14 +13,14 @@ use Rattle.spv_classes.specs.declared.joins.Join.{Join}
 use Rattle.spv_classes.specs.Classes.{label, AreJoins}
 use Rattle.spv_classes.proofs.Lists.{by_last, of_push, get_left, get_push, get_within, nat_same, same_or_apart}
 use Rattle.spv_classes.proofs.Labels.{label_of_label}
-use Rattle.spv_signatures.specs.Signatures.{Signature, is_for, or_this, held}
+use Rattle.spv_signatures.specs.Signatures.{Signature, is_for, held}
 use Rattle.spv_signatures.proofs.RowLemmas.{held_push}
 use Rattle.spv_congruence.specs.declared.facts.Fact.{Fact}
 use Rattle.spv_congruence.specs.declared.facts.Equal.{Equal}
-use Rattle.spv_congruence.specs.Graph.{label_of, labels, HasNode, IsEarly, IsCause, AreCongruent, IsRow, IsLink, IsDue, IsEntered, IsLevel, Due, Waits}
+use Rattle.spv_congruence.specs.Graph.{label_of, labels, HasNode, IsEarly, IsCause, AreCongruent, IsRow, IsDue, IsEntered, IsLevel, Due, Waits}
 use Rattle.spv_congruence.specs.Keep.{signed, first_for}
 use Rattle.spv_congruence.proofs.Dues.{due_more, due_last, due_label, waits_pop}
-use Rattle.spv_congruence.proofs.Keeping.{Keeps, row_kept, link_kept, due_kept}
+use Rattle.spv_congruence.proofs.Keeping.{Keeps, row_kept, link_kept}
 
 -- ---- signatures that are the same
 

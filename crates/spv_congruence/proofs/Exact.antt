@@ -1,8 +1,8 @@
 -- Terms have one class exactly where they are joined.
-use Rattle.std.proofs.Common.{◌≡◌, ◌≢◌, ℕ, zero, suc, ◌+◌, ◌<◌, ◌≤◌, ◌↔◌, Bool, true, nat_eq, IsTrue, List, [], ◌∷◌, ◌++◌, map, take, length, slice_get, Option, Some, refl, sym, ap, ◌∙◌, subst, inl, inr, ◌⊎◌, arith}
+use Rattle.std.proofs.Common.{◌≡◌, ◌≢◌, ℕ, ◌<◌, ◌↔◌, true, nat_eq, IsTrue, List, [], ◌∷◌, ◌++◌, map, take, length, slice_get, Some, refl, sym, ap, ◌∙◌, subst, inl, inr, ◌⊎◌, arith}
 use Rattle.std.proofs.lemmas.Bool.Decides.{nat_tests}
 use Rattle.spv_logic.specs.declared.conditions.TermId.{TermId}
-use Rattle.spv_logic.specs.Terms.{Term, Terms, term, no_terms, terms}
+use Rattle.spv_logic.specs.Terms.{term}
 use Rattle.spv_term.specs.declared.nodes.Node.{Node}
 use Rattle.spv_term.specs.Arena.{Arena, IsArena, tree, trees}
 use Rattle.spv_term.proofs.ArenaLemmas.{tree-node}
@@ -17,8 +17,7 @@ use Rattle.spv_joined.specs.Joined as joined
 use Rattle.spv_joined.specs.Laws.{Respects}
 use Rattle.spv_joined.proofs.Kept.{kept}
 use Rattle.spv_signatures.specs.Signatures.{held}
-use Rattle.spv_congruence.specs.declared.facts.Fact.{Fact}
-use Rattle.spv_congruence.specs.Graph.{Graph, id, label_of, labels, HasNode, IsEarly, IsFact, AreCongruent, IsCause, IsLink, IsEntered, IsGraph, Waits, are_same}
+use Rattle.spv_congruence.specs.Graph.{Graph, id, label_of, labels, HasNode, IsEarly, IsCause, IsLink, IsEntered, IsGraph, Waits, are_same}
 use Rattle.spv_congruence.specs.Keep.{Kept, graph, Fits}
 use Rattle.spv_congruence.specs.Told.{IsOf, IsAdded, IsTold, IsExact}
 use Rattle.spv_congruence.specs.Told as spec

@@ -1,5 +1,5 @@
 -- One more fact is told.
-use Rattle.std.proofs.Common.{◌≡◌, ◌≢◌, ℕ, zero, suc, ◌+◌, ◌<◌, ◌≤◌, Bool, true, false, List, [], ◌∷◌, ◌++◌, map, take, length, slice_get, Option, Some, None, refl, sym, ap, ◌∙◌, subst, inl, inr, ◌⊎◌, arith, if◌then◌else◌}
+use Rattle.std.proofs.Common.{◌≡◌, ℕ, zero, suc, Bool, true, false, List, [], ◌∷◌, ◌++◌, take, length, slice_get, Option, Some, None, refl, ◌∙◌, subst, inl, inr, ◌⊎◌, arith, if◌then◌else◌}
 use Rattle.std.proofs.lemmas.Bool.{false≢true}
 use Rattle.std.proofs.lemmas.List.{length_push}
 use Rattle.spv_logic.specs.declared.conditions.TermId.{TermId}
@@ -10,7 +10,7 @@ use Rattle.spv_classes.proofs.Lists.{of_push, get_left, get_push, get_within}
 use Rattle.spv_signatures.specs.Signatures.{Signature}
 use Rattle.spv_congruence.specs.declared.facts.Fact.{Fact}
 use Rattle.spv_congruence.specs.declared.facts.Equal.{Equal}
-use Rattle.spv_congruence.specs.Graph.{label_of, HasNode, IsEarly, IsFact, IsDue, IsEntered, IsLevel, Due, Waits}
+use Rattle.spv_congruence.specs.Graph.{IsEarly, IsDue, IsEntered, IsLevel, Due, Waits}
 use Rattle.spv_congruence.specs.Keep.{equal_of}
 use Rattle.spv_congruence.proofs.Keeping.{Keeps, row_kept, link_kept}
 

@@ -1,6 +1,6 @@
 -- A graph that goes on from another one.
-use Rattle.std.proofs.Common.{Bool, true, false, nat_le, if◌then◌else◌, ◌≡◌, ◌≢◌, ℕ, zero, suc, ◌+◌, ◌<◌, ◌≤◌, List, [], ◌∷◌, ◌++◌, map, take, length, get_or, slice_get, Option, Some, None, refl, sym, ap, ◌∙◌, subst, inl, inr, ◌⊎◌, arith}
-use Rattle.std.proofs.lemmas.List.{append-nil, append_assoc, length-append, get_or-map, get_or_past}
+use Rattle.std.proofs.Common.{Bool, true, false, nat_le, if◌then◌else◌, ◌≡◌, ◌≢◌, ℕ, zero, suc, ◌+◌, ◌<◌, ◌≤◌, List, [], ◌∷◌, ◌++◌, length, get_or, slice_get, Some, refl, sym, ap, ◌∙◌, subst, inl, inr, ◌⊎◌, arith}
+use Rattle.std.proofs.lemmas.List.{append-nil, append_assoc}
 use Rattle.spv_logic.specs.declared.conditions.TermId.{TermId}
 use Rattle.spv_term.specs.declared.nodes.Node.{Node}
 use Rattle.spv_term.specs.Arena.{AllBelow}
@@ -11,12 +11,11 @@ use Rattle.spv_classes.specs.Classes.{Classes, label, size, join_of, AreJoins, I
 use Rattle.spv_classes.proofs.Counts.{joins_few}
 use Rattle.spv_classes.proofs.Steps.{five, join_of-is}
 use Rattle.spv_classes.proofs.Lists.{get_left, get_push, get_within, same_or_apart}
-use Rattle.spv_signatures.specs.Signatures.{Signature, Table}
-use Rattle.spv_congruence.specs.declared.facts.Fact.{Fact}
+use Rattle.spv_signatures.specs.Signatures.{Signature}
 use Rattle.spv_congruence.specs.declared.facts.Equal.{Equal}
-use Rattle.spv_congruence.specs.Graph.{HasNode, IsEarly, IsDue, IsLevel, Waits, HasLabel, AreTerms, label_of, labels}
-use Rattle.spv_congruence.specs.Keep.{Kept, Fits, Enters, OtherTable, GoesOn, with_join, IsNow, IsNode, HasUsers, uses_at, signed, first_for}
-use Rattle.spv_congruence.proofs.EnterLemmas.{entered_same, entered_apart, are_congruent, not_a_term}
+use Rattle.spv_congruence.specs.Graph.{HasNode, IsEarly, IsDue, IsLevel, Waits, HasLabel, label_of, labels}
+use Rattle.spv_congruence.specs.Keep.{Kept, Fits, Enters, OtherTable, GoesOn, with_join, IsNow, IsNode, HasUsers, uses_at, signed}
+use Rattle.spv_congruence.proofs.EnterLemmas.{entered_same, entered_apart, are_congruent}
 use Rattle.spv_congruence.proofs.JoinLemmas.{one_joined, skip_equal}
 
 pub goes_refl : (k : Kept) → GoesOn k k

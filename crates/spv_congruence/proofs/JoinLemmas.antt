@@ -1,18 +1,17 @@
 -- One more join.
-use Rattle.std.proofs.Common.{◌≡◌, ◌≢◌, ℕ, zero, suc, ◌+◌, ◌<◌, ◌≤◌, true, List, [], ◌∷◌, ◌++◌, map, take, length, slice_get, Option, Some, refl, sym, ap, ◌∙◌, subst, inl, inr, ◌⊎◌, arith}
+use Rattle.std.proofs.Common.{◌≡◌, ℕ, List, [], ◌∷◌, ◌++◌, map, take, slice_get, Option, Some, sym, ap, ◌∙◌, subst, inl, inr, ◌⊎◌, arith}
 use Rattle.spv_logic.specs.declared.conditions.TermId.{TermId}
-use Rattle.spv_logic.specs.declared.operators.Head.{Head}
 use Rattle.spv_term.specs.declared.nodes.Node.{Node}
 use Rattle.spv_classes.specs.declared.joins.Cause.{Cause}
 use Rattle.spv_classes.specs.declared.joins.Cause.TheVariants.{Told, Congruent}
 use Rattle.spv_classes.specs.declared.joins.Join.{Join}
-use Rattle.spv_classes.specs.Classes.{label, IsJoin, AreJoins}
+use Rattle.spv_classes.specs.Classes.{label, IsJoin}
 use Rattle.spv_classes.proofs.Lists.{of_push, get_left, get_within, take_push, take_whole}
-use Rattle.spv_classes.proofs.Labels.{label_was_lower, label_stays, same_stays}
+use Rattle.spv_classes.proofs.Labels.{label_was_lower, label_stays}
 use Rattle.spv_signatures.specs.Signatures.{Signature, held}
 use Rattle.spv_congruence.specs.declared.facts.Fact.{Fact}
 use Rattle.spv_congruence.specs.declared.facts.Equal.{Equal}
-use Rattle.spv_congruence.specs.Graph.{id, label_of, labels, HasNode, IsEarly, IsFact, AreCongruent, IsCause, IsRow, IsLink, IsDue, IsEntered, IsLevel, Due, Waits, HasLabel}
+use Rattle.spv_congruence.specs.Graph.{id, label_of, HasNode, IsEarly, IsCause, IsLink, IsDue, IsEntered, IsLevel, Waits, HasLabel}
 use Rattle.spv_congruence.proofs.Dues.{due_joined, due_same, row_joined, args_joined, has_or_stays, IsUpper, label_cases}
 
 module _ (nodes : List (Option Node)) (added : List TermId) (count : ℕ) (told : List Fact) (n : ℕ) where

@@ -1,15 +1,14 @@
 -- What stays true when terms are added, and facts are told or taken back.
-use Rattle.std.proofs.Common.{◌≡◌, ◌≢◌, ℕ, zero, suc, ◌+◌, ◌<◌, ◌≤◌, true, List, [], ◌∷◌, ◌++◌, map, take, length, slice_get, Option, Some, refl, sym, ap, ◌∙◌, subst, inl, inr, ◌⊎◌, arith}
+use Rattle.std.proofs.Common.{◌≡◌, ℕ, ◌<◌, ◌≤◌, List, take, slice_get, Option, Some, arith}
 use Rattle.spv_logic.specs.declared.conditions.TermId.{TermId}
 use Rattle.spv_term.specs.declared.nodes.Node.{Node}
 use Rattle.spv_classes.specs.declared.joins.Cause.{Cause}
 use Rattle.spv_classes.specs.declared.joins.Cause.TheVariants.{Told, Congruent}
 use Rattle.spv_classes.specs.declared.joins.Join.{Join}
-use Rattle.spv_classes.specs.Classes.{label}
 use Rattle.spv_signatures.specs.Signatures.{Signature}
 use Rattle.spv_congruence.specs.declared.facts.Fact.{Fact}
 use Rattle.spv_congruence.specs.declared.facts.Equal.{Equal}
-use Rattle.spv_congruence.specs.Graph.{HasNode, IsEarly, IsFact, AreCongruent, IsCause, IsRow, IsLink, IsDue, IsEntered, IsLevel, Due, Waits}
+use Rattle.spv_congruence.specs.Graph.{HasNode, IsEarly, AreCongruent, IsCause, IsRow, IsLink, IsDue, IsLevel}
 
 -- what was there is there
 pub record Keeps (nodes nodes' : List (Option Node)) (added added' : List TermId) (count count' : ℕ) (told told' : List Fact) (n n' : ℕ) : Type 0 where

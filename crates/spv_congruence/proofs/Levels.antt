@@ -1,15 +1,13 @@
 -- The levels of a graph, when a fact is told, when facts are taken back, and when terms are added and entered.
-use Rattle.std.proofs.Common.{◌≡◌, ◌≢◌, ℕ, zero, suc, ◌+◌, ◌<◌, ◌≤◌, true, List, [], ◌∷◌, ◌++◌, map, take, drop, length, get_or, slice_get, Option, Some, None, refl, sym, ap, ◌∙◌, subst, inl, inr, ◌⊎◌, arith}
-use Rattle.std.proofs.lemmas.List.{append-nil, length-append, length_push, length-take-le, get_or_append_left, get_or_push, get_or-take, take-append-le, take-append-drop, take-take, take_all}
-use Rattle.spv_logic.specs.declared.conditions.TermId.{TermId}
-use Rattle.spv_term.specs.declared.nodes.Node.{Node}
+use Rattle.std.proofs.Common.{◌≡◌, ◌≢◌, ℕ, ◌+◌, ◌<◌, ◌≤◌, List, [], ◌∷◌, ◌++◌, take, length, slice_get, sym, ap, ◌∙◌, subst, inl, inr, ◌⊎◌, arith}
+use Rattle.std.proofs.lemmas.List.{length-append, length_push, length-take-le, get_or_append_left, get_or_push, get_or-take, take-append-le, take-take, take_all}
 use Rattle.spv_classes.specs.declared.joins.Join.{Join}
-use Rattle.spv_classes.proofs.Lists.{get_left, get_within, get_take, same_or_apart}
+use Rattle.spv_classes.proofs.Lists.{get_left, get_take, same_or_apart}
 use Rattle.spv_signatures.specs.Signatures.{Signature, cells_of}
 use Rattle.spv_congruence.specs.declared.facts.Fact.{Fact}
 use Rattle.spv_congruence.specs.declared.facts.Level.{Level}
-use Rattle.spv_congruence.specs.Graph.{Graph, HasNode, IsEarly, AreTerms, IsLevel, Rises, IsUpTo, IsGraph, now_at, nowhere, level_at, joins_at, rows_at, terms_at, weight, weight_of}
-use Rattle.spv_congruence.proofs.Keeping.{Keeps, Same, level_same}
+use Rattle.spv_congruence.specs.Graph.{Graph, IsLevel, Rises, IsUpTo, IsGraph, now_at, nowhere, level_at, joins_at, rows_at, terms_at}
+use Rattle.spv_congruence.proofs.Keeping.{level_same}
 
 pub cells_append : (rs more : List Signature) → cells_of (rs ++ more) ≡ cells_of rs + cells_of more
 cells_append [] more = omega arith

@@ -12,6 +12,7 @@ pub mod Nexts
 pub mod AddLemmas
 pub mod PutLemmas
 pub mod Paths
+pub mod GrownLemmas
 pub mod Promises
 pub mod Exact
 pub mod Splits

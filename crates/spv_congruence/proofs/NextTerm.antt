@@ -1,25 +1,22 @@
 -- The next term of the list is entered.
-use Rattle.std.proofs.Common.{Bool, nat_le, if◌then◌else◌, ◌≡◌, ◌≢◌, ℕ, zero, suc, ◌+◌, ◌<◌, ◌≤◌, true, false, List, [], ◌∷◌, ◌++◌, map, take, drop, length, get_or, slice_get, Option, Some, None, refl, sym, ap, ◌∙◌, subst, inl, inr, ◌⊎◌, arith}
+use Rattle.std.proofs.Common.{Bool, nat_le, if◌then◌else◌, ◌≡◌, ◌≢◌, ℕ, zero, suc, ◌+◌, ◌≤◌, true, false, List, [], ◌∷◌, ◌++◌, take, length, slice_get, Option, Some, refl, sym, ap, ◌∙◌, subst, arith}
 use Rattle.std.proofs.lemmas.Bool.{false≢true}
 use Rattle.std.proofs.lemmas.Bool.Decides.{nat_tests}
-use Rattle.std.proofs.lemmas.List.{length-append, length-map, length_push, take-append-le, take_more}
+use Rattle.std.proofs.lemmas.List.{length-append, length_push, take-append-le}
 use Rattle.spv_logic.specs.declared.conditions.TermId.{TermId}
 use Rattle.spv_term.specs.declared.nodes.Node.{Node}
-use Rattle.spv_classes.specs.declared.joins.Cause.{Cause}
 use Rattle.spv_classes.specs.declared.joins.Cause.TheVariants.{Congruent}
 use Rattle.spv_classes.specs.declared.joins.Join.{Join}
-use Rattle.spv_classes.specs.Classes.{label, size, join_of, IsJoin, AreJoins}
-use Rattle.spv_classes.proofs.Lists.{by_last, same_or_apart, get_left, get_push, get_within, nat_apart}
+use Rattle.spv_classes.specs.Classes.{label, size, join_of, AreJoins}
+use Rattle.spv_classes.proofs.Lists.{by_last, get_left, get_push, get_within, nat_apart}
 use Rattle.spv_classes.proofs.Labels.{label_stays, size_push, label_of_label}
 use Rattle.spv_classes.proofs.Circles.{ring}
 use Rattle.spv_classes.proofs.Steps.{five}
-use Rattle.spv_signatures.specs.Signatures.{Signature, cells_of}
+use Rattle.spv_signatures.specs.Signatures.{Signature}
 use Rattle.spv_congruence.specs.declared.facts.Fact.{Fact}
-use Rattle.spv_congruence.specs.declared.facts.Level.{Level}
-use Rattle.spv_congruence.specs.declared.facts.Equal.{Equal}
-use Rattle.spv_congruence.specs.Graph.{Graph, id, label_of, labels, HasNode, HasLabel, IsEarly, AreTerms, IsLink, IsLevel, Rises, IsUpTo, now_at, nowhere, level_at, joins_at, rows_at, terms_at, weight, weight_of, Waits}
+use Rattle.spv_congruence.specs.Graph.{Graph, id, label_of, labels, HasNode, HasLabel, IsEarly, AreTerms, IsLink, IsLevel, Rises, IsUpTo, level_at, joins_at, rows_at, terms_at, weight, weight_of}
 use Rattle.spv_congruence.proofs.JoinLemmas.{label_early}
-use Rattle.spv_congruence.proofs.Levels.{At, Between, cells_append}
+use Rattle.spv_congruence.proofs.Levels.{cells_append}
 
 -- ---- a number that no join names
 

@@ -1,20 +1,19 @@
 -- What entering the next term keeps.
-use Rattle.std.proofs.Common.{◌≡◌, ◌≢◌, ℕ, zero, suc, ◌+◌, ◌<◌, ◌≤◌, List, [], ◌∷◌, ◌++◌, map, take, drop, length, get_or, slice_get, Option, Some, None, refl, sym, ap, ◌∙◌, subst, inl, inr, ◌⊎◌, arith}
-use Rattle.std.proofs.lemmas.List.{append-nil, append_assoc, length-map, length-append, drop_more}
+use Rattle.std.proofs.Common.{◌≡◌, ◌≢◌, ℕ, zero, suc, ◌+◌, ◌<◌, ◌≤◌, List, [], ◌∷◌, ◌++◌, drop, length, slice_get, Some, refl, sym, ap, ◌∙◌, subst, arith}
+use Rattle.std.proofs.lemmas.List.{append-nil, length-map}
 use Rattle.spv_logic.specs.declared.conditions.TermId.{TermId}
 use Rattle.spv_term.specs.declared.nodes.Node.{Node}
 use Rattle.spv_classes.specs.declared.joins.Cause.TheVariants.{Congruent}
 use Rattle.spv_classes.specs.declared.joins.Join.{Join}
 use Rattle.spv_classes.specs.Classes.{Classes, join_of, IsJoin, AreJoins}
-use Rattle.spv_classes.proofs.Lists.{get_within}
 use Rattle.spv_classes.proofs.Steps.{join_of-is}
 use Rattle.spv_signatures.specs.Signatures.{Signature, cells_of}
 use Rattle.spv_congruence.specs.declared.facts.Equal.{Equal}
-use Rattle.spv_congruence.specs.Graph.{Graph, label_of, labels, HasNode, IsEarly, IsLevel, IsDue, IsUpTo, weight, weight_of, Waits}
-use Rattle.spv_congruence.specs.Keep.{Kept, graph, Fits, Enters, OtherTable, GoesOn, IsNow, IsNode, EntersNext, EntersRest, signed, first_for, with_join}
-use Rattle.spv_congruence.proofs.EnterLemmas.{next_waits, entered_same, entered_apart, are_congruent}
+use Rattle.spv_congruence.specs.Graph.{label_of, labels, HasNode, IsEarly, IsLevel, IsUpTo, weight, weight_of}
+use Rattle.spv_congruence.specs.Keep.{Kept, graph, Fits, Enters, OtherTable, GoesOn, IsNow, EntersNext, signed, with_join}
+use Rattle.spv_congruence.proofs.EnterLemmas.{next_waits, entered_same, entered_apart}
 use Rattle.spv_congruence.proofs.JoinLemmas.{one_joined}
-use Rattle.spv_congruence.proofs.Goings.{goes_refl, goes_trans, goes_fits, goes_table, goes_joined, classes_of, first_is_node, join_left, join_right, join_cause}
+use Rattle.spv_congruence.proofs.Goings.{goes_trans, goes_fits, goes_table, classes_of, first_is_node, join_left, join_right, join_cause}
 use Rattle.spv_congruence.proofs.Levels.{cells_append}
 use Rattle.spv_congruence.proofs.NextTerm.{own_lower, no_users, labels_stay, graph_entered}
 

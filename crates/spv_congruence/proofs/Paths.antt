@@ -1,19 +1,17 @@
 -- Paths of terms that were not added.
-use Rattle.std.proofs.Common.{◌≡◌, ◌≢◌, ℕ, zero, suc, ◌+◌, ◌*◌, ◌<◌, ◌≤◌, Bool, true, false, not, List, [], ◌∷◌, ◌++◌, take, length, slice_get, Option, Some, None, refl, sym, ap, ◌∙◌, subst, inl, inr, ◌⊎◌, arith}
-use Rattle.std.proofs.lemmas.Bool.{false≢true}
+use Rattle.std.proofs.Common.{◌≡◌, ◌≢◌, ℕ, suc, ◌+◌, ◌*◌, ◌<◌, ◌≤◌, true, not, List, [], ◌∷◌, ◌++◌, length, slice_get, Option, Some, None, refl, sym, ap, ◌∙◌, subst, inl, inr, ◌⊎◌, arith}
 use Rattle.std.proofs.lemmas.List.{append-nil, append_assoc}
 use Rattle.std.proofs.Math.Nat.{suc-mul}
 use Rattle.spv_logic.specs.declared.conditions.TermId.{TermId}
 use Rattle.spv_term.specs.declared.nodes.Node.{Node}
-use Rattle.spv_term.specs.Arena.{Arena, IsArena, AllBelow}
+use Rattle.spv_term.specs.Arena.{Arena, IsArena}
 use Rattle.spv_term.proofs.NodeLemmas.{id_from}
 use Rattle.spv_term.proofs.ArenaLemmas.{args_before}
 use Rattle.spv_term.proofs.TreeLemmas.{AllBelow-at}
-use Rattle.spv_classes.specs.Classes.{count_of}
 use Rattle.spv_classes.proofs.Lists.{get_left, get_within, same_or_apart}
 use Rattle.spv_classes.proofs.Counts.{count_less}
-use Rattle.spv_congruence.specs.Graph.{Graph, HasNode, IsEarly, label_of, joins_at}
-use Rattle.spv_congruence.specs.Keep.{Kept, graph, HasPut, IsMissing, IsNode, Adds}
+use Rattle.spv_congruence.specs.Graph.{Graph, HasNode, IsEarly}
+use Rattle.spv_congruence.specs.Keep.{Kept, graph, HasPut, IsMissing, IsNode}
 use Rattle.spv_congruence.specs.Told.{IsPart, argument, AddsParts, IsOf}
 use Rattle.spv_congruence.specs.Walk.{known, IsPath, GoesDown, IsDone, Steps, missing_in, last_of}
 

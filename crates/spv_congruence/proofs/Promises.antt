@@ -1,7 +1,6 @@
 -- What the calls of a graph promise.
-use Rattle.std.proofs.Common.{◌≡◌, ◌≢◌, ℕ, zero, suc, ◌+◌, ◌*◌, ◌<◌, ◌≤◌, List, [], ◌∷◌, ◌++◌, take, length, get_or, slice_get, Result, Ok, Err, OnOk, Option, Some, refl, sym, ap, ◌∙◌, subst, inl, inr, ◌⊎◌, arith}
+use Rattle.std.proofs.Common.{◌≡◌, ◌≢◌, ℕ, ◌*◌, ◌<◌, ◌≤◌, List, [], ◌∷◌, ◌++◌, take, length, get_or, Result, Ok, Err, OnOk, refl, sym, ap, ◌∙◌, subst, inl, inr, ◌⊎◌, arith}
 use Rattle.std.proofs.lemmas.List.{append_assoc, append-nil, take_all, take-append-le, get_or_append_left, get_or_push}
-use Rattle.spv_logic.specs.declared.conditions.TermId.{TermId}
 use Rattle.spv_classes.specs.declared.joins.Join.{Join}
 use Rattle.spv_classes.specs.Classes.{label, size, IsJoin, AreJoins}
 use Rattle.spv_classes.proofs.Lists.{by_last, same_or_apart, take_whole}
@@ -9,8 +8,8 @@ use Rattle.spv_classes.proofs.Labels.{label_was_lower, label_stays, all_but_last
 use Rattle.spv_classes.proofs.Circles.{size_upper, size_other}
 use Rattle.spv_congruence.specs.declared.facts.Fact.{Fact}
 use Rattle.spv_congruence.specs.declared.facts.Level.{Level}
-use Rattle.spv_congruence.specs.Graph.{Graph, IsEarly, IsGraph, now_at, nowhere, level_at, joins_at, label_of}
-use Rattle.spv_congruence.specs.Keep.{Kept, graph, with_fact, Tells, Undoes}
+use Rattle.spv_congruence.specs.Graph.{IsGraph, now_at, nowhere, level_at, joins_at}
+use Rattle.spv_congruence.specs.Keep.{Kept, graph, Tells, Undoes}
 use Rattle.spv_congruence.specs.Told.{Joins, Undone}
 
 pub on_ok : {T E : Type 0} {P Q : Type 0} (r : Result T E) → OnOk r P → (P → Q) → OnOk r Q

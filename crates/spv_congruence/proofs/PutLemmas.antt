@@ -1,20 +1,19 @@
 -- One more term is put behind the others.
-use Rattle.std.proofs.Common.{◌≡◌, ◌≢◌, ℕ, zero, suc, ◌+◌, ◌<◌, ◌≤◌, List, [], ◌∷◌, ◌++◌, map, take, drop, length, get_or, slice_get, Option, Some, None, refl, sym, ap, ◌∙◌, subst, inl, inr, ◌⊎◌, arith}
-use Rattle.std.proofs.lemmas.List.{append-nil, length-append, length-take-le, length_push, take-append-le, take_all}
+use Rattle.std.proofs.Common.{◌≡◌, ◌≢◌, ℕ, zero, suc, ◌+◌, ◌<◌, ◌≤◌, List, [], ◌∷◌, ◌++◌, take, length, get_or, slice_get, Option, Some, refl, sym, ap, ◌∙◌, subst, inl, inr, ◌⊎◌, arith}
+use Rattle.std.proofs.lemmas.List.{length-take-le, length_push, take-append-le}
 use Rattle.spv_logic.specs.declared.conditions.TermId.{TermId}
 use Rattle.spv_term.specs.declared.nodes.Node.{Node}
 use Rattle.spv_term.specs.Arena.{AllBelow}
 use Rattle.spv_term.proofs.NodeLemmas.{id_from}
 use Rattle.spv_term.proofs.TreeLemmas.{AllBelow-le}
-use Rattle.spv_classes.specs.declared.joins.Join.{Join}
 use Rattle.spv_classes.proofs.Lists.{get_left, get_push, get_within, get_take, same_or_apart}
-use Rattle.spv_signatures.specs.Signatures.{Signature, cells_of}
+use Rattle.spv_signatures.specs.Signatures.{cells_of}
 use Rattle.spv_congruence.specs.declared.facts.Level.{Level}
-use Rattle.spv_congruence.specs.Graph.{Graph, HasNode, IsEarly, AreTerms, IsLevel, Rises, IsUpTo, IsGraph, nowhere, level_at, joins_at, rows_at, terms_at, label_of, weight, weight_of, Waits}
-use Rattle.spv_congruence.specs.Keep.{Kept, graph, Fits, HasPut, KeepsUses, MakesRoom, IsPrepared, IsMissing, AreNodes, IsNode, Puts, Adds, EntersNext, GoesOn, uses_at}
+use Rattle.spv_congruence.specs.Graph.{Graph, HasNode, IsEarly, AreTerms, IsUpTo, IsGraph, nowhere, level_at, joins_at, rows_at, label_of, weight, weight_of, Waits}
+use Rattle.spv_congruence.specs.Keep.{Kept, graph, Fits, HasPut, KeepsUses, MakesRoom, IsPrepared, IsMissing, AreNodes, Puts, Adds, EntersNext, uses_at}
 use Rattle.spv_congruence.proofs.Args.{below_at}
 use Rattle.spv_congruence.proofs.AddLemmas.{of_last}
-use Rattle.spv_congruence.proofs.Keeping.{Keeps, Same, level_same}
+use Rattle.spv_congruence.proofs.Keeping.{Same, level_same}
 
 pub room_refl : (k : Kept) → MakesRoom k k
 room_refl k = record { is = refl; count = omega arith; rows = refl; table = omega arith; uses = λ x t w. w; room = omega arith }
@@ -248,6 +247,10 @@ module _ (a b : Kept) (t : TermId) (n : Node) (p : Puts a t n b) (is : IsGraph (
             let j = (is.up m less).joins in
             let js = next.goes.joins_are ∙ ap (λ ks. ks ++ next.goes.joins) (ap (λ (i : Kept). i.classes.joins) p.is) in
             ap (λ (l : Level). take l.joins c.classes.joins) levels ∙ (ap (take (level_at (graph a) m).joins) js ∙ take-append-le (level_at (graph a) m).joins a.classes.joins next.goes.joins j);
+        joins = next.goes.joins;
+        joins_are = next.goes.joins_are ∙ ap (λ ks. ks ++ next.goes.joins) (ap (λ (i : Kept). i.classes.joins) p.is);
+        rows = next.goes.rows;
+        rows_are = next.goes.rows_are ∙ ap (λ ks. ks ++ next.goes.rows) (ap (λ (i : Kept). i.table.rows) p.is);
       }
 
 -- ---- uses of arguments

@@ -1,10 +1,9 @@
 -- The join that brought two terms together, and the works that it leaves.
-use Rattle.std.proofs.Common.{◌≡◌, ◌≢◌, ℕ, zero, suc, ◌+◌, ◌<◌, ◌≤◌, Bool, true, false, not, nat_eq, List, [], ◌∷◌, ◌++◌, map, take, length, slice_get, Option, Some, refl, sym, ap, ◌∙◌, subst, inl, inr, ◌⊎◌, arith, if◌then◌else◌}
+use Rattle.std.proofs.Common.{◌≡◌, ◌≢◌, ℕ, zero, suc, ◌+◌, ◌<◌, ◌≤◌, Bool, true, false, not, nat_eq, List, [], ◌∷◌, ◌++◌, take, length, slice_get, Some, refl, sym, ap, ◌∙◌, subst, inl, inr, ◌⊎◌, arith, if◌then◌else◌}
 use Rattle.std.proofs.lemmas.List.{take_all}
 use Rattle.std.proofs.lemmas.Bool.{false≢true}
 use Rattle.std.proofs.lemmas.Bool.Decides.{nat_tests}
 use Rattle.spv_logic.specs.declared.conditions.TermId.{TermId}
-use Rattle.spv_term.specs.declared.nodes.Node.{Node}
 use Rattle.spv_classes.specs.declared.joins.Cause.{Cause}
 use Rattle.spv_classes.specs.declared.joins.Cause.TheVariants as cause
 use Rattle.spv_classes.specs.declared.joins.Join.{Join}
@@ -14,13 +13,12 @@ use Rattle.spv_classes.proofs.Labels.{one_label-lower, one_label-other}
 use Rattle.spv_classes.proofs.Moments.{label_next, same_later}
 use Rattle.spv_congruence.specs.declared.facts.Fact.{Fact}
 use Rattle.spv_congruence.specs.declared.facts.Link.{Link}
-use Rattle.spv_congruence.specs.declared.facts.Link.TheVariants.{Told, Congruent}
 use Rattle.spv_congruence.specs.declared.explaining.Work.{Work}
 use Rattle.spv_congruence.specs.declared.explaining.Work.TheVariants.{Between, Write}
 use Rattle.spv_congruence.specs.declared.explaining.Split.{Split}
-use Rattle.spv_congruence.specs.Graph.{Graph, id, label_of, HasNode, IsEarly, IsFact, AreCongruent, IsCause, IsLink, IsGraph}
+use Rattle.spv_congruence.specs.Graph.{Graph, id, label_of, IsEarly, IsCause, IsLink, IsGraph}
 use Rattle.spv_congruence.specs.Keep.{IsNode}
-use Rattle.spv_congruence.specs.Explained.{SameAt, IsTelling, WereCongruent, IsLinkOf, Leads, GoesBy, Owes, apart_for, cost, cost_of, costs, IsCauseLink, IsSplit, Done, IsWork, AreWorks}
+use Rattle.spv_congruence.specs.Explained.{SameAt, IsLinkOf, Leads, GoesBy, Owes, apart_for, cost, cost_of, costs, IsCauseLink, IsSplit, Done, IsWork, AreWorks}
 
 -- a cause gives a link, the one way round and the other
 link_forth : (g : Graph) (m k : ℕ) → m < k → (s t : TermId) (why : Cause) (l : Link) → IsCause g.nodes g.told (length g.told) (take m g.joins) s t why → IsCauseLink g.told why s t l → IsLinkOf g k l s t

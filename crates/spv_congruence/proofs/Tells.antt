@@ -1,20 +1,19 @@
 -- What telling keeps.
-use Rattle.std.proofs.Common.{◌≡◌, ℕ, zero, suc, ◌+◌, ◌<◌, ◌≤◌, List, [], ◌∷◌, ◌++◌, take, drop, length, get_or, slice_get, Option, Some, refl, sym, ap, ◌∙◌, subst, inl, inr, ◌⊎◌, arith}
+use Rattle.std.proofs.Common.{◌≡◌, ℕ, zero, suc, ◌+◌, ◌<◌, ◌≤◌, List, [], ◌∷◌, ◌++◌, take, drop, length, get_or, slice_get, Option, Some, sym, ap, ◌∙◌, subst, inl, inr, arith}
 use Rattle.std.proofs.lemmas.List.{length_push, length-take-le, take-append-drop, take-take, get_or-take, take_all, take-append-le, get_or_push}
 use Rattle.spv_logic.specs.declared.conditions.TermId.{TermId}
 use Rattle.spv_term.specs.declared.nodes.Node.{Node}
 use Rattle.spv_classes.specs.declared.joins.Join.{Join}
-use Rattle.spv_classes.specs.Classes.{Classes}
 use Rattle.spv_classes.proofs.Lists.{take_whole, of_push}
-use Rattle.spv_signatures.specs.Signatures.{Signature, Table, cells_of}
+use Rattle.spv_signatures.specs.Signatures.{Signature, cells_of}
 use Rattle.spv_congruence.specs.declared.facts.Fact.{Fact}
 use Rattle.spv_congruence.specs.declared.facts.Level.{Level}
 use Rattle.spv_congruence.specs.declared.facts.Equal.{Equal}
-use Rattle.spv_congruence.specs.Graph.{Graph, HasNode, IsEarly, label_of, weight_of, IsLevel, IsUpTo, IsGraph, now_at, nowhere, level_at, joins_at, rows_at}
+use Rattle.spv_congruence.specs.Graph.{Graph, IsEarly, label_of, weight_of, IsLevel, IsUpTo, IsGraph, now_at, nowhere, level_at, joins_at, rows_at}
 use Rattle.spv_congruence.specs.Keep.{Kept, graph, Fits, GoesOn, IsNow, IsNode, with_fact, equal_of, IsRewound, IsStopped, Tells, EntersRest, Undoes}
 use Rattle.spv_congruence.proofs.FactLemmas.{now_told}
 use Rattle.spv_congruence.proofs.Goings.{goes_fits}
-use Rattle.spv_congruence.proofs.Levels.{graph_told, told_more, graph_back, back_to}
+use Rattle.spv_congruence.proofs.Levels.{graph_told, graph_back, back_to}
 use Rattle.spv_congruence.proofs.NextTerm.{weight_append}
 
 pub fits_fact : (k : Kept) (x : Fact) → IsNode k.nodes x.left → IsNode k.nodes x.right → Fits k → Fits (with_fact k x)

@@ -1,18 +1,16 @@
 -- Explanations: links one behind the other from one term to another one.
 use Rattle.std.specs.Prelude.{◌≡◌, ◌≢◌, ℕ, suc, ◌+◌, ◌<◌, ◌≤◌, true, List, [], ◌∷◌, ◌++◌, take, length, slice_get, Some, ◌⊎◌, nat_eq, not, zero}
 use Rattle.spv_logic.specs.declared.conditions.TermId.{TermId}
-use Rattle.spv_term.specs.declared.nodes.Node.{Node}
 use Rattle.spv_classes.specs.declared.joins.Cause.{Cause}
 use Rattle.spv_classes.specs.declared.joins.Cause.TheVariants as cause
-use Rattle.spv_classes.specs.declared.joins.Join.{Join}
-use Rattle.spv_classes.specs.Classes.{label, count_of}
+use Rattle.spv_classes.specs.Classes.{count_of}
 use Rattle.spv_congruence.specs.declared.facts.Fact.{Fact}
 use Rattle.spv_congruence.specs.declared.facts.Link.{Link}
 use Rattle.spv_congruence.specs.declared.facts.Link.TheVariants.{Told, Congruent}
 use Rattle.spv_congruence.specs.declared.explaining.Split.{Split}
 use Rattle.spv_congruence.specs.declared.explaining.Work.{Work}
 use Rattle.spv_congruence.specs.declared.explaining.Work.TheVariants.{Between, Write}
-use Rattle.spv_congruence.specs.Graph.{Graph, HasNode, AreCongruent, label_of}
+use Rattle.spv_congruence.specs.Graph.{Graph, AreCongruent, label_of}
 use Rattle.spv_congruence.specs.Keep.{IsNode}
 
 -- two terms are in one class when there are so many joins

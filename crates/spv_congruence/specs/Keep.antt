@@ -1,5 +1,5 @@
 -- What is kept for a graph, and how it changes.
-use Rattle.std.specs.Prelude.{◌≡◌, ◌≢◌, ℕ, suc, ◌+◌, ◌<◌, ◌≤◌, List, [], ◌∷◌, ◌++◌, map, take, length, slice_get, slice_index_or, Option, Some, None, if◌then◌else◌, ◌⊎◌}
+use Rattle.std.specs.Prelude.{◌≡◌, ◌≢◌, ℕ, suc, ◌+◌, ◌<◌, ◌≤◌, List, [], ◌∷◌, ◌++◌, take, length, slice_get, slice_index_or, Option, Some, None, if◌then◌else◌, ◌⊎◌}
 use Rattle.spv_logic.specs.declared.conditions.TermId.{TermId}
 use Rattle.spv_logic.specs.declared.operators.Head.{Head}
 use Rattle.spv_term.specs.declared.nodes.Node.{Node}
@@ -137,6 +137,8 @@ pub record HasPut (old : List (Option Node)) (x : ℕ) (n : Node) (new : List (O
   pub there : slice_get new x ≡ Some (Some n)
   pub kept : (t : TermId) (m : Node) → t.0 ≢ x → HasNode old t m → HasNode new t m
   pub back : (t : TermId) (m : Node) → t.0 ≢ x → HasNode new t m → HasNode old t m
+  pub places : length old ≤ length new
+  pub stays : (y : ℕ) → y < length old → y ≢ x → slice_get new y ≡ slice_get old y
 
 -- what uses a term still does
 abbrev pub KeepsUses : List (List TermId) → List (List TermId) → Type 0
@@ -164,6 +166,10 @@ pub record Adds (old new : Graph) (t : TermId) (n : Node) : Type 0 where
   pub levels : new.levels ≡ old.levels
   pub labels_stay : (u : TermId) → IsEarly old.added (length old.added) u → label_of new.joins u ≡ label_of old.joins u
   pub past : (m : ℕ) → m < length old.told → joins_at new m ≡ joins_at old m
+  pub joins : List Join
+  pub joins_are : new.joins ≡ old.joins ++ joins
+  pub rows : List Signature
+  pub rows_are : new.rows ≡ old.rows ++ rows
 
 -- all room is there for a term over arguments
 pub record IsPrepared (k : Kept) (t : TermId) (args : List TermId) : Type 0 where
@@ -177,3 +183,33 @@ IsMissing nodes t = (n : Node) → HasNode nodes t n → ⊥
 
 abbrev pub AreNodes : List (Option Node) → List TermId → Type 0
 AreNodes nodes args = (i : ℕ) (u : TermId) → slice_get args i ≡ Some u → IsNode nodes u
+
+-- ---- taking terms away
+
+-- a graph is another one with further terms
+pub record HasGrown (old new : Graph) : Type 0 where
+  pub told : new.told ≡ old.told
+  pub levels : new.levels ≡ old.levels
+  pub terms : List TermId
+  pub added : new.added ≡ old.added ++ terms
+  pub joins : List Join
+  pub joins_are : new.joins ≡ old.joins ++ joins
+  pub rows : List Signature
+  pub rows_are : new.rows ≡ old.rows ++ rows
+  pub places : length old.nodes ≤ length new.nodes
+  pub kept : (t : TermId) (n : Node) → HasNode old.nodes t n → HasNode new.nodes t n
+  pub fresh : (i : ℕ) (t : TermId) → length old.added ≤ i → slice_get new.added i ≡ Some t → t.0 < length old.nodes → slice_get old.nodes t.0 ≡ Some None
+  pub stays : (x : ℕ) → x < length old.nodes → ((i : ℕ) (t : TermId) → length old.added ≤ i → slice_get new.added i ≡ Some t → t.0 ≢ x) → slice_get new.nodes x ≡ slice_get old.nodes x
+
+-- the places of terms are empty, of those in a list from a place on and before another one
+pub record AreEmptied (old : List (Option Node)) (added : List TermId) (from to : ℕ) (new : List (Option Node)) : Type 0 where
+  pub many : length new ≡ length old
+  pub gone : (i : ℕ) (t : TermId) → from ≤ i → i < to → slice_get added i ≡ Some t → t.0 < length old → slice_get new t.0 ≡ Some None
+  pub stays : (x : ℕ) → ((i : ℕ) (t : TermId) → from ≤ i → i < to → slice_get added i ≡ Some t → t.0 ≢ x) → slice_get new x ≡ slice_get old x
+
+-- the terms are taken away that were added since a level, when there were so many places
+pub record IsTakenBack (old : Kept) (level : Level) (places : ℕ) (new : Kept) : Type 0 where
+  pub emptied : List (Option Node)
+  pub emptied_are : AreEmptied old.nodes old.added level.added (length old.added) emptied
+  pub is : new ≡ record old { nodes = take places emptied; added = take level.added old.added; classes = record old.classes { joins = take level.joins old.classes.joins }; table = new.table }
+  pub rows : new.table.rows ≡ take level.rows old.table.rows

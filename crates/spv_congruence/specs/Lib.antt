@@ -4,3 +4,4 @@ pub mod Keep
 pub mod Walk
 pub mod Explained
 pub mod Clashes
+pub mod Rings

@@ -1,11 +1,10 @@
 -- Going down to terms that were not added.
-use Rattle.std.specs.Prelude.{◌≡◌, ℕ, ◌+◌, ◌*◌, ◌<◌, Bool, true, false, not, List, [], ◌∷◌, ◌++◌, length, slice_get, Option, Some, None, ◌⊎◌}
+use Rattle.std.specs.Prelude.{◌≡◌, ℕ, ◌+◌, ◌<◌, Bool, true, false, not, List, [], ◌∷◌, ◌++◌, slice_get, Option, Some, None, ◌⊎◌}
 use Rattle.spv_logic.specs.declared.conditions.TermId.{TermId}
 use Rattle.spv_term.specs.declared.nodes.Node.{Node}
 use Rattle.spv_term.specs.Arena.{Arena}
 use Rattle.spv_classes.specs.Classes.{count_of}
-use Rattle.spv_congruence.specs.Graph.{HasNode}
-use Rattle.spv_congruence.specs.Keep.{Kept, graph, Adds, IsMissing, IsNode}
+use Rattle.spv_congruence.specs.Keep.{Kept, graph, Adds, IsMissing}
 use Rattle.spv_congruence.specs.Told.{IsPart}
 
 abbrev pub known : Option (Option Node) → Bool
@@ -17,6 +16,12 @@ known (Some (Some n)) = true
 abbrev pub IsPath : Arena → TermId → List (Option Node) → ℕ → List TermId → Type 0
 IsPath a t nodes bound [] = Unit {0}
 IsPath a t nodes bound (x ∷ xs) = (x.0 < bound) × IsMissing nodes x × IsPart a t x × IsPath a t nodes x.0 xs
+
+-- a term of a list that was not added, by its place
+pub record IsMissingAt (nodes : List (Option Node)) (args : List TermId) (place : ℕ) : Type 0 where
+  pub term : TermId
+  pub there : slice_get args place ≡ Some term
+  pub missing : IsMissing nodes term
 
 -- a path goes on to an argument of its last term
 pub record GoesDown (a : Arena) (nodes : List (Option Node)) (old : List TermId) (x : TermId) (new : List TermId) : Type 0 where

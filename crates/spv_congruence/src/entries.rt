@@ -13,7 +13,7 @@ use spv_classes::Cause;
 use spv_term::TermId;
 
 // The term at a place.
-fn term_at(terms: &[TermId], place: usize) -> TermId
+pub(crate) fn term_at(terms: &[TermId], place: usize) -> TermId
     requires { place < length terms.now }
     ensures { slice_get terms.now place ≡ Some result }
 {

@@ -76,13 +76,14 @@ impl Graph {
         }
     }
 
-    /// Adds a term with all its parts. For want of memory some of the parts may have been added.
+    /// Adds a term with all its parts. For want of memory the graph stays as it was.
     pub fn add(&mut self, terms: &Terms, t: TermId) -> Result<(), AllocError>
         requires of { IsOf terms.now self.old }
         requires within { t.0 < length terms.now.nodes }
         ensures ok { OnOk result (IsNode self.new.nodes t) }
-        ensures parts { AddsParts terms.now t self.old self.new }
-        ensures of { IsOf terms.now self.new }
+        ensures parts { OnOk result (AddsParts terms.now t self.old self.new) }
+        ensures of { OnOk result (IsOf terms.now self.new) }
+        ensures err { OnErr result (self.new ≡ self.old) }
     {
         self.kept.add(terms, t)
     }

@@ -10,6 +10,7 @@ mod facts;
 mod graph;
 mod joining;
 mod kept;
+mod taking;
 mod telling;
 mod walking;
 

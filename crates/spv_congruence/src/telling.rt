@@ -26,7 +26,7 @@ impl Kept {
     }
 
     // How far the graph is.
-    fn level(&self) -> Level
+    pub(crate) fn level(&self) -> Level
         ensures { result ≡ now_at (graph self.now) }
     {
         Level {

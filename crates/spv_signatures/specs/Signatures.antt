@@ -1,9 +1,12 @@
 -- A table of signatures: a head with the labels of its arguments, and a term for it.
-use Rattle.std.specs.Prelude.{◌≡◌, ℕ, zero, suc, ◌+◌, ◌<◌, ◌≤◌, Bool, ◌&&◌, List, [], ◌∷◌, take, drop, map, length, fold, Option, Some, None, nat_eq, if◌then◌else◌}
+use Rattle.std.specs.Prelude.{◌≡◌, ℕ, suc, ◌+◌, Bool, ◌&&◌, List, [], ◌∷◌, take, drop, length, fold, Option, Some, None, nat_eq, if◌then◌else◌}
 use Rattle.std.specs.Cmp.Lexicographic.{pointwise}
+use Rattle.std.specs.Hash as fed
+use Rattle.std.specs.Hash.FoldHasher as folding
 use Rattle.spv_logic.specs.declared.conditions.TermId.{TermId}
 use Rattle.spv_logic.specs.declared.operators.Head.{Head}
 use Rattle.spv_logic.specs.Terms.{head_eq}
+use Rattle.spv_logic.specs.contracts.operators.HeadHash.TheImpl as of_heads
 use Rattle.spv_signatures.specs.declared.rows.Row.{Row}
 
 -- a term under its signature
@@ -43,3 +46,10 @@ signature cells r = record { head = r.head; labels = take r.size (drop r.start c
 abbrev pub Laid : ℕ → List Row → ℕ → Type 0
 Laid start [] end = start ≡ end
 Laid start (r ∷ rows) end = (r.start ≡ start) × Laid (start + r.size) rows end
+
+-- the hash of a head over labels, under which its rows are found
+abbrev pub hash_of : Head → List ℕ → ℕ
+hash_of h ls = folding.finish (fold folding.write (fold folding.write folding.initial (of_heads.ghosts.hash_input h)) (fed.slice fed.usize ls))
+
+abbrev pub hash : Signature → ℕ
+hash r = hash_of r.head r.labels

@@ -1,6 +1,7 @@
 //! A table of signatures, which finds the term of a head over labels.
 #![tactic(auto)]
 
+mod chains;
 mod rows;
 mod table;
 

@@ -5,7 +5,9 @@ ghost use Rattle.std.specs.Cmp.Lexicographic.{pointwise};
 ghost use Rattle.spv_logic.specs.Terms.{head_eq};
 ghost use Rattle.spv_signatures.specs.Signatures as spec;
 
+use crate::chains::Chains;
 use spv_logic::{Head, TermId};
+use std::hash::{FoldHasher, Hash, Hasher};
 
 /// A head and a term; the labels are so many cells of the table, from a place on.
 #[derive(Clone, Copy, Debug)]
@@ -47,18 +49,36 @@ pub(crate) fn row_at(rows: &[Row], place: usize) -> Row
     rows[place]
 }
 
+// The hash of a head over labels.
+pub(crate) fn hash(head: Head, labels: &[usize]) -> u64
+    ensures { result ≡ spec.hash_of head labels.now }
+{
+    let mut hasher = FoldHasher::default();
+    head.hash(&mut hasher);
+    labels.hash(&mut hasher);
+    hasher.finish()
+}
+
 // The term of the last row of a head and labels.
-pub(crate) fn find(rows: &[Row], cells: &[usize], head: Head, labels: &[usize]) -> Option<TermId>
-    requires { spec.Laid 0 rows.now (length cells.now) }
+pub(crate) fn find(
+    rows: &[Row],
+    cells: &[usize],
+    hashes: &Chains,
+    head: Head,
+    labels: &[usize],
+) -> Option<TermId>
+    requires laid { spec.Laid 0 rows.now (length cells.now) }
+    requires hashes { hashes.now.hashes ≡ map spec.hash (map (spec.signature cells.now) rows.now) }
     ensures { result ≡ spec.held (map (spec.signature cells.now) rows.now) head labels.now }
 {
+    let hash = hash(head, labels);
     let mut below = rows.len();
-    while below > 0 {
-        let row = row_at(rows, below - 1);
+    while let Some(place) = hashes.last_below(below, hash) {
+        let row = row_at(rows, place);
         if is_for(row, cells, head, labels) {
             return Some(row.term);
         }
-        below -= 1;
+        below = place;
     }
     None
 }

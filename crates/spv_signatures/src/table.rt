@@ -3,7 +3,8 @@
 ghost use Rattle.std.specs.Prelude.{◌≡◌, ◌≤◌, ◌+◌, suc, [], ◌∷◌, ◌++◌, IfOk, IsOk, OnOk, OnErr, length, take};
 ghost use Rattle.spv_signatures.specs.Signatures as spec;
 
-use crate::rows::{Row, find, row_at};
+use crate::chains::Chains;
+use crate::rows::{Row, find, hash, row_at};
 use spv_logic::{Head, TermId};
 use std::alloc::{AllocError, Global};
 use std::marker::Model;
@@ -13,20 +14,22 @@ use std::marker::Model;
 pub struct Signatures {
     rows: Vec<Row>,
     cells: Vec<usize>,
+    hashes: Chains,
 }
 
 impl Model for Signatures {
-    ghost use Rattle.std.specs.Prelude.{ℕ, ◌+◌, ◌≤◌, length, map, min};
+    ghost use Rattle.std.specs.Prelude.{◌≡◌, ℕ, ◌+◌, ◌≤◌, length, map, min};
     ghost use Rattle.std.specs.Vec.{vec_capacity};
     ghost use Rattle.spv_signatures.specs.Signatures as spec;
 
     ghost Value = { spec.Table };
 
-    ghost view = { λ t. record { rows = map (spec.signature t.cells.items) t.rows.items; room = min (vec_capacity t.rows) (vec_capacity t.cells) } };
+    ghost view = { λ t. record { rows = map (spec.signature t.cells.items) t.rows.items; room = min (min (vec_capacity t.rows) (vec_capacity t.cells)) t.hashes.room } };
 
     ghost invariant = { λ t. record {
       laid : spec.Laid 0 t.rows.items (length t.cells.items);
-      fit : length t.rows.items + length t.cells.items ≤ min (vec_capacity t.rows) (vec_capacity t.cells);
+      fit : length t.rows.items + length t.cells.items ≤ min (min (vec_capacity t.rows) (vec_capacity t.cells)) t.hashes.room;
+      hashes : t.hashes.hashes ≡ map spec.hash (map (spec.signature t.cells.items) t.rows.items);
     } };
 }
 
@@ -38,6 +41,7 @@ impl Signatures {
         Signatures {
             rows: Vec::new(alloc),
             cells: Vec::new(alloc),
+            hashes: Chains::new(alloc),
         }
     }
 
@@ -59,7 +63,13 @@ impl Signatures {
     pub fn find(&self, head: Head, labels: &[usize]) -> Option<TermId>
         ensures { result ≡ spec.held self.now.rows head labels.now }
     {
-        find(self.rows.as_slice(), self.cells.as_slice(), head, labels)
+        find(
+            self.rows.as_slice(),
+            self.cells.as_slice(),
+            &self.hashes,
+            head,
+            labels,
+        )
     }
 
     // How many cells there are with those of one more signature.
@@ -92,7 +102,7 @@ impl Signatures {
         self.rows.reserve(rows)?;
         let labels = cells.saturating_sub(self.cells.as_slice().len());
         self.cells.reserve(labels)?;
-        Ok(())
+        self.hashes.reserve(cells)
     }
 
     /// Makes memory for one more signature with so many labels.
@@ -121,6 +131,7 @@ impl Signatures {
                 term,
             })
             .unwrap();
+        self.hashes.push(hash(head, labels));
     }
 
     /// Puts a term for a head over labels behind the others. It takes no memory where there is room for its cells.
@@ -147,5 +158,6 @@ impl Signatures {
         let row = row_at(self.rows.as_slice(), count);
         self.cells.truncate(row.start);
         self.rows.truncate(count);
+        self.hashes.cut(count);
     }
 }

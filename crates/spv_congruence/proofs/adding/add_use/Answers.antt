@@ -1,4 +1,4 @@
-use Rattle.std.proofs.Common.{◌≡◌, ◌++◌, ◌∷◌, [], map, length, get_or, sym, ap, ◌∙◌, arith}
+use Rattle.std.proofs.Common.{◌++◌, ◌∷◌, [], sym, ap, ◌∙◌, arith}
 use Rattle.std.proofs.lemmas.List.{map-set, get_or-map, length-map, append-nil}
 use Rattle.spv_congruence.proofs.AddLemmas.{use_kept, use_added}
 use Rattle.spv_congruence.proofs.adding.add_use.Goals as goal

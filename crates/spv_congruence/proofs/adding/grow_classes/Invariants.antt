@@ -1,5 +1,4 @@
 use Rattle.std.proofs.Common.{◌≡◌, ◌≤◌, ◌+◌, ◌-◌}
-use Rattle.spv_classes.specs.Classes.{Classes}
 use Rattle.spv_congruence.proofs.adding.grow_classes.Given as goal
 
 abbrev pub invariant-loop-classes : goal.invariant-loop-classes

@@ -1,4 +1,4 @@
-use Rattle.std.proofs.Common.{◌+◌, ◌≡◌, ◌++◌, ◌∷◌, [], length, ap, sym, subst, ◌∙◌, arith, is_ok, if◌then◌else◌}
+use Rattle.std.proofs.Common.{◌+◌, ◌++◌, ◌∷◌, [], length, ap, sym, subst, ◌∙◌, arith, is_ok, if◌then◌else◌}
 use Rattle.std.specs.Vec.{vec_len}
 use Rattle.spv_congruence.specs.Graph.{id}
 use Rattle.spv_term.specs.Arena.{AllBelow}

@@ -1,12 +1,10 @@
-use Rattle.std.proofs.Common.{◌≡◌, ◌≤◌, take, map, length}
-use Rattle.spv_signatures.specs.Signatures.{held, signature}
+use Rattle.std.proofs.Common.{map}
+use Rattle.spv_signatures.specs.Signatures.{signature}
+use Rattle.spv_signatures.proofs.RowLemmas.{Seeks}
 use Rattle.spv_signatures.proofs.rows.find.Given as goal
 
-abbrev pub invariant-loop-below : goal.invariant-loop-below
-invariant-loop-below l = record {
-  within : l.below ≤ length l.rows;
-  rest : held (map (signature l.cells) (take l.below l.rows)) l.head l.labels ≡ held (map (signature l.cells) l.rows) l.head l.labels;
-}
+abbrev pub invariant-loop-place : goal.invariant-loop-place
+invariant-loop-place l = Seeks (map (signature l.cells) l.rows) l.hashes.hashes l.head l.labels l.hash l.below
 
-abbrev pub decreases-loop-below : goal.decreases-loop-below
-decreases-loop-below l = l.below
+abbrev pub decreases-loop-place : goal.decreases-loop-place
+decreases-loop-place l = l.below

@@ -1,4 +1,4 @@
-use Rattle.std.proofs.Common.{◌≡◌, ◌≤◌, ℕ, length, ap, sym, subst, arith}
+use Rattle.std.proofs.Common.{ℕ, length, ap, subst, arith}
 use Rattle.spv_congruence.specs.Graph.{Graph}
 use Rattle.spv_congruence.specs.Keep.{graph}
 use Rattle.spv_congruence.specs.Told.{Undone}

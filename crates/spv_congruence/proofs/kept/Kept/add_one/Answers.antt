@@ -1,4 +1,4 @@
-use Rattle.std.proofs.Common.{◌≡◌, ◌∙◌, sym, subst}
+use Rattle.std.proofs.Common.{sym, subst}
 use Rattle.spv_term.specs.Arena.{node}
 use Rattle.spv_congruence.specs.Graph.{IsGraph}
 use Rattle.spv_congruence.specs.Keep.{graph, Fits, Puts}

@@ -1,6 +1,6 @@
-use Rattle.std.proofs.Common.{◌≡◌, refl, IfOk, subst, sym, ◌∙◌}
+use Rattle.std.proofs.Common.{refl, IfOk, subst, sym, ◌∙◌}
 use Rattle.spv_congruence.specs.Keep.{Enters}
-use Rattle.spv_congruence.proofs.Nexts.{next_first_in, next_term_in, next_same, next_apart, next_is_join, next_fits}
+use Rattle.spv_congruence.proofs.Nexts.{next_first_in, next_same, next_apart, next_is_join, next_fits}
 use Rattle.spv_congruence.proofs.kept.Kept.enter_next.Goals as goal
 
 pub label-requires : goal.label-requires

@@ -1,4 +1,4 @@
-use Rattle.std.proofs.Common.{◌≡◌, ◌+◌, suc, length, refl, subst, sym, ap, ◌∙◌, arith}
+use Rattle.std.proofs.Common.{◌≡◌, ◌+◌, suc, length, refl, subst, sym, ap, arith}
 use Rattle.spv_congruence.specs.Graph.{IsUpTo}
 use Rattle.spv_congruence.specs.Keep.{Kept, graph}
 use Rattle.spv_congruence.proofs.Goings.{goes_refl, goes_trans}

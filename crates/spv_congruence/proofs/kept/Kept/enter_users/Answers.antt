@@ -1,4 +1,4 @@
-use Rattle.std.proofs.Common.{◌≡◌, refl, sym, ap, ◌∙◌, subst, length}
+use Rattle.std.proofs.Common.{refl, ◌∙◌, subst, length}
 use Rattle.spv_congruence.specs.Keep.{IsNow}
 use Rattle.spv_congruence.proofs.Goings.{goes_refl, goes_trans, goes_fits}
 use Rattle.spv_congruence.proofs.kept.Kept.enter_users.Goals as goal

@@ -1,8 +1,6 @@
-use Rattle.std.proofs.Common.{◌≡◌, ◌++◌, ◌∷◌, [], ◌<◌, refl, sym, ap, ◌∙◌, subst}
+use Rattle.std.proofs.Common.{◌<◌, sym, subst}
 use Rattle.spv_congruence.specs.Keep.{graph}
-use Rattle.spv_congruence.specs.Explained.{AreWorks, Leads, Owes, costs}
-use Rattle.spv_congruence.specs.declared.explaining.Work.{Work}
-use Rattle.spv_congruence.specs.declared.explaining.Work.TheVariants.{Between}
+use Rattle.spv_congruence.specs.Explained.{AreWorks, Owes, costs}
 use Rattle.spv_congruence.proofs.Splits.{works_last, done_cheaper, done_works, done_leads}
 use Rattle.spv_congruence.proofs.kept.Kept.explain.Goals as goal
 

@@ -1,4 +1,4 @@
-use Rattle.std.proofs.Common.{◌≡◌, ℕ, ◌≤◌, length}
+use Rattle.std.proofs.Common.{ℕ, ◌≤◌, length}
 use Rattle.spv_logic.specs.declared.conditions.TermId.{TermId}
 use Rattle.spv_congruence.specs.Keep.{graph}
 use Rattle.spv_congruence.specs.Explained.{AreWorks, SameAt, Leads, Owes, costs}

@@ -1,7 +1,5 @@
-use Rattle.std.proofs.Common.{refl, ◌≡◌, ℕ, length, [], sym, subst, ap, ◌∙◌, arith}
-use Rattle.spv_classes.specs.declared.joins.Join.{Join}
-use Rattle.spv_classes.specs.Classes.{join_of}
-use Rattle.spv_congruence.specs.Keep.{IsNow, GoesOn, Fits, with_join}
+use Rattle.std.proofs.Common.{refl, length, sym, subst}
+use Rattle.spv_congruence.specs.Keep.{IsNow, GoesOn, Fits}
 use Rattle.spv_congruence.proofs.Goings.{left_in, right_in, is_join, few_joins, now_joined, fits_joined, goes_joined, goes_refl, goes_trans}
 use Rattle.spv_congruence.proofs.kept.Kept.join_one.Goals as goal
 

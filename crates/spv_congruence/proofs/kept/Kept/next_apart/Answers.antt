@@ -1,5 +1,4 @@
-use Rattle.std.proofs.Common.{◌≡◌, sym, ◌∙◌, subst, length, [], ◌++◌, ◌∷◌}
-use Rattle.spv_congruence.specs.Keep.{IsNow}
+use Rattle.std.proofs.Common.{sym, ◌∙◌}
 use Rattle.spv_congruence.proofs.Goings.{early_in, last_due, skipped}
 use Rattle.spv_congruence.proofs.kept.Kept.next_apart.Goals as goal
 

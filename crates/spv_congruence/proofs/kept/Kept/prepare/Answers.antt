@@ -1,6 +1,6 @@
-use Rattle.std.proofs.Common.{◌≤◌, arith}
+use Rattle.std.proofs.Common.{arith}
 use Rattle.spv_term.proofs.TreeLemmas.{AllBelow-le}
-use Rattle.spv_congruence.proofs.PutLemmas.{room_trans, room_uses}
+use Rattle.spv_congruence.proofs.PutLemmas.{room_trans}
 use Rattle.spv_congruence.proofs.kept.Kept.prepare.Goals as goal
 
 pub use_args-requires : goal.use_args-requires

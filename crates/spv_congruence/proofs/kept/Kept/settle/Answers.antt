@@ -1,5 +1,4 @@
-use Rattle.std.proofs.Common.{◌≡◌, length, arith}
-use Rattle.spv_congruence.proofs.Goings.{goes_refl, goes_trans, goes_fits}
+use Rattle.spv_congruence.proofs.Goings.{goes_refl}
 use Rattle.spv_congruence.proofs.kept.Kept.settle.Goals as goal
 
 pub loop-equal-init : goal.loop-equal-init

@@ -1,4 +1,4 @@
-use Rattle.std.proofs.Common.{◌≡◌, ◌+◌, ◌<◌, ◌≤◌, ℕ, drop, length, sym, subst, ap, arith}
+use Rattle.std.proofs.Common.{◌+◌, ◌≤◌, ℕ, drop, sym, subst, arith}
 use Rattle.spv_signatures.specs.Signatures.{cells_of}
 use Rattle.spv_congruence.specs.Graph.{IsUpTo, weight_of}
 use Rattle.spv_congruence.specs.Keep.{graph, EntersRest}

@@ -1,4 +1,4 @@
-use Rattle.std.proofs.Common.{◌≡◌, ◌++◌, take, drop, OnOk, List, length, map, sym, ap, ◌∙◌, subst}
+use Rattle.std.proofs.Common.{OnOk, length, map, sym, ap, ◌∙◌, subst}
 use Rattle.spv_classes.proofs.Steps.{written}
 use Rattle.spv_congruence.specs.Graph.{Waits}
 use Rattle.spv_congruence.specs.Keep.{Kept, KeepsUses, uses_at}

@@ -1,9 +1,8 @@
-use Rattle.std.proofs.Common.{◌≡◌, ◌∙◌, ap, sym, subst, length, arith}
-use Rattle.spv_term.specs.Arena.{AllBelow}
+use Rattle.std.proofs.Common.{◌∙◌, ap, arith}
 use Rattle.spv_classes.proofs.Lists.{get_within}
 use Rattle.spv_congruence.specs.Graph.{id}
 use Rattle.spv_congruence.specs.Keep.{Kept}
-use Rattle.spv_congruence.proofs.PutLemmas.{below_here, used_more, room_uses}
+use Rattle.spv_congruence.proofs.PutLemmas.{below_here, used_more}
 use Rattle.spv_congruence.proofs.kept.Kept.use_args.Goals as goal
 
 pub use_arg-requires : goal.use_arg-requires

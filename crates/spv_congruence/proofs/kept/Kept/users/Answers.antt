@@ -1,4 +1,4 @@
-use Rattle.std.proofs.Common.{◌≡◌, sym, ap, ◌∙◌, subst, length, arith}
+use Rattle.std.proofs.Common.{sym, subst}
 use Rattle.spv_classes.specs.Classes.{HasMembers}
 use Rattle.spv_congruence.proofs.Goings.{got_at, uses_more, all_users}
 use Rattle.spv_congruence.proofs.kept.Kept.users.Goals as goal
