@@ -1,0 +1,5 @@
+pub mod Sorts
+pub mod Operators
+pub mod Names
+pub mod Applications
+pub mod Annotations

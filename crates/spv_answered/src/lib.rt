@@ -1,0 +1,16 @@
+//! The walk over names and types refuses nothing else: what comes from a tree and is well typed is what the walk answers.
+#![tactic(auto)]
+
+ghost use Rattle.spv_answered.specs.Laws.{AnnotationsAreAnswered, OneAnnotationComes, PlusIsLost};
+
+/// An annotation that comes from a tree and is well typed is what the walk answers, where each sign `+` stands before a number; so no
+/// other one comes from that tree.
+pub fn law_annotations_answered()
+    ensures answered { AnnotationsAreAnswered }
+    ensures one_comes { OneAnnotationComes }
+{}
+
+/// A sign `+` before what is no number is refused, though the typed form without the sign is well typed.
+pub fn law_plus_lost()
+    ensures { PlusIsLost }
+{}
