@@ -1,21 +1,20 @@
 -- Annotations that come from a tree are what the walk answers.
-use Rattle.std.proofs.Common.{◌≡◌, ℕ, Bool, true, false, cond, ◌&&◌, refl, sym, ap, ◌∙◌, subst}
-use Rattle.std.specs.Prelude.{Option, Some, None, Ok}
+use Rattle.std.proofs.Common.{◌≡◌, ℕ, true, false, ◌&&◌, refl, sym, ap, ◌∙◌}
+use Rattle.std.specs.Prelude.{Option, Some, Ok}
 use Rattle.spv_logic.specs.declared.types.TypeId.{TypeId}
 use Rattle.spv_logic.specs.declared.types.Sort.{Sort}
 use Rattle.spv_logic.specs.declared.types.Sort.TheVariants as sort
-use Rattle.spv_logic.specs.Shapes.{fields_of}
 use Rattle.spv_syntax.specs.Formulas as tree
 use Rattle.spv_program.specs.Types.{type_exists}
-use Rattle.spv_program.specs.Programs.{Program, shapes}
+use Rattle.spv_program.specs.Programs.{Program}
 use Rattle.spv_program.specs.Scopes as program
 use Rattle.spv_program.specs.declared.operators.Comparison.{Comparison}
-use Rattle.spv_program.specs.Formulas.{Formula, Annotation, NilOf, Compared, Implied}
-use Rattle.spv_program.specs.FormulaTypes.{formula_sort, annotation_ok, is_nil, is_sort, any_sort, compared_sort}
+use Rattle.spv_program.specs.Formulas.{Formula, Annotation, NilOf, Compared}
+use Rattle.spv_program.specs.FormulaTypes.{formula_sort, is_nil, is_sort, any_sort, compared_sort}
 use Rattle.spv_program.proofs.SortFacts.{nothing_there, some_is, is_sort-true, sort_told, failed}
 use Rattle.spv_typing.specs.Outcomes.{after, wrong}
 use Rattle.spv_typing.specs.Known.{Scope}
-use Rattle.spv_typing.specs.OperatorWalk.{Of, settled, formula_line, formula_walk}
+use Rattle.spv_typing.specs.OperatorWalk.{Of, settled, formula_walk}
 use Rattle.spv_typing.specs.FormulaWalk.{formula_forms, annotation}
 use Rattle.spv_well_typed.specs.Laws.{SeesAlike}
 use Rattle.spv_well_typed.proofs.Outcomes.{fine, same_value}
@@ -25,7 +24,7 @@ use Rattle.spv_origin.specs.Formulas as notes
 use Rattle.spv_origin.specs.Formulas.{formula_operators, Noted, NotedWith, AnnotationFrom}
 use Rattle.spv_answered.specs.Laws.{Shows, AnnotationsAreAnswered, OneAnnotationComes, PlusIsLost}
 use Rattle.spv_answered.specs.Signs.{formula_signs}
-use Rattle.spv_answered.proofs.Sorts.{One, one_told, numbers_told, truths_told, alike_told, ordered_told}
+use Rattle.spv_answered.proofs.Sorts.{one_told, numbers_told, truths_told, alike_told, ordered_told}
 use Rattle.spv_answered.proofs.Operators.{behind, settled_fits, Matches, formula_answered}
 use Rattle.spv_answered.proofs.Names.{HasSort, IsHere, name_reached, class_reached, right_element_here, right_record_here, right_pointer_here, indexed_reached, field_reached, content_reached}
 use Rattle.spv_answered.proofs.Applications.{applied_reached}

@@ -1,7 +1,7 @@
 -- Applications in annotations: the walk answers what comes from them.
-use Rattle.std.proofs.Common.{◌≡◌, ℕ, suc, Bool, true, false, refl, sym, ap, ◌∙◌, subst}
+use Rattle.std.proofs.Common.{◌≡◌, ℕ, suc, true, false, refl, sym, ap, ◌∙◌, subst}
 use Rattle.std.proofs.lemmas.Bool.{eq-eqb}
-use Rattle.std.specs.Prelude.{List, [], ◌∷◌, length, Option, Some, None, Ok, Err, nat_eq}
+use Rattle.std.specs.Prelude.{List, [], ◌∷◌, length, Option, Some, None, Ok, nat_eq}
 use Rattle.spv_names.specs.declared.names.Symbol.{Symbol}
 use Rattle.spv_logic.specs.declared.types.TypeId.{TypeId}
 use Rattle.spv_logic.specs.declared.types.Sort.{Sort}
@@ -22,19 +22,19 @@ use Rattle.spv_program.specs.FormulaTypes.{formula_sort, formula_sorts, head_of_
 use Rattle.spv_program.proofs.SortFacts.{nothing_there, some_is, sort_is, behind as behind_option}
 use Rattle.spv_program.proofs.FormulaSorting.{some_sorts}
 use Rattle.spv_typing.specs.declared.faults.TypeFault.TheVariants.{Count}
-use Rattle.spv_typing.specs.Outcomes.{Outcome, after, where_so, wrong}
-use Rattle.spv_typing.specs.Known.{Function, Select, Store, Put, Cell, SetCell, Extend, PointerTo, Car, Cdr, Cons, Atom, Scope, meaning, function}
+use Rattle.spv_typing.specs.Outcomes.{after, where_so, wrong}
+use Rattle.spv_typing.specs.Known.{Function, Select, Store, Put, Cell, SetCell, Extend, PointerTo, Car, Cdr, Cons, Atom, Scope}
 use Rattle.spv_typing.specs.OperatorWalk.{Operand, Of, NilAt, Argument, settled, operands}
 use Rattle.spv_typing.specs.FormulaWalk as walk
 use Rattle.spv_typing.specs.FormulaWalk.{Sorted, Signature, with_sort, arity, signature_on, on_array, on_class, on_pointer, signature_of, settled_all, field_named, put_at, put_with, known_applied, named_applied, applied_of, applied, formula_forms}
 use Rattle.spv_well_typed.specs.Laws.{SeesAlike}
 use Rattle.spv_well_typed.proofs.Outcomes.{fine}
 use Rattle.spv_origin.specs.Names.{View, function_named}
-use Rattle.spv_origin.specs.Operators.{Given, Value, AtPlace, FieldName}
+use Rattle.spv_origin.specs.Operators.{Given, Value, FieldName}
 use Rattle.spv_origin.specs.Formulas.{operator_of, formula_operators, values, and_more, Noted, NotedWith, with_symbol, with_built_in, with_put}
 use Rattle.spv_answered.specs.Laws.{Shows}
 use Rattle.spv_answered.proofs.Sorts.{Taken, taken, decided}
-use Rattle.spv_answered.proofs.Operators.{Fits, of, nil_at, Answers, behind, tested, settled_fits, ArgumentAnswers, value, at_place, field_name, ArgumentsAnswer, no_more, one_more}
+use Rattle.spv_answered.proofs.Operators.{Fits, of, nil_at, Answers, behind, tested, settled_fits, value, at_place, field_name, ArgumentsAnswer, no_more, one_more}
 use Rattle.spv_answered.proofs.Names.{HasSort, IsHere, ReachesHere, reaches}
 
 module _ (s : Scope) (v : View) (names : program.Scope) (shows : Shows s v) (sees : SeesAlike s names) where

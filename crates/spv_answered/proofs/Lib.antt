@@ -3,3 +3,7 @@ pub mod Operators
 pub mod Names
 pub mod Applications
 pub mod Annotations
+pub mod Selected
+pub mod Places
+pub mod Calls
+pub mod Expressions

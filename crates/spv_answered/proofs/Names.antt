@@ -1,8 +1,6 @@
 -- Names and selectors of annotations: the walk answers what comes from them.
-use Rattle.std.proofs.Common.{◌≡◌, ℕ, zero, suc, Bool, true, false, cond, refl, sym, ap, ◌∙◌, subst}
-use Rattle.std.proofs.lemmas.Bool.{false≢true}
+use Rattle.std.proofs.Common.{◌≡◌, ℕ, Bool, true, false, cond, refl, sym, ap, ◌∙◌, subst}
 use Rattle.std.specs.Prelude.{List, [], ◌∷◌, length, Option, Some, None, Ok, Err, option_map, is_some, nat_eq}
-use Rattle.std.specs.Option.{option_and_then}
 use Rattle.spv_names.specs.declared.names.Symbol.{Symbol}
 use Rattle.spv_list.proofs.Tests.{right_true}
 use Rattle.spv_logic.specs.declared.types.TypeId.{TypeId}
@@ -10,23 +8,22 @@ use Rattle.spv_logic.specs.declared.types.Sort.{Sort}
 use Rattle.spv_logic.specs.declared.types.Sort.TheVariants as sort
 use Rattle.spv_logic.specs.declared.types.Field.{Field as SortedField}
 use Rattle.spv_logic.specs.declared.types.Shape.{Shape}
-use Rattle.spv_logic.specs.declared.types.Decl.{Decl}
 use Rattle.spv_logic.specs.Terms.{sort_eq}
 use Rattle.spv_logic.specs.Shapes.{element_sort, fields_of, field_sort, field_sort_of}
-use Rattle.spv_logic.specs.Sorts.{declared, takes, takes_declared}
-use Rattle.spv_logic.proofs.Equality.{sort_eq-true, sort_eq-refl}
+use Rattle.spv_logic.specs.Sorts.{declared, takes_declared}
+use Rattle.spv_logic.proofs.Equality.{sort_eq-true}
 use Rattle.spv_syntax.specs.declared.names.Name.{Name}
 use Rattle.spv_program.specs.Types.{sort_of, type_exists}
 use Rattle.spv_program.specs.Programs.{Program, shapes}
 use Rattle.spv_program.specs.Scopes as program
-use Rattle.spv_program.specs.Formulas.{Formula, Formulas, Numeral, NilOf, Named, ClassOf, Element, FieldOf, Content, Applied, no_formulas, formulas}
-use Rattle.spv_program.specs.FormulaTypes.{formula_sort, is_sort, sort_if, two_sorts}
-use Rattle.spv_program.proofs.SortFacts.{nothing_there, some_is, is_sort-true, test_passes, sort_told, two_there, Behind, behind as behind_option, passed, chosen}
+use Rattle.spv_program.specs.Formulas.{Formula, Numeral, Named, ClassOf, Element, FieldOf, Content, Applied, no_formulas}
+use Rattle.spv_program.specs.FormulaTypes.{formula_sort, sort_if}
+use Rattle.spv_program.proofs.SortFacts.{nothing_there, some_is, is_sort-true, test_passes, sort_told, two_there, behind as behind_option, passed, chosen}
 use Rattle.spv_typing.specs.declared.faults.TypeFault.TheVariants.{Count}
 use Rattle.spv_typing.specs.Outcomes.{Outcome, after, where_so, wrong}
-use Rattle.spv_typing.specs.Known.{Meaning, OfType, OfConstant, OfPlace, OfStart, OfSymbol, Scope, meaning}
+use Rattle.spv_typing.specs.Known.{Scope, meaning}
 use Rattle.spv_typing.specs.DeclarationWalk.{class_named}
-use Rattle.spv_typing.specs.OperatorWalk.{Operand, Of, Argument, settled, operands}
+use Rattle.spv_typing.specs.OperatorWalk.{Operand, Of, Argument, operands}
 use Rattle.spv_typing.specs.FormulaWalk.{Sorted, with_sort, name_alone, class_at, on_element, takes_indices, elements, indexed_at, field_named, field_in, content_at, formula_forms}
 use Rattle.spv_well_typed.specs.Laws.{SeesAlike}
 use Rattle.spv_well_typed.proofs.Outcomes.{fine}

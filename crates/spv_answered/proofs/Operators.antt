@@ -10,10 +10,8 @@ use Rattle.spv_logic.specs.declared.types.TypeId.{TypeId}
 use Rattle.spv_logic.specs.declared.types.Sort.{Sort}
 use Rattle.spv_logic.specs.declared.types.Sort.TheVariants as sort
 use Rattle.spv_logic.specs.Shapes.{is_pointer}
-use Rattle.spv_logic.specs.Terms.{sort_eq}
 use Rattle.spv_logic.proofs.Equality.{sort_eq-refl, sort_eq-true}
 use Rattle.spv_syntax.specs.declared.names.Name.{Name}
-use Rattle.spv_syntax.specs.declared.operators.PlusOrMinus.{PlusOrMinus}
 use Rattle.spv_syntax.specs.declared.operators.PlusOrMinus.TheVariants as prefix
 use Rattle.spv_syntax.specs.declared.operators.Comparison.{Comparison as ComparisonSign}
 use Rattle.spv_syntax.specs.declared.operators.Comparison.TheVariants as comparison_sign
@@ -21,7 +19,7 @@ use Rattle.spv_syntax.specs.declared.operators.Adding.{Adding}
 use Rattle.spv_syntax.specs.declared.operators.Adding.TheVariants as adding
 use Rattle.spv_syntax.specs.declared.operators.Multiplying.{Multiplying}
 use Rattle.spv_syntax.specs.declared.operators.Multiplying.TheVariants as multiplying
-use Rattle.spv_syntax.specs.Formulas.{Formula, Relation, Simple, MoreTerms, Term, MoreFactors, Factor, MoreFormulas, Designator, Selectors, Selector, formula, no_conclusion, implies, relation, no_right_side, compared, simple, no_more_terms, more_terms, term, no_more_factors, more_factors, number, truth, nil, class, place, application, bracketed, negation, no_more_formulas, more_formulas, designator, no_selectors, selectors, index, field, content}
+use Rattle.spv_syntax.specs.Formulas.{Formula, Relation, Simple, MoreTerms, Term, MoreFactors, Factor, MoreFormulas, Designator, Selectors, formula, no_conclusion, implies, relation, no_right_side, compared, simple, no_more_terms, more_terms, term, no_more_factors, more_factors, number, truth, nil, class, place, application, bracketed, negation, designator, no_selectors, selectors, index}
 use Rattle.spv_program.specs.declared.operators.Arithmetic.{Arithmetic}
 use Rattle.spv_program.specs.declared.operators.Arithmetic.TheVariants as arithmetic
 use Rattle.spv_program.specs.declared.operators.Comparison.{Comparison}
@@ -32,8 +30,8 @@ use Rattle.spv_program.proofs.SortFacts.{nothing_there, some_is}
 use Rattle.spv_typing.specs.declared.faults.TypeFault.{TypeFault}
 use Rattle.spv_typing.specs.Outcomes.{Outcome, after, where_so, wrong}
 use Rattle.spv_typing.specs.TypeWalk.{negative}
-use Rattle.spv_typing.specs.OperatorWalk.{Operand, Of, NilAt, Argument, Forms, settled, two_of, numbers, truths, product, total, with_sign, opposite, alike, ordered, related, conclusion, argument, bare, designator_alone, formula_walk, relation_walk, simple_walk, more_terms_walk, term_walk, more_factors_walk, factor_walk, designator_walk, selectors_walk, selector_walk, arguments, written_place, relation_place, simple_place, term_place, factor_place, relation_alone, simple_alone, term_alone, factor_alone}
-use Rattle.spv_well_typed.proofs.Outcomes.{fine, no_fault, same_value}
+use Rattle.spv_typing.specs.OperatorWalk.{Operand, Of, NilAt, Argument, Forms, settled, two_of, product, total, with_sign, opposite, alike, related, conclusion, argument, bare, designator_alone, formula_walk, relation_walk, simple_walk, more_terms_walk, term_walk, more_factors_walk, factor_walk, designator_walk, selectors_walk, arguments, written_place, relation_place, simple_place, term_place, factor_place, relation_alone, simple_alone, term_alone, factor_alone}
+use Rattle.spv_well_typed.proofs.Outcomes.{fine}
 use Rattle.spv_origin.specs.Operators.{comparison_of, is_numeral, designator_of, relation_designator, simple_designator, term_designator, factor_designator, Given, Value, AtPlace, FieldName, Operators, sum_of, product_of}
 use Rattle.spv_origin.specs.Operators as origin
 use Rattle.spv_answered.proofs.Sorts.{One, Two, Alike, is_equation}

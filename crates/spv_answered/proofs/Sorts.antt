@@ -1,5 +1,5 @@
 -- What the sort of a typed form tells of its parts.
-use Rattle.std.proofs.Common.{◌≡◌, Bool, true, false, cond, ◌&&◌, refl, sym, ap, ◌∙◌, subst}
+use Rattle.std.proofs.Common.{◌≡◌, Bool, true, false, ◌&&◌, refl, sym, ap, ◌∙◌}
 use Rattle.std.proofs.lemmas.Bool.{false≢true}
 use Rattle.std.specs.Prelude.{List, [], ◌∷◌, Option, Some, None}
 use Rattle.spv_list.proofs.Tests.{left_true, right_true}
@@ -12,7 +12,7 @@ use Rattle.spv_logic.proofs.Equality.{sort_eq-true}
 use Rattle.spv_program.specs.declared.operators.Comparison.{Comparison}
 use Rattle.spv_program.specs.declared.operators.Comparison.TheVariants as comparison
 use Rattle.spv_program.specs.FormulaTypes.{is_sort, sort_if, numbers, truth_values, two_sorts, compared_sort}
-use Rattle.spv_program.proofs.SortFacts.{nothing_there, some_is, is_sort-true, test_passes, sort_told, two_there}
+use Rattle.spv_program.proofs.SortFacts.{nothing_there, is_sort-true, test_passes, sort_told, two_there}
 
 -- `=` and `<>`
 abbrev pub is_equation : Comparison → Bool
