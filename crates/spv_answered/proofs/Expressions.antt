@@ -17,7 +17,7 @@ use Rattle.spv_program.proofs.SortFacts.{nothing_there, some_is, sort_told, fail
 use Rattle.spv_typing.specs.Outcomes.{wrong}
 use Rattle.spv_typing.specs.Known.{Meaning, OfRoutine, Heading, Scope, meaning}
 use Rattle.spv_typing.specs.OperatorWalk.{Of, Argument, settled, argument, formula_line, formula_walk, arguments, written_place}
-use Rattle.spv_typing.specs.ExpressionWalk.{Reached, expression_forms, expression_of, call_of, written}
+use Rattle.spv_typing.specs.ExpressionWalk.{Reached, expression_forms, operand, expression_of, call_of, written}
 use Rattle.spv_typing.specs.StatementWalk.{arguments_of}
 use Rattle.spv_well_typed.specs.Expressions.{Belongs}
 use Rattle.spv_well_typed.proofs.Outcomes.{fine, same_value}
@@ -28,7 +28,7 @@ use Rattle.spv_origin.specs.Statements.{more_of, all_of}
 use Rattle.spv_answered.specs.Signs.{formula_signs, designator_signs, formulas_signs}
 use Rattle.spv_answered.specs.Expressions.{ShowsPlaces, AnswersPlace, ExpressionsAreAnswered, OneExpressionComes, PlacesAreAnswered, CallsAreAnswered}
 use Rattle.spv_answered.proofs.Sorts.{one_told, numbers_told, truths_told, alike_told, ordered_told}
-use Rattle.spv_answered.proofs.Operators.{behind, settled_fits, Matches, formula_answered, written_answered, arguments_answered}
+use Rattle.spv_answered.proofs.Operators.{Answers, behind, settled_fits, Matches, formula_answered, written_answered, arguments_answered}
 use Rattle.spv_answered.proofs.Selected.{Right, RightWritten, stands_sort, stands_type, place_read}
 use Rattle.spv_answered.proofs.Places.{IsHere, right_element_here, right_record_here, right_pointer_here, indexed_reached, field_reached, content_reached}
 use Rattle.spv_answered.proofs.Calls.{name_reached, name_placed, applied_reached, call_answered}
@@ -80,12 +80,17 @@ module _ (s : Scope) (v : View) (p : Program) (here : Option Routine) (shows : S
           ∙ (ap (λ f. Of x (sort_of f z.type)) (sym b.forms)
           ∙ ap (λ q. Of x q) (stands_sort p here z.base z.links z.type r b.first h.stands (ap sort_here h.is ∙ e)))
 
+  pub operand_answered : (f : tree.Formula) → formula_signs (expression_forms s) f ≡ true → (wanted : Sort) (e : Expression)
+      → ExpressionFrom v e f → sort_here e ≡ Some wanted → Answers NilOf e wanted (operand s f)
+  operand_answered f signs wanted e h k =
+      formula_answered (expression_forms s) expression_operators (IsRead v) (IsWritten v) (IsCalled v) sort_here (Right p here)
+      (IsHere s v p here b) matches h signs wanted k
+
   expression_answered : (f : tree.Formula) → formula_signs (expression_forms s) f ≡ true → (wanted : Sort) (e : Expression)
       → ExpressionFrom v e f → sort_here e ≡ Some wanted → expression_of s wanted f ≡ Ok e
   expression_answered f signs wanted e h k =
-      let walked = formula_answered (expression_forms s) expression_operators (IsRead v) (IsWritten v) (IsCalled v) sort_here
-      (Right p here) (IsHere s v p here b) matches h signs wanted k in
-      behind (formula_walk (expression_forms s) f) walked.operand (settled NilOf (wrong (formula_line f)) wanted) walked.is
+      let walked = operand_answered f signs wanted e h k in
+      behind (operand s f) walked.operand (settled NilOf (wrong (formula_line f)) wanted) walked.is
       ∙ settled_fits NilOf (wrong (formula_line f)) e wanted walked.operand walked.fits
 
   place_answered : (d : tree.Designator) → designator_signs (expression_forms s) d ≡ true → (place : Designator) (t : TypeId)
