@@ -1,3 +1,6 @@
 pub mod Showing
 pub mod Ends
 pub mod Programs
+pub mod Parameters
+pub mod Clauses
+pub mod Headings
