@@ -14,11 +14,11 @@ use Rattle.spv_syntax.specs.Reads.{routines_ok}
 use Rattle.spv_program.specs.Lists.{same_name, found, item_at, names_differ}
 use Rattle.spv_program.specs.Expressions.{Call, call}
 use Rattle.spv_program.specs.Programs.{Routine, Main, Program, routine_at}
-use Rattle.spv_program.specs.Scopes.{name_type}
+use Rattle.spv_program.specs.Scopes.{name_type, body_scope}
 use Rattle.spv_program.specs.Uses.{Root, Shared}
 use Rattle.spv_program.specs.Changes.{var_items, items_of_callee, changed_by_call}
 use Rattle.spv_program.proofs.SortFacts.{nothing_there, some_is}
-use Rattle.spv_typing.specs.Outcomes.{each}
+use Rattle.spv_typing.specs.Outcomes.{each, if_there}
 use Rattle.spv_typing.specs.Known.{KnownNames, Meaning, OfPlace, OfRoutine, Heading, Specified, Known, program_names, meaning}
 use Rattle.spv_typing.specs.Known as walk
 use Rattle.spv_typing.specs.DeclarationWalk.{declarations_walk}
@@ -31,7 +31,7 @@ use Rattle.spv_well_typed_programs.proofs.Naming.{heading_names, headings_named}
 use Rattle.spv_well_typed_programs.proofs.Declaring.{RightKnown, declarations_right}
 use Rattle.spv_well_typed_programs.proofs.Declared.{first_right, declarations_same}
 use Rattle.spv_well_typed_programs.proofs.Bodies.{Final}
-use Rattle.spv_well_typed_programs.proofs.Seeing.{is_routine}
+use Rattle.spv_well_typed_programs.proofs.Seeing.{is_routine, sees_alike, sees_none, plain_none}
 use Rattle.spv_well_typed_programs.proofs.States.{RightState, heading_at, routine_names, specified_named}
 use Rattle.spv_well_typed_programs.proofs.Marks.{between, marks_right}
 use Rattle.spv_well_typed_programs.proofs.Whole.{final, main_stands}
@@ -42,6 +42,18 @@ use Rattle.spv_origin.proofs.Seeing.{KnowsNames}
 use Rattle.spv_origin.proofs.Declared.{Declared, declared}
 use Rattle.spv_origin.proofs.Bodies.{Ready}
 use Rattle.spv_origin.proofs.Marks.{marks_done}
+use Rattle.spv_logic.specs.declared.types.Sort.TheVariants as sort
+use Rattle.spv_syntax.specs.Formulas.{Formula}
+use Rattle.spv_program.specs.Formulas.{Annotation}
+use Rattle.spv_program.specs.FormulaTypes.{is_sort, annotation_ok}
+use Rattle.spv_typing.specs.FormulaWalk.{annotation}
+use Rattle.spv_well_typed.specs.Laws.{SeesAlike}
+use Rattle.spv_origin.specs.Formulas as notes
+use Rattle.spv_origin.specs.Formulas.{IfThere}
+use Rattle.spv_answered.proofs.Annotations.{annotations_are_answered}
+use Rattle.spv_answered.proofs.Operators.{behind}
+use Rattle.spv_answered_statements.specs.Signs.{invariant_signs}
+use Rattle.spv_answered_statements.proofs.Notes.{sort_same}
 use Rattle.spv_answered.specs.Expressions.{IsRoutine, ShowsPlaces}
 use Rattle.spv_answered_statements.specs.Laws.{Shown}
 use Rattle.spv_answered_programs.proofs.Showing.{constants_shown, places_shown, shows, program_means, place_meant, routine_meant, differ_symbols}
@@ -283,3 +295,24 @@ module _ (start : KnownNames) (k : Known) (read : AllRead start k) (none : k.awa
     own = λ x t e. refl;
     counts = λ x t e f. refl;
   }
+
+-- ---- annotations at the top, also where routines wait for their bodies
+
+module _ (start : KnownNames) (k : Known) (read : AllRead start k) (m : Main) where
+  abbrev whole : Program
+  whole = with_main start k.program m
+
+  top_alike : SeesAlike (walk.at_top k) (body_scope whole None)
+  top_alike = sees_alike (walk.at_top k) read.state.known.program (plain_none k.program) [] (sees_none k.program)
+
+  pub top_noted : (f : Option Formula) (n : Option Annotation) → IfThere (origin.at_top start whole) n f
+      → invariant_signs (walk.at_top k) (walk.at_top k) f ≡ true → annotation_ok whole (body_scope whole None) n ≡ true
+      → if_there (annotation (walk.at_top k)) f ≡ Ok n
+  top_noted f n notes.not_there signs ok = refl
+  top_noted f n (notes.there {a = a} {f = g} h) signs ok =
+      let known : KnowsNames k start whole = record
+      { start_is = read.starts; constants_are = refl; types_are = refl; variables_are = refl; symbols_are = refl } in
+      behind (annotation (walk.at_top k) g) a (λ b. fine (Some b))
+      (annotations_are_answered (walk.at_top k) (origin.at_top start whole) (body_scope whole None)
+      (shows k read.state.known.names [] [] no_own None start whole None known) top_alike g signs a h
+      (ap (is_sort sort.Bool) (sym (sort_same whole k.program (body_scope whole None) refl refl a.formula)) ∙ ok))

@@ -28,10 +28,10 @@ use Rattle.spv_answered_statements.proofs.Statements.{block_walked}
 use Rattle.spv_answered_programs.specs.Laws.{MainSigns, MainFrom, asserting, MainPartsAreAnswered, FormulaTextsAreAnswered}
 use Rattle.spv_answered_programs.proofs.Ends.{declared_read, routines_read, none_waits, main_shown}
 
-abbrev main_of : Option Annotation → Option Annotation → Statement → Main
+abbrev pub main_of : Option Annotation → Option Annotation → Statement → Main
 main_of entry exit body = record { entry = entry; exit = exit; body = body }
 
-main_part : (start : KnownNames) (t : ProgramText) (k all : Known) (m : Main) → routines_ok 0 t.routines ≡ true
+pub main_part : (start : KnownNames) (t : ProgramText) (k all : Known) (m : Main) → routines_ok 0 t.routines ≡ true
     → declarations_walk (known_at_first start) t.declarations ≡ Ok k → routines_walk k t.routines ≡ Ok all → all.awaited ≡ []
     → MainSigns all t → MainFrom start (with_main start all.program m) t → main_ok (with_main start all.program m) m ≡ true
     → program_walk start t ≡ Ok (with_main start all.program m)
