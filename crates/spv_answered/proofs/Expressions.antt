@@ -33,6 +33,18 @@ use Rattle.spv_answered.proofs.Selected.{Right, RightWritten, stands_sort, stand
 use Rattle.spv_answered.proofs.Places.{IsHere, right_element_here, right_record_here, right_pointer_here, indexed_reached, field_reached, content_reached}
 use Rattle.spv_answered.proofs.Calls.{name_reached, name_placed, applied_reached, call_answered}
 
+module _ (s : Scope) where
+  abbrev argument_here : tree.Formula → Argument Expression Reached
+  argument_here f = argument f (formula_walk (expression_forms s) f) (written_place (expression_forms s) f)
+
+  more_same : (fs : List tree.Formula) → arguments (expression_forms s) (more_of fs) ≡ map argument_here fs
+  more_same [] = refl
+  more_same (f ∷ fs) = ap (λ us. argument_here f ∷ us) (more_same fs)
+
+  pub arguments_same : (given : Option (Several tree.Formula)) → arguments (expression_forms s) (all_of given) ≡ arguments_of s given
+  arguments_same None = refl
+  arguments_same (Some fs) = ap (λ us. argument_here fs.first ∷ us) (more_same fs.more)
+
 module _ (s : Scope) (v : View) (p : Program) (here : Option Routine) (shows : ShowsPlaces s v p here) (b : Belongs s p here) where
   abbrev sort_here : Expression → Option Sort
   sort_here = expression_sort p here
@@ -109,17 +121,6 @@ module _ (s : Scope) (v : View) (p : Program) (here : Option Routine) (shows : S
         type_is = some_is (sym (stands_type p here r.base r.links r.type place walked.good.stands at) ∙ e);
       }
 
-  abbrev argument_here : tree.Formula → Argument Expression Reached
-  argument_here f = argument f (formula_walk (expression_forms s) f) (written_place (expression_forms s) f)
-
-  more_same : (fs : List tree.Formula) → arguments (expression_forms s) (more_of fs) ≡ map argument_here fs
-  more_same [] = refl
-  more_same (f ∷ fs) = ap (λ us. argument_here f ∷ us) (more_same fs)
-
-  arguments_same : (given : Option (Several tree.Formula)) → arguments (expression_forms s) (all_of given) ≡ arguments_of s given
-  arguments_same None = refl
-  arguments_same (Some fs) = ap (λ us. argument_here fs.first ∷ us) (more_same fs.more)
-
   abbrev heading_in : Heading → Option Meaning → Heading
   heading_in other (Some (OfRoutine h)) = h
   heading_in other m = other
@@ -133,7 +134,7 @@ module _ (s : Scope) (v : View) (p : Program) (here : Option Routine) (shows : S
       let number : h.number ≡ n = ap (λ (g : Heading). g.number) (sym same) ∙ q.number in
       let answers = arguments_answered (expression_forms s) expression_operators (IsRead v) (IsWritten v) (IsCalled v) sort_here
       (Right p here) (IsHere s v p here b) matches from signs in
-      ap (call_of s line x.line h) (sym (arguments_same given))
+      ap (call_of s line x.line h) (sym (arguments_same s given))
       ∙ (call_answered s v p here shows b line x.line x.symbol h m gs (arguments (expression_forms s) (all_of given)) us r answers e
       (ap (λ i. callee p here (call i x.line us)) number ∙ k)
       ∙ ap (λ i. fine (call i x.line us)) number)

@@ -7,3 +7,5 @@ pub mod Selected
 pub mod Places
 pub mod Calls
 pub mod Expressions
+pub mod Needed
+pub mod NeededHere

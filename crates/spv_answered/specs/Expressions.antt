@@ -81,3 +81,18 @@ CallsAreAnswered =
     (h : Heading) → meaning s x.symbol ≡ Some (OfRoutine h) → (given : Option (Several tree.Formula))
     → IsTrue (formulas_signs (expression_forms s) (all_of given)) → (c : Call) (r : Routine) → CallFrom v c x (all_of given)
     → callee p here c ≡ Some r → call_of s line x.line h (arguments_of s given) ≡ Ok c
+
+-- the walk answers an expression, a place that is written, and a call only where each sign `+` stands before a number
+abbrev pub ExpressionsNeedSigns : Type 0
+ExpressionsNeedSigns =
+    (s : Scope) (f : tree.Formula) (wanted : Sort) (e : Expression) → expression_of s wanted f ≡ Ok e
+    → IsTrue (formula_signs (expression_forms s) f)
+
+abbrev pub PlacesNeedSigns : Type 0
+PlacesNeedSigns =
+    (s : Scope) (d : tree.Designator) (r : Reached) → written s d ≡ Ok r → IsTrue (designator_signs (expression_forms s) d)
+
+abbrev pub CallsNeedSigns : Type 0
+CallsNeedSigns =
+    (s : Scope) (line at : ℕ) (h : Heading) (given : Option (Several tree.Formula)) (c : Call)
+    → call_of s line at h (arguments_of s given) ≡ Ok c → IsTrue (formulas_signs (expression_forms s) (all_of given))

@@ -56,6 +56,11 @@ OneAnnotationComes =
     → IsTrue (formula_signs (formula_forms s) f) → (a b : Annotation) → AnnotationFrom v a f → AnnotationFrom v b f
     → IsTrue (annotation_ok s.known.program names (Some a)) → IsTrue (annotation_ok s.known.program names (Some b)) → a ≡ b
 
+-- the walk answers an annotation only where each sign `+` stands before a number
+abbrev pub AnnotationsNeedSigns : Type 0
+AnnotationsNeedSigns =
+    (s : Scope) (f : tree.Formula) (a : Annotation) → annotation s f ≡ Ok a → IsTrue (formula_signs (formula_forms s) f)
+
 -- `+TRUE`
 abbrev pub plus_truth : tree.Formula
 plus_truth =

@@ -1,8 +1,8 @@
 //! The walk over names and types refuses nothing else: what comes from a tree and is well typed is what the walk answers.
 #![tactic(auto)]
 
-ghost use Rattle.spv_answered.specs.Expressions.{ExpressionsAreAnswered, OneExpressionComes, PlacesAreAnswered, CallsAreAnswered};
-ghost use Rattle.spv_answered.specs.Laws.{AnnotationsAreAnswered, OneAnnotationComes, PlusIsLost};
+ghost use Rattle.spv_answered.specs.Expressions.{ExpressionsAreAnswered, OneExpressionComes, PlacesAreAnswered, CallsAreAnswered, ExpressionsNeedSigns, PlacesNeedSigns, CallsNeedSigns};
+ghost use Rattle.spv_answered.specs.Laws.{AnnotationsAreAnswered, OneAnnotationComes, AnnotationsNeedSigns, PlusIsLost};
 
 /// An annotation that comes from a tree and is well typed is what the walk answers, where each sign `+` stands before a number; so no
 /// other one comes from that tree.
@@ -23,4 +23,12 @@ pub fn law_expressions_answered()
     ensures one_comes { OneExpressionComes }
     ensures places { PlacesAreAnswered }
     ensures calls { CallsAreAnswered }
+{}
+
+/// The walk answers an annotation, an expression, a place that is written, or a call only where each sign `+` stands before a number.
+pub fn law_signs_needed()
+    ensures annotations { AnnotationsNeedSigns }
+    ensures expressions { ExpressionsNeedSigns }
+    ensures places { PlacesNeedSigns }
+    ensures calls { CallsNeedSigns }
 {}
