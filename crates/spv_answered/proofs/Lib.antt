@@ -1,0 +1,11 @@
+pub mod Sorts
+pub mod Operators
+pub mod Names
+pub mod Applications
+pub mod Annotations
+pub mod Selected
+pub mod Places
+pub mod Calls
+pub mod Expressions
+pub mod Needed
+pub mod NeededHere

@@ -1,0 +1,5 @@
+pub mod Constants
+pub mod Notes
+pub mod Parts
+pub mod Counters
+pub mod Statements
