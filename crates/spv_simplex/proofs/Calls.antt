@@ -26,8 +26,8 @@ use Rattle.spv_dictionary.proofs.FirstForm.{first_basis, is_first_form}
 use Rattle.spv_simplex.specs.Cells.{AreRowsTo}
 use Rattle.spv_simplex.specs.Evidence.{EvidenceValue}
 use Rattle.spv_simplex.specs.State.{State, IsKept, IsOpened, MayAssert, clashes, kept_point}
-use Rattle.spv_simplex.specs.Trail.{Trail, KeepsApart, bound_of, more, first_of}
-use Rattle.spv_simplex.proofs.Standing.{is_on, found_other, found_here}
+use Rattle.spv_steps.specs.Trail.{Trail, KeepsApart, bound_of, more, first_of}
+use Rattle.spv_steps.proofs.Bounding.{is_on, found_other, found_here}
 
 -- ---- other bounds
 

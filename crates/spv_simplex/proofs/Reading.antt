@@ -12,7 +12,7 @@ use Rattle.spv_atoms.specs.Order.{same_id}
 use Rattle.spv_atoms.proofs.Places.{place_there}
 use Rattle.spv_tableaux.specs.Numbers.{nothing}
 use Rattle.spv_simplex.specs.State.{State, IsKept, rows_in, value_from, value_of}
-use Rattle.spv_simplex.specs.Trail.{Trail}
+use Rattle.spv_steps.specs.Trail.{Trail}
 
 pub is_there : (t : TermId) (ids : List TermId) (o : Option ℕ) → list_any (same_id t) ids ≡ true → o ≡ position (same_id t) ids → IsSome o
 is_there t ids o h at = place_there t ids (length ids) o (ap (list_any (same_id t)) (take_all (length ids) ids (omega arith)) ∙ h) at

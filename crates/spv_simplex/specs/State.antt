@@ -16,7 +16,7 @@ use Rattle.spv_tableaux.specs.Contradictions.{Multiple}
 use Rattle.spv_dictionary.specs.Dictionary.{Dictionary, entries, places}
 use Rattle.spv_simplex.specs.declared.checked.Checked.{Checked}
 use Rattle.spv_simplex.specs.Evidence.{EvidenceValue}
-use Rattle.spv_simplex.specs.Trail.{Trail}
+use Rattle.spv_steps.specs.Trail.{Trail}
 
 pub record State : Type 0 where
   -- the forms whose rows these are

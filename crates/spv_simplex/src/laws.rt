@@ -1,6 +1,6 @@
 // The bounds that were ever asserted, each law the contract of a function that does nothing.
 
-ghost use Rattle.spv_simplex.specs.Along.{MakesStep, StepIsAt, MoveIsAt};
+ghost use Rattle.spv_walks.specs.Along.{MakesStep, StepIsAt, MoveIsAt};
 ghost use Rattle.spv_simplex.specs.Laws.{OpensWithNone, AssertsOne, UndoesNone};
 
 /// All bounds that stand are among those that were asserted since the tableau was opened, and each row outside

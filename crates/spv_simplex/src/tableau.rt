@@ -10,7 +10,7 @@ ghost use Rattle.spv_tableaux.specs.Forms.{rows_of, part_ids};
 ghost use Rattle.spv_simplex.specs.declared.checked.Checked.TheVariants as checked;
 ghost use Rattle.spv_simplex.specs.State.{IsTableau, IsOpened, MayAssert, with_bound, with_first, value_of};
 ghost use Rattle.spv_simplex.specs.Checks.{HoldsAsserted};
-ghost use Rattle.spv_simplex.specs.Trail.{bound_of};
+ghost use Rattle.spv_steps.specs.Trail.{bound_of};
 
 use crate::cells;
 use crate::checked::Checked;
