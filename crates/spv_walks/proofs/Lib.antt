@@ -1,2 +1,7 @@
 pub mod Making
 pub mod Going
+pub mod Agreeing
+pub mod Ranges
+pub mod Placing
+pub mod Walking
+pub mod Arriving

@@ -32,7 +32,7 @@ use Rattle.spv_steps.specs.Moving.{way_to, AreMovedTo}
 
 -- ---- tests that agree
 
-none_same : (n : ℕ) (f g : ℕ → Bool) → ((c : ℕ) → c < n → f c ≡ g c) → none_to n f ≡ none_to n g
+pub none_same : (n : ℕ) (f g : ℕ → Bool) → ((c : ℕ) → c < n → f c ≡ g c) → none_to n f ≡ none_to n g
 none_same zero f g h = refl
 none_same (suc n) f g h = ap₂ (λ (x y : Bool). x && not y) (none_same n f g (λ c k. h c (omega arith))) (h n (omega arith))
 
@@ -42,10 +42,10 @@ least_same n f g c below h = ap₂ (λ (x y : Bool). x && y) (h c below) (none_s
     less : (x c n : ℕ) → x < c → c < n → x < n
     less x c n h k = omega arith
 
-leave_same : (limits : Limits) (p q : Places) (v w : Point) (c : ℕ) → is_basic (p c) ≡ is_basic (q c) → v c ≡ w c → may_leave limits p v c ≡ may_leave limits q w c
+pub leave_same : (limits : Limits) (p q : Places) (v w : Point) (c : ℕ) → is_basic (p c) ≡ is_basic (q c) → v c ≡ w c → may_leave limits p v c ≡ may_leave limits q w c
 leave_same limits p q v w c hb hv = ap₂ (λ (b : Bool) (x : Rational). b && (breaks_limit Lower (limits c Lower) x || breaks_limit Upper (limits c Upper) x)) hb hv
 
-enter_same : (limits : Limits) (p q : Places) (v w : Point) (t : Entries) (l : ℕ) (side : Side) (c : ℕ) → is_basic (p c) ≡ is_basic (q c) → v c ≡ w c
+pub enter_same : (limits : Limits) (p q : Places) (v w : Point) (t : Entries) (l : ℕ) (side : Side) (c : ℕ) → is_basic (p c) ≡ is_basic (q c) → v c ≡ w c
     → may_enter limits p v t l side c ≡ may_enter limits q w t l side c
 enter_same limits p q v w t l side c hb hv =
     ap₂ (λ (b : Bool) (x : Rational). not b && (not (is_zero (t l c)) && has_room (way side (t l c)) (limits c (way side (t l c))) x)) hb hv
@@ -113,4 +113,3 @@ module _ (rows : Rows) (limits : Limits) (held : Point) (places : Places) (d : D
 
 pub makes_step : MakesStep
 makes_step rows limits held places d values chosen entry here known found = is_step rows limits held places d values chosen entry here known found
-

@@ -3,4 +3,4 @@
 
 mod laws;
 
-pub use laws::law_step;
+pub use laws::{law_placed, law_step, law_underway};
