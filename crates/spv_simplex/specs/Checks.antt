@@ -1,5 +1,6 @@
 -- What a check promises.
 use Rattle.std.specs.Prelude.{◌≡◌, ℕ, ◌<◌, false, List, Some, slice_get}
+use Rattle.spv_tableaux.specs.declared.side.Side.{Side}
 use Rattle.spv_tableaux.specs.Rows.{columns}
 use Rattle.spv_tableaux.specs.Bounds.{Bound, limits, Meets}
 use Rattle.spv_tableaux.specs.Solved.{is_basic}
@@ -44,6 +45,11 @@ Means checked.Infeasible old new = IsInfeasible new
 Means checked.Wide old new = IsTooWide old new
 Means checked.Pivots old new = HasAllPivots old new
 
+-- what a column outside the basis holds: what it held outside of it before, or a bound that stands
+pub data Rests (old new : State) (c : ℕ) : Type 0 where
+  as_before : is_basic (places old.form c) ≡ false → kept_point new c ≡ kept_point old c → Rests old new c
+  at_bound : (side : Side) → limits (rows_in old) old.bounds c side ≡ Some (kept_point new c) → Rests old new c
+
 -- what a check leaves as it was, and its answer
 pub record IsChecked (old new : State) (answer : Checked) : Type 0 where
   pub forms : new.forms ≡ old.forms
@@ -51,6 +57,7 @@ pub record IsChecked (old new : State) (answer : Checked) : Type 0 where
   pub pivots : new.pivots ≡ old.pivots
   pub bounds : new.bounds ≡ old.bounds
   pub answered : new.answer ≡ Some answer
+  pub rests : (c : ℕ) → c < columns (rows_in old) → is_basic (places new.form c) ≡ false → Rests old new c
   pub means : Means answer old new
 
 -- ---- the bounds that were asserted since the tableau was opened, undone or not

@@ -7,6 +7,7 @@ mod checked;
 mod evidence;
 mod forms;
 mod laws;
+mod searching;
 mod tableau;
 
 pub use checked::Checked;

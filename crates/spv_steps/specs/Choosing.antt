@@ -7,8 +7,8 @@ use Rattle.spv_tableaux.specs.declared.side.Side.{Side}
 use Rattle.spv_tableaux.specs.declared.side.Side.TheVariants.{Lower, Upper}
 use Rattle.spv_tableaux.specs.Rows.{Point}
 use Rattle.spv_tableaux.specs.Bounds.{Bound, Limits, limit_from, breaks, breaks_limit}
-use Rattle.spv_tableaux.specs.Solved.{Places, is_basic}
-use Rattle.spv_tableaux.specs.Steps.{none_to, is_least, may_leave, may_enter}
+use Rattle.spv_tableaux.specs.Solved.{is_basic}
+use Rattle.spv_tableaux.specs.Steps.{is_least, may_leave, may_enter}
 use Rattle.spv_tableaux.specs.Operations.{Operation, operation}
 use Rattle.spv_dictionary.specs.declared.spot.Spot.TheVariants as spot
 use Rattle.spv_dictionary.specs.Dictionary.{Dictionary, spot_of, basic_at, outside_at, entries, places}

@@ -68,12 +68,7 @@ fn add(into: &mut Vec<(u32, Side, Frac)>, row: u32, entry: Number)
 }
 
 /// The multiples of the bounds on all rows that a stuck column is read as.
-pub fn combine(
-    dictionary: &Dictionary,
-    into: &mut Vec<(u32, Side, Frac)>,
-    row: usize,
-    side: Side,
-)
+pub fn combine(dictionary: &Dictionary, into: &mut Vec<(u32, Side, Frac)>, row: usize, side: Side)
     requires row { row < length dictionary.now.basic }
     requires few { length dictionary.now.spots < 2 ^ 32 }
     requires room { length dictionary.now.basic ≤ vec_capacity into.old }

@@ -1,11 +1,10 @@
 -- Points and places that agree.
-use Rattle.std.proofs.Common.{◌≡◌, ℕ, ◌+◌, ◌<◌, Bool, true, false, List, length, refl, sym, ap, ◌∙◌, subst, arith, if◌then◌else◌}
-use mathlib.Core.Path.{ap₂}
+use Rattle.std.proofs.Common.{◌≡◌, ℕ, ◌+◌, ◌<◌, Bool, List, refl, sym, ap, ◌∙◌, arith, if◌then◌else◌}
 use Rattle.spv_rational.specs.Rational.{Rational, times}
 use Rattle.spv_tableaux.specs.Numbers.{sum_to}
-use Rattle.spv_tableaux.specs.Rows.{Rows, columns, column_of, row_sum, Point, IsSolution}
+use Rattle.spv_tableaux.specs.Rows.{Rows, columns, column_of, Point, IsSolution}
 use Rattle.spv_tableaux.specs.Bounds.{Limits}
-use Rattle.spv_tableaux.specs.Solved.{Place, Places, is_basic, Entries, point, at_rest, resting}
+use Rattle.spv_tableaux.specs.Solved.{Places, is_basic, Entries, point, at_rest, resting}
 use Rattle.spv_pivots.proofs.Stepping.{basis_alone}
 use Rattle.spv_pivots.proofs.Sums.{sum_same}
 use Rattle.spv_dictionary.specs.Dictionary.{Dictionary, entries}

@@ -1,16 +1,14 @@
 -- Steps on the numbers are a walk; what does not fit, is stuck or is left over on it.
-use Rattle.std.proofs.Common.{◌≡◌, ℕ, ◌+◌, ◌<◌, Bool, true, false, List, [], ◌∷◌, ◌++◌, length, Option, Some, None, nat_eq, refl, sym, ap, ◌∙◌, subst, arith}
-use Rattle.std.proofs.lemmas.Bool.{false≢true}
+use Rattle.std.proofs.Common.{◌≡◌, ℕ, ◌+◌, ◌<◌, true, false, List, [], ◌∷◌, ◌++◌, length, nat_eq, sym, ap, ◌∙◌, subst, arith}
 use Rattle.std.proofs.lemmas.List.{length-set}
 use mathlib.Core.Path.{ap₂}
-use Rattle.spv_rational.specs.Rational.{Rational, plus, times}
+use Rattle.spv_rational.specs.Rational.{Rational, times}
 use Rattle.spv_frac.specs.declared.frac.Op.TheVariants.{Add, Sub, Mul, Div, Cmp}
-use Rattle.spv_tableaux.specs.declared.side.Side.{Side}
 use Rattle.spv_tableaux.specs.Numbers.{minus, divided}
 use Rattle.spv_tableaux.specs.Rows.{Rows, columns, Point}
 use Rattle.spv_tableaux.specs.Bounds.{AreBounds, Limits, limits, breaks_limit}
-use Rattle.spv_tableaux.specs.Solved.{Places, is_basic, basis_of, Entries, IsSolved, point, exchanged}
-use Rattle.spv_tableaux.specs.Steps.{none_to, may_leave, may_enter, inside, IsStep, IsStuck}
+use Rattle.spv_tableaux.specs.Solved.{Places, is_basic, basis_of, Entries, point, exchanged}
+use Rattle.spv_tableaux.specs.Steps.{none_to, may_enter, inside, IsStep, IsStuck}
 use Rattle.spv_tableaux.specs.Operations as operations
 use Rattle.spv_tableaux.specs.Operations.{Operation, operation, fits, Compares, comparing, Shifts, Pivots}
 use Rattle.spv_tableaux.specs.Walks as walks
@@ -31,7 +29,7 @@ use Rattle.spv_steps.specs.Combining.{multiples_in}
 use Rattle.spv_steps.specs.Finding.{IsStuckOn, IsChosen}
 use Rattle.spv_steps.specs.Stepping as stepping
 use Rattle.spv_steps.specs.Stepping.{distance_of, shift_of, IsStepping}
-use Rattle.spv_walks.specs.Along.{IsAt, IsGone}
+use Rattle.spv_walks.specs.Along.{IsGone}
 use Rattle.spv_walks.specs.Course as course
 use Rattle.spv_walks.specs.Course.{ArePlaced, Goes, begins, steps, IsNextOn}
 use Rattle.spv_walks.specs.Arrivals.{SetsOut, IsUnderway, GoesUnderway, StepIsWide, StuckIsContradiction, StepIsUnfinished}

@@ -1,16 +1,15 @@
 -- A step that was made leads to the solved form and the point after it.
-use Rattle.std.proofs.Common.{◌≡◌, ℕ, zero, suc, ◌<◌, Bool, true, false, ◌&&◌, ◌||◌, not, List, length, Some, nat_eq, refl, sym, ap, ◌∙◌, subst, arith, if◌then◌else◌}
+use Rattle.std.proofs.Common.{◌≡◌, ℕ, ◌<◌, Bool, true, false, List, length, Some, nat_eq, refl, sym, ap, ◌∙◌, subst, if◌then◌else◌}
 use Rattle.std.proofs.lemmas.Bool.{false≢true}
 use Rattle.std.proofs.lemmas.List.{length-set}
 use mathlib.Core.Path.{ap₂}
 use Rattle.spv_rational.specs.Rational.{Rational, plus, times, is_zero}
 use Rattle.spv_tableaux.specs.declared.side.Side.{Side}
-use Rattle.spv_tableaux.specs.declared.side.Side.TheVariants.{Lower, Upper}
 use Rattle.spv_tableaux.specs.Numbers.{minus, divided}
 use Rattle.spv_tableaux.specs.Rows.{Rows, columns, Point}
-use Rattle.spv_tableaux.specs.Bounds.{Limits, breaks_limit, has_room}
+use Rattle.spv_tableaux.specs.Bounds.{Limits}
 use Rattle.spv_tableaux.specs.Solved.{Basic, At, Places, is_basic, Entries, point, at_rest, exchanged, pivot}
-use Rattle.spv_tableaux.specs.Steps.{none_to, is_least, may_leave, may_enter, way, IsStep}
+use Rattle.spv_tableaux.specs.Steps.{IsStep}
 use Rattle.spv_tableaux.specs.Operations as operations
 use Rattle.spv_pivots.specs.Moved.{moved, placed}
 use Rattle.spv_pivots.proofs.Stepping as stepping
@@ -28,7 +27,7 @@ use Rattle.spv_steps.specs.declared.choosing.Chosen.{Chosen}
 use Rattle.spv_steps.specs.declared.entering.Entry.{Entry}
 use Rattle.spv_steps.specs.Finding.{IsChosen}
 use Rattle.spv_walks.proofs.Making.{is_step}
-use Rattle.spv_walks.specs.Along.{IsAt, IsGone, MakesStep, StepIsAt, MoveIsAt}
+use Rattle.spv_walks.specs.Along.{IsAt, IsGone, StepIsAt, MoveIsAt}
 use Rattle.spv_steps.specs.Moving.{way_to, AreMovedTo}
 
 -- ---- what agrees

@@ -1,34 +1,21 @@
 -- What was chosen is a step.
-use Rattle.std.proofs.Common.{◌≡◌, ℕ, zero, suc, ◌<◌, Bool, true, false, ◌&&◌, ◌||◌, not, List, length, Some, nat_eq, refl, sym, ap, ◌∙◌, subst, arith, if◌then◌else◌}
-use Rattle.std.proofs.lemmas.Bool.{false≢true}
-use Rattle.std.proofs.lemmas.List.{length-set}
+use Rattle.std.proofs.Common.{◌≡◌, ℕ, zero, suc, ◌<◌, Bool, ◌&&◌, ◌||◌, not, List, length, refl, sym, ap, ◌∙◌, subst, arith}
 use mathlib.Core.Path.{ap₂}
-use Rattle.spv_rational.specs.Rational.{Rational, plus, times, is_zero}
+use Rattle.spv_rational.specs.Rational.{Rational, is_zero}
 use Rattle.spv_tableaux.specs.declared.side.Side.{Side}
 use Rattle.spv_tableaux.specs.declared.side.Side.TheVariants.{Lower, Upper}
-use Rattle.spv_tableaux.specs.Numbers.{minus, divided}
 use Rattle.spv_tableaux.specs.Rows.{Rows, columns, Point}
 use Rattle.spv_tableaux.specs.Bounds.{Limits, breaks_limit, has_room}
-use Rattle.spv_tableaux.specs.Solved.{Basic, At, Places, is_basic, Entries, point, at_rest, exchanged, pivot}
+use Rattle.spv_tableaux.specs.Solved.{Places, is_basic, Entries, point}
 use Rattle.spv_tableaux.specs.Steps.{none_to, is_least, may_leave, may_enter, way, IsStep}
-use Rattle.spv_tableaux.specs.Operations as operations
-use Rattle.spv_pivots.specs.Moved.{moved, placed}
-use Rattle.spv_pivots.proofs.Stepping as stepping
-use Rattle.spv_pivots.proofs.Algebra.{plus_minus, divided_times}
-use Rattle.spv_pivots.proofs.Sums.{sum_same, eq_is, eq_self}
-use Rattle.spv_pivots.proofs.Stepping.{IsExchange, exchange, step_solves, step_moves, entries_alone, basis_alone, inside_moves, moved_entering, moved_basic, moved_other}
-use Rattle.spv_dictionary.specs.declared.spot.Spot.{Spot}
 use Rattle.spv_dictionary.specs.declared.spot.Spot.TheVariants as spot
 use Rattle.spv_dictionary.specs.Dictionary as form
 use Rattle.spv_dictionary.specs.Dictionary.{Dictionary, IsDictionary, IsSpot, spot_of, basic_at, outside_at, entry_between, entries, place_of, with_solved}
-use Rattle.spv_dictionary.proofs.Exchanging.{same_basis, is_pivot, spot_count, differ_of}
 use Rattle.spv_shifts.specs.Shifts.{value_in, entry_in}
-use Rattle.spv_steps.specs.Stepping.{shift_of, AreStepped}
 use Rattle.spv_steps.specs.declared.choosing.Chosen.{Chosen}
 use Rattle.spv_steps.specs.declared.entering.Entry.{Entry}
 use Rattle.spv_steps.specs.Finding.{IsChosen}
-use Rattle.spv_walks.specs.Along.{IsAt, IsGone, MakesStep, StepIsAt, MoveIsAt}
-use Rattle.spv_steps.specs.Moving.{way_to, AreMovedTo}
+use Rattle.spv_walks.specs.Along.{IsAt, MakesStep}
 
 -- ---- tests that agree
 

@@ -4,11 +4,11 @@ use Rattle.std.specs.List.{list_any}
 use Rattle.std.proofs.lemmas.Bool.{false≢true}
 use Rattle.std.proofs.lemmas.Bool.Decides.{nat_tests}
 use mathlib.Core.Path.{ap₂}
-use Rattle.spv_rational.specs.Rational.{Rational, plus, times}
+use Rattle.spv_rational.specs.Rational.{Rational, times}
 use Rattle.spv_frac.specs.declared.frac.Op.TheVariants.{Add, Sub, Mul, Cmp}
 use Rattle.spv_tableaux.specs.declared.side.Side.{Side}
 use Rattle.spv_tableaux.specs.declared.side.Side.TheVariants.{Lower, Upper}
-use Rattle.spv_tableaux.specs.Numbers.{nothing, minus}
+use Rattle.spv_tableaux.specs.Numbers.{minus}
 use Rattle.spv_tableaux.specs.Rows.{Rows, columns, Point}
 use Rattle.spv_tableaux.specs.Bounds.{Limits, limits, breaks, breaks_limit}
 use Rattle.spv_tableaux.specs.Solved.{Place, Basic, Held, At, Places, is_basic, basis_of, Entries, point, at_rest, resting}
@@ -21,7 +21,6 @@ use Rattle.spv_pivots.specs.Moved.{placed, as_held}
 use Rattle.spv_pivots.proofs.Points.{point_outside}
 use Rattle.spv_pivots.proofs.Stepping.{basis_alone, held_point}
 use Rattle.spv_pivots.proofs.Sums.{eq_is, eq_self}
-use Rattle.spv_pivots.proofs.Tests.{or_left}
 use Rattle.spv_dictionary.specs.declared.spot.Spot.{Spot}
 use Rattle.spv_dictionary.specs.declared.spot.Spot.TheVariants as spot
 use Rattle.spv_dictionary.specs.Dictionary as form

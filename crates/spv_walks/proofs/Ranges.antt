@@ -1,17 +1,16 @@
 -- Columns with bounds, and what a value at its bound breaks.
-use Rattle.std.proofs.Common.{◌≡◌, ℕ, zero, suc, ◌+◌, ◌-◌, ◌<◌, Bool, true, false, ◌||◌, List, [], ◌∷◌, length, Option, Some, None, nat_lt, slice_get, refl, sym, ap, ◌∙◌, subst, arith, if◌then◌else◌}
+use Rattle.std.proofs.Common.{◌≡◌, ℕ, zero, suc, ◌+◌, ◌-◌, ◌<◌, Bool, true, false, ◌||◌, List, [], ◌∷◌, Option, Some, None, nat_lt, slice_get, refl, sym, ap, ◌∙◌, arith}
 use Rattle.std.specs.List.{list_all}
-use Rattle.std.proofs.lemmas.Bool.{false≢true}
 use Rattle.std.proofs.lemmas.Bool.Decides.{nat_tests}
 use Rattle.std.proofs.lemmas.Option.{slice_get_within}
 use mathlib.Core.Path.{ap₂}
-use Rattle.spv_rational.specs.Rational.{Rational, plus, opposite, is_positive}
+use Rattle.spv_rational.specs.Rational.{Rational, is_positive}
 use Rattle.spv_rational.proofs.Field.{plus_opposite}
 use Rattle.spv_tableaux.specs.declared.side.Side.{Side}
 use Rattle.spv_tableaux.specs.declared.side.Side.TheVariants.{Lower, Upper}
 use Rattle.spv_tableaux.specs.Numbers.{is_less}
 use Rattle.spv_tableaux.specs.Rows.{Rows, columns, Point}
-use Rattle.spv_tableaux.specs.Bounds.{Bound, bound_on, AreBounds, Limits, limits, breaks, breaks_limit, is_out}
+use Rattle.spv_tableaux.specs.Bounds.{Bound, AreBounds, Limits, limits, breaks_limit, is_out}
 use Rattle.spv_pivots.proofs.Algebra.{less_is}
 use Rattle.spv_pivots.proofs.Tests.{and_left, and_right}
 use Rattle.spv_steps.proofs.Choices.{is_rows, is_in}

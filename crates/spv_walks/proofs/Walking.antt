@@ -1,16 +1,15 @@
 -- Where the columns are along a walk, and what they hold.
-use Rattle.std.proofs.Common.{◌≡◌, ℕ, ◌+◌, ◌<◌, Bool, true, false, ◌||◌, List, [], ◌∷◌, length, Option, Some, None, ◌⊎◌, inl, inr, nat_eq, nat_lt, refl, sym, ap, ◌∙◌, subst, arith, if◌then◌else◌}
+use Rattle.std.proofs.Common.{◌≡◌, ℕ, ◌+◌, ◌<◌, Bool, true, false, ◌||◌, List, length, Option, Some, None, ◌⊎◌, inl, inr, nat_eq, nat_lt, refl, sym, ap, ◌∙◌, subst, arith, if◌then◌else◌}
 use Rattle.std.proofs.lemmas.Bool.{false≢true}
 use Rattle.std.proofs.lemmas.Bool.Decides.{nat_tests}
-use mathlib.Core.Path.{ap₂}
 use Rattle.spv_rational.specs.Rational.{Rational}
 use Rattle.spv_tableaux.specs.declared.side.Side.{Side}
 use Rattle.spv_tableaux.specs.declared.side.Side.TheVariants.{Lower, Upper}
 use Rattle.spv_tableaux.specs.Numbers.{nothing}
 use Rattle.spv_tableaux.specs.Rows.{Rows, columns, Point}
-use Rattle.spv_tableaux.specs.Bounds.{AreBounds, Limits, limits, or_nothing, breaks_limit, is_out, Meets}
-use Rattle.spv_tableaux.specs.Solved.{Place, Basic, Held, At, Places, is_basic, basis_of, Entries, IsSolved, point, at_rest, resting, exchanged}
-use Rattle.spv_tableaux.specs.Steps.{none_to, may_leave, placed_inside, inside, inside_of, IsStep}
+use Rattle.spv_tableaux.specs.Bounds.{Limits, limits, or_nothing, breaks_limit, is_out}
+use Rattle.spv_tableaux.specs.Solved.{Place, Basic, Held, At, Places, is_basic, basis_of, point, at_rest, resting, exchanged}
+use Rattle.spv_tableaux.specs.Steps.{may_leave, placed_inside, inside, inside_of}
 use Rattle.spv_tableaux.specs.Walks.{Exchange, Start, held_at, Walk, stays, goes}
 use Rattle.spv_pivots.proofs.Algebra.{false_of}
 use Rattle.spv_pivots.proofs.Points.{point_outside, point_solves}

@@ -1,4 +1,4 @@
-use Rattle.std.proofs.Common.{rules, ◌≡◌, ◌+◌, ◌<◌, true, false, length, refl, ap, ◌∙◌, sym, arith}
+use Rattle.std.proofs.Common.{rules, ◌≡◌, ◌+◌, ◌<◌, false, length, ap, ◌∙◌, sym, arith}
 use Rattle.spv_tableaux.specs.Bounds.{breaks}
 use Rattle.spv_shifts.specs.Shifts.{value_in}
 use Rattle.spv_steps.proofs.Choices.{read_value, met_more}

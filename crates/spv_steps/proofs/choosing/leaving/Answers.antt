@@ -1,4 +1,4 @@
-use Rattle.std.proofs.Common.{rules, ℕ, ◌≡◌, ◌<◌, length, sym, subst, arith}
+use Rattle.std.proofs.Common.{rules, ℕ, ◌≡◌, ◌<◌, length, subst, arith}
 use Rattle.spv_shifts.specs.Shifts.{value_in}
 use Rattle.spv_steps.specs.Choosing.{limits_of, LeavesFirst}
 use Rattle.spv_steps.proofs.Choices.{leaves_more, none_leaves, least_leaves, if_some, if_none}

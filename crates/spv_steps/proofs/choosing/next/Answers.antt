@@ -1,5 +1,4 @@
 use Rattle.std.proofs.Common.{rules, ◌≡◌, ◌+◌, ◌<◌, true, length, ap, ◌∙◌, sym, subst, ℕ}
-use Rattle.spv_rational.specs.Rational.{Rational}
 use Rattle.spv_frac.specs.declared.frac.Op.TheVariants.{Cmp}
 use Rattle.spv_tableaux.specs.Bounds.{breaks}
 use Rattle.spv_tableaux.specs.Operations.{operation}

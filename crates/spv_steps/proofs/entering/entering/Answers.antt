@@ -1,4 +1,4 @@
-use Rattle.std.proofs.Common.{rules, ℕ, ◌≡◌, ◌≤◌, length, sym, subst, arith}
+use Rattle.std.proofs.Common.{ℕ, ◌≡◌, length, subst, arith}
 use Rattle.spv_shifts.specs.Shifts.{value_in}
 use Rattle.spv_steps.specs.Choosing.{limits_of, EntersFirst}
 use Rattle.spv_steps.proofs.Choices.{enters_more, none_enters, least_enters, if_some, if_none}

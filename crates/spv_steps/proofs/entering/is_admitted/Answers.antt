@@ -1,4 +1,4 @@
-use Rattle.std.proofs.Common.{rules, ℕ, ◌≡◌, ◌<◌, length, sym, subst, ap, ◌∙◌}
+use Rattle.std.proofs.Common.{rules, ℕ, ◌≡◌, ◌<◌, length, sym, subst}
 use Rattle.spv_dictionary.proofs.Mixed.{if_err}
 use Rattle.spv_dictionary.specs.Dictionary.{outside_at}
 use Rattle.spv_steps.specs.Choosing.{limits_of}
