@@ -4,3 +4,4 @@ pub mod Calls
 pub mod Held
 pub mod Searches
 pub mod Checking
+pub mod Accepting

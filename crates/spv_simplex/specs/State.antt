@@ -99,12 +99,16 @@ abbrev pub clashes : Side → Rational → Rational → Bool
 clashes Lower value other = is_less other value
 clashes Upper value other = is_less value other
 
+-- a bound on a side leaves a value to the one on the other side, if there is one
+abbrev pub LeavesValue : Side → Rational → Option Rational → Type 0
+LeavesValue side value bound = (other : Rational) → bound ≡ Some other → clashes side value other ≡ false
+
 -- the bound may be asserted
 pub record MayAssert (s : State) (b : Bound) : Type 0 where
   pub row_in : b.row < length s.forms
   pub room : length s.bounds < s.trail
   pub free : bound_on s.bounds b.row b.side ≡ None
-  pub ordered : (other : Rational) → bound_on s.bounds b.row (other_side b.side) ≡ Some other → clashes b.side b.value other ≡ false
+  pub ordered : LeavesValue b.side b.value (bound_on s.bounds b.row (other_side b.side))
 
 -- the value of a term that is a column, 0 for any other
 abbrev pub value_from : State → Option ℕ → Rational

@@ -12,6 +12,7 @@ mod tableau;
 
 pub use checked::Checked;
 pub use evidence::Evidence;
+pub use forms::can_open;
 pub use laws::law_asserted;
 pub use spv_tableaux::Side;
 pub use tableau::{Mark, Tableau};

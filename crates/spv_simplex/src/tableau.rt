@@ -1,14 +1,15 @@
 // Bounds on linear forms.
 
-ghost use Rattle.std.specs.Prelude.{◌≡◌, ◌<◌, ◌≤◌, ◌^◌, List, ◌⊎◌, length, map, Some, IfOk, IsTrue};
+ghost use Rattle.std.specs.Prelude.{◌≡◌, ◌<◌, ◌≤◌, ◌^◌, List, ◌⊎◌, length, map, Some, IfOk, IsTrue, ◌↔◌};
 ghost use Rattle.std.specs.List.{list_any};
 ghost use Rattle.spv_rational.specs.Rational.{number};
 ghost use Rattle.spv_atoms.specs.Order.{same_id};
-ghost use Rattle.spv_tableaux.specs.Bounds.{Bound};
+ghost use Rattle.spv_tableaux.specs.Bounds.{Bound, other_side};
 ghost use Rattle.spv_tableaux.specs.Rows.{columns};
 ghost use Rattle.spv_tableaux.specs.Forms.{rows_of, part_ids};
 ghost use Rattle.spv_simplex.specs.declared.checked.Checked.TheVariants as checked;
-ghost use Rattle.spv_simplex.specs.State.{IsTableau, IsOpened, MayAssert, with_bound, with_first, value_of};
+ghost use Rattle.spv_simplex.specs.State.{IsTableau, IsOpened, LeavesValue, MayAssert, with_bound, with_first, value_of};
+ghost use Rattle.spv_simplex.specs.State as spec;
 ghost use Rattle.spv_simplex.specs.Checks.{IsChecked, HoldsAsserted};
 ghost use Rattle.spv_steps.specs.Trail.{bound_of};
 ghost use Rattle.spv_steps.specs.Combining.{multiple_in};
@@ -20,8 +21,8 @@ use crate::forms::{Form, Parts, forms_of};
 use crate::searching::search;
 use spv_atoms::Linear;
 use spv_dictionary::Dictionary;
-use spv_frac::Frac;
-use spv_number::Number;
+use spv_frac::{Frac, TooWide};
+use spv_number::{Number, Refused};
 use spv_steps::{Trail, all_met};
 use spv_tableaux::Side;
 use spv_term::TermId;
@@ -95,6 +96,39 @@ impl Model for Tableau {
     }) t.parts t.trail t.met (vec_capacity t.combination) };
 }
 
+// The other side of a row.
+fn other(side: Side) -> Side
+    ensures { result ≡ other_side side }
+{
+    match side {
+        Side::Lower => Side::Upper,
+        Side::Upper => Side::Lower,
+    }
+}
+
+// Whether a bound on a side leaves no value to the one on the other side.
+fn clashes(side: Side, value: Number, other: Number) -> Result<bool, Refused>
+    ensures { IfOk result (λ b. b ≡ spec.clashes side value other) }
+{
+    match side {
+        Side::Lower => other.is_less(value),
+        Side::Upper => value.is_less(other),
+    }
+}
+
+// Whether a bound on a side leaves a value to the one on the other side, if there is one.
+fn leaves_value(side: Side, value: Number, other: Option<Number>) -> Result<bool, TooWide>
+    ensures { IfOk result (λ b. IsTrue b ↔ LeavesValue side value other) }
+{
+    match other {
+        None => Ok(true),
+        Some(against) => match clashes(side, value, against) {
+            Ok(clash) => Ok(!clash),
+            Err(_) => Err(TooWide),
+        },
+    }
+}
+
 impl Tableau {
     /// What is true of every tableau: the kept basis has a solved form, the kept point solves the rows, and each
     /// part outside the basis is 0.
@@ -145,6 +179,24 @@ impl Tableau {
         })
     }
 
+    /// Whether a bound may be asserted: the row is there, fewer than `trail` bounds stand, none stands on this side
+    /// of the row, and the one on its other side, if there is one, leaves a value. `TooWide` comes only where these two
+    /// cannot be compared.
+    pub fn accepts(&self, row: u32, side: Side, bound: Frac) -> Result<bool, TooWide>
+        ensures { IfOk result (λ b. IsTrue b ↔ MayAssert self.now (bound_of row side (number bound))) }
+    {
+        self.trail.law_trail();
+        let place = row as usize;
+        if !self.trail.is_free(place, side) {
+            return Ok(false);
+        }
+        leaves_value(
+            side,
+            Number::of(bound),
+            self.trail.bound(place, other(side)),
+        )
+    }
+
     /// Asserts a bound on a side of a row that has none there.
     pub fn assert_bound(&mut self, row: u32, side: Side, bound: Frac)
         requires { MayAssert self.old (bound_of row side (number bound)) }
@@ -153,6 +205,13 @@ impl Tableau {
         let value = Number::of(bound);
         self.trail.push(row as usize, side, value);
         self.trail.law_trail();
+    }
+
+    /// Whether a mark was not undone past.
+    pub fn has(&self, mark: Mark) -> bool
+        ensures { IsTrue result ↔ (mark ≤ length self.now.bounds) }
+    {
+        mark.count <= self.trail.len()
     }
 
     /// Lets go all bounds that came after a mark. The basis stays.
@@ -219,6 +278,13 @@ impl Tableau {
         ensures { result.now ≡ self.now.evidence }
     {
         &self.evidence
+    }
+
+    /// The terms that are columns, in their order.
+    pub fn parts(&self) -> &[TermId]
+        ensures { result.now ≡ part_ids self.now.forms }
+    {
+        self.parts.ids()
     }
 
     /// The value of a term at the kept point.

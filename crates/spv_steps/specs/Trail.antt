@@ -41,3 +41,9 @@ pub record KeepsApart (t : Trail) : Type 0 where
   pub in_range : list_all (λ b. nat_lt b.row t.rows) t.bounds ≡ true
   pub apart : are_apart t.bounds ≡ true
   pub few : length t.bounds ≤ t.most
+
+-- a bound on a side of a row may be pushed
+pub record IsFree (t : Trail) (row : ℕ) (side : Side) : Type 0 where
+  pub inside : row < t.rows
+  pub room : length t.bounds < t.most
+  pub free : bound_on t.bounds row side ≡ None

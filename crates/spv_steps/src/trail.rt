@@ -1,9 +1,9 @@
 // The bounds that stand.
 
-ghost use Rattle.std.specs.Prelude.{◌≡◌, ◌<◌, ◌≤◌, ◌-◌, [], length, None, replicate, slice_get, Some, IfOk};
+ghost use Rattle.std.specs.Prelude.{◌≡◌, ◌<◌, ◌≤◌, ◌-◌, [], length, None, replicate, slice_get, Some, IfOk, IsTrue, ◌↔◌};
 ghost use Rattle.spv_tableaux.specs.declared.side.Side.TheVariants.{Lower, Upper};
 ghost use Rattle.spv_tableaux.specs.Bounds.{bound_on};
-ghost use Rattle.spv_steps.specs.Trail.{bound_of, more, first_of, written, KeepsApart};
+ghost use Rattle.spv_steps.specs.Trail.{bound_of, more, first_of, written, KeepsApart, IsFree};
 
 use spv_number::Number;
 use spv_tableaux::Side;
@@ -132,6 +132,15 @@ impl Trail {
             Side::Lower => self.lower[row],
             Side::Upper => self.upper[row],
         }
+    }
+
+    /// Whether a bound on a side of a row may be pushed: the row is there, there is room, and no bound stands there.
+    pub fn is_free(&self, row: usize, side: Side) -> bool
+        ensures { IsTrue result ↔ IsFree self.now row side }
+    {
+        row < self.lower.len()
+            && self.bounds.as_slice().len() < self.most
+            && self.bound(row, side).is_none()
     }
 
     /// One bound more.
