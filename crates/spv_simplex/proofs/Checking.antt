@@ -7,9 +7,9 @@ use mathlib.Core.Path.{ap₂}
 use Rattle.spv_logic.specs.declared.conditions.TermId.{TermId}
 use Rattle.spv_rational.specs.Rational.{Rational}
 use Rattle.spv_tableaux.specs.declared.side.Side.{Side}
-use Rattle.spv_tableaux.specs.Rows.{Rows, column_of, Point}
+use Rattle.spv_tableaux.specs.Rows.{columns, Rows, column_of, Point}
 use Rattle.spv_tableaux.specs.Bounds.{Bound, Limits, limits, breaks, is_out, Meets}
-use Rattle.spv_tableaux.specs.Solved.{is_basic}
+use Rattle.spv_tableaux.specs.Solved.{Basic, Held, is_basic, basis_of}
 use Rattle.spv_tableaux.specs.Walks.{Start, held_at, IsWide, IsUnfinished, IsBoundOf}
 use Rattle.spv_tableaux.specs.Contradictions.{Multiple, IsContradiction}
 use Rattle.spv_pivots.proofs.Algebra.{false_of}
@@ -23,9 +23,10 @@ use Rattle.spv_steps.specs.Choosing.{limits_of, is_broken, are_met}
 use Rattle.spv_steps.specs.Trail.{Trail}
 use Rattle.spv_steps.proofs.Choices.{is_in, is_rows, limit_here, out_breaks}
 use Rattle.spv_walks.specs.Course.{ArePlaced, Goes, begins, steps}
-use Rattle.spv_walks.specs.Arrivals.{SetsOut, IsUnderway, Stands}
+use Rattle.spv_walks.specs.Arrivals.{SetsOut, IsUnderway, Stands, in_basis_after}
 use Rattle.spv_walks.specs.Arrivals as arrivals
-use Rattle.spv_walks.proofs.Placing.{placing_is_wide}
+use Rattle.spv_walks.proofs.Bases.{underway_basis}
+use Rattle.spv_walks.proofs.Placing.{basis_is, placing_is_wide}
 use Rattle.spv_walks.proofs.Walking.{placed_stands, underway_stands, none_leaves_meets}
 use Rattle.spv_walks.proofs.Arriving.{goes_underway, step_is_wide, stuck_is_contradiction, step_is_unfinished}
 use Rattle.spv_simplex.specs.declared.checked.Checked.{Checked}
@@ -165,6 +166,12 @@ module _ (s : State) (ids : List TermId) (trail : Trail) (known_met capacity : �
       same_rests c (arrivals.as_before h e) = arrivals.as_before h e
       same_rests c (arrivals.at_bound side e) = arrivals.at_bound side e
 
+  -- the kept basis
+  keeps_steps : (here : Dictionary) (after : List Rational) (e : EvidenceValue) → IsUnderway rows start e.steps here after → e.start ≡ start
+      → (c : ℕ) → c < columns rows → is_basic (places here c) ≡ in_basis_after (λ y. is_basic (basis_of e.start.basis y)) e.steps c
+  keeps_steps here after e u is c below =
+      underway_basis rows start e.steps here after u c below ∙ ap (λ (x : Start). in_basis_after (λ y. is_basic (basis_of x.basis y)) e.steps c) (sym is)
+
   stopped : (here : Dictionary) (new : Dictionary) (after : List Rational) (combination : List Multiple) (e : EvidenceValue) (answer : Checked) → IsUnderway rows start e.steps here after
       → IsDictionary here → e.start ≡ start → e.room ≡ s.evidence.room → Stops (limits rows s.bounds) here after new combination e answer → HasEnded new after combination e answer
   stopped here new after combination e _ u here_form start_is room (met none is) = record {
@@ -183,6 +190,7 @@ module _ (s : State) (ids : List TermId) (trail : Trail) (known_met capacity : �
     means = record {
       begins = begins_with e.start start_is;
       wide = subst (λ (x : Start). IsWide rows x e.steps e.operation) (sym start_is) (step_is_wide rows start e.steps here after u here_form k.tableau.bounds e.operation next unfit);
+      kept = λ c below. ap (λ (d : Dictionary). is_basic (places d c)) is ∙ keeps_steps here after e u start_is c below;
     };
     room = room;
   }
@@ -192,6 +200,7 @@ module _ (s : State) (ids : List TermId) (trail : Trail) (known_met capacity : �
       begins = begins_with e.start start_is;
       unfinished = subst (λ (x : Start). IsUnfinished rows x e.steps s.pivots) (sym start_is)
           (step_is_unfinished rows start e.steps here after u here_form chosen entry found s.pivots (all ∙ ap (λ r. r.steps) (room ∙ k.room_is)));
+      kept = λ c below. ap (λ (d : Dictionary). is_basic (places d c)) is ∙ keeps_steps here after e u start_is c below;
       operation = none;
     };
     room = room;
@@ -210,6 +219,13 @@ module _ (s : State) (ids : List TermId) (trail : Trail) (known_met capacity : �
   ends new after combination e answer h =
       by_end answer (subst (λ (n : ℕ). Ends (limits_of n s.bounds) s.form s.values (begun s.evidence.room s.bounds s.form s.values) new after combination e answer) k.tableau.width h)
     where
+      basis_at : (c : ℕ) → is_basic (basis_of s.form.basic c) ≡ is_basic (places s.form c)
+      basis_at c = ap is_basic (basis_is rows start s.form s.values sets_out c) ∙ by_basic (is_basic (places s.form c))
+        where
+          by_basic : (b : Bool) → is_basic (if b then Basic else Held) ≡ b
+          by_basic true = refl
+          by_basic false = refl
+
       by_end : (a : Checked) → Ends (limits rows s.bounds) s.form s.values (begun s.evidence.room s.bounds s.form s.values) new after combination e a → HasEnded new after combination e a
       by_end _ (arriving now a placed arrives) = arrived now new after combination e a placed arrives
       by_end _ (placing p form_is e_is) = record {
@@ -218,6 +234,8 @@ module _ (s : State) (ids : List TermId) (trail : Trail) (known_met capacity : �
           begins = begins_with e.start (ap (λ x. x.start) e_is);
           wide = subst (λ (x : EvidenceValue). IsWide rows x.start x.steps e.operation) (sym e_is)
               (placing_is_wide rows start s.form s.values sets_out p.slot after p.placed p.inside e.operation p.refused p.unfit);
+          kept = λ c below. ap (λ (d : Dictionary). is_basic (places d c)) form_is ∙ sym (basis_at c)
+              ∙ sym (ap (λ (x : EvidenceValue). in_basis_after (λ y. is_basic (basis_of x.start.basis y)) x.steps c) e_is);
         };
         room = ap (λ x. x.room) e_is;
       }

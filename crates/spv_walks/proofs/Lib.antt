@@ -5,3 +5,4 @@ pub mod Ranges
 pub mod Placing
 pub mod Walking
 pub mod Arriving
+pub mod Bases

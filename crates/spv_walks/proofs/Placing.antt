@@ -123,7 +123,7 @@ moved_spot limits held n c (spot.Slot j) = if nat_lt j n then placed_inside limi
 abbrev pub moved_to : Limits → Point → Dictionary → ℕ → Places
 moved_to limits held d n c = moved_spot limits held n c (spot_of d c)
 
-inside_not_basic : (limits : Limits) (held : Point) (c : ℕ) → is_basic (placed_inside limits held c) ≡ false
+pub inside_not_basic : (limits : Limits) (held : Point) (c : ℕ) → is_basic (placed_inside limits held c) ≡ false
 inside_not_basic limits held c = by_cases (breaks_limit Lower (limits c Lower) (held c)) (breaks_limit Upper (limits c Upper) (held c))
   where
     by_cases : (a b : Bool) → is_basic (if a then At Lower else if b then At Upper else Held) ≡ false

@@ -1,5 +1,5 @@
 -- What the course of a check on the numbers comes to.
-use Rattle.std.specs.Prelude.{◌≡◌, ℕ, ◌<◌, true, false, List, [], length, Some}
+use Rattle.std.specs.Prelude.{◌≡◌, ℕ, ◌<◌, Bool, true, false, List, [], ◌∷◌, length, Some, nat_eq, if◌then◌else◌}
 use Rattle.spv_rational.specs.Rational.{Rational}
 use Rattle.spv_tableaux.specs.declared.side.Side.{Side}
 use Rattle.spv_tableaux.specs.Numbers.{nothing}
@@ -54,6 +54,11 @@ pub record Stands (rows : Rows) (start : Start) (old new : Dictionary) (before a
   pub parts : (c : ℕ) → c < rows.parts → is_basic (places new c) ≡ false → value_in after c ≡ nothing
   pub rests : (c : ℕ) → c < columns rows → is_basic (places new c) ≡ false → Rests (limits rows start.bounds) old new before after c
 
+-- the columns of a basis after these steps
+abbrev pub in_basis_after : (ℕ → Bool) → List Exchange → ℕ → Bool
+in_basis_after basis [] c = basis c
+in_basis_after basis (x ∷ steps) c = in_basis_after (λ y. if nat_eq y x.entering then true else if nat_eq y x.leaving then false else basis y) steps c
+
 -- ---- laws
 
 abbrev pub PlacedStands : Type 0
@@ -75,6 +80,11 @@ GoesUnderway = (rows : Rows) (start : Start) (d : Dictionary) (before : List Rat
 abbrev pub UnderwayStands : Type 0
 UnderwayStands = (rows : Rows) (start : Start) (d : Dictionary) (before : List Rational) → SetsOut rows start d before
     → (made : List Exchange) (here : Dictionary) (now : List Rational) → IsUnderway rows start made here now → Stands rows start d here before now
+
+-- the kept basis is the one that the check began with, after the steps that were made
+abbrev pub UnderwayBasis : Type 0
+UnderwayBasis = (rows : Rows) (start : Start) (made : List Exchange) (d : Dictionary) (values : List Rational) → IsUnderway rows start made d values
+    → (c : ℕ) → c < columns rows → is_basic (places d c) ≡ in_basis_after (λ y. is_basic (basis_of start.basis y)) made c
 
 -- an operation that does not fit, in a step
 abbrev pub StepIsWide : Type 0

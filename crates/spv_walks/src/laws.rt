@@ -1,7 +1,7 @@
 // What the parts of a check are, each law the contract of a function that does nothing.
 
 ghost use Rattle.spv_walks.specs.Along.{MakesStep, StepIsAt, MoveIsAt};
-ghost use Rattle.spv_walks.specs.Arrivals.{PlacedStands, PlacingIsWide, GoesUnderway, UnderwayStands, StepIsWide, NoneLeavesMeets, StuckIsContradiction, StepIsUnfinished};
+ghost use Rattle.spv_walks.specs.Arrivals.{PlacedStands, PlacingIsWide, GoesUnderway, UnderwayStands, UnderwayBasis, StepIsWide, NoneLeavesMeets, StuckIsContradiction, StepIsUnfinished};
 
 /// What was chosen and made is a step, and leads to the solved form and the point of the placed basis after it; so
 /// does a move of a column to its bound.
@@ -19,10 +19,11 @@ pub fn law_placed()
 {}
 
 /// Steps are a walk, once columns have moved into their bounds: what is so wherever it ends, and what each of its ends
-/// is. Where no column may leave, the point meets all bounds; a stuck column is a contradiction of bounds.
+/// is; the kept basis is that after the steps. Where no column may leave, the point meets all bounds; a stuck column is a contradiction of bounds.
 pub fn law_underway()
     ensures underway { GoesUnderway }
     ensures stands { UnderwayStands }
+    ensures basis { UnderwayBasis }
     ensures meets { NoneLeavesMeets }
     ensures contradiction { StuckIsContradiction }
     ensures wide { StepIsWide }

@@ -1,5 +1,6 @@
 use Rattle.spv_walks.proofs.Walking.{underway_stands, none_leaves_meets}
 use Rattle.spv_walks.proofs.Arriving.{goes_underway, step_is_wide, stuck_is_contradiction, step_is_unfinished}
+use Rattle.spv_walks.proofs.Bases.{underway_basis}
 use Rattle.spv_walks.proofs.laws.law_underway.Goals as goal
 
 pub returns-clause-underway : goal.returns-clause-underway
@@ -19,3 +20,6 @@ returns-clause-wide c = step_is_wide
 
 pub returns-clause-unfinished : goal.returns-clause-unfinished
 returns-clause-unfinished c = step_is_unfinished
+
+pub returns-clause-basis : goal.returns-clause-basis
+returns-clause-basis c = underway_basis
