@@ -92,6 +92,20 @@ impl Dictionary {
         self.outside[slot]
     }
 
+    /// The columns of the rows.
+    pub fn basis(&self) -> &[u32]
+        ensures { result.now ≡ self.now.basic }
+    {
+        self.basic.as_slice()
+    }
+
+    /// The columns of the slots.
+    pub fn others(&self) -> &[u32]
+        ensures { result.now ≡ self.now.outside }
+    {
+        self.outside.as_slice()
+    }
+
     /// The numbers of a row.
     pub fn row(&self, row: usize) -> &Row
         requires { row < length self.now.basic }

@@ -1,8 +1,9 @@
 -- Calls keep what a tableau keeps.
-use Rattle.std.proofs.Common.{◌≡◌, ℕ, zero, suc, ◌+◌, ◌<◌, ◌≤◌, ◌^◌, Bool, true, false, ◌&&◌, List, [], ◌∷◌, ◌++◌, take, length, replicate, Option, Some, None, nat_eq, nat_lt, slice_index_or, refl, sym, ap, ◌∙◌, subst, arith, if◌then◌else◌}
+use Rattle.std.proofs.Common.{◌≡◌, ℕ, zero, suc, min, ◌+◌, ◌<◌, ◌≤◌, ◌^◌, Bool, true, false, ◌&&◌, List, [], ◌∷◌, ◌++◌, take, length, replicate, Option, Some, None, nat_eq, nat_lt, slice_index_or, refl, sym, ap, ◌∙◌, subst, arith, if◌then◌else◌}
 use Rattle.std.specs.List.{list_all}
 use Rattle.std.proofs.lemmas.Bool.{false≢true}
-use Rattle.std.proofs.lemmas.List.{length-replicate}
+use Rattle.std.proofs.lemmas.List.{length-replicate, take-append-le}
+use Rattle.std.proofs.lemmas.Grind.{common_steps}
 use Rattle.spv_logic.specs.declared.conditions.TermId.{TermId}
 use Rattle.spv_rational.specs.Rational.{Rational, times}
 use Rattle.spv_rational.proofs.Field.{times_zero}
@@ -10,7 +11,7 @@ use Rattle.spv_atoms.specs.Linear.{IdForm}
 use Rattle.spv_tableaux.specs.declared.side.Side.{Side}
 use Rattle.spv_tableaux.specs.declared.side.Side.TheVariants.{Lower, Upper}
 use Rattle.spv_tableaux.specs.Numbers.{nothing, is_less}
-use Rattle.spv_tableaux.specs.Rows.{columns}
+use Rattle.spv_tableaux.specs.Rows.{columns, Point}
 use Rattle.spv_tableaux.specs.Bounds.{Bound, same_side, other_side, bound_on, is_none}
 use Rattle.spv_tableaux.specs.Solved.{is_basic, row_places, row_entries, IsSolved}
 use Rattle.spv_tableaux.specs.Forms.{rows_of, part_ids}
@@ -18,16 +19,19 @@ use Rattle.spv_tableaux.specs.Contradictions.{Multiple}
 use Rattle.spv_pivots.proofs.Sums.{sum_nothing, eq_is}
 use Rattle.spv_pivots.proofs.Starting.{rows_are_solved}
 use Rattle.spv_pivots.proofs.Stepping.{basis_alone, entries_alone}
-use Rattle.spv_pivots.proofs.Tests.{and_left, and_right}
+use Rattle.spv_pivots.proofs.Tests.{and_left, and_right, and_both}
 use Rattle.spv_dictionary.specs.Cells.{cell}
 use Rattle.spv_dictionary.specs.Dictionary.{Dictionary, entries, places, first}
 use Rattle.spv_dictionary.proofs.First.{spot_total}
+use Rattle.spv_dictionary.proofs.Lists.{length_listed}
 use Rattle.spv_dictionary.proofs.FirstForm.{first_basis, is_first_form}
 use Rattle.spv_simplex.specs.Cells.{AreRowsTo}
-use Rattle.spv_simplex.specs.Evidence.{EvidenceValue}
-use Rattle.spv_simplex.specs.State.{State, IsKept, IsOpened, MayAssert, clashes, kept_point}
-use Rattle.spv_simplex.specs.Trail.{Trail, KeepsApart, bound_of, more, first_of}
-use Rattle.spv_simplex.proofs.Standing.{is_on, found_other, found_here}
+use Rattle.spv_simplex.specs.Evidence.{EvidenceValue, no_evidence}
+use Rattle.spv_steps.specs.Choosing.{are_met}
+use Rattle.spv_simplex.specs.declared.evidence.Room.{Room}
+use Rattle.spv_simplex.specs.State.{State, IsKept, IsOpened, MayAssert, clashes, rows_in, kept_point, room_in}
+use Rattle.spv_steps.specs.Trail.{Trail, KeepsApart, bound_of, more, first_of}
+use Rattle.spv_steps.proofs.Bounding.{is_on, found_other, found_here}
 
 -- ---- other bounds
 
@@ -35,10 +39,10 @@ abbrev with_trail : State → Trail → State
 with_trail s t = record s { trail = t.most; bounds = t.bounds }
 
 -- a tableau keeps what it keeps where its bounds are others that obey the same
-changed : (s : State) (ids : List TermId) (old new : Trail) → IsKept s ids old → new.rows ≡ old.rows → KeepsApart new
+changed : (s : State) (ids : List TermId) (old new : Trail) (met capacity now : ℕ) → IsKept s ids old met capacity → new.rows ≡ old.rows → new.most ≡ s.trail → KeepsApart new
     → ((i : ℕ) (low high : Rational) → bound_on new.bounds i Lower ≡ Some low → bound_on new.bounds i Upper ≡ Some high → is_less high low ≡ false)
-    → IsKept (with_trail s new) ids new
-changed s ids old new k same apart ordered = record {
+    → now ≤ length new.bounds → are_met (rows_in s).parts (kept_point s) (take now new.bounds) ≡ true → IsKept (with_trail s new) ids new now capacity
+changed s ids old new met capacity now k same most apart ordered few are = record {
   tableau = record {
     few_columns = k.tableau.few_columns;
     few_pivots = k.tableau.few_pivots;
@@ -50,12 +54,17 @@ changed s ids old new k same apart ordered = record {
     };
     solved = k.tableau.solved;
     spots = k.tableau.spots;
+    width = k.tableau.width;
     count = k.tableau.count;
     solution = k.tableau.solution;
     parts = k.tableau.parts;
   };
   ids_are = k.ids_are;
   rows_are = same ∙ k.rows_are;
+  room_is = k.room_is ∙ ap (λ n. room_in (record s { trail = n })) (sym most);
+  combination_room = k.combination_room;
+  within = few;
+  known = are;
 }
 
 -- ---- undoing
@@ -71,10 +80,47 @@ first_found (suc n) (b ∷ bounds) i side x h = by_case (first_found n bounds i 
     by_case rest true e k = rw e k
     by_case rest false e k = rw e (rest k)
 
-pub undone : (s : State) (ids : List TermId) (old new : Trail) (n : ℕ) → IsKept s ids old → s.bounds ≡ old.bounds → new ≡ first_of old n → KeepsApart new
-    → IsKept (with_trail s new) ids new
-undone s ids old new n k same is apart = changed s ids old new k (ap (λ (t : Trail). t.rows) is) apart ordered
+-- of bounds that are met the first ones are
+first_met : (width : ℕ) (v : Point) (bounds : List Bound) (k m n : ℕ) → k ≤ m → k ≤ n → are_met width v (take m bounds) ≡ true → are_met width v (take k (take n bounds)) ≡ true
+first_met width v bounds zero m n h g e = refl
+first_met width v bounds (suc k) zero n h g e = absurd (no_less k h)
   where
+    no_less : (k : ℕ) → suc k ≤ 0 → ⊥
+    no_less k h = omega arith
+first_met width v bounds (suc k) (suc m) zero h g e = absurd (no_less k g)
+  where
+    no_less : (k : ℕ) → suc k ≤ 0 → ⊥
+    no_less k h = omega arith
+first_met width v [] (suc k) (suc m) (suc n) h g e = refl
+first_met width v (b ∷ bounds) (suc k) (suc m) (suc n) h g e =
+    and_both _ _ (and_left _ _ e) (first_met width v bounds k m n (less k m h) (less k n g) (and_right _ _ e))
+  where
+    less : (k m : ℕ) → suc k ≤ suc m → k ≤ m
+    less k m h = omega arith
+
+pub undone : (s : State) (ids : List TermId) (old new : Trail) (met capacity n m : ℕ) → IsKept s ids old met capacity → s.bounds ≡ old.bounds → s.trail ≡ old.most → new ≡ first_of old n
+    → n ≤ length old.bounds → m ≡ min met n → KeepsApart new → IsKept (with_trail s new) ids new m capacity
+undone s ids old new met capacity n m k same most is few least apart =
+    changed s ids old new met capacity m k (ap (λ (t : Trail). t.rows) is) (ap (λ (t : Trail). t.most) is ∙ sym most) apart ordered few_left are
+  where
+    at_most : (m a b : ℕ) → m ≡ min a b → m ≤ b
+    at_most m a b e = grind (arith, e)
+
+    at_least : (m a b : ℕ) → m ≡ min a b → m ≤ a
+    at_least m a b e = grind (arith, e)
+
+    taken : (n : ℕ) (xs : List Bound) → n ≤ length xs → length (take n xs) ≡ n
+    taken n xs h = grind (arith, common_steps)
+
+    few_left : m ≤ length new.bounds
+    few_left = subst (λ (i : ℕ). m ≤ i) (sym (ap (λ (t : Trail). length t.bounds) is ∙ taken n old.bounds few)) (at_most m met n least)
+
+    are : are_met (rows_in s).parts (kept_point s) (take m new.bounds) ≡ true
+    are =
+        ap (λ (t : Trail). are_met (rows_in s).parts (kept_point s) (take m t.bounds)) is
+        ∙ first_met (rows_in s).parts (kept_point s) old.bounds m met n (at_least m met n least) (at_most m met n least)
+        (ap (λ bounds. are_met (rows_in s).parts (kept_point s) (take met bounds)) (sym same) ∙ k.known)
+
     found : (i : ℕ) (side : Side) (x : Rational) → bound_on new.bounds i side ≡ Some x → bound_on s.bounds i side ≡ Some x
     found i side x h =
         ap (λ bounds. bound_on bounds i side) same
@@ -92,12 +138,24 @@ some_is x y e = ap value e
     value None = nothing
     value (Some z) = z
 
-pub asserted : (s : State) (ids : List TermId) (old new : Trail) (b : Bound) → IsKept s ids old → s.bounds ≡ old.bounds → MayAssert s b → new ≡ more old b → KeepsApart new
-    → IsKept (with_trail s new) ids new
-asserted s ids old new b k same may is apart = changed s ids old new k (ap (λ (t : Trail). t.rows) is) apart ordered
+pub asserted : (s : State) (ids : List TermId) (old new : Trail) (met capacity : ℕ) (b : Bound) → IsKept s ids old met capacity → s.bounds ≡ old.bounds → s.trail ≡ old.most → MayAssert s b
+    → new ≡ more old b → KeepsApart new → IsKept (with_trail s new) ids new met capacity
+asserted s ids old new met capacity b k same most may is apart =
+    changed s ids old new met capacity met k (ap (λ (t : Trail). t.rows) is) (ap (λ (t : Trail). t.most) is ∙ sym most) apart ordered few are
   where
     bounds_are : new.bounds ≡ s.bounds ++ b ∷ []
     bounds_are = ap (λ (t : Trail). t.bounds) is ∙ ap (λ bounds. bounds ++ b ∷ []) (sym same)
+
+    few : met ≤ length new.bounds
+    few = subst (λ bounds. met ≤ length bounds) (sym bounds_are) (longer met s.bounds b k.within)
+      where
+        longer : (n : ℕ) (xs : List Bound) (x : Bound) → n ≤ length xs → n ≤ length (xs ++ x ∷ [])
+        longer n xs x h = grind (arith, common_steps)
+
+    are : are_met (rows_in s).parts (kept_point s) (take met new.bounds) ≡ true
+    are =
+        ap (λ bounds. are_met (rows_in s).parts (kept_point s) (take met bounds)) bounds_are
+        ∙ ap (are_met (rows_in s).parts (kept_point s)) (take-append-le met s.bounds (b ∷ []) k.within) ∙ k.known
 
     Ordered : ℕ → Rational → Rational → Type 0
     Ordered i low high = is_less high low ≡ false
@@ -155,10 +213,10 @@ asserted s ids old new b k same may is apart = changed s ids old new k (ap (λ (
         by_cases false p true q = ap (λ x. is_less x low) (own i Upper high q g) ∙ no_clash i Upper low q h
         by_cases false p false q = k.tableau.bounds.ordered i low high (before i Lower low p h) (before i Upper high q g)
 
-pub asserted_as : (s now : State) (ids : List TermId) (old new : Trail) (row : ℕ) (side : Side) (x y : Rational) → IsKept s ids old → s.bounds ≡ old.bounds → s ≡ now → x ≡ y
-    → MayAssert now (bound_of row side y) → new ≡ more old (bound_of row side x) → KeepsApart new → IsKept (with_trail s new) ids new
-asserted_as s now ids old new row side x y k same e f may is apart =
-    asserted s ids old new (bound_of row side x) k same
+pub asserted_as : (s now : State) (ids : List TermId) (old new : Trail) (met capacity : ℕ) (row : ℕ) (side : Side) (x y : Rational) → IsKept s ids old met capacity → s.bounds ≡ old.bounds
+    → s.trail ≡ old.most → s ≡ now → x ≡ y → MayAssert now (bound_of row side y) → new ≡ more old (bound_of row side x) → KeepsApart new → IsKept (with_trail s new) ids new met capacity
+asserted_as s now ids old new met capacity row side x y k same most e f may is apart =
+    asserted s ids old new met capacity (bound_of row side x) k same most
     (subst (λ (z : Rational). MayAssert s (bound_of row side z)) (sym f) (subst (λ (t : State). MayAssert t (bound_of row side y)) (sym e) may)) is apart
 
 -- ---- opening
@@ -203,8 +261,9 @@ module _ (forms : List IdForm) (trail pivots : ℕ) (cells : List (List Rational
   zero_point : (c : ℕ) → kept_point s c ≡ nothing
   zero_point c = zeros_are (length (part_ids forms) + length forms) c
 
-  pub opened_keeps : columns (rows_of forms) < 2 ^ 32 → pivots ≤ 1000000 → IsKept s (part_ids forms) (opened_trail forms trail)
-  opened_keeps few_columns few_pivots = record {
+  pub opened_keeps : (capacity : ℕ) → columns (rows_of forms) < 2 ^ 32 → pivots ≤ 1000000 → length forms ≤ capacity → evidence.room ≡ room_in s
+      → IsKept s (part_ids forms) (opened_trail forms trail) 0 capacity
+  opened_keeps capacity few_columns few_pivots enough room = record {
     tableau = record {
       few_columns = few_columns;
       few_pivots = few_pivots;
@@ -212,12 +271,17 @@ module _ (forms : List IdForm) (trail pivots : ℕ) (cells : List (List Rational
       bounds = record { in_range = refl; apart = refl; ordered = λ i low high h g. absurd (false≢true (sym (ap is_none h))) };
       solved = solved;
       spots = spot_total (length (part_ids forms)) cells ∙ ap (λ n. length (part_ids forms) + n) count;
+      width = length_listed (λ i. 0 + i) (length (part_ids forms));
       count = length-replicate (length (part_ids forms) + length forms) nothing;
       solution = λ i below. zero_point (length (part_ids forms) + i) ∙ sym (sum_nothing (length (part_ids forms)) _ (λ c h. ap (times ((rows_of forms).coefficient i c)) (zero_point c) ∙ times_zero ((rows_of forms).coefficient i c)));
       parts = λ c below out. zero_point c;
     };
     ids_are = refl;
     rows_are = refl;
+    room_is = room;
+    combination_room = enough;
+    within = omega arith;
+    known = refl;
   }
 
   pub opened_is : IsOpened forms trail pivots s
@@ -232,16 +296,21 @@ module _ (forms : List IdForm) (trail pivots : ℕ) (cells : List (List Rational
   }
 
 -- the same with the parts as they were made
-pub record Opened (s : State) (ids : List TermId) (t : Trail) (forms : List IdForm) (trail pivots : ℕ) : Type 0 where
-  pub kept : IsKept s ids t
+pub record Opened (s : State) (ids : List TermId) (t : Trail) (forms : List IdForm) (trail pivots capacity : ℕ) : Type 0 where
+  pub kept : IsKept s ids t 0 capacity
   pub opened : IsOpened forms trail pivots s
 
 pub opened_as : (f forms : List IdForm) (trail pivots : ℕ) (ids : List TermId) (cells : List (List Rational)) (t : Trail) (width : ℕ) (d : Dictionary) (v : List Rational)
-    (combination : List Multiple) (evidence : EvidenceValue) → f ≡ forms → ids ≡ part_ids forms → length cells ≡ length forms → AreRowsTo forms ids cells → width ≡ length ids
+    (combination : List Multiple) (evidence : EvidenceValue) (capacity : ℕ) → f ≡ forms → ids ≡ part_ids forms → length cells ≡ length forms → AreRowsTo forms ids cells → width ≡ length ids
     → d ≡ first width cells → v ≡ replicate (length ids + length forms) nothing → t ≡ opened_trail forms trail → columns (rows_of forms) < 2 ^ 32 → pivots ≤ 1000000
-    → Opened (record { forms = f; trail = t.most; pivots = pivots; bounds = t.bounds; form = d; values = v; answer = None; combination = combination; evidence = evidence }) ids t forms trail pivots
-opened_as f forms trail pivots ids cells t width d v combination evidence ef ei count rows ew ed ev et few_columns few_pivots =
+    → length forms ≤ capacity → evidence ≡ no_evidence (record { bounds = trail; basis = length forms; held = width; steps = pivots })
+    → Opened (record { forms = f; trail = t.most; pivots = pivots; bounds = t.bounds; form = d; values = v; answer = None; combination = combination; evidence = evidence }) ids t forms trail pivots capacity
+opened_as f forms trail pivots ids cells t width d v combination evidence capacity ef ei count rows ew ed ev et few_columns few_pivots enough ee =
     rw (ef, et, ed ∙ ap (λ w. first w cells) (ew ∙ ap (λ i. length i) ei), ev ∙ ap (λ i. replicate (length i + length forms) nothing) ei, ei) (record {
-      kept = opened_keeps forms trail pivots cells combination evidence count (subst (λ (i : List TermId). AreRowsTo forms i cells) ei rows) few_columns few_pivots;
+      kept = opened_keeps forms trail pivots cells combination evidence count (subst (λ (i : List TermId). AreRowsTo forms i cells) ei rows) capacity few_columns few_pivots enough
+          (ap (λ (e : EvidenceValue). e.room) ee ∙ ap (λ n. room_of n) (ew ∙ ap (λ i. length i) ei));
       opened = opened_is forms trail pivots cells combination evidence count (subst (λ (i : List TermId). AreRowsTo forms i cells) ei rows);
     })
+  where
+    room_of : ℕ → Room
+    room_of n = record { bounds = trail; basis = length forms; held = n; steps = pivots }

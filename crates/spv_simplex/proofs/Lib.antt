@@ -1,8 +1,7 @@
 pub mod Fitting
-pub mod Standing
 pub mod Reading
 pub mod Calls
 pub mod Held
-pub mod Choices
-pub mod Steps
-pub mod Going
+pub mod Searches
+pub mod Checking
+pub mod Accepting

@@ -12,22 +12,22 @@ use Rattle.spv_atoms.specs.Order.{same_id}
 use Rattle.spv_atoms.proofs.Places.{place_there}
 use Rattle.spv_tableaux.specs.Numbers.{nothing}
 use Rattle.spv_simplex.specs.State.{State, IsKept, rows_in, value_from, value_of}
-use Rattle.spv_simplex.specs.Trail.{Trail}
+use Rattle.spv_steps.specs.Trail.{Trail}
 
 pub is_there : (t : TermId) (ids : List TermId) (o : Option ℕ) → list_any (same_id t) ids ≡ true → o ≡ position (same_id t) ids → IsSome o
 is_there t ids o h at = place_there t ids (length ids) o (ap (list_any (same_id t)) (take_all (length ids) ids (omega arith)) ∙ h) at
 
-pub has_value : (s : State) (ids : List TermId) (trail : Trail) → IsKept s ids trail → (t : TermId) (o : Option ℕ) (place : ℕ) → o ≡ position (same_id t) ids → o ≡ Some place → place < length s.values
-has_value s ids trail k t o place at e =
+pub has_value : (s : State) (ids : List TermId) (trail : Trail) (met capacity : ℕ) → IsKept s ids trail met capacity → (t : TermId) (o : Option ℕ) (place : ℕ) → o ≡ position (same_id t) ids → o ≡ Some place → place < length s.values
+has_value s ids trail met capacity k t o place at e =
     let below : place < length ids = (position-Some (same_id t) ids place t (sym at ∙ e)).0 in
     inside place (length ids) (length s.values) (rows_in s).count below (ap (λ i. length i) k.ids_are) k.tableau.count
   where
     inside : (p n m c : ℕ) → p < n → n ≡ (rows_in s).parts → m ≡ (rows_in s).parts + c → p < m
     inside p n m c h e f = omega (arith, e, f)
 
-pub value_is : (s : State) (ids : List TermId) (trail : Trail) → IsKept s ids trail → (t : TermId) (o : Option ℕ) (place : ℕ) → o ≡ position (same_id t) ids → o ≡ Some place
+pub value_is : (s : State) (ids : List TermId) (trail : Trail) (met capacity : ℕ) → IsKept s ids trail met capacity → (t : TermId) (o : Option ℕ) (place : ℕ) → o ≡ position (same_id t) ids → o ≡ Some place
     → (r : Rational) (f : Fraction) → r ≡ slice_index_or s.values place r → f ≡ r.fraction → number f ≡ value_of s t
-value_is s ids trail k t o place at e r f read is =
+value_is s ids trail met capacity k t o place at e r f read is =
     ap number is ∙ same (number r.fraction) r (number_is r.fraction r.is_lowest) ∙ read
-    ∙ get_or_default s.values place r nothing (has_value s ids trail k t o place at e)
+    ∙ get_or_default s.values place r nothing (has_value s ids trail met capacity k t o place at e)
     ∙ ap (value_from s) (sym e ∙ at ∙ ap (position (same_id t)) k.ids_are)

@@ -1,11 +1,13 @@
 -- What a check promises.
 use Rattle.std.specs.Prelude.{◌≡◌, ℕ, ◌<◌, false, List, Some, slice_get}
+use Rattle.spv_tableaux.specs.declared.side.Side.{Side}
 use Rattle.spv_tableaux.specs.Rows.{columns}
 use Rattle.spv_tableaux.specs.Bounds.{Bound, limits, Meets}
-use Rattle.spv_tableaux.specs.Solved.{is_basic}
+use Rattle.spv_tableaux.specs.Solved.{is_basic, basis_of}
 use Rattle.spv_tableaux.specs.Walks.{Start, held_at, IsWide, IsUnfinished, HoldsBounds}
 use Rattle.spv_tableaux.specs.Contradictions.{IsContradiction}
 use Rattle.spv_dictionary.specs.Dictionary.{places}
+use Rattle.spv_walks.specs.Arrivals.{in_basis_after}
 use Rattle.spv_simplex.specs.declared.checked.Checked.{Checked}
 use Rattle.spv_simplex.specs.declared.checked.Checked.TheVariants as checked
 use Rattle.spv_simplex.specs.Evidence.{no_operation}
@@ -27,15 +29,22 @@ IsFeasible s = Meets (limits (rows_in s) s.bounds) (kept_point s)
 abbrev pub IsInfeasible : State → Type 0
 IsInfeasible s = IsContradiction (rows_in s) s.bounds s.combination
 
+-- the kept basis is the one that the evidence begins with, after the kept steps
+abbrev pub KeepsSteps : State → Type 0
+KeepsSteps s =
+    (c : ℕ) → c < columns (rows_in s) → is_basic (places s.form c) ≡ in_basis_after (λ y. is_basic (basis_of s.evidence.start.basis y)) s.evidence.steps c
+
 -- the kept operation, after the kept steps, does not fit
 pub record IsTooWide (old new : State) : Type 0 where
   pub begins : BeginsWith old new.evidence.start
   pub wide : IsWide (rows_in old) new.evidence.start new.evidence.steps new.evidence.operation
+  pub kept : KeepsSteps new
 
 -- the kept steps are as many as may be, and one more would follow
 pub record HasAllPivots (old new : State) : Type 0 where
   pub begins : BeginsWith old new.evidence.start
   pub unfinished : IsUnfinished (rows_in old) new.evidence.start new.evidence.steps old.pivots
+  pub kept : KeepsSteps new
   pub operation : new.evidence.operation ≡ no_operation
 
 abbrev pub Means : Checked → State → State → Type 0
@@ -44,6 +53,11 @@ Means checked.Infeasible old new = IsInfeasible new
 Means checked.Wide old new = IsTooWide old new
 Means checked.Pivots old new = HasAllPivots old new
 
+-- what a column outside the basis holds: what it held outside of it before, or a bound that stands
+pub data Rests (old new : State) (c : ℕ) : Type 0 where
+  as_before : is_basic (places old.form c) ≡ false → kept_point new c ≡ kept_point old c → Rests old new c
+  at_bound : (side : Side) → limits (rows_in old) old.bounds c side ≡ Some (kept_point new c) → Rests old new c
+
 -- what a check leaves as it was, and its answer
 pub record IsChecked (old new : State) (answer : Checked) : Type 0 where
   pub forms : new.forms ≡ old.forms
@@ -51,6 +65,7 @@ pub record IsChecked (old new : State) (answer : Checked) : Type 0 where
   pub pivots : new.pivots ≡ old.pivots
   pub bounds : new.bounds ≡ old.bounds
   pub answered : new.answer ≡ Some answer
+  pub rests : (c : ℕ) → c < columns (rows_in old) → is_basic (places new.form c) ≡ false → Rests old new c
   pub means : Means answer old new
 
 -- ---- the bounds that were asserted since the tableau was opened, undone or not

@@ -1,5 +1,5 @@
 -- The evidence for an answer, as contracts see it.
-use Rattle.std.specs.Prelude.{ℕ, List, [], pos}
+use Rattle.std.specs.Prelude.{ℕ, List, [], ◌∷◌, ◌++◌, map, pos}
 use Rattle.spv_whole.specs.Fraction.{Fraction}
 use Rattle.spv_rational.specs.Rational.{Rational, number}
 use Rattle.spv_frac.specs.declared.frac.Op.TheVariants.{Cmp}
@@ -7,9 +7,13 @@ use Rattle.spv_tableaux.specs.declared.side.Side.{Side}
 use Rattle.spv_tableaux.specs.Bounds.{Bound}
 use Rattle.spv_tableaux.specs.Operations.{Operation, operation}
 use Rattle.spv_tableaux.specs.Walks.{Exchange, Start}
-use Rattle.spv_tableaux.specs.Contradictions.{Multiple}
+use Rattle.spv_dictionary.specs.Dictionary.{Dictionary}
+use Rattle.spv_shifts.specs.Shifts.{value_in}
+use Rattle.spv_simplex.specs.declared.evidence.Room.{Room}
 
 pub record EvidenceValue : Type 0 where
+  -- how much there is room for
+  pub room : Room
   pub start : Start
   pub steps : List Exchange
   pub operation : Operation
@@ -23,12 +27,33 @@ held_in h = (h.0, number h.1)
 abbrev pub exchange_in : ℕ × ℕ → Exchange
 exchange_in s = record { leaving = s.0; entering = s.1 }
 
-abbrev pub multiple_in : ℕ × Side × Fraction → Multiple
-multiple_in m = record { row = m.0; side = m.1; factor = number m.2 }
-
 -- 0 compared with 0, which fits
 abbrev pub no_operation : Operation
 no_operation = operation Cmp (number (record { num = pos 0; den = 1 })) (number (record { num = pos 0; den = 1 }))
 
-abbrev pub no_evidence : EvidenceValue
-no_evidence = record { start = record { bounds = []; basis = []; held = [] }; steps = []; operation = no_operation }
+abbrev pub no_evidence : Room → EvidenceValue
+no_evidence room = record { room = room; start = record { bounds = []; basis = []; held = [] }; steps = []; operation = no_operation }
+
+-- ---- as a check begins
+
+-- a column and what it holds
+abbrev pub holding : List Rational → ℕ → ℕ × Rational
+holding values c = (c, value_in values c)
+
+-- the bounds that stand, the basis, and what the other columns hold
+abbrev pub start_of : List Bound → Dictionary → List Rational → Start
+start_of bounds d values = record { bounds = bounds; basis = d.basic; held = map (holding values) d.outside }
+
+abbrev pub begun : Room → List Bound → Dictionary → List Rational → EvidenceValue
+begun room bounds d values = record { room = room; start = start_of bounds d values; steps = []; operation = no_operation }
+
+-- ---- as it goes on
+
+abbrev pub exchange_of : ℕ → ℕ → Exchange
+exchange_of leaving entering = record { leaving = leaving; entering = entering }
+
+abbrev pub with_step : EvidenceValue → Exchange → EvidenceValue
+with_step e x = record { room = e.room; start = e.start; steps = e.steps ++ x ∷ []; operation = e.operation }
+
+abbrev pub with_operation : EvidenceValue → Operation → EvidenceValue
+with_operation e o = record { room = e.room; start = e.start; steps = e.steps; operation = o }

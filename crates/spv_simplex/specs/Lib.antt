@@ -1,11 +1,6 @@
 pub mod State
 pub mod Cells
-pub mod Trail
 pub mod Evidence
+pub mod Searching
 pub mod Checks
 pub mod Laws
-pub mod Choosing
-pub mod Stepping
-pub mod Along
-pub mod Combining
-pub mod Moving

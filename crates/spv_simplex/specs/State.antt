@@ -1,5 +1,5 @@
 -- A tableau, as contracts see it.
-use Rattle.std.specs.Prelude.{◌≡◌, ℕ, ◌<◌, ◌≤◌, ◌^◌, Bool, false, List, [], ◌∷◌, ◌++◌, take, length, Option, Some, None, slice_index_or}
+use Rattle.std.specs.Prelude.{◌≡◌, ℕ, ◌<◌, ◌≤◌, ◌^◌, Bool, true, false, List, [], ◌∷◌, ◌++◌, take, length, Option, Some, None, slice_index_or}
 use Rattle.std.specs.List.{position}
 use Rattle.spv_logic.specs.declared.conditions.TermId.{TermId}
 use Rattle.spv_rational.specs.Rational.{Rational}
@@ -15,8 +15,10 @@ use Rattle.spv_tableaux.specs.Forms.{rows_of, part_ids}
 use Rattle.spv_tableaux.specs.Contradictions.{Multiple}
 use Rattle.spv_dictionary.specs.Dictionary.{Dictionary, entries, places}
 use Rattle.spv_simplex.specs.declared.checked.Checked.{Checked}
+use Rattle.spv_steps.specs.Choosing.{are_met}
+use Rattle.spv_simplex.specs.declared.evidence.Room.{Room}
 use Rattle.spv_simplex.specs.Evidence.{EvidenceValue}
-use Rattle.spv_simplex.specs.Trail.{Trail}
+use Rattle.spv_steps.specs.Trail.{Trail}
 
 pub record State : Type 0 where
   -- the forms whose rows these are
@@ -52,16 +54,25 @@ pub record IsTableau (s : State) : Type 0 where
   -- the kept basis has this solved form
   pub solved : IsSolved (rows_in s) (places s.form) (entries s.form)
   pub spots : length s.form.spots ≡ columns (rows_in s)
+  pub width : length s.form.outside ≡ (rows_in s).parts
   -- the kept point solves the rows, and each part outside the basis holds 0
   pub count : length s.values ≡ columns (rows_in s)
   pub solution : IsSolution (rows_in s) (kept_point s)
   pub parts : (c : ℕ) → c < (rows_in s).parts → is_basic (places s.form c) ≡ false → kept_point s c ≡ nothing
 
--- what its fields have in common
-pub record IsKept (s : State) (ids : List TermId) (trail : Trail) : Type 0 where
+-- how much evidence there is room for
+abbrev pub room_in : State → Room
+room_in s = record { bounds = s.trail; basis = length s.forms; held = (rows_in s).parts; steps = s.pivots }
+
+-- what its fields have in common; the kept point is known to meet the first bounds
+pub record IsKept (s : State) (ids : List TermId) (trail : Trail) (met capacity : ℕ) : Type 0 where
   pub tableau : IsTableau s
   pub ids_are : ids ≡ part_ids s.forms
   pub rows_are : trail.rows ≡ length s.forms
+  pub room_is : s.evidence.room ≡ room_in s
+  pub combination_room : length s.forms ≤ capacity
+  pub within : met ≤ length s.bounds
+  pub known : are_met (rows_in s).parts (kept_point s) (take met s.bounds) ≡ true
 
 -- ---- calls
 
@@ -88,12 +99,16 @@ abbrev pub clashes : Side → Rational → Rational → Bool
 clashes Lower value other = is_less other value
 clashes Upper value other = is_less value other
 
+-- a bound on a side leaves a value to the one on the other side, if there is one
+abbrev pub LeavesValue : Side → Rational → Option Rational → Type 0
+LeavesValue side value bound = (other : Rational) → bound ≡ Some other → clashes side value other ≡ false
+
 -- the bound may be asserted
 pub record MayAssert (s : State) (b : Bound) : Type 0 where
   pub row_in : b.row < length s.forms
   pub room : length s.bounds < s.trail
   pub free : bound_on s.bounds b.row b.side ≡ None
-  pub ordered : (other : Rational) → bound_on s.bounds b.row (other_side b.side) ≡ Some other → clashes b.side b.value other ≡ false
+  pub ordered : LeavesValue b.side b.value (bound_on s.bounds b.row (other_side b.side))
 
 -- the value of a term that is a column, 0 for any other
 abbrev pub value_from : State → Option ℕ → Rational

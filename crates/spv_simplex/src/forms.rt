@@ -1,12 +1,13 @@
 // The forms of a tableau, and their parts.
 
-ghost use Rattle.std.specs.Prelude.{◌≡◌, ℕ, ◌<◌, [], length, slice_get, slice_index_or, Some, IfOk, OnOk, IsTrue, drop};
+ghost use Rattle.std.specs.Prelude.{◌≡◌, ℕ, ◌+◌, ◌<◌, ◌^◌, ◌↔◌, [], length, slice_get, slice_index_or, Some, IfOk, OnOk, IsTrue, drop};
 ghost use Rattle.std.specs.List.{position, list_any};
 ghost use Rattle.spv_rational.specs.Rational.{whole};
 ghost use Rattle.spv_frac.specs.Range.{fits};
 ghost use Rattle.spv_atoms.specs.Order.{same_id, with_id};
 ghost use Rattle.spv_atoms.specs.Linear.{IdForm, IsIdForm, coefficient_at};
-ghost use Rattle.spv_tableaux.specs.Forms.{with_parts, with_forms, part_ids};
+ghost use Rattle.spv_tableaux.specs.Rows.{columns};
+ghost use Rattle.spv_tableaux.specs.Forms.{with_parts, with_forms, part_ids, rows_of};
 
 use indexmap::IndexSet;
 use spv_atoms::Linear;
@@ -113,6 +114,13 @@ impl Parts {
         self.ids.as_slice().len()
     }
 
+    // The terms, in their order.
+    pub(crate) fn ids(&self) -> &[TermId]
+        ensures { result.now ≡ self.now }
+    {
+        self.ids.as_slice()
+    }
+
     // The place of a term.
     pub(crate) fn place(&self, t: TermId) -> Option<usize>
         ensures { result ≡ position (same_id t) self.now }
@@ -141,4 +149,21 @@ pub(crate) fn coefficient(form: &Linear, t: TermId) -> i128
         }
     }
     0
+}
+
+/// Whether rows of these forms can be opened: they have fewer than 4294967296 columns.
+pub fn can_open(alloc: Global, rows: &[Linear]) -> Result<bool, AllocError>
+    ensures { IfOk result (λ b. IsTrue b ↔ (columns (rows_of rows.now) < 2 ^ 32)) }
+{
+    let parts = Parts::of(alloc, rows)?;
+    Ok(is_few(parts.len(), rows.len()))
+}
+
+// Whether two numbers are fewer than 4294967296 in all.
+fn is_few(parts: usize, rows: usize) -> bool
+    ensures { IsTrue result ↔ (parts + rows < 2 ^ 32) }
+{
+    parts
+        .checked_add(rows)
+        .is_some_and(|count| count <= u32::MAX as usize)
 }

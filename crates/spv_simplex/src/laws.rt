@@ -1,6 +1,5 @@
 // The bounds that were ever asserted, each law the contract of a function that does nothing.
 
-ghost use Rattle.spv_simplex.specs.Along.{MakesStep, StepIsAt, MoveIsAt};
 ghost use Rattle.spv_simplex.specs.Laws.{OpensWithNone, AssertsOne, UndoesNone};
 
 /// All bounds that stand are among those that were asserted since the tableau was opened, and each row outside
@@ -9,12 +8,4 @@ pub fn law_asserted()
     ensures open { OpensWithNone }
     ensures assert { AssertsOne }
     ensures undo { UndoesNone }
-{}
-
-/// What was chosen and made is a step, and leads to the solved form and the point of the placed basis after it; so
-/// does a move of a column to its bound.
-pub fn law_step()
-    ensures step { MakesStep }
-    ensures after { StepIsAt }
-    ensures moved { MoveIsAt }
 {}

@@ -4,19 +4,15 @@
 
 mod cells;
 mod checked;
-mod choosing;
-mod combining;
-mod entering;
 mod evidence;
 mod forms;
 mod laws;
-mod moving;
-mod stepping;
+mod searching;
 mod tableau;
-mod trail;
 
 pub use checked::Checked;
 pub use evidence::Evidence;
-pub use laws::{law_asserted, law_step};
+pub use forms::can_open;
+pub use laws::law_asserted;
 pub use spv_tableaux::Side;
 pub use tableau::{Mark, Tableau};

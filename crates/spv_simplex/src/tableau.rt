@@ -1,26 +1,29 @@
 // Bounds on linear forms.
 
-ghost use Rattle.std.specs.Prelude.{◌≡◌, ◌<◌, ◌≤◌, ◌^◌, ◌++◌, ◌∷◌, [], length, Some, IfOk, IsTrue};
+ghost use Rattle.std.specs.Prelude.{◌≡◌, ◌<◌, ◌≤◌, ◌^◌, List, ◌⊎◌, length, map, Some, IfOk, IsTrue, ◌↔◌};
 ghost use Rattle.std.specs.List.{list_any};
 ghost use Rattle.spv_rational.specs.Rational.{number};
 ghost use Rattle.spv_atoms.specs.Order.{same_id};
-ghost use Rattle.spv_tableaux.specs.Bounds.{Bound};
+ghost use Rattle.spv_tableaux.specs.Bounds.{Bound, other_side};
 ghost use Rattle.spv_tableaux.specs.Rows.{columns};
 ghost use Rattle.spv_tableaux.specs.Forms.{rows_of, part_ids};
 ghost use Rattle.spv_simplex.specs.declared.checked.Checked.TheVariants as checked;
-ghost use Rattle.spv_simplex.specs.State.{IsTableau, IsOpened, MayAssert, with_bound, with_first, value_of};
-ghost use Rattle.spv_simplex.specs.Checks.{HoldsAsserted};
-ghost use Rattle.spv_simplex.specs.Trail.{bound_of};
+ghost use Rattle.spv_simplex.specs.State.{IsTableau, IsOpened, LeavesValue, MayAssert, with_bound, with_first, value_of};
+ghost use Rattle.spv_simplex.specs.State as spec;
+ghost use Rattle.spv_simplex.specs.Checks.{IsChecked, HoldsAsserted};
+ghost use Rattle.spv_steps.specs.Trail.{bound_of};
+ghost use Rattle.spv_steps.specs.Combining.{multiple_in};
 
 use crate::cells;
 use crate::checked::Checked;
-use crate::evidence::Evidence;
+use crate::evidence::{Evidence, Room};
 use crate::forms::{Form, Parts, forms_of};
-use crate::trail::Trail;
+use crate::searching::search;
 use spv_atoms::Linear;
 use spv_dictionary::Dictionary;
-use spv_frac::Frac;
-use spv_number::Number;
+use spv_frac::{Frac, TooWide};
+use spv_number::{Number, Refused};
+use spv_steps::{Trail, all_met};
 use spv_tableaux::Side;
 use spv_term::TermId;
 use std::alloc::{AllocError, Global};
@@ -54,14 +57,16 @@ pub struct Tableau {
     pivots: u64,
     dictionary: Dictionary,
     values: Vec<Number>,
+    // So many of the first bounds are known to be met.
+    met: usize,
     answer: Option<Checked>,
     combination: Vec<(u32, Side, Frac)>,
     evidence: Evidence,
 }
 
 impl Model for Tableau {
-    ghost use Rattle.std.specs.Prelude.{map};
-    ghost use Rattle.spv_simplex.specs.Evidence.{multiple_in};
+    ghost use Rattle.std.specs.Prelude.{map, vec_capacity};
+    ghost use Rattle.spv_steps.specs.Combining.{multiple_in};
     ghost use Rattle.spv_simplex.specs.State.{State, IsKept};
 
     ghost Value = { State };
@@ -88,7 +93,40 @@ impl Model for Tableau {
       answer = t.answer;
       combination = map multiple_in t.combination.items;
       evidence = t.evidence;
-    }) t.parts t.trail };
+    }) t.parts t.trail t.met (vec_capacity t.combination) };
+}
+
+// The other side of a row.
+fn other(side: Side) -> Side
+    ensures { result ≡ other_side side }
+{
+    match side {
+        Side::Lower => Side::Upper,
+        Side::Upper => Side::Lower,
+    }
+}
+
+// Whether a bound on a side leaves no value to the one on the other side.
+fn clashes(side: Side, value: Number, other: Number) -> Result<bool, Refused>
+    ensures { IfOk result (λ b. b ≡ spec.clashes side value other) }
+{
+    match side {
+        Side::Lower => other.is_less(value),
+        Side::Upper => value.is_less(other),
+    }
+}
+
+// Whether a bound on a side leaves a value to the one on the other side, if there is one.
+fn leaves_value(side: Side, value: Number, other: Option<Number>) -> Result<bool, TooWide>
+    ensures { IfOk result (λ b. IsTrue b ↔ LeavesValue side value other) }
+{
+    match other {
+        None => Ok(true),
+        Some(against) => match clashes(side, value, against) {
+            Ok(clash) => Ok(!clash),
+            Err(_) => Err(TooWide),
+        },
+    }
 }
 
 impl Tableau {
@@ -120,7 +158,13 @@ impl Tableau {
         let values = vec![in alloc; Number::whole(0); width + rows.len()]?;
         let bounds = Trail::new(alloc, rows.len(), trail)?;
         let combination = Vec::with_capacity(alloc, rows.len())?;
-        let evidence = Evidence::new(alloc, trail, rows.len(), width, pivots as usize)?;
+        let room = Room {
+            bounds: trail,
+            basis: rows.len(),
+            held: width,
+            steps: pivots as usize,
+        };
+        let evidence = Evidence::new(alloc, room)?;
         Ok(Tableau {
             forms,
             parts,
@@ -128,10 +172,29 @@ impl Tableau {
             pivots,
             dictionary,
             values,
+            met: 0,
             answer: None,
             combination,
             evidence,
         })
+    }
+
+    /// Whether a bound may be asserted: the row is there, fewer than `trail` bounds stand, none stands on this side
+    /// of the row, and the one on its other side, if there is one, leaves a value. `TooWide` comes only where these two
+    /// cannot be compared.
+    pub fn accepts(&self, row: u32, side: Side, bound: Frac) -> Result<bool, TooWide>
+        ensures { IfOk result (λ b. IsTrue b ↔ MayAssert self.now (bound_of row side (number bound))) }
+    {
+        self.trail.law_trail();
+        let place = row as usize;
+        if !self.trail.is_free(place, side) {
+            return Ok(false);
+        }
+        leaves_value(
+            side,
+            Number::of(bound),
+            self.trail.bound(place, other(side)),
+        )
     }
 
     /// Asserts a bound on a side of a row that has none there.
@@ -144,6 +207,13 @@ impl Tableau {
         self.trail.law_trail();
     }
 
+    /// Whether a mark was not undone past.
+    pub fn has(&self, mark: Mark) -> bool
+        ensures { IsTrue result ↔ (mark ≤ length self.now.bounds) }
+    {
+        mark.count <= self.trail.len()
+    }
+
     /// Lets go all bounds that came after a mark. The basis stays.
     pub fn undo(&mut self, mark: Mark)
         requires { mark ≤ length self.old.bounds }
@@ -151,6 +221,7 @@ impl Tableau {
     {
         self.trail.keep(mark.count);
         self.trail.law_trail();
+        self.met = self.met.min(mark.count);
     }
 
     /// How many bounds stand.
@@ -160,6 +231,60 @@ impl Tableau {
         Mark {
             count: self.trail.len(),
         }
+    }
+
+    /// Searches a point that meets all bounds. `Feasible`: the kept point does. `Infeasible`: the kept combination of
+    /// bounds is a contradiction. `Wide`: the operation that the evidence names does not fit, after its steps.
+    /// `Pivots`: all steps were made that are allowed, and one more would follow. No memory is taken.
+    pub fn check(&mut self) -> Checked
+        ensures checked { IsChecked self.old self.new result }
+        ensures held { (asserted : List Bound) → HoldsAsserted asserted self.old → HoldsAsserted asserted self.new }
+    {
+        self.dictionary.law_dictionary();
+        if all_met(
+            self.dictionary.slots(),
+            self.values.as_slice(),
+            &self.trail,
+            self.met,
+        ) {
+            self.met = self.trail.len();
+            self.answer = Some(Checked::Feasible);
+            return Checked::Feasible;
+        }
+        self.met = 0;
+        let answer = search(
+            &mut self.dictionary,
+            self.values.as_mut_slice(),
+            &self.trail,
+            &mut self.combination,
+            &mut self.evidence,
+        );
+        self.answer = Some(answer);
+        answer
+    }
+
+    /// The contradiction of the last check: multiples of bounds in which all parts cancel, and the bounds sum to
+    /// less than 0. Each has its row, its side and its factor, which is not negative.
+    pub fn combination(&self) -> &[(u32, Side, Frac)]
+        requires checked { self.now.answer ≡ Some checked.Infeasible }
+        ensures { map multiple_in result.now ≡ self.now.combination }
+    {
+        self.combination.as_slice()
+    }
+
+    /// Why the last check stopped at a limit.
+    pub fn evidence(&self) -> &Evidence
+        requires checked { (self.now.answer ≡ Some checked.Wide) ⊎ (self.now.answer ≡ Some checked.Pivots) }
+        ensures { result.now ≡ self.now.evidence }
+    {
+        &self.evidence
+    }
+
+    /// The terms that are columns, in their order.
+    pub fn parts(&self) -> &[TermId]
+        ensures { result.now ≡ part_ids self.now.forms }
+    {
+        self.parts.ids()
     }
 
     /// The value of a term at the kept point.

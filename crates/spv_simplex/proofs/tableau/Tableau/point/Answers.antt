@@ -15,5 +15,5 @@ unwrap-place-requires c =
 
 pub returns : goal.returns
 returns c =
-    value_is _ c.self.inside.parts c.self.inside.trail c.self.invariant c.args.t c.place.result c.unwrap-place.result c.place.ensures c.unwrap-place.ensures c.index-values-place.result c.frac.result (c.index-values-place.is ∙ ap (λ (values : List Rational). slice_index_or values c.unwrap-place.result c.index-values-place.result) c.as_slice-values.ensures.value) c.frac.ensures
+    value_is _ c.self.inside.parts c.self.inside.trail _ _ c.self.invariant c.args.t c.place.result c.unwrap-place.result c.place.ensures c.unwrap-place.ensures c.index-values-place.result c.frac.result (c.index-values-place.is ∙ ap (λ (values : List Rational). slice_index_or values c.unwrap-place.result c.index-values-place.result) c.as_slice-values.ensures.value) c.frac.ensures
     ∙ ap (λ (s : State). value_of s c.args.t) c.self.view_is
