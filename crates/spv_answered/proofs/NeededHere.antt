@@ -175,11 +175,14 @@ module _ (s : Scope) where
       → AllLooked given
   indexes line r q given e = behind_all given _ q e
 
+  pub operand_needs : (f : tree.Formula) (o : Operand Expression) → operand s f ≡ Ok o → formula_signs (expression_forms s) f ≡ true
+  operand_needs f o e = formula_needs (expression_forms s) applies indexes f o e
+
   expression_needs : (f : tree.Formula) (wanted : Sort) (e : Expression) → expression_of s wanted f ≡ Ok e
       → formula_signs (expression_forms s) f ≡ true
   expression_needs f wanted e h =
       let one = went (operand s f) (settled expression.NilOf (wrong (formula_line f)) wanted) e h in
-      formula_needs (expression_forms s) applies indexes f one.value one.first
+      operand_needs f one.value one.first
 
   place_needs : (d : tree.Designator) (r : Reached) → written s d ≡ Ok r → designator_signs (expression_forms s) d ≡ true
   place_needs d r e = designator_needs (expression_forms s) applies indexes (expression_forms s).begin_written d r e

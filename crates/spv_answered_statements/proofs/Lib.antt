@@ -3,3 +3,4 @@ pub mod Notes
 pub mod Parts
 pub mod Counters
 pub mod Statements
+pub mod Needed

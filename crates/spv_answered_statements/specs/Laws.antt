@@ -72,3 +72,11 @@ OneBlockComes =
     (at : Setting) (v w : View) (p : Program) (here : Option Routine) → Shown at.inside at.noted v w p here → (t : tree.Block)
     → IsTrue (block_signs at.inside at.noted t) → (a b : Statement) → BlockFrom v w a t → BlockFrom v w b t
     → IsTrue (statement_ok p here a) → IsTrue (statement_ok p here b) → LeavesCounted at p here a → LeavesCounted at p here b → a ≡ b
+
+-- the walk answers a statement, or a block, only where each sign `+` stands before a number
+abbrev pub StatementsNeedSigns : Type 0
+StatementsNeedSigns =
+    (at : Setting) (t : tree.Statement) (s : Statement) → statement_walk at t ≡ Ok s → IsTrue (statement_signs at.inside at.noted t)
+
+abbrev pub BlocksNeedSigns : Type 0
+BlocksNeedSigns = (at : Setting) (t : tree.Block) (s : Statement) → block_walk at t ≡ Ok s → IsTrue (block_signs at.inside at.noted t)
