@@ -1,5 +1,5 @@
 -- Whether a bound may be asserted.
-use Rattle.std.proofs.Common.{◌≡◌, ℕ, ◌<◌, Bool, true, false, not, List, length, Option, Some, None, Result, Ok, Err, IfOk, ◌↔◌, refl, sym, ap, ◌∙◌, subst}
+use Rattle.std.proofs.Common.{◌≡◌, ℕ, ◌<◌, Bool, true, false, not, List, length, Option, Some, None, Result, Ok, Err, IfOk, IfErr, ◌↔◌, refl, sym, ap, ◌∙◌, subst}
 use Rattle.std.specs.Bool.{IsTrue}
 use Rattle.std.proofs.lemmas.Bool.{false≢true}
 use Rattle.spv_logic.specs.declared.conditions.TermId.{TermId}
@@ -7,7 +7,7 @@ use Rattle.spv_rational.specs.Rational.{Rational}
 use Rattle.spv_tableaux.specs.declared.side.Side.{Side}
 use Rattle.spv_tableaux.specs.Bounds.{Bound, bound_on, other_side}
 use Rattle.spv_steps.specs.Trail.{Trail, IsFree, bound_of}
-use Rattle.spv_simplex.specs.State.{State, IsKept, clashes, LeavesValue, MayAssert}
+use Rattle.spv_simplex.specs.State.{State, IsKept, clashes, LeavesValue, IsUncomparable, MayAssert}
 
 module _ (s : State) (t : Trail) (bounds : s.bounds ≡ t.bounds) (room : s.trail ≡ t.most) (rows : t.rows ≡ length s.forms) (row : ℕ) (side : Side) (value : Rational) where
   -- a bound that may be asserted is free
@@ -65,3 +65,10 @@ accepts_as s now ids t met capacity k bounds room view row side x y value free o
     subst (λ (z : State). IfOk r (λ b. IsTrue b ↔ MayAssert z (bound_of row side y))) view
     (subst (λ (z : Rational). IfOk r (λ b. IsTrue b ↔ MayAssert s (bound_of row side z))) value
     (if_ok_iff r (LeavesValue side x other) (MayAssert s (bound_of row side x)) h (may s t bounds room k.rows_are row side x free other is) (leaves s t bounds room k.rows_are row side x other is)))
+
+pub uncomparable_as : {T E : Type 0} (s now : State) → s ≡ now → (row : ℕ) (side : Side) (x y : Rational) → x ≡ y → (other : Option Rational) → other ≡ bound_on s.bounds row (other_side side)
+    → (r : Result T E) → IfErr r (λ e. IsUncomparable side x other) → IfErr r (λ e. IsUncomparable side y (bound_on now.bounds row (other_side side)))
+uncomparable_as s now view row side x y value other is (Ok t) h = tt
+uncomparable_as s now view row side x y value other is (Err e) h =
+    subst (λ (z : State). IsUncomparable side y (bound_on z.bounds row (other_side side))) view
+    (subst (λ (z : Rational). IsUncomparable side z (bound_on s.bounds row (other_side side))) value (subst (IsUncomparable side x) is h))

@@ -12,6 +12,8 @@ use Rattle.spv_tableaux.specs.Rows.{Rows, columns, Point, IsSolution}
 use Rattle.spv_tableaux.specs.Bounds.{Bound, bound_on, other_side, AreBounds}
 use Rattle.spv_tableaux.specs.Solved.{is_basic, row_places, IsSolved}
 use Rattle.spv_tableaux.specs.Forms.{rows_of, part_ids}
+use Rattle.spv_frac.specs.declared.frac.Op.TheVariants.{Cmp}
+use Rattle.spv_tableaux.specs.Operations.{Operation, operation, fits}
 use Rattle.spv_tableaux.specs.Contradictions.{Multiple}
 use Rattle.spv_dictionary.specs.Dictionary.{Dictionary, entries, places}
 use Rattle.spv_simplex.specs.declared.checked.Checked.{Checked}
@@ -102,6 +104,17 @@ clashes Upper value other = is_less value other
 -- a bound on a side leaves a value to the one on the other side, if there is one
 abbrev pub LeavesValue : Side → Rational → Option Rational → Type 0
 LeavesValue side value bound = (other : Rational) → bound ≡ Some other → clashes side value other ≡ false
+
+-- the comparison of a bound on a side with the one on the other side
+abbrev pub compared : Side → Rational → Rational → Operation
+compared Lower value other = operation Cmp other value
+compared Upper value other = operation Cmp value other
+
+-- the bound on the other side cannot be compared with a value, since the comparison does not fit
+pub record IsUncomparable (side : Side) (value : Rational) (bound : Option Rational) : Type 0 where
+  pub other : Rational
+  pub there : bound ≡ Some other
+  pub unfit : fits (compared side value other) ≡ false
 
 -- the bound may be asserted
 pub record MayAssert (s : State) (b : Bound) : Type 0 where

@@ -1,14 +1,15 @@
 // Bounds on linear forms.
 
-ghost use Rattle.std.specs.Prelude.{◌≡◌, ◌<◌, ◌≤◌, ◌^◌, List, ◌⊎◌, length, map, Some, IfOk, IsTrue, ◌↔◌};
+ghost use Rattle.std.specs.Prelude.{◌≡◌, ◌<◌, ◌≤◌, ◌^◌, List, ◌⊎◌, length, map, Some, IfOk, IfErr, IsTrue, ◌↔◌, false};
 ghost use Rattle.std.specs.List.{list_any};
 ghost use Rattle.spv_rational.specs.Rational.{number};
 ghost use Rattle.spv_atoms.specs.Order.{same_id};
-ghost use Rattle.spv_tableaux.specs.Bounds.{Bound, other_side};
+ghost use Rattle.spv_tableaux.specs.Bounds.{Bound, bound_on, other_side};
+ghost use Rattle.spv_tableaux.specs.Operations.{fits};
 ghost use Rattle.spv_tableaux.specs.Rows.{columns};
 ghost use Rattle.spv_tableaux.specs.Forms.{rows_of, part_ids};
 ghost use Rattle.spv_simplex.specs.declared.checked.Checked.TheVariants as checked;
-ghost use Rattle.spv_simplex.specs.State.{IsTableau, IsOpened, LeavesValue, MayAssert, with_bound, with_first, value_of};
+ghost use Rattle.spv_simplex.specs.State.{IsTableau, IsOpened, LeavesValue, compared, IsUncomparable, MayAssert, with_bound, with_first, value_of};
 ghost use Rattle.spv_simplex.specs.State as spec;
 ghost use Rattle.spv_simplex.specs.Checks.{IsChecked, HoldsAsserted};
 ghost use Rattle.spv_steps.specs.Trail.{bound_of};
@@ -108,7 +109,9 @@ fn other(side: Side) -> Side
 
 // Whether a bound on a side leaves no value to the one on the other side.
 fn clashes(side: Side, value: Number, other: Number) -> Result<bool, Refused>
-    ensures { IfOk result (λ b. b ≡ spec.clashes side value other) }
+    ensures value { IfOk result (λ b. b ≡ spec.clashes side value other) }
+    ensures refused { IfErr result (λ o. o ≡ compared side value other) }
+    ensures unfit { IfErr result (λ o. fits o ≡ false) }
 {
     match side {
         Side::Lower => other.is_less(value),
@@ -118,7 +121,8 @@ fn clashes(side: Side, value: Number, other: Number) -> Result<bool, Refused>
 
 // Whether a bound on a side leaves a value to the one on the other side, if there is one.
 fn leaves_value(side: Side, value: Number, other: Option<Number>) -> Result<bool, TooWide>
-    ensures { IfOk result (λ b. IsTrue b ↔ LeavesValue side value other) }
+    ensures value { IfOk result (λ b. IsTrue b ↔ LeavesValue side value other) }
+    ensures wide { IfErr result (λ _. IsUncomparable side value other) }
 {
     match other {
         None => Ok(true),
@@ -179,11 +183,12 @@ impl Tableau {
         })
     }
 
-    /// Whether a bound may be asserted: the row is there, fewer than `trail` bounds stand, none stands on this side
-    /// of the row, and the one on its other side, if there is one, leaves a value. `TooWide` comes only where these two
-    /// cannot be compared.
+    /// Whether a bound may be asserted: there is such a row, room for one bound more, no bound yet on this side of the
+    /// row, and the one on the other side, if there is one, leaves a value. `TooWide` comes only where these two cannot
+    /// be compared.
     pub fn accepts(&self, row: u32, side: Side, bound: Frac) -> Result<bool, TooWide>
-        ensures { IfOk result (λ b. IsTrue b ↔ MayAssert self.now (bound_of row side (number bound))) }
+        ensures value { IfOk result (λ b. IsTrue b ↔ MayAssert self.now (bound_of row side (number bound))) }
+        ensures wide { IfErr result (λ _. IsUncomparable side (number bound) (bound_on self.now.bounds row (other_side side))) }
     {
         self.trail.law_trail();
         let place = row as usize;
