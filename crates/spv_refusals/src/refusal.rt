@@ -60,7 +60,7 @@ pub enum Refusal {
     /// A variable or class of the program that is used otherwise than the GLOBAL list of the routine allows. It is told.
     #[error("line {0}: the GLOBAL list does not allow this")]
     Global(u32, List<u8>),
-    /// A function with a VAR parameter, or a VAR group in its GLOBAL list. Its name is told.
+    /// A function that may change what is not its own: by a VAR parameter, or by a VAR group of its GLOBAL list. Its name is told.
     #[error("line {0}: this function changes what is not its own")]
     Function(u32, List<u8>),
     /// A program of the language that is not of the form that is accepted so far. The line is 1.
