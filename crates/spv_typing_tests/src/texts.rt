@@ -1,23 +1,13 @@
 //! Whole texts, from their bytes on.
 
 use spv_frames::{Framed, framed};
-use spv_language::{formula, program};
+use spv_language::program;
 use spv_logic::TypeId;
 use spv_names::{Names, Symbol};
 use spv_program::Item;
-use spv_types::{TypeFault, Typed, typed, typed_formula};
+use spv_types::{Typed, typed};
 use std::alloc::Global;
 use std::test::Fail;
-
-// What a formula text with a tree is answered.
-fn formula_answer(alloc: Global, text: &[u8]) -> Option<Result<(), TypeFault>> {
-    let mut names = Names::new(alloc);
-    let tree = formula(alloc, text, &mut names).ok()?;
-    match typed_formula(alloc, &tree, &names) {
-        Ok(_) => Some(Ok(())),
-        Err(fault) => Some(Err(fault)),
-    }
-}
 
 // The typed program of a text, if it is one.
 fn typed_text(alloc: Global, text: &[u8]) -> Option<Typed> {
@@ -40,19 +30,6 @@ fn is_told_of(alloc: Global, program: Typed, reads: &[Item], writes: &[Item]) ->
         Ok(known) => is_told(&known, reads, writes),
         Err(_) => false,
     }
-}
-
-#[test]
-fn formula_texts_are_typed(rt: HostRuntime) -> Result<(), Fail> {
-    let alloc = rt.alloc();
-    let kept = b"PROGRAM a; DECLARE f(INTEGER): INTEGER; ASSERT f(1) = 2.";
-    assert_eq!(rt; formula_answer(alloc, kept), Some(Ok(())));
-    let broken = b"PROGRAM a; DECLARE f(INTEGER): INTEGER;\nASSERT f(TRUE) = 2.";
-    assert_eq!(rt;
-        formula_answer(alloc, broken),
-        Some(Err(TypeFault::WrongType(2)))
-    );
-    Ok(())
 }
 
 #[test]
