@@ -1,32 +1,25 @@
 -- What is known when all routines are read: the program that comes out, and that the scope of its main block has its names.
-use Rattle.std.proofs.Common.{◌≡◌, ℕ, suc, Bool, true, false, cond, List, [], ◌∷◌, ◌++◌, not, map, filter, Option, Some, None, nat_eq, refl, sym, ap, ◌∙◌, subst}
-use Rattle.std.proofs.lemmas.Bool.{false≢true, eqb-true}
+use Rattle.std.proofs.Common.{◌≡◌, ℕ, suc, Bool, true, false, cond, List, [], ◌∷◌, ◌++◌, map, Option, Some, None, refl, sym, ap, ◌∙◌, subst}
+use Rattle.std.proofs.lemmas.Bool.{false≢true}
 use Rattle.std.specs.Prelude.{Ok, option_map}
-use Rattle.std.specs.List.{list_any, flat_map}
-use Rattle.std.proofs.lemmas.List.Folds.{list_any-append}
 use Rattle.spv_names.specs.declared.names.Symbol.{Symbol}
-use Rattle.spv_list.proofs.Tests.{left_true, right_true, both_false}
 use Rattle.spv_logic.specs.declared.types.TypeId.{TypeId}
 use Rattle.spv_logic.specs.declared.conditions.RoutineId.{RoutineId}
 use Rattle.spv_syntax.specs.declared.declarations.Declarations.{Declarations}
 use Rattle.spv_syntax.specs.declared.routines.RoutineMark.{RoutineMark}
 use Rattle.spv_syntax.specs.Reads.{routines_ok}
 use Rattle.spv_program.specs.Lists.{same_name, found, item_at, names_differ}
-use Rattle.spv_program.specs.Expressions.{Call, call}
-use Rattle.spv_program.specs.Programs.{Routine, Main, Program, routine_at}
+use Rattle.spv_program.specs.Programs.{Routine, Main, Program}
 use Rattle.spv_program.specs.Scopes.{name_type, body_scope}
-use Rattle.spv_program.specs.Uses.{Root, Shared}
-use Rattle.spv_program.specs.Changes.{var_items, items_of_callee, changed_by_call}
 use Rattle.spv_program.proofs.SortFacts.{nothing_there, some_is}
 use Rattle.spv_typing.specs.Outcomes.{each, if_there}
 use Rattle.spv_typing.specs.Known.{KnownNames, Meaning, OfPlace, OfRoutine, Heading, Specified, Known, program_names, meaning}
 use Rattle.spv_typing.specs.Known as walk
 use Rattle.spv_typing.specs.DeclarationWalk.{declarations_walk}
-use Rattle.spv_typing.specs.StatementWalk.{items_of}
 use Rattle.spv_typing.specs.ProgramWalk.{names_of_bodies, mark_walk, routines_walk, known_at_first, with_main}
 use Rattle.spv_well_typed.specs.Expressions.{Belongs}
 use Rattle.spv_well_typed.proofs.Outcomes.{fine, same_value, went}
-use Rattle.spv_well_typed_programs.proofs.Differ.{differ_rest, not_true, or_left, or_right, name-refl, same_names}
+use Rattle.spv_well_typed_programs.proofs.Differ.{same_names}
 use Rattle.spv_well_typed_programs.proofs.Naming.{heading_names, headings_named}
 use Rattle.spv_well_typed_programs.proofs.Declaring.{RightKnown, declarations_right}
 use Rattle.spv_well_typed_programs.proofs.Declared.{first_right, declarations_same}
@@ -37,7 +30,7 @@ use Rattle.spv_well_typed_programs.proofs.Marks.{between, marks_right}
 use Rattle.spv_well_typed_programs.proofs.Whole.{final, main_stands}
 use Rattle.spv_origin.specs.Names.{place_among}
 use Rattle.spv_origin.specs.Names as origin
-use Rattle.spv_origin.proofs.Scopes.{In, here, further, no_own}
+use Rattle.spv_origin.proofs.Scopes.{no_own}
 use Rattle.spv_origin.proofs.Seeing.{KnowsNames}
 use Rattle.spv_origin.proofs.Declared.{Declared, declared}
 use Rattle.spv_origin.proofs.Bodies.{Ready}
@@ -56,7 +49,8 @@ use Rattle.spv_answered_statements.specs.Signs.{invariant_signs}
 use Rattle.spv_answered_statements.proofs.Notes.{sort_same}
 use Rattle.spv_answered.specs.Expressions.{IsRoutine, ShowsPlaces}
 use Rattle.spv_answered_statements.specs.Laws.{Shown}
-use Rattle.spv_answered_programs.proofs.Showing.{constants_shown, places_shown, shows, program_means, place_meant, routine_meant, differ_symbols}
+use Rattle.spv_answered_programs.proofs.Showing.{constants_shown, places_shown, shows, program_means, place_meant, routine_meant}
+use Rattle.spv_answered_programs.proofs.Callees.{items_left}
 
 abbrev routine_name : Routine → Symbol
 routine_name c = c.name
@@ -69,7 +63,7 @@ pub record AllRead (start : KnownNames) (k : Known) : Type 0 where
   pub all : bodies ≡ routine_names k
   pub starts : k.start ≡ start
 
-first_state : (bodies : List Symbol) (k : Known) → RightKnown k → k.program.routines ≡ [] → k.headings ≡ [] → k.awaited ≡ []
+pub first_state : (bodies : List Symbol) (k : Known) → RightKnown k → k.program.routines ≡ [] → k.headings ≡ [] → k.awaited ≡ []
     → RightState bodies k []
 first_state bodies k right routines headings awaited = record {
   known = right;
@@ -128,12 +122,12 @@ routines_read start d marks k end e ok f =
 
 -- ---- the routines of a list by their names
 
-record RoutineAt (rs : List Routine) (x : Symbol) (n : ℕ) : Type 0 where
+pub record RoutineAt (rs : List Routine) (x : Symbol) (n : ℕ) : Type 0 where
   pub routine : Routine
   pub is : item_at rs n ≡ Some routine
   pub name : routine.name ≡ x
 
-routine_placed : (rs : List Routine) (x : Symbol) (n : ℕ) → place_among (map routine_name rs) x ≡ Some n → RoutineAt rs x n
+pub routine_placed : (rs : List Routine) (x : Symbol) (n : ℕ) → place_among (map routine_name rs) x ≡ Some n → RoutineAt rs x n
 routine_placed [] x n e = absurd (nothing_there e)
 routine_placed (r ∷ rs) x n e =
     by_name (same_name x r.name) refl e (place_among (map routine_name rs) x) refl (λ m f. routine_placed rs x m f)
@@ -149,23 +143,6 @@ routine_placed (r ∷ rs) x n e =
         let h = later m j in
         subst (RoutineAt (r ∷ rs) x) (some_is (sym (ap (option_map (λ m. suc m)) j) ∙ f))
         (record { routine = h.routine; is = h.is; name = h.name })
-
--- a heading of the list stands under its name, where no two have one name
-in_names : (hs : List Heading) (h : Heading) → In hs h → list_any (same_name h.name) (heading_names hs) ≡ true
-in_names hs h (here g rest) = or_left (same_name g.name g.name) _ (name-refl g.name)
-in_names hs h (further g f rest i) = or_right (same_name g.name f.name) _ (in_names rest g i)
-
-in_found : (hs : List Heading) → names_differ (heading_names hs) ≡ true → (h : Heading) → In hs h → found (headings_named hs) h.name ≡ Some h
-in_found hs d h (here g rest) = ap (λ b. cond b (Some g) (found (headings_named rest) g.name)) (name-refl g.name)
-in_found hs d h (further g f rest i) = by_name (same_name f.name g.name) refl
-    (in_found rest (right_true (not (list_any (same_name f.name) (heading_names rest))) _ d) g i)
-  where
-    by_name : (b : Bool) → same_name f.name g.name ≡ b → found (headings_named rest) g.name ≡ Some g
-        → cond b (Some f) (found (headings_named rest) g.name) ≡ Some g
-    by_name false k e = e
-    by_name true k e =
-        absurd (false≢true (sym (not_true (list_any (same_name f.name) (heading_names rest)) (left_true _ _ d))
-        ∙ subst (λ (y : Symbol). list_any (same_name y) (heading_names rest) ≡ true) (sym (same_names f.name g.name k)) (in_names rest g i)))
 
 -- ---- the main block
 
@@ -244,45 +221,6 @@ module _ (start : KnownNames) (k : Known) (read : AllRead start k) (none : k.awa
     functions = λ x. ap (λ (q : KnownNames). found q.functions x) read.starts;
   }
 
-  -- ---- what calls may change
-
-  list_items : (hs : List Heading) (r : RoutineId) (test : Root → Bool)
-      → ((h : Heading) → In hs h → nat_eq h.number.0 r.0 ≡ true → list_any test (map Shared (var_items h.globals)) ≡ false)
-      → list_any test (flat_map (λ (h : Heading). map Shared (var_items h.globals)) (filter (λ (h : Heading). nat_eq h.number.0 r.0) hs))
-      ≡ false
-  list_items [] r test each_one = refl
-  list_items (h ∷ hs) r test each_one =
-      by_number (nat_eq h.number.0 r.0) refl (list_items hs r test (λ g i. each_one g (further g h hs i)))
-    where
-      rest : List Root
-      rest = flat_map (λ (h : Heading). map Shared (var_items h.globals)) (filter (λ (h : Heading). nat_eq h.number.0 r.0) hs)
-
-      by_number : (b : Bool) → nat_eq h.number.0 r.0 ≡ b
-          → list_any test (flat_map (λ (h : Heading). map Shared (var_items h.globals)) (filter (λ (h : Heading). nat_eq h.number.0 r.0) hs))
-          ≡ false
-          → list_any test (flat_map (λ (h : Heading). map Shared (var_items h.globals))
-          (cond b (h ∷ filter (λ (h : Heading). nat_eq h.number.0 r.0) hs) (filter (λ (h : Heading). nat_eq h.number.0 r.0) hs))) ≡ false
-      by_number false e later = later
-      by_number true e later =
-          list_any-append test (map Shared (var_items h.globals))
-          (flat_map (λ (h : Heading). map Shared (var_items h.globals)) (filter (λ (h : Heading). nat_eq h.number.0 r.0) hs))
-          ∙ both_false (list_any test (map Shared (var_items h.globals))) _ (each_one h (here h hs) e) later
-
-  items_left : (c : Call) (test : Root → Bool) → list_any test (changed_by_call p c) ≡ false
-      → list_any test (items_of k.headings c) ≡ false
-  items_left (call r line given) test e = list_items k.headings r test of_heading
-    where
-      of_heading : (h : Heading) → In k.headings h → nat_eq h.number.0 r.0 ≡ true → list_any test (map Shared (var_items h.globals)) ≡ false
-      of_heading h i same =
-          let there = in_found k.headings
-          (differ_rest same_name name-refl same_names (Rattle.spv_well_typed_programs.proofs.Naming.symbol_names k.program.symbols)
-          (heading_names k.headings) (differ_symbols k names_right)) h i in
-          let body = ends.bodies h.name h there in
-          let agree = ends.agree h.number body.routine h body.at (ap (heading_at k) body.name ∙ there) in
-          let at : routine_at p r ≡ Some body.routine = ap (item_at k.program.routines) (sym (eqb-true h.number.0 r.0 same)) ∙ body.at in
-          ap (λ gs. list_any test (map Shared (var_items gs))) (sym agree.globals)
-          ∙ (ap (λ o. list_any test (map Shared (items_of_callee o))) (sym at) ∙ e)
-
   pub main_shown : Shown (walk.at_top k) (walk.at_top k) (origin.at_top start p) (origin.at_top start p) p None
   main_shown = record {
     places = main_shows;
@@ -291,7 +229,7 @@ module _ (start : KnownNames) (k : Known) (read : AllRead start k) (none : k.awa
     noted_names = (main_stands start read.bodies k read.state read.all none m).noted_names;
     noted_forms = refl;
     noted_symbols = refl;
-    items = items_left;
+    items = items_left k names_right p ends;
     own = λ x t e. refl;
     counts = λ x t e f. refl;
   }

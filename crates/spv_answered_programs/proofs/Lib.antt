@@ -1,7 +1,10 @@
 pub mod Showing
+pub mod Callees
 pub mod Ends
 pub mod Programs
 pub mod Faults
 pub mod Parameters
 pub mod Clauses
 pub mod Headings
+pub mod Knowing
+pub mod Bodies

@@ -1,6 +1,7 @@
-//! The walk over names and types refuses no heading and no main part that is well typed.
+//! The walk over names and types refuses no heading, no body of a routine and no main part that is well typed.
 #![tactic(auto)]
 
+ghost use Rattle.spv_answered_programs.specs.Bodies.{BodiesAreAnswered};
 ghost use Rattle.spv_answered_programs.specs.Headings.{HeadingsAreAnswered};
 ghost use Rattle.spv_answered_programs.specs.Laws.{MainPartsAreAnswered, FormulaTextsAreAnswered, FaultsAreEarlier};
 
@@ -17,4 +18,11 @@ pub fn law_programs_answered()
 #[tactic(auto, using(crate::proofs::Headings::headings_are_answered))]
 pub fn law_headings_answered()
     ensures { HeadingsAreAnswered }
+{}
+
+/// The body of a routine that comes from its tree and is right is what the walk answers, where nothing was wrong before and each routine
+/// of the program is known.
+#[tactic(auto, using(crate::proofs::Bodies::bodies_are_answered))]
+pub fn law_bodies_answered()
+    ensures { BodiesAreAnswered }
 {}

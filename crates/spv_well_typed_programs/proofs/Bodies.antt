@@ -51,7 +51,7 @@ pub record HeadingsKnown (k : Known) : Type 0 where
   pub each : (x : Symbol) (g : Heading) → found (headings_named k.headings) x ≡ Some g → RightHeading k.program g
 
 -- a routine whose heading is not known is one that nothing can call
-abbrev hidden_if : Bool → Routine → Routine
+abbrev pub hidden_if : Bool → Routine → Routine
 hidden_if true c = c
 hidden_if false c = record {
   name = c.name;
@@ -66,7 +66,7 @@ hidden_if false c = record {
   body = c.body;
 }
 
-abbrev hidden : List Heading → Routine → Routine
+abbrev pub hidden : List Heading → Routine → Routine
 hidden headings c = hidden_if (is_some (found (headings_named headings) c.name)) c
 
 -- the program as it is known

@@ -354,3 +354,31 @@ module _ (bodies : List Symbol) where
       marks_right marks one.value 0 [] end s.at (right_true (block_ok t) _ ok)
       (all ∙ (sym (append_assoc (routine_names k) (b.specified.heading.name ∷ []) (names_of_bodies marks))
       ∙ ap (λ ns. ns ++ names_of_bodies marks) (sym s.routines))) one.rest
+
+  -- where marks lead: between two of them, or into a body
+  pub record IsReached (end : Progress) : Type 0 where
+    pub count : ℕ
+    pub begun : List Symbol
+    pub at : AtMark end count begun
+
+  pub marks_reach : (marks : List RoutineMark) (at : Progress) (n : ℕ) (begun : List Symbol) (end : Progress) → AtMark at n begun
+      → each (mark_walk bodies) at marks ≡ Ok end → IsReached end
+  marks_reach [] at n begun end here e = subst IsReached (same_value e) (record { count = n; begun = begun; at = here })
+  marks_reach (Announced h c ∷ marks) at n begun end (between k state) e =
+      let x = (heading_name h.form).symbol in
+      let one = went (mark_walk bodies (waiting k) (Announced h c)) (λ next. each (mark_walk bodies) next marks) end e in
+      let s = announce_right k h c (awaited_of k.awaited x) one.value state one.first in
+      marks_reach marks one.value 0 [] end s.at one.rest
+  marks_reach (Announced h c ∷ marks) at n begun end (inside k b state right) e = absurd (no_fault e)
+  marks_reach (Begins h c l ∷ marks) at n begun end (between k state) e =
+      let x = (heading_name h.form).symbol in
+      let one = went (mark_walk bodies (waiting k) (Begins h c l)) (λ next. each (mark_walk bodies) next marks) end e in
+      let s = begin_right k h c l (awaited_of k.awaited x) one.value state (awaited_told k x) one.first in
+      marks_reach marks one.value 1 s.begun end s.at one.rest
+  marks_reach (Begins h c l ∷ marks) at n begun end (inside k b state right) e = absurd (no_fault e)
+  marks_reach (Ends t ∷ marks) at n begun end (between k state) e = marks_reach marks (waiting k) 0 [] end (between k state) e
+  marks_reach (Ends t ∷ marks) at n begun end (inside k b state right) e =
+      let one = went (mark_walk bodies (record { known = k; begun = Some b }) (Ends t)) (λ next. each (mark_walk bodies) next marks) end
+      e in
+      let s = end_right k b t one.value state right one.first in
+      marks_reach marks one.value 0 [] end s.at one.rest

@@ -121,14 +121,14 @@ module _ (k : Known) (given : Specified) (sorts : List (Symbol × Sort)) (consta
       ∙ subst (λ y. list_any (same_name y) others ≡ true) (sym (same_names h.name x i)) e)))
       (λ i. i)
 
-  tail_differ : names_differ others ≡ true
+  pub tail_differ : names_differ others ≡ true
   tail_differ = right_true (not (list_any (same_name h.name) others)) _ begins.differ
 
   starts_rest : Apart same_name name-refl same_names (keys given.initial) (keys locals ++ G)
   starts_rest = differ_apart same_name name-refl same_names (keys given.initial) (keys locals ++ G)
       (differ_rest same_name name-refl same_names (keys F) (keys given.initial ++ (keys locals ++ G)) tail_differ)
 
-  formal_name : (x : Symbol) (t : TypeId) → found F x ≡ Some t → same_name h.name x ≡ false
+  pub formal_name : (x : Symbol) (t : TypeId) → found F x ≡ Some t → same_name h.name x ≡ false
   formal_name x t e =
       other_name x (list_any-append (same_name x) (keys F) (keys given.initial ++ (keys locals ++ G))
       ∙ or_left (list_any (same_name x) (keys F)) _ (found_key F x t e))
@@ -151,7 +151,7 @@ module _ (k : Known) (given : Specified) (sorts : List (Symbol × Sort)) (consta
       found_none locals x (left_false (list_any (same_name x) (keys locals)) (list_any (same_name x) G)
       (sym (list_any-append (same_name x) (keys locals) G) ∙ starts_rest.apart x (start_key x s e)))
 
-  local_name : (x : Symbol) (t : TypeId) → found locals x ≡ Some t → same_name h.name x ≡ false
+  pub local_name : (x : Symbol) (t : TypeId) → found locals x ≡ Some t → same_name h.name x ≡ false
   local_name x t e =
       behind_formals x (list_any-append (same_name x) (keys given.initial) (keys locals ++ G)
       ∙ or_right (list_any (same_name x) (keys given.initial)) _
@@ -186,10 +186,10 @@ module _ (k : Known) (given : Specified) (sorts : List (Symbol × Sort)) (consta
   own_found : (x : Symbol) → found (own_names r) x ≡ first_of (found F x) (first_of (found R x) (found locals x))
   own_found x = found_append F (R ++ locals) x ∙ ap (first_of (found F x)) (found_append R locals x)
 
-  own_formal : (x : Symbol) (t : TypeId) → found F x ≡ Some t → found (own_names r) x ≡ Some t
+  pub own_formal : (x : Symbol) (t : TypeId) → found F x ≡ Some t → found (own_names r) x ≡ Some t
   own_formal x t e = own_found x ∙ ap (λ o. first_of o (first_of (found R x) (found locals x))) e
 
-  own_local : (x : Symbol) (t : TypeId) → found F x ≡ None → found R x ≡ None → found locals x ≡ Some t → found (own_names r) x ≡ Some t
+  pub own_local : (x : Symbol) (t : TypeId) → found F x ≡ None → found R x ≡ None → found locals x ≡ Some t → found (own_names r) x ≡ Some t
   own_local x t e f g = own_found x
       ∙ (ap (λ o. first_of o (first_of (found R x) (found locals x))) e ∙ (ap (λ o. first_of o (found locals x)) f ∙ g))
 
@@ -201,7 +201,7 @@ module _ (k : Known) (given : Specified) (sorts : List (Symbol × Sort)) (consta
   own_result_found x t e f = own_found x
       ∙ (ap (λ o. first_of o (first_of (found R x) (found locals x))) e ∙ ap (λ o. first_of o (found locals x)) f)
 
-  no_result_at : (x : Symbol) → same_name h.name x ≡ false → found R x ≡ None
+  pub no_result_at : (x : Symbol) → same_name h.name x ≡ false → found R x ≡ None
   no_result_at x e = result_there h.name h.result x e
 
   -- ---- own names, as the walk has them
@@ -246,7 +246,7 @@ module _ (k : Known) (given : Specified) (sorts : List (Symbol × Sort)) (consta
   inside = in_routine k own (Some h)
 
   -- a place of the scope: a parameter, a local variable, or a variable of the program
-  data IsPlace (x : Symbol) (t : TypeId) : Type 0 where
+  pub data IsPlace (x : Symbol) (t : TypeId) : Type 0 where
     place_formal : found own x ≡ Some (OfPlace t) → found F x ≡ Some t → IsPlace x t
     place_local : found own x ≡ Some (OfPlace t) → found F x ≡ None → found locals x ≡ Some t → IsPlace x t
     place_variable : OwnNone F sorts locals x → found own x ≡ None → found k.program.variables x ≡ Some t → IsPlace x t
@@ -257,12 +257,12 @@ module _ (k : Known) (given : Specified) (sorts : List (Symbol × Sort)) (consta
   own_is_place x t m o e (own_is_constant z) = absurd (false≢true (sym (ap is_a_place e)))
   own_is_place x t m o e (own_is_local u n i) = place_local o n (i ∙ ap (λ g. Some (type_in t g)) (sym e))
 
-  is_place_here : (x : Symbol) (t : TypeId) → meaning inside x ≡ Some (OfPlace t) → IsPlace x t
+  pub is_place_here : (x : Symbol) (t : TypeId) → meaning inside x ≡ Some (OfPlace t) → IsPlace x t
   is_place_here x t m =
       place_case inside right plain x t (IsPlace x t) m (λ e. own_is_place x t (OfPlace t) e refl (own_meant x (OfPlace t) e))
       (λ none e. place_variable (own_none F sorts constants locals x none) none e)
 
-  place_not_name : (x : Symbol) (t : TypeId) → IsPlace x t → same_name h.name x ≡ false
+  pub place_not_name : (x : Symbol) (t : TypeId) → IsPlace x t → same_name h.name x ≡ false
   place_not_name x t (place_formal o e) = formal_name x t e
   place_not_name x t (place_local o n e) = local_name x t e
   place_not_name x t (place_variable n o e) = variable_name x t e
@@ -432,7 +432,7 @@ module _ (k : Known) (given : Specified) (sorts : List (Symbol × Sort)) (consta
           (weaker gs (sym (ap (λ b. (b && (g.is_var || false))
           || list_any (λ (d : GlobalItem). same_item d.item (Variable x) && (d.is_var || false)) gs) a) ∙ i)))
 
-  no_formal_by_place : (fs : List Formal) (x : Symbol) → found (formal_types fs) x ≡ None
+  pub no_formal_by_place : (fs : List Formal) (x : Symbol) → found (formal_types fs) x ≡ None
       → list_any (λ (f : Formal). same_name f.name x && f.by_place) fs ≡ false
   no_formal_by_place [] x e = refl
   no_formal_by_place (f ∷ fs) x e = by_case (same_name f.name x) refl e (no_formal_by_place fs x)
