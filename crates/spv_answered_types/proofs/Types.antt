@@ -38,7 +38,7 @@ use Rattle.spv_answered_types.specs.Laws.{ShowsTypes, AnswersType, TypesAreAnswe
 -- ---- types so far, with more behind them
 
 -- what is a subrange still is one
-range_later : (xs ys : List Written) (n : ℕ) → Begins xs ys → walk.is_range (item_at xs n) ≡ true → walk.is_range (item_at ys n) ≡ true
+pub range_later : (xs ys : List Written) (n : ℕ) → Begins xs ys → walk.is_range (item_at xs n) ≡ true → walk.is_range (item_at ys n) ≡ true
 range_later xs ys n b e = by_item (item_at xs n) refl e
   where
     by_item : (o : Option Written) → item_at xs n ≡ o → walk.is_range o ≡ true → walk.is_range (item_at ys n) ≡ true

@@ -215,7 +215,7 @@ pub record TypeKept (q : Program) (t : NewType) : Type 0 where
   pub there : type_exists t.forms t.type ≡ true
 
 -- names that pointers may lead to are those of types that are there
-written_good : (is_target : Symbol → Bool) (names : List (Symbol × TypeId)) (types : List Written)
+pub written_good : (is_target : Symbol → Bool) (names : List (Symbol × TypeId)) (types : List Written)
     → ((x : Symbol) → is_target x ≡ true → list_any (same_name x) (keys names) ≡ true)
     → list_all (λ (n : Symbol × TypeId). nat_lt n.1.0 (length types)) names ≡ true → GoodText is_target types → GoodWritten names types
 written_good is_target names types there below good = record { fits = λ i w e. by_text i w (good.fits i w e) }
@@ -286,7 +286,7 @@ type_kept s d t right there e =
 pub top_types : (k : Known) → RightProgram k.program → TypesThere (at_top k)
 top_types k r = record { each = λ x t e. type_meant k x t r e }
 
-const_right : (k l : Known) (c : Const) → RightKnown k → const_walk k c ≡ Ok l → RightKnown l
+pub const_right : (k l : Known) (c : Const) → RightKnown k → const_walk k c ≡ Ok l → RightKnown l
 const_right k l c r e =
     let x = c.name.symbol in
     let next = after (constant (at_top k) c.value) (λ z. fine (with_program k (with_constant k.program x z))) in
@@ -310,14 +310,14 @@ const_right k l c r e =
 
 -- ---- the TYPE part
 
-record RightPart (is_target : Symbol → Bool) (part : TypePart) : Type 0 where
-  names : RightNames part.known
-  forms : FormsRight part.known.program.forms
-  text : GoodText is_target part.written
-  begins : Begins (map Built part.known.program.forms) part.written
-  below : list_all (λ (n : Symbol × TypeId). nat_lt n.1.0 (length part.written)) part.known.program.types ≡ true
-  variables : all_there part.known.program.forms part.known.program.variables ≡ true
-  symbols : list_all (symbol_ok part.known.program) part.known.program.symbols ≡ true
+pub record RightPart (is_target : Symbol → Bool) (part : TypePart) : Type 0 where
+  pub names : RightNames part.known
+  pub forms : FormsRight part.known.program.forms
+  pub text : GoodText is_target part.written
+  pub begins : Begins (map Built part.known.program.forms) part.written
+  pub below : list_all (λ (n : Symbol × TypeId). nat_lt n.1.0 (length part.written)) part.known.program.types ≡ true
+  pub variables : all_there part.known.program.forms part.known.program.variables ≡ true
+  pub symbols : list_all (symbol_ok part.known.program) part.known.program.symbols ≡ true
 
 numbers_longer : (n m : ℕ) (names : List (Symbol × TypeId)) → n ≤ m → list_all (λ (k : Symbol × TypeId). nat_lt k.1.0 n) names ≡ true
     → list_all (λ (k : Symbol × TypeId). nat_lt k.1.0 m) names ≡ true
@@ -398,14 +398,14 @@ typedef_right is_target part next d r e =
           ∙ or_right (list_any (same_name x) (keys p.types)) _ (or_left (same_name x x) false (name-refl x)));
     })
 
-record AllParts (is_target : Symbol → Bool) (part next : TypePart) (ds : List Typedef) : Type 0 where
-  right : RightPart is_target next
-  named : (y : Symbol) → list_any (same_name y) (keys part.known.program.types) ≡ true
+pub record AllParts (is_target : Symbol → Bool) (part next : TypePart) (ds : List Typedef) : Type 0 where
+  pub right : RightPart is_target next
+  pub named : (y : Symbol) → list_any (same_name y) (keys part.known.program.types) ≡ true
       → list_any (same_name y) (keys next.known.program.types) ≡ true
-  there : (y : Symbol) → list_any (λ (d : Typedef). same_name d.name.symbol y) ds ≡ true
+  pub there : (y : Symbol) → list_any (λ (d : Typedef). same_name d.name.symbol y) ds ≡ true
       → list_any (same_name y) (keys next.known.program.types) ≡ true
 
-typedefs_right : (is_target : Symbol → Bool) (ds : List Typedef) (part next : TypePart) → RightPart is_target part
+pub typedefs_right : (is_target : Symbol → Bool) (ds : List Typedef) (part next : TypePart) → RightPart is_target part
     → each (typedef_walk is_target) part ds ≡ Ok next → AllParts is_target part next ds
 typedefs_right is_target [] part next r e =
     subst (λ (n : TypePart). AllParts is_target part n []) (same_value e)
@@ -432,27 +432,33 @@ typedefs_right is_target (d ∷ ds) part next r e =
         named y (subst (λ z. list_any (same_name z) (keys k) ≡ true) (same_names d.name.symbol y i) here)
     by_name y false i h k l here named there = there y h
 
-keys_renamed : (new : TypeId → TypeId) (types : List (Symbol × TypeId))
+pub keys_renamed : (new : TypeId → TypeId) (types : List (Symbol × TypeId))
     → keys (map (λ (n : Symbol × TypeId). pair n.0 (new n.1)) types) ≡ keys types
 keys_renamed new [] = refl
 keys_renamed new (n ∷ types) = ap (λ l. n.0 ∷ l) (keys_renamed new types)
 
-part_right : (k l : Known) (ds : List Typedef) → RightKnown k → type_part_walk k ds ≡ Ok l → RightKnown l
+-- before the first type of the TYPE part
+pub start_right : (is_target : Symbol → Bool) (k : Known) → RightKnown k → RightPart is_target (start_part k)
+start_right is_target k r = record {
+  names = r.names;
+  forms = r.program.forms;
+  text = built_good is_target k.program.forms r.program.forms.good;
+  begins = begins_same (map Built k.program.forms);
+  below = all_below k.program.forms (length (map Built k.program.forms)) k.program.types
+      (at_least (length k.program.forms) (length (map Built k.program.forms)) (length-map k.program.forms Built)) r.program.types;
+  variables = r.program.variables;
+  symbols = r.program.symbols;
+}
+  where
+    at_least : (n m : ℕ) → m ≡ n → n ≤ m
+    at_least n m e = omega arith
+
+pub part_right : (k l : Known) (ds : List Typedef) → RightKnown k → type_part_walk k ds ≡ Ok l → RightKnown l
 part_right k l ds r e =
     let is_target = λ (x : Symbol). list_any (λ (d : Typedef). same_name d.name.symbol x) ds in
     let start = start_part k in
     let one = went (each (typedef_walk is_target) start ds) (λ part. fine (with_merged part)) l e in
-    let at_start : RightPart is_target start = record {
-      names = r.names;
-      forms = r.program.forms;
-      text = built_good is_target k.program.forms r.program.forms.good;
-      begins = begins_same (map Built k.program.forms);
-      below = all_below k.program.forms (length (map Built k.program.forms)) k.program.types
-          (at_least (length k.program.forms) (length (map Built k.program.forms)) (length-map k.program.forms Built)) r.program.types;
-      variables = r.program.variables;
-      symbols = r.program.symbols;
-    } in
-    let all = typedefs_right is_target ds start one.value at_start one.first in
+    let all = typedefs_right is_target ds start one.value (start_right is_target k r) one.first in
     let part = one.value in
     let p = part.known.program in
     let good = written_good is_target p.types part.written all.there all.right.below all.right.text in
@@ -479,9 +485,6 @@ part_right k l ds r e =
       };
     })
   where
-    at_least : (n m : ℕ) → m ≡ n → n ≤ m
-    at_least n m e = omega arith
-
     renamed_there : (forms : List TypeForm) (new : TypeId → TypeId) (n : ℕ) → ((t : TypeId) → t.0 < n → type_exists forms (new t) ≡ true)
         → (types : List (Symbol × TypeId)) → list_all (λ (k : Symbol × TypeId). nat_lt k.1.0 n) types ≡ true
         → all_there forms (map (λ (k : Symbol × TypeId). pair k.0 (new k.1)) types) ≡ true
@@ -491,7 +494,7 @@ part_right k l ds r e =
 
 -- ---- variables
 
-vars_right : (k l : Known) (v : Vars) → RightKnown k → vars_walk k v ≡ Ok l → RightKnown l
+pub vars_right : (k l : Known) (v : Vars) → RightKnown k → vars_walk k v ≡ Ok l → RightKnown l
 vars_right k l v r e =
     let p = k.program in
     let result = λ (names : List Symbol) (t : NewType). fine (with_program k (with_variables p t.forms (map (λ x. pair x t.type) names))) in
@@ -569,7 +572,7 @@ module _ (k : Known) (r : RightProgram k.program) where
       subst (λ ss. list_all range ss ≡ true) (same_value two.rest)
       (both_true (walked_sort n one.value one.first) (walked_sorts ns two.value two.first))
 
-symbol_right : (k l : Known) (d : SymbolText) → RightKnown k → symbol_walk k d ≡ Ok l → RightKnown l
+pub symbol_right : (k l : Known) (d : SymbolText) → RightKnown k → symbol_walk k d ≡ Ok l → RightKnown l
 symbol_right k l d r e =
     let p = k.program in
     let x = d.name.symbol in

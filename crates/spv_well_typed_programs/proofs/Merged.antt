@@ -178,7 +178,7 @@ module _ (names : List (Symbol × TypeId)) (written : List Written) (good : Good
   range_told (Some (Built (Array index element))) h = absurd (false≢true h)
   range_told (Some (Built (Record fields))) h = absurd (false≢true h)
 
-  range_kept : (t : TypeId) → t.0 < length written → ranges_in written t.0 ≡ true → ranges_of result (new t).0 ≡ true
+  pub range_kept : (t : TypeId) → t.0 < length written → ranges_in written t.0 ≡ true → ranges_of result (new t).0 ≡ true
   range_kept t h e =
       let r = range_told (item_at written t.0) e in
       let plain = item_map (target_number names) written t.0 (Built (Range r.low r.high)) r.is in
