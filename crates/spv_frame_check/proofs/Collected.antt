@@ -1,7 +1,7 @@
 -- Items, each where it stands first.
-use Rattle.std.proofs.Common.{◌≡◌, ◌≤◌, ◌<◌, ◌+◌, ℕ, Bool, true, false, ◌||◌, cond, List, [], ◌∷◌, ◌++◌, length, drop, get_or, refl, sym, ap, ◌∙◌}
+use Rattle.std.proofs.Common.{◌≡◌, ◌≤◌, ◌<◌, ◌+◌, ℕ, Bool, true, ◌||◌, cond, List, [], ◌∷◌, ◌++◌, length, drop, get_or, refl, sym, ap, ◌∙◌}
 use Rattle.std.specs.List.{list_any}
-use Rattle.std.proofs.lemmas.List.{append_assoc, append-nil, drop_all}
+use Rattle.std.proofs.lemmas.List.{append-nil, drop_all}
 use Rattle.spv_program.specs.declared.types.Item.{Item}
 use Rattle.spv_program.specs.declared.types.Item.TheVariants.{Variable, Class}
 use Rattle.spv_program.specs.Uses.{Root, Own, Shared, same_item}
@@ -10,21 +10,12 @@ use Rattle.spv_frame_events.specs.declared.events.Event.{Event}
 use Rattle.spv_frame_events.specs.EventViews.{event_of, events_of}
 use Rattle.spv_frame_check.specs.declared.effects.Once.{Once}
 use Rattle.spv_frame_check.specs.Effects.{items_by, with_roots, Takes, Follows, kept}
-use Rattle.spv_frame_check.specs.Sets.{ItemSets, no_items, holds, with_item}
+use Rattle.spv_frame_check.specs.Sets.{no_items, holds}
 use Rattle.spv_frame_check.proofs.Logic.{or_swapped, same_item-sym, drop_item}
-use Rattle.spv_frame_check.proofs.Members.{holds_more}
 
 pub taken_before : (o : Once) (i : Item) → holds o.seen i ≡ true → Takes (Shared i) o o
 taken_before o i h roots =
     ap (λ (is : List Item). o.items ++ is) (sym (ap (λ b. cond b (items_by (holds o.seen) roots) (i ∷ items_by (λ j. holds o.seen j || same_item i j) roots)) h))
-
-pub taken : (old new : Once) (i : Item) → holds old.seen i ≡ false → new.seen ≡ with_item old.seen i → new.items ≡ old.items ++ i ∷ [] → Takes (Shared i) old new
-taken old new i h k l roots =
-    ap (λ (is : List Item). is ++ items_by (holds new.seen) roots) l ∙ append_assoc old.items (i ∷ []) (items_by (holds new.seen) roots)
-    ∙ ap (λ (is : List Item). old.items ++ i ∷ is)
-    (ap (λ (s : ItemSets). items_by (holds s) roots) k ∙ ap (λ (has : Item → Bool). items_by has roots) (λ at j. holds_more old.seen i j at))
-    ∙ ap (λ (is : List Item). old.items ++ is)
-    (sym (ap (λ b. cond b (items_by (holds old.seen) roots) (i ∷ items_by (λ j. holds old.seen j || same_item i j) roots)) h))
 
 -- the definition's list
 once_is : (seen : List Item) (has : Item → Bool) → ((i : Item) → has i ≡ list_any (same_item i) seen) → (roots : List Root) → items_by has roots ≡ items_once seen roots

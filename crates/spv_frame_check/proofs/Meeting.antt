@@ -1,18 +1,10 @@
 -- Roots that meet.
-use Rattle.std.proofs.Common.{◌≡◌, Bool, false, ◌||◌, cond, List, [], ◌∷◌, ◌++◌, Option, Some, None, refl, sym, ap, ◌∙◌}
+use Rattle.std.proofs.Common.{◌≡◌, false, ◌||◌, cond, List, [], ◌∷◌, ◌++◌, Option, Some, None, refl, sym, ap, ◌∙◌}
 use Rattle.std.specs.List.{list_any}
 use Rattle.std.proofs.lemmas.List.{map-append}
-use Rattle.spv_names.specs.declared.names.Symbol.{Symbol}
 use Rattle.spv_program.specs.declared.types.Item.TheVariants.{Variable, Class}
-use Rattle.spv_program.specs.Expressions.{no_arguments, no_selectors}
 use Rattle.spv_program.specs.Uses as plain
 use Rattle.spv_program.specs.Uses.{Own, Shared, same_root}
-use Rattle.spv_program.specs.Frames.{place_roots, root_behind}
-use Rattle.spv_typed.specs.declared.expressions.Argument.{Argument}
-use Rattle.spv_typed.specs.declared.expressions.Argument.TheVariants as argument
-use Rattle.spv_typed.specs.declared.expressions.Selector.{Selector}
-use Rattle.spv_typed.specs.declared.expressions.Selector.TheVariants as selector
-use Rattle.spv_typed.specs.ExpressionViews.{argument_before, arguments_of, selector_before, selectors_of}
 use Rattle.spv_frame_walk.specs.FrameWalk.{twice}
 use Rattle.spv_frame_check.specs.declared.aliases.Root.{Root}
 use Rattle.spv_frame_check.specs.declared.aliases.RootSet.{RootSet}
@@ -21,18 +13,7 @@ use Rattle.spv_frame_check.specs.Roots.{plain_root, plain_roots, has_root, with_
 use Rattle.spv_frame_check.proofs.Logic.{or_false, or_grouped, or_swapped, same_root-sym, any_both}
 use Rattle.spv_frame_check.proofs.Members.{has_more}
 
--- ---- the root behind selectors
-
-pub root_step : (root : plain.Root) (s : Selector) (ss : List Selector) → root_behind root (selectors_of (s ∷ ss)) ≡ root_behind (root_behind root (selector_before s no_selectors)) (selectors_of ss)
-root_step root (selector.Index t e) ss = refl
-root_step root (selector.Field t f) ss = refl
-root_step root (selector.Cell line t) ss = refl
-
 -- ---- the roots of arguments
-
-pub place_step : (own : Symbol → Bool) (a : Argument) (xs : List Argument) → place_roots own (arguments_of (a ∷ xs)) ≡ place_roots own (argument_before a no_arguments) ++ place_roots own (arguments_of xs)
-place_step own (argument.Value e) xs = refl
-place_step own (argument.Place d) xs = refl
 
 pub pushed_root : (old : List Root) (r : Root) (new : List Root) → new ≡ old ++ r ∷ [] → plain_roots new ≡ plain_roots old ++ plain_root r ∷ []
 pushed_root old r new h = ap plain_roots h ∙ map-append plain_root old (r ∷ [])

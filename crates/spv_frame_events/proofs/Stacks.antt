@@ -9,7 +9,7 @@ use Rattle.spv_frame_events.specs.declared.works.Work.TheVariants as work
 use Rattle.spv_frame_events.specs.declared.works.Opened.{Opened}
 use Rattle.spv_frame_events.specs.declared.events.Event.{Event}
 use Rattle.spv_frame_events.specs.EventViews.{event_of, events_of}
-use Rattle.spv_frame_events.specs.Works.{work_events, work_weight, stack_events, stack_weight, is_nothing, behind, opened_events, Opens, Pushed, PushedAll, IsStep}
+use Rattle.spv_frame_events.specs.Works.{work_events, work_weight, stack_events, stack_weight, is_nothing, behind, opened_events, Pushed, PushedAll, IsStep}
 
 stack_last : (own : Symbol → Bool) (works : List Work) (w : Work) → stack_events own (works ++ w ∷ []) ≡ work_events own w ++ stack_events own works
 stack_last own [] w = sym (append-nil (work_events own w))
@@ -92,20 +92,6 @@ on_ok (Err e) p next = tt
 events_last : (out : List Event) (e : Event) → events_of (out ++ e ∷ []) ≡ events_of out ++ event_of e ∷ []
 events_last [] e = refl
 events_last (d ∷ out) e = ap (λ (l : List plain.Event). event_of d ∷ l) (events_last out e)
-
-pub known_step : (own : Symbol → Bool) (e : Event) (works : List Work) (before after : List Event) → after ≡ before ++ e ∷ [] → IsStep own (work.Known e) works works before after
-known_step own e works before after h = record {
-  same =
-      ap (λ (l : List Event). events_of l ++ stack_events own works) h ∙ ap (λ (l : List plain.Event). l ++ stack_events own works) (events_last before e)
-      ∙ append_assoc (events_of before) (event_of e ∷ []) (stack_events own works);
-  falls = omega arith;
-}
-
-pub opened_step : (own : Symbol → Bool) (w : Work) (o : Opened) (old new : List Work) (out : List Event) → Opens own w o → PushedAll o old new → IsStep own w old new out out
-opened_step own w o old new out opens on = record {
-  same = ap (λ (l : List plain.Event). events_of out ++ l) (on.events own ∙ ap (λ (l : List plain.Event). l ++ stack_events own old) opens.same);
-  falls = omega (arith, opens.falls, on.weight);
-}
 
 module _ (own : Symbol → Bool) (w : Work) (works popped new : List Work) (before after : List Event) (on : works ≡ popped ++ w ∷ []) (step : IsStep own w popped new before after) where
   pub turn_falls : stack_weight new < stack_weight works
