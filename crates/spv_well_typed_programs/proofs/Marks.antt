@@ -107,7 +107,7 @@ module _ (k : Known) (right : RightNames k) (types : List (Symbol × TypeId)) wh
       (λ (j : Symbol × Item). pair j.0 (OfStart (item_sort (in_routine k (named OfPlace types) None) j.1))) js) (start_sort i s h)
       ∙ ap (λ l. pair y (OfStart s) ∷ l) (start_names js us g)
 
-own_again : (k : Known) (s : Specified) (sorts : List (Symbol × Sort)) → RightNames k → RightSpecified k.program s sorts
+pub own_again : (k : Known) (s : Specified) (sorts : List (Symbol × Sort)) → RightNames k → RightSpecified k.program s sorts
     → walk.heading_names k s ≡ named OfPlace (formal_types s.heading.formals) ++ named OfStart sorts
 own_again k s sorts right good =
     let types = formal_types s.heading.formals in
@@ -188,12 +188,12 @@ module _ (bodies : List Symbol) where
     at : AtMark next 0 []
     routines : routine_names next.known ≡ routine_names k
 
-  record NewHeading (k : Known) (h : HeadingText) (headed : Headed) : Type 0 where
-    right : RightHeaded k.program (heading_name h.form).symbol (number_of bodies (heading_name h.form).symbol) headed
-    free : is_free k headed.specified.heading.name ≡ true
-    number : headed.specified.heading.number ≡ number_of bodies headed.specified.heading.name
+  pub record NewHeading (k : Known) (h : HeadingText) (headed : Headed) : Type 0 where
+    pub right : RightHeaded k.program (heading_name h.form).symbol (number_of bodies (heading_name h.form).symbol) headed
+    pub free : is_free k headed.specified.heading.name ≡ true
+    pub number : headed.specified.heading.number ≡ number_of bodies headed.specified.heading.name
 
-  new_right : (k : Known) (h : HeadingText) (c : Clauses) (headed : Headed) → RightKnown k → first_heading bodies k h c ≡ Ok headed
+  pub new_right : (k : Known) (h : HeadingText) (c : Clauses) (headed : Headed) → RightKnown k → first_heading bodies k h c ≡ Ok headed
       → NewHeading k h headed
   new_right k h c headed known e =
       let name = heading_name h.form in
