@@ -50,7 +50,7 @@ with_both start constants types = record {
   awaited = [];
 }
 
-consts_front : (see : List (Symbol × ℤ) → Rattle.spv_origin.specs.Names.View) (before all : List (Symbol × ℤ)) (cs : List Const)
+pub consts_front : (see : List (Symbol × ℤ) → Rattle.spv_origin.specs.Names.View) (before all : List (Symbol × ℤ)) (cs : List Const)
     → ConstsFrom see before cs all → Front before all
 consts_front see before all cs no_consts = record { more = []; is = sym (append-nil before) }
 consts_front see before all cs (one_const {z = z} {c = c} {cs = others} h rest) =

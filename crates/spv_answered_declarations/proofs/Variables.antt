@@ -40,18 +40,18 @@ use Rattle.spv_answered_declarations.proofs.TypePart.{DeclaredTo, ComesTo}
 begins_mapped : {X Y : Type 0} (f : X → Y) (xs ys : List X) → Begins xs ys → Begins (map f xs) (map f ys)
 begins_mapped f xs ys b = record { more = map f b.more; is = ap (map f) b.is ∙ map-append f xs b.more }
 
-type_name_any : (ns : List (Symbol × TypeId)) (x : Symbol)
+pub type_name_any : (ns : List (Symbol × TypeId)) (x : Symbol)
     → list_any (λ (n : Symbol × TypeId). same_name n.0 x) ns ≡ list_any (same_name x) (keys ns)
 type_name_any [] x = refl
 type_name_any (n ∷ ns) x =
     ap (λ b. b || list_any (λ (m : Symbol × TypeId). same_name m.0 x) ns) (any_turned x n.0)
     ∙ ap (λ b. same_name x n.0 || b) (type_name_any ns x)
 
-group_keys : (xs : List Name) (t : TypeId) → keys (group_of xs t) ≡ symbols_of xs
+pub group_keys : (xs : List Name) (t : TypeId) → keys (group_of xs t) ≡ symbols_of xs
 group_keys [] t = refl
 group_keys (x ∷ xs) t = ap (λ l. x.symbol ∷ l) (group_keys xs t)
 
-vars_front : (see : List (Symbol × TypeId) → View) (targets before all : List (Symbol × TypeId)) (gs : List Vars)
+pub vars_front : (see : List (Symbol × TypeId) → View) (targets before all : List (Symbol × TypeId)) (gs : List Vars)
     → VarsFrom see targets before gs all → Front before all
 vars_front see targets before all gs no_vars = record { more = []; is = sym (append-nil before) }
 vars_front see targets before all gs (one_group {t = t} {g = g} {gs = others} h rest) =

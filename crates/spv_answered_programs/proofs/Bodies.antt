@@ -59,23 +59,23 @@ use Rattle.spv_answered_programs.proofs.Knowing.{knows, headings_differ, routine
 
 -- ---- own names, as the walk has them, and as a view has them
 
-as_parameters : (fs : List Formal) → OwnAs (named OfPlace (formal_types fs)) (parameter_names fs)
+pub as_parameters : (fs : List Formal) → OwnAs (named OfPlace (formal_types fs)) (parameter_names fs)
 as_parameters [] = no_own
 as_parameters (f ∷ fs) =
     one_own f.name (OfPlace f.of) Place (named OfPlace (formal_types fs)) (parameter_names fs) (as_place f.of) (as_parameters fs)
 
-as_starts : (q : Program) (formals : List (Symbol × TypeId)) (is : List (Symbol × Item)) (ss : List (Symbol × Sort)) → Starts q formals is ss
+pub as_starts : (q : Program) (formals : List (Symbol × TypeId)) (is : List (Symbol × Item)) (ss : List (Symbol × Sort)) → Starts q formals is ss
     → OwnAs (named OfStart ss) (start_names is)
 as_starts q formals is ss starts_none = no_own
 as_starts q formals is ss (starts_more y i s js us h rest) =
     one_own y (OfStart s) Start (named OfStart us) (start_names js) (as_start s) (as_starts q formals js us rest)
 
-as_constants : (zs : List (Symbol × ℤ)) → OwnAs (named OfConstant zs) (own_constants zs)
+pub as_constants : (zs : List (Symbol × ℤ)) → OwnAs (named OfConstant zs) (own_constants zs)
 as_constants [] = no_own
 as_constants (z ∷ zs) =
     one_own z.0 (OfConstant z.1) (Constant z.1) (named OfConstant zs) (own_constants zs) (as_constant z.1) (as_constants zs)
 
-as_places : (ts : List (Symbol × TypeId)) → OwnAs (named OfPlace ts) (own_places ts)
+pub as_places : (ts : List (Symbol × TypeId)) → OwnAs (named OfPlace ts) (own_places ts)
 as_places [] = no_own
 as_places (t ∷ ts) = one_own t.0 (OfPlace t.1) Place (named OfPlace ts) (own_places ts) (as_place t.1) (as_places ts)
 
