@@ -1,27 +1,25 @@
 -- Lists that are walked, and names that are taken.
-use Rattle.std.proofs.Common.{arith, ◌≡◌, ℕ, zero, suc, ◌<◌, Bool, true, false, ◌&&◌, ◌||◌, not, List, [], ◌∷◌, ◌++◌, map, length, is_some, refl, sym, ap, ◌∙◌, subst}
+use Rattle.std.proofs.Common.{arith, ◌≡◌, ℕ, zero, suc, ◌<◌, true, false, not, List, [], ◌∷◌, ◌++◌, length, refl, sym, ap, ◌∙◌}
 use Rattle.std.specs.Prelude.{Ok, Err}
 use Rattle.std.specs.List.{list_any}
 use Rattle.std.specs.Cmp.Derive.{both_true}
-use Rattle.std.proofs.lemmas.Bool.{false≢true}
 use Rattle.std.proofs.lemmas.List.Folds.{list_any-append}
 use Rattle.spv_names.specs.declared.names.Symbol.{Symbol}
 use Rattle.spv_list.proofs.Tests.{left_false, right_false, both_false}
 use Rattle.spv_logic.specs.declared.types.TypeId.{TypeId}
 use Rattle.spv_program.specs.declared.types.TypeForm.{TypeForm}
-use Rattle.spv_program.specs.Lists.{same_name, found}
+use Rattle.spv_program.specs.Lists.{same_name}
 use Rattle.spv_program.specs.Types.{form_at}
 use Rattle.spv_program.specs.Programs.{GlobalItem}
 use Rattle.spv_program.specs.Typing.{variables_among}
 use Rattle.spv_typing.specs.Outcomes.{Outcome, after, each}
 use Rattle.spv_typing.specs.Known.{KnownNames, OfPlace, Names, named, is_fixed}
-use Rattle.spv_typing.specs.RoutineWalk.{is_listed, is_free_in}
+use Rattle.spv_typing.specs.RoutineWalk.{is_free_in}
 use Rattle.spv_well_typed.proofs.Outcomes.{fine, no_fault, same_value}
-use Rattle.spv_well_typed_programs.proofs.Finding.{pair, keys, found_there, any_turned}
+use Rattle.spv_well_typed_programs.proofs.Finding.{pair, keys, found_there}
 use Rattle.spv_well_typed_programs.proofs.Headings.{items_in}
-use Rattle.spv_origin.specs.Names.{Own, Place, own_places}
+use Rattle.spv_origin.specs.Names.{Place, own_places}
 use Rattle.spv_origin.proofs.Scopes.{OwnAs, no_own, one_own, as_place}
-use Rattle.spv_answered.proofs.Operators.{behind}
 use Rattle.spv_answered_programs.proofs.Clauses.{listed_variable}
 
 -- one item more is walked

@@ -1,13 +1,12 @@
 -- Local declarations are walked without a fault.
-use Rattle.std.proofs.Common.{◌≡◌, ℕ, ◌<◌, Bool, true, false, not, ◌||◌, List, [], ◌∷◌, ◌++◌, map, length, Option, Some, None, ℤ, refl, sym, ap, ◌∙◌, subst}
+use Rattle.std.proofs.Common.{◌≡◌, true, false, not, List, [], ◌∷◌, ◌++◌, map, Option, Some, None, ℤ, refl, sym, ap, ◌∙◌, subst}
 use Rattle.std.specs.Prelude.{Ok}
 use Rattle.std.specs.List.{list_any, list_all}
 use Rattle.std.specs.Cmp.Derive.{both_true}
-use Rattle.std.proofs.lemmas.Bool.{false≢true, ltb-true}
 use Rattle.std.proofs.lemmas.List.{append-nil, append_assoc}
 use Rattle.std.proofs.lemmas.List.Folds.{list_any-append}
 use Rattle.spv_names.specs.declared.names.Symbol.{Symbol}
-use Rattle.spv_list.proofs.Tests.{left_false, right_false, left_true, right_true}
+use Rattle.spv_list.proofs.Tests.{left_false, right_false, right_true}
 use Rattle.spv_logic.specs.declared.types.TypeId.{TypeId}
 use Rattle.spv_logic.specs.declared.types.Sort.{Sort}
 use Rattle.spv_syntax.specs.declared.names.Name.{Name}
@@ -21,8 +20,8 @@ use Rattle.spv_program.specs.Programs.{Routine, Program}
 use Rattle.spv_program.specs.Typing.{scope_names, variables_among}
 use Rattle.spv_program.proofs.SortFacts.{nothing_there}
 use Rattle.spv_typing.specs.Outcomes.{Outcome, after, each, twice}
-use Rattle.spv_typing.specs.Known.{KnownNames, OfConstant, OfType, OfPlace, OfStart, Heading, Specified, Names, named, Known, Scope, is_fixed, meaning}
-use Rattle.spv_typing.specs.Merging.{Written, Built}
+use Rattle.spv_typing.specs.Known.{KnownNames, OfConstant, OfPlace, OfStart, Heading, Specified, Names, named, Known, is_fixed}
+use Rattle.spv_typing.specs.Merging.{Built}
 use Rattle.spv_typing.specs.TypeWalk as walk
 use Rattle.spv_typing.specs.TypeWalk.{all_names, constant}
 use Rattle.spv_typing.specs.DeclarationWalk.{with_program, with_types, NewType, is_type_name, type_walk, new_name}
@@ -31,12 +30,12 @@ use Rattle.spv_well_typed.proofs.Outcomes.{fine}
 use Rattle.spv_well_typed_programs.proofs.Differ.{differ_first, differ_rest, differ_apart, apart_turned, name-refl, same_names, or_left, or_right}
 use Rattle.spv_well_typed_programs.proofs.Finding.{pair, keys, found_all, found_key, any_turned}
 use Rattle.spv_well_typed_programs.proofs.Items.{Begins}
-use Rattle.spv_well_typed_programs.proofs.Naming.{keys_append, keys_named, keys_typed}
-use Rattle.spv_well_typed_programs.proofs.Declaring.{all_longer, exists_below, number_there, truth_there, RightKnown}
+use Rattle.spv_well_typed_programs.proofs.Naming.{keys_append, keys_named}
+use Rattle.spv_well_typed_programs.proofs.Declaring.{exists_below, number_there, truth_there, RightKnown}
 use Rattle.spv_well_typed_programs.proofs.Headings.{formal_types, items_in, starts_keys, RightSpecified}
 use Rattle.spv_well_typed_programs.proofs.HeadingWalk.{named_append, named_typed}
 use Rattle.spv_well_typed_programs.proofs.ClauseWalk.{own_of, RightLocal, locals_right}
-use Rattle.spv_origin.specs.Names.{Own, View, own_or, types_from_start, seen, own_constants, own_places}
+use Rattle.spv_origin.specs.Names.{Own, own_or, types_from_start, seen, own_constants, own_places}
 use Rattle.spv_origin.specs.Names as origin
 use Rattle.spv_origin.specs.Routines.{parameter_names, start_names, heading_names, body_names}
 use Rattle.spv_origin.specs.Declarations.{ConstsFrom, no_consts, one_const, group_of, VarsFrom, no_vars, one_group}
@@ -50,7 +49,7 @@ use Rattle.spv_answered_programs.proofs.Bodies.{as_parameters, as_starts, as_con
 use Rattle.spv_answered_types.specs.Laws.{ShowsTypes}
 use Rattle.spv_answered_types.proofs.Types.{new_types_are_answered}
 use Rattle.spv_answered_declarations.proofs.Pairs.{built_range}
-use Rattle.spv_answered_declarations.proofs.Constants.{Front, consts_front}
+use Rattle.spv_answered_declarations.proofs.Constants.{consts_front}
 use Rattle.spv_answered_declarations.proofs.Variables.{type_name_any, group_keys, vars_front}
 use Rattle.spv_answered_locals.specs.Laws.{HasDeclared, routine_with, RightLocals, AnswersLocals}
 use Rattle.spv_answered_locals.proofs.Lists.{each_more, Alongside, none, one, alongside_keys, alongside_append, as_alongside, form_front, free_here, first_part, second_part, neither}

@@ -1,14 +1,9 @@
 -- Local declarations are walked without a fault wherever a routine with a body begins.
-use Rattle.std.proofs.Common.{◌≡◌, ℕ, true, List, [], ◌∷◌, ◌++◌, Some, None, refl, sym, ap, ◌∙◌, subst}
-use Rattle.std.specs.Prelude.{Ok}
+use Rattle.std.proofs.Common.{◌≡◌, ℕ, List, [], ◌++◌, None, refl, sym, ◌∙◌, subst}
 use Rattle.spv_names.specs.declared.names.Symbol.{Symbol}
-use Rattle.spv_logic.specs.declared.types.TypeId.{TypeId}
 use Rattle.spv_logic.specs.declared.types.Sort.{Sort}
-use Rattle.spv_syntax.specs.declared.routines.Locals.{Locals}
-use Rattle.spv_program.specs.Types.{forms_ok}
-use Rattle.spv_program.specs.Programs.{Program}
 use Rattle.spv_program.proofs.SortFacts.{nothing_there}
-use Rattle.spv_typing.specs.Known.{KnownNames, OfPlace, OfStart, Names, named, Known}
+use Rattle.spv_typing.specs.Known.{OfPlace, OfStart, Names, named, Known}
 use Rattle.spv_typing.specs.RoutineWalk.{Headed, locals_walk}
 use Rattle.spv_typing.specs.ProgramWalk.{Progress, known_at_first}
 use Rattle.spv_well_typed_programs.proofs.Declaring.{RightKnown, declarations_right}
@@ -17,7 +12,7 @@ use Rattle.spv_well_typed_programs.proofs.Headings.{formal_types, RightSpecified
 use Rattle.spv_well_typed_programs.proofs.States.{RightState, awaited_is, begun_state, again_state}
 use Rattle.spv_well_typed_programs.proofs.Marks.{AtMark, between, inside, marks_reach, new_right, own_again}
 use Rattle.spv_answered_programs.proofs.Ends.{first_state}
-use Rattle.spv_answered_locals.specs.Laws.{BeginsBehind, first, again, without_waiting, headed_again, HasDeclared, RightLocals, AnswersLocals, LocalsAreAnswered}
+use Rattle.spv_answered_locals.specs.Laws.{BeginsBehind, first, again, without_waiting, RightLocals, AnswersLocals, LocalsAreAnswered}
 use Rattle.spv_answered_locals.proofs.Locals.{locals_answered}
 
 -- what is right where local declarations begin

@@ -21,7 +21,7 @@ use Rattle.spv_program.specs.Typing.{may_count}
 use Rattle.spv_program.proofs.SortFacts.{nothing_there, some_is}
 use Rattle.spv_typing.specs.Known.{KnownNames, Meaning, OfConstant, OfPlace, OfStart, OfRoutine, Heading, Names, named, Known, Scope, program_names, meaning}
 use Rattle.spv_typing.specs.ExpressionWalk.{is_this}
-use Rattle.spv_typing.specs.StatementWalk.{own_in, is_by_place, block_walk}
+use Rattle.spv_typing.specs.StatementWalk.{own_in, block_walk}
 use Rattle.spv_typing.specs.StatementWalk as walk
 use Rattle.spv_typing.specs.RoutineWalk.{in_routine, body_setting, with_body}
 use Rattle.spv_typing.specs.RoutineWalk as routine_walk

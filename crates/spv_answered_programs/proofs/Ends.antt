@@ -13,14 +13,14 @@ use Rattle.spv_program.specs.Programs.{Routine, Main, Program}
 use Rattle.spv_program.specs.Scopes.{name_type, body_scope}
 use Rattle.spv_program.proofs.SortFacts.{nothing_there, some_is}
 use Rattle.spv_typing.specs.Outcomes.{each, if_there}
-use Rattle.spv_typing.specs.Known.{KnownNames, Meaning, OfPlace, OfRoutine, Heading, Specified, Known, program_names, meaning}
+use Rattle.spv_typing.specs.Known.{KnownNames, Meaning, OfRoutine, Heading, Known, meaning}
 use Rattle.spv_typing.specs.Known as walk
 use Rattle.spv_typing.specs.DeclarationWalk.{declarations_walk}
 use Rattle.spv_typing.specs.ProgramWalk.{names_of_bodies, mark_walk, routines_walk, known_at_first, with_main}
 use Rattle.spv_well_typed.specs.Expressions.{Belongs}
 use Rattle.spv_well_typed.proofs.Outcomes.{fine, same_value, went}
 use Rattle.spv_well_typed_programs.proofs.Differ.{same_names}
-use Rattle.spv_well_typed_programs.proofs.Naming.{heading_names, headings_named}
+use Rattle.spv_well_typed_programs.proofs.Naming.{headings_named}
 use Rattle.spv_well_typed_programs.proofs.Declaring.{RightKnown, declarations_right}
 use Rattle.spv_well_typed_programs.proofs.Declared.{first_right, declarations_same}
 use Rattle.spv_well_typed_programs.proofs.Bodies.{Final}
