@@ -1,0 +1,6 @@
+pub mod PartLemmas
+pub mod ImageLemmas
+pub mod MakeLemmas
+pub mod WorkLemmas
+pub mod WalkLemmas
+pub mod FreshLemmas
