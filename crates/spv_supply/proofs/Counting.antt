@@ -13,22 +13,22 @@ has xs k = list_any (nat_eq k) xs
 
 length-without : (k : ℕ) (xs : List ℕ) → has xs k ≡ true → length xs ≡ suc (length (without k xs))
 length-without k [] h = absurd (false≢true h)
-length-without k (x ∷ xs) h = by (nat_eq k x) h
+length-without k (x ∷ xs) h = by (nat_eq k x) h (length-without k xs)
   where
-    by : (b : Bool) → (b || has xs k) ≡ true → suc (length xs) ≡ suc (length (cond b xs (x ∷ without k xs)))
-    by true e = refl
-    by false e = ap suc (length-without k xs e)
+    by : (b : Bool) → (b || has xs k) ≡ true → (has xs k ≡ true → length xs ≡ suc (length (without k xs))) → suc (length xs) ≡ suc (length (cond b xs (x ∷ without k xs)))
+    by true e rest = refl
+    by false e rest = ap suc (rest e)
 
 -- another number stays
 has-without : (k j : ℕ) (xs : List ℕ) → (j ≡ k → ⊥) → has xs j ≡ true → has (without k xs) j ≡ true
 has-without k j [] other h = h
-has-without k j (x ∷ xs) other h = by (nat_eq k x) refl (nat_eq j x) refl h
+has-without k j (x ∷ xs) other h = by (nat_eq k x) refl (nat_eq j x) refl h (has-without k j xs other)
   where
-    by : (b : Bool) → nat_eq k x ≡ b → (c : Bool) → nat_eq j x ≡ c → (c || has xs j) ≡ true → has (cond b xs (x ∷ without k xs)) j ≡ true
-    by true e true f g = absurd (other (eqb-true j x f ∙ sym (eqb-true k x e)))
-    by true e false f g = g
-    by false e true f g = or_left (nat_eq j x) (has (without k xs) j) f
-    by false e false f g = or_right (nat_eq j x) (has (without k xs) j) (has-without k j xs other g)
+    by : (b : Bool) → nat_eq k x ≡ b → (c : Bool) → nat_eq j x ≡ c → (c || has xs j) ≡ true → (has xs j ≡ true → has (without k xs) j ≡ true) → has (cond b xs (x ∷ without k xs)) j ≡ true
+    by true e true f g rest = absurd (other (eqb-true j x f ∙ sym (eqb-true k x e)))
+    by true e false f g rest = g
+    by false e true f g rest = or_left (nat_eq j x) (has (without k xs) j) f
+    by false e false f g rest = or_right (nat_eq j x) (has (without k xs) j) (rest g)
 
 pub pigeons : (n : ℕ) (xs : List ℕ) → ((k : ℕ) → 0 < k → k ≤ n → has xs k ≡ true) → n ≤ length xs
 pigeons zero xs h = omega arith
