@@ -3,4 +3,5 @@ pub mod ImageLemmas
 pub mod MakeLemmas
 pub mod WorkLemmas
 pub mod WalkLemmas
+pub mod Finishing
 pub mod FreshLemmas
