@@ -1,18 +1,17 @@
 -- The term of a head over images.
-use Rattle.std.proofs.Common.{◌≡◌, ℕ, ◌<◌, ◌≤◌, Bool, true, false, List, [], ◌∷◌, map, length, slice_get, Option, Some, None, IsSome, is_some, IsTrue, refl, sym, ap, ◌∙◌, subst, Result, Ok, Err, OnOk, OnErr}
+use Rattle.std.proofs.Common.{◌≡◌, ◌<◌, List, [], ◌∷◌, map, length, slice_get, Option, Some, None, IsSome, is_some, IsTrue, refl, sym, ap, ◌∙◌, subst}
 use Rattle.std.specs.Option.{unwrap_or}
 use Rattle.std.proofs.lemmas.Option.{same_Some}
 use Rattle.spv_logic.specs.declared.conditions.TermId.{TermId}
-use Rattle.spv_logic.specs.declared.types.Sort.{Sort}
-use Rattle.spv_logic.specs.Terms.{Term, term}
+use Rattle.spv_logic.specs.Terms.{term}
 use Rattle.spv_logic.specs.Sorts.{result_sort, head_in_range, numeral_fits}
 use Rattle.spv_term.specs.declared.nodes.Node.{Node}
-use Rattle.spv_term.specs.Arena.{Arena, IsArena, AllBelow, node, with_node, place_of, lacks_room, tree, trees, sort_at, sorts_at, Extends}
+use Rattle.spv_term.specs.Arena.{Arena, IsArena, AllBelow, node, with_node, place_of, lacks_room, tree, trees, sort_at, sorts_at}
 use Rattle.spv_term.proofs.ArenaLemmas.{args_in_range, tree-node, sort-node}
 use Rattle.spv_substitution.specs.Images.{image_of, image_or, head_of, head_at, Puts, Fits, ImagesFit}
 use Rattle.spv_substitution.specs.Parts.{AddsOnly, Lacks}
 use Rattle.spv_substitution.specs.Walk.{args_of, args_at, over_images, Finishes}
-use Rattle.spv_substitution.proofs.MakeLemmas.{adds_nothing, adds_node, lacks_tree}
+use Rattle.spv_substitution.proofs.MakeLemmas.{adds_node, lacks_tree}
 
 module _ (a : Arena) (ok : IsArena a) (t : TermId) (n : Node) (at : slice_get a.nodes t.0 ≡ Some n)
     (images : List (TermId × TermId)) (fit : ImagesFit a images) (args : List TermId) (is : args ≡ map (image_or images) n.args) where
@@ -82,3 +81,7 @@ module _ (a : Arena) (ok : IsArena a) (t : TermId) (n : Node) (at : slice_get a.
   pub finish_size : (b : Arena) → b ≡ a → IsTrue (lacks_room a (node n.head args)) → Lacks b (over_images a images t)
   finish_size b same h =
       subst (λ c. Lacks c (over_images a images t)) (sym same) (subst (Lacks a) over_is (lacks_tree a ok n.head args finish_args h))
+
+-- the images of a node's arguments, by the slices that hand them on
+pub args_are : (images : List (TermId × TermId)) (given own made args : List TermId) → args ≡ made → made ≡ map (image_or images) given → given ≡ own → args ≡ map (image_or images) own
+args_are images given own made args e f g = e ∙ (f ∙ ap (map (image_or images)) g)

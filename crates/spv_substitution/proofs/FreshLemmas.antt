@@ -1,6 +1,6 @@
 -- The greatest number of a name or class, and the variable behind it.
-use Rattle.std.proofs.Common.{◌≡◌, ℕ, zero, suc, ◌+◌, ◌<◌, ◌≤◌, max, Bool, true, false, cond, not, ◌&&◌, List, [], ◌∷◌, ◌++◌, drop, length, slice_get, Some, None, IsSome, IsTrue, nat_eq, nat_lt, if◌then◌else◌, refl, sym, ap, ◌∙◌, subst, arith}
-use Rattle.std.proofs.lemmas.Bool.{false≢true, eqb-true, and_parts}
+use Rattle.std.proofs.Common.{◌≡◌, ℕ, zero, suc, ◌+◌, ◌-◌, ◌<◌, ◌≤◌, max, Bool, true, false, cond, not, List, [], ◌∷◌, ◌++◌, drop, length, slice_get, Some, IsTrue, Result, Ok, Err, OnOk, OnErr, nat_eq, if◌then◌else◌, refl, sym, ap, ◌∙◌, subst, arith}
+use Rattle.std.proofs.lemmas.Bool.{eqb-true, and_parts}
 use Rattle.std.proofs.lemmas.List.{length_push}
 use Rattle.std.proofs.Math.Nat.{le-max_left, le-max_right}
 use Rattle.spv_names.specs.declared.names.Symbol.{Symbol}
@@ -11,12 +11,12 @@ use Rattle.spv_logic.specs.declared.types.Sort.TheVariants as sort
 use Rattle.spv_logic.specs.declared.types.Shape.{Shape}
 use Rattle.spv_logic.specs.declared.types.Decl.{Decl}
 use Rattle.spv_logic.specs.declared.operators.Head.{Head}
-use Rattle.spv_logic.specs.declared.operators.Head.TheVariants as head
 use Rattle.spv_logic.specs.Sorts.{result_sort, sort_in_range, head_in_range, numeral_fits}
 use Rattle.spv_term.specs.declared.nodes.Node.{Node}
+use Rattle.spv_term.specs.declared.nodes.TermFault.{TermFault}
 use Rattle.spv_term.specs.Arena.{Arena, node, has_node, with_node, lacks_room}
 use Rattle.spv_term.proofs.NodeLemmas.{with_node-there, with_node-absent}
-use Rattle.spv_substitution.specs.Fresh.{number_of_name, number_of_class, number_for, greatest, numbered, fresh_head, HasFewNumbers}
+use Rattle.spv_substitution.specs.Fresh.{number_of_name, number_for, greatest, numbered, fresh_head, HasFewNumbers}
 
 -- ---- the greatest, from the last node on
 
@@ -130,3 +130,19 @@ few_more a b x s h e nodes_are few = by (has_node a.nodes (node h [])) refl
             let old = few.few y r in
             let here = few.few x s in
             greatest-push y r a.nodes (node h []) (length (a.nodes ++ node h [] ∷ [])) (omega (arith, one, old)) (omega (arith, one, number, here))
+
+-- the same, as the loop goes down
+pub greatest-before : (x : Symbol) (s : Sort) (nodes : List Node) (left : ℕ) (n : Node) (number most more : ℕ) → 0 < left → slice_get nodes (left - 1) ≡ Some n
+    → number ≡ number_for x s n.head → most ≡ greatest x s (drop left nodes) → more ≡ max number most → more ≡ greatest x s (drop (left - 1) nodes)
+greatest-before x s nodes left n number most more positive at is_number is_most is_more =
+    let next : left - 1 + 1 ≡ left = omega (arith, positive) in
+    is_more ∙ ((λ i. max (is_number i) ((is_most ∙ ap (λ j. greatest x s (drop j nodes)) (sym next)) i)) ∙ sym (greatest-drop x s nodes (left - 1) n at))
+
+pub next_head : (x : Symbol) (s : Sort) (number : ℕ) (nodes : List Node) → number ≡ greatest x s nodes → numbered x s (number + 1) ≡ fresh_head x s nodes
+next_head x s number nodes e = let next : number + 1 ≡ suc (greatest x s nodes) = omega (arith, e) in ap (numbered x s) next
+
+-- whatever `make` answers
+pub few_kept : (a b : Arena) (x : Symbol) (s : Sort) (h : Head) (r : Result TermId TermFault) → h ≡ fresh_head x s a.nodes
+    → OnOk r (b ≡ record a { nodes = with_node a.nodes (node h []) }) → OnErr r (b ≡ a) → HasFewNumbers a → HasFewNumbers b
+few_kept a b x s h (Ok t) e is same few = few_more a b x s h e (ap (λ (c : Arena). c.nodes) is) few
+few_kept a b x s h (Err f) e is same few = subst HasFewNumbers (sym same) few

@@ -1,24 +1,21 @@
 -- Images of ids, and the replacement that pairs are.
-use Rattle.std.proofs.Common.{◌≡◌, ℕ, ◌+◌, ◌<◌, Bool, true, false, cond, ◌&&◌, List, [], ◌∷◌, ◌++◌, drop, length, get_or, slice_get, Option, Some, None, IsTrue, nat_eq, if◌then◌else◌, refl, sym, ap, ◌∙◌, subst, arith}
-use Rattle.std.specs.Option.{unwrap_or, option_map}
-use Rattle.std.specs.Map.{lookup}
+use Rattle.std.proofs.Common.{◌≡◌, ◌<◌, Bool, true, false, cond, List, [], ◌∷◌, length, Some, refl, sym, ap, ◌∙◌, subst}
+use Rattle.std.specs.Option.{option_map}
 use Rattle.std.proofs.lemmas.Bool.{false≢true, eq-eqb, eqb-true}
-use Rattle.std.proofs.lemmas.List.{drop_more}
 use Rattle.spv_logic.specs.declared.conditions.TermId.{TermId}
 use Rattle.spv_logic.specs.declared.types.Sort.{Sort}
 use Rattle.spv_logic.specs.declared.types.Shape.{Shape}
 use Rattle.spv_logic.specs.declared.types.Decl.{Decl}
 use Rattle.spv_logic.specs.declared.operators.Head.{Head}
 use Rattle.spv_logic.specs.declared.operators.Head.TheVariants.{Var, ClassVar, Start}
-use Rattle.spv_logic.specs.Terms.{Term, Terms, term, no_terms, terms, head_eq}
-use Rattle.spv_logic.specs.Sorts.{sorts_eq, takes, result_sort}
-use Rattle.spv_logic.specs.Substitution.{Replacement, is_variable, replacement_at}
+use Rattle.spv_logic.specs.Terms.{term, no_terms, head_eq}
+use Rattle.spv_logic.specs.Sorts.{takes, result_sort}
+use Rattle.spv_logic.specs.Substitution.{is_variable}
 use Rattle.spv_logic.proofs.Equality.{head_eq-true, head_eq-refl}
-use Rattle.spv_term.specs.declared.nodes.Node.{Node}
 use Rattle.spv_term.specs.Arena.{Arena, IsArena, tree, trees, sorts_at, sort_at}
 use Rattle.spv_term.proofs.NodeLemmas.{id_from}
 use Rattle.spv_term.proofs.ArenaLemmas.{node_of, tree-node, sort-node, HasOneId-arena}
-use Rattle.spv_substitution.specs.Images.{same_id, image_of, image_or, head_of, head_at, pairs_at, IsPair, ArePairs, Puts, SameImages}
+use Rattle.spv_substitution.specs.Images.{same_id, image_of, head_of, head_at, pairs_at, IsPair, ArePairs, Puts, SameImages}
 
 -- ---- look-ups
 

@@ -4,4 +4,5 @@ pub mod MakeLemmas
 pub mod WorkLemmas
 pub mod WalkLemmas
 pub mod Finishing
+pub mod Exits
 pub mod FreshLemmas

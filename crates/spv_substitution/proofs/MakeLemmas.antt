@@ -1,15 +1,12 @@
 -- What `make` adds, and what it lacks.
-use Rattle.std.proofs.Common.{◌≡◌, ℕ, suc, ◌+◌, ◌<◌, ◌≤◌, Bool, true, false, not, ◌&&◌, List, [], ◌∷◌, ◌++◌, map, length, slice_get, Some, IsSome, IsTrue, nat_eq, Result, Ok, Err, OnErr, IfOk, OnOk, refl, sym, ap, ◌∙◌, subst, arith}
+use Rattle.std.proofs.Common.{◌≡◌, ◌+◌, ◌<◌, ◌≤◌, Bool, true, false, not, List, [], ◌∷◌, ◌++◌, length, Some, nat_eq, refl, sym, ap, ◌∙◌, arith}
 use Rattle.std.proofs.lemmas.Bool.{false≢true, eqb-true, and_parts, not-true}
 use Rattle.std.proofs.lemmas.List.{length_push}
 use Rattle.spv_logic.specs.declared.conditions.TermId.{TermId}
-use Rattle.spv_logic.specs.declared.types.Sort.{Sort}
 use Rattle.spv_logic.specs.declared.operators.Head.{Head}
-use Rattle.spv_logic.specs.Terms.{Term, Terms, term}
-use Rattle.spv_logic.specs.Sorts.{result_sort}
+use Rattle.spv_logic.specs.Terms.{Term, term}
 use Rattle.spv_term.specs.declared.nodes.Node.{Node}
-use Rattle.spv_term.specs.declared.nodes.TermFault.{TermFault}
-use Rattle.spv_term.specs.Arena.{Arena, IsArena, AllBelow, node, has_node, with_node, place_of, lacks_room, tree, trees, sort_at, sorts_at, Extends}
+use Rattle.spv_term.specs.Arena.{Arena, IsArena, AllBelow, node, has_node, with_node, place_of, lacks_room, tree, trees}
 use Rattle.spv_term.proofs.NodeLemmas.{id_from, has_node-at, with_node-there, with_node-absent, place_of-absent}
 use Rattle.spv_term.proofs.ArenaLemmas.{node_of, args_in_range, tree-node, same_ids}
 use Rattle.spv_substitution.specs.Parts.{AddsOnly, Lacks}

@@ -1,24 +1,21 @@
 -- The image of each term that is gone through is the term with the pairs put in.
-use Rattle.std.proofs.Common.{◌≡◌, ℕ, suc, ◌+◌, ◌*◌, ◌<◌, ◌≤◌, Bool, true, false, cond, ◌||◌, List, [], ◌∷◌, ◌++◌, map, length, slice_get, Option, Some, None, is_some, IsTrue, refl, sym, ap, ◌∙◌, subst, inl, inr, arith}
+use Rattle.std.proofs.Common.{◌≡◌, ℕ, suc, ◌+◌, ◌-◌, ◌*◌, ◌<◌, ◌≤◌, Bool, true, false, cond, List, [], ◌∷◌, ◌++◌, map, take, length, Option, Some, None, is_some, refl, sym, ap, ◌∙◌, subst, inl, inr, arith}
 use Rattle.std.specs.Option.{unwrap_or, option_map}
-use Rattle.std.specs.List.{list_any}
 use Rattle.std.proofs.lemmas.Bool.{false≢true, or_left, or_right, cases_lt}
 use Rattle.std.proofs.lemmas.List.{append_assoc, append-nil}
 use Rattle.spv_logic.specs.declared.conditions.TermId.{TermId}
-use Rattle.spv_logic.specs.declared.types.Sort.{Sort}
 use Rattle.spv_logic.specs.declared.operators.Head.{Head}
-use Rattle.spv_logic.specs.Terms.{Term, Terms, term, no_terms, terms}
+use Rattle.spv_logic.specs.Terms.{Term, Terms, term, terms}
 use Rattle.spv_logic.specs.Substitution.{Replacement, is_variable, replacement_at, replaced, substitute, substitute_all}
-use Rattle.spv_term.specs.declared.nodes.Node.{Node}
 use Rattle.spv_term.specs.Arena.{Arena, IsArena, AllBelow, tree, trees, sort_at, sorts_at, Extends}
 use Rattle.spv_term.proofs.ArenaLemmas.{node_of, args_in_range, tree-node, Extends-refl, Extends-trans, length-Extends, slice_get-Extends, tree-Extends, sort_at-Extends}
 use Rattle.spv_substitution.specs.declared.walk.Work.{Work}
 use Rattle.spv_substitution.specs.declared.walk.Work.TheVariants.{Visit, Finish}
-use Rattle.spv_substitution.specs.Images.{same_id, image_of, image_or, head_of, head_at, pairs_at, IsPair, ArePairs, substituted, Puts, SameImages, Fits, ImagesFit}
-use Rattle.spv_substitution.specs.Parts.{is_part, is_part_of_some, is_part_of, AddsParts, AddsOnly, Lacks, LacksPart}
+use Rattle.spv_substitution.specs.Images.{same_id, image_of, image_or, head_of, head_at, pairs_at, ArePairs, substituted, Puts, SameImages, ImagesFit}
+use Rattle.spv_substitution.specs.Parts.{is_part, is_part_of_some, is_part_of, AddsParts, AddsOnly, LacksPart}
 use Rattle.spv_substitution.specs.Walk.{id_of, visits, size, sizes, weight, weights, args_of, args_at, over_images, AddsFor, LacksFor, Visits, Finishes, Steps, known, opened, visited, finished}
 use Rattle.spv_substitution.proofs.PartLemmas.{is_part-refl, part_down_of, or_split}
-use Rattle.spv_substitution.proofs.ImageLemmas.{same_id-true, same_id-refl, variable_alone, pairs-image, image-pair}
+use Rattle.spv_substitution.proofs.ImageLemmas.{same_id-true, pairs-image, image-pair}
 use Rattle.spv_substitution.proofs.WorkLemmas.{comes, AllCome, Ready, AllCome-behind, Ready-behind, Ready-last, visits-come, Ready-visits, done_comes, opened_comes, put_there, put_keeps, some_is, size_positive, weights-append, weights-visits}
 
 -- ---- terms by their parts
@@ -124,11 +121,13 @@ module _ (old : Arena) (ok : IsArena old) (by : Replacement) (goals : List Term)
       let x = substitute by (tree old t) in
       let others = substitute_all by (trees old ts) in
       WorksIn-append old by goals (visits ts) (Visit t ∷ [])
-      (wanted_visits h us ts below.1 part (λ y e. inside y (or_right (is_part y x) (is_part_of_some y others) e)))
-      (record {
-        there = below.0;
-        part = part_down_of x h us (inside x (or_left (is_part x x) (is_part_of_some x others) (is_part-refl x))) goals part;
-      }, tt)
+      (wanted_visits h us ts below.1 part (λ y e. inside y (or_right (is_part y x) (is_part_of_some y others) e))) (
+        record {
+          there = below.0;
+          part = part_down_of x h us (inside x (or_left (is_part x x) (is_part_of_some x others) (is_part-refl x))) goals part;
+        },
+        tt,
+      )
 
   wanted_args : (t : TermId) → IsOpened old by goals t → WorksIn old by goals (visits (args_at old t))
   wanted_args t h =
@@ -383,6 +382,28 @@ module _ (old : Arena) (ok : IsArena old) (by : Replacement) (goals : List Term)
     pub turn_less : Steps a w rest images b left more → weights old left < weights old works
     turn_less (visited t e v same_arena same_images) = visited_less t e v
     turn_less (finished t e f same_works) = rest_less (Finish t) e (omega arith) same_works
+
+-- ---- the end
+
+-- what `pop` says where there is nothing
+pub nothing_popped : (works rest : List Work) (count : ℕ) → works ≡ rest ++ [] → rest ≡ take (count - 1) works → count ≡ 0 → works ≡ []
+nothing_popped works rest count e f g =
+    let none : count - 1 ≡ 0 = omega (arith, g) in
+    e ∙ (append-nil rest ∙ (f ∙ ap (λ n. take n works) none))
+
+module _ (old : Arena) (ok : IsArena old) (by : Replacement) (goals : List Term) (a : Arena) (roots : List TermId) (works : List Work)
+    (images : List (TermId × TermId)) (answers : List TermId) (nothing_left : works ≡ []) (are : answers ≡ map (image_or images) roots) (walks : Walks old a by goals roots works images) where
+  all_come : AllCome images [] roots
+  all_come = subst (λ ws. AllCome images ws roots) nothing_left walks.come
+
+  pub ends_trees : map (tree a) answers ≡ map (substitute by) (map (tree old) roots)
+  ends_trees = ap (map (tree a)) are ∙ images_map old ok by goals a images walks.images_are roots all_come
+
+  pub ends_sorts : sorts_at a answers ≡ sorts_at old roots
+  ends_sorts = ap (sorts_at a) are ∙ images_sorts old ok by goals a images walks.images_are roots all_come
+
+  pub ends_in_range : AllBelow (length a.nodes) answers
+  ends_in_range = subst (AllBelow (length a.nodes)) (sym are) (images_in_range old ok by goals a images walks.images_are roots all_come)
 
 -- ---- the beginning
 

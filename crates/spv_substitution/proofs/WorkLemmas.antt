@@ -1,17 +1,17 @@
 -- What is still to be done, and that all of it will have images.
-use Rattle.std.proofs.Common.{◌≡◌, ℕ, suc, ◌+◌, ◌*◌, ◌<◌, Bool, true, false, cond, ◌||◌, List, [], ◌∷◌, ◌++◌, map, drop, length, get_or, Option, Some, None, is_some, if◌then◌else◌, nat_eq, refl, sym, ap, ◌∙◌, subst, arith}
+use Rattle.std.proofs.Common.{◌≡◌, ℕ, ◌+◌, ◌*◌, ◌<◌, Bool, true, false, cond, ◌||◌, List, [], ◌∷◌, ◌++◌, drop, length, get_or, Option, Some, is_some, refl, sym, ap, ◌∙◌, arith}
 use Rattle.std.specs.List.{list_any}
 use Rattle.std.proofs.lemmas.Bool.{false≢true, or_left, or_right}
 use Rattle.std.proofs.lemmas.List.{append_assoc, drop_more}
 use Rattle.spv_logic.specs.declared.conditions.TermId.{TermId}
-use Rattle.spv_logic.specs.Terms.{Term, Terms, term, no_terms, terms}
+use Rattle.spv_logic.specs.Terms.{Term, term}
 use Rattle.spv_term.specs.Arena.{Arena, tree, trees}
 use Rattle.spv_substitution.specs.declared.walk.Work.{Work}
 use Rattle.spv_substitution.specs.declared.walk.Work.TheVariants.{Visit, Finish}
 use Rattle.spv_substitution.specs.Images.{same_id, image_of, Puts}
-use Rattle.spv_substitution.specs.Walk.{id_of, visits, size, sizes, weight, weights, args_at}
+use Rattle.spv_substitution.specs.Walk.{id_of, visits, size, sizes, weights, args_at}
 use Rattle.spv_substitution.proofs.PartLemmas.{or_split}
-use Rattle.spv_substitution.proofs.ImageLemmas.{same_id-true, same_id-refl, same_id-sym}
+use Rattle.spv_substitution.proofs.ImageLemmas.{same_id-true, same_id-refl}
 
 -- ---- visits
 

@@ -1,12 +1,12 @@
 -- What stands in the place of terms, over the ids of an arena.
-use Rattle.std.specs.Prelude.{◌≡◌, ℕ, ◌<◌, Bool, List, [], ◌∷◌, map, length, Option, Some, None, nat_eq, IsTrue, if◌then◌else◌}
+use Rattle.std.specs.Prelude.{◌≡◌, ◌<◌, Bool, List, [], ◌∷◌, map, length, Option, Some, None, nat_eq, IsTrue, if◌then◌else◌}
 use Rattle.std.specs.Map.{lookup}
 use Rattle.std.specs.Option.{unwrap_or}
 use Rattle.spv_logic.specs.declared.conditions.TermId.{TermId}
 use Rattle.spv_logic.specs.declared.operators.Head.{Head}
 use Rattle.spv_logic.specs.Terms.{Term, term, head_eq}
 use Rattle.spv_logic.specs.Substitution.{Replacement, is_variable, substitute}
-use Rattle.spv_term.specs.Arena.{Arena, AllBelow, tree, sort_at}
+use Rattle.spv_term.specs.Arena.{Arena, tree, sort_at}
 
 abbrev pub same_id : TermId → TermId → Bool
 same_id t u = nat_eq t.0 u.0

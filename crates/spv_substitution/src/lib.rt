@@ -7,6 +7,6 @@ mod numbers;
 mod substitution;
 mod walk;
 
-pub use numbers::fresh;
 pub use laws::law_worth;
+pub use numbers::fresh;
 pub use substitution::{substitute, substitute_all};

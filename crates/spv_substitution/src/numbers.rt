@@ -26,13 +26,7 @@ fn number_of_name(name: Symbol, head: Head) -> u32
     ensures { result ≡ spec.number_of_name name head }
 {
     match head {
-        Head::Var(x, _, number) => {
-            if name == x {
-                number
-            } else {
-                0
-            }
-        }
+        Head::Var(x, _, number) => { if name == x { number } else { 0 } }
         _ => 0,
     }
 }
@@ -41,13 +35,7 @@ fn number_of_class(class: TypeId, head: Head) -> u32
     ensures { result ≡ spec.number_of_class class head }
 {
     match head {
-        Head::ClassVar(t, number) => {
-            if class == t {
-                number
-            } else {
-                0
-            }
-        }
+        Head::ClassVar(t, number) => { if class == t { number } else { 0 } }
         _ => 0,
     }
 }

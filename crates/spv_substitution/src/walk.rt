@@ -43,12 +43,7 @@ fn open(terms: &Terms, t: TermId, works: &mut Vec<Work>) -> Result<(), AllocErro
 }
 
 // Goes to a term.
-fn visit(
-    terms: &Terms,
-    t: TermId,
-    works: &mut Vec<Work>,
-    images: &Images,
-) -> Result<(), AllocError>
+fn visit(terms: &Terms, t: TermId, works: &mut Vec<Work>, images: &Images) -> Result<(), AllocError>
     requires { t.0 < length terms.now.nodes }
     ensures { OnOk result (Visits terms.now t images.now works.old.items works.new.items) }
 {
@@ -59,12 +54,7 @@ fn visit(
 }
 
 // Makes the image of a term whose arguments have theirs.
-fn finish(
-    terms: &mut Terms,
-    alloc: Global,
-    t: TermId,
-    images: &mut Images,
-) -> Result<(), TermFault>
+fn finish(terms: &mut Terms, alloc: Global, t: TermId, images: &mut Images) -> Result<(), TermFault>
     requires in_range { t.0 < length terms.old.nodes }
     requires images { ImagesFit terms.old images.old }
     ensures made { OnOk result (Finishes terms.old t images.old terms.new images.new) }

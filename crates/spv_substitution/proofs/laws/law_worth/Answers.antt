@@ -4,10 +4,6 @@ use Rattle.spv_logic.proofs.Substitution.{eval-substitute}
 use Rattle.spv_term.specs.Arena.{tree}
 use Rattle.spv_substitution.specs.Images.{pairs_at}
 use Rattle.spv_substitution.proofs.laws.law_worth.Goals as goal
-use Rattle.spv_substitution.proofs.WalkLemmas.{turn, turn_less, begins}
-use Rattle.spv_substitution.proofs.MakeLemmas.{adds_node}
-use Rattle.spv_substitution.proofs.FreshLemmas.{few_more}
-use Rattle.spv_substitution.proofs.WorkLemmas.{visits-more}
 
 pub returns : goal.returns
 returns c = λ old new pairs t u is symbols v. ap (eval symbols v) is ∙ eval-substitute symbols (pairs_at old pairs) v (tree old t)
