@@ -53,7 +53,7 @@ no_args : (given : List Sort) (s r : Sort) → takes [] given s ≡ Some r → g
 no_args [] s r e = refl
 no_args (g ∷ given) s r e = absurd (cc)
 
-variable_args : (shapes : List Shape) (decls : List Decl) (h : Head) (given : List Sort) (r : Sort) → is_variable h ≡ true → result_sort shapes decls h given ≡ Some r → given ≡ []
+pub variable_args : (shapes : List Shape) (decls : List Decl) (h : Head) (given : List Sort) (r : Sort) → is_variable h ≡ true → result_sort shapes decls h given ≡ Some r → given ≡ []
 variable_args shapes decls (Var x s n) given r v e = no_args given s r e
 variable_args shapes decls (ClassVar t n) given r v e = no_args given _ r e
 variable_args shapes decls (Start x s) given r v e = no_args given s r e

@@ -1,8 +1,9 @@
 -- Taking one number more, and what it means that all were taken.
-use Rattle.std.proofs.Common.{◌≡◌, ℕ, suc, ◌+◌, ◌^◌, ◌<◌, ◌≤◌, Bool, true, false, cond, List, [], ◌∷◌, map, length, slice_get, Option, Some, None, IsTrue, nat_eq, nat_lt, if◌then◌else◌, refl, sym, ap, ◌∙◌, subst, inl, inr, arith}
+use Rattle.std.proofs.Common.{◌≡◌, ℕ, suc, ◌+◌, ◌<◌, ◌≤◌, Bool, true, false, cond, List, [], map, length, slice_get, Option, Some, if◌then◌else◌, refl, sym, ap, ◌∙◌, subst, inl, inr, arith}
 use Rattle.std.specs.Option.{unwrap_or}
 use Rattle.std.proofs.lemmas.Bool.{false≢true, eqb-true, eq-eqb, cases_lt}
 use Rattle.std.proofs.lemmas.List.{length-map}
+use Rattle.std.proofs.lemmas.Option.{same_Some}
 use Rattle.spv_names.specs.declared.names.Symbol.{Symbol}
 use Rattle.spv_logic.specs.declared.conditions.TermId.{TermId}
 use Rattle.spv_logic.specs.declared.types.TypeId.{TypeId}
@@ -11,19 +12,21 @@ use Rattle.spv_logic.specs.declared.types.Shape.{Shape}
 use Rattle.spv_logic.specs.declared.types.Decl.{Decl}
 use Rattle.spv_logic.specs.declared.operators.Head.{Head}
 use Rattle.spv_logic.specs.declared.operators.Head.TheVariants as head
-use Rattle.spv_logic.specs.Sorts.{result_sort, variable_sort, numeral_fits}
+use Rattle.spv_logic.specs.Sorts.{result_sort, variable_sort, head_in_range, numeral_fits}
+use Rattle.spv_logic.specs.Terms.{Term}
 use Rattle.spv_logic.specs.Substitution.{is_variable}
 use Rattle.spv_term.specs.declared.nodes.Node.{Node}
-use Rattle.spv_term.specs.Arena.{Arena, IsArena, Extends, tree}
-use Rattle.spv_term.proofs.ArenaLemmas.{node_of, tree-node, length-Extends, tree-Extends}
+use Rattle.spv_term.specs.Arena.{Arena, IsArena, Extends, tree, sort_at, sorts_at}
+use Rattle.spv_term.proofs.ArenaLemmas.{node_of, tree-node, sort-node, length-Extends, tree-Extends}
 use Rattle.spv_program.specs.Lists.{same_name}
 use Rattle.spv_program.specs.Types.{same_type}
 use Rattle.spv_program.specs.Terms.{alone}
-use Rattle.spv_program.specs.Supplies.{Supply, full_supply, without_name, without_class, fresh_variable, fresh_class}
+use Rattle.spv_program.specs.Supplies.{Supply, full_supply, without_name, without_class, fresh_variable, fresh_class, fresh_like}
 use Rattle.spv_substitution.specs.Images.{head_of, head_at}
 use Rattle.spv_substitution.specs.Parts.{Lacks}
 use Rattle.spv_substitution.specs.Fresh.{number_of_name, number_of_class}
-use Rattle.spv_supply.specs.Numbers.{Taken, last_of_name, last_of_class, supply_of, HasVariable, HasClass, AreThere}
+use Rattle.spv_substitution.proofs.ImageLemmas.{variable_args, variable_alone}
+use Rattle.spv_supply.specs.Numbers.{Taken, last_of_name, last_of_class, supply_of, IsFresh, HasVariable, HasClass, AreThere}
 use Rattle.spv_supply.proofs.Counting.{has, pigeons, has-map}
 
 -- ---- variables alone
@@ -40,7 +43,52 @@ variable_fits (head.ClassVar t n) e = refl
 variable_fits (head.Start x s) e = refl
 variable_fits _ e = absurd (false≢true e)
 
+-- ---- the head of a variable that is there
+
+module _ (a : Arena) (ok : IsArena a) (t : TermId) (n : Node) (at : slice_get a.nodes t.0 ≡ Some n) where
+  pub head_there : (h : Head) → n.head ≡ h → head_at a t ≡ h
+  head_there h e = ap head_of (tree-node a ok t n at) ∙ e
+
+  pub range_there : (h : Head) → n.head ≡ h → head_in_range a.shapes h ≡ true
+  range_there h e = ap (head_in_range a.shapes) (sym e) ∙ (ok.nodes t.0 n at).types
+
+  pub sort_there : (h : Head) → n.head ≡ h → is_variable h ≡ true → sort_at a t ≡ variable_sort h
+  sort_there h e v =
+      let given = variable_args a.shapes a.decls h (sorts_at a n.args) (sort_at a t) v (ap (λ k. result_sort a.shapes a.decls k (sorts_at a n.args)) (sym e) ∙ sort-node a ok t n at) in
+      same_Some (sort_at a t) (variable_sort h)
+      (sym (sort-node a ok t n at) ∙ ((λ i. result_sort a.shapes a.decls (e i) (given i)) ∙ variable_result a.shapes a.decls h v))
+
+-- a variable or class that is neither is a start value
+pub start_like : (h : Head) (n : Supply) → is_variable h ≡ true → ((x : Symbol) (s : Sort) (k : ℕ) → h ≡ head.Var x s k → ⊥) → ((t : TypeId) (k : ℕ) → h ≡ head.ClassVar t k → ⊥)
+    → fresh_like h n ≡ record { head = h; supply = n }
+start_like (head.Var x s k) n v no_name no_class = absurd (no_name x s k refl)
+start_like (head.ClassVar t k) n v no_name no_class = absurd (no_class t k refl)
+start_like _ n v no_name no_class = refl
+
 -- ---- the supply
+
+pub same_taken : (old new : Taken) → new.names ≡ old.names → new.classes ≡ old.classes → supply_of new ≡ supply_of old
+same_taken old new e f = λ i. record { names = last_of_name (e i); classes = last_of_class (f i) }
+
+pub unwrap_cond : (b : Bool) (k : ℕ) (o : Option ℕ) → unwrap_or (cond b (Some k) o) 0 ≡ cond b k (unwrap_or o 0)
+unwrap_cond true k o = refl
+unwrap_cond false k o = refl
+
+-- a start value is taken as it is
+pub start_fresh : (a : Arena) (ok : IsArena a) (t : TermId) (n : Node) (s : Taken) → slice_get a.nodes t.0 ≡ Some n → t.0 < length a.nodes → is_variable (head_at a t) ≡ true
+    → ((x : Symbol) (r : Sort) (k : ℕ) → n.head ≡ head.Var x r k → ⊥) → ((u : TypeId) (k : ℕ) → n.head ≡ head.ClassVar u k → ⊥) → IsFresh a t s (fresh_like (head_at a t) (supply_of s))
+start_fresh a ok t n s at there v no_name no_class =
+    let own : head_at a t ≡ n.head = head_there a ok t n at n.head refl in
+    let same : fresh_like (head_at a t) (supply_of s) ≡ record { head = head_at a t; supply = supply_of s } =
+    start_like (head_at a t) (supply_of s) v (λ x r k e. no_name x r k (sym own ∙ e)) (λ u k e. no_class u k (sym own ∙ e)) in
+    subst (IsFresh a t s) (sym same) (record { there = there; is_tree = variable_alone a ok t there v; supply = refl })
+
+-- one more number than the last one
+pub next_name : (x : Symbol) (s : Sort) (n : Supply) (k : ℕ) (y : Term) → k ≡ n.names x → y ≡ alone (head.Var x s (k + 1)) → y ≡ alone (fresh_variable x s n).head
+next_name x s n k y e f = let next : k + 1 ≡ suc (n.names x) = omega (arith, e) in f ∙ ap (λ j. alone (head.Var x s j)) next
+
+pub next_class : (t : TypeId) (n : Supply) (k : ℕ) (y : Term) → k ≡ n.classes t → y ≡ alone (head.ClassVar t (k + 1)) → y ≡ alone (fresh_class t n).head
+next_class t n k y e f = let next : k + 1 ≡ suc (n.classes t) = omega (arith, e) in f ∙ ap (λ j. alone (head.ClassVar t j)) next
 
 pub nothing_taken : (s : Taken) → s.names ≡ [] → s.classes ≡ [] → supply_of s ≡ full_supply
 nothing_taken s e f = λ i. record { names = last_of_name (e i); classes = last_of_class (f i) }
