@@ -1,13 +1,11 @@
 -- Conditions taken apart into their ids, and put together again.
 use Rattle.std.proofs.Common.{◌≡◌, ℕ, zero, suc, ◌+◌, ◌-◌, ◌<◌, ◌≤◌, List, [], ◌∷◌, ◌++◌, map, take, drop, length, get_or, refl, sym, ap, ◌∙◌, subst, arith}
-use Rattle.std.specs.List.{flat_map}
-use Rattle.std.specs.Prelude.{slice_index_or}
-use Rattle.std.proofs.lemmas.List.{append_assoc, drop_more, length-append, length-drop, length-map}
+use Rattle.std.proofs.lemmas.List.{append_assoc, length-append, length-drop, length-map}
 use Rattle.spv_logic.specs.declared.conditions.TermId.{TermId}
 use Rattle.spv_term.specs.declared.nodes.Condition.{Condition}
 use Rattle.spv_term.specs.Arena.{Arena, AllBelow}
 use Rattle.spv_term.proofs.TreeLemmas.{AllBelow-append}
-use Rattle.spv_assign.specs.Conditions.{IsIn, AreIn, ids_in, all_ids_in, with_ids, ids_behind, all_with_ids}
+use Rattle.spv_assign.specs.Conditions.{AreIn, ids_in, all_ids_in, with_ids, ids_behind, all_with_ids}
 
 -- ---- lists in two parts
 
@@ -85,7 +83,7 @@ AreIn-ids a (c ∷ conditions) ids h within = (
     goal = AllBelow-get (length a.nodes) (length c.given) ids c.goal h (first_within c conditions ids within);
   },
   AreIn-ids a conditions (ids_behind c ids)
-  (AllBelow-drop (length a.nodes) 1 (drop (length c.given) ids) (AllBelow-drop (length a.nodes) (length c.given) ids h)) (rest_within c conditions ids within),
+      (AllBelow-drop (length a.nodes) 1 (drop (length c.given) ids) (AllBelow-drop (length a.nodes) (length c.given) ids h)) (rest_within c conditions ids within),
 )
 
 pub all_ids-below : (a : Arena) (conditions : List Condition) → AreIn a conditions → AllBelow (length a.nodes) (all_ids_in conditions)

@@ -1,12 +1,9 @@
 -- Conditions over an arena that grows.
-use Rattle.std.proofs.Common.{◌≡◌, ◌<◌, List, [], ◌∷◌, ◌++◌, map, length, refl, ap, ◌∙◌, arith}
-use Rattle.spv_logic.specs.declared.conditions.TermId.{TermId}
-use Rattle.spv_logic.specs.declared.types.Sort.{Sort}
-use Rattle.spv_logic.specs.declared.types.Sort.TheVariants as sort
+use Rattle.std.proofs.Common.{◌≡◌, List, [], ◌∷◌, ◌++◌, map, refl, arith}
 use Rattle.spv_term.specs.declared.nodes.Condition.{Condition}
-use Rattle.spv_term.specs.Arena.{Arena, AllBelow, sort_at, sorts_at, Extends}
+use Rattle.spv_term.specs.Arena.{Arena, Extends}
 use Rattle.spv_term.proofs.ArenaLemmas.{length-Extends, sort_at-Extends, sorts_at-Extends, AllBelow-Extends, map_tree-Extends, tree-Extends}
-use Rattle.spv_assign.specs.Conditions.{condition_of, conditions_of, IsIn, AreIn, sorts_of}
+use Rattle.spv_assign.specs.Conditions.{conditions_of, AreIn, sorts_of}
 
 module _ {old new : Arena} (more : Extends old new) where
   -- the terms of conditions stay

@@ -1,21 +1,19 @@
 -- The conditions that are put together are those of the definition.
-use Rattle.std.proofs.Common.{◌≡◌, ℕ, ◌<◌, Bool, cond, List, [], ◌∷◌, ◌++◌, map, length, Option, Some, None, IsTrue, if◌then◌else◌, refl, sym, ap, ◌∙◌, subst, arith}
-use Rattle.std.specs.List.{flat_map}
-use Rattle.std.proofs.lemmas.List.{append_assoc, map-append}
+use Rattle.std.proofs.Common.{◌≡◌, ◌<◌, List, [], ◌∷◌, ◌++◌, map, length, Some, if◌then◌else◌, refl, sym, ap, ◌∙◌, subst, arith}
+use Rattle.std.proofs.lemmas.List.{map-append}
 use Rattle.spv_logic.specs.declared.conditions.TermId.{TermId}
-use Rattle.spv_logic.specs.declared.types.Sort.{Sort}
 use Rattle.spv_logic.specs.declared.operators.Head.{Head}
 use Rattle.spv_logic.specs.Terms.{Term, head_eq}
 use Rattle.spv_logic.specs.Substitution.{Replacement, substitute}
 use Rattle.spv_logic.specs.Conditions as logic
 use Rattle.spv_term.specs.declared.nodes.Condition.{Condition}
-use Rattle.spv_term.specs.Arena.{Arena, AllBelow, tree, sort_at, sorts_at, sequent, Extends}
+use Rattle.spv_term.specs.Arena.{Arena, AllBelow, tree, sort_at, sorts_at, sequent}
 use Rattle.spv_program.specs.Calls.{replacing}
 use Rattle.spv_meaning.specs.Before as before
 use Rattle.spv_substitution.specs.Images.{head_at, pairs_at, substituted}
 use Rattle.spv_substitution.specs.Parts.{AddsParts, LacksPart}
-use Rattle.spv_assign.specs.Conditions.{condition_of, conditions_of, IsIn, AreIn, sorts_of, terms_in, all_terms_in, pairs_of, ids_in, all_ids_in, with_ids, ids_behind, all_with_ids, with_given, Assumes}
-use Rattle.spv_assign.proofs.Cutting.{Cut, cut}
+use Rattle.spv_assign.specs.Conditions.{condition_of, conditions_of, AreIn, sorts_of, terms_in, all_terms_in, pairs_of, ids_in, all_ids_in, with_ids, ids_behind, all_with_ids, with_given, Assumes}
+use Rattle.spv_assign.proofs.Cutting.{cut, all_ids-below, same_length, AreIn-ids}
 
 -- ---- pairs
 
@@ -89,6 +87,32 @@ module _ (old new : Arena) (pairs : List (TermId × TermId)) (conditions : List 
   pub lacks-wanted : LacksPart new (substituted old pairs (all_ids_in conditions)) → LacksPart new (all_terms_in wanted)
   lacks-wanted h = subst (LacksPart new) terms-wanted h
 
+-- the same, by the slices that hand the ids on
+module _ (old new : Arena) (pairs : List (TermId × TermId)) (conditions : List Condition) (list : List TermId) (is : list ≡ all_ids_in conditions) where
+  pub list_below : AreIn old conditions → AllBelow (length old.nodes) list
+  list_below h = subst (AllBelow (length old.nodes)) (sym is) (all_ids-below old conditions h)
+
+  pub list_adds : AddsParts old new (substituted old pairs list) → AddsParts old new (all_terms_in (wanted old new pairs conditions))
+  list_adds h = adds-wanted old new pairs conditions (subst (λ ts. AddsParts old new (substituted old pairs ts)) is h)
+
+  pub list_lacks : LacksPart new (substituted old pairs list) → LacksPart new (all_terms_in (wanted old new pairs conditions))
+  list_lacks h = lacks-wanted old new pairs conditions (subst (λ ts. LacksPart new (substituted old pairs ts)) is h)
+
+  module _ (images second : List TermId) (made : List Condition) (same : second ≡ images) (are : made ≡ all_with_ids conditions second) where
+    made_are : made ≡ all_with_ids conditions images
+    made_are = are ∙ ap (all_with_ids conditions) same
+
+    pub made_conditions : map (tree new) images ≡ substituted old pairs list → conditions_of new made ≡ wanted old new pairs conditions
+    made_conditions e = ap (conditions_of new) made_are ∙ replaced-conditions old new pairs conditions images (e ∙ ap (substituted old pairs) is)
+
+    pub made_sorts : sorts_at new images ≡ sorts_at old list → map (sorts_of new) made ≡ map (sorts_of old) conditions
+    made_sorts e = ap (map (sorts_of new)) made_are ∙ sorts-are old new (pairs_at old pairs) conditions images (e ∙ ap (sorts_at old) is)
+
+    pub made_in : sorts_at new images ≡ sorts_at old list → AllBelow (length new.nodes) images → AreIn new made
+    made_in e h =
+        let count : length images ≡ length (all_ids_in conditions) = same_length (sort_at new) (sort_at old) images (all_ids_in conditions) (e ∙ ap (sorts_at old) is) in
+        subst (AreIn new) (sym made_are) (AreIn-ids new conditions images h (omega (arith, count)))
+
 -- ---- hypotheses in front
 
 assumed : (a : Arena) (h : TermId) (conditions : List Condition) → conditions_of a (map (with_given h) conditions) ≡ before.all_assuming (tree a h) (conditions_of a conditions)
@@ -99,5 +123,5 @@ assumed_in : (a : Arena) (h : TermId) (conditions : List Condition) → h.0 < le
 assumed_in a h [] there k = tt
 assumed_in a h (c ∷ conditions) there k = (record { given = (there, k.0.given); goal = k.0.goal }, assumed_in a h conditions there k.1)
 
-pub assumes : (h : TermId) (old new : List Condition) → new ≡ map (with_given h) old → Assumes h old new
-assumes h old new e = subst (Assumes h old) (sym e) (record { conditions = λ a. assumed a h old; in_range = λ a there k. assumed_in a h old there k })
+pub assumes : (h : TermId) (old slice new : List Condition) → slice ≡ old → new ≡ map (with_given h) slice → Assumes h old new
+assumes h old slice new f e = subst (Assumes h old) (sym (e ∙ ap (map (with_given h)) f)) (record { conditions = λ a. assumed a h old; in_range = λ a there k. assumed_in a h old there k })

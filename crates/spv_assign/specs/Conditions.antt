@@ -1,5 +1,5 @@
 -- What conditions over an arena claim, and the ids in them.
-use Rattle.std.specs.Prelude.{◌≡◌, ℕ, ◌<◌, List, [], ◌∷◌, ◌++◌, map, take, drop, length, slice_index_or}
+use Rattle.std.specs.Prelude.{◌≡◌, ◌<◌, List, [], ◌∷◌, ◌++◌, map, take, drop, length, slice_index_or}
 use Rattle.std.specs.List.{flat_map}
 use Rattle.spv_logic.specs.declared.conditions.TermId.{TermId}
 use Rattle.spv_logic.specs.declared.types.Sort.{Sort}

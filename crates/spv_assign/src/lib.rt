@@ -3,8 +3,8 @@
 #![tactic(auto)]
 
 mod assigning;
-mod assuming;
+mod hypotheses;
 mod pieces;
 
 pub use assigning::{before_assign, replaced};
-pub use assuming::assuming;
+pub use hypotheses::assuming;

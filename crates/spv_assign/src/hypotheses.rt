@@ -1,6 +1,7 @@
 // A hypothesis in front of all conditions.
 
-ghost use Rattle.std.specs.Prelude.{◌≡◌, ◌++◌, [], ◌∷◌, map, IfOk};
+ghost use Rattle.std.specs.Prelude.{◌≡◌, ◌++◌, [], ◌∷◌, map, IfOk, IfErr};
+ghost use Rattle.spv_term.specs.declared.nodes.TermFault.TheVariants.{Memory};
 ghost use Rattle.spv_assign.specs.Conditions.{with_given, Assumes};
 
 use spv_list::List;
@@ -38,11 +39,7 @@ fn all_with_given(
 
 /// Conditions with one hypothesis more, in front of each. A refusal, which is want of memory, drops
 /// them.
-pub fn assuming(
-    alloc: Global,
-    h: TermId,
-    rest: Vec<Condition>,
-) -> Result<Vec<Condition>, TermFault>
+pub fn assuming(alloc: Global, h: TermId, rest: Vec<Condition>) -> Result<Vec<Condition>, TermFault>
     ensures items { IfOk result (λ cs. cs.items ≡ map (with_given h) rest.items) }
     ensures assumes { IfOk result (λ cs. Assumes h rest.items cs.items) }
     ensures err { IfErr result (λ e. e ≡ Memory) }
