@@ -1,0 +1,6 @@
+pub mod Course
+pub mod Derived
+pub mod Renumbered
+pub mod Steps
+pub mod Copying
+pub mod Laws
