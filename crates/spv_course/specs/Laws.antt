@@ -1,14 +1,17 @@
 -- What is true of courses.
-use Rattle.std.specs.Prelude.{◌≡◌, ℕ, ◌≤◌, List, [], ◌++◌, take, length, Option, Some}
+use Rattle.std.specs.Prelude.{◌≡◌, ℕ, List, ◌++◌, take, length, Option, Some}
+use Rattle.spv_logic.specs.declared.conditions.TermId.{TermId}
 use Rattle.spv_logic.specs.Terms.{Term}
+use Rattle.spv_logic.specs.Formulas.{equation}
 use Rattle.spv_logic.specs.Conditions.{Sequent}
-use Rattle.spv_term.specs.Arena.{Arena, Extends}
+use Rattle.spv_term.specs.Arena.{Arena, Extends, IsArena, tree}
 use Rattle.spv_atoms.specs.declared.proofs.Step.{Step}
 use Rattle.spv_proof.specs.Effects.{Question, effect}
 use Rattle.spv_proof.specs.Accepted.{Path, Open, Closed, walk}
 use Rattle.spv_course.specs.declared.entries.Entry.{Entry}
 use Rattle.spv_course.specs.Course.{asked, facts, fact_at, IsCourse}
 use Rattle.spv_course.specs.Renumbered.{renumbered, OfCited, Moves}
+use Rattle.spv_course.specs.Sides.{sides_at}
 use Rattle.spv_course.specs.Steps.{steps_of, closing_steps_of, derived, AreTold, IsEnd}
 
 -- a step does the same among other facts, where each fact that it cites has the number that it cites there
@@ -37,3 +40,8 @@ StepsAdd = (a : Arena) (c : Sequent) (known : List Term) (es : List Entry) → I
 abbrev pub StepsClose : Type 0
 StepsClose = (a : Arena) (c : Sequent) (known : List Term) (es : List Entry) (first : ℕ) (second : Option ℕ) → IsCourse a es → AreTold a known es
     → IsEnd a es first second → walk (asked a c) known (closing_steps_of (length known) es first second) ≡ Closed
+
+-- an entry that states an equation by its form adds it
+abbrev pub SidesAreEqual : Type 0
+SidesAreEqual = (a : Arena) (es : List Entry) (n : ℕ) (s t : TermId) → IsArena a → IsCourse a es → sides_at a es n ≡ Some (s, t)
+    → fact_at a es n ≡ Some (equation (tree a s) (tree a t))

@@ -1,5 +1,6 @@
 pub mod Course
 pub mod Derived
+pub mod Sides
 pub mod Renumbered
 pub mod Steps
 pub mod Copying

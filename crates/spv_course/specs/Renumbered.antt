@@ -1,5 +1,5 @@
 -- Steps whose facts have other numbers.
-use Rattle.std.specs.Prelude.{◌≡◌, ℕ, zero, suc, Bool, List, [], ◌∷◌, map, Option, Some, None, nat_eq}
+use Rattle.std.specs.Prelude.{◌≡◌, ℕ, List, [], ◌∷◌, map, Option, Some, None}
 use Rattle.std.specs.Option.{option_map}
 use Rattle.spv_whole.specs.Fraction.{Fraction}
 use Rattle.spv_logic.specs.Terms.{Term}
@@ -54,4 +54,5 @@ OfCited P (step.Contra i j) = P i × OfOptional P j
 -- among other facts, the fact of this number has another number; 0, which numbers no fact, stays
 pub record Moves (old new : List Term) (f : ℕ → ℕ) (k : ℕ) : Type 0 where
   pub same : numbered new (f k) ≡ numbered old k
-  pub zero_stays : nat_eq (f k) 0 ≡ nat_eq k 0
+  pub zero_stays : k ≡ 0 → f k ≡ 0
+  pub only_zero : f k ≡ 0 → k ≡ 0

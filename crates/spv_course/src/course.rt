@@ -1,6 +1,6 @@
 //! The facts of a path in order.
 
-ghost use Rattle.std.specs.Prelude.{◌≡◌, ◌≤◌, List, [], ◌∷◌, ◌++◌, take, length, Some, IfOk, OnOk, OnErr};
+ghost use Rattle.std.specs.Prelude.{◌≡◌, ◌≤◌, List, [], ◌∷◌, ◌++◌, take, length, Some, true, false, IfOk, OnOk, OnErr};
 ghost use Rattle.spv_logic.specs.declared.conditions.TermId.{TermId};
 ghost use Rattle.spv_logic.specs.declared.operators.Head.TheVariants as head;
 ghost use Rattle.spv_logic.specs.Terms.{Term, term, no_terms};
@@ -8,18 +8,21 @@ ghost use Rattle.spv_logic.specs.Formulas.{negation, equation};
 ghost use Rattle.spv_logic.specs.Conditions.{Sequent};
 ghost use Rattle.spv_term.specs.Arena.{Arena, tree};
 ghost use Rattle.spv_atoms.specs.declared.proofs.Step.TheVariants as step;
+ghost use Rattle.spv_atoms.specs.declared.proofs.Stated.TheVariants as stated;
 ghost use Rattle.spv_proof.specs.Accepted.{Closed, Open, walk};
 ghost use Rattle.spv_proof.specs.Stand.{In};
 ghost use Rattle.spv_course.specs.Course.{Adding, Gains, IsCourse, PartFits, asked, fact_at, facts, literal};
 ghost use Rattle.spv_course.specs.Derived.{IsApart, IsCongruence, IsEvaluation, IsFalseTerm, IsFormula, IsSum, IsTrueTerm, IsTruthClash, relation_of};
+ghost use Rattle.spv_course.specs.Sides as spec;
 ghost use Rattle.spv_course.specs.Steps.{AreTold, IsEnd, closing_steps_of, derived, steps_of};
 
 use crate::copying::copy_of;
 use crate::entries::{Entry, Part};
+use crate::sides::sides_at;
 use spv_atoms::{Relation, Stated, Step};
 use spv_frac::Frac;
 use spv_list::List;
-use spv_logic::TermId;
+use spv_term::{TermId, Terms};
 use std::alloc::{AllocError, Global};
 use std::marker::Model;
 
@@ -178,6 +181,7 @@ impl Course {
 
     /// That a formula which is a fact equals TRUE. `truth` is the term TRUE.
     pub fn equal_to_true(&mut self, p: TermId, truth: TermId, k: u32) -> Result<u32, AllocError>
+        ensures entry { OnOk result (self.new ≡ self.old ++ Entry.Derived (step.Eval (stated.Same p truth) (k ∷ [])) ∷ []) }
         ensures gains { IfOk result (λ n. (a : Arena) → IsCourse a self.old → IsFormula a p → IsTrueTerm a truth
             → fact_at a self.old k ≡ Some (tree a p)
             → Gains a self.old self.new n (equation (tree a p) (term head.True no_terms))) }
@@ -188,6 +192,7 @@ impl Course {
 
     /// That a formula whose negation is a fact equals FALSE. `falsity` is the term FALSE.
     pub fn equal_to_false(&mut self, p: TermId, falsity: TermId, k: u32) -> Result<u32, AllocError>
+        ensures entry { OnOk result (self.new ≡ self.old ++ Entry.Derived (step.Eval (stated.Same p falsity) (k ∷ [])) ∷ []) }
         ensures gains { IfOk result (λ n. (a : Arena) → IsCourse a self.old → IsFormula a p → IsFalseTerm a falsity
             → fact_at a self.old k ≡ Some (negation (tree a p))
             → Gains a self.old self.new n (equation (tree a p) (term head.False no_terms))) }
@@ -203,6 +208,7 @@ impl Course {
         falsity: TermId,
         k: u32,
     ) -> Result<u32, AllocError>
+        ensures entry { OnOk result (self.new ≡ self.old ++ Entry.Derived (step.Eval (stated.Same p falsity) (k ∷ [])) ∷ []) }
         ensures gains { IfOk result (λ n. (a : Arena) → IsCourse a self.old → IsApart a self.old p k → IsFalseTerm a falsity
             → Gains a self.old self.new n (equation (tree a p) (term head.False no_terms))) }
         ensures err { OnErr result (self.new ≡ self.old) }
@@ -212,6 +218,7 @@ impl Course {
 
     /// The negation of a formula that by a fact equals FALSE.
     pub fn denied(&mut self, p: TermId, k: u32) -> Result<u32, AllocError>
+        ensures entry { OnOk result (self.new ≡ self.old ++ Entry.Derived (step.Eval (stated.Is p false) (k ∷ [])) ∷ []) }
         ensures gains { IfOk result (λ n. (a : Arena) → IsCourse a self.old → IsFormula a p
             → fact_at a self.old k ≡ Some (equation (tree a p) (term head.False no_terms))
             → Gains a self.old self.new n (negation (tree a p))) }
@@ -222,11 +229,20 @@ impl Course {
 
     /// FALSE, where by a fact TRUE and FALSE are equal. `falsity` is the term FALSE.
     pub fn falsity(&mut self, falsity: TermId, k: u32) -> Result<u32, AllocError>
+        ensures entry { OnOk result (self.new ≡ self.old ++ Entry.Derived (step.Eval (stated.Is falsity true) (k ∷ [])) ∷ []) }
         ensures gains { IfOk result (λ n. (a : Arena) → IsCourse a self.old → IsFalseTerm a falsity → IsTruthClash a self.old k
             → Gains a self.old self.new n (term head.False no_terms)) }
         ensures err { OnErr result (self.new ≡ self.old) }
     {
         self.evaluated_by(Stated::Is(falsity, true), k)
+    }
+
+    /// The sides of a fact that states an equation by the form of its entry: an equation that was told, that a term equals itself, a
+    /// congruence, an equality by sums, or one of truth values.
+    pub fn sides(&self, terms: &Terms, k: u32) -> Option<(TermId, TermId)>
+        ensures { result ≡ spec.sides_at terms.now self.now k }
+    {
+        sides_at(terms, self.entries.as_slice(), k)
     }
 
     /// The derived facts as steps of a path with so many facts, on which what was told has its own numbers. The facts that the steps add

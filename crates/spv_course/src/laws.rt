@@ -4,7 +4,7 @@ ghost use Rattle.std.specs.Prelude.{List};
 ghost use Rattle.spv_term.specs.Arena.{Arena, Extends};
 ghost use Rattle.spv_course.specs.declared.entries.Entry.{Entry};
 ghost use Rattle.spv_course.specs.Course.{IsCourse};
-ghost use Rattle.spv_course.specs.Laws.{FactsStay, FirstAreCourse, LooksAtCited, Stays, StepsAdd, StepsClose};
+ghost use Rattle.spv_course.specs.Laws.{FactsStay, FirstAreCourse, LooksAtCited, SidesAreEqual, Stays, StepsAdd, StepsClose};
 
 /// A step looks only at the facts that it cites: where they have other numbers among other facts, it does the same.
 pub fn law_cited()
@@ -27,4 +27,9 @@ pub fn law_first()
 pub fn law_steps()
     ensures adds { StepsAdd }
     ensures closes { StepsClose }
+{}
+
+/// An entry that states an equation by its form adds it.
+pub fn law_sides()
+    ensures { SidesAreEqual }
 {}

@@ -5,7 +5,8 @@ mod copying;
 mod course;
 mod entries;
 mod laws;
+mod sides;
 
 pub use course::Course;
 pub use entries::{Entry, Part};
-pub use laws::{law_cited, law_first, law_grows, law_steps};
+pub use laws::{law_cited, law_first, law_grows, law_sides, law_steps};

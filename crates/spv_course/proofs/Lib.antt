@@ -1,0 +1,6 @@
+pub mod Renumbering
+pub mod Growth
+mod Copies
+mod Derivations
+mod Values
+mod Equations
