@@ -8,7 +8,9 @@ use Rattle.spv_logic.specs.Terms.{Term, term, no_terms}
 use Rattle.spv_logic.specs.Formulas.{equation}
 use Rattle.spv_term.specs.declared.nodes.Node.{Node}
 use Rattle.spv_term.specs.Arena.{Arena, IsArena, tree, trees}
+use Rattle.std.proofs.lemmas.Option.{slice_get_within}
 use Rattle.spv_term.proofs.ArenaLemmas.{tree-node}
+use Rattle.spv_term.proofs.ListLemmas.{slice_get-append_left}
 use Rattle.spv_atoms.specs.declared.proofs.Relation.TheVariants.{AtMost, Equal}
 use Rattle.spv_atoms.specs.declared.proofs.Stated.TheVariants.{Is, Same}
 use Rattle.spv_atoms.specs.declared.proofs.Step.{Step}
@@ -113,3 +115,12 @@ module _ (a : Arena) where
         by_option (Some x) at e =
             let place : suc k ≡ length {A = Term} [] + k + 1 = omega arith in
             ap (fact_at a es) place ∙ entries-state [] es k x s t f.follow at e
+
+  -- it stays where others come behind
+  pub sides_at-more : (es more : List Entry) (n : ℕ) (p : Pair) → sides_at a es n ≡ Some p → sides_at a (es ++ more) n ≡ Some p
+  sides_at-more es more zero p h = absurd (cc)
+  sides_at-more es more (suc k) p h = by_option (slice_get es k) refl h
+    where
+      by_option : (o : Option Entry) → slice_get es k ≡ o → sides_of_entry a o ≡ Some p → sides_at a (es ++ more) (suc k) ≡ Some p
+      by_option None at e = absurd (cc)
+      by_option (Some x) at e = ap (sides_of_entry a) (slice_get-append_left es more k (slice_get_within es k x at) ∙ at) ∙ e

@@ -3,4 +3,5 @@ pub mod Growth
 mod Copies
 mod Derivations
 mod Values
-mod Equations
+mod Bridges
+pub mod Equations

@@ -129,11 +129,11 @@ pub fn contradiction(
     ensures closes { IfOk result (λ p. Closes terms.now course.old course.new p.0 p.1) }
     ensures err { OnErr result (course.new ≡ course.old) }
 {
-    let start = course.len();
+    let before = course.len();
     match find_contradiction(alloc, course, terms, graph, s, t, denied) {
         Ok(pair) => Ok(pair),
         Err(fault) => {
-            course.keep(start);
+            course.keep(before);
             Err(fault)
         }
     }
