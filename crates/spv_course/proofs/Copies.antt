@@ -1,10 +1,9 @@
 -- What the steps of a course do on a path whose first facts are numbered otherwise.
-use Rattle.std.proofs.Common.{◌≡◌, ℕ, zero, suc, ◌+◌, ◌<◌, ◌≤◌, List, [], ◌∷◌, ◌++◌, length, fold, Option, Some, None, slice_get, slice_index_or, refl, sym, ap, ◌∙◌, subst, inl, inr, ◌⊎◌, arith}
+use Rattle.std.proofs.Common.{◌≡◌, ℕ, zero, suc, ◌+◌, ◌<◌, List, [], ◌∷◌, ◌++◌, length, fold, Option, Some, None, slice_get, slice_index_or, refl, sym, ap, ◌∙◌, subst, inl, inr, ◌⊎◌, arith}
 use Rattle.std.proofs.lemmas.Bool.{cases_lt}
 use Rattle.std.proofs.lemmas.List.{append-nil, append_assoc, length_push}
 use Rattle.std.proofs.lemmas.Option.{slice_get_within, slice_get_past, get_or_from_slice_get, same_Some}
 use Rattle.std.proofs.lemmas.List.{get_or_past}
-use Rattle.std.specs.Option.{option_map}
 use Rattle.spv_logic.specs.declared.conditions.TermId.{TermId}
 use Rattle.spv_logic.specs.Terms.{Term}
 use Rattle.spv_logic.specs.Conditions.{Sequent}
@@ -12,14 +11,14 @@ use Rattle.spv_term.specs.Arena.{Arena, tree}
 use Rattle.spv_term.proofs.ListLemmas.{slice_get-append_left, slice_get_push}
 use Rattle.spv_atoms.specs.declared.proofs.Step.{Step}
 use Rattle.spv_atoms.specs.declared.proofs.Step.TheVariants as step
-use Rattle.spv_proof.specs.Effects.{Question, Effect, Adds, Ends, Fails, effect, end_of, numbered}
-use Rattle.spv_proof.specs.Accepted.{Path, Open, Closed, Broken, closed_if_last, on_effect, walk}
+use Rattle.spv_proof.specs.Effects.{Question, Effect, Adds, Ends, Fails, effect, numbered}
+use Rattle.spv_proof.specs.Accepted.{Open, Closed, closed_if_last, on_effect, walk}
 use Rattle.spv_course.specs.declared.entries.Part.{Part}
 use Rattle.spv_course.specs.declared.entries.Entry.{Entry}
 use Rattle.spv_course.specs.declared.entries.Entry.TheVariants.{Told, Derived}
-use Rattle.spv_course.specs.Course.{Adding, Follow, IsCourse, added_by, any_sequent, asked, fact_at, fact_of, facts, facts_from, literal}
-use Rattle.spv_course.specs.Renumbered.{Moves, OfCited, renumbered}
-use Rattle.spv_course.specs.Steps.{Copied, outside, outside_of, with_entry, uncopied, copy_of, steps_of, closed, closing_steps_of, derived_from, derived, AreTold, IsEnd}
+use Rattle.spv_course.specs.Course.{Adding, Follow, IsCourse, added_by, any_sequent, asked, fact_of, facts, facts_from, literal}
+use Rattle.spv_course.specs.Renumbered.{Moves, renumbered}
+use Rattle.spv_course.specs.Steps.{Copied, outside, outside_of, with_entry, uncopied, copy_of, steps_of, closing_steps_of, derived_from, derived, AreTold, IsEnd}
 use Rattle.spv_course.proofs.Renumbering.{of_cited, effect-renumbered}
 use Rattle.spv_course.proofs.Growth.{numbered-more, numbered-push}
 
@@ -169,7 +168,7 @@ module _ (a : Arena) (c : Sequent) (start : List Term) where
       let is : f.0.0 ≡ fact = sym (ap added_by (f.0.1.adds any_sequent)) in
       let adds = subst (λ t. Adding a before s t) is f.0.1 in
       let rest = stands-all es (before ++ fact ∷ []) (now ++ fact ∷ []) (with_entry x (Derived s)) f.1
-          (told-more now (fact ∷ []) es (told-next now (Derived s) es told)) (stands-derived before now x s fact adds h) in
+      (told-more now (fact ∷ []) es (told-next now (Derived s) es told)) (stands-derived before now x s fact adds h) in
       subst (λ ts. Stands (facts_from a (before ++ fact ∷ []) es) ts (fold with_entry (with_entry x (Derived s)) es))
       (append_assoc now (fact ∷ []) (derived_from a (before ++ fact ∷ []) es)) rest
 
@@ -203,3 +202,10 @@ pub steps-close_at : (a : Arena) (c : Sequent) (known : List Term) (es : List En
     → length known ≡ count → IsCourse a es → AreTold a known es → IsEnd a es first second → walk (asked a c) known steps ≡ Closed
 steps-close_at a c known es count steps first second is many f told end =
     ap (walk (asked a c) known) (is ∙ ap (λ n. closing_steps_of n es first second) (sym many)) ∙ steps-close a c known es first second f told end
+
+-- one derived entry more, as the code has it
+pub copied-derived : (c : Copied) (s r : Step) (ns : List ℕ) → r ≡ renumbered (outside c.next ns) s → ns ≡ c.numbers
+    → ◌≡◌ {A = Copied} (record { next = c.next + 1; numbers = c.numbers ++ c.next ∷ []; steps = c.steps ++ r ∷ [] }) (with_entry c (Derived s))
+copied-derived c s r ns e f =
+    let is : r ≡ renumbered (outside c.next c.numbers) s = e ∙ ap (λ ms. renumbered (outside c.next ms) s) f in
+    λ i. record { next = c.next + 1; numbers = c.numbers ++ c.next ∷ []; steps = c.steps ++ is i ∷ [] }

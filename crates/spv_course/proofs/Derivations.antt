@@ -1,5 +1,5 @@
 -- What each derived entry adds.
-use Rattle.std.proofs.Common.{◌≡◌, ℕ, ◌<◌, Bool, true, false, ◌&&◌, List, [], ◌∷◌, ◌++◌, length, Option, Some, None, if◌then◌else◌, refl, sym, ap, ◌∙◌, subst, inl, inr, ◌⊎◌}
+use Rattle.std.proofs.Common.{◌≡◌, ℕ, true, false, ◌&&◌, List, [], ◌∷◌, ◌++◌, length, Some, None, if◌then◌else◌, refl, sym, ap, ◌∙◌, inl, inr, ◌⊎◌}
 use Rattle.spv_whole.specs.Fraction.{Fraction}
 use Rattle.spv_logic.specs.declared.conditions.TermId.{TermId}
 use Rattle.spv_logic.specs.declared.operators.Head.TheVariants as head
@@ -19,10 +19,10 @@ use Rattle.spv_proof.specs.Effects as spec
 use Rattle.spv_proof.specs.Stand.{In}
 use Rattle.spv_course.specs.declared.entries.Part.{Part}
 use Rattle.spv_course.specs.declared.entries.Entry.{Entry}
-use Rattle.spv_course.specs.declared.entries.Entry.TheVariants.{Told, Derived}
+use Rattle.spv_course.specs.declared.entries.Entry.TheVariants.{Told}
 use Rattle.spv_course.specs.Course.{Adding, Gains, IsCourse, PartFits, any_sequent, asked, fact_at, facts, literal}
-use Rattle.spv_course.specs.Derived.{AreNumbers, IsApart, IsCongruence, IsEvaluation, IsFalseTerm, IsFormula, IsSum, IsTrueTerm, IsTruthClash, Shows, is_number, is_truth, relation_of}
-use Rattle.spv_course.proofs.Growth.{gains-push, gains-derived}
+use Rattle.spv_course.specs.Derived.{AreNumbers, IsApart, IsCongruence, IsEvaluation, IsFalseTerm, IsFormula, IsSum, IsTrueTerm, IsTruthClash, Shows, is_truth, relation_of}
+use Rattle.spv_course.proofs.Growth.{gains-push}
 use Rattle.spv_course.proofs.Values.{equals_true, equals_false, lower_is_false, upper_is_false, denial_follows, clash_follows, turned_clash_follows}
 
 module _ (a : Arena) where

@@ -1,5 +1,5 @@
 -- A step looks only at the facts that it cites.
-use Rattle.std.proofs.Common.{◌≡◌, ℕ, zero, suc, Bool, true, false, ◌&&◌, List, [], ◌∷◌, map, Option, Some, None, ℤ, pos, slice_get, refl, ap, ◌∙◌, arith}
+use Rattle.std.proofs.Common.{◌≡◌, ℕ, zero, suc, Bool, ◌&&◌, List, [], ◌∷◌, map, Option, Some, None, pos, refl, ap, arith}
 use Rattle.spv_whole.specs.Fraction.{Fraction}
 use Rattle.spv_rational.specs.Rational.{number}
 use Rattle.spv_logic.specs.Terms.{Term, Terms, term, no_terms, terms, head_eq}
@@ -9,7 +9,7 @@ use Rattle.spv_atoms.specs.declared.proofs.Relation.TheVariants.{AtMost, Equal}
 use Rattle.spv_atoms.specs.declared.proofs.Step.{Step}
 use Rattle.spv_atoms.specs.declared.proofs.Step.TheVariants as step
 use Rattle.spv_proof.specs.Sums.{Combination, Reading, add_reading, cited_reading, difference, is_at_most_zero, nothing, read_cited, refutes, shows_above_zero, sum_of, then_add}
-use Rattle.spv_proof.specs.Effects.{Question, Effect, adds_if, all_equal, at_most, cited, congruent, effect, end_of_one, end_of_two, evaluated, exchanged, fact_before, is_empty, is_fact, is_number, is_truth, joined, linear, numbered, sides_of, stated}
+use Rattle.spv_proof.specs.Effects.{Question, adds_if, all_equal, at_most, cited, congruent, effect, end_of_one, end_of_two, evaluated, exchanged, fact_before, is_empty, is_fact, is_number, is_truth, joined, linear, numbered, sides_of, stated}
 use Rattle.spv_course.specs.Renumbered.{Moves, OfAll, OfCited, OfMultiples, OfOptional, multiple_by, renumbered}
 
 -- ---- what holds of all numbers holds of those that a step cites

@@ -1,8 +1,6 @@
 -- Evaluations that a course needs: formulas that equal TRUE or FALSE.
 use Rattle.std.proofs.Common.{◌≡◌, ℕ, suc, ◌+◌, ◌<◌, Bool, true, false, ◌&&◌, ◌||◌, not, List, [], ◌∷◌, ◌++◌, Option, Some, None, if◌then◌else◌, refl, sym, ap, ◌∙◌, subst, inl, inr, ◌⊎◌, arith}
 use Rattle.std.specs.List.{list_any}
-use Rattle.std.proofs.lemmas.Bool.{false≢true}
-use Rattle.spv_logic.specs.declared.operators.Head.{Head}
 use Rattle.spv_logic.specs.declared.operators.Head.TheVariants.{Eq, Not, Lt, True, False}
 use Rattle.spv_logic.specs.Values.{bool_eq}
 use Rattle.spv_logic.specs.Terms.{Term, Terms, term, no_terms, terms, term_eq}
@@ -10,7 +8,7 @@ use Rattle.spv_logic.specs.Formulas.{negation, equation, below}
 use Rattle.spv_logic.proofs.Equality.{term_eq-true, term_eq-refl}
 use Rattle.spv_atoms.specs.Tables.{assigned, combined, computed, or_else}
 use Rattle.spv_proof.specs.Sums.{negated}
-use Rattle.spv_proof.specs.Evaluation.{sides, given_negated, given_by, assignment, cites, apart, given_to, opposite, bare, bare_or, clashes, evaluates}
+use Rattle.spv_proof.specs.Evaluation.{sides, given_negated, apart, given_to, opposite, bare, clashes, evaluates}
 
 -- ---- sizes
 

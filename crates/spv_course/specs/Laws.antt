@@ -4,10 +4,10 @@ use Rattle.spv_logic.specs.declared.conditions.TermId.{TermId}
 use Rattle.spv_logic.specs.Terms.{Term}
 use Rattle.spv_logic.specs.Formulas.{equation}
 use Rattle.spv_logic.specs.Conditions.{Sequent}
-use Rattle.spv_term.specs.Arena.{Arena, Extends, IsArena, tree}
+use Rattle.spv_term.specs.Arena.{Arena, IsArena, tree}
 use Rattle.spv_atoms.specs.declared.proofs.Step.{Step}
 use Rattle.spv_proof.specs.Effects.{Question, effect}
-use Rattle.spv_proof.specs.Accepted.{Path, Open, Closed, walk}
+use Rattle.spv_proof.specs.Accepted.{Open, Closed, walk}
 use Rattle.spv_course.specs.declared.entries.Entry.{Entry}
 use Rattle.spv_course.specs.Course.{asked, facts, fact_at, IsCourse}
 use Rattle.spv_course.specs.Renumbered.{renumbered, OfCited, Moves}

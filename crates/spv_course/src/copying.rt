@@ -159,9 +159,9 @@ impl Copied {
     // One step more, which adds a fact.
     fn add_step(&mut self, step: Step) -> Result<(), AllocError>
         ensures { OnOk result (copying self.new ≡ record {
-            next = self.old.next + 1;
-            numbers = self.old.numbers.items ++ self.old.next ∷ [];
-            steps = self.old.steps.items ++ step ∷ [];
+          next = self.old.next + 1;
+          numbers = self.old.numbers.items ++ self.old.next ∷ [];
+          steps = self.old.steps.items ++ step ∷ [];
         }) }
     {
         let Some(next) = self.next.checked_add(1) else {
@@ -174,11 +174,7 @@ impl Copied {
     }
 
     /// The steps, and the end of the path by one or two facts.
-    pub(crate) fn closed(
-        self,
-        first: u32,
-        second: Option<u32>,
-    ) -> Result<Vec<Step>, AllocError>
+    pub(crate) fn closed(self, first: u32, second: Option<u32>) -> Result<Vec<Step>, AllocError>
         ensures { IfOk result (λ v. v.items ≡ spec.closed (copying self) first second) }
     {
         let end = Step::Contra(

@@ -202,12 +202,7 @@ impl Course {
     }
 
     /// That an equation of two numbers, of which a fact puts one below the other, equals FALSE. `falsity` is the term FALSE.
-    pub fn apart_is_false(
-        &mut self,
-        p: TermId,
-        falsity: TermId,
-        k: u32,
-    ) -> Result<u32, AllocError>
+    pub fn apart_is_false(&mut self, p: TermId, falsity: TermId, k: u32) -> Result<u32, AllocError>
         ensures entry { OnOk result (self.new ≡ self.old ++ Entry.Derived (step.Eval (stated.Same p falsity) (k ∷ [])) ∷ []) }
         ensures gains { IfOk result (λ n. (a : Arena) → IsCourse a self.old → IsApart a self.old p k → IsFalseTerm a falsity
             → Gains a self.old self.new n (equation (tree a p) (term head.False no_terms))) }
