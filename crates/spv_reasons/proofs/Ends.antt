@@ -1,12 +1,12 @@
 -- Facts that end a path.
-use Rattle.std.proofs.Common.{◌≡◌, ℕ, Bool, true, false, ◌&&◌, ◌||◌, not, List, [], ◌∷◌, ◌++◌, Option, Some, None, ℤ, slice_get, refl, sym, ap, ◌∙◌, subst, inl, inr, ◌⊎◌}
+use Rattle.std.proofs.Common.{◌≡◌, ℕ, true, not, List, [], ◌∷◌, Option, Some, None, ℤ, slice_get, refl, sym, ap, ◌∙◌, inl, inr}
 use Rattle.std.specs.Ordering.{int_eq}
 use Rattle.spv_logic.specs.declared.conditions.TermId.{TermId}
 use Rattle.spv_logic.specs.declared.types.Sort.{Sort}
 use Rattle.spv_logic.specs.declared.types.Sort.TheVariants as sort
 use Rattle.spv_logic.specs.declared.operators.Head.{Head}
 use Rattle.spv_logic.specs.declared.operators.Head.TheVariants.{Num, True, False}
-use Rattle.spv_logic.specs.Terms.{Term, Terms, term, no_terms, terms}
+use Rattle.spv_logic.specs.Terms.{Term, Terms, term, no_terms}
 use Rattle.spv_logic.specs.Sorts.{result_sort, takes}
 use Rattle.spv_logic.specs.Formulas.{negation, equation}
 use Rattle.spv_logic.proofs.Equality.{term_eq-refl}
@@ -14,16 +14,17 @@ use Rattle.spv_term.specs.declared.nodes.Node.{Node}
 use Rattle.spv_term.specs.Arena.{Arena, IsArena, tree, trees, sorts_at}
 use Rattle.spv_term.proofs.ArenaLemmas.{tree-node, sort-node}
 use Rattle.std.proofs.lemmas.Option.{slice_get_within}
-use Rattle.spv_proof.specs.Effects.{Ends, contrary, end_of, end_of_one, end_of_two, ends_if, impossible}
+use Rattle.spv_proof.specs.Effects.{end_of_one, end_of_two, ends_if}
 use Rattle.spv_congruence.specs.Clashes.{AreOpposed, opposed}
 use Rattle.spv_congruence.specs.Graph.{Graph}
 use Rattle.spv_congruence.specs.Told.{IsOf}
 use Rattle.spv_course.specs.declared.entries.Entry.{Entry}
-use Rattle.spv_course.specs.Course.{Gains, IsCourse, fact_at, facts}
+use Rattle.spv_course.specs.Course.{Gains, IsCourse, fact_at}
 use Rattle.spv_course.specs.Derived.{IsFalseTerm, IsTruthClash}
 use Rattle.spv_course.specs.Steps.{IsEnd}
 use Rattle.spv_reasons.specs.Reasons.{AreOpposites, Closes, Equates, GoesOn}
-use Rattle.spv_reasons.proofs.Ways.{goes_on-gains, goes_on-same}
+use Rattle.spv_reasons.proofs.Ways.{goes_on-gains, goes_on-same, goes_on-then}
+use Rattle.spv_course.proofs.Growth.{gains-keeps}
 
 -- ---- a fact and its negation
 
@@ -140,4 +141,16 @@ opposites-of a g s t of h = record {
   left_is = of.node s h.left h.left_is;
   right_is = of.node t h.right h.right_is;
   opposed_are = h.opposed_are;
+}
+
+-- ---- both ends
+
+pub closes-after : (a : Arena) (old mid new : List Entry) (n : ℕ) (o : Option ℕ) → GoesOn old mid → Closes a mid new n o → Closes a old new n o
+closes-after a old mid new n o g h = record { goes_on = goes_on-then old mid new g h.goes_on; course = h.course; ends = h.ends }
+
+pub denial-closes : (a : Arena) (old new : List Entry) (n k : ℕ) (s t : TermId) → Gains a old new n (equation (tree a s) (tree a t)) → fact_at a old k ≡ Some (negation (equation (tree a s) (tree a t))) → Closes a old new n (Some k)
+denial-closes a old new n k s t g d = record {
+  goes_on = goes_on-gains a old new n (equation (tree a s) (tree a t)) g;
+  course = g.course;
+  ends = denial-ends a new n k s t g.fact (gains-keeps a old new n k (equation (tree a s) (tree a t)) (negation (equation (tree a s) (tree a t))) g d);
 }

@@ -1,6 +1,6 @@
 -- Works that are owed, and what stands after each.
-use Rattle.std.proofs.Common.{◌≡◌, ℕ, zero, suc, ◌+◌, ◌<◌, ◌≤◌, true, ◌&&◌, List, [], ◌∷◌, ◌++◌, map, take, drop, fold, length, Option, Some, None, slice_get, refl, sym, ap, ◌∙◌, subst, inl, inr, ◌⊎◌, arith}
-use Rattle.std.proofs.lemmas.List.{length-map, take-append-drop, take_all}
+use Rattle.std.proofs.Common.{◌≡◌, ℕ, zero, suc, ◌<◌, true, ◌&&◌, List, [], ◌∷◌, ◌++◌, map, take, drop, fold, length, Some, slice_get, refl, sym, ap, ◌∙◌, subst, arith}
+use Rattle.std.proofs.lemmas.List.{take-append-drop, take_all}
 use Rattle.std.proofs.lemmas.List.Sums.{fold-append}
 use Rattle.std.proofs.lemmas.Option.{slice_get_within, same_Some}
 use Rattle.indexmap.specs.IndexMap.{insert_entry}
@@ -14,9 +14,9 @@ use Rattle.spv_term.specs.Arena.{Arena, IsArena, tree, trees}
 use Rattle.spv_term.proofs.ArenaLemmas.{tree-node}
 use Rattle.spv_proof.specs.Effects.{all_equal, congruent}
 use Rattle.spv_classes.specs.declared.joins.Join.{Join}
-use Rattle.spv_classes.specs.Classes.{label, one_label}
+use Rattle.spv_classes.specs.Classes.{one_label}
 use Rattle.spv_congruence.specs.declared.facts.Link.{Link}
-use Rattle.spv_congruence.specs.declared.facts.Link.TheVariants.{Told, Congruent}
+use Rattle.spv_congruence.specs.declared.facts.Link.TheVariants.{Congruent}
 use Rattle.spv_congruence.specs.Graph.{Graph, AreCongruent, AreTerms, HasNode, IsEarly, label_of, labels}
 use Rattle.spv_congruence.specs.Keep.{IsNode}
 use Rattle.spv_congruence.specs.Told.{IsOf}
@@ -26,12 +26,14 @@ use Rattle.spv_course.specs.Course.{Gains, IsCourse, facts}
 use Rattle.spv_course.specs.Derived.{IsCongruence}
 use Rattle.spv_reasons.specs.declared.known.Pair.{Pair}
 use Rattle.spv_reasons.specs.declared.works.Work.{Work}
-use Rattle.spv_reasons.specs.declared.works.Work.TheVariants as work
-use Rattle.spv_reasons.specs.Reasons.{AreSame, Equates, GoesOn, IsBacked, MayReason}
-use Rattle.spv_reasons.specs.Known.{pair, same_pair, AreBeside, AreShown, NumbersOf}
+use Rattle.spv_reasons.specs.Reasons.{AreSame, GoesOn, IsBacked, MayReason}
+use Rattle.spv_reasons.specs.Known.{number_of, pair, same_pair, AreBeside, AreShown, NumbersOf}
 use Rattle.spv_reasons.specs.Links.{AllKnown, AreAlike, AreOwed, HasLink, IsOwed, IsWay, Stands}
-use Rattle.spv_reasons.proofs.Shown.{arguments-equal, shown-insert, shown-more}
+use Rattle.spv_reasons.proofs.Shown.{arguments-equal, shown-at, shown-insert, shown-more}
 use Rattle.spv_reasons.proofs.Ways.{backed-more, goes_on-gains, leads-way}
+
+pub one_node : (nodes : List Node) (i : ℕ) (m n : Node) → slice_get nodes i ≡ Some m → slice_get nodes i ≡ Some n → m ≡ n
+one_node nodes i m n e f = same_Some m n (sym e ∙ f)
 
 -- ---- labels after more joins
 
@@ -118,19 +120,18 @@ module _ (g : Graph) where
       ap (label_of js) (sym one) ∙ labels_are ∙ ap (label_of js) two
   label-at js (x ∷ ss) (y ∷ ts) (suc i) s t h e f = let rest : map (label_of js) ss ≡ map (label_of js) ts = cc in label-at js ss ts i s t rest e f
 
-  pub arguments-same : AreTerms g.nodes g.added → (p q s t : TermId) (m n : Node) → AreCongruent g.nodes g.joins p q → HasNode g.nodes p m → HasNode g.nodes q n → AreBeside m.args n.args s t → AreSame g s t
-  arguments-same h p q s t m n c is_m is_n b =
-      let one : c.left ≡ m = same_node (sym c.left_is ∙ is_m) in
-      let two : c.right ≡ n = same_node (sym c.right_is ∙ is_n) in
-      let args : labels g.joins m ≡ labels g.joins n = ap (labels g.joins) (sym one) ∙ c.args ∙ ap (labels g.joins) two in
+  pub arguments-same : (a : Arena) → IsOf a g → AreTerms g.nodes g.added → (p q s t : TermId) (m n : Node) → AreCongruent g.nodes g.joins p q → slice_get a.nodes p.0 ≡ Some m → slice_get a.nodes q.0 ≡ Some n
+      → AreBeside m.args n.args s t → AreSame g s t
+  arguments-same a of h p q s t m n c is_m is_n b =
+      let one : m ≡ c.left = one_node a.nodes p.0 m c.left is_m (of.node p c.left c.left_is) in
+      let two : n ≡ c.right = one_node a.nodes q.0 n c.right is_n (of.node q c.right c.right_is) in
+      let left : slice_get c.left.args b.place ≡ Some s = ap (λ (x : Node). slice_get x.args b.place) (sym one) ∙ b.left in
+      let right : slice_get c.right.args b.place ≡ Some t = ap (λ (x : Node). slice_get x.args b.place) (sym two) ∙ b.right in
       record {
-        left = argument-node h p m b.place s is_m b.left;
-        right = argument-node h q n b.place t is_n b.right;
-        same = label-at g.joins m.args n.args b.place s t args b.left b.right;
+        left = argument-node h p c.left b.place s c.left_is left;
+        right = argument-node h q c.right b.place t c.right_is right;
+        same = label-at g.joins c.left.args c.right.args b.place s t c.args left right;
       }
-    where
-      same_node : {x y : Node} → ◌≡◌ {A = Option (Option Node)} (Some (Some x)) (Some (Some y)) → x ≡ y
-      same_node e = cc
 
 -- ---- two terms of one head
 
@@ -156,13 +157,17 @@ module _ (a : Arena) (ok : IsArena a) (es : List Entry) where
       (λ i. congruent (facts a es) (e i) (f i) ns)
       ∙ (λ i. head_eq h (sym same i) && all i) ∙ ap (λ b. b && true) (head_eq-refl h)
 
-  pub is-congruence : (known : List (Pair × ℕ)) (p q : TermId) (m n : Node) (ns : List ℕ) → slice_get a.nodes p.0 ≡ Some m → slice_get a.nodes q.0 ≡ Some n → m.head ≡ n.head
+  pub is-congruence : (known : List (Pair × ℕ)) (p q : TermId) (m n : Node) (ns : List ℕ) → AreAlike a p q → slice_get a.nodes p.0 ≡ Some m → slice_get a.nodes q.0 ≡ Some n
       → AreShown a es known → NumbersOf known m.args n.args ns → IsCongruence a es p q ns
-  is-congruence known p q m n ns is_m is_n heads shown numbers = record {
-    left = slice_get_within a.nodes p.0 m is_m;
-    right = slice_get_within a.nodes q.0 n is_n;
-    shown = congruent-at (tree a p) (tree a q) m.head n.head (trees a m.args) (trees a n.args) ns (tree-node a ok p m is_m) (tree-node a ok q n is_n) heads (arguments-equal a es known m.args n.args ns shown numbers);
-  }
+  is-congruence known p q m n ns alike is_m is_n shown numbers =
+      let one : alike.left ≡ m = one_node a.nodes p.0 alike.left m alike.left_is is_m in
+      let two : alike.right ≡ n = one_node a.nodes q.0 alike.right n alike.right_is is_n in
+      let heads : m.head ≡ n.head = ap (λ (x : Node). x.head) (sym one) ∙ alike.heads ∙ ap (λ (x : Node). x.head) two in
+      record {
+        left = slice_get_within a.nodes p.0 m is_m;
+        right = slice_get_within a.nodes q.0 n is_n;
+        shown = congruent-at (tree a p) (tree a q) m.head n.head (trees a m.args) (trees a n.args) ns (tree-node a ok p m is_m) (tree-node a ok q n is_n) heads (arguments-equal a es known m.args n.args ns shown numbers);
+      }
 
 -- ---- what stands
 
@@ -189,3 +194,11 @@ module _ (a : Arena) (g : Graph) where
     shown = h.shown;
     owed = subst (λ ws. AreOwed g ws) (sym is) (owed-push g (works ++ v ∷ []) w (owed-push g works v h.owed i) j);
   }
+
+  -- the first two terms have a number
+  pub stands-gains : (start es : List Entry) (known : List (Pair × ℕ)) (works : List Work) (s t : TermId) (n : ℕ) → GoesOn start es → Stands a g es known works → number_of known s t ≡ Some n
+      → Gains a start es n (equation (tree a s) (tree a t))
+  stands-gains start es known works s t n on h e = record { more = on.more; goes_on = on.is; course = h.reasons.course; fact = shown-at a es known s t n h.shown e }
+
+  pub node-within : (t : TermId) → IsOf a g → IsNode g.nodes t → t.0 < length a.nodes
+  node-within t of h = slice_get_within a.nodes t.0 h.0 (of.node t h.0 h.1)

@@ -1,10 +1,10 @@
 -- Pairs of terms with the numbers of their equations.
-use Rattle.std.proofs.Common.{◌≡◌, ℕ, zero, suc, ◌+◌, ◌<◌, Bool, true, false, cond, ◌&&◌, List, [], ◌∷◌, ◌++◌, length, Option, Some, None, slice_get, refl, sym, ap, ◌∙◌}
-use Rattle.std.specs.Map.{lookup}
+use Rattle.std.proofs.Common.{◌≡◌, ℕ, ◌+◌, ◌<◌, Bool, true, false, cond, ◌&&◌, List, [], ◌∷◌, ◌++◌, length, Option, Some, slice_get, get_or, take, refl, sym, ap, ◌∙◌, subst}
+use Rattle.std.proofs.lemmas.List.{take_more}
 use Rattle.std.proofs.lemmas.Bool.{false≢true, eqb-true}
 use Rattle.indexmap.specs.IndexMap.{insert_entry}
 use Rattle.spv_logic.specs.declared.conditions.TermId.{TermId}
-use Rattle.spv_logic.specs.Terms.{Term, Terms}
+use Rattle.spv_logic.specs.Terms.{Term}
 use Rattle.spv_logic.specs.Formulas.{equation}
 use Rattle.spv_logic.proofs.Equality.{term_eq-refl}
 use Rattle.spv_term.specs.Arena.{Arena, tree, trees}
@@ -15,7 +15,7 @@ use Rattle.spv_course.specs.Course.{fact_at, facts}
 use Rattle.spv_course.proofs.Growth.{fact_at-more}
 use Rattle.spv_reasons.specs.declared.known.Pair.{Pair}
 use Rattle.spv_reasons.specs.Reasons.{Equates, GoesOn}
-use Rattle.spv_reasons.specs.Known.{pair, same_pair, number_of, AreShown, NumbersOf}
+use Rattle.spv_reasons.specs.Known.{pair, same_pair, number_of, AreBeside, AreShown, NumbersOf}
 
 same_ids : (t u : TermId) → same_id t u ≡ true → t ≡ u
 same_ids t u e = ap (λ (k : ℕ). record { 0 = k }) (eqb-true t.0 u.0 e)
@@ -90,3 +90,18 @@ numbers-push known (r ∷ ss) [] [] s t n h e = absurd h
 numbers-push known (r ∷ ss) [] (m ∷ ns) s t n h e = absurd h
 numbers-push known (r ∷ ss) (u ∷ ts) [] s t n h e = absurd h
 numbers-push known (r ∷ ss) (u ∷ ts) (m ∷ ns) s t n h e = (h.0, numbers-push known ss ts ns s t n h.1 e)
+
+-- one place more
+pub numbers-more : (known : List (Pair × ℕ)) (ss ts : List TermId) (ns ms : List ℕ) (i n : ℕ) (d : TermId) → i < length ss → i < length ts → NumbersOf known (take i ss) (take i ts) ns
+    → number_of known (get_or ss i d) (get_or ts i d) ≡ Some n → ms ≡ ns ++ n ∷ [] → NumbersOf known (take (i + 1) ss) (take (i + 1) ts) ms
+numbers-more known ss ts ns ms i n d h k numbers e is =
+    subst (λ xs. NumbersOf known xs (take (i + 1) ts) ms) (sym (take_more ss i d h))
+    (subst (λ ys. NumbersOf known (take i ss ++ get_or ss i d ∷ []) ys ms) (sym (take_more ts i d k))
+    (subst (λ ks. NumbersOf known (take i ss ++ get_or ss i d ∷ []) (take i ts ++ get_or ts i d ∷ []) ks) (sym is)
+    (numbers-push known (take i ss) (take i ts) ns (get_or ss i d) (get_or ts i d) n numbers e)))
+
+pub numbers-is : (known : List (Pair × ℕ)) (ss ts xs ys : List TermId) (ns : List ℕ) → ss ≡ xs → ts ≡ ys → NumbersOf known ss ts ns → NumbersOf known xs ys ns
+numbers-is known ss ts xs ys ns e f h = subst (λ zs. NumbersOf known zs ys ns) e (subst (λ zs. NumbersOf known ss zs ns) f h)
+
+pub beside-is : (ss ts xs ys : List TermId) (s t : TermId) → ss ≡ xs → ts ≡ ys → AreBeside ss ts s t → AreBeside xs ys s t
+beside-is ss ts xs ys s t e f h = record { place = h.place; left = ap (λ zs. slice_get zs h.place) (sym e) ∙ h.left; right = ap (λ zs. slice_get zs h.place) (sym f) ∙ h.right }

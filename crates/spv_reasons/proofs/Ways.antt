@@ -1,24 +1,22 @@
 -- Ways along links, and their equations.
-use Rattle.std.proofs.Common.{◌≡◌, ℕ, zero, suc, ◌+◌, ◌<◌, ◌≤◌, true, List, [], ◌∷◌, ◌++◌, drop, take, length, Option, Some, None, slice_get, refl, sym, ap, ◌∙◌, subst, inl, inr, ◌⊎◌}
+use Rattle.std.proofs.Common.{◌≡◌, ℕ, List, [], ◌∷◌, ◌++◌, Option, Some, None, refl, sym, ap, ◌∙◌, subst, inl, inr, ◌⊎◌}
 use Rattle.std.proofs.lemmas.List.{append-nil, append_assoc}
 use Rattle.spv_logic.specs.declared.conditions.TermId.{TermId}
 use Rattle.spv_logic.specs.Terms.{Term}
 use Rattle.spv_logic.specs.Formulas.{equation}
 use Rattle.spv_term.specs.Arena.{Arena, IsArena, tree}
-use Rattle.spv_congruence.specs.declared.facts.Fact.{Fact}
 use Rattle.spv_congruence.specs.declared.facts.Link.{Link}
 use Rattle.spv_congruence.specs.declared.facts.Link.TheVariants.{Told, Congruent}
 use Rattle.spv_congruence.specs.Graph.{Graph}
 use Rattle.spv_congruence.specs.Explained.{IsLinkOf, IsTelling, Leads}
 use Rattle.spv_course.specs.declared.entries.Entry.{Entry}
-use Rattle.spv_course.specs.Course.{Gains, IsCourse, fact_at}
+use Rattle.spv_course.specs.Course.{Gains, IsCourse}
 use Rattle.spv_course.specs.Sides.{Pair, sides_at}
-use Rattle.spv_course.proofs.Growth.{fact_at-more}
 use Rattle.spv_course.proofs.Equations.{sides-state, sides_at-more}
 use Rattle.spv_reasons.specs.declared.known.Pair as known_pair
 use Rattle.spv_reasons.specs.declared.links.Way.{Way}
 use Rattle.spv_reasons.specs.Reasons.{Equates, GoesOn, IsBacked}
-use Rattle.spv_reasons.specs.Known.{AreShown, HasNumber, number_of}
+use Rattle.spv_reasons.specs.Known.{AreShown, number_of}
 use Rattle.spv_reasons.specs.Links.{AllKnown, AreEnds, IsSoFar, IsWay, LeadsBy, LinkKnown, Reaches}
 use Rattle.spv_reasons.proofs.Shown.{equates-more, shown-more, shown-at}
 

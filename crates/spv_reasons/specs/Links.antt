@@ -1,14 +1,13 @@
 -- Equations along the links of an explanation, and what is still to be shown.
 use Rattle.std.specs.Prelude.{◌≡◌, ℕ, List, [], ◌∷◌, length, Option, Some, None, slice_get, ◌⊎◌}
 use Rattle.spv_logic.specs.declared.conditions.TermId.{TermId}
-use Rattle.spv_logic.specs.Formulas.{equation}
 use Rattle.spv_term.specs.declared.nodes.Node.{Node}
-use Rattle.spv_term.specs.Arena.{Arena, tree}
+use Rattle.spv_term.specs.Arena.{Arena}
 use Rattle.spv_congruence.specs.declared.facts.Link.{Link}
 use Rattle.spv_congruence.specs.declared.facts.Link.TheVariants.{Told, Congruent}
 use Rattle.spv_congruence.specs.Graph.{Graph, AreCongruent}
 use Rattle.spv_course.specs.declared.entries.Entry.{Entry}
-use Rattle.spv_course.specs.Course.{Gains, IsCourse}
+use Rattle.spv_course.specs.Course.{IsCourse}
 use Rattle.spv_course.specs.Sides.{sides_at}
 use Rattle.spv_reasons.specs.declared.known.Pair.{Pair}
 use Rattle.spv_reasons.specs.declared.links.Way.{Way}

@@ -24,12 +24,7 @@ pub(crate) struct Way {
 }
 
 // Passes an equation that its entry states, the one way round or the other.
-fn pass_told(
-    course: &mut Course,
-    terms: &Terms,
-    why: u32,
-    at: TermId,
-) -> Result<Way, AllocError>
+fn pass_told(course: &mut Course, terms: &Terms, why: u32, at: TermId) -> Result<Way, AllocError>
     requires { IsSome (sides_at terms.now course.old why) }
     ensures goes_on { GoesOn course.old course.new }
     ensures reaches { IfOk result (λ w. (t : TermId) → IsCourse terms.now course.old
@@ -37,7 +32,7 @@ fn pass_told(
 {
     terms.law_arena();
     let (left, right) = course.sides(terms, why).unwrap();
-    if left == at {
+    if left.0 == at.0 {
         return Ok(Way {
             at: right,
             number: Some(why),

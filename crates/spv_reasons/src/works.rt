@@ -68,6 +68,7 @@ fn show_congruent(
     ensures stands { OnOk result ((g : Graph) → Stands terms.now g course.old known.old works.old.items
         → AreCongruent g.nodes g.joins p q → Stands terms.now g course.new known.new works.new.items) }
 {
+    terms.law_arena();
     let mut numbers = List::new(alloc);
     let left = terms.node(p).args.as_slice();
     let right = terms.node(q).args.as_slice();
