@@ -3,3 +3,4 @@ mod Ways
 mod Owed
 mod Bridges
 mod Ends
+mod Backed

@@ -2,8 +2,10 @@
 #![tactic(auto)]
 
 mod known;
+mod laws;
 mod links;
 mod reasons;
 mod works;
 
+pub use laws::law_backed;
 pub use reasons::{contradiction, reason};
