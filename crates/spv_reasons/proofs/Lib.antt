@@ -1,0 +1,6 @@
+mod Shown
+mod Ways
+mod Owed
+mod Bridges
+mod Ends
+mod Backed

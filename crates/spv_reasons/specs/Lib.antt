@@ -1,0 +1,4 @@
+pub mod Reasons
+pub mod Known
+pub mod Links
+pub mod Laws
