@@ -8,3 +8,4 @@ pub mod Refuting
 pub mod Steps
 pub mod Values
 pub mod Meeting
+pub mod Standing

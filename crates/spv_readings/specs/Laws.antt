@@ -15,7 +15,7 @@ use Rattle.spv_proof.specs.Sums.{Reading, difference, is_at_most_zero, reading, 
 use Rattle.spv_proof.specs.Effects.{Question, Adds, is_number, linear, at_most, impossible}
 use Rattle.spv_tableaux.specs.Numbers.{minus}
 use Rattle.spv_tableaux.specs.Rows.{column_of, Point, IsSolution}
-use Rattle.spv_tableaux.specs.Bounds.{Bound, bound_on}
+use Rattle.spv_tableaux.specs.Bounds.{Bound, bound_on, limits, Meets}
 use Rattle.spv_tableaux.specs.Forms.{rows_of}
 use Rattle.spv_tableaux.specs.Contradictions.{Multiple, IsContradiction}
 use Rattle.spv_readings.specs.declared.saying.Saying.{Saying}
@@ -141,3 +141,16 @@ abbrev pub MetWhereTrue : Type 0
 MetWhereTrue = (a : Arena) → IsArena a → (forms : List IdForm) → AreIn a forms → (v : Point) → IsSolution (rows_of forms) v → (i : ℕ) (f : IdForm) → slice_get forms i ≡ Some f
     → (s t : Term) → IsRowOf a (s, t) f → (x : Saying) (r : Reading) → reading_of x s t ≡ Some r
     → meets (v (column_of (rows_of forms) i)) (bounds_of i f.constant x) ≡ holds_at (part_value a forms v) r
+
+-- a point that meets all bounds makes true what is read of a literal whose bounds stand
+abbrev pub TrueWhereStanding : Type 0
+TrueWhereStanding = (a : Arena) → IsArena a → (forms : List IdForm) → AreIn a forms → (bounds : List Bound) (v : Point) → IsSolution (rows_of forms) v → Meets (limits (rows_of forms) bounds) v
+    → (i : ℕ) (f : IdForm) → slice_get forms i ≡ Some f → (s t : Term) → IsRowOf a (s, t) f → (x : Saying) (r : Reading) → reading_of x s t ≡ Some r
+    → ((j : ℕ) (b : Bound) → slice_get (bounds_of i f.constant x) j ≡ Some b → bound_on bounds i b.side ≡ Some b.value) → holds_at (part_value a forms v) r ≡ true
+
+-- an equation is true exactly where its sides have one value
+abbrev pub EqualWhereTrue : Type 0
+EqualWhereTrue = (value : Term → Rational) (s t : Term) → holds_at value (record { form = difference s t (pos 0); is_equal = true }) ≡ true → form_value value (form s) ≡ form_value value (form t)
+
+abbrev pub TrueWhereEqual : Type 0
+TrueWhereEqual = (value : Term → Rational) (s t : Term) → form_value value (form s) ≡ form_value value (form t) → holds_at value (record { form = difference s t (pos 0); is_equal = true }) ≡ true

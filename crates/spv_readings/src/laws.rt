@@ -1,6 +1,6 @@
 // What is true of readings, each law the contract of a function that does nothing.
 
-ghost use Rattle.spv_readings.specs.Laws.{LiteralIsRead, BelowIsRead, AboveIsRead, IsBoundOn, IsOnRow, PlaceIsOfRow, PlaceIsThere, RowsAreIn, NoneIsSourced, OneMoreIsSourced, FirstAreSourced, KeptWithFacts, KeptInStep, ContradictionRefutes, RefutedAddsImpossible, IsImpossible, SupposesAbove, SupposesBelow, RefutedAddsEquation, DifferenceIsWorth, RowIsWorth, MetWhereTrue};
+ghost use Rattle.spv_readings.specs.Laws.{LiteralIsRead, BelowIsRead, AboveIsRead, IsBoundOn, IsOnRow, PlaceIsOfRow, PlaceIsThere, RowsAreIn, NoneIsSourced, OneMoreIsSourced, FirstAreSourced, KeptWithFacts, KeptInStep, ContradictionRefutes, RefutedAddsImpossible, IsImpossible, SupposesAbove, SupposesBelow, RefutedAddsEquation, DifferenceIsWorth, RowIsWorth, MetWhereTrue, TrueWhereStanding, EqualWhereTrue, TrueWhereEqual};
 
 /// How literals are read.
 pub fn law_literals()
@@ -57,5 +57,12 @@ pub fn law_difference()
 
 /// Bounds are met where what they say is true.
 pub fn law_met()
-    ensures { MetWhereTrue }
+    ensures met { MetWhereTrue }
+    ensures standing { TrueWhereStanding }
+{}
+
+/// An equation is true where its sides have one value.
+pub fn law_equal()
+    ensures equal { EqualWhereTrue }
+    ensures true_where { TrueWhereEqual }
 {}

@@ -7,8 +7,8 @@ mod saying;
 mod source;
 
 pub use laws::{
-    law_bounds, law_difference, law_equality, law_impossible, law_literals, law_met, law_refuted,
-    law_rows, law_sources,
+    law_bounds, law_difference, law_equal, law_equality, law_impossible, law_literals, law_met,
+    law_refuted, law_rows, law_sources,
 };
 pub use saying::Saying;
 pub use source::Source;
