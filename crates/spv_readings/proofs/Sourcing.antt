@@ -103,7 +103,7 @@ module _ (a : Arena) (facts others : ℕ → Option Reading) (kept : (k : ℕ) (
   read_again k i z side value s t AtLeast bound read = kept k _ read
   read_again k i z side value s t Differs bound read = absurd (cc)
 
-  kept_sourced : (forms : List IdForm) (bounds : List Bound) (sources : Sources) → AreSourced a facts forms bounds sources → AreSourced a others forms bounds sources
+  pub kept_sourced : (forms : List IdForm) (bounds : List Bound) (sources : Sources) → AreSourced a facts forms bounds sources → AreSourced a others forms bounds sources
   kept_sourced forms bounds sources are = record {
     each = λ i f side value at bound.
         let s = are.each i f side value at bound in

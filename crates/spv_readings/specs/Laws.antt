@@ -82,6 +82,11 @@ abbrev pub FirstAreSourced : Type 0
 FirstAreSourced = (a : Arena) (facts : ℕ → Option Reading) (forms : List IdForm) (bounds : List Bound) (sources : Sources) (n : ℕ) → AreSourced a facts forms bounds sources
     → AreSourced a facts forms (take n bounds) sources
 
+-- other facts, of which those that were read are read the same
+abbrev pub KeptAsRead : Type 0
+KeptAsRead = (a : Arena) (facts others : ℕ → Option Reading) → ((k : ℕ) (r : Reading) → facts k ≡ Some r → others k ≡ Some r)
+    → (forms : List IdForm) (bounds : List Bound) (sources : Sources) → AreSourced a facts forms bounds sources → AreSourced a others forms bounds sources
+
 -- more facts
 abbrev pub KeptWithFacts : Type 0
 KeptWithFacts = (is_number : Term → Bool) (a : Arena) (facts more : List Term) (forms : List IdForm) (bounds : List Bound) (sources : Sources)

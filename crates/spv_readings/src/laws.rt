@@ -1,6 +1,6 @@
 // What is true of readings, each law the contract of a function that does nothing.
 
-ghost use Rattle.spv_readings.specs.Laws.{LiteralIsRead, BelowIsRead, AboveIsRead, IsBoundOn, IsOnRow, PlaceIsOfRow, PlaceIsThere, RowsAreIn, NoneIsSourced, OneMoreIsSourced, FirstAreSourced, KeptWithFacts, KeptInStep, ContradictionRefutes, RefutedAddsImpossible, IsImpossible, SupposesAbove, SupposesBelow, RefutedAddsEquation, DifferenceIsWorth, RowIsWorth, MetWhereTrue, TrueWhereStanding, EqualWhereTrue, TrueWhereEqual};
+ghost use Rattle.spv_readings.specs.Laws.{LiteralIsRead, BelowIsRead, AboveIsRead, IsBoundOn, IsOnRow, PlaceIsOfRow, PlaceIsThere, RowsAreIn, NoneIsSourced, OneMoreIsSourced, FirstAreSourced, KeptAsRead, KeptWithFacts, KeptInStep, ContradictionRefutes, RefutedAddsImpossible, IsImpossible, SupposesAbove, SupposesBelow, RefutedAddsEquation, DifferenceIsWorth, RowIsWorth, MetWhereTrue, TrueWhereStanding, EqualWhereTrue, TrueWhereEqual};
 
 /// How literals are read.
 pub fn law_literals()
@@ -27,6 +27,7 @@ pub fn law_sources()
     ensures none { NoneIsSourced }
     ensures one_more { OneMoreIsSourced }
     ensures first { FirstAreSourced }
+    ensures read { KeptAsRead }
     ensures facts { KeptWithFacts }
     ensures step { KeptInStep }
 {}
