@@ -1,0 +1,8 @@
+use Rattle.spv_course.proofs.Bridges.{if_both}
+use Rattle.spv_course.proofs.Growth.{gains-derived}
+use Rattle.spv_course.proofs.course.Course.derive.Goals as goal
+
+pub returns-clause-gains : goal.returns-clause-gains
+returns-clause-gains c =
+    if_both c.push.result c.push.ensures.number c.push.ensures.ok
+    (λ n at is a t f h. gains-derived a c.args.self.now c.push.new.self c.args.step n t is at f h)

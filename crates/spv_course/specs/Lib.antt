@@ -1,0 +1,7 @@
+pub mod Course
+pub mod Derived
+pub mod Sides
+pub mod Renumbered
+pub mod Steps
+pub mod Copying
+pub mod Laws

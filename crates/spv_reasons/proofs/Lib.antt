@@ -1,0 +1,5 @@
+mod Shown
+mod Ways
+mod Owed
+mod Bridges
+mod Ends
