@@ -1,0 +1,5 @@
+pub mod Fitting
+pub mod Gathering
+pub mod Finding
+pub mod Stating
+pub mod Pairing

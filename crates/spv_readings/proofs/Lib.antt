@@ -1,0 +1,11 @@
+pub mod Literals
+pub mod Bounding
+pub mod Numbers
+pub mod Placing
+pub mod Columns
+pub mod Sourcing
+pub mod Refuting
+pub mod Steps
+pub mod Values
+pub mod Meeting
+pub mod Standing

@@ -1,0 +1,5 @@
+pub mod Sayings
+pub mod Relations
+pub mod Sources
+pub mod Values
+pub mod Laws
