@@ -62,10 +62,9 @@ fn numbered(name: Symbol, sort: Sort, number: u32) -> Head
     }
 }
 
-/// The variable of this name and sort whose number is one more than the greatest number of that name
-/// in the arena, whatever the sort; of the sort of a class, the class whose number is one more than the
-/// greatest of its type. The number is 1 where there is none. It is never there already, so `Size`
-/// comes exactly where the arena is full.
+/// A variable that the arena does not have: of this name and sort, numbered behind all of its name there, whatever
+/// their sorts; for the sort of a class, a class numbered behind all of its type. The first number is 1. It is
+/// never there already, so `Size` comes exactly where the arena is full.
 pub fn fresh(terms: &mut Terms, name: Symbol, sort: Sort) -> Result<TermId, TermFault>
     requires sort { IsTrue (sort_in_range terms.old.shapes sort) }
     requires few { greatest name sort terms.old.nodes ≤ length terms.old.nodes }
