@@ -178,6 +178,13 @@ impl Graph {
         }
     }
 
+    /// Each term that was added has its node, and its arguments were added before it.
+    pub fn law_terms(&self)
+        ensures { spec.AreTerms self.now.nodes self.now.added }
+    {
+        self.kept.law_joins();
+    }
+
     /// Two terms are the same exactly where it follows from what was told: by reflexivity, symmetry, transitivity and the congruence of
     /// added terms.
     pub fn law_same(&self)
