@@ -1,5 +1,3 @@
-pub mod Fitting
-pub mod Gathering
 pub mod Finding
 pub mod Stating
 pub mod Pairing

@@ -11,7 +11,7 @@ use Rattle.spv_term.proofs.ArenaLemmas.{tree-node}
 use Rattle.spv_proof.specs.Sums.{pair}
 use Rattle.spv_sums.specs.Readings.{number_in}
 use Rattle.spv_readings.specs.Relations.{if_numbers, number_sides}
-use Rattle.spv_bounds.specs.Rows.{IsPair}
+use Rattle.spv_bounds.specs.Pairs.{IsPair}
 
 pub not_two : (a : Arena) (is_number : Term → Bool) (ts : List TermId) → length ts ≢ 2 → if_numbers is_number (pair (trees a ts)) ≡ None
 not_two a is_number [] h = refl

@@ -1,5 +1,5 @@
 pub mod Bounds
 pub mod Sources
 pub mod Multiples
-pub mod Rows
+pub mod Pairs
 pub mod Laws

@@ -75,8 +75,9 @@ fn has_next(n: i128) -> bool
     n < i128::MAX
 }
 
-/// Whether the number after this one fits, and the one after its opposite.
-pub(crate) fn has_room(n: i128) -> bool
+/// Whether a row whose form has this constant has room for each bound of its relation: whether the number after the constant fits,
+/// and the one after its opposite.
+pub fn has_room(n: i128) -> bool
     requires { IsTrue (fits n) }
     ensures { result ≡ spec.has_room n }
 {

@@ -5,7 +5,7 @@ ghost use Rattle.spv_term.specs.Arena.{AllBelow, IsArena, tree, trees};
 ghost use Rattle.spv_proof.specs.Sums.{pair};
 ghost use Rattle.spv_sums.specs.Readings.{number_in};
 ghost use Rattle.spv_readings.specs.Relations as spec;
-ghost use Rattle.spv_bounds.specs.Rows.{IsPair};
+ghost use Rattle.spv_bounds.specs.Pairs.{IsPair};
 
 use spv_sums::is_number;
 use spv_term::{Head, TermId, Terms};
