@@ -98,8 +98,8 @@ impl Linear {
         }
     }
 
-    // The difference; `None` where one of its numbers does not fit.
-    pub(crate) fn minus(&self, alloc: Global, other: &Linear) -> Result<Option<Linear>, AllocError>
+    /// The difference; `None` where one of its numbers does not fit.
+    pub fn minus(&self, alloc: Global, other: &Linear) -> Result<Option<Linear>, AllocError>
         ensures { IfOk result (λ difference. IsDifference self.now other.now difference) }
     {
         other.law_linear();

@@ -3,5 +3,5 @@ pub mod Growth
 mod Copies
 mod Derivations
 mod Values
-mod Bridges
+pub mod Bridges
 pub mod Equations

@@ -1,6 +1,5 @@
 mod Shown
 mod Ways
 mod Owed
-mod Bridges
 mod Ends
 mod Backed

@@ -1,4 +1,4 @@
-use Rattle.spv_reasons.proofs.Bridges.{if_ok}
+use Rattle.spv_course.proofs.Bridges.{if_ok}
 use Rattle.spv_reasons.proofs.Ends.{clash-closes, false-clash, false-term, numerals-close, true-clash, true-other}
 use Rattle.spv_reasons.proofs.Ways.{goes_on-same}
 use Rattle.spv_reasons.proofs.reasons.opposed_end.Goals as goal

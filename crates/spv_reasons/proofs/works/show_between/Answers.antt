@@ -1,7 +1,7 @@
 use Rattle.std.proofs.Common.{sym, subst}
 use Rattle.spv_reasons.specs.declared.works.Work.TheVariants.{Between, Congruent}
 use Rattle.spv_reasons.specs.Links.{AllKnown, HasLink, IsWay}
-use Rattle.spv_reasons.proofs.Bridges.{on_ok}
+use Rattle.spv_course.proofs.Bridges.{on_ok}
 use Rattle.spv_reasons.proofs.Owed.{explained-congruent, explained-way, node-within, stands-insert, stands-push}
 use Rattle.spv_reasons.proofs.works.show_between.Goals as goal
 

@@ -1,7 +1,7 @@
 use Rattle.std.proofs.Common.{subst, IfNone, IfSome}
 use Rattle.spv_reasons.specs.declared.works.Work.TheVariants.{Between, Congruent}
 use Rattle.spv_reasons.specs.Known.{AreBeside, NumbersOf}
-use Rattle.spv_reasons.proofs.Bridges.{on_ok}
+use Rattle.spv_course.proofs.Bridges.{on_ok}
 use Rattle.spv_reasons.proofs.Owed.{arguments-same, is-congruence, stands-insert, stands-push}
 use Rattle.spv_reasons.proofs.Shown.{beside-is, numbers-is}
 use Rattle.spv_reasons.proofs.works.show_congruent.Goals as goal
