@@ -1,6 +1,7 @@
 // Headings with their clauses.
 
-ghost use Rattle.std.specs.Prelude.{◌≡◌, [], true, None, IfOk, IfErr, Ok, OnOk};
+ghost use Rattle.std.specs.Prelude.{◌≡◌, [], true, None, map, IfOk, IfErr, Ok, OnOk};
+ghost use Rattle.spv_typed.specs.ProgramViews.{formal_of};
 ghost use Rattle.spv_typing.specs.Known.{is_free, named};
 ghost use Rattle.spv_typing.specs.RoutineWalk as spec;
 ghost use Rattle.spv_scopes.specs.Answers.{Stops};
@@ -16,9 +17,8 @@ use spv_list::List;
 use spv_logic::{RoutineId, TypeId};
 use spv_named::Named;
 use spv_names::Symbol;
-use spv_scopes::{Heading, Known, Own, Specified};
+use spv_scopes::{Formals, Heading, Known, Own, Specified};
 use spv_syntax::{HeadingForm, Name, Params};
-use spv_typed::Formal;
 use spv_typing::TypeFault;
 use std::alloc::{AllocError, Global};
 
@@ -46,23 +46,12 @@ pub struct Title {
     pub number: RoutineId,
 }
 
-// A copy of a list of parameters.
-fn copied(alloc: Global, formals: &List<Formal>) -> Result<List<Formal>, AllocError>
-    ensures { IfOk result (λ l. l ≡ formals.now) }
-{
-    let mut copy = List::new(alloc);
-    for formal in formals.as_slice() {
-        copy.push(*formal)?;
-    }
-    Ok(copy)
-}
-
 // What is known of a routine while its heading is read.
 fn announce(
     known: &mut Known,
     alloc: Global,
     title: Title,
-    formals: List<Formal>,
+    formals: Formals,
     of: Option<TypeId>,
 ) -> Result<(), AllocError>
     requires { is_free known.old title.name ≡ true }
@@ -82,8 +71,8 @@ fn announce(
 }
 
 // A heading with what its clauses say.
-fn with_all(title: Title, parameters: Parameters, of: Option<TypeId>, clauses: Clauses) -> Headed
-    ensures value { headed_of title.name result ≡ headed_with title (parameters_of parameters).formals of (clauses_of clauses) }
+fn with_all(title: Title, formals: Formals, of: Option<TypeId>, clauses: Clauses) -> Headed
+    ensures value { headed_of title.name result ≡ headed_with title (map formal_of formals) of (clauses_of clauses) }
     ensures listed { IsListed result }
 {
     let (globals, listed) = clauses.globals.into_parts();
@@ -93,7 +82,7 @@ fn with_all(title: Title, parameters: Parameters, of: Option<TypeId>, clauses: C
                 line: title.line,
                 is_function: title.is_function,
                 number: title.number,
-                formals: parameters.formals,
+                formals,
                 result: of,
                 globals,
             },
@@ -122,11 +111,13 @@ fn with_clauses(
     ensures known { OnOk result (known.new ≡ known.old) }
     ensures listed { IfOk result IsListed }
 {
-    let formals = copied(alloc, &parameters.formals)?;
+    let formals = Formals::from_slice(alloc, parameters.formals.as_slice())?;
     announce(known, alloc, title, formals, of)?;
     let clauses = all_clauses(known, alloc, title.name, &parameters, of, tree)?;
     known.withdraw();
-    Ok(with_all(title, parameters, of, clauses))
+    let Parameters { formals, .. } = parameters;
+    let formals = Formals::from_list(alloc, formals)?;
+    Ok(with_all(title, formals, of, clauses))
 }
 
 // The parameters of a heading.
@@ -142,7 +133,7 @@ fn with_parameters(
     ensures known { OnOk result (known.new ≡ spec.with_heading known.old (spec.announced title.name title.line title.is_function title.number [] None)) }
     ensures places { IfOk result IsPlaces }
 {
-    announce(known, alloc, title, List::new(alloc), None)?;
+    announce(known, alloc, title, Formals::new(alloc), None)?;
     all_parameters(known, alloc, title.name, tree)
 }
 

@@ -62,12 +62,12 @@ fn put(own: &mut Named<Own>, name: Symbol, meant: Own) -> Result<(), TypeFault>
 }
 
 // The names of parameters.
-fn parameter_names(alloc: Global, formals: &List<Formal>) -> Result<Named<Own>, TypeFault>
+fn parameter_names(alloc: Global, formals: &[Formal]) -> Result<Named<Own>, TypeFault>
     ensures ok { IfOk result (λ own. own ≡ map own_of_formal formals.now) }
     ensures err { IfErr result (λ e. e ≡ Memory) }
 {
     let mut own = Named::new(alloc);
-    for formal in formals.as_slice() {
+    for formal in formals {
         put(&mut own, formal.name, Own::Place(formal.of))?;
     }
     Ok(own)
@@ -137,7 +137,7 @@ pub(crate) fn heading_names(
     ensures ok { IfOk result (λ own. named own_of own ≡ names_again known.now specified.now) }
     ensures err { IfErr result (λ e. e ≡ Memory) }
 {
-    let parameters = parameter_names(alloc, &specified.heading.formals)?;
-    let own = parameter_names(alloc, &specified.heading.formals)?;
+    let parameters = parameter_names(alloc, specified.heading.formals.as_slice())?;
+    let own = parameter_names(alloc, specified.heading.formals.as_slice())?;
     with_starts(known, alloc, &parameters, own, &specified.initial)
 }

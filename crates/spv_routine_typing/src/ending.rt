@@ -85,7 +85,7 @@ fn with_all(
     Routine {
         name,
         line,
-        formals,
+        formals: formals.into_list(),
         result,
         globals,
         initial,

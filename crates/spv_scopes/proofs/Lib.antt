@@ -2,6 +2,7 @@ pub mod PlacesOfHeadings
 pub mod Tables
 pub mod FieldTables
 pub mod Free
+pub mod NotedParameters
 pub mod Forms
 pub mod Heads
 pub mod Meanings

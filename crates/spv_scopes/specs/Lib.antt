@@ -1,6 +1,7 @@
 pub mod Answers
 pub mod Ended
 pub mod Fields
+pub mod PlaceParameters
 pub mod Numbered
 pub mod Indexed
 pub mod IndexedHeadings

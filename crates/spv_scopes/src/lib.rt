@@ -5,6 +5,7 @@ mod adding;
 mod announcing;
 mod ending;
 mod fields;
+pub mod formals;
 pub mod functions;
 mod headings;
 pub mod indexed;
@@ -15,6 +16,7 @@ pub mod routines;
 pub mod scopes;
 mod waiting;
 
+pub use formals::Formals;
 pub use functions::{Function, KnownNames};
 pub use indexed::IndexedForms;
 pub use known::{Known, Signature};

@@ -2,11 +2,12 @@
 
 ghost use Rattle.std.specs.Prelude.{◌≡◌, IfOk};
 
+use crate::formals::Formals;
 use spv_list::List;
 use spv_logic::{RoutineId, TypeId};
 use spv_names::Symbol;
 use spv_program::Item;
-use spv_typed::{Annotation, Formal, GlobalItem};
+use spv_typed::{Annotation, GlobalItem};
 use std::alloc::{AllocError, Global};
 
 /// What those who call a routine know of it, but for its name.
@@ -19,7 +20,7 @@ pub struct Heading {
     /// Its number among the routines with a body.
     pub number: RoutineId,
     /// The parameters, in order.
-    pub formals: List<Formal>,
+    pub formals: Formals,
     /// The type of a function's result.
     pub result: Option<TypeId>,
     /// The items of its GLOBAL list, in order.
@@ -55,7 +56,7 @@ impl Heading {
     pub fn copied(&self, alloc: Global) -> Result<Heading, AllocError>
         ensures { IfOk result (λ h. h ≡ self.now) }
     {
-        let formals = copied(alloc, &self.formals)?;
+        let formals = Formals::from_slice(alloc, self.formals.as_slice())?;
         let globals = copied(alloc, &self.globals)?;
         Ok(Heading {
             line: self.line,

@@ -52,7 +52,7 @@ impl Known {
         ensures { OnOk result (self.new ≡ spec.with_awaited self.old (self.old.awaited ++ specified_of name specified ∷ [])) }
     {
         // One of this name that has begun would hold its place.
-        let _begun = self.awaited.remove(name);
+        drop(self.awaited.remove(name));
         self.awaited.insert(name, Some(specified))?;
         Ok(())
     }

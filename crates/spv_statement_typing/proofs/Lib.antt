@@ -1,4 +1,3 @@
 pub mod Counters
 pub mod Faults
-pub mod Formals
 pub mod Loops

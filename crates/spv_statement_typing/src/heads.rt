@@ -1,15 +1,14 @@
 // Tests, what a CASE is about, and the heads of FORs.
 
-ghost use Rattle.std.specs.Prelude.{◌≡◌, IfOk, IfErr, Ok, map};
+ghost use Rattle.std.specs.Prelude.{◌≡◌, IfOk, IfErr, Ok};
 ghost use Rattle.spv_program.specs.Types.{sort_of};
-ghost use Rattle.spv_typed.specs.ProgramViews.{formal_of};
 ghost use Rattle.spv_typed.specs.StatementViews.{counting_of};
 ghost use Rattle.spv_typing.specs.Known.{meaning};
 ghost use Rattle.spv_typing.specs.StatementWalk as spec;
 ghost use Rattle.spv_scopes.specs.Answers.{Stops};
 ghost use Rattle.spv_scopes.specs.Scopes.{scope_of};
 ghost use Rattle.spv_formula_typing.specs.Operands.{operand_of};
-ghost use Rattle.spv_statement_typing.specs.Counters.{by_place_in, is_counter};
+ghost use Rattle.spv_statement_typing.specs.Counters.{is_counter};
 ghost use Rattle.spv_statement_typing.specs.Parts.{head_kept, head_settled, tested, uncounted};
 ghost use Rattle.spv_statement_typing.specs.Settings.{setting_of};
 
@@ -22,7 +21,7 @@ use spv_names::Symbol;
 use spv_program::Direction;
 use spv_scopes::{Meaning, Scope};
 use spv_syntax::{Formula, Name};
-use spv_typed::{Counting, Expression, Formal};
+use spv_typed::{Counting, Expression};
 use spv_typing::TypeFault;
 use std::alloc::Global;
 
@@ -51,19 +50,6 @@ fn direction_of(sign: spv_syntax::Direction) -> Direction
     }
 }
 
-// Whether a parameter is a VAR parameter.
-#[tactic(auto, using(crate::proofs::Formals::formal_first, crate::proofs::Formals::formal_behind))]
-fn is_by_place(formals: &[Formal], x: Symbol) -> bool
-    ensures { result ≡ by_place_in (map formal_of formals.now) x }
-{
-    for formal in formals {
-        if formal.name.0 == x.0 && formal.by_place {
-            return true;
-        }
-    }
-    false
-}
-
 // Whether a variable is one that may count: in a routine a local variable or a value parameter.
 fn may_count(scope: &Scope<'_, '_>, x: Symbol) -> bool
     ensures { result ≡ spec.may_count (scope_of scope.now) x }
@@ -71,7 +57,7 @@ fn may_count(scope: &Scope<'_, '_>, x: Symbol) -> bool
     match scope.routine {
         None => true,
         Some((name, heading)) => {
-            is_own(scope, x) && !is_by_place(heading.formals.as_slice(), x) && name.0 != x.0
+            is_own(scope, x) && !heading.formals.is_by_place(x) && name.0 != x.0
         }
     }
 }
