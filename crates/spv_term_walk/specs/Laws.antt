@@ -1,0 +1,50 @@
+-- What is proved of the terms of expressions without calls, and of the tables of names.
+use Rattle.std.specs.Prelude.{◌≡◌, ◌++◌, List, [], Option, IsTrue}
+use Rattle.spv_names.specs.declared.names.Symbol.{Symbol}
+use Rattle.spv_logic.specs.declared.operators.Head.{Head}
+use Rattle.spv_program.specs.declared.types.Item.TheVariants.{Variable}
+use Rattle.spv_program.specs.Expressions.{Expression, Designator}
+use Rattle.spv_program.specs.Formulas.{Formula}
+use Rattle.spv_program.specs.Programs.{Routine, Program}
+use Rattle.spv_program.specs.Scopes.{Scope, own_names_in, with_sorts_of}
+use Rattle.spv_program.specs.Supplies.{Supply}
+use Rattle.spv_program.specs.Places.{Target, present}
+use Rattle.spv_program.specs.Terms.{formula_term, name_in, name_at_exit, item_head}
+use Rattle.spv_program.specs.ExpressionTerms.{Placed, without_calls, valued, placed}
+use Rattle.spv_term_walk.specs.Names.{head_in, AreOfExit}
+use Rattle.spv_term_walk.specs.ExpressionTerms.{has_no_calls, place_has_no_calls, expression_term, place_term, place_target}
+
+-- the head of a variable's name
+abbrev pub variable_head : Program → Option Routine → Symbol → Head
+variable_head p here x = item_head p here (Variable x)
+
+abbrev pub reached_without_calls : Supply → Target → Placed
+reached_without_calls n d = record { target = d; calls = []; supply = n }
+
+-- an expression without calls has its term, whatever the supply, and takes nothing of it
+abbrev pub ValuesAreTerms : Type 0
+ValuesAreTerms =
+    (p : Program) (here : Option Routine) (n : Supply) (e : Expression) → IsTrue (has_no_calls e)
+    → valued p here n e ≡ without_calls n (expression_term (variable_head p here) e)
+
+-- so has a designator without calls its place: its root, its pointer and its path
+abbrev pub PlacesAreTargets : Type 0
+PlacesAreTargets =
+    (p : Program) (here : Option Routine) (n : Supply) (d : Designator) → IsTrue (place_has_no_calls d)
+    → placed p here n d ≡ reached_without_calls n (place_target (variable_head p here) d)
+
+-- the term of a designator is what stands at its place
+abbrev pub TermsArePresent : Type 0
+TermsArePresent = (heads : Symbol → Head) (d : Designator) → present (place_target heads d) ≡ place_term heads d
+
+-- expressions see the own names and the variables of the program
+abbrev pub NamesAreVariables : Type 0
+NamesAreVariables =
+    (p : Program) (here : Option Routine) (x : Symbol)
+    → name_in (with_sorts_of p (own_names_in here) ++ with_sorts_of p p.variables) x ≡ variable_head p here x
+
+-- by the tables of an EXIT the terms are those of the EXIT
+abbrev pub TablesGiveExits : Type 0
+TablesGiveExits =
+    (p : Program) (r : Routine) (names : Scope) (starts : List (Symbol × Unit {0})) (f : Formula) → AreOfExit p r names starts
+    → formula_term (head_in names starts) f ≡ formula_term (name_at_exit p r) f

@@ -1,0 +1,5 @@
+pub mod Written
+pub mod Names
+pub mod Numerals
+pub mod ExpressionTerms
+pub mod Laws

@@ -1,0 +1,16 @@
+// What is proved of the terms, each the contract of a function that does nothing.
+
+ghost use Rattle.spv_term_walk.specs.Laws.{ValuesAreTerms, PlacesAreTargets, TermsArePresent, NamesAreVariables, TablesGiveExits};
+
+/// Expressions and places without calls have the terms and places that are written, in whatever program, routine and supply.
+pub fn law_valued()
+    ensures values { ValuesAreTerms }
+    ensures places { PlacesAreTargets }
+    ensures present { TermsArePresent }
+{}
+
+/// The tables of names by which terms are written: of expressions in a routine, and of a routine's EXIT.
+pub fn law_names()
+    ensures variables { NamesAreVariables }
+    ensures exits { TablesGiveExits }
+{}
