@@ -1,3 +1,4 @@
 pub mod Values
 pub mod Tables
 pub mod Lists
+pub mod Selectors

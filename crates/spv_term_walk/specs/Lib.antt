@@ -2,4 +2,5 @@ pub mod Written
 pub mod Names
 pub mod Numerals
 pub mod ExpressionTerms
+pub mod Selectors
 pub mod Laws

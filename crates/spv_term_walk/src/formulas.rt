@@ -31,7 +31,7 @@ pub(crate) fn formula(
     ensures fits { OnOk result (FormulaFits f.now) }
 {
     match &f.form {
-        FormulaForm::Numeral(z) => write_numeral(pieces, *z),
+        FormulaForm::Numeral(z) => write_numeral(pieces, z),
         FormulaForm::Boolean(b) => write(pieces, truth_head(*b), 0),
         FormulaForm::Nil(t) => write(pieces, Head::Nil(*t), 0),
         FormulaForm::Named(_, x) => write(pieces, name_head(names, starts, *x), 0),
@@ -46,7 +46,7 @@ pub(crate) fn formula(
         FormulaForm::Applied(f, fs) => all(pieces, names, starts, Head::App(*f), fs.as_slice()),
         FormulaForm::Known(b, fs) => all(pieces, names, starts, known_head(*b), fs.as_slice()),
         FormulaForm::Negative(f) => {
-            write_numeral(pieces, 0)?;
+            write_numeral(pieces, &0)?;
             formula(pieces, names, starts, f)?;
             write(pieces, Head::Sub, 2)
         }
@@ -96,6 +96,24 @@ fn two(
     write(pieces, head, 2)
 }
 
+// Writes the term of "these two are not equal".
+#[cycle(formulas)]
+fn different(
+    pieces: &mut Vec<Piece>,
+    names: &Named<Sort>,
+    starts: &Named<()>,
+    f: &Formula,
+    g: &Formula,
+) -> Result<(), AllocError>
+    ensures writes { OnOk result (Writes (unary head.Not (binary head.Eq (formula_term (head_in names.now starts.now) f.now) (formula_term (head_in names.now starts.now) g.now)))
+        pieces.old.items pieces.new.items) }
+    ensures left { OnOk result (FormulaFits f.now) }
+    ensures right { OnOk result (FormulaFits g.now) }
+{
+    two(pieces, names, starts, Head::Eq, f, g)?;
+    write(pieces, Head::Not, 1)
+}
+
 // Writes the term of a comparison; `>` and `>=` are turned round.
 #[cycle(formulas)]
 fn compared(
@@ -113,10 +131,7 @@ fn compared(
 {
     match operator {
         Comparison::Equal => two(pieces, names, starts, Head::Eq, f, g),
-        Comparison::NotEqual => {
-            two(pieces, names, starts, Head::Eq, f, g)?;
-            write(pieces, Head::Not, 1)
-        }
+        Comparison::NotEqual => different(pieces, names, starts, f, g),
         Comparison::Less => two(pieces, names, starts, Head::Lt, f, g),
         Comparison::AtMost => two(pieces, names, starts, Head::Le, f, g),
         Comparison::Greater => two(pieces, names, starts, Head::Lt, g, f),

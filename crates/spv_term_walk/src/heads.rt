@@ -6,7 +6,7 @@ ghost use Rattle.spv_logic.specs.declared.operators.Head.TheVariants as head;
 ghost use Rattle.spv_program.specs.Lists.{found};
 ghost use Rattle.spv_program.specs.Scopes.{sort_or_int};
 ghost use Rattle.spv_program.specs.FormulaTypes.{head_of_known};
-ghost use Rattle.spv_program.specs.Terms.{alone, numeral, truth, head_of_arithmetic, head_of_connective};
+ghost use Rattle.spv_program.specs.Terms.{alone, name_in, numeral, truth, head_of_arithmetic, head_of_connective};
 ghost use Rattle.spv_term_walk.specs.Names.{head_in};
 ghost use Rattle.spv_term_walk.specs.Written.{Writes, WritesHead};
 
@@ -26,11 +26,11 @@ pub(crate) fn write(pieces: &mut Vec<Piece>, head: Head, count: usize) -> Result
 }
 
 // Writes a numeral.
-pub(crate) fn write_numeral(pieces: &mut Vec<Piece>, z: i64) -> Result<(), AllocError>
-    ensures writes { OnOk result (Writes (numeral z) pieces.old.items pieces.new.items) }
-    ensures fits { IsTrue (numeral_fits (head.Num z)) }
+pub(crate) fn write_numeral(pieces: &mut Vec<Piece>, z: &i64) -> Result<(), AllocError>
+    ensures writes { OnOk result (Writes (numeral z.now) pieces.old.items pieces.new.items) }
+    ensures fits { IsTrue (numeral_fits (head.Num z.now)) }
 {
-    write(pieces, Head::Num(z as i128), 0)
+    write(pieces, Head::Num(*z as i128), 0)
 }
 
 // The head of a truth value.
@@ -50,15 +50,21 @@ fn sort_of_name(names: &Named<Sort>, x: Symbol) -> Sort
     }
 }
 
+// The head of a variable's name.
+pub(crate) fn variable_head(names: &Named<Sort>, x: Symbol) -> Head
+    ensures { result ≡ name_in names.now x }
+{
+    Head::Var(x, sort_of_name(names, x), 0)
+}
+
 // The head of a name; those among `starts` stand for what they were at the entry.
 pub(crate) fn name_head(names: &Named<Sort>, starts: &Named<()>, x: Symbol) -> Head
     ensures { result ≡ head_in names.now starts.now x }
 {
-    let sort = sort_of_name(names, x);
     if starts.has(x) {
-        Head::Start(x, sort)
+        Head::Start(x, sort_of_name(names, x))
     } else {
-        Head::Var(x, sort, 0)
+        variable_head(names, x)
     }
 }
 

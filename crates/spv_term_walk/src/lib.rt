@@ -2,6 +2,7 @@
 //! head in postfix order, and made in the arena.
 #![tactic(auto)]
 
+mod expressions;
 mod formulas;
 mod heads;
 mod laws;
