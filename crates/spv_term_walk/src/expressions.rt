@@ -3,18 +3,20 @@
 ghost use Rattle.std.specs.Prelude.{OnOk};
 ghost use Rattle.spv_logic.specs.declared.operators.Head.TheVariants as head;
 ghost use Rattle.spv_program.specs.Expressions.{Selectors};
-ghost use Rattle.spv_program.specs.Terms.{unary, binary, comparing, name_in};
+ghost use Rattle.spv_program.specs.Terms.{alone, unary, binary, comparing, name_in};
 ghost use Rattle.spv_typed.specs.ExpressionViews.{selector_before, selectors_of};
-ghost use Rattle.spv_term_walk.specs.ExpressionTerms.{expression_term, place_term};
+ghost use Rattle.spv_term_walk.specs.ExpressionTerms.{expression_term, place_term, term_behind};
 ghost use Rattle.spv_term_walk.specs.Numerals.{ExpressionFits, PlaceFits, SelectorsFit};
-ghost use Rattle.spv_term_walk.specs.Selectors.{class_of, classes_of, step_of, steps_of};
+ghost use Rattle.spv_term_walk.specs.Selectors.{step_of, steps_of};
 ghost use Rattle.spv_term_walk.specs.Written.{Adds, Writes};
 
+use crate::classes::write_classes;
 use crate::heads::{
     arithmetic_head, connective_head, truth_head, variable_head, write, write_numeral,
 };
 use spv_logic::{Head, Sort};
 use spv_named::Named;
+use spv_names::Symbol;
 use spv_postfix::Piece;
 use spv_program::Comparison;
 use spv_typed::{Designator, Expression, ExpressionForm, Selector};
@@ -112,8 +114,7 @@ fn compared(
     }
 }
 
-// Writes the term of what stands at a place: the classes of its `^` from the last to the first,
-// the name, and then one selector after the other.
+// Writes the term of what stands at a place.
 #[cycle(expressions)]
 pub(crate) fn place(
     pieces: &mut Vec<Piece>,
@@ -123,33 +124,25 @@ pub(crate) fn place(
     ensures writes { OnOk result (Writes (place_term (name_in names.now) d.now) pieces.old.items pieces.new.items) }
     ensures fits { OnOk result (PlaceFits d.now) }
 {
-    let selectors = d.selectors.as_slice();
+    path(pieces, names, d.name, d.selectors.as_slice())
+}
+
+// Writes the term of a variable behind selectors: the classes of the `^` from the last to the first,
+// the variable, and then one step after the other.
+#[cycle(expressions)]
+fn path(
+    pieces: &mut Vec<Piece>,
+    names: &Named<Sort>,
+    x: Symbol,
+    selectors: &[Selector],
+) -> Result<(), AllocError>
+    ensures writes { OnOk result (Writes (term_behind (name_in names.now) (alone (name_in names.now x)) (selectors_of selectors.now))
+        pieces.old.items pieces.new.items) }
+    ensures fits { OnOk result (SelectorsFit (selectors_of selectors.now)) }
+{
     write_classes(pieces, selectors)?;
-    write(pieces, variable_head(names, d.name), 0)?;
+    write(pieces, variable_head(names, x), 0)?;
     write_steps(pieces, names, selectors)
-}
-
-// Writes the class of the cells of a `^`, and nothing of another selector.
-fn write_class(pieces: &mut Vec<Piece>, selector: &Selector) -> Result<(), AllocError>
-    ensures { OnOk result (Adds (class_of selector.now) pieces.old.items pieces.new.items) }
-{
-    match selector {
-        Selector::Index(_, _) => Ok(()),
-        Selector::Field(_, _) => Ok(()),
-        Selector::Cell(_, t) => write(pieces, Head::ClassVar(*t, 0), 0),
-    }
-}
-
-// Writes the classes of selectors, from the last to the first.
-fn write_classes(pieces: &mut Vec<Piece>, selectors: &[Selector]) -> Result<(), AllocError>
-    ensures { OnOk result (Adds (classes_of selectors.now) pieces.old.items pieces.new.items) }
-{
-    let mut left = selectors.len();
-    while left > 0 {
-        left -= 1;
-        write_class(pieces, &selectors[left])?;
-    }
-    Ok(())
 }
 
 // Writes the step that a selector is.

@@ -2,9 +2,11 @@
 //! head in postfix order, and made in the arena.
 #![tactic(auto)]
 
+mod classes;
 mod expressions;
 mod formulas;
 mod heads;
 mod laws;
+
 
 pub use laws::law_valued;

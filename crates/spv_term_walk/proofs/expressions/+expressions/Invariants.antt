@@ -23,6 +23,9 @@ decreases-compared l = 4 * (expression_size l.a.now + expression_size l.b.now) +
 abbrev pub decreases-place : goal.decreases-place
 decreases-place l = 4 * designator_size l.d.now
 
+abbrev pub decreases-path : goal.decreases-path
+decreases-path l = 4 * selectors_size (selectors_of l.selectors.now) + 3
+
 abbrev pub decreases-write_step : goal.decreases-write_step
 decreases-write_step l = 4 * selectors_size (selector_before l.selector.now no_selectors) + 1
 
