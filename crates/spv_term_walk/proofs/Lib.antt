@@ -2,3 +2,4 @@ pub mod Values
 pub mod Tables
 pub mod Lists
 pub mod Selectors
+pub mod Ends

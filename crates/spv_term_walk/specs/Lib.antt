@@ -3,4 +3,5 @@ pub mod Names
 pub mod Numerals
 pub mod ExpressionTerms
 pub mod Selectors
+pub mod Makeable
 pub mod Laws

@@ -7,6 +7,9 @@ mod expressions;
 mod formulas;
 mod heads;
 mod laws;
+mod making;
+mod writing;
 
-
-pub use laws::law_valued;
+pub use laws::{law_names, law_valued};
+pub use making::{expression_term, formula_term};
+pub use writing::{write_exit_formula, write_expression, write_formula, write_place};
