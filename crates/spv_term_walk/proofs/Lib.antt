@@ -3,3 +3,7 @@ pub mod Tables
 pub mod Lists
 pub mod Selectors
 pub mod Ends
+pub mod Passing
+pub mod Fitting
+pub mod Ranges
+pub mod Naming
