@@ -7,3 +7,5 @@ pub mod Passing
 pub mod Fitting
 pub mod Ranges
 pub mod Naming
+pub mod Scopes
+pub mod Sorting
