@@ -1,5 +1,5 @@
 -- The numerals of terms whose formulas and expressions have numerals below 2^127.
-use Rattle.std.proofs.Common.{◌≡◌, Bool, true, false, refl, List, pos}
+use Rattle.std.proofs.Common.{◌≡◌, Bool, true, false, refl, List, pos, is_some}
 use Rattle.std.specs.Cmp.Derive.{both_true}
 use Rattle.spv_names.specs.declared.names.Symbol.{Symbol}
 use Rattle.spv_logic.specs.declared.types.Shape.{Shape}
@@ -17,8 +17,11 @@ use Rattle.spv_program.specs.declared.operators.BuiltIn.TheVariants as known
 use Rattle.spv_program.specs.FormulaTypes.{head_of_known}
 use Rattle.spv_program.specs.Formulas as formula
 use Rattle.spv_program.specs.Expressions as expression
-use Rattle.spv_program.specs.Terms.{alone, unary, binary, numeral, truth, head_of_arithmetic, head_of_connective, formula_term, formula_terms}
+use Rattle.spv_program.specs.Terms.{alone, unary, binary, numeral, truth, head_of_arithmetic, head_of_connective, formula_term, formula_terms, start_or_name}
+use Rattle.spv_program.specs.Lists.{found}
+use Rattle.spv_program.specs.Scopes.{Scope, sort_or_int}
 use Rattle.spv_postfix.specs.Postfix.{IsMakeable}
+use Rattle.spv_term_walk.specs.Names.{head_in}
 use Rattle.spv_term_walk.specs.ExpressionTerms.{expression_term, place_term, term_behind}
 use Rattle.spv_term_walk.specs.Numerals.{FormulaFits, FormulasFit, ExpressionFits, PlaceFits, SelectorsFit}
 use Rattle.spv_term_walk.specs.Makeable.{IsWellSorted}
@@ -57,6 +60,14 @@ known_small known.Car = refl
 known_small known.Cdr = refl
 known_small known.Cons = refl
 known_small known.Atom = refl
+
+-- the heads of names are no numerals
+pub head_small : {X : Type 0} (names : Scope) (starts : List (Symbol × X)) (x : Symbol) → numeral_fits (head_in names starts x) ≡ true
+head_small names starts x = by_start (is_some (found starts x))
+  where
+    by_start : (b : Bool) → numeral_fits (start_or_name b x (sort_or_int (found names x))) ≡ true
+    by_start true = refl
+    by_start false = refl
 
 module _ (heads : Symbol → Head) (names : (x : Symbol) → numeral_fits (heads x) ≡ true) where
   mutual

@@ -5,7 +5,3 @@ pub mod Selectors
 pub mod Ends
 pub mod Passing
 pub mod Fitting
-pub mod Ranges
-pub mod Naming
-pub mod Scopes
-pub mod Sorting

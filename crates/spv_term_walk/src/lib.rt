@@ -10,6 +10,6 @@ mod laws;
 mod making;
 mod writing;
 
-pub use laws::{law_makeable, law_names, law_scopes, law_sorted, law_valued};
-pub use making::{expression_term, formula_term};
+pub use laws::{law_makeable, law_names, law_valued};
+pub use making::{exit_formula_term, expression_term, formula_term, place_term};
 pub use writing::{write_exit_formula, write_expression, write_formula, write_place};

@@ -24,10 +24,11 @@ use Rattle.spv_program.proofs.FormulaSorting as sorting
 use Rattle.spv_program.proofs.ExpressionSorting as valuing
 use Rattle.spv_term_walk.specs.ExpressionTerms.{has_no_calls, place_has_no_calls, expression_term, place_term}
 use Rattle.spv_term_walk.specs.Makeable.{IsWellSorted}
-use Rattle.spv_term_walk.specs.Laws.{variable_head, SortsAreThere, heading_ok_in, IsSorted}
+use Rattle.spv_term_walk.specs.Laws.{variable_head}
+use Rattle.spv_makeable_terms.specs.Laws.{SortsAreThere, heading_ok_in, IsSorted}
 use Rattle.spv_term_walk.proofs.Values.{value_is, place_is, terms_are_present}
-use Rattle.spv_term_walk.proofs.Naming.{formula_there, expression_there, place_there}
-use Rattle.spv_term_walk.proofs.Scopes.{variable_there, forms_right}
+use Rattle.spv_makeable_terms.proofs.Naming.{formula_there, expression_there, place_there}
+use Rattle.spv_makeable_terms.proofs.Scopes.{variable_there, forms_right}
 
 -- the sort of a name that is found
 name_there : (p : Program) (names : Scope) (x : Symbol) (s : Sort) → SortsAreThere p names → found names x ≡ Some s → sort_in_range (shapes p) (sort_or_int (found names x)) ≡ true

@@ -1,5 +1,5 @@
-use Rattle.spv_term_walk.proofs.Sorting.{formula_sorted, exit_sorted, expression_sorted, place_sorted}
-use Rattle.spv_term_walk.proofs.laws.law_sorted.Goals as goal
+use Rattle.spv_makeable_terms.proofs.Sorting.{formula_sorted, exit_sorted, expression_sorted, place_sorted}
+use Rattle.spv_makeable_terms.proofs.laws.law_sorted.Goals as goal
 
 pub returns-clause-formulas : goal.returns-clause-formulas
 returns-clause-formulas c = formula_sorted

@@ -21,8 +21,8 @@ use Rattle.spv_program.specs.Frames.{lists}
 use Rattle.spv_program.specs.Typing.{item_exists, may_be_initial, types_exist, result_ok, heading_ok, declarations_ok, scope_names, symbol_ok, program_names}
 use Rattle.spv_program.proofs.SortFacts.{nothing_there, some_is}
 use Rattle.spv_program.proofs.ExpressionSorting.{same_types}
-use Rattle.spv_term_walk.specs.Laws.{SortsAreThere, heading_ok_in}
-use Rattle.spv_term_walk.proofs.Ranges.{shape_there, sort_there, found_all}
+use Rattle.spv_makeable_terms.specs.Laws.{SortsAreThere, heading_ok_in}
+use Rattle.spv_makeable_terms.proofs.Ranges.{shape_there, sort_there, found_all}
 
 -- ---- lists
 

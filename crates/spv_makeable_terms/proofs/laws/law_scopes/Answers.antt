@@ -1,5 +1,5 @@
-use Rattle.spv_term_walk.proofs.Scopes.{body_sorts, entry_sorts, exit_sorts}
-use Rattle.spv_term_walk.proofs.laws.law_scopes.Goals as goal
+use Rattle.spv_makeable_terms.proofs.Scopes.{body_sorts, entry_sorts, exit_sorts}
+use Rattle.spv_makeable_terms.proofs.laws.law_scopes.Goals as goal
 
 pub returns-clause-bodies : goal.returns-clause-bodies
 returns-clause-bodies c = body_sorts

@@ -35,7 +35,7 @@ use Rattle.spv_program.proofs.FormulaSorting.{two_truths, two_numbers, one_of, s
 use Rattle.spv_program.proofs.ExpressionSorting.{same_types, mapped}
 use Rattle.spv_term_walk.specs.ExpressionTerms.{expression_term, place_term, term_behind}
 use Rattle.spv_term_walk.proofs.Passing.{pass_one, pass_two, pass_compared, ComparisonsPass}
-use Rattle.spv_term_walk.proofs.Ranges.{shape_there, form_is_right, target_exists}
+use Rattle.spv_makeable_terms.proofs.Ranges.{shape_there, form_is_right, target_exists}
 
 -- two operands of a comparison have sorts
 record Operands (a b : Option Sort) : Type 0 where
