@@ -1,19 +1,16 @@
 -- Types and sorts that are there.
-use Rattle.std.proofs.Common.{◌≡◌, ℕ, zero, suc, Bool, true, false, cond, ◌&&◌, List, [], ◌∷◌, ◌++◌, map, length, refl, sym, ap, ◌∙◌, nat_lt, Option, Some, None, IsTrue, arith}
+use Rattle.std.proofs.Common.{◌≡◌, ℕ, zero, suc, Bool, true, false, cond, List, [], ◌∷◌, length, refl, sym, ap, ◌∙◌, nat_lt, Some}
 use Rattle.std.specs.List.{list_all}
 use Rattle.std.proofs.lemmas.List.{length-map}
 use Rattle.spv_list.proofs.Tests.{left_true, right_true}
 use Rattle.spv_names.specs.declared.names.Symbol.{Symbol}
 use Rattle.spv_logic.specs.declared.types.TypeId.{TypeId}
-use Rattle.spv_logic.specs.declared.types.Sort.{Sort}
-use Rattle.spv_logic.specs.declared.types.Sort.TheVariants as sort
 use Rattle.spv_logic.specs.Sorts.{sort_in_range}
 use Rattle.spv_logic.specs.Shapes.{shapes_ok}
-use Rattle.spv_program.specs.declared.types.TypeField.{TypeField}
 use Rattle.spv_program.specs.declared.types.TypeForm.{TypeForm}
 use Rattle.spv_program.specs.declared.types.TypeForm.TheVariants.{Integer, Boolean, Range, Pointer, Array, Record}
 use Rattle.spv_program.specs.Lists.{same_name, found}
-use Rattle.spv_program.specs.Types.{form_at, sort_of, sort_of_form, shape_of_form, shapes_of, element_of, field_type, field_of, target_of, is_range, type_exists, form_ok, forms_ok}
+use Rattle.spv_program.specs.Types.{form_at, sort_of, sort_of_form, shape_of_form, shapes_of, target_of, type_exists, form_ok, forms_ok}
 use Rattle.spv_program.proofs.SortFacts.{nothing_there, some_is}
 
 -- a type that is there has a shape

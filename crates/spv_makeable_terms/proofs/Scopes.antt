@@ -1,25 +1,22 @@
 -- The sorts of the names that annotations and expressions see are there.
-use Rattle.std.proofs.Common.{◌≡◌, Bool, true, false, cond, ◌&&◌, ◌||◌, not, nat_eq, length, List, [], ◌∷◌, ◌++◌, map, refl, sym, ap, ◌∙◌, Option, Some, None, is_some, option_map, IsTrue}
+use Rattle.std.proofs.Common.{◌≡◌, Bool, true, false, ◌&&◌, ◌||◌, not, nat_eq, length, List, [], ◌∷◌, ◌++◌, map, refl, sym, ap, ◌∙◌, Option, Some, None, option_map}
 use Rattle.std.specs.List.{list_all, list_any}
 use Rattle.std.specs.Cmp.Derive.{both_true}
 use Rattle.std.proofs.lemmas.Bool.{false≢true}
-use Rattle.std.proofs.lemmas.Bool.{eqb-true}
 use Rattle.spv_list.proofs.Tests.{left_true, right_true}
 use Rattle.spv_names.specs.declared.names.Symbol.{Symbol}
 use Rattle.spv_logic.specs.declared.types.TypeId.{TypeId}
 use Rattle.spv_logic.specs.declared.types.Sort.{Sort}
-use Rattle.spv_logic.specs.declared.types.Sort.TheVariants as sort
 use Rattle.spv_logic.specs.Sorts.{sort_in_range}
 use Rattle.spv_program.specs.declared.types.Item.{Item}
 use Rattle.spv_program.specs.declared.types.Item.TheVariants.{Variable, Class}
 use Rattle.spv_program.specs.Lists.{found, first_of, all_differ}
-use Rattle.spv_program.specs.Types.{sort_of, same_type, type_exists, forms_ok}
+use Rattle.spv_program.specs.Types.{sort_of, type_exists, forms_ok}
 use Rattle.spv_program.specs.Programs.{Formal, GlobalItem, Routine, Program, shapes}
 use Rattle.spv_program.specs.Scopes.{Scope, result_name, own_names, own_names_in, name_type, with_sorts_of, sort_or_int, item_sort, initial_names, body_scope, parameters_of, entry_scope, exit_scope}
 use Rattle.spv_program.specs.Uses.{same_item}
 use Rattle.spv_program.specs.Frames.{lists}
-use Rattle.spv_program.specs.Typing.{item_exists, may_be_initial, types_exist, result_ok, heading_ok, declarations_ok, scope_names, symbol_ok, program_names}
-use Rattle.spv_program.proofs.SortFacts.{nothing_there, some_is}
+use Rattle.spv_program.specs.Typing.{item_exists, may_be_initial, types_exist, result_ok, heading_ok, declarations_ok}
 use Rattle.spv_program.proofs.ExpressionSorting.{same_types}
 use Rattle.spv_makeable_terms.specs.Laws.{SortsAreThere, heading_ok_in}
 use Rattle.spv_makeable_terms.proofs.Ranges.{shape_there, sort_there, found_all}

@@ -1,10 +1,8 @@
 -- The terms of well typed formulas and expressions are well sorted, and the types that they name are there.
-use Rattle.std.proofs.Common.{◌≡◌, Bool, true, false, refl, sym, ap, ◌∙◌, subst, Option, Some, None, is_some, IsTrue}
+use Rattle.std.proofs.Common.{◌≡◌, Bool, true, false, sym, ap, ◌∙◌, Option, Some, is_some}
 use Rattle.spv_names.specs.declared.names.Symbol.{Symbol}
 use Rattle.spv_logic.specs.declared.types.TypeId.{TypeId}
 use Rattle.spv_logic.specs.declared.types.Sort.{Sort}
-use Rattle.spv_logic.specs.declared.operators.Head.{Head}
-use Rattle.spv_logic.specs.Terms.{Term}
 use Rattle.spv_logic.specs.Sorts.{head_in_range, sort_in_range, term_sort}
 use Rattle.spv_program.specs.Lists.{found}
 use Rattle.spv_program.specs.Formulas.{Formula}
@@ -14,16 +12,13 @@ use Rattle.spv_program.specs.Scopes.{Scope, exit_scope, sort_or_int, is_value_pa
 use Rattle.spv_program.specs.FormulaTypes.{formula_sort}
 use Rattle.spv_program.specs.ExpressionTypes.{expression_sort, designator_type}
 use Rattle.spv_program.specs.Typing.{declarations_ok}
-use Rattle.spv_program.specs.Types.{sort_of}
 use Rattle.spv_program.specs.Supplies.{full_supply}
 use Rattle.spv_program.specs.Places.{present}
 use Rattle.spv_program.specs.ExpressionTerms.{Valued, Placed}
 use Rattle.spv_program.specs.Terms.{formula_term, name_in, name_at_exit, start_or_name}
-use Rattle.spv_program.specs.Laws.{HasSort}
 use Rattle.spv_program.proofs.FormulaSorting as sorting
 use Rattle.spv_program.proofs.ExpressionSorting as valuing
 use Rattle.spv_term_walk.specs.ExpressionTerms.{has_no_calls, place_has_no_calls, expression_term, place_term}
-use Rattle.spv_term_walk.specs.Makeable.{IsWellSorted}
 use Rattle.spv_term_walk.specs.Laws.{variable_head}
 use Rattle.spv_makeable_terms.specs.Laws.{SortsAreThere, heading_ok_in, IsSorted}
 use Rattle.spv_term_walk.proofs.Values.{value_is, place_is, terms_are_present}

@@ -1,12 +1,12 @@
 -- What is written of a place, and of its selectors.
-use Rattle.std.proofs.Common.{◌≡◌, ℕ, zero, suc, ◌≤◌, ◌<◌, List, [], ◌∷◌, ◌++◌, length, get_or, take, drop, ap, refl, sym, ◌∙◌, arith, OnOk, Result, Ok, Err}
+use Rattle.std.proofs.Common.{◌≡◌, ℕ, zero, suc, ◌≤◌, ◌<◌, List, [], ◌∷◌, ◌++◌, length, get_or, take, ap, refl, sym, ◌∙◌, arith, OnOk, Result, Ok, Err}
 use Rattle.std.proofs.Math.Seq.{take-suc}
 use Rattle.std.specs.declared.alloc.AllocError.{AllocError}
 use Rattle.spv_names.specs.declared.names.Symbol.{Symbol}
 use Rattle.spv_logic.specs.declared.operators.Head.{Head}
 use Rattle.spv_logic.specs.declared.operators.Head.TheVariants as head
 use Rattle.spv_logic.specs.Terms.{Term}
-use Rattle.spv_program.specs.Expressions.{Expression, no_selectors}
+use Rattle.spv_program.specs.Expressions.{no_selectors}
 use Rattle.spv_program.specs.Terms.{alone, unary, binary}
 use Rattle.spv_typed.specs.declared.expressions.Selector.{Selector}
 use Rattle.spv_typed.specs.declared.expressions.Selector.TheVariants as selector

@@ -1,16 +1,13 @@
 -- Tables of names and the heads that they give.
-use Rattle.std.proofs.Common.{◌≡◌, Bool, true, false, cond, List, [], ◌∷◌, ◌++◌, refl, sym, ap, ◌∙◌, Option, Some, None, option_map}
-use Rattle.std.specs.Prelude.{is_some, map}
+use Rattle.std.proofs.Common.{◌≡◌, Bool, true, false, cond, List, [], ◌∷◌, ◌++◌, refl, ap, ◌∙◌, Option, Some, option_map}
 use Rattle.spv_names.specs.declared.names.Symbol.{Symbol}
 use Rattle.spv_logic.specs.declared.types.TypeId.{TypeId}
-use Rattle.spv_logic.specs.declared.types.Sort.{Sort}
-use Rattle.spv_logic.specs.declared.operators.Head.{Head}
 use Rattle.spv_logic.specs.declared.operators.Head.TheVariants as head
 use Rattle.spv_program.specs.Lists.{same_name, found, first_of}
 use Rattle.spv_program.specs.Types.{sort_of}
 use Rattle.spv_program.specs.Formulas.{Formula}
 use Rattle.spv_program.specs.Programs.{Routine, Program}
-use Rattle.spv_program.specs.Scopes.{Scope, own_names_in, with_sorts_of, exit_scope, is_value_parameter, sort_or_int}
+use Rattle.spv_program.specs.Scopes.{Scope, own_names_in, with_sorts_of, is_value_parameter, sort_or_int}
 use Rattle.spv_program.specs.Terms.{formula_term, name_in, name_at_exit, start_or_name}
 use Rattle.spv_term_walk.specs.Names.{head_in, AreOfExit}
 use Rattle.spv_term_walk.specs.Laws.{variable_head}

@@ -1,5 +1,5 @@
 -- Expressions and places without calls have their terms and places.
-use Rattle.std.proofs.Common.{◌≡◌, Bool, true, ◌&&◌, List, [], ◌∷◌, ◌++◌, refl, sym, ap, ◌∙◌, Option, None}
+use Rattle.std.proofs.Common.{◌≡◌, List, [], ◌∷◌, ◌++◌, refl, ap, ◌∙◌, Option}
 use Rattle.std.specs.Prelude.{IsTrue}
 use Rattle.std.proofs.lemmas.Bool.{false≢true}
 use Rattle.spv_list.proofs.Tests.{left_true, right_true}
@@ -11,8 +11,8 @@ use Rattle.spv_program.specs.Expressions.{Expression, Designator, Selectors, Num
 use Rattle.spv_program.specs.Programs.{Routine, Program}
 use Rattle.spv_program.specs.Supplies.{Supply}
 use Rattle.spv_program.specs.Places.{Target, Step, ToElement, ToField, part, part_behind, base, present, further, cell_behind}
-use Rattle.spv_program.specs.Terms.{alone, unary, binary, negative, head_of_arithmetic, comparing, head_of_connective}
-use Rattle.spv_program.specs.ExpressionTerms.{Valued, without_calls, with_term, with_terms, valued, placed, selected, read_at, to_element, to_cell}
+use Rattle.spv_program.specs.Terms.{unary, binary, negative, head_of_arithmetic, comparing, head_of_connective}
+use Rattle.spv_program.specs.ExpressionTerms.{Valued, without_calls, with_term, with_terms, valued, placed, selected, read_at, to_element}
 use Rattle.spv_term_walk.specs.ExpressionTerms.{has_no_calls, place_has_no_calls, selectors_have_no_calls, expression_term, place_term, term_behind, target_behind, place_target, variable_at}
 use Rattle.spv_term_walk.specs.Laws.{variable_head, reached_without_calls}
 

@@ -1,5 +1,5 @@
 -- The heads of names, by a table of their sorts and one of those that stand for what they were at the entry.
-use Rattle.std.specs.Prelude.{◌≡◌, List, [], is_some}
+use Rattle.std.specs.Prelude.{◌≡◌, List, is_some}
 use Rattle.spv_names.specs.declared.names.Symbol.{Symbol}
 use Rattle.spv_logic.specs.declared.operators.Head.{Head}
 use Rattle.spv_program.specs.Lists.{found}

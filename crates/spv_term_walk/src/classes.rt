@@ -22,7 +22,10 @@ fn write_class(pieces: &mut Vec<Piece>, selector: &Selector) -> Result<(), Alloc
 }
 
 // Writes the classes of selectors, from the last to the first.
-pub(crate) fn write_classes(pieces: &mut Vec<Piece>, selectors: &[Selector]) -> Result<(), AllocError>
+pub(crate) fn write_classes(
+    pieces: &mut Vec<Piece>,
+    selectors: &[Selector],
+) -> Result<(), AllocError>
     ensures { OnOk result (Adds (classes_of selectors.now) pieces.old.items pieces.new.items) }
 {
     let mut left = selectors.len();

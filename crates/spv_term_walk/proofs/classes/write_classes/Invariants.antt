@@ -6,7 +6,7 @@ use Rattle.spv_term_walk.proofs.classes.write_classes.Given as goal
 abbrev pub invariant-loop-left : goal.invariant-loop-left
 invariant-loop-left l = record {
   within : l.left ≤ length l.selectors;
-  writes : (rest : List Piece) → l.pieces.items ++ classes_of (take l.left l.selectors) rest ≡ l.initial.pieces.items ++ classes_of l.selectors rest
+  writes : (rest : List Piece) → l.pieces.items ++ classes_of (take l.left l.selectors) rest ≡ l.initial.pieces.items ++ classes_of l.selectors rest;
 }
 
 abbrev pub decreases-loop-left : goal.decreases-loop-left

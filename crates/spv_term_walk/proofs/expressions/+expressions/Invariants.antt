@@ -35,5 +35,5 @@ decreases-write_steps l = 4 * selectors_size (selectors_of l.selectors.now) + 2
 abbrev pub invariant-write_steps-loop-selector : goal.invariant-write_steps-loop-selector
 invariant-write_steps-loop-selector l = record {
   writes : ComeTo (steps_of (name_in l.names)) l.selectors l.selector-index l.initial.pieces.items l.pieces.items;
-  fits : SelectorsFit (selectors_of (drop l.selector-index l.selectors)) → SelectorsFit (selectors_of l.selectors)
+  fits : SelectorsFit (selectors_of (drop l.selector-index l.selectors)) → SelectorsFit (selectors_of l.selectors);
 }

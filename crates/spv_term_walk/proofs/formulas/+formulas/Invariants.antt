@@ -32,5 +32,5 @@ decreases-all l = 4 * formulas_size (formulas_of l.fs.now) + 2
 abbrev pub invariant-operands-loop-f : goal.invariant-operands-loop-f
 invariant-operands-loop-f l = record {
   writes : ComeTo (λ fs. written_all (formula_terms (head_in l.names l.starts) (formulas_of fs))) l.fs l.f-index l.initial.pieces.items l.pieces.items;
-  fits : FormulasFit (formulas_of (drop l.f-index l.fs)) → FormulasFit (formulas_of l.fs)
+  fits : FormulasFit (formulas_of (drop l.f-index l.fs)) → FormulasFit (formulas_of l.fs);
 }
