@@ -5,3 +5,4 @@ pub mod Selectors
 pub mod Ends
 pub mod Passing
 pub mod Fitting
+pub mod Listed

@@ -1,5 +1,5 @@
 -- What is proved of the terms of expressions without calls, and of the tables of names.
-use Rattle.std.specs.Prelude.{◌≡◌, ◌++◌, List, [], Option, IsTrue}
+use Rattle.std.specs.Prelude.{◌≡◌, ◌↔◌, ◌++◌, List, [], Option, IsTrue}
 use Rattle.spv_names.specs.declared.names.Symbol.{Symbol}
 use Rattle.spv_logic.specs.declared.types.Shape.{Shape}
 use Rattle.spv_logic.specs.declared.types.Decl.{Decl}
@@ -10,6 +10,7 @@ use Rattle.spv_program.specs.Expressions.{Expression, Designator}
 use Rattle.spv_program.specs.Formulas.{Formula}
 use Rattle.spv_program.specs.Programs.{Routine, Program}
 use Rattle.spv_program.specs.Scopes.{Scope, own_names_in, with_sorts_of}
+use Rattle.spv_program.specs.Uses.{expression_calls, designator_calls}
 use Rattle.spv_program.specs.Supplies.{Supply}
 use Rattle.spv_program.specs.Places.{Target, present}
 use Rattle.spv_program.specs.Terms.{formula_term, name_in, name_at_exit, item_head}
@@ -19,6 +20,13 @@ use Rattle.spv_term_walk.specs.Names.{head_in, AreOfExit}
 use Rattle.spv_term_walk.specs.Numerals.{FormulaFits, ExpressionFits, PlaceFits}
 use Rattle.spv_term_walk.specs.Makeable.{IsWellSorted}
 use Rattle.spv_term_walk.specs.ExpressionTerms.{has_no_calls, place_has_no_calls, expression_term, place_term, place_target}
+
+-- an expression makes no call just where none is listed
+abbrev pub CallsAreListed : Type 0
+CallsAreListed = (e : Expression) → IsTrue (has_no_calls e) ↔ (expression_calls e ≡ [])
+
+abbrev pub PlaceCallsAreListed : Type 0
+PlaceCallsAreListed = (d : Designator) → IsTrue (place_has_no_calls d) ↔ (designator_calls d ≡ [])
 
 -- the head of a variable's name
 abbrev pub variable_head : Program → Option Routine → Symbol → Head

@@ -1,6 +1,12 @@
 // What is proved of the terms, each the contract of a function that does nothing.
 
-ghost use Rattle.spv_term_walk.specs.Laws.{ValuesAreTerms, PlacesAreTargets, TermsArePresent, NamesAreVariables, TablesGiveExits, FormulasAreMakeable, ExpressionsAreMakeable, PlacesAreMakeable};
+ghost use Rattle.spv_term_walk.specs.Laws.{CallsAreListed, PlaceCallsAreListed, ValuesAreTerms, PlacesAreTargets, TermsArePresent, NamesAreVariables, TablesGiveExits, FormulasAreMakeable, ExpressionsAreMakeable, PlacesAreMakeable};
+
+/// What makes no call is that of whose calls none is listed.
+pub fn law_calls()
+    ensures expressions { CallsAreListed }
+    ensures places { PlaceCallsAreListed }
+{}
 
 /// Expressions and places without calls have the terms and places that are written, in whatever program, routine and supply.
 pub fn law_valued()
