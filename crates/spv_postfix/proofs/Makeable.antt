@@ -1,5 +1,5 @@
 -- Terms that an arena may have, by their parts.
-use Rattle.std.proofs.Common.{◌≡◌, List, [], ◌∷◌, Option, Some, None, IsSome, is_some, IsTrue, refl, ap, ◌∙◌}
+use Rattle.std.proofs.Common.{◌≡◌, ◌<◌, subst, List, [], ◌∷◌, length, Option, Some, None, IsSome, is_some, IsTrue, refl, sym, ap, ◌∙◌, true}
 use Rattle.std.proofs.lemmas.Bool.{false≢true}
 use Rattle.std.specs.Cmp.Derive.{both_true}
 use Rattle.spv_list.proofs.Tests.{left_true, right_true}
@@ -9,6 +9,9 @@ use Rattle.spv_logic.specs.declared.types.Decl.{Decl}
 use Rattle.spv_logic.specs.declared.operators.Head.{Head}
 use Rattle.spv_logic.specs.Terms.{Term, Terms, term, no_terms, terms, heads_pass, all_heads_pass}
 use Rattle.spv_logic.specs.Sorts.{head_in_range, numeral_fits, result_sort, with_sorts, sort_before, term_sort, term_sorts}
+use Rattle.spv_logic.specs.declared.conditions.TermId.{TermId}
+use Rattle.spv_term.specs.Arena.{Arena, IsArena, AllBelow, tree, trees, Extends}
+use Rattle.spv_term.proofs.ArenaLemmas.{node_of, args_in_range, tree-node, IsWellSorted-arena}
 use Rattle.spv_postfix.specs.Postfix.{head_fits, IsMakeable}
 
 -- each of these terms may be made
@@ -113,3 +116,36 @@ module _ (shapes : List Shape) (decls : List Decl) where
       makeable_term h (terms s (terms t (terms u no_terms))) (a ∷ b ∷ c ∷ [])
       (makeable_both s (terms t (terms u no_terms)) m (makeable_both t (terms u no_terms) n (makeable_both u no_terms o makeable_none)))
       (λ i. sort_before (e i) (sort_before (f i) (sort_before (g i) (Some [])))) fits head
+
+-- ---- terms of an arena
+
+-- what may be made in an arena may be made in one that has grown
+pub makeable_Extends : (a b : Arena) (t : Term) → Extends a b → IsMakeable a.shapes a.decls t → IsMakeable b.shapes b.decls t
+makeable_Extends a b t grows m =
+    subst (λ ss. IsMakeable ss b.decls t) (sym grows.shapes) (subst (λ ds. IsMakeable a.shapes ds t) (sym grows.decls) m)
+
+module _ (a : Arena) (ok : IsArena a) where
+  mutual
+    heads_tree : (x : Term) (t : TermId) → t.0 < length a.nodes → tree a t ≡ x → heads_pass (head_fits a.shapes) x ≡ true
+    heads_tree (term h xs) t there is =
+        let n = node_of a ok t there in
+        let e : term n.0.head (trees a n.0.args) ≡ term h xs = sym (tree-node a ok t n.0 n.1) ∙ is in
+        let head : h ≡ n.0.head = cc in
+        let args : trees a n.0.args ≡ xs = cc in
+        let follows = ok.nodes t.0 n.0 n.1 in
+        both_true (ap (head_fits a.shapes) head ∙ both_true follows.types follows.numeral) (heads_trees xs n.0.args (args_in_range a ok t n.0 n.1) args)
+
+    heads_trees : (xs : Terms) (ts : List TermId) → AllBelow (length a.nodes) ts → trees a ts ≡ xs → all_heads_pass (head_fits a.shapes) xs ≡ true
+    heads_trees no_terms ts below is = refl
+    heads_trees (terms x xs) [] below is = absurd (cc)
+    heads_trees (terms x xs) (t ∷ ts) below is =
+        let first : tree a t ≡ x = cc in
+        let others : trees a ts ≡ xs = cc in
+        both_true (heads_tree x t below.0 first) (heads_trees xs ts below.1 others)
+
+  -- each term of an arena may be made there
+  pub makeable_tree : (t : TermId) → t.0 < length a.nodes → IsMakeable a.shapes a.decls (tree a t)
+  makeable_tree t there = record {
+    sorts = ap is_some (IsWellSorted-arena a ok t there);
+    heads = heads_tree (tree a t) t there refl;
+  }

@@ -1,10 +1,18 @@
 -- The pieces of terms by their parts, and pieces that are put behind others one after the other.
-use Rattle.std.proofs.Common.{◌≡◌, List, [], ◌∷◌, ◌++◌, refl, sym, ap, ◌∙◌}
+use Rattle.std.proofs.Common.{◌≡◌, List, [], ◌∷◌, ◌++◌, Some, Result, Ok, Err, IfOk, refl, sym, ap, ◌∙◌}
 use Rattle.std.proofs.lemmas.List.{append_assoc, append-nil}
+use Rattle.std.proofs.lemmas.Option.{same_Some}
+use Rattle.spv_logic.specs.declared.conditions.TermId.{TermId}
+use Rattle.spv_logic.specs.declared.types.Sort.{Sort}
+use Rattle.spv_logic.specs.declared.types.Shape.{Shape}
+use Rattle.spv_logic.specs.declared.types.Decl.{Decl}
 use Rattle.spv_logic.specs.declared.operators.Head.{Head}
 use Rattle.spv_logic.specs.Terms.{Term, Terms, term, no_terms, terms}
 use Rattle.spv_postfix.specs.declared.pieces.Piece.{Piece}
-use Rattle.spv_postfix.specs.Postfix.{piece, count_of, postfix, postfix_all}
+use Rattle.spv_logic.specs.Sorts.{term_sort}
+use Rattle.spv_term.specs.declared.nodes.TermFault.{TermFault}
+use Rattle.spv_term.specs.Arena.{Arena, tree, sort_at}
+use Rattle.spv_postfix.specs.Postfix.{piece, count_of, postfix, postfix_all, IsMakeable, IsPostfix}
 
 pub postfix_alone : (h : Head) → postfix (term h no_terms) ≡ piece h 0 ∷ []
 postfix_alone h = refl
@@ -53,3 +61,21 @@ puts_ternary old one two three new h s t u e f g k =
     puts_term old three new h (terms s (terms t (terms u no_terms)))
     (puts_first old one three s (terms t (terms u no_terms)) e
     (puts_first one two three t (terms u no_terms) f (puts_first two three three u no_terms g (none_put three)))) k
+
+-- ---- what `built` asks, and what it says, of a term whose pieces were put behind none
+
+pub puts_all : (old new : List Piece) (t : Term) → old ≡ [] → new ≡ old ++ postfix t → new ≡ postfix t
+puts_all old new t none e = e ∙ ap (λ ps. ps ++ postfix t) none
+
+pub is_postfix : (shapes : List Shape) (decls : List Decl) (pieces : List Piece) (t : Term) → pieces ≡ postfix t → IsMakeable shapes decls t → IsPostfix shapes decls pieces
+is_postfix shapes decls pieces t e makeable = record { t = t; is = e; makeable = makeable }
+
+module _ (pieces : List Piece) (t : Term) (is : pieces ≡ postfix t) (b : Arena) where
+  pub tree_at : (r : Result TermId TermFault) → IfOk r (λ u. (x : Term) → pieces ≡ postfix x → tree b u ≡ x) → IfOk r (λ u. tree b u ≡ t)
+  tree_at (Ok u) h = h t is
+  tree_at (Err e) h = tt
+
+  pub sort_is : (shapes : List Shape) (decls : List Decl) (s : Sort) → term_sort shapes decls t ≡ Some s → (r : Result TermId TermFault)
+      → IfOk r (λ u. (x : Term) → pieces ≡ postfix x → term_sort shapes decls x ≡ Some (sort_at b u)) → IfOk r (λ u. sort_at b u ≡ s)
+  sort_is shapes decls s e (Ok u) h = same_Some (sort_at b u) s (sym (h t is) ∙ e)
+  sort_is shapes decls s e (Err f) h = tt

@@ -6,5 +6,5 @@ mod laws;
 mod pieces;
 
 pub use building::built;
-pub use laws::law_unique;
+pub use laws::{law_parts, law_unique};
 pub use pieces::{Piece, put};
