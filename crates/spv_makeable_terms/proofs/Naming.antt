@@ -1,5 +1,5 @@
 -- The types that the heads of well typed formulas and expressions name are there.
-use Rattle.std.proofs.Common.{◌≡◌, Bool, true, false, cond, ◌&&◌, List, pos, refl, ap, ◌∙◌, Option, Some, None}
+use Rattle.std.proofs.Common.{◌≡◌, Bool, true, cond, ◌&&◌, List, pos, refl, ap, ◌∙◌, Option, Some, None}
 use Rattle.std.specs.Cmp.Derive.{both_true}
 use Rattle.std.proofs.lemmas.Bool.{false≢true}
 use Rattle.spv_list.proofs.Tests.{left_true, right_true}
@@ -24,7 +24,7 @@ use Rattle.spv_program.specs.FormulaTypes.{is_sort, sort_if, compared_sort, any_
 use Rattle.spv_program.specs.FormulaTypes as formulas
 use Rattle.spv_program.specs.ExpressionTypes as expressions
 use Rattle.spv_program.specs.ExpressionTypes.{comparable, may_read, expression_sort, designator_type, selected_type}
-use Rattle.spv_program.specs.Terms.{alone, unary, binary, numeral, truth, head_of_arithmetic, head_of_connective, formula_term, formula_terms}
+use Rattle.spv_program.specs.Terms.{alone, unary, binary, numeral, formula_term, formula_terms}
 use Rattle.spv_program.proofs.SortFacts.{is_sort-true, test_passes, two_there, behind, passed, chosen, failed}
 use Rattle.spv_program.proofs.FormulaSorting.{two_truths, two_numbers, one_of, some_sorts}
 use Rattle.spv_program.proofs.ExpressionSorting.{same_types, mapped}

@@ -9,8 +9,10 @@ use Rattle.spv_program.specs.Formulas.{Formula}
 use Rattle.spv_program.specs.Programs.{Routine, Program}
 use Rattle.spv_program.specs.Scopes.{Scope, own_names_in, with_sorts_of, is_value_parameter, sort_or_int}
 use Rattle.spv_program.specs.Terms.{formula_term, name_in, name_at_exit, start_or_name}
-use Rattle.spv_term_walk.specs.Names.{head_in, AreOfExit}
-use Rattle.spv_term_walk.specs.Laws.{variable_head}
+use Rattle.spv_term_walk.specs.Names.{head_in}
+use Rattle.spv_term_walk.specs.ExpressionTerms.{expression_term, place_term}
+use Rattle.spv_program.specs.Expressions.{Expression, Designator}
+use Rattle.spv_term_walk.specs.Laws.{variable_head, HasNamesOf, variable_scope, AreOfExit}
 
 -- a look-up in two tables with sorts, one behind the other
 found_sorted : (p : Program) (own others : List (Symbol × TypeId)) (x : Symbol) → found (with_sorts_of p own ++ with_sorts_of p others) x ≡ option_map (sort_of p.forms) (first_of (found own x) (found others x))
@@ -27,8 +29,28 @@ found_sorted p (n ∷ own) others x = by_case (same_name n.0 x) (found_sorted p 
     by_case true e = refl
     by_case false e = e
 
-pub names_are_variables : (p : Program) (here : Option Routine) (x : Symbol) → name_in (with_sorts_of p (own_names_in here) ++ with_sorts_of p p.variables) x ≡ variable_head p here x
-names_are_variables p here x = ap (λ o. head.Var x (sort_or_int o) 0) (found_sorted p (own_names_in here) p.variables x)
+module _ (names scope : Scope) (has : HasNamesOf names scope) where
+  same_heads : name_in names ≡ name_in scope
+  same_heads = λ i x. head.Var x (sort_or_int (has.each x i)) 0
+
+pub tables_give_formulas : (names scope : Scope) (f : Formula) → HasNamesOf names scope → formula_term (name_in names) f ≡ formula_term (name_in scope) f
+tables_give_formulas names scope f has = ap (λ heads. formula_term heads f) (same_heads names scope has)
+
+-- ---- variables
+
+variables_are : (p : Program) (here : Option Routine) (x : Symbol) → name_in (variable_scope p here) x ≡ variable_head p here x
+variables_are p here x = ap (λ o. head.Var x (sort_or_int o) 0) (found_sorted p (own_names_in here) p.variables x)
+
+variable_heads : (p : Program) (here : Option Routine) (names : Scope) → HasNamesOf names (variable_scope p here) → name_in names ≡ variable_head p here
+variable_heads p here names has = same_heads names (variable_scope p here) has ∙ (λ i x. variables_are p here x i)
+
+pub tables_give_expressions : (p : Program) (here : Option Routine) (names : Scope) (e : Expression) → HasNamesOf names (variable_scope p here) → expression_term (name_in names) e ≡ expression_term (variable_head p here) e
+tables_give_expressions p here names e has = ap (λ heads. expression_term heads e) (variable_heads p here names has)
+
+pub tables_give_places : (p : Program) (here : Option Routine) (names : Scope) (d : Designator) → HasNamesOf names (variable_scope p here) → place_term (name_in names) d ≡ place_term (variable_head p here) d
+tables_give_places p here names d has = ap (λ heads. place_term heads d) (variable_heads p here names has)
+
+-- ---- EXIT
 
 pub tables_give_exits : (p : Program) (r : Routine) (names : Scope) (starts : List (Symbol × Unit {0})) (f : Formula) → AreOfExit p r names starts → formula_term (head_in names starts) f ≡ formula_term (name_at_exit p r) f
 tables_give_exits p r names starts f t = ap (λ heads. formula_term heads f) (λ i x. same x i)
@@ -36,4 +58,4 @@ tables_give_exits p r names starts f t = ap (λ heads. formula_term heads f) (λ
     same : (x : Symbol) → head_in names starts x ≡ name_at_exit p r x
     same x =
         ap (λ b. start_or_name b x (sort_or_int (found names x))) (t.starts_are x)
-        ∙ ap (λ (scope : Scope). start_or_name (is_value_parameter r x) x (sort_or_int (found scope x))) t.names_are
+        ∙ ap (λ o. start_or_name (is_value_parameter r x) x (sort_or_int o)) (t.names_are.each x)

@@ -1,22 +1,23 @@
 -- What is proved of the terms of expressions without calls, and of the tables of names.
-use Rattle.std.specs.Prelude.{◌≡◌, ◌↔◌, ◌++◌, List, [], Option, IsTrue}
+use Rattle.std.specs.Prelude.{◌≡◌, ◌↔◌, ◌++◌, List, [], Option, is_some, IsTrue}
 use Rattle.spv_names.specs.declared.names.Symbol.{Symbol}
 use Rattle.spv_logic.specs.declared.types.Shape.{Shape}
 use Rattle.spv_logic.specs.declared.types.Decl.{Decl}
 use Rattle.spv_logic.specs.declared.operators.Head.{Head}
 use Rattle.spv_logic.specs.Sorts.{numeral_fits}
 use Rattle.spv_program.specs.declared.types.Item.TheVariants.{Variable}
+use Rattle.spv_program.specs.Lists.{found}
 use Rattle.spv_program.specs.Expressions.{Expression, Designator}
 use Rattle.spv_program.specs.Formulas.{Formula}
 use Rattle.spv_program.specs.Programs.{Routine, Program}
-use Rattle.spv_program.specs.Scopes.{Scope, own_names_in, with_sorts_of}
+use Rattle.spv_program.specs.Scopes.{Scope, own_names_in, with_sorts_of, exit_scope, is_value_parameter}
 use Rattle.spv_program.specs.Uses.{expression_calls, designator_calls}
 use Rattle.spv_program.specs.Supplies.{Supply}
 use Rattle.spv_program.specs.Places.{Target, present}
 use Rattle.spv_program.specs.Terms.{formula_term, name_in, name_at_exit, item_head}
 use Rattle.spv_program.specs.ExpressionTerms.{Placed, without_calls, valued, placed}
 use Rattle.spv_postfix.specs.Postfix.{IsMakeable}
-use Rattle.spv_term_walk.specs.Names.{head_in, AreOfExit}
+use Rattle.spv_term_walk.specs.Names.{head_in}
 use Rattle.spv_term_walk.specs.Numerals.{FormulaFits, ExpressionFits, PlaceFits}
 use Rattle.spv_term_walk.specs.Makeable.{IsWellSorted}
 use Rattle.spv_term_walk.specs.ExpressionTerms.{has_no_calls, place_has_no_calls, expression_term, place_term, place_target}
@@ -51,17 +52,40 @@ PlacesAreTargets =
 abbrev pub TermsArePresent : Type 0
 TermsArePresent = (heads : Symbol → Head) (d : Designator) → present (place_target heads d) ≡ place_term heads d
 
--- expressions see the own names and the variables of the program
-abbrev pub NamesAreVariables : Type 0
-NamesAreVariables =
-    (p : Program) (here : Option Routine) (x : Symbol)
-    → name_in (with_sorts_of p (own_names_in here) ++ with_sorts_of p p.variables) x ≡ variable_head p here x
+-- ---- tables of names
 
--- by the tables of an EXIT the terms are those of the EXIT
+-- a table finds what a scope finds, though it has no name twice
+pub record HasNamesOf (names scope : Scope) : Type 0 where
+  pub each : (x : Symbol) → found names x ≡ found scope x
+
+-- what expressions see: the own names, and the variables of the program
+abbrev pub variable_scope : Program → Option Routine → Scope
+variable_scope p here = with_sorts_of p (own_names_in here) ++ with_sorts_of p p.variables
+
+-- the tables of a routine's EXIT
+pub record AreOfExit (p : Program) (r : Routine) (names : Scope) (starts : List (Symbol × Unit {0})) : Type 0 where
+  pub names_are : HasNamesOf names (exit_scope p r)
+  pub starts_are : (x : Symbol) → is_some (found starts x) ≡ is_value_parameter r x
+
+-- by such a table the terms are those of the scope
+abbrev pub TablesGiveFormulas : Type 0
+TablesGiveFormulas =
+    (names scope : Scope) (f : Formula) → HasNamesOf names scope → formula_term (name_in names) f ≡ formula_term (name_in scope) f
+
 abbrev pub TablesGiveExits : Type 0
 TablesGiveExits =
     (p : Program) (r : Routine) (names : Scope) (starts : List (Symbol × Unit {0})) (f : Formula) → AreOfExit p r names starts
     → formula_term (head_in names starts) f ≡ formula_term (name_at_exit p r) f
+
+abbrev pub TablesGiveExpressions : Type 0
+TablesGiveExpressions =
+    (p : Program) (here : Option Routine) (names : Scope) (e : Expression) → HasNamesOf names (variable_scope p here)
+    → expression_term (name_in names) e ≡ expression_term (variable_head p here) e
+
+abbrev pub TablesGivePlaces : Type 0
+TablesGivePlaces =
+    (p : Program) (here : Option Routine) (names : Scope) (d : Designator) → HasNamesOf names (variable_scope p here)
+    → place_term (name_in names) d ≡ place_term (variable_head p here) d
 
 -- ---- which terms may be made
 

@@ -1,6 +1,6 @@
 // What is proved of the terms, each the contract of a function that does nothing.
 
-ghost use Rattle.spv_term_walk.specs.Laws.{CallsAreListed, PlaceCallsAreListed, ValuesAreTerms, PlacesAreTargets, TermsArePresent, NamesAreVariables, TablesGiveExits, FormulasAreMakeable, ExpressionsAreMakeable, PlacesAreMakeable};
+ghost use Rattle.spv_term_walk.specs.Laws.{CallsAreListed, PlaceCallsAreListed, ValuesAreTerms, PlacesAreTargets, TermsArePresent, TablesGiveFormulas, TablesGiveExits, TablesGiveExpressions, TablesGivePlaces, FormulasAreMakeable, ExpressionsAreMakeable, PlacesAreMakeable};
 
 /// What makes no call is that of whose calls none is listed.
 pub fn law_calls()
@@ -15,10 +15,13 @@ pub fn law_valued()
     ensures present { TermsArePresent }
 {}
 
-/// The tables of names by which terms are written: of expressions in a routine, and of a routine's EXIT.
+/// By tables that find what a scope finds, terms are those of the scope: of what annotations see, of what
+/// EXIT sees, and of the variables that expressions see.
 pub fn law_names()
-    ensures variables { NamesAreVariables }
+    ensures formulas { TablesGiveFormulas }
     ensures exits { TablesGiveExits }
+    ensures expressions { TablesGiveExpressions }
+    ensures places { TablesGivePlaces }
 {}
 
 /// Well sorted terms may be made where the numerals fit, as those that were written do.

@@ -1,8 +1,14 @@
-use Rattle.spv_term_walk.proofs.Tables.{names_are_variables, tables_give_exits}
+use Rattle.spv_term_walk.proofs.Tables.{tables_give_formulas, tables_give_exits, tables_give_expressions, tables_give_places}
 use Rattle.spv_term_walk.proofs.laws.law_names.Goals as goal
 
-pub returns-clause-variables : goal.returns-clause-variables
-returns-clause-variables c = names_are_variables
+pub returns-clause-formulas : goal.returns-clause-formulas
+returns-clause-formulas c = tables_give_formulas
 
 pub returns-clause-exits : goal.returns-clause-exits
 returns-clause-exits c = tables_give_exits
+
+pub returns-clause-expressions : goal.returns-clause-expressions
+returns-clause-expressions c = tables_give_expressions
+
+pub returns-clause-places : goal.returns-clause-places
+returns-clause-places c = tables_give_places
