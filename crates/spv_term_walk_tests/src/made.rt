@@ -3,10 +3,9 @@
 use spv_list::List;
 use spv_logic::{Decl, Sort};
 use spv_named::Named;
-use spv_names::Symbol;
 use spv_term::{Shapes, TermFault, Terms};
-use spv_term_walk::{exit_formula_term, expression_term, formula_term, place_term};
-use spv_typed::{Designator, Expression, ExpressionForm, Formula, FormulaForm};
+use spv_term_walk::{exit_formula_term, expression_term, formula_term};
+use spv_typed::{Expression, ExpressionForm, Formula, FormulaForm};
 use std::alloc::Global;
 use std::test::Fail;
 
@@ -16,39 +15,64 @@ fn arena(alloc: Global) -> Terms {
     Terms::new(alloc, Shapes::from_vec(Vec::new(alloc)), symbols, 10)
 }
 
-// The numbers of the terms of a formula, that formula in EXIT, an expression and a place.
-fn made(alloc: Global) -> Result<(u32, u32, u32, u32), TermFault> {
-    let mut terms = arena(alloc);
-    let names: Named<Sort> = Named::new(alloc);
-    let starts: Named<()> = Named::new(alloc);
+// The number of the term of TRUE.
+fn truth(terms: &mut Terms, alloc: Global, names: &Named<Sort>) -> Result<u32, TermFault> {
     let formula = Formula {
         form: FormulaForm::Boolean(true),
     };
-    let truth = formula_term(&mut terms, alloc, &names, &formula)?;
-    let same = exit_formula_term(&mut terms, alloc, &names, &starts, &formula)?;
+    let term = formula_term(terms, alloc, names, &formula)?;
+    Ok(term.0)
+}
+
+// The number of the term of FALSE in an EXIT.
+fn exit_truth(
+    terms: &mut Terms,
+    alloc: Global,
+    names: &Named<Sort>,
+    starts: &Named<()>,
+) -> Result<u32, TermFault> {
+    let formula = Formula {
+        form: FormulaForm::Boolean(false),
+    };
+    let term = exit_formula_term(terms, alloc, names, starts, &formula)?;
+    Ok(term.0)
+}
+
+// The number of the term of 7.
+fn seven(terms: &mut Terms, alloc: Global, names: &Named<Sort>) -> Result<u32, TermFault> {
     let expression = Expression {
         form: ExpressionForm::Numeral(7),
     };
-    let seven = expression_term(&mut terms, alloc, &names, &expression)?;
-    let place = Designator {
-        line: 1,
-        name: Symbol(0),
-        selectors: Vec::new(alloc),
-    };
-    let variable = place_term(&mut terms, alloc, &names, &place)?;
-    Ok((truth.0, same.0, seven.0, variable.0))
+    let term = expression_term(terms, alloc, names, &expression)?;
+    Ok(term.0)
+}
+
+// Whether the terms of all three get numbers in order.
+fn are_made(
+    terms: &mut Terms,
+    alloc: Global,
+    names: &Named<Sort>,
+    starts: &Named<()>,
+) -> Result<bool, TermFault> {
+    let first = truth(terms, alloc, names)?;
+    let second = exit_truth(terms, alloc, names, starts)?;
+    let third = seven(terms, alloc, names)?;
+    Ok(first == 0 && second == 1 && third == 2)
+}
+
+// The same in an arena of its own.
+fn are_made_anew(alloc: Global) -> bool {
+    let mut terms = arena(alloc);
+    let names: Named<Sort> = Named::new(alloc);
+    let starts: Named<()> = Named::new(alloc);
+    match are_made(&mut terms, alloc, &names, &starts) {
+        Ok(made) => made,
+        Err(_) => false,
+    }
 }
 
 #[test]
-fn four_calls(rt: HostRuntime) -> Result<(), Fail> {
-    match made(rt.alloc()) {
-        Ok((truth, same, seven, variable)) => {
-            assert!(rt; truth == 0 && same == 0 && seven == 1 && variable == 2);
-            Ok(())
-        }
-        Err(_) => {
-            assert!(rt; false);
-            Ok(())
-        }
-    }
+fn three_calls(rt: HostRuntime) -> Result<(), Fail> {
+    assert!(rt; are_made_anew(rt.alloc()));
+    Ok(())
 }

@@ -14,31 +14,20 @@ fn boxed(alloc: Global, form: FormulaForm) -> Result<Box<Formula>, AllocError> {
     Ok(Box::new(alloc, Formula { form })?)
 }
 
-// `a[2]`, where `a` is the name 0.
-fn element(alloc: Global) -> Result<Box<Formula>, AllocError> {
-    let array = boxed(alloc, FormulaForm::Named(1, Symbol(0)))?;
-    let index = boxed(alloc, FormulaForm::Numeral(2))?;
-    boxed(alloc, FormulaForm::Element(array, index))
-}
-
-// `a[2] > x`, where `x` is the name 1.
+// `2 > x`, where `x` is the name 0.
 fn comparison(alloc: Global) -> Result<Formula, AllocError> {
-    let left = element(alloc)?;
-    let right = boxed(alloc, FormulaForm::Named(1, Symbol(1)))?;
+    let left = boxed(alloc, FormulaForm::Numeral(2))?;
+    let right = boxed(alloc, FormulaForm::Named(1, Symbol(0)))?;
     Ok(Formula {
         form: FormulaForm::Compared(Comparison::Greater, left, right),
     })
 }
 
-// The pieces of `a[2] > x`, where `a` is of type 3.
-fn comparison_pieces(alloc: Global) -> Result<Vec<Piece>, AllocError> {
-    let mut names = Named::new(alloc);
-    if !names.has(Symbol(0)) {
-        names.insert(Symbol(0), Sort::Whole(TypeId(3)))?;
-    }
+// The pieces of a formula.
+fn formula_pieces(alloc: Global, formula: &Formula) -> Result<Vec<Piece>, AllocError> {
+    let names: Named<Sort> = Named::new(alloc);
     let mut pieces = Vec::new(alloc);
-    let formula = comparison(alloc)?;
-    write_formula(&mut pieces, &names, &formula)?;
+    write_formula(&mut pieces, &names, formula)?;
     Ok(pieces)
 }
 
@@ -47,14 +36,12 @@ fn is_piece(piece: &Piece, head: Head, count: usize) -> bool {
     piece.head == head && piece.count == count
 }
 
-// Whether pieces are those of `x < a[2]`.
+// Whether pieces are those of `x < 2`.
 fn is_turned(pieces: &[Piece]) -> bool {
     match pieces {
-        [x, a, two, select, less] => {
-            is_piece(x, Head::Var(Symbol(1), Sort::Int, 0), 0)
-                && is_piece(a, Head::Var(Symbol(0), Sort::Whole(TypeId(3)), 0), 0)
+        [x, two, less] => {
+            is_piece(x, Head::Var(Symbol(0), Sort::Int, 0), 0)
                 && is_piece(two, Head::Num(2), 0)
-                && is_piece(select, Head::Select, 2)
                 && is_piece(less, Head::Lt, 2)
         }
         _ => false,
@@ -75,13 +62,12 @@ fn field_of_cell(alloc: Global) -> Result<Expression, AllocError> {
     })
 }
 
-// The pieces of `p^.f`, where it makes no call.
-fn field_pieces(alloc: Global) -> Result<Vec<Piece>, AllocError> {
+// The pieces of an expression, where it makes no call.
+fn expression_pieces(alloc: Global, expression: &Expression) -> Result<Vec<Piece>, AllocError> {
     let names: Named<Sort> = Named::new(alloc);
     let mut pieces = Vec::new(alloc);
-    let expression = field_of_cell(alloc)?;
-    if has_no_calls(&expression) {
-        write_expression(&mut pieces, &names, &expression)?;
+    if has_no_calls(expression) {
+        write_expression(&mut pieces, &names, expression)?;
     }
     Ok(pieces)
 }
@@ -101,14 +87,16 @@ fn is_field_of_cell(pieces: &[Piece]) -> bool {
 
 #[test]
 fn a_comparison_that_is_turned_round(rt: HostRuntime) -> Result<(), Fail> {
-    let pieces = comparison_pieces(rt.alloc())?;
+    let formula = comparison(rt.alloc())?;
+    let pieces = formula_pieces(rt.alloc(), &formula)?;
     assert!(rt; is_turned(pieces.as_slice()));
     Ok(())
 }
 
 #[test]
 fn a_field_behind_a_pointer(rt: HostRuntime) -> Result<(), Fail> {
-    let pieces = field_pieces(rt.alloc())?;
+    let expression = field_of_cell(rt.alloc())?;
+    let pieces = expression_pieces(rt.alloc(), &expression)?;
     assert!(rt; is_field_of_cell(pieces.as_slice()));
     Ok(())
 }
