@@ -1,0 +1,4 @@
+pub mod Ranges
+pub mod Naming
+pub mod Scopes
+pub mod Sorting

@@ -1,0 +1,4 @@
+pub mod Stacks
+pub mod Makeable
+pub mod Postfixes
+pub mod Turns

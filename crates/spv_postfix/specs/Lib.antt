@@ -1,0 +1,3 @@
+pub mod Postfix
+pub mod Stack
+pub mod Laws
