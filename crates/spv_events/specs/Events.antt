@@ -27,57 +27,45 @@ abbrev pub HasTerms : Arena → List Term → Type 0
 HasTerms a [] = Unit {0}
 HasTerms a (t ∷ ts) = HasTerm a t × HasTerms a ts
 
--- these terms are there, and nothing but parts of them was added
-pub record Gains (old new : Arena) (ts : List Term) : Type 0 where
-  pub grows : Extends old new
-  pub there : HasTerms new ts
-  pub only : AddsParts old new ts
-
--- parts of these terms were added, and there is no room for another one
-pub record RunsFull (old new : Arena) (ts : List Term) : Type 0 where
-  pub grows : Extends old new
-  pub only : AddsParts old new ts
-  pub lacks : LacksPart new ts
-
 -- ---- walks
 
-pub record Between (P Q : Arena → Type 0) : Type 0 where
-  pub mid : Arena
-  pub first : P mid
-  pub rest : Q mid
+-- the terms that are made, in order
+abbrev pub terms_of : List Event → List Term
+terms_of [] = []
+terms_of (Terms ts ∷ events) = ts ++ terms_of events
+terms_of (Conditions n ∷ events) = terms_of events
 
--- each of these was made, in order, and no list was too long
-abbrev pub Walked : List Event → Arena → Arena → Type 0
-Walked [] old new = new ≡ old
-Walked (Terms ts ∷ events) old new = Between (λ mid. Gains old mid ts) (λ mid. Walked events mid new)
-Walked (Conditions n ∷ events) old new = (n ≤ longest_list) × Walked events old new
+-- no list is too long
+abbrev pub ListsFit : List Event → Type 0
+ListsFit [] = Unit {0}
+ListsFit (Terms ts ∷ events) = ListsFit events
+ListsFit (Conditions n ∷ events) = (n ≤ longest_list) × ListsFit events
 
-abbrev pub IsTooLong : Event → Type 0
-IsTooLong (Terms ts) = ⊥
-IsTooLong (Conditions n) = longest_list < n
+-- all of it was made: each term is there, nothing but parts of them was added, and no list is too long
+pub record Walked (events : List Event) (old new : Arena) : Type 0 where
+  pub grows : Extends old new
+  pub there : HasTerms new (terms_of events)
+  pub only : AddsParts old new (terms_of events)
+  pub lists : ListsFit events
 
-abbrev pub HasNoRoom : Arena → Arena → Event → Type 0
-HasNoRoom old new (Terms ts) = RunsFull old new ts
-HasNoRoom old new (Conditions n) = ⊥
-
--- the first list that is too long stands at an event, and all before it was made
+-- a list is too long, and all before it was made
 pub record MeetsLongList (events : List Event) (old new : Arena) : Type 0 where
   pub before : List Event
-  pub event : Event
+  pub length : ℕ
   pub after : List Event
-  pub parts : events ≡ before ++ event ∷ after
+  pub parts : events ≡ before ++ Conditions length ∷ after
   pub walked : Walked before old new
-  pub too_long : IsTooLong event
+  pub too_long : longest_list < length
 
--- there is no room for the terms of an event, and all before it was made
+-- the arena is full, and a part of the terms of the first events is not there; no list among these is too long
 pub record MeetsFullArena (events : List Event) (old new : Arena) : Type 0 where
-  pub before : List Event
-  pub event : Event
+  pub first : List Event
   pub after : List Event
-  pub parts : events ≡ before ++ event ∷ after
-  pub mid : Arena
-  pub walked : Walked before old mid
-  pub no_room : HasNoRoom mid new event
+  pub parts : events ≡ first ++ after
+  pub lists : ListsFit first
+  pub grows : Extends old new
+  pub only : AddsParts old new (terms_of first)
+  pub lacks : LacksPart new (terms_of first)
 
 -- which limit was met first; of want of memory nothing is said
 abbrev pub Stops : GenFault → List Event → Arena → Arena → Type 0
