@@ -7,4 +7,4 @@ mod operators;
 
 pub use lists::{assumed, joined};
 pub use making::{limited, made};
-pub use operators::{binary, negated, next_value, numeral, past_end, within_end};
+pub use operators::{binary, negated, next_value, numeral, over_numeral, past_end, within_end};

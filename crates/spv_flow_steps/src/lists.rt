@@ -23,12 +23,12 @@ fn appended(first: Vec<Condition>, second: Vec<Condition>) -> Result<Vec<Conditi
     Ok(all)
 }
 
-// Whether lists of these lengths are too long together.
-fn are_too_many(first: usize, second: usize) -> bool
-    ensures { IsTrue result ↔ (longest_list < first + second) }
+// Whether two lists are too long together.
+fn are_too_many(first: &[Condition], second: &[Condition]) -> bool
+    ensures { IsTrue result ↔ (longest_list < length first.now + length second.now) }
 {
     let longest = LONGEST_LIST as usize;
-    first > longest || second > longest - first
+    first.len() > longest || second.len() > longest - first.len()
 }
 
 /// Two lists of conditions, one behind the other. `Conditions` comes exactly where they are more than
@@ -37,7 +37,7 @@ pub fn joined(first: Vec<Condition>, second: Vec<Condition>) -> Result<Vec<Condi
     ensures items { IfOk result (λ all. all.items ≡ first.items ++ second.items) }
     ensures walk { (a : Arena) → Answers result (counted (length first.items + length second.items)) a a }
 {
-    if are_too_many(first.len(), second.len()) {
+    if are_too_many(first.as_slice(), second.as_slice()) {
         return Err(GenFault::Conditions(LONGEST_LIST));
     }
     Ok(appended(first, second)?)
