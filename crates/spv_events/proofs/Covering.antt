@@ -1,0 +1,146 @@
+-- Terms whose parts are parts of others.
+use Rattle.std.proofs.Common.{◌≡◌, ℕ, suc, ◌+◌, ◌<◌, Bool, true, false, ◌||◌, List, [], ◌∷◌, ◌++◌, length, Result, Ok, Err, refl, sym, ap, subst, ◌∙◌, arith}
+use Rattle.std.proofs.lemmas.Bool.{false≢true, or_left, or_right}
+use Rattle.spv_logic.specs.Terms.{Term, Terms, term, term_eq}
+use Rattle.spv_logic.proofs.Equality.{term_eq-true}
+use Rattle.spv_term.specs.Arena.{Arena, Extends, tree}
+use Rattle.spv_term.proofs.ArenaLemmas.{Extends-trans}
+use Rattle.spv_substitution.specs.Parts.{is_part, is_part_of_some, is_part_of, AddsParts, LacksPart}
+use Rattle.spv_substitution.proofs.PartLemmas.{or_split, part_down}
+use Rattle.spv_events.specs.declared.faults.GenFault.{GenFault}
+use Rattle.spv_events.specs.declared.faults.GenFault.TheVariants as fault
+use Rattle.spv_events.specs.Events.{Event, Terms as Made, Conditions, HasTerms, terms_of, Walked, MeetsLongList, MeetsFullArena, Stops, Answers}
+use Rattle.spv_events.specs.StatementEvents.{one, several}
+use Rattle.spv_events.proofs.Walks.{part_first, terms_of_both, adds_in_turn}
+
+-- a part of a part is a part
+pub part_of_part : (x s r : Term) → is_part x s ≡ true → is_part s r ≡ true → is_part x r ≡ true
+part_of_part x (term h us) r e f =
+    or_split (term_eq x (term h us)) (is_part_of_some x us) e
+    (λ same. subst (λ (y : Term). is_part y r ≡ true) (sym (term_eq-true x (term h us) same)) f)
+    (λ inside. part_down x h us inside r f)
+
+-- each part of the first terms is a part of the others
+pub record AreCovered (ts us : List Term) : Type 0 where
+  pub each : (x : Term) → is_part_of ts x ≡ true → is_part_of us x ≡ true
+
+pub covered_nothing : (us : List Term) → AreCovered [] us
+covered_nothing us = record { each = λ x h. absurd (false≢true h) }
+
+pub covered_more : (t : Term) (ts us : List Term) → is_part_of us t ≡ true → AreCovered ts us → AreCovered (t ∷ ts) us
+covered_more t ts us there others = record { each = λ x h. or_split (is_part x t) (is_part_of ts x) h (down us there x) (others.each x) }
+  where
+    down_one : (u x : Term) → is_part t u ≡ true → is_part x t ≡ true → is_part x u ≡ true
+    down_one u x e f = part_of_part x t u f e
+
+    down : (us : List Term) → is_part_of us t ≡ true → (x : Term) → is_part x t ≡ true → is_part_of us x ≡ true
+    down [] e x f = absurd (false≢true e)
+    down (u ∷ us) e x f =
+        or_split (is_part t u) (is_part_of us t) e
+        (λ here. or_left (is_part x u) (is_part_of us x) (down_one u x here f))
+        (λ behind. or_right (is_part x u) (is_part_of us x) (down us behind x f))
+
+pub covered_one : (s r : Term) → is_part s r ≡ true → AreCovered (s ∷ []) (r ∷ [])
+covered_one s r e = covered_more s [] (r ∷ []) (or_left (is_part s r) (is_part_of [] s) e) (covered_nothing (r ∷ []))
+
+append_nil : {X : Type 0} (xs : List X) → xs ++ [] ≡ xs
+append_nil [] = refl
+append_nil (x ∷ xs) = ap (λ l. x ∷ l) (append_nil xs)
+
+covered_ends : (ts us : List Term) → AreCovered ts us → AreCovered (ts ++ []) (us ++ [])
+covered_ends ts us h = record {
+  each = λ x e.
+      ap (λ (l : List Term). is_part_of l x) (append_nil us)
+      ∙ h.each x (ap (λ (l : List Term). is_part_of l x) (sym (append_nil ts)) ∙ e);
+}
+
+-- how many lists there are
+abbrev lists_in : List Event → ℕ
+lists_in [] = 0
+lists_in (Made ts ∷ events) = lists_in events
+lists_in (Conditions n ∷ events) = suc (lists_in events)
+
+lists_in_both : (xs ys : List Event) → lists_in (xs ++ ys) ≡ lists_in xs + lists_in ys
+lists_in_both [] ys = let e : lists_in ys ≡ 0 + lists_in ys = omega arith in e
+lists_in_both (Made ts ∷ xs) ys = lists_in_both xs ys
+lists_in_both (Conditions n ∷ xs) ys =
+    let others : lists_in (xs ++ ys) ≡ lists_in xs + lists_in ys = lists_in_both xs ys in
+    let e : suc (lists_in (xs ++ ys)) ≡ suc (lists_in xs) + lists_in ys = omega (arith, others) in
+    e
+
+module _ (ts us : List Term) (covered : AreCovered ts us) where
+  pub covered_stops : (e : GenFault) (a b : Arena) → Stops e (several ts) a b → Stops e (several us) a b
+  covered_stops (fault.Conditions n) a b h =
+      let at = h.1 in
+      let count : 0 ≡ lists_in at.before + suc (lists_in at.after) = ap lists_in at.parts ∙ lists_in_both at.before (Conditions at.length ∷ at.after) in
+      absurd (omega (arith, count))
+  covered_stops (fault.Terms n) a b h = (
+    h.0,
+    record {
+      first = several us;
+      after = [];
+      parts = refl;
+      lists = tt;
+      grows = h.1.grows;
+      only = record { part = λ u low high. wider (tree b u) (h.1.only.part u low high) };
+      lacks = record { missing = h.1.lacks.missing; part = wider h.1.lacks.missing h.1.lacks.part; lacks = h.1.lacks.lacks };
+    },
+  )
+    where
+      wider : (x : Term) → is_part_of (terms_of h.1.first) x ≡ true → is_part_of (us ++ []) x ≡ true
+      wider x e =
+          (covered_ends ts us covered).each x
+          (ap (λ (l : List Term). is_part_of l x) (ap terms_of h.1.parts ∙ terms_of_both h.1.first h.1.after) ∙ part_first (terms_of h.1.first) (terms_of h.1.after) x e)
+  covered_stops fault.Memory a b h = tt
+
+  covered_adds : (a b c : Arena) → Walked (several ts) a b → Extends b c → AddsParts b c (us ++ []) → AddsParts a c (us ++ [])
+  covered_adds a b c first more rest = record {
+    part = λ u low high.
+        join (tree c u) ((adds_in_turn more (ts ++ []) (us ++ []) first.only rest).part u low high);
+  }
+    where
+      join_lists : (vs : List Term) (x : Term) → ((y : Term) → is_part_of vs y ≡ true → is_part_of (us ++ []) y ≡ true) → is_part_of (vs ++ (us ++ [])) x ≡ true → is_part_of (us ++ []) x ≡ true
+      join_lists [] x within e = e
+      join_lists (v ∷ vs) x within e =
+          or_split (is_part x v) (is_part_of (vs ++ (us ++ [])) x) e
+          (λ here. within x (or_left (is_part x v) (is_part_of vs x) here))
+          (λ behind. join_lists vs x (λ y f. within y (or_right (is_part y v) (is_part_of vs y) f)) behind)
+
+      join : (x : Term) → is_part_of ((ts ++ []) ++ (us ++ [])) x ≡ true → is_part_of (us ++ []) x ≡ true
+      join x e = join_lists (ts ++ []) x (covered_ends ts us covered).each e
+
+  -- where parts were made, the whole may be made
+  pub covered_walked : (a b c : Arena) → Walked (several ts) a b → Walked (several us) b c → Walked (several us) a c
+  covered_walked a b c first rest = record {
+    grows = Extends-trans first.grows rest.grows;
+    there = rest.there;
+    only = covered_adds a b c first rest.grows rest.only;
+    lists = tt;
+  }
+
+  pub covered_behind : (e : GenFault) (a b c : Arena) → Walked (several ts) a b → Stops e (several us) b c → Stops e (several us) a c
+  covered_behind (fault.Conditions n) a b c first h =
+      let at = h.1 in
+      let count : 0 ≡ lists_in at.before + suc (lists_in at.after) = ap lists_in at.parts ∙ lists_in_both at.before (Conditions at.length ∷ at.after) in
+      absurd (omega (arith, count))
+  covered_behind (fault.Terms n) a b c first h = (
+    h.0 ∙ first.grows.most,
+    record {
+      first = several us;
+      after = [];
+      parts = refl;
+      lists = tt;
+      grows = Extends-trans first.grows h.1.grows;
+      only = covered_adds a b c first h.1.grows (record { part = λ u low high. whole (tree c u) (h.1.only.part u low high) });
+      lacks = record { missing = h.1.lacks.missing; part = whole h.1.lacks.missing h.1.lacks.part; lacks = h.1.lacks.lacks };
+    },
+  )
+    where
+      whole : (x : Term) → is_part_of (terms_of h.1.first) x ≡ true → is_part_of (us ++ []) x ≡ true
+      whole x e =
+          ap (λ (l : List Term). is_part_of l x) (ap terms_of h.1.parts ∙ terms_of_both h.1.first h.1.after) ∙ part_first (terms_of h.1.first) (terms_of h.1.after) x e
+  covered_behind fault.Memory a b c first h = tt
+
+  pub covered_answers : {X : Type 0} (r : Result X GenFault) (a b c : Arena) → Walked (several ts) a b → Answers r (several us) b c → Answers r (several us) a c
+  covered_answers (Ok x) a b c first h = covered_walked a b c first h
+  covered_answers (Err e) a b c first h = covered_behind e a b c first h
