@@ -30,20 +30,6 @@ use Rattle.spv_changed.specs.declared.roots.RootHead.{RootHead}
 
 -- ---- one event
 
-used_first : (p : Program) (u : Use) (events : List plain.Event) (q : Root)
-    → among (changed_in p (Used u ∷ events)) q ≡ (u.changes && same_root q u.root) || among (changed_in p events) q
-used_first p u events q = by_case u.changes
-  where
-    others : List Use
-    others = filter (λ (v : Use). v.changes) (uses_in events)
-
-    calls : List Root
-    calls = flat_map (changed_by_call p) (calls_in events)
-
-    by_case : (b : Bool) → among (map (λ (v : Use). v.root) (cond b (u ∷ others) others) ++ calls) q ≡ (b && same_root q u.root) || among (map (λ (v : Use). v.root) others ++ calls) q
-    by_case true = refl
-    by_case false = refl
-
 -- the second list comes first
 second_first : (q : Root) (xs ys zs : List Root) → among (xs ++ (ys ++ zs)) q ≡ among ys q || among (xs ++ zs) q
 second_first q xs ys zs =
@@ -61,25 +47,11 @@ called_first p r line given events q =
     second_first q (map (λ (v : Use). v.root) (filter (λ (v : Use). v.changes) (uses_in events))) (shared_roots (items_of_callee (routine_at p r))) (flat_map (changed_by_call p) (calls_in events))
     ∙ ap (λ b. b || among (changed_in p events) q) (sym (or_false (among (shared_roots (items_of_callee (routine_at p r))) q)))
 
--- more among the roots, and among the callees
-roots_more : (h m c x : Bool) → ((h || m) || c) || x ≡ (h || c) || (m || x)
-roots_more true m c x = refl
-roots_more false true true x = refl
-roots_more false true false x = refl
-roots_more false false c x = refl
-
+-- more among the callees
 callees_more : (h m c x : Bool) → (h || (c || m)) || x ≡ (h || c) || (m || x)
 callees_more true m c x = refl
 callees_more false m true x = refl
 callees_more false m false x = refl
-
-pub follows_use : (u : Use) (old new : RootSet) (callees : List RoutineId) → Adds old new (λ q. u.changes && same_root q u.root) → Follows (Used u) old callees new callees
-follows_use u old new callees adds = record {
-  each = λ p events q.
-      ap (λ b. (b || of_callees p callees q) || among (changed_in p events) q) (adds.each q)
-      ∙ roots_more (has_root old q) (u.changes && same_root q u.root) (of_callees p callees q) (among (changed_in p events) q)
-      ∙ ap (λ b. found_by p old callees q || b) (sym (used_first p u events q));
-}
 
 pub follows_call : (c : Call) (r : RoutineId) (line : ℕ) (given : Arguments) (roots : RootSet) (old new : List RoutineId) → call r line given ≡ c → new ≡ with_routine old r
     → Follows (Called c) roots old roots new
