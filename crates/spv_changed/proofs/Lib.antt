@@ -1,0 +1,5 @@
+pub mod Tests
+pub mod Members
+pub mod Rows
+pub mod Events
+pub mod Forms
