@@ -40,13 +40,15 @@ abbrev pub in_order : List (List Event) → List Event
 in_order [] = []
 in_order (first ∷ others) = first ++ in_order others
 
+-- what is replaced, and what is put in its place
+abbrev pub pair_terms : List (Head × Term) → List Term
+pair_terms [] = []
+pair_terms (pair ∷ pairs) = alone pair.0 ∷ pair.1 ∷ pair_terms pairs
+
 -- the terms of conditions after a replacement, behind what is replaced and what is put there
 abbrev pub replacing_events : List (Head × Term) → List Condition → List Event
 replacing_events pairs conditions =
-    in_order (several (map (λ pair. alone pair.0) pairs)
-    ∷ several (map (λ pair. pair.1) pairs)
-    ∷ several (all_terms_in (replaced pairs conditions))
-    ∷ [])
+    in_order (several (pair_terms pairs) ∷ several (all_terms_in (replaced pairs conditions)) ∷ [])
 
 -- the fresh variables of what a loop changes
 abbrev pub loop_names : Program → Option RoutineId → Statement → Supply → Renamed
