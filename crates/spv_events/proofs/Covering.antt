@@ -1,16 +1,16 @@
 -- Terms whose parts are parts of others.
-use Rattle.std.proofs.Common.{◌≡◌, ℕ, suc, ◌+◌, ◌<◌, Bool, true, false, ◌||◌, List, [], ◌∷◌, ◌++◌, length, Result, Ok, Err, refl, sym, ap, subst, ◌∙◌, arith}
+use Rattle.std.proofs.Common.{◌≡◌, ℕ, suc, ◌+◌, true, List, [], ◌∷◌, ◌++◌, Result, Ok, Err, refl, sym, ap, subst, ◌∙◌, arith}
 use Rattle.std.proofs.lemmas.Bool.{false≢true, or_left, or_right}
-use Rattle.spv_logic.specs.Terms.{Term, Terms, term, term_eq}
+use Rattle.spv_logic.specs.Terms.{Term, term, term_eq}
 use Rattle.spv_logic.proofs.Equality.{term_eq-true}
 use Rattle.spv_term.specs.Arena.{Arena, Extends, tree}
 use Rattle.spv_term.proofs.ArenaLemmas.{Extends-trans}
-use Rattle.spv_substitution.specs.Parts.{is_part, is_part_of_some, is_part_of, AddsParts, LacksPart}
+use Rattle.spv_substitution.specs.Parts.{is_part, is_part_of_some, is_part_of, AddsParts}
 use Rattle.spv_substitution.proofs.PartLemmas.{or_split, part_down}
 use Rattle.spv_events.specs.declared.faults.GenFault.{GenFault}
 use Rattle.spv_events.specs.declared.faults.GenFault.TheVariants as fault
-use Rattle.spv_events.specs.Events.{Event, Terms as Made, Conditions, HasTerms, terms_of, ListsFit, Walked, MeetsLongList, MeetsFullArena, Stops, Answers}
-use Rattle.spv_events.specs.StatementEvents.{one, several}
+use Rattle.spv_events.specs.Events.{Event, Terms as Made, Conditions, HasTerms, terms_of, ListsFit, Walked, Stops, Answers}
+use Rattle.spv_events.specs.StatementEvents.{several}
 use Rattle.spv_events.proofs.Walks.{part_first, terms_of_both, adds_in_turn}
 
 -- a part of a part is a part

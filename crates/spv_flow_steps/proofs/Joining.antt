@@ -1,12 +1,10 @@
 -- Tests joined by OR.
-use Rattle.std.proofs.Common.{◌≡◌, ◌<◌, ◌≤◌, ◌+◌, ◌||◌, ℕ, suc, ℤ, Bool, true, List, [], ◌∷◌, length, drop, fold, get_or, Result, Ok, Err, IfOk, refl, sym, ap, subst, ◌∙◌, arith}
-use Rattle.std.proofs.Math.Seq.{drop-cons}
-use Rattle.std.proofs.Math.ListN.{drop_of_length-le}
+use Rattle.std.proofs.Common.{◌≡◌, ◌<◌, ℤ, true, List, [], ◌∷◌, length, fold, Result, IfOk, refl, sym, ap, subst, ◌∙◌, arith}
 use Rattle.std.proofs.lemmas.Bool.{or_left}
 use Rattle.spv_logic.specs.declared.conditions.TermId.{TermId}
 use Rattle.spv_logic.specs.declared.types.Sort.TheVariants as sort
 use Rattle.spv_logic.specs.declared.operators.Head.TheVariants as head
-use Rattle.spv_logic.specs.Terms.{Term, term, terms, no_terms}
+use Rattle.spv_logic.specs.Terms.{Term, terms, no_terms}
 use Rattle.spv_term.specs.Arena.{Arena, Extends, tree, sort_at}
 use Rattle.spv_term.proofs.ArenaLemmas.{Extends-refl, Extends-trans, tree-Extends, sort_at-Extends, length-Extends}
 use Rattle.spv_substitution.specs.Parts.{is_part}
@@ -16,7 +14,7 @@ use Rattle.spv_events.specs.declared.faults.GenFault.{GenFault}
 use Rattle.spv_events.specs.Events.{Walked, Stops, Answers}
 use Rattle.spv_events.specs.StatementEvents.{one}
 use Rattle.spv_events.proofs.Walks.{adds_nothing}
-use Rattle.spv_events.proofs.Covering.{AreCovered, covered_one, part_of_part, covered_walked, covered_behind, covered_stops, covered_answers}
+use Rattle.spv_events.proofs.Covering.{covered_one, part_of_part, covered_walked, covered_behind, covered_stops, covered_answers}
 use Rattle.spv_flow_steps.specs.Makes.{IsTerm}
 use Rattle.spv_flow_steps.specs.Labels.{or_number}
 use Rattle.spv_flow_steps.proofs.Limits.{first_covered, if_ok}

@@ -1,5 +1,5 @@
 -- What `make` makes, and the limit that it meets.
-use Rattle.std.proofs.Common.{◌≡◌, ◌<◌, ◌≤◌, ◌+◌, ◌||◌, ℕ, Bool, true, false, List, [], ◌∷◌, ◌++◌, length, Result, Ok, Err, OnOk, OnErr, IfOk, IsErrAnd, IsSome, Some, IsTrue, refl, sym, ap, subst, ◌∙◌}
+use Rattle.std.proofs.Common.{◌≡◌, ◌<◌, ◌+◌, ◌||◌, ℕ, Bool, true, false, List, [], ◌∷◌, ◌++◌, length, Result, Ok, Err, OnOk, OnErr, IfOk, IsErrAnd, IsSome, Some, IsTrue, refl, sym, ap, subst, ◌∙◌}
 use Rattle.std.proofs.lemmas.Bool.{or_left, or_right}
 use Rattle.spv_logic.specs.declared.conditions.TermId.{TermId}
 use Rattle.spv_logic.specs.declared.operators.Head.{Head}
@@ -15,7 +15,7 @@ use Rattle.spv_substitution.specs.Parts.{is_part, is_part_of, AddsOnly, AddsPart
 use Rattle.spv_substitution.proofs.PartLemmas.{is_part-refl, part_of_args}
 use Rattle.spv_substitution.proofs.MakeLemmas.{adds_node, adds_nothing, lacks_tree}
 use Rattle.spv_events.specs.declared.faults.GenFault.{GenFault}
-use Rattle.spv_events.specs.Events.{Event, HasTerm, HasTerms, longest_list, Walked, MeetsLongList, MeetsFullArena, Stops, Answers}
+use Rattle.spv_events.specs.Events.{Event, HasTerms, longest_list, Walked, MeetsLongList, Stops, Answers}
 use Rattle.spv_events.specs.StatementEvents.{one, several, counted}
 use Rattle.spv_events.proofs.Walks.{nothing_walked}
 use Rattle.spv_events.proofs.Covering.{AreCovered, covered_one, covered_answers, covered_stops}

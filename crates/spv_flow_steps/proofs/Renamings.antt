@@ -1,5 +1,5 @@
 -- A variable and a fresh one in its place.
-use Rattle.std.proofs.Common.{◌≡◌, ◌<◌, true, List, [], ◌∷◌, ◌++◌, length, Result, Ok, Err, IfOk, refl, sym, ap, subst, ◌∙◌, arith}
+use Rattle.std.proofs.Common.{◌≡◌, true, [], ◌∷◌, ◌++◌, Result, Ok, Err, IfOk, refl, sym, ap, subst, ◌∙◌, arith}
 use Rattle.std.proofs.lemmas.Bool.{or_left}
 use Rattle.spv_logic.specs.declared.conditions.TermId.{TermId}
 use Rattle.spv_logic.specs.declared.operators.Head.{Head}
@@ -7,15 +7,14 @@ use Rattle.spv_logic.specs.Substitution.{is_variable}
 use Rattle.spv_logic.specs.Terms.{Term}
 use Rattle.spv_term.specs.declared.nodes.TermFault.{TermFault}
 use Rattle.spv_term.specs.declared.nodes.TermFault.TheVariants.{Size}
-use Rattle.spv_term.specs.Arena.{Arena, Extends, tree, sort_at}
+use Rattle.spv_term.specs.Arena.{Arena, Extends, sort_at}
 use Rattle.spv_term.proofs.ArenaLemmas.{tree-Extends, sort_at-Extends, length-Extends}
-use Rattle.spv_substitution.specs.Images.{head_of, head_at, IsPair}
+use Rattle.spv_substitution.specs.Images.{head_of, head_at}
 use Rattle.spv_substitution.specs.Parts.{is_part, is_part_of, AddsOnly, Lacks}
 use Rattle.spv_substitution.proofs.PartLemmas.{is_part-refl}
 use Rattle.spv_program.specs.Supplies.{Supply, Fresh, fresh_like}
 use Rattle.spv_program.specs.Terms.{alone}
-use Rattle.spv_supply.specs.Numbers.{Taken, supply_of, IsFresh, AreThere}
-use Rattle.spv_supply.proofs.FreshLemmas.{AreThere-Extends}
+use Rattle.spv_supply.specs.Numbers.{Taken, IsFresh, AreThere}
 use Rattle.spv_events.specs.declared.faults.GenFault.{GenFault}
 use Rattle.spv_events.specs.Events.{Walked, Stops}
 use Rattle.spv_events.specs.StatementEvents.{one, several}

@@ -1,4 +1,3 @@
-use Rattle.spv_program.specs.Supplies.{fresh_like}
 use Rattle.spv_program.specs.Terms.{alone}
 use Rattle.spv_supply.specs.Numbers.{supply_of}
 use Rattle.spv_supply.proofs.FreshLemmas.{AreThere-Extends}
