@@ -1,16 +1,16 @@
 -- Terms whose parts are parts of others.
-use Rattle.std.proofs.Common.{◌≡◌, ℕ, suc, ◌+◌, ◌<◌, Bool, true, false, ◌||◌, List, [], ◌∷◌, ◌++◌, length, Result, Ok, Err, refl, sym, ap, subst, ◌∙◌, arith}
+use Rattle.std.proofs.Common.{◌≡◌, ℕ, suc, ◌+◌, true, List, [], ◌∷◌, ◌++◌, Result, Ok, Err, refl, sym, ap, subst, ◌∙◌, arith}
 use Rattle.std.proofs.lemmas.Bool.{false≢true, or_left, or_right}
-use Rattle.spv_logic.specs.Terms.{Term, Terms, term, term_eq}
+use Rattle.spv_logic.specs.Terms.{Term, term, term_eq}
 use Rattle.spv_logic.proofs.Equality.{term_eq-true}
 use Rattle.spv_term.specs.Arena.{Arena, Extends, tree}
 use Rattle.spv_term.proofs.ArenaLemmas.{Extends-trans}
-use Rattle.spv_substitution.specs.Parts.{is_part, is_part_of_some, is_part_of, AddsParts, LacksPart}
+use Rattle.spv_substitution.specs.Parts.{is_part, is_part_of_some, is_part_of, AddsParts}
 use Rattle.spv_substitution.proofs.PartLemmas.{or_split, part_down}
 use Rattle.spv_events.specs.declared.faults.GenFault.{GenFault}
 use Rattle.spv_events.specs.declared.faults.GenFault.TheVariants as fault
-use Rattle.spv_events.specs.Events.{Event, Terms as Made, Conditions, HasTerms, terms_of, Walked, MeetsLongList, MeetsFullArena, Stops, Answers}
-use Rattle.spv_events.specs.StatementEvents.{one, several}
+use Rattle.spv_events.specs.Events.{Event, Terms as Made, Conditions, HasTerms, terms_of, ListsFit, Walked, Stops, Answers}
+use Rattle.spv_events.specs.StatementEvents.{several}
 use Rattle.spv_events.proofs.Walks.{part_first, terms_of_both, adds_in_turn}
 
 -- a part of a part is a part
@@ -47,15 +47,8 @@ append_nil : {X : Type 0} (xs : List X) → xs ++ [] ≡ xs
 append_nil [] = refl
 append_nil (x ∷ xs) = ap (λ l. x ∷ l) (append_nil xs)
 
-covered_ends : (ts us : List Term) → AreCovered ts us → AreCovered (ts ++ []) (us ++ [])
-covered_ends ts us h = record {
-  each = λ x e.
-      ap (λ (l : List Term). is_part_of l x) (append_nil us)
-      ∙ h.each x (ap (λ (l : List Term). is_part_of l x) (sym (append_nil ts)) ∙ e);
-}
-
 -- how many lists there are
-abbrev lists_in : List Event → ℕ
+abbrev pub lists_in : List Event → ℕ
 lists_in [] = 0
 lists_in (Made ts ∷ events) = lists_in events
 lists_in (Conditions n ∷ events) = suc (lists_in events)
@@ -68,12 +61,25 @@ lists_in_both (Conditions n ∷ xs) ys =
     let e : suc (lists_in (xs ++ ys)) ≡ suc (lists_in xs) + lists_in ys = omega (arith, others) in
     e
 
-module _ (ts us : List Term) (covered : AreCovered ts us) where
-  pub covered_stops : (e : GenFault) (a b : Arena) → Stops e (several ts) a b → Stops e (several us) a b
-  covered_stops (fault.Conditions n) a b h =
-      let at = h.1 in
-      let count : 0 ≡ lists_in at.before + suc (lists_in at.after) = ap lists_in at.parts ∙ lists_in_both at.before (Conditions at.length ∷ at.after) in
-      absurd (omega (arith, count))
+pub no_list_there : (xs before after : List Event) (n : ℕ) → lists_in xs ≡ 0 → xs ≡ before ++ Conditions n ∷ after → ⊥
+no_list_there xs before after n none parts =
+    let count : lists_in xs ≡ lists_in before + suc (lists_in after) = ap lists_in parts ∙ lists_in_both before (Conditions n ∷ after) in
+    let zero : lists_in xs ≡ 0 = none in
+    omega (arith, count, zero)
+
+-- walks without lists, whose terms are parts of others
+module _ (xs : List Event) (none : lists_in xs ≡ 0) (us : List Term) (covered : AreCovered (terms_of xs) us) where
+  wide : AreCovered (terms_of xs) (us ++ [])
+  wide = record { each = λ x e. ap (λ (l : List Term). is_part_of l x) (append_nil us) ∙ covered.each x e }
+
+  -- a prefix of such a walk has no other terms
+  pub parts_are : (first after : List Event) → xs ≡ first ++ after → (x : Term) → is_part_of (terms_of first) x ≡ true → is_part_of (us ++ []) x ≡ true
+  parts_are first after parts x e =
+      wide.each x
+      (ap (λ (l : List Term). is_part_of l x) (ap terms_of parts ∙ terms_of_both first after) ∙ part_first (terms_of first) (terms_of after) x e)
+
+  pub covered_stops : (e : GenFault) (a b : Arena) → Stops e xs a b → Stops e (several us) a b
+  covered_stops (fault.Conditions n) a b h = absurd (no_list_there xs h.1.before h.1.after h.1.length none h.1.parts)
   covered_stops (fault.Terms n) a b h = (
     h.0,
     record {
@@ -82,21 +88,19 @@ module _ (ts us : List Term) (covered : AreCovered ts us) where
       parts = refl;
       lists = tt;
       grows = h.1.grows;
-      only = record { part = λ u low high. wider (tree b u) (h.1.only.part u low high) };
-      lacks = record { missing = h.1.lacks.missing; part = wider h.1.lacks.missing h.1.lacks.part; lacks = h.1.lacks.lacks };
+      only = record { part = λ u low high. parts_are h.1.first h.1.after h.1.parts (tree b u) (h.1.only.part u low high) };
+      lacks = record {
+        missing = h.1.lacks.missing;
+        part = parts_are h.1.first h.1.after h.1.parts h.1.lacks.missing h.1.lacks.part;
+        lacks = h.1.lacks.lacks;
+      };
     },
   )
-    where
-      wider : (x : Term) → is_part_of (terms_of h.1.first) x ≡ true → is_part_of (us ++ []) x ≡ true
-      wider x e =
-          (covered_ends ts us covered).each x
-          (ap (λ (l : List Term). is_part_of l x) (ap terms_of h.1.parts ∙ terms_of_both h.1.first h.1.after) ∙ part_first (terms_of h.1.first) (terms_of h.1.after) x e)
   covered_stops fault.Memory a b h = tt
 
-  covered_adds : (a b c : Arena) → Walked (several ts) a b → Extends b c → AddsParts b c (us ++ []) → AddsParts a c (us ++ [])
+  covered_adds : (a b c : Arena) → Walked xs a b → Extends b c → AddsParts b c (us ++ []) → AddsParts a c (us ++ [])
   covered_adds a b c first more rest = record {
-    part = λ u low high.
-        join (tree c u) ((adds_in_turn more (ts ++ []) (us ++ []) first.only rest).part u low high);
+    part = λ u low high. join (tree c u) ((adds_in_turn more (terms_of xs) (us ++ []) first.only rest).part u low high);
   }
     where
       join_lists : (vs : List Term) (x : Term) → ((y : Term) → is_part_of vs y ≡ true → is_part_of (us ++ []) y ≡ true) → is_part_of (vs ++ (us ++ [])) x ≡ true → is_part_of (us ++ []) x ≡ true
@@ -106,11 +110,11 @@ module _ (ts us : List Term) (covered : AreCovered ts us) where
           (λ here. within x (or_left (is_part x v) (is_part_of vs x) here))
           (λ behind. join_lists vs x (λ y f. within y (or_right (is_part y v) (is_part_of vs y) f)) behind)
 
-      join : (x : Term) → is_part_of ((ts ++ []) ++ (us ++ [])) x ≡ true → is_part_of (us ++ []) x ≡ true
-      join x e = join_lists (ts ++ []) x (covered_ends ts us covered).each e
+      join : (x : Term) → is_part_of (terms_of xs ++ (us ++ [])) x ≡ true → is_part_of (us ++ []) x ≡ true
+      join x e = join_lists (terms_of xs) x wide.each e
 
   -- where parts were made, the whole may be made
-  pub covered_walked : (a b c : Arena) → Walked (several ts) a b → Walked (several us) b c → Walked (several us) a c
+  pub covered_walked : (a b c : Arena) → Walked xs a b → Walked (several us) b c → Walked (several us) a c
   covered_walked a b c first rest = record {
     grows = Extends-trans first.grows rest.grows;
     there = rest.there;
@@ -118,11 +122,8 @@ module _ (ts us : List Term) (covered : AreCovered ts us) where
     lists = tt;
   }
 
-  pub covered_behind : (e : GenFault) (a b c : Arena) → Walked (several ts) a b → Stops e (several us) b c → Stops e (several us) a c
-  covered_behind (fault.Conditions n) a b c first h =
-      let at = h.1 in
-      let count : 0 ≡ lists_in at.before + suc (lists_in at.after) = ap lists_in at.parts ∙ lists_in_both at.before (Conditions at.length ∷ at.after) in
-      absurd (omega (arith, count))
+  pub covered_behind : (e : GenFault) (a b c : Arena) → Walked xs a b → Stops e (several us) b c → Stops e (several us) a c
+  covered_behind (fault.Conditions n) a b c first h = absurd (no_list_there (several us) h.1.before h.1.after h.1.length refl h.1.parts)
   covered_behind (fault.Terms n) a b c first h = (
     h.0 ∙ first.grows.most,
     record {
@@ -141,6 +142,15 @@ module _ (ts us : List Term) (covered : AreCovered ts us) where
           ap (λ (l : List Term). is_part_of l x) (ap terms_of h.1.parts ∙ terms_of_both h.1.first h.1.after) ∙ part_first (terms_of h.1.first) (terms_of h.1.after) x e
   covered_behind fault.Memory a b c first h = tt
 
-  pub covered_answers : {X : Type 0} (r : Result X GenFault) (a b c : Arena) → Walked (several ts) a b → Answers r (several us) b c → Answers r (several us) a c
+  pub covered_answers : {X : Type 0} (r : Result X GenFault) (a b c : Arena) → Walked xs a b → Answers r (several us) b c → Answers r (several us) a c
   covered_answers (Ok x) a b c first h = covered_walked a b c first h
   covered_answers (Err e) a b c first h = covered_behind e a b c first h
+
+-- the same terms in the same order
+pub same_walk : (xs ys : List Event) (a b : Arena) → terms_of xs ≡ terms_of ys → ListsFit ys → Walked xs a b → Walked ys a b
+same_walk xs ys a b same lists h = record {
+  grows = h.grows;
+  there = subst (HasTerms b) same h.there;
+  only = subst (AddsParts a b) same h.only;
+  lists = lists;
+}

@@ -1,16 +1,15 @@
 -- Walks one after the other, and what answers say of them.
-use Rattle.std.proofs.Common.{◌≡◌, ℕ, ◌<◌, ◌≤◌, inl, inr, Bool, true, false, ◌||◌, List, [], ◌∷◌, ◌++◌, length, Result, Ok, Err, refl, sym, ap, subst, ◌∙◌, arith}
+use Rattle.std.proofs.Common.{◌≡◌, ◌<◌, ◌≤◌, inl, inr, Bool, true, false, ◌||◌, List, [], ◌∷◌, ◌++◌, length, Result, Ok, Err, refl, sym, ap, subst, ◌∙◌, arith}
 use Rattle.std.proofs.lemmas.List.{append_assoc}
 use Rattle.std.proofs.lemmas.Bool.{false≢true, or_left, or_right, cases_lt}
 use Rattle.spv_logic.specs.declared.conditions.TermId.{TermId}
 use Rattle.spv_logic.specs.Terms.{Term}
 use Rattle.spv_term.specs.Arena.{Arena, Extends, tree}
 use Rattle.spv_term.proofs.ArenaLemmas.{Extends-refl, Extends-trans, tree-Extends, length-Extends}
-use Rattle.spv_substitution.specs.Parts.{is_part, is_part_of, AddsParts, Lacks, LacksPart}
-use Rattle.spv_substitution.proofs.PartLemmas.{is_part-refl}
+use Rattle.spv_substitution.specs.Parts.{is_part, is_part_of, AddsParts, LacksPart}
 use Rattle.spv_events.specs.declared.faults.GenFault.{GenFault}
 use Rattle.spv_events.specs.declared.faults.GenFault.TheVariants as fault
-use Rattle.spv_events.specs.Events.{Event, Terms, Conditions, longest_list, HasTerm, HasTerms, terms_of, ListsFit, Walked, MeetsLongList, MeetsFullArena, Stops, Answers}
+use Rattle.spv_events.specs.Events.{Event, Terms, Conditions, HasTerms, terms_of, ListsFit, Walked, MeetsLongList, MeetsFullArena, Stops, Answers}
 
 -- ---- terms and their parts
 

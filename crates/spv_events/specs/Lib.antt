@@ -1,2 +1,4 @@
 pub mod Events
+pub mod Examples
+pub mod Laws
 pub mod StatementEvents

@@ -1,7 +1,6 @@
 -- What the walk makes at statements that call nothing: their terms, their lists of conditions, and their fresh variables, in this
 -- order; what comes behind a statement was made before.
-use Rattle.std.specs.Prelude.{ℕ, ◌+◌, List, [], ◌∷◌, ◌++◌, map, length, Option, Some, None, option_map}
-use Rattle.spv_logic.specs.declared.types.TypeId.{TypeId}
+use Rattle.std.specs.Prelude.{ℕ, ◌+◌, List, [], ◌∷◌, ◌++◌, length, Option, Some, None, option_map}
 use Rattle.spv_logic.specs.declared.conditions.Kind.TheVariants as kind
 use Rattle.spv_logic.specs.declared.conditions.RoutineId.{RoutineId}
 use Rattle.spv_logic.specs.declared.operators.Head.{Head}
@@ -10,8 +9,7 @@ use Rattle.spv_logic.specs.Substitution.{substitute}
 use Rattle.spv_logic.specs.Conditions.{Condition}
 use Rattle.spv_program.specs.declared.types.Item.TheVariants.{Variable}
 use Rattle.spv_program.specs.Formulas.{Annotation}
-use Rattle.spv_program.specs.Expressions.{Expression}
-use Rattle.spv_program.specs.Statements.{Counting, Statement, Arms, Empty, Assign, Perform, New, Sequence, If, Case, While, Repeat, For, Assert, no_arms, arm}
+use Rattle.spv_program.specs.Statements.{Statement, Arms, Empty, Assign, Perform, New, Sequence, If, Case, While, Repeat, For, Assert, no_arms, arm}
 use Rattle.spv_program.specs.Programs.{Program, routine_in}
 use Rattle.spv_program.specs.Changes.{changed_heads}
 use Rattle.spv_program.specs.Terms.{alone, item_head, body_term}
@@ -20,7 +18,7 @@ use Rattle.spv_program.specs.Places.{present, whole_with}
 use Rattle.spv_program.specs.Calls.{replacing}
 use Rattle.spv_program.specs.ExpressionTerms.{valued, placed}
 use Rattle.spv_assign.specs.Conditions.{all_terms_in}
-use Rattle.spv_meaning.specs.Before.{Made, all_assuming, assuming_if_there, replaced, negated, annotation_term, wanted_if_there, wanted_with, Renamed, renamed, standing_for, next_term, within_term, past_term, is_label, before, before_arms}
+use Rattle.spv_meaning.specs.Before.{Made, all_assuming, assuming_if_there, replaced, negated, annotation_term, wanted_if_there, wanted_with, Renamed, renamed, standing_for, next_term, within_term, past_term, is_label, before}
 use Rattle.spv_events.specs.Events.{Event, Terms, Conditions}
 
 abbrev pub one : Term → List Event
@@ -40,13 +38,15 @@ abbrev pub in_order : List (List Event) → List Event
 in_order [] = []
 in_order (first ∷ others) = first ++ in_order others
 
+-- what is replaced, and what is put in its place
+abbrev pub pair_terms : List (Head × Term) → List Term
+pair_terms [] = []
+pair_terms (pair ∷ pairs) = alone pair.0 ∷ pair.1 ∷ pair_terms pairs
+
 -- the terms of conditions after a replacement, behind what is replaced and what is put there
 abbrev pub replacing_events : List (Head × Term) → List Condition → List Event
 replacing_events pairs conditions =
-    in_order (several (map (λ pair. alone pair.0) pairs)
-    ∷ several (map (λ pair. pair.1) pairs)
-    ∷ several (all_terms_in (replaced pairs conditions))
-    ∷ [])
+    in_order (several (pair_terms pairs) ∷ several (all_terms_in (replaced pairs conditions)) ∷ [])
 
 -- the fresh variables of what a loop changes
 abbrev pub loop_names : Program → Option RoutineId → Statement → Supply → Renamed

@@ -2,5 +2,7 @@
 #![tactic(auto)]
 
 mod faults;
+mod laws;
 
 pub use faults::{GenFault, LONGEST_LIST};
+pub use laws::{law_examples, law_limits, law_walks};

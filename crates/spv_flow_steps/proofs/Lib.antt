@@ -1,1 +1,4 @@
+pub mod Joining
 pub mod Limits
+pub mod Renamings
+pub mod Replacements

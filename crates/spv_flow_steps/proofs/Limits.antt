@@ -1,11 +1,10 @@
 -- What `make` makes, and the limit that it meets.
-use Rattle.std.proofs.Common.{◌≡◌, ◌<◌, ◌≤◌, ◌+◌, ◌||◌, ℕ, Bool, true, false, List, [], ◌∷◌, ◌++◌, length, Result, Ok, Err, OnOk, OnErr, IfOk, IsErrAnd, IsSome, IsTrue, refl, sym, ap, subst, ◌∙◌}
+use Rattle.std.proofs.Common.{◌≡◌, ◌<◌, ◌+◌, ◌||◌, ℕ, Bool, true, false, List, [], ◌∷◌, ◌++◌, length, Result, Ok, Err, OnOk, OnErr, IfOk, IsErrAnd, IsSome, Some, IsTrue, refl, sym, ap, subst, ◌∙◌}
 use Rattle.std.proofs.lemmas.Bool.{or_left, or_right}
 use Rattle.spv_logic.specs.declared.conditions.TermId.{TermId}
 use Rattle.spv_logic.specs.declared.operators.Head.{Head}
 use Rattle.spv_logic.specs.Terms.{Term, term, terms, no_terms}
 use Rattle.spv_logic.specs.declared.types.Sort.{Sort}
-use Rattle.spv_logic.specs.declared.types.Sort.TheVariants.{Int}
 use Rattle.spv_logic.specs.Sorts.{result_sort}
 use Rattle.spv_program.specs.Terms.{binary}
 use Rattle.spv_term.specs.declared.nodes.TermFault.{TermFault}
@@ -16,7 +15,7 @@ use Rattle.spv_substitution.specs.Parts.{is_part, is_part_of, AddsOnly, AddsPart
 use Rattle.spv_substitution.proofs.PartLemmas.{is_part-refl, part_of_args}
 use Rattle.spv_substitution.proofs.MakeLemmas.{adds_node, adds_nothing, lacks_tree}
 use Rattle.spv_events.specs.declared.faults.GenFault.{GenFault}
-use Rattle.spv_events.specs.Events.{Event, HasTerm, HasTerms, longest_list, Walked, MeetsLongList, MeetsFullArena, Stops, Answers}
+use Rattle.spv_events.specs.Events.{Event, HasTerms, longest_list, Walked, MeetsLongList, Stops, Answers}
 use Rattle.spv_events.specs.StatementEvents.{one, several, counted}
 use Rattle.spv_events.proofs.Walks.{nothing_walked}
 use Rattle.spv_events.proofs.Covering.{AreCovered, covered_one, covered_answers, covered_stops}
@@ -62,10 +61,10 @@ module _ {X : Type 0} (old new : Arena) (ts : List Term) where
 
 -- ---- making
 
-only_part : (a b : Arena) (x : Term) → AddsOnly a b x → AddsParts a b (x ∷ [])
+pub only_part : (a b : Arena) (x : Term) → AddsOnly a b x → AddsParts a b (x ∷ [])
 only_part a b x h = record { part = λ u low high. subst (λ y. is_part_of (x ∷ []) y ≡ true) (sym (h.each u low high)) (or_left (is_part x x) (is_part_of [] x) (is_part-refl x)) }
 
-lacks_one : (a : Arena) (x : Term) → Lacks a x → LacksPart a (x ∷ [])
+pub lacks_one : (a : Arena) (x : Term) → Lacks a x → LacksPart a (x ∷ [])
 lacks_one a x h = record { missing = x; part = or_left (is_part x x) (is_part_of [] x) (is_part-refl x); lacks = h }
 
 module _ (a b : Arena) (ok : IsArena a) (h : Head) (args : List TermId) (below : AllBelow (length a.nodes) args) where
@@ -128,14 +127,14 @@ module _ (a b : Arena) (h : Head) (v z : TermId) (number : Term) (grows : Extend
 
   pub over_walk : {X : Type 0} (r : Result X GenFault) (c : Arena) → Walked (one number) a b → Answers r (one (binary h (tree b v) (tree b z))) b c → Answers r (one (binary h (tree a v) number)) a c
   over_walk r c first rest =
-      covered_answers (number ∷ []) (binary h (tree a v) number ∷ []) (second_covered h (tree a v) number) r a b c first
+      covered_answers (one number) refl (binary h (tree a v) number ∷ []) (second_covered h (tree a v) number) r a b c first
       (subst (λ (t : Term). Answers r (one t) b c) same_sides rest)
 
-  pub over_sorts : sort_at a v ≡ Int → sort_at b z ≡ Int → sort_at b v ∷ sort_at b z ∷ [] ≡ Int ∷ Int ∷ []
-  over_sorts first second = let stays = sort_at-Extends grows v there ∙ first in λ i. stays i ∷ second i ∷ []
+  pub over_sorts : (s u : Sort) → sort_at a v ≡ s → sort_at b z ≡ u → sort_at b v ∷ sort_at b z ∷ [] ≡ s ∷ u ∷ []
+  over_sorts s u first second = let stays = sort_at-Extends grows v there ∙ first in λ i. stays i ∷ second i ∷ []
 
 pub stops_at_number : (h : Head) (v number : Term) (e : GenFault) (a b : Arena) → Stops e (one number) a b → Stops e (one (binary h v number)) a b
-stops_at_number h v number e a b stops = covered_stops (number ∷ []) (binary h v number ∷ []) (second_covered h v number) e a b stops
+stops_at_number h v number e a b stops = covered_stops (one number) refl (binary h v number ∷ []) (second_covered h v number) e a b stops
 
 pub same_stop : {X : Type 0} (r : Result X GenFault) (e : GenFault) (xs : List Event) (a b : Arena) → IsErrAnd r (λ f. f ≡ e) → Stops e xs a b → Answers r xs a b
 same_stop (Ok x) e xs a b is h = absurd is
@@ -147,3 +146,6 @@ sorts_fit a b h given other grows same fits =
     let shapes = grows.shapes in
     let decls = grows.decls in
     subst IsSome (λ i. result_sort (sym shapes i) (sym decls i) h (sym same i)) fits
+
+pub sort_from : (s t : Sort) → Some s ≡ Some t → t ≡ s
+sort_from s t e = cc

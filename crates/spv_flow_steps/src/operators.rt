@@ -43,26 +43,26 @@ pub fn binary(terms: &mut Terms, head: Head, s: TermId, t: TermId) -> Result<Ter
 }
 
 /// A numeral.
-pub fn numeral(terms: &mut Terms, z: i64) -> Result<TermId, GenFault>
-    ensures term { IfOk result (λ u. IsTerm terms.new u (plain.numeral z)) }
+pub fn numeral(terms: &mut Terms, z: &i64) -> Result<TermId, GenFault>
+    ensures term { IfOk result (λ u. IsTerm terms.new u (plain.numeral z.now)) }
     ensures sort { IfOk result (λ u. sort_at terms.new u ≡ Sort.Int) }
     ensures grows { Extends terms.old terms.new }
-    ensures walk { Answers result (one (plain.numeral z)) terms.old terms.new }
+    ensures walk { Answers result (one (plain.numeral z.now)) terms.old terms.new }
 {
-    made(terms, Head::Num(z as i128), &[])
+    made(terms, Head::Num(*z as i128), &[])
 }
 
 /// A head over a number and a numeral.
-pub fn over_numeral(terms: &mut Terms, head: Head, v: TermId, z: i64) -> Result<TermId, GenFault>
+pub fn over_numeral(terms: &mut Terms, head: Head, v: TermId, z: &i64) -> Result<TermId, GenFault>
     requires v { v.0 < length terms.old.nodes }
     requires sort { sort_at terms.old v ≡ Sort.Int }
     requires sorts { IsSome (result_sort terms.old.shapes terms.old.decls head (Sort.Int ∷ Sort.Int ∷ [])) }
     requires types { IsTrue (head_in_range terms.old.shapes head) }
     requires numeral { IsTrue (numeral_fits head) }
-    ensures term { IfOk result (λ u. IsTerm terms.new u (plain.binary head (tree terms.old v) (plain.numeral z))) }
+    ensures term { IfOk result (λ u. IsTerm terms.new u (plain.binary head (tree terms.old v) (plain.numeral z.now))) }
     ensures sort { IfOk result (λ u. result_sort terms.old.shapes terms.old.decls head (Sort.Int ∷ Sort.Int ∷ []) ≡ Some (sort_at terms.new u)) }
     ensures grows { Extends terms.old terms.new }
-    ensures walk { Answers result (one (plain.binary head (tree terms.old v) (plain.numeral z))) terms.old terms.new }
+    ensures walk { Answers result (one (plain.binary head (tree terms.old v) (plain.numeral z.now))) terms.old terms.new }
 {
     let number = numeral(terms, z)?;
     binary(terms, head, v, number)
@@ -78,8 +78,8 @@ pub fn next_value(terms: &mut Terms, direction: Direction, v: TermId) -> Result<
     ensures walk { Answers result (one (before.next_term direction (tree terms.old v))) terms.old terms.new }
 {
     match direction {
-        Direction::Up => over_numeral(terms, Head::Add, v, 1),
-        Direction::Down => over_numeral(terms, Head::Sub, v, 1),
+        Direction::Up => over_numeral(terms, Head::Add, v, &1),
+        Direction::Down => over_numeral(terms, Head::Sub, v, &1),
     }
 }
 
