@@ -19,6 +19,7 @@ use spv_named::Named;
 use spv_names::Symbol;
 use spv_scopes::{Formals, Heading, Known, Own, Specified};
 use spv_syntax::{HeadingForm, Name, Params};
+use spv_typed::Formal;
 use spv_typing::TypeFault;
 use std::alloc::{AllocError, Global};
 
@@ -44,6 +45,13 @@ pub struct Title {
     pub is_function: bool,
     /// Its number among the routines with a body.
     pub number: RoutineId,
+}
+
+// A copy of parameters, for a heading.
+fn copied(alloc: Global, formals: &List<Formal>) -> Result<Formals, AllocError>
+    ensures { IfOk result (λ copy. copy ≡ formals.now) }
+{
+    Formals::from_slice(alloc, formals.as_slice())
 }
 
 // What is known of a routine while its heading is read.
@@ -111,12 +119,11 @@ fn with_clauses(
     ensures known { OnOk result (known.new ≡ known.old) }
     ensures listed { IfOk result IsListed }
 {
-    let formals = Formals::from_slice(alloc, parameters.formals.as_slice())?;
-    announce(known, alloc, title, formals, of)?;
+    let early = copied(alloc, &parameters.formals)?;
+    let formals = copied(alloc, &parameters.formals)?;
+    announce(known, alloc, title, early, of)?;
     let clauses = all_clauses(known, alloc, title.name, &parameters, of, tree)?;
     known.withdraw();
-    let Parameters { formals, .. } = parameters;
-    let formals = Formals::from_list(alloc, formals)?;
     Ok(with_all(title, formals, of, clauses))
 }
 
