@@ -1,5 +1,5 @@
 -- Why two terms that are the same may not be.
-use Rattle.std.proofs.Common.{◌≡◌, ℕ, zero, suc, Bool, true, false, cond, ◌&&◌, not, List, [], ◌∷◌, length, nat_eq, refl, sym, ap, ◌∙◌, subst, Option, Some, None, Result, Ok, Err, IfOk, OnErr, inl, inr}
+use Rattle.std.proofs.Common.{◌≡◌, ℕ, zero, suc, Bool, true, false, cond, ◌&&◌, not, List, [], ◌∷◌, nat_eq, refl, sym, ap, ◌∙◌, subst, Option, Some, None, inl, inr}
 use Rattle.std.specs.Prelude.{slice_get, IfSome}
 use Rattle.std.proofs.lemmas.Option.{same_Some}
 use Rattle.std.proofs.lemmas.Bool.{eqb-true, eq-eqb}
@@ -10,11 +10,10 @@ use Rattle.spv_term.specs.Arena.{Arena, tree}
 use Rattle.spv_term.proofs.NodeLemmas.{id_from}
 use Rattle.spv_congruence.specs.declared.facts.Fact.{Fact}
 use Rattle.spv_congruence.specs.Clashes.{Clashes, AreSeparate, AreOpposed}
-use Rattle.spv_congruence.specs.Graph.{Graph, AreTerms, label_of}
+use Rattle.spv_congruence.specs.Graph.{Graph, label_of}
 use Rattle.spv_congruence.specs.Keep.{IsNode}
-use Rattle.spv_course.specs.declared.entries.Entry.{Entry}
-use Rattle.spv_course.specs.Course.{IsCourse, fact_at}
-use Rattle.spv_reasons.specs.Reasons.{AreSame, Closes, MayNotBeSame}
+use Rattle.spv_course.specs.Course.{fact_at}
+use Rattle.spv_reasons.specs.Reasons.{AreSame, MayNotBeSame}
 use Rattle.spv_share_graph.specs.declared.trail.Trail.{Trail}
 use Rattle.spv_share_graph.specs.Holding.{HasFacts, Holds, denies, denial}
 
@@ -36,7 +35,9 @@ denied-first : (s t : TermId) (x : Fact) (xs : List Fact) (k : ℕ) → denies s
 denied-first s t x xs k h e =
     let ids = right_true (not x.equal) _ h in
     record {
-      place = 0; fact = x; at = refl;
+      place = 0;
+      fact = x;
+      at = refl;
       separate = not_true x.equal (left_true (not x.equal) _ h);
       left = id_from x.left s (eqb-true x.left.0 s.0 (left_true (nat_eq x.left.0 s.0) _ ids));
       right = id_from x.right t (eqb-true x.right.0 t.0 (right_true (nat_eq x.left.0 s.0) _ ids));

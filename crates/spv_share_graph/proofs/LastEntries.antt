@@ -1,5 +1,5 @@
 -- Entries more of a course.
-use Rattle.std.proofs.Common.{◌≡◌, ℕ, suc, ◌+◌, List, [], ◌∷◌, ◌++◌, length, refl, sym, ap, ◌∙◌, subst, Option, Some, Result, Ok, Err, IfOk, OnOk, OnErr, arith}
+use Rattle.std.proofs.Common.{◌≡◌, ℕ, suc, ◌+◌, List, [], ◌∷◌, ◌++◌, length, sym, ap, ◌∙◌, subst, Option, Some, Result, Ok, Err, IfOk, OnOk, OnErr, arith}
 use Rattle.std.proofs.lemmas.List.{append-nil, length_push}
 use Rattle.std.specs.Prelude.{slice_get}
 use Rattle.spv_logic.specs.declared.conditions.TermId.{TermId}
@@ -7,13 +7,11 @@ use Rattle.spv_logic.specs.Terms.{Term}
 use Rattle.spv_logic.specs.Formulas.{equation}
 use Rattle.spv_term.specs.Arena.{Arena, IsArena, tree}
 use Rattle.spv_term.proofs.ListLemmas.{slice_get_push}
-use Rattle.spv_atoms.specs.declared.proofs.Stated.TheVariants.{Same}
-use Rattle.spv_atoms.specs.declared.proofs.Step.TheVariants as step
 use Rattle.spv_course.specs.declared.entries.Part.{Part}
 use Rattle.spv_course.specs.declared.entries.Entry.{Entry}
-use Rattle.spv_course.specs.declared.entries.Entry.TheVariants.{Told, Derived}
+use Rattle.spv_course.specs.declared.entries.Entry.TheVariants.{Told}
 use Rattle.spv_course.specs.Course.{Gains, IsCourse, fact_at, literal}
-use Rattle.spv_course.specs.Sides.{Pair, entry_sides, sides_at, sides_of_entry}
+use Rattle.spv_course.specs.Sides.{entry_sides, sides_at, sides_of_entry}
 use Rattle.spv_course.proofs.Growth.{fact_at-last}
 use Rattle.spv_course.specs.Derived.{IsFormula, IsFalseTerm}
 use Rattle.spv_course.specs.Laws.{SidesAreEqual}

@@ -1,5 +1,5 @@
 -- What is told by a literal.
-use Rattle.std.proofs.Common.{◌≡◌, ℕ, ◌<◌, Bool, true, false, cond, ◌&&◌, List, [], ◌∷◌, ◌++◌, length, map, refl, sym, ap, ◌∙◌, subst, Option, Some, None, append_assoc, inl, inr}
+use Rattle.std.proofs.Common.{◌≡◌, ℕ, Bool, true, false, cond, ◌&&◌, List, [], ◌∷◌, ◌++◌, refl, ap, ◌∙◌, Option, Some, None, append_assoc, inl, inr}
 use Rattle.std.specs.Prelude.{slice_get}
 use Rattle.spv_logic.specs.declared.conditions.TermId.{TermId}
 use Rattle.spv_logic.specs.declared.operators.Head.{Head}
@@ -126,7 +126,10 @@ module _ (a : Arena) where
       by_sides : (x : Option (Term × Term)) → sides (tree a t) ≡ x → are_numbers (λ u. atoms.is_number a.shapes a.decls u) x ≡ true → IsApart a es t k
       by_sides None e n = absurd (cc)
       by_sides (Some st) e n = record {
-        formula = f; left = st.0; right = st.1; is = sides-equation (tree a t) st e;
+        formula = f;
+        left = st.0;
+        right = st.1;
+        is = sides-equation (tree a t) st e;
         order = inl (at ∙ ap (λ y. Some (course.by_sides below y (tree a t))) e);
       }
   order-apart es t Above k f o fits at = by_sides (sides (tree a t)) refl fits
@@ -134,6 +137,9 @@ module _ (a : Arena) where
       by_sides : (x : Option (Term × Term)) → sides (tree a t) ≡ x → are_numbers (λ u. atoms.is_number a.shapes a.decls u) x ≡ true → IsApart a es t k
       by_sides None e n = absurd (cc)
       by_sides (Some st) e n = record {
-        formula = f; left = st.0; right = st.1; is = sides-equation (tree a t) st e;
+        formula = f;
+        left = st.0;
+        right = st.1;
+        is = sides-equation (tree a t) st e;
         order = inr (at ∙ ap (λ y. Some (course.by_sides (λ v w. below w v) y (tree a t))) e);
       }

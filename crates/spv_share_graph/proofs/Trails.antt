@@ -1,5 +1,5 @@
 -- Trails that go on.
-use Rattle.std.proofs.Common.{◌≡◌, ℕ, ◌+◌, ◌<◌, true, false, List, [], ◌∷◌, ◌++◌, length, take, refl, sym, ap, ◌∙◌, subst, Option, Some, Result, Ok, Err, OnOk, OnErr, append_assoc, inl, inr, arith}
+use Rattle.std.proofs.Common.{◌≡◌, ℕ, List, [], ◌∷◌, ◌++◌, length, refl, sym, ap, ◌∙◌, subst, Option, Some, Result, Ok, Err, OnOk, OnErr, append_assoc, inl, inr, arith}
 use Rattle.std.proofs.lemmas.Bool.{cases_lt}
 use Rattle.std.proofs.lemmas.List.{append-nil, length_push}
 use Rattle.std.proofs.lemmas.Option.{slice_get_within, same_Some}
@@ -17,10 +17,9 @@ use Rattle.spv_congruence.specs.Told.{AddsParts, IsOf, Joins}
 use Rattle.spv_course.specs.declared.entries.Entry.{Entry}
 use Rattle.spv_course.specs.Course.{IsCourse, fact_at}
 use Rattle.spv_course.specs.Derived.{IsTrueTerm, IsFalseTerm}
-use Rattle.spv_course.specs.Sides.{sides_at}
 use Rattle.spv_course.proofs.Growth.{fact_at-more}
 use Rattle.spv_course.proofs.Equations.{sides_at-more}
-use Rattle.spv_reasons.specs.Reasons.{IsBacked, MayReason}
+use Rattle.spv_reasons.specs.Reasons.{MayReason}
 use Rattle.spv_congruence.specs.Graph.{AreTerms}
 use Rattle.spv_share_graph.specs.declared.trail.Trail.{Trail}
 use Rattle.spv_share_graph.specs.Holding.{Backs, Grows, HasFacts, Holds, IsBackedFact, Moves}

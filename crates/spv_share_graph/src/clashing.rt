@@ -56,15 +56,7 @@ impl Trail {
     {
         self.graph.law_terms();
         let denied = denial(self.facts.as_slice(), s, t);
-        contradiction(
-            alloc,
-            &mut self.course,
-            terms,
-            &self.graph,
-            s,
-            t,
-            denied,
-        )
+        contradiction(alloc, &mut self.course, terms, &self.graph, s, t, denied)
     }
 
     /// One or two facts that end the path, where two terms of the graph are the same that may not be. For want of memory the

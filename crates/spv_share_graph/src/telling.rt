@@ -26,13 +26,7 @@ use std::alloc::AllocError;
 
 impl Trail {
     // A literal as a fact of the course.
-    fn told(
-        &mut self,
-        terms: &Terms,
-        t: TermId,
-        part: Part,
-        why: u32,
-    ) -> Result<u32, AllocError>
+    fn told(&mut self, terms: &Terms, t: TermId, part: Part, why: u32) -> Result<u32, AllocError>
         requires holds { Holds terms.now self.old }
         requires may { MayTell terms.now self.old t part }
         ensures holds { Holds terms.now self.new }

@@ -1,4 +1,3 @@
-use Rattle.spv_course.specs.declared.entries.Part.TheVariants.{False}
 use Rattle.spv_logic.specs.Formulas.{negation}
 use Rattle.spv_term.specs.Arena.{tree}
 use Rattle.spv_share_graph.proofs.Ties.{backed_apart}
