@@ -5,3 +5,4 @@ mod Derivations
 mod Values
 pub mod Bridges
 pub mod Equations
+pub mod Literals

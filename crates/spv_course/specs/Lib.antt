@@ -5,3 +5,4 @@ pub mod Renumbered
 pub mod Steps
 pub mod Copying
 pub mod Laws
+pub mod Literals

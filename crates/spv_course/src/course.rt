@@ -13,6 +13,7 @@ ghost use Rattle.spv_proof.specs.Accepted.{Closed, Open, walk};
 ghost use Rattle.spv_proof.specs.Stand.{In};
 ghost use Rattle.spv_course.specs.Course.{Adding, Gains, IsCourse, PartFits, asked, fact_at, facts, literal};
 ghost use Rattle.spv_course.specs.Derived.{IsApart, IsCongruence, IsEvaluation, IsFalseTerm, IsFormula, IsSum, IsTrueTerm, IsTruthClash, relation_of};
+ghost use Rattle.spv_course.specs.Literals.{literals};
 ghost use Rattle.spv_course.specs.Sides as spec;
 ghost use Rattle.spv_course.specs.Steps.{AreTold, IsEnd, closing_steps_of, derived, steps_of};
 
@@ -97,6 +98,7 @@ impl Course {
         ensures gains { IfOk result (λ n. (a : Arena) (t : Term) → IsCourse a self.old → Adding a (facts a self.old) step t
             → Gains a self.old self.new n t) }
         ensures err { OnErr result (self.new ≡ self.old) }
+        ensures literals { literals self.new ≡ literals self.old }
     {
         self.push(Entry::Derived(step))
     }
@@ -107,6 +109,7 @@ impl Course {
         ensures gains { IfOk result (λ n. (a : Arena) → IsCourse a self.old → In a t
             → Gains a self.old self.new n (equation (tree a t) (tree a t))) }
         ensures err { OnErr result (self.new ≡ self.old) }
+        ensures literals { literals self.new ≡ literals self.old }
     {
         self.derive(Step::Refl(t))
     }
@@ -117,6 +120,7 @@ impl Course {
         ensures gains { IfOk result (λ n. (a : Arena) (s t : Term) → IsCourse a self.old → fact_at a self.old k ≡ Some (equation s t)
             → Gains a self.old self.new n (equation t s)) }
         ensures err { OnErr result (self.new ≡ self.old) }
+        ensures literals { literals self.new ≡ literals self.old }
     {
         self.derive(Step::Symm(k))
     }
@@ -128,6 +132,7 @@ impl Course {
             → fact_at a self.old j ≡ Some (equation s t) → fact_at a self.old k ≡ Some (equation t u)
             → Gains a self.old self.new n (equation s u)) }
         ensures err { OnErr result (self.new ≡ self.old) }
+        ensures literals { literals self.new ≡ literals self.old }
     {
         self.derive(Step::Trans(j, k))
     }
@@ -138,6 +143,7 @@ impl Course {
         ensures gains { IfOk result (λ n. (a : Arena) → IsCourse a self.old → IsCongruence a self.old t u ks
             → Gains a self.old self.new n (equation (tree a t) (tree a u))) }
         ensures err { OnErr result (self.new ≡ self.old) }
+        ensures literals { literals self.new ≡ literals self.old }
     {
         self.derive(Step::Cong(t, u, ks))
     }
@@ -153,6 +159,7 @@ impl Course {
         ensures gains { IfOk result (λ n. (a : Arena) → IsCourse a self.old → IsSum a self.old relation first second
             → Gains a self.old self.new n (relation_of a relation)) }
         ensures err { OnErr result (self.new ≡ self.old) }
+        ensures literals { literals self.new ≡ literals self.old }
     {
         self.derive(Step::Linear(relation, first, second))
     }
@@ -163,6 +170,7 @@ impl Course {
         ensures gains { IfOk result (λ n. (a : Arena) (t : Term) → IsCourse a self.old → IsEvaluation a self.old claim ks t
             → Gains a self.old self.new n t) }
         ensures err { OnErr result (self.new ≡ self.old) }
+        ensures literals { literals self.new ≡ literals self.old }
     {
         self.derive(Step::Eval(claim, ks))
     }
@@ -173,6 +181,7 @@ impl Course {
         ensures gains { IfOk result (λ n. (a : Arena) (t : Term) → IsCourse a self.old → IsEvaluation a self.old claim (k ∷ []) t
             → Gains a self.old self.new n t) }
         ensures err { OnErr result (self.new ≡ self.old) }
+        ensures literals { literals self.new ≡ literals self.old }
     {
         let mut ks = List::new(*self.entries.allocator());
         ks.push(k)?;
@@ -186,6 +195,7 @@ impl Course {
             → fact_at a self.old k ≡ Some (tree a p)
             → Gains a self.old self.new n (equation (tree a p) (term head.True no_terms))) }
         ensures err { OnErr result (self.new ≡ self.old) }
+        ensures literals { literals self.new ≡ literals self.old }
     {
         self.evaluated_by(Stated::Same(p, truth), k)
     }
@@ -197,6 +207,7 @@ impl Course {
             → fact_at a self.old k ≡ Some (negation (tree a p))
             → Gains a self.old self.new n (equation (tree a p) (term head.False no_terms))) }
         ensures err { OnErr result (self.new ≡ self.old) }
+        ensures literals { literals self.new ≡ literals self.old }
     {
         self.evaluated_by(Stated::Same(p, falsity), k)
     }
@@ -207,6 +218,7 @@ impl Course {
         ensures gains { IfOk result (λ n. (a : Arena) → IsCourse a self.old → IsApart a self.old p k → IsFalseTerm a falsity
             → Gains a self.old self.new n (equation (tree a p) (term head.False no_terms))) }
         ensures err { OnErr result (self.new ≡ self.old) }
+        ensures literals { literals self.new ≡ literals self.old }
     {
         self.evaluated_by(Stated::Same(p, falsity), k)
     }
@@ -218,6 +230,7 @@ impl Course {
             → fact_at a self.old k ≡ Some (equation (tree a p) (term head.False no_terms))
             → Gains a self.old self.new n (negation (tree a p))) }
         ensures err { OnErr result (self.new ≡ self.old) }
+        ensures literals { literals self.new ≡ literals self.old }
     {
         self.evaluated_by(Stated::Is(p, false), k)
     }
@@ -228,6 +241,7 @@ impl Course {
         ensures gains { IfOk result (λ n. (a : Arena) → IsCourse a self.old → IsFalseTerm a falsity → IsTruthClash a self.old k
             → Gains a self.old self.new n (term head.False no_terms)) }
         ensures err { OnErr result (self.new ≡ self.old) }
+        ensures literals { literals self.new ≡ literals self.old }
     {
         self.evaluated_by(Stated::Is(falsity, true), k)
     }

@@ -10,6 +10,7 @@ use Rattle.spv_congruence.specs.declared.facts.Link.TheVariants.{Told, Congruent
 use Rattle.spv_congruence.specs.Graph.{Graph}
 use Rattle.spv_congruence.specs.Explained.{IsLinkOf, IsTelling, Leads}
 use Rattle.spv_course.specs.declared.entries.Entry.{Entry}
+use Rattle.spv_course.specs.Literals.{literals}
 use Rattle.spv_course.specs.Course.{Gains, IsCourse}
 use Rattle.spv_course.specs.Sides.{Pair, sides_at}
 use Rattle.spv_course.proofs.Equations.{sides-state, sides_at-more}
@@ -143,18 +144,20 @@ module _ (a : Arena) where
 -- the links so far were passed: there is a fact from the first term to the one that is reached, and a way on
 pub record Chained (a : Arena) (start es : List Entry) (known : List (known_pair.Pair × ℕ)) (s t : TermId) (w : Way) (ls : List Link) : Type 0 where
   pub goes_on : GoesOn start es
+  pub literals_same : literals es ≡ literals start
   pub course : IsCourse a es
   pub shown : AreShown a es known
   pub so_far : IsSoFar a es s w.at w.number
   pub way : IsWay a es known w.at ls t
 
 pub chained-next : (a : Arena) (start es new : List Entry) (known : List (known_pair.Pair × ℕ)) (s t : TermId) (w v : Way) (l : Link) (ls : List Link) → Chained a start es known s t w (l ∷ ls)
-    → ((u : TermId) → IsCourse a es → AreShown a es known → IsSoFar a es s w.at w.number → LeadsBy a es known l w.at u → Reaches a es new s u v) → Chained a start new known s t v ls
-chained-next a start es new known s t w v l ls c step =
+    → ((u : TermId) → IsCourse a es → AreShown a es known → IsSoFar a es s w.at w.number → LeadsBy a es known l w.at u → Reaches a es new s u v) → literals new ≡ literals es → Chained a start new known s t v ls
+chained-next a start es new known s t w v l ls c step told =
     let u = c.way.0 in
     let r = step u c.course c.shown c.so_far c.way.1 in
     record {
       goes_on = goes_on-then start es new c.goes_on r.goes_on;
+      literals_same = told ∙ c.literals_same;
       course = r.course;
       shown = shown-more a es new known r.goes_on c.shown;
       so_far = subst (λ x. IsSoFar a new s x v.number) (sym r.at) r.so_far;

@@ -8,6 +8,7 @@ ghost use Rattle.spv_course.specs.Course.{Gains, IsCourse};
 ghost use Rattle.spv_course.specs.Sides.{sides_at};
 ghost use Rattle.spv_reasons.specs.Known.{AreShown};
 ghost use Rattle.spv_reasons.specs.Links.{AllKnown, AreEnds, HasLink, IsSoFar, IsWay, LeadsBy, LinkKnown, Reaches};
+ghost use Rattle.spv_course.specs.Literals.{literals};
 ghost use Rattle.spv_reasons.specs.Reasons.{Equates, GoesOn};
 
 use crate::known::Known;
@@ -27,6 +28,7 @@ pub(crate) struct Way {
 fn pass_told(course: &mut Course, terms: &Terms, why: u32, at: TermId) -> Result<Way, AllocError>
     requires { IsSome (sides_at terms.now course.old why) }
     ensures goes_on { GoesOn course.old course.new }
+    ensures literals { literals course.new ≡ literals course.old }
     ensures reaches { IfOk result (λ w. (t : TermId) → IsCourse terms.now course.old
         → AreEnds (sides_at terms.now course.old why) at t → Reaches terms.now course.old course.new at t w) }
 {
@@ -55,6 +57,7 @@ fn pass(
 ) -> Result<Way, AllocError>
     requires { (t : TermId) × LeadsBy terms.now course.old known.now link at t }
     ensures goes_on { GoesOn course.old course.new }
+    ensures literals { literals course.new ≡ literals course.old }
     ensures reaches { IfOk result (λ w. (t : TermId) → IsCourse terms.now course.old → AreShown terms.now course.old known.now
         → LeadsBy terms.now course.old known.now link at t → Reaches terms.now course.old course.new at t w) }
 {
@@ -74,6 +77,7 @@ fn linked(
     behind: Option<u32>,
 ) -> Result<Option<u32>, AllocError>
     ensures goes_on { GoesOn course.old course.new }
+    ensures literals { literals course.new ≡ literals course.old }
     ensures reaches { IfOk result (λ n. (a : Arena) (s t u : TermId) → IsCourse a course.old
         → IsSoFar a course.old s t before → IsSoFar a course.old t u behind
         → Reaches a course.old course.new s u (record { at = u; number = n })) }
@@ -98,6 +102,7 @@ fn extended(
 ) -> Result<Way, AllocError>
     requires { (t : TermId) × LeadsBy terms.now course.old known.now link way.at t }
     ensures goes_on { GoesOn course.old course.new }
+    ensures literals { literals course.new ≡ literals course.old }
     ensures reaches { IfOk result (λ w. (s t : TermId) → IsCourse terms.now course.old → AreShown terms.now course.old known.now
         → IsSoFar terms.now course.old s way.at way.number → LeadsBy terms.now course.old known.now link way.at t
         → Reaches terms.now course.old course.new s t w) }
@@ -124,6 +129,7 @@ pub(crate) fn chain(
     requires way { IsWay terms.now course.old known.now s links.now t }
     requires within { s.0 < length terms.now.nodes }
     ensures goes_on { GoesOn course.old course.new }
+    ensures literals { literals course.new ≡ literals course.old }
     ensures gains { IfOk result (λ n. Gains terms.now course.old course.new n (equation (tree terms.now s) (tree terms.now t))) }
 {
     let mut way = Way {

@@ -4,6 +4,7 @@ ghost use Rattle.std.specs.Prelude.{◌≡◌, ◌<◌, length, None, IfOk, OnEr
 ghost use Rattle.spv_logic.specs.Formulas.{equation};
 ghost use Rattle.spv_term.specs.Arena.{tree};
 ghost use Rattle.spv_course.specs.Course.{Gains, IsCourse};
+ghost use Rattle.spv_course.specs.Literals.{literals};
 ghost use Rattle.spv_reasons.specs.Reasons.{AreOpposites, AreSame, Closes, Equates, GoesOn, MayNotBeSame, MayReason};
 
 use crate::known::Known;
@@ -25,6 +26,7 @@ fn find_reason(
     requires stands { MayReason terms.now graph.now course.old }
     requires same { AreSame graph.now s t }
     ensures goes_on { GoesOn course.old course.new }
+    ensures literals { literals course.new ≡ literals course.old }
     ensures gains { IfOk result (λ n. Gains terms.now course.old course.new n (equation (tree terms.now s) (tree terms.now t))) }
 {
     let mut known = Known::new(alloc);
@@ -54,6 +56,7 @@ pub fn reason(
     requires same { AreSame graph.now s t }
     ensures gains { IfOk result (λ n. Gains terms.now course.old course.new n (equation (tree terms.now s) (tree terms.now t))) }
     ensures err { OnErr result (course.new ≡ course.old) }
+    ensures literals { literals course.new ≡ literals course.old }
 {
     let start = course.len();
     match find_reason(alloc, course, terms, graph, s, t) {
@@ -75,6 +78,7 @@ fn opposed_end(
 ) -> Result<u32, AllocError>
     requires { s.0 < length terms.now.nodes }
     ensures goes_on { GoesOn course.old course.new }
+    ensures literals { literals course.new ≡ literals course.old }
     ensures closes { IfOk result (λ n. IsCourse terms.now course.old → Equates terms.now course.old number s t
         → AreOpposites terms.now s t → Closes terms.now course.old course.new n None) }
 {
@@ -100,6 +104,7 @@ fn find_contradiction(
     requires same { AreSame graph.now s t }
     requires why { MayNotBeSame terms.now graph.now course.old s t denied }
     ensures goes_on { GoesOn course.old course.new }
+    ensures literals { literals course.new ≡ literals course.old }
     ensures closes { IfOk result (λ p. Closes terms.now course.old course.new p.0 p.1) }
 {
     let number = find_reason(alloc, course, terms, graph, s, t)?;
@@ -128,6 +133,7 @@ pub fn contradiction(
     requires why { MayNotBeSame terms.now graph.now course.old s t denied }
     ensures closes { IfOk result (λ p. Closes terms.now course.old course.new p.0 p.1) }
     ensures err { OnErr result (course.new ≡ course.old) }
+    ensures literals { literals course.new ≡ literals course.old }
 {
     let before = course.len();
     match find_contradiction(alloc, course, terms, graph, s, t, denied) {

@@ -4,6 +4,7 @@ ghost use Rattle.std.specs.Prelude.{◌≡◌, ◌++◌, [], ◌∷◌, length, 
 ghost use Rattle.spv_congruence.specs.Graph.{AreCongruent, Graph};
 ghost use Rattle.spv_reasons.specs.Known.{AreBeside, NumbersOf};
 ghost use Rattle.spv_reasons.specs.Links.{AreAlike, AreOwed, IsOwed, Stands};
+ghost use Rattle.spv_course.specs.Literals.{literals};
 ghost use Rattle.spv_reasons.specs.Reasons.{AreSame, GoesOn};
 
 use crate::known::Known;
@@ -65,6 +66,7 @@ fn show_congruent(
 ) -> Result<(), AllocError>
     requires { AreAlike terms.now p q }
     ensures goes_on { GoesOn course.old course.new }
+    ensures literals { literals course.new ≡ literals course.old }
     ensures stands { OnOk result ((g : Graph) → Stands terms.now g course.old known.old works.old.items
         → AreCongruent g.nodes g.joins p q → Stands terms.now g course.new known.new works.new.items) }
 {
@@ -94,6 +96,7 @@ fn show_between(
     requires stands { Stands terms.now graph.now course.old known.old works.old.items }
     requires same { AreSame graph.now s t }
     ensures goes_on { GoesOn course.old course.new }
+    ensures literals { literals course.new ≡ literals course.old }
     ensures stands { OnOk result (Stands terms.now graph.now course.new known.new works.new.items) }
 {
     let links = graph.explain(s, t)?;
@@ -119,6 +122,7 @@ pub(crate) fn show(
     requires stands { Stands terms.now graph.now course.old known.old works.old.items }
     requires owed { IsOwed graph.now work }
     ensures goes_on { GoesOn course.old course.new }
+    ensures literals { literals course.new ≡ literals course.old }
     ensures stands { OnOk result (Stands terms.now graph.now course.new known.new works.new.items) }
 {
     match work {

@@ -4,6 +4,7 @@ ghost use Rattle.std.specs.Prelude.{◌≡◌, map, None, IfOk, OnErr};
 ghost use Rattle.spv_term.specs.Arena.{Arena, IsArena};
 ghost use Rattle.spv_proof.specs.Effects.{at_most};
 ghost use Rattle.spv_course.specs.Course.{Gains, IsCourse};
+ghost use Rattle.spv_course.specs.Literals.{literals};
 ghost use Rattle.spv_bounds.specs.Multiples.{multiple_in};
 ghost use Rattle.spv_bounds.specs.Sources.{sources_in};
 ghost use Rattle.spv_readings.specs.Laws.{numeral_of};
@@ -32,6 +33,7 @@ pub fn contradiction(
         → IsRefuted a course.old (sources_in sources.now) (map multiple_in combination.now)
         → Gains a course.old course.new n (at_most (numeral_of 1) (numeral_of 0))) }
     ensures err { OnErr result (course.new ≡ course.old) }
+    ensures literals { literals course.new ≡ literals course.old }
 {
     let multiples = fact_multiples(alloc, combination, sources)?;
     course.linear(Relation::AtMost(one, zero), multiples, List::new(alloc))

@@ -18,4 +18,4 @@ loop-link-preserved c =
     (get_or c.args.links.now c.loop-link.link-index (Told 0)) (drop (c.loop-link.link-index + 1) c.args.links.now)
     (subst (λ ls. Chained c.args.terms.now c.args.course.now c.loop-link.course c.args.known.now c.args.s c.args.t c.loop-link.way ls)
     (at_drop_more (λ (ls : List Link). ls) c.args.links.now c.loop-link.link-index (Told 0) c.loop-link-test.true) c.loop-link.invariant)
-    (λ u f shown so_far leads. c.in_ok-way.ensures.reaches c.args.s u f shown so_far leads)
+    (λ u f shown so_far leads. c.in_ok-way.ensures.reaches c.args.s u f shown so_far leads) c.in_ok-way.ensures.literals

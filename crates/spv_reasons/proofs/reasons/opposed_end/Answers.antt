@@ -1,3 +1,4 @@
+use Rattle.std.proofs.Common.{refl}
 use Rattle.spv_course.proofs.Bridges.{if_ok}
 use Rattle.spv_reasons.proofs.Ends.{clash-closes, false-clash, false-term, numerals-close, true-clash, true-other}
 use Rattle.spv_reasons.proofs.Ways.{goes_on-same}
@@ -22,6 +23,7 @@ returns-in-True-clause-closes c =
 pub returns-in_default : goal.returns-in_default
 returns-in_default c = record {
   goes_on = goes_on-same c.args.course.now;
+  literals = refl;
   closes = λ f q h.
       numerals-close c.args.terms.now c.law_arena.ensures c.args.course.now c.args.number c.args.s c.args.t c.node.result.now c.node.ensures c.in_default.not-False c.in_default.not-True f h q;
 }

@@ -1,0 +1,4 @@
+pub mod LastEntries
+pub mod Trails
+pub mod Ties
+pub mod Denials

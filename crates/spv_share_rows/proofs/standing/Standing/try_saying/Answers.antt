@@ -1,0 +1,14 @@
+use Rattle.std.proofs.Common.{refl}
+use Rattle.spv_course.proofs.Bridges.{if_ok}
+use Rattle.spv_readings.specs.Sayings.{bounds_of}
+use Rattle.spv_share_rows.proofs.Trying.{form_at, tried_is}
+use Rattle.spv_share_rows.proofs.standing.Standing.try_saying.Goals as goal
+
+pub returns-clause-tried : goal.returns-clause-tried
+returns-clause-tried c =
+    let form = form_at c.args.self.now.tableau.forms c.args.row c.requires.row in
+    if_ok c.outcome-tried.result c.outcome-tried.ensures
+    (λ t h.
+    tried_is c.law_refuted.ensures.above c.args.self.now c.assert_saying-all.new.self c.args.row c.args.saying c.assert_saying-all.ensures.adds c.assert_saying-all.ensures.sourced c.assert_saying-all.result c.assert_saying-all.ensures.all
+    form.0 (bounds_of c.args.row (form.0).constant c.args.saying) (record { form = form.0; there = form.1; are = refl }) c.check-checked.new.self c.check-checked.result c.check-checked.ensures.checked
+    c.law_tableau.ensures (record c.assert_saying-all.new.self { tableau = c.check-checked.new.self }) refl refl t h)

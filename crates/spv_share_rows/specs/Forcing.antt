@@ -1,0 +1,58 @@
+-- What is tried of a row.
+use Rattle.std.specs.Prelude.{◌≡◌, ◌⊎◌, ℕ, Bool, true, List, ◌++◌, pos, Some, IsTrue}
+use Rattle.spv_whole.specs.Fraction.{Fraction}
+use Rattle.spv_logic.specs.Terms.{Term}
+use Rattle.spv_term.specs.Arena.{Arena, IsArena}
+use Rattle.spv_proof.specs.Sums.{difference, is_at_most_zero, cited_reading, refutes}
+use Rattle.spv_course.specs.declared.entries.Entry.{Entry}
+use Rattle.spv_course.specs.Course.{facts}
+use Rattle.spv_course.specs.Derived.{is_number}
+use Rattle.spv_readings.specs.declared.saying.Saying.{Saying}
+use Rattle.spv_readings.specs.Relations.{AreIn}
+use Rattle.spv_tableaux.specs.Bounds.{Bound, limits, Meets}
+use Rattle.spv_tableaux.specs.Rows.{Point, IsSolution}
+use Rattle.spv_simplex.specs.State.{rows_in}
+use Rattle.spv_simplex.specs.declared.checked.Checked.{Checked}
+use Rattle.spv_simplex.specs.declared.checked.Checked.TheVariants.{Feasible, Infeasible, Wide, Pivots}
+use Rattle.spv_readings.specs.Sources.{fact_multiples}
+use Rattle.spv_bounds.specs.Sources.{sources_in}
+use Rattle.spv_share_rows.specs.declared.standing.Standing.{Standing}
+use Rattle.spv_share_rows.specs.declared.forcing.Tried.{Tried}
+use Rattle.spv_share_rows.specs.declared.forcing.Tried.TheVariants.{Refuted, Met, Stopped, Taken}
+use Rattle.spv_share_rows.specs.Standing.{AreBoundsOf, IsStanding, readings, SaidBy, Sourced}
+
+-- where the bounds that stand come from facts of a course, the multiples of these refute that p is above q
+pub record Refutes (b : Standing) (row : ℕ) (x : Saying) (multiples : List (Fraction × ℕ)) : Type 0 where
+  pub shown : (a : Arena) (es : List Entry) (p q : Term) → IsArena a → AreIn a b.tableau.forms → Sourced a (readings a es) b b.tableau.bounds
+      → SaidBy a (cited_reading (is_number a) (facts a es) (is_at_most_zero (difference q p (pos 1)))) b row x 0
+      → refutes (is_number a) (facts a es) p q multiples ≡ true
+
+-- a point solves the rows and meets these bounds
+pub record IsPointOf (b : Standing) (bounds : List Bound) : Type 0 where
+  pub point : Point
+  pub solution : IsSolution (rows_in b.tableau) point
+  pub meets : Meets (limits (rows_in b.tableau) bounds) point
+
+-- a point meets the bounds that stand and those that a saying is
+pub record HasPoint (b : Standing) (row : ℕ) (x : Saying) : Type 0 where
+  pub bounds : List Bound
+  pub are : AreBoundsOf b row x bounds
+  pub met : IsPointOf b (b.tableau.bounds ++ bounds)
+
+-- what came of trying
+abbrev pub IsTried : Standing → ℕ → Saying → Tried → Type 0
+IsTried b row x (Refuted multiples) = Refutes b row x multiples
+IsTried b row x Met = HasPoint b row x
+IsTried b row x Stopped = Unit {0}
+IsTried b row x Taken = Unit {0}
+
+-- the last check was stopped
+abbrev pub IsStopped : Standing → Type 0
+IsStopped b = (b.tableau.answer ≡ Some Wide) ⊎ (b.tableau.answer ≡ Some Pivots)
+
+-- what came of a check
+abbrev pub IsOutcome : Standing → Checked → Bool → Tried → Type 0
+IsOutcome b checked all (Refuted multiples) = (checked ≡ Infeasible) × (multiples ≡ fact_multiples (sources_in b.sources.items) b.tableau.combination)
+IsOutcome b checked all Met = (checked ≡ Feasible) × IsTrue all
+IsOutcome b checked all Stopped = (checked ≡ Wide) ⊎ (checked ≡ Pivots)
+IsOutcome b checked all Taken = Unit {0}

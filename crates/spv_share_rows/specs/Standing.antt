@@ -1,0 +1,74 @@
+-- Bounds that stand, and the facts that they come from.
+use Rattle.std.specs.Prelude.{◌≡◌, ℕ, ◌<◌, ◌≤◌, Bool, true, false, List, [], ◌∷◌, ◌++◌, take, length, Option, Some, None, slice_get}
+use Rattle.spv_whole.specs.Fraction.{Fraction}
+use Rattle.spv_rational.specs.Rational.{Rational, number}
+use Rattle.spv_logic.specs.Terms.{Term}
+use Rattle.spv_term.specs.Arena.{Arena}
+use Rattle.spv_atoms.specs.Linear.{IdForm}
+use Rattle.spv_proof.specs.Sums.{Reading}
+use Rattle.spv_tableaux.specs.declared.side.Side.{Side}
+use Rattle.spv_tableaux.specs.Bounds.{Bound, bound_on}
+use Rattle.spv_course.specs.declared.entries.Entry.{Entry}
+use Rattle.spv_course.specs.Course.{facts}
+use Rattle.spv_course.specs.Derived.{is_number}
+use Rattle.spv_readings.specs.declared.saying.Saying.{Saying}
+use Rattle.spv_readings.specs.declared.source.Source.{Source}
+use Rattle.spv_readings.specs.Relations.{AreIn, IsRowOf}
+use Rattle.spv_readings.specs.Sayings.{bounds_of, says_equal}
+use Rattle.spv_readings.specs.Sources.{fact_reading, AreSourced, IsSourced, with_source}
+use Rattle.spv_bounds.specs.Bounds.{bound_at}
+use Rattle.spv_bounds.specs.Sources.{sources_in}
+use Rattle.spv_atom_rows.specs.Rows.{HaveRoom}
+use Rattle.spv_share_rows.specs.declared.standing.Standing.{Standing}
+
+-- the facts of a course, as they are read
+abbrev pub readings : Arena → List Entry → ℕ → Option Reading
+readings a es k = fact_reading (is_number a) (facts a es) k
+
+-- each of these bounds comes from its source, by these readings
+abbrev pub Sourced : Arena → (ℕ → Option Reading) → Standing → List Bound → Type 0
+Sourced a read b bounds = AreSourced a read b.tableau.forms bounds (sources_in b.sources.items)
+
+-- rows with room, each with its form, and sources for all
+pub record IsStanding (b : Standing) : Type 0 where
+  pub forms : b.forms.items ≡ b.tableau.forms
+  pub sources : length b.sources.items ≡ length b.tableau.forms
+  pub room : HaveRoom b.tableau.forms
+
+-- only bounds come behind the others; and what is known of the sources of the first bounds stays true
+pub record Adds (old new : Standing) (more : List Bound) : Type 0 where
+  pub forms : new.tableau.forms ≡ old.tableau.forms
+  pub bounds : new.tableau.bounds ≡ old.tableau.bounds ++ more
+  pub first : (a : Arena) (read : ℕ → Option Reading) (n : ℕ) → n ≤ length old.tableau.bounds → Sourced a read old (take n old.tableau.bounds) → Sourced a read new (take n old.tableau.bounds)
+
+-- a bound of a row comes from a source
+abbrev pub ComesFrom : Arena → (ℕ → Option Reading) → Standing → ℕ → Side → Option Fraction → Source → Type 0
+ComesFrom a read b row side None s = Unit {0}
+ComesFrom a read b row side (Some v) s = (f : IdForm) → slice_get b.tableau.forms row ≡ Some f → IsSourced a read row f side (number v) s
+
+-- the row of two terms
+pub record HasRow (a : Arena) (b : Standing) (row : ℕ) (st : Term × Term) : Type 0 where
+  pub there : row < length b.tableau.forms
+  pub is : (f : IdForm) → slice_get b.tableau.forms row ≡ Some f → IsRowOf a st f
+
+
+pub record AreBoundsOf (b : Standing) (row : ℕ) (x : Saying) (bounds : List Bound) : Type 0 where
+  pub form : IdForm
+  pub there : slice_get b.tableau.forms row ≡ Some form
+  pub are : bounds ≡ bounds_of row form.constant x
+
+-- bounds come behind the others
+pub record AddsSome (old new : Standing) : Type 0 where
+  pub more : List Bound
+  pub adds : Adds old new more
+
+-- each bound that a saying is on a row comes from a fact
+abbrev pub SaidBy : Arena → (ℕ → Option Reading) → Standing → ℕ → Saying → ℕ → Type 0
+SaidBy a read b row x k = (f : IdForm) → slice_get b.tableau.forms row ≡ Some f → (side : Side) (value : Rational) → bound_on (bounds_of row f.constant x) row side ≡ Some value
+    → IsSourced a read row f side value (record { fact = k; is_equal = says_equal x })
+
+-- as it was: the rows, the bounds, and what is known of the sources of the first of them
+pub record IsBack (old new : Standing) : Type 0 where
+  pub forms : new.tableau.forms ≡ old.tableau.forms
+  pub bounds : new.tableau.bounds ≡ old.tableau.bounds
+  pub first : (a : Arena) (read : ℕ → Option Reading) (n : ℕ) → n ≤ length old.tableau.bounds → Sourced a read old (take n old.tableau.bounds) → Sourced a read new (take n old.tableau.bounds)

@@ -1,0 +1,78 @@
+//! Whether a row may say more than it does.
+
+ghost use Rattle.std.specs.Prelude.{◌≡◌, ◌<◌, ◌⊎◌, length, Some, IfOk, IsTrue};
+ghost use Rattle.spv_share_rows.specs.Standing.{IsBack, IsStanding};
+ghost use Rattle.spv_share_rows.specs.Forcing.{IsOutcome, IsStopped, IsTried};
+
+use crate::standing::Standing;
+use spv_bounds::fact_multiples;
+use spv_frac::Frac;
+use spv_list::List;
+use spv_readings::Saying;
+use spv_row_reasons::law_refuted;
+use spv_simplex::Checked;
+use std::alloc::{AllocError, Global};
+
+/// What came of trying whether a row may say more.
+#[derive(Debug, Drop)]
+pub enum Tried {
+    /// It may not: these multiples of facts refute it.
+    Refuted(List<(Frac, u32)>),
+    /// It may.
+    Met,
+    /// A check of the tableau was stopped.
+    Stopped,
+    /// Not all of its bounds may be asserted.
+    Taken,
+}
+
+// What came of a check that some point meets, where all bounds were asserted, or not.
+fn met(all: bool) -> Tried
+    ensures all { result ≡ Tried.Met → IsTrue all }
+    ensures other { (result ≡ Tried.Met) ⊎ (result ≡ Tried.Taken) }
+{
+    if all { Tried::Met } else { Tried::Taken }
+}
+
+impl Standing {
+    // What came of a check with more bounds.
+    fn outcome(&self, alloc: Global, checked: Checked, all: bool) -> Result<Tried, AllocError>
+        requires { self.now.tableau.answer ≡ Some checked }
+        ensures { IfOk result (λ t. IsOutcome self.now checked all t) }
+    {
+        match checked {
+            Checked::Infeasible => Ok(Tried::Refuted(fact_multiples(
+                alloc,
+                self.tableau.combination(),
+                self.sources.as_slice(),
+            )?)),
+            Checked::Feasible => Ok(met(all)),
+            Checked::Wide => Ok(Tried::Stopped),
+            Checked::Pivots => Ok(Tried::Stopped),
+        }
+    }
+
+    /// Tries whether the bounds that stand leave room for a row of whose sides this is said. The bounds stand as before.
+    pub fn try_saying(
+        &mut self,
+        alloc: Global,
+        row: u32,
+        saying: Saying,
+    ) -> Result<Tried, AllocError>
+        requires standing { IsStanding self.old }
+        requires row { row < length self.old.tableau.forms }
+        ensures standing { IsStanding self.new }
+        ensures back { IsBack self.old self.new }
+        ensures tried { IfOk result (λ t. IsTried self.old row saying t) }
+        ensures stopped { IfOk result (λ t. t ≡ Tried.Stopped → IsStopped self.new) }
+    {
+        law_refuted();
+        let mark = self.tableau.mark();
+        let all = self.assert_saying(row, saying, 0);
+        let checked = self.tableau.check();
+        self.tableau.law_tableau();
+        let tried = self.outcome(alloc, checked, all);
+        self.tableau.undo(mark);
+        tried
+    }
+}

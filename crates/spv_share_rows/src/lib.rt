@@ -1,0 +1,9 @@
+//! Bounds on the rows of relations that come from the facts of a course, and what a contradiction of them shows.
+#![tactic(auto)]
+
+mod ending;
+mod forcing;
+mod standing;
+
+pub use forcing::Tried;
+pub use standing::Standing;

@@ -1,0 +1,149 @@
+//! Bounds that stand on rows.
+
+ghost use Rattle.std.specs.Prelude.{◌≡◌, ℕ, ◌<◌, ◌≤◌, ◌++◌, [], ◌∷◌, List, Option, Some, None, take, length, true, IsTrue, slice_get, if◌then◌else◌};
+ghost use Rattle.spv_rational.specs.Rational.{number};
+ghost use Rattle.spv_term.specs.Arena.{Arena};
+ghost use Rattle.spv_atoms.specs.Linear.{IdForm};
+ghost use Rattle.spv_proof.specs.Sums.{Reading};
+ghost use Rattle.spv_tableaux.specs.Bounds.{Bound, bound_on};
+ghost use Rattle.spv_tableaux.specs.declared.side.Side.TheVariants as side;
+ghost use Rattle.spv_simplex.specs.Checks.{IsChecked};
+ghost use Rattle.spv_steps.specs.Trail.{bound_of};
+ghost use Rattle.spv_readings.specs.Sayings as sayings;
+ghost use Rattle.spv_readings.specs.Sources.{with_source};
+ghost use Rattle.spv_bounds.specs.Bounds.{bound_at, has_room};
+ghost use Rattle.spv_bounds.specs.Sources.{sources_in};
+ghost use Rattle.spv_share_rows.specs.Standing.{Adds, AddsSome, AreBoundsOf, ComesFrom, IsBack, IsStanding, SaidBy, Sourced};
+
+use spv_atoms::Linear;
+use spv_bounds::{RowSources, bounds_of, law_sides, note};
+use spv_frac::Frac;
+use spv_readings::{Saying, Source};
+use spv_simplex::{Checked, Side, Tableau};
+
+/// Bounds that stand on the rows of relations, and where each comes from.
+#[derive(Drop)]
+pub struct Standing {
+    /// The tableau.
+    pub tableau: Tableau,
+    /// The form of each row.
+    pub forms: Vec<Linear>,
+    /// Where the bounds of each row come from.
+    pub sources: Vec<RowSources>,
+}
+
+// Whether an equality is said.
+fn says_equal(saying: Saying) -> bool
+    ensures { result ≡ sayings.says_equal saying }
+{
+    match saying {
+        Saying::Equal => true,
+        _ => false,
+    }
+}
+
+impl Standing {
+    // Asserts a bound, if it may be asserted; whether it was.
+    fn assert_one(&mut self, row: u32, side: Side, bound: Frac, source: Source) -> bool
+        requires { IsStanding self.old }
+        ensures standing { IsStanding self.new }
+        ensures adds { Adds self.old self.new (if result then bound_at row side (Some bound) else []) }
+        ensures sourced { (a : Arena) (read : ℕ → Option Reading) → Sourced a read self.old self.old.tableau.bounds
+            → ComesFrom a read self.old row side (Some bound) source → Sourced a read self.new self.new.tableau.bounds }
+    {
+        match self.tableau.accepts(row, side, bound) {
+            Ok(true) => {
+                self.tableau.assert_bound(row, side, bound);
+                note(&mut self.sources, row, side, source);
+                true
+            }
+            _ => false,
+        }
+    }
+
+    // Asserts a bound, if there is one; false where it may not be asserted.
+    fn assert_if(&mut self, row: u32, side: Side, bound: Option<Frac>, source: Source) -> bool
+        requires { IsStanding self.old }
+        ensures standing { IsStanding self.new }
+        ensures adds { Adds self.old self.new (if result then bound_at row side bound else []) }
+        ensures sourced { (a : Arena) (read : ℕ → Option Reading) → Sourced a read self.old self.old.tableau.bounds
+            → ComesFrom a read self.old row side bound source → Sourced a read self.new self.new.tableau.bounds }
+    {
+        match bound {
+            Some(value) => self.assert_one(row, side, value, source),
+            None => true,
+        }
+    }
+
+    /// Asserts the bounds that a fact is on a row of whose sides it says this, as far as they may be asserted; whether all were.
+    pub fn assert_saying(&mut self, row: u32, saying: Saying, fact: u32) -> bool
+        requires standing { IsStanding self.old }
+        requires row { row < length self.old.tableau.forms }
+        ensures standing { IsStanding self.new }
+        ensures adds { AddsSome self.old self.new }
+        ensures all { IsTrue result → (bounds : List Bound) → AreBoundsOf self.old row saying bounds → Adds self.old self.new bounds }
+        ensures sourced { (a : Arena) (read : ℕ → Option Reading) → Sourced a read self.old self.old.tableau.bounds
+            → SaidBy a read self.old row saying fact → Sourced a read self.new self.new.tableau.bounds }
+    {
+        law_sides();
+        let constant = self.constant(row);
+        let bounds = bounds_of(constant, saying);
+        let source = Source {
+            fact,
+            is_equal: says_equal(saying),
+        };
+        let lower = self.assert_if(row, Side::Lower, bounds.lower, source);
+        let upper = self.assert_if(row, Side::Upper, bounds.upper, source);
+        both(lower, upper)
+    }
+
+    /// Whether the lower side of a row has no bound, and may be given that of the equality of its sides.
+    pub fn is_free(&self, row: u32) -> bool
+        requires standing { IsStanding self.now }
+        requires row { row < length self.now.tableau.forms }
+        ensures { IsTrue result → bound_on self.now.tableau.bounds row side.Lower ≡ None }
+    {
+        match bounds_of(self.constant(row), Saying::Equal).lower {
+            Some(bound) => self.may_assert(row, bound),
+            None => false,
+        }
+    }
+
+    // Whether a lower bound may be asserted.
+    fn may_assert(&self, row: u32, bound: Frac) -> bool
+        ensures { IsTrue result → bound_on self.now.tableau.bounds row side.Lower ≡ None }
+    {
+        match self.tableau.accepts(row, Side::Lower, bound) {
+            Ok(free) => free,
+            Err(_) => false,
+        }
+    }
+
+    /// Checks the bounds that stand.
+    pub fn check(&mut self) -> Checked
+        requires { IsStanding self.old }
+        ensures standing { IsStanding self.new }
+        ensures back { IsBack self.old self.new }
+        ensures checked { IsChecked self.old.tableau self.new.tableau result }
+    {
+        self.tableau.check()
+    }
+
+    // The constant of a row's form.
+    fn constant(&self, row: u32) -> i128
+        requires standing { IsStanding self.now }
+        requires row { row < length self.now.tableau.forms }
+        ensures form { (f : IdForm) → slice_get self.now.tableau.forms row ≡ Some f → result ≡ f.constant }
+        ensures room { IsTrue (has_room result) }
+    {
+        self.forms[row as usize].constant()
+    }
+}
+
+// Whether both are true.
+fn both(left: bool, right: bool) -> bool
+    ensures left { IsTrue result → IsTrue left }
+    ensures right { IsTrue result → IsTrue right }
+{
+    left && right
+}
