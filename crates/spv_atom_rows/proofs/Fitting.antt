@@ -94,7 +94,7 @@ module _ (x y : Term) (h : is_measured x y (pos 0) ≡ true) (d : ℤ) (e : d �
   room-fits : has_room d ≡ true → fits_each_way (x, y) ≡ true
   room-fits k =
       let other : is_measured y x (pos 0) ≡ true =
-              turned-fits x y h d (ap fits (opposite (form x).constant (form y).constant d e) ∙ negated-fits d (left_true (fits d) _ k)) in
+      turned-fits x y h d (ap fits (opposite (form x).constant (form y).constant d e) ∙ negated-fits d (left_true (fits d) _ k)) in
       both_true _ _ h
       (both_true _ _ (more-fits x y h (ap fits (one_above ((form x).constant +ℤ negsuc 0 *ℤ (form y).constant) d e) ∙ left_true (fits (d +ℤ pos 1)) _ (right_true (fits d) _ k)))
       (both_true _ _ other
@@ -105,7 +105,7 @@ module _ (x y : Term) (h : is_measured x y (pos 0) ≡ true) (d : ℤ) (e : d �
       let behind = right_true (is_measured x y (pos 0)) (is_measured x y (pos 1) && (is_measured y x (pos 0) && is_measured y x (pos 1))) k in
       let first : is_measured x y (pos 1) ≡ true = left_true (is_measured x y (pos 1)) (is_measured y x (pos 0) && is_measured y x (pos 1)) behind in
       let last : is_measured y x (pos 1) ≡ true =
-              right_true (is_measured y x (pos 0)) (is_measured y x (pos 1)) (right_true (is_measured x y (pos 1)) (is_measured y x (pos 0) && is_measured y x (pos 1)) behind) in
+      right_true (is_measured y x (pos 0)) (is_measured y x (pos 1)) (right_true (is_measured x y (pos 1)) (is_measured y x (pos 0) && is_measured y x (pos 1)) behind) in
       both_true _ _ (ap fits e ∙ constant-fits x y (pos 0) h)
       (both_true _ _ (ap fits (sym (one_above ((form x).constant +ℤ negsuc 0 *ℤ (form y).constant) d e)) ∙ constant-fits x y (pos 1) first)
       (ap fits (sym (one_above_opposite (form x).constant (form y).constant d e)) ∙ constant-fits y x (pos 1) last))

@@ -175,7 +175,7 @@ pub all_adds : (old mid new : Standing) (row : ℕ) (x : Saying) (z : ℤ) (b : 
 all_adds old mid new row x z b l u constant room are lower_all upper_all first second bounds of =
     let P : List Bound → Type 0 = λ bs. Adds old new bs in
     let both : Adds old new (bounds_in row b) =
-            adds_then old mid new (bound_at row Lower b.lower) (bound_at row Upper b.upper)
-            (subst (λ (q : Bool). Adds old mid (cond q (bound_at row Lower b.lower) [])) lower_all first)
-            (subst (λ (q : Bool). Adds mid new (cond q (bound_at row Upper b.upper) [])) upper_all second) in
+    adds_then old mid new (bound_at row Lower b.lower) (bound_at row Upper b.upper)
+    (subst (λ (q : Bool). Adds old mid (cond q (bound_at row Lower b.lower) [])) lower_all first)
+    (subst (λ (q : Bool). Adds mid new (cond q (bound_at row Upper b.upper) [])) upper_all second) in
     subst P (are row ∙ (ap (λ y. bounds_of row y x) (constant_is z of.form.constant room (constant of.form of.there)) ∙ sym of.are)) both

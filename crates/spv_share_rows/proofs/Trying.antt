@@ -79,7 +79,7 @@ module _ (law : RefutedAbove) (old mid : Standing) (row : ℕ) (x : Saying) (add
     shown = λ a es p q ok inside stands by.
         let cited = cited_reading (is_number a) (facts a es) (is_at_most_zero (difference q p (pos 1))) in
         let step : Sourced a cited old old.tableau.bounds =
-                kept_in_step (is_number a) a (facts a es) (is_at_most_zero (difference q p (pos 1))) old.tableau.forms old.tableau.bounds (sources_in old.sources.items) stands in
+        kept_in_step (is_number a) a (facts a es) (is_at_most_zero (difference q p (pos 1))) old.tableau.forms old.tableau.bounds (sources_in old.sources.items) stands in
         let now : Sourced a cited mid mid.tableau.bounds = sourced a cited step by in
         ap (refutes (is_number a) (facts a es) p q) m
         ∙ law a ok es p q (sources_in mid.sources.items) table.combination (record {

@@ -51,7 +51,6 @@ pub record HasRow (a : Arena) (b : Standing) (row : ℕ) (st : Term × Term) : T
   pub there : row < length b.tableau.forms
   pub is : (f : IdForm) → slice_get b.tableau.forms row ≡ Some f → IsRowOf a st f
 
-
 pub record AreBoundsOf (b : Standing) (row : ℕ) (x : Saying) (bounds : List Bound) : Type 0 where
   pub form : IdForm
   pub there : slice_get b.tableau.forms row ≡ Some form
