@@ -1,6 +1,5 @@
 -- Whether the forms of a relation fit each way, by the constant of its row.
-use Rattle.std.proofs.Common.{◌≡◌, Bool, true, false, ◌&&◌, List, ℤ, pos, negsuc, ◌+ℤ◌, ◌*ℤ◌, neg_ℤ, refl, sym, ap, ◌∙◌, subst, Option, Some, None, arith}
-use mathlib.Core.Path.{ap₂}
+use Rattle.std.proofs.Common.{◌≡◌, Bool, true, false, ◌&&◌, ℤ, pos, negsuc, ◌+ℤ◌, ◌*ℤ◌, neg_ℤ, refl, sym, ap, ◌∙◌, subst, Option, Some, None, arith}
 use mir.Val.{to_z, of_z}
 use mir.Syntax.{w128}
 use Rattle.std.proofs.lemmas.Int.{ints}
@@ -11,17 +10,17 @@ use Rattle.spv_logic.specs.declared.conditions.TermId.{TermId}
 use Rattle.spv_logic.specs.Terms.{Term, term, no_terms, terms}
 use Rattle.spv_term.specs.Arena.{Arena, IsArena}
 use Rattle.spv_frac.specs.Range.{fits}
-use Rattle.spv_atoms.specs.Forms.{Form, form, form_fits, is_narrow}
+use Rattle.spv_atoms.specs.Forms.{form, form_fits, is_narrow}
 use Rattle.spv_atoms.specs.Linear.{coefficient, IdForm, IsIdForm, IsFormOf}
-use Rattle.spv_atoms.specs.Sums.{IsDifference, IsDifferenceOf, IsWideDifference}
+use Rattle.spv_atoms.specs.Sums.{IsDifference, IsDifferenceOf}
 use Rattle.spv_atoms.proofs.Sums.{narrow}
 use Rattle.spv_atoms.proofs.Coefficients.{AreDifferent, minus-coefficient, form-different, both_true, coefficient-fits, all-coefficients-fit}
 use Rattle.spv_proof.specs.Sums.{difference}
 use Rattle.spv_proof.specs.Stops.{is_measured}
-use Rattle.spv_sums.specs.Differences.{IsDifferenceWith, IsWideWith, IsMeasureOf}
+use Rattle.spv_sums.specs.Differences.{IsMeasureOf}
 use Rattle.spv_sums.proofs.Negated.{negated-fits}
 use Rattle.spv_sums.proofs.Measures.{measured, too_wide}
-use Rattle.spv_readings.specs.Relations.{fits_each_way, IsRowOf}
+use Rattle.spv_readings.specs.Relations.{fits_each_way}
 use Rattle.spv_bounds.specs.Bounds.{has_room}
 use Rattle.spv_atom_rows.specs.declared.row.RowFault.{RowFault}
 use Rattle.spv_atom_rows.specs.declared.row.RowFault.TheVariants.{Wide, Memory}
