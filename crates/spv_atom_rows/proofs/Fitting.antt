@@ -1,6 +1,5 @@
 -- Whether the forms of a relation fit each way, by the constant of its row.
-use Rattle.std.proofs.Common.{◌≡◌, Bool, true, false, ◌&&◌, List, ℤ, pos, negsuc, ◌+ℤ◌, ◌*ℤ◌, neg_ℤ, refl, sym, ap, ◌∙◌, subst, Option, Some, None, arith}
-use mathlib.Core.Path.{ap₂}
+use Rattle.std.proofs.Common.{◌≡◌, Bool, true, false, ◌&&◌, ℤ, pos, negsuc, ◌+ℤ◌, ◌*ℤ◌, neg_ℤ, refl, sym, ap, ◌∙◌, subst, Option, Some, None, arith}
 use mir.Val.{to_z, of_z}
 use mir.Syntax.{w128}
 use Rattle.std.proofs.lemmas.Int.{ints}
@@ -11,17 +10,17 @@ use Rattle.spv_logic.specs.declared.conditions.TermId.{TermId}
 use Rattle.spv_logic.specs.Terms.{Term, term, no_terms, terms}
 use Rattle.spv_term.specs.Arena.{Arena, IsArena}
 use Rattle.spv_frac.specs.Range.{fits}
-use Rattle.spv_atoms.specs.Forms.{Form, form, form_fits, is_narrow}
+use Rattle.spv_atoms.specs.Forms.{form, form_fits, is_narrow}
 use Rattle.spv_atoms.specs.Linear.{coefficient, IdForm, IsIdForm, IsFormOf}
-use Rattle.spv_atoms.specs.Sums.{IsDifference, IsDifferenceOf, IsWideDifference}
+use Rattle.spv_atoms.specs.Sums.{IsDifference, IsDifferenceOf}
 use Rattle.spv_atoms.proofs.Sums.{narrow}
 use Rattle.spv_atoms.proofs.Coefficients.{AreDifferent, minus-coefficient, form-different, both_true, coefficient-fits, all-coefficients-fit}
 use Rattle.spv_proof.specs.Sums.{difference}
 use Rattle.spv_proof.specs.Stops.{is_measured}
-use Rattle.spv_sums.specs.Differences.{IsDifferenceWith, IsWideWith, IsMeasureOf}
+use Rattle.spv_sums.specs.Differences.{IsMeasureOf}
 use Rattle.spv_sums.proofs.Negated.{negated-fits}
 use Rattle.spv_sums.proofs.Measures.{measured, too_wide}
-use Rattle.spv_readings.specs.Relations.{fits_each_way, IsRowOf}
+use Rattle.spv_readings.specs.Relations.{fits_each_way}
 use Rattle.spv_bounds.specs.Bounds.{has_room}
 use Rattle.spv_atom_rows.specs.declared.row.RowFault.{RowFault}
 use Rattle.spv_atom_rows.specs.declared.row.RowFault.TheVariants.{Wide, Memory}
@@ -94,7 +93,7 @@ module _ (x y : Term) (h : is_measured x y (pos 0) ≡ true) (d : ℤ) (e : d �
   room-fits : has_room d ≡ true → fits_each_way (x, y) ≡ true
   room-fits k =
       let other : is_measured y x (pos 0) ≡ true =
-              turned-fits x y h d (ap fits (opposite (form x).constant (form y).constant d e) ∙ negated-fits d (left_true (fits d) _ k)) in
+      turned-fits x y h d (ap fits (opposite (form x).constant (form y).constant d e) ∙ negated-fits d (left_true (fits d) _ k)) in
       both_true _ _ h
       (both_true _ _ (more-fits x y h (ap fits (one_above ((form x).constant +ℤ negsuc 0 *ℤ (form y).constant) d e) ∙ left_true (fits (d +ℤ pos 1)) _ (right_true (fits d) _ k)))
       (both_true _ _ other
@@ -105,7 +104,7 @@ module _ (x y : Term) (h : is_measured x y (pos 0) ≡ true) (d : ℤ) (e : d �
       let behind = right_true (is_measured x y (pos 0)) (is_measured x y (pos 1) && (is_measured y x (pos 0) && is_measured y x (pos 1))) k in
       let first : is_measured x y (pos 1) ≡ true = left_true (is_measured x y (pos 1)) (is_measured y x (pos 0) && is_measured y x (pos 1)) behind in
       let last : is_measured y x (pos 1) ≡ true =
-              right_true (is_measured y x (pos 0)) (is_measured y x (pos 1)) (right_true (is_measured x y (pos 1)) (is_measured y x (pos 0) && is_measured y x (pos 1)) behind) in
+      right_true (is_measured y x (pos 0)) (is_measured y x (pos 1)) (right_true (is_measured x y (pos 1)) (is_measured y x (pos 0) && is_measured y x (pos 1)) behind) in
       both_true _ _ (ap fits e ∙ constant-fits x y (pos 0) h)
       (both_true _ _ (ap fits (sym (one_above ((form x).constant +ℤ negsuc 0 *ℤ (form y).constant) d e)) ∙ constant-fits x y (pos 1) first)
       (ap fits (sym (one_above_opposite (form x).constant (form y).constant d e)) ∙ constant-fits y x (pos 1) last))

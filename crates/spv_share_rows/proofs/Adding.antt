@@ -1,5 +1,5 @@
 -- Bounds that are asserted.
-use Rattle.std.proofs.Common.{◌≡◌, ℕ, ◌+◌, ◌<◌, ◌≤◌, Bool, true, false, cond, ◌&&◌, List, [], ◌∷◌, ◌++◌, take, drop, length, nat_eq, ℤ, refl, sym, ap, ◌∙◌, subst, Option, Some, None, append_assoc, arith}
+use Rattle.std.proofs.Common.{◌≡◌, ℕ, ◌≤◌, Bool, true, false, cond, ◌&&◌, List, [], ◌∷◌, ◌++◌, take, drop, length, nat_eq, ℤ, refl, sym, ap, ◌∙◌, subst, Option, Some, None, append_assoc, arith}
 use Rattle.std.specs.Prelude.{slice_get}
 use Rattle.std.specs.Option.{option_map}
 use mir.Val.{to_z, of_z}
@@ -19,19 +19,19 @@ use Rattle.spv_tableaux.specs.Bounds.{Bound, bound_on, same_side}
 use Rattle.spv_pivots.proofs.Sums.{eq_is}
 use Rattle.spv_pivots.proofs.Tests.{and_left, and_right}
 use Rattle.spv_steps.specs.Trail.{bound_of}
-use Rattle.spv_simplex.specs.State.{State, MayAssert, with_bound}
+use Rattle.spv_simplex.specs.State.{State, with_bound}
 use Rattle.spv_readings.specs.declared.saying.Saying.{Saying}
 use Rattle.spv_readings.specs.declared.source.Source.{Source}
 use Rattle.spv_readings.specs.Sayings.{bounds_of, says_equal}
 use Rattle.spv_readings.specs.Sources.{Sources, IsSourced, AreSourced, with_source}
-use Rattle.spv_readings.proofs.Sourcing.{bound_stays, one_more_sourced, first_sourced}
+use Rattle.spv_readings.proofs.Sourcing.{bound_stays, one_more_sourced}
 use Rattle.spv_bounds.specs.declared.bounds.Bounds.{Bounds}
 use Rattle.spv_bounds.specs.Bounds.{bound_at, bounds_in, has_room}
 use Rattle.spv_bounds.specs.Sources.{sources_in}
 use Rattle.spv_bounds.specs.Laws.{LowerIsFound, UpperIsFound}
 use Rattle.spv_atom_rows.specs.Rows.{HaveRoom}
 use Rattle.spv_share_rows.specs.declared.standing.Standing.{Standing}
-use Rattle.spv_share_rows.specs.Standing.{Adds, AddsSome, AreBoundsOf, ComesFrom, IsStanding, SaidBy, Sourced}
+use Rattle.spv_share_rows.specs.Standing.{Adds, AreBoundsOf, ComesFrom, IsStanding, SaidBy, Sourced}
 
 same_side_is : (s t : Side) → same_side s t ≡ true → s ≡ t
 same_side_is Lower Lower h = refl
@@ -175,7 +175,7 @@ pub all_adds : (old mid new : Standing) (row : ℕ) (x : Saying) (z : ℤ) (b : 
 all_adds old mid new row x z b l u constant room are lower_all upper_all first second bounds of =
     let P : List Bound → Type 0 = λ bs. Adds old new bs in
     let both : Adds old new (bounds_in row b) =
-            adds_then old mid new (bound_at row Lower b.lower) (bound_at row Upper b.upper)
-            (subst (λ (q : Bool). Adds old mid (cond q (bound_at row Lower b.lower) [])) lower_all first)
-            (subst (λ (q : Bool). Adds mid new (cond q (bound_at row Upper b.upper) [])) upper_all second) in
+    adds_then old mid new (bound_at row Lower b.lower) (bound_at row Upper b.upper)
+    (subst (λ (q : Bool). Adds old mid (cond q (bound_at row Lower b.lower) [])) lower_all first)
+    (subst (λ (q : Bool). Adds mid new (cond q (bound_at row Upper b.upper) [])) upper_all second) in
     subst P (are row ∙ (ap (λ y. bounds_of row y x) (constant_is z of.form.constant room (constant of.form of.there)) ∙ sym of.are)) both

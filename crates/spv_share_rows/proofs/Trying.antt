@@ -1,9 +1,8 @@
 -- What is tried of a row, and what a check comes to.
-use Rattle.std.proofs.Common.{◌≡◌, ℕ, zero, suc, ◌<◌, ◌≤◌, Bool, true, List, [], ◌∷◌, ◌++◌, take, length, map, pos, refl, sym, ap, ◌∙◌, subst, Option, Some, None, IsTrue, inl, inr, arith}
-use Rattle.std.proofs.lemmas.List.{append-nil, take-append-le, length-append}
+use Rattle.std.proofs.Common.{◌≡◌, ℕ, zero, suc, ◌<◌, ◌≤◌, Bool, List, [], ◌∷◌, ◌++◌, take, length, pos, refl, sym, ap, ◌∙◌, subst, Option, Some, IsTrue, inl, inr, arith}
+use Rattle.std.proofs.lemmas.List.{append-nil}
 use Rattle.spv_whole.specs.Fraction.{Fraction}
-use Rattle.spv_logic.specs.Terms.{Term}
-use Rattle.spv_term.specs.Arena.{Arena, IsArena}
+use Rattle.spv_term.specs.Arena.{Arena}
 use Rattle.spv_atoms.specs.Linear.{IdForm}
 use Rattle.spv_proof.specs.Sums.{Reading, difference, is_at_most_zero, cited_reading, refutes}
 use Rattle.spv_tableaux.specs.Bounds.{Bound, limits, Meets}
@@ -14,7 +13,7 @@ use Rattle.spv_course.specs.Course.{facts}
 use Rattle.spv_course.specs.Derived.{is_number}
 use Rattle.spv_simplex.specs.declared.checked.Checked.{Checked}
 use Rattle.spv_simplex.specs.declared.checked.Checked.TheVariants.{Feasible, Infeasible}
-use Rattle.spv_simplex.specs.State.{State, IsTableau, with_first, rows_in, kept_point}
+use Rattle.spv_simplex.specs.State.{State, IsTableau, kept_point}
 use Rattle.spv_simplex.specs.Checks.{IsChecked, IsFeasible, IsInfeasible, Means}
 use Rattle.spv_readings.specs.declared.saying.Saying.{Saying}
 use Rattle.spv_readings.specs.Relations.{AreIn}
@@ -31,7 +30,7 @@ use Rattle.spv_share_rows.specs.declared.standing.Standing.{Standing}
 use Rattle.spv_share_rows.specs.declared.forcing.Tried.{Tried}
 use Rattle.spv_share_rows.specs.declared.forcing.Tried.TheVariants.{Refuted, Met, Stopped, Taken}
 use Rattle.spv_share_rows.specs.Standing.{Adds, AddsSome, AreBoundsOf, IsBack, IsStanding, readings, SaidBy, Sourced}
-use Rattle.spv_share_rows.specs.Forcing.{HasPoint, IsOutcome, IsStopped, IsPointOf, IsTried, Refutes}
+use Rattle.spv_share_rows.specs.Forcing.{HasPoint, IsOutcome, IsStopped, IsTried, Refutes}
 
 -- the same rows, sources and forms, with another tableau
 pub record IsBeside (old new : Standing) : Type 0 where
@@ -79,7 +78,7 @@ module _ (law : RefutedAbove) (old mid : Standing) (row : ℕ) (x : Saying) (add
     shown = λ a es p q ok inside stands by.
         let cited = cited_reading (is_number a) (facts a es) (is_at_most_zero (difference q p (pos 1))) in
         let step : Sourced a cited old old.tableau.bounds =
-                kept_in_step (is_number a) a (facts a es) (is_at_most_zero (difference q p (pos 1))) old.tableau.forms old.tableau.bounds (sources_in old.sources.items) stands in
+        kept_in_step (is_number a) a (facts a es) (is_at_most_zero (difference q p (pos 1))) old.tableau.forms old.tableau.bounds (sources_in old.sources.items) stands in
         let now : Sourced a cited mid mid.tableau.bounds = sourced a cited step by in
         ap (refutes (is_number a) (facts a es) p q) m
         ∙ law a ok es p q (sources_in mid.sources.items) table.combination (record {

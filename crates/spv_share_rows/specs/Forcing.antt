@@ -19,7 +19,7 @@ use Rattle.spv_bounds.specs.Sources.{sources_in}
 use Rattle.spv_share_rows.specs.declared.standing.Standing.{Standing}
 use Rattle.spv_share_rows.specs.declared.forcing.Tried.{Tried}
 use Rattle.spv_share_rows.specs.declared.forcing.Tried.TheVariants.{Refuted, Met, Stopped, Taken}
-use Rattle.spv_share_rows.specs.Standing.{AreBoundsOf, IsStanding, readings, SaidBy, Sourced}
+use Rattle.spv_share_rows.specs.Standing.{AreBoundsOf, readings, SaidBy, Sourced}
 
 -- where the bounds that stand come from facts of a course, the multiples of these refute that p is above q
 pub record Refutes (b : Standing) (row : ℕ) (x : Saying) (multiples : List (Fraction × ℕ)) : Type 0 where

@@ -1,5 +1,5 @@
 -- Bounds that stand, and the facts that they come from.
-use Rattle.std.specs.Prelude.{◌≡◌, ℕ, ◌<◌, ◌≤◌, Bool, true, false, List, [], ◌∷◌, ◌++◌, take, length, Option, Some, None, slice_get}
+use Rattle.std.specs.Prelude.{◌≡◌, ℕ, ◌<◌, ◌≤◌, List, ◌++◌, take, length, Option, Some, None, slice_get}
 use Rattle.spv_whole.specs.Fraction.{Fraction}
 use Rattle.spv_rational.specs.Rational.{Rational, number}
 use Rattle.spv_logic.specs.Terms.{Term}
@@ -13,10 +13,9 @@ use Rattle.spv_course.specs.Course.{facts}
 use Rattle.spv_course.specs.Derived.{is_number}
 use Rattle.spv_readings.specs.declared.saying.Saying.{Saying}
 use Rattle.spv_readings.specs.declared.source.Source.{Source}
-use Rattle.spv_readings.specs.Relations.{AreIn, IsRowOf}
+use Rattle.spv_readings.specs.Relations.{IsRowOf}
 use Rattle.spv_readings.specs.Sayings.{bounds_of, says_equal}
-use Rattle.spv_readings.specs.Sources.{fact_reading, AreSourced, IsSourced, with_source}
-use Rattle.spv_bounds.specs.Bounds.{bound_at}
+use Rattle.spv_readings.specs.Sources.{fact_reading, AreSourced, IsSourced}
 use Rattle.spv_bounds.specs.Sources.{sources_in}
 use Rattle.spv_atom_rows.specs.Rows.{HaveRoom}
 use Rattle.spv_share_rows.specs.declared.standing.Standing.{Standing}
@@ -50,7 +49,6 @@ ComesFrom a read b row side (Some v) s = (f : IdForm) → slice_get b.tableau.fo
 pub record HasRow (a : Arena) (b : Standing) (row : ℕ) (st : Term × Term) : Type 0 where
   pub there : row < length b.tableau.forms
   pub is : (f : IdForm) → slice_get b.tableau.forms row ≡ Some f → IsRowOf a st f
-
 
 pub record AreBoundsOf (b : Standing) (row : ℕ) (x : Saying) (bounds : List Bound) : Type 0 where
   pub form : IdForm

@@ -1,5 +1,5 @@
 use Rattle.std.proofs.Common.{refl}
-use Rattle.spv_share_rows.proofs.Adding.{AssertsOne, one_adds, one_sourced}
+use Rattle.spv_share_rows.proofs.Adding.{one_adds, one_sourced}
 use Rattle.spv_share_rows.proofs.standing.Standing.assert_one.Goals as goal
 
 pub returns-in-Ok-true-clause-adds : goal.returns-in-Ok-true-clause-adds

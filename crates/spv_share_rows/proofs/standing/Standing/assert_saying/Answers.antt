@@ -1,5 +1,4 @@
-use Rattle.std.proofs.Common.{sym, ◌∙◌}
-use Rattle.spv_tableaux.specs.declared.side.Side.TheVariants.{Lower, Upper}
+use Rattle.spv_tableaux.specs.declared.side.Side.TheVariants.{Upper}
 use Rattle.spv_share_rows.proofs.Adding.{adds_then, all_adds, comes_along, constant_is, lower_comes, upper_comes}
 use Rattle.spv_share_rows.proofs.standing.Standing.assert_saying.Goals as goal
 
