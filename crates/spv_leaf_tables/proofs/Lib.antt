@@ -1,0 +1,10 @@
+pub mod Closed
+pub mod TermKinds
+pub mod Worths
+pub mod Owns
+pub mod Comparisons
+pub mod Lookups
+pub mod Classes
+pub mod Outcomes
+pub mod Truths
+pub mod Values

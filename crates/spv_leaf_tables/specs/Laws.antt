@@ -1,0 +1,85 @@
+-- What is true of the table of a leaf.
+use Rattle.std.specs.Prelude.{◌≡◌, Bool, true, false, List, map, Some, Ok, is_some, pos}
+use Rattle.spv_whole.specs.Fraction.{Fraction, whole}
+use Rattle.spv_logic.specs.declared.types.Shape.{Shape}
+use Rattle.spv_logic.specs.declared.types.Decl.{Decl}
+use Rattle.spv_logic.specs.Terms.{Term}
+use Rattle.spv_logic.specs.Conditions.{Sequent}
+use Rattle.spv_atoms.specs.Atoms.{is_truth, is_number}
+use Rattle.spv_atoms.specs.Order.{passing}
+use Rattle.spv_table.specs.Values.{truth_value, value, holds, listed_in}
+use Rattle.spv_table.specs.Tables.{IsAlike, IsTable}
+use Rattle.spv_leaf_tables.specs.Subterms.{is_among, subterms, is_listed}
+use Rattle.spv_leaf_tables.specs.Leaves.{Leaf, IsLeaf, IsSameness, IsDecided, truth_at, worth_at}
+use Rattle.spv_leaf_tables.specs.Tables.{class_of, table, formulas_of, Falsifies}
+
+-- what a table of a leaf says of each term
+abbrev pub listed_at : List Shape → List Decl → List Term → Leaf → Term → Fraction
+listed_at shapes decls fs leaf = listed_in (table shapes decls fs leaf)
+
+-- ---- which terms are the same
+
+-- what derivations join is an equivalence with congruence on what was added
+abbrev pub DerivationsJoin : Type 0
+DerivationsJoin = (added : Term → Bool) (told same : Term → Term → Bool) → IsDecided added told same → (ts : List Term) → ((t : Term) → is_among ts t ≡ true → added t ≡ true) → IsSameness ts same
+
+-- ---- values
+
+-- the value of a term of sort Int, where no operation is too wide, is its value at the point
+abbrev pub NumbersAreAtPoint : Type 0
+NumbersAreAtPoint = (shapes : List Shape) (decls : List Decl) (fs : List Term) (leaf : Leaf) → IsLeaf shapes decls fs leaf
+    → (t : Term) (x : Fraction) → is_among (subterms fs) t ≡ true → is_number shapes decls t ≡ true → value (listed_at shapes decls fs leaf) t ≡ Ok x → x ≡ (worth_at leaf.point t).fraction
+
+-- each term of sort Bool has a truth
+abbrev pub TruthsAreThere : Type 0
+TruthsAreThere = (shapes : List Shape) (decls : List Decl) (fs : List Term) (leaf : Leaf) → IsLeaf shapes decls fs leaf
+    → (t : Term) → is_among (subterms fs) t ≡ true → is_truth shapes decls t ≡ true → is_some (truth_at (is_truth shapes decls) leaf.given t) ≡ true
+
+-- the value of a term of sort Bool, where no operation is too wide, is its truth
+abbrev pub TruthsAreComputed : Type 0
+TruthsAreComputed = (shapes : List Shape) (decls : List Decl) (fs : List Term) (leaf : Leaf) → IsLeaf shapes decls fs leaf
+    → (t : Term) (x : Fraction) (b : Bool) → is_among (subterms fs) t ≡ true → is_truth shapes decls t ≡ true → truth_at (is_truth shapes decls) leaf.given t ≡ Some b
+    → value (listed_at shapes decls fs leaf) t ≡ Ok x → x ≡ truth_value b
+
+-- the value of a term of another sort is the number of its class
+abbrev pub OthersAreClasses : Type 0
+OthersAreClasses = (shapes : List Shape) (decls : List Decl) (fs : List Term) (leaf : Leaf) → IsLeaf shapes decls fs leaf
+    → (t : Term) → is_among (subterms fs) t ≡ true → is_number shapes decls t ≡ false → is_truth shapes decls t ≡ false
+    → value (listed_at shapes decls fs leaf) t ≡ Ok (whole (pos (class_of leaf.same (subterms fs) t)))
+
+-- no two classes have one number
+abbrev pub ClassesDiffer : Type 0
+ClassesDiffer = (same : Term → Term → Bool) (ts : List Term) → IsSameness ts same
+    → (s t : Term) → is_among ts s ≡ true → is_among ts t ≡ true → class_of same ts s ≡ class_of same ts t → same s t ≡ true
+
+-- and each class has one
+abbrev pub ClassesAreOne : Type 0
+ClassesAreOne = (same : Term → Term → Bool) (ts : List Term) → IsSameness ts same → (s t : Term) → same s t ≡ true → class_of same ts s ≡ class_of same ts t
+
+-- ---- the table
+
+abbrev pub ListsSubterms : Type 0
+ListsSubterms = (shapes : List Shape) (decls : List Decl) (fs : List Term) (leaf : Leaf) → map (λ p. p.0) (table shapes decls fs leaf) ≡ passing is_listed (subterms fs)
+
+abbrev pub LeafHasTable : Type 0
+LeafHasTable = (shapes : List Shape) (decls : List Decl) (fs : List Term) (leaf : Leaf) → IsLeaf shapes decls fs leaf → IsTable shapes decls (table shapes decls fs leaf)
+
+-- applications of one head to arguments of equal values, of which the table lists one, are the same
+abbrev pub AlikeAreSame : Type 0
+AlikeAreSame = (shapes : List Shape) (decls : List Decl) (fs : List Term) (leaf : Leaf) → IsLeaf shapes decls fs leaf
+    → (s t : Term) → is_among (subterms fs) s ≡ true → is_among (subterms fs) t ≡ true → is_listed s ≡ true
+    → IsAlike shapes decls (listed_at shapes decls fs leaf) s t → leaf.same s t ≡ true
+
+-- ---- formulas
+
+-- each formula has its computed truth in the table, where no operation is too wide
+abbrev pub FormulasHold : Type 0
+FormulasHold = (shapes : List Shape) (decls : List Decl) (fs : List Term) (leaf : Leaf) → IsLeaf shapes decls fs leaf
+    → (f : Term) (b : Bool) → is_among fs f ≡ true → holds (listed_at shapes decls fs leaf) f ≡ Ok b → truth_at (is_truth shapes decls) leaf.given f ≡ Some b
+
+-- where each hypothesis is true at the leaf and the goal is false, and no operation is too wide, the table falsifies the condition
+abbrev pub TableFalsifies : Type 0
+TableFalsifies = (shapes : List Shape) (decls : List Decl) (c : Sequent) (leaf : Leaf) → IsLeaf shapes decls (formulas_of c) leaf
+    → ((f : Term) → is_among c.given f ≡ true → truth_at (is_truth shapes decls) leaf.given f ≡ Some true) → truth_at (is_truth shapes decls) leaf.given c.goal ≡ Some false
+    → ((f : Term) → is_among (formulas_of c) f ≡ true → (b : Bool) × (holds (listed_at shapes decls (formulas_of c) leaf) f ≡ Ok b))
+    → Falsifies shapes decls c (table shapes decls (formulas_of c) leaf)

@@ -1,0 +1,5 @@
+pub mod Subterms
+pub mod Atoms
+pub mod Leaves
+pub mod Tables
+pub mod Laws
