@@ -8,3 +8,5 @@ pub mod Classes
 pub mod Outcomes
 pub mod Truths
 pub mod Values
+pub mod Pairs
+pub mod Alike

@@ -14,7 +14,7 @@ use Rattle.spv_table.specs.Values.{Outcome, truth_value, is_same, is_true, too_w
 pub record IsIfOk (o : Outcome) (x : Fraction) : Type 0 where
   pub is : (y : Fraction) → o ≡ Ok y → y ≡ x
 
-same_ok : (y z : Fraction) (o : Outcome) → o ≡ Ok y → o ≡ Ok z → y ≡ z
+pub same_ok : (y z : Fraction) (o : Outcome) → o ≡ Ok y → o ≡ Ok z → y ≡ z
 same_ok y z o e f = cc
 
 no_stop : (w : WideValue) (o : Outcome) (y : Fraction) → o ≡ Err w → o ≡ Ok y → ⊥

@@ -137,7 +137,7 @@ module _ (shapes : List Shape) (decls : List Decl) (fs : List Term) (leaf : Leaf
   atom-given t h = some-is (leaf.given t) (ok.full t (atom-asked t h))
 
   -- an application of no connective that is of sort Bool
-  plain-atom : (h : Head) (ts : Terms) → truth (term h ts) ≡ true → connects (all_truths truth ts) h ≡ false → is_fixed h ≡ false → is_atom truth (term h ts) ≡ true
+  pub plain-atom : (h : Head) (ts : Terms) → truth (term h ts) ≡ true → connects (all_truths truth ts) h ≡ false → is_fixed h ≡ false → is_atom truth (term h ts) ≡ true
   plain-atom h ts k m n = both_true k (both_true (ap not m) (ap not n))
 
   -- ---- what each subterm has

@@ -7,6 +7,7 @@ use Rattle.spv_leaf_tables.proofs.Owns.{own-value}
 use Rattle.spv_leaf_tables.proofs.Comparisons.{less-is}
 use Rattle.spv_leaf_tables.proofs.Lookups.{has-passing}
 use Rattle.spv_leaf_tables.proofs.Values.{own-is}
+use Rattle.spv_leaf_tables.proofs.Alike.{alike-number}
 use Rattle.spv_leaf_tables.proofs.laws.law_joined.Goals as goal
 
 pub returns : goal.returns
