@@ -10,3 +10,4 @@ pub mod Truths
 pub mod Values
 pub mod Pairs
 pub mod Alike
+pub mod Falsifying

@@ -50,7 +50,7 @@ OthersAreClasses = (shapes : List Shape) (decls : List Decl) (fs : List Term) (l
 -- no two classes have one number
 abbrev pub ClassesDiffer : Type 0
 ClassesDiffer = (same : Term → Term → Bool) (ts : List Term) → IsSameness ts same
-    → (s t : Term) → is_among ts s ≡ true → is_among ts t ≡ true → class_of same ts s ≡ class_of same ts t → same s t ≡ true
+    → (s t : Term) → is_among ts s ≡ true → class_of same ts s ≡ class_of same ts t → same s t ≡ true
 
 -- and each class has one
 abbrev pub ClassesAreOne : Type 0

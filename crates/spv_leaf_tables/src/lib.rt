@@ -1,6 +1,7 @@
-//! The table of a full leaf.
+//! The table of a full leaf of a search: numbers for terms in which each formula has the truth that its atoms give it. Theorems;
+//! there is no code.
 #![tactic(auto)]
 
 mod laws;
 
-pub use laws::law_joined;
+pub use laws::{law_formulas, law_joined, law_survives, law_table, law_values};
