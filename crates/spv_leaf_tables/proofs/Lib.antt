@@ -11,3 +11,4 @@ pub mod Values
 pub mod Pairs
 pub mod Alike
 pub mod Falsifying
+pub mod Testing

@@ -3,3 +3,4 @@ pub mod Atoms
 pub mod Leaves
 pub mod Tables
 pub mod Laws
+pub mod Examples

@@ -1,5 +1,9 @@
 // What is true of the table of a leaf, each law the contract of a function that does nothing.
 
+ghost use Rattle.std.specs.Prelude.{◌≡◌, false, true, Ok};
+ghost use Rattle.spv_table.specs.Values.{holds, listed_in};
+ghost use Rattle.spv_logic.specs.Formulas.{below};
+ghost use Rattle.spv_leaf_tables.specs.Examples as example;
 ghost use Rattle.spv_leaf_tables.specs.Laws.{AlikeAreSame, ClassesAreOne, ClassesDiffer, DerivationsJoin, FormulasHold, LeafHasTable, ListsSubterms, NumbersAreAtPoint, OthersAreClasses, TableFalsifies, TruthsAreComputed, TruthsAreThere};
 
 /// Terms that derivations join may be taken for the same terms.
@@ -33,4 +37,15 @@ pub fn law_formulas()
 /// Where the hypotheses are true and the goal is false, the table shows it.
 pub fn law_survives()
     ensures { TableFalsifies }
+{}
+
+/// A small leaf: `x < y`, which is true, is to give `F(x) = F(y)` or `D(x < y) = D(q)`.
+pub fn law_example()
+    ensures atoms { example.its_atoms ≡ example.expected_atoms }
+    ensures is_leaf { example.IsLeafHere example.leaf }
+    ensures table { example.its_table ≡ example.expected_table }
+    ensures hypothesis { holds (listed_in example.its_table) (below example.x example.y) ≡ Ok true }
+    ensures goal { holds (listed_in example.its_table) example.condition.goal ≡ Ok false }
+    ensures each_equation_has_a_truth { example.IsLeafHere example.without_equation → ⊥ }
+    ensures what_differs_has_an_order { example.IsLeafHere example.without_order → ⊥ }
 {}

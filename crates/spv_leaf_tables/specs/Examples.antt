@@ -1,0 +1,104 @@
+-- A small condition, a leaf of a search over it, and its table: x < y gives F(x) = F(y) or D(x < y) = D(q).
+use Rattle.std.specs.Prelude.{ℕ, Bool, true, false, List, [], ◌∷◌, Option, Some, None, pos, nat_eq, if◌then◌else◌}
+use Rattle.spv_whole.specs.Fraction.{Fraction, whole}
+use Rattle.spv_rational.specs.Rational as rational
+use Rattle.spv_rational.specs.Rational.{Rational}
+use Rattle.spv_names.specs.declared.names.Symbol.{Symbol}
+use Rattle.spv_logic.specs.declared.types.Sort.TheVariants as sort
+use Rattle.spv_logic.specs.declared.types.Shape.{Shape}
+use Rattle.spv_logic.specs.declared.types.Decl.{Decl}
+use Rattle.spv_logic.specs.declared.operators.Head.TheVariants.{Var, App, Or}
+use Rattle.spv_logic.specs.Terms.{Term, term, no_terms, terms, term_eq}
+use Rattle.spv_logic.specs.Formulas.{equation, below}
+use Rattle.spv_logic.specs.Conditions.{Sequent}
+use Rattle.spv_atoms.specs.Tables.{assigned}
+use Rattle.spv_leaf_tables.specs.Atoms.{atoms}
+use Rattle.spv_leaf_tables.specs.Leaves.{Leaf, IsLeaf, truth_term}
+use Rattle.spv_leaf_tables.specs.Tables.{formulas_of, table}
+
+abbrev symbol : ℕ → Symbol
+symbol n = record { 0 = n }
+
+abbrev pub no_shapes : List Shape
+no_shapes = []
+
+-- F takes a whole number and gives one; D takes a truth value and gives a list
+abbrev pub decls : List Decl
+decls = record { name = symbol 10; args = sort.Int ∷ []; result = sort.Int } ∷ record { name = symbol 11; args = sort.Bool ∷ []; result = sort.List } ∷ []
+
+abbrev pub x : Term
+x = term (Var (symbol 0) sort.Int 0) no_terms
+
+abbrev pub y : Term
+y = term (Var (symbol 1) sort.Int 0) no_terms
+
+abbrev pub q : Term
+q = term (Var (symbol 2) sort.Bool 0) no_terms
+
+abbrev pub f_of : Term → Term
+f_of t = term (App (symbol 10)) (terms t no_terms)
+
+abbrev pub d_of : Term → Term
+d_of t = term (App (symbol 11)) (terms t no_terms)
+
+abbrev pub numbers_equal : Term
+numbers_equal = equation (f_of x) (f_of y)
+
+abbrev pub lists_equal : Term
+lists_equal = equation (d_of (below x y)) (d_of q)
+
+abbrev pub condition : Sequent
+condition = record { given = below x y ∷ []; goal = term Or (terms numbers_equal (terms lists_equal no_terms)) }
+
+-- ---- the leaf
+
+abbrev known : List (Term × Bool)
+known = (below x y, true) ∷ (numbers_equal, false) ∷ (q, false) ∷ (lists_equal, false) ∷ []
+
+-- the number of each class; every other term has one more
+abbrev pub class_in : List (Term × ℕ) → Term → ℕ
+class_in [] t = 8
+class_in (c ∷ classes) t = if term_eq c.0 t then c.1 else class_in classes t
+
+abbrev pub classes : List (Term × ℕ)
+classes =
+    (truth_term true, 0) ∷ (below x y, 0) ∷ (truth_term false, 1) ∷ (numbers_equal, 1) ∷ (q, 1) ∷ (lists_equal, 1) ∷ (equation x y, 1)
+    ∷ (x, 2) ∷ (y, 3) ∷ (f_of x, 4) ∷ (f_of y, 5) ∷ (d_of (below x y), 6) ∷ (d_of q, 7) ∷ []
+
+abbrev point_in : List (Term × Rational) → Term → Rational
+point_in [] t = rational.whole (pos 0)
+point_in (p ∷ points) t = if term_eq p.0 t then p.1 else point_in points t
+
+abbrev pub leaf_of : List (Term × Bool) → List (Term × Rational) → Leaf
+leaf_of known points = record { given = assigned known; same = λ s t. nat_eq (class_in classes s) (class_in classes t); point = point_in points }
+
+-- y and F(y) are 1, all other numbers 0
+abbrev pub leaf : Leaf
+leaf = leaf_of ((equation x y, false) ∷ known) ((y, rational.whole (pos 1)) ∷ (f_of y, rational.whole (pos 1)) ∷ [])
+
+-- the same without a truth of the equation of F's arguments
+abbrev pub without_equation : Leaf
+without_equation = leaf_of known ((y, rational.whole (pos 1)) ∷ (f_of y, rational.whole (pos 1)) ∷ [])
+
+-- the same with F(y) at 0, as F(x) is
+abbrev pub without_order : Leaf
+without_order = leaf_of ((equation x y, false) ∷ known) ((y, rational.whole (pos 1)) ∷ [])
+
+-- ---- what is found
+
+abbrev pub its_atoms : List Term
+its_atoms = atoms no_shapes decls (formulas_of condition)
+
+abbrev pub expected_atoms : List Term
+expected_atoms = below x y ∷ numbers_equal ∷ q ∷ lists_equal ∷ equation x y ∷ []
+
+abbrev pub its_table : List (Term × Fraction)
+its_table = table no_shapes decls (formulas_of condition) leaf
+
+-- D(x < y) and D(q) have the numbers of their places among the subterms
+abbrev pub expected_table : List (Term × Fraction)
+expected_table =
+    (x, whole (pos 0)) ∷ (y, whole (pos 1)) ∷ (f_of x, whole (pos 0)) ∷ (f_of y, whole (pos 1)) ∷ (d_of (below x y), whole (pos 6)) ∷ (q, whole (pos 0)) ∷ (d_of q, whole (pos 8)) ∷ []
+
+abbrev pub IsLeafHere : Leaf → Type 0
+IsLeafHere l = IsLeaf no_shapes decls (formulas_of condition) l
