@@ -22,7 +22,7 @@ ArgumentsIn-more : (xs ys : List Term) (ts : Terms) → ((u : Term) → has xs u
 ArgumentsIn-more xs ys no_terms more h = tt
 ArgumentsIn-more xs ys (terms t ts) more h = (more t h.0, ArgumentsIn-more xs ys ts more h.1)
 
-with_term-parts : {A : Type 0} (xs : List Term) (t u : Term) → has (with_term xs t) u ≡ true → (has xs u ≡ true → A) → (u ≡ t → A) → A
+pub with_term-parts : {A : Type 0} (xs : List Term) (t u : Term) → has (with_term xs t) u ≡ true → (has xs u ≡ true → A) → (u ≡ t → A) → A
 with_term-parts {A = A} xs t u h f g = by_case (has xs t) h
   where
     by_case : (b : Bool) → has (cond b xs (xs ++ t ∷ [])) u ≡ true → A

@@ -11,4 +11,5 @@ pub mod Values
 pub mod Pairs
 pub mod Alike
 pub mod Falsifying
+pub mod Covering
 pub mod Testing

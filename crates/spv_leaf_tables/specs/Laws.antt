@@ -5,17 +5,39 @@ use Rattle.spv_logic.specs.declared.types.Shape.{Shape}
 use Rattle.spv_logic.specs.declared.types.Decl.{Decl}
 use Rattle.spv_logic.specs.Terms.{Term}
 use Rattle.spv_logic.specs.Conditions.{Sequent}
-use Rattle.spv_atoms.specs.Atoms.{is_truth, is_number}
+use Rattle.spv_atoms.specs.Atoms.{is_truth, is_number, is_atom, atoms_in}
 use Rattle.spv_atoms.specs.Order.{passing}
 use Rattle.spv_table.specs.Values.{truth_value, value, holds, listed_in}
 use Rattle.spv_table.specs.Tables.{IsAlike, IsTable}
-use Rattle.spv_leaf_tables.specs.Subterms.{is_among, subterms, is_listed}
+use Rattle.spv_leaf_tables.specs.Subterms.{is_among, subterms, arguments, is_listed}
+use Rattle.spv_leaf_tables.specs.Atoms.{atoms}
 use Rattle.spv_leaf_tables.specs.Leaves.{Leaf, IsLeaf, IsSameness, IsDecided, truth_at, worth_at}
 use Rattle.spv_leaf_tables.specs.Tables.{class_of, table, formulas_of, Falsifies}
 
 -- what a table of a leaf says of each term
 abbrev pub listed_at : List Shape → List Decl → List Term → Leaf → Term → Fraction
 listed_at shapes decls fs leaf = listed_in (table shapes decls fs leaf)
+
+-- ---- atoms
+
+-- the formulas are of sort Bool
+abbrev pub AreFormulas : List Shape → List Decl → List Term → Type 0
+AreFormulas shapes decls fs = (f : Term) → is_among fs f ≡ true → is_truth shapes decls f ≡ true
+
+-- the atoms of each subterm are among the atoms: so those of each formula, and of each argument of sort Bool
+abbrev pub AtomsAreThere : Type 0
+AtomsAreThere = (shapes : List Shape) (decls : List Decl) (fs : List Term) → AreFormulas shapes decls fs
+    → (f t : Term) → is_among (subterms fs) f ≡ true → is_among (atoms_in (is_truth shapes decls) f) t ≡ true → is_among (atoms shapes decls fs) t ≡ true
+
+-- each of them is an atom, so that a proof may split on it
+abbrev pub AtomsAreAtoms : Type 0
+AtomsAreAtoms = (shapes : List Shape) (decls : List Decl) (fs : List Term) → AreFormulas shapes decls fs
+    → (t : Term) → is_among (atoms shapes decls fs) t ≡ true → is_atom (is_truth shapes decls) t ≡ true
+
+-- their arguments are subterms
+abbrev pub AtomsAddNothing : Type 0
+AtomsAddNothing = (shapes : List Shape) (decls : List Decl) (fs : List Term) → AreFormulas shapes decls fs
+    → (t u : Term) → is_among (atoms shapes decls fs) t ≡ true → is_among (arguments t) u ≡ true → is_among (subterms fs) u ≡ true
 
 -- ---- which terms are the same
 

@@ -4,7 +4,15 @@ ghost use Rattle.std.specs.Prelude.{◌≡◌, false, true, Ok};
 ghost use Rattle.spv_table.specs.Values.{holds, listed_in};
 ghost use Rattle.spv_logic.specs.Formulas.{below};
 ghost use Rattle.spv_leaf_tables.specs.Examples as example;
-ghost use Rattle.spv_leaf_tables.specs.Laws.{AlikeAreSame, ClassesAreOne, ClassesDiffer, DerivationsJoin, FormulasHold, LeafHasTable, ListsSubterms, NumbersAreAtPoint, OthersAreClasses, TableFalsifies, TruthsAreComputed, TruthsAreThere};
+ghost use Rattle.spv_leaf_tables.specs.Laws.{AlikeAreSame, AtomsAddNothing, AtomsAreAtoms, AtomsAreThere, ClassesAreOne, ClassesDiffer, DerivationsJoin, FormulasHold, LeafHasTable, ListsSubterms, NumbersAreAtPoint, OthersAreClasses, TableFalsifies, TruthsAreComputed, TruthsAreThere};
+
+/// The atoms of a search: those of all formulas and of arguments of sort Bool, each of which is an
+/// atom over subterms.
+pub fn law_atoms()
+    ensures there { AtomsAreThere }
+    ensures are_atoms { AtomsAreAtoms }
+    ensures add_nothing { AtomsAddNothing }
+{}
 
 /// Terms that derivations join may be taken for the same terms.
 pub fn law_joined()
