@@ -326,9 +326,9 @@ module _ (shapes : List Shape) (decls : List Decl) (fs : List Term) (leaf : Leaf
         let rs = (right shapes decls fs leaf ok (term h ss) ms).truths e in
         let ru = (right shapes decls fs leaf ok (term h us) mu).truths f in
         let one : rs.holds ≡ ru.holds =
-            one_truth rs.holds ru.holds
-            (ok.sameness.through (truth_term rs.holds) (term h ss) (truth_term ru.holds) (ok.sameness.turned (term h ss) (truth_term rs.holds) (listed_truth h ss rs.holds ms own_s e rs.is))
-            (ok.sameness.through (term h ss) (term h us) (truth_term ru.holds) are_same (listed_truth h us ru.holds mu own_u f ru.is))) in
+        one_truth rs.holds ru.holds
+        (ok.sameness.through (truth_term rs.holds) (term h ss) (truth_term ru.holds) (ok.sameness.turned (term h ss) (truth_term rs.holds) (listed_truth h ss rs.holds ms own_s e rs.is))
+        (ok.sameness.through (term h ss) (term h us) (truth_term ru.holds) are_same (listed_truth h us ru.holds mu own_u f ru.is))) in
         truth-at shapes decls fs leaf ok (term h ss) e ∙ (ap truth_number (rs.is ∙ (ap Some one ∙ sym ru.is)) ∙ sym (truth-at shapes decls fs leaf ok (term h us) f))
 
     others_one : number (term h ss) ≡ false → truth (term h ss) ≡ false → table_number (term h ss) ≡ table_number (term h us)

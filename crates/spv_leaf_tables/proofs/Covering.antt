@@ -118,10 +118,10 @@ module _ (shapes : List Shape) (decls : List Decl) where
       let o = one_sort (sort_of s) (sort_of t) (term_sorts shapes decls ss) (term_sorts shapes decls ts) same in
       has-parts (only_if (not (term_eq s t || truth s)) (equation s t)) (argument_equations truth ss ts) e h
       (λ k. let p = only_one (not (term_eq s t || truth s)) (equation s t) e k in
-          made (list_of (terms s ss)) (list_of (terms t ts)) e s t p.1 (or_left (term_eq s s) (has (list_of ss) s) (same_term s)) (or_left (term_eq t t) (has (list_of ts) t) (same_term t))
-          (equation-atom s t o.sort o.left o.right (right_false (term_eq s t) (truth s) (not_true (term_eq s t || truth s) p.0))))
+      made (list_of (terms s ss)) (list_of (terms t ts)) e s t p.1 (or_left (term_eq s s) (has (list_of ss) s) (same_term s)) (or_left (term_eq t t) (has (list_of ts) t) (same_term t))
+      (equation-atom s t o.sort o.left o.right (right_false (term_eq s t) (truth s) (not_true (term_eq s t || truth s) p.0))))
       (λ k. let q = equations-are ss ts e o.others k in
-          record { left = q.left; right = q.right; is = q.is; left_in = or_right (term_eq q.left s) (has (list_of ss) q.left) q.left_in; right_in = or_right (term_eq q.right t) (has (list_of ts) q.right) q.right_in; atom = q.atom })
+      record { left = q.left; right = q.right; is = q.is; left_in = or_right (term_eq q.left s) (has (list_of ss) q.left) q.left_in; right_in = or_right (term_eq q.right t) (has (list_of ts) q.right) q.right_in; atom = q.atom })
 
   chosen : (b : Bool) (xs : List Term) (e : Term) → has (cond b xs []) e ≡ true → (b ≡ true) × (has xs e ≡ true)
   chosen true xs e h = (refl, h)
@@ -134,7 +134,7 @@ module _ (shapes : List Shape) (decls : List Decl) where
     own_equation h k ss ts e hs ht heads sorts number is =
         let int : sort_of (term h ss) ≡ Some sort.Int = sort_known sort.Int (sort_of (term h ss)) number in
         let other : sort_of (term k ts) ≡ Some sort.Int =
-            ap₂ (λ o g. with_sorts o (result_sort shapes decls g)) (sym sorts) (sym (head_eq-true h k heads)) ∙ int in
+        ap₂ (λ o g. with_sorts o (result_sort shapes decls g)) (sym sorts) (sym (head_eq-true h k heads)) ∙ int in
         made xs xs e (term h ss) (term k ts) is hs ht (equation-atom (term h ss) (term k ts) sort.Int int other (ap (has_sort sort.Bool) int))
 
     pair-are : (s t e : Term) → has xs s ≡ true → has xs t ≡ true → has (pair_equations shapes decls s t) e ≡ true → IsEquation xs xs e
@@ -143,16 +143,16 @@ module _ (shapes : List Shape) (decls : List Decl) where
         let sorts = left_true (same_sorts (term_sorts shapes decls ss) (term_sorts shapes decls ts)) _ (right_true (head_eq h k) _ p.0) in
         has-parts (argument_equations truth ss ts) (only_if (is_number shapes decls (term h ss)) (equation (term h ss) (term k ts))) e p.1
         (λ m. let q = equations-are ss ts e sorts m in
-            record { left = q.left; right = q.right; is = q.is; left_in = argument-in xs ss q.left (c.inside h ss hs) q.left_in; right_in = argument-in xs ts q.right (c.inside k ts ht) q.right_in; atom = q.atom })
+        record { left = q.left; right = q.right; is = q.is; left_in = argument-in xs ss q.left (c.inside h ss hs) q.left_in; right_in = argument-in xs ts q.right (c.inside k ts ht) q.right_in; atom = q.atom })
         (λ m. let q = only_one (is_number shapes decls (term h ss)) (equation (term h ss) (term k ts)) e m in
-            own_equation h k ss ts e hs ht (left_true (head_eq h k) _ p.0) (sorts_equal (term_sorts shapes decls ss) (term_sorts shapes decls ts) sorts) q.0 q.1)
+        own_equation h k ss ts e hs ht (left_true (head_eq h k) _ p.0) (sorts_equal (term_sorts shapes decls ss) (term_sorts shapes decls ts) sorts) q.0 q.1)
 
     all-are : (us : List Term) (e : Term) → ((u : Term) → has us u ≡ true → has xs u ≡ true) → has (all_equations shapes decls us) e ≡ true → IsEquation xs xs e
     all-are [] e sub h = absurd (false≢true h)
     all-are (u ∷ us) e sub h =
         has-parts (flat_map (pair_equations shapes decls u) us) (all_equations shapes decls us) e h
         (λ k. let o = flat_map-parts (pair_equations shapes decls u) us e k in
-            pair-are u o.origin e (sub u (or_left (term_eq u u) (has us u) (same_term u))) (sub o.origin (or_right (term_eq o.origin u) (has us o.origin) o.among)) o.there)
+        pair-are u o.origin e (sub u (or_left (term_eq u u) (has us u) (same_term u))) (sub o.origin (or_right (term_eq o.origin u) (has us o.origin) o.among)) o.there)
         (λ k. all-are us e (λ v m. sub v (or_right (term_eq v u) (has us v) m)) k)
 
   -- ---- the atoms

@@ -52,10 +52,10 @@ module _ (shapes : List Shape) (decls : List Decl) where
   paired (u ∷ us) s t h k =
       or_cases (term_eq s u) (has us s) h
       (λ e. or_cases (term_eq t u) (has us t) k (λ f. AreOne (term_eq-true s u e ∙ sym (term_eq-true t u f)))
-          (λ f. subst (λ (x : Term). ArePaired (all_equations shapes decls (u ∷ us)) x t) (sym (term_eq-true s u e)) (IsEarlier (first_with u t us f))))
+      (λ f. subst (λ (x : Term). ArePaired (all_equations shapes decls (u ∷ us)) x t) (sym (term_eq-true s u e)) (IsEarlier (first_with u t us f))))
       (λ e. or_cases (term_eq t u) (has us t) k
-          (λ f. subst (λ (x : Term). ArePaired (all_equations shapes decls (u ∷ us)) s x) (sym (term_eq-true t u f)) (IsLater (first_with u s us e)))
-          (λ f. behind (flat_map (pair_equations shapes decls u) us) (all_equations shapes decls us) s t (paired us s t e f)))
+      (λ f. subst (λ (x : Term). ArePaired (all_equations shapes decls (u ∷ us)) s x) (sym (term_eq-true t u f)) (IsLater (first_with u s us e)))
+      (λ f. behind (flat_map (pair_equations shapes decls u) us) (all_equations shapes decls us) s t (paired us s t e f)))
 
   -- ---- the equations of two comparable applications
 

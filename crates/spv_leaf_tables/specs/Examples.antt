@@ -1,5 +1,5 @@
--- A small condition, a leaf of a search over it, and its table: x < y gives F(x) = F(y) or D(x < y) = D(q).
-use Rattle.std.specs.Prelude.{ℕ, Bool, true, false, List, [], ◌∷◌, Option, Some, None, pos, nat_eq, if◌then◌else◌}
+-- A small condition, a leaf of a search over it, and its table: x < y, and q or y < x, give F(x) = F(y) or D(x < y) = D(not q).
+use Rattle.std.specs.Prelude.{ℕ, Bool, true, false, List, [], ◌∷◌, ◌++◌, Option, Some, None, pos, nat_eq, if◌then◌else◌}
 use Rattle.spv_whole.specs.Fraction.{Fraction, whole}
 use Rattle.spv_rational.specs.Rational as rational
 use Rattle.spv_rational.specs.Rational.{Rational}
@@ -7,12 +7,12 @@ use Rattle.spv_names.specs.declared.names.Symbol.{Symbol}
 use Rattle.spv_logic.specs.declared.types.Sort.TheVariants as sort
 use Rattle.spv_logic.specs.declared.types.Shape.{Shape}
 use Rattle.spv_logic.specs.declared.types.Decl.{Decl}
-use Rattle.spv_logic.specs.declared.operators.Head.TheVariants.{Var, App, Or}
+use Rattle.spv_logic.specs.declared.operators.Head.TheVariants.{Var, App, And, Or}
 use Rattle.spv_logic.specs.Terms.{Term, term, no_terms, terms, term_eq}
-use Rattle.spv_logic.specs.Formulas.{equation, below}
+use Rattle.spv_logic.specs.Formulas.{negation, equation, below}
 use Rattle.spv_logic.specs.Conditions.{Sequent}
 use Rattle.spv_atoms.specs.Tables.{assigned}
-use Rattle.spv_leaf_tables.specs.Atoms.{atoms}
+use Rattle.spv_leaf_tables.specs.Atoms.{atoms, questions}
 use Rattle.spv_leaf_tables.specs.Leaves.{Leaf, IsLeaf, truth_term}
 use Rattle.spv_leaf_tables.specs.Tables.{formulas_of, table}
 
@@ -45,15 +45,19 @@ abbrev pub numbers_equal : Term
 numbers_equal = equation (f_of x) (f_of y)
 
 abbrev pub lists_equal : Term
-lists_equal = equation (d_of (below x y)) (d_of q)
+lists_equal = equation (d_of (below x y)) (d_of (negation q))
+
+abbrev either : Term → Term → Term
+either s t = term Or (terms s (terms t no_terms))
 
 abbrev pub condition : Sequent
-condition = record { given = below x y ∷ []; goal = term Or (terms numbers_equal (terms lists_equal no_terms)) }
+condition = record { given = term And (terms (below x y) (terms (either q (below y x)) no_terms)) ∷ []; goal = either numbers_equal lists_equal }
 
 -- ---- the leaf
 
+-- what is true and what is false, but for the equation of F's arguments
 abbrev known : List (Term × Bool)
-known = (below x y, true) ∷ (numbers_equal, false) ∷ (q, false) ∷ (lists_equal, false) ∷ []
+known = (below x y, true) ∷ (q, true) ∷ (below y x, false) ∷ (numbers_equal, false) ∷ (lists_equal, false) ∷ (negation q, false) ∷ []
 
 -- the number of each class; every other term has one more
 abbrev pub class_in : List (Term × ℕ) → Term → ℕ
@@ -62,8 +66,8 @@ class_in (c ∷ classes) t = if term_eq c.0 t then c.1 else class_in classes t
 
 abbrev pub classes : List (Term × ℕ)
 classes =
-    (truth_term true, 0) ∷ (below x y, 0) ∷ (truth_term false, 1) ∷ (numbers_equal, 1) ∷ (q, 1) ∷ (lists_equal, 1) ∷ (equation x y, 1)
-    ∷ (x, 2) ∷ (y, 3) ∷ (f_of x, 4) ∷ (f_of y, 5) ∷ (d_of (below x y), 6) ∷ (d_of q, 7) ∷ []
+    (truth_term true, 0) ∷ (below x y, 0) ∷ (q, 0) ∷ (truth_term false, 1) ∷ (below y x, 1) ∷ (numbers_equal, 1) ∷ (lists_equal, 1) ∷ (negation q, 1) ∷ (equation x y, 1)
+    ∷ (x, 2) ∷ (y, 3) ∷ (f_of x, 4) ∷ (f_of y, 5) ∷ (d_of (below x y), 6) ∷ (d_of (negation q), 7) ∷ []
 
 abbrev point_in : List (Term × Rational) → Term → Rational
 point_in [] t = rational.whole (pos 0)
@@ -90,15 +94,22 @@ abbrev pub its_atoms : List Term
 its_atoms = atoms no_shapes decls (formulas_of condition)
 
 abbrev pub expected_atoms : List Term
-expected_atoms = below x y ∷ numbers_equal ∷ q ∷ lists_equal ∷ equation x y ∷ []
+expected_atoms = below x y ∷ q ∷ below y x ∷ numbers_equal ∷ lists_equal ∷ equation x y ∷ []
+
+abbrev pub its_questions : List Term
+its_questions = questions no_shapes decls (formulas_of condition)
+
+-- D's argument is a connective
+abbrev pub expected_questions : List Term
+expected_questions = expected_atoms ++ negation q ∷ []
 
 abbrev pub its_table : List (Term × Fraction)
 its_table = table no_shapes decls (formulas_of condition) leaf
 
--- D(x < y) and D(q) have the numbers of their places among the subterms
+-- the applications of D have the numbers of their places among the subterms
 abbrev pub expected_table : List (Term × Fraction)
 expected_table =
-    (x, whole (pos 0)) ∷ (y, whole (pos 1)) ∷ (f_of x, whole (pos 0)) ∷ (f_of y, whole (pos 1)) ∷ (d_of (below x y), whole (pos 6)) ∷ (q, whole (pos 0)) ∷ (d_of q, whole (pos 8)) ∷ []
+    (x, whole (pos 0)) ∷ (y, whole (pos 1)) ∷ (q, whole (pos 1)) ∷ (f_of x, whole (pos 0)) ∷ (f_of y, whole (pos 1)) ∷ (d_of (below x y), whole (pos 10)) ∷ (d_of (negation q), whole (pos 12)) ∷ []
 
 abbrev pub IsLeafHere : Leaf → Type 0
 IsLeafHere l = IsLeaf no_shapes decls (formulas_of condition) l

@@ -1,8 +1,7 @@
 // What is true of the table of a leaf, each law the contract of a function that does nothing.
 
-ghost use Rattle.std.specs.Prelude.{◌≡◌, false, true, Ok};
+ghost use Rattle.std.specs.Prelude.{◌≡◌, false, true, [], ◌∷◌, map, Ok};
 ghost use Rattle.spv_table.specs.Values.{holds, listed_in};
-ghost use Rattle.spv_logic.specs.Formulas.{below};
 ghost use Rattle.spv_leaf_tables.specs.Examples as example;
 ghost use Rattle.spv_leaf_tables.specs.Laws.{AlikeAreSame, AtomsAddNothing, AtomsAreAtoms, AtomsAreThere, ClassesAreOne, ClassesDiffer, DerivationsJoin, FormulasHold, LeafHasTable, ListsSubterms, NumbersAreAtPoint, OthersAreClasses, TableFalsifies, TruthsAreComputed, TruthsAreThere};
 
@@ -47,12 +46,14 @@ pub fn law_survives()
     ensures { TableFalsifies }
 {}
 
-/// A small leaf: `x < y`, which is true, is to give `F(x) = F(y)` or `D(x < y) = D(q)`.
+/// A small leaf: `x < y`, and `q` or `y < x`, are to give `F(x) = F(y)` or `D(x < y) = D(not q)`. The
+/// last two leaves lack one thing each, and are none.
 pub fn law_example()
     ensures atoms { example.its_atoms ≡ example.expected_atoms }
+    ensures questions { example.its_questions ≡ example.expected_questions }
     ensures is_leaf { example.IsLeafHere example.leaf }
     ensures table { example.its_table ≡ example.expected_table }
-    ensures hypothesis { holds (listed_in example.its_table) (below example.x example.y) ≡ Ok true }
+    ensures hypothesis { map (holds (listed_in example.its_table)) example.condition.given ≡ Ok true ∷ [] }
     ensures goal { holds (listed_in example.its_table) example.condition.goal ≡ Ok false }
     ensures each_equation_has_a_truth { example.IsLeafHere example.without_equation → ⊥ }
     ensures what_differs_has_an_order { example.IsLeafHere example.without_order → ⊥ }

@@ -4,4 +4,6 @@
 
 mod laws;
 
-pub use laws::{law_atoms, law_example, law_formulas, law_joined, law_survives, law_table, law_values};
+pub use laws::{
+    law_atoms, law_example, law_formulas, law_joined, law_survives, law_table, law_values,
+};

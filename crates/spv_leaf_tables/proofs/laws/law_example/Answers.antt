@@ -11,6 +11,9 @@ use Rattle.spv_leaf_tables.proofs.laws.law_example.Goals as goal
 pub returns-clause-atoms : goal.returns-clause-atoms
 returns-clause-atoms c = refl
 
+pub returns-clause-questions : goal.returns-clause-questions
+returns-clause-questions c = refl
+
 pub returns-clause-is_leaf : goal.returns-clause-is_leaf
 unfolding fraction.sum fraction.product fraction.lowest gcd
 returns-clause-is_leaf c =
