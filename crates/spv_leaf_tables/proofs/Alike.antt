@@ -1,5 +1,5 @@
 -- Applications of one head to arguments of equal values are the same.
-use Rattle.std.proofs.Common.{◌≡◌, Bool, true, false, cond, ◌&&◌, ◌||◌, not, List, [], ◌∷◌, ◌++◌, pos, refl, sym, ap, ◌∙◌, subst, Option, Some, None, Ok, Err}
+use Rattle.std.proofs.Common.{◌≡◌, Bool, true, false, ◌||◌, not, List, [], ◌∷◌, pos, refl, sym, ap, ◌∙◌, subst, Option, Some, None, Ok, Err}
 use mathlib.Core.Path.{ap₂}
 use Rattle.std.specs.Prelude.{is_some}
 use Rattle.std.specs.List.{flat_map}
@@ -33,12 +33,12 @@ use Rattle.spv_leaf_tables.specs.Laws.{listed_at}
 use Rattle.spv_leaf_tables.proofs.Classes.{class-one}
 use Rattle.spv_leaf_tables.proofs.TermKinds.{Kind, Own, Numeral, Total, Remains, Multiple, IsLess, IsAtMost, IsEqual, Negated, Both, Either, Implied, Truthful, Untruthful, kind}
 use Rattle.spv_leaf_tables.proofs.Truths.{settled}
-use Rattle.spv_leaf_tables.proofs.Closed.{ArgumentsIn, arguments_sorted, first_sorted, others_sorted}
+use Rattle.spv_leaf_tables.proofs.Closed.{ArgumentsIn, arguments_sorted, others_sorted}
 use Rattle.spv_leaf_tables.proofs.Owns.{own-plain, own-open}
 use Rattle.spv_leaf_tables.proofs.Lookups.{has-only_if, has-passing, has-flat_map}
 use Rattle.spv_leaf_tables.proofs.Outcomes.{true-value, same_ok}
 use Rattle.spv_leaf_tables.proofs.Pairs.{AreAmong, ArePaired, AreOne, IsEarlier, IsLater, paired, comparable, arguments_among}
-use Rattle.spv_leaf_tables.proofs.Values.{IsSome, some-is, closed, the_sort, right, class-same, numbers-apart, atom-asked, atom-there, plain-atom, number-at, truth-at, class-at, own-point}
+use Rattle.spv_leaf_tables.proofs.Values.{some-is, closed, the_sort, right, class-same, numbers-apart, atom-asked, atom-there, plain-atom, number-at, truth-at, class-at, own-point}
 
 -- ---- values that are equal
 

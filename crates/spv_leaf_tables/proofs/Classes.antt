@@ -1,12 +1,11 @@
 -- The numbers of classes.
-use Rattle.std.proofs.Common.{◌≡◌, ℕ, zero, suc, Bool, true, false, cond, List, [], ◌∷◌, refl, sym, ap, ◌∙◌, subst, arith}
+use Rattle.std.proofs.Common.{◌≡◌, ℕ, zero, suc, Bool, true, false, cond, List, [], ◌∷◌, refl, sym, ap, ◌∙◌, arith}
 use Rattle.std.proofs.lemmas.Bool.{false≢true}
-use Rattle.spv_logic.specs.declared.operators.Head.{Head}
 use Rattle.spv_logic.specs.Terms.{Term, Terms, term, no_terms, terms, term_eq}
 use Rattle.spv_logic.proofs.Equality.{term_eq-true}
 use Rattle.spv_atoms.proofs.Members.{has, or_cases}
 use Rattle.spv_list.proofs.Tests.{left_true, right_true}
-use Rattle.spv_joined.specs.Joined.{Joined, AllJoined, told, itself, turned, through, congruent, none, more}
+use Rattle.spv_joined.specs.Joined.{AllJoined, itself, turned, through, congruent, none, more}
 use Rattle.spv_leaf_tables.specs.Leaves.{IsSameness, IsDecided, all_same}
 use Rattle.spv_leaf_tables.specs.Tables.{class_of}
 

@@ -1,5 +1,5 @@
 -- Comparisons of rational numbers, as a table makes them and as relations are read.
-use Rattle.std.proofs.Common.{◌≡◌, Bool, true, false, cond, ◌&&◌, ◌||◌, not, ℤ, pos, ◌*ℤ◌, refl, sym, ap, ◌∙◌, subst, Option, Some, None}
+use Rattle.std.proofs.Common.{◌≡◌, Bool, true, false, cond, not, ℤ, pos, ◌*ℤ◌, refl, sym, ap, ◌∙◌, Option, Some}
 use mathlib.Core.Path.{ap₂}
 use Rattle.std.proofs.lemmas.Bool.{false≢true, eqb-true, eq-eqb}
 use Rattle.std.specs.Cmp.Derive.{both_true}
@@ -10,20 +10,18 @@ use Rattle.std.proofs.lemmas.Int.{ints}
 use Rattle.std.proofs.Common.{arith}
 use Rattle.spv_list.proofs.Tests.{left_true, right_true}
 use Rattle.spv_whole.specs.Fraction.{Fraction, order}
-use Rattle.spv_rational.specs.Rational.{Rational, whole, plus, opposite, is_zero, is_positive}
+use Rattle.spv_rational.specs.Rational.{Rational, whole, plus, is_positive}
 use Rattle.spv_rational.proofs.Field.{plus_comm, plus_assoc, plus_zero, zero_plus}
 use Rattle.spv_rational.proofs.Signs.{not_positive_plus}
-use Rattle.spv_logic.specs.declared.operators.Head.TheVariants.{Eq, Lt, Le}
+use Rattle.spv_logic.specs.declared.operators.Head.TheVariants.{Lt, Le}
 use Rattle.spv_logic.specs.Terms.{Term, term, no_terms, terms}
 use Rattle.spv_logic.proofs.Equality.{int_eq-true, int_eq-refl}
-use Rattle.spv_proof.specs.Sums.{Reading, difference, is_at_most_zero, reading}
+use Rattle.spv_proof.specs.Sums.{Reading, difference, is_at_most_zero}
 use Rattle.spv_tableaux.specs.Numbers.{minus}
-use Rattle.spv_tableaux.specs.Numbers as numbers
-use Rattle.spv_pivots.proofs.Algebra.{opposite_minus, minus_itself, equal_of, less_is}
-use Rattle.spv_readings.specs.declared.saying.Saying.{Saying}
+use Rattle.spv_pivots.proofs.Algebra.{opposite_minus, minus_itself, less_is}
 use Rattle.spv_readings.specs.declared.saying.Saying.TheVariants.{Below, AtMost, Above, AtLeast}
-use Rattle.spv_readings.specs.Sayings.{saying, literal, reading_of}
-use Rattle.spv_readings.specs.Values.{form_value, holds_at}
+use Rattle.spv_readings.specs.Sayings.{literal}
+use Rattle.spv_readings.specs.Values.{form_value}
 use Rattle.spv_readings.proofs.Values.{difference-value}
 use Rattle.spv_readings.proofs.Literals.{literal_read}
 use Rattle.spv_table.specs.Values.{is_same, is_less, is_at_most}

@@ -1,11 +1,11 @@
 -- What the atoms of a search are: those of all subterms, and equations of subterms.
-use Rattle.std.proofs.Common.{◌≡◌, Bool, true, false, cond, ◌&&◌, ◌||◌, not, List, [], ◌∷◌, ◌++◌, refl, sym, ap, ◌∙◌, subst, Option, Some, None}
+use Rattle.std.proofs.Common.{◌≡◌, Bool, true, false, cond, ◌&&◌, ◌||◌, not, List, [], ◌∷◌, refl, sym, ap, ◌∙◌, Option, Some, None}
 use mathlib.Core.Path.{ap₂}
 use Rattle.std.specs.Prelude.{is_some}
 use Rattle.std.specs.List.{flat_map}
 use Rattle.std.specs.Cmp.Derive.{both_true}
 use Rattle.std.proofs.lemmas.Bool.{false≢true}
-use Rattle.spv_list.proofs.Tests.{left_true, right_true, left_false, right_false}
+use Rattle.spv_list.proofs.Tests.{left_true, right_true, right_false}
 use Rattle.spv_logic.specs.declared.types.Sort.{Sort}
 use Rattle.spv_logic.specs.declared.types.Sort.TheVariants as sort
 use Rattle.spv_logic.specs.declared.types.Shape.{Shape}
@@ -14,20 +14,19 @@ use Rattle.spv_logic.specs.declared.operators.Head.{Head}
 use Rattle.spv_logic.specs.declared.operators.Head.TheVariants as head
 use Rattle.spv_logic.specs.Terms.{Term, Terms, term, no_terms, terms, term_eq, head_eq, sort_eq}
 use Rattle.spv_logic.specs.Formulas.{equation}
-use Rattle.spv_logic.specs.Sorts.{sorts_eq, takes, term_sort, term_sorts, with_sorts, sort_before, result_sort}
+use Rattle.spv_logic.specs.Sorts.{term_sort, term_sorts, with_sorts, sort_before, result_sort}
 use Rattle.spv_logic.proofs.Equality.{head_eq-true, sort_eq-true, sort_eq-refl, term_eq-true, term_eq-refl as same_term}
-use Rattle.spv_logic.proofs.Sorting.{Taken, taken}
+use Rattle.spv_logic.proofs.Sorting.{taken}
 use Rattle.spv_atoms.specs.Atoms.{has_sort, is_truth, is_number, is_atom, connects, only_if, with_term, with_terms, atoms_in, atoms_in_all}
 use Rattle.spv_atoms.specs.Order.{passing}
 use Rattle.spv_atoms.specs.Tables.{all_truths}
 use Rattle.spv_atoms.proofs.Members.{has, or_cases, or_left, or_right, has_one, has-parts, has-with_terms}
-use Rattle.spv_leaf_tables.specs.Subterms.{subterms, list_of, arguments, is_listed}
+use Rattle.spv_leaf_tables.specs.Subterms.{subterms, list_of, arguments}
 use Rattle.spv_leaf_tables.specs.Atoms.{same_sorts, argument_equations, are_comparable, equations_of, pair_equations, all_equations, atoms}
 use Rattle.spv_leaf_tables.specs.Laws.{AreFormulas}
 use Rattle.spv_leaf_tables.proofs.Closed.{ArgumentsIn, IsClosed, subterms-closed, with_term-parts}
-use Rattle.spv_leaf_tables.proofs.Lookups.{has-passing, IsPassing, passing-parts}
-use Rattle.spv_leaf_tables.proofs.TermKinds.{HasSort}
-use Rattle.spv_leaf_tables.proofs.Values.{IsSome, some-is, sort_known}
+use Rattle.spv_leaf_tables.proofs.Lookups.{has-passing, passing-parts}
+use Rattle.spv_leaf_tables.proofs.Values.{sort_known}
 
 -- ---- members of lists that are put together
 

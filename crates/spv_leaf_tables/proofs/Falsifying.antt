@@ -1,25 +1,24 @@
 -- The table of a leaf is a table, its formulas have their truth, and it falsifies the condition.
-use Rattle.std.proofs.Common.{◌≡◌, ◌⊎◌, inl, inr, ℕ, Bool, true, false, List, [], ◌∷◌, ◌++◌, map, pos, refl, sym, ap, ◌∙◌, subst, Option, Some, None, Ok, Err, Result}
+use Rattle.std.proofs.Common.{◌≡◌, ◌⊎◌, inl, inr, ℕ, Bool, true, false, List, [], ◌∷◌, map, pos, refl, sym, ap, ◌∙◌, subst, Option, Some, None, Ok, Err, Result}
 use Rattle.std.specs.Prelude.{is_some, slice_get}
-use Rattle.std.proofs.lemmas.Bool.{false≢true}
 use Rattle.std.proofs.lemmas.Option.{same_Some}
 use Rattle.spv_whole.specs.Fraction.{Fraction, whole}
 use Rattle.spv_logic.specs.declared.types.Shape.{Shape}
 use Rattle.spv_logic.specs.declared.types.Decl.{Decl}
 use Rattle.spv_logic.specs.Terms.{Term}
 use Rattle.spv_logic.specs.Conditions.{Sequent}
-use Rattle.spv_atoms.specs.Atoms.{is_truth, is_number}
+use Rattle.spv_atoms.specs.Atoms.{is_truth}
 use Rattle.spv_atoms.specs.Order.{passing}
 use Rattle.spv_atoms.proofs.Members.{has, has-left, has-last}
 use Rattle.spv_table.specs.declared.operations.WideValue.{WideValue}
-use Rattle.spv_table.specs.Values.{Outcome, truth_value, is_true, value, holding, holds, listed_in}
-use Rattle.spv_table.specs.Tables.{IsAlike, IsTable}
+use Rattle.spv_table.specs.Values.{Outcome, truth_value, is_true, value, holding, holds}
+use Rattle.spv_table.specs.Tables.{IsTable}
 use Rattle.spv_leaf_tables.specs.Subterms.{subterms, is_listed}
-use Rattle.spv_leaf_tables.specs.Leaves.{Leaf, IsLeaf, truth_at, worth_at}
+use Rattle.spv_leaf_tables.specs.Leaves.{Leaf, IsLeaf, truth_at}
 use Rattle.spv_leaf_tables.specs.Tables.{truth_number, number_at, table, formulas_of, Falsifies}
 use Rattle.spv_leaf_tables.specs.Laws.{listed_at}
 use Rattle.spv_leaf_tables.proofs.Closed.{subterms-has}
-use Rattle.spv_leaf_tables.proofs.Lookups.{IsPassing, passing-parts, beside-terms, IsBeside, beside-at}
+use Rattle.spv_leaf_tables.proofs.Lookups.{passing-parts, beside-terms, beside-at}
 use Rattle.spv_leaf_tables.proofs.Outcomes.{true-value}
 use Rattle.spv_leaf_tables.proofs.Alike.{alike-number}
 use Rattle.spv_leaf_tables.proofs.Values.{right, truth-at}

@@ -1,6 +1,5 @@
 -- What outcomes of operations are, where they are no stop.
-use Rattle.std.proofs.Common.{◌≡◌, Bool, true, false, cond, ◌&&◌, ◌||◌, not, refl, sym, ap, ◌∙◌, subst, Ok, Err}
-use Rattle.std.proofs.lemmas.Bool.{false≢true}
+use Rattle.std.proofs.Common.{◌≡◌, Bool, true, false, cond, not, refl, sym, ap, ◌∙◌, subst, Ok, Err}
 use Rattle.std.specs.declared.cmp.Ordering.{Ordering}
 use Rattle.spv_whole.specs.Fraction.{Fraction, order}
 use Rattle.spv_frac.specs.Range.{op_fits}

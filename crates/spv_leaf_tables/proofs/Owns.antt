@@ -1,13 +1,12 @@
 -- Terms whose heads have no meaning of their own: their value is the listed one, they are their own part, and no connective.
-use Rattle.std.proofs.Common.{◌≡◌, Bool, true, false, cond, ◌||◌, ◌&&◌, not, List, [], ◌∷◌, refl, sym, ap, ◌∙◌, subst, Option, Some, None, ℤ, Ok}
+use Rattle.std.proofs.Common.{◌≡◌, Bool, true, false, cond, List, [], ◌∷◌, refl, sym, ap, Option, Some, None, ℤ, Ok}
 use Rattle.std.specs.Prelude.{is_some}
 use Rattle.std.proofs.lemmas.Bool.{false≢true}
 use Rattle.spv_whole.specs.Fraction.{Fraction}
 use Rattle.spv_logic.specs.declared.operators.Head.{Head}
 use Rattle.spv_logic.specs.declared.operators.Head.TheVariants.{Num, Add, Sub, Mul, Eq, Lt, Le, Not, And, Or, Implies, True, False}
-use Rattle.spv_logic.specs.Terms.{Term, Terms, term, no_terms, terms}
 use Rattle.spv_atoms.specs.Atoms.{connects, is_fixed}
-use Rattle.spv_atoms.specs.Forms.{Form, product_form, linear_form}
+use Rattle.spv_atoms.specs.Forms.{Form, linear_form}
 use Rattle.spv_table.specs.Values.{Outcome, has_meaning_over, both, of_pair, pair_or, value_over}
 use Rattle.spv_leaf_tables.specs.Subterms.{is_one_constant, means}
 

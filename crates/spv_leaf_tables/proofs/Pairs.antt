@@ -1,6 +1,5 @@
 -- Each two terms of a list have their equations among all equations.
-use Rattle.std.proofs.Common.{◌≡◌, Bool, true, false, cond, ◌&&◌, ◌||◌, not, List, [], ◌∷◌, ◌++◌, refl, sym, ap, ◌∙◌, subst, Option, Some, None}
-use mathlib.Core.Path.{ap₂}
+use Rattle.std.proofs.Common.{◌≡◌, true, cond, ◌||◌, List, [], ◌∷◌, ◌++◌, refl, sym, ap, ◌∙◌, subst, Option, Some, None}
 use Rattle.std.specs.Prelude.{is_some}
 use Rattle.std.specs.List.{flat_map}
 use Rattle.std.specs.Cmp.Derive.{both_true}
@@ -9,12 +8,12 @@ use Rattle.spv_logic.specs.declared.types.Sort.{Sort}
 use Rattle.spv_logic.specs.declared.types.Shape.{Shape}
 use Rattle.spv_logic.specs.declared.types.Decl.{Decl}
 use Rattle.spv_logic.specs.declared.operators.Head.{Head}
-use Rattle.spv_logic.specs.Terms.{Term, Terms, term, no_terms, terms, head_eq, term_eq, sort_eq}
+use Rattle.spv_logic.specs.Terms.{Term, Terms, term, term_eq}
 use Rattle.spv_logic.specs.Formulas.{equation}
-use Rattle.spv_logic.specs.Sorts.{sorts_eq, term_sort, term_sorts}
+use Rattle.spv_logic.specs.Sorts.{sorts_eq, term_sorts}
 use Rattle.spv_logic.proofs.Equality.{head_eq-refl, sort_eq-refl, term_eq-true}
 use Rattle.spv_atoms.specs.Atoms.{is_truth, is_number, only_if}
-use Rattle.spv_atoms.proofs.Members.{has, or_cases, or_left, or_right, has-left, has-right}
+use Rattle.spv_atoms.proofs.Members.{has, or_cases, has-left, has-right}
 use Rattle.spv_leaf_tables.specs.Subterms.{is_listed}
 use Rattle.spv_leaf_tables.specs.Atoms.{same_sorts, argument_equations, are_comparable, equations_of, pair_equations, all_equations}
 use Rattle.spv_leaf_tables.proofs.Lookups.{has-flat_map}

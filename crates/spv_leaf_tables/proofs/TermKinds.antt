@@ -1,7 +1,5 @@
 -- The kinds of terms that have a sort: those that a table lists, and each head with a meaning of its own over its arguments.
-use Rattle.std.proofs.Common.{◌≡◌, Bool, true, false, cond, ◌||◌, not, List, [], ◌∷◌, refl, sym, ap, ◌∙◌, subst, Option, Some, None, ℤ}
-use Rattle.std.specs.Prelude.{is_some}
-use Rattle.std.proofs.lemmas.Bool.{false≢true}
+use Rattle.std.proofs.Common.{◌≡◌, Bool, true, false, List, [], ◌∷◌, refl, sym, ap, ◌∙◌, subst, Option, Some, None, ℤ}
 use Rattle.spv_logic.specs.declared.types.Sort.{Sort}
 use Rattle.spv_logic.specs.declared.types.Sort.TheVariants as sort
 use Rattle.spv_logic.specs.declared.types.Shape.{Shape}
@@ -10,9 +8,9 @@ use Rattle.spv_logic.specs.declared.operators.Head.{Head}
 use Rattle.spv_logic.specs.declared.operators.Head.TheVariants as head
 use Rattle.spv_logic.specs.Terms.{Term, Terms, term, no_terms, terms}
 use Rattle.spv_logic.specs.Sorts.{term_sort, term_sorts, with_sorts, sort_before, result_sort, takes, first_sort}
-use Rattle.spv_logic.proofs.Sorting.{Taken, taken}
+use Rattle.spv_logic.proofs.Sorting.{taken}
 use Rattle.spv_atoms.specs.Forms.{constant_value, constant_values}
-use Rattle.spv_leaf_tables.specs.Subterms.{is_one_constant, means, is_listed}
+use Rattle.spv_leaf_tables.specs.Subterms.{is_one_constant, means}
 
 -- ---- arguments by their sorts
 

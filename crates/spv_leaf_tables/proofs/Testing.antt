@@ -1,6 +1,5 @@
 -- What Boolean tests of a leaf show of it.
-use Rattle.std.proofs.Common.{◌≡◌, ℕ, Bool, true, false, cond, ◌&&◌, ◌||◌, not, List, [], ◌∷◌, refl, sym, ap, ◌∙◌, subst, Option, Some, None, nat_eq}
-use mathlib.Core.Path.{ap₂}
+use Rattle.std.proofs.Common.{◌≡◌, ℕ, Bool, true, false, ◌&&◌, ◌||◌, not, List, [], ◌∷◌, refl, sym, ap, ◌∙◌, Option, Some, None, nat_eq}
 use Rattle.std.specs.Prelude.{is_some}
 use Rattle.std.specs.List.{list_all}
 use Rattle.std.specs.Cmp.Derive.{both_true}
@@ -10,9 +9,8 @@ use Rattle.spv_rational.specs.Rational.{Rational}
 use Rattle.spv_rational.proofs.Field.{same}
 use Rattle.spv_logic.specs.declared.types.Shape.{Shape}
 use Rattle.spv_logic.specs.declared.types.Decl.{Decl}
-use Rattle.spv_logic.specs.declared.operators.Head.{Head}
 use Rattle.spv_logic.specs.Values.{bool_eq}
-use Rattle.spv_logic.specs.Terms.{Term, Terms, term, no_terms, terms, term_eq, head_eq}
+use Rattle.spv_logic.specs.Terms.{Term, term, term_eq, head_eq}
 use Rattle.spv_logic.specs.Formulas.{equation, below}
 use Rattle.spv_logic.proofs.Equality.{term_eq-true, head_eq-refl, bool_eq-true}
 use Rattle.spv_atoms.specs.Atoms.{is_truth, is_number}

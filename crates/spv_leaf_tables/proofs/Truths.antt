@@ -1,7 +1,6 @@
 -- What the tables of connectives give where the truth of each argument is known.
 use Rattle.std.proofs.Common.{◌≡◌, Bool, true, false, ◌&&◌, ◌||◌, not, refl, sym, ap, ◌∙◌, Option, Some, None}
 use mathlib.Core.Path.{ap₂}
-use Rattle.std.proofs.lemmas.Bool.{false≢true}
 use Rattle.spv_logic.specs.Values.{bool_eq}
 use Rattle.spv_logic.proofs.Equality.{bool_eq-true}
 use Rattle.spv_atoms.specs.Tables.{not_of, and_of, or_of, implied, same_of, or_else}

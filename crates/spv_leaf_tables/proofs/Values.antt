@@ -1,5 +1,5 @@
 -- What the table of a leaf says of each subterm.
-use Rattle.std.proofs.Common.{◌≡◌, ℕ, ℤ, Bool, true, false, cond, ◌&&◌, ◌||◌, not, List, [], ◌∷◌, ◌++◌, map, pos, refl, sym, ap, ◌∙◌, subst, Option, Some, None, Ok}
+use Rattle.std.proofs.Common.{◌≡◌, ℕ, ℤ, Bool, true, false, cond, ◌&&◌, ◌||◌, not, List, [], ◌∷◌, pos, refl, sym, ap, ◌∙◌, subst, Option, Some, None, Ok}
 use mathlib.Core.Path.{ap₂}
 use Rattle.std.specs.Prelude.{is_some}
 use Rattle.std.specs.Cmp.Derive.{both_true}
@@ -20,28 +20,27 @@ use Rattle.spv_logic.specs.Terms.{Term, Terms, term, no_terms, terms}
 use Rattle.spv_logic.specs.Formulas.{equation, below}
 use Rattle.spv_logic.specs.Sorts.{term_sort}
 use Rattle.spv_logic.proofs.Equality.{sort_eq-true}
-use Rattle.spv_atoms.specs.Atoms.{has_sort, is_truth, is_number, is_atom, connects, is_fixed, with_terms}
-use Rattle.spv_atoms.specs.Forms.{constant_value, constant_values, form_or_own, linear_form, form, forms}
+use Rattle.spv_atoms.specs.Atoms.{has_sort, is_truth, is_number, is_atom, connects, is_fixed}
+use Rattle.spv_atoms.specs.Forms.{constant_value, constant_values, form_or_own, form, forms}
 use Rattle.spv_atoms.specs.Order.{passing}
 use Rattle.spv_atoms.specs.Tables.{all_truths, or_else, computed, not_of, equation_value}
 use Rattle.spv_atoms.proofs.Members.{has, or_cases, has-with_terms}
-use Rattle.spv_proof.specs.Evaluation.{opposite, clashes}
+use Rattle.spv_proof.specs.Evaluation.{opposite}
 use Rattle.spv_tableaux.specs.Numbers.{minus}
 use Rattle.spv_readings.specs.Values.{form_value}
-use Rattle.spv_readings.specs.Sayings.{literal}
 use Rattle.spv_readings.proofs.Values.{minus-value}
-use Rattle.spv_table.specs.Values.{Outcome, truth_value, is_same, is_less, is_at_most, of_pair, both, value_over, value, values, listed_in}
+use Rattle.spv_table.specs.Values.{truth_value, is_same, is_less, is_at_most, of_pair, both, value, values}
 use Rattle.spv_leaf_tables.specs.Subterms.{means, is_listed, is_one_constant, subterms, truth_arguments}
 use Rattle.spv_leaf_tables.specs.Atoms.{atoms, questions, all_equations, is_open}
 use Rattle.spv_leaf_tables.specs.Leaves.{Leaf, IsLeaf, truth_at, worth_at, is_met}
-use Rattle.spv_leaf_tables.specs.Tables.{class_of, truth_number, number_at, table}
+use Rattle.spv_leaf_tables.specs.Tables.{class_of, truth_number, number_at}
 use Rattle.spv_leaf_tables.specs.Laws.{listed_at}
 use Rattle.spv_leaf_tables.proofs.Classes.{class-one, class-differs}
 use Rattle.spv_leaf_tables.proofs.Closed.{ArgumentsIn, IsClosed, subterms-closed}
 use Rattle.spv_leaf_tables.proofs.TermKinds.{Kind, HasSort, Own, Numeral, Total, Remains, Multiple, IsLess, IsAtMost, IsEqual, Negated, Both, Either, Implied, Truthful, Untruthful, kind}
 use Rattle.spv_leaf_tables.proofs.Worths.{own-worth, constant-worth, plus-worth, scaled-worth, whole-constant}
 use Rattle.spv_leaf_tables.proofs.Owns.{own-value, own-form, own-plain, own-open}
-use Rattle.spv_leaf_tables.proofs.Comparisons.{same-refl, same-true, less-is, at_most-is, less-met, at_most-met, positive-behind, not_positive-itself}
+use Rattle.spv_leaf_tables.proofs.Comparisons.{same-refl, same-true, less-is, at_most-is, less-met, at_most-met, not_positive-itself}
 use Rattle.spv_leaf_tables.proofs.Lookups.{has-passing, listed-beside}
 use Rattle.spv_leaf_tables.proofs.Outcomes.{IsIfOk, ok-is, with_value, both-is, operated-is, compared-is, same-values, negation-is, truths-are}
 use Rattle.spv_leaf_tables.proofs.Truths.{and-known, or-known, implied-known, same-known, settled}

@@ -1,14 +1,14 @@
 -- What forms are worth at a point: sums, differences and multiples, and constant terms.
-use Rattle.std.proofs.Common.{◌≡◌, List, [], ◌∷◌, ℤ, pos, negsuc, ◌+ℤ◌, ◌*ℤ◌, refl, sym, ap, ◌∙◌, Option, Some, None}
+use Rattle.std.proofs.Common.{◌≡◌, ℤ, pos, negsuc, ◌+ℤ◌, ◌*ℤ◌, refl, sym, ap, ◌∙◌, Option, Some, None}
 use mathlib.Core.Path.{ap₂}
-use Rattle.spv_rational.specs.Rational.{Rational, whole, plus, times, opposite}
+use Rattle.spv_rational.specs.Rational.{Rational, whole, plus, times}
 use Rattle.spv_rational.proofs.Field.{plus_zero, zero_plus, plus_middle, times_comm, times_plus, whole_plus, whole_times}
 use Rattle.spv_logic.specs.declared.operators.Head.{Head}
 use Rattle.spv_logic.specs.declared.operators.Head.TheVariants.{Num, Add, Sub, Mul}
 use Rattle.spv_logic.specs.Terms.{Term, Terms, term, no_terms, terms}
 use Rattle.spv_atoms.specs.Forms.{Form, constant_form, own_part, multiple, both_known, constant_over, constant_value, constant_values, product_form, linear_form, form_or_own, form, forms}
 use Rattle.spv_atoms.specs.Forms as forms
-use Rattle.spv_tableaux.specs.Numbers.{minus, minus_one}
+use Rattle.spv_tableaux.specs.Numbers.{minus}
 use Rattle.spv_pivots.proofs.Algebra.{one_times, minus_one_times}
 use Rattle.spv_readings.specs.Values.{parts_value, form_value}
 use Rattle.spv_readings.proofs.Values.{sum-value, multiple-value, minus-value}

@@ -1,10 +1,10 @@
 -- The atoms of a search over formulas: those among the subterms, and equations on which values of applications depend.
-use Rattle.std.specs.Prelude.{Bool, true, false, ◌&&◌, ◌||◌, not, List, [], ◌∷◌, ◌++◌, Option, Some, None, if◌then◌else◌}
+use Rattle.std.specs.Prelude.{Bool, false, ◌&&◌, ◌||◌, not, List, [], ◌∷◌, ◌++◌, Option, Some, if◌then◌else◌}
 use Rattle.std.specs.List.{flat_map}
 use Rattle.spv_logic.specs.declared.types.Sort.{Sort}
 use Rattle.spv_logic.specs.declared.types.Shape.{Shape}
 use Rattle.spv_logic.specs.declared.types.Decl.{Decl}
-use Rattle.spv_logic.specs.Terms.{Term, Terms, term, no_terms, terms, term_eq, head_eq}
+use Rattle.spv_logic.specs.Terms.{Term, Terms, term, terms, term_eq, head_eq}
 use Rattle.spv_logic.specs.Formulas.{equation}
 use Rattle.spv_logic.specs.Sorts.{sorts_eq, term_sorts}
 use Rattle.spv_atoms.specs.Atoms.{is_truth, is_number, is_atom, is_truth_value, only_if, with_terms}

@@ -1,5 +1,5 @@
 -- A small condition, a leaf of a search over it, and its table: x < y, and q or y < x, give F(x) = F(y) or D(x < y) = D(not q).
-use Rattle.std.specs.Prelude.{ℕ, Bool, true, false, List, [], ◌∷◌, ◌++◌, Option, Some, None, pos, nat_eq, if◌then◌else◌}
+use Rattle.std.specs.Prelude.{ℕ, Bool, true, false, List, [], ◌∷◌, ◌++◌, pos, nat_eq, if◌then◌else◌}
 use Rattle.spv_whole.specs.Fraction.{Fraction, whole}
 use Rattle.spv_rational.specs.Rational as rational
 use Rattle.spv_rational.specs.Rational.{Rational}

@@ -1,5 +1,5 @@
 -- The subterms of formulas, and which of them a table lists.
-use Rattle.std.specs.Prelude.{Bool, true, false, ◌||◌, not, List, [], ◌∷◌, Option, Some, None, ℤ, is_some}
+use Rattle.std.specs.Prelude.{Bool, true, false, ◌||◌, not, List, [], ◌∷◌, Option, ℤ, is_some}
 use Rattle.std.specs.List.{list_any, flat_map}
 use Rattle.spv_logic.specs.declared.operators.Head.{Head}
 use Rattle.spv_logic.specs.declared.operators.Head.TheVariants.{Num, Mul, True, False}

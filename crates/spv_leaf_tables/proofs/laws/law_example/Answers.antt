@@ -1,4 +1,4 @@
-use Rattle.std.proofs.Common.{◌≡◌, Bool, true, false, refl, sym, ◌∙◌, pos, List, ◌∷◌, []}
+use Rattle.std.proofs.Common.{refl}
 use Rattle.std.proofs.lemmas.Bool.{false≢true}
 use Rattle.spv_whole.specs.Fraction as fraction
 use Rattle.spv_whole.specs.Gcd.{gcd}
