@@ -189,10 +189,10 @@ module _ (shapes : List Shape) (decls : List Decl) where
     of_equation t u q k =
         argument-in (subterms fs) (terms q.left (terms q.right no_terms)) u (q.left_in, (q.right_in, tt)) (ap (λ v. has (arguments v) u) (sym q.is) ∙ k)
 
-    of_part : (t u : Term) → has (subterms fs) t ≡ true → has (arguments t) u ≡ true → has (subterms fs) u ≡ true
-    of_part (term h ts) u m k = argument-in (subterms fs) ts u (parts-closed.inside h ts m) k
+    pub part-arguments : (t u : Term) → has (subterms fs) t ≡ true → has (arguments t) u ≡ true → has (subterms fs) u ≡ true
+    part-arguments (term h ts) u m k = argument-in (subterms fs) ts u (parts-closed.inside h ts m) k
 
     pub atoms-over : (t u : Term) → has (atoms shapes decls fs) t ≡ true → has (arguments t) u ≡ true → has (subterms fs) u ≡ true
     atoms-over t u m k =
         with_terms-parts (passing (is_atom truth) (subterms fs)) (all_equations shapes decls (subterms fs)) t m
-        (λ l. of_part t u (passing-parts (is_atom truth) (subterms fs) t l).among k) (λ l. of_equation t u (all-are (subterms fs) parts-closed (subterms fs) t (λ v n. n) l) k)
+        (λ l. part-arguments t u (passing-parts (is_atom truth) (subterms fs) t l).among k) (λ l. of_equation t u (all-are (subterms fs) parts-closed (subterms fs) t (λ v n. n) l) k)

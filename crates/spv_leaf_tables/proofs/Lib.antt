@@ -12,4 +12,5 @@ pub mod Pairs
 pub mod Alike
 pub mod Falsifying
 pub mod Covering
+pub mod Once
 pub mod Testing

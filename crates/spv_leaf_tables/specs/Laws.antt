@@ -1,5 +1,5 @@
 -- What is true of the table of a leaf.
-use Rattle.std.specs.Prelude.{◌≡◌, Bool, true, false, List, map, Some, Ok, is_some, pos}
+use Rattle.std.specs.Prelude.{◌≡◌, ℕ, Bool, true, false, List, map, slice_get, Some, Ok, is_some, pos}
 use Rattle.spv_whole.specs.Fraction.{Fraction, whole}
 use Rattle.spv_logic.specs.declared.types.Shape.{Shape}
 use Rattle.spv_logic.specs.declared.types.Decl.{Decl}
@@ -18,11 +18,24 @@ use Rattle.spv_leaf_tables.specs.Tables.{class_of, table, formulas_of, Falsifies
 abbrev pub listed_at : List Shape → List Decl → List Term → Leaf → Term → Fraction
 listed_at shapes decls fs leaf = listed_in (table shapes decls fs leaf)
 
--- ---- atoms
-
 -- the formulas are of sort Bool
 abbrev pub AreFormulas : List Shape → List Decl → List Term → Type 0
 AreFormulas shapes decls fs = (f : Term) → is_among fs f ≡ true → is_truth shapes decls f ≡ true
+
+-- ---- subterms
+
+-- formulas are among their subterms, the arguments of each subterm are, and none is there twice
+abbrev pub FormulasAreSubterms : Type 0
+FormulasAreSubterms = (fs : List Term) (f : Term) → is_among fs f ≡ true → is_among (subterms fs) f ≡ true
+
+abbrev pub ArgumentsAreSubterms : Type 0
+ArgumentsAreSubterms = (shapes : List Shape) (decls : List Decl) (fs : List Term) → AreFormulas shapes decls fs
+    → (t u : Term) → is_among (subterms fs) t ≡ true → is_among (arguments t) u ≡ true → is_among (subterms fs) u ≡ true
+
+abbrev pub SubtermsAreOnce : Type 0
+SubtermsAreOnce = (fs : List Term) (i j : ℕ) (t : Term) → slice_get (subterms fs) i ≡ Some t → slice_get (subterms fs) j ≡ Some t → i ≡ j
+
+-- ---- atoms
 
 -- the atoms of each subterm are among the atoms: so those of each formula, and of each argument of sort Bool
 abbrev pub AtomsAreThere : Type 0

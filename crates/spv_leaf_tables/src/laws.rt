@@ -3,7 +3,14 @@
 ghost use Rattle.std.specs.Prelude.{◌≡◌, false, true, [], ◌∷◌, map, Ok};
 ghost use Rattle.spv_table.specs.Values.{holds, listed_in};
 ghost use Rattle.spv_leaf_tables.specs.Examples as example;
-ghost use Rattle.spv_leaf_tables.specs.Laws.{AlikeAreSame, AtomsAddNothing, AtomsAreAtoms, AtomsAreThere, ClassesAreOne, ClassesDiffer, DerivationsJoin, FormulasHold, LeafHasTable, ListsSubterms, NumbersAreAtPoint, OthersAreClasses, TableFalsifies, TruthsAreComputed, TruthsAreThere};
+ghost use Rattle.spv_leaf_tables.specs.Laws.{AlikeAreSame, ArgumentsAreSubterms, AtomsAddNothing, AtomsAreAtoms, AtomsAreThere, ClassesAreOne, ClassesDiffer, DerivationsJoin, FormulasAreSubterms, FormulasHold, LeafHasTable, ListsSubterms, NumbersAreAtPoint, OthersAreClasses, SubtermsAreOnce, TableFalsifies, TruthsAreComputed, TruthsAreThere};
+
+/// The subterms of formulas: these, with the arguments of each, none twice.
+pub fn law_subterms()
+    ensures formulas { FormulasAreSubterms }
+    ensures arguments { ArgumentsAreSubterms }
+    ensures once { SubtermsAreOnce }
+{}
 
 /// The atoms of a search: those of all formulas and of arguments of sort Bool, each of which is an
 /// atom over subterms.
