@@ -53,7 +53,7 @@ pub fn law_survives()
     ensures { TableFalsifies }
 {}
 
-/// A small leaf: `x < y`, and `q` or `y < x`, are to give `F(x) = F(y)` or `D(x < y) = D(not q)`. The
+/// A small leaf: `x < y`, and `q` or `y < x`, are to give `F(y) < F(x)` or `D(x < y) = D(not q)`. The
 /// last two leaves lack one thing each, and are none.
 pub fn law_example()
     ensures atoms { example.its_atoms ≡ example.expected_atoms }

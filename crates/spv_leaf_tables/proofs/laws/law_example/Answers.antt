@@ -27,11 +27,12 @@ unfolding gcd
 returns-clause-hypothesis c = refl
 
 pub returns-clause-goal : goal.returns-clause-goal
+unfolding gcd
 returns-clause-goal c = refl
 
 pub returns-clause-each_equation_has_a_truth : goal.returns-clause-each_equation_has_a_truth
-returns-clause-each_equation_has_a_truth c leaf = false≢true (leaf.full (equation example.x example.y) refl)
+returns-clause-each_equation_has_a_truth c leaf = false≢true (leaf.full example.arguments_equal refl)
 
 pub returns-clause-what_differs_has_an_order : goal.returns-clause-what_differs_has_an_order
 unfolding fraction.sum fraction.product fraction.lowest gcd
-returns-clause-what_differs_has_an_order c leaf = false≢true (leaf.point.orders (example.f_of example.x) (example.f_of example.y) refl refl refl)
+returns-clause-what_differs_has_an_order c leaf = false≢true (leaf.point.orders (example.f_of example.y) (example.f_of example.x) refl refl refl)
