@@ -5,6 +5,7 @@ pub mod Owns
 pub mod Comparisons
 pub mod Lookups
 pub mod Classes
+pub mod Labels
 pub mod Outcomes
 pub mod Truths
 pub mod Values

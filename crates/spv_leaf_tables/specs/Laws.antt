@@ -3,15 +3,19 @@ use Rattle.std.specs.Prelude.{◌≡◌, ℕ, Bool, true, false, List, map, slic
 use Rattle.spv_whole.specs.Fraction.{Fraction, whole}
 use Rattle.spv_logic.specs.declared.types.Shape.{Shape}
 use Rattle.spv_logic.specs.declared.types.Decl.{Decl}
+use Rattle.spv_logic.specs.declared.conditions.TermId.{TermId}
 use Rattle.spv_logic.specs.Terms.{Term}
 use Rattle.spv_logic.specs.Conditions.{Sequent}
+use Rattle.spv_term.specs.Arena.{Arena, IsArena, tree}
 use Rattle.spv_atoms.specs.Atoms.{is_truth, is_number, is_atom, atoms_in}
 use Rattle.spv_atoms.specs.Order.{passing}
+use Rattle.spv_joined.specs.Laws.{Listed}
 use Rattle.spv_table.specs.Values.{truth_value, value, holds, listed_in}
 use Rattle.spv_table.specs.Tables.{IsAlike, IsTable}
 use Rattle.spv_leaf_tables.specs.Subterms.{is_among, subterms, arguments, is_listed}
 use Rattle.spv_leaf_tables.specs.Atoms.{atoms}
 use Rattle.spv_leaf_tables.specs.Leaves.{Leaf, IsLeaf, IsSameness, IsDecided, truth_at, worth_at}
+use Rattle.spv_leaf_tables.specs.Labels.{label_in, same_labels, HasId, AreExact}
 use Rattle.spv_leaf_tables.specs.Tables.{class_of, table, formulas_of, Falsifies}
 
 -- what a table of a leaf says of each term
@@ -57,6 +61,16 @@ AtomsAddNothing = (shapes : List Shape) (decls : List Decl) (fs : List Term) →
 -- what derivations join is an equivalence with congruence on what was added
 abbrev pub DerivationsJoin : Type 0
 DerivationsJoin = (added : Term → Bool) (told same : Term → Term → Bool) → IsDecided added told same → (ts : List Term) → ((t : Term) → is_among ts t ≡ true → added t ≡ true) → IsSameness ts same
+
+-- labels of an arena's terms, as a congruence graph gives them, are such an equivalence on the trees of what was added
+abbrev pub LabelsJoin : Type 0
+LabelsJoin = (a : Arena) → IsArena a → (label : TermId → ℕ) (ids : List TermId) (told : TermId → TermId → Bool) → AreExact a ids (λ s t. told s t ≡ true) label
+    → (ts : List Term) → ((t : Term) → is_among ts t ≡ true → HasId a ids t) → IsSameness ts (same_labels a label ids)
+
+-- and the trees of two added terms are the same exactly where their labels are
+abbrev pub LabelsAreKept : Type 0
+LabelsAreKept = (a : Arena) → IsArena a → (label : TermId → ℕ) (ids : List TermId) (told : TermId → TermId → Bool) → AreExact a ids (λ s t. told s t ≡ true) label
+    → (t : TermId) → Listed ids t → label_in a label ids (tree a t) ≡ label t
 
 -- ---- values
 

@@ -2,7 +2,6 @@ use Rattle.std.proofs.Common.{refl}
 use Rattle.std.proofs.lemmas.Bool.{false≢true}
 use Rattle.spv_whole.specs.Fraction as fraction
 use Rattle.spv_whole.specs.Gcd.{gcd}
-use Rattle.spv_logic.specs.Formulas.{equation}
 use Rattle.spv_leaf_tables.specs.Examples as example
 use Rattle.spv_leaf_tables.specs.Tables.{formulas_of}
 use Rattle.spv_leaf_tables.proofs.Testing.{tests-show}
