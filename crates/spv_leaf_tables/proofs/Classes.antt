@@ -1,12 +1,18 @@
 -- The numbers of classes.
-use Rattle.std.proofs.Common.{◌≡◌, ℕ, zero, suc, Bool, true, false, cond, List, [], ◌∷◌, refl, sym, ap, ◌∙◌, arith}
+use Rattle.std.proofs.Common.{◌≡◌, ℕ, zero, suc, Bool, true, false, cond, List, [], ◌∷◌, refl, sym, ap, ◌∙◌, arith, Option, Some}
+use mathlib.Core.Path.{ap₂}
 use Rattle.std.proofs.lemmas.Bool.{false≢true}
 use Rattle.spv_logic.specs.Terms.{Term, Terms, term, no_terms, terms, term_eq}
+use Rattle.spv_logic.specs.declared.types.Shape.{Shape}
+use Rattle.spv_logic.specs.declared.types.Decl.{Decl}
+use Rattle.spv_logic.specs.Formulas.{equation}
+use Rattle.spv_logic.specs.Sorts.{term_sort, term_sorts, with_sorts, sort_before, result_sort}
 use Rattle.spv_logic.proofs.Equality.{term_eq-true}
 use Rattle.spv_atoms.proofs.Members.{has, or_cases}
 use Rattle.spv_list.proofs.Tests.{left_true, right_true}
-use Rattle.spv_joined.specs.Joined.{AllJoined, itself, turned, through, congruent, none, more}
-use Rattle.spv_leaf_tables.specs.Leaves.{IsSameness, IsDecided, all_same}
+use Rattle.spv_joined.specs.Joined.{Joined, AllJoined, told, itself, turned, through, congruent, none, more}
+use Rattle.spv_pivots.proofs.Algebra.{false_of}
+use Rattle.spv_leaf_tables.specs.Leaves.{IsSameness, IsDecided, IsTold, HasLiterals, all_same, truth_term}
 use Rattle.spv_leaf_tables.specs.Tables.{class_of}
 
 -- ---- what derivations join
@@ -31,6 +37,35 @@ module _ (added : Term → Bool) (told_equal : Term → Term → Bool) (same : T
     through = λ s t u h k. d.found s u (through s t u (d.derived s t h) (d.derived t u k));
     congruent = λ h ss us m n e. d.found (term h ss) (term h us) (congruent h ss us (are_added (term h ss) m) (are_added (term h us) n) (all_derived ss us e));
   }
+
+  pub literals-told : (subterms questions atoms : List Term) (given : Term → Option Bool) → HasLiterals subterms questions atoms given added told_equal → IsSameness subterms same × IsTold questions atoms given same
+  literals-told subterms questions atoms given h = (
+    decided-same subterms h.all_added,
+    record {
+      truths = λ t b m e. d.found t (truth_term b) (told t (truth_term b) (h.truths t b m e));
+      sides = sides;
+      apart = false_of (same (truth_term true) (truth_term false)) (λ e. h.apart (d.derived (truth_term true) (truth_term false) e));
+    },
+  )
+    where
+      sides : (s t : Term) (b : Bool) → has atoms (equation s t) ≡ true → given (equation s t) ≡ Some b → same s t ≡ b
+      sides s t true m e = d.found s t (told s t (h.equal s t m e))
+      sides s t false m e = false_of (same s t) (λ k. h.separate s t m e (d.derived s t k))
+
+-- ---- sorts
+
+module _ (shapes : List Shape) (decls : List Decl) (added : Term → Bool) (told_equal : Term → Term → Bool) (keeps : (s t : Term) → told_equal s t ≡ true → term_sort shapes decls s ≡ term_sort shapes decls t) where
+  mutual
+    pub sorts-kept : (s t : Term) → Joined (λ u. added u ≡ true) (λ u v. told_equal u v ≡ true) s t → term_sort shapes decls s ≡ term_sort shapes decls t
+    sorts-kept _ _ (told s t h) = keeps s t h
+    sorts-kept _ _ (itself t) = refl
+    sorts-kept _ _ (turned s t d) = sym (sorts-kept s t d)
+    sorts-kept _ _ (through s t u d e) = sorts-kept s t d ∙ sorts-kept t u e
+    sorts-kept _ _ (congruent h ss ts i j all) = ap (λ o. with_sorts o (result_sort shapes decls h)) (all_sorts-kept ss ts all)
+
+    all_sorts-kept : (ss ts : Terms) → AllJoined (λ u. added u ≡ true) (λ u v. told_equal u v ≡ true) ss ts → term_sorts shapes decls ss ≡ term_sorts shapes decls ts
+    all_sorts-kept _ _ none = refl
+    all_sorts-kept _ _ (more s t ss ts d all) = ap₂ sort_before (sorts-kept s t d) (all_sorts-kept ss ts all)
 
 -- ---- numbers of classes
 

@@ -1,20 +1,22 @@
 -- What is true of the table of a leaf.
-use Rattle.std.specs.Prelude.{◌≡◌, ℕ, Bool, true, false, List, map, slice_get, Some, Ok, is_some, pos}
+use Rattle.std.specs.Prelude.{◌≡◌, ℕ, Bool, true, false, List, map, slice_get, Option, Some, Ok, is_some, pos}
 use Rattle.spv_whole.specs.Fraction.{Fraction, whole}
 use Rattle.spv_logic.specs.declared.types.Shape.{Shape}
 use Rattle.spv_logic.specs.declared.types.Decl.{Decl}
 use Rattle.spv_logic.specs.declared.conditions.TermId.{TermId}
 use Rattle.spv_logic.specs.Terms.{Term}
+use Rattle.spv_logic.specs.Sorts.{term_sort}
 use Rattle.spv_logic.specs.Conditions.{Sequent}
 use Rattle.spv_term.specs.Arena.{Arena, IsArena, tree}
 use Rattle.spv_atoms.specs.Atoms.{is_truth, is_number, is_atom, atoms_in}
 use Rattle.spv_atoms.specs.Order.{passing}
+use Rattle.spv_joined.specs.Joined.{Joined}
 use Rattle.spv_joined.specs.Laws.{Listed}
 use Rattle.spv_table.specs.Values.{truth_value, value, holds, listed_in}
 use Rattle.spv_table.specs.Tables.{IsAlike, IsTable}
 use Rattle.spv_leaf_tables.specs.Subterms.{is_among, subterms, arguments, is_listed}
 use Rattle.spv_leaf_tables.specs.Atoms.{atoms}
-use Rattle.spv_leaf_tables.specs.Leaves.{Leaf, IsLeaf, IsSameness, IsDecided, truth_at, worth_at}
+use Rattle.spv_leaf_tables.specs.Leaves.{Leaf, IsLeaf, IsSameness, IsDecided, IsTold, HasLiterals, truth_at, worth_at}
 use Rattle.spv_leaf_tables.specs.Labels.{label_in, same_labels, HasId, AreExact}
 use Rattle.spv_leaf_tables.specs.Tables.{class_of, table, formulas_of, Falsifies}
 
@@ -61,6 +63,16 @@ AtomsAddNothing = (shapes : List Shape) (decls : List Decl) (fs : List Term) →
 -- what derivations join is an equivalence with congruence on what was added
 abbrev pub DerivationsJoin : Type 0
 DerivationsJoin = (added : Term → Bool) (told same : Term → Term → Bool) → IsDecided added told same → (ts : List Term) → ((t : Term) → is_among ts t ≡ true → added t ≡ true) → IsSameness ts same
+
+-- so where the literals were told, and nothing that they separate is joined, they join and separate as a leaf wants it
+abbrev pub LiteralsAreTold : Type 0
+LiteralsAreTold = (subterms questions atoms : List Term) (given : Term → Option Bool) (added : Term → Bool) (told same : Term → Term → Bool) → IsDecided added told same
+    → HasLiterals subterms questions atoms given added told → IsSameness subterms same × IsTold questions atoms given same
+
+-- derivations from equalities of terms of one sort keep sorts: then no two sorts share a class
+abbrev pub DerivationsKeepSorts : Type 0
+DerivationsKeepSorts = (shapes : List Shape) (decls : List Decl) (added : Term → Bool) (told : Term → Term → Bool) → ((s t : Term) → told s t ≡ true → term_sort shapes decls s ≡ term_sort shapes decls t)
+    → (s t : Term) → Joined (λ u. added u ≡ true) (λ u v. told u v ≡ true) s t → term_sort shapes decls s ≡ term_sort shapes decls t
 
 -- labels of an arena's terms, as a congruence graph gives them, are such an equivalence on the trees of what was added
 abbrev pub LabelsJoin : Type 0

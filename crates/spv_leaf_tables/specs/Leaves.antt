@@ -57,6 +57,14 @@ pub record IsTold (questions atoms : List Term) (given : Term → Option Bool) (
   pub sides : (s t : Term) (b : Bool) → is_among atoms (equation s t) ≡ true → given (equation s t) ≡ Some b → same s t ≡ b
   pub apart : same (truth_term true) (truth_term false) ≡ false
 
+-- what was told has the literals, over the subterms; nothing that they separate has a derivation, nor has TRUE with FALSE
+pub record HasLiterals (subterms questions atoms : List Term) (given : Term → Option Bool) (added : Term → Bool) (told : Term → Term → Bool) : Type 0 where
+  pub all_added : (t : Term) → is_among subterms t ≡ true → added t ≡ true
+  pub truths : (t : Term) (b : Bool) → is_among questions t ≡ true → given t ≡ Some b → told t (truth_term b) ≡ true
+  pub equal : (s t : Term) → is_among atoms (equation s t) ≡ true → given (equation s t) ≡ Some true → told s t ≡ true
+  pub separate : (s t : Term) → is_among atoms (equation s t) ≡ true → given (equation s t) ≡ Some false → Joined (λ u. added u ≡ true) (λ u v. told u v ≡ true) s t → ⊥
+  pub apart : Joined (λ u. added u ≡ true) (λ u v. told u v ≡ true) (truth_term true) (truth_term false) → ⊥
+
 -- ---- numbers
 
 -- what a term of sort Int is worth at a point

@@ -3,7 +3,7 @@
 ghost use Rattle.std.specs.Prelude.{◌≡◌, false, true, [], ◌∷◌, map, Ok};
 ghost use Rattle.spv_table.specs.Values.{holds, listed_in};
 ghost use Rattle.spv_leaf_tables.specs.Examples as example;
-ghost use Rattle.spv_leaf_tables.specs.Laws.{AlikeAreSame, ArgumentsAreSubterms, AtomsAddNothing, AtomsAreAtoms, AtomsAreThere, ClassesAreOne, ClassesDiffer, DerivationsJoin, FormulasAreSubterms, FormulasHold, LabelsAreKept, LabelsJoin, LeafHasTable, ListsSubterms, NumbersAreAtPoint, OthersAreClasses, SubtermsAreOnce, TableFalsifies, TruthsAreComputed, TruthsAreThere};
+ghost use Rattle.spv_leaf_tables.specs.Laws.{AlikeAreSame, ArgumentsAreSubterms, AtomsAddNothing, AtomsAreAtoms, AtomsAreThere, ClassesAreOne, ClassesDiffer, DerivationsJoin, DerivationsKeepSorts, FormulasAreSubterms, FormulasHold, LabelsAreKept, LabelsJoin, LeafHasTable, ListsSubterms, LiteralsAreTold, NumbersAreAtPoint, OthersAreClasses, SubtermsAreOnce, TableFalsifies, TruthsAreComputed, TruthsAreThere};
 
 /// The subterms of formulas: these, with the arguments of each, none twice.
 pub fn law_subterms()
@@ -20,10 +20,13 @@ pub fn law_atoms()
     ensures add_nothing { AtomsAddNothing }
 {}
 
-/// Terms that derivations join may be taken for the same terms; and so may the trees of equal labels
-/// of an arena's terms, where these are equal exactly if there is a derivation.
+/// Terms that derivations join may be taken for the same terms, and no two sorts are joined; so, where
+/// the literals were told, they join and separate as a leaf wants it. The trees of equal labels of an
+/// arena's terms may be taken so too, where these are equal exactly if there is a derivation.
 pub fn law_joined()
     ensures trees { DerivationsJoin }
+    ensures literals { LiteralsAreTold }
+    ensures sorts { DerivationsKeepSorts }
     ensures labels { LabelsJoin }
     ensures kept { LabelsAreKept }
 {}
