@@ -6,6 +6,7 @@ pub mod Comparisons
 pub mod Lookups
 pub mod Classes
 pub mod Labels
+pub mod Points
 pub mod Outcomes
 pub mod Truths
 pub mod Values

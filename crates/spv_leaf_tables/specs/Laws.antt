@@ -4,19 +4,30 @@ use Rattle.spv_whole.specs.Fraction.{Fraction, whole}
 use Rattle.spv_logic.specs.declared.types.Shape.{Shape}
 use Rattle.spv_logic.specs.declared.types.Decl.{Decl}
 use Rattle.spv_logic.specs.declared.conditions.TermId.{TermId}
-use Rattle.spv_logic.specs.Terms.{Term}
+use Rattle.spv_logic.specs.declared.operators.Head.{Head}
+use Rattle.spv_logic.specs.Terms.{Term, term, no_terms, terms}
+use Rattle.spv_logic.specs.Formulas.{below}
 use Rattle.spv_logic.specs.Sorts.{term_sort}
 use Rattle.spv_logic.specs.Conditions.{Sequent}
 use Rattle.spv_term.specs.Arena.{Arena, IsArena, tree}
 use Rattle.spv_atoms.specs.Atoms.{is_truth, is_number, is_atom, atoms_in}
 use Rattle.spv_atoms.specs.Order.{passing}
+use Rattle.spv_atoms.specs.Linear.{IdForm}
+use Rattle.spv_tableaux.specs.Rows.{Point, IsSolution}
+use Rattle.spv_tableaux.specs.Bounds.{Bound, bound_on, limits, Meets}
+use Rattle.spv_tableaux.specs.Forms.{rows_of}
+use Rattle.spv_readings.specs.declared.saying.Saying.{Saying}
+use Rattle.spv_readings.specs.declared.saying.Saying.TheVariants.{Above}
+use Rattle.spv_readings.specs.Sayings.{saying, literal, bounds_of}
+use Rattle.spv_readings.specs.Relations.{IsRowOf, AreIn}
+use Rattle.spv_readings.specs.Values.{part_value}
 use Rattle.spv_joined.specs.Joined.{Joined}
 use Rattle.spv_joined.specs.Laws.{Listed}
 use Rattle.spv_table.specs.Values.{truth_value, value, holds, listed_in}
 use Rattle.spv_table.specs.Tables.{IsAlike, IsTable}
 use Rattle.spv_leaf_tables.specs.Subterms.{is_among, subterms, arguments, is_listed}
 use Rattle.spv_leaf_tables.specs.Atoms.{atoms}
-use Rattle.spv_leaf_tables.specs.Leaves.{Leaf, IsLeaf, IsSameness, IsDecided, IsTold, HasLiterals, truth_at, worth_at}
+use Rattle.spv_leaf_tables.specs.Leaves.{Leaf, IsLeaf, IsSameness, IsDecided, IsTold, HasLiterals, truth_at, worth_at, is_met}
 use Rattle.spv_leaf_tables.specs.Labels.{label_in, same_labels, HasId, AreExact}
 use Rattle.spv_leaf_tables.specs.Tables.{class_of, table, formulas_of, Falsifies}
 
@@ -83,6 +94,25 @@ LabelsJoin = (a : Arena) → IsArena a → (label : TermId → ℕ) (ids : List 
 abbrev pub LabelsAreKept : Type 0
 LabelsAreKept = (a : Arena) → IsArena a → (label : TermId → ℕ) (ids : List TermId) (told : TermId → TermId → Bool) → AreExact a ids (λ s t. told s t ≡ true) label
     → (t : TermId) → Listed ids t → label_in a label ids (tree a t) ≡ label t
+
+-- ---- points
+
+-- each bound that a saying is on a row stands, as the one on its side
+abbrev pub Stands : List Bound → ℕ → IdForm → Saying → Type 0
+Stands bounds i f x = (j : ℕ) (b : Bound) → slice_get (bounds_of i f.constant x) j ≡ Some b → bound_on bounds i b.side ≡ Some b.value
+
+-- a point that meets all bounds makes a literal true, as it is read, whose bounds stand on the row of its sides
+abbrev pub LiteralIsMet : Type 0
+LiteralIsMet = (a : Arena) → IsArena a → (forms : List IdForm) → AreIn a forms → (bounds : List Bound) (v : Point) → IsSolution (rows_of forms) v → Meets (limits (rows_of forms) bounds) v
+    → (i : ℕ) (f : IdForm) → slice_get forms i ≡ Some f → (s t : Term) → IsRowOf a (s, t) f
+    → (is_number : Term → Bool) (h : Head) (b : Bool) (x : Saying) → is_number s ≡ true → is_number t ≡ true → saying h b ≡ Some x → Stands bounds i f x
+    → is_met is_number (part_value a forms v) (literal b (term h (terms s (terms t no_terms)))) ≡ true
+
+-- the same of the second order of an equation, whose row has its sides the other way
+abbrev pub AboveIsMet : Type 0
+AboveIsMet = (a : Arena) → IsArena a → (forms : List IdForm) → AreIn a forms → (bounds : List Bound) (v : Point) → IsSolution (rows_of forms) v → Meets (limits (rows_of forms) bounds) v
+    → (i : ℕ) (f : IdForm) → slice_get forms i ≡ Some f → (s t : Term) → IsRowOf a (s, t) f
+    → (is_number : Term → Bool) → is_number s ≡ true → is_number t ≡ true → Stands bounds i f Above → is_met is_number (part_value a forms v) (below t s) ≡ true
 
 -- ---- values
 

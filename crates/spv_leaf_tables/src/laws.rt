@@ -3,7 +3,7 @@
 ghost use Rattle.std.specs.Prelude.{◌≡◌, false, true, [], ◌∷◌, map, Ok};
 ghost use Rattle.spv_table.specs.Values.{holds, listed_in};
 ghost use Rattle.spv_leaf_tables.specs.Examples as example;
-ghost use Rattle.spv_leaf_tables.specs.Laws.{AlikeAreSame, ArgumentsAreSubterms, AtomsAddNothing, AtomsAreAtoms, AtomsAreThere, ClassesAreOne, ClassesDiffer, DerivationsJoin, DerivationsKeepSorts, FormulasAreSubterms, FormulasHold, LabelsAreKept, LabelsJoin, LeafHasTable, ListsSubterms, LiteralsAreTold, NumbersAreAtPoint, OthersAreClasses, SubtermsAreOnce, TableFalsifies, TruthsAreComputed, TruthsAreThere};
+ghost use Rattle.spv_leaf_tables.specs.Laws.{AboveIsMet, AlikeAreSame, ArgumentsAreSubterms, AtomsAddNothing, AtomsAreAtoms, AtomsAreThere, ClassesAreOne, ClassesDiffer, DerivationsJoin, DerivationsKeepSorts, FormulasAreSubterms, FormulasHold, LabelsAreKept, LabelsJoin, LeafHasTable, ListsSubterms, LiteralIsMet, LiteralsAreTold, NumbersAreAtPoint, OthersAreClasses, SubtermsAreOnce, TableFalsifies, TruthsAreComputed, TruthsAreThere};
 
 /// The subterms of formulas: these, with the arguments of each, none twice.
 pub fn law_subterms()
@@ -29,6 +29,12 @@ pub fn law_joined()
     ensures sorts { DerivationsKeepSorts }
     ensures labels { LabelsJoin }
     ensures kept { LabelsAreKept }
+{}
+
+/// A point that meets all bounds of rows is one at which the literals are true whose bounds stand.
+pub fn law_point()
+    ensures literals { LiteralIsMet }
+    ensures above { AboveIsMet }
 {}
 
 /// What a term is worth in the table: a whole number its value at the point, a formula its truth,

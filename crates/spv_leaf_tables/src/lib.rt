@@ -5,6 +5,6 @@
 mod laws;
 
 pub use laws::{
-    law_atoms, law_example, law_formulas, law_joined, law_subterms, law_survives, law_table,
-    law_values,
+    law_atoms, law_example, law_formulas, law_joined, law_point, law_subterms, law_survives,
+    law_table, law_values,
 };
