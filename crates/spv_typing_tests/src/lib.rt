@@ -1,7 +1,5 @@
-//! Tests of typed and framed programs, and of typed formula texts.
+//! Tests of typed and framed programs.
 #![tactic(auto)]
 
-#[cfg(test)]
-mod formulas;
 #[cfg(test)]
 mod texts;
