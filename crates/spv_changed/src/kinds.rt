@@ -19,8 +19,8 @@ fn sort_of_form(form: &TypeForm, t: TypeId) -> Sort
     }
 }
 
-// The sort of a type's values.
-pub(crate) fn sort_of(forms: &[TypeForm], t: TypeId) -> Sort
+/// The sort of the values of a type.
+pub fn sort_of(forms: &[TypeForm], t: TypeId) -> Sort
     ensures { result ≡ sort_of forms.now t }
 {
     match forms.get(t.0 as usize) {

@@ -8,4 +8,5 @@ mod roots;
 mod sets;
 
 pub use changing::changed;
+pub use kinds::sort_of;
 pub use roots::{AllRoots, Root, RootHead, all_roots};
