@@ -52,20 +52,20 @@ module _ (w : Term → Rational) where
           ∙ (plus_assoc (times (whole p.1) (w p.0)) (times (whole n) (w t)) (parts_value w parts) ∙ plus_swap (times (whole p.1) (w p.0)) (times (whole n) (w t)) (parts_value w parts))
       by_case false e later = ap (plus (times (whole p.1) (w p.0))) later ∙ plus_swap (times (whole p.1) (w p.0)) (times (whole n) (w t)) (parts_value w parts)
 
-  sum-value : (others parts : List (Term × ℤ)) → parts_value w (with_parts ◌+ℤ◌ (λ n. n) others parts) ≡ plus (parts_value w parts) (parts_value w others)
+  pub sum-value : (others parts : List (Term × ℤ)) → parts_value w (with_parts ◌+ℤ◌ (λ n. n) others parts) ≡ plus (parts_value w parts) (parts_value w others)
   sum-value [] parts = sym (plus_zero (parts_value w parts))
   sum-value (p ∷ others) parts =
       sum-value others (with_part ◌+ℤ◌ p.0 p.1 parts)
       ∙ (ap (λ x. plus x (parts_value w others)) (part-value p.0 p.1 parts)
       ∙ (plus_assoc (times (whole p.1) (w p.0)) (parts_value w parts) (parts_value w others) ∙ plus_swap (times (whole p.1) (w p.0)) (parts_value w parts) (parts_value w others)))
 
-  multiple-value : (z : ℤ) (parts : List (Term × ℤ)) → parts_value w (map (λ (p : Term × ℤ). (p.0, z *ℤ p.1)) parts) ≡ times (whole z) (parts_value w parts)
+  pub multiple-value : (z : ℤ) (parts : List (Term × ℤ)) → parts_value w (map (λ (p : Term × ℤ). (p.0, z *ℤ p.1)) parts) ≡ times (whole z) (parts_value w parts)
   multiple-value z [] = sym (times_zero (whole z))
   multiple-value z (p ∷ parts) =
       ap₂ plus (ap (λ x. times x (w p.0)) (sym (whole_times z p.1)) ∙ times_assoc (whole z) (whole p.1) (w p.0)) (multiple-value z parts)
       ∙ sym (times_plus (whole z) (times (whole p.1) (w p.0)) (parts_value w parts))
 
-  minus-value : (f g : Form) → form_value w (forms.minus f g) ≡ minus (form_value w f) (form_value w g)
+  pub minus-value : (f g : Form) → form_value w (forms.minus f g) ≡ minus (form_value w f) (form_value w g)
   minus-value f g =
       ap₂ plus
       (sum-value (multiple (negsuc 0) g).parts f.parts ∙ ap (plus (parts_value w f.parts)) (multiple-value (negsuc 0) g.parts))

@@ -1,5 +1,7 @@
-//! Tests of typed and framed programs.
+//! Tests of typed and framed programs, and of typed formula texts.
 #![tactic(auto)]
 
+#[cfg(test)]
+mod formulas;
 #[cfg(test)]
 mod texts;

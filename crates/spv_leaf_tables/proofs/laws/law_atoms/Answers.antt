@@ -1,0 +1,11 @@
+use Rattle.spv_leaf_tables.proofs.Covering.{atoms-there, atoms-are, atoms-over}
+use Rattle.spv_leaf_tables.proofs.laws.law_atoms.Goals as goal
+
+pub returns-clause-there : goal.returns-clause-there
+returns-clause-there c = atoms-there
+
+pub returns-clause-are_atoms : goal.returns-clause-are_atoms
+returns-clause-are_atoms c = atoms-are
+
+pub returns-clause-add_nothing : goal.returns-clause-add_nothing
+returns-clause-add_nothing c = atoms-over

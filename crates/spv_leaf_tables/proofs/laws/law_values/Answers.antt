@@ -1,0 +1,22 @@
+use Rattle.spv_leaf_tables.proofs.Classes.{class-one, class-differs}
+use Rattle.spv_leaf_tables.proofs.Falsifying.{truth-there, truth-value}
+use Rattle.spv_leaf_tables.proofs.Values.{right}
+use Rattle.spv_leaf_tables.proofs.laws.law_values.Goals as goal
+
+pub returns-clause-numbers : goal.returns-clause-numbers
+returns-clause-numbers c shapes decls fs leaf ok t x m h e = ((right shapes decls fs leaf ok t m).numbers h).is x e
+
+pub returns-clause-truths_there : goal.returns-clause-truths_there
+returns-clause-truths_there c = truth-there
+
+pub returns-clause-truths : goal.returns-clause-truths
+returns-clause-truths c = truth-value
+
+pub returns-clause-others : goal.returns-clause-others
+returns-clause-others c shapes decls fs leaf ok t m h k = (right shapes decls fs leaf ok t m).others h k
+
+pub returns-clause-classes_differ : goal.returns-clause-classes_differ
+returns-clause-classes_differ c same ts ok s t h e = class-differs same ts ok ts s t h e
+
+pub returns-clause-classes_are_one : goal.returns-clause-classes_are_one
+returns-clause-classes_are_one c same ts ok s t h = class-one same ts ok ts s t h

@@ -1,0 +1,4 @@
+pub mod Closing
+pub mod Comments
+pub mod Following
+pub mod Decimals

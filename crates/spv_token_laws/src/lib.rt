@@ -1,0 +1,6 @@
+//! What a reader expects of the tokens of a text.
+#![tactic(auto)]
+
+mod laws;
+
+pub use laws::{law_comment, law_decimal, law_followed};
