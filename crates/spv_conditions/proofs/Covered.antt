@@ -48,7 +48,7 @@ module _ (p : Program) (empty : p.routines ≡ []) where
     plain-control (Sequence a b) h = ap (λ x. x && is_plain b) (plain-control a (left_true _ _ h)) ∙ ap (λ x. is_control a && x) (plain-control b (right_true (statement_ok p None a) _ h))
     plain-control (If line e a b) h =
         let parts = right_true (is_sort sort.Bool (expression_sort p None e)) _ h in
-        in_front _ _ _ (calls_none sort.Bool e (left_true _ _ h)) 
+        in_front _ _ _ (calls_none sort.Bool e (left_true _ _ h))
         (ap (λ x. x && is_plain b) (plain-control a (left_true _ _ parts)) ∙ ap (λ x. is_control a && x) (plain-control b (right_true (statement_ok p None a) _ parts)))
     plain-control (Case line e arms) h =
         let parts = right_true (is_sort sort.Int (expression_sort p None e)) _ h in

@@ -5,4 +5,4 @@ mod covering;
 mod opening;
 
 pub use covering::is_covered;
-pub use opening::MOST_TERMS;
+pub use opening::{MOST_TERMS, empty_arena};

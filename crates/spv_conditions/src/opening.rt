@@ -80,9 +80,9 @@ fn symbols_of(alloc: Global, symbols: &[Decl]) -> Result<Vec<Decl>, AllocError>
     Ok(made)
 }
 
-// An arena for the terms of a program, in which none stands yet.
+/// An arena for the terms of a program, in which none stands yet; it may have `MOST_TERMS` of them.
 #[tactic(auto, using(crate::proofs::Symbols::symbols_may_stand, crate::proofs::Symbols::symbols_are_there))]
-pub(crate) fn empty_arena(alloc: Global, program: &Program) -> Result<Terms, AllocError>
+pub fn empty_arena(alloc: Global, program: &Program) -> Result<Terms, AllocError>
     requires { IsTrue (declarations_ok program.now) }
     ensures { IfOk result (λ terms. terms ≡ empty_arena program.now) }
 {
