@@ -8,8 +8,8 @@ use Rattle.spv_program.specs.Statements.{Statement, Arms, Empty, Assign, Perform
 use Rattle.spv_program.specs.Programs.{Routine, Program}
 use Rattle.spv_program.specs.FormulaTypes.{is_sort, same_sort, annotation_ok}
 use Rattle.spv_program.specs.Scopes.{name_type, body_scope}
-use Rattle.spv_program.specs.ExpressionTypes.{expression_sort, sort_of_type, designator_type, may_write}
-use Rattle.spv_program.specs.Typing.{statement_ok, arms_ok, counting_ok, may_count, declarations_ok, routine_ok, main_ok, well_typed, labels_in}
+use Rattle.spv_program.specs.ExpressionTypes.{expression_sort, sort_of_type, may_write}
+use Rattle.spv_program.specs.Typing.{statement_ok, arms_ok, counting_ok, may_count, declarations_ok, routine_ok, well_typed, labels_in}
 use Rattle.std.specs.Ordering.{int_eq}
 use Rattle.std.specs.List.{list_all}
 use Rattle.spv_program.specs.Lists.{all_differ}

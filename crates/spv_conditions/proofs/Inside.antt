@@ -1,5 +1,5 @@
 -- What the code's statements and places are made of.
-use Rattle.std.proofs.Common.{◌≡◌, ◌<◌, ◌≤◌, ◌+◌, ℕ, zero, suc, Bool, true, false, List, [], ◌∷◌, length, map, get_or, refl, arith}
+use Rattle.std.proofs.Common.{◌≡◌, ◌<◌, ℕ, zero, suc, false, List, [], ◌∷◌, length, map, get_or, refl, arith}
 use Rattle.spv_names.specs.declared.names.Symbol.{Symbol}
 use Rattle.spv_program.specs.Expressions.{designator}
 use Rattle.spv_program.specs.Statements.{Statement}

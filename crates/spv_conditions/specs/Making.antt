@@ -1,5 +1,5 @@
 -- What is made for the conditions of a main block, in order, and the limit that may be met.
-use Rattle.std.specs.Prelude.{◌≡◌, ℕ, List, [], ◌∷◌, None}
+use Rattle.std.specs.Prelude.{ℕ, List, [], ◌∷◌, None}
 use Rattle.spv_logic.specs.declared.conditions.Kind.TheVariants as kind
 use Rattle.spv_term.specs.Arena.{Arena}
 use Rattle.spv_program.specs.Programs.{Program, shapes}
