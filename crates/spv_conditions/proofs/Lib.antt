@@ -1,0 +1,4 @@
+pub mod Inside
+pub mod Calls
+pub mod Covered
+pub mod Symbols
