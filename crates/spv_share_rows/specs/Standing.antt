@@ -70,3 +70,15 @@ pub record IsBack (old new : Standing) : Type 0 where
   pub forms : new.tableau.forms ≡ old.tableau.forms
   pub bounds : new.tableau.bounds ≡ old.tableau.bounds
   pub first : (a : Arena) (read : ℕ → Option Reading) (n : ℕ) → n ≤ length old.tableau.bounds → Sourced a read old (take n old.tableau.bounds) → Sourced a read new (take n old.tableau.bounds)
+
+-- ---- what stands on a row
+
+-- a bound stands on a side of a row, if it is one
+abbrev pub StandsOn : Standing → ℕ → Side → Option Fraction → Type 0
+StandsOn b row side None = Unit {0}
+StandsOn b row side (Some v) = bound_on b.tableau.bounds row side ≡ Some (number v)
+
+-- each bound that a saying is on a row stands there
+pub record Stands (b : Standing) (row : ℕ) (x : Saying) : Type 0 where
+  pub each : (f : IdForm) → slice_get b.tableau.forms row ≡ Some f → (j : ℕ) (bound : Bound) → slice_get (bounds_of row f.constant x) j ≡ Some bound
+      → bound_on b.tableau.bounds row bound.side ≡ Some bound.value

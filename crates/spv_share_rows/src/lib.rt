@@ -3,6 +3,7 @@
 
 mod ending;
 mod forcing;
+mod reading;
 mod standing;
 
 pub use forcing::Tried;

@@ -130,7 +130,7 @@ impl Standing {
     }
 
     // The constant of a row's form.
-    fn constant(&self, row: u32) -> i128
+    pub(crate) fn constant(&self, row: u32) -> i128
         requires standing { IsStanding self.now }
         requires row { row < length self.now.tableau.forms }
         ensures form { (f : IdForm) → slice_get self.now.tableau.forms row ≡ Some f → result ≡ f.constant }

@@ -2,14 +2,15 @@
 
 ghost use Rattle.std.specs.Prelude.{◌≡◌, ◌<◌, ◌≤◌, ◌^◌, List, ◌⊎◌, length, map, Some, IfOk, IfErr, IsTrue, ◌↔◌, false};
 ghost use Rattle.std.specs.List.{list_any};
+ghost use Rattle.std.specs.Option.{option_map};
 ghost use Rattle.spv_rational.specs.Rational.{number};
 ghost use Rattle.spv_atoms.specs.Order.{same_id};
 ghost use Rattle.spv_tableaux.specs.Bounds.{Bound, bound_on, other_side};
 ghost use Rattle.spv_tableaux.specs.Operations.{fits};
-ghost use Rattle.spv_tableaux.specs.Rows.{columns};
+ghost use Rattle.spv_tableaux.specs.Rows.{column_of, columns};
 ghost use Rattle.spv_tableaux.specs.Forms.{rows_of, part_ids};
 ghost use Rattle.spv_simplex.specs.declared.checked.Checked.TheVariants as checked;
-ghost use Rattle.spv_simplex.specs.State.{IsTableau, IsOpened, LeavesValue, compared, IsUncomparable, MayAssert, with_bound, with_first, value_of};
+ghost use Rattle.spv_simplex.specs.State.{IsTableau, IsOpened, LeavesValue, compared, IsUncomparable, MayAssert, kept_point, rows_in, with_bound, with_first, value_of};
 ghost use Rattle.spv_simplex.specs.State as spec;
 ghost use Rattle.spv_simplex.specs.Checks.{IsChecked, HoldsAsserted};
 ghost use Rattle.spv_steps.specs.Trail.{bound_of};
@@ -200,6 +201,27 @@ impl Tableau {
             Number::of(bound),
             self.trail.bound(place, other(side)),
         )
+    }
+
+    /// The bound that stands on a side of a row.
+    pub fn bound(&self, row: u32, side: Side) -> Option<Frac>
+        requires { row < length self.now.forms }
+        ensures { option_map number result ≡ bound_on self.now.bounds row side }
+    {
+        match self.trail.bound(row as usize, side) {
+            Some(value) => Some(value.frac()),
+            None => None,
+        }
+    }
+
+    /// The value of a row at the kept point.
+    pub fn row_value(&self, row: u32) -> Frac
+        requires { row < length self.now.forms }
+        ensures { number result ≡ kept_point self.now (column_of (rows_in self.now) row) }
+    {
+        let place = self.parts.len() + row as usize;
+        let values = self.values.as_slice();
+        values[place].frac()
     }
 
     /// Asserts a bound on a side of a row that has none there.

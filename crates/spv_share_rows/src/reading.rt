@@ -1,0 +1,84 @@
+//! What stands on a row.
+
+ghost use Rattle.std.specs.Prelude.{◌≡◌, ◌<◌, ◌≤◌, [], length, Some, IfOk, IsTrue};
+ghost use Rattle.spv_simplex.specs.State.{with_first};
+ghost use Rattle.spv_tableaux.specs.Bounds.{bound_on};
+ghost use Rattle.spv_atom_rows.specs.Rows.{HaveRoom};
+ghost use Rattle.spv_rational.specs.Rational.{number};
+ghost use Rattle.spv_share_rows.specs.Standing.{IsStanding, Stands, StandsOn};
+
+use crate::standing::Standing;
+use spv_atoms::Linear;
+use spv_bounds::{RowSources, bounds_of, law_sides};
+use spv_frac::Frac;
+use spv_readings::Saying;
+use spv_simplex::{Mark, Side, Tableau, can_open};
+use std::alloc::{AllocError, Global};
+
+impl Standing {
+    /// The rows of these forms, without bounds. A check makes at most so many pivots. Rows with more than 4294967295 columns are
+    /// want of memory.
+    pub fn open(alloc: Global, forms: Vec<Linear>, pivots: u64) -> Result<Standing, AllocError>
+        requires pivots { pivots ≤ 1000000 }
+        requires room { HaveRoom forms.items }
+        ensures standing { IfOk result (λ b. IsStanding b) }
+        ensures forms { IfOk result (λ b. b.tableau.forms ≡ forms.items) }
+        ensures bounds { IfOk result (λ b. b.tableau.bounds ≡ []) }
+    {
+        let count = forms.as_slice().len();
+        if !can_open(alloc, forms.as_slice())? {
+            return Err(AllocError);
+        }
+        let tableau = Tableau::open(alloc, forms.as_slice(), count.saturating_mul(2), pivots)?;
+        let sources = vec![in alloc; RowSources::none(); count]?;
+        Ok(Standing {
+            tableau,
+            forms,
+            sources,
+        })
+    }
+
+    /// Takes back the bounds that came after so many. It takes no memory.
+    pub fn keep(&mut self, mark: Mark)
+        requires standing { IsStanding self.old }
+        requires mark { mark ≤ length self.old.tableau.bounds }
+        ensures standing { IsStanding self.new }
+        ensures tableau { self.new.tableau ≡ with_first self.old.tableau mark }
+        ensures sources { self.new.sources ≡ self.old.sources }
+    {
+        self.tableau.undo(mark);
+    }
+
+    // Whether this bound stands on a side of a row.
+    fn has(&self, row: u32, side: Side, bound: Frac) -> bool
+        requires { row < length self.now.tableau.forms }
+        ensures { IsTrue result → bound_on self.now.tableau.bounds row side ≡ Some (number bound) }
+    {
+        match self.tableau.bound(row, side) {
+            Some(other) => other.num == bound.num && other.den == bound.den,
+            None => false,
+        }
+    }
+
+    // The same for a bound that may be none.
+    fn has_if(&self, row: u32, side: Side, bound: Option<Frac>) -> bool
+        requires { row < length self.now.tableau.forms }
+        ensures { IsTrue result → StandsOn self.now row side bound }
+    {
+        match bound {
+            Some(value) => self.has(row, side, value),
+            None => true,
+        }
+    }
+
+    /// Whether the bounds that this is of the sides of a row stand there.
+    pub fn stands(&self, row: u32, saying: Saying) -> bool
+        requires standing { IsStanding self.now }
+        requires row { row < length self.now.tableau.forms }
+        ensures { IsTrue result → Stands self.now row saying }
+    {
+        law_sides();
+        let bounds = bounds_of(self.constant(row), saying);
+        self.has_if(row, Side::Lower, bounds.lower) && self.has_if(row, Side::Upper, bounds.upper)
+    }
+}
