@@ -135,3 +135,13 @@ module _ (a : Arena) (b : Both) (h : IsSound a b) where
       equality_head : (q : Head) → is_equality q ≡ true → q ≡ Eq
       equality_head Eq e = refl
       equality_head q e = absurd (cc)
+
+  -- a claim is about a row that is there
+  pub claimed_row : (t : TermId) (p : Part) (c : Claim) → claim (find b.relations.items t) p ≡ Some c → c.row < length b.standing.tableau.forms
+  claimed_row t p c e = by_found (find b.relations.items t) refl e
+    where
+      by_found : (o : Option Related) → find b.relations.items t ≡ o → claim o p ≡ Some c → c.row < length b.standing.tableau.forms
+      by_found None f e = absurd (cc)
+      by_found (Some r) f e =
+          let among = find_there b.relations.items t r f in
+          subst (λ (n : ℕ). n < length b.standing.tableau.forms) (sym (claim_is r p c e).row) (row_within a b.trail.graph.nodes b.relations.items b.standing.tableau.forms h.related among.place r among.there)

@@ -132,3 +132,12 @@ abbrev pub IsSought : Both → Both → ℕ → Sought → Type 0
 IsSought old new count Apart = IsStill old new × AreApart new count
 IsSought old new count Joined = Unit {0}
 IsSought old new count Stopped = IsStopped new.standing
+
+-- the last check found that the kept point meets all bounds that stand
+pub record IsAtPoint (b : Standing) : Type 0 where
+  pub met : IsFeasible b.tableau
+  pub answered : b.tableau.answer ≡ Some Feasible
+
+-- each claim is about a row that is there
+pub record ClaimsAreIn (b : Both) : Type 0 where
+  pub each : (place : ℕ) (c : Claim) → slice_get b.claims.items place ≡ Some (Some c) → c.row < length b.standing.tableau.forms

@@ -1,9 +1,14 @@
 // What a check of the tableau comes to, and whether all stands that has to.
 
-ghost use Rattle.std.specs.Prelude.{◌≡◌, ◌<◌, length, IfOk, IfSome, IfNone, IsTrue};
-ghost use Rattle.spv_share_rows.specs.Standing.{IsBack};
-ghost use Rattle.spv_share.specs.Both.{IsSound};
-ghost use Rattle.spv_share.specs.States.{AreAtPoint, ClaimsStand, GoesOn, IsOutcome, IsStill, JoinedStand};
+ghost use Rattle.std.specs.Prelude.{◌≡◌, ◌<◌, length, true, Some, slice_get, IfOk, IfSome, IfNone, IsTrue};
+ghost use Rattle.spv_readings.specs.declared.saying.Saying.TheVariants.{Equal};
+ghost use Rattle.spv_simplex.specs.declared.checked.Checked.TheVariants as checked;
+ghost use Rattle.spv_simplex.specs.Checks.{IsInfeasible};
+ghost use Rattle.spv_share_rows.specs.Standing.{IsStanding, Stands};
+ghost use Rattle.spv_share.specs.declared.relations.Related.{Related};
+ghost use Rattle.spv_share.specs.Both.{IsBoth, IsSound};
+ghost use Rattle.spv_share.specs.States as spec;
+ghost use Rattle.spv_share.specs.States.{ClaimsAreIn, ClaimsStand, GoesOn, IsAtPoint, IsOutcome, IsStill, JoinedStand};
 
 use crate::both::Both;
 use crate::relations::Claim;
@@ -43,7 +48,11 @@ impl Both {
     }
 
     // Checks the bounds that stand: `None` where a point meets them.
-    pub(crate) fn check(&mut self, alloc: Global, terms: &Terms) -> Result<Option<Outcome>, AllocError>
+    pub(crate) fn check(
+        &mut self,
+        alloc: Global,
+        terms: &Terms,
+    ) -> Result<Option<Outcome>, AllocError>
         requires sound { IsSound terms.now self.old }
         ensures goes { GoesOn terms.now self.old self.new }
         ensures still { IsStill self.old self.new }
@@ -88,7 +97,7 @@ impl Both {
     fn has_joined(&self, terms: &Terms, place: usize) -> bool
         requires sound { IsSound terms.now self.now }
         requires place { place < length self.now.relations.items }
-        ensures { IsTrue result → (r : Related) → slice_get self.now.relations.items place ≡ Some r → is_joined self.now r ≡ true → Stands self.now.standing place Equal }
+        ensures { IsTrue result → (r : Related) → slice_get self.now.relations.items place ≡ Some r → spec.is_joined self.now r ≡ true → Stands self.now.standing place Equal }
     {
         let _ = terms;
         let related = self.relations[place];

@@ -49,10 +49,7 @@ impl Both {
         ensures found { IfOk result (λ s. IsFound self.old self.new related s) }
     {
         law_supposed();
-        match self
-            .standing
-            .try_saying(alloc, related.row, Saying::Below)?
-        {
+        match self.standing.try_saying(alloc, related.row, Saying::Below)? {
             Tried::Met => Ok(Sought::Apart),
             Tried::Stopped => Ok(Sought::Stopped),
             Tried::Taken => Err(AllocError),
@@ -77,10 +74,7 @@ impl Both {
         ensures found { IfOk result (λ s. IsFound self.old self.new related s) }
     {
         law_supposed();
-        match self
-            .standing
-            .try_saying(alloc, related.row, Saying::Above)?
-        {
+        match self.standing.try_saying(alloc, related.row, Saying::Above)? {
             Tried::Met => Ok(Sought::Apart),
             Tried::Stopped => Ok(Sought::Stopped),
             Tried::Taken => Err(AllocError),

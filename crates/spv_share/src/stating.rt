@@ -1,5 +1,10 @@
 // Both sides tell each other equalities until nothing is new.
 
+ghost use Rattle.std.specs.Prelude.{◌≡◌, length, IfOk, IfSome};
+ghost use Rattle.spv_share_graph.specs.Holding.{HasNoClash};
+ghost use Rattle.spv_share.specs.Both.{IsBoth, KeepsLevels, told};
+ghost use Rattle.spv_share.specs.States.{AreApart, GoesOn, IsAnswer, IsOutcome};
+
 use crate::both::Both;
 use crate::ending::Outcome;
 use crate::searching::Sought;
@@ -31,6 +36,7 @@ impl Both {
         if let Some(outcome) = self.check(alloc, terms)? {
             return Ok(Some(outcome));
         }
+        self.standing.tableau.law_tableau();
         if self.is_settled(terms) {
             Ok(Some(Outcome::Open))
         } else {
@@ -93,7 +99,13 @@ impl Both {
     }
 
     // The answer of an outcome.
-    fn answer(&self, alloc: Global, terms: &Terms, outcome: Outcome, facts: u32) -> Result<Shared, AllocError>
+    fn answer(
+        &self,
+        alloc: Global,
+        terms: &Terms,
+        outcome: Outcome,
+        facts: u32,
+    ) -> Result<Shared, AllocError>
         requires both { IsBoth terms.now self.now }
         requires outcome { IsOutcome terms.now self.now outcome }
         ensures { IfOk result (λ s. IsAnswer terms.now self.now facts s) }
@@ -114,12 +126,7 @@ impl Both {
     /// facts of the numbers that were told are the literals, the steps end in a contradiction; their own facts are numbered from
     /// `facts` + 1. `Limit`: a check of the tableau was stopped, and its evidence stands. Where a step's number would be too large
     /// the answer is want of memory.
-    pub fn state(
-        &mut self,
-        alloc: Global,
-        terms: &Terms,
-        facts: u32,
-    ) -> Result<Shared, AllocError>
+    pub fn state(&mut self, alloc: Global, terms: &Terms, facts: u32) -> Result<Shared, AllocError>
         requires both { IsBoth terms.now self.old }
         ensures both { IsBoth terms.now self.new }
         ensures levels { KeepsLevels terms.now self.old self.new }

@@ -28,8 +28,7 @@ impl Both {
         ensures claims { self.new.claims ≡ self.old.claims }
     {
         let _ = terms;
-        self.standing
-            .assert_saying(claim.row, claim.saying, fact);
+        self.standing.assert_saying(claim.row, claim.saying, fact);
     }
 
     // The same for a literal that may be one of no row.

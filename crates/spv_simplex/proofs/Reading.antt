@@ -11,7 +11,8 @@ use Rattle.spv_rational.proofs.Field.{same, number_is}
 use Rattle.spv_atoms.specs.Order.{same_id}
 use Rattle.spv_atoms.proofs.Places.{place_there}
 use Rattle.spv_tableaux.specs.Numbers.{nothing}
-use Rattle.spv_simplex.specs.State.{State, IsKept, rows_in, value_from, value_of}
+use Rattle.spv_tableaux.specs.Rows.{column_of}
+use Rattle.spv_simplex.specs.State.{State, IsKept, kept_point, rows_in, value_from, value_of}
 use Rattle.spv_steps.specs.Trail.{Trail}
 
 pub is_there : (t : TermId) (ids : List TermId) (o : Option ℕ) → list_any (same_id t) ids ≡ true → o ≡ position (same_id t) ids → IsSome o
@@ -31,3 +32,15 @@ value_is s ids trail met capacity k t o place at e r f read is =
     ap number is ∙ same (number r.fraction) r (number_is r.fraction r.is_lowest) ∙ read
     ∙ get_or_default s.values place r nothing (has_value s ids trail met capacity k t o place at e)
     ∙ ap (value_from s) (sym e ∙ at ∙ ap (position (same_id t)) k.ids_are)
+
+-- the value of a row's column
+pub row_value_is : (s : State) (ids : List TermId) (trail : Trail) (met capacity : ℕ) → IsKept s ids trail met capacity → (row count : ℕ) → row < length s.forms → count ≡ length ids
+    → (r : Rational) (f : Fraction) → r ≡ slice_index_or s.values (count + row) r → f ≡ r.fraction → number f ≡ kept_point s (column_of (rows_in s) row)
+row_value_is s ids trail met capacity k row count below many r f read is =
+    let parts : count ≡ (rows_in s).parts = many ∙ ap (λ i. length i) k.ids_are in
+    ap number is ∙ same (number r.fraction) r (number_is r.fraction r.is_lowest) ∙ read
+    ∙ get_or_default s.values (count + row) r nothing (inside count row (length s.values) (length s.forms) below parts k.tableau.count)
+    ∙ ap (λ p. slice_index_or s.values (p + row) nothing) parts
+  where
+    inside : (p i n m : ℕ) → i < m → p ≡ (rows_in s).parts → n ≡ (rows_in s).parts + m → p + i < n
+    inside p i n m h e f = omega (arith, e, f)
