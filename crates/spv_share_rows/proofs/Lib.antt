@@ -1,2 +1,4 @@
 pub mod Adding
 pub mod Trying
+pub mod OnRows
+pub mod Firsts

@@ -1,5 +1,5 @@
 -- Bounds that stand, and the facts that they come from.
-use Rattle.std.specs.Prelude.{◌≡◌, ℕ, ◌<◌, ◌≤◌, List, ◌++◌, take, length, Option, Some, None, slice_get}
+use Rattle.std.specs.Prelude.{◌≡◌, false, ℕ, ◌<◌, ◌≤◌, List, ◌++◌, take, length, Option, Some, None, slice_get}
 use Rattle.spv_whole.specs.Fraction.{Fraction}
 use Rattle.spv_rational.specs.Rational.{Rational, number}
 use Rattle.spv_logic.specs.Terms.{Term}
@@ -7,7 +7,9 @@ use Rattle.spv_term.specs.Arena.{Arena}
 use Rattle.spv_atoms.specs.Linear.{IdForm}
 use Rattle.spv_proof.specs.Sums.{Reading}
 use Rattle.spv_tableaux.specs.declared.side.Side.{Side}
-use Rattle.spv_tableaux.specs.Bounds.{Bound, bound_on}
+use Rattle.spv_tableaux.specs.Rows.{column_of}
+use Rattle.spv_tableaux.specs.Bounds.{Bound, bound_on, breaks}
+use Rattle.spv_simplex.specs.State.{kept_point, rows_in}
 use Rattle.spv_course.specs.declared.entries.Entry.{Entry}
 use Rattle.spv_course.specs.Course.{facts}
 use Rattle.spv_course.specs.Derived.{is_number}
@@ -82,3 +84,13 @@ StandsOn b row side (Some v) = bound_on b.tableau.bounds row side ≡ Some (numb
 pub record Stands (b : Standing) (row : ℕ) (x : Saying) : Type 0 where
   pub each : (f : IdForm) → slice_get b.tableau.forms row ≡ Some f → (j : ℕ) (bound : Bound) → slice_get (bounds_of row f.constant x) j ≡ Some bound
       → bound_on b.tableau.bounds row bound.side ≡ Some bound.value
+
+-- a value is on the right side of a bound, if it is one
+abbrev pub KeepsWithin : Side → Option Fraction → Rational → Type 0
+KeepsWithin side None value = Unit {0}
+KeepsWithin side (Some v) value = breaks side (number v) value ≡ false
+
+-- the kept point meets each bound that a saying is on a row
+pub record IsMet (b : Standing) (row : ℕ) (x : Saying) : Type 0 where
+  pub each : (f : IdForm) → slice_get b.tableau.forms row ≡ Some f → (j : ℕ) (bound : Bound) → slice_get (bounds_of row f.constant x) j ≡ Some bound
+      → breaks bound.side bound.value (kept_point b.tableau (column_of (rows_in b.tableau) row)) ≡ false

@@ -1,6 +1,7 @@
 //! Whether a row may say more than it does.
 
 ghost use Rattle.std.specs.Prelude.{◌≡◌, ◌<◌, ◌⊎◌, length, Some, IfOk, IsTrue};
+ghost use Rattle.spv_simplex.specs.Checks.{IsFeasible};
 ghost use Rattle.spv_share_rows.specs.Standing.{IsBack, IsStanding};
 ghost use Rattle.spv_share_rows.specs.Forcing.{IsOutcome, IsStopped, IsTried};
 
@@ -52,7 +53,8 @@ impl Standing {
         }
     }
 
-    /// Tries whether the bounds that stand leave room for a row of whose sides this is said. The bounds stand as before.
+    /// Tries whether the bounds that stand leave room for a row of whose sides this is said. The bounds stand as before; the kept point
+    /// meets them where the answer is `Met`.
     pub fn try_saying(
         &mut self,
         alloc: Global,
@@ -64,6 +66,7 @@ impl Standing {
         ensures standing { IsStanding self.new }
         ensures back { IsBack self.old self.new }
         ensures tried { IfOk result (λ t. IsTried self.old row saying t) }
+        ensures met { IfOk result (λ t. t ≡ Tried.Met → IsFeasible self.new.tableau) }
         ensures stopped { IfOk result (λ t. t ≡ Tried.Stopped → IsStopped self.new) }
     {
         law_refuted();

@@ -1,16 +1,18 @@
 //! What stands on a row.
 
-ghost use Rattle.std.specs.Prelude.{◌≡◌, ◌<◌, ◌≤◌, [], length, Some, IfOk, IsTrue};
+ghost use Rattle.std.specs.Prelude.{◌≡◌, ◌<◌, ◌≤◌, [], length, Some, false, IfOk, IsTrue};
 ghost use Rattle.spv_simplex.specs.State.{with_first};
-ghost use Rattle.spv_tableaux.specs.Bounds.{bound_on};
+ghost use Rattle.spv_tableaux.specs.Numbers.{is_less};
+ghost use Rattle.spv_tableaux.specs.Bounds.{bound_on, breaks};
 ghost use Rattle.spv_atom_rows.specs.Rows.{HaveRoom};
 ghost use Rattle.spv_rational.specs.Rational.{number};
-ghost use Rattle.spv_share_rows.specs.Standing.{IsStanding, Stands, StandsOn};
+ghost use Rattle.spv_share_rows.specs.Standing.{IsMet, IsStanding, KeepsWithin, Stands, StandsOn};
 
 use crate::standing::Standing;
 use spv_atoms::Linear;
 use spv_bounds::{RowSources, bounds_of, law_sides};
 use spv_frac::Frac;
+use spv_number::Number;
 use spv_readings::Saying;
 use spv_simplex::{Mark, Side, Tableau, can_open};
 use std::alloc::{AllocError, Global};
@@ -80,5 +82,47 @@ impl Standing {
         law_sides();
         let bounds = bounds_of(self.constant(row), saying);
         self.has_if(row, Side::Lower, bounds.lower) && self.has_if(row, Side::Upper, bounds.upper)
+    }
+
+    /// Whether the kept point meets the bounds that this is of the sides of a row. It is false too where a comparison does not fit.
+    pub fn is_met(&self, row: u32, saying: Saying) -> bool
+        requires standing { IsStanding self.now }
+        requires row { row < length self.now.tableau.forms }
+        ensures { IsTrue result → IsMet self.now row saying }
+    {
+        law_sides();
+        let bounds = bounds_of(self.constant(row), saying);
+        let value = Number::of(self.tableau.row_value(row));
+        is_within(Side::Lower, bounds.lower, value) && is_within(Side::Upper, bounds.upper, value)
+    }
+}
+
+// Whether one number is not less than another one; false where they cannot be compared.
+fn is_not_less(left: Number, right: Number) -> bool
+    ensures { IsTrue result → is_less left right ≡ false }
+{
+    match left.is_less(right) {
+        Ok(less) => !less,
+        Err(_) => false,
+    }
+}
+
+// Whether a value is on the right side of a bound.
+fn keeps(side: Side, bound: Number, value: Number) -> bool
+    ensures { IsTrue result → breaks side bound value ≡ false }
+{
+    match side {
+        Side::Lower => is_not_less(value, bound),
+        Side::Upper => is_not_less(bound, value),
+    }
+}
+
+// The same for a bound that may be none.
+fn is_within(side: Side, bound: Option<Frac>, value: Number) -> bool
+    ensures { IsTrue result → KeepsWithin side bound value }
+{
+    match bound {
+        Some(bound) => keeps(side, Number::of(bound), value),
+        None => true,
     }
 }
