@@ -6,3 +6,5 @@ pub mod Points
 pub mod Seeking
 pub mod Gathering
 pub mod Settling
+pub mod Giving
+pub mod Claiming

@@ -12,6 +12,7 @@ use Rattle.spv_logic.specs.Formulas.{equation}
 use Rattle.spv_logic.specs.Terms.{Term, term, no_terms, terms}
 use Rattle.spv_term.specs.declared.nodes.Node.{Node}
 use Rattle.spv_term.specs.Arena.{Arena, tree}
+use Rattle.spv_congruence.specs.Graph.{id}
 use Rattle.spv_atoms.specs.Linear.{IdForm}
 use Rattle.spv_tableaux.specs.declared.side.Side.{Side}
 use Rattle.spv_tableaux.specs.Bounds.{Bound, bound_on}
@@ -55,7 +56,7 @@ row_at a (q ∷ rels) (g ∷ forms) h (suc i) r f at form = row_at a rels forms 
 module _ (a : Arena) (nodes : List (Option Node)) (rels : List Related) (forms : List IdForm) (h : AreRelated a nodes rels forms) where
   -- as many rows as relations
   pub count_is : length rels ≡ length forms
-  count_is = sym (length-map (sides_in a) rels) ∙ rows_count a (map (sides_in a) rels) forms h.rows
+  count_is = sym (length-map rels (sides_in a)) ∙ rows_count a (map (sides_in a) rels) forms h.rows
 
   pub row_inside : (i : ℕ) (r : Related) → slice_get rels i ≡ Some r → i < length forms
   row_inside i r at = subst (λ (n : ℕ). i < n) count_is (slice_get_within rels i r at)
@@ -79,14 +80,17 @@ find_there (q ∷ rels) t r e = by_case (find_there rels t r) (nat_eq q.atom.0 t
     by_case rest true f e = record {
       place = 0;
       there = e;
-      is = subst (λ (x : Related). x.atom ≡ t) (same_Some q r e) (let same : q.atom.0 ≡ t.0 = eq_is q.atom.0 t.0 f in ap (λ n. record TermId { 0 = n }) same);
+      is = subst (λ (x : Related). x.atom ≡ t) (same_Some q r e) (let same : q.atom.0 ≡ t.0 = eq_is q.atom.0 t.0 f in ap id same);
     }
     by_case rest false f e = let found = rest e in record { place = suc found.place; there = found.there; is = found.is }
 
 -- a claim is what is told of the relation
-record IsClaimOf (r : Related) (p : Part) (c : Claim) : Type 0 where
-  row : c.row ≡ r.row
-  saying : told.told r.head p ≡ Some c.saying
+abbrev claim_as : ℕ → Saying → Claim
+claim_as row x = record { row = row; saying = x }
+
+pub record IsClaimOf (r : Related) (p : Part) (c : Claim) : Type 0 where
+  pub row : c.row ≡ r.row
+  pub saying : told.told r.head p ≡ Some c.saying
 
 claim_is : (r : Related) (p : Part) (c : Claim) → claim (Some r) p ≡ Some c → IsClaimOf r p c
 claim_is r p c e = by_case (told.told r.head p) refl e
@@ -94,7 +98,7 @@ claim_is r p c e = by_case (told.told r.head p) refl e
     by_case : (o : Option Saying) → told.told r.head p ≡ o → said r.row o ≡ Some c → IsClaimOf r p c
     by_case None f e = absurd (cc)
     by_case (Some x) f e =
-        let same : record Claim { row = r.row; saying = x } ≡ c = same_Some _ c e in
+        let same : claim_as r.row x ≡ c = same_Some (claim_as r.row x) c e in
         record { row = ap (λ (k : Claim). k.row) (sym same); saying = f ∙ ap (λ (k : Claim). Some k.saying) same }
 
 module _ (a : Arena) (b : Both) (h : IsSound a b) where

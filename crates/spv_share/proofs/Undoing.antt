@@ -1,5 +1,5 @@
 -- Going back to a level.
-use Rattle.std.proofs.Common.{◌≡◌, ℕ, zero, suc, ◌<◌, ◌≤◌, List, [], ◌∷◌, ◌++◌, map, take, drop, length, refl, sym, ap, ◌∙◌, subst, Option, Some, None, arith}
+use Rattle.std.proofs.Common.{◌≡◌, ℕ, zero, suc, ◌<◌, ◌≤◌, List, [], ◌∷◌, ◌++◌, map, take, drop, length, refl, sym, ap, ◌∙◌, subst, Option, Some, None, Vec, Global, arith}
 use Rattle.std.specs.Prelude.{slice_get}
 use Rattle.std.proofs.lemmas.List.{length-take-le, take-append-drop, take-append-le, take-map, length-map, append-nil}
 use Rattle.std.proofs.lemmas.Option.{slice_get_within}
@@ -98,6 +98,27 @@ pub record GoesBack (old new : Both) (l : Level) : Type 0 where
   pub one : new.one ≡ old.one
   pub zero_same : new.zero ≡ old.zero
 
+abbrev VecOf : Type 0 → Type 0
+VecOf A = Vec A Global
+
+pub went_back : (old : Both) (l : Level) (tr : Trail) (st : Standing) (cs : VecOf (Option Claim)) → tr.course ≡ take l.trail.entries old.trail.course → Undone old.trail.graph l.trail.facts tr.graph
+    → tr.facts.items ≡ take l.trail.facts old.trail.facts.items → tr.truth ≡ old.trail.truth → tr.falsity ≡ old.trail.falsity → IsStanding st → st.tableau ≡ with_first old.standing.tableau l.bounds
+    → st.sources ≡ old.standing.sources → cs.items ≡ take l.claims old.claims.items → GoesBack old (record old { trail = tr; standing = st; claims = cs }) l
+went_back old l tr st cs course graph facts truth falsity stands tableau sources claims = record {
+  course = course;
+  graph = graph;
+  facts = facts;
+  truth = truth;
+  falsity = falsity;
+  stands = stands;
+  tableau = tableau;
+  sources = ap (λ v. v.items) sources;
+  claims = claims;
+  relations = refl;
+  one = refl;
+  zero_same = refl;
+}
+
 module _ (a : Arena) (old new : Both) (l : Level) (g : GoesBack old new l) where
   forms_same : new.standing.tableau.forms ≡ old.standing.tableau.forms
   forms_same = ap (λ (s : State). s.forms) g.tableau
@@ -147,7 +168,7 @@ module _ (a : Arena) (old new : Both) (l : Level) (g : GoesBack old new l) where
   -- so many literals were told
   count_is : IsLevel a old l → length (literals (take l.trail.entries old.trail.course)) ≡ l.claims
   count_is k =
-      sym (length-map (claim_of old.relations.items) (literals (take l.trail.entries old.trail.course))) ∙ (ap (λ (cs : List (Option Claim)). length cs) (sym k.claims) ∙ length-take-le l.claims old.claims.items k.claims_in)
+      sym (length-map (literals (take l.trail.entries old.trail.course)) (claim_of old.relations.items)) ∙ (ap (λ (cs : List (Option Claim)). length cs) (sym k.claims) ∙ length-take-le l.claims old.claims.items k.claims_in)
 
   pub back_told : IsLevel a old l → told new ≡ take l.claims (told old)
   back_told k =
@@ -221,7 +242,7 @@ level_now a b l h entries facts mark bounds claims = record {
     facts_are = facts ∙ ap (λ (xs : List Fact). length xs) h.sound.trail.kept
 
 pub claims_count : (a : Arena) (b : Both) → IsBoth a b → length b.claims.items ≡ length (told b)
-claims_count a b h = ap (λ (cs : List (Option Claim)). length cs) h.claims ∙ length-map (claim_of b.relations.items) (told b)
+claims_count a b h = ap (λ (cs : List (Option Claim)). length cs) h.claims ∙ length-map (told b) (claim_of b.relations.items)
 
 pub last_level : (a : Arena) (b : Both) (l m : Level) → l.trail.entries ≡ length b.trail.course → l.trail.facts ≡ length b.trail.graph.told
     → l.bounds ≡ length b.standing.tableau.bounds → l.claims ≡ length b.claims.items → IsLevel a b m → IsNoLater m l

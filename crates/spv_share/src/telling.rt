@@ -16,6 +16,15 @@ use spv_row_reasons::law_told;
 use spv_term::{TermId, Terms};
 use std::alloc::AllocError;
 
+// One claim more. For want of memory the claims are as they were.
+fn push_claim(claims: &mut Vec<Option<Claim>>, claim: Option<Claim>) -> Result<(), AllocError>
+    ensures ok { OnOk result (claims.new.items ≡ claims.old.items ++ claim ∷ []) }
+    ensures err { OnErr result (claims.new.items ≡ claims.old.items) }
+{
+    claims.push(claim)?;
+    Ok(())
+}
+
 impl Both {
     // The bounds that a fact is on a row, as far as they may be asserted.
     pub(crate) fn assert_claim(&mut self, terms: &Terms, claim: Claim, fact: u32)
@@ -68,8 +77,7 @@ impl Both {
         let number = self.trail.tell(terms, atom, part, why)?;
         let claim = claim_of(self.relations.as_slice(), atom, part);
         self.assert_literal(terms, claim, number);
-        self.claims.push(claim)?;
-        Ok(())
+        push_claim(&mut self.claims, claim)
     }
 
     /// Tells a literal to both sides. The graph joins its term with TRUE or with FALSE, and joins or separates the sides of an

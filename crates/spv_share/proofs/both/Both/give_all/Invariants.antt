@@ -1,6 +1,6 @@
 use Rattle.std.proofs.Common.{◌≡◌}
 use Rattle.spv_share.specs.States.{GoesOn}
-use Rattle.spv_share.proofs.exchange.Both.give_all.Given as goal
+use Rattle.spv_share.proofs.both.Both.give_all.Given as goal
 
 abbrev pub invariant-loop-place : goal.invariant-loop-place
 invariant-loop-place l = record {

@@ -1,5 +1,5 @@
 use Rattle.spv_share.specs.States.{GoesOn, IsSought}
-use Rattle.spv_share.proofs.searching.Both.seek.Given as goal
+use Rattle.spv_share.proofs.both.Both.seek.Given as goal
 
 abbrev pub invariant-loop-place : goal.invariant-loop-place
 invariant-loop-place l = record {
