@@ -1,5 +1,5 @@
 -- Relations among atoms, one more at a time.
-use Rattle.std.proofs.Common.{◌≡◌, ℕ, zero, suc, ◌<◌, ◌≤◌, Bool, true, false, cond, ◌&&◌, List, [], ◌∷◌, ◌++◌, map, length, refl, sym, ap, ◌∙◌, subst, Option, Some, None, arith, inl, inr}
+use Rattle.std.proofs.Common.{◌≡◌, ℕ, zero, suc, ◌<◌, ◌≤◌, Bool, true, false, cond, ◌&&◌, List, [], ◌∷◌, ◌++◌, map, length, refl, sym, ap, ◌∙◌, subst, Option, Some, None, MatchOption, arith, inl, inr}
 use Rattle.std.specs.Prelude.{slice_get}
 use Rattle.std.proofs.lemmas.Bool.{cases_lt}
 use Rattle.std.proofs.lemmas.List.{append-nil, length_push, map-append}
@@ -14,6 +14,7 @@ use Rattle.spv_term.proofs.ArenaLemmas.{tree-node}
 use Rattle.spv_term.proofs.ListLemmas.{slice_get-append_left, slice_get_push}
 use Rattle.spv_congruence.specs.Keep.{IsNode}
 use Rattle.spv_proof.specs.Sums.{pair}
+use Rattle.spv_bounds.specs.Pairs.{IsPair}
 use Rattle.spv_course.specs.declared.entries.Entry.{Entry}
 use Rattle.spv_sums.specs.Readings.{number_in}
 use Rattle.spv_readings.specs.Relations.{if_numbers, in_front, number_sides, relations}
@@ -143,6 +144,12 @@ gathered_relation a ok old first second new ts t l r old_rels new_rels inside h 
       sides = sides;
     }
 
+abbrev ids : List TermId → List TermId
+ids ts = ts
+
+abbrev rels_of : List Related → List Related
+rels_of rs = rs
+
 pub gathered_none : (a : Arena) (tr : Trail) → Holds a tr → tr.course ≡ [] → IsGathered a tr [] []
 gathered_none a tr h course = record {
   holds = h;
@@ -152,14 +159,12 @@ gathered_none a tr h course = record {
   among = refl;
 }
   where
-    abbrev ids : List TermId → List TermId
-    ids ts = ts
-
-    abbrev rels : List Related → List Related
-    rels rs = rs
-
     nothing : (i : ℕ) (t : TermId) → slice_get (ids []) i ≡ Some t → ⊥
     nothing i t at = cc
 
-    no_relation : (i : ℕ) (r : Related) → slice_get (rels []) i ≡ Some r → ⊥
+    no_relation : (i : ℕ) (r : Related) → slice_get (rels_of []) i ≡ Some r → ⊥
     no_relation i r at = cc
+
+pub pair_here : (a : Arena) (sides : Option (Term × Term)) (o : Option (TermId × TermId)) (p : TermId × TermId) → MatchOption o (sides ≡ None) (λ q. IsPair a sides q) → o ≡ Some p → IsPair a sides p
+pair_here a sides None p h e = absurd (cc)
+pair_here a sides (Some q) p h e = subst (IsPair a sides) (same_Some q p e) h

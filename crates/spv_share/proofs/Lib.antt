@@ -8,3 +8,4 @@ pub mod Gathering
 pub mod Settling
 pub mod Giving
 pub mod Claiming
+pub mod Ended

@@ -23,7 +23,10 @@ use Rattle.spv_readings.specs.Relations.{number_sides, if_numbers}
 use Rattle.spv_row_reasons.proofs.Readings.{above_is_sourced, below_is_sourced}
 use Rattle.spv_share_rows.specs.declared.standing.Standing.{Standing}
 use Rattle.spv_share_rows.specs.Standing.{IsBack, SaidBy}
-use Rattle.spv_share_rows.specs.Forcing.{HasPoint, IsStopped, Refutes}
+use Rattle.spv_share_rows.specs.declared.forcing.Tried.{Tried}
+use Rattle.spv_share_rows.specs.declared.forcing.Tried.TheVariants.{Met, Refuted, Taken}
+use Rattle.spv_share_rows.specs.declared.forcing.Tried.TheVariants as tried
+use Rattle.spv_share_rows.specs.Forcing.{HasPoint, IsStopped, IsTried, Refutes}
 use Rattle.spv_share.specs.declared.relations.Related.{Related}
 use Rattle.spv_share.specs.declared.both.Both.{Both}
 use Rattle.spv_share.specs.declared.searching.Sought.{Sought}
@@ -156,3 +159,27 @@ sought_none b = (still_itself b, record { each = λ row r below at e. absurd (no
   where
     nothing : (row : ℕ) → row < 0 → ⊥
     nothing row h = omega arith
+
+-- ---- one place
+
+pub tried_point : (b : Standing) (row : ℕ) (x : Saying) (t : Tried) → IsTried b row x t → t ≡ Met → HasPoint b row x
+tried_point b row x Met h e = h
+tried_point b row x (Refuted ms) h e = absurd (cc)
+tried_point b row x tried.Stopped h e = absurd (cc)
+tried_point b row x Taken h e = absurd (cc)
+
+pub tried_refuted : (b : Standing) (row : ℕ) (x : Saying) (t : Tried) (ms : List (Fraction × ℕ)) → IsTried b row x t → t ≡ Refuted ms → Refutes b row x ms
+tried_refuted b row x t ms h e = let P : Tried → Type 0 = λ k. IsTried b row x k in subst P e h
+
+pub found_not_open : (b : Both) (place : ℕ) (q : Related) (res : Bool) → slice_get b.relations.items place ≡ Some q → res ≡ is_open b q → res ≡ false → (r : Related) → slice_get b.relations.items place ≡ Some r → IsFound b b r Apart
+found_not_open b place q res at is none r there = found_closed b r (ap (is_open b) (sym (same_Some q r (sym at ∙ there))) ∙ (sym is ∙ none))
+
+pub found_ordered_at : (b : Both) (place : ℕ) (q : Related) → slice_get b.relations.items place ≡ Some q → IsApart b.standing q.row → (r : Related) → slice_get b.relations.items place ≡ Some r → IsFound b b r Apart
+found_ordered_at b place q at h r there = found_ordered b r (subst (λ (x : Related). IsApart b.standing x.row) (same_Some q r (sym at ∙ there)) h)
+
+pub sought_apart : (a : Arena) (start old new : Both) (n : ℕ) (so_far found : Sought) → so_far ≡ Apart → IsSound a old → ((r : Related) → slice_get old.relations.items n ≡ Some r → IsFound old new r found) → n < length old.relations.items
+    → IsSought start old n so_far → IsSought start new (n + 1) found
+sought_apart a start old new n so_far found e sound h inside k = sought_on a start old new n found sound h inside (let P : Sought → Type 0 = λ s. IsSought start old n s in subst P e k)
+
+pub sought_after : (start old new : Both) (n m : ℕ) (found s : Sought) (rels : List Related) → s ≡ after_joined found → ((r : Related) → slice_get rels n ≡ Some r → IsFound old new r found) → n < length rels → IsSought start new m s
+sought_after start old new n m found s rels e h inside = let P : Sought → Type 0 = λ k. IsSought start new m k in subst P (sym e) (sought_joined start old new n m found rels h inside)

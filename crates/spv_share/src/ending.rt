@@ -6,6 +6,7 @@ ghost use Rattle.spv_simplex.specs.declared.checked.Checked.TheVariants as check
 ghost use Rattle.spv_simplex.specs.Checks.{IsInfeasible};
 ghost use Rattle.spv_share_rows.specs.Standing.{IsStanding, Stands};
 ghost use Rattle.spv_share.specs.declared.relations.Related.{Related};
+ghost use Rattle.spv_share.specs.declared.relations.Claim.{Claim};
 ghost use Rattle.spv_share.specs.Both.{IsBoth, IsSound};
 ghost use Rattle.spv_share.specs.States as spec;
 ghost use Rattle.spv_share.specs.States.{ClaimsAreIn, ClaimsStand, GoesOn, IsAtPoint, IsOutcome, IsStill, JoinedStand};
@@ -79,14 +80,25 @@ impl Both {
         }
     }
 
+    // The same for the claim at a place.
+    fn has_claim_at(&self, place: usize) -> bool
+        requires standing { IsStanding self.now.standing }
+        requires rows { ClaimsAreIn self.now }
+        requires place { place < length self.now.claims.items }
+        ensures { IsTrue result → (c : Claim) → slice_get self.now.claims.items place ≡ Some (Some c) → Stands self.now.standing c.row c.saying }
+    {
+        let claim = self.claims[place];
+        self.has_claim(claim)
+    }
+
     // Whether all that the literals say of rows stands there.
     fn have_claims(&self) -> bool
         requires standing { IsStanding self.now.standing }
         requires rows { ClaimsAreIn self.now }
         ensures { IsTrue result → ClaimsStand self.now }
     {
-        for claim in self.claims.as_slice() {
-            if !self.has_claim(*claim) {
+        for place in 0..self.claims.as_slice().len() {
+            if !self.has_claim_at(place) {
                 return false;
             }
         }

@@ -17,7 +17,6 @@ use crate::relations::Related;
 use spv_frac::Frac;
 use spv_list::List;
 use spv_readings::Saying;
-use spv_row_reasons::law_supposed;
 use spv_share_rows::Tried;
 use spv_term::Terms;
 use std::alloc::{AllocError, Global};
@@ -48,8 +47,9 @@ impl Both {
         ensures goes { GoesOn terms.now self.old self.new }
         ensures found { IfOk result (λ s. IsFound self.old self.new related s) }
     {
-        law_supposed();
-        match self.standing.try_saying(alloc, related.row, Saying::Below)? {
+        terms.law_arena();
+        let tried = self.standing.try_saying(alloc, related.row, Saying::Below)?;
+        match tried {
             Tried::Met => Ok(Sought::Apart),
             Tried::Stopped => Ok(Sought::Stopped),
             Tried::Taken => Err(AllocError),
@@ -73,8 +73,9 @@ impl Both {
         ensures goes { GoesOn terms.now self.old self.new }
         ensures found { IfOk result (λ s. IsFound self.old self.new related s) }
     {
-        law_supposed();
-        match self.standing.try_saying(alloc, related.row, Saying::Above)? {
+        terms.law_arena();
+        let tried = self.standing.try_saying(alloc, related.row, Saying::Above)?;
+        match tried {
             Tried::Met => Ok(Sought::Apart),
             Tried::Stopped => Ok(Sought::Stopped),
             Tried::Taken => Err(AllocError),

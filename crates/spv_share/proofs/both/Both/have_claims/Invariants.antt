@@ -4,5 +4,5 @@ use Rattle.spv_share_rows.specs.Standing.{Stands}
 use Rattle.spv_share.specs.declared.relations.Claim.{Claim}
 use Rattle.spv_share.proofs.both.Both.have_claims.Given as goal
 
-abbrev pub invariant-loop-claim : goal.invariant-loop-claim
-invariant-loop-claim l = (place : ℕ) (c : Claim) → place < l.claim-index → slice_get l.self.claims.items place ≡ Some (Some c) → Stands l.self.standing c.row c.saying
+abbrev pub invariant-loop-place : goal.invariant-loop-place
+invariant-loop-place l = (place : ℕ) (c : Claim) → place < l.place → slice_get l.self.claims.items place ≡ Some (Some c) → Stands l.self.standing c.row c.saying
