@@ -9,3 +9,5 @@ pub mod Settling
 pub mod Giving
 pub mod Claiming
 pub mod Ended
+pub mod Opened
+pub mod Rounds

@@ -1,0 +1,34 @@
+-- What came of looking at all equalities, and of a round.
+use Rattle.std.proofs.Common.{◌≡◌, ℕ, List, length, refl, sym, ap, ◌∙◌, subst, Option, Some, None, IfNone}
+use Rattle.spv_term.specs.Arena.{Arena}
+use Rattle.spv_congruence.specs.Graph.{Graph}
+use Rattle.spv_share_graph.specs.Holding.{HasNoClash}
+use Rattle.spv_share_rows.specs.Forcing.{IsStopped}
+use Rattle.spv_share_rows.specs.declared.standing.Standing.{Standing}
+use Rattle.spv_share.specs.declared.relations.Related.{Related}
+use Rattle.spv_share.specs.declared.both.Both.{Both}
+use Rattle.spv_share.specs.declared.ending.Outcome.{Outcome}
+use Rattle.spv_share.specs.declared.searching.Sought.{Sought}
+use Rattle.spv_share.specs.declared.searching.Sought.TheVariants.{Apart, Joined, Stopped}
+use Rattle.spv_share.specs.States.{AreApart, IsAtPoint, IsSought, IsStill}
+
+-- none was forced
+pub record IsAllApart (old new : Both) : Type 0 where
+  pub still : IsStill old new
+  pub apart : AreApart new (length new.relations.items)
+
+pub sought_all : (old new : Both) (s : Sought) → s ≡ Apart → IsSought old new (length old.relations.items) s → IsAllApart old new
+sought_all old new s e h =
+    let P : Sought → Type 0 = λ k. IsSought old new (length old.relations.items) k in
+    let both = subst P e h in
+    record { still = both.0; apart = subst (λ (n : ℕ). AreApart new n) (ap length (sym both.0.relations)) both.1 }
+
+pub sought_stopped : (old new : Both) (n : ℕ) (s : Sought) → s ≡ Stopped → IsSought old new n s → IsStopped new.standing
+sought_stopped old new n s e h = let P : Sought → Type 0 = λ k. IsSought old new n k in subst P e h
+
+pub no_clash_as : (old new : Both) → new.trail.graph ≡ old.trail.graph → HasNoClash old.trail.graph → HasNoClash new.trail.graph
+no_clash_as old new e h = subst HasNoClash (sym e) h
+
+pub if_none : (b : Standing) (o : Option Outcome) → IfNone o (IsAtPoint b) → o ≡ None → IsAtPoint b
+if_none b None h e = h
+if_none b (Some x) h e = absurd (cc)
