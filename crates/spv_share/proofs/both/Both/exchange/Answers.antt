@@ -3,8 +3,8 @@ use Rattle.spv_share.proofs.Rounds.{no_clash_as}
 use Rattle.std.proofs.Common.{◌∙◌}
 use Rattle.spv_share.proofs.both.Both.exchange.Goals as goal
 
-pub returns-in_err-check-clause-goes : goal.returns-in_err-check-clause-goes
-returns-in_err-check-clause-goes c = goes_then c.args.terms.now c.args.self.now c.give_all.new.self c.check.new.self c.give_all.ensures.goes c.check.ensures.goes
+pub returns-in_err-outcome-clause-goes : goal.returns-in_err-outcome-clause-goes
+returns-in_err-outcome-clause-goes c = goes_then c.args.terms.now c.args.self.now c.give_all.new.self c.check.new.self c.give_all.ensures.goes c.check.ensures.goes
 
 pub returns-in-Some-clause-goes : goal.returns-in-Some-clause-goes
 returns-in-Some-clause-goes c = goes_then c.args.terms.now c.args.self.now c.give_all.new.self c.check.new.self c.give_all.ensures.goes c.check.ensures.goes

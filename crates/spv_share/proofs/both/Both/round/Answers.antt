@@ -1,8 +1,8 @@
 use Rattle.spv_share.proofs.Goings.{goes_both, goes_then, goes_trail}
 use Rattle.spv_share.proofs.both.Both.round.Goals as goal
 
-pub returns-in_err-clash-clause-goes : goal.returns-in_err-clash-clause-goes
-returns-in_err-clash-clause-goes c = goes_trail c.args.terms.now c.args.self.now c.clash.new.self c.requires.both.sound c.clash.ensures.holds c.clash.ensures.grows c.clash.ensures.literals
+pub returns-in_err-first-clause-goes : goal.returns-in_err-first-clause-goes
+returns-in_err-first-clause-goes c = goes_trail c.args.terms.now c.args.self.now c.clash.new.self c.requires.both.sound c.clash.ensures.holds c.clash.ensures.grows c.clash.ensures.literals
 
 pub returns-in-Some-clause-goes : goal.returns-in-Some-clause-goes
 returns-in-Some-clause-goes c = goes_trail c.args.terms.now c.args.self.now c.clash.new.self c.requires.both.sound c.clash.ensures.holds c.clash.ensures.grows c.clash.ensures.literals
