@@ -1,11 +1,8 @@
 -- A literal more, on both sides.
-use Rattle.std.proofs.Common.{◌≡◌, ℕ, List, [], ◌∷◌, ◌++◌, map, take, length, refl, sym, ap, ◌∙◌, subst, Option, Some, None, Vec, Global, Result, Ok, Err, OnOk, OnErr, IfSome}
-use Rattle.std.specs.Prelude.{slice_get}
-use Rattle.std.proofs.lemmas.List.{append-nil, map-append}
+use Rattle.std.proofs.Common.{◌≡◌, ℕ, List, [], ◌∷◌, ◌++◌, take, length, refl, sym, ap, ◌∙◌, subst, Option, Some, None, IfSome}
 use Rattle.spv_logic.specs.declared.conditions.TermId.{TermId}
 use Rattle.spv_term.specs.Arena.{Arena, tree}
 use Rattle.spv_course.specs.declared.entries.Part.{Part}
-use Rattle.spv_course.specs.declared.entries.Entry.{Entry}
 use Rattle.spv_course.specs.Course.{fact_at, literal}
 use Rattle.spv_course.specs.Literals.{Literal, literals}
 use Rattle.spv_course.proofs.Literals.{literals-append}
@@ -16,9 +13,8 @@ use Rattle.spv_share_rows.specs.Standing.{AddsSome}
 use Rattle.spv_share.specs.declared.relations.Related.{Related}
 use Rattle.spv_share.specs.declared.relations.Claim.{Claim}
 use Rattle.spv_share.specs.declared.both.Both.{Both}
-use Rattle.spv_share.specs.declared.both.Level.{Level}
-use Rattle.spv_share.specs.Relations.{claim, claim_of, find}
-use Rattle.spv_share.specs.Both.{IsBoth, IsClaimed, IsLevel, IsNoLater, IsSound, KeepsLevels, told}
+use Rattle.spv_share.specs.Relations.{claim, find}
+use Rattle.spv_share.specs.Both.{IsClaimed, IsSound, KeepsLevels, told}
 use Rattle.spv_share.proofs.Rowed.{literal_claimed}
 use Rattle.spv_share.proofs.Sound.{level_stays}
 

@@ -1,6 +1,5 @@
 -- The end of a path by a contradiction of bounds.
-use Rattle.std.proofs.Common.{◌≡◌, ℕ, List, Result, Ok, Err, IfOk, OnErr}
-use Rattle.spv_logic.specs.declared.conditions.TermId.{TermId}
+use Rattle.std.proofs.Common.{◌≡◌, ℕ, List, Result, IfOk, OnErr}
 use Rattle.spv_term.specs.Arena.{Arena, IsArena}
 use Rattle.spv_proof.specs.Effects.{at_most}
 use Rattle.spv_course.specs.declared.entries.Entry.{Entry}

@@ -1,5 +1,5 @@
 -- Relations among atoms, one more at a time.
-use Rattle.std.proofs.Common.{◌≡◌, ℕ, zero, suc, ◌<◌, ◌≤◌, Bool, true, false, cond, ◌&&◌, List, [], ◌∷◌, ◌++◌, map, length, refl, sym, ap, ◌∙◌, subst, Option, Some, None, MatchOption, arith, inl, inr}
+use Rattle.std.proofs.Common.{◌≡◌, ℕ, zero, suc, ◌<◌, Bool, true, false, cond, ◌&&◌, List, [], ◌∷◌, ◌++◌, map, length, refl, sym, ap, ◌∙◌, subst, Option, Some, None, MatchOption, arith, inl, inr}
 use Rattle.std.specs.Prelude.{slice_get}
 use Rattle.std.proofs.lemmas.Bool.{cases_lt}
 use Rattle.std.proofs.lemmas.List.{append-nil, length_push, map-append}
@@ -9,20 +9,19 @@ use Rattle.spv_logic.specs.declared.operators.Head.{Head}
 use Rattle.spv_logic.specs.declared.operators.Head.TheVariants.{Eq, Lt, Le}
 use Rattle.spv_logic.specs.Terms.{Term, Terms, term, no_terms, terms}
 use Rattle.spv_term.specs.declared.nodes.Node.{Node}
-use Rattle.spv_term.specs.Arena.{Arena, IsArena, tree, trees}
+use Rattle.spv_term.specs.Arena.{Arena, IsArena, tree}
 use Rattle.spv_term.proofs.ArenaLemmas.{tree-node}
 use Rattle.spv_term.proofs.ListLemmas.{slice_get-append_left, slice_get_push}
 use Rattle.spv_congruence.specs.Keep.{IsNode}
 use Rattle.spv_proof.specs.Sums.{pair}
 use Rattle.spv_bounds.specs.Pairs.{IsPair}
-use Rattle.spv_course.specs.declared.entries.Entry.{Entry}
 use Rattle.spv_sums.specs.Readings.{number_in}
 use Rattle.spv_readings.specs.Relations.{if_numbers, in_front, number_sides, relations}
 use Rattle.spv_share_graph.specs.declared.trail.Trail.{Trail}
 use Rattle.spv_share_graph.specs.Holding.{Grows, Holds}
 use Rattle.spv_share.specs.declared.relations.Related.{Related}
-use Rattle.spv_share.specs.Relations.{AreAmong, AreNodes, AreRelations, head_under, IsGathered, IsRelation, related, sides_in}
-use Rattle.spv_share.proofs.Sound.{relation_more, relations_more}
+use Rattle.spv_share.specs.Relations.{AreNodes, AreRelations, head_under, IsGathered, IsRelation, related, sides_in}
+use Rattle.spv_share.proofs.Sound.{relations_more}
 
 -- ---- one item more
 

@@ -1,10 +1,9 @@
 -- An equality of the graph for the tableau.
-use Rattle.std.proofs.Common.{◌≡◌, ℕ, ◌<◌, Bool, true, false, ◌&&◌, List, length, nat_eq, refl, sym, ap, ◌∙◌, subst, Option, Some, None, get_or}
+use Rattle.std.proofs.Common.{◌≡◌, ℕ, ◌<◌, true, List, length, sym, ap, ◌∙◌, subst, Some, get_or}
 use Rattle.std.proofs.lemmas.Option.{slice_get-get_or}
 use Rattle.std.specs.Prelude.{slice_get}
 use Rattle.spv_pivots.proofs.Sums.{eq_is}
 use Rattle.spv_pivots.proofs.Tests.{and_left, and_right}
-use Rattle.spv_term.specs.declared.nodes.Node.{Node}
 use Rattle.spv_term.specs.Arena.{Arena}
 use Rattle.spv_congruence.specs.Graph.{are_same, label_of}
 use Rattle.spv_congruence.specs.Keep.{IsNode}

@@ -1,28 +1,21 @@
 -- Both sides go on.
-use Rattle.std.proofs.Common.{◌≡◌, ℕ, suc, ◌<◌, ◌≤◌, List, [], ◌∷◌, ◌++◌, map, take, length, refl, sym, ap, ◌∙◌, subst, Option, Some, None, append_assoc, arith}
-use Rattle.std.specs.Prelude.{slice_get}
+use Rattle.std.proofs.Common.{◌≡◌, ◌≤◌, List, [], ◌++◌, map, take, length, refl, sym, ap, ◌∙◌, subst}
 use Rattle.std.proofs.lemmas.List.{append-nil}
 use Rattle.spv_term.specs.Arena.{Arena}
 use Rattle.spv_tableaux.specs.Bounds.{Bound}
-use Rattle.spv_congruence.specs.Graph.{Graph}
-use Rattle.spv_proof.specs.Sums.{Reading}
-use Rattle.spv_course.specs.declared.entries.Entry.{Entry}
 use Rattle.spv_course.specs.Literals.{literals}
 use Rattle.spv_share_graph.specs.declared.trail.Trail.{Trail}
 use Rattle.spv_share_graph.specs.Holding.{Grows, Holds}
 use Rattle.spv_share_graph.proofs.Trails.{grows_then, grows_same}
 use Rattle.spv_share_rows.specs.declared.standing.Standing.{Standing}
-use Rattle.spv_share_rows.specs.Standing.{Adds, AddsSome, IsBack, IsStanding, readings, Sourced}
+use Rattle.spv_share_rows.specs.Standing.{AddsSome, IsBack, IsStanding, readings, Sourced}
 use Rattle.spv_share_rows.proofs.Adding.{adds_none, adds_then}
 use Rattle.spv_share_rows.proofs.Trying.{back_adds, back_sourced}
-use Rattle.spv_share.specs.declared.relations.Related.{Related}
-use Rattle.spv_share.specs.declared.relations.Claim.{Claim}
 use Rattle.spv_share.specs.declared.both.Both.{Both}
-use Rattle.spv_share.specs.declared.both.Level.{Level}
 use Rattle.spv_share.specs.Relations.{claim_of}
-use Rattle.spv_share.specs.Both.{IsBoth, IsLevel, IsSound, KeepsLevels, told}
+use Rattle.spv_share.specs.Both.{IsBoth, IsSound, KeepsLevels, told}
 use Rattle.spv_share.specs.States.{GoesOn, IsStill}
-use Rattle.spv_share.proofs.Sound.{GoesBehind, level_stays, sound_standing, sound_trail}
+use Rattle.spv_share.proofs.Sound.{level_stays, sound_standing, sound_trail}
 
 -- ---- bounds
 

@@ -1,11 +1,10 @@
 -- Both sides as they are opened.
-use Rattle.std.proofs.Common.{◌≡◌, List, [], map, Vec, Global, Option, refl, sym, ap, ◌∙◌, subst}
+use Rattle.std.proofs.Common.{◌≡◌, List, [], map, sym, ap, ◌∙◌, subst}
 use Rattle.spv_logic.specs.declared.conditions.TermId.{TermId}
 use Rattle.spv_logic.specs.Terms.{Term}
 use Rattle.spv_term.specs.Arena.{Arena, tree}
 use Rattle.spv_atoms.specs.Linear.{IdForm}
 use Rattle.spv_tableaux.specs.Bounds.{Bound}
-use Rattle.spv_course.specs.declared.entries.Entry.{Entry}
 use Rattle.spv_course.specs.Literals.{literals}
 use Rattle.spv_sums.specs.Readings.{number_in}
 use Rattle.spv_readings.specs.Relations.{AreIn, AreRowsOf, relations}
@@ -13,15 +12,11 @@ use Rattle.spv_readings.proofs.Placing.{rows_in}
 use Rattle.spv_readings.proofs.Sourcing.{none_sourced}
 use Rattle.spv_row_reasons.specs.Refuted.{AreOneAndZero}
 use Rattle.spv_bounds.specs.Sources.{sources_in}
-use Rattle.spv_share_graph.specs.declared.trail.Trail.{Trail}
-use Rattle.spv_share_rows.specs.declared.standing.Standing.{Standing}
 use Rattle.spv_share_rows.specs.Standing.{IsStanding, readings, Sourced}
-use Rattle.spv_share.specs.declared.relations.Related.{Related}
-use Rattle.spv_share.specs.declared.relations.Claim.{Claim}
 use Rattle.spv_share.specs.declared.both.Both.{Both}
 use Rattle.spv_share.specs.declared.both.Ends.{Ends}
-use Rattle.spv_share.specs.Relations.{claim_of, IsGathered, sides_in}
-use Rattle.spv_share.specs.Both.{AreEnds, IsBoth, IsSound}
+use Rattle.spv_share.specs.Relations.{claim_of, IsGathered}
+use Rattle.spv_share.specs.Both.{AreEnds, IsBoth}
 
 pub both_opens : (a : Arena) (atoms : List TermId) (ends : Ends) (forms : List IdForm) (b : Both) → AreEnds a ends → AreRowsOf a (relations (number_in a) (map (tree a) atoms)) forms → IsGathered a b.trail atoms b.relations.items → IsStanding b.standing
     → b.standing.tableau.forms ≡ forms → b.standing.tableau.bounds ≡ [] → b.claims.items ≡ [] → b.one ≡ ends.one → b.zero ≡ ends.zero → IsBoth a b

@@ -1,6 +1,6 @@
 -- A point that meets further bounds of one row.
-use Rattle.std.proofs.Common.{◌≡◌, ℕ, zero, suc, ◌+◌, ◌-◌, ◌<◌, Bool, true, false, ◌&&◌, ◌||◌, List, [], ◌∷◌, ◌++◌, length, nat_eq, nat_lt, refl, sym, ap, ◌∙◌, subst, Option, Some, None, arith, inl, inr, if◌then◌else◌}
-use Rattle.std.specs.Prelude.{slice_get, ◌⊎◌}
+use Rattle.std.proofs.Common.{◌≡◌, ℕ, suc, ◌+◌, ◌-◌, ◌<◌, Bool, true, false, ◌||◌, List, [], ◌∷◌, ◌++◌, length, nat_eq, nat_lt, refl, sym, ap, ◌∙◌, subst, Some, None, arith, inl, inr, if◌then◌else◌}
+use Rattle.std.specs.Prelude.{slice_get}
 use Rattle.std.proofs.lemmas.Bool.Decides.{nat_tests}
 use Rattle.spv_rational.specs.Rational.{Rational}
 use Rattle.spv_atoms.specs.Linear.{IdForm}
@@ -19,8 +19,8 @@ use Rattle.spv_readings.proofs.Bounding.{bound_on_row}
 use Rattle.spv_simplex.specs.State.{IsTableau, kept_point, rows_in}
 use Rattle.spv_simplex.specs.Checks.{IsFeasible}
 use Rattle.spv_share_rows.specs.declared.standing.Standing.{Standing}
-use Rattle.spv_share_rows.specs.Standing.{AreBoundsOf, IsBack, Stands}
-use Rattle.spv_share_rows.specs.Forcing.{HasPoint, IsPointOf}
+use Rattle.spv_share_rows.specs.Standing.{IsBack, Stands}
+use Rattle.spv_share_rows.specs.Forcing.{HasPoint}
 use Rattle.spv_share_rows.proofs.Trying.{form_at}
 use Rattle.spv_share.specs.States.{HasOrder, IsApart, by_point, by_bounds}
 

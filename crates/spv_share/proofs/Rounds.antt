@@ -1,5 +1,5 @@
 -- What came of looking at all equalities, and of a round.
-use Rattle.std.proofs.Common.{◌≡◌, ℕ, List, length, refl, sym, ap, ◌∙◌, subst, Option, Some, None, IfNone}
+use Rattle.std.proofs.Common.{◌≡◌, ℕ, List, length, sym, ap, subst, Option, Some, None, IfNone}
 use Rattle.spv_logic.specs.Conditions.{Sequent}
 use Rattle.spv_logic.specs.Terms.{Term}
 use Rattle.spv_term.specs.Arena.{Arena}
@@ -9,16 +9,14 @@ use Rattle.spv_proof.specs.Accepted.{walk}
 use Rattle.spv_course.specs.Course.{asked, IsCourse}
 use Rattle.spv_course.specs.Steps.{AreTold, IsEnd}
 use Rattle.spv_course.proofs.Literals.{are_told}
-use Rattle.spv_congruence.specs.Graph.{Graph}
 use Rattle.spv_share_graph.specs.Holding.{HasNoClash}
 use Rattle.spv_share_rows.specs.Forcing.{IsStopped}
 use Rattle.spv_share_rows.specs.declared.standing.Standing.{Standing}
-use Rattle.spv_share.specs.declared.relations.Related.{Related}
 use Rattle.spv_share.specs.declared.both.Both.{Both}
 use Rattle.spv_share.specs.declared.ending.Outcome.{Outcome}
 use Rattle.spv_share.specs.declared.ending.Outcome.TheVariants as outcome
 use Rattle.spv_share.specs.declared.searching.Sought.{Sought}
-use Rattle.spv_share.specs.declared.searching.Sought.TheVariants.{Apart, Joined, Stopped}
+use Rattle.spv_share.specs.declared.searching.Sought.TheVariants.{Apart, Stopped}
 use Rattle.spv_share.specs.Both.{IsBoth}
 use Rattle.spv_share.specs.States.{AreApart, Closes, IsAtPoint, IsOutcome, IsSought, IsStill}
 

@@ -1,10 +1,9 @@
 -- Relations, their rows, and what is claimed of them.
-use Rattle.std.proofs.Common.{◌≡◌, ℕ, zero, suc, ◌<◌, ◌≤◌, Bool, true, false, cond, List, [], ◌∷◌, ◌++◌, map, length, nat_eq, refl, sym, ap, ◌∙◌, subst, Option, Some, None, arith}
+use Rattle.std.proofs.Common.{◌≡◌, ℕ, zero, suc, ◌<◌, Bool, true, false, cond, List, [], ◌∷◌, map, length, nat_eq, refl, sym, ap, ◌∙◌, subst, Option, Some, None}
 use Rattle.std.specs.Prelude.{slice_get}
-use Rattle.std.proofs.lemmas.List.{length-map, map-append}
+use Rattle.std.proofs.lemmas.List.{length-map}
 use Rattle.std.proofs.lemmas.Option.{slice_get_within, same_Some}
 use Rattle.spv_pivots.proofs.Sums.{eq_is}
-use Rattle.spv_rational.specs.Rational.{Rational}
 use Rattle.spv_logic.specs.declared.conditions.TermId.{TermId}
 use Rattle.spv_logic.specs.declared.operators.Head.{Head}
 use Rattle.spv_logic.specs.declared.operators.Head.TheVariants.{Eq}
@@ -14,26 +13,20 @@ use Rattle.spv_term.specs.declared.nodes.Node.{Node}
 use Rattle.spv_term.specs.Arena.{Arena, tree}
 use Rattle.spv_congruence.specs.Graph.{id}
 use Rattle.spv_atoms.specs.Linear.{IdForm}
-use Rattle.spv_tableaux.specs.declared.side.Side.{Side}
-use Rattle.spv_tableaux.specs.Bounds.{Bound, bound_on}
 use Rattle.spv_course.specs.declared.entries.Part.{Part}
 use Rattle.spv_course.specs.declared.entries.Part.TheVariants as part
-use Rattle.spv_course.specs.declared.entries.Entry.{Entry}
 use Rattle.spv_course.specs.Course.{fact_at, literal}
-use Rattle.spv_course.specs.Derived.{is_number}
 use Rattle.spv_readings.specs.declared.saying.Saying.{Saying}
 use Rattle.spv_readings.specs.declared.saying.Saying.TheVariants.{Equal}
-use Rattle.spv_readings.specs.Sayings.{bounds_of}
-use Rattle.spv_readings.specs.Relations.{number_sides, AreRowsOf, IsRowOf}
+use Rattle.spv_readings.specs.Relations.{AreRowsOf, IsRowOf}
 use Rattle.spv_row_reasons.specs.Told.{told_of}
 use Rattle.spv_row_reasons.specs.Told as told
 use Rattle.spv_row_reasons.proofs.Readings.{told_is_sourced}
-use Rattle.spv_share_rows.specs.declared.standing.Standing.{Standing}
 use Rattle.spv_share_rows.specs.Standing.{readings, SaidBy}
 use Rattle.spv_share.specs.declared.relations.Related.{Related}
 use Rattle.spv_share.specs.declared.relations.Claim.{Claim}
 use Rattle.spv_share.specs.declared.both.Both.{Both}
-use Rattle.spv_share.specs.Relations.{AreRelated, AreRelations, claim, find, IsRelation, said, sides_in}
+use Rattle.spv_share.specs.Relations.{AreRelated, claim, find, said, sides_in}
 use Rattle.spv_share.specs.Both.{IsClaimed, IsSound}
 use Rattle.spv_share.specs.States.{is_equality}
 

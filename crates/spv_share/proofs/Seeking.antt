@@ -1,39 +1,36 @@
 -- Equalities that the bounds force, and those that they do not.
-use Rattle.std.proofs.Common.{◌≡◌, ℕ, zero, suc, ◌+◌, ◌<◌, ◌≤◌, Bool, true, false, cond, not, ◌&&◌, List, [], ◌∷◌, ◌++◌, map, length, pos, nat_lt, refl, sym, ap, ◌∙◌, subst, Option, Some, None, arith, inl, inr}
+use Rattle.std.proofs.Common.{◌≡◌, ℕ, zero, suc, ◌+◌, ◌<◌, Bool, true, false, cond, not, ◌&&◌, List, [], ◌∷◌, length, refl, sym, ap, ◌∙◌, subst, Some, None, arith, inl, inr}
 use Rattle.std.specs.Prelude.{slice_get, ◌⊎◌}
 use Rattle.std.proofs.lemmas.Bool.{false≢true, cases_lt}
 use Rattle.std.proofs.lemmas.Option.{same_Some}
 use Rattle.spv_whole.specs.Fraction.{Fraction}
-use Rattle.spv_rational.specs.Rational.{Rational}
 use Rattle.spv_logic.specs.declared.operators.Head.{Head}
 use Rattle.spv_logic.specs.declared.operators.Head.TheVariants.{Eq, Lt, Le}
-use Rattle.spv_logic.specs.Terms.{Term, Terms, term, no_terms, terms}
+use Rattle.spv_logic.specs.Terms.{Term, term, no_terms, terms}
 use Rattle.spv_term.specs.Arena.{Arena, IsArena, tree}
-use Rattle.spv_atoms.specs.Linear.{IdForm}
 use Rattle.spv_atoms.specs.declared.proofs.Relation.TheVariants as relation
 use Rattle.spv_pivots.proofs.Tests.{and_left, and_right}
-use Rattle.spv_proof.specs.Sums.{difference, is_at_most_zero, cited_reading, refutes}
-use Rattle.spv_tableaux.specs.declared.side.Side.{Side}
+use Rattle.spv_proof.specs.Sums.{refutes}
 use Rattle.spv_course.specs.Course.{facts}
 use Rattle.spv_course.specs.Derived.{is_number, IsSum}
 use Rattle.spv_congruence.specs.Graph.{Graph, are_same}
 use Rattle.spv_readings.specs.declared.saying.Saying.{Saying}
 use Rattle.spv_readings.specs.declared.saying.Saying.TheVariants.{Above, Below}
-use Rattle.spv_readings.specs.Relations.{number_sides, if_numbers}
+use Rattle.spv_readings.specs.Relations.{number_sides}
 use Rattle.spv_row_reasons.proofs.Readings.{above_is_sourced, below_is_sourced}
 use Rattle.spv_share_rows.specs.declared.standing.Standing.{Standing}
-use Rattle.spv_share_rows.specs.Standing.{IsBack, SaidBy}
+use Rattle.spv_share_rows.specs.Standing.{IsBack}
 use Rattle.spv_share_rows.specs.declared.forcing.Tried.{Tried}
 use Rattle.spv_share_rows.specs.declared.forcing.Tried.TheVariants.{Met, Refuted, Taken}
 use Rattle.spv_share_rows.specs.declared.forcing.Tried.TheVariants as tried
-use Rattle.spv_share_rows.specs.Forcing.{HasPoint, IsStopped, IsTried, Refutes}
+use Rattle.spv_share_rows.specs.Forcing.{HasPoint, IsTried, Refutes}
 use Rattle.spv_share.specs.declared.relations.Related.{Related}
 use Rattle.spv_share.specs.declared.both.Both.{Both}
 use Rattle.spv_share.specs.declared.searching.Sought.{Sought}
 use Rattle.spv_share.specs.declared.searching.Sought.TheVariants.{Apart, Joined, Stopped}
 use Rattle.spv_share.specs.Relations.{IsRelation}
 use Rattle.spv_share.specs.Both.{IsSound}
-use Rattle.spv_share.specs.States.{after_joined, AreApart, by_bounds, by_point, IsApart, IsFound, IsSought, IsStill, is_equality, is_open}
+use Rattle.spv_share.specs.States.{after_joined, AreApart, by_point, IsApart, IsFound, IsSought, IsStill, is_equality, is_open}
 use Rattle.spv_share.proofs.Rowed.{row_at}
 use Rattle.spv_share.proofs.Goings.{still_itself, still_then}
 use Rattle.spv_share.proofs.Points.{apart_back, point_back}

@@ -1,23 +1,19 @@
 -- Both sides agree.
-use Rattle.std.proofs.Common.{◌≡◌, ℕ, zero, suc, ◌+◌, ◌<◌, Bool, true, false, not, List, [], ◌∷◌, map, length, refl, sym, ap, ◌∙◌, subst, Option, Some, None, IfSome, IsTrue, inl, inr, arith}
+use Rattle.std.proofs.Common.{◌≡◌, ℕ, ◌+◌, ◌<◌, Bool, true, not, map, length, refl, sym, ap, ◌∙◌, subst, Option, Some, None, IfSome, IsTrue, inl, inr, arith}
 use Rattle.std.proofs.lemmas.Bool.{cases_lt, false≢true}
 use Rattle.spv_readings.specs.declared.saying.Saying.TheVariants.{Equal}
 use Rattle.spv_share_rows.specs.Standing.{Stands}
 use Rattle.std.specs.Prelude.{slice_get}
 use Rattle.std.specs.Option.{option_map}
 use Rattle.std.proofs.lemmas.Option.{slice_get-map, slice_get_within, same_Some}
-use Rattle.spv_logic.specs.declared.conditions.TermId.{TermId}
-use Rattle.spv_logic.specs.Terms.{Term}
 use Rattle.spv_term.specs.Arena.{Arena}
-use Rattle.spv_congruence.specs.Graph.{Graph}
 use Rattle.spv_course.specs.Literals.{Literal}
-use Rattle.spv_course.specs.declared.entries.Part.{Part}
 use Rattle.spv_simplex.specs.State.{IsTableau}
 use Rattle.spv_share_graph.specs.Holding.{HasNoClash}
 use Rattle.spv_share.specs.declared.relations.Related.{Related}
 use Rattle.spv_share.specs.declared.relations.Claim.{Claim}
 use Rattle.spv_share.specs.declared.both.Both.{Both}
-use Rattle.spv_share.specs.Relations.{claim, claim_of, find}
+use Rattle.spv_share.specs.Relations.{claim_of}
 use Rattle.spv_share.specs.Both.{IsBoth, IsSound, told}
 use Rattle.spv_share.specs.States.{AreApart, ClaimsAreIn, ClaimsStand, IsAtPoint, IsOpen, IsStill, is_joined, JoinedStand}
 use Rattle.spv_share.proofs.Points.{has_order}

@@ -1,33 +1,29 @@
 -- Both sides stay sound where one of them goes on.
-use Rattle.std.proofs.Common.{◌≡◌, ℕ, ◌+◌, ◌<◌, ◌≤◌, List, [], ◌∷◌, ◌++◌, map, take, length, refl, sym, ap, ◌∙◌, subst, Option, Some, None, append_assoc, arith}
-use Rattle.std.specs.Prelude.{slice_get}
-use Rattle.std.proofs.lemmas.List.{append-nil, length-append, take-append-le}
+use Rattle.std.proofs.Common.{◌≡◌, ℕ, ◌+◌, ◌≤◌, List, ◌++◌, map, take, length, sym, ap, ◌∙◌, subst, Option, arith}
+use Rattle.std.proofs.lemmas.List.{length-append, take-append-le}
 use Rattle.spv_logic.specs.declared.conditions.TermId.{TermId}
-use Rattle.spv_logic.specs.Terms.{Term}
 use Rattle.spv_term.specs.declared.nodes.Node.{Node}
-use Rattle.spv_term.specs.Arena.{Arena, tree}
+use Rattle.spv_term.specs.Arena.{Arena}
 use Rattle.spv_atoms.specs.Linear.{IdForm}
 use Rattle.spv_tableaux.specs.Bounds.{Bound}
 use Rattle.spv_congruence.specs.declared.facts.Fact.{Fact}
-use Rattle.spv_congruence.specs.Graph.{Graph}
 use Rattle.spv_congruence.specs.Keep.{IsNode}
 use Rattle.spv_course.specs.declared.entries.Entry.{Entry}
-use Rattle.spv_course.specs.Literals.{Literal, literals}
+use Rattle.spv_course.specs.Literals.{literals}
 use Rattle.spv_readings.specs.Relations.{AreIn, AreRowsOf}
 use Rattle.spv_row_reasons.specs.Refuted.{AreOneAndZero}
-use Rattle.spv_readings.specs.Sources.{AreSourced}
 use Rattle.spv_row_reasons.proofs.Readings.{sourced_stays}
 use Rattle.spv_bounds.specs.Sources.{sources_in}
 use Rattle.spv_share_graph.specs.declared.trail.Trail.{Trail}
 use Rattle.spv_share_graph.specs.Holding.{Backs, Grows, Holds, WasSoFar}
 use Rattle.spv_share_rows.specs.declared.standing.Standing.{Standing}
-use Rattle.spv_share_rows.specs.Standing.{Adds, AddsSome, IsStanding, readings, Sourced}
+use Rattle.spv_share_rows.specs.Standing.{AddsSome, IsStanding, readings, Sourced}
 use Rattle.spv_share.specs.declared.relations.Related.{Related}
 use Rattle.spv_share.specs.declared.relations.Claim.{Claim}
 use Rattle.spv_share.specs.declared.both.Both.{Both}
 use Rattle.spv_share.specs.declared.both.Level.{Level}
-use Rattle.spv_share.specs.Relations.{AreRelated, AreRelations, IsRelation, claim_of, sides_in}
-use Rattle.spv_share.specs.Both.{IsBoth, IsLevel, IsSound, told}
+use Rattle.spv_share.specs.Relations.{AreRelations, IsRelation, claim_of, sides_in}
+use Rattle.spv_share.specs.Both.{IsLevel, IsSound}
 
 -- ---- relations where terms were added
 

@@ -1,7 +1,7 @@
 -- Going back to a level.
-use Rattle.std.proofs.Common.{◌≡◌, ℕ, zero, suc, ◌<◌, ◌≤◌, List, [], ◌∷◌, ◌++◌, map, take, drop, length, refl, sym, ap, ◌∙◌, subst, Option, Some, None, Vec, Global, arith}
+use Rattle.std.proofs.Common.{◌≡◌, ℕ, zero, suc, ◌≤◌, List, [], ◌∷◌, map, take, drop, length, refl, sym, ap, ◌∙◌, subst, Option, Some, Vec, Global, arith}
 use Rattle.std.specs.Prelude.{slice_get}
-use Rattle.std.proofs.lemmas.List.{length-take-le, take-append-drop, take-append-le, take-map, length-map, append-nil}
+use Rattle.std.proofs.lemmas.List.{length-take-le, take-append-drop, length-map}
 use Rattle.std.proofs.lemmas.Option.{slice_get_within}
 use Rattle.spv_logic.specs.declared.conditions.TermId.{TermId}
 use Rattle.spv_term.specs.declared.nodes.Node.{Node}
@@ -9,13 +9,12 @@ use Rattle.spv_term.specs.Arena.{Arena}
 use Rattle.spv_term.proofs.ListLemmas.{slice_get-append_left}
 use Rattle.spv_tableaux.specs.Bounds.{Bound}
 use Rattle.spv_congruence.specs.declared.facts.Fact.{Fact}
-use Rattle.spv_congruence.specs.Graph.{Graph}
 use Rattle.spv_congruence.specs.Keep.{IsNode}
-use Rattle.spv_congruence.specs.Told.{IsOf, Undone}
+use Rattle.spv_congruence.specs.Told.{Undone}
 use Rattle.spv_course.specs.declared.entries.Entry.{Entry}
 use Rattle.spv_course.specs.Course.{IsCourse}
 use Rattle.spv_course.specs.Derived.{IsTrueTerm, IsFalseTerm}
-use Rattle.spv_course.specs.Literals.{Literal, literals}
+use Rattle.spv_course.specs.Literals.{literals}
 use Rattle.spv_course.proofs.Growth.{course-take}
 use Rattle.spv_course.proofs.Literals.{literals-take}
 use Rattle.spv_atoms.specs.Linear.{IdForm}
@@ -26,14 +25,14 @@ use Rattle.spv_bounds.specs.declared.sources.RowSources.{RowSources}
 use Rattle.spv_bounds.specs.Sources.{sources_in}
 use Rattle.spv_simplex.specs.State.{State, with_first}
 use Rattle.spv_share_graph.specs.declared.trail.Trail.{Trail}
-use Rattle.spv_share_graph.specs.Holding.{Backs, HasFacts, Holds, IsBackedFact, WasSoFar}
+use Rattle.spv_share_graph.specs.Holding.{Backs, Holds, WasSoFar}
 use Rattle.spv_share_rows.specs.declared.standing.Standing.{Standing}
 use Rattle.spv_share_rows.specs.Standing.{IsStanding, readings, Sourced}
 use Rattle.spv_share.specs.declared.relations.Claim.{Claim}
 use Rattle.spv_share.specs.declared.relations.Related.{Related}
 use Rattle.spv_share.specs.declared.both.Both.{Both}
 use Rattle.spv_share.specs.declared.both.Level.{Level}
-use Rattle.spv_share.specs.Relations.{AreRelated, AreRelations, claim_of, sides_in}
+use Rattle.spv_share.specs.Relations.{AreRelations, claim_of, sides_in}
 use Rattle.spv_share.specs.Both.{IsBoth, IsLevel, IsNoLater, IsSound, told}
 use Rattle.spv_share.proofs.Sound.{relations_more}
 

@@ -1,6 +1,5 @@
 -- A congruence graph and a tableau side by side.
-use Rattle.std.specs.Prelude.{◌≡◌, ℕ, ◌<◌, ◌≤◌, List, map, take, length, Option}
-use Rattle.spv_logic.specs.declared.conditions.TermId.{TermId}
+use Rattle.std.specs.Prelude.{◌≡◌, ℕ, ◌<◌, ◌≤◌, List, map, take, length}
 use Rattle.spv_term.specs.Arena.{Arena}
 use Rattle.spv_course.specs.Literals.{Literal, literals}
 use Rattle.spv_course.specs.Derived.{IsTrueTerm, IsFalseTerm}

@@ -1,20 +1,17 @@
 -- What a graph and a tableau come to together.
-use Rattle.std.specs.Prelude.{◌≡◌, ◌⊎◌, ℕ, ◌<◌, Bool, true, false, not, ◌&&◌, List, length, Option, Some, slice_get}
+use Rattle.std.specs.Prelude.{◌≡◌, ◌⊎◌, ℕ, ◌<◌, Bool, true, false, not, ◌&&◌, List, length, Some, slice_get}
 use Rattle.spv_logic.specs.declared.operators.Head.{Head}
 use Rattle.spv_logic.specs.declared.operators.Head.TheVariants.{Eq}
 use Rattle.spv_logic.specs.Conditions.{Sequent}
 use Rattle.spv_logic.specs.Terms.{Term}
 use Rattle.spv_term.specs.Arena.{Arena}
-use Rattle.spv_atoms.specs.Linear.{IdForm}
 use Rattle.spv_atoms.specs.declared.proofs.Step.{Step}
 use Rattle.spv_proof.specs.Accepted as accepted
 use Rattle.spv_proof.specs.Accepted.{walk}
-use Rattle.spv_tableaux.specs.Bounds.{Bound, bound_on}
 use Rattle.spv_congruence.specs.Graph.{are_same}
 use Rattle.spv_course.specs.Course.{asked}
-use Rattle.spv_course.specs.Literals.{AreKnown, literals}
+use Rattle.spv_course.specs.Literals.{AreKnown}
 use Rattle.spv_course.specs.Steps.{IsEnd}
-use Rattle.spv_readings.specs.declared.saying.Saying.{Saying}
 use Rattle.spv_readings.specs.declared.saying.Saying.TheVariants.{Equal, Below, Above}
 use Rattle.spv_simplex.specs.declared.checked.Checked.TheVariants.{Feasible}
 use Rattle.spv_simplex.specs.Checks.{IsFeasible}

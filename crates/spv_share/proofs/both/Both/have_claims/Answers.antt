@@ -1,4 +1,4 @@
-use Rattle.std.proofs.Common.{◌≡◌, rules, true, length, ap, arith}
+use Rattle.std.proofs.Common.{rules, length, ap, arith}
 use Rattle.std.specs.Bool.{IsTrue}
 use Rattle.std.proofs.lemmas.Option.{slice_get_within}
 use Rattle.spv_share.proofs.Settling.{claims_more}

@@ -1,4 +1,4 @@
-use Rattle.std.proofs.Common.{refl, ◌∙◌}
+use Rattle.std.proofs.Common.{refl}
 use Rattle.spv_share.proofs.Opened.{both_opens}
 use Rattle.spv_share.proofs.both.Both.open.Goals as goal
 

@@ -1,5 +1,5 @@
 use Rattle.spv_share.proofs.Goings.{goes_both, goes_then}
-use Rattle.spv_share.proofs.Rounds.{no_clash_as, sought_all, sought_stopped}
+use Rattle.spv_share.proofs.Rounds.{no_clash_as, sought_all}
 use Rattle.spv_share.proofs.both.Both.search.Goals as goal
 
 pub settle-requires-clause-both : goal.settle-requires-clause-both

@@ -1,4 +1,4 @@
-use Rattle.std.proofs.Common.{inl, inr}
+use Rattle.std.proofs.Common.{inr}
 use Rattle.spv_readings.specs.declared.saying.Saying.TheVariants.{Below}
 use Rattle.spv_share.proofs.Giving.{left_node, right_node, row_there}
 use Rattle.spv_share.proofs.Goings.{goes_back, goes_then, goes_trail}

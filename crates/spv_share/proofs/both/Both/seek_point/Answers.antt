@@ -1,9 +1,8 @@
-use Rattle.std.proofs.Common.{inl, inr}
-use Rattle.spv_course.proofs.Bridges.{if_ok}
+use Rattle.std.proofs.Common.{inl}
 use Rattle.spv_readings.specs.declared.saying.Saying.TheVariants.{Above}
 use Rattle.spv_share.proofs.Giving.{row_there}
-use Rattle.spv_share.proofs.Goings.{goes_back, goes_then, still_standing}
-use Rattle.spv_share.proofs.Seeking.{found_point, found_then, refuted_above, tried_point, tried_refuted}
+use Rattle.spv_share.proofs.Goings.{goes_back}
+use Rattle.spv_share.proofs.Seeking.{found_point, refuted_above, tried_point, tried_refuted}
 use Rattle.spv_share.proofs.both.Both.seek_point.Goals as goal
 
 pub try_saying-requires-clause-row : goal.try_saying-requires-clause-row

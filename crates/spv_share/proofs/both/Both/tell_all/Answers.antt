@@ -1,6 +1,4 @@
-use Rattle.std.proofs.Common.{[], ◌∷◌, ◌++◌, sym, ap, refl, ◌∙◌}
-use Rattle.std.proofs.lemmas.List.{append-nil}
-use Rattle.spv_share.proofs.Claiming.{claimed_some, levels_told}
+use Rattle.spv_share.proofs.Claiming.{claimed_some}
 use Rattle.spv_share.proofs.Sound.{sound_trail}
 use Rattle.spv_share.proofs.both.Both.tell_all.Goals as goal
 

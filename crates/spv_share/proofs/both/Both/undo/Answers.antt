@@ -1,5 +1,3 @@
-use Rattle.std.proofs.Common.{ap, refl}
-use Rattle.spv_share.specs.declared.both.Both.{Both}
 use Rattle.spv_share.proofs.Undoing.{back_both, back_told, went_back}
 use Rattle.spv_share.proofs.both.Both.undo.Goals as goal
 
