@@ -1,0 +1,28 @@
+-- The end of a path by a contradiction of bounds.
+use Rattle.std.proofs.Common.{◌≡◌, ℕ, List, Result, IfOk, OnErr}
+use Rattle.spv_term.specs.Arena.{Arena, IsArena}
+use Rattle.spv_proof.specs.Effects.{at_most}
+use Rattle.spv_course.specs.declared.entries.Entry.{Entry}
+use Rattle.spv_course.specs.Course.{Gains, IsCourse}
+use Rattle.spv_course.specs.Literals.{literals}
+use Rattle.spv_course.proofs.Bridges.{if_ok}
+use Rattle.spv_readings.specs.Laws.{numeral_of}
+use Rattle.spv_readings.specs.Relations.{AreIn}
+use Rattle.spv_row_reasons.specs.Refuted.{AreOneAndZero}
+use Rattle.spv_simplex.specs.Checks.{IsInfeasible}
+use Rattle.spv_share_graph.proofs.LastEntries.{moves_either}
+use Rattle.spv_share_graph.proofs.Trails.{course_grows, course_holds}
+use Rattle.spv_share_rows.specs.Standing.{readings, Sourced}
+use Rattle.spv_share.specs.declared.both.Both.{Both}
+use Rattle.spv_share.specs.Both.{IsSound}
+use Rattle.spv_share.specs.States.{GoesOn}
+use Rattle.spv_share.proofs.Goings.{goes_trail}
+
+pub end_goes : {E : Type 0} (a : Arena) → IsArena a → (old : Both) (es : List Entry) (r : Result ℕ E) → IsSound a old → IsInfeasible old.standing.tableau
+    → IfOk r (λ n. (a : Arena) → IsArena a → IsCourse a old.trail.course → AreOneAndZero a old.one old.zero → AreIn a old.standing.tableau.forms → Sourced a (readings a old.trail.course) old.standing old.standing.tableau.bounds
+    → IsInfeasible old.standing.tableau → Gains a old.trail.course es n (at_most (numeral_of 1) (numeral_of 0))) → OnErr r (es ≡ old.trail.course) → literals es ≡ literals old.trail.course
+    → GoesOn a old (record old { trail = record old.trail { course = es } })
+end_goes a ok old es r h infeasible gains err same =
+    let now = if_ok r gains (λ n g. g a ok h.trail.course h.numbers h.inside h.sourced infeasible) in
+    let moves = moves_either a old.trail.course es (at_most (numeral_of 1) (numeral_of 0)) r h.trail.course now err in
+    goes_trail a old (record old.trail { course = es }) h (course_holds a old.trail es h.trail moves) (course_grows a old.trail es moves) same

@@ -1,0 +1,169 @@
+-- Relations among atoms, one more at a time.
+use Rattle.std.proofs.Common.{◌≡◌, ℕ, zero, suc, ◌<◌, Bool, true, false, cond, ◌&&◌, List, [], ◌∷◌, ◌++◌, map, length, refl, sym, ap, ◌∙◌, subst, Option, Some, None, MatchOption, arith, inl, inr}
+use Rattle.std.specs.Prelude.{slice_get}
+use Rattle.std.proofs.lemmas.Bool.{cases_lt}
+use Rattle.std.proofs.lemmas.List.{append-nil, length_push, map-append}
+use Rattle.std.proofs.lemmas.Option.{slice_get_within, same_Some}
+use Rattle.spv_logic.specs.declared.conditions.TermId.{TermId}
+use Rattle.spv_logic.specs.declared.operators.Head.{Head}
+use Rattle.spv_logic.specs.declared.operators.Head.TheVariants.{Eq, Lt, Le}
+use Rattle.spv_logic.specs.Terms.{Term, Terms, term, no_terms, terms}
+use Rattle.spv_term.specs.declared.nodes.Node.{Node}
+use Rattle.spv_term.specs.Arena.{Arena, IsArena, tree}
+use Rattle.spv_term.proofs.ArenaLemmas.{tree-node}
+use Rattle.spv_term.proofs.ListLemmas.{slice_get-append_left, slice_get_push}
+use Rattle.spv_congruence.specs.Keep.{IsNode}
+use Rattle.spv_proof.specs.Sums.{pair}
+use Rattle.spv_bounds.specs.Pairs.{IsPair}
+use Rattle.spv_sums.specs.Readings.{number_in}
+use Rattle.spv_readings.specs.Relations.{if_numbers, in_front, number_sides, relations}
+use Rattle.spv_share_graph.specs.declared.trail.Trail.{Trail}
+use Rattle.spv_share_graph.specs.Holding.{Grows, Holds}
+use Rattle.spv_share.specs.declared.relations.Related.{Related}
+use Rattle.spv_share.specs.Relations.{AreNodes, AreRelations, head_under, IsGathered, IsRelation, related, sides_in}
+use Rattle.spv_share.proofs.Sound.{relations_more}
+
+-- ---- one item more
+
+pub nodes_push : (nodes : List (Option Node)) (ts : List TermId) (t : TermId) → AreNodes nodes ts → IsNode nodes t → AreNodes nodes (ts ++ t ∷ [])
+nodes_push nodes ts t h k = record { each = each }
+  where
+    each : (i : ℕ) (u : TermId) → slice_get (ts ++ t ∷ []) i ≡ Some u → IsNode nodes u
+    each i u at = elim (cases_lt i (length ts)) [
+      | inl below ↦ h.each i u (sym (slice_get-append_left ts (t ∷ []) i below) ∙ at)
+      | inr above ↦
+          let inside = slice_get_within (ts ++ t ∷ []) i u at in
+          let last : i ≡ length ts = omega (arith, length_push ts t) in
+          let same : t ≡ u = same_Some t u (sym (slice_get_push ts t) ∙ ap (slice_get (ts ++ t ∷ [])) (sym last) ∙ at) in
+          subst (IsNode nodes) same k
+    ]
+
+relations_push : (a : Arena) (nodes : List (Option Node)) (rels : List Related) (r : Related) → AreRelations a nodes rels → IsRelation a nodes r → r.row ≡ length rels → AreRelations a nodes (rels ++ r ∷ [])
+relations_push a nodes rels r h k row = record { each = λ i q at. (both i q at).0; placed = λ i q at. (both i q at).1 }
+  where
+    both : (i : ℕ) (q : Related) → slice_get (rels ++ r ∷ []) i ≡ Some q → IsRelation a nodes q × (q.row ≡ i)
+    both i q at = elim (cases_lt i (length rels)) [
+      | inl below ↦ let there : slice_get rels i ≡ Some q = sym (slice_get-append_left rels (r ∷ []) i below) ∙ at in (h.each i q there, h.placed i q there)
+      | inr above ↦
+          let inside = slice_get_within (rels ++ r ∷ []) i q at in
+          let last : i ≡ length rels = omega (arith, length_push rels r) in
+          let same : r ≡ q = same_Some r q (sym (slice_get_push rels r) ∙ ap (slice_get (rels ++ r ∷ [])) (sym last) ∙ at) in
+          subst (λ (x : Related). IsRelation a nodes x × (x.row ≡ i)) same (k, row ∙ sym last)
+    ]
+
+among_push : (test : Term → Bool) (ts : List Term) (t : Term) → relations test (ts ++ t ∷ []) ≡ relations test ts ++ in_front (number_sides test t) []
+among_push test [] t = refl
+among_push test (u ∷ ts) t = ap (in_front (number_sides test u)) (among_push test ts t) ∙ sym (front_append (number_sides test u) (relations test ts) (in_front (number_sides test t) []))
+  where
+    front_append : (o : Option (Term × Term)) (xs ys : List (Term × Term)) → in_front o xs ++ ys ≡ in_front o (xs ++ ys)
+    front_append None xs ys = refl
+    front_append (Some st) xs ys = refl
+
+-- ---- an atom that is no relation
+
+pub gathered_other : (a : Arena) (old new : Trail) (ts : List TermId) (t : TermId) (rels : List Related) → IsGathered a old ts rels → Holds a new → Grows old new → new.course ≡ old.course → IsNode new.graph.nodes t
+    → number_sides (number_in a) (tree a t) ≡ None → IsGathered a new (ts ++ t ∷ []) rels
+gathered_other a old new ts t rels h holds grows course node none = record {
+  holds = holds;
+  course = course ∙ h.course;
+  nodes = nodes_push new.graph.nodes ts t (record { each = λ i u at. grows.nodes u (h.nodes.each i u at) }) node;
+  are = relations_more a old.graph.nodes new.graph.nodes rels grows.nodes h.are;
+  among =
+      h.among
+      ∙ (sym (append-nil (relations (number_in a) (map (tree a) ts)))
+      ∙ (ap (λ o. relations (number_in a) (map (tree a) ts) ++ in_front o []) (sym none)
+      ∙ (sym (among_push (number_in a) (map (tree a) ts) (tree a t)) ∙ ap (relations (number_in a)) (sym (map-append (tree a) ts (t ∷ []))))));
+}
+
+-- ---- a relation
+
+abbrev head_of : Term → Head
+head_of (term q ts) = q
+
+abbrev two : Term → Term → Term × Term
+two x y = (x, y)
+
+pair_is : (test : Term → Bool) (ts : Terms) (x y : Term) → if_numbers test (pair ts) ≡ Some (two x y) → ts ≡ terms x (terms y no_terms)
+pair_is test (terms u (terms v no_terms)) x y e = by_case (test u && test v) e
+  where
+    by_case : (b : Bool) → cond b (Some (two u v)) None ≡ Some (two x y) → terms u (terms v no_terms) ≡ terms x (terms y no_terms)
+    by_case false f = absurd (cc)
+    by_case true f =
+        let same : two u v ≡ two x y = same_Some (two u v) (two x y) f in
+        ap (λ (q : Term × Term). terms q.0 (terms q.1 no_terms)) same
+pair_is test ts x y e = absurd (cc)
+
+sides_are : (test : Term → Bool) (t x y : Term) → number_sides test t ≡ Some (two x y) → t ≡ term (head_of t) (terms x (terms y no_terms))
+sides_are test (term Eq ts) x y e = ap (term Eq) (pair_is test ts x y e)
+sides_are test (term Lt ts) x y e = ap (term Lt) (pair_is test ts x y e)
+sides_are test (term Le ts) x y e = ap (term Le) (pair_is test ts x y e)
+sides_are test (term q ts) x y e = absurd (cc)
+
+-- the head of a tree is that of its node
+head_is : (a : Arena) → IsArena a → (t : TermId) → t.0 < length a.nodes → head_of (tree a t) ≡ head_under (slice_get a.nodes t.0)
+head_is a ok t inside = by_node (slice_get a.nodes t.0) refl
+  where
+    by_node : (o : Option Node) → slice_get a.nodes t.0 ≡ o → head_of (tree a t) ≡ head_under o
+    by_node None e = absurd (past a.nodes t.0 inside e)
+      where
+        past : (ns : List Node) (i : ℕ) → i < length ns → slice_get ns i ≡ None → ⊥
+        past [] i h e = omega arith
+        past (n ∷ ns) zero h e = cc
+        past (n ∷ ns) (suc i) h e = past ns i (omega arith) e
+    by_node (Some n) e = ap head_of (tree-node a ok t n e)
+
+pub gathered_relation : (a : Arena) → IsArena a → (old first second new : Trail) (ts : List TermId) (t l r : TermId) (old_rels new_rels : List Related) → t.0 < length a.nodes → IsGathered a old ts old_rels
+    → Grows old first → Grows first second → Grows second new → Holds a new → new.course ≡ old.course → IsNode first.graph.nodes t → IsNode second.graph.nodes l → IsNode new.graph.nodes r
+    → l.0 < length a.nodes → r.0 < length a.nodes → number_sides (number_in a) (tree a t) ≡ Some (tree a l, tree a r) → new_rels ≡ old_rels ++ related a t l r (length old_rels) ∷ []
+    → IsGathered a new (ts ++ t ∷ []) new_rels
+gathered_relation a ok old first second new ts t l r old_rels new_rels inside h grows_one grows_two grows_three holds course node left right left_in right_in sides pushed = record {
+  holds = holds;
+  course = course ∙ h.course;
+  nodes = nodes_push new.graph.nodes ts t (record { each = λ i u at. up u (h.nodes.each i u at) }) (grows_three.nodes t (grows_two.nodes t node));
+  are = subst (λ (rs : List Related). AreRelations a new.graph.nodes rs) (sym pushed) (relations_push a new.graph.nodes old_rels (related a t l r (length old_rels)) (relations_more a old.graph.nodes new.graph.nodes old_rels up h.are) relation refl);
+  among =
+      ap (map (sides_in a)) pushed
+      ∙ (map-append (sides_in a) old_rels (related a t l r (length old_rels) ∷ [])
+      ∙ (ap (λ xs. xs ++ two (tree a l) (tree a r) ∷ []) h.among
+      ∙ (ap (λ o. relations (number_in a) (map (tree a) ts) ++ in_front o []) (sym sides)
+      ∙ (sym (among_push (number_in a) (map (tree a) ts) (tree a t)) ∙ ap (relations (number_in a)) (sym (map-append (tree a) ts (t ∷ [])))))));
+}
+  where
+    up : (u : TermId) → IsNode old.graph.nodes u → IsNode new.graph.nodes u
+    up u k = grows_three.nodes u (grows_two.nodes u (grows_one.nodes u k))
+
+    relation : IsRelation a new.graph.nodes (related a t l r (length old_rels))
+    relation = record {
+      within = inside;
+      left_in = left_in;
+      right_in = right_in;
+      left = grows_three.nodes l left;
+      right = right;
+      is = sides_are (number_in a) (tree a t) (tree a l) (tree a r) sides ∙ ap (λ q. term q (terms (tree a l) (terms (tree a r) no_terms))) (head_is a ok t inside);
+      sides = sides;
+    }
+
+abbrev ids : List TermId → List TermId
+ids ts = ts
+
+abbrev rels_of : List Related → List Related
+rels_of rs = rs
+
+pub gathered_none : (a : Arena) (tr : Trail) → Holds a tr → tr.course ≡ [] → IsGathered a tr [] []
+gathered_none a tr h course = record {
+  holds = h;
+  course = course;
+  nodes = record { each = λ i t at. absurd (nothing i t at) };
+  are = record { each = λ i r at. absurd (no_relation i r at); placed = λ i r at. absurd (no_relation i r at) };
+  among = refl;
+}
+  where
+    nothing : (i : ℕ) (t : TermId) → slice_get (ids []) i ≡ Some t → ⊥
+    nothing i t at = cc
+
+    no_relation : (i : ℕ) (r : Related) → slice_get (rels_of []) i ≡ Some r → ⊥
+    no_relation i r at = cc
+
+pub pair_here : (a : Arena) (sides : Option (Term × Term)) (o : Option (TermId × TermId)) (p : TermId × TermId) → MatchOption o (sides ≡ None) (λ q. IsPair a sides q) → o ≡ Some p → IsPair a sides p
+pair_here a sides None p h e = absurd (cc)
+pair_here a sides (Some q) p h e = subst (IsPair a sides) (same_Some q p e) h

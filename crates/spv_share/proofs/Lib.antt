@@ -1,0 +1,13 @@
+pub mod Sound
+pub mod Undoing
+pub mod Goings
+pub mod Rowed
+pub mod Points
+pub mod Seeking
+pub mod Gathering
+pub mod Settling
+pub mod Giving
+pub mod Claiming
+pub mod Ended
+pub mod Opened
+pub mod Rounds

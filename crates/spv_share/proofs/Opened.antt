@@ -1,0 +1,42 @@
+-- Both sides as they are opened.
+use Rattle.std.proofs.Common.{◌≡◌, List, [], map, sym, ap, ◌∙◌, subst}
+use Rattle.spv_logic.specs.declared.conditions.TermId.{TermId}
+use Rattle.spv_logic.specs.Terms.{Term}
+use Rattle.spv_term.specs.Arena.{Arena, tree}
+use Rattle.spv_atoms.specs.Linear.{IdForm}
+use Rattle.spv_tableaux.specs.Bounds.{Bound}
+use Rattle.spv_course.specs.Literals.{literals}
+use Rattle.spv_sums.specs.Readings.{number_in}
+use Rattle.spv_readings.specs.Relations.{AreIn, AreRowsOf, relations}
+use Rattle.spv_readings.proofs.Placing.{rows_in}
+use Rattle.spv_readings.proofs.Sourcing.{none_sourced}
+use Rattle.spv_row_reasons.specs.Refuted.{AreOneAndZero}
+use Rattle.spv_bounds.specs.Sources.{sources_in}
+use Rattle.spv_share_rows.specs.Standing.{IsStanding, readings, Sourced}
+use Rattle.spv_share.specs.declared.both.Both.{Both}
+use Rattle.spv_share.specs.declared.both.Ends.{Ends}
+use Rattle.spv_share.specs.Relations.{claim_of, IsGathered}
+use Rattle.spv_share.specs.Both.{AreEnds, IsBoth}
+
+pub both_opens : (a : Arena) (atoms : List TermId) (ends : Ends) (forms : List IdForm) (b : Both) → AreEnds a ends → AreRowsOf a (relations (number_in a) (map (tree a) atoms)) forms → IsGathered a b.trail atoms b.relations.items → IsStanding b.standing
+    → b.standing.tableau.forms ≡ forms → b.standing.tableau.bounds ≡ [] → b.claims.items ≡ [] → b.one ≡ ends.one → b.zero ≡ ends.zero → IsBoth a b
+both_opens a atoms ends forms b known rows g stands forms_are none claims one zero_is = record {
+  sound = record {
+    trail = g.holds;
+    standing = stands;
+    related = record {
+      are = g.are;
+      rows =
+          let P : List (Term × Term) → Type 0 = λ sides. AreRowsOf a sides b.standing.tableau.forms in
+          let Q : List IdForm → Type 0 = λ fs. AreRowsOf a (relations (number_in a) (map (tree a) atoms)) fs in
+          subst P (sym g.among) (subst Q (sym forms_are) rows);
+    };
+    sourced = let P : List Bound → Type 0 = λ bs. Sourced a (readings a b.trail.course) b.standing bs in subst P (sym none) (none_sourced a (readings a b.trail.course) b.standing.tableau.forms (sources_in b.standing.sources.items));
+    inside = let P : List IdForm → Type 0 = λ fs. AreIn a fs in subst P (sym forms_are) (rows_in a (relations (number_in a) (map (tree a) atoms)) forms rows);
+    numbers =
+        let P : TermId → Type 0 = λ t. AreOneAndZero a t b.zero in
+        let Q : TermId → Type 0 = λ t. AreOneAndZero a ends.one t in
+        subst P (sym one) (subst Q (sym zero_is) known.numbers);
+  };
+  claims = claims ∙ ap (λ es. map (claim_of b.relations.items) (literals es)) (sym g.course);
+}

@@ -1,0 +1,52 @@
+-- What came of looking at all equalities, and of a round.
+use Rattle.std.proofs.Common.{◌≡◌, ℕ, List, length, sym, ap, subst, Option, Some, None, IfNone}
+use Rattle.spv_logic.specs.Conditions.{Sequent}
+use Rattle.spv_logic.specs.Terms.{Term}
+use Rattle.spv_term.specs.Arena.{Arena}
+use Rattle.spv_atoms.specs.declared.proofs.Step.{Step}
+use Rattle.spv_proof.specs.Accepted as accepted
+use Rattle.spv_proof.specs.Accepted.{walk}
+use Rattle.spv_course.specs.Course.{asked, IsCourse}
+use Rattle.spv_course.specs.Steps.{AreTold, IsEnd}
+use Rattle.spv_course.proofs.Literals.{are_told}
+use Rattle.spv_share_graph.specs.Holding.{HasNoClash}
+use Rattle.spv_share_rows.specs.Forcing.{IsStopped}
+use Rattle.spv_share_rows.specs.declared.standing.Standing.{Standing}
+use Rattle.spv_share.specs.declared.both.Both.{Both}
+use Rattle.spv_share.specs.declared.ending.Outcome.{Outcome}
+use Rattle.spv_share.specs.declared.ending.Outcome.TheVariants as outcome
+use Rattle.spv_share.specs.declared.searching.Sought.{Sought}
+use Rattle.spv_share.specs.declared.searching.Sought.TheVariants.{Apart, Stopped}
+use Rattle.spv_share.specs.Both.{IsBoth}
+use Rattle.spv_share.specs.States.{AreApart, Closes, IsAtPoint, IsOutcome, IsSought, IsStill}
+
+-- none was forced
+pub record IsAllApart (old new : Both) : Type 0 where
+  pub still : IsStill old new
+  pub apart : AreApart new (length new.relations.items)
+
+pub sought_all : (old new : Both) (s : Sought) → s ≡ Apart → IsSought old new (length old.relations.items) s → IsAllApart old new
+sought_all old new s e h =
+    let P : Sought → Type 0 = λ k. IsSought old new (length old.relations.items) k in
+    let both = subst P e h in
+    record { still = both.0; apart = subst (λ (n : ℕ). AreApart new n) (ap length (sym both.0.relations)) both.1 }
+
+pub sought_stopped : (old new : Both) (n : ℕ) (s : Sought) → s ≡ Stopped → IsSought old new n s → IsStopped new.standing
+sought_stopped old new n s e h = let P : Sought → Type 0 = λ k. IsSought old new n k in subst P e h
+
+pub no_clash_as : (old new : Both) → new.trail.graph ≡ old.trail.graph → HasNoClash old.trail.graph → HasNoClash new.trail.graph
+no_clash_as old new e h = subst HasNoClash (sym e) h
+
+pub if_none : (b : Standing) (o : Option Outcome) → IfNone o (IsAtPoint b) → o ≡ None → IsAtPoint b
+if_none b None h e = h
+if_none b (Some x) h e = absurd (cc)
+
+-- steps that close the path
+pub closed_by : (a : Arena) (b : Both) (count : ℕ) (steps : List Step) (o : Outcome) (first : ℕ) (second : Option ℕ) → IsBoth a b → IsOutcome a b o → o ≡ outcome.Ended first second
+    → ((a : Arena) (c : Sequent) (known : List Term) → length known ≡ count → IsCourse a b.trail.course → AreTold a known b.trail.course → IsEnd a b.trail.course first second → walk (asked a c) known steps ≡ accepted.Closed)
+    → Closes a b count steps
+closed_by a b count steps o first second h k e closes = record {
+  ends = λ c known many are.
+      let P : Outcome → Type 0 = λ x. IsOutcome a b x in
+      closes a c known many h.sound.trail.course (are_told a known b.trail.course are) (subst P e k);
+}

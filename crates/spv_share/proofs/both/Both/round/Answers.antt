@@ -1,0 +1,14 @@
+use Rattle.spv_share.proofs.Goings.{goes_both, goes_then, goes_trail}
+use Rattle.spv_share.proofs.both.Both.round.Goals as goal
+
+pub returns-in_err-first-clause-goes : goal.returns-in_err-first-clause-goes
+returns-in_err-first-clause-goes c = goes_trail c.args.terms.now c.args.self.now c.clash.new.self c.requires.both.sound c.clash.ensures.holds c.clash.ensures.grows c.clash.ensures.literals
+
+pub returns-in-Some-clause-goes : goal.returns-in-Some-clause-goes
+returns-in-Some-clause-goes c = goes_trail c.args.terms.now c.args.self.now c.clash.new.self c.requires.both.sound c.clash.ensures.holds c.clash.ensures.grows c.clash.ensures.literals
+
+pub exchange-requires-clause-both : goal.exchange-requires-clause-both
+exchange-requires-clause-both c = goes_both c.args.terms.now c.args.self.now (record c.args.self.now { trail = c.clash.new.self }) c.requires.both (goes_trail c.args.terms.now c.args.self.now c.clash.new.self c.requires.both.sound c.clash.ensures.holds c.clash.ensures.grows c.clash.ensures.literals)
+
+pub returns-clause-goes : goal.returns-clause-goes
+returns-clause-goes c = goes_then c.args.terms.now c.args.self.now (record c.args.self.now { trail = c.clash.new.self }) c.exchange.new.self (goes_trail c.args.terms.now c.args.self.now c.clash.new.self c.requires.both.sound c.clash.ensures.holds c.clash.ensures.grows c.clash.ensures.literals) c.exchange.ensures.goes

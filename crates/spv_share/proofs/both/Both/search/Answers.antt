@@ -1,0 +1,15 @@
+use Rattle.spv_share.proofs.Goings.{goes_both, goes_then}
+use Rattle.spv_share.proofs.Rounds.{no_clash_as, sought_all}
+use Rattle.spv_share.proofs.both.Both.search.Goals as goal
+
+pub settle-requires-clause-both : goal.settle-requires-clause-both
+settle-requires-clause-both c = goes_both c.args.terms.now c.args.self.now c.seek.new.self c.requires.both c.seek.ensures.goes
+
+pub settle-requires-clause-clash : goal.settle-requires-clause-clash
+settle-requires-clause-clash c = no_clash_as c.args.self.now c.seek.new.self (sought_all c.args.self.now c.seek.new.self c.in_ok-seek.field-0 c.in-Apart.is c.in_ok-seek.ensures.sought).still.graph c.requires.clash
+
+pub settle-requires-clause-apart : goal.settle-requires-clause-apart
+settle-requires-clause-apart c = (sought_all c.args.self.now c.seek.new.self c.in_ok-seek.field-0 c.in-Apart.is c.in_ok-seek.ensures.sought).apart
+
+pub returns-in-Apart-clause-goes : goal.returns-in-Apart-clause-goes
+returns-in-Apart-clause-goes c = goes_then c.args.terms.now c.args.self.now c.seek.new.self c.settle.new.self c.seek.ensures.goes c.settle.ensures.goes

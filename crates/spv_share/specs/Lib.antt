@@ -1,0 +1,3 @@
+pub mod Relations
+pub mod Both
+pub mod States

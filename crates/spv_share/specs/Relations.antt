@@ -1,0 +1,88 @@
+-- The relations of whole numbers among atoms, and what is told of them.
+use Rattle.std.specs.Prelude.{◌≡◌, ℕ, ◌<◌, List, [], ◌∷◌, map, length, Option, Some, None, pos, nat_eq, slice_get, if◌then◌else◌}
+use Rattle.spv_logic.specs.declared.conditions.TermId.{TermId}
+use Rattle.spv_logic.specs.declared.operators.Head.{Head}
+use Rattle.spv_logic.specs.declared.operators.Head.TheVariants.{Num}
+use Rattle.spv_logic.specs.Terms.{Term, term, no_terms, terms}
+use Rattle.spv_term.specs.declared.nodes.Node.{Node}
+use Rattle.spv_term.specs.Arena.{Arena, tree}
+use Rattle.spv_congruence.specs.Keep.{IsNode}
+use Rattle.spv_atoms.specs.Linear.{IdForm}
+use Rattle.spv_course.specs.declared.entries.Part.{Part}
+use Rattle.spv_course.specs.Literals.{Literal}
+use Rattle.spv_sums.specs.Readings.{number_in}
+use Rattle.spv_readings.specs.declared.saying.Saying.{Saying}
+use Rattle.spv_readings.specs.Relations as relations
+use Rattle.spv_readings.specs.Relations.{number_sides, AreRowsOf}
+use Rattle.spv_row_reasons.specs.Told.{told}
+use Rattle.spv_share_graph.specs.declared.trail.Trail.{Trail}
+use Rattle.spv_share_graph.specs.Holding.{Holds}
+use Rattle.spv_share.specs.declared.relations.Related.{Related}
+use Rattle.spv_share.specs.declared.relations.Claim.{Claim}
+
+abbrev pub sides_in : Arena → Related → Term × Term
+sides_in a r = (tree a r.left, tree a r.right)
+
+-- a relation of whole numbers, both sides of which were added
+pub record IsRelation (a : Arena) (nodes : List (Option Node)) (r : Related) : Type 0 where
+  pub within : r.atom.0 < length a.nodes
+  pub left_in : r.left.0 < length a.nodes
+  pub right_in : r.right.0 < length a.nodes
+  pub left : IsNode nodes r.left
+  pub right : IsNode nodes r.right
+  pub is : tree a r.atom ≡ term r.head (terms (tree a r.left) (terms (tree a r.right) no_terms))
+  pub sides : number_sides (number_in a) (tree a r.atom) ≡ Some (sides_in a r)
+
+-- relations, each at the place that is its row
+pub record AreRelations (a : Arena) (nodes : List (Option Node)) (rels : List Related) : Type 0 where
+  pub each : (row : ℕ) (r : Related) → slice_get rels row ≡ Some r → IsRelation a nodes r
+  pub placed : (row : ℕ) (r : Related) → slice_get rels row ≡ Some r → r.row ≡ row
+
+-- relations and their rows
+pub record AreRelated (a : Arena) (nodes : List (Option Node)) (rels : List Related) (forms : List IdForm) : Type 0 where
+  pub are : AreRelations a nodes rels
+  pub rows : AreRowsOf a (map (sides_in a) rels) forms
+
+-- they are those among these terms, in order
+abbrev pub AreAmong : Arena → List Term → List Related → Type 0
+AreAmong a ts rels = map (sides_in a) rels ≡ relations.relations (number_in a) ts
+
+-- each of these terms was added
+pub record AreNodes (nodes : List (Option Node)) (ts : List TermId) : Type 0 where
+  pub each : (i : ℕ) (t : TermId) → slice_get ts i ≡ Some t → IsNode nodes t
+
+-- ---- claims
+
+-- the relation that an atom is
+abbrev pub find : List Related → TermId → Option Related
+find [] t = None
+find (r ∷ rels) t = if nat_eq r.atom.0 t.0 then Some r else find rels t
+
+abbrev pub said : ℕ → Option Saying → Option Claim
+said row None = None
+said row (Some x) = Some (record { row = row; saying = x })
+
+abbrev pub claim : Option Related → Part → Option Claim
+claim None p = None
+claim (Some r) p = said r.row (told r.head p)
+
+-- what a literal says of a row, if it is one of a relation
+abbrev pub claim_of : List Related → Literal → Option Claim
+claim_of rels l = claim (find rels l.atom) l.part
+
+-- ---- gathering
+
+abbrev pub head_under : Option Node → Head
+head_under None = Num (pos 0)
+head_under (Some n) = n.head
+
+abbrev pub related : Arena → TermId → TermId → TermId → ℕ → Related
+related a t l r row = record { atom = t; head = head_under (slice_get a.nodes t.0); left = l; right = r; row = row }
+
+-- the relations among the atoms so far, which were added to a trail that was told nothing
+pub record IsGathered (a : Arena) (tr : Trail) (ts : List TermId) (rels : List Related) : Type 0 where
+  pub holds : Holds a tr
+  pub course : tr.course ≡ []
+  pub nodes : AreNodes tr.graph.nodes ts
+  pub are : AreRelations a tr.graph.nodes rels
+  pub among : AreAmong a (map (tree a) ts) rels

@@ -1,0 +1,139 @@
+// Both sides tell each other equalities until nothing is new.
+
+ghost use Rattle.std.specs.Prelude.{◌≡◌, length, IfOk, IfSome};
+ghost use Rattle.spv_share_graph.specs.Holding.{HasNoClash};
+ghost use Rattle.spv_share.specs.Both.{IsBoth, KeepsLevels, told};
+ghost use Rattle.spv_share.specs.States.{AreApart, GoesOn, IsAnswer, IsOutcome};
+
+use crate::both::Both;
+use crate::ending::Outcome;
+use crate::searching::Sought;
+use spv_atoms::Step;
+use spv_term::Terms;
+use std::alloc::{AllocError, Global};
+
+/// What was told comes to this.
+#[derive(Debug, Drop)]
+pub enum Shared {
+    /// Both sides agree, and there is a point.
+    Open,
+    /// These steps end in a contradiction.
+    Closed(Vec<Step>),
+    /// A check of the tableau was stopped; its evidence stands.
+    Limit,
+}
+
+impl Both {
+    // Where no equality is forced: a point, if all stands that has to. What has to stand does, unless the graph has a clash; where it
+    // does not, the answer is want of memory.
+    fn settle(&mut self, alloc: Global, terms: &Terms) -> Result<Option<Outcome>, AllocError>
+        requires both { IsBoth terms.now self.old }
+        requires clash { HasNoClash self.old.trail.graph }
+        requires apart { AreApart self.old (length self.old.relations.items) }
+        ensures goes { GoesOn terms.now self.old self.new }
+        ensures outcome { IfOk result (λ o. IfSome o (λ x. IsOutcome terms.now self.new x)) }
+    {
+        if let Some(outcome) = self.check(alloc, terms)? {
+            return Ok(Some(outcome));
+        }
+        self.standing.tableau.law_tableau();
+        if self.is_settled(terms) {
+            Ok(Some(Outcome::Open))
+        } else {
+            Err(AllocError)
+        }
+    }
+
+    // Looks for equalities that the bounds force; `None` where the graph joins one more.
+    fn search(&mut self, alloc: Global, terms: &Terms) -> Result<Option<Outcome>, AllocError>
+        requires both { IsBoth terms.now self.old }
+        requires clash { HasNoClash self.old.trail.graph }
+        ensures goes { GoesOn terms.now self.old self.new }
+        ensures outcome { IfOk result (λ o. IfSome o (λ x. IsOutcome terms.now self.new x)) }
+    {
+        match self.seek(alloc, terms)? {
+            Sought::Stopped => Ok(Some(Outcome::Stopped)),
+            Sought::Joined => Ok(None),
+            Sought::Apart => self.settle(alloc, terms),
+        }
+    }
+
+    // What the graph joins is given to the tableau, and this is checked.
+    fn exchange(&mut self, alloc: Global, terms: &Terms) -> Result<Option<Outcome>, AllocError>
+        requires both { IsBoth terms.now self.old }
+        requires clash { HasNoClash self.old.trail.graph }
+        ensures goes { GoesOn terms.now self.old self.new }
+        ensures outcome { IfOk result (λ o. IfSome o (λ x. IsOutcome terms.now self.new x)) }
+    {
+        self.give_all(alloc, terms)?;
+        if let Some(outcome) = self.check(alloc, terms)? {
+            return Ok(Some(outcome));
+        }
+        self.search(alloc, terms)
+    }
+
+    // One round: `None` where the graph joins more than before.
+    fn round(&mut self, alloc: Global, terms: &Terms) -> Result<Option<Outcome>, AllocError>
+        requires both { IsBoth terms.now self.old }
+        ensures goes { GoesOn terms.now self.old self.new }
+        ensures outcome { IfOk result (λ o. IfSome o (λ x. IsOutcome terms.now self.new x)) }
+    {
+        if let Some((first, second)) = self.trail.clash(alloc, terms)? {
+            return Ok(Some(Outcome::Ended(first, second)));
+        }
+        self.exchange(alloc, terms)
+    }
+
+    // Rounds until one has an outcome. Each other one joins the sides of a further equality; so more rounds than equalities never come.
+    fn rounds(&mut self, alloc: Global, terms: &Terms) -> Result<Outcome, AllocError>
+        requires both { IsBoth terms.now self.old }
+        ensures goes { GoesOn terms.now self.old self.new }
+        ensures outcome { IfOk result (λ o. IsOutcome terms.now self.new o) }
+    {
+        for _ in 0..=self.relations.as_slice().len() {
+            if let Some(outcome) = self.round(alloc, terms)? {
+                return Ok(outcome);
+            }
+        }
+        Err(AllocError)
+    }
+
+    // The answer of an outcome.
+    fn answer(
+        &self,
+        alloc: Global,
+        terms: &Terms,
+        outcome: Outcome,
+        facts: u32,
+    ) -> Result<Shared, AllocError>
+        requires both { IsBoth terms.now self.now }
+        requires outcome { IsOutcome terms.now self.now outcome }
+        ensures { IfOk result (λ s. IsAnswer terms.now self.now facts s) }
+    {
+        let _ = terms;
+        match outcome {
+            Outcome::Open => Ok(Shared::Open),
+            Outcome::Stopped => Ok(Shared::Limit),
+            Outcome::Ended(first, second) => Ok(Shared::Closed(
+                self.trail
+                    .course
+                    .closing_steps(alloc, facts, first, second)?,
+            )),
+        }
+    }
+
+    /// What was told comes to this, where both sides tell each other equalities until nothing is new. `Closed`: on each path whose
+    /// facts of the numbers that were told are the literals, the steps end in a contradiction; their own facts are numbered from
+    /// `facts` + 1. `Limit`: a check of the tableau was stopped, and its evidence stands. Where a step's number would be too large
+    /// the answer is want of memory.
+    pub fn state(&mut self, alloc: Global, terms: &Terms, facts: u32) -> Result<Shared, AllocError>
+        requires both { IsBoth terms.now self.old }
+        ensures both { IsBoth terms.now self.new }
+        ensures levels { KeepsLevels terms.now self.old self.new }
+        ensures told { told self.new ≡ told self.old }
+        ensures answer { IfOk result (λ s. IsAnswer terms.now self.new facts s) }
+    {
+        let outcome = self.rounds(alloc, terms)?;
+        self.answer(alloc, terms, outcome, facts)
+    }
+}

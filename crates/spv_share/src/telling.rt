@@ -1,0 +1,112 @@
+// Telling a literal to both sides.
+
+ghost use Rattle.std.specs.Prelude.{◌≡◌, ◌++◌, ◌∷◌, [], IfSome, OnErr, OnOk};
+ghost use Rattle.spv_term.specs.Arena.{tree};
+ghost use Rattle.spv_course.specs.Course.{fact_at, literal};
+ghost use Rattle.spv_share_graph.specs.Holding.{Grows, MayTell};
+ghost use Rattle.spv_share_graph.specs.Telling.{literal_ties, ties};
+ghost use Rattle.spv_share_rows.specs.Standing.{AddsSome};
+ghost use Rattle.spv_share.specs.Relations.{claim, find};
+ghost use Rattle.spv_share.specs.Both.{IsBoth, IsClaimed, IsSound, KeepsLevels, told};
+
+use crate::both::Both;
+use crate::relations::{Claim, claim_of};
+use spv_course::Part;
+use spv_row_reasons::law_told;
+use spv_term::{TermId, Terms};
+use std::alloc::AllocError;
+
+// One claim more. For want of memory the claims are as they were.
+fn push_claim(claims: &mut Vec<Option<Claim>>, claim: Option<Claim>) -> Result<(), AllocError>
+    ensures ok { OnOk result (claims.new.items ≡ claims.old.items ++ claim ∷ []) }
+    ensures err { OnErr result (claims.new.items ≡ claims.old.items) }
+{
+    claims.push(claim)?;
+    Ok(())
+}
+
+impl Both {
+    // The bounds that a fact is on a row, as far as they may be asserted.
+    pub(crate) fn assert_claim(&mut self, terms: &Terms, claim: Claim, fact: u32)
+        requires sound { IsSound terms.now self.old }
+        requires claimed { IsClaimed terms.now self.old claim fact }
+        ensures sound { IsSound terms.now self.new }
+        ensures adds { AddsSome self.old.standing self.new.standing }
+        ensures trail { self.new.trail ≡ self.old.trail }
+        ensures relations { self.new.relations ≡ self.old.relations }
+        ensures claims { self.new.claims ≡ self.old.claims }
+    {
+        let _ = terms;
+        self.standing.assert_saying(claim.row, claim.saying, fact);
+    }
+
+    // The same for a literal that may be one of no row.
+    fn assert_literal(&mut self, terms: &Terms, claim: Option<Claim>, fact: u32)
+        requires sound { IsSound terms.now self.old }
+        requires claimed { IfSome claim (λ c. IsClaimed terms.now self.old c fact) }
+        ensures sound { IsSound terms.now self.new }
+        ensures adds { AddsSome self.old.standing self.new.standing }
+        ensures trail { self.new.trail ≡ self.old.trail }
+        ensures relations { self.new.relations ≡ self.old.relations }
+        ensures claims { self.new.claims ≡ self.old.claims }
+    {
+        if let Some(claim) = claim {
+            self.assert_claim(terms, claim, fact);
+        }
+    }
+
+    // Tells both sides a literal. For want of memory some of it may be done.
+    fn tell_all(
+        &mut self,
+        terms: &Terms,
+        atom: TermId,
+        part: Part,
+        why: u32,
+    ) -> Result<(), AllocError>
+        requires both { IsBoth terms.now self.old }
+        requires may { MayTell terms.now self.old.trail atom part }
+        ensures sound { IsSound terms.now self.new }
+        ensures levels { KeepsLevels terms.now self.old self.new }
+        ensures grows { Grows self.old.trail self.new.trail }
+        ensures both { OnOk result (IsBoth terms.now self.new) }
+        ensures told { OnOk result (told self.new ≡ told self.old ++ record { atom = atom; part = part; why = why } ∷ []) }
+        ensures ties { OnOk result (ties self.new.trail.graph.told
+            ≡ ties self.old.trail.graph.told ++ literal_ties terms.now self.old.trail.truth self.old.trail.falsity atom part) }
+    {
+        law_told();
+        let number = self.trail.tell(terms, atom, part, why)?;
+        let claim = claim_of(self.relations.as_slice(), atom, part);
+        self.assert_literal(terms, claim, number);
+        push_claim(&mut self.claims, claim)
+    }
+
+    /// Tells a literal to both sides. The graph joins its term with TRUE or with FALSE, and joins or separates the sides of an
+    /// equation that is no connective. The tableau gets the bounds that the literal of a relation of whole numbers is, as far as
+    /// they may stand beside those that stand. `why` is the number of the literal among the facts of the path. For want of memory
+    /// nothing more is told.
+    pub fn tell(
+        &mut self,
+        terms: &Terms,
+        atom: TermId,
+        part: Part,
+        why: u32,
+    ) -> Result<(), AllocError>
+        requires both { IsBoth terms.now self.old }
+        requires may { MayTell terms.now self.old.trail atom part }
+        ensures both { IsBoth terms.now self.new }
+        ensures levels { KeepsLevels terms.now self.old self.new }
+        ensures told { OnOk result (told self.new ≡ told self.old ++ record { atom = atom; part = part; why = why } ∷ []) }
+        ensures ties { OnOk result (ties self.new.trail.graph.told
+            ≡ ties self.old.trail.graph.told ++ literal_ties terms.now self.old.trail.truth self.old.trail.falsity atom part) }
+        ensures err { OnErr result (told self.new ≡ told self.old) }
+    {
+        let level = self.mark(terms);
+        match self.tell_all(terms, atom, part, why) {
+            Ok(()) => Ok(()),
+            Err(fault) => {
+                self.undo(terms, &level);
+                Err(fault)
+            }
+        }
+    }
+}
