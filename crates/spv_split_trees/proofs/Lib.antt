@@ -1,0 +1,4 @@
+pub mod Counting
+pub mod Showing
+pub mod Worlds
+pub mod Trying

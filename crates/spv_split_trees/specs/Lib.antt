@@ -1,0 +1,6 @@
+pub mod Trees
+pub mod Paths
+pub mod Shown
+pub mod Kept
+pub mod Laws
+pub mod Examples
