@@ -11,7 +11,6 @@ use Rattle.spv_atoms.proofs.Members.{has, or_cases, or_left, or_right}
 use Rattle.spv_proof.specs.Evaluation.{sides}
 use Rattle.spv_proof.specs.Effects.{Question, is_number}
 use Rattle.spv_proof.specs.Accepted.{two_cases, three_cases, cases_by_sides, cases_of}
-use Rattle.spv_leaf_tables.specs.Subterms.{is_among}
 use Rattle.spv_split_trees.specs.Trees.{Tree, Trees, Open, Closed, Split, no_trees, trees, splits, splits_all, count, splits_once, each_once}
 use Rattle.spv_split_trees.specs.Paths.{atoms}
 use Rattle.spv_split_trees.specs.Kept.{Stands, PartsStand, IsKept}

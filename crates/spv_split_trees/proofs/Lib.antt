@@ -2,3 +2,4 @@ pub mod Counting
 pub mod Showing
 pub mod Worlds
 pub mod Trying
+pub mod Filling

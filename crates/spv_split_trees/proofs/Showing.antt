@@ -1,9 +1,9 @@
 -- What is joined on a path is joined in each equivalence that shows that the path is live.
-use Rattle.std.proofs.Common.{◌≡◌, Bool, true, false, ◌&&◌, ◌||◌, List, refl, sym, ◌∙◌, ◌⊎◌, inl, inr}
+use Rattle.std.proofs.Common.{◌≡◌, Bool, true, List, refl, sym, ◌∙◌, inl, inr}
 use Rattle.std.proofs.lemmas.Bool.{false≢true}
 use Rattle.std.specs.Cmp.Derive.{both_true}
 use Rattle.spv_rational.specs.Rational.{Rational}
-use Rattle.spv_logic.specs.Terms.{Term, Terms, term, no_terms, terms}
+use Rattle.spv_logic.specs.Terms.{Term, Terms}
 use Rattle.spv_logic.specs.Formulas.{below}
 use Rattle.spv_atoms.proofs.Members.{or_cases}
 use Rattle.spv_joined.specs.Joined.{Joined, AllJoined}
@@ -11,7 +11,7 @@ use Rattle.spv_joined.specs.Joined as derived
 use Rattle.spv_pivots.proofs.Algebra.{true_of}
 use Rattle.spv_proof.specs.Effects.{Question, is_number}
 use Rattle.spv_leaf_tables.specs.Leaves.{all_same, is_met}
-use Rattle.spv_split_trees.specs.Paths.{Told, IsAdded, Linked, AllLinked, Shared, Parts, told, shared, itself, turned, through, congruent, none, more, forced, differ, IsLive}
+use Rattle.spv_split_trees.specs.Paths.{IsAdded, Linked, AllLinked, Shared, Parts, told, shared, itself, turned, through, congruent, none, more, forced, differ, IsLive}
 use Rattle.spv_split_trees.specs.Shown.{IsEqualAt, HasOrder, ShowsLive}
 use Rattle.spv_split_trees.specs.Laws.{IsToldOrShared}
 

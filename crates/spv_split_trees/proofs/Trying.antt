@@ -1,5 +1,5 @@
 -- The paths of the small searches: those that are live are so in a world, and those that are not have a contradiction.
-use Rattle.std.proofs.Common.{◌≡◌, ℕ, Bool, true, false, ◌&&◌, not, List, [], ◌∷◌, ℤ, pos, neg_ℤ, refl, sym, ap, ◌∙◌}
+use Rattle.std.proofs.Common.{◌≡◌, ℕ, Bool, true, false, not, List, [], ◌∷◌, ℤ, pos, neg_ℤ, refl, sym, ap, ◌∙◌}
 use mathlib.Core.Path.{ap₂}
 use Rattle.std.specs.List.{list_all}
 use Rattle.std.proofs.lemmas.Bool.{false≢true}
@@ -9,10 +9,9 @@ use Rattle.spv_rational.proofs.Signs.{not_positive_plus}
 use Rattle.spv_names.specs.declared.names.Symbol.{Symbol}
 use Rattle.spv_logic.specs.declared.types.Sort.{Sort}
 use Rattle.spv_logic.specs.declared.types.Sort.TheVariants as sort
-use Rattle.spv_logic.specs.declared.operators.Head.{Head}
 use Rattle.spv_logic.specs.declared.operators.Head.TheVariants.{Var, App}
-use Rattle.spv_logic.specs.Values.{Value, Number, Truth}
-use Rattle.spv_logic.specs.Terms.{Term, Terms, term, no_terms, terms, first}
+use Rattle.spv_logic.specs.Values.{Number, Truth}
+use Rattle.spv_logic.specs.Terms.{Term, no_terms, terms, first}
 use Rattle.spv_logic.specs.Fits.{fits, default_of}
 use Rattle.spv_logic.specs.Sorts.{variable_sort}
 use Rattle.spv_logic.specs.Formulas.{negation, equation, below}
@@ -23,13 +22,13 @@ use Rattle.spv_atoms.specs.Forms.{form}
 use Rattle.spv_atoms.proofs.Members.{has, has-left}
 use Rattle.spv_tableaux.specs.Numbers.{minus}
 use Rattle.spv_proof.specs.Sums.{difference}
-use Rattle.spv_proof.specs.Effects.{Question, is_number, at_most}
+use Rattle.spv_proof.specs.Effects.{Question, at_most}
 use Rattle.spv_readings.specs.Values.{form_value}
 use Rattle.spv_readings.proofs.Values.{difference-value}
 use Rattle.spv_leaf_tables.specs.Laws.{AreFormulas}
-use Rattle.spv_leaf_tables.specs.Leaves.{truth_term, is_met}
+use Rattle.spv_leaf_tables.specs.Leaves.{truth_term}
 use Rattle.spv_leaf_tables.specs.Tables.{formulas_of}
-use Rattle.spv_split_trees.specs.Paths.{facts, Known, Told, MeetsKnown, Linked, Shared, Parts, IsLive, given, affirmed, true_one, sides, told, shared, turned, through, congruent, none, more, forced}
+use Rattle.spv_split_trees.specs.Paths.{facts, Known, Shared, IsLive, given, affirmed, true_one, sides, told, shared, turned, through, congruent, none, more, forced}
 use Rattle.spv_split_trees.specs.Examples as example
 use Rattle.spv_split_trees.specs.Examples.{x, y, p, q, f_of, g_of, both, either}
 use Rattle.spv_split_trees.proofs.Worlds.{each_of, true-live}

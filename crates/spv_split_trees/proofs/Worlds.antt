@@ -1,5 +1,5 @@
 -- Where the facts of a path are true, all that is known is, and the path is live.
-use Rattle.std.proofs.Common.{◌≡◌, Bool, true, false, cond, ◌&&◌, ◌||◌, not, List, [], ◌∷◌, ℤ, pos, ◌+ℤ◌, ◌-ℤ◌, ◌*ℤ◌, refl, sym, ap, ◌∙◌, Option, Some, None, arith}
+use Rattle.std.proofs.Common.{◌≡◌, Bool, true, false, ◌||◌, not, List, [], ◌∷◌, ℤ, pos, ◌+ℤ◌, ◌-ℤ◌, ◌*ℤ◌, refl, sym, ap, ◌∙◌, Option, Some, None, arith}
 use mathlib.Core.Path.{ap₂}
 use Rattle.std.specs.List.{list_all, flat_map}
 use Rattle.std.specs.Int.RustNames.{int_lt}
@@ -7,12 +7,9 @@ use Rattle.std.proofs.lemmas.Bool.{false≢true}
 use Rattle.std.proofs.lemmas.Int.{ints}
 use Rattle.std.specs.Cmp.Derive.{both_true}
 use Rattle.spv_list.proofs.Tests.{left_true, right_true}
-use Rattle.spv_rational.specs.Rational.{Rational, whole, plus, is_zero, is_positive}
+use Rattle.spv_rational.specs.Rational.{Rational, whole, plus, is_positive}
 use Rattle.spv_rational.proofs.Field.{whole_plus, whole_times}
-use Rattle.spv_logic.specs.declared.types.Shape.{Shape}
-use Rattle.spv_logic.specs.declared.types.Decl.{Decl}
-use Rattle.spv_logic.specs.declared.operators.Head.{Head}
-use Rattle.spv_logic.specs.declared.operators.Head.TheVariants.{Eq, Lt, Le, Not}
+use Rattle.spv_logic.specs.declared.operators.Head.TheVariants.{Eq, Lt, Le}
 use Rattle.spv_logic.specs.Values.{Value, Number, Truth, value_eq, number_of}
 use Rattle.spv_logic.specs.Terms.{Term, Terms, term, no_terms, terms, term_eq, eval, eval_all, worth}
 use Rattle.spv_logic.specs.Shapes.{shapes_ok}
@@ -39,8 +36,8 @@ use Rattle.spv_leaf_tables.specs.Tables.{formulas_of}
 use Rattle.spv_leaf_tables.proofs.Closed.{with_term-parts}
 use Rattle.spv_leaf_tables.proofs.Covering.{atoms-are}
 use Rattle.spv_leaf_tables.proofs.Lookups.{passing-parts}
-use Rattle.spv_split_trees.specs.Paths.{atoms, questions, Known, AreKnown, MeetsKnown, Told, given, affirmed, denied, true_one, false_one, sides, numeral, IsLive}
-use Rattle.spv_split_trees.specs.Shown.{IsEqualAt, HasOrder, ShowsLive}
+use Rattle.spv_split_trees.specs.Paths.{atoms, questions, Known, MeetsKnown, Told, given, affirmed, denied, true_one, false_one, sides, IsLive}
+use Rattle.spv_split_trees.specs.Shown.{IsEqualAt, ShowsLive}
 use Rattle.spv_split_trees.proofs.Showing.{shown-live}
 
 -- ---- lists

@@ -1,5 +1,5 @@
 -- When the tree of a search that gave up is kept: it splits only where it may, closes paths by steps, and all others are live.
-use Rattle.std.specs.Prelude.{◌≡◌, ℕ, Bool, true, false, List, [], ◌∷◌, ◌++◌, ⊤}
+use Rattle.std.specs.Prelude.{◌≡◌, ℕ, true, false, List, [], ◌∷◌, ◌++◌, ⊤}
 use Rattle.spv_logic.specs.Terms.{Term}
 use Rattle.spv_proof.specs.Effects.{Question}
 use Rattle.spv_proof.specs.Accepted as accepted

@@ -1,5 +1,5 @@
 -- What is known on a path of a search, what follows from that by congruence and by what no point can tell apart, and when a path is live.
-use Rattle.std.specs.Prelude.{◌≡◌, Bool, true, false, List, ◌∷◌, ◌++◌, ℤ}
+use Rattle.std.specs.Prelude.{◌≡◌, true, false, List, ◌∷◌, ◌++◌, ℤ}
 use Rattle.spv_rational.specs.Rational.{Rational}
 use Rattle.spv_logic.specs.declared.operators.Head.{Head}
 use Rattle.spv_logic.specs.declared.operators.Head.TheVariants.{Num}

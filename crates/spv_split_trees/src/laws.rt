@@ -3,7 +3,7 @@
 ghost use Rattle.std.specs.Prelude.{◌≡◌};
 ghost use Rattle.spv_split_trees.specs.Examples as example;
 ghost use Rattle.spv_split_trees.specs.Kept.{IsKept};
-ghost use Rattle.spv_split_trees.specs.Laws.{FewSplits, JoinedIsLinked, KeptIsSmall, KeptSplitsOnce, KnownIsTrue, LinkedIsJoined, LinkedIsSame, ShownIsLive, TrueIsLive};
+ghost use Rattle.spv_split_trees.specs.Laws.{FewSplits, FullHasPoint, FullIsLeaf, FullIsTold, JoinedIsLinked, KeptIsSmall, KeptSplitsOnce, KnownIsTrue, LinkedIsJoined, LinkedIsSame, ShownIsLive, TrueIsLive};
 
 /// A tree that splits on each atom at most once on a path, and has at most three parts at each split,
 /// has fewer splits than 3 to the power of the number of atoms. So has a kept tree.
@@ -28,6 +28,14 @@ pub fn law_live()
     ensures shown { ShownIsLive }
     ensures known_true { KnownIsTrue }
     ensures live { TrueIsLive }
+{}
+
+/// A full path that is live ends in a leaf, where no truth is opposite to what the others make of it
+/// and congruence acts on all subterms; all else follows from what is known.
+pub fn law_full_path()
+    ensures told { FullIsTold }
+    ensures point { FullHasPoint }
+    ensures leaf { FullIsLeaf }
 {}
 
 /// Small searches: one whose tree of a single split is kept, and what trees lack that are not; and two

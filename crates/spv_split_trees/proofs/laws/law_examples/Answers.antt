@@ -1,8 +1,7 @@
-use Rattle.std.proofs.Common.{◌≡◌, ℕ, List, refl, sym, ◌∙◌, arith}
+use Rattle.std.proofs.Common.{◌≡◌, ℕ, List, refl, sym, arith}
 use Rattle.std.proofs.lemmas.Bool.{false≢true}
 use Rattle.spv_logic.specs.Terms.{Term}
 use Rattle.spv_proof.specs.Accepted.{Open, Closed}
-use Rattle.spv_split_trees.specs.Examples as example
 use Rattle.spv_split_trees.proofs.Trying.{start-live, below-live, above-live, equal-not-live, forced-not-live, arguments-not-live}
 use Rattle.spv_split_trees.proofs.laws.law_examples.Goals as goal
 
