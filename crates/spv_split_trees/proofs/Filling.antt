@@ -13,13 +13,16 @@ use Rattle.spv_leaf_tables.specs.Atoms.{is_open}
 use Rattle.spv_leaf_tables.specs.Leaves.{IsSameness, IsTold, IsPoint, IsLeaf, truth_term, is_met}
 use Rattle.spv_leaf_tables.specs.Laws.{AreFormulas}
 use Rattle.spv_leaf_tables.specs.Tables.{formulas_of}
-use Rattle.spv_split_trees.specs.Paths.{atoms, questions, Known, Linked, IsLive, told, true_one, false_one, sides}
+use Rattle.spv_split_trees.specs.Paths.{atoms, questions, Known, Gives, member, negated, Linked, IsLive, told, true_one, false_one, sides}
 use Rattle.spv_split_trees.specs.Leaves.{IsFull, leaf_of}
 
 module _ (q : Question) (fs : List Term) (live : IsLive q fs) (given : Term → Option Bool) (same : Term → Term → Bool) (full : IsFull q fs given same) where
-  -- an atom is a question
-  atom-asked : (t : Term) → is_among (atoms q) t ≡ true → is_among (questions q) t ≡ true
-  atom-asked t m = has-with_terms (atoms q) (passing is_open (truth_arguments (is_truth q) (subterms (formulas_of q.sequent)))) t m
+  literal-gives : (t : Term) (b : Bool) → Known q fs (literal b t) → Gives q fs t b
+  literal-gives t true k = member t k
+  literal-gives t false k = negated t k
+
+  full-agrees : (t : Term) → clashes (is_truth q) given t ≡ false
+  full-agrees t = live.agree given (λ u b e. literal-gives u b (full.known u b e)) t
 
   truth-linked : (t : Term) (b : Bool) → is_among (questions q) t ≡ true → Known q fs (literal b t) → Linked q fs t (truth_term b)
   truth-linked t true m k = told t (truth_term true) (true_one t m k)
@@ -31,8 +34,8 @@ module _ (q : Question) (fs : List Term) (live : IsLive q fs) (given : Term → 
 
   pub full-told : IsTold (questions q) (atoms q) given same
   full-told = record {
-    truths = λ t b m e. full.found t (truth_term b) (truth-linked t b m (full.known t b m e));
-    sides = λ s t b m e. sides-same s t b m (full.known (equation s t) b (atom-asked (equation s t) m) e);
+    truths = λ t b m e. full.found t (truth_term b) (truth-linked t b m (full.known t b e));
+    sides = λ s t b m e. sides-same s t b m (full.known (equation s t) b e);
     apart = false_of (same (truth_term true) (truth_term false)) (λ e. live.truths (full.derived (truth_term true) (truth_term false) e));
   }
 
@@ -42,18 +45,18 @@ module _ (q : Question) (fs : List Term) (live : IsLive q fs) (given : Term → 
 
   pub full-point : IsPoint (is_number q) (subterms (formulas_of q.sequent)) (atoms q) (leaf_of q fs live given same)
   full-point = record {
-    relations = λ t b m e. live.meets.met (literal b t) (full.known t b (atom-asked t m) e);
+    relations = λ t b m e. live.meets.met (literal b t) (full.known t b e);
     orders = λ s t m e n. order-met s t (full.ordered s t m e n);
     same = λ s t ms mt ns nt e. live.equal s t ns nt (full.derived s t e);
   }
 
 pub full-leaf : (q : Question) → AreFormulas q.shapes q.decls (formulas_of q.sequent) → (fs : List Term) (live : IsLive q fs) (given : Term → Option Bool) (same : Term → Term → Bool) → IsFull q fs given same
-    → ((t : Term) → is_among (subterms (formulas_of q.sequent)) t ≡ true → clashes (is_truth q) given t ≡ false) → IsSameness (subterms (formulas_of q.sequent)) same
+    → IsSameness (subterms (formulas_of q.sequent)) same
     → IsLeaf q.shapes q.decls (formulas_of q.sequent) (leaf_of q fs live given same)
-full-leaf q are fs live given same full agrees sameness = record {
+full-leaf q are fs live given same full sameness = record {
   formulas = are;
   full = full.full;
-  agrees = agrees;
+  agrees = λ t m. full-agrees q fs live given same full t;
   sameness = sameness;
   told = full-told q fs live given same full;
   point = full-point q fs live given same full;

@@ -9,11 +9,12 @@ use Rattle.spv_atoms.proofs.Members.{or_cases}
 use Rattle.spv_joined.specs.Joined.{Joined, AllJoined}
 use Rattle.spv_joined.specs.Joined as derived
 use Rattle.spv_pivots.proofs.Algebra.{true_of}
-use Rattle.spv_proof.specs.Effects.{Question, is_number}
+use Rattle.spv_proof.specs.Effects.{Question, is_truth, is_number}
 use Rattle.spv_leaf_tables.specs.Leaves.{all_same, is_met}
-use Rattle.spv_split_trees.specs.Paths.{IsAdded, Linked, AllLinked, Shared, Parts, told, shared, itself, turned, through, congruent, none, more, forced, differ, IsLive}
+use Rattle.spv_split_trees.specs.Paths.{IsAdded, Linked, AllLinked, Shared, TellsApart, told, shared, itself, turned, through, congruent, none, more, forced, differ, IsLive}
 use Rattle.spv_split_trees.specs.Shown.{IsEqualAt, HasOrder, ShowsLive}
 use Rattle.spv_split_trees.specs.Laws.{IsToldOrShared}
+use Rattle.spv_split_trees.proofs.Agreeing.{no_clash}
 
 module _ (q : Question) (fs : List Term) where
   mutual
@@ -66,14 +67,14 @@ module _ (q : Question) (fs : List Term) where
           true_of (same s t)
           (λ e. let o : HasOrder q fs same s t = w.orders s t m a b e in
           or_cases (is_met (is_number q) o.point (below s t)) (is_met (is_number q) o.point (below t s)) o.order
-          (λ k. never_parts o.point o.equal (l o.point o.meets k)) (λ k. never_parts o.point o.equal (r o.point o.meets k)))
+          (λ k. never_apart o.point o.equal (l o.point o.meets k)) (λ k. never_apart o.point o.equal (r o.point o.meets k)))
 
-      never_parts : (point : Term → Rational) → IsEqualAt q same point → Parts q fs point → ⊥
-      never_parts _ e (differ point s t a b d n) = n (e s t a b (linked-same s t d))
+      never_apart : (point : Term → Rational) → IsEqualAt q same point → TellsApart q fs point → ⊥
+      never_apart _ e (differ point s t a b d n) = n (e s t a b (linked-same s t d))
 
     pub shown-live : IsLive q fs
     shown-live = record {
-      agree = w.agree;
+      agree = λ g gives t. no_clash (is_truth q) g w.value (λ u b e. w.covers u b (gives u b e)) w.agree t;
       apart = λ s t m k d. false≢true (sym (w.apart s t m k) ∙ linked-same s t d);
       numerals = λ y z d. w.numerals y z (linked-same _ _ d);
       truths = λ d. false≢true (sym w.truths ∙ linked-same _ _ d);

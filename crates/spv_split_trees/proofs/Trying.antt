@@ -28,7 +28,7 @@ use Rattle.spv_readings.proofs.Values.{difference-value}
 use Rattle.spv_leaf_tables.specs.Laws.{AreFormulas}
 use Rattle.spv_leaf_tables.specs.Leaves.{truth_term}
 use Rattle.spv_leaf_tables.specs.Tables.{formulas_of}
-use Rattle.spv_split_trees.specs.Paths.{facts, Known, Shared, IsLive, given, affirmed, true_one, sides, told, shared, turned, through, congruent, none, more, forced}
+use Rattle.spv_split_trees.specs.Paths.{facts, Known, Shared, IsLive, given, affirmed, lower, true_one, sides, told, shared, turned, through, congruent, none, more, forced}
 use Rattle.spv_split_trees.specs.Examples as example
 use Rattle.spv_split_trees.specs.Examples.{x, y, p, q, f_of, g_of, both, either}
 use Rattle.spv_split_trees.proofs.Worlds.{each_of, true-live}
@@ -125,3 +125,8 @@ arguments-not-live live =
     live.apart (g_of both) (g_of either) refl (given (negation (equation (g_of both) (g_of either))) refl)
     (congruent (App (record { 0 = 11 })) (terms both no_terms) (terms either no_terms) refl refl
     (more both either no_terms no_terms (through both (truth_term true) either first_one (turned either (truth_term true) second_one)) none))
+
+-- ---- orders
+
+pub order-known : Known example.search (facts example.search (below x y ∷ [])) (negation (equation x y))
+order-known = lower x y refl (given (below x y) refl)

@@ -10,20 +10,22 @@ use Rattle.spv_list.proofs.Tests.{left_true, right_true}
 use Rattle.spv_rational.specs.Rational.{Rational, whole, plus, is_positive}
 use Rattle.spv_rational.proofs.Field.{whole_plus, whole_times}
 use Rattle.spv_logic.specs.declared.operators.Head.TheVariants.{Eq, Lt, Le}
-use Rattle.spv_logic.specs.Values.{Value, Number, Truth, value_eq, number_of}
+use Rattle.spv_logic.specs.Values.{Value, Number, Truth, value_eq, bool_eq, number_of}
 use Rattle.spv_logic.specs.Terms.{Term, Terms, term, no_terms, terms, term_eq, eval, eval_all, worth}
 use Rattle.spv_logic.specs.Shapes.{shapes_ok}
 use Rattle.spv_logic.specs.Formulas.{negation, equation, below}
 use Rattle.spv_logic.specs.Conditions.{Meaning, Valuation, IsValuation, answers, holds}
-use Rattle.spv_logic.proofs.Equality.{value_eq-true, value_eq-refl, term_eq-true, term_eq-refl}
+use Rattle.spv_logic.proofs.Equality.{value_eq-true, value_eq-refl, bool_eq-refl, term_eq-true, term_eq-refl}
 use Rattle.spv_atoms.specs.Forms.{Form, form, minus, parts_worth, form_worth}
+use Rattle.spv_atoms.specs.Tables.{computed}
 use Rattle.spv_atoms.specs.Atoms.{is_truth, with_term, with_terms}
 use Rattle.spv_atoms.specs.Order.{passing}
 use Rattle.spv_atoms.proofs.Members.{has, or_cases, or_left, or_right}
 use Rattle.spv_atoms.proofs.Truths as truths
 use Rattle.spv_atoms.proofs.Worth.{worth_is, minus-worth}
 use Rattle.spv_pivots.proofs.Algebra.{false_of}
-use Rattle.spv_proof.specs.Sums.{Comparison, Equals, IsBelow, IsAtMost, comparison, negated, Reading, difference, read_true, read_false, sides_pass, read_if, read_relation, read_by}
+use Rattle.spv_proof.specs.Sums.{Comparison, Equals, IsBelow, IsAtMost, comparison, negated as what_negates, Reading, difference, read_true, read_false, sides_pass, read_if, read_relation, read_by}
+use Rattle.spv_proof.specs.Evaluation.{opposite}
 use Rattle.spv_proof.specs.Effects.{Question, is_number}
 use Rattle.spv_proof.proofs.Evaluating.{evaluates_true, negated_is}
 use Rattle.spv_readings.specs.Values.{parts_value, form_value, holds_at}
@@ -36,7 +38,7 @@ use Rattle.spv_leaf_tables.specs.Tables.{formulas_of}
 use Rattle.spv_leaf_tables.proofs.Closed.{with_term-parts}
 use Rattle.spv_leaf_tables.proofs.Covering.{atoms-are}
 use Rattle.spv_leaf_tables.proofs.Lookups.{passing-parts}
-use Rattle.spv_split_trees.specs.Paths.{atoms, questions, Known, MeetsKnown, Told, given, affirmed, denied, true_one, false_one, sides, IsLive}
+use Rattle.spv_split_trees.specs.Paths.{atoms, questions, Known, Gives, MeetsKnown, Told, given, affirmed, denied, lower, upper, member, negated, below_it, above_it, true_one, false_one, sides, IsLive}
 use Rattle.spv_split_trees.specs.Shown.{IsEqualAt, ShowsLive}
 use Rattle.spv_split_trees.proofs.Showing.{shown-live}
 
@@ -88,6 +90,9 @@ no_order a b h k = grind (arith, ints)
 last_added : (a b c : ℤ) → a +ℤ (b +ℤ c) ≡ a +ℤ b +ℤ c
 last_added a b c = omega (arith, ints)
 
+never_below : (a b : ℤ) → a ≡ b → int_lt a b ≡ true → ⊥
+never_below a b e h = grind (arith, ints)
+
 -- what forms are worth at a point of whole numbers
 module _ (w : Term → ℤ) where
   parts-whole : (parts : List (Term × ℤ)) → parts_value (λ t. whole (w t)) parts ≡ whole (parts_worth w parts)
@@ -96,6 +101,11 @@ module _ (w : Term → ℤ) where
 
   form-whole : (f : Form) → form_value (λ t. whole (w t)) f ≡ whole (form_worth w f)
   form-whole f = ap (λ x. plus x (whole f.constant)) (parts-whole f.parts) ∙ whole_plus (parts_worth w f.parts) f.constant
+
+-- a computed value that is right is not opposite to the right one
+never_opposite : (b : Bool) (o : Option Bool) → truths.Known b o → opposite o (Some b) ≡ false
+never_opposite b None k = refl
+never_opposite b (Some a) k = ap (λ c. not (bool_eq a c)) (k.tells a refl) ∙ ap not (bool_eq-refl a)
 
 -- ---- what is true in one world under one valuation
 
@@ -160,9 +170,9 @@ module _ (q : Question) (ok : shapes_ok q.shapes ≡ true) (world : Meaning) (v 
 
   -- a formula that is true is met as it is read
   truth_met : (t : Term) → true_in t ≡ true → is_met (is_number q) here t ≡ true
-  truth_met t h = by_negated (negated t) refl
+  truth_met t h = by_negated (what_negates t) refl
     where
-      by_negated : (o : Option Term) → negated t ≡ o → is_met_by here (read_by (is_number q) o t) ≡ true
+      by_negated : (o : Option Term) → what_negates t ≡ o → is_met_by here (read_by (is_number q) o t) ≡ true
       by_negated None e = relation_met (λ c. Some (read_true c)) (comparison t) (λ c f. true_met c (sym (comparison_is t c f) ∙ h))
       by_negated (Some u) e =
           relation_met read_false (comparison u)
@@ -198,11 +208,25 @@ module _ (q : Question) (ok : shapes_ok q.shapes ≡ true) (world : Meaning) (v 
 
   -- ---- paths whose facts are true
 
+  order-differs : (s t : Term) → int_lt (number_in s) (number_in t) ≡ true → same s t ≡ false
+  order-differs s t h = false_of (same s t) (λ e. never_below (number_in s) (number_in t) (ap number_of (same_worth s t e)) h)
+
+  order-differs-back : (s t : Term) → int_lt (number_in t) (number_in s) ≡ true → same s t ≡ false
+  order-differs-back s t h = false_of (same s t) (λ e. never_below (number_in t) (number_in s) (ap number_of (sym (same_worth s t e))) h)
+
   module _ (fs : List Term) (facts_true : list_all true_in fs ≡ true) where
     pub known_here : (t : Term) → Known q fs t → true_in t ≡ true
     known_here _ (given t m) = each_of true_in fs facts_true t m
     known_here _ (affirmed t cited m all e) = evaluates_true q.shapes ok q.decls world v typed cited t (all_where true_in cited (λ u k. known_here u (all u k))) e
     known_here _ (denied t cited m all e) = evaluates_true q.shapes ok q.decls world v typed cited (negation t) (all_where true_in cited (λ u k. known_here u (all u k))) e
+    known_here _ (lower s t m k) = ap not (order-differs s t (known_here (below s t) k))
+    known_here _ (upper s t m k) = ap not (order-differs-back s t (known_here (below t s) k))
+
+    given_here : (t : Term) (b : Bool) → Gives q fs t b → Some (true_in t) ≡ Some b
+    given_here _ _ (member t k) = ap Some (known_here t k)
+    given_here _ _ (negated t k) = ap Some (not_false (true_in t) (known_here (negation t) k))
+    given_here _ _ (below_it s t k) = ap Some (order-differs s t (known_here (below s t) k))
+    given_here _ _ (above_it s t k) = ap Some (order-differs-back s t (known_here (below t s) k))
 
     meets_here : MeetsKnown q fs here
     meets_here = record { met = λ t k. truth_met t (known_here t k) }
@@ -231,7 +255,9 @@ module _ (q : Question) (ok : shapes_ok q.shapes ≡ true) (world : Meaning) (v 
         sameness = worth-sameness (subterms (atoms q));
         told = told_here;
         orders = λ s t m a b e. record { point = here; meets = meets_here; equal = equal_here; order = ordered s t a b e };
-        agree = λ cited all. false_of _ (λ e. false≢true (evaluates_true q.shapes ok q.decls world v typed cited (truth_term false) (all_where true_in cited (λ u k. known_here u (all u k))) e));
+        value = λ t. Some (true_in t);
+        covers = given_here;
+        agree = λ t. never_opposite (true_in t) (computed (is_truth q.shapes q.decls) (λ u. Some (true_in u)) t) (truths.computed_known q.shapes ok q.decls world v typed (λ u. Some (true_in u)) (λ u. truths.known_some (true_in u) (true_in u) refl) t);
         apart = λ s t m k. not_false (same s t) (known_here (negation (equation s t)) k);
         numerals = λ y z e. ap number_of (value_eq-true (Number y) (Number z) e);
         truths = refl;

@@ -1,16 +1,17 @@
 -- Small searches: trees that are kept, and others that lack one thing each.
-use Rattle.std.specs.Prelude.{ℕ, List, [], ◌∷◌, Some, slice_index_or}
+use Rattle.std.specs.Prelude.{ℕ, Bool, List, [], ◌∷◌, Some, slice_index_or}
 use Rattle.spv_names.specs.declared.names.Symbol.{Symbol}
 use Rattle.spv_logic.specs.declared.conditions.TermId.{TermId}
 use Rattle.spv_logic.specs.declared.types.Sort.TheVariants as sort
 use Rattle.spv_logic.specs.declared.types.Decl.{Decl}
 use Rattle.spv_logic.specs.declared.operators.Head.TheVariants.{Var, App, And, Or}
 use Rattle.spv_logic.specs.Terms.{Term, term, no_terms, terms}
-use Rattle.spv_logic.specs.Formulas.{equation, below}
+use Rattle.spv_logic.specs.Formulas.{negation, equation, below}
 use Rattle.spv_atoms.specs.declared.proofs.Step.TheVariants.{Given, Cong, Contra}
-use Rattle.spv_proof.specs.Effects.{Question, at_most}
+use Rattle.spv_proof.specs.Evaluation.{evaluates}
+use Rattle.spv_proof.specs.Effects.{Question, is_truth, at_most}
 use Rattle.spv_split_trees.specs.Trees.{Tree, Trees, Open, Closed, Split, no_trees, trees}
-use Rattle.spv_split_trees.specs.Paths.{atoms, facts, IsLive}
+use Rattle.spv_split_trees.specs.Paths.{atoms, facts, Known, IsLive}
 
 abbrev symbol : ℕ → Symbol
 symbol n = record { 0 = n }
@@ -104,6 +105,15 @@ split_elsewhere = Split (below x y) (trees Open (trees Open no_trees))
 -- steps that end no path
 abbrev pub not_closed : Tree
 not_closed = split (three (Closed (Given 0 ∷ [])) Open Open)
+
+-- ---- orders
+
+-- on the path x < y it is known that x = y is false; no evaluation adds that, since one that supposes x = y looks no further
+abbrev pub OrderIsKnown : Type 0
+OrderIsKnown = Known search (facts search (below x y ∷ [])) (negation (equation x y))
+
+abbrev pub order_evaluates : Bool
+order_evaluates = evaluates (is_truth search) (below x y ∷ []) (negation (equation x y))
 
 -- ---- what bounds force
 

@@ -1,13 +1,12 @@
 -- What is true of the trees of a search, and of its paths.
-use Rattle.std.specs.Prelude.{◌≡◌, ℕ, ◌^◌, ◌<◌, ◌⊎◌, Bool, true, false, List, [], length, Option, IsTrue}
+use Rattle.std.specs.Prelude.{◌≡◌, ℕ, ◌^◌, ◌<◌, ◌⊎◌, Bool, true, List, [], length, Option, IsTrue}
 use Rattle.std.specs.List.{list_all}
 use Rattle.spv_logic.specs.Terms.{Term}
 use Rattle.spv_logic.specs.Shapes.{shapes_ok}
 use Rattle.spv_logic.specs.Conditions.{Meaning, Valuation, IsValuation, answers, holds}
 use Rattle.spv_joined.specs.Joined.{Joined}
-use Rattle.spv_proof.specs.Evaluation.{clashes}
-use Rattle.spv_proof.specs.Effects.{Question, is_truth, is_number}
-use Rattle.spv_leaf_tables.specs.Subterms.{is_among, subterms}
+use Rattle.spv_proof.specs.Effects.{Question, is_number}
+use Rattle.spv_leaf_tables.specs.Subterms.{subterms}
 use Rattle.spv_leaf_tables.specs.Leaves.{IsSameness, IsTold, IsPoint, IsLeaf}
 use Rattle.spv_leaf_tables.specs.Laws.{AreFormulas}
 use Rattle.spv_leaf_tables.specs.Tables.{formulas_of}
@@ -77,8 +76,8 @@ abbrev pub FullHasPoint : Type 0
 FullHasPoint = (q : Question) (fs : List Term) (live : IsLive q fs) (given : Term → Option Bool) (same : Term → Term → Bool) → IsFull q fs given same
     → IsPoint (is_number q) (subterms (formulas_of q.sequent)) (atoms q) (leaf_of q fs live given same)
 
--- and it is a leaf, where no truth is opposite to what the others make of it, and congruence acts on all subterms
+-- and it is a leaf, where congruence acts on all subterms, so on connectives too
 abbrev pub FullIsLeaf : Type 0
 FullIsLeaf = (q : Question) → AreFormulas q.shapes q.decls (formulas_of q.sequent) → (fs : List Term) (live : IsLive q fs) (given : Term → Option Bool) (same : Term → Term → Bool) → IsFull q fs given same
-    → ((t : Term) → is_among (subterms (formulas_of q.sequent)) t ≡ true → clashes (is_truth q) given t ≡ false) → IsSameness (subterms (formulas_of q.sequent)) same
+    → IsSameness (subterms (formulas_of q.sequent)) same
     → IsLeaf q.shapes q.decls (formulas_of q.sequent) (leaf_of q fs live given same)

@@ -1,11 +1,11 @@
 -- What is known on a path of a search, what follows from that by congruence and by what no point can tell apart, and when a path is live.
-use Rattle.std.specs.Prelude.{◌≡◌, true, false, List, ◌∷◌, ◌++◌, ℤ}
+use Rattle.std.specs.Prelude.{◌≡◌, Bool, true, false, List, ◌∷◌, ◌++◌, ℤ, Option, Some}
 use Rattle.spv_rational.specs.Rational.{Rational}
 use Rattle.spv_logic.specs.declared.operators.Head.{Head}
 use Rattle.spv_logic.specs.declared.operators.Head.TheVariants.{Num}
 use Rattle.spv_logic.specs.Terms.{Term, Terms, term, no_terms, terms}
 use Rattle.spv_logic.specs.Formulas.{negation, equation, below}
-use Rattle.spv_proof.specs.Evaluation.{evaluates}
+use Rattle.spv_proof.specs.Evaluation.{evaluates, clashes}
 use Rattle.spv_proof.specs.Effects.{Question, is_truth, is_number}
 use Rattle.spv_leaf_tables.specs.Subterms.{is_among, subterms}
 use Rattle.spv_leaf_tables.specs.Atoms as search
@@ -25,14 +25,21 @@ facts q cases = q.sequent.given ++ negation q.sequent.goal ∷ cases
 
 -- ---- what is known
 
--- the least list with these facts, and with each question, or its negation, that an evaluation adds from members of the list
+-- the least list with these facts, with each question, or its negation, that an evaluation adds from members of the list, and with
+-- the negation of each equation among the questions of which it has an order
 pub data Known (q : Question) (fs : List Term) : Term → Type 0 where
   given : (t : Term) → is_among fs t ≡ true → Known q fs t
   affirmed : (t : Term) (cited : List Term) → is_among (questions q) t ≡ true → ((u : Term) → is_among cited u ≡ true → Known q fs u) → evaluates (is_truth q) cited t ≡ true → Known q fs t
   denied : (t : Term) (cited : List Term) → is_among (questions q) t ≡ true → ((u : Term) → is_among cited u ≡ true → Known q fs u) → evaluates (is_truth q) cited (negation t) ≡ true → Known q fs (negation t)
+  lower : (s t : Term) → is_among (questions q) (equation s t) ≡ true → Known q fs (below s t) → Known q fs (negation (equation s t))
+  upper : (s t : Term) → is_among (questions q) (equation s t) ≡ true → Known q fs (below t s) → Known q fs (negation (equation s t))
 
-abbrev pub AreKnown : Question → List Term → List Term → Type 0
-AreKnown q fs cited = (u : Term) → is_among cited u ≡ true → Known q fs u
+-- the truth that what is known gives to a term: a member and what it negates have theirs, and an equation of which it has an order is false
+pub data Gives (q : Question) (fs : List Term) : Term → Bool → Type 0 where
+  member : (t : Term) → Known q fs t → Gives q fs t true
+  negated : (t : Term) → Known q fs (negation t) → Gives q fs t false
+  below_it : (s t : Term) → Known q fs (below s t) → Gives q fs (equation s t) false
+  above_it : (s t : Term) → Known q fs (below t s) → Gives q fs (equation s t) false
 
 -- a point at which each relation that is known is true, as it is read
 pub record MeetsKnown (q : Question) (fs : List Term) (point : Term → Rational) : Type 0 where
@@ -68,13 +75,13 @@ mutual
   -- the sides of an equation of whole numbers among the atoms, neither of which any point can put below the other
   pub data Shared (q : Question) (fs : List Term) : Term → Term → Type 0 where
     forced : (s t : Term) → is_among (atoms q) (equation s t) ≡ true → is_number q s ≡ true → is_number q t ≡ true
-        → ((point : Term → Rational) → MeetsKnown q fs point → is_met (is_number q) point (below s t) ≡ true → Parts q fs point)
-        → ((point : Term → Rational) → MeetsKnown q fs point → is_met (is_number q) point (below t s) ≡ true → Parts q fs point)
+        → ((point : Term → Rational) → MeetsKnown q fs point → is_met (is_number q) point (below s t) ≡ true → TellsApart q fs point)
+        → ((point : Term → Rational) → MeetsKnown q fs point → is_met (is_number q) point (below t s) ≡ true → TellsApart q fs point)
         → Shared q fs s t
 
   -- a point gives different values to two terms of sort Int that are joined
-  pub data Parts (q : Question) (fs : List Term) : (Term → Rational) → Type 0 where
-    differ : (point : Term → Rational) (s t : Term) → is_number q s ≡ true → is_number q t ≡ true → Linked q fs s t → (worth_at point s ≡ worth_at point t → ⊥) → Parts q fs point
+  pub data TellsApart (q : Question) (fs : List Term) : (Term → Rational) → Type 0 where
+    differ : (point : Term → Rational) (s t : Term) → is_number q s ≡ true → is_number q t ≡ true → Linked q fs s t → (worth_at point s ≡ worth_at point t → ⊥) → TellsApart q fs point
 
 -- ---- live paths
 
@@ -83,8 +90,8 @@ numeral z = term (Num z) no_terms
 
 -- nothing shows a contradiction in what is known
 pub record IsLive (q : Question) (fs : List Term) : Type 0 where
-  -- no evaluation adds FALSE: no value that is known is opposite to what the others make of it
-  pub agree : (cited : List Term) → AreKnown q fs cited → evaluates (is_truth q) cited (truth_term false) ≡ false
+  -- no truth that is given is opposite to what connectives make of others that are
+  pub agree : (given_to : Term → Option Bool) → ((t : Term) (b : Bool) → given_to t ≡ Some b → Gives q fs t b) → (t : Term) → clashes (is_truth q) given_to t ≡ false
   -- no sides of an equation that is false are joined, no two different numerals, and not TRUE with FALSE
   pub apart : (s t : Term) → is_among (atoms q) (equation s t) ≡ true → Known q fs (negation (equation s t)) → Linked q fs s t → ⊥
   pub numerals : (y z : ℤ) → Linked q fs (numeral y) (numeral z) → y ≡ z

@@ -1,13 +1,13 @@
--- What shows that a path is live: an equivalence in which all that is told is the same, and points.
-use Rattle.std.specs.Prelude.{◌≡◌, Bool, true, false, ◌||◌, List, ℤ}
+-- What shows that a path is live: an equivalence in which all that is told is the same, values, and points.
+use Rattle.std.specs.Prelude.{◌≡◌, Bool, true, false, ◌||◌, List, ℤ, Option, Some}
 use Rattle.spv_rational.specs.Rational.{Rational}
 use Rattle.spv_logic.specs.Terms.{Term}
 use Rattle.spv_logic.specs.Formulas.{negation, equation, below}
-use Rattle.spv_proof.specs.Evaluation.{evaluates}
+use Rattle.spv_proof.specs.Evaluation.{clashes}
 use Rattle.spv_proof.specs.Effects.{Question, is_truth, is_number}
 use Rattle.spv_leaf_tables.specs.Subterms.{is_among, subterms}
 use Rattle.spv_leaf_tables.specs.Leaves.{IsSameness, truth_term, worth_at, is_met}
-use Rattle.spv_split_trees.specs.Paths.{atoms, Known, AreKnown, MeetsKnown, Told, numeral}
+use Rattle.spv_split_trees.specs.Paths.{atoms, Known, Gives, MeetsKnown, Told, numeral}
 
 -- a point that gives equal values to the terms of sort Int that are the same
 abbrev pub IsEqualAt : Question → (Term → Term → Bool) → (Term → Rational) → Type 0
@@ -26,7 +26,10 @@ pub record ShowsLive (q : Question) (fs : List Term) (same : Term → Term → B
   pub told : (s t : Term) → Told q fs s t → same s t ≡ true
   -- the sides of each equation of whole numbers among the atoms are the same, or have an order
   pub orders : (s t : Term) → is_among (atoms q) (equation s t) ≡ true → is_number q s ≡ true → is_number q t ≡ true → same s t ≡ false → HasOrder q fs same s t
-  pub agree : (cited : List Term) → AreKnown q fs cited → evaluates (is_truth q) cited (truth_term false) ≡ false
+  -- a value for each term that has a truth, none opposite to what connectives make of the others
+  pub value : Term → Option Bool
+  pub covers : (t : Term) (b : Bool) → Gives q fs t b → value t ≡ Some b
+  pub agree : (t : Term) → clashes (is_truth q) value t ≡ false
   pub apart : (s t : Term) → is_among (atoms q) (equation s t) ≡ true → Known q fs (negation (equation s t)) → same s t ≡ false
   pub numerals : (y z : ℤ) → same (numeral y) (numeral z) ≡ true → y ≡ z
   pub truths : same (truth_term true) (truth_term false) ≡ false

@@ -1,6 +1,6 @@
 // What is true of the trees of a search, each law the contract of a function that does nothing.
 
-ghost use Rattle.std.specs.Prelude.{◌≡◌};
+ghost use Rattle.std.specs.Prelude.{◌≡◌, false};
 ghost use Rattle.spv_split_trees.specs.Examples as example;
 ghost use Rattle.spv_split_trees.specs.Kept.{IsKept};
 ghost use Rattle.spv_split_trees.specs.Laws.{FewSplits, FullHasPoint, FullIsLeaf, FullIsTold, JoinedIsLinked, KeptIsSmall, KeptSplitsOnce, KnownIsTrue, LinkedIsJoined, LinkedIsSame, ShownIsLive, TrueIsLive};
@@ -30,8 +30,8 @@ pub fn law_live()
     ensures live { TrueIsLive }
 {}
 
-/// A full path that is live ends in a leaf, where no truth is opposite to what the others make of it
-/// and congruence acts on all subterms; all else follows from what is known.
+/// A full path that is live ends in a leaf, where congruence acts on all subterms, so on connectives
+/// too; all else follows from what is known.
 pub fn law_full_path()
     ensures told { FullIsTold }
     ensures point { FullHasPoint }
@@ -50,6 +50,8 @@ pub fn law_examples()
     ensures parts_of_its_kind { IsKept example.search 1 example.two_parts → ⊥ }
     ensures atom_of_the_search { IsKept example.search 1 example.split_elsewhere → ⊥ }
     ensures steps_that_end { IsKept example.search 1 example.not_closed → ⊥ }
+    ensures order_is_known { example.OrderIsKnown }
+    ensures evaluation_is_not_enough { example.order_evaluates ≡ false }
     ensures what_bounds_force { example.IsLiveAtStart example.forced → ⊥ }
     ensures arguments_are_asked { example.IsLiveAtStart example.arguments → ⊥ }
 {}

@@ -2,7 +2,7 @@ use Rattle.std.proofs.Common.{◌≡◌, ℕ, List, refl, sym, arith}
 use Rattle.std.proofs.lemmas.Bool.{false≢true}
 use Rattle.spv_logic.specs.Terms.{Term}
 use Rattle.spv_proof.specs.Accepted.{Open, Closed}
-use Rattle.spv_split_trees.proofs.Trying.{start-live, below-live, above-live, equal-not-live, forced-not-live, arguments-not-live}
+use Rattle.spv_split_trees.proofs.Trying.{order-known, start-live, below-live, above-live, equal-not-live, forced-not-live, arguments-not-live}
 use Rattle.spv_split_trees.proofs.laws.law_examples.Goals as goal
 
 other_number : (n : ℕ) → n ≡ 1 → n ≡ 2 → ⊥
@@ -38,6 +38,12 @@ returns-clause-atom_of_the_search c k = false≢true k.stands.0.is_atom
 
 pub returns-clause-steps_that_end : goal.returns-clause-steps_that_end
 returns-clause-steps_that_end c k = opened k.stands.1.0
+
+pub returns-clause-order_is_known : goal.returns-clause-order_is_known
+returns-clause-order_is_known c = order-known
+
+pub returns-clause-evaluation_is_not_enough : goal.returns-clause-evaluation_is_not_enough
+returns-clause-evaluation_is_not_enough c = refl
 
 pub returns-clause-what_bounds_force : goal.returns-clause-what_bounds_force
 returns-clause-what_bounds_force c live = forced-not-live live
