@@ -1,13 +1,13 @@
 -- Values that are computed from fewer given ones stay, and so do not clash where those of more do not.
-use Rattle.std.proofs.Common.{◌≡◌, Bool, true, false, not, List, [], ◌∷◌, refl, sym, ap, ◌∙◌, Option, Some, None}
+use Rattle.std.proofs.Common.{◌≡◌, Bool, true, false, not, List, refl, sym, ap, ◌∙◌, Option, Some, None}
 use mathlib.Core.Path.{ap₂}
 use Rattle.spv_logic.specs.declared.operators.Head.{Head}
-use Rattle.spv_logic.specs.declared.operators.Head.TheVariants.{Not, And, Or, Implies, Eq, True, False}
+use Rattle.spv_logic.specs.declared.operators.Head.TheVariants.{Not, And, Or, Implies, Eq}
 use Rattle.spv_logic.specs.Values.{bool_eq}
 use Rattle.spv_logic.specs.Terms.{Term, Terms, term, no_terms, terms}
 use Rattle.spv_logic.proofs.Equality.{bool_eq-true}
 use Rattle.spv_pivots.proofs.Algebra.{true_of}
-use Rattle.spv_atoms.specs.Tables.{not_of, and_of, or_of, implied, same_of, or_else, all_truths, first_of, second_of, equation_value, combined, computed, values}
+use Rattle.spv_atoms.specs.Tables.{not_of, and_of, or_of, same_of, or_else, all_truths, first_of, second_of, equation_value, combined, computed, values}
 use Rattle.spv_proof.specs.Evaluation.{opposite, clashes}
 use Rattle.std.proofs.lemmas.Bool.{false≢true}
 

@@ -2,14 +2,12 @@
 use Rattle.std.proofs.Common.{◌≡◌, Bool, true, false, ◌||◌, List, ◌⊎◌, inl, inr, Option}
 use Rattle.spv_logic.specs.Terms.{Term}
 use Rattle.spv_logic.specs.Formulas.{equation, below}
-use Rattle.spv_atoms.specs.Order.{passing}
-use Rattle.spv_atoms.proofs.Members.{or_left, or_right, has-with_terms}
+use Rattle.spv_atoms.proofs.Members.{or_left, or_right}
 use Rattle.spv_pivots.proofs.Algebra.{false_of}
 use Rattle.spv_proof.specs.Evaluation.{clashes}
 use Rattle.spv_proof.specs.Effects.{Question, is_truth, is_number}
 use Rattle.spv_readings.specs.Sayings.{literal}
-use Rattle.spv_leaf_tables.specs.Subterms.{is_among, subterms, truth_arguments}
-use Rattle.spv_leaf_tables.specs.Atoms.{is_open}
+use Rattle.spv_leaf_tables.specs.Subterms.{is_among, subterms}
 use Rattle.spv_leaf_tables.specs.Leaves.{IsSameness, IsTold, IsPoint, IsLeaf, truth_term, is_met}
 use Rattle.spv_leaf_tables.specs.Laws.{AreFormulas}
 use Rattle.spv_leaf_tables.specs.Tables.{formulas_of}

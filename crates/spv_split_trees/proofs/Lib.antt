@@ -1,4 +1,5 @@
 pub mod Agreeing
+pub mod Finishing
 pub mod Counting
 pub mod Showing
 pub mod Worlds

@@ -1,5 +1,5 @@
 -- What is true of the trees of a search, and of its paths.
-use Rattle.std.specs.Prelude.{◌≡◌, ℕ, ◌^◌, ◌<◌, ◌⊎◌, Bool, true, List, [], length, Option, IsTrue}
+use Rattle.std.specs.Prelude.{◌≡◌, ℕ, ◌^◌, ◌<◌, ◌⊎◌, Bool, true, List, [], length, Option, Some, IsTrue}
 use Rattle.std.specs.List.{list_all}
 use Rattle.spv_logic.specs.Terms.{Term}
 use Rattle.spv_logic.specs.Shapes.{shapes_ok}
@@ -11,8 +11,8 @@ use Rattle.spv_leaf_tables.specs.Leaves.{IsSameness, IsTold, IsPoint, IsLeaf}
 use Rattle.spv_leaf_tables.specs.Laws.{AreFormulas}
 use Rattle.spv_leaf_tables.specs.Tables.{formulas_of}
 use Rattle.spv_split_trees.specs.Trees.{Tree, splits, splits_once}
-use Rattle.spv_split_trees.specs.Paths.{atoms, questions, Known, Told, IsAdded, Linked, Shared, IsLive}
-use Rattle.spv_split_trees.specs.Shown.{ShowsLive}
+use Rattle.spv_split_trees.specs.Paths.{atoms, questions, Known, Gives, Told, IsAdded, Linked, Shared, IsLive}
+use Rattle.spv_split_trees.specs.Shown.{IsFinished, ShowsLive}
 use Rattle.spv_split_trees.specs.Leaves.{IsFull, leaf_of}
 use Rattle.spv_split_trees.specs.Kept.{IsKept}
 
@@ -31,6 +31,10 @@ abbrev pub KeptIsSmall : Type 0
 KeptIsSmall = (q : Question) (limit : ℕ) (tree : Tree) → IsKept q limit tree → limit < 3 ^ length (atoms q)
 
 -- ---- paths
+
+-- values that have the facts, and to which evaluations add nothing more, have all that is known
+abbrev pub KnownIsLeast : Type 0
+KnownIsLeast = (q : Question) (fs : List Term) (value : Term → Option Bool) → IsFinished q fs value → (t : Term) (b : Bool) → Gives q fs t b → value t ≡ Some b
 
 -- two terms are told the same or shared
 abbrev pub IsToldOrShared : Question → List Term → Term → Term → Type 0

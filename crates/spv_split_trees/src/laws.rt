@@ -3,7 +3,7 @@
 ghost use Rattle.std.specs.Prelude.{◌≡◌, false};
 ghost use Rattle.spv_split_trees.specs.Examples as example;
 ghost use Rattle.spv_split_trees.specs.Kept.{IsKept};
-ghost use Rattle.spv_split_trees.specs.Laws.{FewSplits, FullHasPoint, FullIsLeaf, FullIsTold, JoinedIsLinked, KeptIsSmall, KeptSplitsOnce, KnownIsTrue, LinkedIsJoined, LinkedIsSame, ShownIsLive, TrueIsLive};
+ghost use Rattle.spv_split_trees.specs.Laws.{FewSplits, FullHasPoint, FullIsLeaf, FullIsTold, JoinedIsLinked, KeptIsSmall, KeptSplitsOnce, KnownIsLeast, KnownIsTrue, LinkedIsJoined, LinkedIsSame, ShownIsLive, TrueIsLive};
 
 /// A tree that splits on each atom at most once on a path, and has at most three parts at each split,
 /// has fewer splits than 3 to the power of the number of atoms. So has a kept tree.
@@ -22,11 +22,17 @@ pub fn law_joined()
     ensures least { LinkedIsSame }
 {}
 
+/// What is known on a path: no more than values have, each fact among them, to which evaluations add
+/// nothing; and where the facts are true in a world, all of it is.
+pub fn law_known()
+    ensures least { KnownIsLeast }
+    ensures true_in_a_world { KnownIsTrue }
+{}
+
 /// A path is live where such an equivalence has no contradiction; so is each one whose facts are true
-/// in some world, in which all that is known is true.
+/// in some world.
 pub fn law_live()
     ensures shown { ShownIsLive }
-    ensures known_true { KnownIsTrue }
     ensures live { TrueIsLive }
 {}
 
