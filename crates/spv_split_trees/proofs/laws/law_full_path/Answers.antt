@@ -1,0 +1,11 @@
+use Rattle.spv_split_trees.proofs.Filling.{full-told, full-point, full-leaf}
+use Rattle.spv_split_trees.proofs.laws.law_full_path.Goals as goal
+
+pub returns-clause-told : goal.returns-clause-told
+returns-clause-told c = full-told
+
+pub returns-clause-point : goal.returns-clause-point
+returns-clause-point c = full-point
+
+pub returns-clause-leaf : goal.returns-clause-leaf
+returns-clause-leaf c = full-leaf
