@@ -61,3 +61,12 @@ pub fn law_examples()
     ensures what_bounds_force { example.IsLiveAtStart example.forced → ⊥ }
     ensures arguments_are_asked { example.IsLiveAtStart example.arguments → ⊥ }
 {}
+
+/// Five conditions whose start is not live, each by another part of what live means.
+pub fn law_contradictions()
+    ensures true_and_false { example.IsLiveAtStart example.both_truths → ⊥ }
+    ensures opposite_values { example.IsLiveAtStart example.opposite_truths → ⊥ }
+    ensures two_numerals { example.IsLiveAtStart example.two_numerals → ⊥ }
+    ensures no_point { example.IsLiveAtStart example.without_point → ⊥ }
+    ensures no_equal_values { example.IsLiveAtStart example.without_equal_values → ⊥ }
+{}
