@@ -3,7 +3,7 @@
 ghost use Rattle.std.specs.Prelude.{◌≡◌, false};
 ghost use Rattle.spv_split_trees.specs.Examples as example;
 ghost use Rattle.spv_split_trees.specs.Kept.{IsKept};
-ghost use Rattle.spv_split_trees.specs.Laws.{FewSplits, FullHasPoint, FullIsLeaf, FullIsTold, JoinedIsLinked, KeptIsSmall, KeptSplitsOnce, KnownIsLeast, KnownIsTrue, LinkedIsJoined, LinkedIsSame, ShownIsLive, TrueIsLive};
+ghost use Rattle.spv_split_trees.specs.Laws.{FewSplits, FullHasPoint, FullIsLeaf, FullIsTold, FullSurvives, JoinedIsLinked, KeptIsSmall, KeptSplitsOnce, KnownIsLeast, KnownIsTrue, LinkedIsJoined, LinkedIsSame, ShownIsLive, TrueIsLive};
 
 /// A tree that splits on each atom at most once on a path, and has at most three parts at each split,
 /// has fewer splits than 3 to the power of the number of atoms. So has a kept tree.
@@ -42,6 +42,7 @@ pub fn law_full_path()
     ensures told { FullIsTold }
     ensures point { FullHasPoint }
     ensures leaf { FullIsLeaf }
+    ensures survives { FullSurvives }
 {}
 
 /// Small searches: one whose tree of a single split is kept, and what trees lack that are not; and two
