@@ -12,8 +12,8 @@ use Rattle.spv_proof.specs.Evaluation.{opposite, clashes}
 use Rattle.std.proofs.lemmas.Bool.{false≢true}
 
 -- a value that is there stays
-record Stays (x y : Option Bool) : Type 0 where
-  keeps : (b : Bool) → x ≡ Some b → y ≡ Some b
+pub record Stays (x y : Option Bool) : Type 0 where
+  pub keeps : (b : Bool) → x ≡ Some b → y ≡ Some b
 
 stays : (x : Option Bool) → Stays x x
 stays x = record { keeps = λ b e. e }
@@ -57,7 +57,7 @@ combined-stays Implies truths ts x y u v m n = or-stays (not_of x) y (not_of u) 
 combined-stays Eq truths ts x y u v m n = equation-stays truths ts x y u v m n
 combined-stays h truths ts x y u v m n = stays (combined truths h x y ts)
 
-agreed : (o : Option Bool) (b c : Bool) → o ≡ Some b → opposite o (Some c) ≡ false → Some c ≡ Some b
+pub agreed : (o : Option Bool) (b c : Bool) → o ≡ Some b → opposite o (Some c) ≡ false → Some c ≡ Some b
 agreed o b c e h = ap Some (sym (bool_eq-true b c (true_of (bool_eq b c) (λ f. false≢true (sym h ∙ (ap (λ p. opposite p (Some c)) e ∙ ap not f))))))
 
 -- a value that is given or computed
@@ -72,7 +72,7 @@ module _ (is_truth : Term → Bool) (fewer more : Term → Option Bool) (keeps :
     second_stays : Stays (second_of xs) (second_of ys)
 
   mutual
-    computed-stays : (t : Term) → Stays (computed is_truth fewer t) (computed is_truth more t)
+    pub computed-stays : (t : Term) → Stays (computed is_truth fewer t) (computed is_truth more t)
     computed-stays (term h ts) =
         let a = values-stay ts in
         combined-stays h (all_truths is_truth ts) ts (first_of (values is_truth fewer ts)) (second_of (values is_truth fewer ts)) (first_of (values is_truth more ts)) (second_of (values is_truth more ts)) a.first_stays a.second_stays

@@ -1,18 +1,27 @@
 -- A full path that is live ends in a leaf.
-use Rattle.std.proofs.Common.{◌≡◌, Bool, true, false, ◌||◌, List, ◌⊎◌, inl, inr, Option}
-use Rattle.spv_logic.specs.Terms.{Term}
-use Rattle.spv_logic.specs.Formulas.{equation, below}
-use Rattle.spv_atoms.proofs.Members.{or_left, or_right}
+use Rattle.std.proofs.Common.{◌≡◌, Bool, true, false, cond, ◌||◌, List, [], ◌∷◌, refl, sym, ap, ◌∙◌, subst, ◌⊎◌, inl, inr, Option, Some, None, Ok}
+use Rattle.std.specs.Prelude.{is_some}
+use Rattle.std.proofs.lemmas.Bool.{false≢true}
+use Rattle.spv_logic.specs.Terms.{Term, term_eq}
+use Rattle.spv_logic.proofs.Equality.{term_eq-true, term_eq-refl}
+use Rattle.spv_logic.specs.Formulas.{negation, equation, below}
+use Rattle.spv_atoms.specs.Tables.{assigned, or_else, computed}
+use Rattle.spv_atoms.proofs.Members.{or_left, or_right, has-left, has-right, has-last}
 use Rattle.spv_pivots.proofs.Algebra.{false_of}
-use Rattle.spv_proof.specs.Evaluation.{clashes}
+use Rattle.spv_proof.specs.Evaluation.{opposite, clashes}
 use Rattle.spv_proof.specs.Effects.{Question, is_truth, is_number}
 use Rattle.spv_readings.specs.Sayings.{literal}
+use Rattle.spv_table.specs.Values.{holds}
 use Rattle.spv_leaf_tables.specs.Subterms.{is_among, subterms}
-use Rattle.spv_leaf_tables.specs.Leaves.{IsSameness, IsTold, IsPoint, IsLeaf, truth_term, is_met}
-use Rattle.spv_leaf_tables.specs.Laws.{AreFormulas}
-use Rattle.spv_leaf_tables.specs.Tables.{formulas_of}
-use Rattle.spv_split_trees.specs.Paths.{atoms, questions, Known, Gives, member, negated, Linked, IsLive, told, true_one, false_one, sides}
+use Rattle.spv_leaf_tables.specs.Leaves.{IsSameness, IsTold, IsPoint, IsLeaf, truth_term, truth_at, is_met}
+use Rattle.spv_leaf_tables.specs.Laws.{AreFormulas, listed_at}
+use Rattle.spv_leaf_tables.specs.Tables.{formulas_of, table, Falsifies}
+use Rattle.spv_leaf_tables.proofs.Closed.{subterms-has}
+use Rattle.spv_leaf_tables.proofs.Falsifying.{truth-there, table-falsifies}
+use Rattle.spv_split_trees.specs.Paths as paths
+use Rattle.spv_split_trees.specs.Paths.{atoms, questions, facts, Known, Gives, member, negated, Linked, IsLive, told, turned, through, true_one, false_one, sides}
 use Rattle.spv_split_trees.specs.Leaves.{IsFull, leaf_of}
+use Rattle.spv_split_trees.proofs.Agreeing.{computed-stays, agreed}
 
 module _ (q : Question) (fs : List Term) (live : IsLive q fs) (given : Term → Option Bool) (same : Term → Term → Bool) (full : IsFull q fs given same) where
   literal-gives : (t : Term) (b : Bool) → Known q fs (literal b t) → Gives q fs t b
@@ -48,6 +57,50 @@ module _ (q : Question) (fs : List Term) (live : IsLive q fs) (given : Term → 
     same = λ s t ms mt ns nt e. live.equal s t ns nt (full.derived s t e);
   }
 
+  -- ---- the truth of what is known
+
+  both-known : (t : Term) → is_among (questions q) t ≡ true → Known q fs (literal true t) → Known q fs (literal false t) → ⊥
+  both-known t m k l = live.truths (through (truth_term true) t (truth_term false) (turned t (truth_term true) (truth-linked t true m k)) (truth-linked t false m l))
+
+  given-is : (t : Term) (b c : Bool) → given t ≡ Some b → Known q fs (literal c t) → b ≡ c
+  given-is t true true e k = refl
+  given-is t false false e k = refl
+  given-is t true false e k = absurd (both-known t (full.asked t true e) (full.known t true e) k)
+  given-is t false true e k = absurd (both-known t (full.asked t false e) k (full.known t false e))
+
+  -- the truths that are given, and that of one more formula
+  abbrev with_one : Term → Bool → Term → Option Bool
+  with_one f c u = or_else (given u) (assigned ((f, c) ∷ []) u)
+
+  with_one-gives : (f : Term) (c : Bool) → Known q fs (literal c f) → (u : Term) (b : Bool) → with_one f c u ≡ Some b → Gives q fs u b
+  with_one-gives f c k u b e = by_given (given u) refl e
+    where
+      by_same : (d : Bool) → term_eq f u ≡ d → cond d (Some c) None ≡ Some b → Gives q fs u b
+      by_same true h g = let same_truth : c ≡ b = cc in subst (λ w. Gives q fs w b) (term_eq-true f u h) (literal-gives f b (subst (λ d. Known q fs (literal d f)) same_truth k))
+      by_same false h g = cc
+
+      by_given : (o : Option Bool) → given u ≡ o → or_else o (assigned ((f, c) ∷ []) u) ≡ Some b → Gives q fs u b
+      by_given (Some d) h g = literal-gives u b (full.known u b (h ∙ g))
+      by_given None h g = by_same (term_eq f u) refl g
+
+  truth-here : (f : Term) (c : Bool) → Known q fs (literal c f) → is_some (truth_at (is_truth q) given f) ≡ true → truth_at (is_truth q) given f ≡ Some c
+  truth-here f c k there = by_given (given f) refl there
+    where
+      agree : (t : Term) → clashes (is_truth q) (with_one f c) t ≡ false
+      agree = live.agree (with_one f c) (with_one-gives f c k)
+
+      by_computed : given f ≡ None → (p : Option Bool) → computed (is_truth q) given f ≡ p → is_some p ≡ true → p ≡ Some c
+      by_computed n None h there = absurd (false≢true there)
+      by_computed n (Some b) h there =
+          let own : with_one f c f ≡ Some c = ap (λ o. or_else o (assigned ((f, c) ∷ []) f)) n ∙ ap (λ d. cond d (Some c) None) (term_eq-refl f) in
+          let more : computed (is_truth q) (with_one f c) f ≡ Some b =
+          (computed-stays (is_truth q) given (with_one f c) (λ u d e. ap (λ o. or_else o (assigned ((f, c) ∷ []) u)) e) agree f).keeps b h in
+          sym (agreed (computed (is_truth q) (with_one f c) f) b c more (ap (opposite (computed (is_truth q) (with_one f c) f)) (sym own) ∙ agree f))
+
+      by_given : (o : Option Bool) → given f ≡ o → is_some (or_else o (computed (is_truth q) given f)) ≡ true → or_else o (computed (is_truth q) given f) ≡ Some c
+      by_given (Some b) h there = ap Some (given-is f b c h k)
+      by_given None h there = by_computed h (computed (is_truth q) given f) refl there
+
 pub full-leaf : (q : Question) → AreFormulas q.shapes q.decls (formulas_of q.sequent) → (fs : List Term) (live : IsLive q fs) (given : Term → Option Bool) (same : Term → Term → Bool) → IsFull q fs given same
     → IsSameness (subterms (formulas_of q.sequent)) same
     → IsLeaf q.shapes q.decls (formulas_of q.sequent) (leaf_of q fs live given same)
@@ -59,3 +112,21 @@ full-leaf q are fs live given same full sameness = record {
   told = full-told q fs live given same full;
   point = full-point q fs live given same full;
 }
+
+pub full-survives : (q : Question) → AreFormulas q.shapes q.decls (formulas_of q.sequent) → (cases : List Term) (live : IsLive q (facts q cases)) (given : Term → Option Bool) (same : Term → Term → Bool)
+    → IsFull q (facts q cases) given same → IsSameness (subterms (formulas_of q.sequent)) same
+    → ((f : Term) → is_among (formulas_of q.sequent) f ≡ true → (b : Bool) × (holds (listed_at q.shapes q.decls (formulas_of q.sequent) (leaf_of q (facts q cases) live given same)) f ≡ Ok b))
+    → Falsifies q.shapes q.decls q.sequent (table q.shapes q.decls (formulas_of q.sequent) (leaf_of q (facts q cases) live given same))
+full-survives q are cases live given same full sameness fits =
+    let fs = formulas_of q.sequent in
+    let leaf = leaf_of q (facts q cases) live given same in
+    let ok = full-leaf q are (facts q cases) live given same full sameness in
+    let goal_in : is_among fs q.sequent.goal ≡ true = has-last q.sequent.given q.sequent.goal in
+    table-falsifies q.shapes q.decls q.sequent leaf ok
+    (λ f m. let inside : is_among fs f ≡ true = has-left q.sequent.given (q.sequent.goal ∷ []) f m in
+    truth-here q (facts q cases) live given same full f true (paths.given f (has-left q.sequent.given (negation q.sequent.goal ∷ cases) f m))
+    (truth-there q.shapes q.decls fs leaf ok f (subterms-has fs f inside) (are f inside)))
+    (truth-here q (facts q cases) live given same full q.sequent.goal false
+    (paths.given (negation q.sequent.goal) (has-right q.sequent.given (negation q.sequent.goal ∷ cases) (negation q.sequent.goal) (or_left (term_eq (negation q.sequent.goal) (negation q.sequent.goal)) _ (term_eq-refl (negation q.sequent.goal)))))
+    (truth-there q.shapes q.decls fs leaf ok q.sequent.goal (subterms-has fs q.sequent.goal goal_in) (are q.sequent.goal goal_in)))
+    fits

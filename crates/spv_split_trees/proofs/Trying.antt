@@ -1,22 +1,25 @@
 -- The paths of the small searches: those that are live are so in a world, and those that are not have a contradiction.
-use Rattle.std.proofs.Common.{◌≡◌, ℕ, Bool, true, false, not, List, [], ◌∷◌, ℤ, pos, neg_ℤ, refl, sym, ap, ◌∙◌}
+use Rattle.std.proofs.Common.{◌≡◌, ℕ, Bool, true, false, cond, not, List, [], ◌∷◌, ℤ, pos, neg_ℤ, refl, sym, ap, ◌∙◌, subst, Some, None}
 use mathlib.Core.Path.{ap₂}
+use Rattle.std.specs.Ordering.{int_eq}
 use Rattle.std.specs.List.{list_all}
 use Rattle.std.proofs.lemmas.Bool.{false≢true}
 use Rattle.spv_rational.specs.Rational.{Rational, whole, plus, opposite, is_positive}
 use Rattle.spv_rational.proofs.Field.{plus_comm, plus_middle, plus_opposite, whole_plus}
-use Rattle.spv_rational.proofs.Signs.{not_positive_plus}
+use Rattle.spv_rational.proofs.Signs.{not_positive_plus, zero_is}
 use Rattle.spv_names.specs.declared.names.Symbol.{Symbol}
 use Rattle.spv_logic.specs.declared.types.Sort.{Sort}
 use Rattle.spv_logic.specs.declared.types.Sort.TheVariants as sort
 use Rattle.spv_logic.specs.declared.operators.Head.TheVariants.{Var, App}
 use Rattle.spv_logic.specs.Values.{Number, Truth}
-use Rattle.spv_logic.specs.Terms.{Term, no_terms, terms, first}
+use Rattle.spv_logic.specs.Terms.{Term, no_terms, terms, term_eq, first}
+use Rattle.spv_logic.proofs.Equality.{term_eq-true}
 use Rattle.spv_logic.specs.Fits.{fits, default_of}
 use Rattle.spv_logic.specs.Sorts.{variable_sort}
 use Rattle.spv_logic.specs.Formulas.{negation, equation, below}
 use Rattle.spv_logic.specs.Conditions.{Meaning, Valuation, IsValuation, answers, holds}
 use Rattle.spv_logic.proofs.Defaults.{default_fits}
+use Rattle.spv_atoms.specs.Tables.{assigned}
 use Rattle.spv_atoms.specs.Atoms.{is_truth}
 use Rattle.spv_atoms.specs.Forms.{form}
 use Rattle.spv_atoms.proofs.Members.{has, has-left}
@@ -24,11 +27,12 @@ use Rattle.spv_tableaux.specs.Numbers.{minus}
 use Rattle.spv_proof.specs.Sums.{difference}
 use Rattle.spv_proof.specs.Effects.{Question, at_most}
 use Rattle.spv_readings.specs.Values.{form_value}
+use Rattle.spv_readings.proofs.Standing.{true_where_equal}
 use Rattle.spv_readings.proofs.Values.{difference-value}
 use Rattle.spv_leaf_tables.specs.Laws.{AreFormulas}
 use Rattle.spv_leaf_tables.specs.Leaves.{truth_term}
 use Rattle.spv_leaf_tables.specs.Tables.{formulas_of}
-use Rattle.spv_split_trees.specs.Paths.{facts, Known, Shared, IsLive, given, affirmed, lower, true_one, sides, told, shared, turned, through, congruent, none, more, forced}
+use Rattle.spv_split_trees.specs.Paths.{facts, Known, Gives, Shared, numeral, IsLive, given, affirmed, lower, member, negated, true_one, false_one, sides, told, shared, turned, through, congruent, none, more, forced}
 use Rattle.spv_split_trees.specs.Examples as example
 use Rattle.spv_split_trees.specs.Examples.{x, y, p, q, f_of, g_of, both, either}
 use Rattle.spv_split_trees.proofs.Worlds.{each_of, true-live}
@@ -130,3 +134,55 @@ arguments-not-live live =
 
 pub order-known : Known example.search (facts example.search (below x y ∷ [])) (negation (equation x y))
 order-known = lower x y refl (given (below x y) refl)
+
+-- ---- one contradiction each
+
+pub both-truths-not-live : IsLive example.both_truths (start example.both_truths) → ⊥
+both-truths-not-live live =
+    live.truths
+    (through (truth_term true) p (truth_term false) (turned p (truth_term true) (told p (truth_term true) (true_one p refl (given p refl))))
+    (told p (truth_term false) (false_one p refl (given (negation p) refl))))
+
+opposite-gives : (t : Term) (b : Bool) → assigned ((both, true) ∷ (p, false) ∷ []) t ≡ Some b → Gives example.opposite_truths (start example.opposite_truths) t b
+opposite-gives t b e = by_case (term_eq both t) (term_eq p t) refl refl e
+  where
+    by_case : (c d : Bool) → term_eq both t ≡ c → term_eq p t ≡ d → cond c (Some true) (cond d (Some false) None) ≡ Some b → Gives example.opposite_truths (start example.opposite_truths) t b
+    by_case true d f g h =
+        let same : true ≡ b = cc in
+        subst (λ u. Gives example.opposite_truths (start example.opposite_truths) u b) (term_eq-true both t f)
+        (subst (λ k. Gives example.opposite_truths (start example.opposite_truths) both k) same (member both (given both refl)))
+    by_case false true f g h =
+        let same : false ≡ b = cc in
+        subst (λ u. Gives example.opposite_truths (start example.opposite_truths) u b) (term_eq-true p t g)
+        (subst (λ k. Gives example.opposite_truths (start example.opposite_truths) p k) same (negated p (given (negation p) refl)))
+    by_case false false f g h = cc
+
+pub opposite-not-live : IsLive example.opposite_truths (start example.opposite_truths) → ⊥
+opposite-not-live live = false≢true (sym (live.agree (assigned ((both, true) ∷ (p, false) ∷ [])) opposite-gives both))
+
+abbrev one : Term
+one = numeral (pos 1)
+
+abbrev two : Term
+two = numeral (pos 2)
+
+pub numerals-not-live : IsLive example.two_numerals (start example.two_numerals) → ⊥
+numerals-not-live live =
+    false≢true (sym (ap (int_eq (pos 1)) (live.numerals (pos 1) (pos 2)
+    (through one x two (turned x one (told x one (sides x one refl (given (equation x one) refl))))
+    (through x y two (told x y (sides x y refl (given (equation x y) refl))) (told y two (sides y two refl (given (equation y two) refl))))))))
+
+pub point-not-live : IsLive example.without_point (start example.without_point) → ⊥
+point-not-live live = no_point live.point x y (live.meets.met (at_most y x) (given (at_most y x) refl)) (live.meets.met (below x y) (given (below x y) refl))
+
+-- no point puts a number below another one of the same value
+no_equal_point : (point : Term → Rational) (s t : Term) → form_value point (form t) ≡ form_value point (form s) → not (is_positive (form_value point (difference s t (pos 1)))) ≡ true → ⊥
+no_equal_point point s t e k =
+    no_point point s t (ap (λ r. not (is_positive r)) (zero_is (form_value point (difference t s (pos 0))) (true_where_equal point t s e))) k
+
+pub values-not-live : IsLive example.without_equal_values (start example.without_equal_values) → ⊥
+values-not-live live =
+    no_equal_point live.point (f_of x) (f_of y)
+    (live.equal (f_of y) (f_of x) refl refl (turned (f_of x) (f_of y)
+    (congruent (App (record { 0 = 10 })) (terms x no_terms) (terms y no_terms) refl refl (more x y no_terms no_terms (told x y (sides x y refl (given (equation x y) refl))) none))))
+    (live.meets.met (below (f_of x) (f_of y)) (given (below (f_of x) (f_of y)) refl))

@@ -1,5 +1,5 @@
 -- Small searches: trees that are kept, and others that lack one thing each.
-use Rattle.std.specs.Prelude.{ℕ, Bool, List, [], ◌∷◌, Some, slice_index_or}
+use Rattle.std.specs.Prelude.{ℕ, Bool, List, [], ◌∷◌, Some, pos, slice_index_or}
 use Rattle.spv_names.specs.declared.names.Symbol.{Symbol}
 use Rattle.spv_logic.specs.declared.conditions.TermId.{TermId}
 use Rattle.spv_logic.specs.declared.types.Sort.TheVariants as sort
@@ -11,7 +11,7 @@ use Rattle.spv_atoms.specs.declared.proofs.Step.TheVariants.{Given, Cong, Contra
 use Rattle.spv_proof.specs.Evaluation.{evaluates}
 use Rattle.spv_proof.specs.Effects.{Question, is_truth, at_most}
 use Rattle.spv_split_trees.specs.Trees.{Tree, Trees, Open, Closed, Split, no_trees, trees}
-use Rattle.spv_split_trees.specs.Paths.{atoms, facts, Known, IsLive}
+use Rattle.spv_split_trees.specs.Paths.{atoms, facts, Known, numeral, IsLive}
 
 abbrev symbol : ℕ → Symbol
 symbol n = record { 0 = n }
@@ -127,6 +127,28 @@ forced = asks (at_most x y ∷ at_most y x ∷ []) numbers_equal
 abbrev pub arguments : Question
 arguments = asks (p ∷ q ∷ []) (equation (g_of both) (g_of either))
 
+-- ---- one contradiction each
+
+-- p and its negation are known: TRUE and FALSE are joined
+abbrev pub both_truths : Question
+both_truths = asks (p ∷ []) p
+
+-- p and q is true and p is false: the truth of p and q is opposite to what p makes of it
+abbrev pub opposite_truths : Question
+opposite_truths = asks (both ∷ negation p ∷ []) q
+
+-- x = 1, y = 2 and x = y join two numerals
+abbrev pub two_numerals : Question
+two_numerals = asks (equation x (numeral (pos 1)) ∷ equation y (numeral (pos 2)) ∷ equation x y ∷ []) q
+
+-- no point meets x < y and y <= x
+abbrev pub without_point : Question
+without_point = asks (below x y ∷ at_most y x ∷ []) q
+
+-- each point that meets F(x) < F(y) gives different values to these, which x = y joins
+abbrev pub without_equal_values : Question
+without_equal_values = asks (equation x y ∷ below (f_of x) (f_of y) ∷ []) q
+
 -- a path without cases is live
 abbrev pub IsLiveAtStart : Question → Type 0
-IsLiveAtStart q = IsLive q (facts q [])
+IsLiveAtStart s = IsLive s (facts s [])

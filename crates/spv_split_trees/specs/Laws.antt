@@ -1,17 +1,19 @@
 -- What is true of the trees of a search, and of its paths.
-use Rattle.std.specs.Prelude.{◌≡◌, ℕ, ◌^◌, ◌<◌, ◌⊎◌, Bool, true, List, [], length, Option, Some, IsTrue}
+use Rattle.std.specs.Prelude.{◌≡◌, ℕ, ◌^◌, ◌<◌, ◌⊎◌, Bool, true, List, [], length, Option, Some, Ok, IsTrue}
 use Rattle.std.specs.List.{list_all}
 use Rattle.spv_logic.specs.Terms.{Term}
 use Rattle.spv_logic.specs.Shapes.{shapes_ok}
 use Rattle.spv_logic.specs.Conditions.{Meaning, Valuation, IsValuation, answers, holds}
 use Rattle.spv_joined.specs.Joined.{Joined}
 use Rattle.spv_proof.specs.Effects.{Question, is_number}
-use Rattle.spv_leaf_tables.specs.Subterms.{subterms}
+use Rattle.spv_leaf_tables.specs.Subterms.{is_among, subterms}
 use Rattle.spv_leaf_tables.specs.Leaves.{IsSameness, IsTold, IsPoint, IsLeaf}
-use Rattle.spv_leaf_tables.specs.Laws.{AreFormulas}
-use Rattle.spv_leaf_tables.specs.Tables.{formulas_of}
+use Rattle.spv_leaf_tables.specs.Laws.{AreFormulas, listed_at}
+use Rattle.spv_leaf_tables.specs.Tables as tables
+use Rattle.spv_leaf_tables.specs.Tables.{formulas_of, Falsifies}
+use Rattle.spv_table.specs.Values as table
 use Rattle.spv_split_trees.specs.Trees.{Tree, splits, splits_once}
-use Rattle.spv_split_trees.specs.Paths.{atoms, questions, Known, Gives, Told, IsAdded, Linked, Shared, IsLive}
+use Rattle.spv_split_trees.specs.Paths.{atoms, questions, facts, Known, Gives, Told, IsAdded, Linked, Shared, IsLive}
 use Rattle.spv_split_trees.specs.Shown.{IsFinished, ShowsLive}
 use Rattle.spv_split_trees.specs.Leaves.{IsFull, leaf_of}
 use Rattle.spv_split_trees.specs.Kept.{IsKept}
@@ -85,3 +87,10 @@ abbrev pub FullIsLeaf : Type 0
 FullIsLeaf = (q : Question) → AreFormulas q.shapes q.decls (formulas_of q.sequent) → (fs : List Term) (live : IsLive q fs) (given : Term → Option Bool) (same : Term → Term → Bool) → IsFull q fs given same
     → IsSameness (subterms (formulas_of q.sequent)) same
     → IsLeaf q.shapes q.decls (formulas_of q.sequent) (leaf_of q fs live given same)
+
+-- there the hypotheses are true and the goal is false: its table falsifies the condition, where no operation is too wide
+abbrev pub FullSurvives : Type 0
+FullSurvives = (q : Question) → AreFormulas q.shapes q.decls (formulas_of q.sequent) → (cases : List Term) (live : IsLive q (facts q cases)) (given : Term → Option Bool) (same : Term → Term → Bool)
+    → IsFull q (facts q cases) given same → IsSameness (subterms (formulas_of q.sequent)) same
+    → ((f : Term) → is_among (formulas_of q.sequent) f ≡ true → (b : Bool) × (table.holds (listed_at q.shapes q.decls (formulas_of q.sequent) (leaf_of q (facts q cases) live given same)) f ≡ Ok b))
+    → Falsifies q.shapes q.decls q.sequent (tables.table q.shapes q.decls (formulas_of q.sequent) (leaf_of q (facts q cases) live given same))

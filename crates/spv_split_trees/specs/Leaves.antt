@@ -8,9 +8,10 @@ use Rattle.spv_leaf_tables.specs.Subterms.{is_among}
 use Rattle.spv_leaf_tables.specs.Leaves.{Leaf}
 use Rattle.spv_split_trees.specs.Paths.{atoms, questions, Known, Linked, IsLive}
 
--- truths that are known on a path, each question has one, and which terms are joined
+-- truths that are known on a path, where each question has one and nothing else, and which terms are joined
 pub record IsFull (q : Question) (fs : List Term) (given : Term → Option Bool) (same : Term → Term → Bool) : Type 0 where
   pub known : (t : Term) (b : Bool) → given t ≡ Some b → Known q fs (literal b t)
+  pub asked : (t : Term) (b : Bool) → given t ≡ Some b → is_among (questions q) t ≡ true
   pub full : (t : Term) → is_among (questions q) t ≡ true → is_some (given t) ≡ true
   pub ordered : (s t : Term) → is_among (atoms q) (equation s t) ≡ true → given (equation s t) ≡ Some false → is_number q s ≡ true → Known q fs (below s t) ⊎ Known q fs (below t s)
   pub derived : (s t : Term) → same s t ≡ true → Linked q fs s t

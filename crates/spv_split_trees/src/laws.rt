@@ -3,7 +3,7 @@
 ghost use Rattle.std.specs.Prelude.{◌≡◌, false};
 ghost use Rattle.spv_split_trees.specs.Examples as example;
 ghost use Rattle.spv_split_trees.specs.Kept.{IsKept};
-ghost use Rattle.spv_split_trees.specs.Laws.{FewSplits, FullHasPoint, FullIsLeaf, FullIsTold, JoinedIsLinked, KeptIsSmall, KeptSplitsOnce, KnownIsLeast, KnownIsTrue, LinkedIsJoined, LinkedIsSame, ShownIsLive, TrueIsLive};
+ghost use Rattle.spv_split_trees.specs.Laws.{FewSplits, FullHasPoint, FullIsLeaf, FullIsTold, FullSurvives, JoinedIsLinked, KeptIsSmall, KeptSplitsOnce, KnownIsLeast, KnownIsTrue, LinkedIsJoined, LinkedIsSame, ShownIsLive, TrueIsLive};
 
 /// A tree that splits on each atom at most once on a path, and has at most three parts at each split,
 /// has fewer splits than 3 to the power of the number of atoms. So has a kept tree.
@@ -42,6 +42,7 @@ pub fn law_full_path()
     ensures told { FullIsTold }
     ensures point { FullHasPoint }
     ensures leaf { FullIsLeaf }
+    ensures survives { FullSurvives }
 {}
 
 /// Small searches: one whose tree of a single split is kept, and what trees lack that are not; and two
@@ -60,4 +61,13 @@ pub fn law_examples()
     ensures evaluation_is_not_enough { example.order_evaluates ≡ false }
     ensures what_bounds_force { example.IsLiveAtStart example.forced → ⊥ }
     ensures arguments_are_asked { example.IsLiveAtStart example.arguments → ⊥ }
+{}
+
+/// Five conditions whose start is not live, each by another part of what live means.
+pub fn law_contradictions()
+    ensures true_and_false { example.IsLiveAtStart example.both_truths → ⊥ }
+    ensures opposite_values { example.IsLiveAtStart example.opposite_truths → ⊥ }
+    ensures two_numerals { example.IsLiveAtStart example.two_numerals → ⊥ }
+    ensures no_point { example.IsLiveAtStart example.without_point → ⊥ }
+    ensures no_equal_values { example.IsLiveAtStart example.without_equal_values → ⊥ }
 {}

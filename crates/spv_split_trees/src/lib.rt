@@ -3,4 +3,7 @@
 
 mod laws;
 
-pub use laws::{law_examples, law_few_splits, law_full_path, law_joined, law_known, law_live};
+pub use laws::{
+    law_contradictions, law_examples, law_few_splits, law_full_path, law_joined, law_known,
+    law_live,
+};

@@ -1,4 +1,4 @@
-use Rattle.spv_split_trees.proofs.Filling.{full-told, full-point, full-leaf}
+use Rattle.spv_split_trees.proofs.Filling.{full-told, full-point, full-leaf, full-survives}
 use Rattle.spv_split_trees.proofs.laws.law_full_path.Goals as goal
 
 pub returns-clause-told : goal.returns-clause-told
@@ -9,3 +9,6 @@ returns-clause-point c = full-point
 
 pub returns-clause-leaf : goal.returns-clause-leaf
 returns-clause-leaf c = full-leaf
+
+pub returns-clause-survives : goal.returns-clause-survives
+returns-clause-survives c = full-survives
