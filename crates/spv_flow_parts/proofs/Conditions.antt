@@ -15,8 +15,8 @@ use Rattle.spv_program.specs.Supplies.{Supply}
 use Rattle.spv_program.specs.Terms.{body_term}
 use Rattle.spv_supply.specs.Numbers.{AreThere}
 use Rattle.spv_supply.proofs.FreshLemmas.{AreThere-Extends}
-use Rattle.spv_assign.specs.Conditions.{condition_of, conditions_of, AreIn, all_terms_in, with_given, Assumes}
-use Rattle.spv_meaning.specs.Before.{all_assuming, assuming_if_there, wanted_if_there}
+use Rattle.spv_assign.specs.Conditions.{condition_of, conditions_of, pairs_of, AreIn, all_terms_in, with_given, Assumes}
+use Rattle.spv_meaning.specs.Before.{all_assuming, assuming_if_there, replaced, wanted_if_there}
 use Rattle.spv_events.specs.declared.faults.GenFault.{GenFault}
 use Rattle.spv_events.specs.Events.{Answers}
 use Rattle.spv_events.specs.StatementEvents.{counted, several}
@@ -112,3 +112,10 @@ replaced_comes r a b wanted is within grows walk n there = record { grows = grow
     by : (r : Listed) → IfOk r (λ cs. conditions_of b cs.items ≡ wanted) → IfOk r (λ cs. AreIn b cs.items) → IfOk r (λ cs. IsMade b n cs.items (record { conditions = wanted; supply = n }))
     by (Ok cs) is within = record { conditions = record { same = is; in_range = within }; supply = refl; there = AreThere-Extends a b n grows there }
     by (Err e) is within = tt
+
+pub replaced_own : (r : Listed) (a b : Arena) (pairs : List (TermId × TermId)) (own rest : List Condition) → own ≡ rest → IfOk r (λ cs. conditions_of b cs.items ≡ replaced (pairs_of a pairs) (conditions_of a own))
+    → IfOk r (λ cs. AreIn b cs.items) → Extends a b → Answers r (several (all_terms_in (replaced (pairs_of a pairs) (conditions_of a own)))) a b
+    → ComesTo r (replaced (pairs_of a pairs) (conditions_of a rest)) (several (all_terms_in (replaced (pairs_of a pairs) (conditions_of a rest)))) a b
+replaced_own r a b pairs own rest same is within grows walk =
+    subst (λ (l : List Condition). ComesTo r (replaced (pairs_of a pairs) (conditions_of a l)) (several (all_terms_in (replaced (pairs_of a pairs) (conditions_of a l)))) a b) same
+    (replaced_comes r a b (replaced (pairs_of a pairs) (conditions_of a own)) is within grows walk)

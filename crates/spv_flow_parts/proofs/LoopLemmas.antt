@@ -1,5 +1,5 @@
 -- The conditions of a loop.
-use Rattle.std.proofs.Common.{◌≡◌, ◌<◌, ◌+◌, List, [], ◌∷◌, ◌++◌, map, length, Result, Ok, Err, IfOk, Option, Some, None, option_map, refl, sym, ap, subst, ◌∙◌, arith}
+use Rattle.std.proofs.Common.{◌≡◌, ◌<◌, ◌+◌, List, [], ◌∷◌, ◌++◌, map, length, Result, Ok, Err, IfOk, IsErrAnd, Option, Some, None, option_map, refl, sym, ap, subst, ◌∙◌, arith}
 use Rattle.std.proofs.lemmas.List.{length-map}
 use Rattle.spv_logic.specs.declared.conditions.Kind.TheVariants as kind
 use Rattle.spv_logic.specs.declared.conditions.TermId.{TermId}
@@ -24,7 +24,7 @@ use Rattle.spv_events.specs.Events.{Event, Walked, Stops, Answers}
 use Rattle.spv_events.specs.StatementEvents.{counted, several, in_order, pair_terms, replacing_events, loop_events}
 use Rattle.spv_events.proofs.Walks.{nothing_walked}
 use Rattle.spv_flow_parts.specs.Walks.{AreThese, AreRenamed, IsMade, IsNoted, IsThere, Listed, Comes, ComesTo, loop_made, renamed_made}
-use Rattle.spv_flow_parts.proofs.Steps.{append_nil, went, comes_on, comes_last, comes_as, AreThese-Extends, IsTerm-Extends}
+use Rattle.spv_flow_parts.proofs.Steps.{went, exit, comes_last, comes_as, IsTerm-Extends}
 use Rattle.spv_flow_parts.proofs.Conditions.{joined_comes, long_conditions}
 
 -- ---- notes
@@ -67,7 +67,7 @@ long_uses a items pairs x cs e = sym (long_conditions a items) ∙ ap (λ (l : L
 
 -- ---- what is renamed
 
-module _ (a b : Arena) (h : Option TermId) (uses : List Condition) (n m : Supply) (fresh : Renamed) (pairs : List (TermId × TermId))
+module _ (a b : Arena) (h : Option TermId) (uses : List Condition) (n : Supply) (fresh : Renamed) (pairs : List (TermId × TermId))
     (more : Extends a b) (known : IsThere a h) (within : AreIn a uses) (renamed : AreRenamed b n pairs fresh) where
   abbrev given : Option Term
   given = option_map (tree a) h
@@ -94,6 +94,22 @@ module _ (a b : Arena) (h : Option TermId) (uses : List Condition) (n m : Supply
       (comes_last r (record { conditions = replaced (pairs_of b pairs) (conditions_of b items); supply = n }) n
       (several (pair_terms fresh.pairs) ∷ []) (several (all_terms_in (replaced (pairs_of b pairs) (conditions_of b items)))) (went [] (several (pair_terms fresh.pairs)) (nothing_walked a) walked) (comes n renamed.there))
 
+  -- the same by what was handed on
+  pub uses_come_of : (r : Listed) (c : Arena) (items given_items : List Condition) (given_pairs : List (TermId × TermId)) → given_items ≡ items → given_pairs ≡ pairs
+      → AreThese b items (assuming_if_there (option_map (tree b) h) (conditions_of b uses)) → Walked (several (pair_terms fresh.pairs)) a b
+      → ComesTo r (replaced (pairs_of b given_pairs) (conditions_of b given_items)) (several (all_terms_in (replaced (pairs_of b given_pairs) (conditions_of b given_items)))) b c
+      → Comes r (renamed_made given fresh (conditions_of a uses)) (replacing_events fresh.pairs wanted) a c n
+  uses_come_of r c items given_items given_pairs same_items same_pairs is walked comes =
+      uses_come r c items (under_these items is) walked
+      (subst (λ (l : List Condition). ComesTo r (replaced (pairs_of b pairs) (conditions_of b l)) (several (all_terms_in (replaced (pairs_of b pairs) (conditions_of b l)))) b c) same_items
+      (subst (λ (l : List (TermId × TermId)). ComesTo r (replaced (pairs_of b l) (conditions_of b given_items)) (several (all_terms_in (replaced (pairs_of b l) (conditions_of b given_items)))) b c) same_pairs comes))
+
+-- what stops the renaming
+pub renaming_stops : (r : Listed) (g : GenFault) (a b : Arena) (fresh : Renamed) (x : Option Term) (cs : List logic.Condition) (n : Supply) → IsErrAnd r (λ e. e ≡ g) → Extends a b → Stops g (several (pair_terms fresh.pairs)) a b
+    → Comes r (renamed_made x fresh cs) (replacing_events fresh.pairs (assuming_if_there x cs)) a b n
+renaming_stops r g a b fresh x cs n is grows stops =
+    exit r g (renamed_made x fresh cs) n [] (several (pair_terms fresh.pairs)) (several (all_terms_in (replaced fresh.pairs (assuming_if_there x cs))) ∷ []) is (nothing_walked a) grows stops
+
 -- ---- the whole loop
 
 module _ (a b : Arena) (p : Program) (here : Option RoutineId) (note : Option TermId) (f : Option Annotation) (uses : List Condition) (n : Supply) (fresh : Renamed) (is_note : IsNoted a p here note f) where
@@ -105,6 +121,13 @@ module _ (a b : Arena) (p : Program) (here : Option RoutineId) (note : Option Te
 
   same_term : seen ≡ annotation_term p here f
   same_term = note_term a p here note f is_note
+
+  pub loop_stops : (r : Listed) (g : GenFault) (m : Supply) → IsErrAnd r (λ e. e ≡ g) → Comes (Err g) (renamed_made seen fresh cs) (replacing_events fresh.pairs (assuming_if_there seen cs)) a b m
+      → Comes r (loop_made p here f fresh cs) (loop_events p here f fresh cs) a b n
+  loop_stops r g m is h =
+      let k = subst (λ (x : Option Term). Comes (Err g) (renamed_made x fresh cs) (replacing_events fresh.pairs (assuming_if_there x cs)) a b m) same_term h in
+      exit r g (loop_made p here f fresh cs) n [] (replacing_events fresh.pairs (assuming_if_there (annotation_term p here f) cs)) (counted (length (wanted_if_there p here kind.Invariant f) + length cs) ∷ []) is
+      (nothing_walked a) k.grows k.walk
 
   pub loop_comes : (r : Listed) (items first : List Condition) → Extends a b → IsMade b n items (renamed_made seen fresh cs) → Walked (replacing_events fresh.pairs (assuming_if_there seen cs)) a b
       → AreThese b first (wanted_if_there p here kind.Invariant f) → IfOk r (λ all. all.items ≡ first ++ items) → Answers r (counted (length first + length items)) b b

@@ -85,8 +85,8 @@ pub record RenamedSoFar (old a : Arena) (start n : Supply) (heads rest : List He
   pub supply : (renamed rest n).supply ≡ (renamed heads start).supply
   pub walked : Walked (several (pair_terms (pairs_of a pairs))) old a
 
-pub renamed_first : (old : Arena) (start : Supply) (heads : List Head) → AllRenamed old.shapes heads → AreThere old start → RenamedSoFar old old start start heads heads []
-renamed_first old start heads all there = record {
+pub renamed_first : (old : Arena) (start : Supply) (heads : List Head) (pairs : List (TermId × TermId)) → pairs ≡ [] → AllRenamed old.shapes heads → AreThere old start → RenamedSoFar old old start start heads heads pairs
+renamed_first old start heads pairs none all there = subst (λ (l : List (TermId × TermId)). RenamedSoFar old old start start heads heads l) (sym none) (record {
   grows = Extends-refl old;
   fit = tt;
   there = there;
@@ -94,7 +94,7 @@ renamed_first old start heads all there = record {
   same = refl;
   supply = refl;
   walked = record { grows = Extends-refl old; there = tt; only = adds_nothing old []; lists = tt };
-}
+})
 
 module _ (old a : Arena) (start n : Supply) (heads rest : List Head) (head : Head) (pairs : List (TermId × TermId)) (h : RenamedSoFar old a start n heads (head ∷ rest) pairs) where
   pub next_variable : is_variable head ≡ true
@@ -145,6 +145,9 @@ module _ (old a : Arena) (start n : Supply) (heads rest : List Head) (head : Hea
           subst (λ (l : List Term). Walked (several l) old b) (sym (ap pair_terms new_pairs ∙ terms_both (pairs_of a pairs) ((head, alone (fresh_like head n).head) ∷ [])))
           (two_walks (pair_terms (pairs_of a pairs)) two h.walked walked);
     }
+
+    pub renamed_pushed : (new : List (TermId × TermId)) → new ≡ pairs ++ p ∷ [] → AreThere b (supply_of taken) → Walked (several two) a b → RenamedSoFar old b start (supply_of taken) heads rest new
+    renamed_pushed new e there walked = subst (λ (l : List (TermId × TermId)). RenamedSoFar old b start (supply_of taken) heads rest l) (sym e) (renamed_next there walked)
 
 module _ (old a : Arena) (start n : Supply) (heads : List Head) (pairs : List (TermId × TermId)) (h : RenamedSoFar old a start n heads [] pairs) where
   all_pairs : pairs_of a pairs ≡ (renamed heads start).pairs

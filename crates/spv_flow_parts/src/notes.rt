@@ -21,7 +21,7 @@ use spv_logic::{Kind, Origin, RoutineId};
 use spv_term::{Condition, TermId, Terms};
 use spv_term_walk::formula_term;
 use spv_typed::{Annotation, Program};
-use std::alloc::Global;
+use std::alloc::{AllocError, Global};
 
 /// The term of an annotation of a body.
 pub fn note(
@@ -58,16 +58,14 @@ pub fn noted(
     }
 }
 
-/// The condition that a formula of this line is true.
-pub fn wanted(
+fn wanted_one(
     alloc: Global,
     here: Option<RoutineId>,
     kind: Kind,
     goal: TermId,
     line: u32,
-) -> Result<Vec<Condition>, GenFault>
-    ensures item { IfOk result (λ cs. cs.items ≡ wanted_item here kind goal line ∷ []) }
-    ensures err { IfErr result (λ e. e ≡ Memory) }
+) -> Result<Vec<Condition>, AllocError>
+    ensures { IfOk result (λ cs. cs.items ≡ wanted_item here kind goal line ∷ []) }
 {
     let mut made = Vec::new(alloc);
     made.push(Condition {
@@ -80,6 +78,20 @@ pub fn wanted(
         },
     })?;
     Ok(made)
+}
+
+/// The condition that a formula of this line is true.
+pub fn wanted(
+    alloc: Global,
+    here: Option<RoutineId>,
+    kind: Kind,
+    goal: TermId,
+    line: u32,
+) -> Result<Vec<Condition>, GenFault>
+    ensures item { IfOk result (λ cs. cs.items ≡ wanted_item here kind goal line ∷ []) }
+    ensures err { IfErr result (λ e. e ≡ Memory) }
+{
+    Ok(wanted_one(alloc, here, kind, goal, line)?)
 }
 
 /// The condition that an annotation with this term is true; none where there is no annotation.

@@ -1,6 +1,6 @@
 // Fresh variables in the place of what a loop changes.
 
-ghost use Rattle.std.specs.Prelude.{◌≡◌, IfOk, OnOk};
+ghost use Rattle.std.specs.Prelude.{◌≡◌, ◌++◌, [], ◌∷◌, IfOk, OnOk};
 ghost use Rattle.spv_term.specs.Arena.{Extends};
 ghost use Rattle.spv_substitution.specs.Images.{ArePairs};
 ghost use Rattle.spv_supply.specs.Numbers.{AreThere, supply_of};
@@ -17,7 +17,17 @@ use spv_flow_steps::{fresh_pair, replaced};
 use spv_logic::Head;
 use spv_supply::Supply;
 use spv_term::{Condition, TermId, Terms};
-use std::alloc::Global;
+use std::alloc::{AllocError, Global};
+
+fn push(
+    pairs: &mut Vec<(TermId, TermId)>,
+    pair: (TermId, TermId),
+) -> Result<(), AllocError>
+    ensures { OnOk result (pairs.new.items ≡ pairs.old.items ++ pair ∷ []) }
+{
+    pairs.push(pair)?;
+    Ok(())
+}
 
 /// Each of these variables and classes with a fresh one in its place, in order.
 pub fn renamed(
@@ -35,7 +45,7 @@ pub fn renamed(
     let mut pairs = Vec::new(alloc);
     for head in heads {
         let pair = fresh_pair(terms, supply, *head)?;
-        pairs.push(pair)?;
+        push(&mut pairs, pair)?;
     }
     Ok(pairs)
 }

@@ -1,0 +1,96 @@
+-- The terms of a FOR.
+use Rattle.std.proofs.Common.{◌≡◌, ◌<◌, ℕ, true, List, [], ◌∷◌, ◌++◌, length, Result, Ok, Err, IfOk, IsErrAnd, Option, Some, None, option_map, refl, sym, ap, subst, ◌∙◌, arith}
+use Rattle.std.proofs.lemmas.Bool.{or_left, or_right}
+use Rattle.std.specs.Option.{unwrap_or}
+use Rattle.spv_names.specs.declared.names.Symbol.{Symbol}
+use Rattle.spv_logic.specs.declared.conditions.TermId.{TermId}
+use Rattle.spv_logic.specs.declared.types.Sort.{Sort}
+use Rattle.spv_logic.specs.declared.types.Sort.TheVariants as sort
+use Rattle.spv_logic.specs.declared.operators.Head.{Head}
+use Rattle.spv_logic.specs.declared.operators.Head.TheVariants as head
+use Rattle.spv_logic.specs.Terms.{Term, terms, no_terms}
+use Rattle.spv_logic.specs.Substitution.{substitute, replaced}
+use Rattle.spv_term.specs.declared.nodes.TermFault.{TermFault}
+use Rattle.spv_term.specs.declared.nodes.TermFault.TheVariants.{Size}
+use Rattle.spv_term.specs.Arena.{Arena, Extends, tree, sort_at}
+use Rattle.spv_term.proofs.ArenaLemmas.{Extends-refl, Extends-trans, tree-Extends, sort_at-Extends, length-Extends}
+use Rattle.spv_substitution.specs.Images.{ArePairs, head_at, pairs_at, substituted}
+use Rattle.spv_substitution.specs.Parts.{is_part, is_part_of, AddsParts, LacksPart}
+use Rattle.spv_substitution.proofs.PartLemmas.{is_part-refl, part_of_args}
+use Rattle.spv_program.specs.declared.operators.Direction.{Direction}
+use Rattle.spv_program.specs.declared.operators.Direction.TheVariants.{Up, Down}
+use Rattle.spv_program.specs.Calls.{replacing}
+use Rattle.spv_program.specs.Terms.{alone, binary}
+use Rattle.spv_assign.specs.Conditions.{pairs_of}
+use Rattle.spv_assign.proofs.Replacing.{replacing-is}
+use Rattle.spv_meaning.specs.Before.{next_term, within_term, past_term, standing_for}
+use Rattle.spv_events.specs.declared.faults.GenFault.{GenFault}
+use Rattle.spv_events.specs.Events.{Event, Walked, Stops, Answers}
+use Rattle.spv_events.specs.StatementEvents.{one, several, one_if_there}
+use Rattle.spv_events.proofs.Walks.{walked_behind}
+use Rattle.spv_events.proofs.Covering.{AreCovered, covered_more, covered_nothing, covered_stops, covered_walked, covered_behind}
+use Rattle.spv_flow_steps.specs.Makes.{IsTerm, Makes}
+use Rattle.spv_flow_steps.proofs.Renamings.{stops_at_one, stops_at_two, walked_two}
+use Rattle.spv_flow_parts.specs.Walks.{IsThere, MakesTerm}
+use Rattle.spv_flow_parts.proofs.Steps.{IsTerm-Extends}
+use Rattle.spv_flow_counting.specs.declared.terms.Counter.{Counter}
+use Rattle.spv_flow_counting.specs.declared.terms.Ends.{Ends}
+use Rattle.spv_flow_counting.specs.Counting.{IsCounter, AreEnds, end_terms, known_in, number_head}
+
+-- ---- the variable
+
+pub is_counter : (a b : Arena) (v u : TermId) (direction : Direction) (h : Head) → IsTerm a v (alone h) → Extends a b → IsTerm b u (next_term direction (tree a v)) → sort_at a v ≡ sort.Int → sort_at b u ≡ sort.Int
+    → IsCounter b (record { variable = v; next = u }) direction h
+is_counter a b v u direction h is more next number next_number = record {
+  variable = IsTerm-Extends v (alone h) more is;
+  next = subst (λ (x : Term). IsTerm b u (next_term direction x)) is.is_tree next;
+  variable_sort = sort_at-Extends more v is.there ∙ number;
+  next_sort = next_number;
+}
+
+-- ---- terms with others in their places
+
+module _ (a : Arena) (pairs : List (TermId × TermId)) (t : TermId) where
+  pub put_term : substitute (pairs_at a pairs) (tree a t) ≡ substitute (replacing (pairs_of a pairs)) (tree a t)
+  put_term = ap (λ by. substitute by (tree a t)) (replacing-is a pairs)
+
+-- a variable with pairs put in is what stands for it
+pub stands_for : (pairs : List (Head × Term)) (x : Symbol) → substitute (replacing pairs) (alone (number_head x)) ≡ standing_for pairs (number_head x)
+stands_for pairs x = by (replacing pairs (number_head x))
+  where
+    by : (o : Option Term) → replaced o (alone (number_head x)) ≡ unwrap_or o (alone (number_head x))
+    by None = refl
+    by (Some t) = refl
+
+-- ---- the ends
+
+in_within : (direction : Direction) (now end : Term) → is_part now (within_term direction now end) ≡ true
+in_within Up now end = part_of_args now head.Le (terms now (terms end no_terms)) (or_left (is_part now now) _ (is_part-refl now))
+in_within Down now end = part_of_args now head.Le (terms end (terms now no_terms)) (or_right (is_part now end) _ (or_left (is_part now now) _ (is_part-refl now)))
+
+module _ (direction : Direction) (now end : Term) where
+  abbrev within : Term
+  within = within_term direction now end
+
+  abbrev past : Term
+  past = past_term direction now end
+
+  pub now_covered : AreCovered (now ∷ []) (end_terms direction now end)
+  now_covered = covered_more now [] (end_terms direction now end) (or_left (is_part now within) _ (in_within direction now end)) (covered_nothing (end_terms direction now end))
+
+  pub now_stops : (g : GenFault) (a b : Arena) → Stops g (one now) a b → Stops g (several (end_terms direction now end)) a b
+  now_stops g a b stops = covered_stops (one now) refl (end_terms direction now end) now_covered g a b stops
+
+  pub within_stops : (g : GenFault) (a b c : Arena) → Walked (one now) a b → Stops g (one within) b c → Stops g (several (end_terms direction now end)) a c
+  within_stops g a b c walked stops = covered_behind (one now) refl (end_terms direction now end) now_covered g a b c walked (stops_at_one within past g b c stops)
+
+  pub past_stops : (g : GenFault) (a b c d : Arena) → Walked (one now) a b → Walked (one within) b c → Stops g (one past) c d → Stops g (several (end_terms direction now end)) a d
+  past_stops g a b c d walked first stops = covered_behind (one now) refl (end_terms direction now end) now_covered g a b d walked (stops_at_two within past g b c d first stops)
+
+  pub ends_walked : (a b c d : Arena) → Walked (one now) a b → Walked (one within) b c → Walked (one past) c d → Walked (several (end_terms direction now end)) a d
+  ends_walked a b c d walked first second = covered_walked (one now) refl (end_terms direction now end) now_covered a b d walked (walked_two within past b c d first second)
+
+-- the comparisons by the ids of their sides
+module _ (direction : Direction) (a b : Arena) (s t : TermId) (x y : Term) (first : IsTerm b s x) (second_there : t.0 < length a.nodes) (second : tree a t ≡ y) (more : Extends a b) where
+  pub same_sides : {X : Type 0} (f : Term → Term → X) → f (tree b s) (tree b t) ≡ f x y
+  same_sides f = let e = first.is_tree in let g = tree-Extends more t second_there ∙ second in λ i. f (e i) (g i)
