@@ -51,7 +51,7 @@ pub IsThere-Extends : {a b : Arena} (h : Option TermId) → Extends a b → IsTh
 IsThere-Extends None more h = tt
 IsThere-Extends (Some t) more h = let longer = length-Extends more in let there = h in omega (arith, longer, there)
 
-tree_if_there : {a b : Arena} (h : Option TermId) → Extends a b → IsThere a h → option_map (tree b) h ≡ option_map (tree a) h
+pub tree_if_there : {a b : Arena} (h : Option TermId) → Extends a b → IsThere a h → option_map (tree b) h ≡ option_map (tree a) h
 tree_if_there None more h = refl
 tree_if_there (Some t) more h = ap Some (tree-Extends more t h)
 
@@ -134,9 +134,9 @@ module _ (a b : Arena) (p : Program) (here : Option RoutineId) (note : Option Te
       → Comes r (loop_made p here f fresh cs) (loop_events p here f fresh cs) a b n
   loop_comes r items first more is walked is_first joined answers =
       let long : length first + length items ≡ length (wanted_if_there p here kind.Invariant f) + length cs =
-          let x : length first ≡ length (wanted_if_there p here kind.Invariant f) = sym (long_conditions b first) ∙ ap (λ (l : List logic.Condition). length l) is_first.same in
-          let y : length items ≡ length cs = long_uses b items fresh.pairs seen cs is.conditions.same in
-          λ i. x i + y i in
+      let x : length first ≡ length (wanted_if_there p here kind.Invariant f) = sym (long_conditions b first) ∙ ap (λ (l : List logic.Condition). length l) is_first.same in
+      let y : length items ≡ length cs = long_uses b items fresh.pairs seen cs is.conditions.same in
+      λ i. x i + y i in
       let supply = is.supply in
       let term = same_term in
       comes_as (loop_made p here f fresh cs) n r

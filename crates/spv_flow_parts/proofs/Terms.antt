@@ -140,7 +140,7 @@ module _ (p : Program) (body : Body) (a : Arena) (h : Stands p body a) where
     variable_sort =
         let heads = variable_head p (routine_in p body.here) in
         let term : present (placed p (routine_in p body.here) full_supply d).target ≡ variable_of p body.here d =
-            ap (λ w. present w.target) (place_is p (routine_in p body.here) full_supply d variable_calls) ∙ terms_are_present heads d in
+        ap (λ w. present w.target) (place_is p (routine_in p body.here) full_supply d variable_calls) ∙ terms_are_present heads d in
         ap (sort_of_type p) v.typed
         ∙ sym (place_has_sort p (routine_in p body.here) full_supply d v.of v.typed)
         ∙ ap (term_sort (shapes p) p.symbols) term

@@ -3,6 +3,7 @@
 #![tactic(auto)]
 
 mod bodies;
+mod laws;
 mod lists;
 mod loops;
 mod notes;
@@ -10,6 +11,7 @@ mod renaming;
 mod values;
 
 pub use bodies::Body;
+pub use laws::law_changed;
 pub use lists::{copied, known, ways};
 pub use loops::end_of_loop;
 pub use notes::{note, noted, wanted, wanted_note};

@@ -19,10 +19,7 @@ use spv_supply::Supply;
 use spv_term::{Condition, TermId, Terms};
 use std::alloc::{AllocError, Global};
 
-fn push(
-    pairs: &mut Vec<(TermId, TermId)>,
-    pair: (TermId, TermId),
-) -> Result<(), AllocError>
+fn push(pairs: &mut Vec<(TermId, TermId)>, pair: (TermId, TermId)) -> Result<(), AllocError>
     ensures { OnOk result (pairs.new.items ≡ pairs.old.items ++ pair ∷ []) }
 {
     pairs.push(pair)?;
