@@ -108,9 +108,16 @@ module _ (a : Arena) (x : Option Term) (y z : Term) (bs cs ds : List logic.Condi
   sides_come r both is joined answers =
       let begun_is = begun_long in
       let both_is : length both ≡ length cs + length ds =
-          let first = first_long in
-          let second = second_long in
-          ap (λ (l : List Condition). length l) is ∙ length-append fs ss ∙ (λ i. first i + second i) in
+      let first = first_long in
+      let second = second_long in
+      ap (λ (l : List Condition). length l) is ∙ length-append fs ss ∙ (λ i. first i + second i) in
       subst (λ k. Comes r (record { conditions = whole; supply = n }) (counted k) a a n) (λ i. begun_is i + both_is i)
       (joined_comes r begun both bs (side x y cs ++ side x z ds) a joined answers b_these
       (subst (λ (l : List Condition). AreThese a l (side x y cs ++ side x z ds)) (sym is) (these_both a fs ss (side x y cs) (side x z ds) f_these s_these)) n numbers)
+
+-- the same by what was handed on
+pub side_given : (a : Arena) (h : Option TermId) (t : TermId) (x : Option Term) (y : Term) (cs : List logic.Condition) (conditions under given all : List Condition) → given ≡ under → option_map (tree a) h ≡ x → IsTerm a t y → AreThese a conditions cs
+    → AreThese a under (all_assuming (tree a t) (conditions_of a conditions)) → AreThese a all (assuming_if_there (option_map (tree a) h) (conditions_of a given)) → AreThese a all (side x y cs)
+side_given a h t x y cs conditions under given all same known term these under_these all_these =
+    side_same a h t x y cs conditions under all known term these under_these
+    (subst (λ (l : List Condition). AreThese a all (assuming_if_there (option_map (tree a) h) (conditions_of a l))) same all_these)

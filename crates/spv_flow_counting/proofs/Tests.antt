@@ -33,8 +33,8 @@ use Rattle.spv_flow_steps.specs.Makes.{IsTerm, Makes}
 use Rattle.spv_flow_steps.proofs.Renamings.{stops_at_one, stops_at_two, walked_two}
 use Rattle.spv_flow_parts.specs.Walks.{IsThere, MakesTerm}
 use Rattle.spv_flow_parts.proofs.Steps.{IsTerm-Extends}
-use Rattle.spv_flow_counting.specs.declared.terms.Counter.{Counter}
-use Rattle.spv_flow_counting.specs.declared.terms.Ends.{Ends}
+use Rattle.spv_flow_counting.specs.declared.terms.CounterTerms.{CounterTerms}
+use Rattle.spv_flow_counting.specs.declared.terms.EndTerms.{EndTerms}
 use Rattle.spv_flow_counting.specs.Counting.{IsCounter, AreEnds, end_terms, known_in, number_head}
 
 -- ---- the variable
@@ -94,3 +94,18 @@ module _ (direction : Direction) (now end : Term) where
 module _ (direction : Direction) (a b : Arena) (s t : TermId) (x y : Term) (first : IsTerm b s x) (second_there : t.0 < length a.nodes) (second : tree a t ≡ y) (more : Extends a b) where
   pub same_sides : {X : Type 0} (f : Term → Term → X) → f (tree b s) (tree b t) ≡ f x y
   same_sides f = let e = first.is_tree in let g = tree-Extends more t second_there ∙ second in λ i. f (e i) (g i)
+
+pub are_ends : (direction : Direction) (a0 a1 a2 a3 : Arena) (now end within past : TermId) (x : Term) → end.0 < length a0.nodes → MakesTerm (Ok now) x a0 a1 → Extends a1 a2 → Extends a2 a3
+    → IsTerm a2 within (within_term direction (tree a1 now) (tree a1 end)) → IsTerm a3 past (past_term direction (tree a2 now) (tree a2 end)) → AreEnds a3 (record { within = within; past = past }) direction x (tree a0 end)
+are_ends direction a0 a1 a2 a3 now end within past x end_there made more last within_is past_is =
+    let later = IsTerm-Extends now x more made.term in
+    let first : within_term direction (tree a1 now) (tree a1 end) ≡ within_term direction x (tree a0 end) = same_sides direction a0 a1 now end x (tree a0 end) made.term end_there refl made.grows (within_term direction) in
+    let second : past_term direction (tree a2 now) (tree a2 end) ≡ past_term direction x (tree a0 end) = same_sides direction a0 a2 now end x (tree a0 end) later end_there refl (Extends-trans made.grows more) (past_term direction) in
+    record {
+      within = IsTerm-Extends within (within_term direction x (tree a0 end)) last (subst (λ (t : Term). IsTerm a2 within t) first within_is);
+      past = subst (λ (t : Term). IsTerm a3 past t) second past_is;
+    }
+
+pub if_told : {T E F : Type 0} (P : T → Type 0) (r : Result T E) (s : Result T F) → IfOk s (λ t. r ≡ Ok t) → IfOk r P → IfOk s P
+if_told {T} {E} {F} P r (Ok t) told h = subst (λ (x : Result T E). IfOk x P) told h
+if_told P r (Err e) told h = tt

@@ -22,15 +22,15 @@ use Rattle.spv_meaning.specs.Before.{Made, Renamed, renamed, all_assuming, assum
 use Rattle.spv_events.specs.Events.{Event}
 use Rattle.spv_events.specs.StatementEvents.{one_if_there, several, counted, in_order, pair_terms, replacing_events}
 use Rattle.spv_flow_steps.specs.Makes.{IsTerm}
-use Rattle.spv_flow_counting.specs.declared.terms.Counter.{Counter}
-use Rattle.spv_flow_counting.specs.declared.terms.Ends.{Ends}
+use Rattle.spv_flow_counting.specs.declared.terms.CounterTerms.{CounterTerms}
+use Rattle.spv_flow_counting.specs.declared.terms.EndTerms.{EndTerms}
 
 -- a variable of numbers, by its name
 abbrev pub number_head : Symbol → Head
 number_head x = head.Var x sort.Int 0
 
 -- the variable that counts, and its value in the next turn
-pub record IsCounter (a : Arena) (c : Counter) (direction : Direction) (h : Head) : Type 0 where
+pub record IsCounter (a : Arena) (c : CounterTerms) (direction : Direction) (h : Head) : Type 0 where
   pub variable : IsTerm a c.variable (alone h)
   pub next : IsTerm a c.next (next_term direction (alone h))
   pub variable_sort : sort_at a c.variable ≡ sort.Int
@@ -40,7 +40,7 @@ abbrev pub counter_terms : Direction → Head → List Term
 counter_terms direction h = alone h ∷ next_term direction (alone h) ∷ []
 
 -- whether the variable, as it stands in the loop, is within the end, and whether it is past it
-pub record AreEnds (a : Arena) (e : Ends) (direction : Direction) (now end : Term) : Type 0 where
+pub record AreEnds (a : Arena) (e : EndTerms) (direction : Direction) (now end : Term) : Type 0 where
   pub within : IsTerm a e.within (within_term direction now end)
   pub past : IsTerm a e.past (past_term direction now end)
 

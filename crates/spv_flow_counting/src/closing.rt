@@ -18,7 +18,7 @@ ghost use Rattle.spv_flow_parts.specs.Walks.{AreThese, Comes, ComesTo, IsThere};
 ghost use Rattle.spv_flow_counting.specs.Counting.{closed, closing_events};
 ghost use Rattle.spv_flow_counting.specs.Counting as rule;
 
-use crate::terms::{Ends, ends, put_if_there};
+use crate::terms::{EndTerms, ends, put_if_there};
 use spv_events::GenFault;
 use spv_flow_parts::known;
 use spv_flow_steps::joined;
@@ -45,7 +45,7 @@ fn side(
 fn joined_sides(
     alloc: Global,
     h: Option<TermId>,
-    e: Ends,
+    e: EndTerms,
     begun: Vec<Condition>,
     inside: &[Condition],
     outside: &[Condition],

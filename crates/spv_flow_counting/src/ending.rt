@@ -105,14 +105,24 @@ pub fn end_of_for(
         (ended_events program.now body.now.here (option_map annotation_of f.now) direction (number_head x) (tree terms.old first) (tree terms.old end) (before.renamed heads.now (supply_of supply.old)) (conditions_of terms.old turn.now) (conditions_of terms.old rest.now))
         terms.old terms.new (supply_of supply.new) }
 {
-    let begun = wanted_put(program, body, terms, Kind::Invariant, f, note, variable, first)?;
-    let pairs = renamed(body.alloc, terms, supply, heads)?;
-    let inside = replaced_in(body.alloc, terms, pairs.as_slice(), turn)?;
-    let outside = left_behind(body.alloc, terms, supply, x, pairs.as_slice(), rest)?;
+    let begun = wanted_put(
+        program,
+        body,
+        terms,
+        Kind::Invariant,
+        f,
+        note,
+        variable,
+        first,
+    )?;
+    let made = renamed(body.alloc, terms, supply, heads)?;
+    let pairs = made.as_slice();
+    let inside = replaced_in(body.alloc, terms, pairs, turn)?;
+    let outside = left_behind(body.alloc, terms, supply, x, pairs, rest)?;
     close(
         body.alloc,
         terms,
-        pairs.as_slice(),
+        pairs,
         note,
         direction,
         variable,

@@ -6,4 +6,4 @@ mod ending;
 mod terms;
 
 pub use ending::{end_of_for, wanted_put};
-pub use terms::{Counter, counter};
+pub use terms::{CounterTerms, counter};

@@ -24,7 +24,7 @@ use std::alloc::Global;
 
 /// The variable that counts, and its value in the next turn.
 #[derive(Clone, Copy, Debug)]
-pub struct Counter {
+pub struct CounterTerms {
     /// The variable.
     pub variable: TermId,
     /// Its value in the next turn.
@@ -33,20 +33,20 @@ pub struct Counter {
 
 /// Whether the variable is within the end, and whether it is past it.
 #[derive(Clone, Copy, Debug)]
-pub(crate) struct Ends {
+pub(crate) struct EndTerms {
     pub(crate) within: TermId,
     pub(crate) past: TermId,
 }
 
 /// The terms of a variable of numbers and of its value in the next turn.
-pub fn counter(terms: &mut Terms, x: Symbol, direction: Direction) -> Result<Counter, GenFault>
+pub fn counter(terms: &mut Terms, x: Symbol, direction: Direction) -> Result<CounterTerms, GenFault>
     ensures counter { IfOk result (λ c. IsCounter terms.new c direction (number_head x)) }
     ensures grows { Extends terms.old terms.new }
     ensures walk { Answers result (several (counter_terms direction (number_head x))) terms.old terms.new }
 {
     let variable = made(terms, Head::Var(x, Sort::Int, 0), &[])?;
     let next = next_value(terms, direction, variable)?;
-    Ok(Counter { variable, next })
+    Ok(CounterTerms { variable, next })
 }
 
 /// A term with the second terms of pairs in the place of the first ones.
@@ -93,7 +93,7 @@ pub(crate) fn ends(
     direction: Direction,
     variable: TermId,
     end: TermId,
-) -> Result<Ends, GenFault>
+) -> Result<EndTerms, GenFault>
     requires variable { variable.0 < length terms.old.nodes }
     requires number { sort_at terms.old variable ≡ sort.Int }
     requires end { end.0 < length terms.old.nodes }
@@ -106,5 +106,5 @@ pub(crate) fn ends(
     let now = put_into(alloc, terms, pairs, variable)?;
     let within = within_end(terms, direction, now, end)?;
     let past = past_end(terms, direction, now, end)?;
-    Ok(Ends { within, past })
+    Ok(EndTerms { within, past })
 }
