@@ -1,5 +1,5 @@
 -- The conditions behind the body of a FOR.
-use Rattle.std.proofs.Common.{◌≡◌, ◌<◌, ◌+◌, ℕ, true, List, [], ◌∷◌, ◌++◌, map, length, Result, Ok, Err, IfOk, IsErrAnd, Option, Some, None, Vec, Global, option_map, refl, sym, ap, subst, ◌∙◌, arith}
+use Rattle.std.proofs.Common.{◌≡◌, ◌<◌, ◌+◌, List, [], ◌∷◌, ◌++◌, length, Ok, Err, IsErrAnd, Option, Some, None, Vec, Global, option_map, refl, sym, ap, subst, ◌∙◌}
 use Rattle.std.proofs.lemmas.List.{length-map}
 use Rattle.spv_names.specs.declared.names.Symbol.{Symbol}
 use Rattle.spv_logic.specs.declared.conditions.Kind.{Kind}
@@ -13,8 +13,8 @@ use Rattle.spv_logic.specs.Substitution.{substitute, is_variable}
 use Rattle.spv_logic.specs.Conditions as logic
 use Rattle.spv_term.specs.declared.nodes.Condition.{Condition}
 use Rattle.spv_term.specs.Arena.{Arena, Extends, tree, sort_at}
-use Rattle.spv_term.proofs.ArenaLemmas.{Extends-refl, Extends-trans, tree-Extends, sort_at-Extends, length-Extends}
-use Rattle.spv_substitution.specs.Images.{IsPair, ArePairs, head_at, head_of}
+use Rattle.spv_term.proofs.ArenaLemmas.{Extends-trans, tree-Extends}
+use Rattle.spv_substitution.specs.Images.{ArePairs, head_at, head_of}
 use Rattle.spv_program.specs.declared.operators.Direction.{Direction}
 use Rattle.spv_program.specs.Formulas.{Annotation}
 use Rattle.spv_program.specs.Programs.{Program}
@@ -22,16 +22,15 @@ use Rattle.spv_program.specs.Supplies.{Supply, Fresh, fresh_like}
 use Rattle.spv_program.specs.Calls.{replacing}
 use Rattle.spv_program.specs.Terms.{alone}
 use Rattle.spv_supply.specs.Numbers.{Taken, AreThere, supply_of}
-use Rattle.spv_supply.proofs.FreshLemmas.{AreThere-Extends}
 use Rattle.spv_assign.specs.Conditions.{conditions_of, pairs_of, AreIn, all_terms_in}
 use Rattle.spv_assign.proofs.Growing.{AreIn-Extends, conditions_of-Extends}
-use Rattle.spv_meaning.specs.Before.{Made, Renamed, renamed, replaced, assuming_if_there, annotation_term, wanted_if_there, wanted_with, standing_for}
+use Rattle.spv_meaning.specs.Before.{Made, Renamed, renamed, replaced, annotation_term, wanted_if_there, wanted_with, standing_for}
 use Rattle.spv_events.specs.declared.faults.GenFault.{GenFault}
-use Rattle.spv_events.specs.Events.{Event, Walked, Stops, Answers}
-use Rattle.spv_events.specs.StatementEvents.{one_if_there, several, counted, in_order, pair_terms, replacing_events}
+use Rattle.spv_events.specs.Events.{Event, Walked, Stops}
+use Rattle.spv_events.specs.StatementEvents.{one_if_there, several, counted, in_order, pair_terms}
 use Rattle.spv_events.proofs.Walks.{nothing_walked}
 use Rattle.spv_flow_steps.specs.Makes.{IsTerm, IsFreshPair}
-use Rattle.spv_flow_parts.specs.Walks.{AreThese, AreRenamed, IsMade, IsNoted, Listed, Comes, ComesTo}
+use Rattle.spv_flow_parts.specs.Walks.{AreThese, AreRenamed, IsNoted, Listed, Comes, ComesTo}
 use Rattle.spv_flow_parts.proofs.Steps.{went, went_on, stopped_among, comes_not, comes_on, comes_last, comes_as, exit, AreThese-Extends, IsTerm-Extends}
 use Rattle.spv_flow_parts.proofs.Pairs.{ArePairs-Extends, pairs_of-Extends}
 use Rattle.spv_flow_parts.proofs.LoopLemmas.{IsNoted-Extends, note_term}

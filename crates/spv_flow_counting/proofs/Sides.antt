@@ -1,25 +1,25 @@
 -- The conditions of a FOR, put together.
-use Rattle.std.proofs.Common.{◌≡◌, ◌<◌, ◌≤◌, ◌+◌, ℕ, true, List, [], ◌∷◌, ◌++◌, map, length, Result, Ok, Err, IfOk, IsErrAnd, Option, Some, None, option_map, refl, sym, ap, subst, ◌∙◌, arith}
+use Rattle.std.proofs.Common.{◌≡◌, ◌<◌, ◌≤◌, ◌+◌, ℕ, true, List, [], ◌∷◌, ◌++◌, length, IfOk, IsErrAnd, Option, Some, None, option_map, refl, sym, ap, subst, ◌∙◌, arith}
 use Rattle.std.proofs.lemmas.Bool.{false≢true}
 use Rattle.std.proofs.lemmas.List.{length-map, length-append}
 use Rattle.spv_logic.specs.declared.conditions.TermId.{TermId}
 use Rattle.spv_logic.specs.Terms.{Term}
 use Rattle.spv_logic.specs.Conditions as logic
 use Rattle.spv_term.specs.declared.nodes.Condition.{Condition}
-use Rattle.spv_term.specs.Arena.{Arena, Extends, tree}
+use Rattle.spv_term.specs.Arena.{Arena, tree}
 use Rattle.spv_term.proofs.ArenaLemmas.{Extends-refl}
 use Rattle.spv_substitution.specs.Parts.{is_part_of}
 use Rattle.spv_program.specs.Supplies.{Supply}
 use Rattle.spv_supply.specs.Numbers.{AreThere}
-use Rattle.spv_assign.specs.Conditions.{conditions_of, AreIn}
-use Rattle.spv_meaning.specs.Before.{Made, assuming, all_assuming, assuming_if_there}
+use Rattle.spv_assign.specs.Conditions.{conditions_of}
+use Rattle.spv_meaning.specs.Before.{assuming, all_assuming, assuming_if_there}
 use Rattle.spv_events.specs.declared.faults.GenFault.{GenFault}
 use Rattle.spv_events.specs.declared.faults.GenFault.TheVariants as fault
-use Rattle.spv_events.specs.Events.{Event, Terms, Conditions, terms_of, longest_list, MeetsLongList, Walked, Stops, Answers}
+use Rattle.spv_events.specs.Events.{Event, Terms, Conditions, terms_of, longest_list, Stops, Answers}
 use Rattle.spv_events.specs.StatementEvents.{counted}
 use Rattle.spv_events.proofs.Walks.{nothing_walked, part_first, terms_of_both}
 use Rattle.spv_flow_steps.specs.Makes.{IsTerm}
-use Rattle.spv_flow_parts.specs.Walks.{AreThese, IsMade, IsThere, Listed, Comes, ComesTo}
+use Rattle.spv_flow_parts.specs.Walks.{AreThese, Listed, Comes}
 use Rattle.spv_flow_parts.proofs.Steps.{comes_not}
 use Rattle.spv_flow_parts.proofs.Conditions.{joined_comes, these_both, long_conditions}
 use Rattle.spv_flow_counting.specs.Counting.{side}

@@ -1,41 +1,35 @@
 -- The terms of a FOR.
-use Rattle.std.proofs.Common.{◌≡◌, ◌<◌, ℕ, true, List, [], ◌∷◌, ◌++◌, length, Result, Ok, Err, IfOk, IsErrAnd, Option, Some, None, option_map, refl, sym, ap, subst, ◌∙◌, arith}
+use Rattle.std.proofs.Common.{◌≡◌, ◌<◌, true, List, [], ◌∷◌, length, Result, Ok, Err, IfOk, Option, Some, None, refl, ap, subst, ◌∙◌}
 use Rattle.std.proofs.lemmas.Bool.{or_left, or_right}
 use Rattle.std.specs.Option.{unwrap_or}
 use Rattle.spv_names.specs.declared.names.Symbol.{Symbol}
 use Rattle.spv_logic.specs.declared.conditions.TermId.{TermId}
-use Rattle.spv_logic.specs.declared.types.Sort.{Sort}
 use Rattle.spv_logic.specs.declared.types.Sort.TheVariants as sort
 use Rattle.spv_logic.specs.declared.operators.Head.{Head}
 use Rattle.spv_logic.specs.declared.operators.Head.TheVariants as head
 use Rattle.spv_logic.specs.Terms.{Term, terms, no_terms}
 use Rattle.spv_logic.specs.Substitution.{substitute, replaced}
-use Rattle.spv_term.specs.declared.nodes.TermFault.{TermFault}
-use Rattle.spv_term.specs.declared.nodes.TermFault.TheVariants.{Size}
 use Rattle.spv_term.specs.Arena.{Arena, Extends, tree, sort_at}
-use Rattle.spv_term.proofs.ArenaLemmas.{Extends-refl, Extends-trans, tree-Extends, sort_at-Extends, length-Extends}
-use Rattle.spv_substitution.specs.Images.{ArePairs, head_at, pairs_at, substituted}
-use Rattle.spv_substitution.specs.Parts.{is_part, is_part_of, AddsParts, LacksPart}
+use Rattle.spv_term.proofs.ArenaLemmas.{Extends-trans, tree-Extends, sort_at-Extends}
+use Rattle.spv_substitution.specs.Images.{pairs_at}
+use Rattle.spv_substitution.specs.Parts.{is_part}
 use Rattle.spv_substitution.proofs.PartLemmas.{is_part-refl, part_of_args}
 use Rattle.spv_program.specs.declared.operators.Direction.{Direction}
 use Rattle.spv_program.specs.declared.operators.Direction.TheVariants.{Up, Down}
 use Rattle.spv_program.specs.Calls.{replacing}
-use Rattle.spv_program.specs.Terms.{alone, binary}
+use Rattle.spv_program.specs.Terms.{alone}
 use Rattle.spv_assign.specs.Conditions.{pairs_of}
 use Rattle.spv_assign.proofs.Replacing.{replacing-is}
 use Rattle.spv_meaning.specs.Before.{next_term, within_term, past_term, standing_for}
 use Rattle.spv_events.specs.declared.faults.GenFault.{GenFault}
-use Rattle.spv_events.specs.Events.{Event, Walked, Stops, Answers}
-use Rattle.spv_events.specs.StatementEvents.{one, several, one_if_there}
-use Rattle.spv_events.proofs.Walks.{walked_behind}
+use Rattle.spv_events.specs.Events.{Walked, Stops}
+use Rattle.spv_events.specs.StatementEvents.{one, several}
 use Rattle.spv_events.proofs.Covering.{AreCovered, covered_more, covered_nothing, covered_stops, covered_walked, covered_behind}
-use Rattle.spv_flow_steps.specs.Makes.{IsTerm, Makes}
+use Rattle.spv_flow_steps.specs.Makes.{IsTerm}
 use Rattle.spv_flow_steps.proofs.Renamings.{stops_at_one, stops_at_two, walked_two}
-use Rattle.spv_flow_parts.specs.Walks.{IsThere, MakesTerm}
+use Rattle.spv_flow_parts.specs.Walks.{MakesTerm}
 use Rattle.spv_flow_parts.proofs.Steps.{IsTerm-Extends}
-use Rattle.spv_flow_counting.specs.declared.terms.CounterTerms.{CounterTerms}
-use Rattle.spv_flow_counting.specs.declared.terms.EndTerms.{EndTerms}
-use Rattle.spv_flow_counting.specs.Counting.{IsCounter, AreEnds, end_terms, known_in, number_head}
+use Rattle.spv_flow_counting.specs.Counting.{IsCounter, AreEnds, end_terms, number_head}
 
 -- ---- the variable
 

@@ -2,7 +2,6 @@
 use Rattle.std.specs.Prelude.{◌≡◌, ◌+◌, List, [], ◌∷◌, ◌++◌, length, Option, option_map}
 use Rattle.spv_names.specs.declared.names.Symbol.{Symbol}
 use Rattle.spv_logic.specs.declared.conditions.Kind.TheVariants as kind
-use Rattle.spv_logic.specs.declared.conditions.TermId.{TermId}
 use Rattle.spv_logic.specs.declared.conditions.RoutineId.{RoutineId}
 use Rattle.spv_logic.specs.declared.types.Sort.TheVariants as sort
 use Rattle.spv_logic.specs.declared.operators.Head.{Head}
@@ -14,11 +13,11 @@ use Rattle.spv_term.specs.Arena.{Arena, sort_at}
 use Rattle.spv_program.specs.declared.operators.Direction.{Direction}
 use Rattle.spv_program.specs.Formulas.{Annotation}
 use Rattle.spv_program.specs.Programs.{Program}
-use Rattle.spv_program.specs.Supplies.{Supply, Fresh, fresh_like}
+use Rattle.spv_program.specs.Supplies.{Fresh, fresh_like}
 use Rattle.spv_program.specs.Terms.{alone}
 use Rattle.spv_program.specs.Calls.{replacing}
 use Rattle.spv_assign.specs.Conditions.{all_terms_in}
-use Rattle.spv_meaning.specs.Before.{Made, Renamed, renamed, all_assuming, assuming_if_there, replaced, standing_for, next_term, within_term, past_term, annotation_term, wanted_with}
+use Rattle.spv_meaning.specs.Before.{Made, Renamed, all_assuming, assuming_if_there, replaced, standing_for, next_term, within_term, past_term, annotation_term, wanted_with}
 use Rattle.spv_events.specs.Events.{Event}
 use Rattle.spv_events.specs.StatementEvents.{one_if_there, several, counted, in_order, pair_terms, replacing_events}
 use Rattle.spv_flow_steps.specs.Makes.{IsTerm}

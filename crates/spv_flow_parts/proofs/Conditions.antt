@@ -1,5 +1,5 @@
 -- Lists of conditions that are made of others.
-use Rattle.std.proofs.Common.{◌≡◌, ℕ, ◌<◌, ◌+◌, List, [], ◌∷◌, ◌++◌, map, length, Result, Ok, Err, IfOk, Option, Some, None, option_map, refl, sym, ap, subst, ◌∙◌}
+use Rattle.std.proofs.Common.{◌≡◌, ℕ, ◌<◌, ◌+◌, List, [], ◌∷◌, ◌++◌, map, length, Ok, Err, IfOk, Option, Some, None, option_map, refl, sym, ap, subst, ◌∙◌}
 use Rattle.std.proofs.lemmas.List.{length-map}
 use Rattle.spv_logic.specs.declared.conditions.Kind.{Kind}
 use Rattle.spv_logic.specs.declared.conditions.TermId.{TermId}
@@ -11,17 +11,14 @@ use Rattle.spv_term.specs.Arena.{Arena, Extends, tree}
 use Rattle.spv_term.proofs.ArenaLemmas.{Extends-refl}
 use Rattle.spv_program.specs.Formulas.{Annotation}
 use Rattle.spv_program.specs.Programs.{Program, routine_in}
-use Rattle.spv_program.specs.Supplies.{Supply}
 use Rattle.spv_program.specs.Terms.{body_term}
-use Rattle.spv_supply.specs.Numbers.{AreThere}
 use Rattle.spv_supply.proofs.FreshLemmas.{AreThere-Extends}
 use Rattle.spv_assign.specs.Conditions.{condition_of, conditions_of, pairs_of, AreIn, all_terms_in, with_given, Assumes}
 use Rattle.spv_meaning.specs.Before.{all_assuming, assuming_if_there, replaced, wanted_if_there}
-use Rattle.spv_events.specs.declared.faults.GenFault.{GenFault}
 use Rattle.spv_events.specs.Events.{Answers}
 use Rattle.spv_events.specs.StatementEvents.{counted, several}
 use Rattle.spv_flow_steps.specs.Makes.{IsTerm}
-use Rattle.spv_flow_parts.specs.Walks.{AreThese, IsMade, IsThere, wanted_item, Listed, Comes, ComesTo}
+use Rattle.spv_flow_parts.specs.Walks.{AreThese, IsMade, IsThere, wanted_item, Listed, ComesTo}
 
 pub conditions_both : (a : Arena) (xs ys : List Condition) → conditions_of a (xs ++ ys) ≡ conditions_of a xs ++ conditions_of a ys
 conditions_both a [] ys = refl

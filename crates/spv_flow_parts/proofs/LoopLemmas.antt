@@ -1,5 +1,5 @@
 -- The conditions of a loop.
-use Rattle.std.proofs.Common.{◌≡◌, ◌<◌, ◌+◌, List, [], ◌∷◌, ◌++◌, map, length, Result, Ok, Err, IfOk, IsErrAnd, Option, Some, None, option_map, refl, sym, ap, subst, ◌∙◌, arith}
+use Rattle.std.proofs.Common.{◌≡◌, ◌+◌, List, [], ◌∷◌, ◌++◌, map, length, Err, IfOk, IsErrAnd, Option, Some, None, option_map, refl, sym, ap, subst, ◌∙◌, arith}
 use Rattle.std.proofs.lemmas.List.{length-map}
 use Rattle.spv_logic.specs.declared.conditions.Kind.TheVariants as kind
 use Rattle.spv_logic.specs.declared.conditions.TermId.{TermId}
@@ -9,18 +9,16 @@ use Rattle.spv_logic.specs.Terms.{Term}
 use Rattle.spv_logic.specs.Conditions as logic
 use Rattle.spv_term.specs.declared.nodes.Condition.{Condition}
 use Rattle.spv_term.specs.Arena.{Arena, Extends, tree}
-use Rattle.spv_term.proofs.ArenaLemmas.{Extends-refl, Extends-trans, tree-Extends, length-Extends}
-use Rattle.spv_substitution.specs.Images.{ArePairs}
+use Rattle.spv_term.proofs.ArenaLemmas.{tree-Extends, length-Extends}
 use Rattle.spv_program.specs.Formulas.{Annotation}
 use Rattle.spv_program.specs.Programs.{Program, routine_in}
 use Rattle.spv_program.specs.Supplies.{Supply}
 use Rattle.spv_program.specs.Terms.{body_term}
-use Rattle.spv_supply.specs.Numbers.{AreThere}
-use Rattle.spv_assign.specs.Conditions.{condition_of, conditions_of, pairs_of, AreIn, all_terms_in}
-use Rattle.spv_assign.proofs.Growing.{AreIn-Extends, conditions_of-Extends}
-use Rattle.spv_meaning.specs.Before.{Made, Renamed, replaced, assuming, assuming_if_there, annotation_term, wanted_if_there}
+use Rattle.spv_assign.specs.Conditions.{conditions_of, pairs_of, AreIn, all_terms_in}
+use Rattle.spv_assign.proofs.Growing.{conditions_of-Extends}
+use Rattle.spv_meaning.specs.Before.{Renamed, replaced, assuming, assuming_if_there, annotation_term, wanted_if_there}
 use Rattle.spv_events.specs.declared.faults.GenFault.{GenFault}
-use Rattle.spv_events.specs.Events.{Event, Walked, Stops, Answers}
+use Rattle.spv_events.specs.Events.{Walked, Stops, Answers}
 use Rattle.spv_events.specs.StatementEvents.{counted, several, in_order, pair_terms, replacing_events, loop_events}
 use Rattle.spv_events.proofs.Walks.{nothing_walked}
 use Rattle.spv_flow_parts.specs.Walks.{AreThese, AreRenamed, IsMade, IsNoted, IsThere, Listed, Comes, ComesTo, loop_made, renamed_made}

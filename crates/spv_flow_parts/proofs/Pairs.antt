@@ -1,5 +1,5 @@
 -- Fresh variables in the place of what a loop changes.
-use Rattle.std.proofs.Common.{◌≡◌, ◌<◌, true, List, [], ◌∷◌, ◌++◌, map, length, refl, sym, ap, subst, ◌∙◌, arith}
+use Rattle.std.proofs.Common.{◌≡◌, true, List, [], ◌∷◌, ◌++◌, refl, sym, ap, subst, ◌∙◌, arith}
 use Rattle.std.proofs.lemmas.List.{append_assoc}
 use Rattle.spv_logic.specs.declared.conditions.TermId.{TermId}
 use Rattle.spv_logic.specs.declared.types.Shape.{Shape}
@@ -7,15 +7,14 @@ use Rattle.spv_logic.specs.declared.operators.Head.{Head}
 use Rattle.spv_logic.specs.Terms.{Term}
 use Rattle.spv_logic.specs.Sorts.{head_in_range}
 use Rattle.spv_logic.specs.Substitution.{is_variable}
-use Rattle.spv_term.specs.Arena.{Arena, Extends, tree, sort_at}
+use Rattle.spv_term.specs.Arena.{Arena, Extends}
 use Rattle.spv_term.proofs.ArenaLemmas.{Extends-refl, Extends-trans, tree-Extends, sort_at-Extends, length-Extends}
 use Rattle.spv_substitution.specs.Images.{IsPair, ArePairs, head_at, head_of}
-use Rattle.spv_substitution.specs.Parts.{is_part_of}
 use Rattle.spv_program.specs.Supplies.{Supply, fresh_like}
 use Rattle.spv_program.specs.Terms.{alone}
 use Rattle.spv_supply.specs.Numbers.{Taken, AreThere, supply_of}
 use Rattle.spv_assign.specs.Conditions.{pairs_of}
-use Rattle.spv_meaning.specs.Before.{Renamed, renamed}
+use Rattle.spv_meaning.specs.Before.{renamed}
 use Rattle.spv_events.specs.declared.faults.GenFault.{GenFault}
 use Rattle.spv_events.specs.Events.{Walked, Stops}
 use Rattle.spv_events.specs.StatementEvents.{several, pair_terms}

@@ -1,5 +1,5 @@
 -- What statements may change are variables and classes whose types are there.
-use Rattle.std.proofs.Common.{◌≡◌, Bool, true, false, cond, ◌&&◌, nat_eq, length, List, [], ◌∷◌, ◌++◌, map, filter, refl, sym, ap, subst, ◌∙◌, Option, Some, None, if◌then◌else◌}
+use Rattle.std.proofs.Common.{◌≡◌, Bool, true, false, cond, ◌&&◌, nat_eq, length, List, [], ◌∷◌, ◌++◌, map, filter, refl, sym, subst, Option, Some, None, if◌then◌else◌}
 use Rattle.std.specs.List.{list_all, list_any}
 use Rattle.std.specs.Cmp.Derive.{both_true}
 use Rattle.spv_list.proofs.Tests.{left_true, right_true}
@@ -15,10 +15,10 @@ use Rattle.spv_program.specs.declared.types.Item.TheVariants.{Variable, Class}
 use Rattle.spv_program.specs.Types.{same_type, sort_of, type_exists, forms_ok}
 use Rattle.spv_program.specs.Statements.{Statement}
 use Rattle.spv_program.specs.Programs.{Formal, Routine, Program, shapes, routine_in}
-use Rattle.spv_program.specs.Scopes.{result_name, own_names, own_names_in}
+use Rattle.spv_program.specs.Scopes.{result_name, own_names_in}
 use Rattle.spv_program.specs.Uses.{Root, Own, Shared, same_root}
 use Rattle.spv_program.specs.Changes.{changed_roots, changed_heads, types_once, all_roots}
-use Rattle.spv_program.specs.Typing.{types_exist, result_ok, heading_ok, declarations_ok}
+use Rattle.spv_program.specs.Typing.{types_exist, result_ok, declarations_ok}
 use Rattle.spv_makeable_terms.specs.Laws.{heading_ok_in}
 use Rattle.spv_makeable_terms.proofs.Ranges.{shape_there, sort_there}
 use Rattle.spv_flow_parts.specs.declared.bodies.Body.{Body}

@@ -1,24 +1,22 @@
 -- Steps of a walk one behind the other.
-use Rattle.std.proofs.Common.{◌≡◌, ◌<◌, List, [], ◌∷◌, ◌++◌, length, Result, Ok, Err, IfOk, IsErrAnd, refl, sym, ap, subst, ◌∙◌, arith}
+use Rattle.std.proofs.Common.{◌≡◌, List, [], ◌∷◌, ◌++◌, Result, Ok, Err, IfOk, IsErrAnd, refl, sym, ap, subst, ◌∙◌, arith}
 use Rattle.std.proofs.lemmas.List.{append_assoc}
 use Rattle.spv_logic.specs.declared.conditions.TermId.{TermId}
 use Rattle.spv_logic.specs.Terms.{Term}
 use Rattle.spv_logic.specs.Conditions as logic
 use Rattle.spv_term.specs.declared.nodes.Condition.{Condition}
-use Rattle.spv_term.specs.Arena.{Arena, Extends, tree}
-use Rattle.spv_term.proofs.ArenaLemmas.{Extends-refl, Extends-trans, tree-Extends, length-Extends}
+use Rattle.spv_term.specs.Arena.{Arena, Extends}
+use Rattle.spv_term.proofs.ArenaLemmas.{Extends-trans, tree-Extends, length-Extends}
 use Rattle.spv_program.specs.Programs.{Program}
 use Rattle.spv_program.specs.Supplies.{Supply}
-use Rattle.spv_supply.specs.Numbers.{AreThere}
-use Rattle.spv_supply.proofs.FreshLemmas.{AreThere-Extends}
-use Rattle.spv_assign.specs.Conditions.{conditions_of, AreIn}
+use Rattle.spv_assign.specs.Conditions.{AreIn}
 use Rattle.spv_assign.proofs.Growing.{AreIn-Extends, conditions_of-Extends}
 use Rattle.spv_meaning.specs.Before.{Made}
 use Rattle.spv_events.specs.declared.faults.GenFault.{GenFault}
 use Rattle.spv_events.specs.declared.faults.GenFault.TheVariants as fault
 use Rattle.spv_events.specs.Events.{Event, Walked, Stops, Answers}
-use Rattle.spv_events.specs.StatementEvents.{one, several, in_order}
-use Rattle.spv_events.proofs.Walks.{nothing_walked, walked_behind, stopped_first, stopped_behind, answered_behind}
+use Rattle.spv_events.specs.StatementEvents.{in_order}
+use Rattle.spv_events.proofs.Walks.{walked_behind, stopped_first, stopped_behind, answered_behind}
 use Rattle.spv_flow_steps.specs.Makes.{IsTerm}
 use Rattle.spv_flow_steps.proofs.Limits.{same_stop}
 use Rattle.spv_flow_parts.specs.declared.bodies.Body.{Body}

@@ -1,8 +1,7 @@
 -- The terms of expressions, variables and annotations of a body.
-use Rattle.std.proofs.Common.{◌≡◌, ◌<◌, ◌&&◌, true, List, [], ◌∷◌, length, Result, Ok, Err, IfOk, OnOk, Option, Some, None, option_map, refl, sym, ap, subst, ◌∙◌}
+use Rattle.std.proofs.Common.{◌≡◌, ◌<◌, true, List, [], ◌∷◌, length, Result, Ok, Err, IfOk, Option, Some, refl, sym, ap, subst, ◌∙◌}
 use Rattle.std.proofs.lemmas.Bool.{false≢true}
 use Rattle.spv_logic.specs.declared.conditions.TermId.{TermId}
-use Rattle.spv_logic.specs.declared.conditions.RoutineId.{RoutineId}
 use Rattle.spv_logic.specs.declared.types.Sort.{Sort}
 use Rattle.spv_logic.specs.declared.types.Sort.TheVariants as sort
 use Rattle.spv_logic.specs.declared.types.Shape.{Shape}
@@ -13,8 +12,7 @@ use Rattle.spv_term.specs.declared.nodes.TermFault.{TermFault}
 use Rattle.spv_term.specs.declared.nodes.TermFault.TheVariants.{Size}
 use Rattle.spv_term.specs.Arena.{Arena, Extends, tree, sort_at}
 use Rattle.spv_substitution.specs.Parts.{AddsParts, LacksPart}
-use Rattle.spv_program.specs.Types.{sort_of}
-use Rattle.spv_program.specs.Expressions.{Expression, Designator, Selectors, Call, designator, no_selectors, at_index, at_field, at_cell}
+use Rattle.spv_program.specs.Expressions.{Expression, Designator, Call, designator, no_selectors, at_index, at_field, at_cell}
 use Rattle.spv_program.specs.Formulas.{Annotation}
 use Rattle.spv_program.specs.Programs.{Program, shapes, routine_in}
 use Rattle.spv_program.specs.Scopes.{body_scope}
@@ -25,9 +23,9 @@ use Rattle.spv_program.specs.Places.{present}
 use Rattle.spv_program.specs.Terms.{formula_term, name_in, body_term}
 use Rattle.spv_program.specs.Uses.{expression_calls}
 use Rattle.spv_program.specs.ExpressionTerms.{valued, placed}
-use Rattle.spv_program.proofs.SortFacts.{is_sort-true, some_is}
+use Rattle.spv_program.proofs.SortFacts.{is_sort-true}
 use Rattle.spv_program.proofs.ExpressionSorting.{value_sorted, place_sorted as place_has_sort}
-use Rattle.spv_term_walk.specs.ExpressionTerms.{has_no_calls, place_has_no_calls, expression_term, place_term, place_target}
+use Rattle.spv_term_walk.specs.ExpressionTerms.{has_no_calls, place_has_no_calls, expression_term, place_term}
 use Rattle.spv_term_walk.specs.Makeable.{IsWellSorted}
 use Rattle.spv_term_walk.specs.Laws.{variable_head}
 use Rattle.spv_term_walk.proofs.Listed.{makes_none}

@@ -17,7 +17,6 @@ use Rattle.spv_program.specs.Changes.{all_roots}
 use Rattle.spv_program.specs.ExpressionTypes.{expression_sort, designator_type}
 use Rattle.spv_program.specs.FormulaTypes.{annotation_ok}
 use Rattle.spv_program.specs.Typing.{declarations_ok}
-use Rattle.spv_program.specs.Terms.{body_term}
 use Rattle.spv_term_walk.specs.ExpressionTerms.{expression_term, place_term}
 use Rattle.spv_term_walk.specs.Laws.{HasNamesOf, variable_scope, variable_head}
 use Rattle.spv_makeable_terms.specs.Laws.{heading_ok_in}

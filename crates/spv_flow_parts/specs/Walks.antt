@@ -1,5 +1,5 @@
 -- What a part of the walk answers, and what was made on the way.
-use Rattle.std.specs.Prelude.{◌≡◌, ℕ, ◌<◌, ⊤, List, [], ◌∷◌, ◌++◌, length, Option, Some, None, Result, IfOk, Vec}
+use Rattle.std.specs.Prelude.{◌≡◌, ℕ, ◌<◌, ⊤, List, [], ◌++◌, length, Option, Some, None, Result, IfOk, Vec}
 use Rattle.std.specs.Global.{Global}
 use Rattle.spv_logic.specs.declared.conditions.TermId.{TermId}
 use Rattle.spv_logic.specs.declared.conditions.Kind.{Kind}

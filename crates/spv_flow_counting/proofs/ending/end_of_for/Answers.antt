@@ -1,9 +1,8 @@
 use Rattle.std.proofs.Common.{subst, sym, refl, option_map, ◌∙◌}
 use Rattle.spv_typed.specs.FormulaViews.{annotation_of}
-use Rattle.spv_term.proofs.ArenaLemmas.{Extends-trans, sort_at-Extends}
+use Rattle.spv_term.proofs.ArenaLemmas.{sort_at-Extends}
 use Rattle.spv_supply.specs.Numbers.{supply_of}
 use Rattle.spv_assign.specs.Conditions.{AreIn}
-use Rattle.spv_assign.proofs.Growing.{AreIn-Extends}
 use Rattle.spv_flow_parts.proofs.Steps.{IsTerm-Extends}
 use Rattle.spv_flow_parts.proofs.LoopLemmas.{IsNoted-Extends, note_there}
 use Rattle.spv_flow_parts.proofs.Pairs.{all_there}
