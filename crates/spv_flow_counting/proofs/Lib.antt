@@ -1,0 +1,4 @@
+pub mod Tests
+pub mod Sides
+pub mod Endings
+pub mod Closings
