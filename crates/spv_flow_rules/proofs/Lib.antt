@@ -1,0 +1,5 @@
+pub mod WayLemmas
+pub mod ArmLemmas
+pub mod LoopBegins
+pub mod LoopEnds
+pub mod ForLemmas

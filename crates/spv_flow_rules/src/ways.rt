@@ -1,0 +1,58 @@
+// Conditions before a statement that goes one of two ways.
+
+ghost use Rattle.std.specs.Prelude.{◌≡◌, ◌<◌, length};
+ghost use Rattle.spv_term.specs.Arena.{sort_at, tree};
+ghost use Rattle.spv_assign.specs.Conditions.{AreIn, conditions_of};
+ghost use Rattle.spv_meaning.specs.Before as before;
+ghost use Rattle.spv_events.specs.StatementEvents.{in_order};
+ghost use Rattle.spv_flow_parts.specs.Walks.{ComesTo};
+ghost use Rattle.spv_flow_rules.specs.Rules.{ways_events, ways_made};
+
+use spv_events::GenFault;
+use spv_flow_parts::ways;
+use spv_flow_steps::negated;
+use spv_logic::Sort;
+use spv_term::{Condition, TermId, Terms};
+use std::alloc::Global;
+
+/// Conditions under a test, and behind them others under its negation.
+pub fn both_ways(
+    alloc: Global,
+    terms: &mut Terms,
+    test: TermId,
+    first: &[Condition],
+    second: &[Condition],
+) -> Result<Vec<Condition>, GenFault>
+    requires test { test.0 < length terms.old.nodes }
+    requires sort { sort_at terms.old test ≡ Sort.Bool }
+    requires first { AreIn terms.old first.now }
+    requires second { AreIn terms.old second.now }
+    ensures { ComesTo result
+        (ways_made (tree terms.old test) (before.negated (tree terms.old test)) (conditions_of terms.old first.now) (conditions_of terms.old second.now))
+        (in_order (ways_events (tree terms.old test) (conditions_of terms.old first.now) (conditions_of terms.old second.now)))
+        terms.old terms.new }
+{
+    let other = negated(terms, test)?;
+    ways(alloc, test, first, other, second)
+}
+
+/// Conditions under the negation of a test, and behind them others under the test.
+pub(crate) fn turned_ways(
+    alloc: Global,
+    terms: &mut Terms,
+    test: TermId,
+    first: &[Condition],
+    second: &[Condition],
+) -> Result<Vec<Condition>, GenFault>
+    requires test { test.0 < length terms.old.nodes }
+    requires sort { sort_at terms.old test ≡ Sort.Bool }
+    requires first { AreIn terms.old first.now }
+    requires second { AreIn terms.old second.now }
+    ensures { ComesTo result
+        (ways_made (before.negated (tree terms.old test)) (tree terms.old test) (conditions_of terms.old first.now) (conditions_of terms.old second.now))
+        (in_order (ways_events (tree terms.old test) (conditions_of terms.old first.now) (conditions_of terms.old second.now)))
+        terms.old terms.new }
+{
+    let other = negated(terms, test)?;
+    ways(alloc, other, first, test, second)
+}
