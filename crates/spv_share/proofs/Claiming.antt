@@ -1,5 +1,5 @@
 -- A literal more, on both sides.
-use Rattle.std.proofs.Common.{◌≡◌, ℕ, List, [], ◌∷◌, ◌++◌, take, length, refl, sym, ap, ◌∙◌, subst, Option, Some, None, IfSome}
+use Rattle.std.proofs.Common.{◌≡◌, ℕ, Vec, Global, map, List, [], ◌∷◌, ◌++◌, take, length, refl, sym, ap, ◌∙◌, subst, Option, Some, None, IfSome}
 use Rattle.spv_logic.specs.declared.conditions.TermId.{TermId}
 use Rattle.spv_term.specs.Arena.{Arena, tree}
 use Rattle.spv_course.specs.declared.entries.Part.{Part}
@@ -7,16 +7,19 @@ use Rattle.spv_course.specs.Course.{fact_at, literal}
 use Rattle.spv_course.specs.Literals.{Literal, literals}
 use Rattle.spv_course.proofs.Literals.{literals-append}
 use Rattle.spv_share_graph.specs.declared.trail.Trail.{Trail}
-use Rattle.spv_share_graph.specs.Holding.{Grows}
+use Rattle.spv_share_graph.specs.Holding.{Grows, Holds, MayTell}
+use Rattle.spv_share_graph.specs.Telling.{literal_ties, ties}
+use Rattle.std.proofs.lemmas.List.{map-append}
 use Rattle.spv_share_rows.specs.declared.standing.Standing.{Standing}
 use Rattle.spv_share_rows.specs.Standing.{AddsSome}
 use Rattle.spv_share.specs.declared.relations.Related.{Related}
 use Rattle.spv_share.specs.declared.relations.Claim.{Claim}
 use Rattle.spv_share.specs.declared.both.Both.{Both}
-use Rattle.spv_share.specs.Relations.{claim, find}
-use Rattle.spv_share.specs.Both.{IsClaimed, IsSound, KeepsLevels, told}
+use Rattle.spv_share.specs.Relations.{claim, claim_of, find}
+use Rattle.spv_share.specs.Both.{AreReasoned, IsBoth, IsClaimed, IsSound, KeepsLevels, Stays, told}
+use Rattle.spv_share.proofs.Reasons.{reasons_told}
 use Rattle.spv_share.proofs.Rowed.{literal_claimed}
-use Rattle.spv_share.proofs.Sound.{level_stays}
+use Rattle.spv_share.proofs.Sound.{level_stays, sound_as}
 
 -- what is claimed by a literal that is a fact
 pub claimed_some : (a : Arena) (b : Both) → IsSound a b → (t : TermId) (p : Part) (k : ℕ) (rels : List Related) (o : Option Claim) → rels ≡ b.relations.items → o ≡ claim (find rels t) p → fact_at a b.trail.course k ≡ Some (literal (tree a t) p)
@@ -47,3 +50,65 @@ told_back old mid n left grows count is =
     first [] [] = refl
     first [] (y ∷ ys) = refl
     first (x ∷ xs) ys = ap (λ zs. x ∷ zs) (first xs ys)
+
+abbrev VecOf : Type 0 → Type 0
+VecOf A = Vec A Global
+
+abbrev one_literal : TermId → Part → ℕ → Literal
+one_literal t p why = record { atom = t; part = p; why = why }
+
+-- a literal was told on both sides
+pub both_told : (a : Arena) (old mid : Both) (tr : Trail) (rels : List Related) (t : TermId) (p : Part) (why : ℕ) (o : Option Claim) (cs : VecOf (Option Claim)) → IsBoth a old → MayTell a old.trail t p → IsSound a mid → mid.trail ≡ tr → mid.relations ≡ old.relations
+    → mid.claims ≡ old.claims → rels ≡ old.relations.items → o ≡ claim (find rels t) p → cs.items ≡ mid.claims.items ++ o ∷ [] → literals tr.course ≡ told old ++ record { atom = t; part = p; why = why } ∷ []
+    → ties tr.graph.told ≡ ties old.trail.graph.told ++ literal_ties a old.trail.truth old.trail.falsity t p → IsBoth a (record mid { claims = cs })
+both_told a old mid tr rels t p why o cs h may sound trail relations claims rels_are is pushed literals_are ties_are = record {
+  sound = sound_as a mid (record mid { claims = cs }) sound refl refl refl refl refl;
+  claims =
+      pushed
+      ∙ (ap (λ v. v.items ++ o ∷ []) claims
+      ∙ (ap (λ xs. xs ++ o ∷ []) h.claims
+      ∙ (ap (λ x. map (claim_of old.relations.items) (told old) ++ x ∷ []) (is ∙ ap (λ rs. claim (find rs t) p) rels_are)
+      ∙ (sym (map-append (claim_of old.relations.items) (told old) (one_literal t p why ∷ []))
+      ∙ (ap (map (claim_of old.relations.items)) (sym (ap (λ (x : Trail). literals x.course) trail ∙ literals_are))
+      ∙ ap (λ v. map (claim_of v.items) (told mid)) (sym relations))))));
+  reasons =
+      subst (λ v. AreReasoned a v.items (told mid) (ties mid.trail.graph.told)) (sym relations)
+      (subst (λ (x : Trail). AreReasoned a old.relations.items (literals x.course) (ties x.graph.told)) (sym trail)
+      (subst (λ ls. AreReasoned a old.relations.items ls (ties tr.graph.told)) (sym literals_are)
+      (subst (λ ts. AreReasoned a old.relations.items (told old ++ one_literal t p why ∷ []) ts) (sym ties_are)
+      (reasons_told a old.relations.items (told old) t old.trail.truth old.trail.falsity p why may.formula.truth h.sound.trail.truth h.sound.trail.falsity (ties old.trail.graph.told) h.reasons))));
+}
+
+pub stays_told : (a : Arena) (old : Both) (tr : Trail) (mid new : Both) → Grows old.trail tr → AddsSome old.standing mid.standing → mid.trail ≡ tr → mid.relations ≡ old.relations → new.trail ≡ mid.trail → new.standing ≡ mid.standing → new.relations ≡ mid.relations
+    → Stays old new
+stays_told a old tr mid new grows adds trail relations same_trail same_standing same_relations = record {
+  nodes = ap (λ (x : Trail). x.graph.nodes) (same_trail ∙ trail) ∙ grows.same_nodes;
+  terms = ap (λ (x : Trail). x.graph.added) (same_trail ∙ trail) ∙ grows.same_terms;
+  truth = ap (λ (x : Trail). x.truth) (same_trail ∙ trail) ∙ grows.truth;
+  falsity = ap (λ (x : Trail). x.falsity) (same_trail ∙ trail) ∙ grows.falsity;
+  relations = ap (λ v. v.items) (same_relations ∙ relations);
+  forms = ap (λ (s : Standing). s.tableau.forms) same_standing ∙ adds.adds.forms;
+  pivots = ap (λ (s : Standing). s.tableau.pivots) same_standing ∙ adds.adds.pivots;
+}
+
+pub stays_then : (old mid new : Both) → Stays old mid → Stays mid new → Stays old new
+stays_then old mid new g h = record {
+  nodes = h.nodes ∙ g.nodes;
+  terms = h.terms ∙ g.terms;
+  truth = h.truth ∙ g.truth;
+  falsity = h.falsity ∙ g.falsity;
+  relations = h.relations ∙ g.relations;
+  forms = h.forms ∙ g.forms;
+  pivots = h.pivots ∙ g.pivots;
+}
+
+pub stays_grows : (old : Both) (tr : Trail) → Grows old.trail tr → Stays old (record old { trail = tr })
+stays_grows old tr grows = record {
+  nodes = grows.same_nodes;
+  terms = grows.same_terms;
+  truth = grows.truth;
+  falsity = grows.falsity;
+  relations = refl;
+  forms = refl;
+  pivots = refl;
+}

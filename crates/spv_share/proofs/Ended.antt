@@ -1,5 +1,5 @@
 -- The end of a path by a contradiction of bounds.
-use Rattle.std.proofs.Common.{◌≡◌, ℕ, List, Result, IfOk, OnErr}
+use Rattle.std.proofs.Common.{◌≡◌, refl, ℕ, List, Result, IfOk, OnErr}
 use Rattle.spv_term.specs.Arena.{Arena, IsArena}
 use Rattle.spv_proof.specs.Effects.{at_most}
 use Rattle.spv_course.specs.declared.entries.Entry.{Entry}
@@ -25,4 +25,4 @@ pub end_goes : {E : Type 0} (a : Arena) → IsArena a → (old : Both) (es : Lis
 end_goes a ok old es r h infeasible gains err same =
     let now = if_ok r gains (λ n g. g a ok h.trail.course h.numbers h.inside h.sourced infeasible) in
     let moves = moves_either a old.trail.course es (at_most (numeral_of 1) (numeral_of 0)) r h.trail.course now err in
-    goes_trail a old (record old.trail { course = es }) h (course_holds a old.trail es h.trail moves) (course_grows a old.trail es moves) same
+    goes_trail a old (record old.trail { course = es }) h (course_holds a old.trail es h.trail moves) (course_grows a old.trail es moves) same refl

@@ -1,3 +1,6 @@
+pub mod Sayable
+pub mod Reasons
+pub mod Closing
 pub mod Sound
 pub mod Undoing
 pub mod Goings

@@ -15,12 +15,16 @@ use Rattle.spv_bounds.specs.Sources.{sources_in}
 use Rattle.spv_share_rows.specs.Standing.{IsStanding, readings, Sourced}
 use Rattle.spv_share.specs.declared.both.Both.{Both}
 use Rattle.spv_share.specs.declared.both.Ends.{Ends}
-use Rattle.spv_share.specs.Relations.{claim_of, IsGathered}
-use Rattle.spv_share.specs.Both.{AreEnds, IsBoth}
+use Rattle.spv_share.specs.Relations.{claim_of, IsGathered, sayable}
+use Rattle.spv_simplex.specs.Checks.{HoldsAsserted}
+use Rattle.spv_congruence.specs.declared.facts.Fact.{Fact}
+use Rattle.spv_share_graph.specs.Telling.{ties}
+use Rattle.spv_share.proofs.Reasons.{reasons_none}
+use Rattle.spv_share.specs.Both.{AreEnds, AreReasoned, IsBoth, told}
 
 pub both_opens : (a : Arena) (atoms : List TermId) (ends : Ends) (forms : List IdForm) (b : Both) → AreEnds a ends → AreRowsOf a (relations (number_in a) (map (tree a) atoms)) forms → IsGathered a b.trail atoms b.relations.items → IsStanding b.standing
-    → b.standing.tableau.forms ≡ forms → b.standing.tableau.bounds ≡ [] → b.claims.items ≡ [] → b.one ≡ ends.one → b.zero ≡ ends.zero → IsBoth a b
-both_opens a atoms ends forms b known rows g stands forms_are none claims one zero_is = record {
+    → b.standing.tableau.forms ≡ forms → b.standing.tableau.bounds ≡ [] → b.claims.items ≡ [] → b.one ≡ ends.one → b.zero ≡ ends.zero → ((known : List Bound) → HoldsAsserted known b.standing.tableau) → IsBoth a b
+both_opens a atoms ends forms b known rows g stands forms_are none claims one zero_is asserted = record {
   sound = record {
     trail = g.holds;
     standing = stands;
@@ -37,6 +41,8 @@ both_opens a atoms ends forms b known rows g stands forms_are none claims one ze
         let P : TermId → Type 0 = λ t. AreOneAndZero a t b.zero in
         let Q : TermId → Type 0 = λ t. AreOneAndZero a ends.one t in
         subst P (sym one) (subst Q (sym zero_is) known.numbers);
+    asserted = asserted (sayable b.relations.items b.standing.tableau.forms);
   };
   claims = claims ∙ ap (λ es. map (claim_of b.relations.items) (literals es)) (sym g.course);
+  reasons = subst (λ (xs : List Fact). AreReasoned a b.relations.items (told b) (ties xs)) (sym g.untold) (reasons_none a b.relations.items (told b));
 }

@@ -19,7 +19,7 @@ use Rattle.spv_readings.proofs.Bounding.{bound_on_row}
 use Rattle.spv_simplex.specs.State.{IsTableau, kept_point, rows_in}
 use Rattle.spv_simplex.specs.Checks.{IsFeasible}
 use Rattle.spv_share_rows.specs.declared.standing.Standing.{Standing}
-use Rattle.spv_share_rows.specs.Standing.{IsBack, Stands}
+use Rattle.spv_share_rows.specs.Standing.{IsBack, IsMet, Stands}
 use Rattle.spv_share_rows.specs.Forcing.{HasPoint}
 use Rattle.spv_share_rows.proofs.Trying.{form_at}
 use Rattle.spv_share.specs.States.{HasOrder, IsApart, by_point, by_bounds}
@@ -117,6 +117,29 @@ stands_point b row x inside kept met stands = let form = form_at b.tableau.forms
               (sym (limit_row (rows_in b.tableau) b.tableau.bounds row bound.side ∙ stands.each f at j bound there))
               ∙ meets_side (limits (rows_in b.tableau) b.tableau.bounds) (kept_point b.tableau) met (column_of (rows_in b.tableau) row) bound.side;
         }
+
+-- where the kept point meets all bounds and those of a saying, it is one for it
+pub met_point : (b : Standing) (row : ℕ) (x : Saying) → row < length b.tableau.forms → IsTableau b.tableau → IsFeasible b.tableau → IsMet b row x → HasPoint b row x
+met_point b row x inside kept met at_point = let form = form_at b.tableau.forms row inside in here form.0 form.1
+  where
+    here : (f : IdForm) → slice_get b.tableau.forms row ≡ Some f → HasPoint b row x
+    here f at = record {
+      bounds = bounds_of row f.constant x;
+      are = record { form = f; there = at; are = refl };
+      met = record {
+        point = kept_point b.tableau;
+        solution = kept.solution;
+        meets =
+            met_more (rows_in b.tableau) b.tableau.bounds (bounds_of row f.constant x) (kept_point b.tableau) row met
+            (λ j bound there. record { row_is = bound_on_row row f.constant x j bound there; met = at_point.each f at j bound there });
+      };
+    }
+
+pub split_above : (b : Standing) (row : ℕ) → row < length b.tableau.forms → IsTableau b.tableau → IsFeasible b.tableau → IsMet b row Above → IsApart b row
+split_above b row inside kept met at_point = by_point (inl (met_point b row Above inside kept met at_point))
+
+pub split_below : (b : Standing) (row : ℕ) → row < length b.tableau.forms → IsTableau b.tableau → IsFeasible b.tableau → IsMet b row Below → IsApart b row
+split_below b row inside kept met at_point = by_point (inr (met_point b row Below inside kept met at_point))
 
 -- ---- where rows and bounds are the same
 

@@ -22,11 +22,12 @@ use Rattle.spv_readings.specs.Relations.{AreRowsOf, IsRowOf}
 use Rattle.spv_row_reasons.specs.Told.{told_of}
 use Rattle.spv_row_reasons.specs.Told as told
 use Rattle.spv_row_reasons.proofs.Readings.{told_is_sourced}
-use Rattle.spv_share_rows.specs.Standing.{readings, SaidBy}
+use Rattle.spv_share_rows.specs.Standing.{HasSaid, readings, SaidBy}
 use Rattle.spv_share.specs.declared.relations.Related.{Related}
 use Rattle.spv_share.specs.declared.relations.Claim.{Claim}
 use Rattle.spv_share.specs.declared.both.Both.{Both}
-use Rattle.spv_share.specs.Relations.{AreRelated, claim, find, said, sides_in}
+use Rattle.spv_share.specs.Relations.{AreRelated, claim, find, said, sayable, sides_in}
+use Rattle.spv_share.proofs.Sayable.{said_among}
 use Rattle.spv_share.specs.Both.{IsClaimed, IsSound}
 use Rattle.spv_share.specs.States.{is_equality}
 
@@ -109,6 +110,7 @@ module _ (a : Arena) (b : Both) (h : IsSound a b) where
       record {
         row_in = subst (λ (n : ℕ). n < length b.standing.tableau.forms) (sym row_is) (row_inside a b.trail.graph.nodes b.relations.items b.standing.tableau.forms h.related i r at);
         said = subst (λ (n : ℕ). SaidBy a (readings a b.trail.course) b.standing n c.saying k) (sym row_is) (said_at i r p c.saying k at is.saying fact);
+        among = subst (λ (n : ℕ). HasSaid (sayable b.relations.items b.standing.tableau.forms) b.standing n c.saying) (sym row_is) (said_among b.relations.items b.standing i r p c.saying at is.saying);
       }
 
   -- a literal that is a fact, and what is claimed by it

@@ -1,6 +1,10 @@
 -- Equalities that the bounds force, and those that they do not.
-use Rattle.std.proofs.Common.{◌≡◌, ℕ, zero, suc, ◌+◌, ◌<◌, Bool, true, false, cond, not, ◌&&◌, List, [], ◌∷◌, length, refl, sym, ap, ◌∙◌, subst, Some, None, arith, inl, inr}
-use Rattle.std.specs.Prelude.{slice_get, ◌⊎◌}
+use Rattle.std.proofs.Common.{◌≡◌, ℕ, zero, suc, ◌+◌, ◌<◌, Bool, true, false, cond, not, ◌&&◌, List, [], ◌∷◌, length, refl, sym, ap, ◌∙◌, subst, Some, None, arith, inl, inr, replicate, nat_eq, get_or}
+use Rattle.std.specs.Prelude.{slice_get, slice_set, ◌⊎◌}
+use Rattle.std.proofs.lemmas.List.{length-replicate, length-set}
+use Rattle.spv_classes.proofs.Lists.{nat_same}
+use Rattle.spv_congruence.proofs.AddLemmas.{set_other}
+use Rattle.spv_pivots.proofs.Sums.{eq_is}
 use Rattle.std.proofs.lemmas.Bool.{false≢true, cases_lt}
 use Rattle.std.proofs.lemmas.Option.{same_Some}
 use Rattle.spv_whole.specs.Fraction.{Fraction}
@@ -19,7 +23,7 @@ use Rattle.spv_readings.specs.declared.saying.Saying.TheVariants.{Above, Below}
 use Rattle.spv_readings.specs.Relations.{number_sides}
 use Rattle.spv_row_reasons.proofs.Readings.{above_is_sourced, below_is_sourced}
 use Rattle.spv_share_rows.specs.declared.standing.Standing.{Standing}
-use Rattle.spv_share_rows.specs.Standing.{IsBack}
+use Rattle.spv_share_rows.specs.Standing.{HasSaid, IsBack}
 use Rattle.spv_share_rows.specs.declared.forcing.Tried.{Tried}
 use Rattle.spv_share_rows.specs.declared.forcing.Tried.TheVariants.{Met, Refuted, Taken}
 use Rattle.spv_share_rows.specs.declared.forcing.Tried.TheVariants as tried
@@ -30,10 +34,19 @@ use Rattle.spv_share.specs.declared.searching.Sought.{Sought}
 use Rattle.spv_share.specs.declared.searching.Sought.TheVariants.{Apart, Joined, Stopped}
 use Rattle.spv_share.specs.Relations.{IsRelation}
 use Rattle.spv_share.specs.Both.{IsSound}
-use Rattle.spv_share.specs.States.{after_joined, AreApart, by_point, IsApart, IsFound, IsSought, IsStill, is_equality, is_open}
+use Rattle.spv_share.specs.States.{after_joined, AreApart, AreSifted, by_point, GoesOn, HasClosed, IsApart, IsFound, IsLimit, IsSought, IsStill, is_equality, is_open}
+use Rattle.spv_share.specs.Relations.{sayable}
+use Rattle.spv_share_rows.specs.Forcing.{HasEvidence, IsStopped}
+use Rattle.spv_simplex.specs.declared.checked.Checked.{Checked}
+use Rattle.spv_atoms.specs.Linear.{IdForm}
+use Rattle.spv_share.proofs.Giving.{at_place}
 use Rattle.spv_share.proofs.Rowed.{row_at}
-use Rattle.spv_share.proofs.Goings.{still_itself, still_then}
+use Rattle.spv_share.proofs.Goings.{open_as, still_itself, still_then}
 use Rattle.spv_share.proofs.Points.{apart_back, point_back}
+use Rattle.spv_share.proofs.Closing.{open_head}
+use Rattle.spv_share.proofs.Sayable.{order_among}
+use Rattle.spv_course.specs.declared.entries.Part.{Part}
+use Rattle.spv_row_reasons.specs.Told.{told}
 
 -- ---- what is refuted
 
@@ -54,7 +67,7 @@ abbrev two : Term → Term → Term × Term
 two x y = (x, y)
 
 -- the sides of a relation are numbers
-numbers_are : (test : Term → Bool) (q : Head) (x y : Term) (st : Term × Term) → number_sides test (term q (terms x (terms y no_terms))) ≡ Some st → (test x && test y) ≡ true
+pub numbers_are : (test : Term → Bool) (q : Head) (x y : Term) (st : Term × Term) → number_sides test (term q (terms x (terms y no_terms))) ≡ Some st → (test x && test y) ≡ true
 numbers_are test q x y st e = by_head q e
   where
     by_case : (b : Bool) → (test x && test y) ≡ b → cond b (Some (two x y)) None ≡ Some st → (test x && test y) ≡ true
@@ -84,7 +97,7 @@ is_sum a b h r at first second f g =
 
 pub found_then : (old mid new : Both) (r : Related) (s : Sought) → IsStill old mid → IsFound mid new r s → IsFound old new r s
 found_then old mid new r Apart still h = (still_then old mid new still h.0, h.1)
-found_then old mid new r Joined still h = tt
+found_then old mid new r Joined still h = (open_as old mid r still.graph h.0, h.1)
 found_then old mid new r Stopped still h = h
 
 -- a point was found
@@ -107,9 +120,6 @@ found_same old new q r s i at there h = subst (λ (x : Related). IsFound old new
 
 -- ---- one relation more
 
-open_as : (old new : Both) (r : Related) → new.trail.graph ≡ old.trail.graph → is_open new r ≡ true → is_open old r ≡ true
-open_as old new r graph e = ap (λ (g : Graph). is_equality r.head && not (are_same g r.left r.right)) (sym graph) ∙ e
-
 pub apart_still : (old new : Both) (n : ℕ) → IsStill old new → AreApart old n → AreApart new n
 apart_still old new n still h = record {
   each = λ row r below at e.
@@ -131,10 +141,34 @@ related_at [] n h = absurd (omega arith)
 related_at (r ∷ rels) zero h = (r, refl)
 related_at (r ∷ rels) (suc n) h = related_at rels n (omega arith)
 
+-- one that is closed stays so
+closed_on : (start old new : Both) → old.relations.items ≡ start.relations.items → ((row : ℕ) (r : Related) → slice_get old.relations.items row ≡ Some r → is_open new r ≡ true → is_open old r ≡ true) → HasClosed start old → HasClosed start new
+closed_on start old new same closes h = record {
+  row = h.row;
+  relation = h.relation;
+  there = h.there;
+  was_open = h.was_open;
+  is_closed = by_open (is_open new h.relation) refl;
+}
+  where
+    by_open : (b : Bool) → is_open new h.relation ≡ b → is_open new h.relation ≡ false
+    by_open false e = e
+    by_open true e = absurd (false≢true (sym h.is_closed ∙ closes h.row h.relation (ap (λ rs. slice_get rs h.row) same ∙ h.there) e))
+
 -- what came of looking at one more
 pub sought_on : (a : Arena) (start old new : Both) (n : ℕ) (found : Sought) → IsSound a old → ((r : Related) → slice_get old.relations.items n ≡ Some r → IsFound old new r found) → n < length old.relations.items
     → IsSought start old n Apart → IsSought start new (n + 1) found
-sought_on a start old new n Joined sound h inside k = tt
+sought_on a start old new n Joined sound h inside k =
+    let r = related_at old.relations.items n inside in
+    let found : (is_open old r.0 ≡ true) × (is_open new r.0 ≡ false) = h r.0 r.1 in
+    let still : IsStill start old = k.0 in
+    record {
+      row = n;
+      relation = r.0;
+      there = ap (λ rs. slice_get rs n) (sym still.relations) ∙ r.1;
+      was_open = open_as start old r.0 still.graph found.0;
+      is_closed = found.1;
+    }
 sought_on a start old new n Stopped sound h inside k = let r = related_at old.relations.items n inside in h r.0 r.1
 sought_on a start old new n Apart sound h inside k =
     let r = related_at old.relations.items n inside in
@@ -146,10 +180,11 @@ sought_on a start old new n Apart sound h inside k =
           subst (λ (i : ℕ). IsApart new.standing i) (sound.related.are.placed n q there) ((h q there).1 e)),
     )
 
-pub sought_joined : (start old new : Both) (n m : ℕ) (found : Sought) (rels : List Related) → ((r : Related) → slice_get rels n ≡ Some r → IsFound old new r found) → n < length rels → IsSought start new m (after_joined found)
-sought_joined start old new n m Apart rels h inside = tt
-sought_joined start old new n m Joined rels h inside = tt
-sought_joined start old new n m Stopped rels h inside = let r = related_at rels n inside in h r.0 r.1
+pub sought_joined : (a : Arena) (start old new : Both) (n m : ℕ) (found : Sought) → old.relations.items ≡ start.relations.items → GoesOn a old new → HasClosed start old → ((r : Related) → slice_get old.relations.items n ≡ Some r → IsFound old new r found)
+    → n < length old.relations.items → IsSought start new m (after_joined found)
+sought_joined a start old new n m Apart same goes closed h inside = closed_on start old new same goes.closes closed
+sought_joined a start old new n m Joined same goes closed h inside = closed_on start old new same goes.closes closed
+sought_joined a start old new n m Stopped same goes closed h inside = let r = related_at old.relations.items n inside in h r.0 r.1
 
 pub sought_none : (b : Both) → IsSought b b 0 Apart
 sought_none b = (still_itself b, record { each = λ row r below at e. absurd (nothing row below) })
@@ -178,5 +213,80 @@ pub sought_apart : (a : Arena) (start old new : Both) (n : ℕ) (so_far found : 
     → IsSought start old n so_far → IsSought start new (n + 1) found
 sought_apart a start old new n so_far found e sound h inside k = sought_on a start old new n found sound h inside (let P : Sought → Type 0 = λ s. IsSought start old n s in subst P e k)
 
-pub sought_after : (start old new : Both) (n m : ℕ) (found s : Sought) (rels : List Related) → s ≡ after_joined found → ((r : Related) → slice_get rels n ≡ Some r → IsFound old new r found) → n < length rels → IsSought start new m s
-sought_after start old new n m found s rels e h inside = let P : Sought → Type 0 = λ k. IsSought start new m k in subst P (sym e) (sought_joined start old new n m found rels h inside)
+pub sought_after : (a : Arena) (start old new : Both) (n m : ℕ) (so_far found s : Sought) → so_far ≡ Joined → old.relations.items ≡ start.relations.items → GoesOn a old new → s ≡ after_joined found
+    → ((r : Related) → slice_get old.relations.items n ≡ Some r → IsFound old new r found) → n < length old.relations.items → IsSought start old n so_far → IsSought start new m s
+sought_after a start old new n m so_far found s before same goes e h inside k =
+    let P : Sought → Type 0 = λ x. IsSought start new m x in
+    let Q : Sought → Type 0 = λ x. IsSought start old n x in
+    subst P (sym e) (sought_joined a start old new n m found same goes (subst Q before k) h inside)
+
+-- ---- which ones wait
+
+-- where nothing becomes open and the bounds are as they were, those that do not wait need not
+pub sifted_on : (a : Arena) (old new : Both) (waits : List Bool) → GoesOn a old new → IsBack old.standing new.standing → AreSifted old waits → AreSifted new waits
+sifted_on a old new waits goes back h = record {
+  many = h.many ∙ ap length (sym goes.relations);
+  each = λ row r at flag e.
+      let there : slice_get old.relations.items row ≡ Some r = ap (λ rs. slice_get rs row) (sym goes.relations) ∙ at in
+      apart_back old.standing new.standing row back (h.each row r there flag (goes.closes row r there e));
+}
+
+pub sifted_all : (b : Both) (waits : List Bool) (n : ℕ) → n ≡ length b.relations.items → waits ≡ replicate n true → AreSifted b waits
+sifted_all b waits n count is = record {
+  many = ap length is ∙ (length-replicate n true ∙ count);
+  each = λ row r at flag e. absurd (none_false n row (ap (λ xs. slice_get xs row) (sym is) ∙ flag));
+}
+  where
+    none_false : (n row : ℕ) → slice_get (replicate n true) row ≡ Some false → ⊥
+    none_false zero row e = cc
+    none_false (suc n) zero e = false≢true (sym (same_Some true false e))
+    none_false (suc n) (suc row) e = none_false n row e
+
+pub sifted_without : (b : Both) (waits now : List Bool) (place : ℕ) → AreSifted b waits → now ≡ slice_set waits place false → ((r : Related) → slice_get b.relations.items place ≡ Some r → is_open b r ≡ true → IsApart b.standing place) → AreSifted b now
+sifted_without b waits now place h is apart = record {
+  many = ap length is ∙ (length-set waits place false ∙ h.many);
+  each = λ row r at flag e. by_place row r at e (ap (λ xs. slice_get xs row) (sym is) ∙ flag) (nat_eq row place) refl;
+}
+  where
+    by_place : (row : ℕ) (r : Related) → slice_get b.relations.items row ≡ Some r → is_open b r ≡ true → slice_get (slice_set waits place false) row ≡ Some false → (c : Bool) → nat_eq row place ≡ c → IsApart b.standing row
+    by_place row r at e flag true same =
+        let here : row ≡ place = eq_is row place same in
+        subst (λ (i : ℕ). IsApart b.standing i) (sym here) (apart r (ap (λ i. slice_get b.relations.items i) (sym here) ∙ at) e)
+    by_place row r at e flag false other = h.each row r at (sym (set_other waits place row false (λ k. false≢true (sym other ∙ (ap (λ n. nat_eq n place) k ∙ nat_same place)))) ∙ flag) e
+
+-- an equality that is not open, and one that is kept apart
+pub not_open_apart : (b : Both) (place : ℕ) (q : Related) (res : Bool) → slice_get b.relations.items place ≡ Some q → res ≡ is_open b q → res ≡ false → (r : Related) → slice_get b.relations.items place ≡ Some r → is_open b r ≡ true
+    → IsApart b.standing place
+not_open_apart b place q res at is none r there e = absurd (false≢true (sym none ∙ (is ∙ (ap (is_open b) (same_Some q r (sym at ∙ there)) ∙ e))))
+
+pub kept_at : (a : Arena) (b : Both) → IsSound a b → (place : ℕ) (q : Related) → slice_get b.relations.items place ≡ Some q → IsApart b.standing q.row → IsApart b.standing place
+kept_at a b h place q at k = subst (λ (i : ℕ). IsApart b.standing i) (h.related.are.placed place q at) k
+
+pub open_at : (b : Both) (place : ℕ) (q : Related) (res : Bool) → res ≡ is_open b q → res ≡ true → is_open b q ≡ true
+open_at b place q res is e = sym is ∙ e
+
+-- the flag at a place
+pub flag_at : (b : Both) (waits : List Bool) (place : ℕ) (x : Bool) → AreSifted b waits → place < length b.relations.items → x ≡ get_or waits place x → x ≡ false → slice_get waits place ≡ Some false
+flag_at b waits place x h inside is none = at_place waits place x (subst (λ (n : ℕ). place < n) (sym h.many) inside) is ∙ ap Some none
+
+-- one that does not wait
+pub found_sifted : (a : Arena) (b : Both) (waits : List Bool) (place : ℕ) → IsSound a b → AreSifted b waits → slice_get waits place ≡ Some false → (r : Related) → slice_get b.relations.items place ≡ Some r → IsFound b b r Apart
+found_sifted a b waits place sound h flag r at = (
+  still_itself b,
+  λ e. subst (λ (i : ℕ). IsApart b.standing i) (sym (sound.related.are.placed place r at)) (h.each place r at flag e),
+)
+
+-- a check was stopped
+pub limit_now : (old : Both) (st : Standing) → IsBack old.standing st → IsStopped st → HasEvidence (sayable old.relations.items old.standing.tableau.forms) st.tableau → IsLimit (record old { standing = st })
+limit_now old st back stopped h = record {
+  stopped = stopped;
+  evidence = subst (λ (fs : List IdForm). HasEvidence (sayable old.relations.items fs) st.tableau) (sym back.forms) h;
+}
+
+pub answered_as : (st : Standing) (checked other : Checked) → st.tableau.answer ≡ Some checked → checked ≡ other → st.tableau.answer ≡ Some other
+answered_as st checked other e f = e ∙ ap Some f
+
+-- an order of an open equality is among what may be said
+pub order_said : (a : Arena) (b : Both) → IsSound a b → (r : Related) → slice_get b.relations.items r.row ≡ Some r → is_open b r ≡ true → (p : Part) (x : Saying) → told Eq p ≡ Some x
+    → HasSaid (sayable b.relations.items b.standing.tableau.forms) b.standing r.row x
+order_said a b h r at unjoined p x e = order_among b.relations.items b.standing r.row r p x at (open_head b.trail.graph r unjoined) e

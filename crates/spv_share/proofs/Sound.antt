@@ -16,14 +16,16 @@ use Rattle.spv_row_reasons.proofs.Readings.{sourced_stays}
 use Rattle.spv_bounds.specs.Sources.{sources_in}
 use Rattle.spv_share_graph.specs.declared.trail.Trail.{Trail}
 use Rattle.spv_share_graph.specs.Holding.{Backs, Grows, Holds, WasSoFar}
+use Rattle.spv_share_graph.specs.Telling.{ties}
+use Rattle.spv_simplex.specs.Checks.{HoldsAsserted}
 use Rattle.spv_share_rows.specs.declared.standing.Standing.{Standing}
 use Rattle.spv_share_rows.specs.Standing.{AddsSome, IsStanding, readings, Sourced}
 use Rattle.spv_share.specs.declared.relations.Related.{Related}
 use Rattle.spv_share.specs.declared.relations.Claim.{Claim}
 use Rattle.spv_share.specs.declared.both.Both.{Both}
 use Rattle.spv_share.specs.declared.both.Level.{Level}
-use Rattle.spv_share.specs.Relations.{AreRelations, IsRelation, claim_of, sides_in}
-use Rattle.spv_share.specs.Both.{IsLevel, IsSound}
+use Rattle.spv_share.specs.Relations.{AreRelations, IsRelation, claim_of, sayable, sides_in}
+use Rattle.spv_share.specs.Both.{AreReasoned, IsLevel, IsSound}
 
 -- ---- relations where terms were added
 
@@ -61,17 +63,19 @@ sound_trail a old tr h holds grows = record {
   sourced = sourced_on a old.trail.course grows.entries tr.course old.standing old.standing.tableau.bounds grows.course h.sourced;
   inside = h.inside;
   numbers = h.numbers;
+  asserted = h.asserted;
 }
 
 pub sound_standing : (a : Arena) (old : Both) (st : Standing) → IsSound a old → IsStanding st → st.tableau.forms ≡ old.standing.tableau.forms → Sourced a (readings a old.trail.course) st st.tableau.bounds
-    → IsSound a (record old { standing = st })
-sound_standing a old st h stands forms sourced = record {
+    → HoldsAsserted (sayable old.relations.items old.standing.tableau.forms) st.tableau → IsSound a (record old { standing = st })
+sound_standing a old st h stands forms sourced asserted = record {
   trail = h.trail;
   standing = stands;
   related = record { are = h.related.are; rows = subst (λ (fs : List IdForm). AreRowsOf a (map (sides_in a) old.relations.items) fs) (sym forms) h.related.rows };
   sourced = sourced;
   inside = subst (AreIn a) (sym forms) h.inside;
   numbers = h.numbers;
+  asserted = subst (λ (fs : List IdForm). HoldsAsserted (sayable old.relations.items fs) st.tableau) (sym forms) asserted;
 }
 
 pub sound_as : (a : Arena) (old new : Both) → IsSound a old → new.trail ≡ old.trail → new.standing ≡ old.standing → new.relations ≡ old.relations → new.one ≡ old.one → new.zero ≡ old.zero → IsSound a new
@@ -87,6 +91,8 @@ sound_as a old new h trail standing relations one zero = record {
       (subst (λ (s : Standing). Sourced a (readings a old.trail.course) s s.tableau.bounds) (sym standing) h.sourced);
   inside = subst (λ (s : Standing). AreIn a s.tableau.forms) (sym standing) h.inside;
   numbers = subst (λ (t : TermId). AreOneAndZero a t new.zero) (sym one) (subst (λ (t : TermId). AreOneAndZero a old.one t) (sym zero) h.numbers);
+  asserted = subst (λ (s : Standing). HoldsAsserted (sayable new.relations.items s.tableau.forms) s.tableau) (sym standing)
+      (subst (λ (rs : List Related). HoldsAsserted (sayable rs old.standing.tableau.forms) old.standing.tableau) (sym (ap (λ v. v.items) relations)) h.asserted);
 }
 
 -- ---- levels
@@ -128,8 +134,15 @@ level_stays a old new l g h = record {
   claims =
       take_first old.claims.items g.more new.claims.items l.claims g.claims h.claims_in
       ∙ (h.claims ∙ (ap (λ rs. map (claim_of rs) (literals (take l.trail.entries old.trail.course))) (sym g.relations) ∙ ap (λ es. map (claim_of new.relations.items) (literals es)) (sym first)));
+  reasons =
+      subst (λ (rs : List Related). AreReasoned a rs (literals (take l.trail.entries new.trail.course)) (ties (take l.trail.facts new.trail.graph.told))) (sym g.relations)
+      (subst (λ (es : List Entry). AreReasoned a old.relations.items (literals es) (ties (take l.trail.facts new.trail.graph.told))) (sym first)
+      (subst (λ (xs : List Fact). AreReasoned a old.relations.items (literals (take l.trail.entries old.trail.course)) (ties xs)) (sym facts) h.reasons));
 }
   where
+    facts : take l.trail.facts new.trail.graph.told ≡ take l.trail.facts old.trail.graph.told
+    facts = take_first old.trail.graph.told g.trail.facts new.trail.graph.told l.trail.facts g.trail.told h.trail.facts_in
+
     first : take l.trail.entries new.trail.course ≡ take l.trail.entries old.trail.course
     first = take_first old.trail.course g.trail.entries new.trail.course l.trail.entries g.trail.course h.trail.entries_in
 

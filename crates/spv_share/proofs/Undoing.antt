@@ -24,6 +24,9 @@ use Rattle.spv_readings.specs.Sources.{AreSourced}
 use Rattle.spv_bounds.specs.declared.sources.RowSources.{RowSources}
 use Rattle.spv_bounds.specs.Sources.{sources_in}
 use Rattle.spv_simplex.specs.State.{State, with_first}
+use Rattle.spv_simplex.specs.Checks.{HoldsAsserted}
+use Rattle.spv_simplex.proofs.Held.{undoes_none}
+use Rattle.spv_share_graph.specs.Telling.{ties}
 use Rattle.spv_share_graph.specs.declared.trail.Trail.{Trail}
 use Rattle.spv_share_graph.specs.Holding.{Backs, Holds, WasSoFar}
 use Rattle.spv_share_rows.specs.declared.standing.Standing.{Standing}
@@ -32,8 +35,8 @@ use Rattle.spv_share.specs.declared.relations.Claim.{Claim}
 use Rattle.spv_share.specs.declared.relations.Related.{Related}
 use Rattle.spv_share.specs.declared.both.Both.{Both}
 use Rattle.spv_share.specs.declared.both.Level.{Level}
-use Rattle.spv_share.specs.Relations.{AreRelations, claim_of, sides_in}
-use Rattle.spv_share.specs.Both.{IsBoth, IsLevel, IsNoLater, IsSound, told}
+use Rattle.spv_share.specs.Relations.{AreRelations, claim_of, sayable, sides_in}
+use Rattle.spv_share.specs.Both.{AreReasoned, IsBoth, IsLevel, IsNoLater, IsSound, Stays, told}
 use Rattle.spv_share.proofs.Sound.{relations_more}
 
 -- ---- the first items of a list
@@ -154,6 +157,20 @@ module _ (a : Arena) (old new : Both) (l : Level) (g : GoesBack old new l) where
         let P : TermId → Type 0 = λ t. AreOneAndZero a t new.zero in
         let Q : TermId → Type 0 = λ t. AreOneAndZero a old.one t in
         subst P (sym g.one) (subst Q (sym g.zero_same) h.numbers);
+    asserted =
+        subst (λ (rs : List Related). HoldsAsserted (sayable rs new.standing.tableau.forms) new.standing.tableau) (sym g.relations)
+        (subst (λ (s : State). HoldsAsserted (sayable old.relations.items s.forms) s) (sym g.tableau) (undoes_none (sayable old.relations.items old.standing.tableau.forms) old.standing.tableau l.bounds h.asserted));
+  }
+
+  pub back_stays : Stays old new
+  back_stays = record {
+    nodes = g.graph.nodes;
+    terms = g.graph.added;
+    truth = g.truth;
+    falsity = g.falsity;
+    relations = g.relations;
+    forms = forms_same;
+    pivots = ap (λ (s : State). s.pivots) g.tableau;
   }
 
   pub back_both : IsSound a old → IsLevel a old l → IsBoth a new
@@ -162,6 +179,10 @@ module _ (a : Arena) (old new : Both) (l : Level) (g : GoesBack old new l) where
     claims =
         g.claims ∙ (k.claims
         ∙ (ap (λ rs. map (claim_of rs) (literals (take l.trail.entries old.trail.course))) (sym g.relations) ∙ ap (λ es. map (claim_of new.relations.items) (literals es)) (sym g.course)));
+    reasons =
+        subst (λ (rs : List Related). AreReasoned a rs (told new) (ties new.trail.graph.told)) (sym g.relations)
+        (subst (λ (es : List Entry). AreReasoned a old.relations.items (literals es) (ties new.trail.graph.told)) (sym g.course)
+        (subst (λ (xs : List Fact). AreReasoned a old.relations.items (literals (take l.trail.entries old.trail.course)) (ties xs)) (sym g.graph.told) k.reasons));
   }
 
   -- so many literals were told
@@ -195,6 +216,10 @@ module _ (a : Arena) (old new : Both) (l : Level) (g : GoesBack old new l) where
         ap (take m.claims) g.claims
         ∙ (take-take m.claims l.claims old.claims.items e.claims
         ∙ (h.claims ∙ (ap (λ rs. map (claim_of rs) (literals (take m.trail.entries old.trail.course))) (sym g.relations) ∙ ap (λ es. map (claim_of new.relations.items) (literals es)) (sym first))));
+    reasons =
+        subst (λ (rs : List Related). AreReasoned a rs (literals (take m.trail.entries new.trail.course)) (ties (take m.trail.facts new.trail.graph.told))) (sym g.relations)
+        (subst (λ (es : List Entry). AreReasoned a old.relations.items (literals es) (ties (take m.trail.facts new.trail.graph.told))) (sym first)
+        (subst (λ (xs : List Fact). AreReasoned a old.relations.items (literals (take m.trail.entries old.trail.course)) (ties xs)) (sym facts) h.reasons));
   }
     where
       first : take m.trail.entries new.trail.course ≡ take m.trail.entries old.trail.course
@@ -232,6 +257,9 @@ level_now a b l h entries facts mark bounds claims = record {
       (subst (λ (bs : List Bound). Sourced a (readings a b.trail.course) b.standing bs) (sym (ap (λ n. take n b.standing.tableau.bounds) bounds ∙ take_whole b.standing.tableau.bounds)) h.sound.sourced);
   claims_in = same_length l.claims (length b.claims.items) claims;
   claims = ap (λ n. take n b.claims.items) claims ∙ (take_whole b.claims.items ∙ (h.claims ∙ ap (λ es. map (claim_of b.relations.items) (literals es)) (sym course)));
+  reasons =
+      subst (λ (es : List Entry). AreReasoned a b.relations.items (literals es) (ties (take l.trail.facts b.trail.graph.told))) (sym course)
+      (subst (λ (xs : List Fact). AreReasoned a b.relations.items (told b) (ties xs)) (sym (ap (λ n. take n b.trail.graph.told) facts_are ∙ take_whole b.trail.graph.told)) h.reasons);
 }
   where
     course : take l.trail.entries b.trail.course ≡ b.trail.course

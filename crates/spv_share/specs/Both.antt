@@ -1,17 +1,23 @@
 -- A congruence graph and a tableau side by side.
-use Rattle.std.specs.Prelude.{◌≡◌, ℕ, ◌<◌, ◌≤◌, List, map, take, length}
-use Rattle.spv_term.specs.Arena.{Arena}
+use Rattle.std.specs.Prelude.{◌≡◌, true, ℕ, ◌<◌, ◌≤◌, List, map, take, length, Some, slice_get}
+use Rattle.spv_logic.specs.declared.operators.Head.TheVariants.{Eq}
+use Rattle.spv_term.specs.Arena.{Arena, tree}
+use Rattle.spv_simplex.specs.Checks.{HoldsAsserted}
 use Rattle.spv_course.specs.Literals.{Literal, literals}
-use Rattle.spv_course.specs.Derived.{IsTrueTerm, IsFalseTerm}
+use Rattle.spv_course.specs.declared.entries.Part.TheVariants.{True}
+use Rattle.spv_course.specs.Derived.{is_truth, IsTrueTerm, IsFalseTerm}
+use Rattle.spv_course.specs.Sides.{Pair}
 use Rattle.spv_readings.specs.Relations.{AreIn}
 use Rattle.spv_row_reasons.specs.Refuted.{AreOneAndZero}
 use Rattle.spv_share_graph.specs.Holding.{Holds, WasSoFar}
-use Rattle.spv_share_rows.specs.Standing.{IsStanding, readings, SaidBy, Sourced}
+use Rattle.spv_share_graph.specs.Telling.{equation_sides, Tie, ties}
+use Rattle.spv_share_rows.specs.Standing.{HasSaid, IsStanding, readings, SaidBy, Sourced}
 use Rattle.spv_share.specs.declared.relations.Claim.{Claim}
+use Rattle.spv_share.specs.declared.relations.Related.{Related}
 use Rattle.spv_share.specs.declared.both.Both.{Both}
 use Rattle.spv_share.specs.declared.both.Level.{Level}
 use Rattle.spv_share.specs.declared.both.Ends.{Ends}
-use Rattle.spv_share.specs.Relations.{AreRelated, claim_of}
+use Rattle.spv_share.specs.Relations.{AreRelated, claim_of, sayable}
 
 -- the terms TRUE, FALSE, 1 and 0
 pub record AreEnds (a : Arena) (e : Ends) : Type 0 where
@@ -23,7 +29,23 @@ pub record AreEnds (a : Arena) (e : Ends) : Type 0 where
 abbrev pub told : Both → List Literal
 told b = literals b.trail.course
 
--- both sides stand on the facts of one course
+-- ---- equalities that the graph was told
+
+-- why it was told that two terms are equal
+pub data IsReason (a : Arena) (rels : List Related) (told : List Literal) (tie : Tie) : Type 0 where
+  -- both are of sort Bool
+  of_truths : is_truth a (tree a tie.left) ≡ true → is_truth a (tree a tie.right) ≡ true → IsReason a rels told tie
+  -- they are the sides of an equation that was told
+  of_literal : (place : ℕ) (l : Literal) (st : Pair) → slice_get told place ≡ Some l → l.part ≡ True → equation_sides a l.atom ≡ Some st → st.0 ≡ tie.left → st.1 ≡ tie.right → IsReason a rels told tie
+  -- they are the sides of an equality among the relations
+  of_relation : (row : ℕ) (r : Related) → slice_get rels row ≡ Some r → r.head ≡ Eq → r.left ≡ tie.left → r.right ≡ tie.right → IsReason a rels told tie
+
+pub record AreReasoned (a : Arena) (rels : List Related) (told : List Literal) (ts : List Tie) : Type 0 where
+  pub each : (place : ℕ) (tie : Tie) → slice_get ts place ≡ Some tie → tie.equal ≡ true → IsReason a rels told tie
+
+-- ---- both sides
+
+-- both sides stand on the facts of one course; all bounds that were ever asserted are those of literals of the relations
 pub record IsSound (a : Arena) (b : Both) : Type 0 where
   pub trail : Holds a b.trail
   pub standing : IsStanding b.standing
@@ -31,11 +53,23 @@ pub record IsSound (a : Arena) (b : Both) : Type 0 where
   pub sourced : Sourced a (readings a b.trail.course) b.standing b.standing.tableau.bounds
   pub inside : AreIn a b.standing.tableau.forms
   pub numbers : AreOneAndZero a b.one b.zero
+  pub asserted : HoldsAsserted (sayable b.relations.items b.standing.tableau.forms) b.standing.tableau
 
--- and there is what each literal says of its row
+-- and there is what each literal says of its row, and the graph was told no other equality than by literals, or of relations
 pub record IsBoth (a : Arena) (b : Both) : Type 0 where
   pub sound : IsSound a b
   pub claims : b.claims.items ≡ map (claim_of b.relations.items) (told b)
+  pub reasons : AreReasoned a b.relations.items (told b) (ties b.trail.graph.told)
+
+-- the terms, the relations and the rows are the same
+pub record Stays (old new : Both) : Type 0 where
+  pub nodes : new.trail.graph.nodes ≡ old.trail.graph.nodes
+  pub terms : new.trail.graph.added ≡ old.trail.graph.added
+  pub truth : new.trail.truth ≡ old.trail.truth
+  pub falsity : new.trail.falsity ≡ old.trail.falsity
+  pub relations : new.relations.items ≡ old.relations.items
+  pub forms : new.standing.tableau.forms ≡ old.standing.tableau.forms
+  pub pivots : new.standing.tableau.pivots ≡ old.standing.tableau.pivots
 
 -- ---- going back
 
@@ -47,6 +81,7 @@ pub record IsLevel (a : Arena) (b : Both) (l : Level) : Type 0 where
   pub sourced : Sourced a (readings a (take l.trail.entries b.trail.course)) b.standing (take l.bounds b.standing.tableau.bounds)
   pub claims_in : l.claims ≤ length b.claims.items
   pub claims : take l.claims b.claims.items ≡ map (claim_of b.relations.items) (literals (take l.trail.entries b.trail.course))
+  pub reasons : AreReasoned a b.relations.items (literals (take l.trail.entries b.trail.course)) (ties (take l.trail.facts b.trail.graph.told))
 
 -- a level that is no later than another one
 pub record IsNoLater (l m : Level) : Type 0 where
@@ -65,3 +100,4 @@ KeepsLevels a old new = (l : Level) → IsLevel a old l → IsLevel a new l
 pub record IsClaimed (a : Arena) (b : Both) (c : Claim) (fact : ℕ) : Type 0 where
   pub row_in : c.row < length b.standing.tableau.forms
   pub said : SaidBy a (readings a b.trail.course) b.standing c.row c.saying fact
+  pub among : HasSaid (sayable b.relations.items b.standing.tableau.forms) b.standing c.row c.saying

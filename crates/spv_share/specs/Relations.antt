@@ -1,5 +1,5 @@
 -- The relations of whole numbers among atoms, and what is told of them.
-use Rattle.std.specs.Prelude.{◌≡◌, ℕ, ◌<◌, List, [], ◌∷◌, map, length, Option, Some, None, pos, nat_eq, slice_get, if◌then◌else◌}
+use Rattle.std.specs.Prelude.{◌≡◌, ℕ, suc, ◌<◌, List, [], ◌∷◌, ◌++◌, map, length, ℤ, Option, Some, None, pos, nat_eq, slice_get, if◌then◌else◌}
 use Rattle.spv_logic.specs.declared.conditions.TermId.{TermId}
 use Rattle.spv_logic.specs.declared.operators.Head.{Head}
 use Rattle.spv_logic.specs.declared.operators.Head.TheVariants.{Num}
@@ -7,11 +7,15 @@ use Rattle.spv_logic.specs.Terms.{Term, term, no_terms, terms}
 use Rattle.spv_term.specs.declared.nodes.Node.{Node}
 use Rattle.spv_term.specs.Arena.{Arena, tree}
 use Rattle.spv_congruence.specs.Keep.{IsNode}
+use Rattle.spv_congruence.specs.Told.{IsPart}
+use Rattle.spv_tableaux.specs.Bounds.{Bound}
 use Rattle.spv_atoms.specs.Linear.{IdForm}
 use Rattle.spv_course.specs.declared.entries.Part.{Part}
+use Rattle.spv_course.specs.declared.entries.Part.TheVariants.{True, False, Below, Above}
 use Rattle.spv_course.specs.Literals.{Literal}
 use Rattle.spv_sums.specs.Readings.{number_in}
 use Rattle.spv_readings.specs.declared.saying.Saying.{Saying}
+use Rattle.spv_readings.specs.Sayings.{bounds_of}
 use Rattle.spv_readings.specs.Relations as relations
 use Rattle.spv_readings.specs.Relations.{number_sides, AreRowsOf}
 use Rattle.spv_row_reasons.specs.Told.{told}
@@ -51,6 +55,17 @@ AreAmong a ts rels = map (sides_in a) rels ≡ relations.relations (number_in a)
 pub record AreNodes (nodes : List (Option Node)) (ts : List TermId) : Type 0 where
   pub each : (i : ℕ) (t : TermId) → slice_get ts i ≡ Some t → IsNode nodes t
 
+-- an added term is a part of one of these
+pub record IsPartOf (a : Arena) (ts : List TermId) (u : TermId) : Type 0 where
+  pub place : ℕ
+  pub whole : TermId
+  pub there : slice_get ts place ≡ Some whole
+  pub part : IsPart a whole u
+
+-- each added term is
+pub record AreParts (a : Arena) (nodes : List (Option Node)) (ts : List TermId) : Type 0 where
+  pub each : (u : TermId) → IsNode nodes u → IsPartOf a ts u
+
 -- ---- claims
 
 -- the relation that an atom is
@@ -70,6 +85,27 @@ claim (Some r) p = said r.row (told r.head p)
 abbrev pub claim_of : List Related → Literal → Option Claim
 claim_of rels l = claim (find rels l.atom) l.part
 
+-- ---- what may be said of rows
+
+abbrev pub bounds_if : ℕ → ℤ → Option Saying → List Bound
+bounds_if row constant None = []
+bounds_if row constant (Some x) = bounds_of row constant x
+
+-- the bounds that a relation is on its row: where it is true, where it is false, and where one side of an equation is below the other
+abbrev pub row_bounds : ℕ → Head → ℤ → List Bound
+row_bounds row h constant =
+    bounds_if row constant (told h True) ++ (bounds_if row constant (told h False) ++ (bounds_if row constant (told h Below) ++ bounds_if row constant (told h Above)))
+
+-- those of relations whose rows begin at a place
+abbrev pub bounds_from : ℕ → List Related → List IdForm → List Bound
+bounds_from row [] forms = []
+bounds_from row (r ∷ rels) [] = []
+bounds_from row (r ∷ rels) (f ∷ forms) = row_bounds row r.head f.constant ++ bounds_from (suc row) rels forms
+
+-- all bounds that literals of relations are on their rows
+abbrev pub sayable : List Related → List IdForm → List Bound
+sayable rels forms = bounds_from 0 rels forms
+
 -- ---- gathering
 
 abbrev pub head_under : Option Node → Head
@@ -83,6 +119,8 @@ related a t l r row = record { atom = t; head = head_under (slice_get a.nodes t.
 pub record IsGathered (a : Arena) (tr : Trail) (ts : List TermId) (rels : List Related) : Type 0 where
   pub holds : Holds a tr
   pub course : tr.course ≡ []
+  pub untold : tr.graph.told ≡ []
+  pub parts : AreParts a tr.graph.nodes (tr.truth ∷ tr.falsity ∷ ts)
   pub nodes : AreNodes tr.graph.nodes ts
   pub are : AreRelations a tr.graph.nodes rels
   pub among : AreAmong a (map (tree a) ts) rels

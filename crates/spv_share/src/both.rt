@@ -3,7 +3,7 @@
 ghost use Rattle.std.specs.Prelude.{◌≡◌, ◌≤◌, take, length};
 ghost use Rattle.spv_term.specs.Arena.{IsArena};
 ghost use Rattle.spv_congruence.specs.Told.{Undone};
-ghost use Rattle.spv_share.specs.Both.{IsBoth, IsLevel, IsNoLater, IsSound, told};
+ghost use Rattle.spv_share.specs.Both.{IsBoth, IsLevel, IsNoLater, IsSound, Stays, told};
 
 use crate::relations::{Claim, Related};
 use spv_share_graph::Trail;
@@ -74,6 +74,7 @@ impl Both {
         requires level { IsLevel terms.now self.old level.now }
         ensures both { IsBoth terms.now self.new }
         ensures told { told self.new ≡ take level.now.claims (told self.old) }
+        ensures stays { Stays self.old self.new }
         ensures graph { Undone self.old.trail.graph level.now.trail.facts self.new.trail.graph }
         ensures bounds { self.new.standing.tableau.bounds ≡ take level.now.bounds self.old.standing.tableau.bounds }
         ensures levels { (l : Level) → IsLevel terms.now self.old l → IsNoLater l level.now → IsLevel terms.now self.new l }

@@ -5,7 +5,7 @@ ghost use Rattle.spv_logic.specs.declared.conditions.TermId.{TermId};
 ghost use Rattle.spv_term.specs.Arena.{AllBelow, IsArena};
 ghost use Rattle.spv_share_graph.specs.Holding.{Holds};
 ghost use Rattle.spv_share.specs.Relations as spec;
-ghost use Rattle.spv_share.specs.Relations.{IsGathered};
+ghost use Rattle.spv_share.specs.Relations.{AreParts, IsGathered};
 
 use spv_bounds::number_sides;
 use spv_course::Part;
@@ -138,6 +138,8 @@ pub(crate) fn gather(
     requires below { AllBelow (length terms.now.nodes) atoms.now }
     requires holds { Holds terms.now trail.old }
     requires empty { trail.old.course ≡ [] }
+    requires untold { trail.old.graph.told ≡ [] }
+    requires parts { AreParts terms.now trail.old.graph.nodes (trail.old.truth ∷ trail.old.falsity ∷ []) }
     ensures gathered { IfOk result (λ v. IsGathered terms.now trail.new atoms.now v.items) }
 {
     let mut relations = Vec::new(alloc);

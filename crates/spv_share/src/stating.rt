@@ -1,9 +1,10 @@
 // Both sides tell each other equalities until nothing is new.
 
-ghost use Rattle.std.specs.Prelude.{◌≡◌, length, IfOk, IfSome};
+ghost use Rattle.std.specs.Prelude.{◌≡◌, length, IfOk, IfNone, IfSome};
+ghost use Rattle.spv_simplex.specs.Checks.{IsFeasible};
 ghost use Rattle.spv_share_graph.specs.Holding.{HasNoClash};
-ghost use Rattle.spv_share.specs.Both.{IsBoth, KeepsLevels, told};
-ghost use Rattle.spv_share.specs.States.{AreApart, GoesOn, IsAnswer, IsOutcome};
+ghost use Rattle.spv_share.specs.Both.{IsBoth, KeepsLevels, Stays, told};
+ghost use Rattle.spv_share.specs.States.{AreApart, GoesOn, HasClosed, IsAnswer, IsOutcome};
 
 use crate::both::Both;
 use crate::ending::Outcome;
@@ -19,26 +20,26 @@ pub enum Shared {
     Open,
     /// These steps end in a contradiction.
     Closed(Vec<Step>),
-    /// A check of the tableau was stopped; its evidence stands.
+    /// A check of the tableau was stopped; its evidence stands, over bounds that literals of the relations are.
     Limit,
 }
 
 impl Both {
     // Where no equality is forced: a point, if all stands that has to. What has to stand does, unless the graph has a clash; where it
     // does not, the answer is want of memory.
-    fn settle(&mut self, alloc: Global, terms: &Terms) -> Result<Option<Outcome>, AllocError>
+    fn settle(&mut self, alloc: Global, terms: &Terms) -> Result<Outcome, AllocError>
         requires both { IsBoth terms.now self.old }
         requires clash { HasNoClash self.old.trail.graph }
         requires apart { AreApart self.old (length self.old.relations.items) }
         ensures goes { GoesOn terms.now self.old self.new }
-        ensures outcome { IfOk result (λ o. IfSome o (λ x. IsOutcome terms.now self.new x)) }
+        ensures outcome { IfOk result (λ o. IsOutcome terms.now self.new o) }
     {
         if let Some(outcome) = self.check(alloc, terms)? {
-            return Ok(Some(outcome));
+            return Ok(outcome);
         }
         self.standing.tableau.law_tableau();
         if self.is_settled(terms) {
-            Ok(Some(Outcome::Open))
+            Ok(Outcome::Open)
         } else {
             Err(AllocError)
         }
@@ -48,13 +49,15 @@ impl Both {
     fn search(&mut self, alloc: Global, terms: &Terms) -> Result<Option<Outcome>, AllocError>
         requires both { IsBoth terms.now self.old }
         requires clash { HasNoClash self.old.trail.graph }
+        requires point { IsFeasible self.old.standing.tableau }
         ensures goes { GoesOn terms.now self.old self.new }
         ensures outcome { IfOk result (λ o. IfSome o (λ x. IsOutcome terms.now self.new x)) }
+        ensures none { IfOk result (λ o. IfNone o (HasClosed self.old self.new)) }
     {
         match self.seek(alloc, terms)? {
             Sought::Stopped => Ok(Some(Outcome::Stopped)),
             Sought::Joined => Ok(None),
-            Sought::Apart => self.settle(alloc, terms),
+            Sought::Apart => Ok(Some(self.settle(alloc, terms)?)),
         }
     }
 
@@ -64,6 +67,7 @@ impl Both {
         requires clash { HasNoClash self.old.trail.graph }
         ensures goes { GoesOn terms.now self.old self.new }
         ensures outcome { IfOk result (λ o. IfSome o (λ x. IsOutcome terms.now self.new x)) }
+        ensures none { IfOk result (λ o. IfNone o (HasClosed self.old self.new)) }
     {
         self.give_all(alloc, terms)?;
         if let Some(outcome) = self.check(alloc, terms)? {
@@ -77,6 +81,7 @@ impl Both {
         requires both { IsBoth terms.now self.old }
         ensures goes { GoesOn terms.now self.old self.new }
         ensures outcome { IfOk result (λ o. IfSome o (λ x. IsOutcome terms.now self.new x)) }
+        ensures none { IfOk result (λ o. IfNone o (HasClosed self.old self.new)) }
     {
         if let Some((first, second)) = self.trail.clash(alloc, terms)? {
             return Ok(Some(Outcome::Ended(first, second)));
@@ -84,18 +89,18 @@ impl Both {
         self.exchange(alloc, terms)
     }
 
-    // Rounds until one has an outcome. Each other one joins the sides of a further equality; so more rounds than equalities never come.
+    // Rounds until one has an outcome: each other one joins the sides of a further equality.
     fn rounds(&mut self, alloc: Global, terms: &Terms) -> Result<Outcome, AllocError>
         requires both { IsBoth terms.now self.old }
         ensures goes { GoesOn terms.now self.old self.new }
         ensures outcome { IfOk result (λ o. IsOutcome terms.now self.new o) }
     {
-        for _ in 0..=self.relations.as_slice().len() {
-            if let Some(outcome) = self.round(alloc, terms)? {
-                return Ok(outcome);
+        loop {
+            match self.round(alloc, terms)? {
+                Some(outcome) => return Ok(outcome),
+                None => {}
             }
         }
-        Err(AllocError)
     }
 
     // The answer of an outcome.
@@ -131,6 +136,7 @@ impl Both {
         ensures both { IsBoth terms.now self.new }
         ensures levels { KeepsLevels terms.now self.old self.new }
         ensures told { told self.new ≡ told self.old }
+        ensures stays { Stays self.old self.new }
         ensures answer { IfOk result (λ s. IsAnswer terms.now self.new facts s) }
     {
         let outcome = self.rounds(alloc, terms)?;

@@ -7,7 +7,7 @@ ghost use Rattle.spv_share_graph.specs.Holding.{Grows, MayTell};
 ghost use Rattle.spv_share_graph.specs.Telling.{literal_ties, ties};
 ghost use Rattle.spv_share_rows.specs.Standing.{AddsSome};
 ghost use Rattle.spv_share.specs.Relations.{claim, find};
-ghost use Rattle.spv_share.specs.Both.{IsBoth, IsClaimed, IsSound, KeepsLevels, told};
+ghost use Rattle.spv_share.specs.Both.{IsBoth, IsClaimed, IsSound, KeepsLevels, Stays, told};
 
 use crate::both::Both;
 use crate::relations::{Claim, claim_of};
@@ -68,6 +68,7 @@ impl Both {
         ensures sound { IsSound terms.now self.new }
         ensures levels { KeepsLevels terms.now self.old self.new }
         ensures grows { Grows self.old.trail self.new.trail }
+        ensures stays { Stays self.old self.new }
         ensures both { OnOk result (IsBoth terms.now self.new) }
         ensures told { OnOk result (told self.new ≡ told self.old ++ record { atom = atom; part = part; why = why } ∷ []) }
         ensures ties { OnOk result (ties self.new.trail.graph.told
@@ -99,6 +100,7 @@ impl Both {
         ensures ties { OnOk result (ties self.new.trail.graph.told
             ≡ ties self.old.trail.graph.told ++ literal_ties terms.now self.old.trail.truth self.old.trail.falsity atom part) }
         ensures err { OnErr result (told self.new ≡ told self.old) }
+        ensures stays { Stays self.old self.new }
     {
         let level = self.mark(terms);
         match self.tell_all(terms, atom, part, why) {

@@ -1,5 +1,5 @@
 -- Trails that go on.
-use Rattle.std.proofs.Common.{◌≡◌, ℕ, List, [], ◌∷◌, ◌++◌, length, refl, sym, ap, ◌∙◌, subst, Option, Some, Result, Ok, Err, OnOk, OnErr, append_assoc, inl, inr, arith}
+use Rattle.std.proofs.Common.{◌≡◌, ℕ, List, [], ◌∷◌, ◌++◌, length, refl, sym, ap, ◌∙◌, subst, Option, Some, Result, Ok, Err, OnOk, OnErr, append_assoc, inl, inr, ◌⊎◌, arith}
 use Rattle.std.proofs.lemmas.Bool.{cases_lt}
 use Rattle.std.proofs.lemmas.List.{append-nil, length_push}
 use Rattle.std.proofs.lemmas.Option.{slice_get_within, same_Some}
@@ -13,7 +13,7 @@ use Rattle.spv_term.proofs.ListLemmas.{slice_get-append_left, slice_get_push}
 use Rattle.spv_congruence.specs.declared.facts.Fact.{Fact}
 use Rattle.spv_congruence.specs.Graph.{Graph}
 use Rattle.spv_congruence.specs.Keep.{IsNode}
-use Rattle.spv_congruence.specs.Told.{AddsParts, IsOf, Joins}
+use Rattle.spv_congruence.specs.Told.{AddsParts, IsOf, IsPart, Joins}
 use Rattle.spv_course.specs.declared.entries.Entry.{Entry}
 use Rattle.spv_course.specs.Course.{IsCourse, fact_at}
 use Rattle.spv_course.specs.Derived.{IsTrueTerm, IsFalseTerm}
@@ -22,7 +22,7 @@ use Rattle.spv_course.proofs.Equations.{sides_at-more}
 use Rattle.spv_reasons.specs.Reasons.{MayReason}
 use Rattle.spv_congruence.specs.Graph.{AreTerms}
 use Rattle.spv_share_graph.specs.declared.trail.Trail.{Trail}
-use Rattle.spv_share_graph.specs.Holding.{Backs, Grows, HasFacts, Holds, IsBackedFact, Moves}
+use Rattle.spv_share_graph.specs.Holding.{AddsTerm, Backs, Grows, HasFacts, Holds, IsBackedFact, Moves}
 
 module _ (a : Arena) where
   pub backed_more : (es more : List Entry) (x : Fact) → IsBackedFact a es x → IsBackedFact a (es ++ more) x
@@ -84,6 +84,8 @@ module _ (a : Arena) where
     facts = [];
     told = ap (λ (g : Graph). g.told) graph ∙ sym (append-nil old.graph.told);
     nodes = node_as old.graph new.graph (ap (λ (g : Graph). g.nodes) graph);
+    same_nodes = ap (λ (g : Graph). g.nodes) graph;
+    same_terms = ap (λ (g : Graph). g.added) graph;
     truth = truth;
     falsity = falsity;
   }
@@ -124,17 +126,6 @@ holds_adds a old new t h adds of course facts truth falsity = record {
     stays : (u : TermId) → IsNode old.graph.nodes u → IsNode new.graph.nodes u
     stays u k = (k.0, adds.kept u k.0 k.1)
 
-pub grows_adds : (a : Arena) (old new : Trail) (t : TermId) → AddsParts a t old.graph new.graph → new.course ≡ old.course → new.truth ≡ old.truth → new.falsity ≡ old.falsity → Grows old new
-grows_adds a old new t adds course truth falsity = record {
-  entries = [];
-  course = course ∙ sym (append-nil old.course);
-  facts = [];
-  told = adds.told ∙ sym (append-nil old.graph.told);
-  nodes = λ u k. (k.0, adds.kept u k.0 k.1);
-  truth = truth;
-  falsity = falsity;
-}
-
 abbrev facts_of : List Fact → List Fact
 facts_of xs = xs
 
@@ -165,6 +156,8 @@ grows_enters old new x j course truth falsity = record {
   facts = x ∷ [];
   told = j.told;
   nodes = λ t h. (h.0, ap (λ ns. slice_get ns t.0) j.nodes ∙ h.1);
+  same_nodes = j.nodes;
+  same_terms = j.added;
   truth = truth;
   falsity = falsity;
 }
@@ -176,6 +169,8 @@ grows_then old mid new g h = record {
   facts = g.facts ++ h.facts;
   told = h.told ∙ (ap (λ xs. xs ++ h.facts) g.told ∙ append_assoc old.graph.told g.facts h.facts);
   nodes = λ t n. h.nodes t (g.nodes t n);
+  same_nodes = h.same_nodes ∙ g.same_nodes;
+  same_terms = h.same_terms ∙ g.same_terms;
   truth = h.truth ∙ g.truth;
   falsity = h.falsity ∙ g.falsity;
 }
@@ -187,6 +182,8 @@ grows_same old new course graph truth falsity = record {
   facts = [];
   told = ap (λ (g : Graph). g.told) graph ∙ sym (append-nil old.graph.told);
   nodes = λ t h. (h.0, ap (λ (g : Graph). slice_get g.nodes t.0) graph ∙ h.1);
+  same_nodes = ap (λ (g : Graph). g.nodes) graph;
+  same_terms = ap (λ (g : Graph). g.added) graph;
   truth = truth;
   falsity = falsity;
 }
@@ -206,9 +203,39 @@ pub added_holds : {T E : Type 0} (a : Arena) (old : Trail) (g : Graph) (t : Term
 added_holds a old g t (Ok x) h adds of same = holds_adds a old (record old { graph = g }) t h adds of refl refl refl refl
 added_holds a old g t (Err x) h adds of same = holds_moves a old (record old { graph = g }) h (stays a old h) same refl refl refl
 
-pub added_grows : {T E : Type 0} (a : Arena) (old : Trail) (g : Graph) (t : TermId) (r : Result T E) → OnOk r (AddsParts a t old.graph g) → OnErr r (g ≡ old.graph) → Grows old (record old { graph = g })
-added_grows a old g t (Ok x) adds same = grows_adds a old (record old { graph = g }) t adds refl refl refl
-added_grows a old g t (Err x) adds same = grows_same old (record old { graph = g }) refl same refl refl
+pub added_term : {T E : Type 0} (a : Arena) (old : Trail) (g : Graph) (t : TermId) (r : Result T E) → OnOk r (AddsParts a t old.graph g) → OnErr r (g ≡ old.graph) → AddsTerm a t old (record old { graph = g })
+added_term a old g t (Ok x) adds same = record {
+  nodes = λ u k. (k.0, adds.kept u k.0 k.1);
+  parts = λ u k. elim (adds.parts u k.0 k.1) [ inl h ↦ let there : IsNode old.graph.nodes u = (k.0, h) in inl there | inr p ↦ inr p ];
+  course = refl;
+  told = adds.told;
+  truth = refl;
+  falsity = refl;
+}
+added_term a old g t (Err x) adds same = record {
+  nodes = λ u k. (k.0, ap (λ (h : Graph). slice_get h.nodes u.0) same ∙ k.1);
+  parts = λ u k. let there : IsNode old.graph.nodes u = (k.0, ap (λ (h : Graph). slice_get h.nodes u.0) (sym same) ∙ k.1) in inl there;
+  course = refl;
+  told = ap (λ (h : Graph). h.told) same;
+  truth = refl;
+  falsity = refl;
+}
+
+abbrev nodes_of : List (Option Node) → List (Option Node)
+nodes_of ns = ns
+
+-- only TRUE and FALSE were added
+pub opens_parts : (a : Arena) (t f : TermId) (first second third : Graph) → first.nodes ≡ [] → AddsParts a t first second → AddsParts a f second third → (u : TermId) → IsNode third.nodes u → IsPart a t u ⊎ IsPart a f u
+opens_parts a t f first second third none adds more u k = elim (more.parts u k.0 k.1) [
+  | inl h ↦ inl (by_first (adds.parts u k.0 h))
+  | inr p ↦ inr p
+]
+  where
+    nothing : (n : Node) → slice_get (nodes_of []) u.0 ≡ Some (Some n) → ⊥
+    nothing n e = cc
+
+    by_first : (slice_get first.nodes u.0 ≡ Some (Some k.0)) ⊎ IsPart a t u → IsPart a t u
+    by_first h = elim h [ inl e ↦ absurd (nothing k.0 (ap (λ (ns : List (Option Node)). slice_get ns u.0) (sym none) ∙ e)) | inr p ↦ p ]
 
 -- a fact stays where the trail goes on
 pub fact_on : (a : Arena) (old new : Trail) (k : ℕ) (t : Term) → Grows old new → fact_at a old.course k ≡ Some t → fact_at a new.course k ≡ Some t

@@ -1,5 +1,5 @@
 -- What was told on a path, as facts in order and in a graph.
-use Rattle.std.specs.Prelude.{◌≡◌, ℕ, ◌≤◌, Bool, true, false, ◌&&◌, not, List, [], ◌∷◌, ◌++◌, take, length, nat_eq, Option, Some, None, slice_get, if◌then◌else◌}
+use Rattle.std.specs.Prelude.{◌≡◌, ◌⊎◌, ℕ, ◌≤◌, Bool, true, false, ◌&&◌, not, List, [], ◌∷◌, ◌++◌, take, length, nat_eq, Option, Some, None, slice_get, if◌then◌else◌}
 use Rattle.spv_logic.specs.declared.conditions.TermId.{TermId}
 use Rattle.spv_logic.specs.declared.operators.Head.TheVariants as head
 use Rattle.spv_logic.specs.Terms.{term, no_terms}
@@ -10,7 +10,7 @@ use Rattle.spv_congruence.specs.declared.facts.Fact.{Fact}
 use Rattle.spv_congruence.specs.Clashes.{Clashes}
 use Rattle.spv_congruence.specs.Graph.{Graph}
 use Rattle.spv_congruence.specs.Keep.{IsNode}
-use Rattle.spv_congruence.specs.Told.{IsOf}
+use Rattle.spv_congruence.specs.Told.{IsOf, IsPart}
 use Rattle.spv_course.specs.declared.entries.Entry.{Entry}
 use Rattle.spv_course.specs.Course.{IsCourse, PartFits, fact_at}
 use Rattle.spv_course.specs.declared.entries.Part.{Part}
@@ -55,13 +55,24 @@ pub record Holds (a : Arena) (tr : Trail) : Type 0 where
   pub truth_node : IsNode tr.graph.nodes tr.truth
   pub falsity_node : IsNode tr.graph.nodes tr.falsity
 
--- a trail goes on: entries and facts come behind the others, and no node goes
+-- a trail goes on: entries and facts come behind the others, and the terms are the same
 pub record Grows (old new : Trail) : Type 0 where
   pub entries : List Entry
   pub course : new.course ≡ old.course ++ entries
   pub facts : List Fact
   pub told : new.graph.told ≡ old.graph.told ++ facts
   pub nodes : (t : TermId) → IsNode old.graph.nodes t → IsNode new.graph.nodes t
+  pub same_nodes : new.graph.nodes ≡ old.graph.nodes
+  pub same_terms : new.graph.added ≡ old.graph.added
+  pub truth : new.truth ≡ old.truth
+  pub falsity : new.falsity ≡ old.falsity
+
+-- parts of a term were added, and nothing else
+pub record AddsTerm (a : Arena) (t : TermId) (old new : Trail) : Type 0 where
+  pub nodes : (u : TermId) → IsNode old.graph.nodes u → IsNode new.graph.nodes u
+  pub parts : (u : TermId) → IsNode new.graph.nodes u → IsNode old.graph.nodes u ⊎ IsPart a t u
+  pub course : new.course ≡ old.course
+  pub told : new.graph.told ≡ old.graph.told
   pub truth : new.truth ≡ old.truth
   pub falsity : new.falsity ≡ old.falsity
 

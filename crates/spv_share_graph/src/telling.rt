@@ -1,6 +1,6 @@
 // Telling a literal.
 
-ghost use Rattle.std.specs.Prelude.{◌≡◌, ◌<◌, ◌++◌, [], ◌∷◌, length, true, false, Some, IfOk, OnOk};
+ghost use Rattle.std.specs.Prelude.{◌≡◌, ◌<◌, ◌++◌, [], ◌∷◌, length, true, false, Some, IfOk, OnErr, OnOk};
 ghost use Rattle.spv_logic.specs.Formulas.{negation};
 ghost use Rattle.spv_logic.specs.declared.conditions.TermId.{TermId};
 ghost use Rattle.spv_term.specs.Arena.{Arena, IsArena, tree};
@@ -268,6 +268,7 @@ impl Trail {
         ensures holds { Holds terms.now self.new }
         ensures grows { Grows self.old self.new }
         ensures told { OnOk result (ties self.new.graph.told ≡ ties self.old.graph.told ++ value_tie s t ∷ []) }
+        ensures err { OnErr result (self.new.graph ≡ self.old.graph) }
         ensures literals { literals self.new.course ≡ literals self.old.course }
     {
         let why = sum_entry(&mut self.course, s, t, first, second)?;

@@ -1,11 +1,12 @@
 //! What was told on a path.
 
-ghost use Rattle.std.specs.Prelude.{◌≡◌, ◌<◌, ◌≤◌, ◌++◌, [], ◌∷◌, take, length, true, IfOk, OnOk, OnErr};
+ghost use Rattle.std.specs.Prelude.{◌≡◌, ◌⊎◌, ◌<◌, ◌≤◌, ◌++◌, [], ◌∷◌, take, length, true, IfOk, OnOk, OnErr};
 ghost use Rattle.spv_term.specs.Arena.{IsArena};
 ghost use Rattle.spv_congruence.specs.Keep.{IsNode};
-ghost use Rattle.spv_congruence.specs.Told.{IsOf, Joins, Undone};
+ghost use Rattle.spv_congruence.specs.Told.{IsOf, IsPart, Joins, Undone};
+ghost use Rattle.spv_logic.specs.declared.conditions.TermId.{TermId};
 ghost use Rattle.spv_course.specs.Derived.{IsTrueTerm, IsFalseTerm};
-ghost use Rattle.spv_share_graph.specs.Holding.{Grows, Holds, IsBackedFact, WasSoFar};
+ghost use Rattle.spv_share_graph.specs.Holding.{AddsTerm, Grows, Holds, IsBackedFact, WasSoFar};
 
 use spv_congruence::{Fact, Graph, Mark};
 use spv_course::Course;
@@ -83,6 +84,9 @@ impl Trail {
         ensures holds { IfOk result (λ tr. Holds terms.now tr) }
         ensures course { IfOk result (λ tr. tr.course ≡ []) }
         ensures told { IfOk result (λ tr. tr.graph.told ≡ []) }
+        ensures truth { IfOk result (λ tr. tr.truth ≡ truth) }
+        ensures falsity { IfOk result (λ tr. tr.falsity ≡ falsity) }
+        ensures parts { IfOk result (λ tr. (u : TermId) → IsNode tr.graph.nodes u → IsPart terms.now truth u ⊎ IsPart terms.now falsity u) }
     {
         let mut trail = Trail::new(alloc, truth, falsity);
         trail.graph.add(terms, truth)?;
@@ -95,9 +99,7 @@ impl Trail {
         requires holds { Holds terms.now self.old }
         requires within { t.0 < length terms.now.nodes }
         ensures holds { Holds terms.now self.new }
-        ensures grows { Grows self.old self.new }
-        ensures course { self.new.course ≡ self.old.course }
-        ensures told { self.new.graph.told ≡ self.old.graph.told }
+        ensures adds { AddsTerm terms.now t self.old self.new }
         ensures node { OnOk result (IsNode self.new.graph.nodes t) }
     {
         self.graph.add(terms, t)
@@ -113,6 +115,7 @@ impl Trail {
         ensures grows { Grows self.old self.new }
         ensures course { self.new.course ≡ self.old.course }
         ensures told { OnOk result (self.new.graph.told ≡ self.old.graph.told ++ fact ∷ []) }
+        ensures err { OnErr result (self.new.graph ≡ self.old.graph) }
     {
         let _ = terms;
         self.facts.reserve(1)?;

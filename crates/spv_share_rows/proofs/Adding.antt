@@ -71,7 +71,7 @@ other_source a read forms bounds sources row side s free are = record { each = �
 -- ---- one bound more
 
 pub adds_none : (b : Standing) → Adds b b []
-adds_none b = record { forms = refl; bounds = sym (append-nil b.tableau.bounds); first = λ a read n h k. k }
+adds_none b = record { forms = refl; pivots = refl; bounds = sym (append-nil b.tableau.bounds); first = λ a read n h k. k }
 
 -- the tableau with one bound more, and its source noted
 pub record AssertsOne (old new : Standing) (row : ℕ) (side : Side) (v : Fraction) (s : Source) : Type 0 where
@@ -101,6 +101,7 @@ module _ (old new : Standing) (row : ℕ) (side : Side) (v : Fraction) (s : Sour
   pub one_adds : Adds old new (bound_at row side (Some v))
   one_adds = record {
     forms = forms_same;
+    pivots = ap (λ (t : State). t.pivots) one.tableau;
     bounds = bounds_are;
     first = λ a read n within h.
         moved a read (take n old.tableau.bounds)
@@ -121,6 +122,7 @@ take_more xs ys n h = take-append-le n xs ys h
 pub adds_then : (old mid new : Standing) (more last : List Bound) → Adds old mid more → Adds mid new last → Adds old new (more ++ last)
 adds_then old mid new more last g h = record {
   forms = h.forms ∙ g.forms;
+  pivots = h.pivots ∙ g.pivots;
   bounds = h.bounds ∙ (ap (λ bs. bs ++ last) g.bounds ∙ append_assoc old.tableau.bounds more last);
   first = λ a read n within k.
       let here : take n mid.tableau.bounds ≡ take n old.tableau.bounds = ap (take n) g.bounds ∙ take_more old.tableau.bounds more n within in

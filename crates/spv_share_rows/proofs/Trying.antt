@@ -35,6 +35,7 @@ use Rattle.spv_share_rows.specs.Forcing.{HasPoint, IsOutcome, IsStopped, IsTried
 -- the same rows, sources and forms, with another tableau
 pub record IsBeside (old new : Standing) : Type 0 where
   pub forms : new.tableau.forms ≡ old.tableau.forms
+  pub pivots : new.tableau.pivots ≡ old.tableau.pivots
   pub kept : new.forms.items ≡ old.forms.items
   pub sources : new.sources.items ≡ old.sources.items
 
@@ -65,6 +66,7 @@ module _ (old mid new : Standing) (row : ℕ) (x : Saying) (adds : AddsSome old 
   pub goes_back : IsBack old new
   goes_back = record {
     forms = beside.forms ∙ adds.adds.forms;
+    pivots = beside.pivots ∙ adds.adds.pivots;
     bounds = taken;
     first = λ a read k within h. beside_sourced a read mid new (take k old.tableau.bounds) beside (adds.adds.first a read k within h);
   }
@@ -128,6 +130,7 @@ module _ (law : RefutedAbove) (old mid : Standing) (row : ℕ) (x : Saying) (add
 pub checked_back : (old new : Standing) (checked : Checked) → IsChecked old.tableau new.tableau checked → IsBeside old new → IsBack old new
 checked_back old new checked is beside = record {
   forms = beside.forms;
+  pivots = beside.pivots;
   bounds = is.bounds;
   first = λ a read n within h. beside_sourced a read old new (take n old.tableau.bounds) beside h;
 }
@@ -142,7 +145,7 @@ stopped_still b new checked all Stopped h answer e = elim h [ inl w ↦ inl (ans
 -- ---- as it was
 
 pub back_adds : (old new : Standing) → IsBack old new → Adds old new []
-back_adds old new h = record { forms = h.forms; bounds = h.bounds ∙ sym (append-nil old.tableau.bounds); first = h.first }
+back_adds old new h = record { forms = h.forms; pivots = h.pivots; bounds = h.bounds ∙ sym (append-nil old.tableau.bounds); first = h.first }
 
 pub back_sourced : (a : Arena) (read : ℕ → Option Reading) (old new : Standing) → IsBack old new → Sourced a read old old.tableau.bounds → Sourced a read new new.tableau.bounds
 back_sourced a read old new h k =

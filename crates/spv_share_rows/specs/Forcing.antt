@@ -1,5 +1,5 @@
 -- What is tried of a row.
-use Rattle.std.specs.Prelude.{◌≡◌, ◌⊎◌, ℕ, Bool, true, List, ◌++◌, pos, Some, IsTrue}
+use Rattle.std.specs.Prelude.{◌≡◌, ◌⊎◌, ℕ, Bool, true, List, ◌++◌, pos, Some, IsTrue, slice_get}
 use Rattle.spv_whole.specs.Fraction.{Fraction}
 use Rattle.spv_logic.specs.Terms.{Term}
 use Rattle.spv_term.specs.Arena.{Arena, IsArena}
@@ -9,9 +9,13 @@ use Rattle.spv_course.specs.Course.{facts}
 use Rattle.spv_course.specs.Derived.{is_number}
 use Rattle.spv_readings.specs.declared.saying.Saying.{Saying}
 use Rattle.spv_readings.specs.Relations.{AreIn}
-use Rattle.spv_tableaux.specs.Bounds.{Bound, limits, Meets}
+use Rattle.spv_tableaux.specs.Bounds.{AreBounds, Bound, limits, Meets}
 use Rattle.spv_tableaux.specs.Rows.{Point, IsSolution}
-use Rattle.spv_simplex.specs.State.{rows_in}
+use Rattle.spv_tableaux.specs.Solved.{basis_of}
+use Rattle.spv_tableaux.specs.Walks.{held_at, HoldsBounds, IsUnfinished, IsWide}
+use Rattle.spv_simplex.specs.Checks.{IsAmong}
+use Rattle.spv_simplex.specs.Evidence.{no_operation}
+use Rattle.spv_simplex.specs.State.{State, rows_in}
 use Rattle.spv_simplex.specs.declared.checked.Checked.{Checked}
 use Rattle.spv_simplex.specs.declared.checked.Checked.TheVariants.{Feasible, Infeasible, Wide, Pivots}
 use Rattle.spv_readings.specs.Sources.{fact_multiples}
@@ -49,6 +53,19 @@ IsTried b row x Taken = Unit {0}
 -- the last check was stopped
 abbrev pub IsStopped : Standing → Type 0
 IsStopped b = (b.tableau.answer ≡ Some Wide) ⊎ (b.tableau.answer ≡ Some Pivots)
+
+-- why a check was stopped: after its steps an operation does not fit, or there are as many steps as are allowed and one more would follow
+pub data Halts (s : State) : Type 0 where
+  too_wide : s.answer ≡ Some Wide → IsWide (rows_in s) s.evidence.start s.evidence.steps s.evidence.operation → Halts s
+  all_pivots : s.answer ≡ Some Pivots → IsUnfinished (rows_in s) s.evidence.start s.evidence.steps s.pivots → s.evidence.operation ≡ no_operation → Halts s
+
+-- The evidence of a check that was stopped, where these bounds were ever asserted: it began with some of them, at most one on each side of a row,
+-- the lower one at most the upper one; outside its basis each part held 0, and each row's column one of them on its row; and it says why it was stopped.
+pub record HasEvidence (known : List Bound) (s : State) : Type 0 where
+  pub bounds : (place : ℕ) (x : Bound) → slice_get s.evidence.start.bounds place ≡ Some x → IsAmong known x
+  pub are : AreBounds (rows_in s) s.evidence.start.bounds
+  pub held : HoldsBounds (rows_in s) known (basis_of s.evidence.start.basis) (held_at s.evidence.start.held)
+  pub halts : Halts s
 
 -- what came of a check
 abbrev pub IsOutcome : Standing → Checked → Bool → Tried → Type 0

@@ -10,6 +10,8 @@ use Rattle.spv_tableaux.specs.declared.side.Side.{Side}
 use Rattle.spv_tableaux.specs.Rows.{column_of}
 use Rattle.spv_tableaux.specs.Bounds.{Bound, bound_on, breaks}
 use Rattle.spv_simplex.specs.State.{kept_point, rows_in}
+use Rattle.spv_simplex.specs.Checks.{IsAmong}
+use Rattle.spv_steps.specs.Trail.{bound_of}
 use Rattle.spv_course.specs.declared.entries.Entry.{Entry}
 use Rattle.spv_course.specs.Course.{facts}
 use Rattle.spv_course.specs.Derived.{is_number}
@@ -39,6 +41,7 @@ pub record IsStanding (b : Standing) : Type 0 where
 -- only bounds come behind the others; and what is known of the sources of the first bounds stays true
 pub record Adds (old new : Standing) (more : List Bound) : Type 0 where
   pub forms : new.tableau.forms ≡ old.tableau.forms
+  pub pivots : new.tableau.pivots ≡ old.tableau.pivots
   pub bounds : new.tableau.bounds ≡ old.tableau.bounds ++ more
   pub first : (a : Arena) (read : ℕ → Option Reading) (n : ℕ) → n ≤ length old.tableau.bounds → Sourced a read old (take n old.tableau.bounds) → Sourced a read new (take n old.tableau.bounds)
 
@@ -70,8 +73,20 @@ SaidBy a read b row x k = (f : IdForm) → slice_get b.tableau.forms row ≡ Som
 -- as it was: the rows, the bounds, and what is known of the sources of the first of them
 pub record IsBack (old new : Standing) : Type 0 where
   pub forms : new.tableau.forms ≡ old.tableau.forms
+  pub pivots : new.tableau.pivots ≡ old.tableau.pivots
   pub bounds : new.tableau.bounds ≡ old.tableau.bounds
   pub first : (a : Arena) (read : ℕ → Option Reading) (n : ℕ) → n ≤ length old.tableau.bounds → Sourced a read old (take n old.tableau.bounds) → Sourced a read new (take n old.tableau.bounds)
+
+-- ---- bounds that were ever asserted
+
+-- each bound that a saying is on a row is among these
+pub record HasSaid (known : List Bound) (b : Standing) (row : ℕ) (x : Saying) : Type 0 where
+  pub each : (f : IdForm) → slice_get b.tableau.forms row ≡ Some f → (j : ℕ) (bound : Bound) → slice_get (bounds_of row f.constant x) j ≡ Some bound → IsAmong known bound
+
+-- a bound on a side of a row, if it is one, is among these
+abbrev pub IsAmongIf : List Bound → ℕ → Side → Option Fraction → Type 0
+IsAmongIf known row side None = Unit {0}
+IsAmongIf known row side (Some v) = IsAmong known (bound_of row side (number v))
 
 -- ---- what stands on a row
 

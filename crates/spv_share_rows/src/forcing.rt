@@ -1,9 +1,10 @@
 //! Whether a row may say more than it does.
 
-ghost use Rattle.std.specs.Prelude.{◌≡◌, ◌<◌, ◌⊎◌, length, Some, IfOk, IsTrue};
-ghost use Rattle.spv_simplex.specs.Checks.{IsFeasible};
-ghost use Rattle.spv_share_rows.specs.Standing.{IsBack, IsStanding};
-ghost use Rattle.spv_share_rows.specs.Forcing.{IsOutcome, IsStopped, IsTried};
+ghost use Rattle.std.specs.Prelude.{◌≡◌, ◌<◌, ◌⊎◌, List, length, Some, IfOk, IsTrue};
+ghost use Rattle.spv_simplex.specs.Checks.{HoldsAsserted, IsFeasible};
+ghost use Rattle.spv_tableaux.specs.Bounds.{Bound};
+ghost use Rattle.spv_share_rows.specs.Standing.{HasSaid, IsBack, IsStanding};
+ghost use Rattle.spv_share_rows.specs.Forcing.{HasEvidence, IsOutcome, IsStopped, IsTried};
 
 use crate::standing::Standing;
 use spv_bounds::fact_multiples;
@@ -11,7 +12,7 @@ use spv_frac::Frac;
 use spv_list::List;
 use spv_readings::Saying;
 use spv_row_reasons::law_refuted;
-use spv_simplex::Checked;
+use spv_simplex::{Checked, law_asserted};
 use std::alloc::{AllocError, Global};
 
 /// What came of trying whether a row may say more.
@@ -68,10 +69,15 @@ impl Standing {
         ensures tried { IfOk result (λ t. IsTried self.old row saying t) }
         ensures met { IfOk result (λ t. t ≡ Tried.Met → IsFeasible self.new.tableau) }
         ensures stopped { IfOk result (λ t. t ≡ Tried.Stopped → IsStopped self.new) }
+        ensures asserted { (known : List Bound) → HasSaid known self.old row saying → HoldsAsserted known self.old.tableau → HoldsAsserted known self.new.tableau }
+        ensures evidence { (known : List Bound) → HasSaid known self.old row saying → HoldsAsserted known self.old.tableau
+            → IfOk result (λ t. t ≡ Tried.Stopped → HasEvidence known self.new.tableau) }
     {
         law_refuted();
+        law_asserted();
         let mark = self.tableau.mark();
         let all = self.assert_saying(row, saying, 0);
+        self.tableau.law_tableau();
         let checked = self.tableau.check();
         self.tableau.law_tableau();
         let tried = self.outcome(alloc, checked, all);

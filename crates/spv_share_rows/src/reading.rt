@@ -1,9 +1,10 @@
 //! What stands on a row.
 
-ghost use Rattle.std.specs.Prelude.{◌≡◌, ◌<◌, ◌≤◌, [], length, Some, false, IfOk, IsTrue};
+ghost use Rattle.std.specs.Prelude.{◌≡◌, ◌<◌, ◌≤◌, List, [], length, Some, false, IfOk, IsTrue};
 ghost use Rattle.spv_simplex.specs.State.{with_first};
 ghost use Rattle.spv_tableaux.specs.Numbers.{is_less};
-ghost use Rattle.spv_tableaux.specs.Bounds.{bound_on, breaks};
+ghost use Rattle.spv_tableaux.specs.Bounds.{Bound, bound_on, breaks};
+ghost use Rattle.spv_simplex.specs.Checks.{HoldsAsserted};
 ghost use Rattle.spv_atom_rows.specs.Rows.{HaveRoom};
 ghost use Rattle.spv_rational.specs.Rational.{number};
 ghost use Rattle.spv_share_rows.specs.Standing.{IsMet, IsStanding, KeepsWithin, Stands, StandsOn};
@@ -14,7 +15,7 @@ use spv_bounds::{RowSources, bounds_of, law_sides};
 use spv_frac::Frac;
 use spv_number::Number;
 use spv_readings::Saying;
-use spv_simplex::{Mark, Side, Tableau, can_open};
+use spv_simplex::{Mark, Side, Tableau, can_open, law_asserted};
 use std::alloc::{AllocError, Global};
 
 impl Standing {
@@ -26,7 +27,10 @@ impl Standing {
         ensures standing { IfOk result (λ b. IsStanding b) }
         ensures forms { IfOk result (λ b. b.tableau.forms ≡ forms.items) }
         ensures bounds { IfOk result (λ b. b.tableau.bounds ≡ []) }
+        ensures pivots { IfOk result (λ b. b.tableau.pivots ≡ pivots) }
+        ensures asserted { IfOk result (λ b. (known : List Bound) → HoldsAsserted known b.tableau) }
     {
+        law_asserted();
         let count = forms.as_slice().len();
         if !can_open(alloc, forms.as_slice())? {
             return Err(AllocError);

@@ -1,25 +1,27 @@
 //! Bounds that stand on rows.
 
-ghost use Rattle.std.specs.Prelude.{◌≡◌, ℕ, ◌<◌, ◌≤◌, ◌++◌, [], ◌∷◌, List, Option, Some, None, take, length, true, IsTrue, slice_get, if◌then◌else◌};
+ghost use Rattle.std.specs.Prelude.{◌≡◌, ◌⊎◌, ℕ, ◌<◌, ◌≤◌, ◌++◌, [], ◌∷◌, List, Option, Some, None, take, length, true, IsTrue, slice_get, if◌then◌else◌};
 ghost use Rattle.spv_rational.specs.Rational.{number};
 ghost use Rattle.spv_term.specs.Arena.{Arena};
 ghost use Rattle.spv_atoms.specs.Linear.{IdForm};
 ghost use Rattle.spv_proof.specs.Sums.{Reading};
 ghost use Rattle.spv_tableaux.specs.Bounds.{Bound, bound_on};
 ghost use Rattle.spv_tableaux.specs.declared.side.Side.TheVariants as side;
-ghost use Rattle.spv_simplex.specs.Checks.{IsChecked};
+ghost use Rattle.spv_simplex.specs.declared.checked.Checked.TheVariants as checked;
+ghost use Rattle.spv_simplex.specs.Checks.{HoldsAsserted, IsAmong, IsChecked};
 ghost use Rattle.spv_steps.specs.Trail.{bound_of};
 ghost use Rattle.spv_readings.specs.Sayings as sayings;
 ghost use Rattle.spv_readings.specs.Sources.{with_source};
 ghost use Rattle.spv_bounds.specs.Bounds.{bound_at, has_room};
 ghost use Rattle.spv_bounds.specs.Sources.{sources_in};
-ghost use Rattle.spv_share_rows.specs.Standing.{Adds, AddsSome, AreBoundsOf, ComesFrom, IsBack, IsStanding, SaidBy, Sourced};
+ghost use Rattle.spv_share_rows.specs.Forcing.{HasEvidence};
+ghost use Rattle.spv_share_rows.specs.Standing.{Adds, AddsSome, AreBoundsOf, ComesFrom, HasSaid, IsAmongIf, IsBack, IsStanding, SaidBy, Sourced};
 
 use spv_atoms::Linear;
 use spv_bounds::{RowSources, bounds_of, law_sides, note};
 use spv_frac::Frac;
 use spv_readings::{Saying, Source};
-use spv_simplex::{Checked, Side, Tableau};
+use spv_simplex::{Checked, Side, Tableau, law_asserted};
 
 /// Bounds that stand on the rows of relations, and where each comes from.
 #[derive(Drop)]
@@ -50,7 +52,9 @@ impl Standing {
         ensures adds { Adds self.old self.new (if result then bound_at row side (Some bound) else []) }
         ensures sourced { (a : Arena) (read : ℕ → Option Reading) → Sourced a read self.old self.old.tableau.bounds
             → ComesFrom a read self.old row side (Some bound) source → Sourced a read self.new self.new.tableau.bounds }
+        ensures asserted { (known : List Bound) → IsAmong known (bound_of row side (number bound)) → HoldsAsserted known self.old.tableau → HoldsAsserted known self.new.tableau }
     {
+        law_asserted();
         match self.tableau.accepts(row, side, bound) {
             Ok(true) => {
                 self.tableau.assert_bound(row, side, bound);
@@ -68,6 +72,7 @@ impl Standing {
         ensures adds { Adds self.old self.new (if result then bound_at row side bound else []) }
         ensures sourced { (a : Arena) (read : ℕ → Option Reading) → Sourced a read self.old self.old.tableau.bounds
             → ComesFrom a read self.old row side bound source → Sourced a read self.new self.new.tableau.bounds }
+        ensures asserted { (known : List Bound) → IsAmongIf known row side bound → HoldsAsserted known self.old.tableau → HoldsAsserted known self.new.tableau }
     {
         match bound {
             Some(value) => self.assert_one(row, side, value, source),
@@ -84,6 +89,7 @@ impl Standing {
         ensures all { IsTrue result → (bounds : List Bound) → AreBoundsOf self.old row saying bounds → Adds self.old self.new bounds }
         ensures sourced { (a : Arena) (read : ℕ → Option Reading) → Sourced a read self.old self.old.tableau.bounds
             → SaidBy a read self.old row saying fact → Sourced a read self.new self.new.tableau.bounds }
+        ensures asserted { (known : List Bound) → HasSaid known self.old row saying → HoldsAsserted known self.old.tableau → HoldsAsserted known self.new.tableau }
     {
         law_sides();
         let constant = self.constant(row);
@@ -125,7 +131,10 @@ impl Standing {
         ensures standing { IsStanding self.new }
         ensures back { IsBack self.old self.new }
         ensures checked { IsChecked self.old.tableau self.new.tableau result }
+        ensures asserted { (known : List Bound) → HoldsAsserted known self.old.tableau → HoldsAsserted known self.new.tableau }
+        ensures evidence { (known : List Bound) → HoldsAsserted known self.old.tableau → (result ≡ checked.Wide) ⊎ (result ≡ checked.Pivots) → HasEvidence known self.new.tableau }
     {
+        self.tableau.law_tableau();
         self.tableau.check()
     }
 

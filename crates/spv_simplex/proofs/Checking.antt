@@ -139,10 +139,19 @@ module _ (s : State) (ids : List TermId) (trail : Trail) (known_met capacity : �
     pub means : Means answer s (ended new after combination e answer)
     pub room : e.room ≡ s.evidence.room
 
+  -- the basis of the start is that of the kept form
+  basis_at : (c : ℕ) → is_basic (basis_of s.form.basic c) ≡ is_basic (places s.form c)
+  basis_at c = ap is_basic (basis_is rows start s.form s.values sets_out c) ∙ by_basic (is_basic (places s.form c))
+    where
+      by_basic : (b : Bool) → is_basic (if b then Basic else Held) ≡ b
+      by_basic true = refl
+      by_basic false = refl
+
   begins_with : (x : Start) → x ≡ start → BeginsWith s x
   begins_with x is = record {
     bounds = ap (λ y. y.bounds) is;
     basis = ap (λ y. y.basis) is;
+    in_basis = λ c. ap (λ (y : Start). is_basic (basis_of y.basis c)) is ∙ basis_at c;
     held = λ c below out. ap (λ (y : Start). held_at y.held c) is ∙ sets_out.held c below out;
   }
 
@@ -219,13 +228,6 @@ module _ (s : State) (ids : List TermId) (trail : Trail) (known_met capacity : �
   ends new after combination e answer h =
       by_end answer (subst (λ (n : ℕ). Ends (limits_of n s.bounds) s.form s.values (begun s.evidence.room s.bounds s.form s.values) new after combination e answer) k.tableau.width h)
     where
-      basis_at : (c : ℕ) → is_basic (basis_of s.form.basic c) ≡ is_basic (places s.form c)
-      basis_at c = ap is_basic (basis_is rows start s.form s.values sets_out c) ∙ by_basic (is_basic (places s.form c))
-        where
-          by_basic : (b : Bool) → is_basic (if b then Basic else Held) ≡ b
-          by_basic true = refl
-          by_basic false = refl
-
       by_end : (a : Checked) → Ends (limits rows s.bounds) s.form s.values (begun s.evidence.room s.bounds s.form s.values) new after combination e a → HasEnded new after combination e a
       by_end _ (arriving now a placed arrives) = arrived now new after combination e a placed arrives
       by_end _ (placing p form_is e_is) = record {

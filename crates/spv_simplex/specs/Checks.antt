@@ -17,6 +17,7 @@ use Rattle.spv_simplex.specs.State.{State, rows_in, kept_point}
 pub record BeginsWith (s : State) (start : Start) : Type 0 where
   pub bounds : start.bounds ≡ s.bounds
   pub basis : start.basis ≡ s.form.basic
+  pub in_basis : (c : ℕ) → is_basic (basis_of start.basis c) ≡ is_basic (places s.form c)
   pub held : (c : ℕ) → c < columns (rows_in s) → is_basic (places s.form c) ≡ false → held_at start.held c ≡ kept_point s c
 
 -- ---- the four answers

@@ -1,4 +1,3 @@
-use Rattle.std.proofs.Common.{◌∙◌}
 use Rattle.spv_course.proofs.Bridges.{on_ok}
 use Rattle.spv_term.specs.Arena.{tree}
 use Rattle.spv_sums.specs.Readings.{number_in}
@@ -10,7 +9,7 @@ use Rattle.spv_share.proofs.relations.gather_one.Goals as goal
 pub returns-in_default : goal.returns-in_default
 returns-in_default c = record {
   gathers = λ ts h.
-      gathered_other c.args.terms.now c.args.trail.now c.add.new.self ts c.args.atom c.args.relations.now.items h c.add.ensures.holds c.add.ensures.grows c.add.ensures.course c.in_ok-add.ensures.node
+      gathered_other c.args.terms.now c.args.trail.now c.add.new.self ts c.args.atom c.args.relations.now.items h c.add.ensures.holds c.add.ensures.adds c.in_ok-add.ensures.node
       (none_of c.args.terms.now (number_sides (number_in c.args.terms.now) (tree c.args.terms.now c.args.atom)) c.number_sides.result c.number_sides.ensures c.in_default.is);
 }
 
@@ -22,6 +21,6 @@ returns c =
           on_ok c.push_relation.result c.push_relation.ensures
           (λ pushed ts h.
           gathered_relation c.args.terms.now c.law_arena.ensures c.args.trail.now c.add.new.self c.add-2.new.self c.add-3.new.self ts c.args.atom c.in-Some.left c.in-Some.right c.args.relations.now.items
-          c.push_relation.new.relations.items c.requires.within h c.add.ensures.grows c.add-2.ensures.grows c.add-3.ensures.grows c.add-3.ensures.holds (c.add-3.ensures.course ∙ (c.add-2.ensures.course ∙ c.add.ensures.course))
+          c.push_relation.new.relations.items c.requires.within h c.add.ensures.adds c.add-2.ensures.adds c.add-3.ensures.adds c.add-3.ensures.holds
           c.in_ok-add.ensures.node c.in_ok-add-2.ensures.node c.in_ok-add-3.ensures.node pair.left pair.right pair.are pushed);
     }

@@ -1,5 +1,6 @@
 use Rattle.spv_share.proofs.Goings.{goes_both, goes_then}
-use Rattle.spv_share.proofs.Rounds.{no_clash_as, sought_all}
+use Rattle.spv_share.proofs.Rounds.{no_clash_as, sought_all, sought_closed, sought_stopped}
+use Rattle.std.proofs.Common.{length}
 use Rattle.spv_share.proofs.both.Both.search.Goals as goal
 
 pub settle-requires-clause-both : goal.settle-requires-clause-both
@@ -11,5 +12,14 @@ settle-requires-clause-clash c = no_clash_as c.args.self.now c.seek.new.self (so
 pub settle-requires-clause-apart : goal.settle-requires-clause-apart
 settle-requires-clause-apart c = (sought_all c.args.self.now c.seek.new.self c.in_ok-seek.field-0 c.in-Apart.is c.in_ok-seek.ensures.sought).apart
 
-pub returns-in-Apart-clause-goes : goal.returns-in-Apart-clause-goes
-returns-in-Apart-clause-goes c = goes_then c.args.terms.now c.args.self.now c.seek.new.self c.settle.new.self c.seek.ensures.goes c.settle.ensures.goes
+pub returns-in-Joined-clause-none : goal.returns-in-Joined-clause-none
+returns-in-Joined-clause-none c = sought_closed c.args.self.now c.seek.new.self (length c.args.self.now.relations.items) c.in_ok-seek.field-0 c.in-Joined.is c.in_ok-seek.ensures.sought
+
+pub returns-in-Stopped-clause-outcome : goal.returns-in-Stopped-clause-outcome
+returns-in-Stopped-clause-outcome c = sought_stopped c.args.self.now c.seek.new.self (length c.args.self.now.relations.items) c.in_ok-seek.field-0 c.in-Stopped.is c.in_ok-seek.ensures.sought
+
+pub returns-in_err-settle-in-Apart-clause-goes : goal.returns-in_err-settle-in-Apart-clause-goes
+returns-in_err-settle-in-Apart-clause-goes c = goes_then c.args.terms.now c.args.self.now c.seek.new.self c.settle.new.self c.seek.ensures.goes c.settle.ensures.goes
+
+pub returns-in_ok-settle-in-Apart-clause-goes : goal.returns-in_ok-settle-in-Apart-clause-goes
+returns-in_ok-settle-in-Apart-clause-goes c = goes_then c.args.terms.now c.args.self.now c.seek.new.self c.settle.new.self c.seek.ensures.goes c.settle.ensures.goes

@@ -1,34 +1,13 @@
-use Rattle.std.proofs.Common.{◌≡◌, rules, false}
-use Rattle.spv_course.proofs.Bridges.{if_ok}
-use Rattle.spv_share.proofs.Giving.{at_place, left_node, right_node, row_there, there}
+use Rattle.std.proofs.Common.{◌≡◌, false, rules}
 use Rattle.spv_share.proofs.Goings.{goes_same}
-use Rattle.spv_share.proofs.Seeking.{found_not_open, found_ordered_at, found_same}
-use Rattle.spv_share.specs.States.{IsApart}
+use Rattle.spv_share.proofs.Seeking.{flag_at, found_sifted}
 use Rattle.spv_share.proofs.both.Both.seek_at.Goals as goal
 
-pub is_open-requires-clause-left : goal.is_open-requires-clause-left
-is_open-requires-clause-left c = left_node c.args.terms.now c.args.self.now c.requires.sound c.args.place c.index-related.result.now (at_place c.args.self.now.relations.items c.args.place c.index-related.result.now c.requires.place c.index-related.ensures)
+pub returns-then-not-index-clause-goes : goal.returns-then-not-index-clause-goes
+returns-then-not-index-clause-goes c = goes_same c.args.terms.now c.args.self.now c.requires.sound
 
-pub is_open-requires-clause-right : goal.is_open-requires-clause-right
-is_open-requires-clause-right c = right_node c.args.terms.now c.args.self.now c.requires.sound c.args.place c.index-related.result.now (at_place c.args.self.now.relations.items c.args.place c.index-related.result.now c.requires.place c.index-related.ensures)
-
-pub returns-then-not-is_open-clause-goes : goal.returns-then-not-is_open-clause-goes
-returns-then-not-is_open-clause-goes c = goes_same c.args.terms.now c.args.self.now c.requires.sound
-
-pub returns-then-not-is_open-clause-found : goal.returns-then-not-is_open-clause-found
-returns-then-not-is_open-clause-found c = let none : c.is_open.result ≡ false = search rules in found_not_open c.args.self.now c.args.place c.index-related.result.now c.is_open.result (at_place c.args.self.now.relations.items c.args.place c.index-related.result.now c.requires.place c.index-related.ensures) c.is_open.ensures none
-
-pub is_ordered-requires-clause-row : goal.is_ordered-requires-clause-row
-is_ordered-requires-clause-row c = row_there c.args.terms.now c.args.self.now c.requires.sound c.args.place c.index-related.result.now (at_place c.args.self.now.relations.items c.args.place c.index-related.result.now c.requires.place c.index-related.ensures)
-
-pub returns-then-is_ordered-clause-goes : goal.returns-then-is_ordered-clause-goes
-returns-then-is_ordered-clause-goes c = goes_same c.args.terms.now c.args.self.now c.requires.sound
-
-pub returns-then-is_ordered-clause-found : goal.returns-then-is_ordered-clause-found
-returns-then-is_ordered-clause-found c = let far : IsApart c.args.self.now.standing c.index-related.result.now.row = search rules in found_ordered_at c.args.self.now c.args.place c.index-related.result.now (at_place c.args.self.now.relations.items c.args.place c.index-related.result.now c.requires.place c.index-related.ensures) far
-
-pub seek_point-requires-clause-there : goal.seek_point-requires-clause-there
-seek_point-requires-clause-there c = there c.args.terms.now c.args.self.now c.requires.sound c.args.place c.index-related.result.now (at_place c.args.self.now.relations.items c.args.place c.index-related.result.now c.requires.place c.index-related.ensures)
-
-pub returns-clause-found : goal.returns-clause-found
-returns-clause-found c = if_ok c.seek_point.result c.seek_point.ensures.found (λ s h r at. found_same c.args.self.now c.seek_point.new.self c.index-related.result.now r s c.args.place (at_place c.args.self.now.relations.items c.args.place c.index-related.result.now c.requires.place c.index-related.ensures) at h)
+pub returns-then-not-index-clause-found : goal.returns-then-not-index-clause-found
+returns-then-not-index-clause-found c =
+    let none : c.index.result.now ≡ false = search rules in
+    found_sifted c.args.terms.now c.args.self.now c.args.waits.now.items c.args.place c.requires.sound c.requires.sifted
+    (flag_at c.args.self.now c.args.waits.now.items c.args.place c.index.result.now c.requires.sifted c.requires.place c.index.ensures none)

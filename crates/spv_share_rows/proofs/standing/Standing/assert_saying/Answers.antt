@@ -1,4 +1,6 @@
 use Rattle.spv_tableaux.specs.declared.side.Side.TheVariants.{Upper}
+use Rattle.spv_share_rows.proofs.Asserting.{lower_among, upper_among}
+use Rattle.spv_share_rows.proofs.Trying.{form_at}
 use Rattle.spv_share_rows.proofs.Adding.{adds_then, all_adds, comes_along, constant_is, lower_comes, upper_comes}
 use Rattle.spv_share_rows.proofs.standing.Standing.assert_saying.Goals as goal
 
@@ -22,3 +24,11 @@ returns-clause-sourced c = λ a read h said.
     (comes_along a read c.args.self.now c.assert_if-lower.new.self c.args.row Upper c.bounds_of-bounds.result.upper _ c.assert_if-lower.ensures.adds.forms
     (upper_comes c.law_sides.ensures.lower c.law_sides.ensures.upper a read c.args.self.now c.args.row c.args.saying c.args.fact _ c.bounds_of-bounds.result c.says_equal.result
     (λ f at. constant_is c.constant-constant.result f.constant c.constant-constant.ensures.room (c.constant-constant.ensures.form f at)) c.bounds_of-bounds.ensures c.says_equal.ensures said))
+
+pub returns-clause-asserted : goal.returns-clause-asserted
+returns-clause-asserted c = λ known said h.
+    let form = form_at c.args.self.now.tableau.forms c.args.row c.requires.row in
+    c.assert_if-upper.ensures.asserted known
+    (upper_among known c.args.self.now c.args.row c.args.saying c.bounds_of-bounds.result c.constant-constant.result c.constant-constant.ensures.form c.constant-constant.ensures.room c.bounds_of-bounds.ensures said form.0 form.1)
+    (c.assert_if-lower.ensures.asserted known
+    (lower_among known c.args.self.now c.args.row c.args.saying c.bounds_of-bounds.result c.constant-constant.result c.constant-constant.ensures.form c.constant-constant.ensures.room c.bounds_of-bounds.ensures said form.0 form.1) h)

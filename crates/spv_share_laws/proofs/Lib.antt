@@ -1,0 +1,4 @@
+pub mod OneValue
+pub mod Exact
+pub mod Graphs
+pub mod Growth

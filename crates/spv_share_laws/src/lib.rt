@@ -1,0 +1,9 @@
+//! What is true of a graph and a tableau that agree: equal terms have one value, and all stays as the arena grows. Theorems; there is
+//! no code.
+#![tactic(auto)]
+
+mod growing;
+mod values;
+
+pub use growing::law_growing;
+pub use values::{law_labels, law_one_value};
