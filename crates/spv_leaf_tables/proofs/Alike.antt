@@ -18,14 +18,14 @@ use Rattle.spv_logic.specs.Terms.{Term, Terms, term, no_terms, terms, term_eq}
 use Rattle.spv_logic.specs.Formulas.{equation}
 use Rattle.spv_logic.specs.Sorts.{term_sort, term_sorts, sort_before, result_sort, with_sorts}
 use Rattle.spv_logic.proofs.Equality.{term_eq-true, term_eq-refl}
-use Rattle.spv_atoms.specs.Atoms.{has_sort, is_truth, is_number, is_truth_value, is_atom, connects, only_if}
+use Rattle.spv_atoms.specs.Atoms.{has_sort, is_truth, is_number, is_truth_value, is_atom, connects, is_fixed, only_if}
 use Rattle.spv_atoms.specs.Forms.{constant_values}
 use Rattle.spv_atoms.specs.Order.{passing}
 use Rattle.spv_atoms.specs.Tables.{all_truths, or_else, computed}
 use Rattle.spv_atoms.proofs.Members.{has, or_left, or_right, has-right, with_terms-has}
 use Rattle.spv_table.specs.Values.{Outcome, truth_value, is_true, value, values}
 use Rattle.spv_table.specs.Tables.{HaveEqualValues, IsAlike}
-use Rattle.spv_leaf_tables.specs.Subterms.{means, is_listed, is_plain, subterms, list_of, arguments, truth_arguments}
+use Rattle.spv_leaf_tables.specs.Subterms.{means, is_listed, is_plain, subterms, list_of, arguments, truth_arguments, is_uncomputed, uncomputed}
 use Rattle.spv_leaf_tables.specs.Atoms.{argument_equations, atoms, questions, all_equations, is_open, pair_equations}
 use Rattle.spv_leaf_tables.specs.Leaves.{Leaf, IsLeaf, truth_at, truth_term, worth_at, all_same}
 use Rattle.spv_leaf_tables.specs.Tables.{class_of, truth_number, number_at}
@@ -253,11 +253,14 @@ module _ (shapes : List Shape) (decls : List Decl) (fs : List Term) (leaf : Leaf
   arguments_are_sorted : (h : Head) (ts : Terms) → has parts (term h ts) ≡ true → is_some (term_sorts shapes decls ts) ≡ true
   arguments_are_sorted h ts m = arguments_sorted (term_sorts shapes decls ts) (result_sort shapes decls h) ((closed shapes decls fs leaf ok).sorted (term h ts) m)
 
-  congruent_one : (h : Head) (ss us : Terms) → has parts (term h ss) ≡ true → has parts (term h us) ≡ true → connects (all_truths truth ss) h ≡ false → connects (all_truths truth us) h ≡ false
+  acted_on : (h : Head) (ts : Terms) → has parts (term h ts) ≡ true → connects (all_truths truth ts) h ≡ false → is_fixed h ≡ false → has (uncomputed truth parts) (term h ts) ≡ true
+  acted_on h ts m plain opened = has-passing (is_uncomputed truth) parts (term h ts) m (both_true (ap not plain) (ap not opened))
+
+  congruent_one : (h : Head) (ss us : Terms) → has parts (term h ss) ≡ true → has parts (term h us) ≡ true → connects (all_truths truth ss) h ≡ false → connects (all_truths truth us) h ≡ false → is_fixed h ≡ false
       → (is_listed (term h ss) || is_listed (term h us)) ≡ true → term_sorts shapes decls ss ≡ term_sorts shapes decls us → HaveEqualValues (outcomes ss) (outcomes us)
       → AreAmong (all_equations shapes decls parts) (pair_equations shapes decls (term h ss) (term h us)) → leaf.same (term h ss) (term h us) ≡ true
-  congruent_one h ss us ms mu ps pu listed sorts equal among =
-      ok.sameness.congruent h ss us ms mu
+  congruent_one h ss us ms mu ps pu opened listed sorts equal among =
+      ok.sameness.congruent h ss us (acted_on h ss ms ps opened) (acted_on h us mu pu opened)
       (same_arguments ss us ((closed shapes decls fs leaf ok).inside h ss ms) ((closed shapes decls fs leaf ok).inside h us mu) (arguments_are_sorted h ss ms) sorts equal
       (atoms_among (argument_equations truth ss us)
       (arguments_among shapes decls (all_equations shapes decls parts) h ss us (comparable shapes decls h ss us (arguments_are_sorted h ss ms) sorts listed) among))
@@ -270,12 +273,15 @@ module _ (shapes : List Shape) (decls : List Decl) (fs : List Term) (leaf : Leaf
       plain : (b : Bool) → connects b h ≡ false
       plain b = own-plain h (constant_values ss) b own
 
+      opened : is_fixed h ≡ false
+      opened = own-open h (constant_values ss) own
+
       by_pair : ArePaired shapes decls (all_equations shapes decls parts) (term h ss) (term h us) → leaf.same (term h ss) (term h us) ≡ true
       by_pair (AreOne e) = ap (leaf.same (term h ss)) (sym e) ∙ ok.sameness.itself (term h ss)
-      by_pair (IsEarlier among) = congruent_one h ss us ms mu (plain (all_truths truth ss)) (plain (all_truths truth us)) (or_left (is_listed (term h ss)) (is_listed (term h us)) (ap not own)) sorts equal among
+      by_pair (IsEarlier among) = congruent_one h ss us ms mu (plain (all_truths truth ss)) (plain (all_truths truth us)) opened (or_left (is_listed (term h ss)) (is_listed (term h us)) (ap not own)) sorts equal among
       by_pair (IsLater among) =
           ok.sameness.turned (term h us) (term h ss)
-          (congruent_one h us ss mu ms (plain (all_truths truth us)) (plain (all_truths truth ss)) (or_right (is_listed (term h us)) (is_listed (term h ss)) (ap not own)) (sym sorts)
+          (congruent_one h us ss mu ms (plain (all_truths truth us)) (plain (all_truths truth ss)) opened (or_right (is_listed (term h us)) (is_listed (term h ss)) (ap not own)) (sym sorts)
           (exchanged (outcomes ss) (outcomes us) equal) among)
 
   not_not : (b : Bool) → not b ≡ true → b ≡ false
@@ -334,7 +340,7 @@ module _ (shapes : List Shape) (decls : List Decl) (fs : List Term) (leaf : Leaf
     others_one : number (term h ss) ≡ false → truth (term h ss) ≡ false → table_number (term h ss) ≡ table_number (term h us)
     others_one e f =
         class-at shapes decls fs leaf ok (term h ss) e f
-        ∙ (ap (λ n. whole (pos n)) (class-one leaf.same parts ok.sameness parts (term h ss) (term h us) are_same) ∙ sym (class-at shapes decls fs leaf ok (term h us) (as_u sort.Int false e) (as_u sort.Bool false f)))
+        ∙ (ap (λ n. whole (pos n)) (class-one leaf.same (uncomputed truth parts) ok.sameness parts (term h ss) (term h us) are_same) ∙ sym (class-at shapes decls fs leaf ok (term h us) (as_u sort.Int false e) (as_u sort.Bool false f)))
 
     one_number : table_number (term h ss) ≡ table_number (term h us)
     one_number = by_number (number (term h ss)) refl

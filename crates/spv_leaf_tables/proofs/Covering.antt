@@ -156,12 +156,12 @@ module _ (shapes : List Shape) (decls : List Decl) where
 
   -- ---- the atoms
 
-  some_sort : (o : Option Sort) → has_sort sort.Bool o ≡ true → is_some o ≡ true
+  pub some_sort : (o : Option Sort) → has_sort sort.Bool o ≡ true → is_some o ≡ true
   some_sort None h = h
   some_sort (Some r) h = refl
 
   module _ (fs : List Term) (are : AreFormulas shapes decls fs) where
-    parts-closed : IsClosed shapes decls (subterms fs)
+    pub parts-closed : IsClosed shapes decls (subterms fs)
     parts-closed = subterms-closed shapes decls fs (λ f h. some_sort (sort_of f) (are f h))
 
     mutual

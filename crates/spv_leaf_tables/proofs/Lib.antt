@@ -14,5 +14,6 @@ pub mod Pairs
 pub mod Alike
 pub mod Falsifying
 pub mod Covering
+pub mod Standing
 pub mod Once
 pub mod Testing

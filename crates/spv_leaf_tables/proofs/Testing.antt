@@ -18,7 +18,7 @@ use Rattle.spv_atoms.proofs.Members.{has, or_cases}
 use Rattle.spv_proof.specs.Evaluation.{sides, clashes}
 use Rattle.spv_readings.specs.Sayings.{literal}
 use Rattle.spv_table.specs.Values.{is_same}
-use Rattle.spv_leaf_tables.specs.Subterms.{subterms}
+use Rattle.spv_leaf_tables.specs.Subterms.{subterms, uncomputed}
 use Rattle.spv_leaf_tables.specs.Atoms.{atoms, questions}
 use Rattle.spv_leaf_tables.specs.Leaves.{Leaf, IsLeaf, IsSameness, IsTold, IsPoint, all_same, truth_term, worth_at, is_met}
 use Rattle.spv_leaf_tables.proofs.Comparisons.{same-true}
@@ -87,12 +87,15 @@ module _ (shapes : List Shape) (decls : List Decl) (fs : List Term) (given : Ter
   abbrev pub value_test : Term → Term → Bool
   value_test s t = not (same_class s t && (number s && number t)) || is_same (worth_at point s).fraction (worth_at point t).fraction
 
-  sameness : each_two congruent_test (subterms fs) ≡ true → IsSameness (subterms fs) same_class
+  abbrev pub acting : List Term
+  acting = uncomputed truth (subterms fs)
+
+  sameness : each_two congruent_test acting ≡ true → IsSameness acting same_class
   sameness h = record {
     itself = λ s. eq-eqb (class s) (class s) refl;
     turned = λ s t e. eq-eqb (class t) (class s) (sym (eqb-true (class s) (class t) e));
     through = λ s t u e f. eq-eqb (class s) (class u) (eqb-true (class s) (class t) e ∙ eqb-true (class t) (class u) f);
-    congruent = λ k ss us m n e. from_premise (head_eq k k && all_same same_class ss us) (same_class (term k ss) (term k us)) (two_of congruent_test (subterms fs) h (term k ss) (term k us) m n) (both_true (head_eq-refl k) e);
+    congruent = λ k ss us m n e. from_premise (head_eq k k && all_same same_class ss us) (same_class (term k ss) (term k us)) (two_of congruent_test acting h (term k ss) (term k us) m n) (both_true (head_eq-refl k) e);
   }
 
   told : list_all truth_test (questions shapes decls fs) ≡ true → list_all sides_test (atoms shapes decls fs) ≡ true → same_class (truth_term true) (truth_term false) ≡ false
@@ -117,7 +120,7 @@ module _ (shapes : List Shape) (decls : List Decl) (fs : List Term) (given : Ter
   }
 
   pub tests-show : list_all truth fs ≡ true → list_all (λ t. is_some (given t)) (questions shapes decls fs) ≡ true → list_all (λ t. not (clashes truth given t)) (subterms fs) ≡ true
-      → each_two congruent_test (subterms fs) ≡ true → list_all truth_test (questions shapes decls fs) ≡ true → list_all sides_test (atoms shapes decls fs) ≡ true
+      → each_two congruent_test acting ≡ true → list_all truth_test (questions shapes decls fs) ≡ true → list_all sides_test (atoms shapes decls fs) ≡ true
       → same_class (truth_term true) (truth_term false) ≡ false → list_all relation_test (atoms shapes decls fs) ≡ true → list_all order_test (atoms shapes decls fs) ≡ true
       → each_two value_test (subterms fs) ≡ true → IsLeaf shapes decls fs tested
   tests-show formulas full agrees congruence truths sides_same apart relations orders values = record {

@@ -30,7 +30,7 @@ use Rattle.spv_tableaux.specs.Numbers.{minus}
 use Rattle.spv_readings.specs.Values.{form_value}
 use Rattle.spv_readings.proofs.Values.{minus-value}
 use Rattle.spv_table.specs.Values.{truth_value, is_same, is_less, is_at_most, of_pair, both, value, values}
-use Rattle.spv_leaf_tables.specs.Subterms.{means, is_listed, is_one_constant, subterms, truth_arguments}
+use Rattle.spv_leaf_tables.specs.Subterms.{means, is_listed, is_one_constant, subterms, truth_arguments, uncomputed}
 use Rattle.spv_leaf_tables.specs.Atoms.{atoms, questions, all_equations, is_open}
 use Rattle.spv_leaf_tables.specs.Leaves.{Leaf, IsLeaf, truth_at, worth_at, is_met}
 use Rattle.spv_leaf_tables.specs.Tables.{class_of, truth_number, number_at}
@@ -259,14 +259,14 @@ module _ (shapes : List Shape) (decls : List Decl) (fs : List Term) (leaf : Leaf
   class t = whole (pos (class_of leaf.same parts t))
 
   pub class-same : (a b : Term) → has parts a ≡ true → class a ≡ class b → leaf.same a b ≡ true
-  class-same a b m e = class-differs leaf.same parts ok.sameness parts a b m (pos_same (class_of leaf.same parts a) (class_of leaf.same parts b) (ap (λ (x : Fraction). x.num) e))
+  class-same a b m e = class-differs leaf.same (uncomputed truth parts) ok.sameness parts a b m (pos_same (class_of leaf.same parts a) (class_of leaf.same parts b) (ap (λ (x : Fraction). x.num) e))
     where
       pos_same : (i j : ℕ) → pos i ≡ pos j → i ≡ j
       pos_same i j e = cc
 
   same_class : (a b : Term) (c : Bool) → has parts a ≡ true → has (atoms shapes decls fs) (equation a b) ≡ true → leaf.given (equation a b) ≡ Some c → is_same (class a) (class b) ≡ c
   same_class a b true m there given =
-      ap (λ n. is_same (whole (pos n)) (class b)) (class-one leaf.same parts ok.sameness parts a b (ok.told.sides a b true there given)) ∙ same-refl (class b)
+      ap (λ n. is_same (whole (pos n)) (class b)) (class-one leaf.same (uncomputed truth parts) ok.sameness parts a b (ok.told.sides a b true there given)) ∙ same-refl (class b)
   same_class a b false m there given = by_case (is_same (class a) (class b)) refl
     where
       by_case : (d : Bool) → is_same (class a) (class b) ≡ d → is_same (class a) (class b) ≡ false

@@ -25,7 +25,7 @@ use Rattle.spv_joined.specs.Joined.{Joined}
 use Rattle.spv_joined.specs.Laws.{Listed}
 use Rattle.spv_table.specs.Values.{truth_value, value, holds, listed_in}
 use Rattle.spv_table.specs.Tables.{IsAlike, IsTable}
-use Rattle.spv_leaf_tables.specs.Subterms.{is_among, subterms, arguments, is_listed}
+use Rattle.spv_leaf_tables.specs.Subterms.{is_among, subterms, arguments, is_listed, uncomputed}
 use Rattle.spv_leaf_tables.specs.Atoms.{atoms}
 use Rattle.spv_leaf_tables.specs.Leaves.{Leaf, IsLeaf, IsSameness, IsDecided, IsTold, HasLiterals, truth_at, worth_at, is_met}
 use Rattle.spv_leaf_tables.specs.Labels.{label_in, same_labels, HasId, AreExact}
@@ -68,6 +68,11 @@ AtomsAreAtoms = (shapes : List Shape) (decls : List Decl) (fs : List Term) → A
 abbrev pub AtomsAddNothing : Type 0
 AtomsAddNothing = (shapes : List Shape) (decls : List Decl) (fs : List Term) → AreFormulas shapes decls fs
     → (t u : Term) → is_among (atoms shapes decls fs) t ≡ true → is_among (arguments t) u ≡ true → is_among (subterms fs) u ≡ true
+
+-- each subterm whose truth is not computed stands in an atom: so congruence on the subterms of the atoms acts on it
+abbrev pub UncomputedStandInAtoms : Type 0
+UncomputedStandInAtoms = (shapes : List Shape) (decls : List Decl) (fs : List Term) → AreFormulas shapes decls fs
+    → (t : Term) → is_among (uncomputed (is_truth shapes decls) (subterms fs)) t ≡ true → is_among (subterms (atoms shapes decls fs)) t ≡ true
 
 -- ---- which terms are the same
 
@@ -140,12 +145,12 @@ OthersAreClasses = (shapes : List Shape) (decls : List Decl) (fs : List Term) (l
 
 -- no two classes have one number
 abbrev pub ClassesDiffer : Type 0
-ClassesDiffer = (same : Term → Term → Bool) (ts : List Term) → IsSameness ts same
+ClassesDiffer = (same : Term → Term → Bool) (acting ts : List Term) → IsSameness acting same
     → (s t : Term) → is_among ts s ≡ true → class_of same ts s ≡ class_of same ts t → same s t ≡ true
 
 -- and each class has one
 abbrev pub ClassesAreOne : Type 0
-ClassesAreOne = (same : Term → Term → Bool) (ts : List Term) → IsSameness ts same → (s t : Term) → same s t ≡ true → class_of same ts s ≡ class_of same ts t
+ClassesAreOne = (same : Term → Term → Bool) (acting ts : List Term) → IsSameness acting same → (s t : Term) → same s t ≡ true → class_of same ts s ≡ class_of same ts t
 
 -- ---- the table
 

@@ -15,7 +15,7 @@ use Rattle.spv_proof.specs.Sums.{Reading, reading}
 use Rattle.spv_proof.specs.Evaluation.{clashes}
 use Rattle.spv_readings.specs.Sayings.{literal}
 use Rattle.spv_readings.specs.Values.{form_value, holds_at}
-use Rattle.spv_leaf_tables.specs.Subterms.{is_among, subterms}
+use Rattle.spv_leaf_tables.specs.Subterms.{is_among, subterms, uncomputed}
 use Rattle.spv_leaf_tables.specs.Atoms.{atoms, questions}
 
 -- what is known at a leaf: the truth of formulas that were told, which terms are the same, and the number of each part of a sum
@@ -96,6 +96,7 @@ pub record IsLeaf (shapes : List Shape) (decls : List Decl) (fs : List Term) (le
   pub full : (t : Term) → is_among (questions shapes decls fs) t ≡ true → is_some (leaf.given t) ≡ true
   -- none is opposite to what the others make of it
   pub agrees : (t : Term) → is_among (subterms fs) t ≡ true → clashes (is_truth shapes decls) leaf.given t ≡ false
-  pub sameness : IsSameness (subterms fs) leaf.same
+  -- congruence acts on all but what is computed
+  pub sameness : IsSameness (uncomputed (is_truth shapes decls) (subterms fs)) leaf.same
   pub told : IsTold (questions shapes decls fs) (atoms shapes decls fs) leaf.given leaf.same
   pub point : IsPoint (is_number shapes decls) (subterms fs) (atoms shapes decls fs) leaf

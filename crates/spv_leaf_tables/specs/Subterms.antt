@@ -1,10 +1,10 @@
 -- The subterms of formulas, and which of them a table lists.
-use Rattle.std.specs.Prelude.{Bool, true, false, ◌||◌, not, List, [], ◌∷◌, Option, ℤ, is_some}
+use Rattle.std.specs.Prelude.{Bool, true, false, ◌&&◌, ◌||◌, not, List, [], ◌∷◌, Option, ℤ, is_some}
 use Rattle.std.specs.List.{list_any, flat_map}
 use Rattle.spv_logic.specs.declared.operators.Head.{Head}
 use Rattle.spv_logic.specs.declared.operators.Head.TheVariants.{Num, Mul, True, False}
 use Rattle.spv_logic.specs.Terms.{Term, Terms, term, no_terms, terms, term_eq}
-use Rattle.spv_atoms.specs.Atoms.{is_connective}
+use Rattle.spv_atoms.specs.Atoms.{is_connective, is_truth_value}
 use Rattle.spv_atoms.specs.Forms.{constant_values}
 use Rattle.spv_atoms.specs.Order.{order, passing, has_meaning_head}
 
@@ -59,3 +59,13 @@ is_plain is_truth t = not (is_connective is_truth t)
 -- the arguments of sort Bool of these terms, where the term is no connective
 abbrev pub truth_arguments : (Term → Bool) → List Term → List Term
 truth_arguments is_truth ts = passing is_truth (flat_map arguments (passing (is_plain is_truth) ts))
+
+-- ---- terms whose truth is not computed
+
+-- whether a term is no connective, and neither TRUE nor FALSE
+abbrev pub is_uncomputed : (Term → Bool) → Term → Bool
+is_uncomputed is_truth t = is_plain is_truth t && not (is_truth_value t)
+
+-- those of these terms: on them congruence acts
+abbrev pub uncomputed : (Term → Bool) → List Term → List Term
+uncomputed is_truth ts = passing (is_uncomputed is_truth) ts

@@ -3,7 +3,7 @@
 ghost use Rattle.std.specs.Prelude.{◌≡◌, false, true, [], ◌∷◌, map, Ok};
 ghost use Rattle.spv_table.specs.Values.{holds, listed_in};
 ghost use Rattle.spv_leaf_tables.specs.Examples as example;
-ghost use Rattle.spv_leaf_tables.specs.Laws.{AboveIsMet, AlikeAreSame, ArgumentsAreSubterms, AtomsAddNothing, AtomsAreAtoms, AtomsAreThere, ClassesAreOne, ClassesDiffer, DerivationsJoin, DerivationsKeepSorts, FormulasAreSubterms, FormulasHold, LabelsAreKept, LabelsJoin, LeafHasTable, ListsSubterms, LiteralIsMet, LiteralsAreTold, NumbersAreAtPoint, OthersAreClasses, SubtermsAreOnce, TableFalsifies, TruthsAreComputed, TruthsAreThere};
+ghost use Rattle.spv_leaf_tables.specs.Laws.{AboveIsMet, AlikeAreSame, ArgumentsAreSubterms, AtomsAddNothing, AtomsAreAtoms, AtomsAreThere, ClassesAreOne, ClassesDiffer, DerivationsJoin, DerivationsKeepSorts, FormulasAreSubterms, FormulasHold, LabelsAreKept, LabelsJoin, LeafHasTable, ListsSubterms, LiteralIsMet, LiteralsAreTold, NumbersAreAtPoint, OthersAreClasses, SubtermsAreOnce, TableFalsifies, TruthsAreComputed, TruthsAreThere, UncomputedStandInAtoms};
 
 /// The subterms of formulas: these, with the arguments of each, none twice.
 pub fn law_subterms()
@@ -13,11 +13,12 @@ pub fn law_subterms()
 {}
 
 /// The atoms of a search: those of all formulas and of arguments of sort Bool, each of which is an
-/// atom over subterms.
+/// atom over subterms. Each subterm but connectives, TRUE and FALSE stands in one of them.
 pub fn law_atoms()
     ensures there { AtomsAreThere }
     ensures are_atoms { AtomsAreAtoms }
     ensures add_nothing { AtomsAddNothing }
+    ensures cover { UncomputedStandInAtoms }
 {}
 
 /// Terms that derivations join may be taken for the same terms, and no two sorts are joined; so, where

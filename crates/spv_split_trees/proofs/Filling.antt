@@ -2,7 +2,8 @@
 use Rattle.std.proofs.Common.{◌≡◌, Bool, true, false, cond, ◌||◌, List, [], ◌∷◌, refl, sym, ap, ◌∙◌, subst, ◌⊎◌, inl, inr, Option, Some, None, Ok}
 use Rattle.std.specs.Prelude.{is_some}
 use Rattle.std.proofs.lemmas.Bool.{false≢true}
-use Rattle.spv_logic.specs.Terms.{Term, term_eq}
+use Rattle.spv_list.proofs.Tests.{left_true, right_true}
+use Rattle.spv_logic.specs.Terms.{Term, Terms, term, no_terms, terms, term_eq}
 use Rattle.spv_logic.proofs.Equality.{term_eq-true, term_eq-refl}
 use Rattle.spv_logic.specs.Formulas.{negation, equation, below}
 use Rattle.spv_atoms.specs.Tables.{assigned, or_else, computed}
@@ -12,14 +13,15 @@ use Rattle.spv_proof.specs.Evaluation.{opposite, clashes}
 use Rattle.spv_proof.specs.Effects.{Question, is_truth, is_number}
 use Rattle.spv_readings.specs.Sayings.{literal}
 use Rattle.spv_table.specs.Values.{holds}
-use Rattle.spv_leaf_tables.specs.Subterms.{is_among, subterms}
-use Rattle.spv_leaf_tables.specs.Leaves.{IsSameness, IsTold, IsPoint, IsLeaf, truth_term, truth_at, is_met}
+use Rattle.spv_leaf_tables.specs.Subterms.{is_among, subterms, uncomputed}
+use Rattle.spv_leaf_tables.specs.Leaves.{IsSameness, IsTold, IsPoint, IsLeaf, all_same, truth_term, truth_at, is_met}
 use Rattle.spv_leaf_tables.specs.Laws.{AreFormulas, listed_at}
 use Rattle.spv_leaf_tables.specs.Tables.{formulas_of, table, Falsifies}
 use Rattle.spv_leaf_tables.proofs.Closed.{subterms-has}
 use Rattle.spv_leaf_tables.proofs.Falsifying.{truth-there, table-falsifies}
+use Rattle.spv_leaf_tables.proofs.Standing.{uncomputed-in-atoms}
 use Rattle.spv_split_trees.specs.Paths as paths
-use Rattle.spv_split_trees.specs.Paths.{atoms, questions, facts, Known, Gives, member, negated, Linked, IsLive, told, turned, through, true_one, false_one, sides}
+use Rattle.spv_split_trees.specs.Paths.{atoms, questions, facts, Known, Gives, member, negated, Linked, AllLinked, IsLive, told, itself, turned, through, congruent, none, more, true_one, false_one, sides}
 use Rattle.spv_split_trees.specs.Leaves.{IsFull, leaf_of}
 use Rattle.spv_split_trees.proofs.Agreeing.{computed-stays, agreed}
 
@@ -101,26 +103,44 @@ module _ (q : Question) (fs : List Term) (live : IsLive q fs) (given : Term → 
       by_given (Some b) h there = ap Some (given-is f b c h k)
       by_given None h there = by_computed h (computed (is_truth q) given f) refl there
 
+-- what is joined is an equivalence with congruence on all that is not computed
+module _ (q : Question) (are : AreFormulas q.shapes q.decls (formulas_of q.sequent)) (fs : List Term) (given : Term → Option Bool) (same : Term → Term → Bool) (full : IsFull q fs given same) where
+  all_linked : (ss us : Terms) → all_same same ss us ≡ true → AllLinked q fs ss us
+  all_linked no_terms no_terms h = none
+  all_linked no_terms (terms u us) h = absurd (false≢true h)
+  all_linked (terms s ss) no_terms h = absurd (false≢true h)
+  all_linked (terms s ss) (terms u us) h = more s u ss us (full.derived s u (left_true _ _ h)) (all_linked ss us (right_true (same s u) _ h))
+
+  in_atoms : (t : Term) → is_among (uncomputed (is_truth q) (subterms (formulas_of q.sequent))) t ≡ true → is_among (subterms (atoms q)) t ≡ true
+  in_atoms = uncomputed-in-atoms q.shapes q.decls (formulas_of q.sequent) are
+
+  full-sameness : IsSameness (uncomputed (is_truth q) (subterms (formulas_of q.sequent))) same
+  full-sameness = record {
+    itself = λ s. full.found s s (itself s);
+    turned = λ s t h. full.found t s (turned s t (full.derived s t h));
+    through = λ s t u h k. full.found s u (through s t u (full.derived s t h) (full.derived t u k));
+    congruent = λ h ss us m n e. full.found (term h ss) (term h us) (congruent h ss us (in_atoms (term h ss) m) (in_atoms (term h us) n) (all_linked ss us e));
+  }
+
 pub full-leaf : (q : Question) → AreFormulas q.shapes q.decls (formulas_of q.sequent) → (fs : List Term) (live : IsLive q fs) (given : Term → Option Bool) (same : Term → Term → Bool) → IsFull q fs given same
-    → IsSameness (subterms (formulas_of q.sequent)) same
     → IsLeaf q.shapes q.decls (formulas_of q.sequent) (leaf_of q fs live given same)
-full-leaf q are fs live given same full sameness = record {
+full-leaf q are fs live given same full = record {
   formulas = are;
   full = full.full;
   agrees = λ t m. full-agrees q fs live given same full t;
-  sameness = sameness;
+  sameness = full-sameness q are fs given same full;
   told = full-told q fs live given same full;
   point = full-point q fs live given same full;
 }
 
 pub full-survives : (q : Question) → AreFormulas q.shapes q.decls (formulas_of q.sequent) → (cases : List Term) (live : IsLive q (facts q cases)) (given : Term → Option Bool) (same : Term → Term → Bool)
-    → IsFull q (facts q cases) given same → IsSameness (subterms (formulas_of q.sequent)) same
+    → IsFull q (facts q cases) given same
     → ((f : Term) → is_among (formulas_of q.sequent) f ≡ true → (b : Bool) × (holds (listed_at q.shapes q.decls (formulas_of q.sequent) (leaf_of q (facts q cases) live given same)) f ≡ Ok b))
     → Falsifies q.shapes q.decls q.sequent (table q.shapes q.decls (formulas_of q.sequent) (leaf_of q (facts q cases) live given same))
-full-survives q are cases live given same full sameness fits =
+full-survives q are cases live given same full fits =
     let fs = formulas_of q.sequent in
     let leaf = leaf_of q (facts q cases) live given same in
-    let ok = full-leaf q are (facts q cases) live given same full sameness in
+    let ok = full-leaf q are (facts q cases) live given same full in
     let goal_in : is_among fs q.sequent.goal ≡ true = has-last q.sequent.given q.sequent.goal in
     table-falsifies q.shapes q.decls q.sequent leaf ok
     (λ f m. let inside : is_among fs f ≡ true = has-left q.sequent.given (q.sequent.goal ∷ []) f m in

@@ -7,7 +7,7 @@ use Rattle.spv_logic.specs.Conditions.{Meaning, Valuation, IsValuation, answers,
 use Rattle.spv_joined.specs.Joined.{Joined}
 use Rattle.spv_proof.specs.Effects.{Question, is_number}
 use Rattle.spv_leaf_tables.specs.Subterms.{is_among, subterms}
-use Rattle.spv_leaf_tables.specs.Leaves.{IsSameness, IsTold, IsPoint, IsLeaf}
+use Rattle.spv_leaf_tables.specs.Leaves.{IsTold, IsPoint, IsLeaf}
 use Rattle.spv_leaf_tables.specs.Laws.{AreFormulas, listed_at}
 use Rattle.spv_leaf_tables.specs.Tables as tables
 use Rattle.spv_leaf_tables.specs.Tables.{formulas_of, Falsifies}
@@ -82,15 +82,14 @@ abbrev pub FullHasPoint : Type 0
 FullHasPoint = (q : Question) (fs : List Term) (live : IsLive q fs) (given : Term → Option Bool) (same : Term → Term → Bool) → IsFull q fs given same
     → IsPoint (is_number q) (subterms (formulas_of q.sequent)) (atoms q) (leaf_of q fs live given same)
 
--- and it is a leaf, where congruence acts on all subterms, so on connectives too
+-- and it is a leaf
 abbrev pub FullIsLeaf : Type 0
 FullIsLeaf = (q : Question) → AreFormulas q.shapes q.decls (formulas_of q.sequent) → (fs : List Term) (live : IsLive q fs) (given : Term → Option Bool) (same : Term → Term → Bool) → IsFull q fs given same
-    → IsSameness (subterms (formulas_of q.sequent)) same
     → IsLeaf q.shapes q.decls (formulas_of q.sequent) (leaf_of q fs live given same)
 
 -- there the hypotheses are true and the goal is false: its table falsifies the condition, where no operation is too wide
 abbrev pub FullSurvives : Type 0
 FullSurvives = (q : Question) → AreFormulas q.shapes q.decls (formulas_of q.sequent) → (cases : List Term) (live : IsLive q (facts q cases)) (given : Term → Option Bool) (same : Term → Term → Bool)
-    → IsFull q (facts q cases) given same → IsSameness (subterms (formulas_of q.sequent)) same
+    → IsFull q (facts q cases) given same
     → ((f : Term) → is_among (formulas_of q.sequent) f ≡ true → (b : Bool) × (table.holds (listed_at q.shapes q.decls (formulas_of q.sequent) (leaf_of q (facts q cases) live given same)) f ≡ Ok b))
     → Falsifies q.shapes q.decls q.sequent (tables.table q.shapes q.decls (formulas_of q.sequent) (leaf_of q (facts q cases) live given same))

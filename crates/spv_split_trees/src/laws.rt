@@ -36,8 +36,8 @@ pub fn law_live()
     ensures live { TrueIsLive }
 {}
 
-/// A full path that is live ends in a leaf, where congruence acts on all subterms, so on connectives
-/// too; all else follows from what is known.
+/// A full path that is live ends in a leaf, and where it is one of a search its table falsifies the
+/// condition.
 pub fn law_full_path()
     ensures told { FullIsTold }
     ensures point { FullHasPoint }

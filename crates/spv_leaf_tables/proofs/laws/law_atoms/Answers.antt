@@ -1,4 +1,5 @@
 use Rattle.spv_leaf_tables.proofs.Covering.{atoms-there, atoms-are, atoms-over}
+use Rattle.spv_leaf_tables.proofs.Standing.{uncomputed-in-atoms}
 use Rattle.spv_leaf_tables.proofs.laws.law_atoms.Goals as goal
 
 pub returns-clause-there : goal.returns-clause-there
@@ -9,3 +10,6 @@ returns-clause-are_atoms c = atoms-are
 
 pub returns-clause-add_nothing : goal.returns-clause-add_nothing
 returns-clause-add_nothing c = atoms-over
+
+pub returns-clause-cover : goal.returns-clause-cover
+returns-clause-cover c = uncomputed-in-atoms

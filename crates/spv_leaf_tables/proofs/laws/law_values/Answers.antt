@@ -16,7 +16,7 @@ pub returns-clause-others : goal.returns-clause-others
 returns-clause-others c shapes decls fs leaf ok t m h k = (right shapes decls fs leaf ok t m).others h k
 
 pub returns-clause-classes_differ : goal.returns-clause-classes_differ
-returns-clause-classes_differ c same ts ok s t h e = class-differs same ts ok ts s t h e
+returns-clause-classes_differ c same acting ts ok s t h e = class-differs same acting ok ts s t h e
 
 pub returns-clause-classes_are_one : goal.returns-clause-classes_are_one
-returns-clause-classes_are_one c same ts ok s t h = class-one same ts ok ts s t h
+returns-clause-classes_are_one c same acting ts ok s t h = class-one same acting ok ts s t h

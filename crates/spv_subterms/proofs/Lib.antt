@@ -1,0 +1,4 @@
+pub mod WalkLemmas
+pub mod GainLemmas
+pub mod PlaceLemmas
+pub mod FlagLemmas
