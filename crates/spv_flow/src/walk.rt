@@ -213,7 +213,7 @@ fn while_loop(
 {
     let _ = line;
     let start = begin_while(program, body, terms, f, e)?;
-    let turn = statement(
+    let round = statement(
         program,
         body,
         terms,
@@ -229,7 +229,7 @@ fn while_loop(
         whole,
         f,
         start.terms,
-        turn.as_slice(),
+        round.as_slice(),
         rest,
     )
 }

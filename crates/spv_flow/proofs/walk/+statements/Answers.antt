@@ -131,33 +131,33 @@ pub while_loop-statement-requires : goal.while_loop-statement-requires
 while_loop-statement-requires t c =
     (omega (arith, c.decreases), while_inside_fits c.args.program.now c.args.body.now c.args.terms.now (supply_of c.args.supply.now) c.args.whole.now c.args.line (option_map annotation_of c.args.f.now) c.args.e.now c.args.inside.now c.args.rest.now c.requires.is c.requires.fits c.begin_while.new.terms c.in_ok-start.start c.in_ok-start.ensures c.as_slice.result.now c.as_slice.ensures.value)
 
-pub while_loop-returns-in_err-turn : goal.while_loop-returns-in_err-turn
-while_loop-returns-in_err-turn t c =
-    while_turn_stops c.args.program.now c.args.body.now c.args.terms.now (supply_of c.args.supply.now) c.args.whole.now c.args.line (option_map annotation_of c.args.f.now) c.args.e.now c.args.inside.now c.args.rest.now c.requires.is c.requires.fits c.begin_while.new.terms c.in_ok-start.start c.in_ok-start.ensures c.as_slice.result.now c.as_slice.ensures.value c.from_residual-in_err-turn.result c.in_err-turn.field-0.0 (supply_of c.statement.new.supply) (supply_of c.statement.new.supply) c.statement.new.terms c.from_residual-in_err-turn.ensures.1 c.in_err-turn.ensures
+pub while_loop-returns-in_err-round : goal.while_loop-returns-in_err-round
+while_loop-returns-in_err-round t c =
+    while_turn_stops c.args.program.now c.args.body.now c.args.terms.now (supply_of c.args.supply.now) c.args.whole.now c.args.line (option_map annotation_of c.args.f.now) c.args.e.now c.args.inside.now c.args.rest.now c.requires.is c.requires.fits c.begin_while.new.terms c.in_ok-start.start c.in_ok-start.ensures c.as_slice.result.now c.as_slice.ensures.value c.from_residual-in_err-round.result c.in_err-round.field-0.0 (supply_of c.statement.new.supply) (supply_of c.statement.new.supply) c.statement.new.terms c.from_residual-in_err-round.ensures.1 c.in_err-round.ensures
 
 pub while_loop-end_while-requires-clause-stands : goal.while_loop-end_while-requires-clause-stands
 while_loop-end_while-requires-clause-stands t c =
-    while_stands c.args.program.now c.args.body.now c.args.terms.now (supply_of c.args.supply.now) c.args.whole.now c.args.line (option_map annotation_of c.args.f.now) c.args.e.now c.args.inside.now c.args.rest.now c.requires.is c.requires.fits c.begin_while.new.terms c.in_ok-start.start c.in_ok-start.ensures c.as_slice.result.now c.as_slice.ensures.value c.statement.new.terms (supply_of c.statement.new.supply) c.in_ok-turn.turn c.in_ok-turn.ensures
+    while_stands c.args.program.now c.args.body.now c.args.terms.now (supply_of c.args.supply.now) c.args.whole.now c.args.line (option_map annotation_of c.args.f.now) c.args.e.now c.args.inside.now c.args.rest.now c.requires.is c.requires.fits c.begin_while.new.terms c.in_ok-start.start c.in_ok-start.ensures c.as_slice.result.now c.as_slice.ensures.value c.statement.new.terms (supply_of c.statement.new.supply) c.in_ok-round.round c.in_ok-round.ensures
 
 pub while_loop-end_while-requires-clause-there : goal.while_loop-end_while-requires-clause-there
 while_loop-end_while-requires-clause-there t c =
-    while_numbers c.args.program.now c.args.body.now c.args.terms.now (supply_of c.args.supply.now) c.args.whole.now c.args.line (option_map annotation_of c.args.f.now) c.args.e.now c.args.inside.now c.args.rest.now c.requires.is c.requires.fits c.begin_while.new.terms c.in_ok-start.start c.in_ok-start.ensures c.as_slice.result.now c.as_slice.ensures.value c.statement.new.terms (supply_of c.statement.new.supply) c.in_ok-turn.turn c.in_ok-turn.ensures
+    while_numbers c.args.program.now c.args.body.now c.args.terms.now (supply_of c.args.supply.now) c.args.whole.now c.args.line (option_map annotation_of c.args.f.now) c.args.e.now c.args.inside.now c.args.rest.now c.requires.is c.requires.fits c.begin_while.new.terms c.in_ok-start.start c.in_ok-start.ensures c.as_slice.result.now c.as_slice.ensures.value c.statement.new.terms (supply_of c.statement.new.supply) c.in_ok-round.round c.in_ok-round.ensures
 
 pub while_loop-end_while-requires-clause-known : goal.while_loop-end_while-requires-clause-known
 while_loop-end_while-requires-clause-known t c =
-    while_known c.args.program.now c.args.body.now c.args.terms.now (supply_of c.args.supply.now) c.args.whole.now c.args.line (option_map annotation_of c.args.f.now) c.args.e.now c.args.inside.now c.args.rest.now c.requires.is c.requires.fits c.begin_while.new.terms c.in_ok-start.start c.in_ok-start.ensures c.as_slice.result.now c.as_slice.ensures.value c.statement.new.terms (supply_of c.statement.new.supply) c.in_ok-turn.turn c.in_ok-turn.ensures
+    while_known c.args.program.now c.args.body.now c.args.terms.now (supply_of c.args.supply.now) c.args.whole.now c.args.line (option_map annotation_of c.args.f.now) c.args.e.now c.args.inside.now c.args.rest.now c.requires.is c.requires.fits c.begin_while.new.terms c.in_ok-start.start c.in_ok-start.ensures c.as_slice.result.now c.as_slice.ensures.value c.statement.new.terms (supply_of c.statement.new.supply) c.in_ok-round.round c.in_ok-round.ensures
 
 pub while_loop-end_while-requires-clause-turn : goal.while_loop-end_while-requires-clause-turn
 while_loop-end_while-requires-clause-turn t c =
-    while_turn_in c.args.program.now c.args.body.now c.args.terms.now (supply_of c.args.supply.now) c.args.whole.now c.args.line (option_map annotation_of c.args.f.now) c.args.e.now c.args.inside.now c.args.rest.now c.requires.is c.requires.fits c.begin_while.new.terms c.in_ok-start.start c.in_ok-start.ensures c.as_slice.result.now c.as_slice.ensures.value c.statement.new.terms (supply_of c.statement.new.supply) c.in_ok-turn.turn c.in_ok-turn.ensures c.as_slice-2.result.now c.as_slice-2.ensures.value
+    while_turn_in c.args.program.now c.args.body.now c.args.terms.now (supply_of c.args.supply.now) c.args.whole.now c.args.line (option_map annotation_of c.args.f.now) c.args.e.now c.args.inside.now c.args.rest.now c.requires.is c.requires.fits c.begin_while.new.terms c.in_ok-start.start c.in_ok-start.ensures c.as_slice.result.now c.as_slice.ensures.value c.statement.new.terms (supply_of c.statement.new.supply) c.in_ok-round.round c.in_ok-round.ensures c.as_slice-2.result.now c.as_slice-2.ensures.value
 
 pub while_loop-end_while-requires-clause-rest : goal.while_loop-end_while-requires-clause-rest
 while_loop-end_while-requires-clause-rest t c =
-    while_rest_in c.args.program.now c.args.body.now c.args.terms.now (supply_of c.args.supply.now) c.args.whole.now c.args.line (option_map annotation_of c.args.f.now) c.args.e.now c.args.inside.now c.args.rest.now c.requires.is c.requires.fits c.begin_while.new.terms c.in_ok-start.start c.in_ok-start.ensures c.as_slice.result.now c.as_slice.ensures.value c.statement.new.terms (supply_of c.statement.new.supply) c.in_ok-turn.turn c.in_ok-turn.ensures
+    while_rest_in c.args.program.now c.args.body.now c.args.terms.now (supply_of c.args.supply.now) c.args.whole.now c.args.line (option_map annotation_of c.args.f.now) c.args.e.now c.args.inside.now c.args.rest.now c.requires.is c.requires.fits c.begin_while.new.terms c.in_ok-start.start c.in_ok-start.ensures c.as_slice.result.now c.as_slice.ensures.value c.statement.new.terms (supply_of c.statement.new.supply) c.in_ok-round.round c.in_ok-round.ensures
 
 pub while_loop-returns : goal.while_loop-returns
 while_loop-returns t c =
-    while_comes c.args.program.now c.args.body.now c.args.terms.now (supply_of c.args.supply.now) c.args.whole.now c.args.line (option_map annotation_of c.args.f.now) c.args.e.now c.args.inside.now c.args.rest.now c.requires.is c.requires.fits c.begin_while.new.terms c.in_ok-start.start c.in_ok-start.ensures c.as_slice.result.now c.as_slice.ensures.value c.statement.new.terms (supply_of c.statement.new.supply) c.in_ok-turn.turn c.in_ok-turn.ensures c.end_while.result c.end_while.new.terms (supply_of c.end_while.new.supply) c.as_slice-2.result.now c.as_slice-2.ensures.value c.end_while.ensures
+    while_comes c.args.program.now c.args.body.now c.args.terms.now (supply_of c.args.supply.now) c.args.whole.now c.args.line (option_map annotation_of c.args.f.now) c.args.e.now c.args.inside.now c.args.rest.now c.requires.is c.requires.fits c.begin_while.new.terms c.in_ok-start.start c.in_ok-start.ensures c.as_slice.result.now c.as_slice.ensures.value c.statement.new.terms (supply_of c.statement.new.supply) c.in_ok-round.round c.in_ok-round.ensures c.end_while.result c.end_while.new.terms (supply_of c.end_while.new.supply) c.as_slice-2.result.now c.as_slice-2.ensures.value c.end_while.ensures
 
 pub repeat_loop-begin_repeat-requires-clause-stands : goal.repeat_loop-begin_repeat-requires-clause-stands
 repeat_loop-begin_repeat-requires-clause-stands t c =
