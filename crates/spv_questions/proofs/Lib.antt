@@ -1,0 +1,4 @@
+pub mod EquationLemmas
+pub mod PairLemmas
+pub mod AddLemmas
+pub mod AskLemmas

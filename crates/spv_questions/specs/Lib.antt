@@ -1,0 +1,3 @@
+pub mod Equating
+pub mod Adding
+pub mod Asking
