@@ -2,3 +2,5 @@ pub mod Inside
 pub mod Calls
 pub mod Covered
 pub mod Symbols
+pub mod Mains
+pub mod Limits

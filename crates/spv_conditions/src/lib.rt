@@ -2,7 +2,11 @@
 #![tactic(auto)]
 
 mod covering;
+mod laws;
+mod making;
 mod opening;
 
 pub use covering::is_covered;
+pub use laws::{law_conditions, law_limits};
+pub use making::{ProgramConditions, conditions};
 pub use opening::{MOST_TERMS, empty_arena};

@@ -1,0 +1,26 @@
+// What is true of conditions and limits, as contracts of functions that do nothing.
+
+ghost use Rattle.spv_logic.specs.Conditions.{Meaning};
+ghost use Rattle.spv_control.specs.Laws.{TrueConditionsGiveCorrectIn};
+ghost use Rattle.spv_conditions.specs.Making.{MeetsNoOther, MeetsOne};
+
+use spv_control::laws::law_control;
+use spv_limits::law_one_limit;
+use spv_term::World;
+
+/// Where the conditions of such a program are true in a world, the program is correct in it: for every world at once, and for one
+/// that is at hand.
+pub fn law_conditions<W: World>(world: &W)
+    ensures every_world { (m : Meaning) → TrueConditionsGiveCorrectIn m }
+    ensures this_world { TrueConditionsGiveCorrectIn (W.apply world.now) }
+{
+    law_control(world);
+}
+
+/// Which limit comes is one.
+pub fn law_limits()
+    ensures within { MeetsNoOther }
+    ensures one { MeetsOne }
+{
+    law_one_limit();
+}
