@@ -24,13 +24,6 @@ use spv_supply::Supply;
 use spv_term::{Condition, TermId, Terms};
 use spv_typed::{Annotation, Arm, Counting, Expression, Program, Statement, StatementForm};
 
-// No statement that calls or creates something comes here.
-fn never() -> Result<Vec<Condition>, GenFault>
-    requires { ⊥ }
-{
-    unreachable!()
-}
-
 #[cycle(statements)]
 fn statement(
     program: &Program,
@@ -45,8 +38,8 @@ fn statement(
 {
     match &s.form {
         StatementForm::Assign(d, e) => before_assign(program, body, terms, d, e, rest),
-        StatementForm::Perform(_) => never(),
-        StatementForm::New(_, _, _) => never(),
+        StatementForm::Perform(_) => unreachable!(),
+        StatementForm::New(_, _, _) => unreachable!(),
         StatementForm::Block(inside) => {
             block(program, body, terms, supply, inside.as_slice(), rest)
         }
