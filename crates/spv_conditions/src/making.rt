@@ -45,14 +45,7 @@ fn before_block(
     ensures { MakesBlock result program.now body.now.here (conditions_of terms.old rest.now) terms.old terms.new }
 {
     let mut supply = Supply::new(body.alloc);
-    before(
-        program,
-        body,
-        terms,
-        &mut supply,
-        &program.main.body,
-        rest,
-    )
+    before(program, body, terms, &mut supply, &program.main.body, rest)
 }
 
 // The conditions of the main block, under its ENTRY.

@@ -1,5 +1,5 @@
 -- A full arena has no room for all the parts that another one has.
-use Rattle.std.proofs.Common.{◌≡◌, ◌⊎◌, inl, inr, ℕ, zero, suc, ◌<◌, ◌≤◌, ◌-◌, true, List, [], ◌∷◌, ◌++◌, map, length, slice_get, Some, IsTrue, refl, sym, ap, subst, ◌∙◌, arith}
+use Rattle.std.proofs.Common.{◌≡◌, ◌⊎◌, inl, inr, ℕ, zero, suc, ◌<◌, ◌≤◌, true, List, [], ◌∷◌, ◌++◌, map, length, Some, IsTrue, refl, sym, ap, subst, ◌∙◌, arith}
 use Rattle.std.proofs.lemmas.List.{length-map}
 use Rattle.spv_logic.specs.declared.conditions.TermId.{TermId}
 use Rattle.spv_logic.specs.declared.operators.Head.TheVariants.{Num}
@@ -9,7 +9,7 @@ use Rattle.spv_term.specs.Arena.{Arena, IsArena, tree, trees_of}
 use Rattle.spv_term.proofs.TreeLemmas.{length-trees_of}
 use Rattle.spv_term.proofs.ArenaLemmas.{HasOneId-arena}
 use Rattle.spv_substitution.specs.Parts.{is_part_of}
-use Rattle.spv_events.specs.Events.{Event, Terms as Made, Conditions, longest_list, HasTerm, ListsFit, terms_of, Walked, MeetsLongList, MeetsFullArena}
+use Rattle.spv_events.specs.Events.{Event, Terms as Made, Conditions, longest_list, HasTerm, ListsFit, terms_of}
 use Rattle.spv_events.specs.Laws.{AreMoreParts}
 use Rattle.spv_events.proofs.Walks.{part_first, terms_of_both}
 use Rattle.spv_events.proofs.Parts.{has_the_parts, full_means_more}
@@ -111,8 +111,8 @@ pub made_meets_none : (events : List Event) (a : Arena) → a.nodes ≡ [] → I
 made_meets_none events a empty whole = record {
   list = λ h. too_long h.meets.before h.meets.after h.meets.length (subst ListsFit h.meets.parts whole.walked.lists) h.meets.too_long;
   room = λ h.
-  no_room (terms_of events) h.arena whole.arena h.sound whole.sound (h.meets.grows.most ∙ sym whole.walked.grows.most) (full_means_more events a h.arena empty h.meets)
-  (λ x part. (has_the_parts events a whole.arena empty whole.sound whole.walked x).0 part);
+      no_room (terms_of events) h.arena whole.arena h.sound whole.sound (h.meets.grows.most ∙ sym whole.walked.grows.most) (full_means_more events a h.arena empty h.meets)
+      (λ x part. (has_the_parts events a whole.arena empty whole.sound whole.walked x).0 part);
 }
 
 -- ---- one limit
@@ -178,7 +178,7 @@ module _ (events : List Event) (a : Arena) (empty : a.nodes ≡ []) (m : MeetsLi
               trim [] = refl
               trim (z ∷ zs) = ap (λ (l : List Event). z ∷ l) (trim zs)
       by (x ∷ rest) is e =
-          too_long m.meets.before rest m.meets.length (subst (λ (y : Event). ListsFit (m.meets.before ++ y ∷ rest)) (head (Conditions m.meets.length) x m.meets.after (rest ++ r.meets.after) e) (subst ListsFit is r.meets.lists) ) m.meets.too_long
+          too_long m.meets.before rest m.meets.length (subst (λ (y : Event). ListsFit (m.meets.before ++ y ∷ rest)) (head (Conditions m.meets.length) x m.meets.after (rest ++ r.meets.after) e) (subst ListsFit is r.meets.lists)) m.meets.too_long
         where
           head : (x z : Event) (l m : List Event) → x ∷ l ≡ z ∷ m → z ≡ x
           head x z l m e = cc
