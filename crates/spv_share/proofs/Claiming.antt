@@ -7,7 +7,7 @@ use Rattle.spv_course.specs.Course.{fact_at, literal}
 use Rattle.spv_course.specs.Literals.{Literal, literals}
 use Rattle.spv_course.proofs.Literals.{literals-append}
 use Rattle.spv_share_graph.specs.declared.trail.Trail.{Trail}
-use Rattle.spv_share_graph.specs.Holding.{Grows, Holds, MayTell}
+use Rattle.spv_share_graph.specs.Holding.{Grows, MayTell}
 use Rattle.spv_share_graph.specs.Telling.{literal_ties, ties}
 use Rattle.std.proofs.lemmas.List.{map-append}
 use Rattle.spv_share_rows.specs.declared.standing.Standing.{Standing}

@@ -8,7 +8,6 @@ use Rattle.spv_logic.specs.declared.operators.Head.TheVariants.{Eq}
 use Rattle.spv_term.specs.Arena.{Arena, tree}
 use Rattle.spv_term.proofs.ListLemmas.{slice_get-append_left, slice_get_push}
 use Rattle.spv_congruence.specs.declared.facts.Fact.{Fact}
-use Rattle.spv_congruence.specs.Graph.{Graph}
 use Rattle.spv_course.specs.declared.entries.Part.{Part}
 use Rattle.spv_course.specs.declared.entries.Part.TheVariants.{True, False, Below, Above}
 use Rattle.spv_course.specs.Derived.{is_truth, IsFalseTerm, IsTrueTerm}

@@ -1,5 +1,5 @@
 -- Equalities that the bounds force, and those that they do not.
-use Rattle.std.proofs.Common.{◌≡◌, ℕ, zero, suc, ◌+◌, ◌<◌, Bool, true, false, cond, not, ◌&&◌, List, [], ◌∷◌, length, refl, sym, ap, ◌∙◌, subst, Some, None, arith, inl, inr, replicate, nat_eq, get_or}
+use Rattle.std.proofs.Common.{◌≡◌, ℕ, zero, suc, ◌+◌, ◌<◌, Bool, true, false, cond, ◌&&◌, List, [], ◌∷◌, length, refl, sym, ap, ◌∙◌, subst, Some, None, arith, inl, inr, replicate, nat_eq, get_or}
 use Rattle.std.specs.Prelude.{slice_get, slice_set, ◌⊎◌}
 use Rattle.std.proofs.lemmas.List.{length-replicate, length-set}
 use Rattle.spv_classes.proofs.Lists.{nat_same}
@@ -17,7 +17,6 @@ use Rattle.spv_pivots.proofs.Tests.{and_left, and_right}
 use Rattle.spv_proof.specs.Sums.{refutes}
 use Rattle.spv_course.specs.Course.{facts}
 use Rattle.spv_course.specs.Derived.{is_number, IsSum}
-use Rattle.spv_congruence.specs.Graph.{Graph, are_same}
 use Rattle.spv_readings.specs.declared.saying.Saying.{Saying}
 use Rattle.spv_readings.specs.declared.saying.Saying.TheVariants.{Above, Below}
 use Rattle.spv_readings.specs.Relations.{number_sides}
@@ -34,7 +33,7 @@ use Rattle.spv_share.specs.declared.searching.Sought.{Sought}
 use Rattle.spv_share.specs.declared.searching.Sought.TheVariants.{Apart, Joined, Stopped}
 use Rattle.spv_share.specs.Relations.{IsRelation}
 use Rattle.spv_share.specs.Both.{IsSound}
-use Rattle.spv_share.specs.States.{after_joined, AreApart, AreSifted, by_point, GoesOn, HasClosed, IsApart, IsFound, IsLimit, IsSought, IsStill, is_equality, is_open}
+use Rattle.spv_share.specs.States.{after_joined, AreApart, AreSifted, by_point, GoesOn, HasClosed, IsApart, IsFound, IsLimit, IsSought, IsStill, is_open}
 use Rattle.spv_share.specs.Relations.{sayable}
 use Rattle.spv_share_rows.specs.Forcing.{HasEvidence, IsStopped}
 use Rattle.spv_simplex.specs.declared.checked.Checked.{Checked}

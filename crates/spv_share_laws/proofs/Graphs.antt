@@ -1,5 +1,5 @@
 -- Terms that a graph joins have one value where a tableau agrees with it.
-use Rattle.std.proofs.Common.{◌≡◌, ℕ, ◌<◌, Bool, true, false, ◌&&◌, ◌||◌, List, [], ◌∷◌, map, length, nat_eq, pos, refl, sym, ap, ◌∙◌, subst, Option, Some, None, inl, inr}
+use Rattle.std.proofs.Common.{◌≡◌, ℕ, ◌<◌, Bool, true, false, ◌&&◌, ◌||◌, List, [], ◌∷◌, ◌++◌, map, take, length, nat_eq, pos, refl, sym, ap, ◌∙◌, subst, Option, Some, None, inl, inr}
 use mathlib.Core.Path.{ap₂}
 use Rattle.std.specs.Prelude.{slice_get, ◌⊎◌}
 use Rattle.std.specs.Option.{option_map}
@@ -22,7 +22,7 @@ use Rattle.spv_classes.proofs.Lists.{nat_same}
 use Rattle.spv_pivots.proofs.Sums.{eq_is}
 use Rattle.spv_pivots.proofs.Tests.{and_left, and_right}
 use Rattle.spv_tableaux.specs.Rows.{Point, IsSolution}
-use Rattle.spv_tableaux.specs.Bounds.{limits, Meets}
+use Rattle.spv_tableaux.specs.Bounds.{Bound, limits, Meets}
 use Rattle.spv_proof.specs.Sums.{difference}
 use Rattle.spv_readings.specs.declared.saying.Saying.TheVariants.{Equal}
 use Rattle.spv_readings.specs.Values.{part_value}
@@ -56,7 +56,8 @@ use Rattle.spv_share.specs.Relations.{IsRelation}
 use Rattle.spv_share.specs.States.{is_equality, is_joined, IsOpen}
 use Rattle.spv_share.proofs.Rowed.{row_at, row_inside}
 use Rattle.spv_share.proofs.Seeking.{numbers_are}
-use Rattle.spv_share_laws.specs.Laws.{HaveOneValue, LabelsAreExact, SameHaveOneValue}
+use Rattle.spv_share_laws.specs.Laws.{HaveOneValue, HaveOneValueApart, LabelsAreExact, SameHaveOneValue}
+use Rattle.spv_share_rows.proofs.Firsts.{met_first}
 use Rattle.spv_share_laws.specs.Pairs.{AreEnough, HasEquality, told_by}
 use Rattle.spv_share_laws.proofs.Exact.{derived_same, inside, labels_exact, node_listed, same_derived}
 use Rattle.spv_share_laws.proofs.OneValue.{all_sorts_same, one_value, sides_sorts}
@@ -224,6 +225,17 @@ module _ (a : Arena) (ok : IsArena a) (b : Both) (h : IsBoth a b) (agree : IsOpe
 
 pub have_one_value : (a : Arena) → IsArena a → (b : Both) → IsBoth a b → IsOpen b → IsExact b.trail.graph → AreTerms b.trail.graph.nodes b.trail.graph.added → AreEnough a b → HaveOneValue a b
 have_one_value a ok b h agree exact terms_are enough = λ v solution meets s t ns nt n same. values_equal a ok b h agree exact terms_are enough v solution meets s t ns nt n same
+
+pub have_one_value_apart : (a : Arena) → IsArena a → (b : Both) → IsBoth a b → IsOpen b → IsExact b.trail.graph → AreTerms b.trail.graph.nodes b.trail.graph.added → AreEnough a b → HaveOneValueApart a b
+have_one_value_apart a ok b h agree exact terms_are enough = λ row x p s t ns nt n same.
+    values_equal a ok b h agree exact terms_are enough p.met.point p.met.solution
+    (subst (λ (xs : List Bound). Meets (limits (rows_in b.standing.tableau) xs) p.met.point) (first b.standing.tableau.bounds p.bounds)
+    (met_first (rows_in b.standing.tableau) (b.standing.tableau.bounds ++ p.bounds) (length b.standing.tableau.bounds) p.met.point p.met.meets)) s t ns nt n same
+  where
+    first : (xs ys : List Bound) → take (length xs) (xs ++ ys) ≡ xs
+    first [] [] = refl
+    first [] (y ∷ ys) = refl
+    first (x ∷ xs) ys = ap (λ zs. x ∷ zs) (first xs ys)
 
 pub exact_labels : (a : Arena) → IsArena a → (b : Both) → IsBoth a b → IsExact b.trail.graph → AreTerms b.trail.graph.nodes b.trail.graph.added → LabelsAreExact a b
 exact_labels a ok b h exact terms_are = labels_exact a ok b.trail.graph h.sound.trail.of exact terms_are

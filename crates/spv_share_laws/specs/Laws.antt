@@ -1,11 +1,13 @@
 -- What is true of a graph and a tableau that agree.
-use Rattle.std.specs.Prelude.{◌≡◌, true, List}
+use Rattle.std.specs.Prelude.{◌≡◌, true, ℕ, List}
 use Rattle.spv_logic.specs.declared.conditions.TermId.{TermId}
 use Rattle.spv_logic.specs.Terms.{Term}
 use Rattle.spv_term.specs.Arena.{Arena, IsArena, Extends, tree}
 use Rattle.spv_tableaux.specs.Rows.{Point, IsSolution}
 use Rattle.spv_tableaux.specs.Bounds.{limits, Meets}
+use Rattle.spv_readings.specs.declared.saying.Saying.{Saying}
 use Rattle.spv_readings.specs.Values.{part_value}
+use Rattle.spv_share_rows.specs.Forcing.{HasPoint}
 use Rattle.spv_congruence.specs.Graph.{are_same, label_of}
 use Rattle.spv_congruence.specs.Keep.{IsNode}
 use Rattle.spv_course.specs.Derived.{is_number}
@@ -23,6 +25,11 @@ abbrev pub HaveOneValue : Arena → Both → Type 0
 HaveOneValue a b = (v : Point) → IsSolution (rows_in b.standing.tableau) v → Meets (limits (rows_in b.standing.tableau) b.standing.tableau.bounds) v
     → (s t : TermId) → IsNode b.trail.graph.nodes s → IsNode b.trail.graph.nodes t → is_number a (tree a s) ≡ true → are_same b.trail.graph s t ≡ true
     → worth_at (part_value a b.standing.tableau.forms v) (tree a s) ≡ worth_at (part_value a b.standing.tableau.forms v) (tree a t)
+
+-- so have they at the points that keep the sides of an equality apart
+abbrev pub HaveOneValueApart : Arena → Both → Type 0
+HaveOneValueApart a b = (row : ℕ) (x : Saying) (p : HasPoint b.standing row x) (s t : TermId) → IsNode b.trail.graph.nodes s → IsNode b.trail.graph.nodes t → is_number a (tree a s) ≡ true → are_same b.trail.graph s t ≡ true
+    → worth_at (part_value a b.standing.tableau.forms p.met.point) (tree a s) ≡ worth_at (part_value a b.standing.tableau.forms p.met.point) (tree a t)
 
 -- so have trees of equal labels at the kept point
 abbrev pub SameHaveOneValue : Arena → Both → Type 0

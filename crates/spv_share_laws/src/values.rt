@@ -7,7 +7,7 @@ ghost use Rattle.spv_simplex.specs.State.{IsTableau};
 ghost use Rattle.spv_share.specs.Both.{IsBoth};
 ghost use Rattle.spv_share.specs.States.{IsOpen};
 ghost use Rattle.spv_share_laws.specs.Pairs.{AreEnough};
-ghost use Rattle.spv_share_laws.specs.Laws.{HaveOneValue, LabelsAreExact, SameHaveOneValue};
+ghost use Rattle.spv_share_laws.specs.Laws.{HaveOneValue, HaveOneValueApart, LabelsAreExact, SameHaveOneValue};
 
 use spv_share::Both;
 use spv_term::Terms;
@@ -23,12 +23,13 @@ pub fn law_labels(both: &Both, terms: &Terms)
 }
 
 /// Where both sides are open, and the relations are enough, terms of sort Int that the graph joins have one value: at each point that
-/// meets the bounds that stand, and so at the kept one.
+/// meets the bounds that stand, and so at the kept one and at those of the orders of equalities that the graph does not join.
 pub fn law_one_value(both: &Both, terms: &Terms)
     requires both { IsBoth terms.now both.now }
     requires agree { IsOpen both.now }
     requires enough { AreEnough terms.now both.now }
     ensures values { HaveOneValue terms.now both.now }
+    ensures apart { HaveOneValueApart terms.now both.now }
     ensures same { SameHaveOneValue terms.now both.now }
 {
     terms.law_arena();

@@ -1,4 +1,4 @@
-use Rattle.std.proofs.Common.{inr, refl, rules, subst, sym}
+use Rattle.std.proofs.Common.{inr, refl, subst, sym}
 use Rattle.spv_course.specs.declared.entries.Part.TheVariants as part
 use Rattle.spv_readings.specs.declared.saying.Saying.TheVariants.{Below}
 use Rattle.spv_share_rows.specs.declared.standing.Standing.{Standing}

@@ -1,4 +1,4 @@
-use Rattle.std.proofs.Common.{inl, refl, rules}
+use Rattle.std.proofs.Common.{inl, refl}
 use Rattle.spv_course.specs.declared.entries.Part.TheVariants as part
 use Rattle.spv_readings.specs.declared.saying.Saying.TheVariants.{Above}
 use Rattle.spv_course.proofs.Bridges.{if_ok}
