@@ -1,0 +1,2 @@
+pub mod TermCounts
+pub mod SmallClaim

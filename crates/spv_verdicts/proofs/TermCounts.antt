@@ -1,0 +1,49 @@
+-- The terms that count for the limit of terms.
+use Rattle.std.proofs.Common.{◌≡◌, ◌<◌, true, List, [], ◌∷◌, length, refl, ap, ◌∙◌, arith}
+use Rattle.spv_logic.specs.Terms.{Term, term_eq}
+use Rattle.spv_logic.proofs.Equality.{term_eq-refl}
+use Rattle.spv_term.specs.Arena.{Arena, trees_of}
+use Rattle.spv_atoms.specs.Atoms.{is_atom, with_term, with_terms}
+use Rattle.spv_atoms.specs.Order.{passing}
+use Rattle.spv_atoms.proofs.Members.{has, or_left, or_right, has-with_terms, with_terms-has}
+use Rattle.spv_proof.specs.Effects.{Question, is_truth}
+use Rattle.spv_leaf_tables.specs.Atoms.{all_equations}
+use Rattle.spv_leaf_tables.specs.Subterms.{subterms}
+use Rattle.spv_leaf_tables.specs.Tables.{formulas_of}
+use Rattle.spv_leaf_tables.proofs.Closed.{with_term-parts}
+use Rattle.spv_leaf_tables.proofs.Lookups.{passing-parts}
+use Rattle.spv_subterms.specs.Gaining.{Stops}
+use Rattle.spv_subterms.proofs.GainLemmas.{longer}
+use Rattle.spv_split_trees.specs.Paths.{atoms}
+use Rattle.spv_copies.specs.Copies.{base_terms, all_terms}
+use Rattle.spv_verdicts.specs.Verdicts.{search_terms, most_terms, HasTooManyTerms}
+
+terms-parts : {A : Type 0} (xs ts : List Term) (u : Term) → has (with_terms xs ts) u ≡ true → (has xs u ≡ true → A) → (has ts u ≡ true → A) → A
+terms-parts xs [] u h f g = f h
+terms-parts xs (t ∷ ts) u h f g =
+    terms-parts (with_term xs t) ts u h
+    (λ k. with_term-parts xs t u k f (λ e. g (or_left (term_eq u t) (has ts u) (ap (λ x. term_eq x t) e ∙ term_eq-refl t))))
+    (λ k. g (or_right (term_eq u t) (has ts u) k))
+
+module _ (q : Question) where
+  abbrev parts : List Term
+  parts = subterms (formulas_of q.sequent)
+
+  abbrev equations : List Term
+  equations = all_equations q.shapes q.decls parts
+
+  pub parts-there : (t : Term) → has parts t ≡ true → has (search_terms q) t ≡ true
+  parts-there t h = has-with_terms (all_terms q.sequent) equations t (with_terms-has base_terms parts t h)
+
+  pub atoms-there : (t : Term) → has (atoms q) t ≡ true → has (search_terms q) t ≡ true
+  atoms-there t h =
+      terms-parts (passing (is_atom (is_truth q)) parts) equations t h (λ k. parts-there t (passing-parts (is_atom (is_truth q)) parts t k).among) (λ k. with_terms-has (all_terms q.sequent) equations t k)
+
+  pub copies-stop : most_terms < length (all_terms q.sequent) → HasTooManyTerms q most_terms
+  copies-stop h = let more = longer (all_terms q.sequent) equations in record { limit = refl; more = omega (arith, h, more) }
+
+  pub asks-stop : (a : Arena) → trees_of a.nodes ≡ all_terms q.sequent → a.most ≡ most_terms → Stops a equations → HasTooManyTerms q most_terms
+  asks-stop a e f s =
+      let more = s.more in
+      let same : length (with_terms (trees_of a.nodes) equations) ≡ length (search_terms q) = ap (λ xs. length (with_terms xs equations)) e in
+      record { limit = refl; more = omega (arith, more, same, f) }

@@ -1,0 +1,38 @@
+-- What is true of the verdicts of a search.
+use Rattle.std.specs.Prelude.{◌≡◌, ◌^◌, ◌<◌, true, length}
+use Rattle.spv_logic.specs.Terms.{Term}
+use Rattle.spv_term.specs.Arena.{Arena, trees_of}
+use Rattle.spv_proof.specs.Effects.{Question}
+use Rattle.spv_leaf_tables.specs.Atoms.{all_equations}
+use Rattle.spv_leaf_tables.specs.Subterms.{is_among, subterms}
+use Rattle.spv_leaf_tables.specs.Tables.{formulas_of}
+use Rattle.spv_subterms.specs.Gaining.{Stops}
+use Rattle.spv_split_trees.specs.Trees.{Tree}
+use Rattle.spv_split_trees.specs.Paths.{atoms}
+use Rattle.spv_copies.specs.Copies.{all_terms}
+use Rattle.spv_verdicts.specs.Verdicts.{Limits, Splits, TooManyTerms, IsReached, search_terms, most_terms}
+
+-- ---- terms
+
+-- each subterm of the condition counts
+abbrev pub HasParts : Type 0
+HasParts = (q : Question) (t : Term) → is_among (subterms (formulas_of q.sequent)) t ≡ true → is_among (search_terms q) t ≡ true
+
+-- and each atom
+abbrev pub HasAtoms : Type 0
+HasAtoms = (q : Question) (t : Term) → is_among (atoms q) t ≡ true → is_among (search_terms q) t ≡ true
+
+-- where a copy of the condition has no room, there are too many terms
+abbrev pub CopiesTooMany : Type 0
+CopiesTooMany = (a : Arena) (q : Question) (limits : Limits) → most_terms < length (all_terms q.sequent) → IsReached a q limits (TooManyTerms most_terms)
+
+-- so there are where the equations of the atoms have no room in the arena of such a copy
+abbrev pub AsksTooMany : Type 0
+AsksTooMany = (a : Arena) (q : Question) (limits : Limits) → trees_of a.nodes ≡ all_terms q.sequent → a.most ≡ most_terms → Stops a (all_equations q.shapes q.decls (subterms (formulas_of q.sequent)))
+    → IsReached a q limits (TooManyTerms most_terms)
+
+-- ---- splits
+
+-- a search that gave up for want of splits was allowed fewer than 3 to the power of the number of atoms
+abbrev pub SplitsAreFew : Type 0
+SplitsAreFew = (a : Arena) (q : Question) (limits : Limits) (tree : Tree) → IsReached a q limits (Splits tree) → limits.splits < 3 ^ length (atoms q)
