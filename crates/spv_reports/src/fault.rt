@@ -1,0 +1,31 @@
+// Why there is no report of a program.
+
+ghost use Rattle.std.specs.Prelude.{◌≡◌};
+ghost use Rattle.spv_events.specs.declared.faults.GenFault.TheVariants.{Memory};
+ghost use Rattle.spv_reports.specs.declared.fault.ReportFault.TheVariants.{Stopped};
+
+use spv_events::GenFault;
+use std::alloc::AllocError;
+use thiserror::Error;
+
+/// Why there is no report of a program.
+#[derive(Clone, Copy, PartialEq, Eq, Debug, Error)]
+pub enum ReportFault {
+    /// It has a form of which no conditions are made so far.
+    #[error("no conditions are made of this form of program")]
+    Form,
+    /// Its conditions meet a limit, or there is no memory left.
+    #[error("{0}")]
+    Stopped(GenFault),
+    /// It has a condition that is not decided so far.
+    #[error("a condition is of a form that is not decided")]
+    Undecided,
+}
+
+impl From<AllocError> for ReportFault {
+    ghost from_gives = { λ _ fault. fault ≡ Stopped Memory };
+
+    fn from(_: AllocError) -> ReportFault {
+        ReportFault::Stopped(GenFault::Memory)
+    }
+}
