@@ -59,8 +59,8 @@ pub data Halts (s : State) : Type 0 where
   too_wide : s.answer ≡ Some Wide → IsWide (rows_in s) s.evidence.start s.evidence.steps s.evidence.operation → Halts s
   all_pivots : s.answer ≡ Some Pivots → IsUnfinished (rows_in s) s.evidence.start s.evidence.steps s.pivots → s.evidence.operation ≡ no_operation → Halts s
 
--- The evidence of a check that was stopped, where these bounds were ever asserted: it began with some of them, at most one on each side of a row,
--- the lower one at most the upper one; outside its basis each part held 0, and each row's column one of them on its row; and it says why it was stopped.
+-- The evidence of a check that was stopped, where these bounds were ever asserted: it began with some of them, no two of which
+-- stood on one side of a row or left a row no room; outside its basis each part held 0, and each row's column one of them on its row; and it says why it was stopped.
 pub record HasEvidence (known : List Bound) (s : State) : Type 0 where
   pub bounds : (place : ℕ) (x : Bound) → slice_get s.evidence.start.bounds place ≡ Some x → IsAmong known x
   pub are : AreBounds (rows_in s) s.evidence.start.bounds
