@@ -1,6 +1,7 @@
 #!/bin/sh
-# Verifies each program of this folder and compares the page with the one that is kept beside it, and the status with
-# the page's RESULT. The last line says how many are as they should be; the status is 0 where all are.
+# Compares pages with those that are kept in this folder: NAME.lst is what `verify` writes of NAME.pas, and its status is
+# that of the page's RESULT; NAME.cnd is what `conditions` writes, with status 8. The last line says how many are as they
+# should be; the status is 0 where all are.
 
 set -u
 cd "$(dirname "$0")" || exit 2
@@ -10,17 +11,12 @@ trap 'rm -f "$page"' EXIT
 
 passed=0
 failed=0
-for program in *.pas; do
-    wanted=${program%.pas}.lst
-    case $(tail -n 1 "$wanted") in
-        'RESULT PROVED') status=0 ;;
-        'RESULT UNPROVED') status=1 ;;
-        *) echo "$wanted: no RESULT at its end"; failed=$((failed + 1)); continue ;;
-    esac
 
-    ../spv verify "$program" > "$page"
+# Compares the page of a program in a mode, and the status.
+compare() {
+    mode=$1 program=$2 wanted=$3 status=$4
+    ../spv "$mode" "$program" > "$page"
     got=$?
-
     if [ "$got" -ne "$status" ]; then
         echo "$program: status $got, not $status"
         failed=$((failed + 1))
@@ -31,6 +27,17 @@ for program in *.pas; do
     else
         passed=$((passed + 1))
     fi
+}
+
+for wanted in *.lst; do
+    case $(tail -n 1 "$wanted") in
+        'RESULT PROVED') compare verify "${wanted%.lst}.pas" "$wanted" 0 ;;
+        'RESULT UNPROVED') compare verify "${wanted%.lst}.pas" "$wanted" 1 ;;
+        *) echo "$wanted: no RESULT at its end"; failed=$((failed + 1)) ;;
+    esac
+done
+for wanted in *.cnd; do
+    compare conditions "${wanted%.cnd}.pas" "$wanted" 8
 done
 
 echo "$passed as they should be, $failed not"

@@ -4,30 +4,37 @@ use Rattle.std.proofs.lemmas.Bool.{false≢true}
 use Rattle.spv_io.specs.Faults.{raised, Rose, DidNotRise}
 use Rattle.spv_io.specs.Sink.{added, AddsPrefix}
 use Rattle.spv_logic.specs.Conditions.{Meaning}
+use Rattle.spv_program.specs.Programs.{Program}
 use Rattle.spv_meaning.specs.Correct.{Correct}
-use Rattle.spv_form.specs.Program.{program_of}
-use Rattle.spv_report.specs.Reports.{Findings, IsReport, all_proved}
-use Rattle.spv_report.proofs.Reports.{proved_correct}
+use Rattle.spv_reports.specs.declared.mode.Mode.{Mode}
+use Rattle.spv_reports.specs.declared.mode.Mode.TheVariants as mode
+use Rattle.spv_reports.specs.Reports.{Findings, IsReportOn, has_verdicts, all_proved}
+use Rattle.spv_reports.proofs.Reports.{proved_correct}
 use Rattle.spv_listing.specs.Page.{page}
 use Rattle.spv_refusals.specs.declared.refusal.Refusal.{Refusal}
-use Rattle.spv_verify.specs.Refusals.{IsRefused, IsReportOf, HaveNotBoth}
+use Rattle.spv_verify.specs.Refusals.{IsProgramOf, IsRefused, IsReportOf, HaveNotBoth, IsOneProgram}
 use Rattle.spv_cli.specs.declared.found.Found.{Found}
 use Rattle.spv_cli.specs.declared.found.Found.TheVariants.{ReadFailed, Refusing, Reporting}
 use Rattle.spv_cli.specs.declared.running.Ran.{Ran}
-use Rattle.spv_cli.specs.Output.{words_line}
+use Rattle.spv_cli.specs.Commands.{Command}
+use Rattle.spv_cli.specs.Output.{words_line, status_in}
 use Rattle.spv_cli.specs.Runs.{Reading, Writing, IsUnread, IsWritten, IsCut, IsFound, IsOutOfMemory, HasRunFor, output, status, report}
 use Rattle.spv_cli.specs.Promises.{IsOneOf, IsThere, IsDueFor}
 
 -- ---- what is found, by the status
 
-found_status : (f : Found) → IsOneOf (0 ∷ 1 ∷ 3 ∷ 4 ∷ []) (status f)
+found_status : (f : Found) → IsOneOf (0 ∷ 1 ∷ 3 ∷ 4 ∷ 8 ∷ []) (status f)
 found_status ReadFailed = refl
 found_status (Refusing r) = refl
-found_status (Reporting r) = by_proved (all_proved r.verdicts)
+found_status (Reporting r) = by_mode r.mode
   where
-    by_proved : (b : Bool) → IsOneOf (0 ∷ 1 ∷ 3 ∷ 4 ∷ []) (cond b 0 1)
+    by_proved : (b : Bool) → IsOneOf (0 ∷ 1 ∷ 3 ∷ 4 ∷ 8 ∷ []) (cond b 0 1)
     by_proved true = refl
     by_proved false = refl
+
+    by_mode : (m : Mode) → IsOneOf (0 ∷ 1 ∷ 3 ∷ 4 ∷ 8 ∷ []) (status_in m r.verdicts)
+    by_mode mode.Verify = by_proved (all_proved r.verdicts)
+    by_mode mode.Conditions = refl
 
 -- another status
 not_of : (numbers : List ℕ) {s t : ℕ} → IsOneOf numbers s → s ≡ t → IsOneOf numbers t
@@ -36,24 +43,32 @@ not_of numbers is e = subst (IsOneOf numbers) e is
 there : {X : Type 0} (P : X → Type 0) {o p : Option X} → o ≡ p → IsThere p P → IsThere o P
 there {X} P {o} {p} e h = subst (λ q. IsThere q P) (sym e) h
 
-at_zero : (o : Reading) (file : List ℕ) (f : Found) → IsFound o file f → status f ≡ 0 → IsThere (report f) (λ r. IsReport r × (all_proved r.verdicts ≡ true))
-at_zero o file ReadFailed is e = absurd (false≢true (not_of (4 ∷ []) refl e))
-at_zero o file (Refusing r) is e = absurd (false≢true (not_of (3 ∷ []) refl e))
-at_zero o file (Reporting r) is e = (is.1, by_proved (all_proved r.verdicts) e)
+-- what stands in a report with status 0
+abbrev pub IsProvedReport : Findings → Type 0
+IsProvedReport r = (r.mode ≡ mode.Verify) × (all_proved r.verdicts ≡ true)
+
+at_zero : (o : Reading) (c : Command) (f : Found) → IsFound o c f → status f ≡ 0 → IsThere (report f) IsProvedReport
+at_zero o c ReadFailed is e = absurd (false≢true (not_of (4 ∷ []) refl e))
+at_zero o c (Refusing r) is e = absurd (false≢true (not_of (3 ∷ []) refl e))
+at_zero o c (Reporting r) is e = by_mode r.mode refl e
   where
     by_proved : (b : Bool) → ◌≡◌ {A = ℕ} (cond b 0 1) 0 → b ≡ true
     by_proved true e = refl
     by_proved false e = absurd (false≢true (not_of (1 ∷ []) refl e))
 
-map_there : {X : Type 0} (o : Option X) {P Q : X → Type 0} → IsThere o P → ((x : X) → P x → Q x) → IsThere o Q
+    by_mode : (m : Mode) → r.mode ≡ m → status_in m r.verdicts ≡ 0 → IsProvedReport r
+    by_mode mode.Verify same e = (same, by_proved (all_proved r.verdicts) e)
+    by_mode mode.Conditions same e = absurd (false≢true (not_of (8 ∷ []) refl e))
+
+pub map_there : {X : Type 0} (o : Option X) {P Q : X → Type 0} → IsThere o P → ((x : X) → P x → Q x) → IsThere o Q
 map_there None h f = absurd h
 map_there (Some x) h f = f x h
 
 -- ---- a text is not refused and reported
 
-never_told : HaveNotBoth → (told : Option (List ℕ)) (f : Findings) → IfSome told (λ text. IsReportOf text f) → IsThere told (λ text. (r : Refusal) × IsRefused text r) → ⊥
-never_told never None f is h = h
-never_told never (Some text) f is (r, h) = never text f r is h
+never_told : HaveNotBoth → (told : Option (List ℕ)) (m : Mode) (f : Findings) → f.mode ≡ m → IfSome told (λ text. IsReportOf text f) → IsThere told (λ text. (r : Refusal) × IsRefused m text r) → ⊥
+never_told never None m f same is h = h
+never_told never (Some text) m f same is (r, h) = never text f r is (subst (λ (n : Mode). IsRefused n text r) (sym same) h)
 
 rose_not : (old new : ℕ) → Rose old new → DidNotRise old new → ⊥
 rose_not old new rose (low, below) = let a : raised old ≤ new = rose in let b : new ≤ old = low in let c : new < 2 ^ 64 - 1 = below in omega (arith, a, b, c)
@@ -61,13 +76,13 @@ rose_not old new rose (low, below) = let a : raised old ≤ new = rose in let b 
 -- ---- runs, by their cases
 
 module _ (o : Reading) (w : Writing) (ran : Ran) where
-  by_case : (P : Option (List ℕ) → Type 0)
+  by_case : (P : Option Command → Type 0)
       → (IsUnread o → ran.report ≡ None → ran.status ≡ 7 → IsWritten w words_line → P None)
       → (IsUnread o → ran.report ≡ None → ran.status ≡ 5 → IsCut w words_line → P None)
-      → ((file : List ℕ) (f : Found) → IsFound o file f → ran.report ≡ report f → ran.status ≡ status f → IsWritten w (output file f) → P (Some file))
-      → ((file : List ℕ) (f : Found) → IsFound o file f → ran.report ≡ report f → ran.status ≡ 5 → IsCut w (output file f) → P (Some file))
-      → ((file : List ℕ) → IsOutOfMemory o w file ran → P (Some file))
-      → (c : Option (List ℕ)) → HasRunFor c o w ran → P c
+      → ((c : Command) (f : Found) → IsFound o c f → ran.report ≡ report f → ran.status ≡ status f → IsWritten w (output c.file f) → P (Some c))
+      → ((c : Command) (f : Found) → IsFound o c f → ran.report ≡ report f → ran.status ≡ 5 → IsCut w (output c.file f) → P (Some c))
+      → ((c : Command) → IsOutOfMemory o w c.file ran → P (Some c))
+      → (c : Option Command) → HasRunFor c o w ran → P c
   by_case P none none_cut done done_cut memory None (unread, (empty, inl (s, written))) = none unread empty s written
   by_case P none none_cut done done_cut memory None (unread, (empty, inr (s, cut))) = none_cut unread empty s cut
   by_case P none none_cut done done_cut memory (Some file) (inl (f, is, (r, inl (s, written)))) = done file f is r s written
@@ -76,54 +91,74 @@ module _ (o : Reading) (w : Writing) (ran : Ran) where
 
   -- ---- reports
 
-  pub proved : (c : Option (List ℕ)) → HasRunFor c o w ran → ran.status ≡ 0 → IsThere ran.report (λ r. IsReport r × (all_proved r.verdicts ≡ true))
-  proved = by_case (λ c. ran.status ≡ 0 → IsThere ran.report (λ r. IsReport r × (all_proved r.verdicts ≡ true)))
+  pub proved : (c : Option Command) → HasRunFor c o w ran → ran.status ≡ 0 → IsThere ran.report IsProvedReport
+  proved = by_case (λ c. ran.status ≡ 0 → IsThere ran.report IsProvedReport)
       (λ unread none s written e. absurd (false≢true (not_of (7 ∷ []) refl (sym s ∙ e))))
       (λ unread none s cut e. absurd (false≢true (not_of (5 ∷ []) refl (sym s ∙ e))))
-      (λ file f is r s written e. there (λ r. IsReport r × (all_proved r.verdicts ≡ true)) r (at_zero o file f is (sym s ∙ e)))
+      (λ file f is r s written e. there IsProvedReport r (at_zero o file f is (sym s ∙ e)))
       (λ file f is r s cut e. absurd (false≢true (not_of (5 ∷ []) refl (sym s ∙ e))))
       (λ file m e. absurd (false≢true (not_of (6 ∷ []) refl (sym m.status ∙ e))))
 
-  pub correct : (world : Meaning) (c : Option (List ℕ)) → HasRunFor c o w ran → ran.status ≡ 0 → IsThere ran.report (λ r. Correct (program_of r.form) world)
-  correct world c has e = map_there ran.report (proved c has e) (λ r h. proved_correct r h.0 world h.1)
+  pub correct : (c : Option Command) → HasRunFor c o w ran → ran.status ≡ 0 → IsThere ran.report (λ r. (world : Meaning) (p : Program) → IsReportOn p r → Correct p world)
+  correct c has e = map_there ran.report (proved c has e) (λ r h world p is. proved_correct r world (ap has_verdicts h.0) h.1 p is)
 
-  pub page_written : (c : Option (List ℕ)) → HasRunFor c o w ran → IsOneOf (0 ∷ 1 ∷ []) ran.status → IsThere ran.report (λ r. w.written_after ≡ added w.written_before (page r))
-  page_written = by_case (λ c. IsOneOf (0 ∷ 1 ∷ []) ran.status → IsThere ran.report (λ r. w.written_after ≡ added w.written_before (page r)))
-      (λ unread none s written e. absurd (false≢true (not_of (0 ∷ 1 ∷ []) e s)))
-      (λ unread none s cut e. absurd (false≢true (not_of (0 ∷ 1 ∷ []) e s)))
-      (λ file f is r s written e. there (λ r. w.written_after ≡ added w.written_before (page r)) r (found file f (not_of (0 ∷ 1 ∷ []) e s) written.written))
-      (λ file f is r s cut e. absurd (false≢true (not_of (0 ∷ 1 ∷ []) e s)))
-      (λ file m e. absurd (false≢true (not_of (0 ∷ 1 ∷ []) e m.status)))
+  -- the program of the told text is correct
+  pub correct_of_text : IsOneProgram → (c : Option Command) → HasRunFor c o w ran → ran.status ≡ 0
+      → IsThere c (λ d. IfSome (o.told d.file) (λ text. (world : Meaning) (p : Program) → IsProgramOf text p → Correct p world))
+  correct_of_text one = by_case (λ c. ran.status ≡ 0 → IsThere c (λ d. IfSome (o.told d.file) (λ text. (world : Meaning) (p : Program) → IsProgramOf text p → Correct p world)))
+      (λ unread none s written e. absurd (false≢true (not_of (7 ∷ []) refl (sym s ∙ e))))
+      (λ unread none s cut e. absurd (false≢true (not_of (5 ∷ []) refl (sym s ∙ e))))
+      (λ d f is r s written e. found d f is (sym s ∙ e))
+      (λ d f is r s cut e. absurd (false≢true (not_of (5 ∷ []) refl (sym s ∙ e))))
+      (λ d m e. absurd (false≢true (not_of (6 ∷ []) refl (sym m.status ∙ e))))
     where
-      found : (file : List ℕ) (f : Found) → IsOneOf (0 ∷ 1 ∷ []) (status f) → w.written_after ≡ added w.written_before (output file f) → IsThere (report f) (λ r. w.written_after ≡ added w.written_before (page r))
+      of : (told : Option (List ℕ)) (r : Findings) → r.mode ≡ mode.Verify → all_proved r.verdicts ≡ true → IfSome told (λ text. IsReportOf text r)
+          → IfSome told (λ text. (world : Meaning) (p : Program) → IsProgramOf text p → Correct p world)
+      of None r same proved is = tt
+      of (Some text) r same proved is = λ world p of_text. proved_correct r world (ap has_verdicts same) proved p (subst (λ (q : Program). IsReportOn q r) (one text is.program p is.of_text of_text) is.is_on)
+
+      found : (d : Command) (f : Found) → IsFound o d f → status f ≡ 0 → IfSome (o.told d.file) (λ text. (world : Meaning) (p : Program) → IsProgramOf text p → Correct p world)
+      found d ReadFailed is e = absurd (false≢true (not_of (4 ∷ []) refl e))
+      found d (Refusing r) is e = absurd (false≢true (not_of (3 ∷ []) refl e))
+      found d (Reporting r) (read, report, same, told) e = let h = at_zero o d (Reporting r) (read, report, same, told) e in of (o.told d.file) r h.0 h.1 told
+
+  pub page_written : (c : Option Command) → HasRunFor c o w ran → IsOneOf (0 ∷ 1 ∷ 8 ∷ []) ran.status → IsThere ran.report (λ r. w.written_after ≡ added w.written_before (page r))
+  page_written = by_case (λ c. IsOneOf (0 ∷ 1 ∷ 8 ∷ []) ran.status → IsThere ran.report (λ r. w.written_after ≡ added w.written_before (page r)))
+      (λ unread none s written e. absurd (false≢true (not_of (0 ∷ 1 ∷ 8 ∷ []) e s)))
+      (λ unread none s cut e. absurd (false≢true (not_of (0 ∷ 1 ∷ 8 ∷ []) e s)))
+      (λ file f is r s written e. there (λ r. w.written_after ≡ added w.written_before (page r)) r (found file f (not_of (0 ∷ 1 ∷ 8 ∷ []) e s) written.written))
+      (λ file f is r s cut e. absurd (false≢true (not_of (0 ∷ 1 ∷ 8 ∷ []) e s)))
+      (λ file m e. absurd (false≢true (not_of (0 ∷ 1 ∷ 8 ∷ []) e m.status)))
+    where
+      found : (c : Command) (f : Found) → IsOneOf (0 ∷ 1 ∷ 8 ∷ []) (status f) → w.written_after ≡ added w.written_before (output c.file f) → IsThere (report f) (λ r. w.written_after ≡ added w.written_before (page r))
       found file ReadFailed e h = absurd (false≢true e)
       found file (Refusing r) e h = absurd (false≢true e)
       found file (Reporting r) e h = h
 
-  pub part_written : (c : Option (List ℕ)) → HasRunFor c o w ran → ran.status ≡ 5 → (text : List ℕ) × IsDueFor c o.told o.faults_before o.faults_after ran.report text × AddsPrefix w.written_before w.written_after text
+  pub part_written : (c : Option Command) → HasRunFor c o w ran → ran.status ≡ 5 → (text : List ℕ) × IsDueFor c o.told o.faults_before o.faults_after ran.report text × AddsPrefix w.written_before w.written_after text
   part_written = by_case (λ c. ran.status ≡ 5 → (text : List ℕ) × IsDueFor c o.told o.faults_before o.faults_after ran.report text × AddsPrefix w.written_before w.written_after text)
       (λ unread none s written e. absurd (false≢true (not_of (7 ∷ []) refl (sym s ∙ e))))
       (λ unread none s cut e. (words_line, subst (λ r. IsDueFor None o.told o.faults_before o.faults_after r words_line) (sym none) refl, cut.prefix))
-      (λ file f is r s written e. absurd (false≢true (not_of (0 ∷ 1 ∷ 3 ∷ 4 ∷ []) (found_status f) (sym s ∙ e))))
-      (λ file f is r s cut e. (output file f, subst (λ p. IsDueFor (Some file) o.told o.faults_before o.faults_after p (output file f)) (sym r) (due file f is), cut.prefix))
+      (λ file f is r s written e. absurd (false≢true (not_of (0 ∷ 1 ∷ 3 ∷ 4 ∷ 8 ∷ []) (found_status f) (sym s ∙ e))))
+      (λ file f is r s cut e. (output file.file f, subst (λ p. IsDueFor (Some file) o.told o.faults_before o.faults_after p (output file.file f)) (sym r) (due file f is), cut.prefix))
       (λ file m e. absurd (false≢true (not_of (6 ∷ []) refl (sym m.status ∙ e))))
     where
-      due : (file : List ℕ) (f : Found) → IsFound o file f → IsDueFor (Some file) o.told o.faults_before o.faults_after (report f) (output file f)
+      due : (c : Command) (f : Found) → IsFound o c f → IsDueFor (Some c) o.told o.faults_before o.faults_after (report f) (output c.file f)
       due file ReadFailed is = inl (refl, is.rose)
       due file (Refusing r) is = inr (r, is.1, refl)
       due file (Reporting r) is = refl
 
   -- ---- refusals
 
-  pub refused : HaveNotBoth → (c : Option (List ℕ)) → HasRunFor c o w ran → IsThere c (λ file. IsThere (o.told file) (λ text. (r : Refusal) × IsRefused text r)) → DidNotRise o.faults_before o.faults_after → IsOneOf (3 ∷ 5 ∷ 6 ∷ []) ran.status
-  refused never = by_case (λ c. IsThere c (λ file. IsThere (o.told file) (λ text. (r : Refusal) × IsRefused text r)) → DidNotRise o.faults_before o.faults_after → IsOneOf (3 ∷ 5 ∷ 6 ∷ []) ran.status)
+  pub refused : HaveNotBoth → (c : Option Command) → HasRunFor c o w ran → IsThere c (λ d. IsThere (o.told d.file) (λ text. (r : Refusal) × IsRefused d.mode text r)) → DidNotRise o.faults_before o.faults_after → IsOneOf (3 ∷ 5 ∷ 6 ∷ []) ran.status
+  refused never = by_case (λ c. IsThere c (λ d. IsThere (o.told d.file) (λ text. (r : Refusal) × IsRefused d.mode text r)) → DidNotRise o.faults_before o.faults_after → IsOneOf (3 ∷ 5 ∷ 6 ∷ []) ran.status)
       (λ unread none s written h d. absurd h)
       (λ unread none s cut h d. absurd h)
       (λ file f is r s written h d. not_of (3 ∷ 5 ∷ 6 ∷ []) (found file f is h d) (sym s))
       (λ file f is r s cut h d. not_of (3 ∷ 5 ∷ 6 ∷ []) refl (sym s))
       (λ file m h d. not_of (3 ∷ 5 ∷ 6 ∷ []) refl (sym m.status))
     where
-      found : (file : List ℕ) (f : Found) → IsFound o file f → IsThere (o.told file) (λ text. (r : Refusal) × IsRefused text r) → DidNotRise o.faults_before o.faults_after → IsOneOf (3 ∷ 5 ∷ 6 ∷ []) (status f)
+      found : (c : Command) (f : Found) → IsFound o c f → IsThere (o.told c.file) (λ text. (r : Refusal) × IsRefused c.mode text r) → DidNotRise o.faults_before o.faults_after → IsOneOf (3 ∷ 5 ∷ 6 ∷ []) (status f)
       found file ReadFailed is h d = absurd (rose_not o.faults_before o.faults_after is.rose d)
       found file (Refusing r) is h d = refl
-      found file (Reporting r) (read, findings, told) h d = absurd (never_told never (o.told file) r told h)
+      found c (Reporting r) (read, findings, same, told) h d = absurd (never_told never (o.told c.file) c.mode r same told h)

@@ -1,6 +1,9 @@
 -- What is written.
 use Rattle.std.specs.Prelude.{ℕ, List, [], ◌∷◌, ◌++◌, codes, decimal, if◌then◌else◌}
-use Rattle.spv_report.specs.Reports.{Findings, all_proved}
+use Rattle.spv_decision.specs.declared.verdict.Verdict.{Verdict}
+use Rattle.spv_reports.specs.declared.mode.Mode.{Mode}
+use Rattle.spv_reports.specs.declared.mode.Mode.TheVariants.{Verify, Conditions}
+use Rattle.spv_reports.specs.Reports.{Findings, all_proved}
 use Rattle.spv_refusals.specs.declared.refusal.Refusal.{Refusal}
 use Rattle.spv_refusals.specs.Refusals.{reason, line_of, detail_of}
 
@@ -19,6 +22,10 @@ read_fault_line file = codes "READ FAULT " ++ file ++ codes "\n"
 abbrev pub words_line : List ℕ
 words_line = codes "WORDS\n"
 
+abbrev pub status_in : Mode → List Verdict → ℕ
+status_in Verify verdicts = if all_proved verdicts then 0 else 1
+status_in Conditions verdicts = 8
+
 -- the status of a page
 abbrev pub page_status : Findings → ℕ
-page_status r = if all_proved r.verdicts then 0 else 1
+page_status r = status_in r.mode r.verdicts

@@ -2,11 +2,11 @@
 use Rattle.std.specs.Prelude.{◌≡◌, ℕ, ◌⊎◌, List, Option, Some, None, IsTrue, IfSome, nat_eq}
 use Rattle.std.specs.List.{list_any}
 use Rattle.spv_io.specs.Faults.{Rose}
-use Rattle.spv_report.specs.Reports.{Findings}
+use Rattle.spv_reports.specs.Reports.{Findings}
 use Rattle.spv_listing.specs.Page.{page}
 use Rattle.spv_verify.specs.Refusals.{IsRefused}
 use Rattle.spv_refusals.specs.declared.refusal.Refusal.{Refusal}
-use Rattle.spv_cli.specs.Commands.{command_of}
+use Rattle.spv_cli.specs.Commands.{Command, command_of}
 use Rattle.spv_cli.specs.Output.{words_line, read_fault_line, refusal_line}
 
 -- a number is one of these
@@ -19,19 +19,19 @@ IsThere None P = ⊥
 IsThere (Some x) P = P x
 
 -- the text of the command's file is told, and this is true of both
-abbrev pub IsTold : List (List ℕ) → (List ℕ → Option (List ℕ)) → (List ℕ → List ℕ → Type 0) → Type 0
-IsTold words told P = IsThere (command_of words) (λ file. IsThere (told file) (P file))
+abbrev pub IsTold : List (List ℕ) → (List ℕ → Option (List ℕ)) → (Command → List ℕ → Type 0) → Type 0
+IsTold words told P = IsThere (command_of words) (λ c. IsThere (told c.file) (P c))
 
 -- a refusal of the text of the command's file, where that is told, and its line
-abbrev pub IsRefusalLine : (List ℕ → Option (List ℕ)) → List ℕ → List ℕ → Type 0
-IsRefusalLine told file line = (r : Refusal) × IfSome (told file) (λ text. IsRefused text r) × (line ≡ refusal_line file r)
+abbrev pub IsRefusalLine : (List ℕ → Option (List ℕ)) → Command → List ℕ → Type 0
+IsRefusalLine told c line = (r : Refusal) × IfSome (told c.file) (λ text. IsRefused c.mode text r) × (line ≡ refusal_line c.file r)
 
 -- what is due where there is no page: the line of the words, of a read that failed, or of a refusal
-abbrev pub IsDueLine : Option (List ℕ) → (List ℕ → Option (List ℕ)) → ℕ → ℕ → List ℕ → Type 0
+abbrev pub IsDueLine : Option Command → (List ℕ → Option (List ℕ)) → ℕ → ℕ → List ℕ → Type 0
 IsDueLine None told old new line = line ≡ words_line
-IsDueLine (Some file) told old new line = ((line ≡ read_fault_line file) × Rose old new) ⊎ IsRefusalLine told file line
+IsDueLine (Some c) told old new line = ((line ≡ read_fault_line c.file) × Rose old new) ⊎ IsRefusalLine told c line
 
 -- what is due: the page of the report, and where there is none such a line
-abbrev pub IsDueFor : Option (List ℕ) → (List ℕ → Option (List ℕ)) → ℕ → ℕ → Option Findings → List ℕ → Type 0
+abbrev pub IsDueFor : Option Command → (List ℕ → Option (List ℕ)) → ℕ → ℕ → Option Findings → List ℕ → Type 0
 IsDueFor command told old new (Some r) output = output ≡ page r
 IsDueFor command told old new None output = IsDueLine command told old new output

@@ -3,13 +3,13 @@ use Rattle.std.specs.Prelude.{◌≡◌, ℕ, ◌⊎◌, List, Option, Some, Non
 use Rattle.spv_io.specs.Faults.{Rose}
 use Rattle.spv_io.specs.Sink.{added, AddsPrefix}
 use Rattle.spv_io.specs.Texts.{named}
-use Rattle.spv_report.specs.Reports.{Findings, IsReport}
+use Rattle.spv_reports.specs.Reports.{Findings, IsReport}
 use Rattle.spv_listing.specs.Page.{page}
 use Rattle.spv_verify.specs.Refusals.{IsRefused, IsReportOf}
 use Rattle.spv_cli.specs.declared.found.Found.{Found}
 use Rattle.spv_cli.specs.declared.found.Found.TheVariants.{ReadFailed, Refusing, Reporting}
 use Rattle.spv_cli.specs.declared.running.Ran.{Ran}
-use Rattle.spv_cli.specs.Commands.{command_of}
+use Rattle.spv_cli.specs.Commands.{Command, command_of}
 use Rattle.spv_cli.specs.Output.{words_line, read_fault_line, refusal_line, page_status}
 
 -- ---- what the objects outside tell
@@ -66,10 +66,10 @@ pub record IsUnwritten (w : Writing) : Type 0 where
 -- ---- what is found, and what is due then
 
 -- what is found of a file; a text that is told is refused so, or has this report
-abbrev pub IsFound : Reading → List ℕ → Found → Type 0
-IsFound o file ReadFailed = IsReadBadly o file
-IsFound o file (Refusing r) = IsReadWhole o file × IfSome (o.told file) (λ text. IsRefused text r)
-IsFound o file (Reporting r) = IsReadWhole o file × IsReport r × IfSome (o.told file) (λ text. IsReportOf text r)
+abbrev pub IsFound : Reading → Command → Found → Type 0
+IsFound o c ReadFailed = IsReadBadly o c.file
+IsFound o c (Refusing r) = IsReadWhole o c.file × IfSome (o.told c.file) (λ text. IsRefused c.mode text r)
+IsFound o c (Reporting r) = IsReadWhole o c.file × IsReport r × (r.mode ≡ c.mode) × IfSome (o.told c.file) (λ text. IsReportOf text r)
 
 abbrev pub output : List ℕ → Found → List ℕ
 output file ReadFailed = read_fault_line file
@@ -100,10 +100,10 @@ pub record IsOutOfMemory (o : Reading) (w : Writing) (file : List ℕ) (ran : Ra
   pub writing : IsUnwritten w
 
 -- what a run does for the file of a command, or for none
-abbrev pub HasRunFor : Option (List ℕ) → Reading → Writing → Ran → Type 0
+abbrev pub HasRunFor : Option Command → Reading → Writing → Ran → Type 0
 HasRunFor None o w ran = IsUnread o × IsAnswered w words_line 7 None ran
-HasRunFor (Some file) o w ran =
-    ((f : Found) × IsFound o file f × IsAnswered w (output file f) (status f) (report f) ran) ⊎ IsOutOfMemory o w file ran
+HasRunFor (Some c) o w ran =
+    ((f : Found) × IsFound o c f × IsAnswered w (output c.file f) (status f) (report f) ran) ⊎ IsOutOfMemory o w c.file ran
 
 -- what a run does
 abbrev pub HasRun : List (List ℕ) → Reading → Writing → Ran → Type 0

@@ -1,6 +1,10 @@
 // What is found of a command's file, and what is due then.
 
-ghost use Rattle.std.specs.Prelude.{◌≡◌, IfOk, OnErr};
+ghost use Rattle.std.specs.Prelude.{◌≡◌, IfErr, IfOk, OnErr};
+ghost use Rattle.spv_reports.specs.Reports.{IsReport};
+ghost use Rattle.spv_verify.specs.Causes.{IsCause};
+ghost use Rattle.spv_verify.specs.Refusals.{IsReportOf};
+ghost use Rattle.spv_cli.specs.Output.{status_in};
 ghost use Rattle.spv_cli.specs.Runs as spec;
 ghost use Rattle.spv_cli.specs.Runs.{IsFound, MayBeRead};
 
@@ -8,8 +12,8 @@ use crate::output::{read_fault_line, refusal_line};
 use spv_io::{TextFault, Texts};
 use spv_lexer::LONGEST_TEXT;
 use spv_refusals::{Refusal, VerifyFault};
-use spv_report::{Report, all_proved};
-use spv_verify::verify;
+use spv_reports::{Mode, Report, Verdict, all_proved};
+use spv_verify::{list, verify};
 use std::alloc::{AllocError, Global};
 
 /// What is found of a file.
@@ -30,15 +34,33 @@ pub(crate) struct NoMemory;
 /// The most bytes that are read of a file: one above its limit.
 const MOST_BYTES: usize = LONGEST_TEXT + 1;
 
+// The report of a text, for what its mode says.
+fn report_of(alloc: Global, mode: Mode, text: &[u8]) -> Result<Report, VerifyFault>
+    ensures report { IfOk result (IsReportOf text.now) }
+    ensures mode { IfOk result (λ r. r.mode ≡ mode) }
+    ensures findings { IfOk result IsReport }
+    ensures cause { IfErr result (IsCause mode text.now) }
+{
+    match mode {
+        Mode::Verify => verify(alloc, text),
+        Mode::Conditions => list(alloc, text),
+    }
+}
+
 /// What is found of a file.
-pub(crate) fn find<T: Texts>(alloc: Global, file: &str, texts: &mut T) -> Result<Found, NoMemory>
+pub(crate) fn find<T: Texts>(
+    alloc: Global,
+    mode: Mode,
+    file: &str,
+    texts: &mut T,
+) -> Result<Found, NoMemory>
     ensures found { IfOk result (IsFound (record {
       told = T.told texts.old;
       asked_before = T.asked texts.old;
       asked_after = T.asked texts.new;
       faults_before = T.faults texts.old;
       faults_after = T.faults texts.new;
-    }) file.now) }
+    }) (record { mode = mode; file = file.now })) }
     ensures memory { OnErr result (MayBeRead (record {
       told = T.told texts.old;
       asked_before = T.asked texts.old;
@@ -52,7 +74,7 @@ pub(crate) fn find<T: Texts>(alloc: Global, file: &str, texts: &mut T) -> Result
         Err(TextFault::Failed) => return Ok(Found::ReadFailed),
         Err(TextFault::Memory) => return Err(NoMemory),
     };
-    match verify(alloc, &text) {
+    match report_of(alloc, mode, &text) {
         Ok(report) => Ok(Found::Reporting(report)),
         Err(VerifyFault::Refused(refusal)) => Ok(Found::Refusing(refusal)),
         Err(VerifyFault::Memory) => Err(NoMemory),
@@ -70,6 +92,16 @@ pub(crate) fn output(alloc: Global, file: &str, found: &Found) -> Result<Vec<u8>
     }
 }
 
+// The status of a page.
+fn page_status(mode: Mode, verdicts: &[Verdict]) -> u8
+    ensures { result ≡ status_in mode verdicts.now }
+{
+    match mode {
+        Mode::Verify => { if all_proved(verdicts) { 0 } else { 1 } }
+        Mode::Conditions => 8,
+    }
+}
+
 /// The status then, where all is written.
 pub(crate) fn status(found: &Found) -> u8
     ensures { result ≡ spec.status found.now }
@@ -77,7 +109,7 @@ pub(crate) fn status(found: &Found) -> u8
     match found {
         Found::ReadFailed => 4,
         Found::Refusing(_) => 3,
-        Found::Reporting(report) => { if all_proved(report.verdicts()) { 0 } else { 1 } }
+        Found::Reporting(report) => page_status(report.mode(), report.verdicts()),
     }
 }
 

@@ -6,4 +6,4 @@ mod output;
 mod running;
 
 pub use running::{Ran, run};
-pub use spv_verify::{Refusal, Report, law_report};
+pub use spv_verify::{Mode, Refusal, Report, law_report};

@@ -1,23 +1,27 @@
 // The run: words, reading, output.
 
-ghost use Rattle.std.specs.Prelude.{◌≡◌, ◌⊎◌, ◌<◌, ◌≤◌, ℕ, false, List, [], ◌∷◌, None, Some, IsSome, IfSome, IsTrue, length, map, OnOk, OnErr, option_copied, string_bytes};
+ghost use Rattle.std.specs.Prelude.{◌≡◌, ◌⊎◌, ◌<◌, ◌≤◌, ℕ, false, List, [], ◌∷◌, None, Some, IsSome, IfSome, IsTrue, length, map, OnOk, OnErr, option_map, string_bytes};
 ghost use Rattle.spv_io.specs.Faults.{Rose, DidNotRise};
 ghost use Rattle.spv_io.specs.Sink.{added, AddsPrefix};
 ghost use Rattle.spv_io.specs.Texts.{named};
 ghost use Rattle.spv_meaning.specs.Correct.{Correct};
-ghost use Rattle.spv_form.specs.Program.{program_of};
-ghost use Rattle.spv_report.specs.Reports.{IsReport, all_proved};
+ghost use Rattle.spv_logic.specs.Conditions.{Meaning};
+ghost use Rattle.spv_reports.specs.declared.mode.Mode.TheVariants as mode;
+ghost use Rattle.spv_program.specs.Programs.{Program};
+ghost use Rattle.spv_reports.specs.Reports.{IsReport, IsReportOn, all_proved};
 ghost use Rattle.spv_listing.specs.Page.{page};
 ghost use Rattle.spv_refusals.specs.declared.refusal.Refusal.{Refusal};
+ghost use Rattle.spv_cli.specs.Commands as spec;
 ghost use Rattle.spv_cli.specs.Commands.{command_of};
+ghost use Rattle.spv_cli.specs.Words.{command_view};
 ghost use Rattle.spv_cli.specs.Output.{words_line, read_fault_line};
-ghost use Rattle.spv_verify.specs.Refusals.{IsRefused, IsReportOf};
+ghost use Rattle.spv_verify.specs.Refusals.{IsProgramOf, IsRefused, IsReportOf};
 ghost use Rattle.spv_cli.specs.Runs.{IsAnswered, HasRunFor, HasRun};
 ghost use Rattle.spv_cli.specs.Promises.{IsOneOf, IsThere, IsTold, IsRefusalLine, IsDueFor};
 
 use crate::found::{NoMemory, find, into_report, output, status};
 use spv_io::{Failed, Sink, Texts};
-use spv_report::Report;
+use spv_reports::{Mode, Report};
 use spv_term::World;
 use spv_verify::law_not_both;
 use std::alloc::{AllocError, Global};
@@ -27,24 +31,54 @@ use std::alloc::{AllocError, Global};
 pub struct Ran {
     /// The status: 0 where every condition is proved, 1 where one is not, 3 where the text is refused,
     /// 4 where it cannot be read, 5 where the output cannot be written, 6 for want of memory, 7 where
-    /// the words are no command.
+    /// the words are no command, 8 where conditions alone were asked for.
     pub status: u8,
     /// The report, where a page was due.
     pub report: Option<Report>,
 }
 
-// The file of the command that the words are, if they are one.
-fn command(words: &[String]) -> Option<&str>
-    ensures { option_copied result ≡ command_of (map string_bytes words.now) }
+// What the words ask of a file, if they are a command.
+#[derive(Clone, Copy)]
+struct Command<'a> {
+    mode: Mode,
+    file: &'a str,
+}
+
+// What a word asks.
+fn mode_of(word: &str) -> Option<Mode>
+    ensures { result ≡ spec.mode_of word.now }
 {
-    match words {
-        [_, mode, file] => {
-            if mode.as_str() == "verify" && !file.as_str().starts_with("-") {
-                Some(file.as_str())
-            } else {
+    if word == "verify" {
+        return Some(Mode::Verify);
+    }
+    if word == "conditions" {
+        return Some(Mode::Conditions);
+    }
+    None
+}
+
+// The command of a mode and a file.
+fn command_in(mode: Option<Mode>, file: &str) -> Option<Command<'_>>
+    ensures { option_map command_view result ≡ spec.command_in mode file.now }
+{
+    match mode {
+        None => None,
+        Some(mode) => {
+            if file.starts_with("-") {
                 None
+            } else {
+                Some(Command { mode, file })
             }
         }
+    }
+}
+
+// The command that the words are, if they are one.
+fn read_words(words: &[String]) -> Option<Command<'_>>
+    ensures { option_map command_view result ≡ command_of (map string_bytes words.now) }
+{
+    match words {
+        [_, mode, file] => command_in(mode_of(mode.as_str()), file.as_str()),
         _ => None,
     }
 }
@@ -92,9 +126,15 @@ fn answer<K: Sink>(sink: &mut K, text: &[u8], status: u8, report: Option<Report>
     }
 }
 
-// Verifies a file.
-fn verify<T: Texts, K: Sink>(alloc: Global, file: &str, texts: &mut T, sink: &mut K) -> Ran
-    ensures { HasRunFor (Some file.now) (record {
+// Does what is asked of a file.
+fn perform<T: Texts, K: Sink>(
+    alloc: Global,
+    mode: Mode,
+    file: &str,
+    texts: &mut T,
+    sink: &mut K,
+) -> Ran
+    ensures { HasRunFor (Some (record { mode = mode; file = file.now })) (record {
       told = T.told texts.old;
       asked_before = T.asked texts.old;
       asked_after = T.asked texts.new;
@@ -111,7 +151,7 @@ fn verify<T: Texts, K: Sink>(alloc: Global, file: &str, texts: &mut T, sink: &mu
         status: 6,
         report: None,
     };
-    let Ok(found) = find(alloc, file, texts) else {
+    let Ok(found) = find(alloc, mode, file, texts) else {
         return out_of_memory;
     };
     let Ok(text) = output(alloc, file, &found) else {
@@ -136,16 +176,16 @@ fn attempt<T: Texts, K: Sink>(alloc: Global, words: &[String], texts: &mut T, si
       faults_after = K.faults sink.new;
     }) result }
 {
-    match command(words) {
-        Some(file) => verify(alloc, file, texts, sink),
+    match read_words(words) {
+        Some(command) => perform(alloc, command.mode, command.file, texts, sink),
         None => answer(sink, b"WORDS\n", 7, None),
     }
 }
 
-/// Runs `verify FILE`, whose words these are behind the program's name: reads the file, makes and
-/// decides its conditions, and writes the page, or one line that says why there is none. Nothing
-/// is written until all of the output is made, and then a line at a time. No member of the world is
-/// run: it says for which meaning of the symbols the program is claimed to be correct.
+/// Runs `verify FILE` or `conditions FILE`, whose words these are behind the program's name: reads the file, makes its conditions,
+/// decides them where that is asked, and writes the page, or one line that says why there is none. Nothing is written until all of the
+/// output is made, and then a line at a time. No member of the world is run: it says for which meaning of the symbols the program is
+/// claimed to be correct.
 pub fn run<W: World, T: Texts, K: Sink>(
     alloc: Global,
     words: &[String],
@@ -157,38 +197,44 @@ pub fn run<W: World, T: Texts, K: Sink>(
     ensures words_only { result.status ≡ 7 → command_of (map string_bytes words.now) ≡ None }
     ensures words { command_of (map string_bytes words.now) ≡ None → IsOneOf (5 ∷ 7 ∷ []) result.status }
 
-    // Status 0 comes only where all is proved, and the program is correct then.
-    ensures proved { result.status ≡ 0 → IsThere result.report (λ r. IsTrue (all_proved r.verdicts)) }
-    ensures correct { result.status ≡ 0 → IsThere result.report (λ r. Correct (program_of r.form) (W.apply world.now)) }
-    ensures unproved { result.status ≡ 1 → IsThere result.report (λ r. all_proved r.verdicts ≡ false) }
+    // Status 0 comes only where all is proved. The program that the report is on is correct then, in the world at hand and in every other;
+    // and so is the program that the told text is.
+    ensures proved { result.status ≡ 0 → IsThere result.report (λ r. (r.mode ≡ mode.Verify) × IsTrue (all_proved r.verdicts)) }
+    ensures correct { result.status ≡ 0 → IsThere result.report (λ r. (p : Program) → IsReportOn p r → Correct p (W.apply world.now)) }
+    ensures correct_everywhere { result.status ≡ 0 → IsThere result.report (λ r. (m : Meaning) (p : Program) → IsReportOn p r → Correct p m) }
+    ensures correct_text { result.status ≡ 0 → IsThere (command_of (map string_bytes words.now))
+        (λ c. IfSome (T.told texts.old c.file) (λ text. (m : Meaning) (p : Program) → IsProgramOf text p → Correct p m)) }
+    ensures unproved { result.status ≡ 1 → IsThere result.report (λ r. (r.mode ≡ mode.Verify) × (all_proved r.verdicts ≡ false)) }
+    ensures listed { result.status ≡ 8 → IsThere result.report (λ r. (r.mode ≡ mode.Conditions) × (r.verdicts ≡ [])) }
 
-    // A report is that of the told text, and each verdict in it is right.
+    // A report is that of the told text, for what the words ask; its conditions are those of its program, and its verdicts are right.
     ensures of_text { IfSome result.report (λ r. IsThere (command_of (map string_bytes words.now))
-        (λ file. IfSome (T.told texts.old file) (λ text. IsReportOf text r))) }
+        (λ c. IfSome (T.told texts.old c.file) (λ text. IsReportOf text r))) }
+    ensures mode { IfSome result.report (λ r. IsThere (command_of (map string_bytes words.now)) (λ c. r.mode ≡ c.mode)) }
     ensures findings { IfSome result.report IsReport }
-    ensures reported { IsSome result.report → IsOneOf (0 ∷ 1 ∷ 5 ∷ []) result.status }
+    ensures reported { IsSome result.report → IsOneOf (0 ∷ 1 ∷ 5 ∷ 8 ∷ []) result.status }
 
     // Status 3 comes exactly where the told text is refused, but for a failed write and want of memory.
-    ensures refused { IsTold (map string_bytes words.now) (T.told texts.old) (λ _ text. (r : Refusal) × IsRefused text r)
+    ensures refused { IsTold (map string_bytes words.now) (T.told texts.old) (λ c text. (r : Refusal) × IsRefused c.mode text r)
         → DidNotRise (T.faults texts.old) (T.faults texts.new) → IsOneOf (3 ∷ 5 ∷ 6 ∷ []) result.status }
     ensures refusal { result.status ≡ 3 → IsThere (command_of (map string_bytes words.now))
-        (λ file. (line : List ℕ) × IsRefusalLine (T.told texts.old) file line × (K.written sink.new ≡ added (K.written sink.old) line)) }
+        (λ c. (line : List ℕ) × IsRefusalLine (T.told texts.old) c line × (K.written sink.new ≡ added (K.written sink.old) line)) }
 
     // A text that is not refused has a report, but for want of memory.
-    ensures complete { IsTold (map string_bytes words.now) (T.told texts.old) (λ _ text. (r : Refusal) → IsRefused text r → ⊥)
+    ensures complete { IsTold (map string_bytes words.now) (T.told texts.old) (λ c text. (r : Refusal) → IsRefused c.mode text r → ⊥)
         → DidNotRise (T.faults texts.old) (T.faults texts.new) → IsSome result.report ⊎ (result.status ≡ 6) }
 
     // Status 4 comes only where a read failed, and status 5 only where a write did.
     ensures read_fault { result.status ≡ 4 → Rose (T.faults texts.old) (T.faults texts.new) }
     ensures write_fault { result.status ≡ 5 → Rose (K.faults sink.old) (K.faults sink.new) }
-    ensures texts_sound { IsOneOf (0 ∷ 1 ∷ 3 ∷ 7 ∷ []) result.status → T.faults texts.new ≡ T.faults texts.old }
-    ensures sink_sound { IsOneOf (0 ∷ 1 ∷ 3 ∷ 4 ∷ 6 ∷ 7 ∷ []) result.status → K.faults sink.new ≡ K.faults sink.old }
+    ensures texts_sound { IsOneOf (0 ∷ 1 ∷ 3 ∷ 7 ∷ 8 ∷ []) result.status → T.faults texts.new ≡ T.faults texts.old }
+    ensures sink_sound { IsOneOf (0 ∷ 1 ∷ 3 ∷ 4 ∷ 6 ∷ 7 ∷ 8 ∷ []) result.status → K.faults sink.new ≡ K.faults sink.old }
 
     // What is written, where the sink tells it.
-    ensures page { IsOneOf (0 ∷ 1 ∷ []) result.status → IsThere result.report
+    ensures page { IsOneOf (0 ∷ 1 ∷ 8 ∷ []) result.status → IsThere result.report
         (λ r. K.written sink.new ≡ added (K.written sink.old) (page r)) }
     ensures read_fault_line { result.status ≡ 4 → IsThere (command_of (map string_bytes words.now))
-        (λ file. K.written sink.new ≡ added (K.written sink.old) (read_fault_line file)) }
+        (λ c. K.written sink.new ≡ added (K.written sink.old) (read_fault_line c.file)) }
     ensures words_line { result.status ≡ 7 → K.written sink.new ≡ added (K.written sink.old) words_line }
     ensures memory { result.status ≡ 6 → K.written sink.new ≡ K.written sink.old }
     ensures cut { result.status ≡ 5 → (output : List ℕ)
@@ -197,12 +243,12 @@ pub fn run<W: World, T: Texts, K: Sink>(
 
     // The file is read at most once, and only for a command.
     ensures unread { command_of (map string_bytes words.now) ≡ None → T.asked texts.new ≡ T.asked texts.old }
-    ensures asked { IsOneOf (0 ∷ 1 ∷ 3 ∷ 4 ∷ []) result.status → IsThere (command_of (map string_bytes words.now))
-        (λ file. T.asked texts.new ≡ named (T.asked texts.old) file) }
+    ensures asked { IsOneOf (0 ∷ 1 ∷ 3 ∷ 4 ∷ 8 ∷ []) result.status → IsThere (command_of (map string_bytes words.now))
+        (λ c. T.asked texts.new ≡ named (T.asked texts.old) c.file) }
     ensures once { IfSome (command_of (map string_bytes words.now))
-        (λ file. (T.asked texts.new ≡ T.asked texts.old) ⊎ (T.asked texts.new ≡ named (T.asked texts.old) file)) }
+        (λ c. (T.asked texts.new ≡ T.asked texts.old) ⊎ (T.asked texts.new ≡ named (T.asked texts.old) c.file)) }
 
-    ensures statuses { IsOneOf (0 ∷ 1 ∷ 3 ∷ 4 ∷ 5 ∷ 6 ∷ 7 ∷ []) result.status }
+    ensures statuses { IsOneOf (0 ∷ 1 ∷ 3 ∷ 4 ∷ 5 ∷ 6 ∷ 7 ∷ 8 ∷ []) result.status }
 {
     law_not_both();
     let _ = world;

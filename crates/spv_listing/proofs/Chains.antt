@@ -5,8 +5,8 @@ use Rattle.spv_term.specs.declared.nodes.Condition.{Condition}
 use Rattle.spv_term.specs.Arena.{Arena}
 use Rattle.spv_decision.specs.declared.verdict.Verdict.{Verdict}
 use Rattle.spv_decision.specs.Verdicts.{IsVerdict, AreVerdicts}
-use Rattle.spv_report.specs.Reports.{claimed}
-use Rattle.spv_listing.specs.Page.{condition_lines, blocks}
+use Rattle.spv_assign.specs.Conditions.{AreIn, IsIn, condition_of, conditions_of}
+use Rattle.spv_listing.specs.Page.{claim_lines, claims, condition_lines, blocks}
 
 -- one text, and then another
 pub then_added : {A : Type 0} (o p q a b : List A) → p ≡ o ++ a → q ≡ p ++ b → q ≡ o ++ (a ++ b)
@@ -36,29 +36,29 @@ verdict_at a (d ∷ cs) (w ∷ vs) (suc k) c v right within = verdict_at a cs vs
 
 pub blocks_more : (names : List (List ℕ)) (titles : List (Option Symbol)) (a : Arena) (n : ℕ) (cs : List Condition) (vs : List Verdict) (k : ℕ) (c : Condition) (v : Verdict)
     → AreVerdicts a cs vs → k < length cs
-    → blocks names titles a n (map (claimed a) (take (suc k) cs)) (take (suc k) vs)
-    ≡ blocks names titles a n (map (claimed a) (take k cs)) (take k vs) ++ condition_lines names titles a (k + n) (claimed a (get_or cs k c)) (get_or vs k v)
+    → blocks names titles a n (conditions_of a (take (suc k) cs)) (take (suc k) vs)
+    ≡ blocks names titles a n (conditions_of a (take k cs)) (take k vs) ++ condition_lines names titles a (k + n) (condition_of a (get_or cs k c)) (get_or vs k v)
 blocks_more names titles a n [] vs k c v right within = absurd (not_below_zero k within)
 blocks_more names titles a n (d ∷ cs) [] k c v right within = absurd right
 blocks_more names titles a n (d ∷ cs) (w ∷ vs) zero c v right within =
-    append-nil (condition_lines names titles a n (claimed a d) w) ∙ ap (λ m. condition_lines names titles a m (claimed a d) w) (plain n)
+    append-nil (condition_lines names titles a n (condition_of a d) w) ∙ ap (λ m. condition_lines names titles a m (condition_of a d) w) (plain n)
   where
     plain : (i : ℕ) → i ≡ 0 + i
     plain i = grind (arith)
 blocks_more names titles a n (d ∷ cs) (w ∷ vs) (suc k) c v right within =
-    let here = condition_lines names titles a n (claimed a d) w in
-    let later : ℕ → List ℕ = λ m. condition_lines names titles a m (claimed a (get_or cs k c)) (get_or vs k v) in
+    let here = condition_lines names titles a n (condition_of a d) w in
+    let later : ℕ → List ℕ = λ m. condition_lines names titles a m (condition_of a (get_or cs k c)) (get_or vs k v) in
     let more = blocks_more names titles a (suc n) cs vs k c v right.1 (below k (length cs) within) in
     ap (λ l. here ++ l) more
-    ∙ sym (append_assoc here (blocks names titles a (suc n) (map (claimed a) (take k cs)) (take k vs)) (later (k + suc n)))
-    ∙ ap (λ m. (here ++ blocks names titles a (suc n) (map (claimed a) (take k cs)) (take k vs)) ++ later m) (shift k n)
+    ∙ sym (append_assoc here (blocks names titles a (suc n) (conditions_of a (take k cs)) (take k vs)) (later (k + suc n)))
+    ∙ ap (λ m. (here ++ blocks names titles a (suc n) (conditions_of a (take k cs)) (take k vs)) ++ later m) (shift k n)
   where
     shift : (i j : ℕ) → i + suc j ≡ suc i + j
     shift i j = grind (arith)
 
 -- from the length on, all are taken
 pub blocks_all : (names : List (List ℕ)) (titles : List (Option Symbol)) (a : Arena) (n : ℕ) (cs : List Condition) (vs : List Verdict) (k : ℕ)
-    → AreVerdicts a cs vs → length cs ≤ k → blocks names titles a n (map (claimed a) (take k cs)) (take k vs) ≡ blocks names titles a n (map (claimed a) cs) vs
+    → AreVerdicts a cs vs → length cs ≤ k → blocks names titles a n (conditions_of a (take k cs)) (take k vs) ≡ blocks names titles a n (conditions_of a cs) vs
 blocks_all names titles a n [] [] zero right all = refl
 blocks_all names titles a n [] [] (suc k) right all = refl
 blocks_all names titles a n [] (v ∷ vs) k right all = absurd right
@@ -68,7 +68,44 @@ blocks_all names titles a n (c ∷ cs) (v ∷ vs) zero right all = absurd (none 
     none : (i : ℕ) → suc i ≤ 0 → ⊥
     none i h = grind (arith)
 blocks_all names titles a n (c ∷ cs) (v ∷ vs) (suc k) right all =
-    ap (λ l. condition_lines names titles a n (claimed a c) v ++ l) (blocks_all names titles a (suc n) cs vs k right.1 (less (length cs) k all))
+    ap (λ l. condition_lines names titles a n (condition_of a c) v ++ l) (blocks_all names titles a (suc n) cs vs k right.1 (less (length cs) k all))
   where
     less : (i j : ℕ) → suc i ≤ suc j → i ≤ j
     less i j h = grind (arith)
+
+-- ---- conditions alone
+
+pub claims_more : (names : List (List ℕ)) (titles : List (Option Symbol)) (a : Arena) (n : ℕ) (cs : List Condition) (k : ℕ) (c : Condition) → k < length cs
+    → claims names titles n (conditions_of a (take (suc k) cs)) ≡ claims names titles n (conditions_of a (take k cs)) ++ claim_lines names titles (k + n) (condition_of a (get_or cs k c))
+claims_more names titles a n [] k c within = absurd (not_below_zero k within)
+claims_more names titles a n (d ∷ cs) zero c within = append-nil (claim_lines names titles n (condition_of a d)) ∙ ap (λ m. claim_lines names titles m (condition_of a d)) (plain n)
+  where
+    plain : (i : ℕ) → i ≡ 0 + i
+    plain i = grind (arith)
+claims_more names titles a n (d ∷ cs) (suc k) c within =
+    let here = claim_lines names titles n (condition_of a d) in
+    let later : ℕ → List ℕ = λ m. claim_lines names titles m (condition_of a (get_or cs k c)) in
+    let more = claims_more names titles a (suc n) cs k c (below k (length cs) within) in
+    ap (λ l. here ++ l) more
+    ∙ sym (append_assoc here (claims names titles (suc n) (conditions_of a (take k cs))) (later (k + suc n)))
+    ∙ ap (λ m. (here ++ claims names titles (suc n) (conditions_of a (take k cs))) ++ later m) (shift k n)
+  where
+    shift : (i j : ℕ) → i + suc j ≡ suc i + j
+    shift i j = grind (arith)
+
+pub claims_all : (names : List (List ℕ)) (titles : List (Option Symbol)) (a : Arena) (n : ℕ) (cs : List Condition) (k : ℕ) → length cs ≤ k → claims names titles n (conditions_of a (take k cs)) ≡ claims names titles n (conditions_of a cs)
+claims_all names titles a n [] zero all = refl
+claims_all names titles a n [] (suc k) all = refl
+claims_all names titles a n (c ∷ cs) zero all = absurd (none (length cs) all)
+  where
+    none : (i : ℕ) → suc i ≤ 0 → ⊥
+    none i h = grind (arith)
+claims_all names titles a n (c ∷ cs) (suc k) all = ap (λ l. claim_lines names titles n (condition_of a c) ++ l) (claims_all names titles a (suc n) cs k (less (length cs) k all))
+  where
+    less : (i j : ℕ) → suc i ≤ suc j → i ≤ j
+    less i j h = grind (arith)
+
+pub in_at : (a : Arena) (cs : List Condition) (k : ℕ) (c : Condition) → AreIn a cs → k < length cs → IsIn a (get_or cs k c)
+in_at a [] k c within h = absurd (not_below_zero k h)
+in_at a (d ∷ cs) zero c within h = within.0
+in_at a (d ∷ cs) (suc k) c within h = in_at a cs k c within.1 (below k (length cs) h)

@@ -1,5 +1,5 @@
 -- The page of a report.
-use Rattle.std.specs.Prelude.{ℕ, suc, Option, Bool, true, false, List, [], ◌∷◌, ◌++◌, ℤ, map, codes, decimal, if◌then◌else◌}
+use Rattle.std.specs.Prelude.{ℕ, suc, Option, Bool, true, false, List, [], ◌∷◌, ◌++◌, ℤ, length, codes, decimal, if◌then◌else◌}
 use Rattle.std.specs.List.{flat_map, count_by}
 use Rattle.std.specs.Fmt.{signed_decimal}
 use Rattle.spv_names.specs.declared.names.Symbol.{Symbol}
@@ -9,12 +9,16 @@ use Rattle.spv_logic.specs.declared.conditions.Origin.{Origin}
 use Rattle.spv_logic.specs.Terms.{Term}
 use Rattle.spv_logic.specs.Formulas.{negation}
 use Rattle.spv_logic.specs.Conditions.{Condition}
+use Rattle.spv_term.specs.declared.nodes.Condition.{Condition as IdCondition}
 use Rattle.spv_term.specs.Arena.{Arena}
 use Rattle.spv_decision.specs.declared.verdict.Verdict.{Verdict}
 use Rattle.spv_decision.specs.declared.verdict.Verdict.TheVariants.{Proved, Unproved}
 use Rattle.spv_decision.specs.declared.verdict.Unproved.{Unproved as UnprovedBy}
 use Rattle.spv_decision.specs.Verdicts.{branch_terms, table_terms}
-use Rattle.spv_report.specs.Reports.{Findings, claimed, is_proved, is_unproved, all_proved}
+use Rattle.spv_assign.specs.Conditions.{conditions_of}
+use Rattle.spv_reports.specs.declared.mode.Mode.{Mode}
+use Rattle.spv_reports.specs.declared.mode.Mode.TheVariants.{Verify, Conditions}
+use Rattle.spv_reports.specs.Reports.{Findings, is_proved, is_unproved, all_proved}
 use Rattle.spv_listing.specs.Printed.{term_text}
 
 -- a line with its end
@@ -83,7 +87,32 @@ total verdicts = counts (count_by is_proved verdicts) (count_by is_unproved verd
 abbrev pub result : List Verdict → List ℕ
 result verdicts = if all_proved verdicts then codes "RESULT PROVED" else codes "RESULT UNPROVED"
 
--- the whole page; a program of the form has no types
+-- ---- conditions alone
+
+-- conditions, numbered from this number on
+abbrev pub claims : List (List ℕ) → List (Option Symbol) → ℕ → List Condition → List ℕ
+claims names titles number [] = []
+claims names titles number (c ∷ cs) = claim_lines names titles number c ++ claims names titles (suc number) cs
+
+-- the line that tells how many there are
+abbrev pub count : ℕ → List ℕ
+count number = codes "TOTAL " ++ decimal number ++ codes "\n"
+
+-- ---- the whole page
+
+-- of conditions with their verdicts
+abbrev pub verdicts_page : List (List ℕ) → List (Option Symbol) → Arena → List IdCondition → List Verdict → List ℕ
+verdicts_page names titles a conditions verdicts =
+    line (codes "SPV LISTING 1") ++ blocks names titles a 1 (conditions_of a conditions) verdicts ++ total verdicts ++ line (result verdicts)
+
+-- of conditions alone
+abbrev pub conditions_page : List (List ℕ) → List (Option Symbol) → Arena → List IdCondition → List ℕ
+conditions_page names titles a conditions = line (codes "SPV CONDITIONS 1") ++ claims names titles 1 (conditions_of a conditions) ++ count (length conditions)
+
+abbrev pub page_in : Mode → Findings → List ℕ
+page_in Verify r = verdicts_page r.names r.titles r.arena r.conditions r.verdicts
+page_in Conditions r = conditions_page r.names r.titles r.arena r.conditions
+
+-- the page of a report, by what it is for
 abbrev pub page : Findings → List ℕ
-page r =
-    line (codes "SPV LISTING 1") ++ blocks r.names [] r.arena 1 (map (claimed r.arena) r.conditions) r.verdicts ++ total r.verdicts ++ line (result r.verdicts)
+page r = page_in r.mode r

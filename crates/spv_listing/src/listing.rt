@@ -2,40 +2,110 @@
 
 ghost use Rattle.std.specs.Prelude.{◌≡◌, ◌<◌, ◌++◌, map, length, All, IfOk, OnOk};
 ghost use Rattle.std.specs.List.{flat_map, count_by};
-ghost use Rattle.spv_decision.specs.Forms.{IsPlain};
-ghost use Rattle.spv_decision.specs.Verdicts.{IsVerdict, AreVerdicts, branch_terms, table_terms};
-ghost use Rattle.spv_report.specs.Reports.{claimed, is_proved, is_unproved};
+ghost use Rattle.spv_assign.specs.Conditions.{AreIn, IsIn, condition_of, conditions_of};
+ghost use Rattle.spv_decision.specs.Verdicts.{AreVerdicts, IsVerdict, branch_terms, table_terms};
+ghost use Rattle.spv_reports.specs.Reports.{is_proved, is_unproved};
 ghost use Rattle.spv_logic.specs.Formulas.{negation};
 ghost use Rattle.spv_listing.specs.Page as spec;
 ghost use Rattle.spv_listing.specs.Printed.{term_text};
-ghost use Rattle.spv_listing.specs.Page.{line, heading, given_line, goal_line, branch_line, value_line, claim_lines, unproved_lines, condition_lines, blocks, counts};
-ghost use Rattle.spv_term.specs.Arena.{tree};
+ghost use Rattle.spv_listing.specs.Page.{line, heading, given_line, goal_line, branch_line, value_line, claim_lines, unproved_lines, condition_lines, blocks, claims, count, counts};
+ghost use Rattle.spv_term.specs.Arena.{AllBelow, tree};
 
 use crate::printed::{push_decimal, push_integer, push_term};
 use spv_decision::{Unproved, Verdict};
 use spv_names::{Names, Symbol};
-use spv_report::Report;
+use spv_reports::{Mode, Report};
 use spv_term::{Condition, Kind, Origin, TermId, Terms};
 use std::alloc::{AllocError, Global};
 
-/// The page of a report: a heading, each condition with its hypotheses, its goal and its verdict, and
-/// the totals. Each line ends with byte 10.
+/// The page of a report: a heading, each condition with its hypotheses and its goal, in the mode `Verify` with its verdict, and the
+/// totals. Each line ends with byte 10.
 pub fn page(alloc: Global, report: &Report) -> Result<Vec<u8>, AllocError>
     ensures { IfOk result (λ p. p.items ≡ spec.page report.now) }
 {
     report.law_findings();
+    match report.mode() {
+        Mode::Verify => verdicts_page(
+            alloc,
+            report.names(),
+            report.titles(),
+            report.terms(),
+            report.conditions(),
+            report.verdicts(),
+        ),
+        Mode::Conditions => conditions_page(
+            alloc,
+            report.names(),
+            report.titles(),
+            report.terms(),
+            report.conditions(),
+        ),
+    }
+}
+
+// The page of conditions with their verdicts.
+fn verdicts_page(
+    alloc: Global,
+    names: &Names,
+    titles: &[Option<Symbol>],
+    terms: &Terms,
+    conditions: &[Condition],
+    verdicts: &[Verdict],
+) -> Result<Vec<u8>, AllocError>
+    requires in_range { AreIn terms.now conditions.now }
+    requires verdicts { AreVerdicts terms.now conditions.now verdicts.now }
+    ensures { IfOk result (λ p. p.items ≡ spec.verdicts_page names.now titles.now terms.now conditions.now verdicts.now) }
+{
     let mut out = Vec::from_slice(alloc, b"SPV LISTING 1\n")?;
-    push_blocks(
-        &mut out,
-        report.names(),
-        &[],
-        report.terms(),
-        report.conditions(),
-        report.verdicts(),
-    )?;
-    push_total(&mut out, report.verdicts())?;
-    push_result(&mut out, report.verdicts())?;
+    push_blocks(&mut out, names, titles, terms, conditions, verdicts)?;
+    push_total(&mut out, verdicts)?;
+    push_result(&mut out, verdicts)?;
     Ok(out)
+}
+
+// The page of conditions alone.
+fn conditions_page(
+    alloc: Global,
+    names: &Names,
+    titles: &[Option<Symbol>],
+    terms: &Terms,
+    conditions: &[Condition],
+) -> Result<Vec<u8>, AllocError>
+    requires in_range { AreIn terms.now conditions.now }
+    ensures { IfOk result (λ p. p.items ≡ spec.conditions_page names.now titles.now terms.now conditions.now) }
+{
+    let mut out = Vec::from_slice(alloc, b"SPV CONDITIONS 1\n")?;
+    push_claims(&mut out, names, titles, terms, conditions)?;
+    push_count(&mut out, conditions.len() as u64)?;
+    Ok(out)
+}
+
+// Each condition, numbered from 1.
+fn push_claims(
+    out: &mut Vec<u8>,
+    names: &Names,
+    titles: &[Option<Symbol>],
+    terms: &Terms,
+    conditions: &[Condition],
+) -> Result<(), AllocError>
+    requires { AreIn terms.now conditions.now }
+    ensures { OnOk result (out.new.items ≡ out.old.items ++ claims names.now titles.now 1 (conditions_of terms.now conditions.now)) }
+{
+    for place in 0..conditions.len() {
+        let number = place as u64 + 1;
+        push_claim(out, names, titles, terms, number, &conditions[place])?;
+    }
+    Ok(())
+}
+
+// The line that tells how many conditions there are.
+fn push_count(out: &mut Vec<u8>, number: u64) -> Result<(), AllocError>
+    ensures { OnOk result (out.new.items ≡ out.old.items ++ count number) }
+{
+    out.extend_from_slice(b"TOTAL ")?;
+    push_decimal(out, number)?;
+    out.extend_from_slice(b"\n")?;
+    Ok(())
 }
 
 // Each condition with its verdict, numbered from 1.
@@ -47,9 +117,9 @@ fn push_blocks(
     conditions: &[Condition],
     verdicts: &[Verdict],
 ) -> Result<(), AllocError>
-    requires plain { All (IsPlain terms.now) conditions.now }
+    requires in_range { AreIn terms.now conditions.now }
     requires verdicts { AreVerdicts terms.now conditions.now verdicts.now }
-    ensures { OnOk result (out.new.items ≡ out.old.items ++ blocks names.now titles.now terms.now 1 (map (claimed terms.now) conditions.now) verdicts.now) }
+    ensures { OnOk result (out.new.items ≡ out.old.items ++ blocks names.now titles.now terms.now 1 (conditions_of terms.now conditions.now) verdicts.now) }
 {
     for place in 0..conditions.len() {
         let number = place as u64 + 1;
@@ -76,9 +146,9 @@ fn push_condition(
     condition: &Condition,
     verdict: &Verdict,
 ) -> Result<(), AllocError>
-    requires plain { IsPlain terms.now condition.now }
+    requires in_range { IsIn terms.now condition.now }
     requires verdict { IsVerdict terms.now condition.now verdict.now }
-    ensures { OnOk result (out.new.items ≡ out.old.items ++ condition_lines names.now titles.now terms.now number (claimed terms.now condition.now) verdict.now) }
+    ensures { OnOk result (out.new.items ≡ out.old.items ++ condition_lines names.now titles.now terms.now number (condition_of terms.now condition.now) verdict.now) }
 {
     push_claim(out, names, titles, terms, number, condition)?;
     match verdict {
@@ -99,9 +169,8 @@ pub fn push_claim(
     number: u64,
     condition: &Condition,
 ) -> Result<(), AllocError>
-    requires given { All (λ t. t.0 < length terms.now.nodes) condition.now.given }
-    requires goal { condition.now.goal.0 < length terms.now.nodes }
-    ensures lines { OnOk result (out.new.items ≡ out.old.items ++ claim_lines names.now titles.now number (claimed terms.now condition.now)) }
+    requires in_range { IsIn terms.now condition.now }
+    ensures lines { OnOk result (out.new.items ≡ out.old.items ++ claim_lines names.now titles.now number (condition_of terms.now condition.now)) }
 {
     push_heading(out, number, condition.origin)?;
     push_givens(out, names, titles, terms, condition.given.as_slice())?;
@@ -133,7 +202,7 @@ fn push_givens(
     terms: &Terms,
     given: &[TermId],
 ) -> Result<(), AllocError>
-    requires { All (λ t. t.0 < length terms.now.nodes) given.now }
+    requires { AllBelow (length terms.now.nodes) given.now }
     ensures { OnOk result (out.new.items ≡ out.old.items ++ flat_map (given_line names.now titles.now) (map (tree terms.now) given.now)) }
 {
     for t in given {
@@ -341,7 +410,7 @@ fn push_total(out: &mut Vec<u8>, verdicts: &[Verdict]) -> Result<(), AllocError>
 fn push_result(out: &mut Vec<u8>, verdicts: &[Verdict]) -> Result<(), AllocError>
     ensures { OnOk result (out.new.items ≡ out.old.items ++ line (spec.result verdicts.now)) }
 {
-    if spv_report::all_proved(verdicts) {
+    if spv_reports::all_proved(verdicts) {
         out.extend_from_slice(b"RESULT PROVED\n")?;
     } else {
         out.extend_from_slice(b"RESULT UNPROVED\n")?;

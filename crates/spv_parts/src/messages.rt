@@ -38,11 +38,12 @@ fn show_types(alloc: Global, out: &mut Vec<u8>) -> Result<(), AllocError> {
     add(alloc, Refusal::Control(12, List::new(alloc)), out)
 }
 
-// Those of frames, and of what is not built yet.
+// Those of frames, of limits, and of what is not built yet.
 fn show_frames(alloc: Global, out: &mut Vec<u8>) -> Result<(), AllocError> {
     add(alloc, Refusal::Alias(13, List::new(alloc)), out)?;
     add(alloc, Refusal::Global(14, List::new(alloc)), out)?;
     add(alloc, Refusal::Function(15, List::new(alloc)), out)?;
+    add(alloc, Refusal::Size(1, List::new(alloc)), out)?;
     add(alloc, Refusal::Form(1, List::new(alloc)), out)
 }
 

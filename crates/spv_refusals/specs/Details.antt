@@ -1,5 +1,5 @@
 -- What is told behind the line of a refusal: a word, a name, or items.
-use Rattle.std.specs.Prelude.{ℕ, List, [], ◌++◌, Option, Some, None, codes, slice_get}
+use Rattle.std.specs.Prelude.{ℕ, List, [], ◌++◌, Option, Some, None, codes, decimal, slice_get}
 use Rattle.spv_names.specs.declared.names.Symbol.{Symbol}
 use Rattle.spv_tokens.specs.declared.token.Word.{Word}
 use Rattle.spv_tokens.specs.declared.token.Word.TheVariants.{Packed, Set, File, With, In, Goto, Label}
@@ -45,3 +45,10 @@ item_text names titles (Class t) = codes "#" ++ title_text names (title titles t
 
 abbrev pub items_text : List (List ℕ) → List (Option Symbol) → Item → Item → List ℕ
 items_text names titles a b = item_text names titles a ++ codes " " ++ item_text names titles b
+
+-- how many conditions, or terms, there may be
+abbrev pub conditions_text : ℕ → List ℕ
+conditions_text most = codes "CONDITIONS " ++ decimal most
+
+abbrev pub terms_text : ℕ → List ℕ
+terms_text most = codes "TERMS " ++ decimal most

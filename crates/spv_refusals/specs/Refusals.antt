@@ -1,7 +1,7 @@
 -- The parts of a refusal: its number and word, its line, and what is told behind it.
 use Rattle.std.specs.Prelude.{ℕ, List, codes}
 use Rattle.spv_refusals.specs.declared.refusal.Refusal.{Refusal}
-use Rattle.spv_refusals.specs.declared.refusal.Refusal.TheVariants.{Byte, Comment, Numeral, Length, Syntax, Depth, Profile, Undeclared, Twice, Typing, Count, Alias, Nested, Parameter, Control, Global, Function, Form}
+use Rattle.spv_refusals.specs.declared.refusal.Refusal.TheVariants.{Byte, Comment, Numeral, Length, Syntax, Depth, Profile, Undeclared, Twice, Typing, Count, Alias, Nested, Parameter, Control, Global, Function, Size, Form}
 
 -- the number and the word of a refusal
 abbrev pub reason : Refusal → List ℕ
@@ -22,6 +22,7 @@ reason (Parameter line detail) = codes "14 PARAMETER"
 reason (Control line detail) = codes "15 CONTROL"
 reason (Global line detail) = codes "16 GLOBAL"
 reason (Function line detail) = codes "17 FUNCTION"
+reason (Size line detail) = codes "19 SIZE"
 reason (Form line detail) = codes "22 FORM"
 
 abbrev pub line_of : Refusal → ℕ
@@ -42,6 +43,7 @@ line_of (Parameter line detail) = line
 line_of (Control line detail) = line
 line_of (Global line detail) = line
 line_of (Function line detail) = line
+line_of (Size line detail) = line
 line_of (Form line detail) = line
 
 -- what is told behind the line
@@ -63,4 +65,5 @@ detail_of (Parameter line detail) = detail
 detail_of (Control line detail) = detail
 detail_of (Global line detail) = detail
 detail_of (Function line detail) = detail
+detail_of (Size line detail) = detail
 detail_of (Form line detail) = detail

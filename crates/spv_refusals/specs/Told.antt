@@ -13,11 +13,13 @@ use Rattle.spv_typing.specs.declared.faults.TypeFault.{TypeFault}
 use Rattle.spv_typing.specs.declared.faults.TypeFault.TheVariants as types
 use Rattle.spv_frame_walk.specs.declared.faults.FrameFault.{FrameFault}
 use Rattle.spv_frame_walk.specs.declared.faults.FrameFault.TheVariants as frames
+use Rattle.spv_events.specs.declared.faults.GenFault.{GenFault}
+use Rattle.spv_events.specs.declared.faults.GenFault.TheVariants as limits
 use Rattle.spv_refusals.specs.declared.refusal.Refusal.{Refusal}
-use Rattle.spv_refusals.specs.declared.refusal.Refusal.TheVariants.{Byte, Comment, Numeral, Length, Syntax, Depth, Profile, Undeclared, Twice, Typing, Count, Alias, Nested, Parameter, Control, Global, Function}
+use Rattle.spv_refusals.specs.declared.refusal.Refusal.TheVariants.{Byte, Comment, Numeral, Length, Syntax, Depth, Profile, Undeclared, Twice, Typing, Count, Alias, Nested, Parameter, Control, Global, Function, Size}
 use Rattle.spv_refusals.specs.declared.fault.VerifyFault.{VerifyFault}
 use Rattle.spv_refusals.specs.declared.fault.VerifyFault.TheVariants.{Refused, Memory}
-use Rattle.spv_refusals.specs.Details.{left_out_text, name_text, item_text, items_text}
+use Rattle.spv_refusals.specs.Details.{left_out_text, name_text, item_text, items_text, conditions_text, terms_text}
 
 abbrev pub token_refusal : LexFault → Option Refusal
 token_refusal (lex.BadByte line) = Some (Byte line [])
@@ -55,6 +57,12 @@ frame_refusal names titles (frames.Alias line a b) = Some (Alias line (items_tex
 frame_refusal names titles (frames.GlobalMissing line item) = Some (Global line (item_text names titles item))
 frame_refusal names titles (frames.FunctionWrites line x) = Some (Function line (name_text names x))
 frame_refusal names titles frames.Memory = None
+
+-- of a program whose conditions meet a limit
+abbrev pub limit_refusal : GenFault → Option Refusal
+limit_refusal (limits.Conditions most) = Some (Size 1 (conditions_text most))
+limit_refusal (limits.Terms most) = Some (Size 1 (terms_text most))
+limit_refusal limits.Memory = None
 
 abbrev pub told : Result Refusal AllocError → VerifyFault
 told (Ok r) = Refused r

@@ -1,6 +1,6 @@
 // What is told behind the line of a refusal.
 
-ghost use Rattle.std.specs.Prelude.{◌≡◌, ◌++◌, IfOk, OnOk};
+ghost use Rattle.std.specs.Prelude.{◌≡◌, ◌++◌, IfOk, OnOk, decimal};
 ghost use Rattle.std.specs.Fmt.{signed_decimal};
 ghost use Rattle.spv_refusals.specs.Details as spec;
 
@@ -131,4 +131,28 @@ pub(crate) fn items_detail(
     out.extend_from_slice(b" ")?;
     push_item(names, titles, second, &mut out)?;
     Ok(List::from_vec(out))
+}
+
+// A word, and a number behind it.
+fn counted(alloc: Global, word: &[u8], number: u32) -> Result<List<u8>, AllocError>
+    ensures { IfOk result (λ d. d ≡ word.now ++ decimal number) }
+{
+    let mut buffer = Buffer::new();
+    let mut out = Vec::from_slice(alloc, word)?;
+    out.extend_from_slice(buffer.format(number).as_bytes())?;
+    Ok(List::from_vec(out))
+}
+
+/// How many conditions there may be.
+pub(crate) fn conditions_detail(alloc: Global, most: u32) -> Result<List<u8>, AllocError>
+    ensures { IfOk result (λ d. d ≡ spec.conditions_text most) }
+{
+    counted(alloc, b"CONDITIONS ", most)
+}
+
+/// How many terms there may be.
+pub(crate) fn terms_detail(alloc: Global, most: u32) -> Result<List<u8>, AllocError>
+    ensures { IfOk result (λ d. d ≡ spec.terms_text most) }
+{
+    counted(alloc, b"TERMS ", most)
 }

@@ -8,4 +8,4 @@ mod told;
 
 pub use fault::VerifyFault;
 pub use refusal::Refusal;
-pub use told::{of_frames, of_text, of_types};
+pub use told::{of_frames, of_limits, of_text, of_types};

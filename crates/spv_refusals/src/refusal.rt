@@ -63,6 +63,9 @@ pub enum Refusal {
     /// A function that may change what is not its own: by a VAR parameter, or by a VAR group of its GLOBAL list. Its name is told.
     #[error("line {0}: this function changes what is not its own")]
     Function(u32, List<u8>),
+    /// The conditions of the program, or their terms, are more than there may be. The line is 1, and the limit is told.
+    #[error("the conditions are too many or too large")]
+    Size(u32, List<u8>),
     /// A program of the language that is not of the form that is accepted so far. The line is 1.
     #[error("the program is not of the form")]
     Form(u32, List<u8>),
@@ -91,6 +94,7 @@ impl Refusal {
             Refusal::Control(line, _) => *line,
             Refusal::Global(line, _) => *line,
             Refusal::Function(line, _) => *line,
+            Refusal::Size(line, _) => *line,
             Refusal::Form(line, _) => *line,
         }
     }
@@ -117,6 +121,7 @@ impl Refusal {
             Refusal::Control(_, detail) => detail.as_slice(),
             Refusal::Global(_, detail) => detail.as_slice(),
             Refusal::Function(_, detail) => detail.as_slice(),
+            Refusal::Size(_, detail) => detail.as_slice(),
             Refusal::Form(_, detail) => detail.as_slice(),
         }
     }
@@ -143,6 +148,7 @@ impl Refusal {
             Refusal::Control(_, _) => b"15 CONTROL",
             Refusal::Global(_, _) => b"16 GLOBAL",
             Refusal::Function(_, _) => b"17 FUNCTION",
+            Refusal::Size(_, _) => b"19 SIZE",
             Refusal::Form(_, _) => b"22 FORM",
         }
     }

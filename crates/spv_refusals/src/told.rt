@@ -4,9 +4,12 @@ ghost use Rattle.std.specs.Prelude.{◌≡◌, IfOk, Some};
 ghost use Rattle.spv_refusals.specs.Told as spec;
 ghost use Rattle.spv_refusals.specs.Told.{Tells};
 
-use crate::details::{item_detail, items_detail, name_detail, number_detail, word_detail};
+use crate::details::{
+    conditions_detail, item_detail, items_detail, name_detail, number_detail, terms_detail, word_detail,
+};
 use crate::fault::VerifyFault;
 use crate::refusal::Refusal;
+use spv_events::GenFault;
 use spv_frame_walk::FrameFault;
 use spv_language::LanguageFault;
 use spv_lexer::LexFault;
@@ -103,6 +106,17 @@ fn frame_refusal(
     }
 }
 
+// The refusal of a program whose conditions meet a limit.
+fn limit_refusal(alloc: Global, fault: GenFault) -> Result<Refusal, AllocError>
+    ensures { IfOk result (λ r. spec.limit_refusal fault ≡ Some r) }
+{
+    match fault {
+        GenFault::Conditions(most) => Ok(Refusal::Size(1, conditions_detail(alloc, most)?)),
+        GenFault::Terms(most) => Ok(Refusal::Size(1, terms_detail(alloc, most)?)),
+        GenFault::Memory => Err(AllocError),
+    }
+}
+
 // A refusal that could be made, or want of memory.
 fn told(refusal: Result<Refusal, AllocError>) -> VerifyFault
     ensures { result ≡ spec.told refusal }
@@ -137,4 +151,11 @@ pub fn of_frames(
     ensures { Tells (spec.frame_refusal names.now titles.now fault) result }
 {
     told(frame_refusal(alloc, names, titles, fault))
+}
+
+/// What a program is told to be refused for whose conditions, or their terms, are more than there may be.
+pub fn of_limits(alloc: Global, fault: GenFault) -> VerifyFault
+    ensures { Tells (spec.limit_refusal fault) result }
+{
+    told(limit_refusal(alloc, fault))
 }

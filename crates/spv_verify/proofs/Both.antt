@@ -1,47 +1,89 @@
 -- No text is refused and has a report.
-use Rattle.std.proofs.Common.{◌≡◌, inl, inr, ℕ, ◌≤◌, ◌<◌, List, [], length, Option, Some, None, Ok, Err, refl, sym, ap, ◌∙◌, subst, arith}
+use Rattle.std.proofs.Common.{◌≡◌, inl, inr, ℕ, ◌≤◌, ◌<◌, Bool, true, false, List, [], length, Option, Some, None, Ok, Err, refl, sym, ap, ◌∙◌, subst, arith}
+use Rattle.std.proofs.lemmas.Bool.{false≢true}
+use Rattle.std.proofs.lemmas.Option.{none-some}
 use Rattle.spv_lexer.specs.declared.LexFault.TheVariants as lex
 use Rattle.spv_parser.specs.declared.refused.SyntaxFault.TheVariants as syntax
 use Rattle.spv_language.specs.declared.fault.LanguageFault.{LanguageFault}
 use Rattle.spv_language.specs.declared.fault.LanguageFault.TheVariants.{Tokens, Tree}
 use Rattle.spv_language.specs.Texts.{IsFaultOf, TextsHaveOneTree}
-use Rattle.spv_syntax.specs.declared.programs.Program.{Program}
+use Rattle.spv_syntax.specs.declared.programs.Program.{Program as TextTree}
 use Rattle.spv_syntax.specs.Reads.{Reads}
-use Rattle.spv_typing.specs.declared.faults.TypeFault.{TypeFault}
-use Rattle.spv_typing.specs.Outcomes.{Outcome}
+use Rattle.spv_program.specs.Programs.{Program}
+use Rattle.spv_meaning.specs.ProgramConditions.{conditions_of}
 use Rattle.spv_well_typed.proofs.Outcomes.{no_fault, same_value}
 use Rattle.spv_frame_walk.specs.FrameWalk.{frame_fault}
-use Rattle.spv_form.proofs.Lists.{nothing}
-use Rattle.spv_report.specs.Reports.{Findings}
+use Rattle.spv_control.specs.Blocks.{only_control}
+use Rattle.spv_assign.specs.Conditions as arena
+use Rattle.spv_term.specs.Arena.{Arena}
+use Rattle.spv_term.specs.declared.nodes.Condition.{Condition}
+use Rattle.spv_decision.specs.declared.verdict.Verdict.{Verdict}
+use Rattle.spv_events.specs.declared.faults.GenFault.{GenFault}
+use Rattle.spv_events.specs.declared.faults.GenFault.TheVariants as limit
+use Rattle.spv_conditions.specs.Making.{MeetsLimit, IsWithinLimits, MeetsNoOther}
+use Rattle.spv_reports.specs.declared.mode.Mode.{Mode}
+use Rattle.spv_reports.specs.declared.mode.Mode.TheVariants.{Verify, Conditions}
+use Rattle.spv_reports.specs.Reports.{Findings, IsReportOn, AreVerdictsIn, has_verdicts, are_decided}
 use Rattle.spv_refusals.specs.declared.refusal.Refusal.{Refusal}
-use Rattle.spv_refusals.specs.Told.{text_refusal}
-use Rattle.spv_text_checks.specs.Walks.{IsSound, IsWalkRefusal, is_typed_as}
-use Rattle.spv_verify.specs.Refusals.{names_of, IsProgramOf, IsTreeRefusal, IsRefused, IsReportOf, HaveNotBoth}
+use Rattle.spv_refusals.specs.Told.{text_refusal, limit_refusal}
+use Rattle.spv_tree_reports.specs.Walks.{IsSound, IsWalkRefusal, is_typed_as}
+use Rattle.spv_tree_reports.specs.Programs.{IsProgramRefusal, IsTreeRefusal}
+use Rattle.spv_verify.specs.Refusals.{names_of, IsTextTree, IsProgramOf, IsRefused, IsReportOf, HaveNotBoth, IsOneProgram}
 
 -- a text with a report has no fault of reading
 by_reading : (text : List ℕ) (f : Findings) (r : Refusal) → IsReportOf text f → (fault : LanguageFault) → IsFaultOf Reads [] text fault → text_refusal fault ≡ Some r → ⊥
-by_reading text f r is (Tokens (lex.BadByte line)) (short, stop) told = nothing (sym is.tree.cut.read ∙ stop)
-by_reading text f r is (Tokens (lex.OpenComment line)) (short, stop) told = nothing (sym is.tree.cut.read ∙ stop)
-by_reading text f r is (Tokens (lex.NumeralTooLarge line)) (short, stop) told = nothing (sym is.tree.cut.read ∙ stop)
-by_reading text f r is (Tokens lex.TextTooLong) (above, long) told = let short : length text ≤ 4194304 = is.tree.cut.short in omega (arith, short, long)
-by_reading text f r is (Tokens lex.Memory) stops told = nothing told
-by_reading text f r is (Tree (syntax.Profile line word)) (cut, out) told = nothing (sym is.tree.allowed.known ∙ out)
-by_reading text f r is (Tree (syntax.TooDeep line)) (cut, (known, deep)) told = nothing (sym is.tree.allowed.shallow ∙ deep)
-by_reading text f r is (Tree (syntax.Syntax line)) (cut, (allowed, none)) told = none is.program is.tree.is_tree
-by_reading text f r is (Tree syntax.Memory) stops told = nothing told
+by_reading text f r is (Tokens (lex.BadByte line)) (short, stop) told = none-some _ (sym is.of_text.is_tree.cut.read ∙ stop)
+by_reading text f r is (Tokens (lex.OpenComment line)) (short, stop) told = none-some _ (sym is.of_text.is_tree.cut.read ∙ stop)
+by_reading text f r is (Tokens (lex.NumeralTooLarge line)) (short, stop) told = none-some _ (sym is.of_text.is_tree.cut.read ∙ stop)
+by_reading text f r is (Tokens lex.TextTooLong) (above, long) told = let short : length text ≤ 4194304 = is.of_text.is_tree.cut.short in omega (arith, short, long)
+by_reading text f r is (Tokens lex.Memory) stops told = none-some _ told
+by_reading text f r is (Tree (syntax.Profile line word)) (cut, out) told = none-some _ (sym is.of_text.is_tree.allowed.known ∙ out)
+by_reading text f r is (Tree (syntax.TooDeep line)) (cut, (known, deep)) told = none-some _ (sym is.of_text.is_tree.allowed.shallow ∙ deep)
+by_reading text f r is (Tree (syntax.Syntax line)) (cut, (allowed, none)) told = none is.of_text.tree is.of_text.is_tree.is_tree
+by_reading text f r is (Tree syntax.Memory) stops told = none-some _ told
+
+-- a tree is one program
+one_program : (names : List (List ℕ)) (tree : TextTree) (p q : Program) → IsSound names tree p → is_typed_as names tree q → p ≡ q
+one_program names tree p q sound typed = same_value (sym sound.typed ∙ typed)
 
 -- a sound tree has no fault of a walk
-sound_not_refused : (names : List (List ℕ)) (tree : Program) (r : Refusal) → IsSound names tree → IsWalkRefusal names tree r → ⊥
-sound_not_refused names tree r sound (inl type) = no_fault (sym type.stops ∙ sound.typed)
-sound_not_refused names tree r sound (inr (p, typed, frame)) =
-    let same : sound.program ≡ p = same_value (sym sound.typed ∙ typed) in
-    nothing (sym sound.framed ∙ ap frame_fault same ∙ frame.stops)
+sound_not_refused : (names : List (List ℕ)) (tree : TextTree) (p : Program) (r : Refusal) → IsSound names tree p → IsWalkRefusal names tree r → ⊥
+sound_not_refused names tree p r sound (inl type) = no_fault (sym type.stops ∙ sound.typed)
+sound_not_refused names tree p r sound (inr (q, typed, frame)) = none-some _ (sym sound.framed ∙ ap frame_fault (one_program names tree p q sound typed) ∙ frame.stops)
 
-by_tree : (text : List ℕ) (f : Findings) (r : Refusal) (is : IsReportOf text f) → IsTreeRefusal (names_of text) is.program r → ⊥
-by_tree text f r is (inl walk) = sound_not_refused (names_of text) is.program r is.sound walk
-by_tree text f r is (inr none) = none.none f.form is.form
+never : (b : Bool) → b ≡ true → b ≡ false → ⊥
+never b h k = false≢true (sym k ∙ h)
 
-pub not_both : TextsHaveOneTree Reads → HaveNotBoth
-not_both one text f r is (inl reading) = by_reading text f r is reading.fault reading.stops reading.told
-not_both one text f r is (inr (tree, tree_is, refused)) =
-    by_tree text f r is (subst (λ t. IsTreeRefusal (names_of text) t r) (one [] text tree is.program tree_is is.tree) refused)
+-- where there are verdicts, all is decided
+all_decided : (mode : Mode) (a : Arena) (cs : List Condition) (vs : List Verdict) → has_verdicts mode ≡ true → AreVerdictsIn mode a cs vs → are_decided (arena.conditions_of a cs) ≡ true
+all_decided Verify a cs vs asked right = right.1
+all_decided Conditions a cs vs asked right = absurd (false≢true asked)
+
+module _ (one : MeetsNoOther) (p : Program) (f : Findings) (is : IsReportOn p f) where
+  within : IsWithinLimits p
+  within = record { arena = f.arena; sound = is.sound; walked = is.within }
+
+  no_limit : (e : GenFault) (r : Refusal) → MeetsLimit e p → limit_refusal e ≡ Some r → ⊥
+  no_limit e r meets told = none-some _ (sym (ap limit_refusal (one p e meets within)) ∙ told)
+
+  -- the program of a report has no refusal
+  pub program_not_refused : (r : Refusal) → IsProgramRefusal f.mode p r → ⊥
+  program_not_refused r (inl form) = never (only_control p) is.covered form.0
+  program_not_refused r (inr (inl limits)) = no_limit limits.limit r limits.meets limits.told
+  program_not_refused r (inr (inr decision)) =
+      never (are_decided (conditions_of p)) (ap are_decided (sym is.conditions) ∙ all_decided f.mode f.arena f.conditions f.verdicts decision.asked is.verdicts) decision.undecided
+
+  pub tree_not_refused : (names : List (List ℕ)) (tree : TextTree) (r : Refusal) → IsSound names tree p → IsTreeRefusal f.mode names tree r → ⊥
+  tree_not_refused names tree r sound (inl walk) = sound_not_refused names tree p r sound walk
+  tree_not_refused names tree r sound (inr (q, other, refused)) =
+      program_not_refused r (subst (λ (x : Program). IsProgramRefusal f.mode x r) (sym (one_program names tree p q sound other.typed)) refused)
+
+pub not_both : TextsHaveOneTree Reads → MeetsNoOther → HaveNotBoth
+not_both trees one text f r of (inl reading) = by_reading text f r of reading.fault reading.stops reading.told
+not_both trees one text f r of (inr (tree, tree_is, refused)) =
+    tree_not_refused one of.program f of.is_on (names_of text) of.of_text.tree r of.of_text.sound
+    (subst (λ (t : TextTree). IsTreeRefusal f.mode (names_of text) t r) (trees [] text tree of.of_text.tree tree_is of.of_text.is_tree) refused)
+
+pub is_one_program : TextsHaveOneTree Reads → IsOneProgram
+is_one_program trees text p q h k =
+    one_program (names_of text) h.tree p q h.sound (subst (λ (t : TextTree). is_typed_as (names_of text) t q) (trees [] text k.tree h.tree k.is_tree h.is_tree) k.sound.typed)

@@ -7,7 +7,8 @@ use Rattle.spv_language.specs.declared.fault.LanguageFault.{LanguageFault}
 use Rattle.spv_language.specs.declared.fault.LanguageFault.TheVariants.{Tokens, Tree}
 use Rattle.spv_language.specs.Texts.{IsShort, IsFaultOf}
 use Rattle.spv_syntax.specs.Reads.{Reads}
-use Rattle.spv_report.specs.Reports.{Findings}
+use Rattle.spv_reports.specs.declared.mode.Mode.{Mode}
+use Rattle.spv_reports.specs.Reports.{Findings}
 use Rattle.spv_refusals.specs.declared.refusal.Refusal.{Refusal}
 use Rattle.spv_refusals.specs.Told.{text_refusal}
 use Rattle.spv_verify.specs.Refusals.{IsReadingRefusal, IsRefused, IsReportOf}
@@ -26,7 +27,7 @@ longer text h = fits (length text) (length (take 4194305 text)) (length-take 419
     fits n m e h = grind (arith)
 
 pub report_whole : (text : List ℕ) (r : Findings) → IsReportOf (take 4194305 text) r → IsReportOf text r
-report_whole text r is = subst (λ t. IsReportOf t r) (whole text is.tree.cut.short) is
+report_whole text r is = subst (λ t. IsReportOf t r) (whole text is.of_text.is_tree.cut.short) is
 
 -- a text that is too long is so, and the other way round
 long_of : (text : List ℕ) → IsFaultOf Reads [] text (Tokens lex.TextTooLong) → 4194304 < length text
@@ -46,6 +47,6 @@ fault_whole text (Tree (syntax.TooDeep line)) is = subst (λ t. IsFaultOf Reads 
 fault_whole text (Tree (syntax.Syntax line)) is = subst (λ t. IsFaultOf Reads [] t (Tree (syntax.Syntax line))) (whole text is.0.short) is
 fault_whole text (Tree syntax.Memory) is = subst (λ t. IsFaultOf Reads [] t (Tree syntax.Memory)) (whole text is.0.short) is
 
-pub refused_whole : (text : List ℕ) (r : Refusal) → IsRefused (take 4194305 text) r → IsRefused text r
-refused_whole text r (inl reading) = inl (record { fault = reading.fault; stops = fault_whole text reading.fault reading.stops; told = reading.told })
-refused_whole text r (inr (tree, tree_is, refused)) = subst (λ t. IsRefused t r) (whole text tree_is.cut.short) (inr (tree, tree_is, refused))
+pub refused_whole : (mode : Mode) (text : List ℕ) (r : Refusal) → IsRefused mode (take 4194305 text) r → IsRefused mode text r
+refused_whole mode text r (inl reading) = inl (record { fault = reading.fault; stops = fault_whole text reading.fault reading.stops; told = reading.told })
+refused_whole mode text r (inr (tree, tree_is, refused)) = subst (λ t. IsRefused mode t r) (whole text tree_is.cut.short) (inr (tree, tree_is, refused))

@@ -2,9 +2,9 @@ use Rattle.std.proofs.Common.{◌≡◌, ◌++◌, ◌<◌, ◌+◌, ℕ, List, 
 use Rattle.spv_term.specs.declared.nodes.Condition.{Condition}
 use Rattle.spv_decision.specs.declared.verdict.Verdict.{Verdict}
 use Rattle.spv_decision.specs.Verdicts.{IsVerdict}
-use Rattle.spv_report.specs.Reports.{claimed}
+use Rattle.spv_assign.specs.Conditions.{IsIn, condition_of, conditions_of}
 use Rattle.spv_listing.specs.Page.{blocks, condition_lines}
-use Rattle.spv_listing.proofs.Chains.{then_added, same_length, verdict_at, blocks_more, blocks_all}
+use Rattle.spv_listing.proofs.Chains.{then_added, in_at, same_length, verdict_at, blocks_more, blocks_all}
 use Rattle.spv_listing.proofs.listing.push_blocks.Goals as goal
 
 pub bounds-verdicts-place : goal.bounds-verdicts-place
@@ -19,6 +19,10 @@ push_condition-requires-clause-verdict c =
     let here = verdict_at a c.args.conditions.now c.args.verdicts.now c.loop-place.place condition verdict c.requires.verdicts c.loop-place-test.true in
     subst (λ d. IsVerdict a d verdict) (sym c.index-conditions-place.is) (subst (IsVerdict a _) (sym c.index-verdicts-place.is) here)
 
+pub push_condition-requires-clause-in_range : goal.push_condition-requires-clause-in_range
+push_condition-requires-clause-in_range c =
+    subst (IsIn c.args.terms.now) (sym c.index-conditions-place.is) (in_at c.args.terms.now c.args.conditions.now c.loop-place.place c.index-conditions-place.result c.requires.in_range c.loop-place-test.true)
+
 pub loop-place-preserved : goal.loop-place-preserved
 loop-place-preserved c =
     let names = c.args.names.now in
@@ -31,13 +35,13 @@ loop-place-preserved c =
     let verdict = c.index-verdicts-place.result in
     let next : suc k ≡ k + 1 = grind (arith) in
     let more = blocks_more names titles a 1 cs vs k condition verdict c.requires.verdicts c.loop-place-test.true in
-    let all = then_added c.args.out.now.items c.loop-place.out.items c.push_condition.new.out.items (blocks names titles a 1 (map (claimed a) (take k cs)) (take k vs)) (condition_lines names titles a (k + 1) (claimed a condition) verdict) c.loop-place.invariant c.in_ok-push_condition.ensures in
-    let lines : Condition → Verdict → List ℕ = λ d w. condition_lines names titles a (k + 1) (claimed a d) w in
+    let all = then_added c.args.out.now.items c.loop-place.out.items c.push_condition.new.out.items (blocks names titles a 1 (conditions_of a (take k cs)) (take k vs)) (condition_lines names titles a (k + 1) (condition_of a condition) verdict) c.loop-place.invariant c.in_ok-push_condition.ensures in
+    let lines : Condition → Verdict → List ℕ = λ d w. condition_lines names titles a (k + 1) (condition_of a d) w in
     let same = ap (λ d. lines d verdict) c.index-conditions-place.is ∙ ap (lines (get_or cs k condition)) c.index-verdicts-place.is in
     all
-    ∙ ap (λ l. c.args.out.now.items ++ (blocks names titles a 1 (map (claimed a) (take k cs)) (take k vs) ++ l)) same
+    ∙ ap (λ l. c.args.out.now.items ++ (blocks names titles a 1 (conditions_of a (take k cs)) (take k vs) ++ l)) same
     ∙ ap (λ l. c.args.out.now.items ++ l) (sym more)
-    ∙ ap (λ m. c.args.out.now.items ++ blocks names titles a 1 (map (claimed a) (take m cs)) (take m vs)) next
+    ∙ ap (λ m. c.args.out.now.items ++ blocks names titles a 1 (conditions_of a (take m cs)) (take m vs)) next
 
 pub returns : goal.returns
 returns c =

@@ -1,8 +1,0 @@
-use Rattle.spv_report.proofs.Reports.{proved_correct}
-use Rattle.spv_report.proofs.report.law_report.Goals as goal
-
-pub returns-clause-every_world : goal.returns-clause-every_world
-returns-clause-every_world g c world = proved_correct c.args.report.now c.law_findings.ensures world
-
-pub returns-clause-this_world : goal.returns-clause-this_world
-returns-clause-this_world g c = proved_correct c.args.report.now c.law_findings.ensures (g.W.World.apply c.args.world.now)
