@@ -1,0 +1,5 @@
+//! Tests of typed formula texts.
+#![tactic(auto)]
+
+#[cfg(test)]
+mod formulas;
