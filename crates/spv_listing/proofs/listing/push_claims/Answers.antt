@@ -6,8 +6,9 @@ use Rattle.spv_listing.proofs.Chains.{then_added, in_at, claims_more, claims_all
 use Rattle.spv_listing.proofs.listing.push_claims.Goals as goal
 
 pub push_claim-requires : goal.push_claim-requires
-push_claim-requires c =
-    subst (IsIn c.args.terms.now) (sym c.index-conditions-place.is) (in_at c.args.terms.now c.args.conditions.now c.loop-place.place c.index-conditions-place.result c.requires c.loop-place-test.true)
+push_claim-requires c = record {
+  in_range = subst (IsIn c.args.terms.now) (sym c.index-conditions-place.is) (in_at c.args.terms.now c.args.conditions.now c.loop-place.place c.index-conditions-place.result c.requires c.loop-place-test.true);
+}
 
 pub loop-place-preserved : goal.loop-place-preserved
 loop-place-preserved c =
@@ -19,7 +20,7 @@ loop-place-preserved c =
     let condition = c.index-conditions-place.result in
     let next : suc k ≡ k + 1 = grind (arith) in
     let more = claims_more names titles a 1 cs k condition c.loop-place-test.true in
-    let all = then_added c.args.out.now.items c.loop-place.out.items c.push_claim.new.out.items (claims names titles 1 (conditions_of a (take k cs))) (claim_lines names titles (k + 1) (condition_of a condition)) c.loop-place.invariant c.in_ok-push_claim.ensures in
+    let all = then_added c.args.out.now.items c.loop-place.out.items c.push_claim.new.out.items (claims names titles 1 (conditions_of a (take k cs))) (claim_lines names titles (k + 1) (condition_of a condition)) c.loop-place.invariant c.in_ok-push_claim.ensures.lines in
     let lines : Condition → List ℕ = λ d. claim_lines names titles (k + 1) (condition_of a d) in
     all
     ∙ ap (λ l. c.args.out.now.items ++ (claims names titles 1 (conditions_of a (take k cs)) ++ l)) (ap lines c.index-conditions-place.is)
