@@ -32,7 +32,8 @@ fn walked_text(alloc: Global, text: &[u8]) -> Option<Result<Option<u32>, TypeFau
 
 #[test]
 fn a_formula_is_typed(rt: HostRuntime) -> Result<(), Fail> {
-    let text = b"PROGRAM l;\nDECLARE U: LIST; V: LIST;\nASSERT NOT ATOM(CONS(U, V)) AND (CAR(CONS(U, V)) = U).";
+    let text =
+        b"PROGRAM l;\nDECLARE U: LIST; V: LIST;\nASSERT NOT ATOM(CONS(U, V)) AND (CAR(CONS(U, V)) = U).";
     let line = walked_text(rt.alloc(), text);
     assert!(rt; matches!(line, Some(Ok(Some(3)))));
     Ok(())

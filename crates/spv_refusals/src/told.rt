@@ -5,7 +5,8 @@ ghost use Rattle.spv_refusals.specs.Told as spec;
 ghost use Rattle.spv_refusals.specs.Told.{Tells};
 
 use crate::details::{
-    conditions_detail, item_detail, items_detail, name_detail, number_detail, terms_detail, word_detail,
+    conditions_detail, item_detail, items_detail, name_detail, number_detail, terms_detail,
+    word_detail,
 };
 use crate::fault::VerifyFault;
 use crate::refusal::Refusal;

@@ -45,12 +45,7 @@ fn framed_report(
             Ok(report) => Ok(report),
             Err(fault) => Err(told(alloc, mode, fault)),
         },
-        Err(fault) => Err(of_frames(
-            alloc,
-            &names,
-            program.titles.as_slice(),
-            fault,
-        )),
+        Err(fault) => Err(of_frames(alloc, &names, program.titles.as_slice(), fault)),
     }
 }
 
