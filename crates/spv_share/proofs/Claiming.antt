@@ -1,5 +1,5 @@
 -- A literal more, on both sides.
-use Rattle.std.proofs.Common.{◌≡◌, ℕ, Vec, Global, map, List, [], ◌∷◌, ◌++◌, take, length, refl, sym, ap, ◌∙◌, subst, Option, Some, None, IfSome}
+use Rattle.std.proofs.Common.{◌≡◌, ℕ, Vec, Global, List, [], ◌∷◌, ◌++◌, take, length, refl, sym, ap, ◌∙◌, subst, Option, Some, None, IfSome}
 use Rattle.spv_logic.specs.declared.conditions.TermId.{TermId}
 use Rattle.spv_term.specs.Arena.{Arena, tree}
 use Rattle.spv_course.specs.declared.entries.Part.{Part}
@@ -9,13 +9,14 @@ use Rattle.spv_course.proofs.Literals.{literals-append}
 use Rattle.spv_share_graph.specs.declared.trail.Trail.{Trail}
 use Rattle.spv_share_graph.specs.Holding.{Grows, MayTell}
 use Rattle.spv_share_graph.specs.Telling.{literal_ties, ties}
-use Rattle.std.proofs.lemmas.List.{map-append}
 use Rattle.spv_share_rows.specs.declared.standing.Standing.{Standing}
 use Rattle.spv_share_rows.specs.Standing.{AddsSome}
 use Rattle.spv_share.specs.declared.relations.Related.{Related}
 use Rattle.spv_share.specs.declared.relations.Claim.{Claim}
+use Rattle.spv_share.specs.declared.relations.Noted.{Noted}
 use Rattle.spv_share.specs.declared.both.Both.{Both}
-use Rattle.spv_share.specs.Relations.{claim, claim_of, find}
+use Rattle.spv_share.specs.Relations.{claim, find}
+use Rattle.spv_share.proofs.Noted.{noted_as, noted_push}
 use Rattle.spv_share.specs.Both.{AreReasoned, IsBoth, IsClaimed, IsSound, KeepsLevels, Stays, told}
 use Rattle.spv_share.proofs.Reasons.{reasons_told}
 use Rattle.spv_share.proofs.Rowed.{literal_claimed}
@@ -28,7 +29,7 @@ claimed_some a b h t p k rels None e is fact = tt
 claimed_some a b h t p k rels (Some c) e is fact = literal_claimed a b h t p c k (ap (λ rs. claim (find rs t) p) (sym e) ∙ sym is) fact
 
 -- levels stay where a literal was told
-pub levels_told : (a : Arena) (old : Both) (tr : Trail) (mid new : Both) (more : List (Option Claim)) → Grows old.trail tr → AddsSome old.standing mid.standing → mid.trail ≡ tr → mid.relations ≡ old.relations
+pub levels_told : (a : Arena) (old : Both) (tr : Trail) (mid new : Both) (more : List Noted) → Grows old.trail tr → AddsSome old.standing mid.standing → mid.trail ≡ tr → mid.relations ≡ old.relations
     → new.trail ≡ mid.trail → new.standing ≡ mid.standing → new.relations ≡ mid.relations → new.claims.items ≡ old.claims.items ++ more → KeepsLevels a old new
 levels_told a old tr mid new more grows adds trail relations same_trail same_standing same_relations claims = λ l h.
     level_stays a old new l
@@ -58,19 +59,17 @@ abbrev one_literal : TermId → Part → ℕ → Literal
 one_literal t p why = record { atom = t; part = p; why = why }
 
 -- a literal was told on both sides
-pub both_told : (a : Arena) (old mid : Both) (tr : Trail) (rels : List Related) (t : TermId) (p : Part) (why : ℕ) (o : Option Claim) (cs : VecOf (Option Claim)) → IsBoth a old → MayTell a old.trail t p → IsSound a mid → mid.trail ≡ tr → mid.relations ≡ old.relations
-    → mid.claims ≡ old.claims → rels ≡ old.relations.items → o ≡ claim (find rels t) p → cs.items ≡ mid.claims.items ++ o ∷ [] → literals tr.course ≡ told old ++ record { atom = t; part = p; why = why } ∷ []
+pub both_told : (a : Arena) (old mid : Both) (tr : Trail) (rels : List Related) (t : TermId) (p : Part) (why k : ℕ) (o : Option Claim) (cs : VecOf Noted) → IsBoth a old → MayTell a old.trail t p → IsSound a mid → Grows old.trail tr → mid.trail ≡ tr
+    → mid.relations ≡ old.relations → mid.claims ≡ old.claims → rels ≡ old.relations.items → o ≡ claim (find rels t) p → cs.items ≡ mid.claims.items ++ record { claim = o; fact = k } ∷ []
+    → fact_at a tr.course k ≡ Some (literal (tree a t) p) → literals tr.course ≡ told old ++ record { atom = t; part = p; why = why } ∷ []
     → ties tr.graph.told ≡ ties old.trail.graph.told ++ literal_ties a old.trail.truth old.trail.falsity t p → IsBoth a (record mid { claims = cs })
-both_told a old mid tr rels t p why o cs h may sound trail relations claims rels_are is pushed literals_are ties_are = record {
+both_told a old mid tr rels t p why k o cs h may sound grows trail relations claims rels_are is pushed fact literals_are ties_are = record {
   sound = sound_as a mid (record mid { claims = cs }) sound refl refl refl refl refl;
   claims =
-      pushed
-      ∙ (ap (λ v. v.items ++ o ∷ []) claims
-      ∙ (ap (λ xs. xs ++ o ∷ []) h.claims
-      ∙ (ap (λ x. map (claim_of old.relations.items) (told old) ++ x ∷ []) (is ∙ ap (λ rs. claim (find rs t) p) rels_are)
-      ∙ (sym (map-append (claim_of old.relations.items) (told old) (one_literal t p why ∷ []))
-      ∙ (ap (map (claim_of old.relations.items)) (sym (ap (λ (x : Trail). literals x.course) trail ∙ literals_are))
-      ∙ ap (λ v. map (claim_of v.items) (told mid)) (sym relations))))));
+      noted_as a old.relations.items mid.relations.items tr.course mid.trail.course cs.items cs.items (ap (λ v. v.items) relations) (ap (λ (x : Trail). x.course) trail) refl
+      (noted_push a old.relations.items old.trail.course grows.entries tr.course old.claims.items cs.items (one_literal t p why) (record { claim = o; fact = k }) grows.course literals_are
+      (pushed ∙ ap (λ v. v.items ++ record { claim = o; fact = k } ∷ []) claims)
+      (record { within = may.formula.within; claim = is ∙ ap (λ rs. claim (find rs t) p) rels_are; fact = fact }) h.claims);
   reasons =
       subst (λ v. AreReasoned a v.items (told mid) (ties mid.trail.graph.told)) (sym relations)
       (subst (λ (x : Trail). AreReasoned a old.relations.items (literals x.course) (ties x.graph.told)) (sym trail)

@@ -21,7 +21,7 @@ use Rattle.spv_readings.specs.Relations.{if_numbers, in_front, number_sides, rel
 use Rattle.spv_share_graph.specs.declared.trail.Trail.{Trail}
 use Rattle.spv_share_graph.specs.Holding.{AddsTerm, Holds}
 use Rattle.spv_share.specs.declared.relations.Related.{Related}
-use Rattle.spv_share.specs.Relations.{AreNodes, AreParts, AreRelations, head_under, IsGathered, IsPartOf, IsRelation, related, sides_in}
+use Rattle.spv_share.specs.Relations.{AreNodes, AreParts, AreRelations, head_under, AreListed, IsGathered, IsListed, IsPartOf, IsRelation, related, sides_in}
 use Rattle.spv_share.proofs.Sound.{relations_more}
 
 -- ---- one item more
@@ -59,6 +59,29 @@ among_push test (u ∷ ts) t = ap (in_front (number_sides test u)) (among_push t
     front_append : (o : Option (Term × Term)) (xs ys : List (Term × Term)) → in_front o xs ++ ys ≡ in_front o (xs ++ ys)
     front_append None xs ys = refl
     front_append (Some st) xs ys = refl
+
+-- ---- relations that are listed
+
+listed_on : (old more new : List Related) (t : TermId) → new ≡ old ++ more → IsListed old t → IsListed new t
+listed_on old more new t e h = record {
+  row = h.row;
+  relation = h.relation;
+  there = ap (λ rs. slice_get rs h.row) e ∙ (slice_get-append_left old more h.row (slice_get_within old h.row h.relation h.there) ∙ h.there);
+  is = h.is;
+}
+
+listed_push : (a : Arena) (ts : List TermId) (t : TermId) (old more new : List Related) → new ≡ old ++ more → AreListed a ts old → ((st : Term × Term) → number_sides (number_in a) (tree a t) ≡ Some st → IsListed new t) → AreListed a (ts ++ t ∷ []) new
+listed_push a ts t old more new e h k = record { each = each }
+  where
+    each : (i : ℕ) (u : TermId) (st : Term × Term) → slice_get (ts ++ t ∷ []) i ≡ Some u → number_sides (number_in a) (tree a u) ≡ Some st → IsListed new u
+    each i u st at sides = elim (cases_lt i (length ts)) [
+      | inl below ↦ listed_on old more new u e (h.each i u st (sym (slice_get-append_left ts (t ∷ []) i below) ∙ at) sides)
+      | inr above ↦
+          let inside = slice_get_within (ts ++ t ∷ []) i u at in
+          let last : i ≡ length ts = omega (arith, length_push ts t) in
+          let same : t ≡ u = same_Some t u (sym (slice_get_push ts t) ∙ ap (slice_get (ts ++ t ∷ [])) (sym last) ∙ at) in
+          subst (IsListed new) same (k st (ap (λ (x : TermId). number_sides (number_in a) (tree a x)) same ∙ sides))
+    ]
 
 -- ---- parts
 
@@ -155,7 +178,11 @@ gathered_other a old new ts t rels h holds adds node none = record {
       ∙ (sym (append-nil (relations (number_in a) (map (tree a) ts)))
       ∙ (ap (λ o. relations (number_in a) (map (tree a) ts) ++ in_front o []) (sym none)
       ∙ (sym (among_push (number_in a) (map (tree a) ts) (tree a t)) ∙ ap (relations (number_in a)) (sym (map-append (tree a) ts (t ∷ []))))));
+  listed = listed_push a ts t rels [] rels (sym (append-nil rels)) h.listed (λ st sides. absurd (no_sides st (sym none ∙ sides)));
 }
+  where
+    no_sides : (st : Term × Term) → None ≡ Some st → ⊥
+    no_sides st e = cc
 
 -- ---- a relation
 
@@ -213,6 +240,14 @@ gathered_relation a ok old first second new ts t l r old_rels new_rels inside h 
       ∙ (ap (λ xs. xs ++ two (tree a l) (tree a r) ∷ []) h.among
       ∙ (ap (λ o. relations (number_in a) (map (tree a) ts) ++ in_front o []) (sym sides)
       ∙ (sym (among_push (number_in a) (map (tree a) ts) (tree a t)) ∙ ap (relations (number_in a)) (sym (map-append (tree a) ts (t ∷ [])))))));
+  listed =
+      listed_push a ts t old_rels (related a t l r (length old_rels) ∷ []) new_rels pushed h.listed
+      (λ st e. record {
+        row = length old_rels;
+        relation = related a t l r (length old_rels);
+        there = ap (λ rs. slice_get rs (length old_rels)) pushed ∙ slice_get_push old_rels (related a t l r (length old_rels));
+        is = refl;
+      });
 }
   where
     up : (u : TermId) → IsNode old.graph.nodes u → IsNode new.graph.nodes u
@@ -244,6 +279,7 @@ gathered_none a tr h course untold parts = record {
   nodes = record { each = λ i t at. absurd (nothing i t at) };
   are = record { each = λ i r at. absurd (no_relation i r at); placed = λ i r at. absurd (no_relation i r at) };
   among = refl;
+  listed = record { each = λ i t st at e. absurd (nothing i t at) };
 }
   where
     nothing : (i : ℕ) (t : TermId) → slice_get (ids []) i ≡ Some t → ⊥

@@ -1,5 +1,5 @@
 -- Both sides go on.
-use Rattle.std.proofs.Common.{◌≡◌, ℕ, ◌≤◌, ◌∷◌, true, not, ◌&&◌, Result, Ok, Err, OnErr, OnOk, Some, List, [], ◌++◌, map, take, length, refl, sym, ap, ◌∙◌, subst}
+use Rattle.std.proofs.Common.{◌≡◌, ℕ, ◌≤◌, ◌∷◌, true, not, ◌&&◌, Result, Ok, Err, OnErr, OnOk, Some, List, [], ◌++◌, take, length, refl, sym, ap, ◌∙◌, subst}
 use Rattle.std.proofs.lemmas.List.{append-nil}
 use Rattle.std.specs.Prelude.{slice_get}
 use Rattle.spv_term.specs.Arena.{Arena, IsArena}
@@ -18,7 +18,9 @@ use Rattle.spv_share_rows.proofs.Adding.{adds_none, adds_then}
 use Rattle.spv_share_rows.proofs.Trying.{back_adds, back_sourced}
 use Rattle.spv_share.specs.declared.both.Both.{Both}
 use Rattle.spv_share.specs.declared.relations.Related.{Related}
-use Rattle.spv_share.specs.Relations.{claim_of, sayable}
+use Rattle.spv_share.specs.Relations.{AreSaid, sayable}
+use Rattle.spv_share.proofs.Noted.{noted_as, noted_more}
+use Rattle.spv_share.proofs.Saying.{said_as}
 use Rattle.spv_share.specs.Both.{AreReasoned, IsBoth, IsSound, KeepsLevels, Stays, told}
 use Rattle.spv_share.specs.States.{GoesOn, is_equality, is_open, IsStill}
 use Rattle.spv_share.proofs.Closing.{open_head, same_on, was_open}
@@ -116,9 +118,9 @@ goes_joined a ok old tr row r (Ok x) h at unjoined holds grows same joined graph
 }
 
 pub goes_standing : (a : Arena) (old : Both) (st : Standing) → IsSound a old → IsStanding st → AddsSome old.standing st → Sourced a (readings a old.trail.course) st st.tableau.bounds
-    → HoldsAsserted (sayable old.relations.items old.standing.tableau.forms) st.tableau → GoesOn a old (record old { standing = st })
-goes_standing a old st h stands adds sourced asserted = record {
-  sound = sound_standing a old st h stands adds.adds.forms sourced asserted;
+    → HoldsAsserted (sayable old.relations.items old.standing.tableau.forms) st.tableau → AreSaid old.relations.items st.tableau.forms st.tableau.bounds → GoesOn a old (record old { standing = st })
+goes_standing a old st h stands adds sourced asserted said = record {
+  sound = sound_standing a old st h stands adds.adds.forms sourced asserted said;
   trail = grows_same old.trail old.trail refl refl refl refl;
   standing = adds;
   told_same = refl;
@@ -144,15 +146,25 @@ goes_given a old tr new g sound adds trail relations claims = record {
   closes = λ row r at e. g.closes row r at (ap (λ (x : Trail). is_equality r.head && not (are_same x.graph r.left r.right)) (sym trail) ∙ e);
 }
 
+-- something was said of a row
+pub goes_said : (a : Arena) (old new : Both) → IsSound a old → IsSound a new → AddsSome old.standing new.standing → new.trail ≡ old.trail → new.relations ≡ old.relations → new.claims ≡ old.claims → GoesOn a old new
+goes_said a old new h sound adds trail relations claims = goes_given a old old.trail new (goes_same a old h) sound adds trail relations claims
+
+pub goes_as : (a : Arena) (old mid new : Both) → mid ≡ old → GoesOn a mid new → GoesOn a old new
+goes_as a old mid new e g = subst (λ (b : Both). GoesOn a b new) e g
+
 -- as many bounds, and the same
 pub goes_back : (a : Arena) (old : Both) (st : Standing) → IsSound a old → IsStanding st → IsBack old.standing st → HoldsAsserted (sayable old.relations.items old.standing.tableau.forms) st.tableau → GoesOn a old (record old { standing = st })
 goes_back a old st h stands back asserted =
     goes_standing a old st h stands (adds_back old.standing st back) (back_sourced a (readings a old.trail.course) old.standing st back h.sourced) asserted
+    (said_as old.relations.items old.relations.items old.standing.tableau.forms st.tableau.forms old.standing.tableau.bounds st.tableau.bounds refl back.forms back.bounds h.said)
 
 pub goes_both : (a : Arena) (old new : Both) → IsBoth a old → GoesOn a old new → IsBoth a new
 goes_both a old new h g = record {
   sound = g.sound;
-  claims = g.claims ∙ (h.claims ∙ (ap (λ rs. map (claim_of rs) (told old)) (sym g.relations) ∙ ap (map (claim_of new.relations.items)) (sym g.told_same)));
+  claims =
+      noted_as a old.relations.items new.relations.items new.trail.course new.trail.course old.claims.items new.claims.items g.relations refl g.claims
+      (noted_more a old.relations.items old.trail.course g.trail.entries new.trail.course old.claims.items g.trail.course g.told_same h.claims);
   reasons = g.reasons h.reasons;
 }
 
@@ -186,3 +198,6 @@ still_then old mid new g h = record {
 
 pub still_standing : (old : Both) (st : Standing) → IsBack old.standing st → IsStill old (record old { standing = st })
 still_standing old st back = record { graph = refl; back = back; relations = refl; claims = refl }
+
+pub still_graph : (old mid new : Both) → mid ≡ old → IsStill mid new → new.trail.graph ≡ old.trail.graph
+still_graph old mid new e still = subst (λ (b : Both). new.trail.graph ≡ b.trail.graph) e still.graph

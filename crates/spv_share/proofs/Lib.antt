@@ -1,11 +1,14 @@
 pub mod Sayable
 pub mod Reasons
+pub mod Noted
 pub mod Closing
 pub mod Sound
 pub mod Undoing
 pub mod Goings
 pub mod Rowed
+pub mod Allowed
 pub mod Points
+pub mod Saying
 pub mod Seeking
 pub mod Gathering
 pub mod Settling

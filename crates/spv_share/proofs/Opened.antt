@@ -1,11 +1,10 @@
 -- Both sides as they are opened.
-use Rattle.std.proofs.Common.{◌≡◌, List, [], map, sym, ap, ◌∙◌, subst}
+use Rattle.std.proofs.Common.{◌≡◌, List, [], map, sym, subst}
 use Rattle.spv_logic.specs.declared.conditions.TermId.{TermId}
 use Rattle.spv_logic.specs.Terms.{Term}
 use Rattle.spv_term.specs.Arena.{Arena, tree}
 use Rattle.spv_atoms.specs.Linear.{IdForm}
 use Rattle.spv_tableaux.specs.Bounds.{Bound}
-use Rattle.spv_course.specs.Literals.{literals}
 use Rattle.spv_sums.specs.Readings.{number_in}
 use Rattle.spv_readings.specs.Relations.{AreIn, AreRowsOf, relations}
 use Rattle.spv_readings.proofs.Placing.{rows_in}
@@ -15,7 +14,9 @@ use Rattle.spv_bounds.specs.Sources.{sources_in}
 use Rattle.spv_share_rows.specs.Standing.{IsStanding, readings, Sourced}
 use Rattle.spv_share.specs.declared.both.Both.{Both}
 use Rattle.spv_share.specs.declared.both.Ends.{Ends}
-use Rattle.spv_share.specs.Relations.{claim_of, IsGathered, sayable}
+use Rattle.spv_share.specs.Relations.{IsGathered, sayable}
+use Rattle.spv_share.proofs.Noted.{noted_none}
+use Rattle.spv_share.proofs.Saying.{said_none}
 use Rattle.spv_simplex.specs.Checks.{HoldsAsserted}
 use Rattle.spv_congruence.specs.declared.facts.Fact.{Fact}
 use Rattle.spv_share_graph.specs.Telling.{ties}
@@ -42,7 +43,8 @@ both_opens a atoms ends forms b known rows g stands forms_are none claims one ze
         let Q : TermId → Type 0 = λ t. AreOneAndZero a ends.one t in
         subst P (sym one) (subst Q (sym zero_is) known.numbers);
     asserted = asserted (sayable b.relations.items b.standing.tableau.forms);
+    said = said_none b.relations.items b.standing.tableau.forms b.standing.tableau.bounds none;
   };
-  claims = claims ∙ ap (λ es. map (claim_of b.relations.items) (literals es)) (sym g.course);
+  claims = noted_none a b.relations.items b.trail.course b.claims.items g.course claims;
   reasons = subst (λ (xs : List Fact). AreReasoned a b.relations.items (told b) (ties xs)) (sym g.untold) (reasons_none a b.relations.items (told b));
 }

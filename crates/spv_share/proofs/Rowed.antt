@@ -26,7 +26,8 @@ use Rattle.spv_share_rows.specs.Standing.{HasSaid, readings, SaidBy}
 use Rattle.spv_share.specs.declared.relations.Related.{Related}
 use Rattle.spv_share.specs.declared.relations.Claim.{Claim}
 use Rattle.spv_share.specs.declared.both.Both.{Both}
-use Rattle.spv_share.specs.Relations.{AreRelated, claim, find, said, sayable, sides_in}
+use Rattle.spv_share.specs.Relations.{AreRelated, claim, find, may_say, said, sayable, sides_in}
+use Rattle.spv_share.proofs.Saying.{told_may}
 use Rattle.spv_share.proofs.Sayable.{said_among}
 use Rattle.spv_share.specs.Both.{IsClaimed, IsSound}
 use Rattle.spv_share.specs.States.{is_equality}
@@ -111,6 +112,7 @@ module _ (a : Arena) (b : Both) (h : IsSound a b) where
         row_in = subst (λ (n : ℕ). n < length b.standing.tableau.forms) (sym row_is) (row_inside a b.trail.graph.nodes b.relations.items b.standing.tableau.forms h.related i r at);
         said = subst (λ (n : ℕ). SaidBy a (readings a b.trail.course) b.standing n c.saying k) (sym row_is) (said_at i r p c.saying k at is.saying fact);
         among = subst (λ (n : ℕ). HasSaid (sayable b.relations.items b.standing.tableau.forms) b.standing n c.saying) (sym row_is) (said_among b.relations.items b.standing i r p c.saying at is.saying);
+        may = λ q there. subst (λ (x : Related). may_say c.saying x.head ≡ true) (same_Some r q (sym at ∙ (ap (slice_get b.relations.items) (sym row_is) ∙ there))) (told_may r.head p c.saying is.saying);
       }
 
   -- a literal that is a fact, and what is claimed by it
@@ -134,13 +136,3 @@ module _ (a : Arena) (b : Both) (h : IsSound a b) where
       equality_head : (q : Head) → is_equality q ≡ true → q ≡ Eq
       equality_head Eq e = refl
       equality_head q e = absurd (cc)
-
-  -- a claim is about a row that is there
-  pub claimed_row : (t : TermId) (p : Part) (c : Claim) → claim (find b.relations.items t) p ≡ Some c → c.row < length b.standing.tableau.forms
-  claimed_row t p c e = by_found (find b.relations.items t) refl e
-    where
-      by_found : (o : Option Related) → find b.relations.items t ≡ o → claim o p ≡ Some c → c.row < length b.standing.tableau.forms
-      by_found None f e = absurd (cc)
-      by_found (Some r) f e =
-          let among = find_there b.relations.items t r f in
-          subst (λ (n : ℕ). n < length b.standing.tableau.forms) (sym (claim_is r p c e).row) (row_within a b.trail.graph.nodes b.relations.items b.standing.tableau.forms h.related among.place r among.there)

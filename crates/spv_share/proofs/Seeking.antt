@@ -24,7 +24,7 @@ use Rattle.spv_row_reasons.proofs.Readings.{above_is_sourced, below_is_sourced}
 use Rattle.spv_share_rows.specs.declared.standing.Standing.{Standing}
 use Rattle.spv_share_rows.specs.Standing.{HasSaid, IsBack}
 use Rattle.spv_share_rows.specs.declared.forcing.Tried.{Tried}
-use Rattle.spv_share_rows.specs.declared.forcing.Tried.TheVariants.{Met, Refuted, Taken}
+use Rattle.spv_share_rows.specs.declared.forcing.Tried.TheVariants.{Met, Refuted}
 use Rattle.spv_share_rows.specs.declared.forcing.Tried.TheVariants as tried
 use Rattle.spv_share_rows.specs.Forcing.{HasPoint, IsTried, Refutes}
 use Rattle.spv_share.specs.declared.relations.Related.{Related}
@@ -197,7 +197,6 @@ pub tried_point : (b : Standing) (row : ℕ) (x : Saying) (t : Tried) → IsTrie
 tried_point b row x Met h e = h
 tried_point b row x (Refuted ms) h e = absurd (cc)
 tried_point b row x tried.Stopped h e = absurd (cc)
-tried_point b row x Taken h e = absurd (cc)
 
 pub tried_refuted : (b : Standing) (row : ℕ) (x : Saying) (t : Tried) (ms : List (Fraction × ℕ)) → IsTried b row x t → t ≡ Refuted ms → Refutes b row x ms
 tried_refuted b row x t ms h e = let P : Tried → Type 0 = λ k. IsTried b row x k in subst P e h

@@ -21,10 +21,12 @@ use Rattle.spv_simplex.specs.Checks.{HoldsAsserted}
 use Rattle.spv_share_rows.specs.declared.standing.Standing.{Standing}
 use Rattle.spv_share_rows.specs.Standing.{AddsSome, IsStanding, readings, Sourced}
 use Rattle.spv_share.specs.declared.relations.Related.{Related}
-use Rattle.spv_share.specs.declared.relations.Claim.{Claim}
+use Rattle.spv_share.specs.declared.relations.Noted.{Noted}
 use Rattle.spv_share.specs.declared.both.Both.{Both}
 use Rattle.spv_share.specs.declared.both.Level.{Level}
-use Rattle.spv_share.specs.Relations.{AreRelations, IsRelation, claim_of, sayable, sides_in}
+use Rattle.spv_share.specs.Relations.{AreRelations, AreSaid, IsRelation, sayable, sides_in}
+use Rattle.spv_share.proofs.Noted.{noted_as}
+use Rattle.spv_share.proofs.Saying.{said_as}
 use Rattle.spv_share.specs.Both.{AreReasoned, IsLevel, IsSound}
 
 -- ---- relations where terms were added
@@ -64,11 +66,12 @@ sound_trail a old tr h holds grows = record {
   inside = h.inside;
   numbers = h.numbers;
   asserted = h.asserted;
+  said = h.said;
 }
 
 pub sound_standing : (a : Arena) (old : Both) (st : Standing) → IsSound a old → IsStanding st → st.tableau.forms ≡ old.standing.tableau.forms → Sourced a (readings a old.trail.course) st st.tableau.bounds
-    → HoldsAsserted (sayable old.relations.items old.standing.tableau.forms) st.tableau → IsSound a (record old { standing = st })
-sound_standing a old st h stands forms sourced asserted = record {
+    → HoldsAsserted (sayable old.relations.items old.standing.tableau.forms) st.tableau → AreSaid old.relations.items st.tableau.forms st.tableau.bounds → IsSound a (record old { standing = st })
+sound_standing a old st h stands forms sourced asserted said = record {
   trail = h.trail;
   standing = stands;
   related = record { are = h.related.are; rows = subst (λ (fs : List IdForm). AreRowsOf a (map (sides_in a) old.relations.items) fs) (sym forms) h.related.rows };
@@ -76,6 +79,7 @@ sound_standing a old st h stands forms sourced asserted = record {
   inside = subst (AreIn a) (sym forms) h.inside;
   numbers = h.numbers;
   asserted = subst (λ (fs : List IdForm). HoldsAsserted (sayable old.relations.items fs) st.tableau) (sym forms) asserted;
+  said = said;
 }
 
 pub sound_as : (a : Arena) (old new : Both) → IsSound a old → new.trail ≡ old.trail → new.standing ≡ old.standing → new.relations ≡ old.relations → new.one ≡ old.one → new.zero ≡ old.zero → IsSound a new
@@ -93,6 +97,9 @@ sound_as a old new h trail standing relations one zero = record {
   numbers = subst (λ (t : TermId). AreOneAndZero a t new.zero) (sym one) (subst (λ (t : TermId). AreOneAndZero a old.one t) (sym zero) h.numbers);
   asserted = subst (λ (s : Standing). HoldsAsserted (sayable new.relations.items s.tableau.forms) s.tableau) (sym standing)
       (subst (λ (rs : List Related). HoldsAsserted (sayable rs old.standing.tableau.forms) old.standing.tableau) (sym (ap (λ v. v.items) relations)) h.asserted);
+  said =
+      said_as old.relations.items new.relations.items old.standing.tableau.forms new.standing.tableau.forms old.standing.tableau.bounds new.standing.tableau.bounds (ap (λ v. v.items) relations)
+      (ap (λ (s : Standing). s.tableau.forms) standing) (ap (λ (s : Standing). s.tableau.bounds) standing) h.said;
 }
 
 -- ---- levels
@@ -102,7 +109,7 @@ pub record GoesBehind (old new : Both) : Type 0 where
   pub trail : Grows old.trail new.trail
   pub standing : AddsSome old.standing new.standing
   pub relations : new.relations.items ≡ old.relations.items
-  pub more : List (Option Claim)
+  pub more : List Noted
   pub claims : new.claims.items ≡ old.claims.items ++ more
 
 take_first : {A : Type 0} (old more new : List A) (n : ℕ) → new ≡ old ++ more → n ≤ length old → take n new ≡ take n old
@@ -130,10 +137,12 @@ level_stays a old new l g h = record {
       subst (λ (es : List Entry). Sourced a (readings a es) new.standing (take l.bounds new.standing.tableau.bounds)) (sym first)
       (subst (λ (bs : List Bound). Sourced a (readings a (take l.trail.entries old.trail.course)) new.standing bs) (sym bounds)
       (g.standing.adds.first a (readings a (take l.trail.entries old.trail.course)) l.bounds h.bounds_in h.sourced));
+  said =
+      said_as old.relations.items new.relations.items old.standing.tableau.forms new.standing.tableau.forms (take l.bounds old.standing.tableau.bounds) (take l.bounds new.standing.tableau.bounds) g.relations g.standing.adds.forms bounds h.said;
   claims_in = within old.claims.items g.more new.claims.items l.claims g.claims h.claims_in;
   claims =
-      take_first old.claims.items g.more new.claims.items l.claims g.claims h.claims_in
-      ∙ (h.claims ∙ (ap (λ rs. map (claim_of rs) (literals (take l.trail.entries old.trail.course))) (sym g.relations) ∙ ap (λ es. map (claim_of new.relations.items) (literals es)) (sym first)));
+      noted_as a old.relations.items new.relations.items (take l.trail.entries old.trail.course) (take l.trail.entries new.trail.course) (take l.claims old.claims.items) (take l.claims new.claims.items) g.relations first
+      (take_first old.claims.items g.more new.claims.items l.claims g.claims h.claims_in) h.claims;
   reasons =
       subst (λ (rs : List Related). AreReasoned a rs (literals (take l.trail.entries new.trail.course)) (ties (take l.trail.facts new.trail.graph.told))) (sym g.relations)
       (subst (λ (es : List Entry). AreReasoned a old.relations.items (literals es) (ties (take l.trail.facts new.trail.graph.told))) (sym first)

@@ -1,7 +1,7 @@
 -- Going back to a level.
 use Rattle.std.proofs.Common.{◌≡◌, ℕ, zero, suc, ◌≤◌, List, [], ◌∷◌, map, take, drop, length, refl, sym, ap, ◌∙◌, subst, Option, Some, Vec, Global, arith}
 use Rattle.std.specs.Prelude.{slice_get}
-use Rattle.std.proofs.lemmas.List.{length-take-le, take-append-drop, length-map}
+use Rattle.std.proofs.lemmas.List.{length-take-le, take-append-drop}
 use Rattle.std.proofs.lemmas.Option.{slice_get_within}
 use Rattle.spv_logic.specs.declared.conditions.TermId.{TermId}
 use Rattle.spv_term.specs.declared.nodes.Node.{Node}
@@ -31,11 +31,13 @@ use Rattle.spv_share_graph.specs.declared.trail.Trail.{Trail}
 use Rattle.spv_share_graph.specs.Holding.{Backs, Holds, WasSoFar}
 use Rattle.spv_share_rows.specs.declared.standing.Standing.{Standing}
 use Rattle.spv_share_rows.specs.Standing.{IsStanding, readings, Sourced}
-use Rattle.spv_share.specs.declared.relations.Claim.{Claim}
+use Rattle.spv_share.specs.declared.relations.Noted.{Noted}
 use Rattle.spv_share.specs.declared.relations.Related.{Related}
 use Rattle.spv_share.specs.declared.both.Both.{Both}
 use Rattle.spv_share.specs.declared.both.Level.{Level}
-use Rattle.spv_share.specs.Relations.{AreRelations, claim_of, sayable, sides_in}
+use Rattle.spv_share.specs.Relations.{AreRelations, sayable, sides_in}
+use Rattle.spv_share.proofs.Noted.{noted_as}
+use Rattle.spv_share.proofs.Saying.{said_as}
 use Rattle.spv_share.specs.Both.{AreReasoned, IsBoth, IsLevel, IsNoLater, IsSound, Stays, told}
 use Rattle.spv_share.proofs.Sound.{relations_more}
 
@@ -103,7 +105,7 @@ pub record GoesBack (old new : Both) (l : Level) : Type 0 where
 abbrev VecOf : Type 0 → Type 0
 VecOf A = Vec A Global
 
-pub went_back : (old : Both) (l : Level) (tr : Trail) (st : Standing) (cs : VecOf (Option Claim)) → tr.course ≡ take l.trail.entries old.trail.course → Undone old.trail.graph l.trail.facts tr.graph
+pub went_back : (old : Both) (l : Level) (tr : Trail) (st : Standing) (cs : VecOf Noted) → tr.course ≡ take l.trail.entries old.trail.course → Undone old.trail.graph l.trail.facts tr.graph
     → tr.facts.items ≡ take l.trail.facts old.trail.facts.items → tr.truth ≡ old.trail.truth → tr.falsity ≡ old.trail.falsity → IsStanding st → st.tableau ≡ with_first old.standing.tableau l.bounds
     → st.sources ≡ old.standing.sources → cs.items ≡ take l.claims old.claims.items → GoesBack old (record old { trail = tr; standing = st; claims = cs }) l
 went_back old l tr st cs course graph facts truth falsity stands tableau sources claims = record {
@@ -160,6 +162,8 @@ module _ (a : Arena) (old new : Both) (l : Level) (g : GoesBack old new l) where
     asserted =
         subst (λ (rs : List Related). HoldsAsserted (sayable rs new.standing.tableau.forms) new.standing.tableau) (sym g.relations)
         (subst (λ (s : State). HoldsAsserted (sayable old.relations.items s.forms) s) (sym g.tableau) (undoes_none (sayable old.relations.items old.standing.tableau.forms) old.standing.tableau l.bounds h.asserted));
+    said =
+        said_as old.relations.items new.relations.items old.standing.tableau.forms new.standing.tableau.forms (take l.bounds old.standing.tableau.bounds) new.standing.tableau.bounds g.relations forms_same bounds_are k.said;
   }
 
   pub back_stays : Stays old new
@@ -177,8 +181,7 @@ module _ (a : Arena) (old new : Both) (l : Level) (g : GoesBack old new l) where
   back_both h k = record {
     sound = back_sound h k;
     claims =
-        g.claims ∙ (k.claims
-        ∙ (ap (λ rs. map (claim_of rs) (literals (take l.trail.entries old.trail.course))) (sym g.relations) ∙ ap (λ es. map (claim_of new.relations.items) (literals es)) (sym g.course)));
+        noted_as a old.relations.items new.relations.items (take l.trail.entries old.trail.course) new.trail.course (take l.claims old.claims.items) new.claims.items g.relations g.course g.claims k.claims;
     reasons =
         subst (λ (rs : List Related). AreReasoned a rs (told new) (ties new.trail.graph.told)) (sym g.relations)
         (subst (λ (es : List Entry). AreReasoned a old.relations.items (literals es) (ties new.trail.graph.told)) (sym g.course)
@@ -187,8 +190,7 @@ module _ (a : Arena) (old new : Both) (l : Level) (g : GoesBack old new l) where
 
   -- so many literals were told
   count_is : IsLevel a old l → length (literals (take l.trail.entries old.trail.course)) ≡ l.claims
-  count_is k =
-      sym (length-map (literals (take l.trail.entries old.trail.course)) (claim_of old.relations.items)) ∙ (ap (λ (cs : List (Option Claim)). length cs) (sym k.claims) ∙ length-take-le l.claims old.claims.items k.claims_in)
+  count_is k = sym k.claims.many ∙ length-take-le l.claims old.claims.items k.claims_in
 
   pub back_told : IsLevel a old l → told new ≡ take l.claims (told old)
   back_told k =
@@ -211,11 +213,12 @@ module _ (a : Arena) (old new : Both) (l : Level) (g : GoesBack old new l) where
         subst (λ (es : List Entry). Sourced a (readings a es) new.standing (take m.bounds new.standing.tableau.bounds)) (sym first)
         (subst (λ (bs : List Bound). Sourced a (readings a (take m.trail.entries old.trail.course)) new.standing bs) (sym bounds)
         (sourced_back (take m.trail.entries old.trail.course) (take m.bounds old.standing.tableau.bounds) h.sourced));
-    claims_in = subst (λ (cs : List (Option Claim)). m.claims ≤ length cs) (sym g.claims) (shorter old.claims.items m.claims l.claims e.claims k.claims_in);
+    said =
+        said_as old.relations.items new.relations.items old.standing.tableau.forms new.standing.tableau.forms (take m.bounds old.standing.tableau.bounds) (take m.bounds new.standing.tableau.bounds) g.relations forms_same bounds h.said;
+    claims_in = subst (λ (ns : List Noted). m.claims ≤ length ns) (sym g.claims) (shorter old.claims.items m.claims l.claims e.claims k.claims_in);
     claims =
-        ap (take m.claims) g.claims
-        ∙ (take-take m.claims l.claims old.claims.items e.claims
-        ∙ (h.claims ∙ (ap (λ rs. map (claim_of rs) (literals (take m.trail.entries old.trail.course))) (sym g.relations) ∙ ap (λ es. map (claim_of new.relations.items) (literals es)) (sym first))));
+        noted_as a old.relations.items new.relations.items (take m.trail.entries old.trail.course) (take m.trail.entries new.trail.course) (take m.claims old.claims.items) (take m.claims new.claims.items) g.relations first
+        (ap (take m.claims) g.claims ∙ take-take m.claims l.claims old.claims.items e.claims) h.claims;
     reasons =
         subst (λ (rs : List Related). AreReasoned a rs (literals (take m.trail.entries new.trail.course)) (ties (take m.trail.facts new.trail.graph.told))) (sym g.relations)
         (subst (λ (es : List Entry). AreReasoned a old.relations.items (literals es) (ties (take m.trail.facts new.trail.graph.told))) (sym first)
@@ -255,8 +258,12 @@ level_now a b l h entries facts mark bounds claims = record {
   sourced =
       subst (λ (es : List Entry). Sourced a (readings a es) b.standing (take l.bounds b.standing.tableau.bounds)) (sym course)
       (subst (λ (bs : List Bound). Sourced a (readings a b.trail.course) b.standing bs) (sym (ap (λ n. take n b.standing.tableau.bounds) bounds ∙ take_whole b.standing.tableau.bounds)) h.sound.sourced);
+  said =
+      said_as b.relations.items b.relations.items b.standing.tableau.forms b.standing.tableau.forms b.standing.tableau.bounds (take l.bounds b.standing.tableau.bounds) refl refl
+      (ap (λ n. take n b.standing.tableau.bounds) bounds ∙ take_whole b.standing.tableau.bounds) h.sound.said;
   claims_in = same_length l.claims (length b.claims.items) claims;
-  claims = ap (λ n. take n b.claims.items) claims ∙ (take_whole b.claims.items ∙ (h.claims ∙ ap (λ es. map (claim_of b.relations.items) (literals es)) (sym course)));
+  claims =
+      noted_as a b.relations.items b.relations.items b.trail.course (take l.trail.entries b.trail.course) b.claims.items (take l.claims b.claims.items) refl course (ap (λ n. take n b.claims.items) claims ∙ take_whole b.claims.items) h.claims;
   reasons =
       subst (λ (es : List Entry). AreReasoned a b.relations.items (literals es) (ties (take l.trail.facts b.trail.graph.told))) (sym course)
       (subst (λ (xs : List Fact). AreReasoned a b.relations.items (told b) (ties xs)) (sym (ap (λ n. take n b.trail.graph.told) facts_are ∙ take_whole b.trail.graph.told)) h.reasons);
@@ -269,7 +276,7 @@ level_now a b l h entries facts mark bounds claims = record {
     facts_are = facts ∙ ap (λ (xs : List Fact). length xs) h.sound.trail.kept
 
 pub claims_count : (a : Arena) (b : Both) → IsBoth a b → length b.claims.items ≡ length (told b)
-claims_count a b h = ap (λ (cs : List (Option Claim)). length cs) h.claims ∙ length-map (told b) (claim_of b.relations.items)
+claims_count a b h = h.claims.many
 
 pub last_level : (a : Arena) (b : Both) (l m : Level) → l.trail.entries ≡ length b.trail.course → l.trail.facts ≡ length b.trail.graph.told
     → l.bounds ≡ length b.standing.tableau.bounds → l.claims ≡ length b.claims.items → IsLevel a b m → IsNoLater m l

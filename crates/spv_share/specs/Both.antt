@@ -1,10 +1,12 @@
 -- A congruence graph and a tableau side by side.
-use Rattle.std.specs.Prelude.{◌≡◌, true, ℕ, ◌<◌, ◌≤◌, List, map, take, length, Some, slice_get}
+use Rattle.std.specs.Prelude.{◌≡◌, true, ℕ, ◌<◌, ◌≤◌, List, take, length, Some, slice_get}
 use Rattle.spv_logic.specs.declared.operators.Head.TheVariants.{Eq}
 use Rattle.spv_term.specs.Arena.{Arena, tree}
 use Rattle.spv_simplex.specs.Checks.{HoldsAsserted}
 use Rattle.spv_course.specs.Literals.{Literal, literals}
 use Rattle.spv_course.specs.declared.entries.Part.TheVariants.{True}
+use Rattle.spv_course.specs.declared.entries.Entry.{Entry}
+use Rattle.spv_course.specs.Course.{fact_at, literal}
 use Rattle.spv_course.specs.Derived.{is_truth, IsTrueTerm, IsFalseTerm}
 use Rattle.spv_course.specs.Sides.{Pair}
 use Rattle.spv_readings.specs.Relations.{AreIn}
@@ -13,11 +15,12 @@ use Rattle.spv_share_graph.specs.Holding.{Holds, WasSoFar}
 use Rattle.spv_share_graph.specs.Telling.{equation_sides, Tie, ties}
 use Rattle.spv_share_rows.specs.Standing.{HasSaid, IsStanding, readings, SaidBy, Sourced}
 use Rattle.spv_share.specs.declared.relations.Claim.{Claim}
+use Rattle.spv_share.specs.declared.relations.Noted.{Noted}
 use Rattle.spv_share.specs.declared.relations.Related.{Related}
 use Rattle.spv_share.specs.declared.both.Both.{Both}
 use Rattle.spv_share.specs.declared.both.Level.{Level}
 use Rattle.spv_share.specs.declared.both.Ends.{Ends}
-use Rattle.spv_share.specs.Relations.{AreRelated, claim_of, sayable}
+use Rattle.spv_share.specs.Relations.{AreRelated, AreSaid, claim_of, may_say, sayable}
 
 -- the terms TRUE, FALSE, 1 and 0
 pub record AreEnds (a : Arena) (e : Ends) : Type 0 where
@@ -43,6 +46,19 @@ pub data IsReason (a : Arena) (rels : List Related) (told : List Literal) (tie :
 pub record AreReasoned (a : Arena) (rels : List Related) (told : List Literal) (ts : List Tie) : Type 0 where
   pub each : (place : ℕ) (tie : Tie) → slice_get ts place ≡ Some tie → tie.equal ≡ true → IsReason a rels told tie
 
+-- ---- literals beside the course
+
+-- what a literal says of a row, and the number of its fact
+pub record IsNoted (a : Arena) (rels : List Related) (es : List Entry) (l : Literal) (n : Noted) : Type 0 where
+  pub within : l.atom.0 < length a.nodes
+  pub claim : n.claim ≡ claim_of rels l
+  pub fact : fact_at a es n.fact ≡ Some (literal (tree a l.atom) l.part)
+
+-- that of each literal that was told
+pub record AreNoted (a : Arena) (rels : List Related) (es : List Entry) (ns : List Noted) : Type 0 where
+  pub many : length ns ≡ length (literals es)
+  pub each : (place : ℕ) (l : Literal) (n : Noted) → slice_get (literals es) place ≡ Some l → slice_get ns place ≡ Some n → IsNoted a rels es l n
+
 -- ---- both sides
 
 -- both sides stand on the facts of one course; all bounds that were ever asserted are those of literals of the relations
@@ -54,11 +70,13 @@ pub record IsSound (a : Arena) (b : Both) : Type 0 where
   pub inside : AreIn a b.standing.tableau.forms
   pub numbers : AreOneAndZero a b.one b.zero
   pub asserted : HoldsAsserted (sayable b.relations.items b.standing.tableau.forms) b.standing.tableau
+  -- and each row says one thing
+  pub said : AreSaid b.relations.items b.standing.tableau.forms b.standing.tableau.bounds
 
--- and there is what each literal says of its row, and the graph was told no other equality than by literals, or of relations
+-- and it is noted what each literal says of its row, and the graph was told no other equality than by literals, or of relations
 pub record IsBoth (a : Arena) (b : Both) : Type 0 where
   pub sound : IsSound a b
-  pub claims : b.claims.items ≡ map (claim_of b.relations.items) (told b)
+  pub claims : AreNoted a b.relations.items b.trail.course b.claims.items
   pub reasons : AreReasoned a b.relations.items (told b) (ties b.trail.graph.told)
 
 -- the terms, the relations and the rows are the same
@@ -79,8 +97,9 @@ pub record IsLevel (a : Arena) (b : Both) (l : Level) : Type 0 where
   pub mark : l.trail.mark ≡ l.trail.facts
   pub bounds_in : l.bounds ≤ length b.standing.tableau.bounds
   pub sourced : Sourced a (readings a (take l.trail.entries b.trail.course)) b.standing (take l.bounds b.standing.tableau.bounds)
+  pub said : AreSaid b.relations.items b.standing.tableau.forms (take l.bounds b.standing.tableau.bounds)
   pub claims_in : l.claims ≤ length b.claims.items
-  pub claims : take l.claims b.claims.items ≡ map (claim_of b.relations.items) (literals (take l.trail.entries b.trail.course))
+  pub claims : AreNoted a b.relations.items (take l.trail.entries b.trail.course) (take l.claims b.claims.items)
   pub reasons : AreReasoned a b.relations.items (literals (take l.trail.entries b.trail.course)) (ties (take l.trail.facts b.trail.graph.told))
 
 -- a level that is no later than another one
@@ -101,3 +120,4 @@ pub record IsClaimed (a : Arena) (b : Both) (c : Claim) (fact : ℕ) : Type 0 wh
   pub row_in : c.row < length b.standing.tableau.forms
   pub said : SaidBy a (readings a b.trail.course) b.standing c.row c.saying fact
   pub among : HasSaid (sayable b.relations.items b.standing.tableau.forms) b.standing c.row c.saying
+  pub may : (r : Related) → slice_get b.relations.items c.row ≡ Some r → may_say c.saying r.head ≡ true

@@ -1,8 +1,8 @@
 -- The relations of whole numbers among atoms, and what is told of them.
-use Rattle.std.specs.Prelude.{◌≡◌, ℕ, suc, ◌<◌, List, [], ◌∷◌, ◌++◌, map, length, ℤ, Option, Some, None, pos, nat_eq, slice_get, if◌then◌else◌}
+use Rattle.std.specs.Prelude.{◌≡◌, ℕ, suc, ◌<◌, Bool, true, false, List, [], ◌∷◌, ◌++◌, map, length, ℤ, Option, Some, None, pos, nat_eq, slice_get, if◌then◌else◌}
 use Rattle.spv_logic.specs.declared.conditions.TermId.{TermId}
 use Rattle.spv_logic.specs.declared.operators.Head.{Head}
-use Rattle.spv_logic.specs.declared.operators.Head.TheVariants.{Num}
+use Rattle.spv_logic.specs.declared.operators.Head.TheVariants.{Eq, Le, Lt, Num}
 use Rattle.spv_logic.specs.Terms.{Term, term, no_terms, terms}
 use Rattle.spv_term.specs.declared.nodes.Node.{Node}
 use Rattle.spv_term.specs.Arena.{Arena, tree}
@@ -11,14 +11,16 @@ use Rattle.spv_congruence.specs.Told.{IsPart}
 use Rattle.spv_tableaux.specs.Bounds.{Bound}
 use Rattle.spv_atoms.specs.Linear.{IdForm}
 use Rattle.spv_course.specs.declared.entries.Part.{Part}
-use Rattle.spv_course.specs.declared.entries.Part.TheVariants.{True, False, Below, Above}
+use Rattle.spv_course.specs.declared.entries.Part.TheVariants as part
 use Rattle.spv_course.specs.Literals.{Literal}
 use Rattle.spv_sums.specs.Readings.{number_in}
 use Rattle.spv_readings.specs.declared.saying.Saying.{Saying}
+use Rattle.spv_readings.specs.declared.saying.Saying.TheVariants.{Equal, Below, AtMost, Above, AtLeast, Differs}
 use Rattle.spv_readings.specs.Sayings.{bounds_of}
 use Rattle.spv_readings.specs.Relations as relations
 use Rattle.spv_readings.specs.Relations.{number_sides, AreRowsOf}
 use Rattle.spv_row_reasons.specs.Told.{told}
+use Rattle.spv_share_rows.specs.Said.{Says}
 use Rattle.spv_share_graph.specs.declared.trail.Trail.{Trail}
 use Rattle.spv_share_graph.specs.Holding.{Holds}
 use Rattle.spv_share.specs.declared.relations.Related.{Related}
@@ -50,6 +52,17 @@ pub record AreRelated (a : Arena) (nodes : List (Option Node)) (rels : List Rela
 -- they are those among these terms, in order
 abbrev pub AreAmong : Arena → List Term → List Related → Type 0
 AreAmong a ts rels = map (sides_in a) rels ≡ relations.relations (number_in a) ts
+
+-- a relation of this atom
+pub record IsListed (rels : List Related) (t : TermId) : Type 0 where
+  pub row : ℕ
+  pub relation : Related
+  pub there : slice_get rels row ≡ Some relation
+  pub is : relation.atom ≡ t
+
+-- each of these terms that is a relation of whole numbers has one
+pub record AreListed (a : Arena) (ts : List TermId) (rels : List Related) : Type 0 where
+  pub each : (i : ℕ) (t : TermId) (st : Term × Term) → slice_get ts i ≡ Some t → number_sides (number_in a) (tree a t) ≡ Some st → IsListed rels t
 
 -- each of these terms was added
 pub record AreNodes (nodes : List (Option Node)) (ts : List TermId) : Type 0 where
@@ -94,7 +107,7 @@ bounds_if row constant (Some x) = bounds_of row constant x
 -- the bounds that a relation is on its row: where it is true, where it is false, and where one side of an equation is below the other
 abbrev pub row_bounds : ℕ → Head → ℤ → List Bound
 row_bounds row h constant =
-    bounds_if row constant (told h True) ++ (bounds_if row constant (told h False) ++ (bounds_if row constant (told h Below) ++ bounds_if row constant (told h Above)))
+    bounds_if row constant (told h part.True) ++ (bounds_if row constant (told h part.False) ++ (bounds_if row constant (told h part.Below) ++ bounds_if row constant (told h part.Above)))
 
 -- those of relations whose rows begin at a place
 abbrev pub bounds_from : ℕ → List Related → List IdForm → List Bound
@@ -105,6 +118,30 @@ bounds_from row (r ∷ rels) (f ∷ forms) = row_bounds row r.head f.constant ++
 -- all bounds that literals of relations are on their rows
 abbrev pub sayable : List Related → List IdForm → List Bound
 sayable rels forms = bounds_from 0 rels forms
+
+-- ---- what rows say
+
+-- what may be said of the row of a relation with this head: nothing; and what its literals say of it
+abbrev pub may_say : Saying → Head → Bool
+may_say Differs h = true
+may_say Equal Eq = true
+may_say Below Eq = true
+may_say Below Lt = true
+may_say Above Eq = true
+may_say Above Le = true
+may_say AtMost Le = true
+may_say AtLeast Lt = true
+may_say _ _ = false
+
+-- a row says one such thing: exactly its bounds stand there
+pub record IsSaid (bounds : List Bound) (row : ℕ) (h : Head) (constant : ℤ) : Type 0 where
+  pub saying : Saying
+  pub may : may_say saying h ≡ true
+  pub says : Says bounds row constant saying
+
+-- so does the row of each relation
+pub record AreSaid (rels : List Related) (forms : List IdForm) (bounds : List Bound) : Type 0 where
+  pub each : (row : ℕ) (r : Related) (f : IdForm) → slice_get rels row ≡ Some r → slice_get forms row ≡ Some f → IsSaid bounds row r.head f.constant
 
 -- ---- gathering
 
@@ -124,3 +161,4 @@ pub record IsGathered (a : Arena) (tr : Trail) (ts : List TermId) (rels : List R
   pub nodes : AreNodes tr.graph.nodes ts
   pub are : AreRelations a tr.graph.nodes rels
   pub among : AreAmong a (map (tree a) ts) rels
+  pub listed : AreListed a ts rels

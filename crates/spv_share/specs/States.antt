@@ -23,6 +23,7 @@ use Rattle.spv_share_rows.specs.Forcing.{HasEvidence, HasPoint, IsStopped}
 use Rattle.spv_share.specs.Relations.{sayable}
 use Rattle.spv_share.specs.declared.relations.Related.{Related}
 use Rattle.spv_share.specs.declared.relations.Claim.{Claim}
+use Rattle.spv_share.specs.declared.relations.Noted.{Noted}
 use Rattle.spv_share.specs.declared.both.Both.{Both}
 use Rattle.spv_share.specs.declared.stating.Shared.{Shared}
 use Rattle.spv_share.specs.declared.stating.Shared.TheVariants as shared
@@ -61,11 +62,16 @@ pub record HasClosed (old new : Both) : Type 0 where
 
 -- all that is claimed of rows stands there
 pub record ClaimsStand (b : Both) : Type 0 where
-  pub each : (place : ℕ) (c : Claim) → slice_get b.claims.items place ≡ Some (Some c) → Stands b.standing c.row c.saying
+  pub each : (place : ℕ) (n : Noted) (c : Claim) → slice_get b.claims.items place ≡ Some n → n.claim ≡ Some c → Stands b.standing c.row c.saying
 
 -- each equality that the graph joins stands on its row
 pub record JoinedStand (b : Both) : Type 0 where
   pub each : (row : ℕ) (r : Related) → slice_get b.relations.items row ≡ Some r → is_joined b r ≡ true → Stands b.standing row Equal
+
+-- all stands that has to
+pub record AllStands (b : Both) : Type 0 where
+  pub claims : ClaimsStand b
+  pub joined : JoinedStand b
 
 -- a point meets the bounds that stand and those of a strict order of the sides of a row
 abbrev pub HasOrder : Standing → ℕ → Type 0
@@ -161,7 +167,3 @@ IsSought old new count Stopped = IsLimit new
 pub record IsAtPoint (b : Standing) : Type 0 where
   pub met : IsFeasible b.tableau
   pub answered : b.tableau.answer ≡ Some Feasible
-
--- each claim is about a row that is there
-pub record ClaimsAreIn (b : Both) : Type 0 where
-  pub each : (place : ℕ) (c : Claim) → slice_get b.claims.items place ≡ Some (Some c) → c.row < length b.standing.tableau.forms

@@ -5,7 +5,7 @@ ghost use Rattle.spv_term.specs.Arena.{IsArena};
 ghost use Rattle.spv_congruence.specs.Told.{Undone};
 ghost use Rattle.spv_share.specs.Both.{IsBoth, IsLevel, IsNoLater, IsSound, Stays, told};
 
-use crate::relations::{Claim, Related};
+use crate::relations::{Noted, Related};
 use spv_share_graph::Trail;
 use spv_share_rows::Standing;
 use spv_simplex::Mark;
@@ -33,8 +33,8 @@ pub struct Both {
     pub standing: Standing,
     /// The relations of whole numbers among the atoms, each at the place of its row.
     pub relations: Vec<Related>,
-    /// What each literal that was told says of a row, if it is one of a relation.
-    pub claims: Vec<Option<Claim>>,
+    /// What each literal that was told says of a row, if it is one of a relation, and the number of its fact.
+    pub claims: Vec<Noted>,
     /// The term 1.
     pub one: TermId,
     /// The term 0.

@@ -1,20 +1,16 @@
-// What a check of the tableau comes to, and whether all stands that has to.
+// What a check of the tableau comes to, and the end of a path by bounds.
 
-ghost use Rattle.std.specs.Prelude.{◌≡◌, ◌<◌, length, true, Some, slice_get, IfOk, IfSome, IfNone, IsTrue};
-ghost use Rattle.spv_readings.specs.declared.saying.Saying.TheVariants.{Equal};
+ghost use Rattle.std.specs.Prelude.{◌≡◌, Some, IfOk, IfSome, IfNone};
 ghost use Rattle.spv_simplex.specs.declared.checked.Checked.TheVariants as checked;
 ghost use Rattle.spv_simplex.specs.Checks.{IsInfeasible};
-ghost use Rattle.spv_share_rows.specs.Standing.{IsStanding, Stands};
-ghost use Rattle.spv_share.specs.declared.relations.Related.{Related};
-ghost use Rattle.spv_share.specs.declared.relations.Claim.{Claim};
-ghost use Rattle.spv_share.specs.Both.{IsBoth, IsSound};
-ghost use Rattle.spv_share.specs.States as spec;
-ghost use Rattle.spv_share.specs.States.{ClaimsAreIn, ClaimsStand, GoesOn, IsAtPoint, IsOutcome, IsStill, JoinedStand};
+ghost use Rattle.spv_share_rows.specs.Said.{IsOpposed};
+ghost use Rattle.spv_share.specs.Both.{IsClaimed, IsSound};
+ghost use Rattle.spv_share.specs.States.{GoesOn, IsAtPoint, IsOutcome, IsStill};
 
 use crate::both::Both;
 use crate::relations::Claim;
-use spv_readings::Saying;
 use spv_row_reasons::law_refuted;
+use spv_share_rows::end_opposed;
 use spv_simplex::Checked;
 use spv_term::Terms;
 use std::alloc::{AllocError, Global};
@@ -68,73 +64,25 @@ impl Both {
         }
     }
 
-    // Whether what a literal says of a row stands there.
-    fn has_claim(&self, claim: Option<Claim>) -> bool
-        requires standing { IsStanding self.now.standing }
-        requires row { IfSome claim (λ c. c.row < length self.now.standing.tableau.forms) }
-        ensures { IsTrue result → IfSome claim (λ c. Stands self.now.standing c.row c.saying) }
+    // The end of the path by what a fact says of a row, and what stands there and excludes it.
+    pub(crate) fn end_claim(
+        &mut self,
+        alloc: Global,
+        terms: &Terms,
+        claim: Claim,
+        fact: u32,
+    ) -> Result<Outcome, AllocError>
+        requires sound { IsSound terms.now self.old }
+        requires claimed { IsClaimed terms.now self.old claim fact }
+        requires opposed { IsOpposed self.old.standing claim.row claim.saying }
+        ensures goes { GoesOn terms.now self.old self.new }
+        ensures still { IsStill self.old self.new }
+        ensures outcome { IfOk result (λ o. IsOutcome terms.now self.new o) }
     {
-        match claim {
-            Some(claim) => self.standing.stands(claim.row, claim.saying),
-            None => true,
-        }
-    }
-
-    // The same for the claim at a place.
-    fn has_claim_at(&self, place: usize) -> bool
-        requires standing { IsStanding self.now.standing }
-        requires rows { ClaimsAreIn self.now }
-        requires place { place < length self.now.claims.items }
-        ensures { IsTrue result → (c : Claim) → slice_get self.now.claims.items place ≡ Some (Some c) → Stands self.now.standing c.row c.saying }
-    {
-        let claim = self.claims[place];
-        self.has_claim(claim)
-    }
-
-    // Whether all that the literals say of rows stands there.
-    fn have_claims(&self) -> bool
-        requires standing { IsStanding self.now.standing }
-        requires rows { ClaimsAreIn self.now }
-        ensures { IsTrue result → ClaimsStand self.now }
-    {
-        for place in 0..self.claims.as_slice().len() {
-            if !self.has_claim_at(place) {
-                return false;
-            }
-        }
-        true
-    }
-
-    // Whether the relation at a place stands, if it is an equality that the graph joins.
-    fn has_joined(&self, terms: &Terms, place: usize) -> bool
-        requires sound { IsSound terms.now self.now }
-        requires place { place < length self.now.relations.items }
-        ensures { IsTrue result → (r : Related) → slice_get self.now.relations.items place ≡ Some r → spec.is_joined self.now r ≡ true → Stands self.now.standing place Equal }
-    {
-        let _ = terms;
-        let related = self.relations[place];
-        !self.is_joined(related) || self.standing.stands(related.row, Saying::Equal)
-    }
-
-    // Whether each equality that the graph joins stands on its row.
-    fn have_joined(&self, terms: &Terms) -> bool
-        requires sound { IsSound terms.now self.now }
-        ensures { IsTrue result → JoinedStand self.now }
-    {
-        for place in 0..self.relations.as_slice().len() {
-            if !self.has_joined(terms, place) {
-                return false;
-            }
-        }
-        true
-    }
-
-    // Whether all stands that has to.
-    pub(crate) fn is_settled(&self, terms: &Terms) -> bool
-        requires both { IsBoth terms.now self.now }
-        ensures claims { IsTrue result → ClaimsStand self.now }
-        ensures joined { IsTrue result → JoinedStand self.now }
-    {
-        self.have_claims() && self.have_joined(terms)
+        law_refuted();
+        terms.law_arena();
+        let from = self.standing.opposed(claim.row, claim.saying, fact);
+        let number = end_opposed(alloc, &mut self.trail.course, self.one, self.zero, from)?;
+        Ok(Outcome::Ended(number, None))
     }
 }

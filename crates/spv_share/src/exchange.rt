@@ -1,12 +1,18 @@
 // What the graph tells the tableau.
 
-ghost use Rattle.std.specs.Prelude.{◌≡◌, ◌<◌, length, Some, slice_get, true};
+ghost use Rattle.std.specs.Prelude.{◌≡◌, ◌<◌, length, IfNone, IfOk, IfSome, Some, slice_get, true};
+ghost use Rattle.spv_readings.specs.declared.saying.Saying.TheVariants.{Equal};
 ghost use Rattle.spv_congruence.specs.Keep.{IsNode};
-ghost use Rattle.spv_share.specs.Both.{IsSound};
+ghost use Rattle.spv_share_rows.specs.Standing.{Stands};
+ghost use Rattle.spv_share.specs.declared.relations.Claim.{Claim};
+ghost use Rattle.spv_share.specs.declared.relations.Noted.{Noted};
+ghost use Rattle.spv_share.specs.declared.relations.Related.{Related};
+ghost use Rattle.spv_share.specs.Both.{IsBoth, IsClaimed, IsSound};
 ghost use Rattle.spv_share.specs.States as spec;
-ghost use Rattle.spv_share.specs.States.{GoesOn};
+ghost use Rattle.spv_share.specs.States.{ClaimsStand, GoesOn, IsOutcome, JoinedStand};
 
 use crate::both::Both;
+use crate::ending::Outcome;
 use crate::relations::{Claim, Related};
 use spv_readings::Saying;
 use spv_row_reasons::law_told;
@@ -42,13 +48,82 @@ impl Both {
         is_equality(related.head) && !self.trail.graph.same(related.left, related.right)
     }
 
-    // The tableau gets an equality that the graph joins, with the fact that it is one.
-    fn give(&mut self, alloc: Global, terms: &Terms, related: Related) -> Result<(), AllocError>
+    // A fact says this of a row, and its bounds stand there then; or what excludes it there ends the path.
+    fn give_claim(
+        &mut self,
+        alloc: Global,
+        terms: &Terms,
+        claim: Claim,
+        fact: u32,
+    ) -> Result<Option<Outcome>, AllocError>
+        requires sound { IsSound terms.now self.old }
+        requires claimed { IsClaimed terms.now self.old claim fact }
+        ensures goes { GoesOn terms.now self.old self.new }
+        ensures graph { self.new.trail.graph ≡ self.old.trail.graph }
+        ensures outcome { IfOk result (λ o. IfSome o (λ x. IsOutcome terms.now self.new x)) }
+        ensures stands { IfOk result (λ o. IfNone o (Stands self.new.standing claim.row claim.saying)) }
+    {
+        if self.say_claim(terms, claim, fact) {
+            return Ok(None);
+        }
+        Ok(Some(self.end_claim(alloc, terms, claim, fact)?))
+    }
+
+    // The same for what was noted of a literal.
+    fn give_noted(
+        &mut self,
+        alloc: Global,
+        terms: &Terms,
+        place: usize,
+    ) -> Result<Option<Outcome>, AllocError>
+        requires both { IsBoth terms.now self.old }
+        requires place { place < length self.old.claims.items }
+        ensures goes { GoesOn terms.now self.old self.new }
+        ensures graph { self.new.trail.graph ≡ self.old.trail.graph }
+        ensures outcome { IfOk result (λ o. IfSome o (λ x. IsOutcome terms.now self.new x)) }
+        ensures stands { IfOk result (λ o. IfNone o ((n : Noted) (c : Claim) → slice_get self.old.claims.items place ≡ Some n → n.claim ≡ Some c → Stands self.new.standing c.row c.saying)) }
+    {
+        let noted = self.claims[place];
+        match noted.claim {
+            Some(claim) => self.give_claim(alloc, terms, claim, noted.fact),
+            None => Ok(None),
+        }
+    }
+
+    // The tableau gets all that the literals say of rows, or the path ends.
+    pub(crate) fn give_literals(
+        &mut self,
+        alloc: Global,
+        terms: &Terms,
+    ) -> Result<Option<Outcome>, AllocError>
+        requires both { IsBoth terms.now self.old }
+        ensures goes { GoesOn terms.now self.old self.new }
+        ensures graph { self.new.trail.graph ≡ self.old.trail.graph }
+        ensures outcome { IfOk result (λ o. IfSome o (λ x. IsOutcome terms.now self.new x)) }
+        ensures stands { IfOk result (λ o. IfNone o (ClaimsStand self.new)) }
+    {
+        for place in 0..self.claims.as_slice().len() {
+            if let Some(outcome) = self.give_noted(alloc, terms, place)? {
+                return Ok(Some(outcome));
+            }
+        }
+        Ok(None)
+    }
+
+    // The tableau gets an equality that the graph joins, with the fact that it is one; or the path ends.
+    fn give(
+        &mut self,
+        alloc: Global,
+        terms: &Terms,
+        related: Related,
+    ) -> Result<Option<Outcome>, AllocError>
         requires sound { IsSound terms.now self.old }
         requires there { slice_get self.old.relations.items related.row ≡ Some related }
         requires joined { spec.is_joined self.old related ≡ true }
         ensures goes { GoesOn terms.now self.old self.new }
         ensures graph { self.new.trail.graph ≡ self.old.trail.graph }
+        ensures outcome { IfOk result (λ o. IfSome o (λ x. IsOutcome terms.now self.new x)) }
+        ensures stands { IfOk result (λ o. IfNone o (Stands self.new.standing related.row Equal)) }
     {
         law_told();
         let number = self
@@ -58,36 +133,50 @@ impl Both {
             row: related.row,
             saying: Saying::Equal,
         };
-        self.assert_claim(terms, claim, number);
-        Ok(())
+        self.give_claim(alloc, terms, claim, number)
     }
 
     // The same where the relation at a place is such an equality that does not stand yet.
-    fn give_at(&mut self, alloc: Global, terms: &Terms, place: usize) -> Result<(), AllocError>
+    fn give_at(
+        &mut self,
+        alloc: Global,
+        terms: &Terms,
+        place: usize,
+    ) -> Result<Option<Outcome>, AllocError>
         requires sound { IsSound terms.now self.old }
         requires place { place < length self.old.relations.items }
         ensures goes { GoesOn terms.now self.old self.new }
         ensures graph { self.new.trail.graph ≡ self.old.trail.graph }
+        ensures outcome { IfOk result (λ o. IfSome o (λ x. IsOutcome terms.now self.new x)) }
+        ensures stands { IfOk result (λ o. IfNone o ((r : Related) → slice_get self.old.relations.items place ≡ Some r → spec.is_joined self.old r ≡ true → Stands self.new.standing place Equal)) }
     {
         let related = self.relations[place];
         if !self.is_joined(related) {
-            return Ok(());
+            return Ok(None);
         }
         if self.standing.stands(related.row, Saying::Equal) {
-            return Ok(());
+            return Ok(None);
         }
         self.give(alloc, terms, related)
     }
 
-    // The tableau gets each equality that the graph joins.
-    pub(crate) fn give_all(&mut self, alloc: Global, terms: &Terms) -> Result<(), AllocError>
+    // The tableau gets each equality that the graph joins, or the path ends.
+    pub(crate) fn give_all(
+        &mut self,
+        alloc: Global,
+        terms: &Terms,
+    ) -> Result<Option<Outcome>, AllocError>
         requires sound { IsSound terms.now self.old }
         ensures goes { GoesOn terms.now self.old self.new }
         ensures graph { self.new.trail.graph ≡ self.old.trail.graph }
+        ensures outcome { IfOk result (λ o. IfSome o (λ x. IsOutcome terms.now self.new x)) }
+        ensures stands { IfOk result (λ o. IfNone o (JoinedStand self.new)) }
     {
         for place in 0..self.relations.as_slice().len() {
-            self.give_at(alloc, terms, place)?;
+            if let Some(outcome) = self.give_at(alloc, terms, place)? {
+                return Ok(Some(outcome));
+            }
         }
-        Ok(())
+        Ok(None)
     }
 }

@@ -39,6 +39,15 @@ pub struct Claim {
     pub saying: Saying,
 }
 
+/// What is noted of a literal that was told.
+#[derive(Clone, Copy, Debug)]
+pub struct Noted {
+    /// What it says of a row, if it is one of a relation.
+    pub claim: Option<Claim>,
+    /// The number of its fact.
+    pub fact: u32,
+}
+
 // The first relation that an atom is.
 fn find(relations: &[Related], t: TermId) -> Option<Related>
     ensures { result ≡ spec.find relations.now t }

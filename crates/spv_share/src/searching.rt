@@ -178,7 +178,6 @@ impl Both {
                 Ok(Sought::Apart)
             }
             Tried::Stopped => Ok(Sought::Stopped),
-            Tried::Taken => Err(AllocError),
             Tried::Refuted(second) => {
                 self.join(terms, related, first, second)?;
                 Ok(Sought::Joined)
@@ -210,7 +209,6 @@ impl Both {
                 Ok(Sought::Apart)
             }
             Tried::Stopped => Ok(Sought::Stopped),
-            Tried::Taken => Err(AllocError),
             Tried::Refuted(first) => self.seek_below(alloc, terms, waits, related, first),
         }
     }

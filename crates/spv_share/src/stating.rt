@@ -3,8 +3,8 @@
 ghost use Rattle.std.specs.Prelude.{◌≡◌, length, IfOk, IfNone, IfSome};
 ghost use Rattle.spv_simplex.specs.Checks.{IsFeasible};
 ghost use Rattle.spv_share_graph.specs.Holding.{HasNoClash};
-ghost use Rattle.spv_share.specs.Both.{IsBoth, KeepsLevels, Stays, told};
-ghost use Rattle.spv_share.specs.States.{AreApart, GoesOn, HasClosed, IsAnswer, IsOutcome};
+ghost use Rattle.spv_share.specs.Both.{IsBoth, IsSound, KeepsLevels, Stays, told};
+ghost use Rattle.spv_share.specs.States.{AllStands, AreApart, GoesOn, HasClosed, IsAnswer, IsAtPoint, IsOutcome};
 
 use crate::both::Both;
 use crate::ending::Outcome;
@@ -25,11 +25,11 @@ pub enum Shared {
 }
 
 impl Both {
-    // Where no equality is forced: a point, if all stands that has to. What has to stand does, unless the graph has a clash; where it
-    // does not, the answer is want of memory.
+    // Where no equality is forced, and all stands that has to: a point.
     fn settle(&mut self, alloc: Global, terms: &Terms) -> Result<Outcome, AllocError>
-        requires both { IsBoth terms.now self.old }
+        requires sound { IsSound terms.now self.old }
         requires clash { HasNoClash self.old.trail.graph }
+        requires stand { AllStands self.old }
         requires apart { AreApart self.old (length self.old.relations.items) }
         ensures goes { GoesOn terms.now self.old self.new }
         ensures outcome { IfOk result (λ o. IsOutcome terms.now self.new o) }
@@ -38,17 +38,14 @@ impl Both {
             return Ok(outcome);
         }
         self.standing.tableau.law_tableau();
-        if self.is_settled(terms) {
-            Ok(Outcome::Open)
-        } else {
-            Err(AllocError)
-        }
+        Ok(Outcome::Open)
     }
 
     // Looks for equalities that the bounds force; `None` where the graph joins one more.
     fn search(&mut self, alloc: Global, terms: &Terms) -> Result<Option<Outcome>, AllocError>
-        requires both { IsBoth terms.now self.old }
+        requires sound { IsSound terms.now self.old }
         requires clash { HasNoClash self.old.trail.graph }
+        requires stand { AllStands self.old }
         requires point { IsFeasible self.old.standing.tableau }
         ensures goes { GoesOn terms.now self.old self.new }
         ensures outcome { IfOk result (λ o. IfSome o (λ x. IsOutcome terms.now self.new x)) }
@@ -61,7 +58,36 @@ impl Both {
         }
     }
 
-    // What the graph joins is given to the tableau, and this is checked.
+    // The tableau gets all that literals say of rows, and each equality that the graph joins; or the path ends.
+    fn give_both(&mut self, alloc: Global, terms: &Terms) -> Result<Option<Outcome>, AllocError>
+        requires both { IsBoth terms.now self.old }
+        ensures goes { GoesOn terms.now self.old self.new }
+        ensures graph { self.new.trail.graph ≡ self.old.trail.graph }
+        ensures outcome { IfOk result (λ o. IfSome o (λ x. IsOutcome terms.now self.new x)) }
+        ensures stand { IfOk result (λ o. IfNone o (AllStands self.new)) }
+    {
+        if let Some(outcome) = self.give_literals(alloc, terms)? {
+            return Ok(Some(outcome));
+        }
+        self.give_all(alloc, terms)
+    }
+
+    // The same, and a check of the tableau.
+    fn check_given(&mut self, alloc: Global, terms: &Terms) -> Result<Option<Outcome>, AllocError>
+        requires both { IsBoth terms.now self.old }
+        ensures goes { GoesOn terms.now self.old self.new }
+        ensures graph { self.new.trail.graph ≡ self.old.trail.graph }
+        ensures outcome { IfOk result (λ o. IfSome o (λ x. IsOutcome terms.now self.new x)) }
+        ensures stand { IfOk result (λ o. IfNone o (AllStands self.new)) }
+        ensures point { IfOk result (λ o. IfNone o (IsAtPoint self.new.standing)) }
+    {
+        if let Some(outcome) = self.give_both(alloc, terms)? {
+            return Ok(Some(outcome));
+        }
+        self.check(alloc, terms)
+    }
+
+    // What literals say and what the graph joins is given to the tableau, which is checked and searched.
     fn exchange(&mut self, alloc: Global, terms: &Terms) -> Result<Option<Outcome>, AllocError>
         requires both { IsBoth terms.now self.old }
         requires clash { HasNoClash self.old.trail.graph }
@@ -69,8 +95,7 @@ impl Both {
         ensures outcome { IfOk result (λ o. IfSome o (λ x. IsOutcome terms.now self.new x)) }
         ensures none { IfOk result (λ o. IfNone o (HasClosed self.old self.new)) }
     {
-        self.give_all(alloc, terms)?;
-        if let Some(outcome) = self.check(alloc, terms)? {
+        if let Some(outcome) = self.check_given(alloc, terms)? {
             return Ok(Some(outcome));
         }
         self.search(alloc, terms)

@@ -1,33 +1,35 @@
 // Telling a literal to both sides.
 
-ghost use Rattle.std.specs.Prelude.{◌≡◌, ◌++◌, ◌∷◌, [], IfSome, OnErr, OnOk};
+ghost use Rattle.std.specs.Prelude.{◌≡◌, ◌++◌, ◌∷◌, [], false, IfSome, IsTrue, OnErr, OnOk};
 ghost use Rattle.spv_term.specs.Arena.{tree};
 ghost use Rattle.spv_course.specs.Course.{fact_at, literal};
 ghost use Rattle.spv_share_graph.specs.Holding.{Grows, MayTell};
 ghost use Rattle.spv_share_graph.specs.Telling.{literal_ties, ties};
-ghost use Rattle.spv_share_rows.specs.Standing.{AddsSome};
+ghost use Rattle.spv_share_rows.specs.Said.{IsOpposed};
+ghost use Rattle.spv_share_rows.specs.Standing.{AddsSome, Stands};
 ghost use Rattle.spv_share.specs.Relations.{claim, find};
 ghost use Rattle.spv_share.specs.Both.{IsBoth, IsClaimed, IsSound, KeepsLevels, Stays, told};
 
 use crate::both::Both;
-use crate::relations::{Claim, claim_of};
+use crate::relations::{Claim, Noted, claim_of};
 use spv_course::Part;
 use spv_row_reasons::law_told;
 use spv_term::{TermId, Terms};
 use std::alloc::AllocError;
 
-// One claim more. For want of memory the claims are as they were.
-fn push_claim(claims: &mut Vec<Option<Claim>>, claim: Option<Claim>) -> Result<(), AllocError>
-    ensures ok { OnOk result (claims.new.items ≡ claims.old.items ++ claim ∷ []) }
+// One literal more. For want of memory the others are as they were.
+fn push_claim(claims: &mut Vec<Noted>, claim: Option<Claim>, fact: u32) -> Result<(), AllocError>
+    ensures ok { OnOk result (claims.new.items ≡ claims.old.items ++ record { claim = claim; fact = fact } ∷ []) }
     ensures err { OnErr result (claims.new.items ≡ claims.old.items) }
 {
-    claims.push(claim)?;
+    claims.push(Noted { claim, fact })?;
     Ok(())
 }
 
 impl Both {
-    // The bounds that a fact is on a row, as far as they may be asserted.
-    pub(crate) fn assert_claim(&mut self, terms: &Terms, claim: Claim, fact: u32)
+    // A fact says this of a row: its bounds stand there then. The answer is false, and nothing changes, where something stands there
+    // that excludes it.
+    pub(crate) fn say_claim(&mut self, terms: &Terms, claim: Claim, fact: u32) -> bool
         requires sound { IsSound terms.now self.old }
         requires claimed { IsClaimed terms.now self.old claim fact }
         ensures sound { IsSound terms.now self.new }
@@ -35,13 +37,16 @@ impl Both {
         ensures trail { self.new.trail ≡ self.old.trail }
         ensures relations { self.new.relations ≡ self.old.relations }
         ensures claims { self.new.claims ≡ self.old.claims }
+        ensures stands { IsTrue result → Stands self.new.standing claim.row claim.saying }
+        ensures opposed { result ≡ false → IsOpposed self.old.standing claim.row claim.saying }
+        ensures same { result ≡ false → self.new ≡ self.old }
     {
         let _ = terms;
-        self.standing.assert_saying(claim.row, claim.saying, fact);
+        self.standing.say(claim.row, claim.saying, fact)
     }
 
-    // The same for a literal that may be one of no row.
-    fn assert_literal(&mut self, terms: &Terms, claim: Option<Claim>, fact: u32)
+    // The same for a literal that may be one of no row. What is excluded is left for when it is asked what was told comes to.
+    fn say_literal(&mut self, terms: &Terms, claim: Option<Claim>, fact: u32)
         requires sound { IsSound terms.now self.old }
         requires claimed { IfSome claim (λ c. IsClaimed terms.now self.old c fact) }
         ensures sound { IsSound terms.now self.new }
@@ -51,7 +56,7 @@ impl Both {
         ensures claims { self.new.claims ≡ self.old.claims }
     {
         if let Some(claim) = claim {
-            self.assert_claim(terms, claim, fact);
+            self.say_claim(terms, claim, fact);
         }
     }
 
@@ -77,13 +82,13 @@ impl Both {
         law_told();
         let number = self.trail.tell(terms, atom, part, why)?;
         let claim = claim_of(self.relations.as_slice(), atom, part);
-        self.assert_literal(terms, claim, number);
-        push_claim(&mut self.claims, claim)
+        self.say_literal(terms, claim, number);
+        push_claim(&mut self.claims, claim, number)
     }
 
     /// Tells a literal to both sides. The graph joins its term with TRUE or with FALSE, and joins or separates the sides of an
-    /// equation that is no connective. The tableau gets the bounds that the literal of a relation of whole numbers is, as far as
-    /// they may stand beside those that stand. `why` is the number of the literal among the facts of the path. For want of memory
+    /// equation that is no connective. The tableau gets the bounds that the literal of a relation of whole numbers is, unless
+    /// something stands on its row that excludes them: then `state` will end the path. `why` is the number of the literal among the facts of the path. For want of memory
     /// nothing more is told.
     pub fn tell(
         &mut self,

@@ -41,7 +41,7 @@ use Rattle.spv_readings.specs.Relations.{number_sides}
 use Rattle.spv_atoms.specs.Atoms.{has_sort}
 use Rattle.spv_share_graph.proofs.Ties.{has-sides, sides-node, sides-tree}
 use Rattle.spv_simplex.specs.State.{IsTableau, kept_point, rows_in}
-use Rattle.spv_share_rows.proofs.Trying.{form_at}
+use Rattle.spv_share_rows.proofs.Forms.{form_at}
 use Rattle.spv_leaf_tables.specs.Atoms.{are_comparable, same_sorts}
 use Rattle.spv_leaf_tables.specs.Labels.{HasId, label_in, same_labels}
 use Rattle.spv_leaf_tables.specs.Leaves.{worth_at}

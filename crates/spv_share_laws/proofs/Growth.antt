@@ -22,7 +22,7 @@ use Rattle.spv_congruence.specs.Told.{IsOf}
 use Rattle.spv_course.specs.declared.entries.Part.TheVariants as part
 use Rattle.spv_course.specs.declared.entries.Entry.{Entry}
 use Rattle.spv_course.specs.declared.entries.Entry.TheVariants.{Derived, Told}
-use Rattle.spv_course.specs.Course.{facts, IsCourse}
+use Rattle.spv_course.specs.Course.{facts, IsCourse, literal}
 use Rattle.spv_course.specs.Derived.{is_number, is_truth, IsFalseTerm, IsTrueTerm}
 use Rattle.spv_course.specs.Laws.{Stays}
 use Rattle.spv_course.specs.Literals.{Literal, literals}
@@ -43,7 +43,8 @@ use Rattle.spv_share.specs.declared.both.Both.{Both}
 use Rattle.spv_share.specs.declared.both.Level.{Level}
 use Rattle.spv_share.specs.declared.relations.Related.{Related}
 use Rattle.spv_share.specs.Relations.{AreRelations, IsRelation, sides_in}
-use Rattle.spv_share.specs.Both.{AreReasoned, IsBoth, IsLevel, IsReason, IsSound, of_literal, of_relation, of_truths, told}
+use Rattle.spv_share.specs.declared.relations.Noted.{Noted}
+use Rattle.spv_share.specs.Both.{AreNoted, AreReasoned, IsBoth, IsLevel, IsReason, IsSound, of_literal, of_relation, of_truths, told}
 use Rattle.spv_share.proofs.Closing.{tie_fact}
 
 -- ---- lists
@@ -264,12 +265,26 @@ module _ (old new : Arena) (ok : IsArena old) (more : Extends old new) where
     inside = in_on b.standing.tableau.forms h.inside;
     numbers = numbers_on b.one b.zero h.numbers;
     asserted = h.asserted;
+    said = h.said;
+  }
+
+  -- what is noted of literals
+  noted_on : (rels : List Related) (es : List Entry) (ns : List Noted) → IsCourse old es → AreNoted old rels es ns → AreNoted new rels es ns
+  noted_on rels es ns course h = record {
+    many = h.many;
+    each = λ place l n at there.
+        let k = h.each place l n at there in
+        record {
+          within = below l.atom.0 k.within;
+          claim = k.claim;
+          fact = ap (λ ts. numbered ts n.fact) (course-Extends more es course).facts_same ∙ (k.fact ∙ ap (λ t. Some (literal t l.part)) (sym (tree_on l.atom k.within)));
+        };
   }
 
   pub both_on : (b : Both) → IsBoth old b → IsBoth new b
   both_on b h = record {
     sound = sound_on b h.sound;
-    claims = h.claims;
+    claims = noted_on b.relations.items b.trail.course b.claims.items h.sound.trail.course h.claims;
     reasons = reasons_on b.relations.items (told b) b.trail.graph.told (facts_inside b.trail h.sound.trail) h.reasons;
   }
 
@@ -285,8 +300,10 @@ module _ (old new : Arena) (ok : IsArena old) (more : Extends old new) where
     mark = k.mark;
     bounds_in = k.bounds_in;
     sourced = sourced_on (take l.trail.entries b.trail.course) b.standing (take l.bounds b.standing.tableau.bounds) (course-take old b.trail.course l.trail.entries h.sound.trail.course) k.sourced;
+    said = k.said;
     claims_in = k.claims_in;
-    claims = k.claims;
+    claims =
+        noted_on b.relations.items (take l.trail.entries b.trail.course) (take l.claims b.claims.items) (course-take old b.trail.course l.trail.entries h.sound.trail.course) k.claims;
     reasons =
         reasons_on b.relations.items (literals (take l.trail.entries b.trail.course)) (take l.trail.facts b.trail.graph.told)
         (first_inside b.trail.graph.told l.trail.facts (facts_inside b.trail h.sound.trail)) k.reasons;

@@ -3,7 +3,9 @@
 #![tactic(auto)]
 
 mod growing;
+mod searching;
 mod values;
 
 pub use growing::law_growing;
+pub use searching::law_search;
 pub use values::{law_labels, law_one_value};

@@ -1,5 +1,5 @@
 -- Bounds that are asserted.
-use Rattle.std.proofs.Common.{◌≡◌, ℕ, ◌≤◌, Bool, true, false, cond, ◌&&◌, List, [], ◌∷◌, ◌++◌, take, drop, length, nat_eq, ℤ, refl, sym, ap, ◌∙◌, subst, Option, Some, None, append_assoc, arith}
+use Rattle.std.proofs.Common.{◌≡◌, ℕ, ◌+◌, ◌≤◌, Bool, true, false, cond, ◌&&◌, List, [], ◌∷◌, ◌++◌, take, drop, length, nat_eq, ℤ, refl, sym, ap, ◌∙◌, subst, Option, Some, None, append_assoc, arith}
 use Rattle.std.specs.Prelude.{slice_get}
 use Rattle.std.specs.Option.{option_map}
 use mir.Val.{to_z, of_z}
@@ -93,6 +93,7 @@ module _ (old new : Standing) (row : ℕ) (side : Side) (v : Fraction) (s : Sour
     forms = one.forms ∙ (h.forms ∙ sym forms_same);
     sources = one.many ∙ (h.sources ∙ sym (ap length forms_same));
     room = subst HaveRoom (sym forms_same) h.room;
+    trail = ap (λ (t : State). t.trail) one.tableau ∙ (h.trail ∙ ap (λ (fs : List IdForm). length fs + length fs) (sym forms_same));
   }
 
   moved : (a : Arena) (read : ℕ → Option Reading) (bounds : List Bound) → AreSourced a read old.tableau.forms bounds (with_source (sources_in old.sources.items) row side s) → Sourced a read new bounds

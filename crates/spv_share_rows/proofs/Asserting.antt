@@ -30,7 +30,7 @@ use Rattle.spv_bounds.specs.declared.bounds.Bounds.{Bounds}
 use Rattle.spv_bounds.specs.Bounds.{bound_at, bounds_in, has_room}
 use Rattle.spv_share_rows.specs.declared.standing.Standing.{Standing}
 use Rattle.spv_share_rows.specs.declared.forcing.Tried.{Tried}
-use Rattle.spv_share_rows.specs.declared.forcing.Tried.TheVariants.{Refuted, Met, Stopped, Taken}
+use Rattle.spv_share_rows.specs.declared.forcing.Tried.TheVariants.{Refuted, Met, Stopped}
 use Rattle.spv_share_rows.specs.Standing.{HasSaid, IsAmongIf}
 use Rattle.spv_share_rows.specs.Forcing.{all_pivots, Halts, HasEvidence, IsOutcome, too_wide}
 use Rattle.spv_share_rows.proofs.Adding.{constant_is}
@@ -168,13 +168,12 @@ first_evidence : (known : List Bound) (s : State) (n : ℕ) → HasEvidence know
 first_evidence known s n h = record { bounds = h.bounds; are = h.are; held = h.held; halts = first_halts s n h.halts }
 
 -- a try that was stopped
-pub tried_evidence : {E : Type 0} (known : List Bound) (r : Result Tried E) (b : Standing) (old new last : State) (checked : Checked) (all : Bool) (n : ℕ) → IsTableau old → HoldsAsserted known old → IsChecked old new checked
-    → last ≡ with_first new n → IfOk r (λ t. IsOutcome b checked all t) → IfOk r (λ t. t ≡ Stopped → HasEvidence known last)
-tried_evidence known (Err e) b old new last checked all n kept asserted is same h = tt
-tried_evidence known (Ok t) b old new last checked all n kept asserted is same h = λ e. by_tried t h e
+pub tried_evidence : {E : Type 0} (known : List Bound) (r : Result Tried E) (b : Standing) (old new last : State) (checked : Checked) (n : ℕ) → IsTableau old → HoldsAsserted known old → IsChecked old new checked
+    → last ≡ with_first new n → IfOk r (λ t. IsOutcome b checked t) → IfOk r (λ t. t ≡ Stopped → HasEvidence known last)
+tried_evidence known (Err e) b old new last checked n kept asserted is same h = tt
+tried_evidence known (Ok t) b old new last checked n kept asserted is same h = λ e. by_tried t h e
   where
-    by_tried : (t : Tried) → IsOutcome b checked all t → t ≡ Stopped → HasEvidence known last
+    by_tried : (t : Tried) → IsOutcome b checked t → t ≡ Stopped → HasEvidence known last
     by_tried Stopped h e = subst (λ (s : State). HasEvidence known s) (sym same) (first_evidence known new n (stopped_evidence known old new checked kept asserted is h))
     by_tried (Refuted ms) h e = absurd (cc)
     by_tried Met h e = absurd (cc)
-    by_tried Taken h e = absurd (cc)

@@ -17,7 +17,7 @@ use Rattle.spv_simplex.specs.State.{State, kept_point, rows_in, with_first}
 use Rattle.spv_simplex.specs.Checks.{IsChecked, IsFeasible, Means}
 use Rattle.spv_share_rows.specs.declared.standing.Standing.{Standing}
 use Rattle.spv_share_rows.specs.declared.forcing.Tried.{Tried}
-use Rattle.spv_share_rows.specs.declared.forcing.Tried.TheVariants.{Refuted, Met, Stopped, Taken}
+use Rattle.spv_share_rows.specs.declared.forcing.Tried.TheVariants.{Refuted, Met, Stopped}
 use Rattle.spv_share_rows.specs.Forcing.{IsOutcome}
 
 neither : (b c : Bool) → b ≡ false → c ≡ false → (b || c) ≡ false
@@ -62,13 +62,12 @@ feasible_first old new checked n e is =
     let P : Checked → Type 0 = λ k. Means k old new in
     met_first (rows_in new) new.bounds n (kept_point new) (subst P e is.means)
 
-pub tried_met : {E : Type 0} (r : Result Tried E) (b : Standing) (old new : State) (checked : Checked) (all : Bool) (n : ℕ) (last : State) → IsChecked old new checked → last ≡ with_first new n → IfOk r (λ t. IsOutcome b checked all t)
+pub tried_met : {E : Type 0} (r : Result Tried E) (b : Standing) (old new : State) (checked : Checked) (n : ℕ) (last : State) → IsChecked old new checked → last ≡ with_first new n → IfOk r (λ t. IsOutcome b checked t)
     → IfOk r (λ t. t ≡ Met → IsFeasible last)
-tried_met (Err e) b old new checked all n last is same h = tt
-tried_met (Ok t) b old new checked all n last is same h = λ e. by_tried t h e
+tried_met (Err e) b old new checked n last is same h = tt
+tried_met (Ok t) b old new checked n last is same h = λ e. by_tried t h e
   where
-    by_tried : (t : Tried) → IsOutcome b checked all t → t ≡ Met → IsFeasible last
-    by_tried Met h e = subst IsFeasible (sym same) (feasible_first old new checked n h.0 is)
+    by_tried : (t : Tried) → IsOutcome b checked t → t ≡ Met → IsFeasible last
+    by_tried Met h e = subst IsFeasible (sym same) (feasible_first old new checked n h is)
     by_tried (Refuted ms) h e = absurd (cc)
     by_tried Stopped h e = absurd (cc)
-    by_tried Taken h e = absurd (cc)

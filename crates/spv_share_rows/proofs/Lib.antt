@@ -1,5 +1,11 @@
+pub mod Forms
+pub mod Meeting
 pub mod Adding
 pub mod Trying
 pub mod OnRows
 pub mod Firsts
 pub mod Asserting
+pub mod Rooms
+pub mod Opposing
+pub mod Given
+pub mod Refuting

@@ -1,11 +1,13 @@
 -- What stands on a row.
-use Rattle.std.proofs.Common.{◌≡◌, ℕ, true, false, ℤ, refl, sym, ap, ◌∙◌, subst, Option, Some, None}
+use Rattle.std.proofs.Common.{◌≡◌, ℕ, ◌<◌, true, false, ℤ, pos, ◌<ℤ◌, unsigned_abs, List, ◌++◌, length, refl, sym, ap, ◌∙◌, subst, Option, Some, None}
 use Rattle.std.proofs.lemmas.Option.{same_Some}
 use Rattle.std.specs.Prelude.{slice_get}
 use Rattle.std.specs.Option.{option_map}
 use mir.Val.{to_z, of_z}
 use mir.Syntax.{w128}
-use Rattle.spv_whole.specs.Fraction.{Fraction}
+use Rattle.spv_whole.specs.Fraction.{Fraction, IsLowest}
+use Rattle.spv_whole.proofs.Ring.{pos-unsigned_abs}
+use Rattle.spv_rational.proofs.Field.{number_is}
 use Rattle.spv_rational.specs.Rational.{Rational, number}
 use Rattle.spv_atoms.specs.Linear.{IdForm}
 use Rattle.spv_tableaux.specs.declared.side.Side.{Side}
@@ -17,10 +19,12 @@ use Rattle.spv_readings.specs.declared.saying.Saying.{Saying}
 use Rattle.spv_readings.specs.Sayings.{bounds_of}
 use Rattle.spv_readings.proofs.Bounding.{bound_is_on}
 use Rattle.spv_bounds.specs.declared.bounds.Bounds.{Bounds}
-use Rattle.spv_bounds.specs.Bounds.{bounds_in, has_room}
+use Rattle.spv_bounds.specs.Bounds.{bound_at, bounds_in, has_room}
 use Rattle.spv_bounds.specs.Laws.{LowerIsFound, UpperIsFound}
 use Rattle.spv_share_rows.specs.declared.standing.Standing.{Standing}
 use Rattle.spv_share_rows.specs.Standing.{IsMet, KeepsWithin, Stands, StandsOn}
+use Rattle.spv_steps.specs.Trail.{bound_of}
+use Rattle.spv_share_rows.proofs.Forms.{form_at}
 use Rattle.spv_share_rows.proofs.Adding.{constant_is}
 
 -- a bound that is one has a property of its value, if each that is one has it
@@ -49,6 +53,40 @@ pub all_stand : LowerIsFound → UpperIsFound → (b : Standing) (row : ℕ) (x 
 all_stand lower upper b row x z bs constant room are low high = record {
   each = λ f at. by_sides lower upper (λ side v. bound_on b.tableau.bounds row side ≡ Some v) row x z bs f (constant f at) room are (stands_on b row Lower bs.lower low) (stands_on b row Upper bs.upper high);
 }
+
+-- fractions of one number are one
+pub same_fractions : (f g : Fraction) → IsLowest f → IsLowest g → number f ≡ number g → f ≡ g
+same_fractions f g lf lg e = sym (number_is f lf) ∙ (ap (λ (r : Rational). r.fraction) e ∙ number_is g lg)
+
+pub same_den : (z w : ℤ) → (pos 0 <ℤ z) → (pos 0 <ℤ w) → unsigned_abs z ≡ unsigned_abs w → z ≡ w
+same_den z w h k e = sym (pos-unsigned_abs z h) ∙ (ap (λ (n : ℕ). pos n) e ∙ pos-unsigned_abs w k)
+
+-- and each side of a saying that stands
+module _ (lower : LowerIsFound) (upper : UpperIsFound) (b : Standing) (row : ℕ) (x : Saying) (z : ℤ) (bs : Bounds) (constant : (f : IdForm) → slice_get b.tableau.forms row ≡ Some f → z ≡ f.constant) (room : has_room z ≡ true)
+    (are : (row : ℕ) → bounds_in row bs ≡ bounds_of row (to_z w128 (of_z w128 z)) x) (inside : row < length b.tableau.forms) (stands : Stands b row x) where
+  form : (f : IdForm) × (slice_get b.tableau.forms row ≡ Some f)
+  form = form_at b.tableau.forms row inside
+
+  here : bounds_in row bs ≡ bounds_of row (form.0).constant x
+  here = are row ∙ ap (λ y. bounds_of row y x) (constant_is z (form.0).constant room (constant form.0 form.1))
+
+  item : (j : ℕ) (bound : Bound) → slice_get (bounds_in row bs) j ≡ Some bound → bound_on b.tableau.bounds row bound.side ≡ Some bound.value
+  item j bound there = stands.each form.0 form.1 j bound (ap (λ xs. slice_get xs j) (sym here) ∙ there)
+
+  lower_item : (l u : Option Fraction) → ((j : ℕ) (bound : Bound) → slice_get (bound_at row Lower l ++ bound_at row Upper u) j ≡ Some bound → bound_on b.tableau.bounds row bound.side ≡ Some bound.value) → StandsOn b row Lower l
+  lower_item None u each = tt
+  lower_item (Some v) u each = each 0 (bound_of row Lower (number v)) refl
+
+  upper_item : (l u : Option Fraction) → ((j : ℕ) (bound : Bound) → slice_get (bound_at row Lower l ++ bound_at row Upper u) j ≡ Some bound → bound_on b.tableau.bounds row bound.side ≡ Some bound.value) → StandsOn b row Upper u
+  upper_item l None each = tt
+  upper_item None (Some v) each = each 0 (bound_of row Upper (number v)) refl
+  upper_item (Some w) (Some v) each = each 1 (bound_of row Upper (number v)) refl
+
+  pub stand_lower : StandsOn b row Lower bs.lower
+  stand_lower = lower_item bs.lower bs.upper item
+
+  pub stand_upper : StandsOn b row Upper bs.upper
+  stand_upper = upper_item bs.lower bs.upper item
 
 keeps_within : (side : Side) (o : Option Fraction) (value : Rational) → KeepsWithin side o value → (w : Fraction) → o ≡ Some w → breaks side (number w) value ≡ false
 keeps_within side None value h w e = absurd (cc)

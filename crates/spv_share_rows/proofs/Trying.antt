@@ -1,5 +1,5 @@
 -- What is tried of a row, and what a check comes to.
-use Rattle.std.proofs.Common.{◌≡◌, ℕ, zero, suc, ◌<◌, ◌≤◌, Bool, List, [], ◌∷◌, ◌++◌, take, length, pos, refl, sym, ap, ◌∙◌, subst, Option, Some, IsTrue, inl, inr, arith}
+use Rattle.std.proofs.Common.{◌≡◌, ℕ, ◌+◌, ◌<◌, ◌≤◌, Bool, List, [], ◌∷◌, ◌++◌, take, length, pos, refl, sym, ap, ◌∙◌, subst, Option, Some, IsTrue, inl, inr, arith}
 use Rattle.std.proofs.lemmas.List.{append-nil}
 use Rattle.spv_whole.specs.Fraction.{Fraction}
 use Rattle.spv_term.specs.Arena.{Arena}
@@ -28,14 +28,19 @@ use Rattle.spv_row_reasons.specs.Laws.{RefutedAbove}
 use Rattle.spv_atom_rows.specs.Rows.{HaveRoom}
 use Rattle.spv_share_rows.specs.declared.standing.Standing.{Standing}
 use Rattle.spv_share_rows.specs.declared.forcing.Tried.{Tried}
-use Rattle.spv_share_rows.specs.declared.forcing.Tried.TheVariants.{Refuted, Met, Stopped, Taken}
+use Rattle.spv_share_rows.specs.declared.forcing.Tried.TheVariants.{Refuted, Met, Stopped}
 use Rattle.spv_share_rows.specs.Standing.{Adds, AddsSome, AreBoundsOf, IsBack, IsStanding, readings, SaidBy, Sourced}
+use Rattle.spv_share_rows.specs.Said.{added, IsGiven, stood}
+use Rattle.spv_share_rows.proofs.Forms.{form_at}
+use Rattle.spv_share_rows.proofs.Meeting.{stands_point}
+use Rattle.spv_readings.specs.Sayings.{bounds_of}
 use Rattle.spv_share_rows.specs.Forcing.{HasPoint, IsOutcome, IsStopped, IsTried, Refutes}
 
 -- the same rows, sources and forms, with another tableau
 pub record IsBeside (old new : Standing) : Type 0 where
   pub forms : new.tableau.forms ≡ old.tableau.forms
   pub pivots : new.tableau.pivots ≡ old.tableau.pivots
+  pub trail : new.tableau.trail ≡ old.tableau.trail
   pub kept : new.forms.items ≡ old.forms.items
   pub sources : new.sources.items ≡ old.sources.items
 
@@ -44,6 +49,7 @@ beside_stands old new s h = record {
   forms = s.kept ∙ (h.forms ∙ sym s.forms);
   sources = ap length s.sources ∙ (h.sources ∙ sym (ap length s.forms));
   room = subst HaveRoom (sym s.forms) h.room;
+  trail = s.trail ∙ (h.trail ∙ ap (λ (fs : List IdForm). length fs + length fs) (sym s.forms));
 }
 
 pub beside_sourced : (a : Arena) (read : ℕ → Option Reading) (old new : Standing) (bounds : List Bound) → IsBeside old new → Sourced a read old bounds → Sourced a read new bounds
@@ -73,8 +79,7 @@ module _ (old mid new : Standing) (row : ℕ) (x : Saying) (adds : AddsSome old 
 
 module _ (law : RefutedAbove) (old mid : Standing) (row : ℕ) (x : Saying) (adds : AddsSome old mid)
     (sourced : (a : Arena) (read : ℕ → Option Reading) → Sourced a read old old.tableau.bounds → SaidBy a read old row x 0 → Sourced a read mid mid.tableau.bounds)
-    (all : Bool) (said : IsTrue all → (bounds : List Bound) → AreBoundsOf old row x bounds → Adds old mid bounds)
-    (form : IdForm) (bounds : List Bound) (are : AreBoundsOf old row x bounds) (table : State) (checked : Checked) (is : IsChecked mid.tableau table checked) where
+    (inside : row < length old.tableau.forms) (given : IsGiven old mid row x) (table : State) (checked : Checked) (is : IsChecked mid.tableau table checked) where
   pub refuted : (multiples : List (Fraction × ℕ)) → checked ≡ Infeasible → multiples ≡ fact_multiples (sources_in mid.sources.items) table.combination → Refutes old row x multiples
   refuted multiples e m = record {
     shown = λ a es p q ok inside stands by.
@@ -101,30 +106,47 @@ module _ (law : RefutedAbove) (old mid : Standing) (row : ℕ) (x : Saying) (add
           let Q : List Bound → Type 0 = λ bs. IsContradiction (rows_of mid.tableau.forms) bs table.combination in
           subst Q is.bounds (subst P is.forms h)
 
-  pub point_met : checked ≡ Feasible → IsTrue all → IsTableau table → HasPoint old row x
-  point_met e every kept = record {
-    bounds = bounds;
-    are = are;
-    met = record {
-      point = kept_point table;
-      solution = let P : List IdForm → Type 0 = λ fs. IsSolution (rows_of fs) (kept_point table) in subst P (is.forms ∙ adds.adds.forms) kept.solution;
-      meets =
-          let P : List IdForm → Type 0 = λ fs. Meets (limits (rows_of fs) table.bounds) (kept_point table) in
-          let Q : List Bound → Type 0 = λ bs. Meets (limits (rows_of old.tableau.forms) bs) (kept_point table) in
-          subst Q (is.bounds ∙ (said every bounds are).bounds) (subst P (is.forms ∙ adds.adds.forms) (feasible checked e is.means));
-    };
-  }
+  pub point_met : checked ≡ Feasible → IsTableau table → HasPoint old row x
+  point_met e kept = by_given given
     where
       feasible : (c : Checked) → c ≡ Feasible → Means c mid.tableau table → IsFeasible table
       feasible c e h = let P : Checked → Type 0 = λ k. Means k mid.tableau table in subst P e h
 
+      form : (f : IdForm) × (slice_get old.tableau.forms row ≡ Some f)
+      form = form_at old.tableau.forms row inside
+
+      solution : IsSolution (rows_of old.tableau.forms) (kept_point table)
+      solution = let P : List IdForm → Type 0 = λ fs. IsSolution (rows_of fs) (kept_point table) in subst P (is.forms ∙ adds.adds.forms) kept.solution
+
+      meets : Meets (limits (rows_of old.tableau.forms) mid.tableau.bounds) (kept_point table)
+      meets =
+          let P : List IdForm → Type 0 = λ fs. Meets (limits (rows_of fs) table.bounds) (kept_point table) in
+          let Q : List Bound → Type 0 = λ bs. Meets (limits (rows_of old.tableau.forms) bs) (kept_point table) in
+          subst Q is.bounds (subst P (is.forms ∙ adds.adds.forms) (feasible checked e is.means))
+
+      by_given : IsGiven old mid row x → HasPoint old row x
+      by_given (added bare all) =
+          let bounds : List Bound = bounds_of row (form.0).constant x in
+          let are : AreBoundsOf old row x bounds = record { form = form.0; there = form.1; are = refl } in
+          record {
+            bounds = bounds;
+            are = are;
+            met = record {
+              point = kept_point table;
+              solution = solution;
+              meets = let Q : List Bound → Type 0 = λ bs. Meets (limits (rows_of old.tableau.forms) bs) (kept_point table) in subst Q (all bounds are).bounds meets;
+            };
+          }
+      by_given (stood same stands) =
+          stands_point old row x inside (kept_point table) solution
+          (let Q : List Bound → Type 0 = λ bs. Meets (limits (rows_of old.tableau.forms) bs) (kept_point table) in subst Q (ap (λ (b : Standing). b.tableau.bounds) same) meets) stands
+
   -- what came of it
-  pub tried_is : IsTableau table → (b : Standing) → b.tableau ≡ table → b.sources.items ≡ mid.sources.items → (t : Tried) → IsOutcome b checked all t → IsTried old row x t
+  pub tried_is : IsTableau table → (b : Standing) → b.tableau ≡ table → b.sources.items ≡ mid.sources.items → (t : Tried) → IsOutcome b checked t → IsTried old row x t
   tried_is kept b tab sources (Refuted multiples) h =
       refuted multiples h.0 (h.1 ∙ (ap (λ xs. fact_multiples (sources_in xs) b.tableau.combination) sources ∙ ap (λ (s : State). fact_multiples (sources_in mid.sources.items) s.combination) tab))
-  tried_is kept b tab sources Met h = point_met h.0 h.1 kept
+  tried_is kept b tab sources Met h = point_met h kept
   tried_is kept b tab sources Stopped h = tt
-  tried_is kept b tab sources Taken h = tt
 
 -- after a check of the bounds that stand
 pub checked_back : (old new : Standing) (checked : Checked) → IsChecked old.tableau new.tableau checked → IsBeside old new → IsBack old new
@@ -136,11 +158,10 @@ checked_back old new checked is beside = record {
 }
 
 -- after what was tried was let go, the answer is there still
-pub stopped_still : (b new : Standing) (checked : Checked) (all : Bool) (t : Tried) → IsOutcome b checked all t → new.tableau.answer ≡ Some checked → t ≡ Stopped → IsStopped new
-stopped_still b new checked all (Refuted ms) h answer e = absurd (cc)
-stopped_still b new checked all Met h answer e = absurd (cc)
-stopped_still b new checked all Taken h answer e = absurd (cc)
-stopped_still b new checked all Stopped h answer e = elim h [ inl w ↦ inl (answer ∙ ap Some w) | inr p ↦ inr (answer ∙ ap Some p) ]
+pub stopped_still : (b new : Standing) (checked : Checked) (t : Tried) → IsOutcome b checked t → new.tableau.answer ≡ Some checked → t ≡ Stopped → IsStopped new
+stopped_still b new checked (Refuted ms) h answer e = absurd (cc)
+stopped_still b new checked Met h answer e = absurd (cc)
+stopped_still b new checked Stopped h answer e = elim h [ inl w ↦ inl (answer ∙ ap Some w) | inr p ↦ inr (answer ∙ ap Some p) ]
 
 -- ---- as it was
 
@@ -159,13 +180,6 @@ back_sourced a read old new h k =
 
     itself : (n : ℕ) → n ≤ n
     itself n = omega arith
-
--- ---- the form of a row
-
-pub form_at : (forms : List IdForm) (row : ℕ) → row < length forms → (f : IdForm) × (slice_get forms row ≡ Some f)
-form_at [] row h = absurd (omega arith)
-form_at (f ∷ forms) zero h = (f, refl)
-form_at (f ∷ forms) (suc row) h = form_at forms row (omega arith)
 
 -- ---- a contradiction of the bounds that stand
 

@@ -1,5 +1,5 @@
 -- What is tried of a row.
-use Rattle.std.specs.Prelude.{◌≡◌, ◌⊎◌, ℕ, Bool, true, List, ◌++◌, pos, Some, IsTrue, slice_get}
+use Rattle.std.specs.Prelude.{◌≡◌, ◌⊎◌, ℕ, true, List, ◌++◌, pos, Some, slice_get}
 use Rattle.spv_whole.specs.Fraction.{Fraction}
 use Rattle.spv_logic.specs.Terms.{Term}
 use Rattle.spv_term.specs.Arena.{Arena, IsArena}
@@ -22,7 +22,7 @@ use Rattle.spv_readings.specs.Sources.{fact_multiples}
 use Rattle.spv_bounds.specs.Sources.{sources_in}
 use Rattle.spv_share_rows.specs.declared.standing.Standing.{Standing}
 use Rattle.spv_share_rows.specs.declared.forcing.Tried.{Tried}
-use Rattle.spv_share_rows.specs.declared.forcing.Tried.TheVariants.{Refuted, Met, Stopped, Taken}
+use Rattle.spv_share_rows.specs.declared.forcing.Tried.TheVariants.{Refuted, Met, Stopped}
 use Rattle.spv_share_rows.specs.Standing.{AreBoundsOf, readings, SaidBy, Sourced}
 
 -- where the bounds that stand come from facts of a course, the multiples of these refute that p is above q
@@ -48,7 +48,6 @@ abbrev pub IsTried : Standing → ℕ → Saying → Tried → Type 0
 IsTried b row x (Refuted multiples) = Refutes b row x multiples
 IsTried b row x Met = HasPoint b row x
 IsTried b row x Stopped = Unit {0}
-IsTried b row x Taken = Unit {0}
 
 -- the last check was stopped
 abbrev pub IsStopped : Standing → Type 0
@@ -68,8 +67,12 @@ pub record HasEvidence (known : List Bound) (s : State) : Type 0 where
   pub halts : Halts s
 
 -- what came of a check
-abbrev pub IsOutcome : Standing → Checked → Bool → Tried → Type 0
-IsOutcome b checked all (Refuted multiples) = (checked ≡ Infeasible) × (multiples ≡ fact_multiples (sources_in b.sources.items) b.tableau.combination)
-IsOutcome b checked all Met = (checked ≡ Feasible) × IsTrue all
-IsOutcome b checked all Stopped = (checked ≡ Wide) ⊎ (checked ≡ Pivots)
-IsOutcome b checked all Taken = Unit {0}
+abbrev pub IsOutcome : Standing → Checked → Tried → Type 0
+IsOutcome b checked (Refuted multiples) = (checked ≡ Infeasible) × (multiples ≡ fact_multiples (sources_in b.sources.items) b.tableau.combination)
+IsOutcome b checked Met = checked ≡ Feasible
+IsOutcome b checked Stopped = (checked ≡ Wide) ⊎ (checked ≡ Pivots)
+
+-- multiples of facts refute it
+abbrev pub IsRefutedBy : Standing → ℕ → Saying → Tried → Type 0
+IsRefutedBy b row x (Refuted multiples) = Refutes b row x multiples
+IsRefutedBy b row x _ = ⊥

@@ -1,5 +1,5 @@
 -- Bounds that stand, and the facts that they come from.
-use Rattle.std.specs.Prelude.{◌≡◌, false, ℕ, ◌<◌, ◌≤◌, List, ◌++◌, take, length, Option, Some, None, slice_get}
+use Rattle.std.specs.Prelude.{◌≡◌, false, ℕ, ◌+◌, ◌<◌, ◌≤◌, List, ◌++◌, take, length, Option, Some, None, slice_get}
 use Rattle.spv_whole.specs.Fraction.{Fraction}
 use Rattle.spv_rational.specs.Rational.{Rational, number}
 use Rattle.spv_logic.specs.Terms.{Term}
@@ -32,11 +32,12 @@ readings a es k = fact_reading (is_number a) (facts a es) k
 abbrev pub Sourced : Arena → (ℕ → Option Reading) → Standing → List Bound → Type 0
 Sourced a read b bounds = AreSourced a read b.tableau.forms bounds (sources_in b.sources.items)
 
--- rows with room, each with its form, and sources for all
+-- rows with room, each with its form, and sources for all; and so many bounds may stand as rows have sides
 pub record IsStanding (b : Standing) : Type 0 where
   pub forms : b.forms.items ≡ b.tableau.forms
   pub sources : length b.sources.items ≡ length b.tableau.forms
   pub room : HaveRoom b.tableau.forms
+  pub trail : b.tableau.trail ≡ length b.tableau.forms + length b.tableau.forms
 
 -- only bounds come behind the others; and what is known of the sources of the first bounds stays true
 pub record Adds (old new : Standing) (more : List Bound) : Type 0 where

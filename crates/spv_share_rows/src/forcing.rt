@@ -1,9 +1,10 @@
 //! Whether a row may say more than it does.
 
-ghost use Rattle.std.specs.Prelude.{◌≡◌, ◌<◌, ◌⊎◌, List, length, Some, IfOk, IsTrue};
+ghost use Rattle.std.specs.Prelude.{◌≡◌, ◌<◌, List, length, Some, IfOk};
 ghost use Rattle.spv_simplex.specs.Checks.{HoldsAsserted, IsFeasible};
 ghost use Rattle.spv_tableaux.specs.Bounds.{Bound};
 ghost use Rattle.spv_share_rows.specs.Standing.{HasSaid, IsBack, IsStanding};
+ghost use Rattle.spv_share_rows.specs.Said.{MaySay};
 ghost use Rattle.spv_share_rows.specs.Forcing.{HasEvidence, IsOutcome, IsStopped, IsTried};
 
 use crate::standing::Standing;
@@ -24,23 +25,13 @@ pub enum Tried {
     Met,
     /// A check of the tableau was stopped.
     Stopped,
-    /// Not all of its bounds may be asserted.
-    Taken,
-}
-
-// What came of a check that some point meets, where all bounds were asserted, or not.
-fn met(all: bool) -> Tried
-    ensures all { result ≡ Tried.Met → IsTrue all }
-    ensures other { (result ≡ Tried.Met) ⊎ (result ≡ Tried.Taken) }
-{
-    if all { Tried::Met } else { Tried::Taken }
 }
 
 impl Standing {
     // What came of a check with more bounds.
-    fn outcome(&self, alloc: Global, checked: Checked, all: bool) -> Result<Tried, AllocError>
+    fn outcome(&self, alloc: Global, checked: Checked) -> Result<Tried, AllocError>
         requires { self.now.tableau.answer ≡ Some checked }
-        ensures { IfOk result (λ t. IsOutcome self.now checked all t) }
+        ensures { IfOk result (λ t. IsOutcome self.now checked t) }
     {
         match checked {
             Checked::Infeasible => Ok(Tried::Refuted(fact_multiples(
@@ -48,7 +39,7 @@ impl Standing {
                 self.tableau.combination(),
                 self.sources.as_slice(),
             )?)),
-            Checked::Feasible => Ok(met(all)),
+            Checked::Feasible => Ok(Tried::Met),
             Checked::Wide => Ok(Tried::Stopped),
             Checked::Pivots => Ok(Tried::Stopped),
         }
@@ -64,6 +55,7 @@ impl Standing {
     ) -> Result<Tried, AllocError>
         requires standing { IsStanding self.old }
         requires row { row < length self.old.tableau.forms }
+        requires may { MaySay self.old row saying }
         ensures standing { IsStanding self.new }
         ensures back { IsBack self.old self.new }
         ensures tried { IfOk result (λ t. IsTried self.old row saying t) }
@@ -76,11 +68,13 @@ impl Standing {
         law_refuted();
         law_asserted();
         let mark = self.tableau.mark();
-        let all = self.assert_saying(row, saying, 0);
+        if !self.say(row, saying, 0) {
+            return self.refute(alloc, row, saying);
+        }
         self.tableau.law_tableau();
         let checked = self.tableau.check();
         self.tableau.law_tableau();
-        let tried = self.outcome(alloc, checked, all);
+        let tried = self.outcome(alloc, checked);
         self.tableau.undo(mark);
         tried
     }

@@ -4,7 +4,9 @@
 mod ending;
 mod forcing;
 mod reading;
+mod saying;
 mod standing;
 
 pub use forcing::Tried;
+pub use saying::end_opposed;
 pub use standing::Standing;

@@ -12,11 +12,21 @@ ghost use Rattle.spv_share_rows.specs.Standing.{IsMet, IsStanding, KeepsWithin, 
 use crate::standing::Standing;
 use spv_atoms::Linear;
 use spv_bounds::{RowSources, bounds_of, law_sides};
-use spv_frac::Frac;
+use spv_frac::{Frac, law_frac};
 use spv_number::Number;
 use spv_readings::Saying;
 use spv_simplex::{Mark, Side, Tableau, can_open, law_asserted};
 use std::alloc::{AllocError, Global};
+
+// Whether two fractions are one number.
+fn is_same(left: Frac, right: Frac) -> bool
+    ensures same { IsTrue result → number left ≡ number right }
+    ensures all { number left ≡ number right → IsTrue result }
+{
+    law_frac(&left);
+    law_frac(&right);
+    left.num == right.num && left.den == right.den
+}
 
 impl Standing {
     /// The rows of these forms, without bounds. A check makes at most so many pivots. Rows with more than 4294967295 columns are
@@ -35,7 +45,10 @@ impl Standing {
         if !can_open(alloc, forms.as_slice())? {
             return Err(AllocError);
         }
-        let tableau = Tableau::open(alloc, forms.as_slice(), count.saturating_mul(2), pivots)?;
+        let Some(most) = count.checked_add(count) else {
+            return Err(AllocError);
+        };
+        let tableau = Tableau::open(alloc, forms.as_slice(), most, pivots)?;
         let sources = vec![in alloc; RowSources::none(); count]?;
         Ok(Standing {
             tableau,
@@ -58,10 +71,11 @@ impl Standing {
     // Whether this bound stands on a side of a row.
     fn has(&self, row: u32, side: Side, bound: Frac) -> bool
         requires { row < length self.now.tableau.forms }
-        ensures { IsTrue result → bound_on self.now.tableau.bounds row side ≡ Some (number bound) }
+        ensures there { IsTrue result → bound_on self.now.tableau.bounds row side ≡ Some (number bound) }
+        ensures all { bound_on self.now.tableau.bounds row side ≡ Some (number bound) → IsTrue result }
     {
         match self.tableau.bound(row, side) {
-            Some(other) => other.num == bound.num && other.den == bound.den,
+            Some(other) => is_same(other, bound),
             None => false,
         }
     }
@@ -69,7 +83,8 @@ impl Standing {
     // The same for a bound that may be none.
     fn has_if(&self, row: u32, side: Side, bound: Option<Frac>) -> bool
         requires { row < length self.now.tableau.forms }
-        ensures { IsTrue result → StandsOn self.now row side bound }
+        ensures there { IsTrue result → StandsOn self.now row side bound }
+        ensures all { StandsOn self.now row side bound → IsTrue result }
     {
         match bound {
             Some(value) => self.has(row, side, value),
@@ -81,7 +96,8 @@ impl Standing {
     pub fn stands(&self, row: u32, saying: Saying) -> bool
         requires standing { IsStanding self.now }
         requires row { row < length self.now.tableau.forms }
-        ensures { IsTrue result → Stands self.now row saying }
+        ensures there { IsTrue result → Stands self.now row saying }
+        ensures all { Stands self.now row saying → IsTrue result }
     {
         law_sides();
         let bounds = bounds_of(self.constant(row), saying);

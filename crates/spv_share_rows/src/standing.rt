@@ -5,9 +5,9 @@ ghost use Rattle.spv_rational.specs.Rational.{number};
 ghost use Rattle.spv_term.specs.Arena.{Arena};
 ghost use Rattle.spv_atoms.specs.Linear.{IdForm};
 ghost use Rattle.spv_proof.specs.Sums.{Reading};
-ghost use Rattle.spv_tableaux.specs.Bounds.{Bound, bound_on};
-ghost use Rattle.spv_tableaux.specs.declared.side.Side.TheVariants as side;
+ghost use Rattle.spv_tableaux.specs.Bounds.{Bound};
 ghost use Rattle.spv_simplex.specs.declared.checked.Checked.TheVariants as checked;
+ghost use Rattle.spv_simplex.specs.State.{MayAssert};
 ghost use Rattle.spv_simplex.specs.Checks.{HoldsAsserted, IsAmong, IsChecked};
 ghost use Rattle.spv_steps.specs.Trail.{bound_of};
 ghost use Rattle.spv_readings.specs.Sayings as sayings;
@@ -15,6 +15,7 @@ ghost use Rattle.spv_readings.specs.Sources.{with_source};
 ghost use Rattle.spv_bounds.specs.Bounds.{bound_at, has_room};
 ghost use Rattle.spv_bounds.specs.Sources.{sources_in};
 ghost use Rattle.spv_share_rows.specs.Forcing.{HasEvidence};
+ghost use Rattle.spv_share_rows.specs.Said.{IsBare, IsFreeFor, IsFreeIf};
 ghost use Rattle.spv_share_rows.specs.Standing.{Adds, AddsSome, AreBoundsOf, ComesFrom, HasSaid, IsAmongIf, IsBack, IsStanding, SaidBy, Sourced};
 
 use spv_atoms::Linear;
@@ -35,7 +36,7 @@ pub struct Standing {
 }
 
 // Whether an equality is said.
-fn says_equal(saying: Saying) -> bool
+pub(crate) fn says_equal(saying: Saying) -> bool
     ensures { result ≡ sayings.says_equal saying }
 {
     match saying {
@@ -45,24 +46,36 @@ fn says_equal(saying: Saying) -> bool
 }
 
 impl Standing {
+    // Whether a bound may be asserted.
+    fn may_take(&self, row: u32, side: Side, bound: Frac) -> bool
+        requires standing { IsStanding self.now }
+        ensures may { IsTrue result → MayAssert self.now.tableau (bound_of row side (number bound)) }
+        ensures free { IsFreeFor self.now row side (number bound) → IsTrue result }
+    {
+        self.tableau.law_tableau();
+        match self.tableau.accepts(row, side, bound) {
+            Ok(free) => free,
+            Err(_) => false,
+        }
+    }
+
     // Asserts a bound, if it may be asserted; whether it was.
     fn assert_one(&mut self, row: u32, side: Side, bound: Frac, source: Source) -> bool
         requires { IsStanding self.old }
         ensures standing { IsStanding self.new }
         ensures adds { Adds self.old self.new (if result then bound_at row side (Some bound) else []) }
+        ensures free { IsFreeFor self.old row side (number bound) → IsTrue result }
         ensures sourced { (a : Arena) (read : ℕ → Option Reading) → Sourced a read self.old self.old.tableau.bounds
             → ComesFrom a read self.old row side (Some bound) source → Sourced a read self.new self.new.tableau.bounds }
         ensures asserted { (known : List Bound) → IsAmong known (bound_of row side (number bound)) → HoldsAsserted known self.old.tableau → HoldsAsserted known self.new.tableau }
     {
         law_asserted();
-        match self.tableau.accepts(row, side, bound) {
-            Ok(true) => {
-                self.tableau.assert_bound(row, side, bound);
-                note(&mut self.sources, row, side, source);
-                true
-            }
-            _ => false,
+        if !self.may_take(row, side, bound) {
+            return false;
         }
+        self.tableau.assert_bound(row, side, bound);
+        note(&mut self.sources, row, side, source);
+        true
     }
 
     // Asserts a bound, if there is one; false where it may not be asserted.
@@ -70,6 +83,7 @@ impl Standing {
         requires { IsStanding self.old }
         ensures standing { IsStanding self.new }
         ensures adds { Adds self.old self.new (if result then bound_at row side bound else []) }
+        ensures free { IsFreeIf self.old row side bound → IsTrue result }
         ensures sourced { (a : Arena) (read : ℕ → Option Reading) → Sourced a read self.old self.old.tableau.bounds
             → ComesFrom a read self.old row side bound source → Sourced a read self.new self.new.tableau.bounds }
         ensures asserted { (known : List Bound) → IsAmongIf known row side bound → HoldsAsserted known self.old.tableau → HoldsAsserted known self.new.tableau }
@@ -80,13 +94,15 @@ impl Standing {
         }
     }
 
-    /// Asserts the bounds that a fact is on a row of whose sides it says this, as far as they may be asserted; whether all were.
-    pub fn assert_saying(&mut self, row: u32, saying: Saying, fact: u32) -> bool
+    // Asserts the bounds that a fact is on a row of whose sides it says this, as far as they may be asserted; whether all were. All
+    // are where no bound stands on the row.
+    pub(crate) fn assert_saying(&mut self, row: u32, saying: Saying, fact: u32) -> bool
         requires standing { IsStanding self.old }
         requires row { row < length self.old.tableau.forms }
         ensures standing { IsStanding self.new }
         ensures adds { AddsSome self.old self.new }
         ensures all { IsTrue result → (bounds : List Bound) → AreBoundsOf self.old row saying bounds → Adds self.old self.new bounds }
+        ensures bare { IsBare self.old row → IsTrue result }
         ensures sourced { (a : Arena) (read : ℕ → Option Reading) → Sourced a read self.old self.old.tableau.bounds
             → SaidBy a read self.old row saying fact → Sourced a read self.new self.new.tableau.bounds }
         ensures asserted { (known : List Bound) → HasSaid known self.old row saying → HoldsAsserted known self.old.tableau → HoldsAsserted known self.new.tableau }
@@ -101,28 +117,6 @@ impl Standing {
         let lower = self.assert_if(row, Side::Lower, bounds.lower, source);
         let upper = self.assert_if(row, Side::Upper, bounds.upper, source);
         both(lower, upper)
-    }
-
-    /// Whether the lower side of a row has no bound, and may be given that of the equality of its sides.
-    pub fn is_free(&self, row: u32) -> bool
-        requires standing { IsStanding self.now }
-        requires row { row < length self.now.tableau.forms }
-        ensures { IsTrue result → bound_on self.now.tableau.bounds row side.Lower ≡ None }
-    {
-        match bounds_of(self.constant(row), Saying::Equal).lower {
-            Some(bound) => self.may_assert(row, bound),
-            None => false,
-        }
-    }
-
-    // Whether a lower bound may be asserted.
-    fn may_assert(&self, row: u32, bound: Frac) -> bool
-        ensures { IsTrue result → bound_on self.now.tableau.bounds row side.Lower ≡ None }
-    {
-        match self.tableau.accepts(row, Side::Lower, bound) {
-            Ok(free) => free,
-            Err(_) => false,
-        }
     }
 
     /// Checks the bounds that stand.
@@ -153,6 +147,7 @@ impl Standing {
 fn both(left: bool, right: bool) -> bool
     ensures left { IsTrue result → IsTrue left }
     ensures right { IsTrue result → IsTrue right }
+    ensures all { IsTrue left → IsTrue right → IsTrue result }
 {
     left && right
 }

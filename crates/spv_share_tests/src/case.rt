@@ -6,6 +6,7 @@ ghost use Rattle.spv_logic.specs.declared.types.Sort.TheVariants as sort;
 ghost use Rattle.spv_term.specs.Arena.{Arena, sort_at};
 
 use crate::play::{Step, do_steps};
+use spv_course::Part;
 use spv_list::List;
 use spv_names::Symbol;
 use spv_term::{Head, Shapes, Sort, TermFault, TermId, Terms};
@@ -159,8 +160,10 @@ impl Case {
             "variable" => make_variable(&mut self.terms, number),
             "number" => make_numeral(&mut self.terms, number),
             "atom" => self.add_atom(number),
-            "true" => self.add(Step::Tell(number, true)),
-            "false" => self.add(Step::Tell(number, false)),
+            "true" => self.add(Step::Tell(number, Part::True)),
+            "false" => self.add(Step::Tell(number, Part::False)),
+            "below" => self.add(Step::Tell(number, Part::Below)),
+            "above" => self.add(Step::Tell(number, Part::Above)),
             "play" => self.play(alloc, number, out),
             _ => Ok(false),
         }

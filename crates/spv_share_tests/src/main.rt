@@ -11,6 +11,7 @@
 //!     equal S T · less S T · at-most S T      makes a relation
 //!     atom T             takes a term as the next atom
 //!     true K · false K   tells that the atom at a place is true, or false
+//!     below K · above K  tells that the left side of the equation at a place is below the right one, or above it
 //!     mark · undo        marks what is told; goes back to the mark
 //!     state              prints what was told comes to: open, closed or limit
 //!     play PIVOTS        opens both sides for the atoms, with so many pivots a check, and does the steps; then nothing is left of the case

@@ -3,6 +3,7 @@
 ghost use Rattle.std.specs.Prelude.{◌≡◌, ◌<◌, ◌≤◌, List, length, slice_get, IfOk, OnOk, IsTrue};
 ghost use Rattle.spv_logic.specs.declared.conditions.TermId.{TermId};
 ghost use Rattle.spv_term.specs.Arena.{AllBelow, Extends, IsArena};
+ghost use Rattle.spv_course.specs.Course.{IsComparison, PartFits};
 ghost use Rattle.spv_course.specs.Derived.{IsFalseTerm, IsTrueTerm};
 ghost use Rattle.spv_row_reasons.specs.Refuted.{AreOneAndZero};
 ghost use Rattle.spv_share_graph.specs.Holding.{MayTell};
@@ -12,15 +13,16 @@ ghost use Rattle.spv_share_tests.specs.Plays.{IsReady};
 use crate::shown;
 use spv_atom_rows::RowFault;
 use spv_course::Part;
-use spv_proof_steps::is_truth;
+use spv_proof_steps::{is_truth, sides};
 use spv_share::{Both, Ends, Level};
+use spv_sums::is_number;
 use spv_term::{Head, TermFault, TermId, Terms};
 use std::alloc::{AllocError, Global};
 
 /// One step of a case.
 #[derive(Clone, Copy, Debug)]
 pub enum Step {
-    Tell(i64, bool),
+    Tell(i64, Part),
     Mark,
     Undo,
     State,
@@ -83,6 +85,30 @@ fn are_inside(terms: &Terms, atoms: &[TermId]) -> bool
     true
 }
 
+// Whether a term is an equation of two whole numbers.
+fn is_comparison(terms: &Terms, t: TermId) -> bool
+    requires { t.0 < length terms.now.nodes }
+    ensures { IsTrue result → IsComparison terms.now t }
+{
+    match sides(terms, t) {
+        Some((left, right)) => is_number(terms, left) && is_number(terms, right),
+        None => false,
+    }
+}
+
+// Whether this may be told of a formula.
+fn fits(terms: &Terms, t: TermId, part: Part) -> bool
+    requires { t.0 < length terms.now.nodes }
+    ensures { IsTrue result → PartFits terms.now t part }
+{
+    match part {
+        Part::True => true,
+        Part::False => true,
+        Part::Below => is_comparison(terms, t),
+        Part::Above => is_comparison(terms, t),
+    }
+}
+
 impl Play {
     // Tells a literal.
     fn tell_atom(
@@ -90,28 +116,23 @@ impl Play {
         terms: &Terms,
         atoms: &[TermId],
         atom: TermId,
-        truth: bool,
+        part: Part,
     ) -> Result<(), AllocError>
         requires ready { IsReady terms.now self.old atoms.now }
-        requires truly { MayTell terms.now self.old.both.trail atom Part.True }
-        requires falsely { MayTell terms.now self.old.both.trail atom Part.False }
+        requires may { MayTell terms.now self.old.both.trail atom part }
         ensures { OnOk result (IsReady terms.now self.new atoms.now) }
     {
         let _ = atoms;
-        if truth {
-            self.both.tell(terms, atom, Part::True, 1)
-        } else {
-            self.both.tell(terms, atom, Part::False, 1)
-        }
+        self.both.tell(terms, atom, part, 1)
     }
 
-    // Tells the literal of an atom at a place, if there is one that is a formula.
+    // Tells the literal of an atom at a place, if there is one of which this may be told.
     fn tell(
         &mut self,
         terms: &Terms,
         atoms: &[TermId],
         place: usize,
-        truth: bool,
+        part: Part,
     ) -> Result<(), AllocError>
         requires below { AllBelow (length terms.now.nodes) atoms.now }
         requires ready { IsReady terms.now self.old atoms.now }
@@ -124,7 +145,10 @@ impl Play {
         if !is_truth(terms, atom) {
             return Ok(());
         }
-        self.tell_atom(terms, atoms, atom, truth)
+        if !fits(terms, atom, part) {
+            return Ok(());
+        }
+        self.tell_atom(terms, atoms, atom, part)
     }
 
     // Prints what was told comes to.
@@ -157,11 +181,11 @@ impl Play {
         ensures { OnOk result (IsReady terms.now self.new atoms.now) }
     {
         match step {
-            Step::Tell(place, truth) => self.tell(
+            Step::Tell(place, part) => self.tell(
                 terms,
                 atoms,
                 usize::try_from(place).unwrap_or(usize::MAX),
-                truth,
+                part,
             ),
             Step::Mark => {
                 self.level = self.both.mark(terms);

@@ -4,6 +4,7 @@ use Rattle.spv_readings.specs.declared.saying.Saying.TheVariants.{Below}
 use Rattle.spv_share_rows.specs.declared.standing.Standing.{Standing}
 use Rattle.spv_share_rows.specs.Standing.{IsBack}
 use Rattle.spv_share.specs.Relations.{sayable}
+use Rattle.spv_share.proofs.Allowed.{may_order}
 use Rattle.spv_share.proofs.Giving.{row_there}
 use Rattle.spv_share.proofs.Goings.{goes_back, goes_then}
 use Rattle.spv_share.proofs.Seeking.{found_point, limit_now, order_said, refuted_below, sifted_on, tried_point, tried_refuted}
@@ -11,6 +12,9 @@ use Rattle.spv_share.proofs.both.Both.seek_below.Goals as goal
 
 pub try_saying-requires-clause-row : goal.try_saying-requires-clause-row
 try_saying-requires-clause-row c = row_there c.args.terms.now c.args.self.now c.requires.sound c.args.related.row c.args.related c.requires.there
+
+pub try_saying-requires-clause-may : goal.try_saying-requires-clause-may
+try_saying-requires-clause-may c = may_order c.args.terms.now c.args.self.now c.requires.sound c.args.related c.requires.there c.requires.unjoined part.Below Below refl
 
 pub returns-in_err-tried-clause-goes : goal.returns-in_err-tried-clause-goes
 returns-in_err-tried-clause-goes c = goes_back c.args.terms.now c.args.self.now c.try_saying.new.self c.requires.sound c.try_saying.ensures.standing c.try_saying.ensures.back (c.try_saying.ensures.asserted (sayable c.args.self.now.relations.items c.args.self.now.standing.tableau.forms) (order_said c.args.terms.now c.args.self.now c.requires.sound c.args.related c.requires.there c.requires.unjoined part.Below Below refl) c.requires.sound.asserted)
@@ -41,9 +45,6 @@ returns-in-Stopped-clause-found c =
 
 pub returns-in-Stopped-clause-sifted : goal.returns-in-Stopped-clause-sifted
 returns-in-Stopped-clause-sifted c = sifted_on c.args.terms.now c.args.self.now (record c.args.self.now { standing = c.try_saying.new.self }) c.args.waits.now.items (goes_back c.args.terms.now c.args.self.now c.try_saying.new.self c.requires.sound c.try_saying.ensures.standing c.try_saying.ensures.back (c.try_saying.ensures.asserted (sayable c.args.self.now.relations.items c.args.self.now.standing.tableau.forms) (order_said c.args.terms.now c.args.self.now c.requires.sound c.args.related c.requires.there c.requires.unjoined part.Below Below refl) c.requires.sound.asserted)) c.try_saying.ensures.back c.requires.sifted
-
-pub returns-in-Taken-clause-goes : goal.returns-in-Taken-clause-goes
-returns-in-Taken-clause-goes c = goes_back c.args.terms.now c.args.self.now c.try_saying.new.self c.requires.sound c.try_saying.ensures.standing c.try_saying.ensures.back (c.try_saying.ensures.asserted (sayable c.args.self.now.relations.items c.args.self.now.standing.tableau.forms) (order_said c.args.terms.now c.args.self.now c.requires.sound c.args.related c.requires.there c.requires.unjoined part.Below Below refl) c.requires.sound.asserted)
 
 pub join-requires-clause-sound : goal.join-requires-clause-sound
 join-requires-clause-sound c = (goes_back c.args.terms.now c.args.self.now c.try_saying.new.self c.requires.sound c.try_saying.ensures.standing c.try_saying.ensures.back (c.try_saying.ensures.asserted (sayable c.args.self.now.relations.items c.args.self.now.standing.tableau.forms) (order_said c.args.terms.now c.args.self.now c.requires.sound c.args.related c.requires.there c.requires.unjoined part.Below Below refl) c.requires.sound.asserted)).sound

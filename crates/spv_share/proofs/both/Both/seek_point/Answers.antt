@@ -3,6 +3,7 @@ use Rattle.spv_course.specs.declared.entries.Part.TheVariants as part
 use Rattle.spv_readings.specs.declared.saying.Saying.TheVariants.{Above}
 use Rattle.spv_course.proofs.Bridges.{if_ok}
 use Rattle.spv_share.specs.Relations.{sayable}
+use Rattle.spv_share.proofs.Allowed.{may_order}
 use Rattle.spv_share.proofs.Giving.{row_there}
 use Rattle.spv_share.proofs.Goings.{goes_back, goes_then, still_standing}
 use Rattle.spv_share.proofs.Seeking.{found_point, found_then, limit_now, order_said, refuted_above, sifted_on, tried_point, tried_refuted}
@@ -10,6 +11,9 @@ use Rattle.spv_share.proofs.both.Both.seek_point.Goals as goal
 
 pub try_saying-requires-clause-row : goal.try_saying-requires-clause-row
 try_saying-requires-clause-row c = row_there c.args.terms.now c.args.self.now c.requires.sound c.args.related.row c.args.related c.requires.there
+
+pub try_saying-requires-clause-may : goal.try_saying-requires-clause-may
+try_saying-requires-clause-may c = may_order c.args.terms.now c.args.self.now c.requires.sound c.args.related c.requires.there c.requires.unjoined part.Above Above refl
 
 pub returns-in_err-tried-clause-goes : goal.returns-in_err-tried-clause-goes
 returns-in_err-tried-clause-goes c = goes_back c.args.terms.now c.args.self.now c.try_saying.new.self c.requires.sound c.try_saying.ensures.standing c.try_saying.ensures.back (c.try_saying.ensures.asserted (sayable c.args.self.now.relations.items c.args.self.now.standing.tableau.forms) (order_said c.args.terms.now c.args.self.now c.requires.sound c.args.related c.requires.there c.requires.unjoined part.Above Above refl) c.requires.sound.asserted)
@@ -40,9 +44,6 @@ returns-in-Stopped-clause-found c =
 
 pub returns-in-Stopped-clause-sifted : goal.returns-in-Stopped-clause-sifted
 returns-in-Stopped-clause-sifted c = sifted_on c.args.terms.now c.args.self.now (record c.args.self.now { standing = c.try_saying.new.self }) c.args.waits.now.items (goes_back c.args.terms.now c.args.self.now c.try_saying.new.self c.requires.sound c.try_saying.ensures.standing c.try_saying.ensures.back (c.try_saying.ensures.asserted (sayable c.args.self.now.relations.items c.args.self.now.standing.tableau.forms) (order_said c.args.terms.now c.args.self.now c.requires.sound c.args.related c.requires.there c.requires.unjoined part.Above Above refl) c.requires.sound.asserted)) c.try_saying.ensures.back c.requires.sifted
-
-pub returns-in-Taken-clause-goes : goal.returns-in-Taken-clause-goes
-returns-in-Taken-clause-goes c = goes_back c.args.terms.now c.args.self.now c.try_saying.new.self c.requires.sound c.try_saying.ensures.standing c.try_saying.ensures.back (c.try_saying.ensures.asserted (sayable c.args.self.now.relations.items c.args.self.now.standing.tableau.forms) (order_said c.args.terms.now c.args.self.now c.requires.sound c.args.related c.requires.there c.requires.unjoined part.Above Above refl) c.requires.sound.asserted)
 
 pub seek_below-requires-clause-sound : goal.seek_below-requires-clause-sound
 seek_below-requires-clause-sound c = (goes_back c.args.terms.now c.args.self.now c.try_saying.new.self c.requires.sound c.try_saying.ensures.standing c.try_saying.ensures.back (c.try_saying.ensures.asserted (sayable c.args.self.now.relations.items c.args.self.now.standing.tableau.forms) (order_said c.args.terms.now c.args.self.now c.requires.sound c.args.related c.requires.there c.requires.unjoined part.Above Above refl) c.requires.sound.asserted)).sound

@@ -1,7 +1,9 @@
+use Rattle.std.specs.Bool.{IsTrue}
 use Rattle.spv_tableaux.specs.declared.side.Side.TheVariants.{Upper}
 use Rattle.spv_share_rows.proofs.Asserting.{lower_among, upper_among}
-use Rattle.spv_share_rows.proofs.Trying.{form_at}
+use Rattle.spv_share_rows.proofs.Forms.{form_at}
 use Rattle.spv_share_rows.proofs.Adding.{adds_then, all_adds, comes_along, constant_is, lower_comes, upper_comes}
+use Rattle.spv_share_rows.proofs.Given.{lower_free, upper_free}
 use Rattle.spv_share_rows.proofs.standing.Standing.assert_saying.Goals as goal
 
 pub returns-clause-adds : goal.returns-clause-adds
@@ -14,6 +16,14 @@ pub returns-clause-all : goal.returns-clause-all
 returns-clause-all c = λ both bounds are.
     all_adds c.args.self.now c.assert_if-lower.new.self c.assert_if-upper.new.self c.args.row c.args.saying c.constant-constant.result c.bounds_of-bounds.result c.assert_if-lower.result c.assert_if-upper.result
     c.constant-constant.ensures.form c.constant-constant.ensures.room c.bounds_of-bounds.ensures (c.both.ensures.left both) (c.both.ensures.right both) c.assert_if-lower.ensures.adds c.assert_if-upper.ensures.adds bounds are
+
+pub returns-clause-bare : goal.returns-clause-bare
+returns-clause-bare c = λ bare.
+    let took : IsTrue c.assert_if-lower.result = c.assert_if-lower.ensures.free (lower_free c.args.self.now c.args.row c.bounds_of-bounds.result.lower c.requires.row bare) in
+    c.both.ensures.all took
+    (c.assert_if-upper.ensures.free
+    (upper_free c.law_sides.ensures.lower c.law_sides.ensures.upper c.args.self.now c.assert_if-lower.new.self c.args.row c.args.saying c.constant-constant.result c.bounds_of-bounds.result c.assert_if-lower.result
+    c.constant-constant.ensures.form c.constant-constant.ensures.room c.bounds_of-bounds.ensures c.requires.row bare c.assert_if-lower.ensures.adds took))
 
 pub returns-clause-sourced : goal.returns-clause-sourced
 returns-clause-sourced c = λ a read h said.
