@@ -1,5 +1,5 @@
 -- A fault of a walk, and what is told of it, are a cause.
-use Rattle.std.proofs.Common.{◌≡◌, inl, inr, ℕ, List, [], None, Result, Ok, Err, IfErr, IfOk, refl}
+use Rattle.std.proofs.Common.{◌≡◌, inl, inr, ℕ, List, [], None, Result, Ok, Err, IfErr, IfOk, ap, subst}
 use Rattle.std.proofs.lemmas.Option.{none-some}
 use Rattle.spv_syntax.specs.declared.programs.Program.{Program as Tree}
 use Rattle.spv_program.specs.Programs.{Program}
@@ -19,10 +19,11 @@ use Rattle.spv_events.specs.declared.faults.GenFault.{GenFault}
 use Rattle.spv_events.specs.declared.faults.GenFault.TheVariants as limit
 use Rattle.spv_refusals.specs.declared.refusal.Refusal.TheVariants as refusal
 use Rattle.spv_reports.specs.declared.mode.Mode.{Mode}
+use Rattle.spv_reports.specs.declared.fault.ReportFault.{ReportFault}
 use Rattle.spv_reports.specs.declared.fault.ReportFault.TheVariants.{Form, Stopped, Undecided}
 use Rattle.spv_reports.specs.Reports.{Findings, IsReportFault}
-use Rattle.spv_tree_reports.specs.Walks.{IsSound, IsTypeCause, IsFrameCause, is_typed_as}
-use Rattle.spv_tree_reports.specs.Programs.{IsProgramCause, IsFramedCause, IsTreeCause, IsFramedReport, IsTreeReport}
+use Rattle.spv_tree_reports.specs.Walks.{IsTypeCause, IsFrameCause, is_typed_as}
+use Rattle.spv_tree_reports.specs.Programs.{IsProgramRefusal, IsProgramCause, IsFramedCause, IsTreeCause, IsFramedReport, IsTreeReport}
 
 pub type_cause : (names : List (List ℕ)) (tree : Tree) (fault : TypeFault) (v : VerifyFault)
     → TypeStops fault (program_walk (known_in names) tree) → Tells (type_refusal names fault) v → IsTypeCause names tree v
@@ -59,17 +60,23 @@ pub program_told : (mode : Mode) (names : List (List ℕ)) (p : Program) (v : Ve
 program_told mode names p (Refused r) framed is = inr (framed, is)
 program_told mode names p Memory framed is = tt
 
-pub form_told : (p : Program) (mode : Mode) → IsReportFault p mode Form → IsProgramCause mode p (Refused (refusal.Form 1 []))
-form_told p mode is = inl (is, refl)
+pub form_told : (p : Program) (mode : Mode) (fault : ReportFault) (detail : List ℕ) → fault ≡ Form → detail ≡ [] → IsReportFault p mode fault → IsProgramRefusal mode p (refusal.Form 1 detail)
+form_told p mode fault detail e d is = inl (subst (IsReportFault p mode) e is, ap (refusal.Form 1) d)
 
-pub undecided_told : (p : Program) (mode : Mode) → IsReportFault p mode Undecided → IsProgramCause mode p (Refused (refusal.Form 1 []))
-undecided_told p mode (covered, within, asked, not) = inr (inr (record { covered = covered; within = within; asked = asked; undecided = not; told = refl }))
+undecided : (p : Program) (mode : Mode) (detail : List ℕ) → detail ≡ [] → IsReportFault p mode Undecided → IsProgramRefusal mode p (refusal.Form 1 detail)
+undecided p mode detail d (covered, within, asked, not) = inr (inr (record { covered = covered; within = within; asked = asked; undecided = not; told = ap (refusal.Form 1) d }))
 
-pub limit_told : (p : Program) (mode : Mode) (e : GenFault) (v : VerifyFault) → Tells (limit_refusal e) v → IsReportFault p mode (Stopped e) → IsProgramCause mode p v
-limit_told p mode (limit.Conditions n) (Refused r) tells (covered, meets) = inr (inl (record { covered = covered; limit = limit.Conditions n; meets = meets; told = tells }))
-limit_told p mode (limit.Terms n) (Refused r) tells (covered, meets) = inr (inl (record { covered = covered; limit = limit.Terms n; meets = meets; told = tells }))
-limit_told p mode limit.Memory (Refused r) tells is = absurd (none-some _ tells)
-limit_told p mode e Memory tells is = tt
+pub undecided_told : (p : Program) (mode : Mode) (fault : ReportFault) (detail : List ℕ) → fault ≡ Undecided → detail ≡ [] → IsReportFault p mode fault → IsProgramRefusal mode p (refusal.Form 1 detail)
+undecided_told p mode fault detail e d is = undecided p mode detail d (subst (IsReportFault p mode) e is)
+
+limit_met : (p : Program) (mode : Mode) (e : GenFault) (v : VerifyFault) → Tells (limit_refusal e) v → IsReportFault p mode (Stopped e) → IsProgramCause mode p v
+limit_met p mode (limit.Conditions n) (Refused r) tells (covered, meets) = inr (inl (record { covered = covered; limit = limit.Conditions n; meets = meets; told = tells }))
+limit_met p mode (limit.Terms n) (Refused r) tells (covered, meets) = inr (inl (record { covered = covered; limit = limit.Terms n; meets = meets; told = tells }))
+limit_met p mode limit.Memory (Refused r) tells is = absurd (none-some _ tells)
+limit_met p mode e Memory tells is = tt
+
+pub limit_told : (p : Program) (mode : Mode) (fault : ReportFault) (e : GenFault) (v : VerifyFault) → fault ≡ Stopped e → Tells (limit_refusal e) v → IsReportFault p mode fault → IsProgramCause mode p v
+limit_told p mode fault e v is tells met = limit_met p mode e v tells (subst (IsReportFault p mode) is met)
 
 -- ---- of a tree
 

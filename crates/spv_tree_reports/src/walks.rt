@@ -1,12 +1,13 @@
 // Trees against the rules of names, types and frames, and their reports.
 
-ghost use Rattle.std.specs.Prelude.{◌≡◌, IfErr, IfOk, IsTrue};
+ghost use Rattle.std.specs.Prelude.{◌≡◌, IfErr, IfOk, IsTrue, None, OnOk};
+ghost use Rattle.spv_frame_walk.specs.FrameWalk.{frame_fault};
 ghost use Rattle.spv_syntax.specs.Reads.{well_formed};
 ghost use Rattle.spv_program.specs.Programs as plain;
 ghost use Rattle.spv_program.specs.Typing.{well_typed};
 ghost use Rattle.spv_reports.specs.Reports.{IsReportFault};
 ghost use Rattle.spv_tree_reports.specs.Programs.{IsFramedCause, IsFramedReport, IsProgramCause, IsTreeCause, IsTreeReport};
-ghost use Rattle.spv_tree_reports.specs.Walks.{IsTypeCause, is_typed_as};
+ghost use Rattle.spv_tree_reports.specs.Walks.{IsFrameCause, IsTypeCause, is_typed_as};
 
 use spv_frame_check::checked;
 use spv_list::List;
@@ -29,7 +30,24 @@ fn told(alloc: Global, mode: Mode, fault: ReportFault) -> VerifyFault
     }
 }
 
+// Whether a typed program keeps the rules of frames; else what it is refused for.
+#[tactic(auto, using(crate::proofs::Causes::frame_cause))]
+fn check_frames(
+    alloc: Global,
+    program: &spv_typed::Program,
+    names: &Names,
+) -> Result<(), VerifyFault>
+    ensures kept { OnOk result (frame_fault program.now ≡ None) }
+    ensures cause { IfErr result (IsFrameCause names.now program.now) }
+{
+    match checked(program, alloc) {
+        Ok(_) => Ok(()),
+        Err(fault) => Err(of_frames(alloc, names, program.titles.as_slice(), fault)),
+    }
+}
+
 // The report of a typed program, if it keeps the rules of frames.
+#[tactic(auto, using(crate::proofs::Causes::frame_told))]
 fn framed_report(
     alloc: Global,
     program: &spv_typed::Program,
@@ -40,12 +58,12 @@ fn framed_report(
     ensures report { IfOk result (IsFramedReport names program.now mode) }
     ensures cause { IfErr result (IsFramedCause mode names program.now) }
 {
-    match checked(program, alloc) {
-        Ok(_) => match report_on(alloc, names, program, mode) {
+    match check_frames(alloc, program, &names) {
+        Ok(()) => match report_on(alloc, names, program, mode) {
             Ok(report) => Ok(report),
             Err(fault) => Err(told(alloc, mode, fault)),
         },
-        Err(fault) => Err(of_frames(alloc, &names, program.titles.as_slice(), fault)),
+        Err(fault) => Err(fault),
     }
 }
 

@@ -1,5 +1,5 @@
 -- No text is refused and has a report.
-use Rattle.std.proofs.Common.{◌≡◌, inl, inr, ℕ, ◌≤◌, ◌<◌, Bool, true, false, List, [], length, Option, Some, None, Ok, Err, refl, sym, ap, ◌∙◌, subst, arith}
+use Rattle.std.proofs.Common.{◌≡◌, inl, inr, ℕ, ◌≤◌, Bool, true, false, List, [], length, Some, sym, ap, ◌∙◌, subst, arith}
 use Rattle.std.proofs.lemmas.Bool.{false≢true}
 use Rattle.std.proofs.lemmas.Option.{none-some}
 use Rattle.spv_lexer.specs.declared.LexFault.TheVariants as lex
@@ -19,7 +19,6 @@ use Rattle.spv_term.specs.Arena.{Arena}
 use Rattle.spv_term.specs.declared.nodes.Condition.{Condition}
 use Rattle.spv_decision.specs.declared.verdict.Verdict.{Verdict}
 use Rattle.spv_events.specs.declared.faults.GenFault.{GenFault}
-use Rattle.spv_events.specs.declared.faults.GenFault.TheVariants as limit
 use Rattle.spv_conditions.specs.Making.{MeetsLimit, IsWithinLimits, MeetsNoOther}
 use Rattle.spv_reports.specs.declared.mode.Mode.{Mode}
 use Rattle.spv_reports.specs.declared.mode.Mode.TheVariants.{Verify, Conditions}
@@ -28,7 +27,7 @@ use Rattle.spv_refusals.specs.declared.refusal.Refusal.{Refusal}
 use Rattle.spv_refusals.specs.Told.{text_refusal, limit_refusal}
 use Rattle.spv_tree_reports.specs.Walks.{IsSound, IsWalkRefusal, is_typed_as}
 use Rattle.spv_tree_reports.specs.Programs.{IsProgramRefusal, IsTreeRefusal}
-use Rattle.spv_verify.specs.Refusals.{names_of, IsTextTree, IsProgramOf, IsRefused, IsReportOf, HaveNotBoth, IsOneProgram}
+use Rattle.spv_verify.specs.Refusals.{names_of, IsReportOf, HaveNotBoth, IsOneProgram}
 
 -- a text with a report has no fault of reading
 by_reading : (text : List ℕ) (f : Findings) (r : Refusal) → IsReportOf text f → (fault : LanguageFault) → IsFaultOf Reads [] text fault → text_refusal fault ≡ Some r → ⊥

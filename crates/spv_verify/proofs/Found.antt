@@ -1,5 +1,5 @@
 -- What is found of a tree, said of its text.
-use Rattle.std.proofs.Common.{◌≡◌, inl, inr, ℕ, List, [], Some, Result, Ok, Err, IfErr, IfOk, subst, ◌∙◌}
+use Rattle.std.proofs.Common.{◌≡◌, inl, inr, ℕ, List, [], Result, Ok, Err, IfErr, IfOk, subst, ◌∙◌}
 use Rattle.spv_language.specs.declared.fault.LanguageFault.{LanguageFault}
 use Rattle.spv_language.specs.Texts.{names_with, IsFaultOf}
 use Rattle.spv_syntax.specs.declared.programs.Program.{Program as Tree}
@@ -11,7 +11,7 @@ use Rattle.spv_refusals.specs.declared.fault.VerifyFault.TheVariants.{Refused, M
 use Rattle.spv_refusals.specs.Told.{Tells, text_refusal}
 use Rattle.spv_tree_reports.specs.Walks.{IsSound}
 use Rattle.spv_tree_reports.specs.Programs.{IsTreeCause, IsTreeReport}
-use Rattle.spv_verify.specs.Refusals.{names_of, IsTextTree, IsProgramOf, IsReportOf}
+use Rattle.spv_verify.specs.Refusals.{IsTextTree, IsReportOf}
 use Rattle.spv_verify.specs.Causes.{IsReadingCause, IsCause}
 
 pub reading_cause : (text : List ℕ) (fault : LanguageFault) (v : VerifyFault) → IsFaultOf Reads [] text fault → Tells (text_refusal fault) v → IsReadingCause text v

@@ -1,5 +1,5 @@
 -- A text that is read up to one byte above its limit.
-use Rattle.std.proofs.Common.{◌≡◌, inl, inr, ℕ, ◌≤◌, ◌<◌, List, [], length, take, min, Some, subst, arith}
+use Rattle.std.proofs.Common.{◌≡◌, inl, inr, ℕ, ◌≤◌, ◌<◌, List, [], length, take, min, subst, arith}
 use Rattle.std.proofs.lemmas.List.{take_all, length-take}
 use Rattle.spv_lexer.specs.declared.LexFault.TheVariants as lex
 use Rattle.spv_parser.specs.declared.refused.SyntaxFault.TheVariants as syntax
@@ -10,8 +10,7 @@ use Rattle.spv_syntax.specs.Reads.{Reads}
 use Rattle.spv_reports.specs.declared.mode.Mode.{Mode}
 use Rattle.spv_reports.specs.Reports.{Findings}
 use Rattle.spv_refusals.specs.declared.refusal.Refusal.{Refusal}
-use Rattle.spv_refusals.specs.Told.{text_refusal}
-use Rattle.spv_verify.specs.Refusals.{IsReadingRefusal, IsRefused, IsReportOf}
+use Rattle.spv_verify.specs.Refusals.{IsRefused, IsReportOf}
 
 -- what was read is the whole text, where it is short
 whole : (text : List ℕ) → IsShort (take 4194305 text) → take 4194305 text ≡ text
