@@ -1,5 +1,5 @@
 -- A point for an order of the sides of a row.
-use Rattle.std.proofs.Common.{◌≡◌, ℕ, ◌<◌, List, ◌++◌, length, sym, ap, ◌∙◌, subst, inl, inr}
+use Rattle.std.proofs.Common.{ℕ, ◌<◌, List, ◌++◌, length, sym, ap, ◌∙◌, subst, inl, inr}
 use Rattle.std.specs.Prelude.{slice_get}
 use Rattle.spv_atoms.specs.Linear.{IdForm}
 use Rattle.spv_tableaux.specs.Rows.{IsSolution}

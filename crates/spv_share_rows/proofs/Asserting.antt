@@ -1,5 +1,5 @@
 -- The bounds that were ever asserted, and the evidence over them.
-use Rattle.std.proofs.Common.{◌≡◌, ℕ, ◌+◌, ◌<◌, Bool, true, false, ℤ, List, [], ◌∷◌, ◌++◌, take, length, refl, sym, ap, ◌∙◌, subst, Option, Some, None, Result, Ok, Err, IfOk, inl, inr, arith}
+use Rattle.std.proofs.Common.{◌≡◌, ℕ, ◌+◌, ◌<◌, true, false, ℤ, List, [], ◌∷◌, ◌++◌, length, refl, sym, ap, ◌∙◌, subst, Option, Some, None, Result, Ok, Err, IfOk, inl, inr, arith}
 use Rattle.std.specs.Prelude.{slice_get, ◌⊎◌}
 use Rattle.std.proofs.lemmas.Bool.{cases_lt}
 use Rattle.std.proofs.lemmas.List.{length_push}
@@ -10,9 +10,8 @@ use Rattle.spv_whole.specs.Fraction.{Fraction}
 use Rattle.spv_rational.specs.Rational.{Rational, number}
 use Rattle.spv_term.proofs.ListLemmas.{slice_get-append_left, slice_get_push}
 use Rattle.spv_atoms.specs.Linear.{IdForm}
-use Rattle.spv_tableaux.specs.declared.side.Side.{Side}
 use Rattle.spv_tableaux.specs.declared.side.Side.TheVariants.{Lower, Upper}
-use Rattle.spv_tableaux.specs.Rows.{Rows, column_of, columns}
+use Rattle.spv_tableaux.specs.Rows.{column_of}
 use Rattle.spv_tableaux.specs.Bounds.{AreBounds, Bound}
 use Rattle.spv_tableaux.specs.Solved.{basis_of, is_basic}
 use Rattle.spv_tableaux.specs.Forms.{rows_of}
@@ -22,7 +21,7 @@ use Rattle.spv_steps.specs.Trail.{bound_of}
 use Rattle.spv_simplex.specs.declared.checked.Checked.{Checked}
 use Rattle.spv_simplex.specs.declared.checked.Checked.TheVariants.{Feasible, Infeasible, Wide, Pivots}
 use Rattle.spv_simplex.specs.State.{State, IsOpened, IsTableau, kept_point, rows_in, with_bound, with_first}
-use Rattle.spv_simplex.specs.Checks.{BeginsWith, HoldsAsserted, IsAmong, IsChecked, Means}
+use Rattle.spv_simplex.specs.Checks.{BeginsWith, HoldsAsserted, IsAmong, IsChecked}
 use Rattle.spv_simplex.specs.Laws.{AssertsOne, OpensWithNone, UndoesNone}
 use Rattle.spv_readings.specs.declared.saying.Saying.{Saying}
 use Rattle.spv_readings.specs.Sayings.{bounds_of}

@@ -1,14 +1,12 @@
 -- A point that meets bounds meets the first of them.
-use Rattle.std.proofs.Common.{◌≡◌, ℕ, ◌+◌, ◌-◌, Bool, true, false, ◌||◌, List, ◌++◌, take, drop, nat_lt, refl, sym, ap, ◌∙◌, subst, Option, Some, None, Result, Ok, Err, IfOk, arith}
+use Rattle.std.proofs.Common.{◌≡◌, ℕ, ◌+◌, ◌-◌, Bool, true, false, ◌||◌, List, take, drop, nat_lt, refl, sym, ap, ◌∙◌, subst, Option, Some, None, Result, Ok, Err, IfOk, arith}
 use Rattle.std.proofs.lemmas.Bool.Decides.{nat_tests}
 use Rattle.std.proofs.lemmas.List.{take-append-drop}
 use Rattle.spv_rational.specs.Rational.{Rational}
-use Rattle.spv_atoms.specs.Linear.{IdForm}
 use Rattle.spv_tableaux.specs.declared.side.Side.{Side}
 use Rattle.spv_tableaux.specs.declared.side.Side.TheVariants.{Lower, Upper}
 use Rattle.spv_tableaux.specs.Rows.{Rows, Point}
 use Rattle.spv_tableaux.specs.Bounds.{Bound, bound_on, breaks_limit, is_out, limits, Meets}
-use Rattle.spv_tableaux.specs.Forms.{rows_of}
 use Rattle.spv_pivots.proofs.Tests.{limit_part, limit_row, meets_side}
 use Rattle.spv_readings.proofs.Sourcing.{bound_stays}
 use Rattle.spv_simplex.specs.declared.checked.Checked.{Checked}

@@ -1,6 +1,6 @@
 -- What stands after something was said of a row.
-use Rattle.std.proofs.Common.{◌≡◌, ℕ, zero, suc, ◌<◌, Bool, true, false, cond, ◌&&◌, List, [], ◌∷◌, ◌++◌, length, nat_eq, nat_lt, ◌^◌, Option, Some, None, ℤ, pos, ◌+ℤ◌, ◌*ℤ◌, neg_ℤ, refl, sym, ap, ◌∙◌, subst, arith, inl, inr, if◌then◌else◌}
-use Rattle.std.specs.Prelude.{slice_get, ◌⊎◌}
+use Rattle.std.proofs.Common.{◌≡◌, ℕ, suc, ◌<◌, Bool, true, false, cond, ◌&&◌, List, [], ◌∷◌, ◌++◌, length, nat_eq, nat_lt, ◌^◌, Option, Some, None, ℤ, pos, ◌*ℤ◌, neg_ℤ, refl, sym, ap, ◌∙◌, subst, arith, if◌then◌else◌}
+use Rattle.std.specs.Prelude.{slice_get}
 use Rattle.std.specs.Option.{option_map}
 use Rattle.std.proofs.lemmas.Int.{ints}
 use Rattle.spv_whole.specs.Gcd.{gcd}
@@ -9,7 +9,6 @@ use Rattle.std.proofs.lemmas.Option.{same_Some}
 use mir.Val.{to_z, of_z}
 use mir.Syntax.{w128}
 use Rattle.spv_whole.specs.Fraction.{Fraction}
-use Rattle.spv_whole.specs.Fraction as fraction
 use Rattle.spv_whole.proofs.Units.{unsigned_abs-neg}
 use Rattle.spv_rational.specs.Rational.{Rational, is_positive, number, whole}
 use Rattle.spv_rational.proofs.Field.{plus_opposite}
@@ -21,9 +20,9 @@ use Rattle.spv_tableaux.specs.declared.side.Side.TheVariants.{Lower, Upper}
 use Rattle.spv_tableaux.specs.Bounds.{Bound, bound_on, same_side}
 use Rattle.spv_tableaux.specs.Operations as operations
 use Rattle.spv_pivots.proofs.Algebra.{less_is}
-use Rattle.spv_pivots.proofs.Sums.{eq_is, eq_self, eq_flip}
-use Rattle.spv_pivots.proofs.Tests.{and_both, and_left, and_right}
-use Rattle.spv_simplex.specs.State.{clashes, compared}
+use Rattle.spv_pivots.proofs.Sums.{eq_is, eq_self}
+use Rattle.spv_pivots.proofs.Tests.{and_both, and_left}
+use Rattle.spv_simplex.specs.State.{compared}
 use Rattle.spv_readings.specs.declared.saying.Saying.{Saying}
 use Rattle.spv_readings.specs.declared.saying.Saying.TheVariants.{Equal, Below, AtMost, Above, AtLeast, Differs}
 use Rattle.spv_readings.specs.Sayings.{bounds_of}
@@ -34,7 +33,7 @@ use Rattle.spv_bounds.specs.Laws.{LowerIsFound, UpperIsFound}
 use Rattle.spv_bounds.proofs.Stating.{room_fits}
 use Rattle.spv_share_rows.specs.declared.standing.Standing.{Standing}
 use Rattle.spv_share_rows.specs.Standing.{Adds, AreBoundsOf, Stands}
-use Rattle.spv_share_rows.specs.Said.{IsBare, IsFreeFor, IsFreeIf, IsGiven, LeavesRoom, Says, SaysStill, added, as_before, bound_in, just_said, stood}
+use Rattle.spv_share_rows.specs.Said.{IsBare, IsFreeIf, IsGiven, LeavesRoom, Says, SaysStill, added, as_before, bound_in, just_said, stood}
 use Rattle.spv_share_rows.proofs.Adding.{constant_is}
 use Rattle.spv_share_rows.proofs.Forms.{form_at}
 use Rattle.spv_share_rows.proofs.Opposing.{on_side}

@@ -8,7 +8,6 @@ use Rattle.spv_tableaux.specs.declared.side.Side.{Side}
 use Rattle.spv_tableaux.specs.declared.side.Side.TheVariants.{Lower, Upper}
 use Rattle.spv_tableaux.specs.Rows.{Rows, Point, IsSolution, column_of}
 use Rattle.spv_tableaux.specs.Bounds.{Bound, bound_on, breaks, breaks_limit, is_out, limits, Meets, same_side}
-use Rattle.spv_tableaux.specs.Forms.{rows_of}
 use Rattle.spv_pivots.proofs.Sums.{eq_is}
 use Rattle.spv_pivots.proofs.Tests.{and_left, and_right, limit_part, limit_row, meets_side}
 use Rattle.spv_steps.proofs.Bounding.{is_on}

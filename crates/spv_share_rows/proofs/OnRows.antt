@@ -1,5 +1,5 @@
 -- What stands on a row.
-use Rattle.std.proofs.Common.{◌≡◌, ℕ, ◌<◌, true, false, ℤ, pos, ◌<ℤ◌, unsigned_abs, List, ◌++◌, length, refl, sym, ap, ◌∙◌, subst, Option, Some, None}
+use Rattle.std.proofs.Common.{◌≡◌, ℕ, ◌<◌, true, false, ℤ, pos, ◌<ℤ◌, unsigned_abs, ◌++◌, length, refl, sym, ap, ◌∙◌, subst, Option, Some, None}
 use Rattle.std.proofs.lemmas.Option.{same_Some}
 use Rattle.std.specs.Prelude.{slice_get}
 use Rattle.std.specs.Option.{option_map}

@@ -9,8 +9,8 @@ use Rattle.std.proofs.lemmas.Int.{ints}
 use Rattle.std.proofs.lemmas.Option.{same_Some, slice_get-get_or}
 use Rattle.spv_whole.proofs.Ring.{<ℤ-scaled}
 use Rattle.spv_whole.specs.Fraction as fraction
-use Rattle.spv_rational.specs.Rational.{Rational, is_negative, is_positive, number, opposite, plus, times, whole}
-use Rattle.spv_rational.proofs.Field.{number_whole, plus_comm, plus_opposite, plus_zero}
+use Rattle.spv_rational.specs.Rational.{Rational, is_negative, number, opposite, plus, times, whole}
+use Rattle.spv_rational.proofs.Field.{number_whole, plus_comm, plus_zero}
 use Rattle.spv_term.specs.Arena.{Arena}
 use Rattle.spv_atoms.specs.Linear.{IdForm, PartsIn}
 use Rattle.spv_proof.specs.Sums.{Reading}
@@ -34,7 +34,7 @@ use Rattle.spv_bounds.specs.declared.sources.RowSources.{RowSources}
 use Rattle.spv_bounds.specs.Sources.{source_of, sources_in}
 use Rattle.spv_share_rows.specs.declared.standing.Standing.{Standing}
 use Rattle.spv_share_rows.specs.Standing.{SaidBy, Sourced, Stands}
-use Rattle.spv_share_rows.specs.Said.{AreOpposed, GoesWith, IsBare, IsContrary, IsOpposed, MaySay, RowSays, Says, bound_in, contrary, excludes, has_lower, none_said, same_said, says_none, two_sides}
+use Rattle.spv_share_rows.specs.Said.{AreOpposed, GoesWith, IsBare, IsContrary, IsOpposed, MaySay, RowSays, bound_in, contrary, excludes, has_lower, none_said, same_said, says_none, two_sides}
 use Rattle.spv_share_rows.proofs.Forms.{form_at}
 
 -- ---- the bounds of a saying

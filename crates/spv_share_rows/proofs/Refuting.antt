@@ -1,9 +1,7 @@
 -- What a row excludes, as what refutes it, and as the end of a path.
-use Rattle.std.proofs.Common.{◌≡◌, ℕ, ◌<◌, List, [], ◌∷◌, map, length, pos, refl, sym, ap, ◌∙◌, subst, Some, Result, Ok, Err, IfOk}
-use Rattle.std.specs.Prelude.{slice_get}
+use Rattle.std.proofs.Common.{◌≡◌, ℕ, ◌<◌, List, [], ◌∷◌, map, length, pos, refl, sym, ap, ◌∙◌, subst, Result, Ok, Err, IfOk}
 use Rattle.spv_whole.specs.Fraction.{Fraction}
-use Rattle.spv_logic.specs.Terms.{Term}
-use Rattle.spv_term.specs.Arena.{Arena, IsArena}
+use Rattle.spv_term.specs.Arena.{Arena}
 use Rattle.spv_atoms.specs.Linear.{IdForm, PartsIn}
 use Rattle.spv_proof.specs.Sums.{difference, is_at_most_zero, cited_reading, refutes}
 use Rattle.spv_tableaux.specs.declared.side.Side.{Side}
@@ -18,13 +16,11 @@ use Rattle.spv_bounds.specs.declared.sources.RowSources.{RowSources}
 use Rattle.spv_bounds.specs.Sources.{sources_in}
 use Rattle.spv_row_reasons.specs.Laws.{RefutedAbove}
 use Rattle.spv_row_reasons.specs.Refuted.{IsRefuted}
-use Rattle.spv_simplex.specs.State.{State}
-use Rattle.spv_simplex.specs.Checks.{IsFeasible}
 use Rattle.spv_share_rows.specs.declared.standing.Standing.{Standing}
 use Rattle.spv_share_rows.specs.declared.forcing.Tried.{Tried}
 use Rattle.spv_share_rows.specs.declared.forcing.Tried.TheVariants.{Refuted, Met, Stopped}
 use Rattle.spv_share_rows.specs.Standing.{IsBack, readings, Sourced}
-use Rattle.spv_share_rows.specs.Forcing.{HasEvidence, IsRefutedBy, IsStopped, IsTried, Refutes}
+use Rattle.spv_share_rows.specs.Forcing.{IsRefutedBy, IsTried, Refutes}
 use Rattle.spv_share_rows.specs.Said.{AreOpposed, IsContrary, two_sides}
 use Rattle.spv_share_rows.proofs.Forms.{form_at}
 use Rattle.spv_share_rows.proofs.Opposing.{one_in, two_bounds, two_contradict, two_sourced}

@@ -1,5 +1,5 @@
 -- What is tried of a row, and what a check comes to.
-use Rattle.std.proofs.Common.{◌≡◌, ℕ, ◌+◌, ◌<◌, ◌≤◌, Bool, List, [], ◌∷◌, ◌++◌, take, length, pos, refl, sym, ap, ◌∙◌, subst, Option, Some, IsTrue, inl, inr, arith}
+use Rattle.std.proofs.Common.{◌≡◌, ℕ, ◌+◌, ◌<◌, ◌≤◌, List, [], ◌∷◌, ◌++◌, take, length, pos, refl, sym, ap, ◌∙◌, subst, Option, Some, inl, inr, arith}
 use Rattle.std.proofs.lemmas.List.{append-nil}
 use Rattle.spv_whole.specs.Fraction.{Fraction}
 use Rattle.spv_term.specs.Arena.{Arena}

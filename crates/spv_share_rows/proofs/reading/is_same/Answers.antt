@@ -1,4 +1,4 @@
-use Rattle.std.proofs.Common.{◌≡◌, ◌∙◌, ap, refl, subst, sym, ℤ, unsigned_abs, nat_eq}
+use Rattle.std.proofs.Common.{◌≡◌, ◌∙◌, ap, subst, sym, ℤ, unsigned_abs, nat_eq}
 use Rattle.std.specs.Bool.{IsTrue}
 use mir.Val.{of_z}
 use mir.Syntax.{w128}

@@ -1,4 +1,3 @@
-use Rattle.std.proofs.Common.{◌∙◌}
 use Rattle.spv_share.proofs.Giving.{joined_equality, joined_same}
 use Rattle.spv_share.proofs.Goings.{goes_then, goes_trail}
 use Rattle.spv_share.proofs.Rowed.{equality_claimed}

@@ -1,5 +1,4 @@
 use Rattle.std.proofs.Common.{◌≡◌, false, rules, subst, sym}
-use Rattle.std.specs.Bool.{IsTrue}
 use Rattle.spv_share.specs.declared.both.Both.{Both}
 use Rattle.spv_share.specs.Both.{IsClaimed}
 use Rattle.spv_share.proofs.Goings.{goes_as, goes_said, still_graph}

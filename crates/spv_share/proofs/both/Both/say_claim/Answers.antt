@@ -1,5 +1,4 @@
-use Rattle.std.proofs.Common.{ap, refl}
-use Rattle.std.specs.Bool.{IsTrue}
+use Rattle.std.proofs.Common.{ap}
 use Rattle.spv_share_rows.specs.declared.standing.Standing.{Standing}
 use Rattle.spv_share_rows.specs.Standing.{readings}
 use Rattle.spv_share_rows.proofs.Given.{given_stands, says_still}

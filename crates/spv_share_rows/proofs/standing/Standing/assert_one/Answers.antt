@@ -1,6 +1,5 @@
 use Rattle.std.proofs.Common.{refl, rules}
 use Rattle.std.specs.Bool.{IsTrue}
-use Rattle.spv_simplex.specs.State.{MayAssert}
 use Rattle.spv_share_rows.proofs.Adding.{one_adds, one_sourced}
 use Rattle.spv_share_rows.proofs.Asserting.{asserted_once}
 use Rattle.spv_share_rows.proofs.standing.Standing.assert_one.Goals as goal

@@ -1,8 +1,7 @@
 use Rattle.std.proofs.Common.{◌≡◌, ◌∙◌, false, refl, rules, sym}
 use Rattle.std.proofs.lemmas.Bool.{false≢true}
 use Rattle.std.specs.Bool.{IsTrue}
-use Rattle.spv_share_rows.specs.Said.{added, IsBare, stood}
-use Rattle.spv_share_rows.specs.Standing.{Stands}
+use Rattle.spv_share_rows.specs.Said.{added, stood}
 use Rattle.spv_share_rows.proofs.Opposing.{opposed_now}
 use Rattle.spv_share_rows.proofs.standing.Standing.say.Goals as goal
 

@@ -1,8 +1,7 @@
 use Rattle.std.proofs.Common.{◌≡◌, false, IfOk, refl, rules, sym, subst}
 use Rattle.std.specs.Bool.{IsTrue}
 use Rattle.spv_course.proofs.Bridges.{if_ok}
-use Rattle.spv_simplex.specs.State.{State}
-use Rattle.spv_simplex.specs.Checks.{HoldsAsserted, IsFeasible}
+use Rattle.spv_simplex.specs.Checks.{IsFeasible}
 use Rattle.spv_share_rows.specs.declared.standing.Standing.{Standing}
 use Rattle.spv_share_rows.specs.Said.{IsOpposed}
 use Rattle.spv_share_rows.specs.Forcing.{HasEvidence, IsRefutedBy, IsStopped}
