@@ -1,5 +1,5 @@
 -- The relations of whole numbers among atoms, and what is told of them.
-use Rattle.std.specs.Prelude.{◌≡◌, ℕ, suc, ◌<◌, List, [], ◌∷◌, ◌++◌, map, length, ℤ, Option, Some, None, pos, nat_eq, slice_get, if◌then◌else◌}
+use Rattle.std.specs.Prelude.{◌≡◌, ℕ, suc, ◌<◌, Bool, List, [], ◌∷◌, ◌++◌, map, length, ℤ, Option, Some, None, is_some, pos, nat_eq, slice_get, if◌then◌else◌}
 use Rattle.spv_logic.specs.declared.conditions.TermId.{TermId}
 use Rattle.spv_logic.specs.declared.operators.Head.{Head}
 use Rattle.spv_logic.specs.declared.operators.Head.TheVariants.{Num}
@@ -10,6 +10,7 @@ use Rattle.spv_congruence.specs.Keep.{IsNode}
 use Rattle.spv_congruence.specs.Told.{IsPart}
 use Rattle.spv_tableaux.specs.Bounds.{Bound}
 use Rattle.spv_atoms.specs.Linear.{IdForm}
+use Rattle.spv_atoms.specs.Order.{passing}
 use Rattle.spv_course.specs.declared.entries.Part.{Part}
 use Rattle.spv_course.specs.declared.entries.Part.TheVariants.{True, False, Below, Above}
 use Rattle.spv_course.specs.Literals.{Literal}
@@ -50,6 +51,14 @@ pub record AreRelated (a : Arena) (nodes : List (Option Node)) (rels : List Rela
 -- they are those among these terms, in order
 abbrev pub AreAmong : Arena → List Term → List Related → Type 0
 AreAmong a ts rels = map (sides_in a) rels ≡ relations.relations (number_in a) ts
+
+-- whether a term is a relation of whole numbers
+abbrev pub is_relation : Arena → Term → Bool
+is_relation a t = is_some (number_sides (number_in a) t)
+
+-- their atoms are the relations among these terms, in order
+abbrev pub AreRelationsAmong : Arena → List Term → List Related → Type 0
+AreRelationsAmong a ts rels = map (λ r. tree a r.atom) rels ≡ passing (is_relation a) ts
 
 -- each of these terms was added
 pub record AreNodes (nodes : List (Option Node)) (ts : List TermId) : Type 0 where
@@ -124,3 +133,4 @@ pub record IsGathered (a : Arena) (tr : Trail) (ts : List TermId) (rels : List R
   pub nodes : AreNodes tr.graph.nodes ts
   pub are : AreRelations a tr.graph.nodes rels
   pub among : AreAmong a (map (tree a) ts) rels
+  pub atoms : AreRelationsAmong a (map (tree a) ts) rels
