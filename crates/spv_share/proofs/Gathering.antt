@@ -1,6 +1,6 @@
 -- Relations among atoms, one more at a time.
 use Rattle.std.proofs.Common.{◌≡◌, ℕ, zero, suc, ◌<◌, Bool, true, false, cond, ◌&&◌, List, [], ◌∷◌, ◌++◌, map, length, refl, sym, ap, ◌∙◌, subst, Option, Some, None, MatchOption, arith, inl, inr, take, ◌⊎◌}
-use Rattle.std.specs.Prelude.{slice_get}
+use Rattle.std.specs.Prelude.{slice_get, is_some}
 use Rattle.std.proofs.lemmas.Bool.{cases_lt}
 use Rattle.std.proofs.lemmas.List.{append-nil, length_push, map-append}
 use Rattle.std.proofs.lemmas.Option.{slice_get_within, same_Some}
@@ -14,6 +14,9 @@ use Rattle.spv_term.proofs.ArenaLemmas.{args_in_range, HasOneId-arena, node_of, 
 use Rattle.spv_term.proofs.ListLemmas.{slice_get-append_left, slice_get_push}
 use Rattle.spv_congruence.specs.Keep.{IsNode}
 use Rattle.spv_congruence.specs.Told.{argument, IsPart, whole}
+use Rattle.spv_atoms.specs.Atoms.{only_if}
+use Rattle.spv_atoms.specs.Order.{passing}
+use Rattle.spv_atoms.proofs.Members.{passing-append}
 use Rattle.spv_proof.specs.Sums.{pair}
 use Rattle.spv_bounds.specs.Pairs.{IsPair}
 use Rattle.spv_sums.specs.Readings.{number_in}
@@ -21,7 +24,7 @@ use Rattle.spv_readings.specs.Relations.{if_numbers, in_front, number_sides, rel
 use Rattle.spv_share_graph.specs.declared.trail.Trail.{Trail}
 use Rattle.spv_share_graph.specs.Holding.{AddsTerm, Holds}
 use Rattle.spv_share.specs.declared.relations.Related.{Related}
-use Rattle.spv_share.specs.Relations.{AreNodes, AreParts, AreRelations, head_under, AreListed, IsGathered, IsListed, IsPartOf, IsRelation, related, sides_in}
+use Rattle.spv_share.specs.Relations.{AreNodes, AreParts, AreRelations, head_under, AreListed, IsGathered, IsListed, IsPartOf, IsRelation, is_relation, related, sides_in}
 use Rattle.spv_share.proofs.Sound.{relations_more}
 
 -- ---- one item more
@@ -179,6 +182,11 @@ gathered_other a old new ts t rels h holds adds node none = record {
       ∙ (ap (λ o. relations (number_in a) (map (tree a) ts) ++ in_front o []) (sym none)
       ∙ (sym (among_push (number_in a) (map (tree a) ts) (tree a t)) ∙ ap (relations (number_in a)) (sym (map-append (tree a) ts (t ∷ []))))));
   listed = listed_push a ts t rels [] rels (sym (append-nil rels)) h.listed (λ st sides. absurd (no_sides st (sym none ∙ sides)));
+  atoms =
+      h.atoms
+      ∙ (sym (append-nil (passing (is_relation a) (map (tree a) ts)))
+      ∙ (ap (λ o. passing (is_relation a) (map (tree a) ts) ++ (only_if (is_some o) (tree a t) ++ [])) (sym none)
+      ∙ (sym (passing-append (is_relation a) (map (tree a) ts) (tree a t ∷ [])) ∙ ap (passing (is_relation a)) (sym (map-append (tree a) ts (t ∷ []))))));
 }
   where
     no_sides : (st : Term × Term) → None ≡ Some st → ⊥
@@ -248,6 +256,12 @@ gathered_relation a ok old first second new ts t l r old_rels new_rels inside h 
         there = ap (λ rs. slice_get rs (length old_rels)) pushed ∙ slice_get_push old_rels (related a t l r (length old_rels));
         is = refl;
       });
+  atoms =
+      ap (map (λ r. tree a r.atom)) pushed
+      ∙ (map-append (λ r. tree a r.atom) old_rels (related a t l r (length old_rels) ∷ [])
+      ∙ (ap (λ xs. xs ++ tree a t ∷ []) h.atoms
+      ∙ (ap (λ o. passing (is_relation a) (map (tree a) ts) ++ (only_if (is_some o) (tree a t) ++ [])) (sym sides)
+      ∙ (sym (passing-append (is_relation a) (map (tree a) ts) (tree a t ∷ [])) ∙ ap (passing (is_relation a)) (sym (map-append (tree a) ts (t ∷ [])))))));
 }
   where
     up : (u : TermId) → IsNode old.graph.nodes u → IsNode new.graph.nodes u
@@ -280,6 +294,7 @@ gathered_none a tr h course untold parts = record {
   are = record { each = λ i r at. absurd (no_relation i r at); placed = λ i r at. absurd (no_relation i r at) };
   among = refl;
   listed = record { each = λ i t st at e. absurd (nothing i t at) };
+  atoms = refl;
 }
   where
     nothing : (i : ℕ) (t : TermId) → slice_get (ids []) i ≡ Some t → ⊥

@@ -1,5 +1,5 @@
 -- The relations of whole numbers among atoms, and what is told of them.
-use Rattle.std.specs.Prelude.{◌≡◌, ℕ, suc, ◌<◌, Bool, true, false, List, [], ◌∷◌, ◌++◌, map, length, ℤ, Option, Some, None, pos, nat_eq, slice_get, if◌then◌else◌}
+use Rattle.std.specs.Prelude.{◌≡◌, ℕ, suc, ◌<◌, Bool, true, false, List, [], ◌∷◌, ◌++◌, map, length, ℤ, Option, Some, None, is_some, pos, nat_eq, slice_get, if◌then◌else◌}
 use Rattle.spv_logic.specs.declared.conditions.TermId.{TermId}
 use Rattle.spv_logic.specs.declared.operators.Head.{Head}
 use Rattle.spv_logic.specs.declared.operators.Head.TheVariants.{Eq, Le, Lt, Num}
@@ -10,6 +10,7 @@ use Rattle.spv_congruence.specs.Keep.{IsNode}
 use Rattle.spv_congruence.specs.Told.{IsPart}
 use Rattle.spv_tableaux.specs.Bounds.{Bound}
 use Rattle.spv_atoms.specs.Linear.{IdForm}
+use Rattle.spv_atoms.specs.Order.{passing}
 use Rattle.spv_course.specs.declared.entries.Part.{Part}
 use Rattle.spv_course.specs.declared.entries.Part.TheVariants as part
 use Rattle.spv_course.specs.Literals.{Literal}
@@ -63,6 +64,14 @@ pub record IsListed (rels : List Related) (t : TermId) : Type 0 where
 -- each of these terms that is a relation of whole numbers has one
 pub record AreListed (a : Arena) (ts : List TermId) (rels : List Related) : Type 0 where
   pub each : (i : ℕ) (t : TermId) (st : Term × Term) → slice_get ts i ≡ Some t → number_sides (number_in a) (tree a t) ≡ Some st → IsListed rels t
+
+-- whether a term is a relation of whole numbers
+abbrev pub is_relation : Arena → Term → Bool
+is_relation a t = is_some (number_sides (number_in a) t)
+
+-- their atoms are the relations among these terms, in order
+abbrev pub AreRelationsAmong : Arena → List Term → List Related → Type 0
+AreRelationsAmong a ts rels = map (λ r. tree a r.atom) rels ≡ passing (is_relation a) ts
 
 -- each of these terms was added
 pub record AreNodes (nodes : List (Option Node)) (ts : List TermId) : Type 0 where
@@ -162,3 +171,4 @@ pub record IsGathered (a : Arena) (tr : Trail) (ts : List TermId) (rels : List R
   pub are : AreRelations a tr.graph.nodes rels
   pub among : AreAmong a (map (tree a) ts) rels
   pub listed : AreListed a ts rels
+  pub atoms : AreRelationsAmong a (map (tree a) ts) rels

@@ -3,7 +3,7 @@
 ghost use Rattle.std.specs.Prelude.{◌≡◌, ◌<◌, ◌≤◌, [], ◌∷◌, map, length, IfOk, IfErr};
 ghost use Rattle.spv_term.specs.Arena.{AllBelow, IsArena, tree};
 ghost use Rattle.spv_atom_rows.specs.Rows.{IsWideAmong};
-ghost use Rattle.spv_share.specs.Relations.{AreAmong, AreListed, AreNodes, AreParts};
+ghost use Rattle.spv_share.specs.Relations.{AreAmong, AreListed, AreNodes, AreParts, AreRelationsAmong};
 ghost use Rattle.spv_share.specs.Both.{AreEnds, IsBoth, told};
 
 use crate::both::{Both, Ends};
@@ -32,6 +32,7 @@ impl Both {
         ensures nodes { IfOk result (λ b. AreNodes b.trail.graph.nodes atoms.now) }
         ensures parts { IfOk result (λ b. AreParts terms.now b.trail.graph.nodes (b.trail.truth ∷ b.trail.falsity ∷ atoms.now)) }
         ensures pivots { IfOk result (λ b. b.standing.tableau.pivots ≡ pivots) }
+        ensures of_atoms { IfOk result (λ b. AreRelationsAmong terms.now (map (tree terms.now) atoms.now) b.relations.items) }
         ensures relations { IfOk result (λ b. AreAmong terms.now (map (tree terms.now) atoms.now) b.relations.items) }
         ensures listed { IfOk result (λ b. AreListed terms.now atoms.now b.relations.items) }
         ensures wide { IfErr result (λ fault. IsWideAmong terms.now atoms.now fault) }

@@ -1,0 +1,3 @@
+pub mod OneTree
+pub mod ClosedTrees
+mod GrownTrees

@@ -1,0 +1,4 @@
+pub mod Nodes
+pub mod Growing
+pub mod Views
+pub mod Laws

@@ -1,0 +1,4 @@
+mod Orders
+mod Readable
+mod Ways
+pub mod Evidence

@@ -1,0 +1,4 @@
+pub mod Sameness
+pub mod Telling
+pub mod Meeting
+pub mod Showing

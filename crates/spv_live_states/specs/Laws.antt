@@ -1,0 +1,62 @@
+-- A state that is open shows that its path is live.
+use Rattle.std.specs.Prelude.{◌≡◌, ℕ, ◌||◌, Bool, true, List, Option, Some, slice_get}
+use Rattle.spv_logic.specs.Terms.{Term}
+use Rattle.spv_term.specs.declared.nodes.Condition.{Condition}
+use Rattle.spv_term.specs.Arena.{Arena, IsArena, tree}
+use Rattle.spv_tableaux.specs.Rows.{Point, IsSolution}
+use Rattle.spv_tableaux.specs.Bounds.{limits, Meets}
+use Rattle.spv_readings.specs.Values.{part_value}
+use Rattle.spv_sums.specs.Readings.{number_in}
+use Rattle.spv_proof.specs.Stand.{question}
+use Rattle.spv_congruence.specs.Graph.{AreTerms}
+use Rattle.spv_congruence.specs.Told.{IsExact}
+use Rattle.spv_simplex.specs.State.{IsTableau, rows_in}
+use Rattle.spv_logic.specs.Formulas.{below}
+use Rattle.spv_leaf_tables.specs.Laws.{AreFormulas}
+use Rattle.spv_leaf_tables.specs.Leaves.{is_met}
+use Rattle.spv_leaf_tables.specs.Tables.{formulas_of}
+use Rattle.spv_split_trees.specs.Paths.{atoms, facts, IsLive}
+use Rattle.spv_split_trees.specs.Shown.{IsFinished, ShowsLive}
+use Rattle.spv_share.specs.declared.both.Both.{Both}
+use Rattle.spv_share.specs.declared.relations.Related.{Related}
+use Rattle.spv_share.specs.Both.{IsBoth}
+use Rattle.spv_share.specs.Relations.{AreRelationsAmong}
+use Rattle.spv_share.specs.States.{IsOpen, is_open}
+use Rattle.spv_share_laws.specs.Pairs.{AreEnough}
+use Rattle.spv_live_states.specs.States.{same_in, AreTold, AreTied, AreInside, AreRelated, HasAtoms}
+
+-- a point that meets the bounds that stand, and puts one side of a relation below the other
+pub record IsApartAt (a : Arena) (b : Both) (r : Related) : Type 0 where
+  pub point : Point
+  pub solution : IsSolution (rows_in b.standing.tableau) point
+  pub meets : Meets (limits (rows_in b.standing.tableau) b.standing.tableau.bounds) point
+  pub order : (is_met (number_in a) (part_value a b.standing.tableau.forms point) (below (tree a r.left) (tree a r.right)) || is_met (number_in a) (part_value a b.standing.tableau.forms point) (below (tree a r.right) (tree a r.left))) ≡ true
+
+-- each equality that the graph does not join has such a point
+pub record AreApartAt (a : Arena) (b : Both) : Type 0 where
+  pub each : (row : ℕ) (r : Related) → slice_get b.relations.items row ≡ Some r → is_open b r ≡ true → IsApartAt a b r
+
+-- both sides are open for the atoms of a condition and the facts of a path, to which evaluations add nothing
+pub record IsOpenState (a : Arena) (c : Condition) (b : Both) (cases : List Term) (value : Term → Option Bool) : Type 0 where
+  pub ok : IsArena a
+  pub both : IsBoth a b
+  pub agree : IsOpen b
+  pub exact : IsExact b.trail.graph
+  pub terms_are : AreTerms b.trail.graph.nodes b.trail.graph.added
+  pub tableau : IsTableau b.standing.tableau
+  pub enough : AreEnough a b
+  pub formulas : AreFormulas a.shapes a.decls (formulas_of (question a c).sequent)
+  pub of_atoms : AreRelationsAmong a (atoms (question a c)) b.relations.items
+  pub parts : HasAtoms a b (question a c)
+  pub inside : AreInside a b
+  pub tied : AreTied a b
+  pub finished : IsFinished (question a c) (facts (question a c) cases) value
+  pub answered : AreTold a b (question a c) value
+  pub known : AreRelated a b (question a c) (facts (question a c) cases)
+  pub apart : AreApartAt a b
+
+abbrev pub OpenShowsLive : Type 0
+OpenShowsLive = (a : Arena) (c : Condition) (b : Both) (cases : List Term) (value : Term → Option Bool) → IsOpenState a c b cases value → ShowsLive (question a c) (facts (question a c) cases) (same_in a b)
+
+abbrev pub OpenIsLive : Type 0
+OpenIsLive = (a : Arena) (c : Condition) (b : Both) (cases : List Term) (value : Term → Option Bool) → IsOpenState a c b cases value → IsLive (question a c) (facts (question a c) cases)

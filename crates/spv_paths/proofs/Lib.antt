@@ -1,0 +1,3 @@
+mod Turning
+pub mod Following
+pub mod Behind

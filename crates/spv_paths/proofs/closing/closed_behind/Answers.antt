@@ -1,0 +1,13 @@
+use Rattle.spv_course.proofs.Bridges.{if_ok}
+use Rattle.spv_proof.specs.Stand.{question}
+use Rattle.spv_paths.specs.Paths.{facts_in}
+use Rattle.spv_paths.proofs.Behind.{ends_path, closing_closes}
+use Rattle.spv_paths.proofs.closing.closed_behind.Goals as goal
+
+pub close-closed-requires : goal.close-closed-requires
+close-closed-requires c = record { ends = ends_path (question c.args.terms.now c.args.condition.now) (facts_in (question c.args.terms.now c.args.condition.now) c.args.path.now) c.args.steps.items c.requires.closes }
+
+pub returns-clause-closes : goal.returns-clause-closes
+returns-clause-closes c =
+    if_ok c.close-closed.result c.close-closed.ensures.closing
+    (λ v h known many path. closing_closes (question c.args.terms.now c.args.condition.now) c.args.path.now c.args.steps.items c.args.cases v.items c.requires.closes h known many path)

@@ -1,0 +1,18 @@
+use Rattle.spv_paths.proofs.Following.{begins, case_behind, step_behind, first_path}
+use Rattle.spv_paths.proofs.Behind.{steps_close}
+use Rattle.spv_paths.proofs.laws.law_path.Goals as goal
+
+pub returns-clause-begins : goal.returns-clause-begins
+returns-clause-begins c = begins
+
+pub returns-clause-cases : goal.returns-clause-cases
+returns-clause-cases c = case_behind
+
+pub returns-clause-steps : goal.returns-clause-steps
+returns-clause-steps c = step_behind
+
+pub returns-clause-first : goal.returns-clause-first
+returns-clause-first c = first_path
+
+pub returns-clause-closes : goal.returns-clause-closes
+returns-clause-closes c = steps_close

@@ -1,0 +1,3 @@
+mod AtomLemmas
+pub mod ShownLemmas
+mod LoopLemmas
