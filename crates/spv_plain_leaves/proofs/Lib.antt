@@ -1,0 +1,4 @@
+pub mod Parts
+pub mod Simple
+pub mod Taken
+pub mod Same
