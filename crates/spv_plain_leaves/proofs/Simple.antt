@@ -1,9 +1,7 @@
 -- The conditions before assignments.
-use Rattle.std.proofs.Common.{◌≡◌, ◌+◌, ℕ, true, List, [], ◌∷◌, ◌++◌, length, Ok, Err, IfOk, IsErrAnd, Option, Some, refl, sym, ap, subst, ◌∙◌}
+use Rattle.std.proofs.Common.{◌≡◌, true, List, [], ◌∷◌, Ok, Err, IsErrAnd, Option, Some, refl, sym, ap, subst, ◌∙◌}
 use Rattle.std.proofs.lemmas.Bool.{false≢true}
-use Rattle.std.proofs.lemmas.List.{length-map}
 use Rattle.spv_names.specs.declared.names.Symbol.{Symbol}
-use Rattle.spv_logic.specs.declared.conditions.Kind.TheVariants as kind
 use Rattle.spv_logic.specs.declared.conditions.TermId.{TermId}
 use Rattle.spv_logic.specs.declared.conditions.RoutineId.{RoutineId}
 use Rattle.spv_logic.specs.declared.operators.Head.{Head}
@@ -16,11 +14,10 @@ use Rattle.spv_term.proofs.ArenaLemmas.{Extends-refl, Extends-trans, sort_at-Ext
 use Rattle.spv_substitution.specs.Images.{ArePairs, head_at, head_of}
 use Rattle.spv_program.specs.declared.types.Item.TheVariants.{Variable}
 use Rattle.spv_program.specs.Expressions.{Expression, Designator, designator, no_selectors, at_index, at_field, at_cell}
-use Rattle.spv_program.specs.Formulas.{Annotation}
-use Rattle.spv_program.specs.Statements.{Assign, Assert}
+use Rattle.spv_program.specs.Statements.{Assign}
 use Rattle.spv_program.specs.Programs.{Program, routine_in}
 use Rattle.spv_program.specs.Supplies.{Supply}
-use Rattle.spv_program.specs.Terms.{alone, body_term, item_head}
+use Rattle.spv_program.specs.Terms.{alone, item_head}
 use Rattle.spv_program.specs.ExpressionTypes.{expression_sort, designator_type, sort_of_type}
 use Rattle.spv_program.specs.ExpressionTerms.{Valued}
 use Rattle.spv_program.proofs.SortFacts.{some_is}
@@ -29,16 +26,15 @@ use Rattle.spv_supply.specs.Numbers.{AreThere}
 use Rattle.spv_supply.proofs.FreshLemmas.{AreThere-Extends}
 use Rattle.spv_assign.specs.Conditions.{conditions_of, pairs_of, AreIn, all_terms_in}
 use Rattle.spv_control.specs.Blocks.{is_whole, calls_nothing}
-use Rattle.spv_meaning.specs.Before.{Made, before, before_calls, replaced, wanted, assuming, all_assuming}
+use Rattle.spv_meaning.specs.Before.{Made, before_calls, replaced}
 use Rattle.spv_events.specs.declared.faults.GenFault.{GenFault}
-use Rattle.spv_events.specs.Events.{Event, Walked, Stops, Answers}
-use Rattle.spv_events.specs.StatementEvents.{one, several, counted, in_order, replacing_events}
+use Rattle.spv_events.specs.Events.{Event, Walked, Stops}
+use Rattle.spv_events.specs.StatementEvents.{one, several, in_order, replacing_events}
 use Rattle.spv_events.proofs.Walks.{nothing_walked, adds_nothing}
 use Rattle.spv_flow_steps.specs.Makes.{IsTerm}
 use Rattle.spv_flow_parts.specs.Standing.{value_of, variable_of}
-use Rattle.spv_flow_parts.specs.Walks.{AreThese, Listed, Comes, ComesTo, MakesTerm, made_of, wanted_item}
+use Rattle.spv_flow_parts.specs.Walks.{Listed, Comes, ComesTo, MakesTerm, made_of}
 use Rattle.spv_flow_parts.proofs.Steps.{went, comes_last, exit, AreThese-Extends, IsTerm-Extends}
-use Rattle.spv_flow_parts.proofs.Conditions.{joined_comes, wanted_these, long_conditions}
 use Rattle.spv_flow_parts.proofs.Terms.{no_calls}
 use Rattle.spv_plain_leaves.specs.Plain.{Walks}
 use Rattle.spv_flow_leaves.proofs.Chains.{made_with}

@@ -2,8 +2,8 @@
 use Rattle.std.proofs.Common.{◌≡◌, true, None, sym, subst}
 use Rattle.std.proofs.lemmas.Bool.{false≢true}
 use Rattle.spv_logic.specs.Conditions.{Meaning}
-use Rattle.spv_program.specs.Expressions.{Expression, designator, no_selectors, at_index, at_field, at_cell}
-use Rattle.spv_program.specs.Statements.{Statement, Arms, Empty, Assign, Perform, New, Sequence, If, Case, While, Repeat, For, Assert}
+use Rattle.spv_program.specs.Expressions.{designator, no_selectors, at_index, at_field, at_cell}
+use Rattle.spv_program.specs.Statements.{Statement, Empty, Assign, Perform, New, Sequence, If, Case, While, Repeat, For, Assert}
 use Rattle.spv_program.specs.Programs.{Program}
 use Rattle.spv_meaning.specs.Levels.{Here}
 use Rattle.spv_meaning.proofs.Assigning.{in_main}

@@ -1,6 +1,6 @@
 // The leaves.
 
-ghost use Rattle.std.specs.Prelude.{⊤, IfOk, IsTrue, Some};
+ghost use Rattle.std.specs.Prelude.{⊤};
 ghost use Rattle.spv_flow_leaves.specs.Laws.{IsMainBlock};
 ghost use Rattle.spv_plain_leaves.specs.Plain.{plain_making, plain_taking};
 ghost use Rattle.spv_plain_leaves.specs.PlainLaws.{plain_leaves_right, plain_tests_right};
