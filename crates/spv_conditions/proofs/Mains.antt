@@ -36,7 +36,11 @@ use Rattle.spv_flow_parts.specs.Walks.{AreThese, IsMade, IsNoted, IsThere, Liste
 use Rattle.spv_flow_parts.proofs.Steps.{went, stopped_at}
 use Rattle.spv_flow_parts.proofs.LoopLemmas.{IsNoted-Extends, note_there, note_term}
 use Rattle.spv_flow_parts.proofs.Steps.{AreThese-Extends}
-use Rattle.spv_flow_leaves.specs.Rules.{IsRight, Walks}
+use Rattle.spv_flow_rules.specs.Events.{events_by}
+use Rattle.spv_plain_leaves.specs.Plain.{IsRight, Walks, plain_making, plain_taking}
+use Rattle.spv_plain_leaves.proofs.Taken.{right_taken}
+use Rattle.spv_plain_leaves.proofs.Same.{same_events}
+use Rattle.spv_flow_leaves.specs.Parts.{IsTaken}
 use Rattle.spv_conditions.specs.Making.{behind, behind_main, empty_arena, main_parts, main_events, MakesBlock, MakesMain, MeetsLimit, IsLimit}
 
 -- ---- what is right
@@ -114,6 +118,17 @@ block_made p here r s rest n a b m is full h =
     of : (r : Listed) → Comes r (before p here p.main.body (behind (conditions_of a rest))) (events p here p.main.body (behind (conditions_of a rest))) a b m → MakesBlock r p here (conditions_of a rest) a b
     of (Ok cs) h = record { grows = h.grows; walk = h.walk; made = h.made.conditions }
     of (Err e) h = record { grows = h.grows; walk = h.walk; made = tt }
+
+-- the same of the walk with plain leaves, which take the block
+pub block_taken : (p : Program) (here : Option RoutineId) (s : Statement) → s ≡ p.main.body → IsRight p here p.main.body → IsTaken p here (plain_taking p here) s
+block_taken p here s is right = subst (IsTaken p here (plain_taking p here)) (sym is) (right_taken p here p.main.body right)
+
+pub block_made_by : (p : Program) (here : Option RoutineId) (r : Listed) (s : Statement) (rest : List Condition) (n : Supply) (a b : Arena) (m : Supply) → s ≡ p.main.body → n ≡ full_supply → IsRight p here p.main.body
+    → Comes r (before p here s (made_of a rest n)) (events_by (plain_making p here) p here s (made_of a rest n)) a b m → MakesBlock r p here (conditions_of a rest) a b
+block_made_by p here r s rest n a b m is full right h =
+    let control : is_control s ≡ true = subst (λ (t : Statement). is_control t ≡ true) (sym is) right.control in
+    block_made p here r s rest n a b m is full
+    (subst (λ (l : List Event). Comes r (before p here s (made_of a rest n)) l a b m) (same_events p here s control (made_of a rest n)) h)
 
 pub stops_as : (p : Program) (here : Option RoutineId) (g : GenFault) (f h : Option Annotation) (a b : Arena) → f ≡ h → Stops g (one_if_there (annotation_term p here f)) a b → Stops g (one_if_there (annotation_term p here h)) a b
 stops_as p here g f h a b e is = subst (λ (x : Option Annotation). Stops g (one_if_there (annotation_term p here x)) a b) e is

@@ -8,7 +8,7 @@ ghost use Rattle.spv_control.specs.Blocks.{only_control};
 ghost use Rattle.spv_assign.specs.Conditions.{AreIn, conditions_of};
 ghost use Rattle.spv_events.specs.Events.{Walked};
 ghost use Rattle.spv_flow_parts.specs.Standing.{Stands};
-ghost use Rattle.spv_flow_leaves.specs.Rules.{IsRight};
+ghost use Rattle.spv_plain_leaves.specs.Plain.{IsRight};
 ghost use Rattle.spv_conditions.specs.Making as making;
 ghost use Rattle.spv_conditions.specs.Making.{IsLimit, MakesBlock, MakesMain, main_events};
 
@@ -18,6 +18,7 @@ use spv_events::GenFault;
 use spv_flow::before;
 use spv_flow_parts::{Body, known, noted, wanted_note};
 use spv_logic::Kind;
+use spv_plain_leaves::PlainLeaves;
 use spv_supply::Supply;
 use spv_term::{Condition, Terms};
 use spv_typed::Program;
@@ -37,15 +38,24 @@ fn before_block(
     program: &Program,
     body: &Body,
     terms: &mut Terms,
-    rest: &[Condition],
+    rest: Vec<Condition>,
 ) -> Result<Vec<Condition>, GenFault>
     requires stands { Stands program.now body.now terms.old }
     requires right { IsRight program.now body.now.here program.now.main.body }
-    requires rest { AreIn terms.old rest.now }
-    ensures { MakesBlock result program.now body.now.here (conditions_of terms.old rest.now) terms.old terms.new }
+    requires rest { AreIn terms.old rest.items }
+    ensures { MakesBlock result program.now body.now.here (conditions_of terms.old rest.items) terms.old terms.new }
 {
     let mut supply = Supply::new(body.alloc);
-    before(program, body, terms, &mut supply, &program.main.body, rest)
+    let mut leaves = PlainLeaves;
+    before(
+        &mut leaves,
+        program,
+        body,
+        terms,
+        &mut supply,
+        &program.main.body,
+        rest,
+    )
 }
 
 // The conditions of the main block, under its ENTRY.
@@ -62,7 +72,7 @@ fn main_conditions(
 {
     let note = noted(program, body, terms, &program.main.exit)?;
     let exit = wanted_note(body.alloc, body.here, Kind::Exit, &program.main.exit, note)?;
-    let inside = before_block(program, body, terms, exit.as_slice())?;
+    let inside = before_block(program, body, terms, exit)?;
     let entry = noted(program, body, terms, &program.main.entry)?;
     known(body.alloc, entry, inside.as_slice())
 }

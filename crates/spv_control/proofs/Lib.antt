@@ -1,4 +1,4 @@
 mod Plain
 mod Changes
-mod Parts
+pub mod Parts
 pub mod Programs

@@ -13,27 +13,28 @@ use Rattle.spv_meaning.specs.Before.{Made}
 use Rattle.spv_flow_parts.specs.declared.bodies.Body.{Body}
 use Rattle.spv_flow_parts.specs.Walks.{IsMade, Listed, made_of}
 use Rattle.spv_flow_parts.proofs.Steps.{Stands-Extends}
-use Rattle.spv_flow_leaves.specs.Rules.{IsRight, Walks}
-use Rattle.spv_flow.specs.Walking.{MayWalk}
+use Rattle.spv_flow_leaves.specs.Parts.{IsTaken, Making, Taking}
+use Rattle.spv_flow_leaves.proofs.Chains.{behind_made}
+use Rattle.spv_flow.specs.Walking.{MayWalk, WalksBy}
 
-module _ (p : Program) (body : Body) {a : Arena} {n : Supply} {whole : Statement} {items : List Condition} (h : MayWalk p body a n whole items) where
+module _ (taking : Taking) (p : Program) (body : Body) {a : Arena} {n : Supply} {whole : Statement} {items : List Condition} (h : MayWalk taking p body a n whole items) where
   -- at a part, with the numbers that were taken since
-  pub may_walk_on : {b : Arena} (m : Supply) (s : Statement) (given : List Condition) → Extends a b → IsRight p body.here s → AreThere b m → AreIn b given → MayWalk p body b m s given
+  pub may_walk_on : {b : Arena} (m : Supply) (s : Statement) (given : List Condition) → Extends a b → IsTaken p body.here taking s → AreThere b m → AreIn b given → MayWalk taking p body b m s given
   may_walk_on m s given more right there within = record { stands = Stands-Extends p body more h.stands; right = right; there = there; within = within }
 
   pub within_then : {b : Arena} → Extends a b → AreIn b items
   within_then more = AreIn-Extends more items h.within
 
 -- by another name for the statement
-pub may_walk_as : (p : Program) (body : Body) (a : Arena) (n : Supply) (s t : Statement) (items : List Condition) → s ≡ t → MayWalk p body a n s items → MayWalk p body a n t items
-may_walk_as p body a n s t items is h = subst (λ (u : Statement). MayWalk p body a n u items) is h
+pub may_walk_as : (taking : Taking) (p : Program) (body : Body) (a : Arena) (n : Supply) (s t : Statement) (items : List Condition) → s ≡ t → MayWalk taking p body a n s items → MayWalk taking p body a n t items
+may_walk_as taking p body a n s t items is h = subst (λ (u : Statement). MayWalk taking p body a n u items) is h
 
-pub walks_as : (r : Listed) (p : Program) (here : Option RoutineId) (s t : Statement) (q : Made) (a b : Arena) (n : Supply) → s ≡ t → Walks r p here t q a b n → Walks r p here s q a b n
-walks_as r p here s t q a b n is h = subst (λ (u : Statement). Walks r p here u q a b n) (sym is) h
+pub walks_as : (r : Listed) (by : Making) (p : Program) (here : Option RoutineId) (s t : Statement) (q : Made) (a b : Arena) (n : Supply) → s ≡ t → WalksBy r by p here t q a b n → WalksBy r by p here s q a b n
+walks_as r by p here s t q a b n is h = subst (λ (u : Statement). WalksBy r by p here u q a b n) (sym is) h
 
 -- behind the same conditions
-pub walks_behind : (r : Listed) (p : Program) (here : Option RoutineId) (s : Statement) (q k : Made) (a b : Arena) (n : Supply) → q ≡ k → Walks r p here s q a b n → Walks r p here s k a b n
-walks_behind r p here s q k a b n is h = subst (λ (m : Made). Walks r p here s m a b n) is h
+pub walks_behind : (r : Listed) (by : Making) (p : Program) (here : Option RoutineId) (s : Statement) (q k : Made) (a b : Arena) (n : Supply) → q ≡ k → WalksBy r by p here s q a b n → WalksBy r by p here s k a b n
+walks_behind r by p here s q k a b n is h = subst (λ (m : Made). WalksBy r by p here s m a b n) is h
 
 -- ---- what was made
 
@@ -42,3 +43,10 @@ whole_made m = refl
 
 pub made_is : {a : Arena} {n : Supply} (items : List Condition) (m : Made) → IsMade a n items m → made_of a items n ≡ m
 made_is items m h = let conditions = h.conditions.same in let supply = h.supply in (λ i. record { conditions = conditions i; supply = supply i }) ∙ whole_made m
+
+-- behind the same conditions by another name, with the supply of what was made since
+pub behind_given : {a b : Arena} (rest given : List Condition) (n m : Supply) → given ≡ rest → Extends a b → AreIn a rest → n ≡ m → made_of b given n ≡ made_of a rest m
+behind_given {a} {b} rest given n m same more within e = subst (λ (l : List Condition). made_of b l n ≡ made_of a rest m) (sym same) (behind_made rest n m more within e)
+
+pub same_items : (given now rest : List Condition) → given ≡ now → now ≡ rest → given ≡ rest
+same_items given now rest e f = e ∙ f

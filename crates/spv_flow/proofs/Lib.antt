@@ -6,3 +6,4 @@ pub mod Blocks
 pub mod Cases
 pub mod Loops
 pub mod Fors
+pub mod Rules

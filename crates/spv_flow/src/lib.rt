@@ -1,4 +1,4 @@
-//! The conditions before statements that call nothing and assign whole variables.
+//! The conditions before statements whose assignments, calls, expressions and annotations others make terms and conditions of.
 #![tactic(auto)]
 
 mod laws;

@@ -8,45 +8,60 @@ ghost use Rattle.spv_typed.specs.FormulaViews.{annotation_of};
 ghost use Rattle.spv_typed.specs.StatementViews.{arms_of, block_of, counting_of};
 ghost use Rattle.spv_supply.specs.Numbers.{AreThere, supply_of};
 ghost use Rattle.spv_assign.specs.Conditions.{AreIn, conditions_of};
+ghost use Rattle.spv_meaning.specs.Before as meaning;
 ghost use Rattle.spv_events.specs.StatementEvents.{in_order};
 ghost use Rattle.spv_flow_parts.specs.Standing.{Stands};
 ghost use Rattle.spv_flow_parts.specs.Walks.{Comes, made_of};
-ghost use Rattle.spv_flow_leaves.specs.Rules.{IsRight, Walks};
-ghost use Rattle.spv_flow.specs.Walking.{MayWalk, MayWalkArms, WalksArms, one_arm_events, one_arm_made};
+ghost use Rattle.spv_flow_leaves.specs.Parts.{IsTaken};
+ghost use Rattle.spv_flow_rules.specs.Events.{events_by};
+ghost use Rattle.spv_flow.specs.Walking.{MayWalk, MayWalkArms, WalksArms, WalksBy, one_arm_events, one_arm_made};
 
 use spv_events::GenFault;
-use spv_flow_leaves::{before_assert, before_assign};
-use spv_flow_parts::{Body, copied, value};
+use spv_flow_leaves::{Leaves, before_assert};
+use spv_flow_parts::{Body, copied};
 use spv_flow_rules::{
-    begin_for, begin_repeat, begin_while, both_ways, end_for, end_repeat, end_while, with_arm,
+    Begun, BegunFor, begin_for, begin_repeat, begin_while, end_for, end_repeat, end_while,
+    tested_ways, with_arm,
 };
 use spv_supply::Supply;
 use spv_term::{Condition, TermId, Terms};
 use spv_typed::{Annotation, Arm, Counting, Expression, Program, Statement, StatementForm};
 
 #[cycle(statements)]
-fn statement(
+fn statement<L: Leaves>(
+    leaves: &mut L,
     program: &Program,
     body: &Body,
     terms: &mut Terms,
     supply: &mut Supply,
     s: &Statement,
-    rest: &[Condition],
+    rest: Vec<Condition>,
 ) -> Result<Vec<Condition>, GenFault>
-    requires { MayWalk program.now body.now terms.old (supply_of supply.old) s.now rest.now }
-    ensures { Walks result program.now body.now.here s.now (made_of terms.old rest.now (supply_of supply.old)) terms.old terms.new (supply_of supply.new) }
+    requires ready { L.fits leaves.old program.now body.now.here }
+    requires fits { MayWalk (L.takes program.now body.now.here) program.now body.now terms.old (supply_of supply.old) s.now rest.items }
+    ensures ready { L.fits leaves.new program.now body.now.here }
+    ensures made { WalksBy result (L.making program.now body.now.here) program.now body.now.here s.now (made_of terms.old rest.items (supply_of supply.old)) terms.old terms.new (supply_of supply.new) }
 {
     match &s.form {
-        StatementForm::Assign(d, e) => before_assign(program, body, terms, d, e, rest),
-        StatementForm::Perform(_) => unreachable!(),
-        StatementForm::New(_, _, _) => unreachable!(),
+        StatementForm::Assign(_, _) => leaves.leaf(program, body, terms, supply, s, rest),
+        StatementForm::Perform(_) => leaves.leaf(program, body, terms, supply, s, rest),
+        StatementForm::New(_, _, _) => leaves.leaf(program, body, terms, supply, s, rest),
         StatementForm::Block(inside) => {
-            block(program, body, terms, supply, inside.as_slice(), rest)
+            block(
+                leaves,
+                program,
+                body,
+                terms,
+                supply,
+                inside.as_slice(),
+                rest,
+            )
         }
-        StatementForm::If(line, e, a, b) => {
-            conditional(program, body, terms, supply, *line, e, a, b, rest)
-        }
+        StatementForm::If(line, e, a, b) => conditional(
+            leaves, program, body, terms, supply, *line, e, a, b, rest,
+        ),
         StatementForm::Case(line, e, arms) => selection(
+            leaves,
             program,
             body,
             terms,
@@ -54,50 +69,85 @@ fn statement(
             *line,
             e,
             arms.as_slice(),
-            rest,
+            rest.as_slice(),
         ),
-        StatementForm::While(line, f, e, inside) => {
-            while_loop(program, body, terms, supply, s, *line, f, e, inside, rest)
-        }
-        StatementForm::Repeat(line, f, inside, e) => {
-            repeat_loop(program, body, terms, supply, s, *line, f, e, inside, rest)
-        }
+        StatementForm::While(line, f, e, inside) => while_loop(
+            leaves,
+            program,
+            body,
+            terms,
+            supply,
+            s,
+            *line,
+            f,
+            e,
+            inside,
+            rest.as_slice(),
+        ),
+        StatementForm::Repeat(line, f, inside, e) => repeat_loop(
+            leaves,
+            program,
+            body,
+            terms,
+            supply,
+            s,
+            *line,
+            f,
+            e,
+            inside,
+            rest.as_slice(),
+        ),
         StatementForm::For(line, f, count, inside) => for_loop(
-            program, body, terms, supply, s, *line, f, count, inside, rest,
+            leaves,
+            program,
+            body,
+            terms,
+            supply,
+            s,
+            *line,
+            f,
+            count,
+            inside,
+            rest.as_slice(),
         ),
-        StatementForm::Assert(a) => before_assert(program, body, terms, a, rest),
+        StatementForm::Assert(a) => before_assert(leaves, program, body, terms, a, rest),
     }
 }
 
 // A block, from its last statement to its first.
 #[cycle(statements)]
-fn block(
+fn block<L: Leaves>(
+    leaves: &mut L,
     program: &Program,
     body: &Body,
     terms: &mut Terms,
     supply: &mut Supply,
     statements: &[Statement],
-    rest: &[Condition],
+    rest: Vec<Condition>,
 ) -> Result<Vec<Condition>, GenFault>
-    requires { MayWalk program.now body.now terms.old (supply_of supply.old) (block_of statements.now) rest.now }
-    ensures { Walks result program.now body.now.here (block_of statements.now) (made_of terms.old rest.now (supply_of supply.old)) terms.old terms.new (supply_of supply.new) }
+    requires ready { L.fits leaves.old program.now body.now.here }
+    requires fits { MayWalk (L.takes program.now body.now.here) program.now body.now terms.old (supply_of supply.old) (block_of statements.now) rest.items }
+    ensures ready { L.fits leaves.new program.now body.now.here }
+    ensures made { WalksBy result (L.making program.now body.now.here) program.now body.now.here (block_of statements.now) (made_of terms.old rest.items (supply_of supply.old)) terms.old terms.new (supply_of supply.new) }
 {
-    let mut made = copied(body.alloc, rest)?;
+    let mut made = rest;
     for place in (0..statements.len()).rev() {
         made = statement(
+            leaves,
             program,
             body,
             terms,
             supply,
             &statements[place],
-            made.as_slice(),
+            made,
         )?;
     }
     Ok(made)
 }
 
 #[cycle(statements)]
-fn conditional(
+fn conditional<L: Leaves>(
+    leaves: &mut L,
     program: &Program,
     body: &Body,
     terms: &mut Terms,
@@ -106,20 +156,32 @@ fn conditional(
     e: &Expression,
     a: &Statement,
     b: &Statement,
-    rest: &[Condition],
+    rest: Vec<Condition>,
 ) -> Result<Vec<Condition>, GenFault>
-    requires { MayWalk program.now body.now terms.old (supply_of supply.old) (If line e.now a.now b.now) rest.now }
-    ensures { Walks result program.now body.now.here (If line e.now a.now b.now) (made_of terms.old rest.now (supply_of supply.old)) terms.old terms.new (supply_of supply.new) }
+    requires ready { L.fits leaves.old program.now body.now.here }
+    requires fits { MayWalk (L.takes program.now body.now.here) program.now body.now terms.old (supply_of supply.old) (If line e.now a.now b.now) rest.items }
+    ensures ready { L.fits leaves.new program.now body.now.here }
+    ensures made { WalksBy result (L.making program.now body.now.here) program.now body.now.here (If line e.now a.now b.now) (made_of terms.old rest.items (supply_of supply.old)) terms.old terms.new (supply_of supply.new) }
 {
     let _ = line;
-    let test = value(program, body, terms, e)?;
-    let first = statement(program, body, terms, supply, a, rest)?;
-    let second = statement(program, body, terms, supply, b, rest)?;
-    both_ways(body.alloc, terms, test, first.as_slice(), second.as_slice())
+    let test = leaves.test(program, body, terms, supply, e)?;
+    let kept = copied(body.alloc, rest.as_slice())?;
+    let first = statement(leaves, program, body, terms, supply, a, kept)?;
+    let second = statement(leaves, program, body, terms, supply, b, rest)?;
+    tested_ways(
+        leaves,
+        program,
+        body,
+        terms,
+        &test,
+        first.as_slice(),
+        second.as_slice(),
+    )
 }
 
 #[cycle(statements)]
-fn selection(
+fn selection<L: Leaves>(
+    leaves: &mut L,
     program: &Program,
     body: &Body,
     terms: &mut Terms,
@@ -129,17 +191,23 @@ fn selection(
     cases: &[Arm],
     rest: &[Condition],
 ) -> Result<Vec<Condition>, GenFault>
-    requires { MayWalk program.now body.now terms.old (supply_of supply.old) (Case line e.now (arms_of cases.now)) rest.now }
-    ensures { Walks result program.now body.now.here (Case line e.now (arms_of cases.now)) (made_of terms.old rest.now (supply_of supply.old)) terms.old terms.new (supply_of supply.new) }
+    requires ready { L.fits leaves.old program.now body.now.here }
+    requires fits { MayWalk (L.takes program.now body.now.here) program.now body.now terms.old (supply_of supply.old) (Case line e.now (arms_of cases.now)) rest.now }
+    ensures ready { L.fits leaves.new program.now body.now.here }
+    ensures made { WalksBy result (L.making program.now body.now.here) program.now body.now.here (Case line e.now (arms_of cases.now)) (made_of terms.old rest.now (supply_of supply.old)) terms.old terms.new (supply_of supply.new) }
 {
     let _ = line;
-    let about = value(program, body, terms, e)?;
-    arms(program, body, terms, supply, about, cases, rest)
+    let about = leaves.test(program, body, terms, supply, e)?;
+    let made = arms(
+        leaves, program, body, terms, supply, about.term, cases, rest,
+    )?;
+    leaves.before_test(program, body, &about, made)
 }
 
 // The arms of a CASE, from the first to the last.
 #[cycle(statements)]
-fn arms(
+fn arms<L: Leaves>(
+    leaves: &mut L,
     program: &Program,
     body: &Body,
     terms: &mut Terms,
@@ -148,18 +216,23 @@ fn arms(
     cases: &[Arm],
     rest: &[Condition],
 ) -> Result<Vec<Condition>, GenFault>
-    requires { MayWalkArms program.now body.now terms.old (supply_of supply.old) about (arms_of cases.now) rest.now }
-    ensures { WalksArms result program.now body.now (tree terms.old about) (arms_of cases.now) (made_of terms.old rest.now (supply_of supply.old)) terms.old terms.new (supply_of supply.new) }
+    requires ready { L.fits leaves.old program.now body.now.here }
+    requires fits { MayWalkArms (L.takes program.now body.now.here) program.now body.now terms.old (supply_of supply.old) about (arms_of cases.now) rest.now }
+    ensures ready { L.fits leaves.new program.now body.now.here }
+    ensures made { WalksArms result (L.making program.now body.now.here) program.now body.now (tree terms.old about) (arms_of cases.now) (made_of terms.old rest.now (supply_of supply.old)) terms.old terms.new (supply_of supply.new) }
 {
     let mut made = Vec::new(body.alloc);
     for case in cases {
-        made = one_arm(program, body, terms, supply, about, case, rest, made)?;
+        made = one_arm(
+            leaves, program, body, terms, supply, about, case, rest, made,
+        )?;
     }
     Ok(made)
 }
 
 #[cycle(statements)]
-fn one_arm(
+fn one_arm<L: Leaves>(
+    leaves: &mut L,
     program: &Program,
     body: &Body,
     terms: &mut Terms,
@@ -169,14 +242,17 @@ fn one_arm(
     rest: &[Condition],
     so_far: Vec<Condition>,
 ) -> Result<Vec<Condition>, GenFault>
-    requires fits { MayWalkArms program.now body.now terms.old (supply_of supply.old) about (arms_of (case.now ∷ [])) rest.now }
+    requires ready { L.fits leaves.old program.now body.now.here }
+    requires fits { MayWalkArms (L.takes program.now body.now.here) program.now body.now terms.old (supply_of supply.old) about (arms_of (case.now ∷ [])) rest.now }
     requires so_far { AreIn terms.old so_far.items }
-    ensures { Comes result
+    ensures ready { L.fits leaves.new program.now body.now.here }
+    ensures made { Comes result
         (one_arm_made program.now body.now (tree terms.old about) case.now.labels case.now.body.value (conditions_of terms.old so_far.items) (made_of terms.old rest.now (supply_of supply.old)))
-        (in_order (one_arm_events program.now body.now (tree terms.old about) case.now.labels case.now.body.value (length so_far.items) (made_of terms.old rest.now (supply_of supply.old))))
+        (in_order (one_arm_events (L.making program.now body.now.here) program.now body.now (tree terms.old about) case.now.labels case.now.body.value (length so_far.items) (made_of terms.old rest.now (supply_of supply.old))))
         terms.old terms.new (supply_of supply.new) }
 {
-    let first = statement(program, body, terms, supply, &case.body, rest)?;
+    let kept = copied(body.alloc, rest)?;
+    let first = statement(leaves, program, body, terms, supply, &case.body, kept)?;
     with_arm(
         body.alloc,
         terms,
@@ -188,7 +264,8 @@ fn one_arm(
 }
 
 #[cycle(statements)]
-fn while_loop(
+fn while_loop<L: Leaves>(
+    leaves: &mut L,
     program: &Program,
     body: &Body,
     terms: &mut Terms,
@@ -200,35 +277,35 @@ fn while_loop(
     inside: &Statement,
     rest: &[Condition],
 ) -> Result<Vec<Condition>, GenFault>
+    requires ready { L.fits leaves.old program.now body.now.here }
     requires is { whole.now ≡ While line (option_map annotation_of f.now) e.now inside.now }
-    requires fits { MayWalk program.now body.now terms.old (supply_of supply.old) whole.now rest.now }
-    ensures { Walks result program.now body.now.here whole.now (made_of terms.old rest.now (supply_of supply.old)) terms.old terms.new (supply_of supply.new) }
+    requires fits { MayWalk (L.takes program.now body.now.here) program.now body.now terms.old (supply_of supply.old) whole.now rest.now }
+    ensures ready { L.fits leaves.new program.now body.now.here }
+    ensures made { WalksBy result (L.making program.now body.now.here) program.now body.now.here whole.now (made_of terms.old rest.now (supply_of supply.old)) terms.old terms.new (supply_of supply.new) }
 {
     let _ = line;
-    let start = begin_while(program, body, terms, f, e)?;
-    let round = statement(
-        program,
-        body,
-        terms,
-        supply,
-        inside,
-        start.behind.as_slice(),
-    )?;
+    let Begun {
+        terms: known,
+        behind,
+    } = begin_while(leaves, program, body, terms, supply, f, e)?;
+    let round = statement(leaves, program, body, terms, supply, inside, behind)?;
     end_while(
+        leaves,
         program,
         body,
         terms,
         supply,
         whole,
         f,
-        start.terms,
+        &known,
         round.as_slice(),
         rest,
     )
 }
 
 #[cycle(statements)]
-fn repeat_loop(
+fn repeat_loop<L: Leaves>(
+    leaves: &mut L,
     program: &Program,
     body: &Body,
     terms: &mut Terms,
@@ -240,34 +317,34 @@ fn repeat_loop(
     inside: &Statement,
     rest: &[Condition],
 ) -> Result<Vec<Condition>, GenFault>
+    requires ready { L.fits leaves.old program.now body.now.here }
     requires is { whole.now ≡ Repeat line (option_map annotation_of f.now) inside.now e.now }
-    requires fits { MayWalk program.now body.now terms.old (supply_of supply.old) whole.now rest.now }
-    ensures { Walks result program.now body.now.here whole.now (made_of terms.old rest.now (supply_of supply.old)) terms.old terms.new (supply_of supply.new) }
+    requires fits { MayWalk (L.takes program.now body.now.here) program.now body.now terms.old (supply_of supply.old) whole.now rest.now }
+    ensures ready { L.fits leaves.new program.now body.now.here }
+    ensures made { WalksBy result (L.making program.now body.now.here) program.now body.now.here whole.now (made_of terms.old rest.now (supply_of supply.old)) terms.old terms.new (supply_of supply.new) }
 {
     let _ = line;
-    let begun = begin_repeat(program, body, terms, f, e, rest)?;
-    let turn = statement(
-        program,
-        body,
-        terms,
-        supply,
-        inside,
-        begun.behind.as_slice(),
-    )?;
+    let Begun {
+        terms: known,
+        behind,
+    } = begin_repeat(leaves, program, body, terms, supply, f, e, rest)?;
+    let turn = statement(leaves, program, body, terms, supply, inside, behind)?;
     end_repeat(
+        leaves,
         program,
         body,
         terms,
         supply,
         whole,
         f,
-        begun.terms.note,
+        known.note,
         turn.as_slice(),
     )
 }
 
 #[cycle(statements)]
-fn for_loop(
+fn for_loop<L: Leaves>(
+    leaves: &mut L,
     program: &Program,
     body: &Body,
     terms: &mut Terms,
@@ -279,21 +356,20 @@ fn for_loop(
     inside: &Statement,
     rest: &[Condition],
 ) -> Result<Vec<Condition>, GenFault>
+    requires ready { L.fits leaves.old program.now body.now.here }
     requires is { whole.now ≡ For line (option_map annotation_of f.now) (counting_of count.now) inside.now }
-    requires fits { MayWalk program.now body.now terms.old (supply_of supply.old) whole.now rest.now }
-    ensures { Walks result program.now body.now.here whole.now (made_of terms.old rest.now (supply_of supply.old)) terms.old terms.new (supply_of supply.new) }
+    requires fits { MayWalk (L.takes program.now body.now.here) program.now body.now terms.old (supply_of supply.old) whole.now rest.now }
+    ensures ready { L.fits leaves.new program.now body.now.here }
+    ensures made { WalksBy result (L.making program.now body.now.here) program.now body.now.here whole.now (made_of terms.old rest.now (supply_of supply.old)) terms.old terms.new (supply_of supply.new) }
 {
     let _ = line;
-    let begun = begin_for(program, body, terms, f, count)?;
-    let turn = statement(
-        program,
-        body,
-        terms,
-        supply,
-        inside,
-        begun.behind.as_slice(),
-    )?;
+    let BegunFor {
+        terms: known,
+        behind,
+    } = begin_for(leaves, program, body, terms, supply, f, count)?;
+    let turn = statement(leaves, program, body, terms, supply, inside, behind)?;
     end_for(
+        leaves,
         program,
         body,
         terms,
@@ -301,28 +377,32 @@ fn for_loop(
         whole,
         f,
         count,
-        begun.terms,
+        &known,
         turn.as_slice(),
         rest,
     )
 }
 
-/// The conditions before a statement that calls nothing and assigns whole variables, where these stand behind it: those
-/// of the definition, with the fresh variables that it takes. `Conditions` comes where a list of them is longer than
-/// `LONGEST_LIST`, and `Terms` where the arena is full, whichever is met first in the definition's order.
-pub fn before(
+/// The conditions before a statement whose parts the leaves take, where these stand behind it: those of the definition,
+/// with the fresh variables that it takes. `Conditions` comes where a list of them is longer than `LONGEST_LIST`, and
+/// `Terms` where the arena is full, whichever is met first in the order of `events_by`.
+pub fn before<L: Leaves>(
+    leaves: &mut L,
     program: &Program,
     body: &Body,
     terms: &mut Terms,
     supply: &mut Supply,
     s: &Statement,
-    rest: &[Condition],
+    rest: Vec<Condition>,
 ) -> Result<Vec<Condition>, GenFault>
+    requires fits { L.fits leaves.old program.now body.now.here }
     requires stands { Stands program.now body.now terms.old }
-    requires right { IsRight program.now body.now.here s.now }
+    requires taken { IsTaken program.now body.now.here (L.takes program.now body.now.here) s.now }
     requires there { AreThere terms.old (supply_of supply.old) }
-    requires rest { AreIn terms.old rest.now }
-    ensures { Walks result program.now body.now.here s.now (made_of terms.old rest.now (supply_of supply.old)) terms.old terms.new (supply_of supply.new) }
+    requires rest { AreIn terms.old rest.items }
+    ensures fits { L.fits leaves.new program.now body.now.here }
+    ensures made { Comes result (meaning.before program.now body.now.here s.now (made_of terms.old rest.items (supply_of supply.old)))
+        (events_by (L.making program.now body.now.here) program.now body.now.here s.now (made_of terms.old rest.items (supply_of supply.old))) terms.old terms.new (supply_of supply.new) }
 {
-    statement(program, body, terms, supply, s, rest)
+    statement(leaves, program, body, terms, supply, s, rest)
 }

@@ -1,1 +1,3 @@
-pub mod Rules
+pub mod Parts
+pub mod Values
+pub mod Laws

@@ -1,6 +1,13 @@
-//! Conditions before statements that have no others inside: assignments to whole variables, and ASSERTs.
+//! What a walk over statements leaves to others: assignments, NEW and calls, expressions with the calls in them, and
+//! annotations.
 #![tactic(auto)]
 
+mod calls;
 mod leaves;
+mod noting;
+mod valued;
 
-pub use leaves::{before_assert, before_assign};
+pub use calls::in_front;
+pub use leaves::Leaves;
+pub use noting::{before_assert, noted};
+pub use valued::{Called, Valued};

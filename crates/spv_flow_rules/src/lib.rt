@@ -9,4 +9,4 @@ mod ways;
 pub use arms::with_arm;
 pub use counting::{BegunFor, ForTerms, begin_for, end_for};
 pub use loops::{Begun, LoopTerms, begin_repeat, begin_while, end_repeat, end_while};
-pub use ways::both_ways;
+pub use ways::tested_ways;

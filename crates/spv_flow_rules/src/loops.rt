@@ -1,36 +1,33 @@
 // Loops with a test.
 
-ghost use Rattle.std.specs.Prelude.{◌≡◌, option_map, IfErr, IfOk};
+ghost use Rattle.std.specs.Prelude.{option_map};
 ghost use Rattle.spv_logic.specs.declared.conditions.Kind.TheVariants as kind;
-ghost use Rattle.spv_term.specs.Arena.{tree};
-ghost use Rattle.spv_program.specs.Changes.{changed_heads};
+ghost use Rattle.spv_program.specs.ExpressionTerms as plain;
+ghost use Rattle.spv_program.specs.ExpressionTerms.{valued};
 ghost use Rattle.spv_program.specs.Programs.{routine_in};
-ghost use Rattle.spv_program.specs.Supplies as spec;
 ghost use Rattle.spv_typed.specs.FormulaViews.{annotation_of};
 ghost use Rattle.spv_supply.specs.Numbers.{AreThere, supply_of};
 ghost use Rattle.spv_assign.specs.Conditions.{AreIn, conditions_of};
-ghost use Rattle.spv_meaning.specs.Before as before;
-ghost use Rattle.spv_meaning.specs.Before.{wanted_if_there};
-ghost use Rattle.spv_events.specs.declared.faults.GenFault.TheVariants.{Memory};
+ghost use Rattle.spv_meaning.specs.Before.{before_calls, wanted_if_there};
 ghost use Rattle.spv_events.specs.StatementEvents.{in_order, loop_events, loop_names};
-ghost use Rattle.spv_flow_parts.specs.Standing.{IsBody, Stands, value_of};
+ghost use Rattle.spv_flow_parts.specs.Standing.{Stands};
 ghost use Rattle.spv_flow_parts.specs.Walks.{Comes, IsNoted, loop_made};
-ghost use Rattle.spv_flow_rules.specs.Rules.{AreLoopTerms, Begins, IsTested, repeat_begin, repeat_uses, while_begin, while_end, ways_made};
+ghost use Rattle.spv_flow_rules.specs.Rules.{Begins, HasValue, IsTested, IsValueOf, repeat_begin, repeat_uses, tested_made, while_begin, while_end};
 
-use crate::ways::{both_ways, turned_ways};
-use spv_changed::changed;
+use crate::ways::{tested_ways, turned_ways};
 use spv_events::GenFault;
-use spv_flow_parts::{Body, end_of_loop, noted, value, wanted_note};
-use spv_logic::{Head, Kind};
+use spv_flow_leaves::{Leaves, Valued, noted};
+use spv_flow_parts::{Body, end_of_loop, wanted_note};
+use spv_logic::{Kind, Sort};
 use spv_supply::Supply;
 use spv_term::{Condition, TermId, Terms};
 use spv_typed::{Annotation, Expression, Program, Statement};
 
 /// The terms of a loop with a test.
-#[derive(Clone, Copy, Debug)]
+#[derive(Debug, Drop)]
 pub struct LoopTerms {
     /// Its test.
-    pub test: TermId,
+    pub test: Valued,
     /// Its annotation, where it has one.
     pub note: Option<TermId>,
 }
@@ -44,36 +41,28 @@ pub struct Begun {
     pub behind: Vec<Condition>,
 }
 
-/// The variables and classes that a statement of a body may change, in the order of declaration.
-pub(crate) fn changed_in(
-    program: &Program,
-    body: &Body,
-    s: &Statement,
-) -> Result<Vec<Head>, GenFault>
-    requires roots { IsBody program.now body.now }
-    ensures heads { IfOk result (λ heads. heads.items ≡ changed_heads program.now (routine_in program.now body.now.here) s.now) }
-    ensures err { IfErr result (λ e. e ≡ Memory) }
-{
-    Ok(changed(body.alloc, program, body.here, &body.roots, s)?)
-}
-
 /// What is made of a WHILE before its body is walked: the terms of its test and of its annotation, which is wanted behind
 /// the body.
-pub fn begin_while(
+pub fn begin_while<L: Leaves>(
+    leaves: &mut L,
     program: &Program,
     body: &Body,
     terms: &mut Terms,
+    supply: &mut Supply,
     f: &Option<Annotation>,
     e: &Expression,
 ) -> Result<Begun, GenFault>
+    requires fits { L.fits leaves.old program.now body.now.here }
     requires stands { Stands program.now body.now terms.old }
-    requires tested { IsTested program.now body.now.here e.now (option_map annotation_of f.now) }
-    ensures { Begins result program.now body.now.here (option_map annotation_of f.now) (value_of program.now body.now.here e.now)
+    requires tested { IsTested (L.takes program.now body.now.here) program.now body.now.here e.now (option_map annotation_of f.now) }
+    requires there { AreThere terms.old (supply_of supply.old) }
+    ensures fits { L.fits leaves.new program.now body.now.here }
+    ensures begun { Begins result program.now body.now.here (option_map annotation_of f.now) (valued program.now (routine_in program.now body.now.here) (supply_of supply.old) e.now)
         (wanted_if_there program.now body.now.here kind.Preserved (option_map annotation_of f.now))
-        (while_begin program.now body.now.here (option_map annotation_of f.now) (value_of program.now body.now.here e.now)) terms.old terms.new }
+        (while_begin program.now body.now.here (option_map annotation_of f.now) ((L.making program.now body.now.here).test e.now (supply_of supply.old))) terms.old terms.new (supply_of supply.new) }
 {
-    let test = value(program, body, terms, e)?;
-    let note = noted(program, body, terms, f)?;
+    let test = leaves.test(program, body, terms, supply, e)?;
+    let note = noted(leaves, program, body, terms, f)?;
     let behind = wanted_note(body.alloc, body.here, Kind::Preserved, f, note)?;
     Ok(Begun {
         terms: LoopTerms { test, note },
@@ -82,39 +71,44 @@ pub fn begin_while(
 }
 
 /// What is made of a REPEAT before its body is walked: the terms of its test and of its annotation, and the conditions
-/// behind the body, where it goes on or ends.
-pub fn begin_repeat(
+/// behind the body, where it goes on or ends, with the calls of the test in front.
+pub fn begin_repeat<L: Leaves>(
+    leaves: &mut L,
     program: &Program,
     body: &Body,
     terms: &mut Terms,
+    supply: &mut Supply,
     f: &Option<Annotation>,
     e: &Expression,
     rest: &[Condition],
 ) -> Result<Begun, GenFault>
+    requires fits { L.fits leaves.old program.now body.now.here }
     requires stands { Stands program.now body.now terms.old }
-    requires tested { IsTested program.now body.now.here e.now (option_map annotation_of f.now) }
+    requires tested { IsTested (L.takes program.now body.now.here) program.now body.now.here e.now (option_map annotation_of f.now) }
+    requires there { AreThere terms.old (supply_of supply.old) }
     requires rest { AreIn terms.old rest.now }
-    ensures { (n : spec.Supply) → AreThere terms.old n → Begins result program.now body.now.here (option_map annotation_of f.now) (value_of program.now body.now.here e.now)
-        (repeat_uses program.now body.now.here (option_map annotation_of f.now) (value_of program.now body.now.here e.now) (conditions_of terms.old rest.now))
-        (repeat_begin program.now body.now.here (option_map annotation_of f.now) (value_of program.now body.now.here e.now) (conditions_of terms.old rest.now)) terms.old terms.new }
+    ensures fits { L.fits leaves.new program.now body.now.here }
+    ensures begun { let w : plain.Valued = valued program.now (routine_in program.now body.now.here) (supply_of supply.old) e.now in
+        Begins result program.now body.now.here (option_map annotation_of f.now) w
+        (before_calls body.now.here w.calls (repeat_uses program.now body.now.here (option_map annotation_of f.now) w.term (conditions_of terms.old rest.now)))
+        (repeat_begin program.now body.now.here (option_map annotation_of f.now) ((L.making program.now body.now.here).test e.now (supply_of supply.old)) w (conditions_of terms.old rest.now)) terms.old terms.new (supply_of supply.new) }
 {
-    let begun = begin_while(program, body, terms, f, e)?;
-    let behind = turned_ways(
-        body.alloc,
-        terms,
-        begun.terms.test,
-        begun.behind.as_slice(),
-        rest,
-    )?;
+    let Begun {
+        terms: known,
+        behind: again,
+    } = begin_while(leaves, program, body, terms, supply, f, e)?;
+    let uses = turned_ways(body.alloc, terms, known.test.term, again.as_slice(), rest)?;
+    let behind = leaves.before_test(program, body, &known.test, uses)?;
     Ok(Begun {
-        terms: begun.terms,
+        terms: known,
         behind,
     })
 }
 
 /// The conditions of a REPEAT, or of a WHILE with both of its ways: those under its annotation, with what the loop
 /// changes renamed, behind the one of its beginning.
-pub fn end_repeat(
+pub fn end_repeat<L: Leaves>(
+    leaves: &mut L,
     program: &Program,
     body: &Body,
     terms: &mut Terms,
@@ -124,16 +118,18 @@ pub fn end_repeat(
     note: Option<TermId>,
     uses: &[Condition],
 ) -> Result<Vec<Condition>, GenFault>
+    requires fits { L.fits leaves.old program.now body.now.here }
     requires stands { Stands program.now body.now terms.old }
     requires there { AreThere terms.old (supply_of supply.old) }
     requires note { IsNoted terms.old program.now body.now.here note (option_map annotation_of f.now) }
     requires uses { AreIn terms.old uses.now }
-    ensures { Comes result
+    ensures fits { L.fits leaves.new program.now body.now.here }
+    ensures made { Comes result
         (loop_made program.now body.now.here (option_map annotation_of f.now) (loop_names program.now body.now.here whole.now (supply_of supply.old)) (conditions_of terms.old uses.now))
         (loop_events program.now body.now.here (option_map annotation_of f.now) (loop_names program.now body.now.here whole.now (supply_of supply.old)) (conditions_of terms.old uses.now))
         terms.old terms.new (supply_of supply.new) }
 {
-    let heads = changed_in(program, body, whole)?;
+    let heads = leaves.changed(program, body, whole)?;
     end_of_loop(
         program,
         body,
@@ -147,32 +143,37 @@ pub fn end_repeat(
 }
 
 /// The conditions of a WHILE, where those before its body are made: these under its test, and those behind the loop under
-/// the negated test.
-pub fn end_while(
+/// the negated test, with the calls of the test in front of both.
+pub fn end_while<L: Leaves>(
+    leaves: &mut L,
     program: &Program,
     body: &Body,
     terms: &mut Terms,
     supply: &mut Supply,
     whole: &Statement,
     f: &Option<Annotation>,
-    t: LoopTerms,
+    t: &LoopTerms,
     turn: &[Condition],
     rest: &[Condition],
 ) -> Result<Vec<Condition>, GenFault>
+    requires fits { L.fits leaves.old program.now body.now.here }
     requires stands { Stands program.now body.now terms.old }
     requires there { AreThere terms.old (supply_of supply.old) }
-    requires known { AreLoopTerms terms.old program.now body.now.here t (tree terms.old t.test) (option_map annotation_of f.now) }
+    requires tested { HasValue terms.old t.now.test Sort.Bool }
+    requires note { IsNoted terms.old program.now body.now.here t.now.note (option_map annotation_of f.now) }
     requires turn { AreIn terms.old turn.now }
     requires rest { AreIn terms.old rest.now }
-    ensures { Comes result
+    ensures fits { L.fits leaves.new program.now body.now.here }
+    ensures made { (w : plain.Valued) → IsValueOf terms.old t.now.test w Sort.Bool → Comes result
         (loop_made program.now body.now.here (option_map annotation_of f.now) (loop_names program.now body.now.here whole.now (supply_of supply.old))
-        (ways_made (tree terms.old t.test) (before.negated (tree terms.old t.test)) (conditions_of terms.old turn.now) (conditions_of terms.old rest.now)))
-        (in_order (while_end program.now body.now.here (option_map annotation_of f.now) (loop_names program.now body.now.here whole.now (supply_of supply.old)) (tree terms.old t.test)
+        (tested_made body.now.here w (conditions_of terms.old turn.now) (conditions_of terms.old rest.now)))
+        (in_order (while_end program.now body.now.here (option_map annotation_of f.now) (loop_names program.now body.now.here whole.now (supply_of supply.old)) w
         (conditions_of terms.old turn.now) (conditions_of terms.old rest.now)))
         terms.old terms.new (supply_of supply.new) }
 {
-    let uses = both_ways(body.alloc, terms, t.test, turn, rest)?;
+    let uses = tested_ways(leaves, program, body, terms, &t.test, turn, rest)?;
     end_repeat(
+        leaves,
         program,
         body,
         terms,

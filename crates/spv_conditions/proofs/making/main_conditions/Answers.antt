@@ -18,9 +18,8 @@ returns-in_err-inside c =
     let a1 = c.noted.new.terms in
     let exit : option_map annotation_of c.program.inside.main.exit ≡ p.main.exit = ap (λ (q : Program). q.main.exit) c.program.view_is in
     let made = note_as p here c.in_ok-note.note _ p.main.exit a0 a1 exit c.in_ok-note.ensures.note c.in_ok-note.ensures.grows c.in_ok-note.ensures.walk in
-    let items = c.as_slice.result.now in
-    let these = subst (λ (l : List Condition). AreThese a1 l (wanted_if_there p here kind.Exit p.main.exit)) (sym c.as_slice.ensures.value)
-    (these_as p here c.in_ok-exit.exit.items _ p.main.exit a1 exit (c.in_ok-exit.ensures.conditions a1 p c.in_ok-note.ensures.note)) in
+    let items = c.in_ok-exit.exit.items in
+    let these = these_as p here c.in_ok-exit.exit.items _ p.main.exit a1 exit (c.in_ok-exit.ensures.conditions a1 p c.in_ok-note.ensures.note) in
     let a2 = c.before_block.new.terms in
     body_stops p here c.requires.main a0 a1 c.in_ok-note.note made items these a2
     c.from_residual-in_err-inside.result c.in_err-inside.field-0.0 c.from_residual-in_err-inside.ensures.1 c.in_err-inside.ensures
@@ -33,9 +32,8 @@ returns-in_err-entry c =
     let a1 = c.noted.new.terms in
     let exit : option_map annotation_of c.program.inside.main.exit ≡ p.main.exit = ap (λ (q : Program). q.main.exit) c.program.view_is in
     let made = note_as p here c.in_ok-note.note _ p.main.exit a0 a1 exit c.in_ok-note.ensures.note c.in_ok-note.ensures.grows c.in_ok-note.ensures.walk in
-    let items = c.as_slice.result.now in
-    let these = subst (λ (l : List Condition). AreThese a1 l (wanted_if_there p here kind.Exit p.main.exit)) (sym c.as_slice.ensures.value)
-    (these_as p here c.in_ok-exit.exit.items _ p.main.exit a1 exit (c.in_ok-exit.ensures.conditions a1 p c.in_ok-note.ensures.note)) in
+    let items = c.in_ok-exit.exit.items in
+    let these = these_as p here c.in_ok-exit.exit.items _ p.main.exit a1 exit (c.in_ok-exit.ensures.conditions a1 p c.in_ok-note.ensures.note) in
     let a2 = c.before_block.new.terms in
     let entry : option_map annotation_of c.program.inside.main.entry ≡ p.main.entry = ap (λ (q : Program). q.main.entry) c.program.view_is in
     let a3 = c.noted-2.new.terms in
@@ -51,9 +49,8 @@ returns c =
     let a1 = c.noted.new.terms in
     let exit : option_map annotation_of c.program.inside.main.exit ≡ p.main.exit = ap (λ (q : Program). q.main.exit) c.program.view_is in
     let made = note_as p here c.in_ok-note.note _ p.main.exit a0 a1 exit c.in_ok-note.ensures.note c.in_ok-note.ensures.grows c.in_ok-note.ensures.walk in
-    let items = c.as_slice.result.now in
-    let these = subst (λ (l : List Condition). AreThese a1 l (wanted_if_there p here kind.Exit p.main.exit)) (sym c.as_slice.ensures.value)
-    (these_as p here c.in_ok-exit.exit.items _ p.main.exit a1 exit (c.in_ok-exit.ensures.conditions a1 p c.in_ok-note.ensures.note)) in
+    let items = c.in_ok-exit.exit.items in
+    let these = these_as p here c.in_ok-exit.exit.items _ p.main.exit a1 exit (c.in_ok-exit.ensures.conditions a1 p c.in_ok-note.ensures.note) in
     let a2 = c.before_block.new.terms in
     let entry : option_map annotation_of c.program.inside.main.entry ≡ p.main.entry = ap (λ (q : Program). q.main.entry) c.program.view_is in
     let a3 = c.noted-2.new.terms in
@@ -62,5 +59,5 @@ returns c =
     all_made p here c.requires.main a0 a1 c.in_ok-note.note made items these a2 c.in_ok-inside.inside c.in_ok-inside.ensures a3 last.grows c.in_ok-entry.entry last.note last.walk
     c.known.result
     (subst (λ (l : List Condition). AreIn a3 l → IfOk c.known.result (λ cs. AreThese a3 cs.items (assuming_if_there (option_map (tree a3) c.in_ok-entry.entry) (conditions_of a3 l))))
-    c.as_slice-2.ensures.value (c.known.ensures.conditions a3 there))
+    c.as_slice.ensures.value (c.known.ensures.conditions a3 there))
     c.known.ensures.err

@@ -9,36 +9,38 @@ use Rattle.spv_flow.proofs.Cases.{ArmsSoFar}
 use Rattle.spv_flow.proofs.walk.+statements.Given as goal
 
 abbrev pub decreases-statement : goal.decreases-statement
-decreases-statement l = 4 * statement_size l.s.now + 3
+decreases-statement g l = 4 * statement_size l.s.now + 3
 
 abbrev pub decreases-block : goal.decreases-block
-decreases-block l = 4 * statement_size (block_of l.statements.now) + 2
+decreases-block g l = 4 * statement_size (block_of l.statements.now) + 2
 
 abbrev pub decreases-conditional : goal.decreases-conditional
-decreases-conditional l = 4 * (statement_size l.a.now + statement_size l.b.now) + 4
+decreases-conditional g l = 4 * (statement_size l.a.now + statement_size l.b.now) + 4
 
 abbrev pub decreases-selection : goal.decreases-selection
-decreases-selection l = 4 * arms_size (arms_of l.cases.now) + 3
+decreases-selection g l = 4 * arms_size (arms_of l.cases.now) + 3
 
 abbrev pub decreases-arms : goal.decreases-arms
-decreases-arms l = 4 * arms_size (arms_of l.cases.now) + 2
+decreases-arms g l = 4 * arms_size (arms_of l.cases.now) + 2
 
 abbrev pub decreases-one_arm : goal.decreases-one_arm
-decreases-one_arm l = 4 * statement_size l.case.now.body.value + 4
+decreases-one_arm g l = 4 * statement_size l.case.now.body.value + 4
 
 abbrev pub decreases-while_loop : goal.decreases-while_loop
-decreases-while_loop l = 4 * statement_size l.inside.now + 4
+decreases-while_loop g l = 4 * statement_size l.inside.now + 4
 
 abbrev pub decreases-repeat_loop : goal.decreases-repeat_loop
-decreases-repeat_loop l = 4 * statement_size l.inside.now + 4
+decreases-repeat_loop g l = 4 * statement_size l.inside.now + 4
 
 abbrev pub decreases-for_loop : goal.decreases-for_loop
-decreases-for_loop l = 4 * statement_size l.inside.now + 4
+decreases-for_loop g l = 4 * statement_size l.inside.now + 4
 
 abbrev pub invariant-block-loop-place : goal.invariant-block-loop-place
-invariant-block-loop-place l =
-    BlockSoFar l.program l.body.here (drop l.place l.statements) (made_of l.fn.terms l.rest (supply_of l.fn.supply)) l.fn.terms l.terms (supply_of l.supply) l.made.items
+invariant-block-loop-place g l =
+    g.L.Leaves.fits l.leaves l.program l.body.here
+    × BlockSoFar (g.L.Leaves.making l.program l.body.here) l.program l.body.here (drop l.place l.statements) (made_of l.fn.terms l.fn.rest.items (supply_of l.fn.supply)) l.fn.terms l.terms (supply_of l.supply) l.made.items
 
 abbrev pub invariant-arms-loop-case : goal.invariant-arms-loop-case
-invariant-arms-loop-case l =
-    ArmsSoFar l.program l.body.here (tree l.fn.terms l.fn.about) (arms_of l.cases) (arms_of (drop l.case-index l.cases)) (made_of l.fn.terms l.rest (supply_of l.fn.supply)) l.fn.terms l.terms (supply_of l.supply) l.made.items
+invariant-arms-loop-case g l =
+    g.L.Leaves.fits l.leaves l.program l.body.here
+    × ArmsSoFar (g.L.Leaves.making l.program l.body.here) l.program l.body.here (tree l.fn.terms l.fn.about) (arms_of l.cases) (arms_of (drop l.case-index l.cases)) (made_of l.fn.terms l.rest (supply_of l.fn.supply)) l.fn.terms l.terms (supply_of l.supply) l.made.items

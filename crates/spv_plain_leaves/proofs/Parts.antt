@@ -10,11 +10,12 @@ use Rattle.spv_program.specs.Expressions.{Expression, Designator}
 use Rattle.spv_program.specs.Statements.{Assign}
 use Rattle.spv_program.specs.Programs.{Routine, Program, routine_in}
 use Rattle.spv_program.specs.FormulaTypes.{is_sort, same_sort}
+use Rattle.spv_program.specs.Typing.{statement_ok}
 use Rattle.spv_program.specs.ExpressionTypes.{expression_sort, designator_type, may_write, sort_of_type}
 use Rattle.spv_program.proofs.SortFacts.{is_sort-true}
 use Rattle.spv_control.specs.Blocks.{is_whole, calls_nothing}
 use Rattle.spv_flow_parts.specs.Standing.{IsValue, IsVariable}
-use Rattle.spv_flow_leaves.specs.Rules.{IsRight}
+use Rattle.spv_plain_leaves.specs.Plain.{takes_leaf}
 
 module _ (p : Program) (here : Option RoutineId) where
   abbrev r : Option Routine
@@ -29,15 +30,18 @@ module _ (p : Program) (here : Option RoutineId) where
   types_same None u h = absurd (false≢true h)
   types_same (Some s) u h = sym (is_sort-true s u h)
 
-  module _ (d : Designator) (e : Expression) (h : IsRight p here (Assign d e)) where
+  module _ (d : Designator) (e : Expression) (h : takes_leaf p here (Assign d e) ≡ true) where
     pub assign_calls : calls_nothing e ≡ true
-    assign_calls = right_true (is_whole d) _ h.control
+    assign_calls = left_true (calls_nothing e) _ (right_true (is_whole d) _ h)
 
     pub assign_whole : is_whole d ≡ true
-    assign_whole = left_true (is_whole d) _ h.control
+    assign_whole = left_true (is_whole d) _ h
+
+    assign_typed : statement_ok p r (Assign d e) ≡ true
+    assign_typed = right_true (calls_nothing e) _ (right_true (is_whole d) _ h)
 
     assign_same : same_sort (sort_of_type p (designator_type p r d)) (expression_sort p r e) ≡ true
-    assign_same = right_true (may_write r d) _ h.typed
+    assign_same = right_true (may_write r d) _ assign_typed
 
     pub assign_sorts : sort_of_type p (designator_type p r d) ≡ expression_sort p r e
     assign_sorts = types_same (sort_of_type p (designator_type p r d)) (expression_sort p r e) assign_same

@@ -1,9 +1,7 @@
--- The conditions before assignments and ASSERTs.
-use Rattle.std.proofs.Common.{◌≡◌, ◌+◌, ℕ, true, List, [], ◌∷◌, ◌++◌, length, Ok, Err, IfOk, IsErrAnd, Option, Some, refl, sym, ap, subst, ◌∙◌}
+-- The conditions before assignments.
+use Rattle.std.proofs.Common.{◌≡◌, true, List, [], ◌∷◌, Ok, Err, IsErrAnd, Option, Some, refl, sym, ap, subst, ◌∙◌}
 use Rattle.std.proofs.lemmas.Bool.{false≢true}
-use Rattle.std.proofs.lemmas.List.{length-map}
 use Rattle.spv_names.specs.declared.names.Symbol.{Symbol}
-use Rattle.spv_logic.specs.declared.conditions.Kind.TheVariants as kind
 use Rattle.spv_logic.specs.declared.conditions.TermId.{TermId}
 use Rattle.spv_logic.specs.declared.conditions.RoutineId.{RoutineId}
 use Rattle.spv_logic.specs.declared.operators.Head.{Head}
@@ -16,11 +14,10 @@ use Rattle.spv_term.proofs.ArenaLemmas.{Extends-refl, Extends-trans, sort_at-Ext
 use Rattle.spv_substitution.specs.Images.{ArePairs, head_at, head_of}
 use Rattle.spv_program.specs.declared.types.Item.TheVariants.{Variable}
 use Rattle.spv_program.specs.Expressions.{Expression, Designator, designator, no_selectors, at_index, at_field, at_cell}
-use Rattle.spv_program.specs.Formulas.{Annotation}
-use Rattle.spv_program.specs.Statements.{Assign, Assert}
+use Rattle.spv_program.specs.Statements.{Assign}
 use Rattle.spv_program.specs.Programs.{Program, routine_in}
 use Rattle.spv_program.specs.Supplies.{Supply}
-use Rattle.spv_program.specs.Terms.{alone, body_term, item_head}
+use Rattle.spv_program.specs.Terms.{alone, item_head}
 use Rattle.spv_program.specs.ExpressionTypes.{expression_sort, designator_type, sort_of_type}
 use Rattle.spv_program.specs.ExpressionTerms.{Valued}
 use Rattle.spv_program.proofs.SortFacts.{some_is}
@@ -29,18 +26,17 @@ use Rattle.spv_supply.specs.Numbers.{AreThere}
 use Rattle.spv_supply.proofs.FreshLemmas.{AreThere-Extends}
 use Rattle.spv_assign.specs.Conditions.{conditions_of, pairs_of, AreIn, all_terms_in}
 use Rattle.spv_control.specs.Blocks.{is_whole, calls_nothing}
-use Rattle.spv_meaning.specs.Before.{Made, before, before_calls, replaced, wanted, assuming, all_assuming}
+use Rattle.spv_meaning.specs.Before.{Made, before_calls, replaced}
 use Rattle.spv_events.specs.declared.faults.GenFault.{GenFault}
-use Rattle.spv_events.specs.Events.{Event, Walked, Stops, Answers}
-use Rattle.spv_events.specs.StatementEvents.{one, several, counted, in_order, replacing_events}
+use Rattle.spv_events.specs.Events.{Event, Walked, Stops}
+use Rattle.spv_events.specs.StatementEvents.{one, several, in_order, replacing_events}
 use Rattle.spv_events.proofs.Walks.{nothing_walked, adds_nothing}
 use Rattle.spv_flow_steps.specs.Makes.{IsTerm}
 use Rattle.spv_flow_parts.specs.Standing.{value_of, variable_of}
-use Rattle.spv_flow_parts.specs.Walks.{AreThese, Listed, Comes, ComesTo, MakesTerm, made_of, wanted_item}
+use Rattle.spv_flow_parts.specs.Walks.{Listed, Comes, ComesTo, MakesTerm, made_of}
 use Rattle.spv_flow_parts.proofs.Steps.{went, comes_last, exit, AreThese-Extends, IsTerm-Extends}
-use Rattle.spv_flow_parts.proofs.Conditions.{joined_comes, wanted_these, long_conditions}
 use Rattle.spv_flow_parts.proofs.Terms.{no_calls}
-use Rattle.spv_flow_leaves.specs.Rules.{Walks}
+use Rattle.spv_plain_leaves.specs.Plain.{Walks}
 use Rattle.spv_flow_leaves.proofs.Chains.{made_with}
 
 -- terms that are there need no step
@@ -159,30 +155,3 @@ module _ (p : Program) (here : Option RoutineId) (d : Designator) (e : Expressio
           assign_walks p here e q0 d whole calls r
           (comes_last r goal n (one (alone h) ∷ one v ∷ []) last w2
           (comes_last r goal n (several (alone h ∷ v ∷ []) ∷ []) (several (all_terms_in (assigned p here e q0 d))) (went [] (several (alone h ∷ v ∷ [])) (nothing_walked a2) pair) c2))
-
--- ---- ASSERT
-
-module _ (p : Program) (here : Option RoutineId) (f : Annotation) (rest : List Condition) (n : Supply) (a0 : Arena) (within : AreIn a0 rest) (numbers : AreThere a0 n) where
-  abbrev x : Term
-  x = body_term p (routine_in p here) f
-
-  abbrev start : Made
-  start = made_of a0 rest n
-
-  pub assert_stops : (r : Listed) (g : GenFault) (a1 : Arena) → IsErrAnd r (λ y. y ≡ g) → MakesTerm (Err g) x a0 a1 → Walks r p here (Assert f) start a0 a1 n
-  assert_stops r g a1 is made = exit r g (before p here (Assert f) start) n [] (one x) (counted (1 + length start.conditions) ∷ []) is (nothing_walked a0) made.grows made.walk
-
-  pub assert_comes : (r : Listed) (a1 : Arena) (t : TermId) (under first : List Condition) (line : ℕ) → MakesTerm (Ok t) x a0 a1 → AreThese a1 under (all_assuming (tree a1 t) (conditions_of a1 rest))
-      → first ≡ wanted_item here kind.Assert t line ∷ [] → line ≡ f.line → IfOk r (λ all. all.items ≡ first ++ under) → Answers r (counted (length first + length under)) a1 a1
-      → Walks r p here (Assert f) start a0 a1 n
-  assert_comes r a1 t under first line made these first_is line_is joined answers =
-      let term = made.term.is_tree in
-      let rest_is : conditions_of a1 rest ≡ conditions_of a0 rest = (AreThese-Extends rest (conditions_of a0 rest) made.grows (record { same = refl; in_range = within })).same in
-      let under_these : AreThese a1 under (all_assuming x (conditions_of a0 rest)) = record { same = these.same ∙ (λ i. all_assuming (term i) (rest_is i)); in_range = these.in_range } in
-      let first_these : AreThese a1 first (wanted here kind.Assert f.line x ∷ []) = wanted_these a1 p here kind.Assert t line f first first_is line_is made.term in
-      let long : length under ≡ length (conditions_of a0 rest) =
-      sym (long_conditions a1 under) ∙ ap (λ (l : List logic.Condition). length l) under_these.same ∙ length-map (conditions_of a0 rest) (assuming x) in
-      let first_long : length first ≡ 1 = ap (λ (l : List Condition). length l) first_is in
-      let h = joined_comes r first under (wanted here kind.Assert f.line x ∷ []) (all_assuming x (conditions_of a0 rest)) a1 joined answers first_these under_these n (AreThere-Extends a0 a1 n made.grows numbers) in
-      comes_last r (before p here (Assert f) start) n (one x ∷ []) (counted (1 + length start.conditions)) (went [] (one x) (nothing_walked a0) made.walk)
-      (subst (λ count. Comes r (before p here (Assert f) start) (counted count) a1 a1 n) (λ i. first_long i + long i) h)
