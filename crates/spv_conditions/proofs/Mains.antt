@@ -1,5 +1,5 @@
 -- The conditions of a main block, step by step.
-use Rattle.std.proofs.Common.{◌≡◌, ℕ, ◌<◌, ◌≤◌, Bool, true, ◌&&◌, List, [], ◌∷◌, ◌++◌, Option, Some, None, option_map, Result, Ok, Err, IfOk, IfErr, IsErrAnd, IsTrue, Vec, refl, sym, ap, subst, ◌∙◌, arith}
+use Rattle.std.proofs.Common.{◌≡◌, ℕ, ◌<◌, ◌≤◌, true, ◌&&◌, List, [], ◌∷◌, Option, None, option_map, Ok, Err, IfOk, IfErr, IsErrAnd, Vec, refl, sym, ap, subst, ◌∙◌, arith}
 use Rattle.std.specs.List.{list_all}
 use Rattle.std.specs.Global.{Global}
 use Rattle.spv_list.proofs.Tests.{left_true, right_true}
@@ -10,7 +10,7 @@ use Rattle.spv_logic.specs.Conditions as logic
 use Rattle.spv_term.specs.declared.nodes.Condition.{Condition}
 use Rattle.spv_term.specs.Arena.{Arena, Extends, IsArena, tree}
 use Rattle.spv_term.proofs.ArenaLemmas.{Extends-trans}
-use Rattle.spv_program.specs.Programs.{Program, Routine, routine_in, shapes}
+use Rattle.spv_program.specs.Programs.{Program, Routine}
 use Rattle.spv_program.specs.Scopes.{body_scope}
 use Rattle.spv_program.specs.Formulas.{Annotation}
 use Rattle.spv_program.specs.Statements.{Statement}
@@ -19,29 +19,29 @@ use Rattle.spv_program.specs.Typing.{well_typed, declarations_ok, routine_ok, st
 use Rattle.spv_program.specs.Supplies.{Supply, full_supply}
 use Rattle.spv_supply.specs.Numbers.{AreThere}
 use Rattle.spv_assign.specs.Conditions.{conditions_of, AreIn}
-use Rattle.spv_meaning.specs.Before.{Made, before, annotation_term, wanted_if_there, assuming_if_there}
+use Rattle.spv_meaning.specs.Before.{before, annotation_term, wanted_if_there, assuming_if_there}
 use Rattle.spv_meaning.specs.Assignments.{has_no_routines}
 use Rattle.spv_meaning.specs.ProgramConditions as whole
 use Rattle.spv_meaning.specs.ProgramConditions.{main_conditions}
 use Rattle.spv_control.specs.Blocks.{is_control, only_control}
 use Rattle.spv_events.specs.declared.faults.GenFault.{GenFault}
 use Rattle.spv_events.specs.declared.faults.GenFault.TheVariants as fault
-use Rattle.spv_events.specs.Events.{Event, Walked, Stops, Answers}
+use Rattle.spv_events.specs.Events.{Event, Walked, Stops}
 use Rattle.spv_events.specs.StatementEvents.{events, in_order, one_if_there}
 use Rattle.spv_events.proofs.Walks.{nothing_walked}
 use Rattle.spv_flow_steps.proofs.Limits.{same_stop}
 use Rattle.spv_flow_parts.specs.declared.bodies.Body.{Body}
 use Rattle.spv_flow_parts.specs.Standing.{AreNotes, IsBody, Stands}
-use Rattle.spv_flow_parts.specs.Walks.{AreThese, IsMade, IsNoted, IsThere, Listed, Comes, made_of}
+use Rattle.spv_flow_parts.specs.Walks.{AreThese, IsNoted, IsThere, Listed, Comes, made_of}
 use Rattle.spv_flow_parts.proofs.Steps.{went, stopped_at}
-use Rattle.spv_flow_parts.proofs.LoopLemmas.{IsNoted-Extends, note_there, note_term}
+use Rattle.spv_flow_parts.proofs.LoopLemmas.{note_there, note_term}
 use Rattle.spv_flow_parts.proofs.Steps.{AreThese-Extends}
 use Rattle.spv_flow_rules.specs.Events.{events_by}
 use Rattle.spv_plain_leaves.specs.Plain.{IsRight, Walks, plain_making, plain_taking}
 use Rattle.spv_plain_leaves.proofs.Taken.{right_taken}
 use Rattle.spv_plain_leaves.proofs.Same.{same_events}
 use Rattle.spv_flow_leaves.specs.Parts.{IsTaken}
-use Rattle.spv_conditions.specs.Making.{behind, behind_main, empty_arena, main_parts, main_events, MakesBlock, MakesMain, MeetsLimit, IsLimit}
+use Rattle.spv_conditions.specs.Making.{behind, behind_main, empty_arena, main_events, MakesBlock, MakesMain, IsLimit}
 
 -- ---- what is right
 

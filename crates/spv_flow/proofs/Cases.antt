@@ -16,7 +16,6 @@ use Rattle.spv_program.specs.Supplies.{Supply}
 use Rattle.spv_program.specs.ExpressionTypes.{expression_sort}
 use Rattle.spv_program.specs.ExpressionTerms.{Valued, valued}
 use Rattle.spv_supply.specs.Numbers.{AreThere}
-use Rattle.spv_supply.proofs.FreshLemmas.{AreThere-Extends}
 use Rattle.spv_assign.specs.Conditions.{conditions_of, AreIn}
 use Rattle.spv_assign.proofs.Growing.{AreIn-Extends, conditions_of-Extends}
 use Rattle.spv_typed.specs.declared.statements.Arm.{Arm}

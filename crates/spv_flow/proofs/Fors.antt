@@ -1,5 +1,5 @@
 -- The conditions before a FOR.
-use Rattle.std.proofs.Common.{◌≡◌, ℕ, List, [], ◌∷◌, ◌++◌, Ok, Err, IsErrAnd, Option, Vec, Global, refl, sym, ap, subst, ◌∙◌}
+use Rattle.std.proofs.Common.{◌≡◌, ℕ, List, [], ◌∷◌, ◌++◌, Ok, Err, IsErrAnd, Option, Vec, Global, sym, ap, subst, ◌∙◌}
 use Rattle.spv_logic.specs.declared.conditions.Kind.TheVariants as kind
 use Rattle.spv_logic.specs.declared.conditions.RoutineId.{RoutineId}
 use Rattle.spv_logic.specs.declared.operators.Head.{Head}
@@ -10,9 +10,8 @@ use Rattle.spv_term.proofs.ArenaLemmas.{Extends-trans}
 use Rattle.spv_program.specs.Formulas.{Annotation}
 use Rattle.spv_program.specs.Statements.{Counting, Statement, For}
 use Rattle.spv_program.specs.Programs.{Program, routine_in}
-use Rattle.spv_program.specs.declared.types.Item.TheVariants.{Variable}
 use Rattle.spv_program.specs.Supplies.{Supply}
-use Rattle.spv_program.specs.Terms.{alone, item_head}
+use Rattle.spv_program.specs.Terms.{alone}
 use Rattle.spv_program.specs.ExpressionTerms.{Valued, valued}
 use Rattle.spv_supply.specs.Numbers.{AreThere}
 use Rattle.spv_assign.specs.Conditions.{conditions_of, AreIn, all_terms_in}

@@ -12,7 +12,6 @@ use Rattle.spv_program.specs.Programs.{Program, routine_in}
 use Rattle.spv_program.specs.Supplies.{Supply}
 use Rattle.spv_program.specs.ExpressionTypes.{expression_sort}
 use Rattle.spv_program.specs.ExpressionTerms.{Valued, valued}
-use Rattle.spv_supply.proofs.FreshLemmas.{AreThere-Extends}
 use Rattle.spv_assign.specs.Conditions.{conditions_of, AreIn}
 use Rattle.spv_meaning.specs.Before.{Made, before}
 use Rattle.spv_events.specs.declared.faults.GenFault.{GenFault}

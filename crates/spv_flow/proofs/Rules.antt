@@ -1,5 +1,5 @@
 -- The rules of statements whose parts are taken are right.
-use Rattle.std.proofs.Common.{◌≡◌, ℕ, true, None, sym, subst}
+use Rattle.std.proofs.Common.{◌≡◌, ℕ, true, sym, subst}
 use Rattle.spv_logic.specs.Conditions.{Meaning}
 use Rattle.spv_logic.specs.Shapes.{shapes_ok}
 use Rattle.spv_program.specs.Programs.{Program, shapes}

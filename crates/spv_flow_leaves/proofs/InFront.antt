@@ -13,13 +13,13 @@ use Rattle.spv_program.specs.Supplies.{Supply, full_supply}
 use Rattle.spv_program.specs.ExpressionTerms.{Called}
 use Rattle.spv_supply.specs.Numbers.{AreThere}
 use Rattle.spv_assign.specs.Conditions.{Assumes}
-use Rattle.spv_meaning.specs.Before.{Made, assuming, assuming_if_there, before_calls, wanted, wanted_entry}
+use Rattle.spv_meaning.specs.Before.{assuming, assuming_if_there, before_calls, wanted, wanted_entry}
 use Rattle.spv_events.specs.declared.faults.GenFault.{GenFault}
 use Rattle.spv_events.specs.declared.faults.GenFault.TheVariants as fault
 use Rattle.spv_events.specs.Events.{Event, Answers, Stops, Walked}
 use Rattle.spv_events.specs.StatementEvents.{counted}
 use Rattle.spv_events.proofs.Walks.{nothing_walked, walked_behind, stopped_first, stopped_behind}
-use Rattle.spv_flow_parts.specs.Walks.{AreThese, IsMade, wanted_item, Listed, Comes, ComesTo}
+use Rattle.spv_flow_parts.specs.Walks.{AreThese, wanted_item, Listed, Comes, ComesTo}
 use Rattle.spv_flow_parts.proofs.Steps.{comes_not, comes_never, IsTerm-Extends}
 use Rattle.spv_flow_parts.proofs.Conditions.{joined_comes, long_conditions, under_term}
 use Rattle.spv_flow_leaves.specs.declared.valued.Called as code

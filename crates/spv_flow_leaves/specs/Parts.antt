@@ -1,10 +1,9 @@
 -- What a walk over statements leaves to others: assignments, NEW and calls, and expressions with the calls in them.
 use Rattle.std.specs.Prelude.{Bool, List, Option, IsTrue}
 use Rattle.spv_logic.specs.declared.conditions.RoutineId.{RoutineId}
-use Rattle.spv_logic.specs.declared.types.Sort.{Sort}
 use Rattle.spv_logic.specs.declared.types.Sort.TheVariants as sort
 use Rattle.spv_program.specs.Expressions.{Expression}
-use Rattle.spv_program.specs.Statements.{Counting, Statement}
+use Rattle.spv_program.specs.Statements.{Statement}
 use Rattle.spv_program.specs.Programs.{Program, routine_in}
 use Rattle.spv_program.specs.Supplies.{Supply}
 use Rattle.spv_program.specs.FormulaTypes.{is_sort}

@@ -9,15 +9,14 @@ use Rattle.spv_logic.specs.Terms.{Term}
 use Rattle.spv_logic.specs.Conditions as logic
 use Rattle.spv_term.specs.declared.nodes.Condition.{Condition}
 use Rattle.spv_term.specs.Arena.{Arena, Extends, tree, sort_at}
-use Rattle.spv_term.proofs.ArenaLemmas.{Extends-trans, sort_at-Extends}
+use Rattle.spv_term.proofs.ArenaLemmas.{Extends-trans}
 use Rattle.spv_program.specs.Expressions.{Expression}
 use Rattle.spv_program.specs.Formulas.{Annotation}
 use Rattle.spv_program.specs.Programs.{Program, routine_in}
 use Rattle.spv_program.specs.Supplies.{Supply}
 use Rattle.spv_program.specs.ExpressionTypes.{expression_sort}
-use Rattle.spv_program.specs.ExpressionTerms.{Called, Valued}
+use Rattle.spv_program.specs.ExpressionTerms.{Valued}
 use Rattle.spv_program.proofs.SortFacts.{some_is}
-use Rattle.spv_supply.specs.Numbers.{AreThere}
 use Rattle.spv_supply.proofs.FreshLemmas.{AreThere-Extends}
 use Rattle.spv_assign.specs.Conditions.{conditions_of, AreIn}
 use Rattle.spv_meaning.specs.Before.{before_calls, negated, annotation_term, wanted_if_there}
@@ -26,10 +25,9 @@ use Rattle.spv_events.specs.declared.faults.GenFault.TheVariants as fault
 use Rattle.spv_events.specs.Events.{Event, Walked, Stops}
 use Rattle.spv_events.specs.StatementEvents.{one, one_if_there, counted, in_order}
 use Rattle.spv_events.proofs.Walks.{nothing_walked}
-use Rattle.spv_flow_steps.specs.Makes.{IsTerm}
 use Rattle.spv_flow_steps.proofs.Limits.{same_stop}
 use Rattle.spv_flow_parts.specs.Walks.{AreThese, IsNoted, Listed, Comes, ComesTo}
-use Rattle.spv_flow_parts.proofs.Steps.{went, went_on, stopped_at, stopped_among, stops_memory, IsTerm-Extends}
+use Rattle.spv_flow_parts.proofs.Steps.{went, went_on, stopped_at, stopped_among, stops_memory}
 use Rattle.spv_flow_parts.proofs.LoopLemmas.{IsNoted-Extends}
 use Rattle.spv_flow_leaves.specs.declared.valued.Valued as code
 use Rattle.spv_flow_leaves.specs.Parts.{Taking}

@@ -1,9 +1,8 @@
-use Rattle.std.proofs.Common.{◌≡◌, List, Option, option_map, IfOk, sym, ap, subst}
-use Rattle.spv_logic.specs.declared.conditions.Kind.TheVariants as kind
+use Rattle.std.proofs.Common.{◌≡◌, List, option_map, IfOk, ap, subst}
 use Rattle.spv_term.specs.declared.nodes.Condition.{Condition}
 use Rattle.spv_term.specs.Arena.{tree}
 use Rattle.spv_assign.specs.Conditions.{AreIn, conditions_of}
-use Rattle.spv_meaning.specs.Before.{wanted_if_there, assuming_if_there}
+use Rattle.spv_meaning.specs.Before.{assuming_if_there}
 use Rattle.spv_flow_parts.specs.Walks.{AreThese}
 use Rattle.spv_program.specs.Programs.{Program}
 use Rattle.spv_typed.specs.FormulaViews.{annotation_of}

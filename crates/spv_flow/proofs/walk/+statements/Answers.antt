@@ -1,4 +1,4 @@
-use Rattle.std.proofs.Common.{rules, ◌<◌, ◌+◌, ◌*◌, ◌-◌, [], ◌∷◌, drop, option_map, arith, subst, sym, refl, ap, ◌∙◌, Ok, Err}
+use Rattle.std.proofs.Common.{rules, ◌<◌, ◌+◌, ◌*◌, ◌-◌, [], ◌∷◌, drop, option_map, arith, subst, sym, refl, ap, Ok, Err}
 use Rattle.spv_typed.specs.FormulaViews.{annotation_of}
 use Rattle.spv_typed.specs.StatementViews.{arms_of, counting_of, block_of}
 use Rattle.spv_supply.specs.Numbers.{supply_of}
