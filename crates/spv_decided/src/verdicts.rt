@@ -35,7 +35,7 @@ pub enum Limit {
 /// What shows that a condition does not follow.
 #[derive(Debug, Drop)]
 pub struct Unproved {
-    /// Each atom of the condition, with its truth in the table.
+    /// The atoms of the condition, and which of them the table makes true.
     pub branch: List<(TermId, bool)>,
     /// A table in which each hypothesis is true and the goal is false.
     pub table: Table,
