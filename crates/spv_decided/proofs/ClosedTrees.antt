@@ -1,5 +1,5 @@
 -- A tree whose paths are all closed is an accepted proof.
-use Rattle.std.proofs.Common.{◌≡◌, ℕ, suc, Bool, true, ◌&&◌, List, [], ◌∷◌, ◌++◌, map, take, drop, length, refl, sym, ap, ◌∙◌, subst, Some, None, arith}
+use Rattle.std.proofs.Common.{◌≡◌, ℕ, suc, Bool, true, ◌&&◌, List, [], ◌∷◌, ◌++◌, map, take, drop, length, refl, sym, ap, ◌∙◌, subst, None, arith}
 use Rattle.std.specs.Prelude.{nat_eq, ⊤}
 use Rattle.std.specs.Cmp.Derive.{both_true}
 use Rattle.std.proofs.lemmas.Bool.{false≢true}
@@ -10,13 +10,11 @@ use Rattle.spv_logic.specs.declared.conditions.TermId.{TermId}
 use Rattle.spv_logic.specs.Terms.{Term}
 use Rattle.spv_atoms.specs.declared.proofs.Step.{Step}
 use Rattle.spv_atoms.specs.declared.proofs.ProofNode.{ProofNode}
-use Rattle.spv_atoms.specs.declared.proofs.Split.{Split}
 use Rattle.spv_atoms.specs.Atoms.{is_atom}
 use Rattle.spv_atoms.specs.Shape as shape
 use Rattle.spv_proof.specs.Effects.{Question, is_truth}
 use Rattle.spv_proof.specs.Accepted as accepted
 use Rattle.spv_proof.specs.Accepted.{Path, accepts, after_node, cases_of, closes, on_opened, opened_if, walk}
-use Rattle.spv_split_trees.specs.Trees as trees
 use Rattle.spv_split_trees.specs.Trees.{Tree}
 use Rattle.spv_decided.specs.declared.trees.SplitNode.{SplitNode}
 use Rattle.spv_decided.specs.declared.trees.SplitNode.TheVariants as node

@@ -1,5 +1,5 @@
 -- What was decided of a condition, as the definitions of verdicts speak of it.
-use Rattle.std.specs.Prelude.{◌≡◌, ◌<◌, Bool, List, [], ◌∷◌, map, length}
+use Rattle.std.specs.Prelude.{◌≡◌, Bool, List, [], ◌∷◌, map}
 use Rattle.spv_whole.specs.Fraction.{Fraction}
 use Rattle.spv_logic.specs.declared.conditions.TermId.{TermId}
 use Rattle.spv_logic.specs.Terms.{Term}

@@ -1,9 +1,8 @@
 -- The evidence of a check that was stopped, as that of a limit.
-use Rattle.std.proofs.Common.{◌≡◌, ℕ, zero, suc, ◌+◌, ◌<◌, Bool, true, false, List, [], ◌∷◌, map, length, refl, sym, ap, ◌∙◌, subst, Option, Some, None, arith, ℤ, pos, ◌++◌}
+use Rattle.std.proofs.Common.{◌≡◌, ℕ, zero, suc, ◌+◌, Bool, List, [], ◌∷◌, map, refl, sym, ap, ◌∙◌, subst, Option, Some, None, arith, ℤ, pos, ◌++◌}
 use mathlib.Core.Path.{ap₂}
 use Rattle.std.specs.Prelude.{slice_get, is_some}
 use Rattle.std.proofs.lemmas.Option.{same_Some}
-use Rattle.spv_rational.specs.Rational.{Rational}
 use Rattle.spv_logic.specs.declared.operators.Head.{Head}
 use Rattle.spv_logic.specs.declared.operators.Head.TheVariants.{Eq, Lt, Le}
 use Rattle.spv_logic.specs.Terms.{Term, Terms, term, terms, no_terms}
@@ -14,29 +13,26 @@ use Rattle.spv_atoms.specs.Linear.{IdForm}
 use Rattle.spv_atoms.specs.Order.{passing}
 use Rattle.spv_proof.specs.Stand.{question}
 use Rattle.spv_sums.specs.Readings.{number_in}
-use Rattle.spv_tableaux.specs.declared.side.Side.{Side}
 use Rattle.spv_tableaux.specs.declared.side.Side.TheVariants.{Lower, Upper}
-use Rattle.spv_tableaux.specs.Rows.{Rows, Point}
+use Rattle.spv_tableaux.specs.Rows.{Rows}
 use Rattle.spv_tableaux.specs.Bounds.{Bound, bound_on, AreBounds}
 use Rattle.spv_tableaux.specs.Forms.{rows_of}
-use Rattle.spv_tableaux.specs.Solved.{Places, basis_of}
+use Rattle.spv_tableaux.specs.Solved.{basis_of}
 use Rattle.spv_tableaux.specs.Walks.{held_at, HoldsBounds}
 use Rattle.spv_readings.specs.declared.saying.Saying.{Saying}
-use Rattle.spv_readings.specs.declared.saying.Saying.TheVariants.{Equal}
 use Rattle.spv_readings.specs.Sayings.{bounds_of}
 use Rattle.spv_readings.specs.Relations.{AreRowsOf, number_sides, relations, in_front}
 use Rattle.spv_simplex.specs.declared.checked.Checked.{Checked}
 use Rattle.spv_simplex.specs.declared.checked.Checked.TheVariants.{Wide, Pivots}
 use Rattle.spv_simplex.specs.Checks.{IsAmong}
-use Rattle.spv_simplex.specs.State.{State}
 use Rattle.spv_split_trees.specs.Paths.{atoms}
-use Rattle.spv_share_rows.specs.Forcing.{Halts, HasEvidence, too_wide, all_pivots}
+use Rattle.spv_share_rows.specs.Forcing.{Halts, too_wide, all_pivots}
 use Rattle.spv_share.specs.declared.both.Both.{Both}
 use Rattle.spv_share.specs.declared.relations.Related.{Related}
-use Rattle.spv_share.specs.Relations.{sides_in, sayable, row_bounds, AreAmong, AreRelationsAmong}
+use Rattle.spv_share.specs.Relations.{sides_in, sayable, row_bounds}
 use Rattle.spv_share.specs.Both.{IsBoth}
 use Rattle.spv_verdicts.specs.Verdicts.{HasWidePivot, HasAllPivots}
-use Rattle.spv_verdicts.specs.Rows.{head_of, relation_heads, readable, sayings, AreRead, AreRows, IsBegun, IsBoundIn, IsOneOf}
+use Rattle.spv_verdicts.specs.Rows.{head_of, relation_heads, readable, sayings, IsBegun, IsBoundIn, IsOneOf}
 use Rattle.spv_evidence.specs.Laws.{IsStoppedFor}
 use Rattle.spv_evidence.proofs.Orders.{bound_found}
 use Rattle.spv_evidence.proofs.Readable.{heads, heads_are, is_some_relation, readable_sayable, IsOfRow, of_row}

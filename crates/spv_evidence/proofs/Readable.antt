@@ -1,13 +1,12 @@
 -- What may be read of relations is what their literals say.
-use Rattle.std.proofs.Common.{◌≡◌, ℕ, zero, suc, ◌+◌, Bool, true, false, List, [], ◌∷◌, ◌++◌, map, refl, sym, ap, ◌∙◌, subst, Option, Some, None, arith, ℤ}
+use Rattle.std.proofs.Common.{◌≡◌, ℕ, zero, suc, ◌+◌, Bool, List, [], ◌∷◌, ◌++◌, map, refl, sym, ap, ◌∙◌, Option, Some, None, arith, ℤ}
 use mathlib.Core.Path.{ap₂}
-use Rattle.std.specs.Prelude.{slice_get, is_some, length}
+use Rattle.std.specs.Prelude.{slice_get, is_some}
 use Rattle.std.specs.List.{flat_map}
-use Rattle.std.proofs.lemmas.Bool.{cases_lt}
-use Rattle.std.proofs.lemmas.Option.{slice_get_within, same_Some}
+use Rattle.std.proofs.lemmas.Option.{same_Some}
 use Rattle.spv_logic.specs.declared.operators.Head.{Head}
 use Rattle.spv_logic.specs.declared.operators.Head.TheVariants.{Eq, Lt, Le}
-use Rattle.spv_logic.specs.Terms.{Term, term, terms, no_terms}
+use Rattle.spv_logic.specs.Terms.{Term}
 use Rattle.spv_term.specs.Arena.{Arena, tree}
 use Rattle.spv_atoms.specs.Atoms.{only_if}
 use Rattle.spv_atoms.specs.Linear.{IdForm}
@@ -17,7 +16,7 @@ use Rattle.spv_readings.specs.Sayings.{bounds_of, at_least, at_most}
 use Rattle.spv_readings.specs.Relations.{number_sides}
 use Rattle.spv_sums.specs.Readings.{number_in}
 use Rattle.spv_share.specs.declared.relations.Related.{Related}
-use Rattle.spv_share.specs.Relations.{AreRelations, AreRelationsAmong, IsRelation, is_relation, row_bounds, bounds_from, sayable}
+use Rattle.spv_share.specs.Relations.{AreRelationsAmong, row_bounds, bounds_from}
 use Rattle.spv_verdicts.specs.Rows.{head_of, head_in_front, relation_heads, sayings, readable}
 
 -- ---- heads

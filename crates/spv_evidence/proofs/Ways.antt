@@ -1,5 +1,5 @@
 -- Bounds of a row that leave it room are read in one way.
-use Rattle.std.proofs.Common.{◌≡◌, ℕ, zero, suc, Bool, true, false, cond, List, [], ◌∷◌, refl, sym, ap, ◌∙◌, subst, Option, Some, None, ℤ, pos, ◌+ℤ◌, neg_ℤ}
+use Rattle.std.proofs.Common.{◌≡◌, ℕ, zero, suc, Bool, true, false, cond, List, [], refl, sym, ap, ◌∙◌, subst, Option, Some, None, ℤ, pos, ◌+ℤ◌, neg_ℤ}
 use Rattle.std.specs.Prelude.{slice_get}
 use Rattle.std.proofs.lemmas.Option.{same_Some}
 use Rattle.spv_logic.specs.declared.operators.Head.{Head}

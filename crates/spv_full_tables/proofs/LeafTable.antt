@@ -1,10 +1,10 @@
 -- The table of both sides is that of a leaf.
-use Rattle.std.proofs.Common.{◌≡◌, ℕ, zero, suc, ◌+◌, ◌<◌, ◌≤◌, Bool, true, false, cond, List, [], ◌∷◌, ◌++◌, map, take, length, nat_eq, pos, refl, sym, ap, ◌∙◌, subst, Option, Some, None, arith, get_or}
+use Rattle.std.proofs.Common.{◌≡◌, ℕ, zero, suc, ◌+◌, ◌<◌, ◌≤◌, Bool, true, false, cond, List, [], ◌∷◌, ◌++◌, map, take, length, nat_eq, pos, refl, sym, ap, ◌∙◌, Some, arith}
 use mathlib.Core.Path.{ap₂}
-use Rattle.std.specs.Prelude.{slice_get, slice_index_or}
+use Rattle.std.specs.Prelude.{slice_get}
 use Rattle.std.specs.Option.{option_map}
 use Rattle.std.proofs.lemmas.Bool.Decides.{nat_tests}
-use Rattle.std.proofs.lemmas.List.{append-nil, map-append, take_more, length-map}
+use Rattle.std.proofs.lemmas.List.{append-nil, map-append, take_more}
 use Rattle.std.proofs.lemmas.Option.{slice_get-get_or, slice_get-map, same_Some, slice_get_within}
 use Rattle.spv_whole.specs.Fraction.{Fraction, whole}
 use Rattle.spv_rational.specs.Rational.{Rational}
@@ -22,9 +22,9 @@ use Rattle.spv_share.specs.declared.both.Both.{Both}
 use Rattle.spv_leaf_tables.specs.Subterms.{subterms, is_listed}
 use Rattle.spv_leaf_tables.specs.Leaves.{Leaf, truth_at}
 use Rattle.spv_leaf_tables.specs.Tables.{class_of, truth_number, number_at, table}
-use Rattle.spv_full_tables.specs.Firsts.{IsOneAt, IsFirstOne, AreFirsts}
+use Rattle.spv_full_tables.specs.Firsts.{IsFirstOne, AreFirsts}
 use Rattle.spv_full_tables.specs.Numbers.{number_of, with_value_if, id_at, flag_at, place_at, listed_to, IsFullTable}
-use Rattle.spv_full_tables.specs.Laws.{AreSubterms, IsOne, IsOther, IsLeafOf}
+use Rattle.spv_full_tables.specs.Laws.{AreSubterms, IsOne, IsLeafOf}
 
 abbrev ids_of : List TermId → List TermId
 ids_of ids = ids

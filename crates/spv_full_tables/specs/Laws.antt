@@ -1,11 +1,11 @@
 -- The table of both sides as that of a leaf of a search.
-use Rattle.std.specs.Prelude.{◌≡◌, ℕ, ◌<◌, Bool, true, false, List, map, nat_eq, Some, slice_get}
+use Rattle.std.specs.Prelude.{◌≡◌, ℕ, Bool, true, false, List, map, Some, slice_get}
 use Rattle.spv_whole.specs.Fraction.{Fraction}
 use Rattle.spv_logic.specs.declared.conditions.TermId.{TermId}
 use Rattle.spv_logic.specs.Terms.{Term}
 use Rattle.spv_term.specs.Arena.{Arena, tree}
 use Rattle.spv_atoms.specs.Atoms.{is_truth, is_number}
-use Rattle.spv_congruence.specs.Graph.{are_same, label_of}
+use Rattle.spv_congruence.specs.Graph.{are_same}
 use Rattle.spv_simplex.specs.State.{value_of}
 use Rattle.spv_table.specs.Values.{truth_value}
 use Rattle.spv_share.specs.declared.both.Both.{Both}

@@ -1,10 +1,8 @@
 -- A point that meets the bounds that stand makes all relations true that are known.
-use Rattle.std.proofs.Common.{◌≡◌, ◌⊎◌, ℕ, zero, suc, ◌<◌, Bool, true, false, cond, ◌&&◌, List, [], ◌∷◌, map, length, nat_eq, refl, sym, ap, ◌∙◌, subst, Option, Some, None, inl, inr, pos}
-use mathlib.Core.Path.{ap₂}
+use Rattle.std.proofs.Common.{◌≡◌, ℕ, zero, suc, ◌<◌, Bool, true, false, cond, ◌&&◌, List, [], ◌∷◌, map, get_or, nat_eq, refl, sym, ap, ◌∙◌, subst, Option, Some, None, inl, inr}
 use Rattle.std.specs.Prelude.{slice_get, is_some}
-use Rattle.std.specs.Option.{option_map}
 use Rattle.std.proofs.lemmas.Bool.{false≢true}
-use Rattle.std.proofs.lemmas.Option.{same_Some, slice_get-map}
+use Rattle.std.proofs.lemmas.Option.{same_Some, slice_get-get_or, slice_get_within}
 use Rattle.spv_rational.specs.Rational.{Rational}
 use Rattle.spv_list.proofs.Tests.{left_true, right_true}
 use Rattle.spv_logic.specs.declared.conditions.TermId.{TermId}
@@ -13,7 +11,7 @@ use Rattle.spv_logic.specs.declared.operators.Head.TheVariants.{Eq, Lt, Le, Not}
 use Rattle.spv_logic.specs.Formulas.{negation, equation, below}
 use Rattle.spv_logic.specs.Terms.{Term, Terms, term, no_terms, terms, term_eq}
 use Rattle.spv_term.specs.Arena.{Arena, IsArena, tree}
-use Rattle.spv_proof.specs.Sums.{Reading, reading, read_by, read_relation, read_false, read_true, read_if, comparison, pair, relate}
+use Rattle.spv_proof.specs.Sums.{Reading, reading, read_if}
 use Rattle.spv_readings.specs.declared.saying.Saying.{Saying}
 use Rattle.spv_readings.specs.declared.saying.Saying.TheVariants.{Equal, Below, AtMost, Above, AtLeast}
 use Rattle.spv_readings.specs.Sayings.{saying, literal}
@@ -33,7 +31,7 @@ use Rattle.spv_course.specs.declared.entries.Part.TheVariants as part
 use Rattle.spv_proof.specs.Stand.{question}
 use Rattle.spv_sums.specs.Readings.{number_in}
 use Rattle.spv_tableaux.specs.Rows.{Point, IsSolution}
-use Rattle.spv_tableaux.specs.Bounds.{Bound, limits, Meets}
+use Rattle.spv_tableaux.specs.Bounds.{limits, Meets}
 use Rattle.spv_readings.specs.Relations.{IsRowOf}
 use Rattle.spv_readings.specs.Values.{part_value}
 use Rattle.spv_row_reasons.specs.Told as told
@@ -47,10 +45,11 @@ use Rattle.spv_leaf_tables.proofs.Lookups.{has-passing}
 use Rattle.spv_leaf_tables.proofs.Points.{literal-met, above-met}
 use Rattle.spv_split_trees.specs.Paths.{atoms, questions, Known, Gives, member, negated, MeetsKnown}
 use Rattle.spv_share_rows.specs.Standing.{Stands}
-use Rattle.spv_share_rows.proofs.Trying.{form_at}
+use Rattle.spv_share_rows.proofs.Forms.{form_at}
 use Rattle.spv_share.specs.declared.both.Both.{Both}
 use Rattle.spv_share.specs.declared.relations.Related.{Related}
 use Rattle.spv_share.specs.declared.relations.Claim.{Claim}
+use Rattle.spv_share.specs.declared.relations.Noted.{Noted}
 use Rattle.spv_share.specs.Relations.{AreRelationsAmong, is_relation, find, claim, claim_of, said}
 use Rattle.spv_share.specs.Both as both
 use Rattle.spv_share.specs.Both.{IsBoth}
@@ -200,6 +199,9 @@ pub record HasStanding (a : Arena) (b : Both) (x y : Term) (s : Saying) : Type 0
   pub is_row : IsRowOf a (x, y) form
   pub stands : points.Stands b.standing.tableau.bounds row form s
 
+unclaimed : Noted
+unclaimed = record { claim = None; fact = 0 }
+
 module _ (a : Arena) (ok : IsArena a) (b : Both) (h : IsBoth a b) (agree : IsOpen b) (inside : AreInside a b) (c : Condition) (related : AreRelationsAmong a (atoms (question a c)) b.relations.items) where
   literal_stands : (q : Head) (x y : Term) (p : Part) (k : IsToldAs a b (term q (terms x (terms y no_terms))) p) (r : IsRelationAt a b.relations.items (term q (terms x (terms y no_terms)))) (s : Saying) → told.told q p ≡ Some s → HasStanding a b x y s
   literal_stands q x y p k r s says =
@@ -215,9 +217,11 @@ module _ (a : Arena) (ok : IsArena a) (b : Both) (h : IsBoth a b) (agree : IsOpe
       let form = form_at b.standing.tableau.forms f.place inside_rows in
       let claim_is : claim_of b.relations.items k.told_one ≡ Some (claim_with f.relation.row s) =
       ap (λ o. claim o k.told_one.part) f.found ∙ (ap (λ r. said f.relation.row (told.told f.relation.head r)) k.part_is ∙ (ap (λ z. said f.relation.row (told.told z p)) head ∙ ap (said f.relation.row) says)) in
-      let there : slice_get b.claims.items k.place ≡ Some (Some (claim_with f.relation.row s)) =
-      ap (λ cs. slice_get cs k.place) h.claims ∙ (slice_get-map (claim_of b.relations.items) (both.told b) k.place ∙ (ap (option_map (claim_of b.relations.items)) k.there ∙ ap Some claim_is)) in
-      let stands = agree.claims.each k.place (claim_with f.relation.row s) there in
+      let n = get_or b.claims.items k.place unclaimed in
+      let there : slice_get b.claims.items k.place ≡ Some n =
+      slice_get-get_or b.claims.items k.place unclaimed (subst (λ (m : ℕ). k.place < m) (sym h.claims.many) (slice_get_within (both.told b) k.place k.told_one k.there)) in
+      let noted = h.claims.each k.place k.told_one n k.there there in
+      let stands = agree.claims.each k.place n (claim_with f.relation.row s) there (noted.claim ∙ claim_is) in
       let row_is : f.relation.row ≡ f.place = h.sound.related.are.placed f.place f.relation f.there in
       record {
         row = f.place;

@@ -1,17 +1,15 @@
 -- Terms that are one tree or have equal labels are the same ones.
-use Rattle.std.proofs.Common.{◌≡◌, ℕ, zero, suc, Bool, true, false, ◌&&◌, ◌||◌, List, [], ◌∷◌, map, nat_eq, refl, sym, ap, ◌∙◌, subst, Some}
+use Rattle.std.proofs.Common.{◌≡◌, ℕ, zero, suc, true, ◌&&◌, List, [], ◌∷◌, nat_eq, refl, sym, ap, ◌∙◌, subst, Some}
 use mathlib.Core.Path.{ap₂}
 use Rattle.std.specs.Prelude.{slice_get}
 use Rattle.std.specs.Cmp.Derive.{both_true}
 use Rattle.std.proofs.lemmas.Bool.{false≢true, eqb-true, eq-eqb}
 use Rattle.spv_list.proofs.Tests.{left_true, right_true}
 use Rattle.spv_logic.specs.declared.conditions.TermId.{TermId}
-use Rattle.spv_logic.specs.declared.operators.Head.{Head}
 use Rattle.spv_logic.specs.Terms.{Term, Terms, term, no_terms, terms, term_eq}
 use Rattle.spv_logic.proofs.Equality.{term_eq-true, term_eq-refl}
 use Rattle.spv_term.specs.Arena.{Arena, IsArena, tree}
 use Rattle.spv_atoms.proofs.Members.{has, or_left, or_right, or_cases}
-use Rattle.spv_joined.specs.Laws.{Listed}
 use Rattle.spv_congruence.specs.Graph.{AreTerms, are_same, label_of}
 use Rattle.spv_congruence.specs.Keep.{IsNode}
 use Rattle.spv_congruence.specs.Told.{IsExact}
@@ -21,7 +19,7 @@ use Rattle.spv_leaf_tables.proofs.Labels.{label-tree, labels-same}
 use Rattle.spv_share.specs.declared.both.Both.{Both}
 use Rattle.spv_share.specs.Both.{IsBoth}
 use Rattle.spv_share_laws.specs.Pairs.{told_by}
-use Rattle.spv_share_laws.proofs.Exact.{labels_exact, listed_node, node_listed}
+use Rattle.spv_share_laws.proofs.Exact.{labels_exact, listed_node}
 use Rattle.spv_live_states.specs.States.{has_id, same_in}
 
 -- ---- ids and trees

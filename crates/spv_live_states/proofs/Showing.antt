@@ -1,18 +1,15 @@
 -- An open state shows that its path is live.
-use Rattle.std.proofs.Common.{◌≡◌, ℕ, Bool, true, false, ◌&&◌, ◌||◌, not, List, [], ◌∷◌, map, nat_eq, refl, sym, ap, ◌∙◌, subst, Option, Some, None}
+use Rattle.std.proofs.Common.{◌≡◌, Bool, true, false, ◌&&◌, ◌||◌, not, List, nat_eq, refl, sym, ap, ◌∙◌, Option, Some}
 use mathlib.Core.Path.{ap₂}
-use Rattle.std.specs.Prelude.{slice_get}
 use Rattle.std.specs.Cmp.Derive.{both_true}
 use Rattle.std.proofs.lemmas.Bool.{false≢true}
-use Rattle.spv_rational.specs.Rational.{Rational}
-use Rattle.spv_list.proofs.Tests.{left_true, right_true}
-use Rattle.spv_logic.specs.declared.conditions.TermId.{TermId}
+use Rattle.spv_list.proofs.Tests.{right_true}
 use Rattle.spv_logic.specs.declared.operators.Head.{Head}
 use Rattle.spv_logic.specs.declared.operators.Head.TheVariants.{Eq}
-use Rattle.spv_logic.specs.Formulas.{negation, equation, below}
+use Rattle.spv_logic.specs.Formulas.{equation, below}
 use Rattle.spv_logic.specs.Terms.{Term, Terms, term, no_terms, terms}
 use Rattle.spv_term.specs.declared.nodes.Condition.{Condition}
-use Rattle.spv_term.specs.Arena.{Arena, IsArena, tree}
+use Rattle.spv_term.specs.Arena.{Arena, tree}
 use Rattle.spv_atoms.specs.Atoms as atoms_of
 use Rattle.spv_atoms.proofs.Members.{has}
 use Rattle.spv_pivots.proofs.Algebra.{false_of}
@@ -23,7 +20,7 @@ use Rattle.spv_readings.specs.declared.saying.Saying.TheVariants.{Equal}
 use Rattle.spv_course.specs.Derived.{is_truth}
 use Rattle.spv_proof.specs.Stand.{question}
 use Rattle.spv_sums.specs.Readings.{number_in}
-use Rattle.spv_congruence.specs.Graph.{are_same, label_of}
+use Rattle.spv_congruence.specs.Graph.{are_same}
 use Rattle.spv_congruence.specs.Keep.{IsNode}
 use Rattle.spv_simplex.specs.State.{kept_point, rows_in}
 use Rattle.spv_leaf_tables.specs.Labels.{HasId}
@@ -31,20 +28,19 @@ use Rattle.spv_leaf_tables.specs.Leaves.{worth_at, is_met}
 use Rattle.spv_leaf_tables.specs.Subterms.{subterms}
 use Rattle.spv_leaf_tables.specs.Tables.{formulas_of}
 use Rattle.spv_leaf_tables.proofs.Covering.{atoms-are}
-use Rattle.spv_split_trees.specs.Paths.{atoms, questions, facts, Known, Gives, Told, member, negated, true_one, false_one, sides, MeetsKnown, IsLive}
+use Rattle.spv_split_trees.specs.Paths.{atoms, facts, Gives, Told, member, negated, true_one, false_one, sides, MeetsKnown, IsLive}
 use Rattle.spv_split_trees.specs.Shown.{HasOrder, IsEqualAt, ShowsLive}
 use Rattle.spv_split_trees.proofs.Finishing.{gives-least}
 use Rattle.spv_split_trees.proofs.Showing.{shown-live}
 use Rattle.spv_share.specs.declared.both.Both.{Both}
-use Rattle.spv_share.specs.declared.relations.Related.{Related}
 use Rattle.spv_share.specs.States.{is_equality, is_open}
 use Rattle.spv_share_laws.proofs.Exact.{node_listed}
 use Rattle.spv_share_laws.proofs.Graphs.{have_one_value}
-use Rattle.spv_live_states.specs.States.{same_in, IsToldAs, IsDenied}
-use Rattle.spv_live_states.specs.Laws.{IsApartAt, IsOpenState}
+use Rattle.spv_live_states.specs.States.{same_in}
+use Rattle.spv_live_states.specs.Laws.{IsOpenState}
 use Rattle.spv_live_states.proofs.Sameness.{joined_same, same_is, tree_label, sameness, IsSame, one, labelled}
 use Rattle.spv_live_states.proofs.Telling.{true_same, false_same, sides_same, sides_apart, truths_apart, numerals_one}
-use Rattle.spv_live_states.proofs.Meeting.{IsRelationAt, atom_asked, atom_relation, meets_known}
+use Rattle.spv_live_states.proofs.Meeting.{atom_asked, atom_relation, meets_known}
 
 module _ (a : Arena) (c : Condition) (b : Both) (cases : List Term) (value : Term → Option Bool) (s : IsOpenState a c b cases value) where
   abbrev fs : List Term

@@ -1,5 +1,5 @@
 -- What was told joins and separates.
-use Rattle.std.proofs.Common.{◌≡◌, ℕ, zero, suc, ◌<◌, Bool, true, false, cond, ◌&&◌, List, [], ◌∷◌, map, length, not, nat_eq, ℤ, refl, sym, ap, ◌∙◌, subst, Option, Some, None, inl, inr}
+use Rattle.std.proofs.Common.{◌≡◌, ℕ, ◌<◌, Bool, true, false, cond, ◌&&◌, List, [], ◌∷◌, length, not, nat_eq, ℤ, refl, sym, ap, ◌∙◌, Some, None, inl, inr}
 use mathlib.Core.Path.{ap₂}
 use Rattle.std.specs.Prelude.{slice_get}
 use Rattle.std.specs.Ordering.{int_eq}
@@ -14,21 +14,19 @@ use Rattle.spv_term.specs.declared.nodes.Node.{Node}
 use Rattle.spv_term.specs.Arena.{Arena, IsArena, tree, trees}
 use Rattle.spv_term.proofs.ArenaLemmas.{node_of, tree-node}
 use Rattle.spv_joined.specs.Joined as joined
-use Rattle.spv_congruence.specs.declared.facts.Fact.{Fact}
-use Rattle.spv_congruence.specs.Clashes.{Clashes, opposed}
-use Rattle.spv_congruence.specs.Graph.{AreTerms, are_same, HasNode, IsFact}
+use Rattle.spv_congruence.specs.Clashes.{opposed}
+use Rattle.spv_congruence.specs.Graph.{AreTerms, are_same, HasNode}
 use Rattle.spv_congruence.specs.Keep.{IsNode}
-use Rattle.spv_congruence.specs.Told.{IsExact, IsTold}
+use Rattle.spv_congruence.specs.Told.{IsExact}
 use Rattle.spv_course.specs.declared.entries.Part.{Part}
 use Rattle.spv_course.specs.declared.entries.Part.TheVariants as part
-use Rattle.spv_course.specs.Literals.{Literal}
-use Rattle.spv_course.specs.Sides.{Pair, node_sides, sides_under, two_of}
+use Rattle.spv_course.specs.Sides.{Pair, node_sides, sides_under}
 use Rattle.spv_course.specs.Derived.{is_truth}
 use Rattle.spv_pivots.proofs.Algebra.{false_of}
 use Rattle.spv_share_graph.specs.Holding.{HasNoClash}
-use Rattle.spv_share_graph.specs.Telling.{Tie, tie_of, literal_ties, equation_sides, unless_truths, value_tie, sides_tie}
+use Rattle.spv_share_graph.specs.Telling.{Tie, literal_ties, equation_sides, unless_truths, value_tie, sides_tie}
 use Rattle.spv_share.specs.declared.both.Both.{Both}
-use Rattle.spv_share.specs.Both.{IsBoth, told}
+use Rattle.spv_share.specs.Both.{IsBoth}
 use Rattle.spv_leaf_tables.specs.Labels.{HasId}
 use Rattle.spv_leaf_tables.specs.Leaves.{truth_term}
 use Rattle.spv_split_trees.specs.Paths.{numeral}

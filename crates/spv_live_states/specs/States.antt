@@ -4,11 +4,9 @@ use Rattle.spv_logic.specs.declared.conditions.TermId.{TermId}
 use Rattle.spv_logic.specs.declared.operators.Head.{Head}
 use Rattle.spv_logic.specs.Formulas.{equation, below}
 use Rattle.spv_logic.specs.Terms.{Term, term, no_terms, terms, term_eq}
-use Rattle.spv_term.specs.declared.nodes.Node.{Node}
-use Rattle.spv_term.specs.Arena.{Arena, IsArena, tree}
+use Rattle.spv_term.specs.Arena.{Arena, tree}
 use Rattle.spv_congruence.specs.declared.facts.Fact.{Fact}
-use Rattle.spv_congruence.specs.Graph.{AreTerms, label_of}
-use Rattle.spv_congruence.specs.Told.{IsExact}
+use Rattle.spv_congruence.specs.Graph.{label_of}
 use Rattle.spv_course.specs.declared.entries.Part.{Part}
 use Rattle.spv_course.specs.declared.entries.Part.TheVariants.{True, False, Below, Above}
 use Rattle.spv_course.specs.Literals.{Literal}
@@ -16,8 +14,7 @@ use Rattle.spv_proof.specs.Effects.{Question, is_number}
 use Rattle.spv_readings.specs.Sayings.{literal}
 use Rattle.spv_share_graph.specs.Telling.{Tie, tie_of, literal_ties}
 use Rattle.spv_share.specs.declared.both.Both.{Both}
-use Rattle.spv_share.specs.Both.{IsBoth, told}
-use Rattle.spv_share.specs.States.{IsOpen}
+use Rattle.spv_share.specs.Both.{told}
 use Rattle.spv_leaf_tables.specs.Labels.{HasId, same_labels}
 use Rattle.spv_leaf_tables.specs.Subterms.{is_among, subterms}
 use Rattle.spv_split_trees.specs.Paths.{atoms, questions, Known}

@@ -1,28 +1,25 @@
 -- Steps that close a path behind its cases.
-use Rattle.std.proofs.Common.{◌≡◌, ℕ, zero, suc, ◌+◌, ◌<◌, Bool, true, false, List, [], ◌∷◌, ◌++◌, map, length, fold, refl, sym, ap, ◌∙◌, subst, Option, Some, None, arith, inl, inr, ◌⊎◌}
+use Rattle.std.proofs.Common.{◌≡◌, ℕ, zero, suc, ◌+◌, ◌<◌, Bool, true, false, List, [], ◌∷◌, ◌++◌, length, fold, refl, sym, ap, ◌∙◌, subst, Option, Some, None, arith, inl, inr, ◌⊎◌}
 use Rattle.std.specs.Prelude.{slice_get, slice_index_or}
 use Rattle.std.proofs.lemmas.Bool.{cases_lt}
-use Rattle.std.proofs.lemmas.List.{append-nil, append_assoc, length_push, get_or_past}
+use Rattle.std.proofs.lemmas.List.{length_push, get_or_past}
 use Rattle.std.proofs.lemmas.Option.{slice_get_within, slice_get_past, get_or_from_slice_get, same_Some}
 use Rattle.spv_logic.specs.declared.conditions.TermId.{TermId}
 use Rattle.spv_logic.specs.Terms.{Term, term_eq}
 use Rattle.spv_logic.specs.Formulas.{equation}
-use Rattle.spv_logic.specs.Conditions.{Sequent}
-use Rattle.spv_term.specs.Arena.{Arena, tree}
 use Rattle.spv_term.proofs.ListLemmas.{slice_get-append_left, slice_get_push}
 use Rattle.spv_atoms.specs.declared.proofs.Relation.TheVariants.{AtMost, Equal}
 use Rattle.spv_atoms.specs.declared.proofs.Step.{Step}
 use Rattle.spv_atoms.specs.declared.proofs.Step.TheVariants as step
 use Rattle.spv_proof.specs.Effects.{Question, Effect, Adds, Ends, Fails, effect, numbered, adds_if, adds_known, cited, sides_of, exchanged, joined, congruent, evaluated, is_truth, stated}
 use Rattle.spv_proof.specs.Evaluation.{evaluates}
-use Rattle.spv_proof.specs.Accepted as accepted
 use Rattle.spv_proof.specs.Accepted.{Open, Closed, closed_if_last, on_effect, walk}
 use Rattle.spv_course.specs.declared.entries.Part.{Part}
 use Rattle.spv_course.specs.declared.entries.Entry.{Entry}
 use Rattle.spv_course.specs.declared.entries.Entry.TheVariants.{Told, Derived}
 use Rattle.spv_course.specs.Course.{added_by, literal}
 use Rattle.spv_course.specs.Renumbered.{Moves, renumbered}
-use Rattle.spv_course.specs.Steps.{Copied, outside, outside_of, with_entry, uncopied, copy_of, closing_steps_of}
+use Rattle.spv_course.specs.Steps.{Copied, outside_of, with_entry, uncopied, copy_of, closing_steps_of}
 use Rattle.spv_course.proofs.Renumbering.{of_cited, effect-renumbered}
 use Rattle.spv_course.proofs.Growth.{numbered-more, numbered-push}
 use Rattle.spv_paths.specs.Paths.{fact_in, facts_from, facts_in, Follow, AreCases, IsPath, EndsPath, IsClosing, as_entries}

@@ -1,12 +1,12 @@
 -- The atoms of formulas are subterms of them.
-use Rattle.std.proofs.Common.{◌≡◌, Bool, true, false, cond, ◌||◌, List, [], ◌∷◌, ◌++◌, refl, sym, ap, ◌∙◌}
+use Rattle.std.proofs.Common.{◌≡◌, Bool, true, false, cond, List, [], ◌∷◌, ◌++◌, refl, ap, ◌∙◌}
 use Rattle.std.proofs.lemmas.Bool.{false≢true}
 use Rattle.spv_logic.specs.declared.operators.Head.{Head}
 use Rattle.spv_logic.specs.Terms.{Term, Terms, term, no_terms, terms, term_eq}
-use Rattle.spv_logic.proofs.Equality.{term_eq-true, term_eq-refl}
+use Rattle.spv_logic.proofs.Equality.{term_eq-refl}
 use Rattle.spv_atoms.specs.Atoms.{is_atom, connects, only_if, atoms_in, atoms_in_all, with_term, with_terms, with_atoms}
 use Rattle.spv_atoms.specs.Tables.{all_truths}
-use Rattle.spv_atoms.proofs.Members.{has, or_left, or_right, or_cases, has-parts, has_one}
+use Rattle.spv_atoms.proofs.Members.{has, or_left, or_right, has-parts, has_one}
 use Rattle.spv_leaf_tables.proofs.Closed.{ArgumentsIn, with_term-parts}
 use Rattle.spv_verdicts.specs.Verdicts.{with_all_atoms}
 

@@ -1,31 +1,29 @@
 -- Formulas in a table, over plain variables.
-use Rattle.std.proofs.Common.{◌≡◌, ℕ, zero, suc, ◌<◌, Bool, true, false, ◌||◌, List, [], ◌∷◌, ◌++◌, map, length, refl, sym, ap, ◌∙◌, subst, Option, Some, arith}
+use Rattle.std.proofs.Common.{◌≡◌, ℕ, zero, suc, ◌<◌, Bool, true, false, List, [], ◌∷◌, map, length, refl, sym, ap, ◌∙◌, subst, Some}
 use Rattle.std.specs.Prelude.{slice_get, Result, Ok, Err, IsErrAnd, IfErr, is_some, not}
 use Rattle.std.proofs.lemmas.Bool.{false≢true}
 use Rattle.std.proofs.lemmas.Option.{same_Some}
 use Rattle.spv_whole.specs.Fraction.{Fraction}
 use Rattle.spv_logic.specs.declared.conditions.TermId.{TermId}
-use Rattle.spv_logic.specs.declared.operators.Head.{Head}
-use Rattle.spv_logic.specs.declared.types.Sort.{Sort}
-use Rattle.spv_logic.specs.Terms.{Term, Terms, term, term_eq}
+use Rattle.spv_logic.specs.Terms.{Term, term_eq}
 use Rattle.spv_logic.specs.Sorts.{term_sort}
 use Rattle.spv_logic.proofs.Equality.{term_eq-true, term_eq-refl}
 use Rattle.spv_term.specs.declared.nodes.Condition.{Condition}
-use Rattle.spv_term.specs.Arena.{Arena, IsArena, AllBelow, tree, sequent, sort_at}
+use Rattle.spv_term.specs.Arena.{Arena, IsArena, AllBelow, tree, sequent}
 use Rattle.spv_term.proofs.ArenaLemmas.{term_sort-tree}
 use Rattle.spv_term.proofs.TreeLemmas.{AllBelow-at}
 use Rattle.spv_atoms.specs.Atoms.{is_truth}
 use Rattle.spv_atoms.proofs.Members.{has, or_left, or_right, or_cases, has-parts, has-left, has-last, has_one}
 use Rattle.spv_table.specs.declared.operations.WideValue.{WideValue}
-use Rattle.spv_table.specs.Values.{Outcome, value, holding, holds}
+use Rattle.spv_table.specs.Values.{Outcome, holding, holds}
 use Rattle.spv_proof.specs.Stand.{question}
 use Rattle.spv_leaf_tables.specs.Subterms.{subterms}
 use Rattle.spv_leaf_tables.specs.Tables.{formulas_of}
 use Rattle.spv_leaf_tables.proofs.Closed.{subterms-has, subterms-closed}
-use Rattle.spv_verdicts.specs.Verdicts.{condition_atoms, with_all_atoms}
+use Rattle.spv_verdicts.specs.Verdicts.{condition_atoms}
 use Rattle.spv_surviving.specs.declared.faults.SurvivingFault.{SurvivingFault}
 use Rattle.spv_surviving.specs.declared.faults.SurvivingFault.TheVariants.{Wide, Memory}
-use Rattle.spv_surviving.specs.Surviving.{IsShown, IsBranch, ShowsFalse, IsFaultFor, IsFaultOf, IsFaultAmong, IsListedAt, AllHold, SomeFails, AreTruths}
+use Rattle.spv_surviving.specs.Surviving.{IsShown, IsBranch, IsFaultFor, IsFaultOf, IsFaultAmong, IsListedAt, AllHold, SomeFails, AreTruths}
 use Rattle.spv_surviving.proofs.AtomLemmas.{atoms_inside}
 
 -- a formula whose evaluation stops has no value
