@@ -54,7 +54,7 @@ fn is_correct_if_proved(report: &Report) {
     law_report(report, &PlainWorld);
 }
 
-// Whether a report holds the names and its EXIT on line 3 as a condition.
+// Whether a report holds the three names of its text, and its EXIT on line 3 as a condition.
 fn holds_its_parts(report: &Report) -> bool {
     let [condition] = report.conditions() else {
         return false;
@@ -64,7 +64,7 @@ fn holds_its_parts(report: &Report) -> bool {
     matches!(
         (origin.kind, origin.line, origin.routine),
         (Kind::Exit, 3, None)
-    ) && (given, report.names().len()) == (0, 2)
+    ) && (given, report.names().len()) == (0, 3)
 }
 
 #[test]
