@@ -1,0 +1,9 @@
+pub mod Filling
+pub mod Points
+pub mod Sorts
+pub mod Nodes
+pub mod StateLeaf
+pub mod Full
+pub mod Exactly
+pub mod Columns
+pub mod Wide

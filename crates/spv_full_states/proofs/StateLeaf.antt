@@ -1,0 +1,136 @@
+-- The leaf of a full state, and that its table is the state's.
+use Rattle.std.proofs.Common.{◌≡◌, ℕ, ◌<◌, Bool, true, false, not, List, map, nat_eq, length, refl, sym, ap, ◌∙◌, ◌⊎◌, inl, inr, Option, Some}
+use mathlib.Core.Path.{ap₂}
+use Rattle.std.specs.Prelude.{slice_get}
+use Rattle.std.proofs.lemmas.Bool.{false≢true}
+use Rattle.spv_whole.specs.Fraction.{Fraction}
+use Rattle.spv_logic.specs.declared.conditions.TermId.{TermId}
+use Rattle.spv_logic.specs.declared.types.Sort.{Sort}
+use Rattle.spv_logic.specs.declared.types.Sort.TheVariants as sort
+use Rattle.spv_logic.specs.Sorts.{term_sort}
+use Rattle.spv_logic.specs.Terms.{Term, term}
+use Rattle.spv_term.specs.declared.nodes.Condition.{Condition}
+use Rattle.spv_term.specs.Arena.{Arena, tree}
+use Rattle.spv_atoms.specs.Atoms.{has_sort, is_atom}
+use Rattle.spv_atoms.specs.Atoms as atoms_of
+use Rattle.spv_atoms.specs.Forms.{constant_values}
+use Rattle.spv_atoms.specs.Tables.{or_else, computed, all_truths}
+use Rattle.spv_atoms.proofs.Members.{has}
+use Rattle.spv_pivots.proofs.Algebra.{false_of}
+use Rattle.spv_proof.specs.Stand.{question}
+use Rattle.spv_course.specs.Derived.{is_number, is_truth}
+use Rattle.spv_congruence.specs.Graph.{are_same}
+use Rattle.spv_congruence.specs.Keep.{IsNode}
+use Rattle.spv_simplex.specs.State.{kept_point, value_of}
+use Rattle.spv_readings.specs.Values.{part_value}
+use Rattle.spv_table.specs.Values.{truth_value}
+use Rattle.spv_leaf_tables.specs.Leaves.{Leaf, IsLeaf, truth_term, truth_at}
+use Rattle.spv_leaf_tables.specs.Subterms.{subterms, is_listed, means}
+use Rattle.spv_leaf_tables.specs.Tables.{formulas_of, table, truth_number}
+use Rattle.spv_leaf_tables.proofs.Owns.{own-plain, own-open}
+use Rattle.spv_leaf_tables.proofs.TermKinds.{kind}
+use Rattle.spv_leaf_tables.proofs.Values.{atom-there, atom-asked, atom-given, plain-atom, the_sort, IsSome}
+use Rattle.spv_split_trees.specs.Paths.{atoms, facts, questions}
+use Rattle.spv_split_trees.specs.Shown.{ShowsLive}
+use Rattle.spv_share.specs.declared.both.Both.{Both}
+use Rattle.spv_full_tables.specs.Laws.{IsOne, IsOther, IsLeafOf}
+use Rattle.spv_full_tables.proofs.LeafTable.{table_is}
+use Rattle.spv_live_states.specs.States.{same_in}
+use Rattle.spv_live_states.proofs.Sameness.{joined_same, same_joined}
+use Rattle.spv_live_states.proofs.Showing.{open_shows}
+use Rattle.spv_full_states.specs.Filled.{on_questions, shown_leaf}
+use Rattle.spv_full_states.specs.States.{IsFullState, AreListed, IsTableOf}
+use Rattle.spv_full_states.proofs.Filling.{filled_leaf, truth_same}
+use Rattle.spv_full_states.proofs.Nodes.{not_true, id_there, id_inside, one_listed, other_unlisted, listed_nodes}
+use Rattle.spv_full_states.proofs.Points.{part_is}
+use Rattle.spv_full_states.proofs.Sorts.{one_sort, unlisted_sort}
+
+both_ways : (x y : Bool) → (x ≡ true → y ≡ true) → (y ≡ true → x ≡ true) → x ≡ y
+both_ways true y f g = sym (f refl)
+both_ways false true f g = g refl
+both_ways false false f g = refl
+
+abbrev pub leaf_in : (a : Arena) (c : Condition) (b : Both) (cases : List Term) (value : Term → Option Bool) → IsFullState a c b cases value → Leaf
+leaf_in a c b cases value s = shown_leaf (question a c) (facts (question a c) cases) (same_in a b) (open_shows a c b cases value s.opened) (on_questions (question a c) value)
+
+module _ (a : Arena) (c : Condition) (b : Both) (cases : List Term) (value : Term → Option Bool) (s : IsFullState a c b cases value) where
+  abbrev pub given : Term → Option Bool
+  given = on_questions (question a c) value
+
+  abbrev pub shows : ShowsLive (question a c) (facts (question a c) cases) (same_in a b)
+  shows = open_shows a c b cases value s.opened
+
+  abbrev pub leaf : Leaf
+  leaf = shown_leaf (question a c) (facts (question a c) cases) (same_in a b) (open_shows a c b cases value s.opened) (on_questions (question a c) value)
+
+  pub is_leaf : IsLeaf a.shapes a.decls (formulas_of (question a c).sequent) leaf
+  is_leaf = filled_leaf (question a c) (facts (question a c) cases) (same_in a b) shows given s.filled s.opened.formulas
+
+  -- two added ids are the same exactly where their trees are
+  same_ids : (x y : TermId) → IsNode b.trail.graph.nodes x → IsNode b.trail.graph.nodes y → same_in a b (tree a x) (tree a y) ≡ are_same b.trail.graph x y
+  same_ids x y m n =
+      both_ways (same_in a b (tree a x) (tree a y)) (are_same b.trail.graph x y)
+      (same_joined a s.opened.ok b s.opened.both s.opened.exact s.opened.terms_are x y m n) (joined_same a s.opened.ok b s.opened.both s.opened.exact s.opened.terms_are x y m n)
+
+  -- ---- truths
+
+  -- a listed term of sort Bool is an atom
+  listed_atom : (t : Term) → is_truth a t ≡ true → is_listed t ≡ true → is_atom (is_truth a) t ≡ true
+  listed_atom (term h ts) k e =
+      let own : means h (constant_values ts) ≡ false = not_true (means h (constant_values ts)) e in
+      plain-atom a.shapes a.decls (formulas_of (question a c).sequent) leaf is_leaf h ts k (own-plain h (constant_values ts) (all_truths (is_truth a) ts) own) (own-open h (constant_values ts) own)
+
+  -- what is the same as a truth value is the same as TRUE exactly where that is it
+  joined_truth : (x : TermId) → IsNode b.trail.graph.nodes x → (d : Bool) → same_in a b (tree a x) (truth_term d) ≡ true → are_same b.trail.graph x b.trail.truth ≡ d
+  joined_truth x n d e = sym (same_ids x b.trail.truth n s.opened.both.sound.trail.truth_node) ∙ (ap (same_in a b (tree a x)) s.opened.both.sound.trail.truth.is ∙ by_truth d e)
+    where
+      by_truth : (d : Bool) → same_in a b (tree a x) (truth_term d) ≡ true → same_in a b (tree a x) (truth_term true) ≡ d
+      by_truth true f = f
+      by_truth false f =
+          false_of (same_in a b (tree a x) (truth_term true))
+          (λ g. false≢true (sym shows.truths ∙ shows.sameness.through (truth_term true) (tree a x) (truth_term false) (shows.sameness.turned (tree a x) (truth_term true) g) f))
+
+  module _ (ids : List TermId) (flags : List Bool) (are : AreListed a c ids flags) where
+    node_of : (t : TermId) → IsOne ids flags t → IsNode b.trail.graph.nodes t
+    node_of t one = (listed_nodes a c b cases value s.opened ids flags are).each one.place t one.there one.flagged
+
+    subterm_of : (t : TermId) → IsOne ids flags t → has (subterms (formulas_of (question a c).sequent)) (tree a t) ≡ true
+    subterm_of t one = id_there a c ids flags are one.place t one.there
+
+    truth_is : (t : TermId) → IsOne ids flags t → is_truth a (tree a t) ≡ true → truth_number (truth_at (is_truth a) given (tree a t)) ≡ truth_value (are_same b.trail.graph t b.trail.truth)
+    truth_is t one k =
+        let fs = formulas_of (question a c).sequent in
+        let among : has (atoms (question a c)) (tree a t) ≡ true = atom-there a.shapes a.decls fs leaf is_leaf (tree a t) (subterm_of t one) (listed_atom (tree a t) k (one_listed a c ids flags are t one)) in
+        let asked : has (questions (question a c)) (tree a t) ≡ true = atom-asked a.shapes a.decls fs leaf is_leaf (tree a t) among in
+        let d = atom-given a.shapes a.decls fs leaf is_leaf (tree a t) among in
+        let same : same_in a b (tree a t) (truth_term d.item) ≡ true =
+        truth_same (question a c) (facts (question a c) cases) (same_in a b) shows given s.filled (tree a t) d.item asked (s.filled.known (tree a t) d.item d.is) in
+        ap (λ o. truth_number (or_else o (computed (is_truth a) given (tree a t)))) d.is ∙ ap truth_value (sym (joined_truth t (node_of t one) d.item same))
+    -- ---- other sorts
+
+    other_apart : (x t : TermId) → IsOther ids flags x → IsOne ids flags t → is_number a (tree a t) ≡ false → is_truth a (tree a t) ≡ false → same_in a b (tree a x) (tree a t) ≡ false
+    other_apart x t other one n k = false_of (same_in a b (tree a x) (tree a t)) (λ e. by_sort (unlisted_sort a.shapes a.decls (tree a x) sort_x.item (kind a.shapes a.decls (tree a x) sort_x.item sort_x.is) (other_unlisted a c ids flags are x other)) e)
+      where
+        sort_x : IsSome (term_sort a.shapes a.decls (tree a x))
+        sort_x = the_sort a.shapes a.decls (formulas_of (question a c).sequent) leaf is_leaf (tree a x) (id_there a c ids flags are other.place x other.there)
+
+        same_sort : same_in a b (tree a x) (tree a t) ≡ true → term_sort a.shapes a.decls (tree a t) ≡ Some sort_x.item
+        same_sort e = sym (one_sort a s.opened.ok b s.opened.both s.opened.exact s.opened.terms_are (tree a x) (tree a t) e) ∙ sort_x.is
+
+        by_sort : (sort_x.item ≡ sort.Int) ⊎ (sort_x.item ≡ sort.Bool) → same_in a b (tree a x) (tree a t) ≡ true → ⊥
+        by_sort (inl f) e = false≢true (sym n ∙ ap (has_sort sort.Int) (same_sort e ∙ ap Some f))
+        by_sort (inr f) e = false≢true (sym k ∙ ap (has_sort sort.Bool) (same_sort e ∙ ap Some f))
+
+    pub leaf_of_state : IsLeafOf a b ids flags leaf
+    leaf_of_state = record {
+      numbers = λ t one k. part_is a s.opened.ok t (id_inside a c ids flags are one.place t one.there) b.standing.tableau s.opened.both.sound.inside;
+      truths = truth_is;
+      classes = λ x y one other. same_ids x y (node_of x one) (node_of y other);
+      others = other_apart;
+    }
+
+-- the table of a full state is that of its leaf
+pub table_in : (a : Arena) (c : Condition) (b : Both) (cases : List Term) (value : Term → Option Bool) (values : List (TermId × Fraction)) → (h : IsTableOf a c b cases value values)
+    → map (λ (p : TermId × Fraction). (tree a p.0, p.1)) values ≡ table a.shapes a.decls (formulas_of (question a c).sequent) (leaf_in a c b cases value h.state)
+table_in a c b cases value values h =
+    table_is a b (formulas_of (question a c).sequent) h.ids h.flags (leaf_in a c b cases value h.state) values h.listed.subterms (leaf_of_state a c b cases value h.state h.ids h.flags h.listed) h.table

@@ -1,0 +1,18 @@
+use Rattle.spv_full_states.proofs.Full.{goal_fails, is_shown, none_fails, survives}
+use Rattle.spv_full_states.proofs.Nodes.{listed_nodes}
+use Rattle.spv_full_states.proofs.laws.law_full_state.Goals as goal
+
+pub returns-clause-nodes : goal.returns-clause-nodes
+returns-clause-nodes c = listed_nodes
+
+pub returns-clause-shown : goal.returns-clause-shown
+returns-clause-shown c = is_shown
+
+pub returns-clause-given : goal.returns-clause-given
+returns-clause-given c = none_fails
+
+pub returns-clause-goal : goal.returns-clause-goal
+returns-clause-goal c = goal_fails
+
+pub returns-clause-unproved : goal.returns-clause-unproved
+returns-clause-unproved c = survives

@@ -1,0 +1,38 @@
+-- A search's state that is open and full, and its table.
+use Rattle.std.specs.Prelude.{◌≡◌, ℕ, Bool, List, length, Option, Some, slice_get}
+use Rattle.spv_whole.specs.Fraction.{Fraction}
+use Rattle.spv_logic.specs.declared.conditions.TermId.{TermId}
+use Rattle.spv_logic.specs.Terms.{Term}
+use Rattle.spv_term.specs.declared.nodes.Condition.{Condition}
+use Rattle.spv_term.specs.Arena.{Arena, AllBelow}
+use Rattle.spv_atoms.specs.Linear.{IdForm, IsIdForm}
+use Rattle.spv_proof.specs.Stand.{question}
+use Rattle.spv_leaf_tables.specs.Tables.{formulas_of}
+use Rattle.spv_split_trees.specs.Paths.{facts}
+use Rattle.spv_share.specs.declared.both.Both.{Both}
+use Rattle.spv_full_tables.specs.Laws.{AreSubterms}
+use Rattle.spv_full_tables.specs.Numbers.{IsFullTable}
+use Rattle.spv_live_states.specs.Laws.{IsOpenState}
+use Rattle.spv_full_states.specs.Filled.{IsFilled, on_questions}
+
+-- both sides are open, and the values of the questions are known and fill the path
+pub record IsFullState (a : Arena) (c : Condition) (b : Both) (cases : List Term) (value : Term → Option Bool) : Type 0 where
+  pub opened : IsOpenState a c b cases value
+  pub filled : IsFilled (question a c) (facts (question a c) cases) (on_questions (question a c) value)
+
+-- these ids are the subterms of a condition, and flags say which of them a table lists
+pub record AreListed (a : Arena) (c : Condition) (ids : List TermId) (flags : List Bool) : Type 0 where
+  pub in_range : AllBelow (length a.nodes) ids
+  pub subterms : AreSubterms a (formulas_of (question a c).sequent) ids flags
+
+-- the table of a full state, over the subterms of the condition
+pub record IsTableOf (a : Arena) (c : Condition) (b : Both) (cases : List Term) (value : Term → Option Bool) (values : List (TermId × Fraction)) : Type 0 where
+  pub state : IsFullState a c b cases value
+  pub ids : List TermId
+  pub flags : List Bool
+  pub listed : AreListed a c ids flags
+  pub table : IsFullTable a b ids flags values
+
+-- the forms of rows are as forms over ids are kept: no part is multiplied by 0
+pub record AreIdForms (forms : List IdForm) : Type 0 where
+  pub each : (i : ℕ) (f : IdForm) → slice_get forms i ≡ Some f → IsIdForm f

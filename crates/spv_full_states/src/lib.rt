@@ -1,0 +1,9 @@
+//! Where a state of a search is open and each question has a value: its table falsifies the condition, or an operation in it is too wide.
+//! Theorems; there is no code.
+#![tactic(auto)]
+
+mod laws;
+
+pub use laws::law_filled_path;
+pub use laws::law_full_state;
+pub use laws::law_wide_value;
