@@ -6,7 +6,6 @@ use Rattle.std.proofs.lemmas.Bool.{false≢true}
 use Rattle.std.proofs.lemmas.List.Folds.{list_any-append}
 use Rattle.std.proofs.lemmas.Option.{same_Some}
 use Rattle.spv_logic.specs.declared.conditions.TermId.{TermId}
-use Rattle.spv_logic.specs.declared.operators.Head.{Head}
 use Rattle.spv_logic.specs.declared.operators.Head.TheVariants as head
 use Rattle.spv_logic.specs.declared.types.Sort.{Sort}
 use Rattle.spv_logic.specs.declared.types.Sort.TheVariants as sort
@@ -23,7 +22,6 @@ use Rattle.spv_atoms.specs.Order.{same_id, with_id}
 use Rattle.spv_atoms.proofs.Members.{has}
 use Rattle.spv_atoms.proofs.Walks.{term_eq-ids}
 use Rattle.spv_pivots.proofs.Sums.{eq_flip}
-use Rattle.spv_rational.specs.Rational.{Rational}
 use Rattle.spv_tableaux.specs.Forms as columns
 use Rattle.spv_tableaux.specs.Numbers.{nothing}
 use Rattle.spv_tableaux.specs.Rows.{Point}

@@ -1,5 +1,5 @@
 -- What each subterm is worth in the table of a leaf by exact numbers.
-use Rattle.std.proofs.Common.{◌≡◌, ℕ, ℤ, Bool, true, false, cond, ◌&&◌, ◌||◌, not, List, [], ◌∷◌, pos, refl, sym, ap, ◌∙◌, Option, Some, None}
+use Rattle.std.proofs.Common.{◌≡◌, ℤ, Bool, true, false, cond, ◌&&◌, ◌||◌, not, List, [], ◌∷◌, pos, refl, sym, ap, ◌∙◌, Option, Some}
 use mathlib.Core.Path.{ap₂}
 use Rattle.std.specs.Prelude.{is_some}
 use Rattle.std.specs.Cmp.Derive.{both_true}
@@ -40,7 +40,7 @@ use Rattle.spv_leaf_tables.proofs.Owns.{own-plain, own-open}
 use Rattle.spv_leaf_tables.proofs.Comparisons.{same-refl, same-true, less-is, at_most-is, less-met, at_most-met}
 use Rattle.spv_leaf_tables.proofs.Outcomes.{true-value, same-values}
 use Rattle.spv_leaf_tables.proofs.Truths.{and-known, or-known, implied-known, same-known, settled}
-use Rattle.spv_leaf_tables.proofs.Values.{number-of, truth-of, listed-number, number-at, truth-at, class-at, own-point, atom-there, atom-given, plain-atom, numbers-apart, class-same, the_sort, closed}
+use Rattle.spv_leaf_tables.proofs.Values.{listed-number, number-at, truth-at, class-at, own-point, atom-there, atom-given, plain-atom, numbers-apart, class-same, the_sort, closed}
 use Rattle.spv_verdicts.specs.Exact.{exact_pair, exact_pair_or, exact_over, exact_value, exact_values, is_exactly_true}
 
 -- ---- heads without a meaning of their own

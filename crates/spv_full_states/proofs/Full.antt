@@ -1,8 +1,7 @@
 -- The table of a full state shows the condition false, where no operation is too wide.
-use Rattle.std.proofs.Common.{◌≡◌, ℕ, zero, suc, Bool, true, false, List, [], ◌∷◌, map, refl, sym, ap, ◌∙◌, subst, Option, Some, None, Ok}
+use Rattle.std.proofs.Common.{◌≡◌, ℕ, Bool, true, false, List, [], ◌∷◌, map, refl, sym, ap, ◌∙◌, subst, Option, Some, None, Ok}
 use Rattle.std.specs.Prelude.{slice_get}
 use Rattle.std.specs.Option.{option_map}
-use Rattle.std.proofs.lemmas.Bool.{false≢true}
 use Rattle.std.proofs.lemmas.Option.{same_Some, slice_get-map}
 use Rattle.spv_whole.specs.Fraction.{Fraction}
 use Rattle.spv_logic.specs.declared.conditions.TermId.{TermId}
@@ -21,14 +20,14 @@ use Rattle.spv_leaf_tables.specs.Subterms.{is_among, subterms, is_listed}
 use Rattle.spv_leaf_tables.specs.Tables.{formulas_of, table, Falsifies}
 use Rattle.spv_leaf_tables.proofs.Falsifying.{table-terms, is-table, formula-holds}
 use Rattle.spv_share.specs.declared.both.Both.{Both}
+use Rattle.spv_full_tables.specs.Laws.{IsTableOfLeaf}
 use Rattle.spv_live_states.proofs.Sameness.{found_id}
 use Rattle.spv_surviving.specs.Surviving.{IsShown, ShowsFalse, SomeFails}
 use Rattle.spv_verdicts.specs.Verdicts.{Survives}
 use Rattle.spv_decided.specs.Views.{branch_in, case_in, pairs_in}
-use Rattle.spv_split_trees.specs.Paths.{facts}
 use Rattle.spv_live_states.specs.States.{same_in}
 use Rattle.spv_full_states.specs.Filled.{on_questions}
-use Rattle.spv_full_states.specs.States.{IsFullState, IsTableOf}
+use Rattle.spv_full_states.specs.States.{IsTableOf}
 use Rattle.spv_full_states.proofs.Filling.{HasFacts, filled_facts, filled_survives}
 use Rattle.spv_full_states.proofs.StateLeaf.{leaf_in, is_leaf, shows, table_in}
 
@@ -54,9 +53,9 @@ case_of a branch i p e = by_option (slice_get branch i) refl (sym (slice_get-map
     by_option None f g = absurd (cc)
     by_option (Some id) f g = record { id = id; there = f; is = same_Some (case_in a id) p g }
 
-module _ (a : Arena) (c : Condition) (b : Both) (cases : List Term) (value : Term → Option Bool) (values : List (TermId × Fraction)) (h : IsTableOf a c b cases value values) where
+module _ (tables : IsTableOfLeaf) (a : Arena) (c : Condition) (b : Both) (cases : List Term) (value : Term → Option Bool) (values : List (TermId × Fraction)) (h : IsTableOf a c b cases value values) where
   pub table_same : pairs_in a values ≡ table a.shapes a.decls (formulas_of (question a c).sequent) (leaf_in a c b cases value h.state)
-  table_same = table_in a c b cases value values h
+  table_same = table_in tables a c b cases value values h
 
   pub state_facts : HasFacts (question a c) (on_questions (question a c) value)
   state_facts = filled_facts (question a c) h.state.opened.formulas cases (same_in a b) (shows a c b cases value h.state) (on_questions (question a c) value) h.state.filled

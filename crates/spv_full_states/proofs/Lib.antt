@@ -6,4 +6,5 @@ pub mod StateLeaf
 pub mod Full
 pub mod Exactly
 pub mod Columns
+pub mod Readings
 pub mod Wide

@@ -1,38 +1,32 @@
 -- Terms that are the same have one sort.
-use Rattle.std.proofs.Common.{◌≡◌, ℕ, ◌<◌, Bool, true, false, ◌&&◌, List, length, nat_eq, refl, sym, ap, ◌∙◌, ◌⊎◌, inl, inr, Option, Some, None, not}
+use Rattle.std.proofs.Common.{◌≡◌, ◌<◌, true, false, ◌&&◌, List, length, nat_eq, refl, sym, ap, ◌∙◌, ◌⊎◌, inl, inr, Option, Some, not}
 use mathlib.Core.Path.{ap₂}
-use Rattle.std.specs.Prelude.{slice_get}
 use Rattle.std.specs.Option.{option_map}
 use Rattle.std.proofs.lemmas.Bool.{false≢true}
 use Rattle.std.proofs.lemmas.Option.{slice_get-map, slice_get_within}
-use Rattle.spv_rational.specs.Rational.{Rational}
 use Rattle.spv_logic.specs.declared.conditions.TermId.{TermId}
-use Rattle.spv_logic.specs.declared.operators.Head.TheVariants.{Eq}
 use Rattle.spv_logic.specs.declared.types.Sort.{Sort}
 use Rattle.spv_logic.specs.declared.types.Sort.TheVariants as sort
 use Rattle.spv_logic.specs.declared.types.Shape.{Shape}
 use Rattle.spv_logic.specs.declared.types.Decl.{Decl}
 use Rattle.spv_logic.specs.Sorts.{term_sort}
-use Rattle.spv_logic.specs.Terms.{Term, term, no_terms, terms}
+use Rattle.spv_logic.specs.Terms.{Term}
 use Rattle.spv_term.specs.Arena.{Arena, IsArena, sort_at, tree}
 use Rattle.spv_term.proofs.ArenaLemmas.{IsWellSorted-arena}
 use Rattle.spv_pivots.proofs.Tests.{and_left, and_right}
 use Rattle.spv_readings.specs.Relations.{number_sides}
 use Rattle.spv_joined.specs.Joined.{IsAmong}
 use Rattle.spv_joined.specs.Joined as joined
-use Rattle.spv_congruence.specs.declared.facts.Fact.{Fact}
 use Rattle.spv_congruence.specs.Graph.{are_same, AreTerms, IsFact}
 use Rattle.spv_congruence.specs.Told.{IsAdded, IsExact, IsTold}
 use Rattle.spv_course.specs.Derived.{is_number, is_truth}
 use Rattle.spv_course.specs.Sides.{Pair}
 use Rattle.spv_share_graph.specs.Telling.{equation_sides, Tie, tie_of}
 use Rattle.spv_share_graph.proofs.Ties.{has-sides, sides-node, sides-tree}
-use Rattle.spv_leaf_tables.specs.Labels.{HasId}
 use Rattle.spv_leaf_tables.specs.Subterms.{is_listed}
-use Rattle.spv_leaf_tables.proofs.TermKinds.{Both, Either, HasSort, Implied, IsAtMost, IsEqual, IsLess, Kind, kind, Multiple, Negated, Numeral, Own, Remains, Total, Truthful, Untruthful}
+use Rattle.spv_leaf_tables.proofs.TermKinds.{Both, Either, Implied, IsAtMost, IsEqual, IsLess, Kind, kind, Multiple, Negated, Numeral, Own, Remains, Total, Truthful, Untruthful}
 use Rattle.spv_leaf_tables.proofs.Values.{sort_known}
 use Rattle.spv_share.specs.declared.both.Both as share
-use Rattle.spv_share.specs.declared.relations.Related.{Related}
 use Rattle.spv_share.specs.Both.{IsBoth, IsReason, of_literal, of_relation, of_truths, told}
 use Rattle.spv_share.proofs.Seeking.{numbers_are}
 use Rattle.spv_share_laws.proofs.Exact.{node_listed, same_derived}

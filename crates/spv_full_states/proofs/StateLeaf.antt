@@ -1,18 +1,15 @@
 -- The leaf of a full state, and that its table is the state's.
-use Rattle.std.proofs.Common.{◌≡◌, ℕ, ◌<◌, Bool, true, false, not, List, map, nat_eq, length, refl, sym, ap, ◌∙◌, ◌⊎◌, inl, inr, Option, Some}
+use Rattle.std.proofs.Common.{◌≡◌, Bool, true, false, List, map, nat_eq, refl, sym, ap, ◌∙◌, ◌⊎◌, inl, inr, Option, Some}
 use mathlib.Core.Path.{ap₂}
-use Rattle.std.specs.Prelude.{slice_get}
 use Rattle.std.proofs.lemmas.Bool.{false≢true}
 use Rattle.spv_whole.specs.Fraction.{Fraction}
 use Rattle.spv_logic.specs.declared.conditions.TermId.{TermId}
-use Rattle.spv_logic.specs.declared.types.Sort.{Sort}
 use Rattle.spv_logic.specs.declared.types.Sort.TheVariants as sort
 use Rattle.spv_logic.specs.Sorts.{term_sort}
 use Rattle.spv_logic.specs.Terms.{Term, term}
 use Rattle.spv_term.specs.declared.nodes.Condition.{Condition}
 use Rattle.spv_term.specs.Arena.{Arena, tree}
 use Rattle.spv_atoms.specs.Atoms.{has_sort, is_atom}
-use Rattle.spv_atoms.specs.Atoms as atoms_of
 use Rattle.spv_atoms.specs.Forms.{constant_values}
 use Rattle.spv_atoms.specs.Tables.{or_else, computed, all_truths}
 use Rattle.spv_atoms.proofs.Members.{has}
@@ -21,22 +18,26 @@ use Rattle.spv_proof.specs.Stand.{question}
 use Rattle.spv_course.specs.Derived.{is_number, is_truth}
 use Rattle.spv_congruence.specs.Graph.{are_same}
 use Rattle.spv_congruence.specs.Keep.{IsNode}
-use Rattle.spv_simplex.specs.State.{kept_point, value_of}
+use Rattle.spv_simplex.specs.State.{kept_point}
 use Rattle.spv_readings.specs.Values.{part_value}
 use Rattle.spv_table.specs.Values.{truth_value}
-use Rattle.spv_leaf_tables.specs.Leaves.{Leaf, IsLeaf, truth_term, truth_at}
+use Rattle.spv_leaf_tables.specs.Leaves.{Leaf, IsLeaf, truth_term, truth_at, worth_at}
+use Rattle.spv_leaf_tables.specs.Labels.{HasId}
 use Rattle.spv_leaf_tables.specs.Subterms.{subterms, is_listed, means}
 use Rattle.spv_leaf_tables.specs.Tables.{formulas_of, table, truth_number}
 use Rattle.spv_leaf_tables.proofs.Owns.{own-plain, own-open}
 use Rattle.spv_leaf_tables.proofs.TermKinds.{kind}
 use Rattle.spv_leaf_tables.proofs.Values.{atom-there, atom-asked, atom-given, plain-atom, the_sort, IsSome}
-use Rattle.spv_split_trees.specs.Paths.{atoms, facts, questions}
-use Rattle.spv_split_trees.specs.Shown.{ShowsLive}
+use Rattle.spv_split_trees.specs.Paths.{atoms, facts, questions, Gives, MeetsKnown}
+use Rattle.spv_split_trees.specs.Shown.{IsEqualAt, ShowsLive}
+use Rattle.spv_split_trees.proofs.Finishing.{gives-least}
 use Rattle.spv_share.specs.declared.both.Both.{Both}
-use Rattle.spv_full_tables.specs.Laws.{IsOne, IsOther, IsLeafOf}
-use Rattle.spv_full_tables.proofs.LeafTable.{table_is}
+use Rattle.spv_share_laws.proofs.Exact.{node_listed}
+use Rattle.spv_share_laws.proofs.Graphs.{have_one_value}
+use Rattle.spv_full_tables.specs.Laws.{IsOne, IsOther, IsLeafOf, IsTableOfLeaf}
 use Rattle.spv_live_states.specs.States.{same_in}
-use Rattle.spv_live_states.proofs.Sameness.{joined_same, same_joined}
+use Rattle.spv_live_states.proofs.Meeting.{meets_known}
+use Rattle.spv_live_states.proofs.Sameness.{joined_same, same_joined, same_is, tree_label, IsSame, one, labelled}
 use Rattle.spv_live_states.proofs.Showing.{open_shows}
 use Rattle.spv_full_states.specs.Filled.{on_questions, shown_leaf}
 use Rattle.spv_full_states.specs.States.{IsFullState, AreListed, IsTableOf}
@@ -50,18 +51,62 @@ both_ways true y f g = sym (f refl)
 both_ways false true f g = g refl
 both_ways false false f g = refl
 
-abbrev pub leaf_in : (a : Arena) (c : Condition) (b : Both) (cases : List Term) (value : Term → Option Bool) → IsFullState a c b cases value → Leaf
-leaf_in a c b cases value s = shown_leaf (question a c) (facts (question a c) cases) (same_in a b) (open_shows a c b cases value s.opened) (on_questions (question a c) value)
-
 module _ (a : Arena) (c : Condition) (b : Both) (cases : List Term) (value : Term → Option Bool) (s : IsFullState a c b cases value) where
   abbrev pub given : Term → Option Bool
   given = on_questions (question a c) value
 
-  abbrev pub shows : ShowsLive (question a c) (facts (question a c) cases) (same_in a b)
-  shows = open_shows a c b cases value s.opened
+  -- what shows the path live, with the kept point
+  shown_by : ShowsLive (question a c) (facts (question a c) cases) (same_in a b)
+  shown_by = open_shows a c b cases value s.opened
+
+  gives : (t : Term) (d : Bool) → Gives (question a c) (facts (question a c) cases) t d → value t ≡ Some d
+  gives t d g = gives-least (question a c) (facts (question a c) cases) value s.opened.finished t d g
+
+  meets_here : MeetsKnown (question a c) (facts (question a c) cases) (part_value a b.standing.tableau.forms (kept_point b.standing.tableau))
+  meets_here =
+      meets_known a s.opened.ok b s.opened.both s.opened.agree s.opened.inside c s.opened.of_atoms (kept_point b.standing.tableau) s.opened.tableau.solution s.opened.agree.point (facts (question a c) cases) value s.opened.answered
+      s.opened.known gives
+
+  id_node : (t : Term) (k : HasId a b.trail.graph.added t) → IsNode b.trail.graph.nodes k.id
+  id_node t k = node_listed a s.opened.ok b.trail.graph s.opened.both.sound.trail.of s.opened.exact s.opened.terms_are k.id k.listed
+
+  equal_here : IsEqualAt (question a c) (same_in a b) (part_value a b.standing.tableau.forms (kept_point b.standing.tableau))
+  equal_here = λ x y m n e. by_same x y m (same_is a s.opened.ok b s.opened.both s.opened.exact s.opened.terms_are x y e)
+    where
+      by_same : (x y : Term) → is_number a x ≡ true → IsSame a s.opened.ok b s.opened.both s.opened.exact s.opened.terms_are x y
+          → worth_at (part_value a b.standing.tableau.forms (kept_point b.standing.tableau)) x ≡ worth_at (part_value a b.standing.tableau.forms (kept_point b.standing.tableau)) y
+      by_same x y m (one e) = ap (worth_at (part_value a b.standing.tableau.forms (kept_point b.standing.tableau))) e
+      by_same x y m (labelled p q e) =
+          let same : are_same b.trail.graph p.id q.id ≡ true =
+          ap₂ nat_eq (sym (tree_label a s.opened.ok b s.opened.both s.opened.exact s.opened.terms_are x p)) (sym (tree_label a s.opened.ok b s.opened.both s.opened.exact s.opened.terms_are y q)) ∙ e in
+          ap (worth_at (part_value a b.standing.tableau.forms (kept_point b.standing.tableau))) (sym p.is)
+          ∙ (have_one_value a s.opened.ok b s.opened.both s.opened.agree s.opened.exact s.opened.terms_are s.opened.enough (kept_point b.standing.tableau) s.opened.tableau.solution s.opened.agree.point p.id q.id (id_node x p) (id_node y q)
+          (ap (is_number a) p.is ∙ m) same
+          ∙ ap (worth_at (part_value a b.standing.tableau.forms (kept_point b.standing.tableau))) q.is)
+
+  pub shows : ShowsLive (question a c) (facts (question a c) cases) (same_in a b)
+  shows = record {
+    sameness = shown_by.sameness;
+    told = shown_by.told;
+    orders = shown_by.orders;
+    value = shown_by.value;
+    covers = shown_by.covers;
+    agree = shown_by.agree;
+    apart = shown_by.apart;
+    numerals = shown_by.numerals;
+    truths = shown_by.truths;
+    point = part_value a b.standing.tableau.forms (kept_point b.standing.tableau);
+    meets = meets_here;
+    equal = equal_here;
+  }
 
   abbrev pub leaf : Leaf
-  leaf = shown_leaf (question a c) (facts (question a c) cases) (same_in a b) (open_shows a c b cases value s.opened) (on_questions (question a c) value)
+  leaf = shown_leaf (question a c) (facts (question a c) cases) (same_in a b) shows (on_questions (question a c) value)
+
+  -- its numbers are those of the kept point
+  pub leaf_point : (u : Term) → shows.point u ≡ part_value a b.standing.tableau.forms (kept_point b.standing.tableau) u
+  unfolding shows
+  leaf_point u = refl
 
   pub is_leaf : IsLeaf a.shapes a.decls (formulas_of (question a c).sequent) leaf
   is_leaf = filled_leaf (question a c) (facts (question a c) cases) (same_in a b) shows given s.filled s.opened.formulas
@@ -92,24 +137,25 @@ module _ (a : Arena) (c : Condition) (b : Both) (cases : List Term) (value : Ter
 
   module _ (ids : List TermId) (flags : List Bool) (are : AreListed a c ids flags) where
     node_of : (t : TermId) → IsOne ids flags t → IsNode b.trail.graph.nodes t
-    node_of t one = (listed_nodes a c b cases value s.opened ids flags are).each one.place t one.there one.flagged
+    node_of t listed = (listed_nodes a c b cases value s.opened ids flags are).each listed.place t listed.there listed.flagged
 
     subterm_of : (t : TermId) → IsOne ids flags t → has (subterms (formulas_of (question a c).sequent)) (tree a t) ≡ true
-    subterm_of t one = id_there a c ids flags are one.place t one.there
+    subterm_of t listed = id_there a c ids flags are listed.place t listed.there
 
     truth_is : (t : TermId) → IsOne ids flags t → is_truth a (tree a t) ≡ true → truth_number (truth_at (is_truth a) given (tree a t)) ≡ truth_value (are_same b.trail.graph t b.trail.truth)
-    truth_is t one k =
+    truth_is t listed k =
         let fs = formulas_of (question a c).sequent in
-        let among : has (atoms (question a c)) (tree a t) ≡ true = atom-there a.shapes a.decls fs leaf is_leaf (tree a t) (subterm_of t one) (listed_atom (tree a t) k (one_listed a c ids flags are t one)) in
+        let among : has (atoms (question a c)) (tree a t) ≡ true = atom-there a.shapes a.decls fs leaf is_leaf (tree a t) (subterm_of t listed) (listed_atom (tree a t) k (one_listed a c ids flags are t listed)) in
         let asked : has (questions (question a c)) (tree a t) ≡ true = atom-asked a.shapes a.decls fs leaf is_leaf (tree a t) among in
         let d = atom-given a.shapes a.decls fs leaf is_leaf (tree a t) among in
         let same : same_in a b (tree a t) (truth_term d.item) ≡ true =
         truth_same (question a c) (facts (question a c) cases) (same_in a b) shows given s.filled (tree a t) d.item asked (s.filled.known (tree a t) d.item d.is) in
-        ap (λ o. truth_number (or_else o (computed (is_truth a) given (tree a t)))) d.is ∙ ap truth_value (sym (joined_truth t (node_of t one) d.item same))
+        ap (λ o. truth_number (or_else o (computed (is_truth a) given (tree a t)))) d.is ∙ ap truth_value (sym (joined_truth t (node_of t listed) d.item same))
+
     -- ---- other sorts
 
     other_apart : (x t : TermId) → IsOther ids flags x → IsOne ids flags t → is_number a (tree a t) ≡ false → is_truth a (tree a t) ≡ false → same_in a b (tree a x) (tree a t) ≡ false
-    other_apart x t other one n k = false_of (same_in a b (tree a x) (tree a t)) (λ e. by_sort (unlisted_sort a.shapes a.decls (tree a x) sort_x.item (kind a.shapes a.decls (tree a x) sort_x.item sort_x.is) (other_unlisted a c ids flags are x other)) e)
+    other_apart x t other listed n k = false_of (same_in a b (tree a x) (tree a t)) (λ e. by_sort (unlisted_sort a.shapes a.decls (tree a x) sort_x.item (kind a.shapes a.decls (tree a x) sort_x.item sort_x.is) (other_unlisted a c ids flags are x other)) e)
       where
         sort_x : IsSome (term_sort a.shapes a.decls (tree a x))
         sort_x = the_sort a.shapes a.decls (formulas_of (question a c).sequent) leaf is_leaf (tree a x) (id_there a c ids flags are other.place x other.there)
@@ -123,14 +169,17 @@ module _ (a : Arena) (c : Condition) (b : Both) (cases : List Term) (value : Ter
 
     pub leaf_of_state : IsLeafOf a b ids flags leaf
     leaf_of_state = record {
-      numbers = λ t one k. part_is a s.opened.ok t (id_inside a c ids flags are one.place t one.there) b.standing.tableau s.opened.both.sound.inside;
+      numbers = λ t listed k. leaf_point (tree a t) ∙ part_is a s.opened.ok t (id_inside a c ids flags are listed.place t listed.there) b.standing.tableau s.opened.both.sound.inside;
       truths = truth_is;
-      classes = λ x y one other. same_ids x y (node_of x one) (node_of y other);
+      classes = λ x y listed more. same_ids x y (node_of x listed) (node_of y more);
       others = other_apart;
     }
 
+abbrev pub leaf_in : (a : Arena) (c : Condition) (b : Both) (cases : List Term) (value : Term → Option Bool) → IsFullState a c b cases value → Leaf
+leaf_in a c b cases value s = shown_leaf (question a c) (facts (question a c) cases) (same_in a b) (shows a c b cases value s) (on_questions (question a c) value)
+
 -- the table of a full state is that of its leaf
-pub table_in : (a : Arena) (c : Condition) (b : Both) (cases : List Term) (value : Term → Option Bool) (values : List (TermId × Fraction)) → (h : IsTableOf a c b cases value values)
+pub table_in : IsTableOfLeaf → (a : Arena) (c : Condition) (b : Both) (cases : List Term) (value : Term → Option Bool) (values : List (TermId × Fraction)) → (h : IsTableOf a c b cases value values)
     → map (λ (p : TermId × Fraction). (tree a p.0, p.1)) values ≡ table a.shapes a.decls (formulas_of (question a c).sequent) (leaf_in a c b cases value h.state)
-table_in a c b cases value values h =
-    table_is a b (formulas_of (question a c).sequent) h.ids h.flags (leaf_in a c b cases value h.state) values h.listed.subterms (leaf_of_state a c b cases value h.state h.ids h.flags h.listed) h.table
+table_in tables a c b cases value values h =
+    tables a b (formulas_of (question a c).sequent) h.ids h.flags (leaf_in a c b cases value h.state) values h.listed.subterms (leaf_of_state a c b cases value h.state h.ids h.flags h.listed) h.table

@@ -1,5 +1,5 @@
 -- Where the evaluation of a subterm in the table of a full state meets an operation that is too wide, the search may give up.
-use Rattle.std.proofs.Common.{◌≡◌, ℕ, zero, suc, ◌<◌, Bool, true, false, cond, ◌&&◌, ◌||◌, List, [], ◌∷◌, ◌++◌, map, length, ℤ, pos, refl, sym, ap, ◌∙◌, subst, Option, Some, None, Err}
+use Rattle.std.proofs.Common.{◌≡◌, ℕ, zero, suc, Bool, true, false, cond, ◌&&◌, ◌||◌, List, [], ◌∷◌, ◌++◌, map, length, ℤ, pos, refl, sym, ap, ◌∙◌, subst, Option, Some, None}
 use mathlib.Core.Path.{ap₂}
 use Rattle.std.specs.Prelude.{slice_get, is_some}
 use Rattle.std.proofs.lemmas.Bool.{false≢true}
@@ -7,15 +7,15 @@ use Rattle.std.proofs.lemmas.Option.{same_Some}
 use Rattle.spv_whole.specs.Fraction.{Fraction, whole}
 use Rattle.spv_rational.specs.Rational.{Rational}
 use Rattle.spv_logic.specs.declared.conditions.TermId.{TermId}
-use Rattle.spv_logic.specs.Terms.{Term, Terms, term, no_terms, terms, term_eq}
+use Rattle.spv_logic.specs.Terms.{Term, term_eq}
 use Rattle.spv_logic.proofs.Equality.{term_eq-true, term_eq-refl}
 use Rattle.spv_term.specs.declared.nodes.Condition.{Condition}
 use Rattle.spv_term.specs.Arena.{Arena, AllBelow, tree}
 use Rattle.spv_atoms.specs.Atoms.{only_if}
 use Rattle.spv_atoms.specs.Forms.{form}
-use Rattle.spv_atoms.specs.Linear.{IdForm, coefficient, over_trees}
+use Rattle.spv_atoms.specs.Linear.{IdForm}
 use Rattle.spv_atoms.specs.Order.{passing}
-use Rattle.spv_atoms.proofs.Members.{has, or_cases, or_left, or_right, has-left, has-last}
+use Rattle.spv_atoms.proofs.Members.{has, or_left, or_right, has-left, has-last}
 use Rattle.spv_pivots.proofs.Tests.{and_left, and_right}
 use Rattle.spv_proof.specs.Stand.{question}
 use Rattle.spv_proof.specs.Sums.{difference}
@@ -30,8 +30,8 @@ use Rattle.spv_dictionary.specs.Dictionary as dictionary
 use Rattle.spv_simplex.specs.State.{kept_point}
 use Rattle.spv_table.specs.declared.operations.WideValue.{WideValue}
 use Rattle.spv_table.specs.Kept.{listed_over}
-use Rattle.spv_table.specs.Values.{value, listed_in}
-use Rattle.spv_leaf_tables.specs.Subterms.{is_among, subterms, arguments, is_listed}
+use Rattle.spv_table.specs.Values.{listed_in}
+use Rattle.spv_leaf_tables.specs.Subterms.{subterms, arguments, is_listed}
 use Rattle.spv_leaf_tables.specs.Tables.{formulas_of, number_at}
 use Rattle.spv_leaf_tables.specs.Leaves.{truth_at}
 use Rattle.spv_leaf_tables.proofs.Closed.{IsClosed}
@@ -46,16 +46,17 @@ use Rattle.spv_share.proofs.Seeking.{numbers_are}
 use Rattle.spv_verdicts.specs.Exact.{is_exactly_true}
 use Rattle.spv_verdicts.specs.Rows.{head_of, relation_heads, readable, AreRows}
 use Rattle.spv_verdicts.specs.Verdicts.{AreAtBasis, HasWideValue}
-use Rattle.spv_evidence.proofs.Readable.{heads, heads_are, is_some_relation, readable_sayable}
+use Rattle.spv_full_states.proofs.Readings.{heads, heads_are, is_some_relation, readable_sayable}
 use Rattle.spv_surviving.specs.Surviving.{IsFaultFor}
 use Rattle.spv_surviving.specs.declared.faults.SurvivingFault.TheVariants as fault
+use Rattle.spv_full_tables.specs.Laws.{IsTableOfLeaf}
 use Rattle.spv_decided.specs.Views.{pairs_in}
 use Rattle.spv_full_states.specs.Filled.{on_questions}
 use Rattle.spv_full_states.specs.States.{AreIdForms, IsTableOf}
-use Rattle.spv_full_states.proofs.Columns.{AllParts, IsNumberIn, form_in, difference_keeps, part_of, not_zero, column_is, column_value, value_nowhere}
+use Rattle.spv_full_states.proofs.Columns.{IsNumberIn, form_in, difference_keeps, part_of, not_zero, column_is, column_value, value_nowhere}
 use Rattle.spv_full_states.proofs.Exactly.{exact_formula}
 use Rattle.spv_full_states.proofs.Full.{is_table, lists_subterms, state_facts, table_same}
-use Rattle.spv_full_states.proofs.StateLeaf.{leaf_in, is_leaf}
+use Rattle.spv_full_states.proofs.StateLeaf.{leaf_in, leaf_point, is_leaf}
 
 -- ---- relations of atoms
 
@@ -109,7 +110,7 @@ unlisted n (t ∷ ts) u h = by_case (term_eq t u) refl (unlisted n ts u (later h
     by_case true e rest = absurd (false≢true (sym h ∙ or_left (term_eq u t) (has ts u) (ap (term_eq u) (term_eq-true t u e) ∙ term_eq-refl u)))
     by_case false e rest = rest
 
-module _ (a : Arena) (c : Condition) (b : Both) (cases : List Term) (given : Term → Option Bool) (values : List (TermId × Fraction)) (h : IsTableOf a c b cases given values) (id_forms : AreIdForms b.standing.tableau.forms) where
+module _ (tables : IsTableOfLeaf) (a : Arena) (c : Condition) (b : Both) (cases : List Term) (given : Term → Option Bool) (values : List (TermId × Fraction)) (h : IsTableOf a c b cases given values) (id_forms : AreIdForms b.standing.tableau.forms) where
   abbrev fs : List Term
   fs = formulas_of (question a c).sequent
 
@@ -167,7 +168,7 @@ module _ (a : Arena) (c : Condition) (b : Both) (cases : List Term) (given : Ter
   -- a listed subterm of sort Int has its value at the point
   number_listed : (u : Term) → has (subterms (formulas_of (question a c).sequent)) u ≡ true → is_listed u ≡ true → is_number a u ≡ true → listed_in (pairs_in a values) u ≡ ((leaf_in a c b cases given h.state).point u).fraction
   number_listed u m l n =
-      ap (λ ps. listed_in ps u) (table_same a c b cases given values h)
+      ap (λ ps. listed_in ps u) (table_same tables a c b cases given values h)
       ∙ (listed-number a.shapes a.decls (formulas_of (question a c).sequent) (leaf_in a c b cases given h.state) (is_leaf a c b cases given h.state) u m l
       ∙ number-at a.shapes a.decls (formulas_of (question a c).sequent) (leaf_in a c b cases given h.state) (is_leaf a c b cases given h.state) u n)
 
@@ -179,7 +180,8 @@ module _ (a : Arena) (c : Condition) (b : Both) (cases : List Term) (given : Ter
       let k = column_in n t at in
       number_listed (tree a t) k.among l k.number
       ∙ ap (λ (x : Rational). x.fraction)
-      (column_value a h.state.opened.ok b.standing.tableau.forms columns_below n t at (column-in a b.standing.tableau.forms h.state.opened.both.sound.inside n t at) (kept_point b.standing.tableau))
+      (leaf_point a c b cases given h.state (tree a t)
+      ∙ column_value a h.state.opened.ok b.standing.tableau.forms columns_below n t at (column-in a b.standing.tableau.forms h.state.opened.both.sound.inside n t at) (kept_point b.standing.tableau))
 
   other_listed : (u : Term) → is_number a u ≡ true → ((n : ℕ) (t : TermId) → slice_get (part_ids b.standing.tableau.forms) n ≡ Some t → tree a t ≡ u → ⊥) → listed_in (pairs_in a values) u ≡ whole (pos 0)
   other_listed u m none = by_case (has (passing is_listed (subterms (formulas_of (question a c).sequent))) u) refl
@@ -187,9 +189,9 @@ module _ (a : Arena) (c : Condition) (b : Both) (cases : List Term) (given : Ter
       by_case : (d : Bool) → has (passing is_listed (subterms (formulas_of (question a c).sequent))) u ≡ d → listed_in (pairs_in a values) u ≡ whole (pos 0)
       by_case true e =
           let k = passing-parts is_listed (subterms (formulas_of (question a c).sequent)) u e in
-          number_listed u k.among k.passes m ∙ ap (λ (x : Rational). x.fraction) (value_nowhere a (part_ids b.standing.tableau.forms) u none (kept_point b.standing.tableau))
+          number_listed u k.among k.passes m ∙ ap (λ (x : Rational). x.fraction) (leaf_point a c b cases given h.state u ∙ value_nowhere a (part_ids b.standing.tableau.forms) u none (kept_point b.standing.tableau))
       by_case false e =
-          ap (λ ps. listed_in ps u) (table_same a c b cases given values h)
+          ap (λ ps. listed_in ps u) (table_same tables a c b cases given values h)
           ∙ unlisted (number_at a.shapes a.decls (subterms (formulas_of (question a c).sequent)) (leaf_in a c b cases given h.state)) (passing is_listed (subterms (formulas_of (question a c).sequent))) u e
 
   -- ---- the basis
@@ -223,15 +225,15 @@ module _ (a : Arena) (c : Condition) (b : Both) (cases : List Term) (given : Ter
   -- a formula is true by exact numbers where its truth is
   exact_truth : (f : Term) (d : Bool) → has (formulas_of (question a c).sequent) f ≡ true → truth_at (is_truth a) (on_questions (question a c) given) f ≡ Some d → is_exactly_true (listed_in (pairs_in a values)) f ≡ d
   exact_truth f d m e =
-      ap (λ ps. is_exactly_true (listed_in ps) f) (table_same a c b cases given values h)
+      ap (λ ps. is_exactly_true (listed_in ps) f) (table_same tables a c b cases given values h)
       ∙ exact_formula a.shapes a.decls (formulas_of (question a c).sequent) (leaf_in a c b cases given h.state) (is_leaf a c b cases given h.state) f d m e
 
   pub wide_reached : (t : TermId) (w : WideValue) → IsFaultFor a c (listed_over a values) (fault.Wide t w) → HasWideValue a (question a c) (pairs_in a values) (tree a t) w
   wide_reached t w k = record {
-    lists = lists_subterms a c b cases given values h;
-    is_table = is_table a c b cases given values h;
-    given_true = λ f m. exact_truth f true (has-left (question a c).sequent.given ((question a c).sequent.goal ∷ []) f m) ((state_facts a c b cases given values h).given_true f m);
-    goal_false = exact_truth (question a c).sequent.goal false (has-last (question a c).sequent.given (question a c).sequent.goal) (state_facts a c b cases given values h).goal_false;
+    lists = lists_subterms tables a c b cases given values h;
+    is_table = is_table tables a c b cases given values h;
+    given_true = λ f m. exact_truth f true (has-left (question a c).sequent.given ((question a c).sequent.goal ∷ []) f m) ((state_facts tables a c b cases given values h).given_true f m);
+    goal_false = exact_truth (question a c).sequent.goal false (has-last (question a c).sequent.given (question a c).sequent.goal) (state_facts tables a c b cases given values h).goal_false;
     subterm = k.1;
     stops = k.2;
     forms = b.standing.tableau.forms;

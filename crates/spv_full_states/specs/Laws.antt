@@ -1,5 +1,5 @@
 -- A full path is never stuck.
-use Rattle.std.specs.Prelude.{◌≡◌, Bool, true, false, List, map, Option, Ok}
+use Rattle.std.specs.Prelude.{◌≡◌, Bool, true, List, Option, Ok}
 use Rattle.spv_whole.specs.Fraction.{Fraction}
 use Rattle.spv_logic.specs.declared.conditions.TermId.{TermId}
 use Rattle.spv_logic.specs.Terms.{Term}

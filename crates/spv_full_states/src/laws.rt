@@ -1,6 +1,8 @@
-// What a full path comes to, each law the contract of a function that does nothing.
+// What a full path comes to, each law the contract of a function that does nothing but to cite another one.
 
 ghost use Rattle.spv_full_states.specs.Laws.{FullIsShown, GoalFails, ListedAreNodes, NoneFails, ShownIsLeaf, ShownIsUnproved, ShownSurvives, WideIsReached};
+
+use spv_full_tables::law_full_table;
 
 /// A path that is shown live, on which each question has a truth and each equation of whole numbers that is false has an order, ends in a
 /// leaf, and its table falsifies the condition where no operation is too wide.
@@ -18,9 +20,13 @@ pub fn law_full_state()
     ensures given { NoneFails }
     ensures goal { GoalFails }
     ensures unproved { ShownIsUnproved }
-{}
+{
+    law_full_table();
+}
 
 /// Where an operation in the table of such a state is too wide, the search may give up for it.
 pub fn law_wide_value()
     ensures { WideIsReached }
-{}
+{
+    law_full_table();
+}

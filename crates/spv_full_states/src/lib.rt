@@ -4,6 +4,4 @@
 
 mod laws;
 
-pub use laws::law_filled_path;
-pub use laws::law_full_state;
-pub use laws::law_wide_value;
+pub use laws::{law_filled_path, law_full_state, law_wide_value};

@@ -6,13 +6,13 @@ pub returns-clause-nodes : goal.returns-clause-nodes
 returns-clause-nodes c = listed_nodes
 
 pub returns-clause-shown : goal.returns-clause-shown
-returns-clause-shown c = is_shown
+returns-clause-shown c = is_shown c.law_full_table.ensures
 
 pub returns-clause-given : goal.returns-clause-given
-returns-clause-given c = none_fails
+returns-clause-given c = none_fails c.law_full_table.ensures
 
 pub returns-clause-goal : goal.returns-clause-goal
-returns-clause-goal c = goal_fails
+returns-clause-goal c = goal_fails c.law_full_table.ensures
 
 pub returns-clause-unproved : goal.returns-clause-unproved
-returns-clause-unproved c = survives
+returns-clause-unproved c = survives c.law_full_table.ensures
