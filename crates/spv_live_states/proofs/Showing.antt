@@ -40,7 +40,7 @@ use Rattle.spv_live_states.specs.States.{same_in}
 use Rattle.spv_live_states.specs.Laws.{IsOpenState}
 use Rattle.spv_live_states.proofs.Sameness.{joined_same, same_is, tree_label, sameness, IsSame, one, labelled}
 use Rattle.spv_live_states.proofs.Telling.{true_same, false_same, sides_same, sides_apart, truths_apart, numerals_one}
-use Rattle.spv_live_states.proofs.Meeting.{atom_asked, atom_relation, meets_known}
+use Rattle.spv_live_states.proofs.Meeting.{atom_asked, atom_relation, meets_known, ordered_at}
 
 module _ (a : Arena) (c : Condition) (b : Both) (cases : List Term) (value : Term → Option Bool) (s : IsOpenState a c b cases value) where
   abbrev fs : List Term
@@ -97,11 +97,11 @@ module _ (a : Arena) (c : Condition) (b : Both) (cases : List Term) (value : Ter
       both_true (ap is_equality head)
       (ap not (false_of (are_same b.trail.graph r.relation.left r.relation.right)
       (λ same. false≢true (sym apart ∙ (ap₂ (same_in a b) (sym left) (sym right) ∙ joined_same a s.ok b s.both s.exact s.terms_are r.relation.left r.relation.right rel.left rel.right same))))) in
-      let p = s.apart.each r.place r.relation r.there open_is in
+      let p = ordered_at a s.ok b s.both s.agree s.inside c s.of_atoms r.place r.relation r.there (ap (number_in a) left ∙ nx) (ap (number_in a) right ∙ ny) (s.agree.apart r.place r.relation r.there open_is) in
       record {
         point = part_value a b.standing.tableau.forms p.point;
-        meets = known_at p.point p.solution p.meets;
-        equal = equal_at p.point p.solution p.meets;
+        meets = known_at p.point p.solution p.stand;
+        equal = equal_at p.point p.solution p.stand;
         order =
             ap₂ (λ u v. is_met (number_in a) (part_value a b.standing.tableau.forms p.point) (below u v) || is_met (number_in a) (part_value a b.standing.tableau.forms p.point) (below v u)) (sym left) (sym right) ∙ p.order;
       }
