@@ -58,7 +58,8 @@ use Rattle.spv_share.specs.Both as both
 use Rattle.spv_share.specs.Both.{IsBoth}
 use Rattle.spv_share.specs.States.{HasOrder, IsOpen}
 use Rattle.spv_share.proofs.Rowed.{row_at, row_inside}
-use Rattle.spv_live_states.specs.States.{IsToldAs, IsDenied, by_itself, by_below, by_above, AreTold, AreInside, IsOrderTold, below_it, above_it, AreRelated}
+use Rattle.spv_share.proofs.Ties.{told_inside}
+use Rattle.spv_live_states.specs.States.{IsToldAs, IsDenied, by_itself, by_below, by_above, AreTold, IsOrderTold, below_it, above_it, AreRelated}
 
 -- ---- what is read of a term
 
@@ -212,11 +213,11 @@ pub record IsOrderedAt (a : Arena) (b : Both) (x y : Term) : Type 0 where
 unclaimed : Noted
 unclaimed = record { claim = None; fact = 0 }
 
-module _ (a : Arena) (ok : IsArena a) (b : Both) (h : IsBoth a b) (agree : IsOpen b) (inside : AreInside a b) (c : Condition) (related : AreRelationsAmong a (atoms (question a c)) b.relations.items) where
+module _ (a : Arena) (ok : IsArena a) (b : Both) (h : IsBoth a b) (agree : IsOpen b) (c : Condition) (related : AreRelationsAmong a (atoms (question a c)) b.relations.items) where
   literal_stands : (q : Head) (x y : Term) (p : Part) (k : IsToldAs a b (term q (terms x (terms y no_terms))) p) (r : IsRelationAt a b.relations.items (term q (terms x (terms y no_terms)))) (s : Saying) → told.told q p ≡ Some s → HasStanding a b x y s
   literal_stands q x y p k r s says =
       let rel = h.sound.related.are.each r.place r.relation r.there in
-      let one_id : r.relation.atom ≡ k.told_one.atom = HasOneId-arena a ok r.relation.atom k.told_one.atom rel.within (inside.each k.place k.told_one k.there) (r.is ∙ sym k.atom) in
+      let one_id : r.relation.atom ≡ k.told_one.atom = HasOneId-arena a ok r.relation.atom k.told_one.atom rel.within (told_inside a b.relations.items b.trail.course b.claims.items h.claims k.place k.told_one k.there) (r.is ∙ sym k.atom) in
       let f = found_at b.relations.items k.told_one.atom r.place r.relation r.there one_id in
       let found_rel = h.sound.related.are.each f.place f.relation f.there in
       let tree_is : term f.relation.head (terms (tree a f.relation.left) (terms (tree a f.relation.right) no_terms)) ≡ term q (terms x (terms y no_terms)) = sym found_rel.is ∙ (ap (tree a) f.is ∙ k.atom) in

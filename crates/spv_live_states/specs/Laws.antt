@@ -23,7 +23,7 @@ use Rattle.spv_share.specs.Both.{IsBoth}
 use Rattle.spv_share.specs.Relations.{AreRelationsAmong}
 use Rattle.spv_share.specs.States.{IsOpen, is_open}
 use Rattle.spv_share_laws.specs.Pairs.{AreEnough}
-use Rattle.spv_live_states.specs.States.{same_in, AreTold, AreTied, AreInside, AreRelated, HasAtoms}
+use Rattle.spv_live_states.specs.States.{same_in, AreTold, AreRelated, HasAtoms}
 
 -- both sides are open for the atoms of a condition and the facts of a path, to which evaluations add nothing
 pub record IsOpenState (a : Arena) (c : Condition) (b : Both) (cases : List Term) (value : Term → Option Bool) : Type 0 where
@@ -37,8 +37,6 @@ pub record IsOpenState (a : Arena) (c : Condition) (b : Both) (cases : List Term
   pub formulas : AreFormulas a.shapes a.decls (formulas_of (question a c).sequent)
   pub of_atoms : AreRelationsAmong a (atoms (question a c)) b.relations.items
   pub parts : HasAtoms a b (question a c)
-  pub inside : AreInside a b
-  pub tied : AreTied a b
   pub finished : IsFinished (question a c) (facts (question a c) cases) value
   pub answered : AreTold a b (question a c) value
   pub known : AreRelated a b (question a c) (facts (question a c) cases)
