@@ -1,5 +1,6 @@
 -- Both sides as they are opened.
-use Rattle.std.proofs.Common.{◌≡◌, List, [], map, sym, subst}
+use Rattle.std.proofs.Common.{ap, ◌≡◌, List, [], map, sym, subst}
+use Rattle.spv_course.specs.Literals.{literals}
 use Rattle.spv_logic.specs.declared.conditions.TermId.{TermId}
 use Rattle.spv_logic.specs.Terms.{Term}
 use Rattle.spv_term.specs.Arena.{Arena, tree}

@@ -1,5 +1,5 @@
 -- The ties of literals that were told are among those of the graph's facts.
-use Rattle.std.proofs.Common.{◌≡◌, ℕ, zero, suc, ◌+◌, ◌<◌, List, [], ◌∷◌, ◌++◌, length, refl, sym, ap, ◌∙◌, subst, Option, Some, None, inl, inr, ◌⊎◌}
+use Rattle.std.proofs.Common.{◌≡◌, ℕ, zero, suc, ◌<◌, List, [], ◌∷◌, ◌++◌, length, refl, sym, ap, ◌∙◌, subst, Option, Some, None, inl, inr, ◌⊎◌}
 use Rattle.std.specs.Prelude.{slice_get}
 use Rattle.std.proofs.lemmas.Option.{slice_get_within, same_Some}
 use Rattle.spv_logic.specs.declared.conditions.TermId.{TermId}
@@ -25,9 +25,10 @@ or_last [] x (suc place) y at = absurd (nothing place y at)
 or_last (z ∷ xs) x zero y at = inl at
 or_last (z ∷ xs) x (suc place) y at = or_last xs x place y at
 
-behind : {A : Type 0} (xs ys : List A) (i : ℕ) (y : A) → slice_get ys i ≡ Some y → slice_get (xs ++ ys) (length xs + i) ≡ Some y
-behind [] ys i y at = at
-behind (x ∷ xs) ys i y at = behind xs ys i y at
+-- a tie behind others
+behind : (xs ys : List Tie) (i : ℕ) (x : Tie) → slice_get ys i ≡ Some x → IsTie (xs ++ ys) x
+behind [] ys i x at = record { place = i; there = at }
+behind (z ∷ xs) ys i x at = let k = behind xs ys i x at in record { place = suc k.place; there = k.there }
 
 ties_append : (xs ys : List Fact) → ties (xs ++ ys) ≡ ties xs ++ ties ys
 ties_append [] ys = refl
@@ -62,10 +63,8 @@ module _ (a : Arena) (truth falsity : TermId) where
     where
       by_place : (place : ℕ) (m : Literal) (i : ℕ) (x : Tie) → slice_get (literal_ties a truth falsity m.atom m.part) i ≡ Some x → (slice_get told place ≡ Some m) ⊎ (l ≡ m) → IsTie (xs ++ literal_ties a truth falsity l.atom l.part) x
       by_place place m i x there (inl at) = (tied_behind told xs (literal_ties a truth falsity l.atom l.part) h).each place m i x at there
-      by_place place m i x there (inr same) = record {
-        place = length xs + i;
-        there = behind xs (literal_ties a truth falsity l.atom l.part) i x (ap (λ (k : Literal). slice_get (literal_ties a truth falsity k.atom k.part) i) same ∙ there);
-      }
+      by_place place m i x there (inr same) =
+          behind xs (literal_ties a truth falsity l.atom l.part) i x (ap (λ (k : Literal). slice_get (literal_ties a truth falsity k.atom k.part) i) same ∙ there)
 
 -- where all is the same
 pub tied_same : (a : Arena) (truth falsity new_truth new_falsity : TermId) (told now : List Literal) (xs ys : List Fact) → new_truth ≡ truth → new_falsity ≡ falsity → now ≡ told → ys ≡ xs

@@ -1,5 +1,6 @@
 -- A congruence graph and a tableau side by side.
 use Rattle.std.specs.Prelude.{◌≡◌, true, ℕ, ◌<◌, ◌≤◌, List, take, length, Some, slice_get}
+use Rattle.spv_logic.specs.declared.conditions.TermId.{TermId}
 use Rattle.spv_logic.specs.declared.operators.Head.TheVariants.{Eq}
 use Rattle.spv_term.specs.Arena.{Arena, tree}
 use Rattle.spv_simplex.specs.Checks.{HoldsAsserted}
