@@ -1,7 +1,8 @@
 // The terms, the atoms and the steps of a case.
 
-ghost use Rattle.std.specs.Prelude.{◌≡◌, ◌<◌, [], ◌∷◌, IsTrue, IsSome, IfSome, length};
+ghost use Rattle.std.specs.Prelude.{◌≡◌, ◌<◌, [], ◌∷◌, IfOk, IsTrue, IsSome, IfSome, length};
 ghost use Rattle.spv_logic.specs.Sorts.{result_sort, head_in_range, numeral_fits};
+ghost use Rattle.spv_logic.specs.declared.operators.Head.TheVariants as head;
 ghost use Rattle.spv_logic.specs.declared.types.Sort.TheVariants as sort;
 ghost use Rattle.spv_term.specs.Arena.{Arena, sort_at};
 
@@ -107,9 +108,30 @@ fn make_pair(terms: &mut Terms, word: &str, s: TermId, t: TermId) -> Result<bool
     }
 }
 
+// Whether this declares F, over a whole number.
+fn declares(decl: &Decl) -> bool
+    ensures name { IsTrue result → decl.now.name.0 ≡ 0 }
+    ensures args { IsTrue result → decl.now.args ≡ sort.Int ∷ [] }
+{
+    match decl.args.as_slice() {
+        [Sort::Int] => decl.name.0 == 0,
+        _ => false,
+    }
+}
+
+// Whether F is declared, over a whole number.
+fn is_declared(terms: &Terms) -> bool
+    ensures { IsTrue result → IsSome (result_sort terms.now.shapes terms.now.decls (head.App (record { 0 = 0 })) (sort.Int ∷ [])) }
+{
+    match terms.decls() {
+        [decl] => declares(decl),
+        _ => false,
+    }
+}
+
 // Makes F of a whole number, where this is one.
 fn make_application(terms: &mut Terms, t: TermId) -> Result<bool, AllocError> {
-    if !is_number(terms, t) {
+    if !is_number(terms, t) || !is_declared(terms) {
         return Ok(false);
     }
     made(terms.make(Head::App(F), &[t]))
