@@ -40,3 +40,17 @@ finished-in s (finished.Proved p) h a i =
     subst (λ (ns : List ProofNode). NodesIn a ns) (sym h.1.proof_is)
     (proof-in a h.1.tree (subst (λ (ns : List SplitNode). SplitNodesIn a ns) (sym h.1.of_nodes.nodes_are) (tree-in a 0 s.nodes i.nodes)))
 finished-in s (finished.Open tree) h a i = subst (λ (ns : List SplitNode). SplitNodesIn a ns) (sym h.1.nodes_are) (tree-in a 0 s.nodes i.nodes)
+
+-- ---- a call, whose tree is seen as this value
+
+pub whole-seen : (view s : Growth) → view ≡ s → s.is_left ≡ false → HasQuestion s → is_whole view.nodes ≡ true
+whole-seen view s e gone h = ap (λ (x : Growth). is_whole x.nodes) e ∙ whole-at-end s gone h
+
+pub ends-seen : (view s : Growth) (f : Finished) → view ≡ s → EndsAs view.nodes view.is_open f → EndsAs s.nodes s.is_open f
+ends-seen view s f e h = subst (λ (x : Growth). EndsAs x.nodes x.is_open f) e h
+
+pub finished-seen : (view s : Growth) (f : Finished) → view ≡ s → s.is_left ≡ false → EndsAs view.nodes view.is_open f → IsFinished s f
+finished-seen view s f e gone h = is-finished s f gone (ends-seen view s f e h)
+
+pub finished-in-seen : (view s : Growth) (f : Finished) → view ≡ s → EndsAs view.nodes view.is_open f → (a : Arena) → IsIn a s → FinishedIn a f
+finished-in-seen view s f e h = finished-in s f (ends-seen view s f e h)

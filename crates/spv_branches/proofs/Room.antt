@@ -48,7 +48,7 @@ there m n false false f h = omega (arith, h)
 
 pub unsplit-less : (above : List Term) (t : Term) (us : List Term) → is_among us t ≡ true → is_among above t ≡ false → unsplit (t ∷ above) us < unsplit above us
 unsplit-less above t [] h n = absurd (false≢true h)
-unsplit-less above t (u ∷ us) h n = or_cases (term_eq t u) (is_among us t) h by_first by_rest
+unsplit-less above t (u ∷ us) h n = or_cases (term_eq t u) (is_among us t) h by_first (λ k. by_rest (unsplit-less above t us k n))
   where
     by_first : term_eq t u ≡ true → unsplit (t ∷ above) (u ∷ us) < unsplit above (u ∷ us)
     by_first k =
@@ -56,8 +56,8 @@ unsplit-less above t (u ∷ us) h n = or_cases (term_eq t u) (is_among us t) h b
         here (unsplit (t ∷ above) us) (unsplit above us) (is_among above u) (is_among (t ∷ above) u) (ap (is_among above) (sym same) ∙ n)
         (or_left (term_eq u t) (is_among above u) (ap (term_eq u) same ∙ term_eq-refl u)) (unsplit-more above t us)
 
-    by_rest : is_among us t ≡ true → unsplit (t ∷ above) (u ∷ us) < unsplit above (u ∷ us)
-    by_rest k = there (unsplit (t ∷ above) us) (unsplit above us) (is_among above u) (is_among (t ∷ above) u) (λ l. or_right (term_eq u t) (is_among above u) l) (unsplit-less above t us k n)
+    by_rest : unsplit (t ∷ above) us < unsplit above us → unsplit (t ∷ above) (u ∷ us) < unsplit above (u ∷ us)
+    by_rest k = there (unsplit (t ∷ above) us) (unsplit above us) (is_among above u) (is_among (t ∷ above) u) (λ l. or_right (term_eq u t) (is_among above u) l) k
 
 -- ---- nodes
 

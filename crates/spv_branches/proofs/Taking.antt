@@ -285,3 +285,35 @@ takes-split a t count old new here still nodes many splits opens s c =
     (λ g. split_nested a t old new s g.nested)
     (λ g. split_leaves a c t (length (cases_of (asked a c) (tree a t))) old new still s g.nested)
     (λ g e. split_back a t old new s)
+
+-- ---- calls, whose tree is seen as this value
+
+pub none-more : (k : ℕ) → k ≡ k + 0
+none-more k = omega arith
+
+pub or-true : (b : Bool) → true ≡ (b || true)
+or-true true = refl
+or-true false = refl
+
+pub or-false : (b : Bool) → b ≡ (b || false)
+or-false b = sym (or_none b)
+
+pub takes-next-seen : (view old new : Growth) (n : Grown) → view ≡ old → old.is_left ≡ true → new.nodes ≡ view.nodes ++ n ∷ [] → new.splits ≡ view.splits + splits_of n → new.is_open ≡ (view.is_open || is_open n)
+    → ((q : Question) (b : Branch) → left_by q b n ≡ []) → Moves view.cases view.pending new.cases new.pending new.is_left → (q : Question) → Takes q old new n
+takes-next-seen view old new n e here nodes splits opens none m q =
+    subst (λ (s : Growth). Takes q s new n) e (takes-next view new n (ap (λ (s : Growth). s.is_left) e ∙ here) nodes splits opens none m q)
+
+pub split-seen : (a : Arena) (t : TermId) (view new : Growth) (own : ℕ) (three : Bool) (seen : List Case) → new.cases ≡ view.cases ++ case_of t True ∷ [] → new.pending ≡ view.pending ++ pending_parts own t three → own ≡ length seen
+    → seen ≡ view.cases → three ≡ has_three a t → IsSplit a t view new
+split-seen a t view new own three seen cases pending many same is = record {
+  cases_are = cases;
+  pending_are = pending ∙ ap₂ (λ k b. view.pending ++ pending_parts k t b) (many ∙ ap length same) is;
+}
+
+pub takes-split-seen : (a : Arena) (t : TermId) (count : ℕ) (three : Bool) (view old new : Growth) → view ≡ old → old.is_left ≡ true → new.is_left ≡ view.is_left → new.nodes ≡ view.nodes ++ grown.Split t count ∷ []
+    → count ≡ length (parts_of three) → three ≡ has_three a t → new.splits ≡ view.splits + 1 → new.is_open ≡ view.is_open → IsSplit a t view new
+    → (c : Sequent) → Takes (asked a c) old new (grown.Split t (length (cases_of (asked a c) (tree a t))))
+takes-split-seen a t count three view old new e here still nodes many is splits opens s c =
+    let now : view.is_left ≡ true = ap (λ (x : Growth). x.is_left) e ∙ here in
+    subst (λ (x : Growth). Takes (asked a c) x new (grown.Split t (length (cases_of (asked a c) (tree a t))))) e
+    (takes-split a t count view new now (still ∙ now) nodes (many ∙ ap (λ b. length (parts_of b)) is) splits opens s c)

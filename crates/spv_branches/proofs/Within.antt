@@ -104,3 +104,11 @@ proof-in a [] h = tt
 proof-in a (node.Open ∷ nodes) h = (tt, tt, proof-in a nodes h.1)
 proof-in a (node.Closed steps ∷ nodes) h = (h.0, tt, proof-in a nodes h.1)
 proof-in a (node.Split t parts ∷ nodes) h = (tt, h.0, proof-in a nodes h.1)
+
+-- ---- calls, whose tree is seen as this value
+
+pub stays-in-seen : (view old new : Growth) (n : Grown) → view ≡ old → new.nodes ≡ view.nodes ++ n ∷ [] → Moves view.cases view.pending new.cases new.pending new.is_left → (a : Arena) → IsIn a old → GrownIn a n → IsIn a new
+stays-in-seen view old new n e nodes m a h k = stays-in view new n nodes m a (subst (λ (s : Growth). IsIn a s) (sym e) h) k
+
+pub split-in-seen : (a : Arena) (t : TermId) (count : ℕ) (view old new : Growth) → view ≡ old → new.nodes ≡ view.nodes ++ grown.Split t count ∷ [] → IsSplit a t view new → In a t → IsIn a old → IsIn a new
+split-in-seen a t count view old new e nodes s inside h = split-in a t count view new nodes s inside (subst (λ (x : Growth). IsIn a x) (sym e) h)

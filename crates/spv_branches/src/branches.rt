@@ -1,6 +1,6 @@
 //! A tree as it grows.
 
-ghost use Rattle.std.specs.Prelude.{◌≡◌, ◌<◌, ◌×◌, true, false, length, IfOk, OnOk};
+ghost use Rattle.std.specs.Prelude.{◌≡◌, ◌<◌, true, false, length, IfOk, OnOk};
 ghost use Rattle.spv_logic.specs.Conditions.{Sequent};
 ghost use Rattle.spv_term.specs.Arena.{Arena, tree};
 ghost use Rattle.spv_proof.specs.Effects.{Question};
@@ -12,7 +12,7 @@ ghost use Rattle.spv_branches.specs.Ends.{FinishedIn, IsFinished};
 ghost use Rattle.spv_branches.specs.Growth.{start, HasQuestion, IsGrowing, IsIn, Takes};
 
 use crate::cases::{Case, Pending, count_of, is_comparison, push_others, take_next};
-use crate::finishing::{Finished, finished};
+use crate::finishing::{Finished, outcome_of};
 use spv_atoms::Step;
 use spv_course::Part;
 use spv_decided::Grown;
@@ -142,6 +142,6 @@ impl Branches {
         ensures within { IfOk result (λ f. (a : Arena) → IsIn a self → FinishedIn a f) }
     {
         let is_open = self.is_open;
-        finished(alloc, self.nodes, is_open)
+        outcome_of(alloc, self.nodes, is_open)
     }
 }

@@ -40,7 +40,7 @@ fn proof_of(alloc: Global, nodes: Vec<Grown>) -> Result<Proof, AllocError>
 }
 
 /// The tree of these nodes, where one of them is open; else their proof.
-pub(crate) fn finished(
+pub(crate) fn outcome_of(
     alloc: Global,
     nodes: Vec<Grown>,
     is_open: bool,
