@@ -4,3 +4,4 @@ pub mod Room
 pub mod Taking
 pub mod Within
 pub mod Outcomes
+pub mod Telling

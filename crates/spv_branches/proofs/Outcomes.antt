@@ -31,9 +31,9 @@ whole-at-end s e h = whole h.question s.nodes (ended h.question s e h.grows)
 
 pub is-finished : (s : Growth) (f : Finished) → s.is_left ≡ false → EndsAs s.nodes s.is_open f → IsFinished s f
 is-finished s (finished.Proved p) e h =
-    λ q g formulas. ap (accepts q) h.1.proof_is ∙ proof q s.nodes h.1.tree formulas (ended q s e g) (sym g.open_is ∙ h.0) h.1.of_nodes.is (h.1.of_nodes.same q.at)
+    (h.0, λ q g formulas. ap (accepts q) h.1.proof_is ∙ proof q s.nodes h.1.tree formulas (ended q s e g) (sym g.open_is ∙ h.0) h.1.of_nodes.is (h.1.of_nodes.same q.at))
 is-finished s (finished.Open tree) e h =
-    λ q g. subst (λ (t : Tree). IsKept q s.splits t) (sym (h.1.same q.at)) (kept q s.splits s.nodes (ended q s e g) (sym g.splits_are) (sym g.open_is ∙ h.0))
+    (h.0, λ q g. subst (λ (t : Tree). IsKept q s.splits t) (sym (h.1.same q.at)) (kept q s.splits s.nodes (ended q s e g) (sym g.splits_are) (sym g.open_is ∙ h.0)))
 
 pub finished-in : (s : Growth) (f : Finished) → EndsAs s.nodes s.is_open f → (a : Arena) → IsIn a s → FinishedIn a f
 finished-in s (finished.Proved p) h a i =

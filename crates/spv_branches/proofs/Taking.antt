@@ -76,6 +76,9 @@ takes : (q : Question) (old new : Growth) (n : Grown) → old.is_left ≡ true �
     → (IsGrowing q old → new.is_left ≡ true → GoesBack old.cases new.cases)
     → Takes q old new n
 takes q old new n here nodes splits opens nested leaves back = record {
+  nodes_are = nodes;
+  splits_are = splits;
+  open_is = opens;
   grows = λ g may. record {
     comes = come q old new n here nodes (leaves g) g may;
     nested = nested g;

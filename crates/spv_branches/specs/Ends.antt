@@ -39,10 +39,10 @@ EndsAs nodes is_open (finished.Open tree) = (is_open ≡ true) × IsTreeOf nodes
 
 -- ---- of a tree that grew
 
--- it is an accepted proof, where the formulas are of sort Bool, or is kept
+-- without an open node it is an accepted proof, where the formulas are of sort Bool; with one it is kept
 abbrev pub IsFinished : Growth → Finished → Type 0
-IsFinished s (finished.Proved proof) = (q : Question) → IsGrowing q s → AreFormulas q.shapes q.decls (formulas_of q.sequent) → accepts q proof ≡ true
-IsFinished s (finished.Open tree) = (q : Question) → IsGrowing q s → IsKept q s.splits (tree_at q.at tree)
+IsFinished s (finished.Proved proof) = (s.is_open ≡ false) × ((q : Question) → IsGrowing q s → AreFormulas q.shapes q.decls (formulas_of q.sequent) → accepts q proof ≡ true)
+IsFinished s (finished.Open tree) = (s.is_open ≡ true) × ((q : Question) → IsGrowing q s → IsKept q s.splits (tree_at q.at tree))
 
 -- all terms that it names are in the arena
 abbrev pub FinishedIn : Arena → Finished → Type 0

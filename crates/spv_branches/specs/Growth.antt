@@ -1,5 +1,5 @@
 -- A tree as it grows, as contracts see it, and what it says of the branches that are left.
-use Rattle.std.specs.Prelude.{◌≡◌, ◌≤◌, ◌<◌, ℕ, Bool, true, false, List, [], ◌∷◌, ◌++◌, length, map, reverse, take, ⊤}
+use Rattle.std.specs.Prelude.{◌≡◌, ◌≤◌, ◌<◌, ℕ, ◌+◌, Bool, true, false, ◌||◌, List, [], ◌∷◌, ◌++◌, length, map, reverse, take, ⊤}
 use Rattle.spv_logic.specs.declared.conditions.TermId.{TermId}
 use Rattle.spv_logic.specs.Terms.{Term}
 use Rattle.spv_term.specs.Arena.{Arena, tree}
@@ -15,7 +15,7 @@ use Rattle.spv_decided.specs.declared.growing.Grown.TheVariants as grown
 use Rattle.spv_branches.specs.declared.cases.Case.{Case}
 use Rattle.spv_branches.specs.declared.cases.Pending.{Pending}
 use Rattle.spv_branches.specs.Branches.{Branch, root, left_by, MayTake, Comes}
-use Rattle.spv_branches.specs.Counts.{some_open, split_count, room}
+use Rattle.spv_branches.specs.Counts.{is_open, some_open, splits_of, split_count, room}
 
 -- the nodes so far, the cases of the branch that comes next and whether one does, the parts that wait behind it, of which the last one comes first,
 -- how many nodes are splits, and whether one is open
@@ -93,8 +93,12 @@ pub record GoesBack (old new : List Case) : Type 0 where
   pub within : kept ≤ length old
   pub cases_are : new ≡ take kept old ++ last ∷ []
 
--- a node takes the branch that comes next
+-- a node takes the branch that comes next: what it leaves stands in its place, in front of the others, and takes less room; and the path of the
+-- branch that comes then begins as this one's
 pub record Takes (q : Question) (old new : Growth) (n : Grown) : Type 0 where
+  pub nodes_are : new.nodes ≡ old.nodes ++ n ∷ []
+  pub splits_are : new.splits ≡ old.splits + splits_of n
+  pub open_is : new.is_open ≡ (old.is_open || is_open n)
   pub grows : IsGrowing q old → MayTake q (next q.at old) n → IsGrowing q new
   pub leaves : IsGrowing q old → left q.at new ≡ left_by q (next q.at old) n ++ others q.at old
   pub less : IsGrowing q old → MayTake q (next q.at old) n → room q (left q.at new) < room q (left q.at old)

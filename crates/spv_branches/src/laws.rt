@@ -1,6 +1,6 @@
 // What is true of nodes that take branches, each law the contract of a function that does nothing.
 
-ghost use Rattle.spv_branches.specs.Laws.{NodesAreWhole, NodesGoOn, NodesTakeRoom, TreeIsClosed, TreeIsKept, TreeIsProof, TreeStands};
+ghost use Rattle.spv_branches.specs.Laws.{LastIsIn, NodesAreWhole, NodesGoOn, NodesTakeRoom, OthersAreNew, TreeIsClosed, TreeIsKept, TreeIsProof, TreeStands};
 
 /// One more node takes the branch that comes next, and there is less room behind it.
 pub fn law_branches()
@@ -15,4 +15,10 @@ pub fn law_tree()
     ensures kept { TreeIsKept }
     ensures closed { TreeIsClosed }
     ensures proof { TreeIsProof }
+{}
+
+/// An atom that no case is of was not split on above; and the last one of cases that are in the arena may be told.
+pub fn law_cases()
+    ensures new { OthersAreNew }
+    ensures last { LastIsIn }
 {}

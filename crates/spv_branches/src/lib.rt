@@ -10,4 +10,4 @@ mod laws;
 pub use branches::Branches;
 pub use cases::Case;
 pub use finishing::Finished;
-pub use laws::{law_branches, law_tree};
+pub use laws::{law_branches, law_cases, law_tree};
