@@ -1,5 +1,5 @@
 -- Nodes that take branches one after the other are a tree that stands.
-use Rattle.std.proofs.Common.{◌≡◌, ℕ, zero, suc, ◌+◌, Bool, true, false, cond, ◌&&◌, List, [], ◌∷◌, ◌++◌, map, take, drop, length, refl, sym, ap, ◌∙◌, subst, Option, Some, None}
+use Rattle.std.proofs.Common.{◌≡◌, ◌+◌, Bool, true, false, cond, ◌&&◌, List, [], ◌∷◌, ◌++◌, map, take, drop, length, refl, sym, ap, ◌∙◌, subst, Option, Some, None}
 use Rattle.std.specs.Prelude.{⊤}
 use Rattle.std.specs.Cmp.Derive.{both_true}
 use Rattle.std.proofs.lemmas.List.{length-append, length-map}
@@ -7,13 +7,13 @@ use Rattle.spv_logic.specs.Terms.{Term}
 use Rattle.spv_proof.specs.Evaluation.{sides}
 use Rattle.spv_proof.specs.Effects.{Question, is_number}
 use Rattle.spv_proof.specs.Accepted.{cases_of, cases_by_sides, two_cases, three_cases}
-use Rattle.spv_split_trees.specs.Trees.{Tree, Trees}
+use Rattle.spv_split_trees.specs.Trees.{Tree}
 use Rattle.spv_split_trees.specs.Kept.{Stands, PartsStand}
 use Rattle.spv_decided.specs.declared.growing.Grown.{Grown}
 use Rattle.spv_decided.specs.declared.growing.Grown.TheVariants as grown
 use Rattle.spv_decided.specs.Nodes.{joined, first_tree}
 use Rattle.spv_decided.specs.Growing.{parts_count, is_positive, has_parts, are_whole, is_whole, grown_trees, grown_at}
-use Rattle.spv_branches.specs.Branches.{Branch, root, part_of, left_by, HasCases, MayTake, Comes}
+use Rattle.spv_branches.specs.Branches.{Branch, root, part_of, left_by, MayTake, Comes}
 
 -- ---- one more node
 

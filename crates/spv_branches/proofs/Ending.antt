@@ -1,5 +1,5 @@
 -- A tree with an open path is kept; one without is a proof.
-use Rattle.std.proofs.Common.{◌≡◌, ℕ, zero, suc, ◌+◌, Bool, true, false, ◌||◌, List, [], ◌∷◌, ◌++◌, take, drop, length, refl, sym, ap, ◌∙◌, subst, arith}
+use Rattle.std.proofs.Common.{◌≡◌, ℕ, zero, suc, ◌+◌, Bool, true, false, ◌||◌, List, [], ◌∷◌, ◌++◌, take, drop, refl, sym, ap, ◌∙◌, subst, arith}
 use Rattle.std.proofs.Math.Bool.{or_assoc}
 use Rattle.std.proofs.lemmas.Bool.{false≢true}
 use Rattle.spv_list.proofs.Tests.{left_false, right_false}
@@ -22,7 +22,7 @@ use Rattle.spv_decided.specs.Nodes.{is_split_tree, joined, first_tree, tree_at, 
 use Rattle.spv_decided.specs.Growing.{grown_trees, grown_at}
 use Rattle.spv_decided.specs.Laws.{AllClosed, PartsClosed}
 use Rattle.spv_decided.proofs.ClosedTrees.{closed_accepted}
-use Rattle.spv_branches.specs.Branches.{Branch, root, Comes}
+use Rattle.spv_branches.specs.Branches.{root, Comes}
 use Rattle.spv_branches.specs.Counts.{some_open, split_count}
 use Rattle.spv_branches.proofs.Coming.{BranchesStand, all_stand, stands}
 

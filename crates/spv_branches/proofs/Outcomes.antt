@@ -1,6 +1,5 @@
 -- What comes of a tree that is whole.
-use Rattle.std.proofs.Common.{◌≡◌, Bool, true, false, List, [], ◌∷◌, refl, sym, ap, ◌∙◌, subst}
-use Rattle.std.proofs.lemmas.Bool.{false≢true}
+use Rattle.std.proofs.Common.{◌≡◌, true, false, List, [], ◌∷◌, sym, ap, ◌∙◌, subst}
 use Rattle.spv_term.specs.Arena.{Arena}
 use Rattle.spv_atoms.specs.declared.proofs.ProofNode.{ProofNode}
 use Rattle.spv_proof.specs.Effects.{Question}
@@ -8,15 +7,13 @@ use Rattle.spv_proof.specs.Accepted.{accepts}
 use Rattle.spv_proof.specs.Stand.{NodesIn}
 use Rattle.spv_split_trees.specs.Trees.{Tree}
 use Rattle.spv_split_trees.specs.Kept.{IsKept}
-use Rattle.spv_decided.specs.declared.growing.Grown.{Grown}
 use Rattle.spv_decided.specs.declared.trees.SplitNode.{SplitNode}
-use Rattle.spv_decided.specs.Nodes.{tree_at, proof_nodes}
-use Rattle.spv_decided.specs.Growing.{is_whole, grown_at}
+use Rattle.spv_decided.specs.Growing.{is_whole}
 use Rattle.spv_decided.specs.Views.{SplitNodesIn}
 use Rattle.spv_branches.specs.declared.finishing.Finished.{Finished}
 use Rattle.spv_branches.specs.declared.finishing.Finished.TheVariants as finished
 use Rattle.spv_branches.specs.Branches.{Branch, root, Comes}
-use Rattle.spv_branches.specs.Growth.{Growth, IsGrowing, HasQuestion, IsIn, all_if, left, next, others}
+use Rattle.spv_branches.specs.Growth.{Growth, IsGrowing, HasQuestion, IsIn, all_if, next, others}
 use Rattle.spv_branches.specs.Ends.{EndsAs, IsFinished, FinishedIn}
 use Rattle.spv_branches.proofs.Coming.{whole}
 use Rattle.spv_branches.proofs.Ending.{kept, proof}

@@ -1,5 +1,5 @@
 -- A node takes more room than it leaves.
-use Rattle.std.proofs.Common.{◌≡◌, ℕ, zero, suc, ◌+◌, ◌*◌, ◌<◌, ◌≤◌, Bool, true, false, cond, ◌&&◌, ◌||◌, List, [], ◌∷◌, ◌++◌, map, length, refl, sym, ap, ◌∙◌, subst, Option, Some, None, arith}
+use Rattle.std.proofs.Common.{◌≡◌, ℕ, zero, suc, ◌+◌, ◌*◌, ◌<◌, ◌≤◌, Bool, true, false, cond, ◌&&◌, List, [], ◌∷◌, ◌++◌, map, length, refl, sym, ap, ◌∙◌, subst, Option, Some, None, arith}
 use Rattle.std.proofs.lemmas.Bool.{false≢true}
 use Rattle.spv_logic.specs.Terms.{Term, term_eq}
 use Rattle.spv_logic.proofs.Equality.{term_eq-true, term_eq-refl}

@@ -1,15 +1,15 @@
 -- What the calls on a tree do to it.
-use Rattle.std.proofs.Common.{◌≡◌, ℕ, zero, suc, ◌+◌, ◌<◌, ◌≤◌, Bool, true, false, cond, ◌&&◌, ◌||◌, List, [], ◌∷◌, ◌++◌, map, take, drop, length, refl, sym, ap, ◌∙◌, subst, Option, Some, None, arith}
+use Rattle.std.proofs.Common.{◌≡◌, ℕ, zero, suc, ◌+◌, ◌<◌, ◌≤◌, Bool, true, false, cond, ◌&&◌, ◌||◌, List, [], ◌∷◌, ◌++◌, map, take, length, refl, sym, ap, ◌∙◌, subst, Option, Some, None, arith}
 use mathlib.Core.Path.{ap₂}
-use Rattle.std.specs.Prelude.{reverse, ⊤}
+use Rattle.std.specs.Prelude.{reverse}
 use Rattle.std.proofs.Math.Bool.{or_assoc}
 use Rattle.std.proofs.Math.Seq.{take-append_seam, take-length}
 use Rattle.std.proofs.lemmas.Bool.{false≢true}
-use Rattle.std.proofs.lemmas.List.{append_assoc, length-append, length-take-le, length_push, map-append, reverse-append, reverse-reverse, take-append-le}
+use Rattle.std.proofs.lemmas.List.{length-take-le, length_push, map-append, reverse-append, take-append-le}
 use Rattle.spv_logic.specs.declared.conditions.TermId.{TermId}
 use Rattle.spv_logic.specs.declared.operators.Head.TheVariants.{Eq}
 use Rattle.spv_logic.specs.Terms.{Term, term, no_terms, terms}
-use Rattle.spv_logic.specs.Formulas.{negation, equation, below}
+use Rattle.spv_logic.specs.Formulas.{equation, below}
 use Rattle.spv_logic.specs.Conditions.{Sequent}
 use Rattle.spv_term.specs.Arena.{Arena, tree}
 use Rattle.spv_proof.specs.Evaluation.{sides}

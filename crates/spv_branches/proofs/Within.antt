@@ -1,23 +1,19 @@
 -- The terms that a tree names stay in the arena.
-use Rattle.std.proofs.Common.{◌≡◌, ℕ, zero, suc, Bool, true, false, List, [], ◌∷◌, ◌++◌, take, drop, length, refl, sym, ap, ◌∙◌, subst, Some, None}
-use Rattle.std.specs.Prelude.{⊤}
+use Rattle.std.proofs.Common.{◌≡◌, ℕ, zero, suc, Bool, true, false, List, [], ◌∷◌, ◌++◌, take, length, refl, sym, subst}
 use Rattle.spv_logic.specs.declared.conditions.TermId.{TermId}
 use Rattle.spv_term.specs.Arena.{Arena}
-use Rattle.spv_atoms.specs.declared.proofs.Step.{Step}
-use Rattle.spv_proof.specs.Stand.{In, StepsIn, SplitIn, NodesIn}
-use Rattle.spv_course.specs.declared.entries.Part.{Part}
-use Rattle.spv_course.specs.declared.entries.Part.TheVariants.{True, False, Below, Above}
-use Rattle.spv_course.specs.Course.{PartFits}
+use Rattle.spv_proof.specs.Stand.{In, NodesIn}
+use Rattle.spv_course.specs.declared.entries.Part.TheVariants.{True}
 use Rattle.spv_decided.specs.declared.growing.Grown.{Grown}
 use Rattle.spv_decided.specs.declared.growing.Grown.TheVariants as grown
 use Rattle.spv_decided.specs.declared.trees.SplitNode.{SplitNode}
-use Rattle.spv_decided.specs.Nodes.{proof_node, proof_nodes}
-use Rattle.spv_decided.specs.Growing.{parts_count, placed_node, placed, roots}
+use Rattle.spv_decided.specs.Nodes.{proof_nodes}
+use Rattle.spv_decided.specs.Growing.{placed_node, placed, roots}
 use Rattle.spv_decided.specs.Views.{SplitNodeIn, SplitNodesIn}
 use Rattle.spv_decided.specs.declared.trees.SplitNode.TheVariants as node
 use Rattle.spv_branches.specs.declared.cases.Case.{Case}
 use Rattle.spv_branches.specs.declared.cases.Pending.{Pending}
-use Rattle.spv_branches.specs.Growth.{Growth, start, cases_at, has_three, case_of, pending_of, pending_parts, IsNext, Moves, CaseIn, CasesIn, PendingIn, GrownIn, AllGrownIn, IsIn}
+use Rattle.spv_branches.specs.Growth.{Growth, start, has_three, case_of, pending_parts, Moves, CaseIn, CasesIn, PendingIn, GrownIn, AllGrownIn, IsIn}
 use Rattle.spv_branches.proofs.Taking.{IsSplit}
 
 pub start-in : (a : Arena) → IsIn a start

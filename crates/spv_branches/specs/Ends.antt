@@ -17,7 +17,7 @@ use Rattle.spv_decided.specs.Growing.{grown_at, placed}
 use Rattle.spv_decided.specs.Views.{SplitNodesIn}
 use Rattle.spv_branches.specs.declared.finishing.Finished.{Finished}
 use Rattle.spv_branches.specs.declared.finishing.Finished.TheVariants as finished
-use Rattle.spv_branches.specs.Growth.{Growth, IsGrowing, IsIn}
+use Rattle.spv_branches.specs.Growth.{Growth, IsGrowing}
 
 -- ---- of nodes
 

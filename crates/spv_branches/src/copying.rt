@@ -30,10 +30,7 @@ fn same_terms(alloc: Global, terms: &[TermId]) -> Result<List<TermId>, AllocErro
     Ok(list)
 }
 
-fn same_multiples(
-    alloc: Global,
-    multiples: &[(Frac, u32)],
-) -> Result<List<(Frac, u32)>, AllocError>
+fn same_multiples(alloc: Global, multiples: &[(Frac, u32)]) -> Result<List<(Frac, u32)>, AllocError>
     ensures { IfOk result (λ v. v ≡ multiples.now) }
 {
     let mut list = List::new(alloc);

@@ -1,4 +1,4 @@
-use Rattle.std.proofs.Common.{◌≡◌, List, [], ◌∷◌, ◌++◌, refl, ap, ◌∙◌}
+use Rattle.std.proofs.Common.{[], ◌∷◌, ◌++◌, refl, ap, ◌∙◌}
 use Rattle.spv_decided.specs.declared.growing.Grown.TheVariants as grown
 use Rattle.spv_branches.proofs.Taking.{none-more, or-false, takes-next-seen}
 use Rattle.spv_branches.proofs.Within.{stays-in-seen}
