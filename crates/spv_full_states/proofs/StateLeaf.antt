@@ -64,7 +64,7 @@ module _ (a : Arena) (c : Condition) (b : Both) (cases : List Term) (value : Ter
 
   meets_here : MeetsKnown (question a c) (facts (question a c) cases) (part_value a b.standing.tableau.forms (kept_point b.standing.tableau))
   meets_here =
-      meets_known a s.opened.ok b s.opened.both s.opened.agree s.opened.inside c s.opened.of_atoms (kept_point b.standing.tableau) s.opened.tableau.solution s.opened.agree.point (facts (question a c) cases) value s.opened.answered
+      meets_known a s.opened.ok b s.opened.both s.opened.agree c s.opened.of_atoms (kept_point b.standing.tableau) s.opened.tableau.solution s.opened.agree.point (facts (question a c) cases) value s.opened.answered
       s.opened.known gives
 
   id_node : (t : Term) (k : HasId a b.trail.graph.added t) → IsNode b.trail.graph.nodes k.id

@@ -1,5 +1,5 @@
 -- A point that meets the bounds that stand makes all relations true that are known.
-use Rattle.std.proofs.Common.{◌≡◌, ℕ, zero, suc, ◌<◌, Bool, true, false, cond, ◌&&◌, List, [], ◌∷◌, map, get_or, nat_eq, refl, sym, ap, ◌∙◌, subst, Option, Some, None, inl, inr}
+use Rattle.std.proofs.Common.{◌≡◌, ℕ, zero, suc, ◌<◌, Bool, true, false, cond, ◌&&◌, ◌||◌, List, [], ◌∷◌, map, get_or, nat_eq, refl, sym, ap, ◌∙◌, subst, Option, Some, None, inl, inr}
 use Rattle.std.specs.Prelude.{slice_get, is_some}
 use Rattle.std.proofs.lemmas.Bool.{false≢true}
 use Rattle.std.proofs.lemmas.Option.{same_Some, slice_get-get_or, slice_get_within}
@@ -14,14 +14,15 @@ use Rattle.spv_term.specs.Arena.{Arena, IsArena, tree}
 use Rattle.spv_proof.specs.Sums.{Reading, reading, read_if}
 use Rattle.spv_readings.specs.declared.saying.Saying.{Saying}
 use Rattle.spv_readings.specs.declared.saying.Saying.TheVariants.{Equal, Below, AtMost, Above, AtLeast}
-use Rattle.spv_readings.specs.Sayings.{saying, literal}
+use Rattle.spv_readings.specs.Sayings.{bounds_of, saying, literal}
+use Rattle.spv_readings.proofs.Bounding.{bound_is_on}
 use Rattle.spv_leaf_tables.specs.Leaves.{is_met, is_met_by}
 use Rattle.spv_logic.proofs.Equality.{term_eq-true}
 use Rattle.spv_term.specs.declared.nodes.Condition.{Condition}
 use Rattle.spv_term.proofs.ArenaLemmas.{HasOneId-arena}
 use Rattle.spv_atoms.specs.Linear.{IdForm}
 use Rattle.spv_atoms.specs.Order.{passing}
-use Rattle.spv_atoms.proofs.Members.{has, or_cases, has-with_terms}
+use Rattle.spv_atoms.proofs.Members.{has, or_cases, or_left, or_right, has-with_terms}
 use Rattle.std.specs.Cmp.Derive.{both_true}
 use Rattle.spv_classes.proofs.Lists.{nat_same}
 use Rattle.spv_pivots.proofs.Sums.{eq_is}
@@ -45,7 +46,9 @@ use Rattle.spv_leaf_tables.proofs.Lookups.{has-passing}
 use Rattle.spv_leaf_tables.proofs.Points.{literal-met, above-met}
 use Rattle.spv_split_trees.specs.Paths.{atoms, questions, Known, Gives, member, negated, MeetsKnown}
 use Rattle.spv_share_rows.specs.Standing.{Stands}
+use Rattle.spv_share_rows.specs.Forcing.{HasPoint}
 use Rattle.spv_share_rows.proofs.Forms.{form_at}
+use Rattle.spv_share_rows.proofs.Meeting.{met_alone}
 use Rattle.spv_share.specs.declared.both.Both.{Both}
 use Rattle.spv_share.specs.declared.relations.Related.{Related}
 use Rattle.spv_share.specs.declared.relations.Claim.{Claim}
@@ -53,9 +56,10 @@ use Rattle.spv_share.specs.declared.relations.Noted.{Noted}
 use Rattle.spv_share.specs.Relations.{AreRelationsAmong, is_relation, find, claim, claim_of, said}
 use Rattle.spv_share.specs.Both as both
 use Rattle.spv_share.specs.Both.{IsBoth}
-use Rattle.spv_share.specs.States.{IsOpen}
+use Rattle.spv_share.specs.States.{HasOrder, IsOpen}
 use Rattle.spv_share.proofs.Rowed.{row_at, row_inside}
-use Rattle.spv_live_states.specs.States.{IsToldAs, IsDenied, by_itself, by_below, by_above, AreTold, AreInside, IsOrderTold, below_it, above_it, AreRelated}
+use Rattle.spv_share.proofs.Ties.{told_inside}
+use Rattle.spv_live_states.specs.States.{IsToldAs, IsDenied, by_itself, by_below, by_above, AreTold, IsOrderTold, below_it, above_it, AreRelated}
 
 -- ---- what is read of a term
 
@@ -199,14 +203,21 @@ pub record HasStanding (a : Arena) (b : Both) (x y : Term) (s : Saying) : Type 0
   pub is_row : IsRowOf a (x, y) form
   pub stands : points.Stands b.standing.tableau.bounds row form s
 
+-- a point that meets the bounds that stand, and puts one of two terms below the other
+pub record IsOrderedAt (a : Arena) (b : Both) (x y : Term) : Type 0 where
+  pub point : Point
+  pub solution : IsSolution (rows_in b.standing.tableau) point
+  pub stand : Meets (limits (rows_in b.standing.tableau) b.standing.tableau.bounds) point
+  pub order : (is_met (number_in a) (part_value a b.standing.tableau.forms point) (below x y) || is_met (number_in a) (part_value a b.standing.tableau.forms point) (below y x)) ≡ true
+
 unclaimed : Noted
 unclaimed = record { claim = None; fact = 0 }
 
-module _ (a : Arena) (ok : IsArena a) (b : Both) (h : IsBoth a b) (agree : IsOpen b) (inside : AreInside a b) (c : Condition) (related : AreRelationsAmong a (atoms (question a c)) b.relations.items) where
+module _ (a : Arena) (ok : IsArena a) (b : Both) (h : IsBoth a b) (agree : IsOpen b) (c : Condition) (related : AreRelationsAmong a (atoms (question a c)) b.relations.items) where
   literal_stands : (q : Head) (x y : Term) (p : Part) (k : IsToldAs a b (term q (terms x (terms y no_terms))) p) (r : IsRelationAt a b.relations.items (term q (terms x (terms y no_terms)))) (s : Saying) → told.told q p ≡ Some s → HasStanding a b x y s
   literal_stands q x y p k r s says =
       let rel = h.sound.related.are.each r.place r.relation r.there in
-      let one_id : r.relation.atom ≡ k.told_one.atom = HasOneId-arena a ok r.relation.atom k.told_one.atom rel.within (inside.each k.place k.told_one k.there) (r.is ∙ sym k.atom) in
+      let one_id : r.relation.atom ≡ k.told_one.atom = HasOneId-arena a ok r.relation.atom k.told_one.atom rel.within (told_inside a b.relations.items b.trail.course b.claims.items h.claims k.place k.told_one k.there) (r.is ∙ sym k.atom) in
       let f = found_at b.relations.items k.told_one.atom r.place r.relation r.there one_id in
       let found_rel = h.sound.related.are.each f.place f.relation f.there in
       let tree_is : term f.relation.head (terms (tree a f.relation.left) (terms (tree a f.relation.right) no_terms)) ≡ term q (terms x (terms y no_terms)) = sym found_rel.is ∙ (ap (tree a) f.is ∙ k.atom) in
@@ -246,6 +257,39 @@ module _ (a : Arena) (ok : IsArena a) (b : Both) (h : IsBoth a b) (agree : IsOpe
   atom_relation q x y d s m n e among =
       relation_found a b.relations.items (term q (terms x (terms y no_terms)))
       (ap (λ ts. has ts (term q (terms x (terms y no_terms)))) related ∙ has-passing (is_relation a) (atoms (question a c)) (term q (terms x (terms y no_terms))) among (relation_is a q x y d s m n e))
+
+  -- a point that was found for an order of a relation's sides meets the bounds that stand and this order
+  module _ (row : ℕ) (r : Related) (there : slice_get b.relations.items row ≡ Some r) (m : number_in a (tree a r.left) ≡ true) (n : number_in a (tree a r.right) ≡ true) where
+    form : (f : IdForm) × (slice_get b.standing.tableau.forms row ≡ Some f)
+    form = form_at b.standing.tableau.forms row (row_inside a b.trail.graph.nodes b.relations.items b.standing.tableau.forms h.sound.related row r there)
+
+    is_row : IsRowOf a (tree a r.left, tree a r.right) form.0
+    is_row = row_at a b.relations.items b.standing.tableau.forms h.sound.related.rows row r form.0 there form.1
+
+    below_at : HasPoint b.standing row Below → IsOrderedAt a b (tree a r.left) (tree a r.right)
+    below_at p = record {
+      point = p.point;
+      solution = p.solution;
+      stand = p.stand;
+      order =
+          or_left (is_met (number_in a) (part_value a b.standing.tableau.forms p.point) (below (tree a r.left) (tree a r.right))) _
+          (literal-met a ok b.standing.tableau.forms h.sound.inside (bounds_of row (form.0).constant Below) p.point p.solution (met_alone b.standing row Below p.point p.meets form.0 form.1) row form.0 form.1 (tree a r.left) (tree a r.right) is_row
+          (number_in a) Lt true Below m n refl (bound_is_on row (form.0).constant Below));
+    }
+
+    above_at : HasPoint b.standing row Above → IsOrderedAt a b (tree a r.left) (tree a r.right)
+    above_at p = record {
+      point = p.point;
+      solution = p.solution;
+      stand = p.stand;
+      order =
+          or_right (is_met (number_in a) (part_value a b.standing.tableau.forms p.point) (below (tree a r.left) (tree a r.right))) _
+          (above-met a ok b.standing.tableau.forms h.sound.inside (bounds_of row (form.0).constant Above) p.point p.solution (met_alone b.standing row Above p.point p.meets form.0 form.1) row form.0 form.1 (tree a r.left) (tree a r.right) is_row
+          (number_in a) m n (bound_is_on row (form.0).constant Above));
+    }
+
+    pub ordered_at : HasOrder b.standing row → IsOrderedAt a b (tree a r.left) (tree a r.right)
+    ordered_at o = elim o [ inl p ↦ above_at p | inr p ↦ below_at p ]
 
   module _ (v : Point) (solution : IsSolution (rows_in b.standing.tableau) v) (meets : Meets (limits (rows_in b.standing.tableau) b.standing.tableau.bounds) v) where
     abbrev w : Term → Rational

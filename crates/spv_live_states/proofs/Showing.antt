@@ -40,7 +40,7 @@ use Rattle.spv_live_states.specs.States.{same_in}
 use Rattle.spv_live_states.specs.Laws.{IsOpenState}
 use Rattle.spv_live_states.proofs.Sameness.{joined_same, same_is, tree_label, sameness, IsSame, one, labelled}
 use Rattle.spv_live_states.proofs.Telling.{true_same, false_same, sides_same, sides_apart, truths_apart, numerals_one}
-use Rattle.spv_live_states.proofs.Meeting.{atom_asked, atom_relation, meets_known}
+use Rattle.spv_live_states.proofs.Meeting.{atom_asked, atom_relation, meets_known, ordered_at}
 
 module _ (a : Arena) (c : Condition) (b : Both) (cases : List Term) (value : Term → Option Bool) (s : IsOpenState a c b cases value) where
   abbrev fs : List Term
@@ -59,11 +59,11 @@ module _ (a : Arena) (c : Condition) (b : Both) (cases : List Term) (value : Ter
       by_atom true true k = absurd (false≢true (right_true (atoms_of.is_truth a.shapes a.decls (equation x y)) false k))
 
   told_same : (x y : Term) → Told (question a c) (facts (question a c) cases) x y → same_in a b x y ≡ true
-  told_same _ _ (true_one t m k) = true_same a s.ok b s.both s.exact s.terms_are s.tied s.agree.clash t (s.answered.affirmed t m (gives t true (member t k)))
-  told_same _ _ (false_one t m k) = false_same a s.ok b s.both s.exact s.terms_are s.tied s.agree.clash t (s.answered.denied t m (gives t false (negated t k)))
+  told_same _ _ (true_one t m k) = true_same a s.ok b s.both s.exact s.terms_are s.agree.clash t (s.answered.affirmed t m (gives t true (member t k)))
+  told_same _ _ (false_one t m k) = false_same a s.ok b s.both s.exact s.terms_are s.agree.clash t (s.answered.denied t m (gives t false (negated t k)))
   told_same _ _ (sides x y m k) =
       let t = s.answered.affirmed (equation x y) (atom_asked a c (equation x y) m) (gives (equation x y) true (member (equation x y) k)) in
-      sides_same a s.ok b s.both s.exact s.terms_are s.tied s.agree.clash x y t (s.inside.each t.place t.told_one t.there) (not_truths x y m)
+      sides_same a s.ok b s.both s.exact s.terms_are s.agree.clash x y t (not_truths x y m)
 
   -- ---- points
 
@@ -81,13 +81,13 @@ module _ (a : Arena) (c : Condition) (b : Both) (cases : List Term) (value : Ter
           ∙ (have_one_value a s.ok b s.both s.agree s.exact s.terms_are s.enough v solution meets p.id q.id (id_node x p) (id_node y q) (ap (number_in a) p.is ∙ m) same ∙ ap (worth_at (part_value a b.standing.tableau.forms v)) q.is)
 
   known_at : (v : Point) → (solution : IsSolution (rows_in b.standing.tableau) v) → (meets : Meets (limits (rows_in b.standing.tableau) b.standing.tableau.bounds) v) → MeetsKnown (question a c) (facts (question a c) cases) (part_value a b.standing.tableau.forms v)
-  known_at v solution meets = meets_known a s.ok b s.both s.agree s.inside c s.of_atoms v solution meets (facts (question a c) cases) value s.answered s.known gives
+  known_at v solution meets = meets_known a s.ok b s.both s.agree c s.of_atoms v solution meets (facts (question a c) cases) value s.answered s.known gives
 
   -- ---- orders
 
   orders : (x y : Term) → has (atoms (question a c)) (equation x y) ≡ true → number_in a x ≡ true → number_in a y ≡ true → same_in a b x y ≡ false → HasOrder (question a c) (facts (question a c) cases) (same_in a b) x y
   orders x y m nx ny apart =
-      let r = atom_relation a s.ok b s.both s.agree s.inside c s.of_atoms Eq x y true Equal nx ny refl m in
+      let r = atom_relation a s.ok b s.both s.agree c s.of_atoms Eq x y true Equal nx ny refl m in
       let rel = s.both.sound.related.are.each r.place r.relation r.there in
       let tree_is : term r.relation.head (terms (tree a r.relation.left) (terms (tree a r.relation.right) no_terms)) ≡ equation x y = sym rel.is ∙ r.is in
       let head : r.relation.head ≡ Eq = heads r.relation.head Eq (terms (tree a r.relation.left) (terms (tree a r.relation.right) no_terms)) (terms x (terms y no_terms)) tree_is in
@@ -97,11 +97,11 @@ module _ (a : Arena) (c : Condition) (b : Both) (cases : List Term) (value : Ter
       both_true (ap is_equality head)
       (ap not (false_of (are_same b.trail.graph r.relation.left r.relation.right)
       (λ same. false≢true (sym apart ∙ (ap₂ (same_in a b) (sym left) (sym right) ∙ joined_same a s.ok b s.both s.exact s.terms_are r.relation.left r.relation.right rel.left rel.right same))))) in
-      let p = s.apart.each r.place r.relation r.there open_is in
+      let p = ordered_at a s.ok b s.both s.agree c s.of_atoms r.place r.relation r.there (ap (number_in a) left ∙ nx) (ap (number_in a) right ∙ ny) (s.agree.apart r.place r.relation r.there open_is) in
       record {
         point = part_value a b.standing.tableau.forms p.point;
-        meets = known_at p.point p.solution p.meets;
-        equal = equal_at p.point p.solution p.meets;
+        meets = known_at p.point p.solution p.stand;
+        equal = equal_at p.point p.solution p.stand;
         order =
             ap₂ (λ u v. is_met (number_in a) (part_value a b.standing.tableau.forms p.point) (below u v) || is_met (number_in a) (part_value a b.standing.tableau.forms p.point) (below v u)) (sym left) (sym right) ∙ p.order;
       }
@@ -124,9 +124,9 @@ module _ (a : Arena) (c : Condition) (b : Both) (cases : List Term) (value : Ter
     covers = gives;
     agree = s.finished.agree;
     apart = λ x y m k.
-        sides_apart a s.ok b s.both s.exact s.terms_are s.tied s.agree.clash x y (s.answered.denied (equation x y) (atom_asked a c (equation x y) m) (gives (equation x y) false (negated (equation x y) k))) s.inside (not_truths x y m);
-    numerals = numerals_one a s.ok b s.both s.exact s.terms_are s.tied s.agree.clash;
-    truths = truths_apart a s.ok b s.both s.exact s.terms_are s.tied s.agree.clash;
+        sides_apart a s.ok b s.both s.exact s.terms_are s.agree.clash x y (s.answered.denied (equation x y) (atom_asked a c (equation x y) m) (gives (equation x y) false (negated (equation x y) k))) (not_truths x y m);
+    numerals = numerals_one a s.ok b s.both s.exact s.terms_are s.agree.clash;
+    truths = truths_apart a s.ok b s.both s.exact s.terms_are s.agree.clash;
     point = part_value a b.standing.tableau.forms (kept_point b.standing.tableau);
     meets = known_at (kept_point b.standing.tableau) s.tableau.solution s.agree.point;
     equal = equal_at (kept_point b.standing.tableau) s.tableau.solution s.agree.point;

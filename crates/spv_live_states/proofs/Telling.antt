@@ -24,14 +24,17 @@ use Rattle.spv_course.specs.Sides.{Pair, node_sides, sides_under}
 use Rattle.spv_course.specs.Derived.{is_truth}
 use Rattle.spv_pivots.proofs.Algebra.{false_of}
 use Rattle.spv_share_graph.specs.Holding.{HasNoClash}
-use Rattle.spv_share_graph.specs.Telling.{Tie, literal_ties, equation_sides, unless_truths, value_tie, sides_tie}
+use Rattle.spv_share_graph.specs.Telling.{Tie, tie_of, literal_ties, equation_sides, unless_truths, value_tie, sides_tie}
 use Rattle.spv_share.specs.declared.both.Both.{Both}
 use Rattle.spv_share.specs.Both.{IsBoth}
+use Rattle.spv_share.proofs.Closing.{tie_fact}
+use Rattle.spv_share.proofs.Ties.{told_inside}
+use Rattle.spv_congruence.specs.declared.facts.Fact.{Fact}
 use Rattle.spv_leaf_tables.specs.Labels.{HasId}
 use Rattle.spv_leaf_tables.specs.Leaves.{truth_term}
 use Rattle.spv_split_trees.specs.Paths.{numeral}
 use Rattle.spv_share_laws.proofs.Exact.{derived_same, node_listed}
-use Rattle.spv_live_states.specs.States.{same_in, IsToldAs, IsDenied, by_itself, by_below, by_above, IsTied, AreInside, AreTied}
+use Rattle.spv_live_states.specs.States.{same_in, IsToldAs, IsDenied, by_itself, by_below, by_above}
 use Rattle.spv_live_states.proofs.Sameness.{joined_same, same_joined, same_is, tree_label, IsSame, one, labelled}
 
 -- ---- sides of equations
@@ -91,7 +94,14 @@ sides_told a t x y k e =
 
 -- ---- ties
 
-module _ (a : Arena) (ok : IsArena a) (b : Both) (h : IsBoth a b) (exact : IsExact b.trail.graph) (terms_are : AreTerms b.trail.graph.nodes b.trail.graph.added) (tied : AreTied a b) (clash : HasNoClash b.trail.graph) where
+-- a tie is one of those of the graph's facts
+record IsTied (b : Both) (x : Tie) : Type 0 where
+  place : ℕ
+  fact : Fact
+  there : slice_get b.trail.graph.told place ≡ Some fact
+  is : tie_of fact ≡ x
+
+module _ (a : Arena) (ok : IsArena a) (b : Both) (h : IsBoth a b) (exact : IsExact b.trail.graph) (terms_are : AreTerms b.trail.graph.nodes b.trail.graph.added) (clash : HasNoClash b.trail.graph) where
   tie_same : (x : Tie) → IsTied b x → x.equal ≡ true → same_in a b (tree a x.left) (tree a x.right) ≡ true
   tie_same x k e =
       let nodes = h.sound.trail.ends.each k.place k.fact k.there in
@@ -112,7 +122,10 @@ module _ (a : Arena) (ok : IsArena a) (b : Both) (h : IsBoth a b) (exact : IsExa
 
   -- the tie of a literal at a place, where it has this part
   tie_at : (t : Term) (p : Part) (k : IsToldAs a b t p) (i : ℕ) (x : Tie) → slice_get (literal_ties a b.trail.truth b.trail.falsity k.told_one.atom p) i ≡ Some x → IsTied b x
-  tie_at t p k i x at = tied.each k.place k.told_one i x k.there (ap (λ r. slice_get (literal_ties a b.trail.truth b.trail.falsity k.told_one.atom r) i) k.part_is ∙ at)
+  tie_at t p k i x at =
+      let z = h.tied.each k.place k.told_one i x k.there (ap (λ r. slice_get (literal_ties a b.trail.truth b.trail.falsity k.told_one.atom r) i) k.part_is ∙ at) in
+      let f = tie_fact b.trail.graph.told z.place x z.there in
+      record { place = z.place; fact = f.fact; there = f.there; is = f.is }
 
   -- ---- truths
 
@@ -129,31 +142,31 @@ module _ (a : Arena) (ok : IsArena a) (b : Both) (h : IsBoth a b) (exact : IsExa
 
   -- ---- sides
 
-  node_trees : (x y : Term) (p : Part) (k : IsToldAs a b (equation x y) p) → k.told_one.atom.0 < length a.nodes → HasTrees a k.told_one.atom x y
-  node_trees x y p k inside = equation_node a ok k.told_one.atom x y inside k.atom
+  node_trees : (x y : Term) (p : Part) (k : IsToldAs a b (equation x y) p) → HasTrees a k.told_one.atom x y
+  node_trees x y p k = equation_node a ok k.told_one.atom x y (told_inside a b.relations.items b.trail.course b.claims.items h.claims k.place k.told_one k.there) k.atom
 
-  pub sides_same : (x y : Term) → (k : IsToldAs a b (equation x y) part.True) → k.told_one.atom.0 < length a.nodes → (is_truth a x && is_truth a y) ≡ false → same_in a b x y ≡ true
-  sides_same x y k inside e =
-      let n = node_trees x y part.True k inside in
+  pub sides_same : (x y : Term) → (k : IsToldAs a b (equation x y) part.True) → (is_truth a x && is_truth a y) ≡ false → same_in a b x y ≡ true
+  sides_same x y k e =
+      let n = node_trees x y part.True k in
       let sides = sides_told a k.told_one.atom x y n e in
       ap₂ (same_in a b) (sym n.left) (sym n.right)
       ∙ tie_same (record { left = n.sides.0; right = n.sides.1; equal = true })
       (tie_at (equation x y) part.True k 1 (record { left = n.sides.0; right = n.sides.1; equal = true }) (ap (λ o. slice_get (value_tie k.told_one.atom b.trail.truth ∷ sides_tie true o) 1) sides)) refl
 
-  apart_by : (x y : Term) (p : Part) (k : IsToldAs a b (equation x y) p) → k.told_one.atom.0 < length a.nodes → (is_truth a x && is_truth a y) ≡ false
+  apart_by : (x y : Term) (p : Part) (k : IsToldAs a b (equation x y) p) → (is_truth a x && is_truth a y) ≡ false
       → literal_ties a b.trail.truth b.trail.falsity k.told_one.atom p ≡ value_tie k.told_one.atom b.trail.falsity ∷ sides_tie false (equation_sides a k.told_one.atom) → same_in a b x y ≡ false
-  apart_by x y p k inside e ties_are =
-      let n = node_trees x y p k inside in
+  apart_by x y p k e ties_are =
+      let n = node_trees x y p k in
       let sides = sides_told a k.told_one.atom x y n e in
       ap₂ (same_in a b) (sym n.left) (sym n.right)
       ∙ tie_apart (record { left = n.sides.0; right = n.sides.1; equal = false })
       (tie_at (equation x y) p k 1 (record { left = n.sides.0; right = n.sides.1; equal = false })
       (ap (λ xs. slice_get xs 1) ties_are ∙ ap (λ o. slice_get (value_tie k.told_one.atom b.trail.falsity ∷ sides_tie false o) 1) sides)) refl
 
-  pub sides_apart : (x y : Term) → IsDenied a b (equation x y) → AreInside a b → (is_truth a x && is_truth a y) ≡ false → same_in a b x y ≡ false
-  sides_apart x y (by_itself k) i e = apart_by x y part.False k (i.each k.place k.told_one k.there) e refl
-  sides_apart x y (by_below u v is k) i e = apart_by x y part.Below k (i.each k.place k.told_one k.there) e refl
-  sides_apart x y (by_above u v is k) i e = apart_by x y part.Above k (i.each k.place k.told_one k.there) e refl
+  pub sides_apart : (x y : Term) → IsDenied a b (equation x y) → (is_truth a x && is_truth a y) ≡ false → same_in a b x y ≡ false
+  sides_apart x y (by_itself k) e = apart_by x y part.False k e refl
+  sides_apart x y (by_below u v is k) e = apart_by x y part.Below k e refl
+  sides_apart x y (by_above u v is k) e = apart_by x y part.Above k e refl
 
   -- ---- numerals and truth values
 

@@ -23,18 +23,7 @@ use Rattle.spv_share.specs.Both.{IsBoth}
 use Rattle.spv_share.specs.Relations.{AreRelationsAmong}
 use Rattle.spv_share.specs.States.{IsOpen, is_open}
 use Rattle.spv_share_laws.specs.Pairs.{AreEnough}
-use Rattle.spv_live_states.specs.States.{same_in, AreTold, AreTied, AreInside, AreRelated, HasAtoms}
-
--- a point that meets the bounds that stand, and puts one side of a relation below the other
-pub record IsApartAt (a : Arena) (b : Both) (r : Related) : Type 0 where
-  pub point : Point
-  pub solution : IsSolution (rows_in b.standing.tableau) point
-  pub meets : Meets (limits (rows_in b.standing.tableau) b.standing.tableau.bounds) point
-  pub order : (is_met (number_in a) (part_value a b.standing.tableau.forms point) (below (tree a r.left) (tree a r.right)) || is_met (number_in a) (part_value a b.standing.tableau.forms point) (below (tree a r.right) (tree a r.left))) ≡ true
-
--- each equality that the graph does not join has such a point
-pub record AreApartAt (a : Arena) (b : Both) : Type 0 where
-  pub each : (row : ℕ) (r : Related) → slice_get b.relations.items row ≡ Some r → is_open b r ≡ true → IsApartAt a b r
+use Rattle.spv_live_states.specs.States.{same_in, AreTold, AreRelated, HasAtoms}
 
 -- both sides are open for the atoms of a condition and the facts of a path, to which evaluations add nothing
 pub record IsOpenState (a : Arena) (c : Condition) (b : Both) (cases : List Term) (value : Term → Option Bool) : Type 0 where
@@ -48,12 +37,9 @@ pub record IsOpenState (a : Arena) (c : Condition) (b : Both) (cases : List Term
   pub formulas : AreFormulas a.shapes a.decls (formulas_of (question a c).sequent)
   pub of_atoms : AreRelationsAmong a (atoms (question a c)) b.relations.items
   pub parts : HasAtoms a b (question a c)
-  pub inside : AreInside a b
-  pub tied : AreTied a b
   pub finished : IsFinished (question a c) (facts (question a c) cases) value
   pub answered : AreTold a b (question a c) value
   pub known : AreRelated a b (question a c) (facts (question a c) cases)
-  pub apart : AreApartAt a b
 
 abbrev pub OpenShowsLive : Type 0
 OpenShowsLive = (a : Arena) (c : Condition) (b : Both) (cases : List Term) (value : Term → Option Bool) → IsOpenState a c b cases value → ShowsLive (question a c) (facts (question a c) cases) (same_in a b)

@@ -5,14 +5,12 @@ use Rattle.spv_logic.specs.declared.operators.Head.{Head}
 use Rattle.spv_logic.specs.Formulas.{equation, below}
 use Rattle.spv_logic.specs.Terms.{Term, term, no_terms, terms, term_eq}
 use Rattle.spv_term.specs.Arena.{Arena, tree}
-use Rattle.spv_congruence.specs.declared.facts.Fact.{Fact}
 use Rattle.spv_congruence.specs.Graph.{label_of}
 use Rattle.spv_course.specs.declared.entries.Part.{Part}
 use Rattle.spv_course.specs.declared.entries.Part.TheVariants.{True, False, Below, Above}
 use Rattle.spv_course.specs.Literals.{Literal}
 use Rattle.spv_proof.specs.Effects.{Question, is_number}
 use Rattle.spv_readings.specs.Sayings.{literal}
-use Rattle.spv_share_graph.specs.Telling.{Tie, tie_of, literal_ties}
 use Rattle.spv_share.specs.declared.both.Both.{Both}
 use Rattle.spv_share.specs.Both.{told}
 use Rattle.spv_leaf_tables.specs.Labels.{HasId, same_labels}
@@ -51,24 +49,9 @@ pub record AreTold (a : Arena) (b : Both) (q : Question) (value : Term → Optio
   pub affirmed : (t : Term) → is_among (questions q) t ≡ true → value t ≡ Some true → IsToldAs a b t True
   pub denied : (t : Term) → is_among (questions q) t ≡ true → value t ≡ Some false → IsDenied a b t
 
--- a tie is one of those of the graph's facts
-pub record IsTied (b : Both) (x : Tie) : Type 0 where
-  pub place : ℕ
-  pub fact : Fact
-  pub there : slice_get b.trail.graph.told place ≡ Some fact
-  pub is : tie_of fact ≡ x
-
--- all ties of the literals that were told are
-pub record AreTied (a : Arena) (b : Both) : Type 0 where
-  pub each : (place : ℕ) (l : Literal) (i : ℕ) (x : Tie) → slice_get (told b) place ≡ Some l → slice_get (literal_ties a b.trail.truth b.trail.falsity l.atom l.part) i ≡ Some x → IsTied b x
-
 -- each subterm of the atoms was added
 pub record HasAtoms (a : Arena) (b : Both) (q : Question) : Type 0 where
   pub each : (t : Term) → is_among (subterms (atoms q)) t ≡ true → HasId a b.trail.graph.added t
-
--- each literal that was told is of a term of the arena
-pub record AreInside (a : Arena) (b : Both) : Type 0 where
-  pub each : (place : ℕ) (l : Literal) → slice_get (told b) place ≡ Some l → l.atom.0 < length a.nodes
 
 -- ---- relations
 

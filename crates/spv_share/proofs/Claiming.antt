@@ -17,8 +17,9 @@ use Rattle.spv_share.specs.declared.relations.Noted.{Noted}
 use Rattle.spv_share.specs.declared.both.Both.{Both}
 use Rattle.spv_share.specs.Relations.{claim, find}
 use Rattle.spv_share.proofs.Noted.{noted_as, noted_push}
-use Rattle.spv_share.specs.Both.{AreReasoned, IsBoth, IsClaimed, IsSound, KeepsLevels, Stays, told}
+use Rattle.spv_share.specs.Both.{AreReasoned, AreTied, IsBoth, IsClaimed, IsSound, KeepsLevels, Stays, told}
 use Rattle.spv_share.proofs.Reasons.{reasons_told}
+use Rattle.spv_share.proofs.Ties.{tied_told}
 use Rattle.spv_share.proofs.Rowed.{literal_claimed}
 use Rattle.spv_share.proofs.Sound.{level_stays, sound_as}
 
@@ -70,6 +71,13 @@ both_told a old mid tr rels t p why k o cs h may sound grows trail relations cla
       (noted_push a old.relations.items old.trail.course grows.entries tr.course old.claims.items cs.items (one_literal t p why) (record { claim = o; fact = k }) grows.course literals_are
       (pushed ∙ ap (λ v. v.items ++ record { claim = o; fact = k } ∷ []) claims)
       (record { within = may.formula.within; claim = is ∙ ap (λ rs. claim (find rs t) p) rels_are; fact = fact }) h.claims);
+  tied =
+      subst (λ (x : Trail). AreTied a x.truth x.falsity (literals x.course) (ties x.graph.told)) (sym trail)
+      (subst (λ (u : TermId). AreTied a u tr.falsity (literals tr.course) (ties tr.graph.told)) (sym grows.truth)
+      (subst (λ (u : TermId). AreTied a old.trail.truth u (literals tr.course) (ties tr.graph.told)) (sym grows.falsity)
+      (subst (λ ls. AreTied a old.trail.truth old.trail.falsity ls (ties tr.graph.told)) (sym literals_are)
+      (subst (λ ts. AreTied a old.trail.truth old.trail.falsity (told old ++ one_literal t p why ∷ []) ts) (sym ties_are)
+      (tied_told a old.trail.truth old.trail.falsity (told old) (ties old.trail.graph.told) (one_literal t p why) h.tied)))));
   reasons =
       subst (λ v. AreReasoned a v.items (told mid) (ties mid.trail.graph.told)) (sym relations)
       (subst (λ (x : Trail). AreReasoned a old.relations.items (literals x.course) (ties x.graph.told)) (sym trail)

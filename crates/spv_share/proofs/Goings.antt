@@ -25,6 +25,7 @@ use Rattle.spv_share.specs.Both.{AreReasoned, IsBoth, IsSound, KeepsLevels, Stay
 use Rattle.spv_share.specs.States.{GoesOn, is_equality, is_open, IsStill}
 use Rattle.spv_share.proofs.Closing.{open_head, same_on, was_open}
 use Rattle.spv_share.proofs.Reasons.{reasons_as, reasons_joined}
+use Rattle.spv_share.proofs.Ties.{tied_grows}
 use Rattle.spv_share.proofs.Sound.{level_stays, sound_standing, sound_trail}
 
 -- ---- bounds
@@ -165,6 +166,9 @@ goes_both a old new h g = record {
   claims =
       noted_as a old.relations.items new.relations.items new.trail.course new.trail.course old.claims.items new.claims.items g.relations refl g.claims
       (noted_more a old.relations.items old.trail.course g.trail.entries new.trail.course old.claims.items g.trail.course g.told_same h.claims);
+  tied =
+      tied_grows a old.trail.truth old.trail.falsity new.trail.truth new.trail.falsity (told old) (told new) old.trail.graph.told new.trail.graph.told g.trail.facts g.trail.truth g.trail.falsity g.told_same g.trail.told
+      h.tied;
   reasons = g.reasons h.reasons;
 }
 

@@ -1,5 +1,6 @@
 pub mod Sayable
 pub mod Reasons
+pub mod Ties
 pub mod Noted
 pub mod Closing
 pub mod Sound

@@ -1,5 +1,6 @@
 -- Both sides as they are opened.
-use Rattle.std.proofs.Common.{◌≡◌, List, [], map, sym, subst}
+use Rattle.std.proofs.Common.{ap, ◌≡◌, List, [], map, sym, subst}
+use Rattle.spv_course.specs.Literals.{literals}
 use Rattle.spv_logic.specs.declared.conditions.TermId.{TermId}
 use Rattle.spv_logic.specs.Terms.{Term}
 use Rattle.spv_term.specs.Arena.{Arena, tree}
@@ -21,6 +22,7 @@ use Rattle.spv_simplex.specs.Checks.{HoldsAsserted}
 use Rattle.spv_congruence.specs.declared.facts.Fact.{Fact}
 use Rattle.spv_share_graph.specs.Telling.{ties}
 use Rattle.spv_share.proofs.Reasons.{reasons_none}
+use Rattle.spv_share.proofs.Ties.{tied_none}
 use Rattle.spv_share.specs.Both.{AreEnds, AreReasoned, IsBoth, told}
 
 pub both_opens : (a : Arena) (atoms : List TermId) (ends : Ends) (forms : List IdForm) (b : Both) → AreEnds a ends → AreRowsOf a (relations (number_in a) (map (tree a) atoms)) forms → IsGathered a b.trail atoms b.relations.items → IsStanding b.standing
@@ -46,5 +48,6 @@ both_opens a atoms ends forms b known rows g stands forms_are none claims one ze
     said = said_none b.relations.items b.standing.tableau.forms b.standing.tableau.bounds none;
   };
   claims = noted_none a b.relations.items b.trail.course b.claims.items g.course claims;
+  tied = tied_none a b.trail.truth b.trail.falsity (told b) (ties b.trail.graph.told) (ap literals g.course);
   reasons = subst (λ (xs : List Fact). AreReasoned a b.relations.items (told b) (ties xs)) (sym g.untold) (reasons_none a b.relations.items (told b));
 }

@@ -22,7 +22,7 @@ use Rattle.spv_share.specs.declared.ending.Outcome.{Outcome}
 use Rattle.spv_share.specs.Both.{IsBoth, IsClaimed, IsSound, told}
 use Rattle.spv_share.specs.States.{AllStands, AreApart, ClaimsStand, IsAtPoint, IsOpen, IsStill, is_equality, is_joined, JoinedStand}
 use Rattle.spv_share.proofs.Points.{has_order, stands_back}
-use Rattle.spv_share.proofs.Rowed.{literal_claimed, row_inside}
+use Rattle.spv_share.proofs.Rowed.{literal_claimed}
 use Rattle.spv_share.proofs.Seeking.{apart_still}
 
 literal_at : (ls : List Literal) (i : ℕ) → i < length ls → (l : Literal) × (slice_get ls i ≡ Some l)
@@ -67,7 +67,7 @@ opened a old new sound clash apart still point kept stand =
       apart = λ row r at e.
           let here = apart_still old new (length old.relations.items) still apart in
           let count : length new.relations.items ≡ length old.relations.items = ap length still.relations in
-          has_order new.standing row (row_inside a new.trail.graph.nodes new.relations.items new.standing.tableau.forms sound.related row r at) kept point.met
+          has_order new.standing row kept point.met
           (here.each row r (subst (λ (n : ℕ). row < n) count (slice_get_within new.relations.items row r at)) at e);
     }
 

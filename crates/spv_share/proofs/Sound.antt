@@ -26,6 +26,7 @@ use Rattle.spv_share.specs.declared.both.Both.{Both}
 use Rattle.spv_share.specs.declared.both.Level.{Level}
 use Rattle.spv_share.specs.Relations.{AreRelations, AreSaid, IsRelation, sayable, sides_in}
 use Rattle.spv_share.proofs.Noted.{noted_as}
+use Rattle.spv_share.proofs.Ties.{tied_same}
 use Rattle.spv_share.proofs.Saying.{said_as}
 use Rattle.spv_share.specs.Both.{AreReasoned, IsLevel, IsSound}
 
@@ -143,6 +144,9 @@ level_stays a old new l g h = record {
   claims =
       noted_as a old.relations.items new.relations.items (take l.trail.entries old.trail.course) (take l.trail.entries new.trail.course) (take l.claims old.claims.items) (take l.claims new.claims.items) g.relations first
       (take_first old.claims.items g.more new.claims.items l.claims g.claims h.claims_in) h.claims;
+  tied =
+      tied_same a old.trail.truth old.trail.falsity new.trail.truth new.trail.falsity (literals (take l.trail.entries old.trail.course)) (literals (take l.trail.entries new.trail.course)) (take l.trail.facts old.trail.graph.told)
+      (take l.trail.facts new.trail.graph.told) g.trail.truth g.trail.falsity (ap literals first) facts h.tied;
   reasons =
       subst (λ (rs : List Related). AreReasoned a rs (literals (take l.trail.entries new.trail.course)) (ties (take l.trail.facts new.trail.graph.told))) (sym g.relations)
       (subst (λ (es : List Entry). AreReasoned a old.relations.items (literals es) (ties (take l.trail.facts new.trail.graph.told))) (sym first)

@@ -37,6 +37,7 @@ use Rattle.spv_share.specs.declared.both.Both.{Both}
 use Rattle.spv_share.specs.declared.both.Level.{Level}
 use Rattle.spv_share.specs.Relations.{AreRelations, sayable, sides_in}
 use Rattle.spv_share.proofs.Noted.{noted_as}
+use Rattle.spv_share.proofs.Ties.{tied_same}
 use Rattle.spv_share.proofs.Saying.{said_as}
 use Rattle.spv_share.specs.Both.{AreReasoned, IsBoth, IsLevel, IsNoLater, IsSound, Stays, told}
 use Rattle.spv_share.proofs.Sound.{relations_more}
@@ -182,6 +183,9 @@ module _ (a : Arena) (old new : Both) (l : Level) (g : GoesBack old new l) where
     sound = back_sound h k;
     claims =
         noted_as a old.relations.items new.relations.items (take l.trail.entries old.trail.course) new.trail.course (take l.claims old.claims.items) new.claims.items g.relations g.course g.claims k.claims;
+    tied =
+        tied_same a old.trail.truth old.trail.falsity new.trail.truth new.trail.falsity (literals (take l.trail.entries old.trail.course)) (told new) (take l.trail.facts old.trail.graph.told) new.trail.graph.told g.truth g.falsity
+        (ap literals g.course) g.graph.told k.tied;
     reasons =
         subst (λ (rs : List Related). AreReasoned a rs (told new) (ties new.trail.graph.told)) (sym g.relations)
         (subst (λ (es : List Entry). AreReasoned a old.relations.items (literals es) (ties new.trail.graph.told)) (sym g.course)
@@ -219,6 +223,9 @@ module _ (a : Arena) (old new : Both) (l : Level) (g : GoesBack old new l) where
     claims =
         noted_as a old.relations.items new.relations.items (take m.trail.entries old.trail.course) (take m.trail.entries new.trail.course) (take m.claims old.claims.items) (take m.claims new.claims.items) g.relations first
         (ap (take m.claims) g.claims ∙ take-take m.claims l.claims old.claims.items e.claims) h.claims;
+    tied =
+        tied_same a old.trail.truth old.trail.falsity new.trail.truth new.trail.falsity (literals (take m.trail.entries old.trail.course)) (literals (take m.trail.entries new.trail.course)) (take m.trail.facts old.trail.graph.told)
+        (take m.trail.facts new.trail.graph.told) g.truth g.falsity (ap literals first) facts h.tied;
     reasons =
         subst (λ (rs : List Related). AreReasoned a rs (literals (take m.trail.entries new.trail.course)) (ties (take m.trail.facts new.trail.graph.told))) (sym g.relations)
         (subst (λ (es : List Entry). AreReasoned a old.relations.items (literals es) (ties (take m.trail.facts new.trail.graph.told))) (sym first)
@@ -264,6 +271,9 @@ level_now a b l h entries facts mark bounds claims = record {
   claims_in = same_length l.claims (length b.claims.items) claims;
   claims =
       noted_as a b.relations.items b.relations.items b.trail.course (take l.trail.entries b.trail.course) b.claims.items (take l.claims b.claims.items) refl course (ap (λ n. take n b.claims.items) claims ∙ take_whole b.claims.items) h.claims;
+  tied =
+      tied_same a b.trail.truth b.trail.falsity b.trail.truth b.trail.falsity (told b) (literals (take l.trail.entries b.trail.course)) b.trail.graph.told (take l.trail.facts b.trail.graph.told) refl refl (ap literals course)
+      (ap (λ n. take n b.trail.graph.told) facts_are ∙ take_whole b.trail.graph.told) h.tied;
   reasons =
       subst (λ (es : List Entry). AreReasoned a b.relations.items (literals es) (ties (take l.trail.facts b.trail.graph.told))) (sym course)
       (subst (λ (xs : List Fact). AreReasoned a b.relations.items (told b) (ties xs)) (sym (ap (λ n. take n b.trail.graph.told) facts_are ∙ take_whole b.trail.graph.told)) h.reasons);

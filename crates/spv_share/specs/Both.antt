@@ -1,5 +1,6 @@
 -- A congruence graph and a tableau side by side.
 use Rattle.std.specs.Prelude.{◌≡◌, true, ℕ, ◌<◌, ◌≤◌, List, take, length, Some, slice_get}
+use Rattle.spv_logic.specs.declared.conditions.TermId.{TermId}
 use Rattle.spv_logic.specs.declared.operators.Head.TheVariants.{Eq}
 use Rattle.spv_term.specs.Arena.{Arena, tree}
 use Rattle.spv_simplex.specs.Checks.{HoldsAsserted}
@@ -12,7 +13,7 @@ use Rattle.spv_course.specs.Sides.{Pair}
 use Rattle.spv_readings.specs.Relations.{AreIn}
 use Rattle.spv_row_reasons.specs.Refuted.{AreOneAndZero}
 use Rattle.spv_share_graph.specs.Holding.{Holds, WasSoFar}
-use Rattle.spv_share_graph.specs.Telling.{equation_sides, Tie, ties}
+use Rattle.spv_share_graph.specs.Telling.{equation_sides, literal_ties, Tie, ties}
 use Rattle.spv_share_rows.specs.Standing.{HasSaid, IsStanding, readings, SaidBy, Sourced}
 use Rattle.spv_share.specs.declared.relations.Claim.{Claim}
 use Rattle.spv_share.specs.declared.relations.Noted.{Noted}
@@ -46,6 +47,15 @@ pub data IsReason (a : Arena) (rels : List Related) (told : List Literal) (tie :
 pub record AreReasoned (a : Arena) (rels : List Related) (told : List Literal) (ts : List Tie) : Type 0 where
   pub each : (place : ℕ) (tie : Tie) → slice_get ts place ≡ Some tie → tie.equal ≡ true → IsReason a rels told tie
 
+-- one of these ties
+pub record IsTie (ts : List Tie) (x : Tie) : Type 0 where
+  pub place : ℕ
+  pub there : slice_get ts place ≡ Some x
+
+-- each tie of a literal that was told is among these
+pub record AreTied (a : Arena) (truth falsity : TermId) (told : List Literal) (ts : List Tie) : Type 0 where
+  pub each : (place : ℕ) (l : Literal) (i : ℕ) (x : Tie) → slice_get told place ≡ Some l → slice_get (literal_ties a truth falsity l.atom l.part) i ≡ Some x → IsTie ts x
+
 -- ---- literals beside the course
 
 -- what a literal says of a row, and the number of its fact
@@ -73,10 +83,11 @@ pub record IsSound (a : Arena) (b : Both) : Type 0 where
   -- and each row says one thing
   pub said : AreSaid b.relations.items b.standing.tableau.forms b.standing.tableau.bounds
 
--- and it is noted what each literal says of its row, and the graph was told no other equality than by literals, or of relations
+-- and it is noted what each literal says of its row; the graph was told all that literals tell it, and no other equality than by literals, or of relations
 pub record IsBoth (a : Arena) (b : Both) : Type 0 where
   pub sound : IsSound a b
   pub claims : AreNoted a b.relations.items b.trail.course b.claims.items
+  pub tied : AreTied a b.trail.truth b.trail.falsity (told b) (ties b.trail.graph.told)
   pub reasons : AreReasoned a b.relations.items (told b) (ties b.trail.graph.told)
 
 -- the terms, the relations and the rows are the same
@@ -100,6 +111,7 @@ pub record IsLevel (a : Arena) (b : Both) (l : Level) : Type 0 where
   pub said : AreSaid b.relations.items b.standing.tableau.forms (take l.bounds b.standing.tableau.bounds)
   pub claims_in : l.claims ≤ length b.claims.items
   pub claims : AreNoted a b.relations.items (take l.trail.entries b.trail.course) (take l.claims b.claims.items)
+  pub tied : AreTied a b.trail.truth b.trail.falsity (literals (take l.trail.entries b.trail.course)) (ties (take l.trail.facts b.trail.graph.told))
   pub reasons : AreReasoned a b.relations.items (literals (take l.trail.entries b.trail.course)) (ties (take l.trail.facts b.trail.graph.told))
 
 -- a level that is no later than another one

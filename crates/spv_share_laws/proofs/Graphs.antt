@@ -57,7 +57,6 @@ use Rattle.spv_share.specs.States.{is_equality, is_joined, IsOpen}
 use Rattle.spv_share.proofs.Rowed.{row_at, row_inside}
 use Rattle.spv_share.proofs.Seeking.{numbers_are}
 use Rattle.spv_share_laws.specs.Laws.{HaveOneValue, HaveOneValueApart, LabelsAreExact, SameHaveOneValue}
-use Rattle.spv_share_rows.proofs.Firsts.{met_first}
 use Rattle.spv_share_laws.specs.Pairs.{AreEnough, HasEquality, told_by}
 use Rattle.spv_share_laws.proofs.Exact.{derived_same, inside, labels_exact, node_listed, same_derived}
 use Rattle.spv_share_laws.proofs.OneValue.{all_sorts_same, one_value, sides_sorts}
@@ -228,14 +227,7 @@ have_one_value a ok b h agree exact terms_are enough = λ v solution meets s t n
 
 pub have_one_value_apart : (a : Arena) → IsArena a → (b : Both) → IsBoth a b → IsOpen b → IsExact b.trail.graph → AreTerms b.trail.graph.nodes b.trail.graph.added → AreEnough a b → HaveOneValueApart a b
 have_one_value_apart a ok b h agree exact terms_are enough = λ row x p s t ns nt n same.
-    values_equal a ok b h agree exact terms_are enough p.met.point p.met.solution
-    (subst (λ (xs : List Bound). Meets (limits (rows_in b.standing.tableau) xs) p.met.point) (first b.standing.tableau.bounds p.bounds)
-    (met_first (rows_in b.standing.tableau) (b.standing.tableau.bounds ++ p.bounds) (length b.standing.tableau.bounds) p.met.point p.met.meets)) s t ns nt n same
-  where
-    first : (xs ys : List Bound) → take (length xs) (xs ++ ys) ≡ xs
-    first [] [] = refl
-    first [] (y ∷ ys) = refl
-    first (x ∷ xs) ys = ap (λ zs. x ∷ zs) (first xs ys)
+    values_equal a ok b h agree exact terms_are enough p.point p.solution p.stand s t ns nt n same
 
 pub exact_labels : (a : Arena) → IsArena a → (b : Both) → IsBoth a b → IsExact b.trail.graph → AreTerms b.trail.graph.nodes b.trail.graph.added → LabelsAreExact a b
 exact_labels a ok b h exact terms_are = labels_exact a ok b.trail.graph h.sound.trail.of exact terms_are

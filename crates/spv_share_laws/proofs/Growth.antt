@@ -19,6 +19,7 @@ use Rattle.spv_tableaux.specs.Bounds.{Bound}
 use Rattle.spv_congruence.specs.declared.facts.Fact.{Fact}
 use Rattle.spv_congruence.specs.Keep.{IsNode}
 use Rattle.spv_congruence.specs.Told.{IsOf}
+use Rattle.spv_course.specs.declared.entries.Part.{Part}
 use Rattle.spv_course.specs.declared.entries.Part.TheVariants as part
 use Rattle.spv_course.specs.declared.entries.Entry.{Entry}
 use Rattle.spv_course.specs.declared.entries.Entry.TheVariants.{Derived, Told}
@@ -35,7 +36,7 @@ use Rattle.spv_bounds.specs.Sources.{sources_in}
 use Rattle.spv_row_reasons.specs.Refuted.{AreOneAndZero}
 use Rattle.spv_share_graph.specs.declared.trail.Trail.{Trail}
 use Rattle.spv_share_graph.specs.Holding.{Backs, HasFacts, Holds, IsBackedFact, WasSoFar}
-use Rattle.spv_share_graph.specs.Telling.{equation_sides, Tie, tie_of, ties, unless_truths}
+use Rattle.spv_share_graph.specs.Telling.{equation_sides, literal_ties, sides_tie, Tie, tie_of, ties, unless_truths, value_tie}
 use Rattle.spv_share_graph.proofs.Ties.{has-sides, sides-node}
 use Rattle.spv_share_rows.specs.declared.standing.Standing.{Standing}
 use Rattle.spv_share_rows.specs.Standing.{readings, Sourced}
@@ -44,8 +45,9 @@ use Rattle.spv_share.specs.declared.both.Level.{Level}
 use Rattle.spv_share.specs.declared.relations.Related.{Related}
 use Rattle.spv_share.specs.Relations.{AreRelations, IsRelation, sides_in}
 use Rattle.spv_share.specs.declared.relations.Noted.{Noted}
-use Rattle.spv_share.specs.Both.{AreNoted, AreReasoned, IsBoth, IsLevel, IsReason, IsSound, of_literal, of_relation, of_truths, told}
+use Rattle.spv_share.specs.Both.{AreNoted, AreReasoned, AreTied, IsBoth, IsLevel, IsReason, IsSound, of_literal, of_relation, of_truths, told}
 use Rattle.spv_share.proofs.Closing.{tie_fact}
+use Rattle.spv_share.proofs.Ties.{told_inside}
 
 -- ---- lists
 
@@ -250,6 +252,35 @@ module _ (old new : Arena) (ok : IsArena old) (more : Extends old new) where
           let ids = within.each place f.fact f.there in
           reason_on rels ls x (subst (λ (y : Tie). y.left.0 < length old.nodes) f.is ids.0) (subst (λ (y : Tie). y.right.0 < length old.nodes) f.is ids.1) (h.each place x at e)
 
+  -- ---- ties
+
+  equation_same : (t : TermId) → t.0 < length old.nodes → equation_sides new t ≡ equation_sides old t
+  equation_same t h = by_sides (node_sides (slice_get old.nodes t.0)) refl
+    where
+      sides_same : node_sides (slice_get new.nodes t.0) ≡ node_sides (slice_get old.nodes t.0)
+      sides_same = ap node_sides (slice_get-Extends more t h)
+
+      by_sides : (o : Option Pair) → node_sides (slice_get old.nodes t.0) ≡ o → equation_sides new t ≡ equation_sides old t
+      by_sides None e = ap (unless_truths new) (sides_same ∙ e) ∙ sym (ap (unless_truths old) e)
+      by_sides (Some st) e =
+          let k = has-sides old t st e in
+          let args = args_in_range old ok t k.node k.at in
+          let ids = subst (λ xs. AllBelow (length old.nodes) xs) k.args args in
+          ap (unless_truths new) (sides_same ∙ e)
+          ∙ (ap₂ (λ b c. cond (b && c) None (Some st)) (truth_of st.0 ids.0) (truth_of st.1 ids.1.0) ∙ sym (ap (unless_truths old) e))
+
+  ties_same : (truth falsity t : TermId) (p : Part) → t.0 < length old.nodes → literal_ties new truth falsity t p ≡ literal_ties old truth falsity t p
+  ties_same truth falsity t part.True h = ap (λ o. value_tie t truth ∷ sides_tie true o) (equation_same t h)
+  ties_same truth falsity t part.False h = ap (λ o. value_tie t falsity ∷ sides_tie false o) (equation_same t h)
+  ties_same truth falsity t part.Below h = ap (λ o. value_tie t falsity ∷ sides_tie false o) (equation_same t h)
+  ties_same truth falsity t part.Above h = ap (λ o. value_tie t falsity ∷ sides_tie false o) (equation_same t h)
+
+  tied_on : (truth falsity : TermId) (rels : List Related) (es : List Entry) (ns : List Noted) (ts : List Tie) → AreNoted old rels es ns → AreTied old truth falsity (literals es) ts → AreTied new truth falsity (literals es) ts
+  tied_on truth falsity rels es ns ts noted h = record {
+    each = λ place l i x at there.
+        h.each place l i x at (ap (λ xs. slice_get xs i) (sym (ties_same truth falsity l.atom l.part (told_inside old rels es ns noted place l at))) ∙ there);
+  }
+
   -- ---- both sides
 
   sound_on : (b : Both) → IsSound old b → IsSound new b
@@ -285,6 +316,7 @@ module _ (old new : Arena) (ok : IsArena old) (more : Extends old new) where
   both_on b h = record {
     sound = sound_on b h.sound;
     claims = noted_on b.relations.items b.trail.course b.claims.items h.sound.trail.course h.claims;
+    tied = tied_on b.trail.truth b.trail.falsity b.relations.items b.trail.course b.claims.items (ties b.trail.graph.told) h.claims h.tied;
     reasons = reasons_on b.relations.items (told b) b.trail.graph.told (facts_inside b.trail h.sound.trail) h.reasons;
   }
 
@@ -304,6 +336,8 @@ module _ (old new : Arena) (ok : IsArena old) (more : Extends old new) where
     claims_in = k.claims_in;
     claims =
         noted_on b.relations.items (take l.trail.entries b.trail.course) (take l.claims b.claims.items) (course-take old b.trail.course l.trail.entries h.sound.trail.course) k.claims;
+    tied =
+        tied_on b.trail.truth b.trail.falsity b.relations.items (take l.trail.entries b.trail.course) (take l.claims b.claims.items) (ties (take l.trail.facts b.trail.graph.told)) k.claims k.tied;
     reasons =
         reasons_on b.relations.items (literals (take l.trail.entries b.trail.course)) (take l.trail.facts b.trail.graph.told)
         (first_inside b.trail.graph.told l.trail.facts (facts_inside b.trail h.sound.trail)) k.reasons;

@@ -29,7 +29,7 @@ HaveOneValue a b = (v : Point) → IsSolution (rows_in b.standing.tableau) v →
 -- so have they at the points that keep the sides of an equality apart
 abbrev pub HaveOneValueApart : Arena → Both → Type 0
 HaveOneValueApart a b = (row : ℕ) (x : Saying) (p : HasPoint b.standing row x) (s t : TermId) → IsNode b.trail.graph.nodes s → IsNode b.trail.graph.nodes t → is_number a (tree a s) ≡ true → are_same b.trail.graph s t ≡ true
-    → worth_at (part_value a b.standing.tableau.forms p.met.point) (tree a s) ≡ worth_at (part_value a b.standing.tableau.forms p.met.point) (tree a t)
+    → worth_at (part_value a b.standing.tableau.forms p.point) (tree a s) ≡ worth_at (part_value a b.standing.tableau.forms p.point) (tree a t)
 
 -- so have trees of equal labels at the kept point
 abbrev pub SameHaveOneValue : Arena → Both → Type 0

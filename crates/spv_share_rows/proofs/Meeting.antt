@@ -17,9 +17,8 @@ use Rattle.spv_readings.proofs.Bounding.{bound_on_row}
 use Rattle.spv_simplex.specs.State.{IsTableau, kept_point, rows_in}
 use Rattle.spv_simplex.specs.Checks.{IsFeasible}
 use Rattle.spv_share_rows.specs.declared.standing.Standing.{Standing}
-use Rattle.spv_share_rows.specs.Standing.{IsMet, Stands}
+use Rattle.spv_share_rows.specs.Standing.{IsMet, IsMetAt, Stands}
 use Rattle.spv_share_rows.specs.Forcing.{HasPoint}
-use Rattle.spv_share_rows.proofs.Forms.{form_at}
 
 same_side_is : (s t : Side) → same_side s t ≡ true → s ≡ t
 same_side_is Lower Lower h = refl
@@ -50,79 +49,53 @@ module _ (row : ℕ) (v : Rational) where
           let value_is : x ≡ v = same (sym row_is ∙ here.row_is) in
           ap (λ s. breaks s b.value x) (sym side_is) ∙ (ap (breaks b.side b.value) value_is ∙ here.met)
 
-  side_more : (bounds more : List Bound) → ((j : ℕ) (b : Bound) → slice_get more j ≡ Some b → IsMetBy row v b) → (i : ℕ) (side : Side) (x : Rational) → (i ≡ row → x ≡ v)
-      → breaks_limit side (bound_on bounds i side) x ≡ false → breaks_limit side (bound_on (bounds ++ more) i side) x ≡ false
-  side_more [] more each i side x same h = side_of more each i side x same
-  side_more (b ∷ bounds) more each i side x same h = by_case (λ k. side_more bounds more each i side x same k) (is_on b i side) h
-    where
-      by_case : (breaks_limit side (bound_on bounds i side) x ≡ false → breaks_limit side (bound_on (bounds ++ more) i side) x ≡ false) → (c : Bool)
-          → breaks_limit side (if c then Some b.value else bound_on bounds i side) x ≡ false → breaks_limit side (if c then Some b.value else bound_on (bounds ++ more) i side) x ≡ false
-      by_case rest true k = k
-      by_case rest false k = rest k
-
 neither : (b c : Bool) → b ≡ false → c ≡ false → (b || c) ≡ false
 neither b c e f = rw (e, f) refl
 
--- the point meets bounds and further ones of a row that its value meets
-met_more : (rows : Rows) (bounds more : List Bound) (v : Point) (row : ℕ) → Meets (limits rows bounds) v → ((j : ℕ) (b : Bound) → slice_get more j ≡ Some b → IsMetBy row (v (column_of rows row)) b)
-    → Meets (limits rows (bounds ++ more)) v
-met_more rows bounds more v row met each c = by_part (nat_lt c rows.parts) refl
+-- a point meets bounds of one row that its value there meets
+met_row : (rows : Rows) (more : List Bound) (v : Point) (row : ℕ) → ((j : ℕ) (b : Bound) → slice_get more j ≡ Some b → IsMetBy row (v (column_of rows row)) b) → Meets (limits rows more) v
+met_row rows more v row each c = by_part (nat_lt c rows.parts) refl
   where
-    part : (side : Side) → nat_lt c rows.parts ≡ true → breaks_limit side (limits rows (bounds ++ more) c side) (v c) ≡ false
-    part side e = ap (λ o. breaks_limit side o (v c)) (limit_part rows (bounds ++ more) c side e) ∙ none side
+    part : (side : Side) → nat_lt c rows.parts ≡ true → breaks_limit side (limits rows more c side) (v c) ≡ false
+    part side e = ap (λ o. breaks_limit side o (v c)) (limit_part rows more c side e) ∙ none side
       where
         none : (s : Side) → breaks_limit s None (v c) ≡ false
         none Lower = refl
         none Upper = refl
 
-    on_row : (i : ℕ) (side : Side) → breaks_limit side (limits rows (bounds ++ more) (rows.parts + i) side) (v (rows.parts + i)) ≡ false
+    on_row : (i : ℕ) (side : Side) → breaks_limit side (limits rows more (rows.parts + i) side) (v (rows.parts + i)) ≡ false
     on_row i side =
-        ap (λ o. breaks_limit side o (v (rows.parts + i))) (limit_row rows (bounds ++ more) i side)
-        ∙ side_more row (v (column_of rows row)) bounds more each i side (v (rows.parts + i)) (λ e. ap (λ k. v (rows.parts + k)) e)
-        (ap (λ o. breaks_limit side o (v (rows.parts + i))) (sym (limit_row rows bounds i side)) ∙ meets_side (limits rows bounds) v met (rows.parts + i) side)
+        ap (λ o. breaks_limit side o (v (rows.parts + i))) (limit_row rows more i side)
+        ∙ side_of row (v (column_of rows row)) more each i side (v (rows.parts + i)) (λ e. ap (λ k. v (rows.parts + k)) e)
 
     column : nat_lt c rows.parts ≡ false → rows.parts + (c - rows.parts) ≡ c
     column e = grind (arith, nat_tests)
 
-    by_part : (b : Bool) → nat_lt c rows.parts ≡ b → is_out (limits rows (bounds ++ more)) v c ≡ false
+    by_part : (b : Bool) → nat_lt c rows.parts ≡ b → is_out (limits rows more) v c ≡ false
     by_part true e = neither _ _ (part Lower e) (part Upper e)
     by_part false e =
-        subst (λ (d : ℕ). is_out (limits rows (bounds ++ more)) v d ≡ false) (column e)
-        (neither (breaks_limit Lower (limits rows (bounds ++ more) (rows.parts + (c - rows.parts)) Lower) (v (rows.parts + (c - rows.parts)))) (breaks_limit Upper (limits rows (bounds ++ more) (rows.parts + (c - rows.parts)) Upper) (v (rows.parts + (c - rows.parts))))
-        (on_row (c - rows.parts) Lower) (on_row (c - rows.parts) Upper))
+        subst (λ (d : ℕ). is_out (limits rows more) v d ≡ false) (column e)
+        (neither (breaks_limit Lower (limits rows more (rows.parts + (c - rows.parts)) Lower) (v (rows.parts + (c - rows.parts))))
+        (breaks_limit Upper (limits rows more (rows.parts + (c - rows.parts)) Upper) (v (rows.parts + (c - rows.parts)))) (on_row (c - rows.parts) Lower) (on_row (c - rows.parts) Upper))
 
--- where a saying stands, a point that meets all bounds is one for it
-pub stands_point : (b : Standing) (row : ℕ) (x : Saying) → row < length b.tableau.forms → (v : Point) → IsSolution (rows_in b.tableau) v → Meets (limits (rows_in b.tableau) b.tableau.bounds) v → Stands b row x → HasPoint b row x
-stands_point b row x inside v solution met stands = let form = form_at b.tableau.forms row inside in here form.0 form.1
-  where
-    here : (f : IdForm) → slice_get b.tableau.forms row ≡ Some f → HasPoint b row x
-    here f at = record {
-      bounds = bounds_of row f.constant x;
-      are = record { form = f; there = at; are = refl };
-      met = record { point = v; solution = solution; meets = met_more (rows_in b.tableau) b.tableau.bounds (bounds_of row f.constant x) v row met each };
-    }
-      where
-        each : (j : ℕ) (bound : Bound) → slice_get (bounds_of row f.constant x) j ≡ Some bound → IsMetBy row (v (column_of (rows_in b.tableau) row)) bound
-        each j bound there = record {
-          row_is = bound_on_row row f.constant x j bound there;
-          met =
-              ap (λ o. breaks_limit bound.side o (v (column_of (rows_in b.tableau) row))) (sym (limit_row (rows_in b.tableau) b.tableau.bounds row bound.side ∙ stands.each f at j bound there))
-              ∙ meets_side (limits (rows_in b.tableau) b.tableau.bounds) v met (column_of (rows_in b.tableau) row) bound.side;
-        }
+-- where a saying stands, a point that meets all bounds meets it
+pub stands_met : (b : Standing) (row : ℕ) (x : Saying) → (v : Point) → Meets (limits (rows_in b.tableau) b.tableau.bounds) v → Stands b row x → IsMetAt b row x v
+stands_met b row x v met stands = record {
+  each = λ f at j bound there.
+      ap (λ o. breaks_limit bound.side o (v (column_of (rows_in b.tableau) row))) (sym (limit_row (rows_in b.tableau) b.tableau.bounds row bound.side ∙ stands.each f at j bound there))
+      ∙ meets_side (limits (rows_in b.tableau) b.tableau.bounds) v met (column_of (rows_in b.tableau) row) bound.side;
+}
+
+-- so it is a point for it
+pub stands_point : (b : Standing) (row : ℕ) (x : Saying) → (v : Point) → IsSolution (rows_in b.tableau) v → Meets (limits (rows_in b.tableau) b.tableau.bounds) v → Stands b row x → HasPoint b row x
+stands_point b row x v solution met stands = record { point = v; solution = solution; stand = met; meets = stands_met b row x v met stands }
 
 -- where the kept point meets all bounds and those of a saying, it is one for it
-pub met_point : (b : Standing) (row : ℕ) (x : Saying) → row < length b.tableau.forms → IsTableau b.tableau → IsFeasible b.tableau → IsMet b row x → HasPoint b row x
-met_point b row x inside kept met at_point = let form = form_at b.tableau.forms row inside in here form.0 form.1
-  where
-    here : (f : IdForm) → slice_get b.tableau.forms row ≡ Some f → HasPoint b row x
-    here f at = record {
-      bounds = bounds_of row f.constant x;
-      are = record { form = f; there = at; are = refl };
-      met = record {
-        point = kept_point b.tableau;
-        solution = kept.solution;
-        meets =
-            met_more (rows_in b.tableau) b.tableau.bounds (bounds_of row f.constant x) (kept_point b.tableau) row met
-            (λ j bound there. record { row_is = bound_on_row row f.constant x j bound there; met = at_point.each f at j bound there });
-      };
-    }
+pub met_point : (b : Standing) (row : ℕ) (x : Saying) → IsTableau b.tableau → IsFeasible b.tableau → IsMet b row x → HasPoint b row x
+met_point b row x kept met at_point = record { point = kept_point b.tableau; solution = kept.solution; stand = met; meets = at_point }
+
+-- a point that meets the bounds that a saying is on a row meets them alone
+pub met_alone : (b : Standing) (row : ℕ) (x : Saying) (v : Point) → IsMetAt b row x v → (f : IdForm) → slice_get b.tableau.forms row ≡ Some f → Meets (limits (rows_in b.tableau) (bounds_of row f.constant x)) v
+met_alone b row x v met f at =
+    met_row (rows_in b.tableau) (bounds_of row f.constant x) v row
+    (λ j bound there. record { row_is = bound_on_row row f.constant x j bound there; met = met.each f at j bound there })

@@ -5,7 +5,7 @@ use Rattle.spv_whole.specs.Fraction.{Fraction}
 use Rattle.spv_term.specs.Arena.{Arena}
 use Rattle.spv_atoms.specs.Linear.{IdForm}
 use Rattle.spv_proof.specs.Sums.{Reading, difference, is_at_most_zero, cited_reading, refutes}
-use Rattle.spv_tableaux.specs.Bounds.{Bound, limits, Meets}
+use Rattle.spv_tableaux.specs.Bounds.{Bound, breaks, limits, Meets}
 use Rattle.spv_tableaux.specs.Forms.{rows_of}
 use Rattle.spv_tableaux.specs.Contradictions.{Multiple, IsContradiction}
 use Rattle.spv_course.specs.declared.entries.Entry.{Entry}
@@ -19,7 +19,7 @@ use Rattle.spv_readings.specs.declared.saying.Saying.{Saying}
 use Rattle.spv_readings.specs.Relations.{AreIn}
 use Rattle.spv_readings.specs.Sources.{AreSourced, fact_multiples}
 use Rattle.spv_readings.proofs.Sourcing.{kept_in_step}
-use Rattle.spv_tableaux.specs.Rows.{IsSolution}
+use Rattle.spv_tableaux.specs.Rows.{column_of, IsSolution}
 use Rattle.spv_bounds.specs.declared.sources.RowSources.{RowSources}
 use Rattle.spv_bounds.specs.Sources.{sources_in}
 use Rattle.std.specs.Prelude.{slice_get}
@@ -29,11 +29,11 @@ use Rattle.spv_atom_rows.specs.Rows.{HaveRoom}
 use Rattle.spv_share_rows.specs.declared.standing.Standing.{Standing}
 use Rattle.spv_share_rows.specs.declared.forcing.Tried.{Tried}
 use Rattle.spv_share_rows.specs.declared.forcing.Tried.TheVariants.{Refuted, Met, Stopped}
-use Rattle.spv_share_rows.specs.Standing.{Adds, AddsSome, AreBoundsOf, IsBack, IsStanding, readings, SaidBy, Sourced}
-use Rattle.spv_share_rows.specs.Said.{added, IsGiven, stood}
-use Rattle.spv_share_rows.proofs.Forms.{form_at}
-use Rattle.spv_share_rows.proofs.Meeting.{stands_point}
-use Rattle.spv_readings.specs.Sayings.{bounds_of}
+use Rattle.spv_share_rows.specs.Standing.{Adds, AddsSome, IsBack, IsMetAt, IsStanding, readings, SaidBy, Sourced}
+use Rattle.spv_share_rows.specs.Said.{IsGiven}
+use Rattle.spv_share_rows.proofs.Firsts.{met_first}
+use Rattle.spv_share_rows.proofs.Given.{given_stands}
+use Rattle.spv_share_rows.proofs.Meeting.{stands_met}
 use Rattle.spv_share_rows.specs.Forcing.{HasPoint, IsOutcome, IsStopped, IsTried, Refutes}
 
 -- the same rows, sources and forms, with another tableau
@@ -60,14 +60,14 @@ beside_sourced a read old new bounds s h =
     ap_sources : old.sources.items ≡ new.sources.items → AreSourced a read old.tableau.forms bounds (sources_in old.sources.items) → AreSourced a read old.tableau.forms bounds (sources_in new.sources.items)
     ap_sources e k = let P : List RowSources → Type 0 = λ xs. AreSourced a read old.tableau.forms bounds (sources_in xs) in subst P e k
 
+take_all : (xs ys : List Bound) → take (length xs) (xs ++ ys) ≡ xs
+take_all [] [] = refl
+take_all [] (y ∷ ys) = refl
+take_all (x ∷ xs) ys = ap (λ zs. x ∷ zs) (take_all xs ys)
+
 module _ (old mid new : Standing) (row : ℕ) (x : Saying) (adds : AddsSome old mid) (beside : IsBeside mid new) (n : ℕ) (count : n ≡ length old.tableau.bounds) (first : new.tableau.bounds ≡ take n mid.tableau.bounds) where
   taken : new.tableau.bounds ≡ old.tableau.bounds
   taken = first ∙ (ap (λ k. take k mid.tableau.bounds) count ∙ (ap (take (length old.tableau.bounds)) adds.adds.bounds ∙ take_all old.tableau.bounds adds.more))
-    where
-      take_all : (xs ys : List Bound) → take (length xs) (xs ++ ys) ≡ xs
-      take_all [] [] = refl
-      take_all [] (y ∷ ys) = refl
-      take_all (x ∷ xs) ys = ap (λ zs. x ∷ zs) (take_all xs ys)
 
   pub goes_back : IsBack old new
   goes_back = record {
@@ -107,39 +107,37 @@ module _ (law : RefutedAbove) (old mid : Standing) (row : ℕ) (x : Saying) (add
           subst Q is.bounds (subst P is.forms h)
 
   pub point_met : checked ≡ Feasible → IsTableau table → HasPoint old row x
-  point_met e kept = by_given given
+  point_met e kept = record { point = kept_point table; solution = solution; stand = stand; meets = meets }
     where
       feasible : (c : Checked) → c ≡ Feasible → Means c mid.tableau table → IsFeasible table
       feasible c e h = let P : Checked → Type 0 = λ k. Means k mid.tableau table in subst P e h
 
-      form : (f : IdForm) × (slice_get old.tableau.forms row ≡ Some f)
-      form = form_at old.tableau.forms row inside
-
       solution : IsSolution (rows_of old.tableau.forms) (kept_point table)
       solution = let P : List IdForm → Type 0 = λ fs. IsSolution (rows_of fs) (kept_point table) in subst P (is.forms ∙ adds.adds.forms) kept.solution
 
-      meets : Meets (limits (rows_of old.tableau.forms) mid.tableau.bounds) (kept_point table)
-      meets =
+      met : Meets (limits (rows_of mid.tableau.forms) mid.tableau.bounds) (kept_point table)
+      met =
           let P : List IdForm → Type 0 = λ fs. Meets (limits (rows_of fs) table.bounds) (kept_point table) in
-          let Q : List Bound → Type 0 = λ bs. Meets (limits (rows_of old.tableau.forms) bs) (kept_point table) in
-          subst Q is.bounds (subst P (is.forms ∙ adds.adds.forms) (feasible checked e is.means))
+          let Q : List Bound → Type 0 = λ bs. Meets (limits (rows_of mid.tableau.forms) bs) (kept_point table) in
+          subst Q is.bounds (subst P is.forms (feasible checked e is.means))
 
-      by_given : IsGiven old mid row x → HasPoint old row x
-      by_given (added bare all) =
-          let bounds : List Bound = bounds_of row (form.0).constant x in
-          let are : AreBoundsOf old row x bounds = record { form = form.0; there = form.1; are = refl } in
+      first : take (length old.tableau.bounds) mid.tableau.bounds ≡ old.tableau.bounds
+      first = ap (take (length old.tableau.bounds)) adds.adds.bounds ∙ take_all old.tableau.bounds adds.more
+
+      stand : Meets (limits (rows_of old.tableau.forms) old.tableau.bounds) (kept_point table)
+      stand =
+          let P : List IdForm → Type 0 = λ fs. Meets (limits (rows_of fs) old.tableau.bounds) (kept_point table) in
+          let Q : List Bound → Type 0 = λ bs. Meets (limits (rows_of mid.tableau.forms) bs) (kept_point table) in
+          subst P adds.adds.forms (subst Q first (met_first (rows_of mid.tableau.forms) mid.tableau.bounds (length old.tableau.bounds) (kept_point table) met))
+
+      meets : IsMetAt old row x (kept_point table)
+      meets =
+          let there = stands_met mid row x (kept_point table) met (given_stands old mid row x inside adds.adds.forms given) in
           record {
-            bounds = bounds;
-            are = are;
-            met = record {
-              point = kept_point table;
-              solution = solution;
-              meets = let Q : List Bound → Type 0 = λ bs. Meets (limits (rows_of old.tableau.forms) bs) (kept_point table) in subst Q (all bounds are).bounds meets;
-            };
+            each = λ f at j bound is_bound.
+                ap (λ (fs : List IdForm). breaks bound.side bound.value (kept_point table (column_of (rows_of fs) row))) (sym adds.adds.forms)
+                ∙ there.each f (ap (λ fs. slice_get fs row) adds.adds.forms ∙ at) j bound is_bound;
           }
-      by_given (stood same stands) =
-          stands_point old row x inside (kept_point table) solution
-          (let Q : List Bound → Type 0 = λ bs. Meets (limits (rows_of old.tableau.forms) bs) (kept_point table) in subst Q (ap (λ (b : Standing). b.tableau.bounds) same) meets) stands
 
   -- what came of it
   pub tried_is : IsTableau table → (b : Standing) → b.tableau ≡ table → b.sources.items ≡ mid.sources.items → (t : Tried) → IsOutcome b checked t → IsTried old row x t

@@ -1,5 +1,5 @@
 -- What is tried of a row.
-use Rattle.std.specs.Prelude.{◌≡◌, ◌⊎◌, ℕ, true, List, ◌++◌, pos, Some, slice_get}
+use Rattle.std.specs.Prelude.{◌≡◌, ◌⊎◌, ℕ, true, List, pos, Some, slice_get}
 use Rattle.spv_whole.specs.Fraction.{Fraction}
 use Rattle.spv_logic.specs.Terms.{Term}
 use Rattle.spv_term.specs.Arena.{Arena, IsArena}
@@ -23,7 +23,7 @@ use Rattle.spv_bounds.specs.Sources.{sources_in}
 use Rattle.spv_share_rows.specs.declared.standing.Standing.{Standing}
 use Rattle.spv_share_rows.specs.declared.forcing.Tried.{Tried}
 use Rattle.spv_share_rows.specs.declared.forcing.Tried.TheVariants.{Refuted, Met, Stopped}
-use Rattle.spv_share_rows.specs.Standing.{AreBoundsOf, readings, SaidBy, Sourced}
+use Rattle.spv_share_rows.specs.Standing.{IsMetAt, readings, SaidBy, Sourced}
 
 -- where the bounds that stand come from facts of a course, the multiples of these refute that p is above q
 pub record Refutes (b : Standing) (row : ℕ) (x : Saying) (multiples : List (Fraction × ℕ)) : Type 0 where
@@ -31,17 +31,12 @@ pub record Refutes (b : Standing) (row : ℕ) (x : Saying) (multiples : List (Fr
       → SaidBy a (cited_reading (is_number a) (facts a es) (is_at_most_zero (difference q p (pos 1)))) b row x 0
       → refutes (is_number a) (facts a es) p q multiples ≡ true
 
--- a point solves the rows and meets these bounds
-pub record IsPointOf (b : Standing) (bounds : List Bound) : Type 0 where
+-- a point solves the rows, and meets the bounds that stand and those that a saying is
+pub record HasPoint (b : Standing) (row : ℕ) (x : Saying) : Type 0 where
   pub point : Point
   pub solution : IsSolution (rows_in b.tableau) point
-  pub meets : Meets (limits (rows_in b.tableau) bounds) point
-
--- a point meets the bounds that stand and those that a saying is
-pub record HasPoint (b : Standing) (row : ℕ) (x : Saying) : Type 0 where
-  pub bounds : List Bound
-  pub are : AreBoundsOf b row x bounds
-  pub met : IsPointOf b (b.tableau.bounds ++ bounds)
+  pub stand : Meets (limits (rows_in b.tableau) b.tableau.bounds) point
+  pub meets : IsMetAt b row x point
 
 -- what came of trying
 abbrev pub IsTried : Standing → ℕ → Saying → Tried → Type 0

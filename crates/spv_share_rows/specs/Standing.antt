@@ -7,7 +7,7 @@ use Rattle.spv_term.specs.Arena.{Arena}
 use Rattle.spv_atoms.specs.Linear.{IdForm}
 use Rattle.spv_proof.specs.Sums.{Reading}
 use Rattle.spv_tableaux.specs.declared.side.Side.{Side}
-use Rattle.spv_tableaux.specs.Rows.{column_of}
+use Rattle.spv_tableaux.specs.Rows.{Point, column_of}
 use Rattle.spv_tableaux.specs.Bounds.{Bound, bound_on, breaks}
 use Rattle.spv_simplex.specs.State.{kept_point, rows_in}
 use Rattle.spv_simplex.specs.Checks.{IsAmong}
@@ -106,7 +106,11 @@ abbrev pub KeepsWithin : Side → Option Fraction → Rational → Type 0
 KeepsWithin side None value = Unit {0}
 KeepsWithin side (Some v) value = breaks side (number v) value ≡ false
 
--- the kept point meets each bound that a saying is on a row
-pub record IsMet (b : Standing) (row : ℕ) (x : Saying) : Type 0 where
+-- a point meets each bound that a saying is on a row
+pub record IsMetAt (b : Standing) (row : ℕ) (x : Saying) (v : Point) : Type 0 where
   pub each : (f : IdForm) → slice_get b.tableau.forms row ≡ Some f → (j : ℕ) (bound : Bound) → slice_get (bounds_of row f.constant x) j ≡ Some bound
-      → breaks bound.side bound.value (kept_point b.tableau (column_of (rows_in b.tableau) row)) ≡ false
+      → breaks bound.side bound.value (v (column_of (rows_in b.tableau) row)) ≡ false
+
+-- the kept point does
+abbrev pub IsMet : Standing → ℕ → Saying → Type 0
+IsMet b row x = IsMetAt b row x (kept_point b.tableau)

@@ -1,7 +1,8 @@
 // The terms, the atoms and the steps of a case.
 
-ghost use Rattle.std.specs.Prelude.{◌≡◌, ◌<◌, [], ◌∷◌, IsTrue, IsSome, IfSome, length};
+ghost use Rattle.std.specs.Prelude.{◌≡◌, ◌<◌, [], ◌∷◌, IfOk, IsTrue, IsSome, IfSome, length};
 ghost use Rattle.spv_logic.specs.Sorts.{result_sort, head_in_range, numeral_fits};
+ghost use Rattle.spv_logic.specs.declared.operators.Head.TheVariants as head;
 ghost use Rattle.spv_logic.specs.declared.types.Sort.TheVariants as sort;
 ghost use Rattle.spv_term.specs.Arena.{Arena, sort_at};
 
@@ -9,11 +10,14 @@ use crate::play::{Step, do_steps};
 use spv_course::Part;
 use spv_list::List;
 use spv_names::Symbol;
-use spv_term::{Head, Shapes, Sort, TermFault, TermId, Terms};
+use spv_term::{Decl, Head, Shapes, Sort, TermFault, TermId, Terms};
 use std::alloc::{AllocError, Global};
 
 // How many terms a case may have.
 const MOST: u32 = 10_000_000;
+
+// The symbol that is declared in each case.
+const F: Symbol = Symbol(0);
 
 /// What the next play is over.
 #[derive(Drop)]
@@ -53,6 +57,20 @@ fn is_number(terms: &Terms, t: TermId) -> bool
     }
 }
 
+// The declaration of F, over a whole number and giving one.
+fn declared(alloc: Global) -> Result<List<Decl>, AllocError>
+    ensures { IfOk result (λ decls. decls ≡ record { name = record { 0 = 0 }; args = sort.Int ∷ []; result = sort.Int } ∷ []) }
+{
+    let args = List::from_vec(Vec::from_slice(alloc, &[Sort::Int])?);
+    let mut list = Vec::new(alloc);
+    list.push(Decl {
+        name: F,
+        args,
+        result: Sort::Int,
+    })?;
+    Ok(List::from_vec(list))
+}
+
 // Whether a term was made; there may be too many.
 fn made(term: Result<TermId, TermFault>) -> Result<bool, AllocError> {
     match term {
@@ -90,6 +108,35 @@ fn make_pair(terms: &mut Terms, word: &str, s: TermId, t: TermId) -> Result<bool
     }
 }
 
+// Whether this declares F, over a whole number.
+fn declares(decl: &Decl) -> bool
+    ensures name { IsTrue result → decl.now.name.0 ≡ 0 }
+    ensures args { IsTrue result → decl.now.args ≡ sort.Int ∷ [] }
+{
+    match decl.args.as_slice() {
+        [Sort::Int] => decl.name.0 == 0,
+        _ => false,
+    }
+}
+
+// Whether F is declared, over a whole number.
+fn is_declared(terms: &Terms) -> bool
+    ensures { IsTrue result → IsSome (result_sort terms.now.shapes terms.now.decls (head.App (record { 0 = 0 })) (sort.Int ∷ [])) }
+{
+    match terms.decls() {
+        [decl] => declares(decl),
+        _ => false,
+    }
+}
+
+// Makes F of a whole number, where this is one.
+fn make_application(terms: &mut Terms, t: TermId) -> Result<bool, AllocError> {
+    if !is_number(terms, t) || !is_declared(terms) {
+        return Ok(false);
+    }
+    made(terms.make(Head::App(F), &[t]))
+}
+
 // Makes a variable.
 fn make_variable(terms: &mut Terms, number: i64) -> Result<bool, AllocError> {
     let number = u32::try_from(number).unwrap_or(0);
@@ -103,12 +150,13 @@ fn make_numeral(terms: &mut Terms, number: i64) -> Result<bool, AllocError> {
 
 impl Case {
     /// A case without terms, atoms and steps.
-    pub fn new(alloc: Global) -> Case {
-        Case {
-            terms: Terms::new(alloc, Shapes::new(alloc), List::new(alloc), MOST),
+    pub fn new(alloc: Global) -> Result<Case, AllocError> {
+        let decls = declared(alloc)?;
+        Ok(Case {
+            terms: Terms::new(alloc, Shapes::new(alloc), decls, MOST),
             atoms: Vec::new(alloc),
             steps: Vec::new(alloc),
-        }
+        })
     }
 
     // One more step.
@@ -134,7 +182,7 @@ impl Case {
             pivots,
             out,
         )?;
-        *self = Case::new(alloc);
+        *self = Case::new(alloc)?;
         Ok(done)
     }
 
@@ -159,6 +207,7 @@ impl Case {
         match word {
             "variable" => make_variable(&mut self.terms, number),
             "number" => make_numeral(&mut self.terms, number),
+            "apply" => make_application(&mut self.terms, term(number)),
             "atom" => self.add_atom(number),
             "true" => self.add(Step::Tell(number, Part::True)),
             "false" => self.add(Step::Tell(number, Part::False)),

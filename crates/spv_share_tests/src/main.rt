@@ -8,6 +8,7 @@
 //!     variable N         makes a variable, a whole number
 //!     number Z           makes a numeral
 //!     plus S T · minus S T · times S T        makes a sum, a difference, a product
+//!     apply T            makes F of T, which F takes and gives a whole number
 //!     equal S T · less S T · at-most S T      makes a relation
 //!     atom T             takes a term as the next atom
 //!     true K · false K   tells that the atom at a place is true, or false
@@ -42,7 +43,7 @@ fn step(alloc: Global, case: &mut Case, line: &str, out: &mut Vec<u8>) -> Result
 
 fn main(rt: HostRuntime) -> io::Result<()> {
     let alloc = rt.alloc();
-    let mut case = Case::new(alloc);
+    let mut case = Case::new(alloc)?;
     let mut out = Vec::new(alloc);
     for line in BufReader::new(alloc, rt.reader())?.lines(alloc) {
         let line = line?;

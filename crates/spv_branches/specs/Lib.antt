@@ -1,0 +1,5 @@
+pub mod Branches
+pub mod Counts
+pub mod Growth
+pub mod Ends
+pub mod Laws
