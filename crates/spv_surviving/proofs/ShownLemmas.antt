@@ -1,5 +1,5 @@
 -- Formulas in a table, over plain variables.
-use Rattle.std.proofs.Common.{◌≡◌, ℕ, zero, suc, ◌<◌, Bool, true, false, List, [], ◌∷◌, map, length, refl, sym, ap, ◌∙◌, subst, Some}
+use Rattle.std.proofs.Common.{◌≡◌, ℕ, zero, suc, ◌<◌, Bool, true, false, List, [], ◌∷◌, map, length, refl, sym, ap, ◌∙◌, subst, Some, inr}
 use Rattle.std.specs.Prelude.{slice_get, Result, Ok, Err, IsErrAnd, IfErr, is_some, not}
 use Rattle.std.proofs.lemmas.Bool.{false≢true}
 use Rattle.std.proofs.lemmas.Option.{same_Some}
@@ -23,7 +23,7 @@ use Rattle.spv_leaf_tables.proofs.Closed.{subterms-has, subterms-closed}
 use Rattle.spv_verdicts.specs.Verdicts.{condition_atoms}
 use Rattle.spv_surviving.specs.declared.faults.SurvivingFault.{SurvivingFault}
 use Rattle.spv_surviving.specs.declared.faults.SurvivingFault.TheVariants.{Wide, Memory}
-use Rattle.spv_surviving.specs.Surviving.{IsShown, IsBranch, IsFaultFor, IsFaultOf, IsFaultAmong, IsListedAt, AllHold, SomeFails, AreTruths}
+use Rattle.spv_surviving.specs.Surviving.{IsShown, IsBranch, IsFaultFor, IsFaultOf, IsFaultAmong, IsListedAt, AllHold, IsNotShown, AreTruths}
 use Rattle.spv_surviving.proofs.AtomLemmas.{atoms_inside}
 
 -- a formula whose evaluation stops has no value
@@ -40,9 +40,6 @@ has_tree a (u ∷ ids) zero t e =
     or_left (term_eq (tree a t) (tree a u)) (has (map (tree a) ids) (tree a t)) (ap (λ x. term_eq (tree a t) (tree a x)) same ∙ term_eq-refl (tree a t))
 has_tree a (u ∷ ids) (suc i) t e = or_right (term_eq (tree a t) (tree a u)) (has (map (tree a) ids) (tree a t)) (has_tree a ids i t e)
 
-one_truth : (r : Result Bool WideValue) → r ≡ Ok true → r ≡ Ok false → ⊥
-one_truth r e f = cc
-
 module _ (a : Arena) (listed : Term → Fraction) where
   trees_hold : (ids : List TermId) → ((i : ℕ) (t : TermId) → slice_get ids i ≡ Some t → holds listed (tree a t) ≡ Ok true) → (f : Term) → has (map (tree a) ids) f ≡ true → holds listed f ≡ Ok true
   trees_hold [] h f m = absurd (false≢true m)
@@ -52,11 +49,9 @@ module _ (a : Arena) (listed : Term → Fraction) where
   pub shown : (c : Condition) → AllHold a listed c.given → holds listed (tree a c.goal) ≡ Ok false → IsShown a c listed
   shown c h e = record { given_true = trees_hold c.given h.each; goal_false = e }
 
-  pub given_fails : (c : Condition) → SomeFails a listed c.given → IsShown a c listed → ⊥
-  given_fails c f s = one_truth (holds listed (tree a f.formula)) (s.given_true (tree a f.formula) (has_tree a c.given f.place f.formula f.there)) f.fails
-
-  pub goal_holds : (c : Condition) (b : Bool) → holds listed (tree a c.goal) ≡ Ok b → b ≡ true → IsShown a c listed → ⊥
-  goal_holds c b e is s = one_truth (holds listed (tree a c.goal)) (e ∙ ap Ok is) s.goal_false
+  pub goal_true : (c : Condition) (b : Bool) → holds listed (tree a c.goal) ≡ Ok b → not b ≡ false → IsNotShown a c listed
+  goal_true c true e is = inr e
+  goal_true c false e is = absurd (false≢true (sym is))
 
 -- ---- faults
 

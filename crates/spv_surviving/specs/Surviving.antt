@@ -1,5 +1,5 @@
 -- The formulas of a condition in a table.
-use Rattle.std.specs.Prelude.{◌≡◌, ℕ, ◌<◌, Bool, true, false, List, map, length, Some, Ok, Err, slice_get}
+use Rattle.std.specs.Prelude.{◌≡◌, ◌⊎◌, ℕ, ◌<◌, Bool, true, false, List, map, length, Some, Ok, Err, slice_get}
 use Rattle.spv_whole.specs.Fraction.{Fraction}
 use Rattle.spv_logic.specs.declared.conditions.TermId.{TermId}
 use Rattle.spv_logic.specs.Terms.{Term}
@@ -19,6 +19,17 @@ use Rattle.spv_surviving.specs.declared.faults.SurvivingFault.TheVariants.{Wide,
 pub record IsShown (a : Arena) (c : Condition) (listed : Term → Fraction) : Type 0 where
   pub given_true : (f : Term) → is_among (map (tree a) c.given) f ≡ true → holds listed f ≡ Ok true
   pub goal_false : holds listed (tree a c.goal) ≡ Ok false
+
+-- one of these formulas is false
+pub record SomeFails (a : Arena) (listed : Term → Fraction) (fs : List TermId) : Type 0 where
+  pub place : ℕ
+  pub formula : TermId
+  pub there : slice_get fs place ≡ Some formula
+  pub fails : holds listed (tree a formula) ≡ Ok false
+
+-- a hypothesis is false, or the goal is true
+abbrev pub IsNotShown : Arena → Condition → (Term → Fraction) → Type 0
+IsNotShown a c listed = SomeFails a listed c.given ⊎ (holds listed (tree a c.goal) ≡ Ok true)
 
 -- these are the atoms of the condition, each with its truth
 pub record IsBranch (a : Arena) (c : Condition) (listed : Term → Fraction) (branch : List (TermId × Bool)) : Type 0 where
@@ -55,12 +66,6 @@ IsFaultAmong a listed fs Memory = Unit {0}
 
 pub record AllHold (a : Arena) (listed : Term → Fraction) (fs : List TermId) : Type 0 where
   pub each : (i : ℕ) (f : TermId) → slice_get fs i ≡ Some f → holds listed (tree a f) ≡ Ok true
-
-pub record SomeFails (a : Arena) (listed : Term → Fraction) (fs : List TermId) : Type 0 where
-  pub place : ℕ
-  pub formula : TermId
-  pub there : slice_get fs place ≡ Some formula
-  pub fails : holds listed (tree a formula) ≡ Ok false
 
 -- these terms, each with its truth
 pub record AreTruths (a : Arena) (listed : Term → Fraction) (fs : List TermId) (branch : List (TermId × Bool)) : Type 0 where

@@ -7,7 +7,7 @@ ghost use Rattle.spv_proof.specs.Stand.{question};
 ghost use Rattle.spv_table.specs.Values as spec;
 ghost use Rattle.spv_table.specs.Kept.{PairsIn, listed_over};
 ghost use Rattle.spv_verdicts.specs.Verdicts.{condition_atoms, with_all_atoms};
-ghost use Rattle.spv_surviving.specs.Surviving.{AllHold, AreTruths, IsBranch, IsFaultAmong, IsFaultFor, IsFaultOf, IsShown, ShowsFalse, SomeFails};
+ghost use Rattle.spv_surviving.specs.Surviving.{AllHold, AreTruths, IsBranch, IsFaultAmong, IsFaultFor, IsFaultOf, IsNotShown, IsShown, ShowsFalse, SomeFails};
 
 use crate::faults::SurvivingFault;
 use spv_atoms::atoms;
@@ -142,7 +142,7 @@ fn is_shown(
     requires goal { condition.now.goal.0 < length terms.now.nodes }
     requires values { PairsIn terms.now table.now.values }
     ensures shown { IfOk result (λ b. b ≡ true → IsShown terms.now condition.now (listed_over terms.now table.now.values)) }
-    ensures not_shown { IfOk result (λ b. b ≡ false → IsShown terms.now condition.now (listed_over terms.now table.now.values) → ⊥) }
+    ensures not_shown { IfOk result (λ b. b ≡ false → IsNotShown terms.now condition.now (listed_over terms.now table.now.values)) }
     ensures fault { IfErr result (IsFaultFor terms.now condition.now (listed_over terms.now table.now.values)) }
 {
     terms.law_arena();
@@ -154,7 +154,7 @@ fn is_shown(
 }
 
 /// Where each hypothesis of a condition is true in a table and its goal is false, each atom of the condition with its truth there;
-/// `None` where it is not so. `Wide` names a formula or an atom of the condition, and the operation that its evaluation meets.
+/// `None` where a hypothesis is false or the goal is true. `Wide` names a formula or an atom of the condition, and the operation that its evaluation meets.
 pub fn surviving(
     alloc: Global,
     terms: &Terms,
@@ -165,7 +165,7 @@ pub fn surviving(
     requires goal { condition.now.goal.0 < length terms.now.nodes }
     requires values { PairsIn terms.now table.now.values }
     ensures shown { IfOk result (λ o. IfSome o (ShowsFalse terms.now condition.now (listed_over terms.now table.now.values))) }
-    ensures not_shown { IfOk result (λ o. IfNone o (IsShown terms.now condition.now (listed_over terms.now table.now.values) → ⊥)) }
+    ensures not_shown { IfOk result (λ o. IfNone o (IsNotShown terms.now condition.now (listed_over terms.now table.now.values))) }
     ensures fault { IfErr result (IsFaultFor terms.now condition.now (listed_over terms.now table.now.values)) }
 {
     if !is_shown(alloc, terms, condition, table)? {

@@ -1,8 +1,8 @@
-use Rattle.std.proofs.Common.{ap, ◌∙◌, subst}
+use Rattle.std.proofs.Common.{ap, ◌∙◌, inl, subst}
 use Rattle.std.specs.Prelude.{Ok}
 use Rattle.spv_table.specs.Kept.{listed_over}
 use Rattle.spv_surviving.specs.Surviving.{AllHold, IsFaultAmong, IsFaultFor, SomeFails}
-use Rattle.spv_surviving.proofs.ShownLemmas.{err_same, given_fails, given_fault, goal_fault, not_true, shown}
+use Rattle.spv_surviving.proofs.ShownLemmas.{err_same, given_fault, goal_fault, goal_true, not_true, shown}
 use Rattle.spv_surviving.proofs.evaluating.is_shown.Goals as goal
 
 pub returns-in_err-all_hold-clause-fault : goal.returns-in_err-all_hold-clause-fault
@@ -14,7 +14,7 @@ returns-in_err-all_hold-clause-fault c =
 pub returns-then-not-branch-clause-not_shown : goal.returns-then-not-branch-clause-not_shown
 returns-then-not-branch-clause-not_shown c =
     λ e.
-    given_fails c.args.terms.now (listed_over c.args.terms.now c.args.table.now.values) c.args.condition.now
+    inl
     (subst (λ ids. SomeFails c.args.terms.now (listed_over c.args.terms.now c.args.table.now.values) ids) c.as_slice.ensures (c.in_ok-all_hold.ensures.fail c.if-not-branch.true))
 
 pub returns-in_err-goal-clause-fault : goal.returns-in_err-goal-clause-fault
@@ -28,3 +28,7 @@ returns-clause-shown c =
     shown c.args.terms.now (listed_over c.args.terms.now c.args.table.now.values) c.args.condition.now
     (subst (λ ids. AllHold c.args.terms.now (listed_over c.args.terms.now c.args.table.now.values) ids) c.as_slice.ensures (c.in_ok-all_hold.ensures.hold c.if-not-branch.false))
     (c.in_ok-goal.ensures.value ∙ ap Ok (not_true c.in_ok-goal.goal is))
+
+pub returns-clause-not_shown : goal.returns-clause-not_shown
+returns-clause-not_shown c =
+    λ is. goal_true c.args.terms.now (listed_over c.args.terms.now c.args.table.now.values) c.args.condition.now c.in_ok-goal.goal c.in_ok-goal.ensures.value is
