@@ -1,5 +1,5 @@
 -- The table of a full state shows the condition false, where no operation is too wide.
-use Rattle.std.proofs.Common.{◌≡◌, ℕ, Bool, true, false, List, [], ◌∷◌, map, refl, sym, ap, ◌∙◌, subst, Option, Some, None, Ok}
+use Rattle.std.proofs.Common.{◌≡◌, ℕ, Bool, true, false, List, [], ◌∷◌, map, refl, sym, ap, ◌∙◌, subst, Option, Some, None, Ok, inl, inr}
 use Rattle.std.specs.Prelude.{slice_get}
 use Rattle.std.specs.Option.{option_map}
 use Rattle.std.proofs.lemmas.Option.{same_Some, slice_get-map}
@@ -22,7 +22,7 @@ use Rattle.spv_leaf_tables.proofs.Falsifying.{table-terms, is-table, formula-hol
 use Rattle.spv_share.specs.declared.both.Both.{Both}
 use Rattle.spv_full_tables.specs.Laws.{IsTableOfLeaf}
 use Rattle.spv_live_states.proofs.Sameness.{found_id}
-use Rattle.spv_surviving.specs.Surviving.{IsShown, ShowsFalse, SomeFails}
+use Rattle.spv_surviving.specs.Surviving.{IsNotShown, IsShown, ShowsFalse, SomeFails}
 use Rattle.spv_verdicts.specs.Verdicts.{Survives}
 use Rattle.spv_decided.specs.Views.{branch_in, case_in, pairs_in}
 use Rattle.spv_live_states.specs.States.{same_in}
@@ -66,16 +66,20 @@ module _ (tables : IsTableOfLeaf) (a : Arena) (c : Condition) (b : Both) (cases 
       formula-holds a.shapes a.decls (formulas_of (question a c).sequent) (leaf_in a c b cases value h.state) (is_leaf a c b cases value h.state) f d m
       (ap (λ ps. holds (listed_in ps) f) (sym table_same) ∙ e)
 
-  pub none_fails : SomeFails a (listed_over a values) c.given → ⊥
+  none_fails : SomeFails a (listed_over a values) c.given → ⊥
   none_fails s =
       let m : has (question a c).sequent.given (tree a s.formula) ≡ true = found_id a c.given (tree a s.formula) (record { id = s.formula; listed = (s.place, s.there); is = refl }) in
       other_truth (truth_at (is_truth a) (on_questions (question a c) value) (tree a s.formula)) (state_facts.given_true (tree a s.formula) m)
       (formula_truth (tree a s.formula) false (has-left (question a c).sequent.given ((question a c).sequent.goal ∷ []) (tree a s.formula) m) s.fails)
 
-  pub goal_fails : holds (listed_over a values) (tree a c.goal) ≡ Ok true → ⊥
+  goal_fails : holds (listed_over a values) (tree a c.goal) ≡ Ok true → ⊥
   goal_fails e =
       other_truth (truth_at (is_truth a) (on_questions (question a c) value) (tree a c.goal))
       (formula_truth (tree a c.goal) true (has-last (question a c).sequent.given (question a c).sequent.goal) e) state_facts.goal_false
+
+  pub never_not_shown : IsNotShown a c (listed_over a values) → ⊥
+  never_not_shown (inl f) = none_fails f
+  never_not_shown (inr e) = goal_fails e
 
   pub is_shown : ((f : Term) → is_among (formulas_of (question a c).sequent) f ≡ true → (d : Bool) × (holds (listed_over a values) f ≡ Ok d)) → IsShown a c (listed_over a values)
   is_shown fits =

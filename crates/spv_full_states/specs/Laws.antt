@@ -20,7 +20,7 @@ use Rattle.spv_split_trees.specs.Shown.{ShowsLive}
 use Rattle.spv_share.specs.declared.both.Both.{Both}
 use Rattle.spv_full_tables.specs.Firsts.{HasNodes}
 use Rattle.spv_live_states.specs.Laws.{IsOpenState}
-use Rattle.spv_surviving.specs.Surviving.{IsShown, ShowsFalse, SomeFails, IsFaultFor}
+use Rattle.spv_surviving.specs.Surviving.{IsNotShown, IsShown, ShowsFalse, IsFaultFor}
 use Rattle.spv_surviving.specs.declared.faults.SurvivingFault.TheVariants.{Wide}
 use Rattle.spv_verdicts.specs.Verdicts.{Survives, HasWideValue}
 use Rattle.spv_decided.specs.Views.{branch_in, pairs_in}
@@ -53,15 +53,10 @@ abbrev pub FullIsShown : Type 0
 FullIsShown = (a : Arena) (c : Condition) (b : Both) (cases : List Term) (value : Term → Option Bool) (values : List (TermId × Fraction)) → IsTableOf a c b cases value values
     → ((f : Term) → is_among (formulas_of (question a c).sequent) f ≡ true → (d : Bool) × (table.holds (listed_over a values) f ≡ Ok d)) → IsShown a c (listed_over a values)
 
--- no hypothesis is false in it
-abbrev pub NoneFails : Type 0
-NoneFails = (a : Arena) (c : Condition) (b : Both) (cases : List Term) (value : Term → Option Bool) (values : List (TermId × Fraction)) → IsTableOf a c b cases value values
-    → SomeFails a (listed_over a values) c.given → ⊥
-
--- nor is the goal true
-abbrev pub GoalFails : Type 0
-GoalFails = (a : Arena) (c : Condition) (b : Both) (cases : List Term) (value : Term → Option Bool) (values : List (TermId × Fraction)) → IsTableOf a c b cases value values
-    → table.holds (listed_over a values) (tree a c.goal) ≡ Ok true → ⊥
+-- whatever an evaluation meets, no hypothesis is false in it, and the goal is not true
+abbrev pub NeverNotShown : Type 0
+NeverNotShown = (a : Arena) (c : Condition) (b : Both) (cases : List Term) (value : Term → Option Bool) (values : List (TermId × Fraction)) → IsTableOf a c b cases value values
+    → IsNotShown a c (listed_over a values) → ⊥
 
 -- where it shows the condition false, the condition is unproved, with this branch and this table
 abbrev pub ShownIsUnproved : Type 0

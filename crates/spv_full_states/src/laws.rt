@@ -1,6 +1,6 @@
 // What a full path comes to, each law the contract of a function that does nothing but to cite another one.
 
-ghost use Rattle.spv_full_states.specs.Laws.{FullIsShown, GoalFails, ListedAreNodes, NoneFails, ShownIsLeaf, ShownIsUnproved, ShownSurvives, WideIsReached};
+ghost use Rattle.spv_full_states.specs.Laws.{FullIsShown, ListedAreNodes, NeverNotShown, ShownIsLeaf, ShownIsUnproved, ShownSurvives, WideIsReached};
 
 use spv_full_tables::law_full_table;
 
@@ -17,8 +17,7 @@ pub fn law_filled_path()
 pub fn law_full_state()
     ensures nodes { ListedAreNodes }
     ensures shown { FullIsShown }
-    ensures given { NoneFails }
-    ensures goal { GoalFails }
+    ensures never { NeverNotShown }
     ensures unproved { ShownIsUnproved }
 {
     law_full_table();

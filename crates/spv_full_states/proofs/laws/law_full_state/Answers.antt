@@ -1,4 +1,4 @@
-use Rattle.spv_full_states.proofs.Full.{goal_fails, is_shown, none_fails, survives}
+use Rattle.spv_full_states.proofs.Full.{is_shown, never_not_shown, survives}
 use Rattle.spv_full_states.proofs.Nodes.{listed_nodes}
 use Rattle.spv_full_states.proofs.laws.law_full_state.Goals as goal
 
@@ -8,11 +8,8 @@ returns-clause-nodes c = listed_nodes
 pub returns-clause-shown : goal.returns-clause-shown
 returns-clause-shown c = is_shown c.law_full_table.ensures
 
-pub returns-clause-given : goal.returns-clause-given
-returns-clause-given c = none_fails c.law_full_table.ensures
-
-pub returns-clause-goal : goal.returns-clause-goal
-returns-clause-goal c = goal_fails c.law_full_table.ensures
+pub returns-clause-never : goal.returns-clause-never
+returns-clause-never c = never_not_shown c.law_full_table.ensures
 
 pub returns-clause-unproved : goal.returns-clause-unproved
 returns-clause-unproved c = survives c.law_full_table.ensures
