@@ -148,7 +148,7 @@ module _ (a : Arena) (ok : IsArena a) (x y : Term) (f g : IdForm) (left : IsForm
   pub fitting_row : (o : Option IdForm) (d : IdForm) → IsDifference f g o → o ≡ Some d → IsIdForm d → has_room d.constant ≡ true → IsFittingRow a (x, y) d
   fitting_row o d h e k room =
       let q : IsMeasureOf a x y false d = measure o d h e k in
-      record { row = record { in_range = q.over.in_range; same = q.over.same }; room = room; fits = room-fits x y q.fits d.constant q.over.same.constant room }
+      record { row = record { in_range = q.over.in_range; same = q.over.same }; kept = k; room = room; fits = room-fits x y q.fits d.constant q.over.same.constant room }
 
   pub without_room : (o : Option IdForm) (d : IdForm) → IsDifference f g o → o ≡ Some d → IsIdForm d → has_room d.constant ≡ false → fits_each_way (x, y) ≡ false
   without_room o d h e k room = let q : IsMeasureOf a x y false d = measure o d h e k in no_room x y q.fits d.constant q.over.same.constant room

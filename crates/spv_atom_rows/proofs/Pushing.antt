@@ -9,7 +9,7 @@ use Rattle.spv_atoms.proofs.Coefficients.{both_true}
 use Rattle.spv_logic.specs.declared.conditions.TermId.{TermId}
 use Rattle.spv_logic.specs.Terms.{Term}
 use Rattle.spv_term.specs.Arena.{Arena, tree}
-use Rattle.spv_atoms.specs.Linear.{IdForm}
+use Rattle.spv_atoms.specs.Linear.{IdForm, IsIdForm}
 use Rattle.spv_sums.specs.Readings.{number_in}
 use Rattle.spv_readings.specs.Relations.{number_sides, in_front, relations, AreRowsOf, IsRowOf, place_at, behind, places_from, places, fits_each_way}
 use Rattle.spv_bounds.specs.Bounds.{has_room}
@@ -66,14 +66,18 @@ module _ (a : Arena) where
   all-push : (sides : List (Term × Term)) (st : Term × Term) → list_all fits_each_way sides ≡ true → fits_each_way st ≡ true → list_all fits_each_way (sides ++ st ∷ []) ≡ true
   all-push sides st h k = list_all-append fits_each_way sides (st ∷ []) ∙ both_true _ _ h (both_true _ _ k refl)
 
-  room-push : (forms : List IdForm) (f : IdForm) → HaveRoom forms → has_room f.constant ≡ true → HaveRoom (forms ++ f ∷ [])
-  room-push forms f h k = record { each = λ i g at. each forms h.each i g at }
-    where
-      each : (forms : List IdForm) → ((i : ℕ) (g : IdForm) → slice_get forms i ≡ Some g → has_room g.constant ≡ true) → (i : ℕ) (g : IdForm) → slice_get (forms ++ f ∷ []) i ≡ Some g → has_room g.constant ≡ true
-      each [] before zero g at = let same : f ≡ g = cc in ap (λ (v : IdForm). has_room v.constant) (sym same) ∙ k
-      each [] before (suc i) g at = absurd (cc)
-      each (e ∷ forms) before zero g at = before zero g at
-      each (e ∷ forms) before (suc i) g at = each forms (λ j v there. before (suc j) v there) i g at
+  -- what each form has, and one form more
+  form-push : (P : IdForm → Type 0) (forms : List IdForm) (f : IdForm) → ((i : ℕ) (g : IdForm) → slice_get forms i ≡ Some g → P g) → P f → (i : ℕ) (g : IdForm) → slice_get (forms ++ f ∷ []) i ≡ Some g → P g
+  form-push P [] f before k zero g at = let same : f ≡ g = cc in subst P same k
+  form-push P [] f before k (suc i) g at = absurd (cc)
+  form-push P (e ∷ forms) f before k zero g at = before zero g at
+  form-push P (e ∷ forms) f before k (suc i) g at = form-push P forms f (λ j v there. before (suc j) v there) k i g at
+
+  room-push : (forms : List IdForm) (f : IdForm) → HaveRoom forms → has_room f.constant ≡ true → IsIdForm f → HaveRoom (forms ++ f ∷ [])
+  room-push forms f h k form = record {
+    each = form-push (λ (g : IdForm). has_room g.constant ≡ true) forms f h.each k;
+    kept = form-push (λ (g : IdForm). IsIdForm g) forms f h.kept form;
+  }
 
   pub add_other : (ts : List Term) (t : Term) (forms new_forms : List IdForm) (places new_places : List (Option ℕ)) → HasRows a ts forms places → number_sides (number_in a) t ≡ None
       → new_forms ≡ forms → new_places ≡ places ++ None ∷ [] → HasRows a (ts ++ t ∷ []) new_forms new_places
@@ -96,7 +100,7 @@ module _ (a : Arena) where
             (subst (λ (ss : List (Term × Term)). AreRowsOf a ss (forms ++ f ∷ [])) (sym same) (rows-push (relations (number_in a) ts) forms st f h.rows row.row));
         placed = places_are ∙ (ap (λ ps. ps ++ Some (length forms) ∷ []) h.placed ∙ (ap (λ k. places (number_in a) ts ++ Some k ∷ []) count
             ∙ sym (places_from-push (number_in a) 0 ts t ∙ ap (λ o. places (number_in a) ts ++ place_at (0 + length (relations (number_in a) ts)) o ∷ []) sides)));
-        room = subst HaveRoom (sym forms_are) (room-push forms f h.room row.room);
+        room = subst HaveRoom (sym forms_are) (room-push forms f h.room row.room row.kept);
         fits = ap (list_all fits_each_way) same ∙ all-push (relations (number_in a) ts) st h.fits row.fits;
       }
     where
@@ -125,7 +129,10 @@ pub none_yet : (a : Arena) (forms : List IdForm) (placed : List (Option ℕ)) �
 none_yet a forms placed e f = record {
   rows = subst (λ (fs : List IdForm). AreRowsOf a [] fs) (sym e) tt;
   placed = f;
-  room = record { each = λ i g at. absurd (nothing i g (ap (λ fs. slice_get fs i) (sym e) ∙ at)) };
+  room = record {
+    each = λ i g at. absurd (nothing i g (ap (λ fs. slice_get fs i) (sym e) ∙ at));
+    kept = λ i g at. absurd (nothing i g (ap (λ fs. slice_get fs i) (sym e) ∙ at));
+  };
   fits = refl;
 }
   where

@@ -4,20 +4,22 @@ use Rattle.spv_logic.specs.declared.conditions.TermId.{TermId}
 use Rattle.spv_logic.specs.Terms.{Term}
 use Rattle.spv_term.specs.Arena.{Arena, tree}
 use Rattle.spv_atoms.specs.Forms.{is_narrow}
-use Rattle.spv_atoms.specs.Linear.{IdForm}
+use Rattle.spv_atoms.specs.Linear.{IdForm, IsIdForm}
 use Rattle.spv_sums.specs.Readings.{number_in}
 use Rattle.spv_readings.specs.Relations.{number_sides, IsRowOf, fits_each_way}
 use Rattle.spv_bounds.specs.Bounds.{has_room}
 use Rattle.spv_atom_rows.specs.declared.row.RowFault.{RowFault}
 use Rattle.spv_atom_rows.specs.declared.row.RowFault.TheVariants.{Wide, Memory}
 
--- each row's constant leaves room for each bound of its relation
+-- each row's constant leaves room for each bound of its relation, and its form is as forms over ids are kept
 pub record HaveRoom (forms : List IdForm) : Type 0 where
   pub each : (i : ℕ) (f : IdForm) → slice_get forms i ≡ Some f → has_room f.constant ≡ true
+  pub kept : (i : ℕ) (f : IdForm) → slice_get forms i ≡ Some f → IsIdForm f
 
 -- the row of a relation with these sides, whose forms fit each way
 pub record IsFittingRow (a : Arena) (st : Term × Term) (f : IdForm) : Type 0 where
   pub row : IsRowOf a st f
+  pub kept : IsIdForm f
   pub room : has_room f.constant ≡ true
   pub fits : fits_each_way st ≡ true
 
