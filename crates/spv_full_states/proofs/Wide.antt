@@ -52,7 +52,7 @@ use Rattle.spv_surviving.specs.declared.faults.SurvivingFault.TheVariants as fau
 use Rattle.spv_full_tables.specs.Laws.{IsTableOfLeaf}
 use Rattle.spv_decided.specs.Views.{pairs_in}
 use Rattle.spv_full_states.specs.Filled.{on_questions}
-use Rattle.spv_full_states.specs.States.{AreIdForms, IsTableOf}
+use Rattle.spv_full_states.specs.States.{IsTableOf}
 use Rattle.spv_full_states.proofs.Columns.{IsNumberIn, form_in, difference_keeps, part_of, not_zero, column_is, column_value, value_nowhere}
 use Rattle.spv_full_states.proofs.Exactly.{exact_formula}
 use Rattle.spv_full_states.proofs.Full.{is_table, lists_subterms, state_facts, table_same}
@@ -110,7 +110,7 @@ unlisted n (t ∷ ts) u h = by_case (term_eq t u) refl (unlisted n ts u (later h
     by_case true e rest = absurd (false≢true (sym h ∙ or_left (term_eq u t) (has ts u) (ap (term_eq u) (term_eq-true t u e) ∙ term_eq-refl u)))
     by_case false e rest = rest
 
-module _ (tables : IsTableOfLeaf) (a : Arena) (c : Condition) (b : Both) (cases : List Term) (given : Term → Option Bool) (values : List (TermId × Fraction)) (h : IsTableOf a c b cases given values) (id_forms : AreIdForms b.standing.tableau.forms) where
+module _ (tables : IsTableOfLeaf) (a : Arena) (c : Condition) (b : Both) (cases : List Term) (given : Term → Option Bool) (values : List (TermId × Fraction)) (h : IsTableOf a c b cases given values) where
   abbrev fs : List Term
   fs = formulas_of (question a c).sequent
 
@@ -158,7 +158,7 @@ module _ (tables : IsTableOfLeaf) (a : Arena) (c : Condition) (b : Both) (cases 
       (difference_keeps InSubterms (form (tree a k.relation.left)) (form (tree a k.relation.right))
       (form_in a.shapes a.decls (subterms (formulas_of (question a c).sequent)) closed_here (tree a k.relation.left) left)
       (form_in a.shapes a.decls (subterms (formulas_of (question a c).sequent)) closed_here (tree a k.relation.right) right))
-      (λ e. not_zero a 0 f.parts (id_forms.each i f at).parts j p there (k.row.same.parts (tree a p.0) ∙ e))
+      (λ e. not_zero a 0 f.parts (h.state.opened.both.sound.standing.room.kept i f at).parts j p there (k.row.same.parts (tree a p.0) ∙ e))
 
   column_in : (n : ℕ) (t : TermId) → slice_get (part_ids b.standing.tableau.forms) n ≡ Some t → InSubterms (tree a t)
   column_in = column_is (λ (t : TermId). InSubterms (tree a t)) b.standing.tableau.forms part_in

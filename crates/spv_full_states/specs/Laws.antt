@@ -25,7 +25,7 @@ use Rattle.spv_surviving.specs.declared.faults.SurvivingFault.TheVariants.{Wide}
 use Rattle.spv_verdicts.specs.Verdicts.{Survives, HasWideValue}
 use Rattle.spv_decided.specs.Views.{branch_in, pairs_in}
 use Rattle.spv_full_states.specs.Filled.{IsFilled, shown_leaf}
-use Rattle.spv_full_states.specs.States.{AreIdForms, AreListed, IsTableOf}
+use Rattle.spv_full_states.specs.States.{AreListed, IsTableOf}
 
 -- ---- filled paths
 
@@ -66,4 +66,4 @@ ShownIsUnproved = (a : Arena) (c : Condition) (b : Both) (cases : List Term) (va
 -- where an operation is too wide, the search may give up at it
 abbrev pub WideIsReached : Type 0
 WideIsReached = (a : Arena) (c : Condition) (b : Both) (cases : List Term) (value : Term → Option Bool) (values : List (TermId × Fraction)) → IsTableOf a c b cases value values
-    → AreIdForms b.standing.tableau.forms → (t : TermId) (w : WideValue) → IsFaultFor a c (listed_over a values) (Wide t w) → HasWideValue a (question a c) (pairs_in a values) (tree a t) w
+    → (t : TermId) (w : WideValue) → IsFaultFor a c (listed_over a values) (Wide t w) → HasWideValue a (question a c) (pairs_in a values) (tree a t) w

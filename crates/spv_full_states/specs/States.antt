@@ -5,7 +5,6 @@ use Rattle.spv_logic.specs.declared.conditions.TermId.{TermId}
 use Rattle.spv_logic.specs.Terms.{Term}
 use Rattle.spv_term.specs.declared.nodes.Condition.{Condition}
 use Rattle.spv_term.specs.Arena.{Arena, AllBelow}
-use Rattle.spv_atoms.specs.Linear.{IdForm, IsIdForm}
 use Rattle.spv_proof.specs.Stand.{question}
 use Rattle.spv_leaf_tables.specs.Tables.{formulas_of}
 use Rattle.spv_split_trees.specs.Paths.{facts}
@@ -32,7 +31,3 @@ pub record IsTableOf (a : Arena) (c : Condition) (b : Both) (cases : List Term) 
   pub flags : List Bool
   pub listed : AreListed a c ids flags
   pub table : IsFullTable a b ids flags values
-
--- the forms of rows are as forms over ids are kept: no part is multiplied by 0
-pub record AreIdForms (forms : List IdForm) : Type 0 where
-  pub each : (i : ℕ) (f : IdForm) → slice_get forms i ≡ Some f → IsIdForm f
