@@ -56,10 +56,13 @@ pub record ArePlain (a : Arena) (values : List (Option Bool)) : Type 0 where
   pub count : length values ≡ length a.nodes
   pub each : (t : TermId) → t.0 < length a.nodes → at values t.0 ≡ plain_at a t
 
--- what is listed, else the plain value
+-- what is listed for a term, else its plain value
+abbrev pub start_value : Arena → List (Option Bool) → TermId → Option Bool
+start_value a own t = or_else (at own t.0) (plain_at a t)
+
 pub record AreStarted (a : Arena) (own start : List (Option Bool)) : Type 0 where
   pub count : length start ≡ length a.nodes
-  pub each : (t : TermId) → t.0 < length a.nodes → at start t.0 ≡ or_else (at own t.0) (plain_at a t)
+  pub each : (t : TermId) → t.0 < length a.nodes → at start t.0 ≡ start_value a own t
 
 -- no listed value is opposite to the plain one
 pub record AreQuiet (a : Arena) (own : List (Option Bool)) : Type 0 where
