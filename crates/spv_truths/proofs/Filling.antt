@@ -1,6 +1,6 @@
 -- A pass over the connectives in order finds the value of each term, and which of them clash.
 use Rattle.std.proofs.Common.{◌≡◌, ◌≢◌, ℕ, ◌<◌, ◌≤◌, ◌+◌, Bool, true, false, cond, List, length, nat_eq, slice_get, slice_index_or, slice_set, refl, sym, ap, subst, ◌∙◌, Option, Some, None, arith, inl, inr}
-use Rattle.std.specs.Prelude.{IfNone}
+use Rattle.std.specs.Prelude.{IfNone, IfSome}
 use mathlib.Core.Path.{ap₂}
 use mathlib.Core.Logic.{◌⊎◌}
 use Rattle.std.proofs.lemmas.Bool.{false≢true, eqb-true}
@@ -19,7 +19,7 @@ use Rattle.spv_atoms.specs.Atoms as atoms
 use Rattle.spv_atoms.specs.Order.{same_id}
 use Rattle.spv_atoms.specs.Valued.{valued_in}
 use Rattle.spv_proof.specs.Evaluation.{opposite}
-use Rattle.spv_truths.specs.Passes.{connects, plain_at, at, given_at, of_node, clashes_at, StandsAt, Gives, AreConnectives, AreStarted, AreQuiet, IsFilled, QuietBefore, HasPassed, NoConnectiveClashes, Clashes, NoneClashes}
+use Rattle.spv_truths.specs.Passes.{connects, plain_at, at, given_at, of_node, clashes_at, StandsAt, Gives, AreConnectives, AreStarted, AreQuiet, IsFilled, QuietBefore, HasPassed, NoConnectiveClashes, Clashes, NoneClashes, GivesListed, ClashesListed, NoneClashesListed}
 use Rattle.spv_truths.proofs.Heads.{plain_value, plain_none, AreFound, connected_value}
 
 -- ---- one turn
@@ -231,3 +231,42 @@ module _ (a : Arena) (ok : IsArena a) (ids : List TermId) (are : AreConnectives 
     pub turn_passes : b ≡ false → (new : List (Option Bool)) (kept : Option Bool) → kept ≡ or_else given value → new ≡ slice_set found this.0 kept → HasPassed a own s v ids (k + 1) new
     turn_passes e new kept kept_is set =
         passed_next a ok ids are own s v k found new this this_at (set ∙ ap (slice_set found this.0) (kept_is ∙ ap₂ or_else given_is value_is)) passed (sym (opposite_is ∙ ap₂ opposite value_is given_is) ∙ e)
+
+-- ---- where each term has what is listed: a term past the end has another value
+
+module _ (a : Arena) (own start : List (Option Bool)) (started : AreStarted a own start) (s : TermId) (v : Bool) (past : s.0 ≡ length a.nodes) where
+  listed_at : (t : TermId) → t.0 < length a.nodes → given_at own s v t ≡ at own t.0
+  listed_at t h = ap (λ b. cond b (Some v) (at own t.0)) (there (eqb_tells t.0 s.0))
+    where
+      there : ((nat_eq t.0 s.0 ≡ true) × (t.0 ≡ s.0)) ⊎ ((nat_eq t.0 s.0 ≡ false) × (t.0 ≢ s.0)) → nat_eq t.0 s.0 ≡ false
+      there (inl x) = let e : t.0 ≡ s.0 = x.1 in absurd (omega (arith, h, e, past))
+      there (inr x) = x.0
+
+  pub listed_start : (ids : List TermId) (found : List (Option Bool)) → found ≡ start → HasPassed a own s v ids 0 found
+  listed_start ids found e = record {
+    count = count;
+    filled = λ given gives. record {
+      count = count;
+      others = λ t h c. ap (λ xs. at xs t.0) e ∙ (started.each t h ∙ sym (ap₂ or_else (gives.each t h ∙ listed_at t h) (plain_value a given t c)));
+      earlier = λ i t h is. absurd (omega (arith, h));
+    };
+    quiet = λ given gives. record { each = λ i t h is. absurd (omega (arith, h)) };
+  }
+    where
+      count : length found ≡ length a.nodes
+      count = ap length e ∙ started.count
+
+  gives_too : (given : Term → Option Bool) → GivesListed a own given → Gives a own s v given
+  gives_too given gives = record { each = λ t h. gives.each t h ∙ sym (listed_at t h) }
+
+  pub listed_clashes : (found : Option TermId) → IfSome found (Clashes a own s v) → IfSome found (ClashesListed a own)
+  listed_clashes None h = h
+  listed_clashes (Some t) h = record { in_range = h.in_range; clash = λ given gives. h.clash given (gives_too given gives) }
+
+  pub listed_quiet : AreQuiet a own → (found : Option TermId) → IfNone found (NoConnectiveClashes a own s v) → IfNone found (NoneClashesListed a own)
+  listed_quiet others None connectives = record { quiet = λ given gives t h. by_case given gives t h (connects a t) refl }
+    where
+      by_case : (given : Term → Option Bool) → GivesListed a own given → (t : TermId) → t.0 < length a.nodes → (b : Bool) → connects a t ≡ b → clashes_at a given t ≡ false
+      by_case given gives t h true c = connectives.quiet given (gives_too given gives) t h c
+      by_case given gives t h false c = ap₂ opposite (plain_value a given t c) (gives.each t h) ∙ others.each t h
+  listed_quiet others (Some t) h = h

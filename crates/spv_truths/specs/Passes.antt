@@ -101,6 +101,19 @@ pub record Clashes (a : Arena) (own : List (Option Bool)) (s : TermId) (v : Bool
 pub record NoneClashes (a : Arena) (own : List (Option Bool)) (s : TermId) (v : Bool) : Type 0 where
   pub quiet : (given : Term → Option Bool) → Gives a own s v given → (t : TermId) → t.0 < length a.nodes → clashes_at a given t ≡ false
 
+-- ---- the same where each term has what is listed
+
+-- a way to give values gives to each term of an arena what is listed
+pub record GivesListed (a : Arena) (own : List (Option Bool)) (given : Term → Option Bool) : Type 0 where
+  pub each : (t : TermId) → t.0 < length a.nodes → given (tree a t) ≡ at own t.0
+
+pub record ClashesListed (a : Arena) (own : List (Option Bool)) (t : TermId) : Type 0 where
+  pub in_range : t.0 < length a.nodes
+  pub clash : (given : Term → Option Bool) → GivesListed a own given → clashes_at a given t ≡ true
+
+pub record NoneClashesListed (a : Arena) (own : List (Option Bool)) : Type 0 where
+  pub quiet : (given : Term → Option Bool) → GivesListed a own given → (t : TermId) → t.0 < length a.nodes → clashes_at a given t ≡ false
+
 -- ---- on the way
 
 -- the value of the first of these terms, and that of the second

@@ -4,7 +4,7 @@ ghost use Rattle.std.specs.Prelude.{◌≡◌, ◌<◌, true, length, slice_get,
 ghost use Rattle.spv_term.specs.Arena.{tree};
 ghost use Rattle.spv_proof.specs.Evaluation as evaluation;
 ghost use Rattle.spv_truths.specs.Passes as spec;
-ghost use Rattle.spv_truths.specs.Passes.{AreConnectives, ArePlain, AreQuiet, AreStarted, Clashes, HasPassed, IsLoud, NoConnectiveClashes, NoneClashes};
+ghost use Rattle.spv_truths.specs.Passes.{AreConnectives, ArePlain, AreQuiet, AreStarted, Clashes, ClashesListed, HasPassed, IsLoud, NoConnectiveClashes, NoneClashes, NoneClashesListed};
 
 use crate::connectives::Connectives;
 use crate::tables::{connected, opposite, or_else};
@@ -145,6 +145,44 @@ pub fn clash(
         own,
         s,
         v,
+        begun,
+    ))
+}
+
+// The same values as a vector.
+fn copied_all(
+    alloc: Global,
+    start: &[Option<bool>],
+) -> Result<Vec<Option<bool>>, AllocError>
+    ensures { IfOk result (λ copy. copy.items ≡ start.now) }
+{
+    let mut copy = Vec::new(alloc);
+    copy.extend_from_slice(start)?;
+    Ok(copy)
+}
+
+/// The first term that clashes, where each term is given the listed value.
+pub fn listed_clash(
+    alloc: Global,
+    terms: &Terms,
+    connectives: &Connectives,
+    own: &[Option<bool>],
+    start: &[Option<bool>],
+) -> Result<Option<TermId>, AllocError>
+    requires ids { AreConnectives terms.now connectives.now.ids.items }
+    requires quiet { AreQuiet terms.now own.now }
+    requires start { AreStarted terms.now own.now start.now }
+    ensures clash { IfOk result (λ found. IfSome found (ClashesListed terms.now own.now)) }
+    ensures none { IfOk result (λ found. IfNone found (NoneClashesListed terms.now own.now)) }
+{
+    let begun = copied_all(alloc, start)?;
+    let none = TermId(terms.len());
+    Ok(first_clash(
+        terms,
+        connectives.ids.as_slice(),
+        own,
+        none,
+        true,
         begun,
     ))
 }
