@@ -1,3 +1,5 @@
 pub mod Told
 pub mod Supposing
 pub mod Clashing
+pub mod Places
+

@@ -93,7 +93,7 @@ module _ (facts : List Term) (are : AreLiterals facts) (f : Term) where
   abbrev values_with : Term → Option Bool
   values_with = supposing_false (value_by facts) f
 
-  with_bare : value_by facts (bare f) ≡ None → values_with (bare f) ≡ Some (supposed_value f)
+  pub with_bare : value_by facts (bare f) ≡ None → values_with (bare f) ≡ Some (supposed_value f)
   with_bare e = ap₂ or_else e (formula_bare f)
 
   pub with_core : (t : Term) → term_eq t (bare f) ≡ false → negated t ≡ None → values_with t ≡ told_or_apart facts t
@@ -128,15 +128,18 @@ module _ (facts : List Term) (are : AreLiterals facts) (f : Term) where
 -- ---- nothing is supposed
 
 module _ (facts : List Term) where
+  pub value_negation : (is_truth : Term → Bool) (w : Term) → IsComputed is_truth (value_by facts) (negation w)
+  value_negation is_truth w = by_value (value_by facts w) refl
+    where
+      by_value : (o : Option Bool) → value_by facts w ≡ o → IsComputed is_truth (value_by facts) (negation w)
+      by_value None h = nothing_given is_truth (value_by facts) (negation w) (ap not_of h)
+      by_value (Some b) h = negation_given is_truth (value_by facts) w b h (ap not_of h)
+
   pub agrees_plainly : (is_truth : Term → Bool) → Agree is_truth (core_value facts) (value_by facts)
   agrees_plainly is_truth t = by_case (negated t) refl
     where
-      by_value : (w : Term) → (o : Option Bool) → value_by facts w ≡ o → IsComputed is_truth (value_by facts) (negation w)
-      by_value w None h = nothing_given is_truth (value_by facts) (negation w) (ap not_of h)
-      by_value w (Some b) h = negation_given is_truth (value_by facts) w b h (ap not_of h)
-
       by_case : (o : Option Term) → negated t ≡ o → AgreeAt is_truth (core_value facts) (value_by facts) t
       by_case None n = same (core_value_of facts t n ∙ sym (core_of facts t n))
       by_case (Some w) n =
           computed_by_both (nothing_given is_truth (core_value facts) t (ap (λ o. unless_negation o (told_or_apart facts t)) n))
-          (subst (λ (x : Term). IsComputed is_truth (value_by facts) x) (sym (negated_is t w n)) (by_value w (value_by facts w) refl))
+          (subst (λ (x : Term). IsComputed is_truth (value_by facts) x) (sym (negated_is t w n)) (value_negation is_truth w))

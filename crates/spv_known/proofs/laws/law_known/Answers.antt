@@ -1,4 +1,4 @@
-use Rattle.spv_known.proofs.Clashing.{core_quiet}
+use Rattle.spv_known.proofs.Places.{supposed_quiet}
 use Rattle.spv_known.proofs.Told.{facts_are_true}
 use Rattle.spv_known.proofs.laws.law_known.Goals as goal
 
