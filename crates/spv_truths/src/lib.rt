@@ -8,4 +8,4 @@ mod tables;
 
 pub use connectives::{Connectives, connectives_of};
 pub use laws::law_same;
-pub use passes::{clash, listed_clash, loud, started};
+pub use passes::{clash, listed_clash, loud, started, value_at};

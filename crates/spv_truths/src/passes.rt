@@ -11,8 +11,8 @@ use crate::tables::{connected, opposite, or_else};
 use spv_term::{TermId, Terms};
 use std::alloc::{AllocError, Global};
 
-// The value that is listed for a term.
-fn value_at(values: &[Option<bool>], t: TermId) -> Option<bool>
+/// The value that is listed for a term; past the end there is none.
+pub fn value_at(values: &[Option<bool>], t: TermId) -> Option<bool>
     ensures { result ≡ spec.at values.now t.0 }
 {
     match values.get(t.0 as usize) {
