@@ -59,7 +59,7 @@ clash_has o None e = absurd (false≢true (sym (opposite_none o) ∙ e))
 
 -- ---- facts
 
-told_cites : (facts : List Term) (t : Term) (b : Bool) → told facts t ≡ Some b → cites facts (literal b t) ≡ true
+pub told_cites : (facts : List Term) (t : Term) (b : Bool) → told facts t ≡ Some b → cites facts (literal b t) ≡ true
 told_cites facts t b e = by_case (cites facts t) refl (cites facts (negation t)) refl b e
   where
     by_case : (c : Bool) → cites facts t ≡ c → (d : Bool) → cites facts (negation t) ≡ d → (b : Bool) → cond (cites facts t) (Some true) (cond (cites facts (negation t)) (Some false) None) ≡ Some b → cites facts (literal b t) ≡ true

@@ -2,4 +2,4 @@ pub mod Told
 pub mod Supposing
 pub mod Clashing
 pub mod Places
-
+pub mod Ending

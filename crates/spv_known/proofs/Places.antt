@@ -20,10 +20,7 @@ use Rattle.spv_truths.specs.Passes.{connects, plain, plain_at, at, given_at, Giv
 use Rattle.spv_truths.proofs.Same.{clash_same}
 use Rattle.spv_truths.proofs.Heads.{plain_value, plain_none}
 use Rattle.spv_known.specs.Values.{told, told_or_apart, value_by, core_value, unless_negation, supposed, supposed_value, is_negation, AreLiterals, AreOver, IsIn, IsCase}
-use Rattle.spv_known.specs.declared.following.Supposition.{Supposition}
-use Rattle.spv_known.specs.Following.{is_truth, AreListed, Follows, Contradicts, MayBeEither, IsKnowledge, IsSupposition, SomeClashes}
-use Rattle.std.specs.Prelude.{is_some}
-use Rattle.std.specs.Option.{option_map}
+use Rattle.spv_known.specs.Following.{is_truth, AreListed, Contradicts, IsKnowledge}
 use Rattle.spv_known.proofs.Told.{told_true, core_value_of, core_of, negated_is}
 use Rattle.spv_known.proofs.Supposing.{MaySuppose, open_one, told_one, agrees_with, agrees_plainly, value_negation, with_bare, with_core, with_negation, listed_here, listed_there}
 use Rattle.spv_known.proofs.Clashing.{OrdersAreQuiet, clash_has, computed_quiet, bare_literal, Source, itself, by_fact, evaluated, apart_quiet, in_arena, core_quiet}
@@ -216,70 +213,19 @@ module _ (a : Arena) (ok : IsArena a) (facts : List Term) (are : AreLiterals fac
           ap (clashes (is_truth a) (supposing_false (value_by facts) f)) (negated_is u w n)
           ∙ computed_quiet (is_truth a) (supposing_false (value_by facts) f) (negation w) (with_negation facts are f (is_truth a) has_none w (sym (ap (λ x. term_eq x (bare f)) (negated_is u w n)) ∙ e))
 
--- ---- answers
+-- ---- what contradicts, with its truth
 
-module _ (a : Arena) (t : TermId) (inside : t.0 < length a.nodes) where
-  abbrev negates : Option TermId → Option Term
-  negates o = option_map (tree a) o
+module _ (a : Arena) (ok : IsArena a) (facts : List Term) (are : AreLiterals facts) (over : AreOver a facts) (direct cores all : List (Option Bool)) (lists : AreListed a facts direct cores all) where
+  pub loud_one : (t : TermId) → IsLoud a direct t → (b : Bool) × Contradicts a facts t b
+  loud_one t loud = by_value (at direct t.0) refl
+    where
+      by_value : (o : Option Bool) → at direct t.0 ≡ o → (b : Bool) × Contradicts a facts t b
+      by_value None e = absurd (loud_told a ok facts are over direct cores all lists t loud e)
+      by_value (Some b) e = (b, loud_contradicts a ok facts are over direct cores all lists t loud b e)
 
-  -- a term that negates another, and one that negates none
-  pub supposes_some : (o : Option TermId) (u : TermId) → o ≡ Some u → negates o ≡ negated (tree a t) → u.0 < length a.nodes → IsSupposition a t (record { term = u; value = true })
-  supposes_some o u e f h =
-      let n : negated (tree a t) ≡ Some (tree a u) = sym f ∙ ap negates e in
-      record { in_range = h; is = sym (ap (λ x. bare_or x (tree a t)) n); truth = sym (ap is_negation n) }
-
-  pub supposes_none : (o : Option TermId) → o ≡ None → negates o ≡ negated (tree a t) → IsSupposition a t (record { term = t; value = false })
-  supposes_none o e f =
-      let n : negated (tree a t) ≡ None = sym f ∙ ap negates e in
-      record { in_range = inside; is = sym (ap (λ x. bare_or x (tree a t)) n); truth = sym (ap is_negation n) }
-
-  module _ (ok : IsArena a) (direct cores all : List (Option Bool)) (facts : List Term) (is : IsKnowledge a facts) (lists : AreListed a facts direct cores all) (quiet : AreQuiet a direct) where
-    -- what a term negates has no value where it has none
-    bare_none : value_by facts (tree a t) ≡ None → value_by facts (bare (tree a t)) ≡ None
-    bare_none e = by_negated (negated (tree a t)) refl
-      where
-        not_none : (o : Option Bool) → not_of o ≡ None → o ≡ None
-        not_none None h = refl
-        not_none (Some b) h = absurd cc
-
-        by_negated : (o : Option Term) → negated (tree a t) ≡ o → value_by facts (bare_or o (tree a t)) ≡ None
-        by_negated None n = e
-        by_negated (Some w) n = not_none (value_by facts w) (sym (ap (value_by facts) (negated_is (tree a t) w n)) ∙ e)
-
-    some_is : (o : Option Bool) → is_some o ≡ true → o ≡ None → ⊥
-    some_is None h e = false≢true h
-    some_is (Some b) h e = cc
-
-    is_none : (o : Option Bool) → is_some o ≡ false → o ≡ None
-    is_none None h = refl
-    is_none (Some b) h = absurd (false≢true (sym h))
-
-    pub answered_known : is_some (at all t.0) ≡ true → MayBeEither a facts t
-    answered_known h = record { quiet = λ e b u. absurd (some_is (at all t.0) h (lists.all_ones t inside ∙ e)) }
-
-    has_none : is_some (at all t.0) ≡ false → value_by facts (tree a t) ≡ None
-    has_none h = sym (lists.all_ones t inside) ∙ is_none (at all t.0) h
-
-    pub answered_true : is_some (at all t.0) ≡ false → (s : Supposition) → IsSupposition a t s → SomeClashes a cores s → Follows a facts t true
-    answered_true h s supposed clash = record {
-      in_range = inside;
-      has_none = has_none h;
-      follows = clash_follows a ok facts is.literals is.over direct cores all lists quiet s.term supposed.in_range (tree a t) supposed.is s.value supposed.truth (open_one (bare_none (has_none h))) clash.term clash.clash;
-    }
-
-    abbrev affirmed : Supposition
-    affirmed = record { term = t; value = true }
-
-    pub answered_false : is_some (at all t.0) ≡ false → SomeClashes a cores affirmed → Follows a facts t false
-    answered_false h clash = record {
-      in_range = inside;
-      has_none = has_none h;
-      follows = clash_follows a ok facts is.literals is.over direct cores all lists quiet t inside (negation (tree a t)) refl true refl (open_one (has_none h)) clash.term clash.clash;
-    }
-
-    pub answered_none : (s : Supposition) → IsSupposition a t s → NoneClashes a cores s.term s.value → NoneClashes a cores t true → MayBeEither a facts t
-    answered_none s supposed first second = record { quiet = either }
-      where
-        either : value_by facts (tree a t) ≡ None → (b : Bool) (u : Term) → clashes (is_truth a) (supposing_false (value_by facts) (literal b (tree a t))) u ≡ false
-        either e true u = supposed_quiet a ok facts is.literals is.over direct cores all lists quiet s.term supposed.in_range (tree a t) supposed.is s.value supposed.truth (bare_none e) first u
-        either e false u = supposed_quiet a ok facts is.literals is.over direct cores all lists quiet t inside (negation (tree a t)) refl true refl e second u
+  pub listed_one : AreQuiet a direct → (t : TermId) → ClashesListed a cores t → (b : Bool) × Contradicts a facts t b
+  listed_one quiet t clash = by_value (at direct t.0) refl
+    where
+      by_value : (o : Option Bool) → at direct t.0 ≡ o → (b : Bool) × Contradicts a facts t b
+      by_value None e = absurd (listed_has a ok facts are over direct cores all lists quiet t clash e)
+      by_value (Some b) e = (b, listed_contradicts a ok facts are over direct cores all lists quiet t clash b e)

@@ -1,4 +1,3 @@
 pub mod Values
-pub mod Facts
 pub mod Following
 pub mod Laws
