@@ -3,3 +3,5 @@ pub mod Supposing
 pub mod Clashing
 pub mod Places
 pub mod Ending
+pub mod Deciding
+pub mod Turns

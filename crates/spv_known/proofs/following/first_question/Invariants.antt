@@ -1,0 +1,8 @@
+use Rattle.std.proofs.Common.{◌≡◌, ℕ, ◌<◌, List, Some, slice_get}
+use Rattle.spv_logic.specs.declared.conditions.TermId.{TermId}
+use Rattle.spv_logic.specs.Terms.{Term}
+use Rattle.spv_known.proofs.Turns.{AreEither}
+use Rattle.spv_known.proofs.following.first_question.Given as goal
+
+abbrev pub invariant-loop-t : goal.invariant-loop-t
+invariant-loop-t l = AreEither l.terms l.lists.direct.items l.lists.cores.items l.lists.all.items l.questions l.t-index
