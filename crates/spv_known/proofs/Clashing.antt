@@ -127,7 +127,7 @@ module _ (isT : Term → Bool) (facts : List Term) (are : AreLiterals facts) (f 
   evaluated t (by_fact b n g) h =
       let k : clashes isT (given_to facts f) t ≡ true = sym (clash_same isT listed (given_to facts f) (agrees_given facts are f isT may) t (same_given t (inl n))) ∙ h in
       let any : list_any (λ u. clashes isT (given_to facts f) (bare u)) facts ≡ true
-          = any_cited (λ u. clashes isT (given_to facts f) (bare u)) facts (literal b t) (told_cites facts t b g) (ap (clashes isT (given_to facts f)) (bare_literal b t n) ∙ k) in
+      = any_cited (λ u. clashes isT (given_to facts f) (bare u)) facts (literal b t) (told_cites facts t b g) (ap (clashes isT (given_to facts f)) (bare_literal b t n) ∙ k) in
       ap (λ x. clashes isT (given_to facts f) (bare f) || x) any ∙ or_true (clashes isT (given_to facts f) (bare f))
     where
       or_true : (x : Bool) → (x || true) ≡ true

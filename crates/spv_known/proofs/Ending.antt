@@ -16,7 +16,8 @@ use Rattle.spv_split_trees.specs.Paths.{questions}
 use Rattle.spv_split_trees.specs.Shown.{supposing_false, IsFinished}
 use Rattle.spv_known.specs.Values.{told, value_by, AreUncrossed}
 use Rattle.spv_known.specs.Following.{is_truth, IsStill}
-use Rattle.spv_known.specs.Laws.{StillIsFinished}
+use Rattle.spv_proof.specs.Effects.{fact_before}
+use Rattle.spv_known.specs.Laws.{StillIsFinished, AllAreCited}
 use Rattle.spv_known.proofs.Clashing.{told_cites}
 
 -- an id among these whose tree is a term
@@ -73,3 +74,9 @@ still_finished a c facts ids are still uncrossed fs have = record {
       ap (λ x. clashes (is_truth a) (supposing_false (value_by facts) (literal b x)) u) (sym found.is)
       ∙ (still.still found.place found.id found.here).quiet (ap (value_by facts) found.is ∙ e) b u;
 }
+
+-- ---- numbers
+
+pub all_cited : AllAreCited
+all_cited a facts [] h = refl
+all_cited a facts (k ∷ known) h = ap₂ fact_before h.0 (all_cited a facts known h.1)

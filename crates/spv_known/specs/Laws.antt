@@ -5,7 +5,10 @@ use Rattle.spv_logic.specs.Terms.{Term}
 use Rattle.spv_logic.specs.Conditions.{Sequent}
 use Rattle.spv_term.specs.Arena.{Arena, IsArena, tree}
 use Rattle.spv_proof.specs.Evaluation.{cites, bare, clashes, evaluates}
+use Rattle.spv_proof.specs.Effects.{cited}
 use Rattle.spv_course.specs.Course.{asked}
+use Rattle.spv_known.specs.declared.facts.Known.{Known}
+use Rattle.spv_known.specs.Facts.{facts_of, numbers_of, AreNumbered}
 use Rattle.spv_split_trees.specs.Paths.{questions}
 use Rattle.spv_split_trees.specs.Shown.{supposing_false, IsFinished}
 use Rattle.spv_truths.specs.Passes.{at, AreQuiet, IsLoud, Clashes, ClashesListed, NoneClashes, NoneClashesListed}
@@ -53,3 +56,7 @@ ListedContradict = (a : Arena) → IsArena a → (facts : List Term) (direct cor
 abbrev pub StillIsFinished : Type 0
 StillIsFinished = (a : Arena) (c : Sequent) (facts : List Term) (ids : List TermId) → map (tree a) ids ≡ questions (asked a c) → IsStill a facts ids → AreUncrossed facts
     → (fs : List Term) → ((t : Term) → cites fs t ≡ true → value_by facts t ≡ Some true) → IsFinished (asked a c) fs (value_by facts)
+
+-- a step that cites the numbers of all facts that are known cites these facts
+abbrev pub AllAreCited : Type 0
+AllAreCited = (a : Arena) (facts : List Term) (known : List Known) → AreNumbered a facts known → cited facts (numbers_of known) ≡ Some (facts_of a known)

@@ -7,7 +7,7 @@ mod following;
 mod laws;
 mod lists;
 
-pub use facts::Known;
+pub use facts::{Known, numbers};
 pub use following::{Following, next};
 pub use laws::law_known;
 pub use lists::Listed;

@@ -127,7 +127,7 @@ module _ (a : Arena) (ok : IsArena a) (ids : List TermId) (are : AreConnectives 
       quiet = λ given gives t h c.
           let stands = are.all t h c in
           let inside = slice_get_within ids stands.place t stands.is in
-          (passed.quiet given gives).each stands.place t (omega (arith, inside, end)) stands.is
+          (passed.quiet given gives).each stands.place t (omega (arith, inside, end)) stands.is;
     }
 
 -- ---- the start

@@ -38,11 +38,7 @@ fn plain_at(terms: &Terms, t: TermId, connects: bool) -> Option<bool>
     requires connects { connects ≡ spec.connects terms.now t }
     ensures { result ≡ spec.plain_at terms.now t }
 {
-    if connects {
-        None
-    } else {
-        plain(terms, t)
-    }
+    if connects { None } else { plain(terms, t) }
 }
 
 // Puts an id behind others, where it is wanted.

@@ -139,21 +139,11 @@ pub fn clash(
         return Ok(Some(s));
     }
     let begun = copied(alloc, start, s, v)?;
-    Ok(first_clash(
-        terms,
-        connectives.ids.as_slice(),
-        own,
-        s,
-        v,
-        begun,
-    ))
+    Ok(first_clash(terms, connectives.ids.as_slice(), own, s, v, begun))
 }
 
 // The same values as a vector.
-fn copied_all(
-    alloc: Global,
-    start: &[Option<bool>],
-) -> Result<Vec<Option<bool>>, AllocError>
+fn copied_all(alloc: Global, start: &[Option<bool>]) -> Result<Vec<Option<bool>>, AllocError>
     ensures { IfOk result (λ copy. copy.items ≡ start.now) }
 {
     let mut copy = Vec::new(alloc);
@@ -177,14 +167,7 @@ pub fn listed_clash(
 {
     let begun = copied_all(alloc, start)?;
     let none = TermId(terms.len());
-    Ok(first_clash(
-        terms,
-        connectives.ids.as_slice(),
-        own,
-        none,
-        true,
-        begun,
-    ))
+    Ok(first_clash(terms, connectives.ids.as_slice(), own, none, true, begun))
 }
 
 /// What is listed for each term, else the value that it has by itself.

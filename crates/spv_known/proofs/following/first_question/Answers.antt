@@ -11,9 +11,10 @@ answer-requires-clause-t c =
     (slice_get-get_or c.args.questions.now c.loop-t.t-index (record { 0 = 0 }) (omega (arith, c.loop-t-test.true)))
 
 pub returns-in-Some : goal.returns-in-Some
-returns-in-Some c = λ facts is lists quiet.
-    (record { place = c.loop-t.t-index; is = slice_get-get_or c.args.questions.now c.loop-t.t-index (record { 0 = 0 }) (omega (arith, c.loop-t-test.true)) },
-    subst (λ (o : Option Bool). Say c.args.terms.now facts (slice_index_or c.args.questions.now c.loop-t.t-index (record { 0 = 0 })) o) c.in-Some.is (c.in_ok-found.ensures facts is lists quiet))
+returns-in-Some c = λ facts is lists quiet. (
+  record { place = c.loop-t.t-index; is = slice_get-get_or c.args.questions.now c.loop-t.t-index (record { 0 = 0 }) (omega (arith, c.loop-t-test.true)) },
+  subst (λ (o : Option Bool). Say c.args.terms.now facts (slice_index_or c.args.questions.now c.loop-t.t-index (record { 0 = 0 })) o) c.in-Some.is (c.in_ok-found.ensures facts is lists quiet),
+)
 
 pub loop-t-preserved : goal.loop-t-preserved
 loop-t-preserved c =

@@ -2,7 +2,7 @@ use Rattle.std.proofs.Common.{refl}
 use Rattle.spv_known.proofs.Told.{facts_are_true}
 use Rattle.spv_known.proofs.Supposing.{open_one}
 use Rattle.spv_known.proofs.Places.{cores_quiet, clash_follows, supposed_quiet, values_agree, loud_one, listed_one}
-use Rattle.spv_known.proofs.Ending.{still_finished}
+use Rattle.spv_known.proofs.Ending.{still_finished, all_cited}
 use Rattle.spv_known.proofs.laws.law_known.Goals as goal
 
 pub returns-clause-facts : goal.returns-clause-facts
@@ -30,3 +30,6 @@ returns-clause-listed c = λ a ok facts direct cores all known t clash. listed_o
 
 pub returns-clause-finished : goal.returns-clause-finished
 returns-clause-finished c = still_finished
+
+pub returns-clause-cited : goal.returns-clause-cited
+returns-clause-cited c = all_cited
