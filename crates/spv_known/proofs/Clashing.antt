@@ -1,5 +1,5 @@
 -- Where the values clash that facts give: among the terms of an arena, or nowhere.
-use Rattle.std.proofs.Common.{◌≡◌, ℕ, ◌<◌, Bool, true, false, cond, ◌&&◌, ◌||◌, not, List, [], ◌∷◌, length, refl, sym, ap, subst, ◌∙◌, Option, Some, None, ℤ, inl, inr, ◌⊎◌, arith}
+use Rattle.std.proofs.Common.{◌≡◌, ◌<◌, Bool, true, false, cond, ◌&&◌, ◌||◌, not, List, [], ◌∷◌, length, refl, sym, ap, ◌∙◌, Option, Some, None, ℤ, inl, inr, ◌⊎◌, arith}
 use mathlib.Core.Path.{ap₂}
 use Rattle.std.specs.List.{list_any}
 use Rattle.std.specs.Int.RustNames.{int_lt}
@@ -9,29 +9,23 @@ use Rattle.std.proofs.lemmas.Option.{same_Some}
 use Rattle.spv_logic.specs.declared.conditions.TermId.{TermId}
 use Rattle.spv_logic.specs.declared.types.Sort.{Sort}
 use Rattle.spv_logic.specs.declared.types.Sort.TheVariants as sort
-use Rattle.spv_logic.specs.declared.operators.Head.{Head}
-use Rattle.spv_logic.specs.declared.operators.Head.TheVariants.{Eq, Lt}
-use Rattle.spv_logic.specs.Values.{bool_eq}
-use Rattle.spv_logic.specs.Terms.{Term, Terms, term, no_terms, terms, term_eq}
+use Rattle.spv_logic.specs.declared.operators.Head.TheVariants.{Eq}
+use Rattle.spv_logic.specs.Terms.{Term, term, no_terms, terms, term_eq}
 use Rattle.spv_logic.specs.Formulas.{negation, equation, below}
 use Rattle.spv_logic.specs.Sorts.{term_sort}
 use Rattle.spv_logic.proofs.Equality.{term_eq-true, term_eq-refl, int_eq-true, bool_eq-refl, sort_eq-true}
-use Rattle.spv_term.specs.Arena.{Arena, IsArena, tree}
+use Rattle.spv_term.specs.Arena.{Arena, tree}
 use Rattle.spv_atoms.specs.Tables.{or_else, computed, numeral, compare_known, numeral_relation, all_truths, equation_value, first_of, second_of, values}
 use Rattle.spv_atoms.specs.Atoms as atoms
-use Rattle.spv_atoms.specs.Order.{same_id}
-use Rattle.spv_atoms.proofs.Walks.{term_eq-ids}
-use Rattle.spv_proof.specs.Sums.{negated, pair}
+use Rattle.spv_proof.specs.Sums.{negated}
 use Rattle.spv_proof.specs.Evaluation.{sides, cites, apart, given_to, bare, bare_or, opposite, clashes, evaluates}
 use Rattle.spv_readings.specs.Sayings.{literal}
 use Rattle.spv_truths.specs.Given as given
 use Rattle.spv_truths.specs.Given.{IsComputed, Agree, AgreeAt}
-use Rattle.spv_truths.specs.Passes.{connects, plain, plain_at, at, given_at, Gives, GivesListed, AreQuiet}
 use Rattle.spv_truths.proofs.Same.{clash_same}
-use Rattle.spv_truths.proofs.Heads.{plain_value, plain_none}
-use Rattle.spv_known.specs.Values.{told, told_or_apart, value_by, core_value, unless_negation, supposed, supposed_value, AreLiterals, AreOver, IsIn, IsCase}
-use Rattle.spv_known.specs.Following.{is_truth, AreListed}
-use Rattle.spv_known.proofs.Told.{told_true, core_value_of, core_of, negated_is}
+use Rattle.spv_known.specs.Values.{told, told_or_apart, supposed, supposed_value, AreLiterals, AreOver, IsIn, IsCase}
+use Rattle.spv_known.specs.Following.{is_truth}
+use Rattle.spv_known.proofs.Told.{core_value_of}
 use Rattle.spv_known.proofs.Supposing.{MaySuppose, agrees_given, given_bare, given_core, listed_here, listed_there}
 
 -- ---- truths

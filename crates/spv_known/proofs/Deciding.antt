@@ -1,5 +1,5 @@
 -- What is answered of a question that has no value.
-use Rattle.std.proofs.Common.{◌≡◌, ℕ, ◌<◌, ◌+◌, Bool, true, false, List, length, slice_get, refl, sym, ap, subst, ◌∙◌, Option, Some, None}
+use Rattle.std.proofs.Common.{◌≡◌, ◌<◌, Bool, true, false, List, length, refl, sym, ap, subst, ◌∙◌, Option, Some, None}
 use Rattle.std.specs.Prelude.{is_some}
 use Rattle.std.specs.Option.{option_map}
 use Rattle.std.proofs.lemmas.Bool.{false≢true}
@@ -12,7 +12,7 @@ use Rattle.spv_proof.specs.Sums.{negated}
 use Rattle.spv_proof.specs.Evaluation.{bare, bare_or, clashes}
 use Rattle.spv_readings.specs.Sayings.{literal}
 use Rattle.spv_split_trees.specs.Shown.{supposing_false}
-use Rattle.spv_truths.specs.Passes.{at, AreQuiet, Clashes, NoneClashes}
+use Rattle.spv_truths.specs.Passes.{at, AreQuiet, NoneClashes}
 use Rattle.spv_known.specs.declared.answering.Supposition.{Supposition}
 use Rattle.spv_known.specs.Values.{value_by, is_negation}
 use Rattle.spv_known.specs.Following.{is_truth, AreListed, Follows, MayBeEither, IsKnowledge}

@@ -1,21 +1,18 @@
 -- Where nothing follows, evaluations add nothing more.
-use Rattle.std.proofs.Common.{◌≡◌, ℕ, suc, Bool, true, false, cond, ◌||◌, List, [], ◌∷◌, map, slice_get, refl, sym, ap, subst, ◌∙◌, Option, Some, None}
+use Rattle.std.proofs.Common.{◌≡◌, ℕ, suc, Bool, true, false, cond, ◌||◌, List, [], ◌∷◌, map, slice_get, refl, sym, ap, ◌∙◌, Option, Some, None}
 use mathlib.Core.Path.{ap₂}
 use Rattle.std.proofs.lemmas.Bool.{false≢true}
 use Rattle.spv_logic.specs.declared.conditions.TermId.{TermId}
 use Rattle.spv_logic.specs.Terms.{Term, term_eq}
 use Rattle.spv_logic.specs.Formulas.{negation, equation, below}
-use Rattle.spv_logic.specs.Conditions.{Sequent}
 use Rattle.spv_logic.proofs.Equality.{term_eq-true}
 use Rattle.spv_term.specs.Arena.{Arena, tree}
 use Rattle.spv_atoms.specs.Tables.{or_else}
 use Rattle.spv_proof.specs.Evaluation.{cites, clashes}
 use Rattle.spv_readings.specs.Sayings.{literal}
-use Rattle.spv_course.specs.Course.{asked}
-use Rattle.spv_split_trees.specs.Paths.{questions}
-use Rattle.spv_split_trees.specs.Shown.{supposing_false, IsFinished}
-use Rattle.spv_known.specs.Values.{told, value_by, AreUncrossed}
-use Rattle.spv_known.specs.Following.{is_truth, IsStill}
+use Rattle.spv_split_trees.specs.Shown.{supposing_false}
+use Rattle.spv_known.specs.Values.{told, value_by}
+use Rattle.spv_known.specs.Following.{is_truth}
 use Rattle.spv_proof.specs.Effects.{fact_before}
 use Rattle.spv_known.specs.Laws.{StillIsFinished, AllAreCited}
 use Rattle.spv_known.proofs.Clashing.{told_cites}

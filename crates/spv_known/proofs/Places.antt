@@ -1,28 +1,27 @@
 -- What is listed beside ids, and what a pass over it finds.
-use Rattle.std.proofs.Common.{◌≡◌, ℕ, ◌<◌, Bool, true, false, cond, not, List, length, refl, sym, ap, subst, ◌∙◌, Option, Some, None, inl, inr, ◌⊎◌}
+use Rattle.std.proofs.Common.{◌≡◌, ◌<◌, Bool, true, false, cond, not, List, length, refl, sym, ap, ◌∙◌, Option, Some, None, inl, inr, ◌⊎◌}
 use mathlib.Core.Path.{ap₂}
 use Rattle.std.proofs.lemmas.Bool.{false≢true}
 use Rattle.spv_logic.specs.declared.conditions.TermId.{TermId}
 use Rattle.spv_logic.specs.Terms.{Term, term_eq}
 use Rattle.spv_logic.specs.Formulas.{negation, below}
-use Rattle.spv_logic.proofs.Equality.{term_eq-true, term_eq-refl}
+use Rattle.spv_logic.proofs.Equality.{term_eq-true}
 use Rattle.spv_term.specs.Arena.{Arena, IsArena, tree}
-use Rattle.spv_atoms.specs.Tables.{or_else, computed, numeral_relation, not_of}
+use Rattle.spv_atoms.specs.Tables.{or_else, computed, numeral_relation}
 use Rattle.spv_atoms.specs.Atoms as atoms
-use Rattle.spv_atoms.specs.Order.{same_id}
 use Rattle.spv_atoms.proofs.Walks.{term_eq-ids}
 use Rattle.spv_proof.specs.Sums.{negated}
-use Rattle.spv_proof.specs.Evaluation.{sides, cites, apart, bare, bare_or, opposite, clashes, evaluates}
+use Rattle.spv_proof.specs.Evaluation.{sides, cites, apart, bare, opposite, clashes, evaluates}
 use Rattle.spv_readings.specs.Sayings.{literal}
 use Rattle.spv_split_trees.specs.Shown.{supposing_false}
-use Rattle.spv_truths.specs.Given.{same, Agree}
-use Rattle.spv_truths.specs.Passes.{connects, plain, plain_at, at, given_at, Gives, GivesListed, AreQuiet, IsLoud, Clashes, ClashesListed, NoneClashes, NoneClashesListed}
+use Rattle.spv_truths.specs.Given.{same}
+use Rattle.spv_truths.specs.Passes.{connects, plain, plain_at, at, Gives, GivesListed, AreQuiet, IsLoud, Clashes, ClashesListed, NoneClashes, NoneClashesListed}
 use Rattle.spv_truths.proofs.Same.{clash_same}
 use Rattle.spv_truths.proofs.Heads.{plain_value, plain_none}
 use Rattle.spv_known.specs.Values.{told, told_or_apart, value_by, core_value, unless_negation, supposed, supposed_value, is_negation, AreLiterals, AreOver, IsIn, IsCase}
-use Rattle.spv_known.specs.Following.{is_truth, AreListed, Contradicts, IsKnowledge}
+use Rattle.spv_known.specs.Following.{is_truth, AreListed, Contradicts}
 use Rattle.spv_known.proofs.Told.{told_true, core_value_of, core_of, negated_is}
-use Rattle.spv_known.proofs.Supposing.{MaySuppose, open_one, told_one, agrees_with, agrees_plainly, value_negation, with_bare, with_core, with_negation, listed_here, listed_there}
+use Rattle.spv_known.proofs.Supposing.{MaySuppose, told_one, agrees_with, agrees_plainly, value_negation, with_bare, with_core, with_negation, listed_here, listed_there}
 use Rattle.spv_known.proofs.Clashing.{OrdersAreQuiet, clash_has, computed_quiet, bare_literal, Source, itself, by_fact, evaluated, apart_quiet, in_arena, core_quiet}
 
 opposite_none : (o : Option Bool) → opposite o None ≡ false

@@ -1,17 +1,16 @@
 -- What the code gives to terms, where a formula is supposed to be false, agrees with what a step gives that evaluates, and with the values of all terms.
-use Rattle.std.proofs.Common.{◌≡◌, Bool, true, false, cond, ◌||◌, not, List, [], ◌∷◌, refl, sym, ap, subst, ◌∙◌, Option, Some, None, inl, inr, ◌⊎◌}
+use Rattle.std.proofs.Common.{◌≡◌, Bool, true, false, cond, not, List, refl, sym, ap, subst, ◌∙◌, Option, Some, None, inl, inr, ◌⊎◌}
 use mathlib.Core.Path.{ap₂}
-use Rattle.std.proofs.lemmas.Bool.{false≢true}
-use Rattle.spv_logic.specs.Terms.{Term, Terms, term, no_terms, terms, term_eq}
+use Rattle.spv_logic.specs.Terms.{Term, term_eq}
 use Rattle.spv_logic.specs.Formulas.{negation}
-use Rattle.spv_logic.proofs.Equality.{term_eq-true, term_eq-refl}
-use Rattle.spv_atoms.specs.Tables.{assigned, or_else, not_of, computed}
+use Rattle.spv_logic.proofs.Equality.{term_eq-true}
+use Rattle.spv_atoms.specs.Tables.{or_else, not_of, computed}
 use Rattle.spv_proof.specs.Sums.{negated}
-use Rattle.spv_proof.specs.Evaluation.{sides, apart, given_by, given_to, bare}
+use Rattle.spv_proof.specs.Evaluation.{sides, apart, given_to, bare}
 use Rattle.spv_split_trees.specs.Shown.{supposing_false}
-use Rattle.spv_truths.specs.Given.{valued, IsComputed, AgreeAt, same, computed_by_both, Agree}
-use Rattle.spv_known.specs.Values.{told, told_or_apart, value_by, core_value, unless_negation, supposed, AreLiterals, supposed_value, is_negation}
-use Rattle.spv_known.proofs.Told.{term_eq_sym, negated_is, core_of, core_value_of, by_formula, formula_bare, formula_other, formula_negation, given_is, told_negation, value_none, not_itself}
+use Rattle.spv_truths.specs.Given.{IsComputed, AgreeAt, same, computed_by_both, Agree}
+use Rattle.spv_known.specs.Values.{told, told_or_apart, value_by, core_value, unless_negation, supposed, AreLiterals, supposed_value}
+use Rattle.spv_known.proofs.Told.{negated_is, core_of, core_value_of, by_formula, formula_bare, formula_other, formula_negation, given_is, told_negation, value_none}
 
 -- a way that gives nothing gives what is computed
 nothing_given : (is_truth : Term → Bool) (given : Term → Option Bool) (t : Term) → given t ≡ None → IsComputed is_truth given t

@@ -1,18 +1,17 @@
 -- What facts give to a term, by the list of values of a step that evaluates.
-use Rattle.std.proofs.Common.{◌≡◌, ◌≢◌, ℕ, suc, ◌+◌, ◌<◌, Bool, true, false, cond, ◌&&◌, ◌||◌, not, List, [], ◌∷◌, ◌++◌, refl, sym, ap, subst, ◌∙◌, Option, Some, None, inl, inr, ◌⊎◌, arith}
+use Rattle.std.proofs.Common.{◌≡◌, ℕ, suc, ◌+◌, Bool, true, false, cond, ◌&&◌, ◌||◌, not, List, [], ◌∷◌, ◌++◌, refl, sym, ap, ◌∙◌, Option, Some, None, inl, inr, ◌⊎◌, arith}
 use mathlib.Core.Path.{ap₂}
-use Rattle.std.specs.List.{list_any, flat_map}
+use Rattle.std.specs.List.{flat_map}
 use Rattle.std.proofs.lemmas.Bool.{false≢true}
 use Rattle.std.proofs.Math.Bool.{and-true}
-use Rattle.spv_logic.specs.declared.operators.Head.{Head}
-use Rattle.spv_logic.specs.declared.operators.Head.TheVariants.{Not, Eq, Lt}
+use Rattle.spv_logic.specs.declared.operators.Head.TheVariants.{Not}
 use Rattle.spv_logic.specs.Terms.{Term, Terms, term, no_terms, terms, term_eq}
-use Rattle.spv_logic.specs.Formulas.{negation, equation, below}
+use Rattle.spv_logic.specs.Formulas.{negation}
 use Rattle.spv_logic.proofs.Equality.{term_eq-true, term_eq-refl}
 use Rattle.spv_atoms.specs.Tables.{assigned, or_else, not_of}
 use Rattle.spv_proof.specs.Sums.{negated}
-use Rattle.spv_proof.specs.Evaluation.{sides, given_negated, given_by, assignment, cites, apart, given_to, bare}
-use Rattle.spv_known.specs.Values.{told, told_or_apart, value_by, core_value, unless_negation, AreLiterals, supposed_value, is_negation}
+use Rattle.spv_proof.specs.Evaluation.{sides, given_by, cites, apart, given_to, bare}
+use Rattle.spv_known.specs.Values.{told, told_or_apart, value_by, core_value, unless_negation, AreLiterals, supposed_value}
 
 -- ---- tests of terms
 

@@ -1,5 +1,5 @@
 -- The questions one by one.
-use Rattle.std.proofs.Common.{◌≡◌, ◌≢◌, ℕ, ◌<◌, ◌≤◌, ◌+◌, Bool, true, false, nat_eq, List, length, get_or, slice_get, refl, sym, ap, subst, ◌∙◌, Option, Some, None, inl, inr, ◌⊎◌, arith}
+use Rattle.std.proofs.Common.{◌≡◌, ◌≢◌, ℕ, ◌<◌, ◌≤◌, ◌+◌, Bool, true, false, nat_eq, List, length, get_or, slice_get, sym, ap, subst, ◌∙◌, Option, Some, None, inl, inr, ◌⊎◌, arith}
 use Rattle.std.proofs.lemmas.Bool.Decides.{eqb_tells}
 use Rattle.std.proofs.lemmas.Option.{slice_get-get_or, slice_get_within, same_Some}
 use Rattle.spv_logic.specs.declared.conditions.TermId.{TermId}
@@ -12,7 +12,7 @@ use Rattle.spv_known.specs.declared.following.Following.{Following}
 use Rattle.spv_known.specs.declared.following.Following.TheVariants.{Nothing, Question, Clash}
 use Rattle.spv_known.specs.Following.{AreListed, IsKnowledge, MayBeEither, Contradicts}
 use Rattle.spv_known.specs.Says.{IsClash, FollowsAmong, Says}
-use Rattle.spv_known.proofs.Places.{loud_contradicts, listed_contradicts, listed_has, loud_told, cores_quiet, values_agree}
+use Rattle.spv_known.proofs.Places.{loud_contradicts, listed_contradicts, listed_has, cores_quiet, values_agree}
 
 -- the first questions may have either truth, whatever the facts are whose values are listed
 pub record AreEither (a : Arena) (direct cores all : List (Option Bool)) (questions : List TermId) (k : ℕ) : Type 0 where

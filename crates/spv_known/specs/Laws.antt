@@ -11,7 +11,7 @@ use Rattle.spv_known.specs.declared.facts.Known.{Known}
 use Rattle.spv_known.specs.Facts.{facts_of, numbers_of, AreNumbered}
 use Rattle.spv_split_trees.specs.Paths.{questions}
 use Rattle.spv_split_trees.specs.Shown.{supposing_false, IsFinished}
-use Rattle.spv_truths.specs.Passes.{at, AreQuiet, IsLoud, Clashes, ClashesListed, NoneClashes, NoneClashesListed}
+use Rattle.spv_truths.specs.Passes.{AreQuiet, IsLoud, Clashes, ClashesListed, NoneClashes, NoneClashesListed}
 use Rattle.spv_known.specs.Values.{value_by, supposed_value, AreLiterals, AreUncrossed}
 use Rattle.spv_known.specs.Following.{is_truth, AreListed, IsKnowledge, Contradicts, IsStill}
 

@@ -3,23 +3,22 @@ use Rattle.std.proofs.Common.{◌≡◌, ◌≢◌, ℕ, ◌<◌, ◌≤◌, ◌
 use Rattle.std.specs.Prelude.{IfNone, IfSome}
 use mathlib.Core.Path.{ap₂}
 use mathlib.Core.Logic.{◌⊎◌}
-use Rattle.std.proofs.lemmas.Bool.{false≢true, eqb-true}
+use Rattle.std.proofs.lemmas.Bool.{false≢true}
 use Rattle.std.proofs.lemmas.Bool.Decides.{eqb_tells}
 use Rattle.std.proofs.lemmas.List.{get_or-set_same, get_or-set_other, length-set}
 use Rattle.std.proofs.lemmas.Option.{slice_get_within, same_Some, slice_get-get_or}
 use Rattle.spv_logic.specs.declared.conditions.TermId.{TermId}
 use Rattle.spv_logic.specs.Terms.{Term}
 use Rattle.spv_term.specs.declared.nodes.Node.{Node}
-use Rattle.spv_term.specs.Arena.{Arena, IsArena, AllBelow, tree}
+use Rattle.spv_term.specs.Arena.{Arena, IsArena, tree}
 use Rattle.spv_term.proofs.ArenaLemmas.{node_of, args_before}
 use Rattle.spv_term.proofs.TreeLemmas.{AllBelow-at}
 use Rattle.spv_term.proofs.NodeLemmas.{id_from}
 use Rattle.spv_atoms.specs.Tables.{or_else, computed}
 use Rattle.spv_atoms.specs.Atoms as atoms
-use Rattle.spv_atoms.specs.Order.{same_id}
 use Rattle.spv_atoms.specs.Valued.{valued_in}
 use Rattle.spv_proof.specs.Evaluation.{opposite}
-use Rattle.spv_truths.specs.Passes.{connects, plain_at, at, given_at, of_node, clashes_at, StandsAt, Gives, AreConnectives, AreStarted, AreQuiet, IsFilled, QuietBefore, HasPassed, NoConnectiveClashes, Clashes, NoneClashes, GivesListed, ClashesListed, NoneClashesListed}
+use Rattle.spv_truths.specs.Passes.{connects, plain_at, at, given_at, of_node, clashes_at, Gives, AreConnectives, AreStarted, AreQuiet, IsFilled, QuietBefore, HasPassed, NoConnectiveClashes, Clashes, NoneClashes, GivesListed, ClashesListed, NoneClashesListed}
 use Rattle.spv_truths.proofs.Heads.{plain_value, plain_none, AreFound, connected_value}
 
 -- ---- one turn

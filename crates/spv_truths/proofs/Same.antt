@@ -1,10 +1,10 @@
 -- Two ways to give values that agree come to the same values.
-use Rattle.std.proofs.Common.{◌≡◌, Bool, List, [], ◌∷◌, refl, sym, ap, ◌∙◌, Option}
+use Rattle.std.proofs.Common.{◌≡◌, Bool, ◌∷◌, refl, sym, ap, ◌∙◌, Option}
 use mathlib.Core.Path.{ap₂}
 use Rattle.spv_logic.specs.Terms.{Term, Terms, term, no_terms, terms}
 use Rattle.spv_atoms.specs.Tables.{or_else, all_truths, first_of, second_of, combined, computed, values}
-use Rattle.spv_proof.specs.Evaluation.{opposite, clashes}
-use Rattle.spv_truths.specs.Given.{valued, IsComputed, AgreeAt, same, computed_by_both, Agree}
+use Rattle.spv_proof.specs.Evaluation.{opposite}
+use Rattle.spv_truths.specs.Given.{valued, AgreeAt, same, computed_by_both, Agree}
 use Rattle.spv_truths.specs.Laws.{ComputeTheSame, ComeToTheSame, ClashTogether}
 
 -- at a term for which both compute the same

@@ -1,5 +1,5 @@
 -- The values of the terms of an arena, in the order of their ids: those of connectives are computed, each from those of its arguments.
-use Rattle.std.specs.Prelude.{◌≡◌, ◌≢◌, ℕ, ◌<◌, Bool, true, false, List, [], ◌∷◌, length, Option, Some, None, slice_get, slice_index_or, if◌then◌else◌}
+use Rattle.std.specs.Prelude.{◌≡◌, ℕ, ◌<◌, Bool, true, false, List, [], ◌∷◌, length, Option, Some, None, slice_get, slice_index_or, if◌then◌else◌}
 use Rattle.spv_logic.specs.declared.conditions.TermId.{TermId}
 use Rattle.spv_logic.specs.declared.operators.Head.{Head}
 use Rattle.spv_logic.specs.declared.operators.Head.TheVariants.{Not, And, Or, Implies, Eq, True, False}

@@ -1,4 +1,4 @@
-use Rattle.std.proofs.Common.{true, Bool, List, Option, ap, sym, ◌∙◌}
+use Rattle.std.proofs.Common.{true, ap, sym, ◌∙◌}
 use Rattle.std.specs.Prelude.{is_some}
 use Rattle.spv_truths.specs.Passes.{at}
 use Rattle.spv_known.proofs.Deciding.{answered_known, answered_true, answered_false, answered_none, told_some, told_none}

@@ -1,4 +1,4 @@
-use Rattle.std.proofs.Common.{◌≡◌, ◌<◌, Bool, List, Option, length, slice_index_or, slice_get, Some, subst, arith}
+use Rattle.std.proofs.Common.{Bool, Option, length, slice_index_or, subst, arith}
 use Rattle.std.proofs.lemmas.Option.{slice_get-get_or}
 use Rattle.spv_term.proofs.TreeLemmas.{AllBelow-at}
 use Rattle.spv_known.specs.Answers.{Say}

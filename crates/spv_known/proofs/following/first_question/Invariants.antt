@@ -1,6 +1,3 @@
-use Rattle.std.proofs.Common.{◌≡◌, ℕ, ◌<◌, List, Some, slice_get}
-use Rattle.spv_logic.specs.declared.conditions.TermId.{TermId}
-use Rattle.spv_logic.specs.Terms.{Term}
 use Rattle.spv_known.proofs.Turns.{AreEither}
 use Rattle.spv_known.proofs.following.first_question.Given as goal
 

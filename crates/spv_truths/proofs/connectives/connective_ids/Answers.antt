@@ -1,5 +1,5 @@
 use Rattle.std.proofs.Common.{refl, arith}
-use Rattle.spv_truths.proofs.Listing.{listed_none, listed_next, listed_all}
+use Rattle.spv_truths.proofs.Listing.{listed_next, listed_all}
 use Rattle.spv_truths.proofs.connectives.connective_ids.Goals as goal
 
 pub loop-i-preserved : goal.loop-i-preserved

@@ -1,4 +1,4 @@
-use Rattle.std.proofs.Common.{refl, sym, subst, ℕ, ◌<◌, arith, ◌∙◌}
+use Rattle.std.proofs.Common.{refl}
 use Rattle.spv_truths.specs.Passes.{plain_at}
 use Rattle.spv_truths.proofs.Listing.{valued_next}
 use Rattle.spv_truths.proofs.connectives.plain_values.Goals as goal

@@ -1,4 +1,4 @@
-use Rattle.std.proofs.Common.{Bool, List, Option, None, Some, ap, sym, ◌∙◌}
+use Rattle.std.proofs.Common.{Some, ap, sym, ◌∙◌}
 use Rattle.spv_proof.specs.Evaluation.{opposite}
 use Rattle.spv_truths.specs.Passes.{at}
 use Rattle.spv_truths.proofs.Filling.{itself_clashes, passed_none, none_found}

@@ -1,7 +1,4 @@
-use Rattle.std.proofs.Common.{Bool, List, Option, ap, sym, ◌∙◌, arith}
-use mathlib.Core.Path.{ap₂}
-use Rattle.std.proofs.lemmas.Option.{slice_get-get_or}
-use Rattle.spv_proof.specs.Evaluation.{opposite}
+use Rattle.std.proofs.Common.{arith}
 use Rattle.spv_truths.proofs.Filling.{turn_clashes, turn_passes, turn_inside, passed_all}
 use Rattle.spv_truths.proofs.passes.first_clash.Goals as goal
 

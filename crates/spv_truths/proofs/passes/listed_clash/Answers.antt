@@ -1,4 +1,4 @@
-use Rattle.std.proofs.Common.{ap, ◌∙◌, arith, true}
+use Rattle.std.proofs.Common.{true}
 use Rattle.spv_truths.proofs.Filling.{listed_start, listed_clashes, listed_quiet}
 use Rattle.spv_truths.proofs.passes.listed_clash.Goals as goal
 
