@@ -1,0 +1,4 @@
+pub mod Same
+pub mod Heads
+pub mod Filling
+pub mod Listing
