@@ -1,8 +1,7 @@
 -- A term under negations, and what evaluates from it.
-use Rattle.std.proofs.Common.{◌≡◌, ℕ, zero, suc, ◌<◌, Bool, true, false, cond, ◌&&◌, ◌||◌, not, List, [], ◌∷◌, ◌++◌, refl, sym, ap, ◌∙◌, subst, Option, Some, None, inl, inr, arith}
+use Rattle.std.proofs.Common.{◌≡◌, ℕ, zero, suc, ◌<◌, Bool, true, false, cond, ◌||◌, not, List, [], ◌∷◌, ◌++◌, refl, sym, ap, ◌∙◌, subst, Option, Some, None, inl, inr, arith}
 use mathlib.Core.Path.{ap₂}
 use Rattle.std.specs.Prelude.{◌⊎◌}
-use Rattle.std.specs.List.{list_any, flat_map}
 use Rattle.spv_names.specs.declared.names.Symbol.{Symbol}
 use Rattle.spv_logic.specs.declared.conditions.TermId.{TermId}
 use Rattle.spv_logic.specs.declared.types.Sort.{Sort}
@@ -10,7 +9,7 @@ use Rattle.spv_logic.specs.declared.types.Sort.TheVariants as sort
 use Rattle.spv_logic.specs.declared.types.Shape.{Shape}
 use Rattle.spv_logic.specs.declared.types.Decl.{Decl}
 use Rattle.spv_logic.specs.declared.operators.Head.TheVariants.{Not, Var}
-use Rattle.spv_logic.specs.Terms.{Term, term, no_terms, terms, term_eq}
+use Rattle.spv_logic.specs.Terms.{Term, term, no_terms, term_eq}
 use Rattle.spv_logic.specs.Formulas.{negation}
 use Rattle.spv_logic.specs.Sorts.{term_sort, with_sorts, sort_before, result_sort}
 use Rattle.spv_logic.proofs.Equality.{term_eq-true, term_eq-refl}

@@ -1,5 +1,5 @@
 -- Truth values under negations.
-use Rattle.std.proofs.Common.{◌≡◌, ℕ, zero, suc, Bool, true, false, not, refl, sym, ap, ◌∙◌}
+use Rattle.std.proofs.Common.{◌≡◌, ℕ, zero, suc, Bool, true, false, not, refl, ap, ◌∙◌}
 use Rattle.spv_cores.specs.Cores.{is_even}
 
 pub twice_not : (b : Bool) → not (not b) ≡ b

@@ -1,5 +1,5 @@
 -- Each turn of the loop takes off a negation.
-use Rattle.std.proofs.Common.{◌≡◌, ℕ, zero, suc, ◌<◌, ◌+◌, Bool, true, not, List, length, refl, sym, ap, ◌∙◌, subst, Option, Some, None, arith}
+use Rattle.std.proofs.Common.{◌≡◌, ℕ, zero, suc, ◌<◌, ◌+◌, Bool, true, not, length, refl, sym, ap, ◌∙◌, Option, Some, None, arith}
 use Rattle.std.specs.Option.{option_map, ForSome}
 use Rattle.spv_logic.specs.declared.conditions.TermId.{TermId}
 use Rattle.spv_logic.specs.declared.operators.Head.TheVariants.{Not}

@@ -1,15 +1,12 @@
 -- What a term and its core say.
-use Rattle.std.specs.Prelude.{◌≡◌, ℕ, ◌<◌, Bool, true, false, List, [], ◌∷◌, None}
+use Rattle.std.specs.Prelude.{◌≡◌, ℕ, ◌<◌, Bool, true, false, [], ◌∷◌}
 use Rattle.spv_names.specs.declared.names.Symbol.{Symbol}
 use Rattle.spv_logic.specs.declared.conditions.TermId.{TermId}
 use Rattle.spv_logic.specs.declared.types.Sort.{Sort}
-use Rattle.spv_logic.specs.declared.types.Shape.{Shape}
-use Rattle.spv_logic.specs.declared.types.Decl.{Decl}
 use Rattle.spv_logic.specs.declared.operators.Head.TheVariants.{Var}
 use Rattle.spv_logic.specs.Terms.{Term, term, no_terms}
 use Rattle.spv_term.specs.Arena.{Arena, tree}
 use Rattle.spv_atoms.specs.Atoms as atoms
-use Rattle.spv_proof.specs.Sums.{negated}
 use Rattle.spv_proof.specs.Evaluation.{evaluates}
 use Rattle.spv_readings.specs.Sayings.{literal}
 use Rattle.spv_cores.specs.Cores.{denials, is_even, IsCore, SayTheSame}

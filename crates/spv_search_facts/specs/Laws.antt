@@ -9,6 +9,7 @@ use Rattle.spv_congruence.specs.Graph.{AreTerms}
 use Rattle.spv_congruence.specs.Told.{IsOf}
 use Rattle.spv_proof.specs.Effects.{Question, is_number}
 use Rattle.spv_proof.specs.Stand.{question}
+use Rattle.spv_proof.specs.Accepted.{cases_of}
 use Rattle.spv_readings.specs.Sayings.{literal}
 use Rattle.spv_leaf_tables.specs.Laws.{AreFormulas}
 use Rattle.spv_leaf_tables.specs.Subterms.{is_among}
@@ -17,7 +18,7 @@ use Rattle.spv_split_trees.specs.Paths.{atoms, facts, Known}
 use Rattle.spv_share.specs.declared.both.Both.{Both}
 use Rattle.spv_share.specs.Relations.{AreNodes}
 use Rattle.spv_live_states.specs.States.{AreRelated, HasAtoms}
-use Rattle.spv_search_facts.specs.Cases.{AreCasesOfAtoms, IsOrderAmong, AreOrdersTold}
+use Rattle.spv_search_facts.specs.Cases.{IsCaseOfAtom, AreCasesOfAtoms, IsOrderAmong, AreOrdersTold, AreCasesTold}
 
 -- two terms under a head
 abbrev pub relation : Head → Term → Term → Term
@@ -39,3 +40,17 @@ KnownRelationsAreTold = (a : Arena) (c : Condition) (b : Both) (cases : List Ter
 abbrev pub SubtermsOfAtomsAreAdded : Type 0
 SubtermsOfAtomsAreAdded = (a : Arena) (c : Condition) (b : Both) (ids : List TermId) → IsArena a → IsOf a b.trail.graph → AreTerms b.trail.graph.nodes b.trail.graph.added
     → AreNodes b.trail.graph.nodes ids → ((t : Term) → is_among (atoms (question a c)) t ≡ true → is_among (map (tree a) ids) t ≡ true) → HasAtoms a b (question a c)
+
+-- ---- cases
+
+-- the ways in which a proof splits on an atom are cases of it
+abbrev pub SplitsAreOfAtoms : Type 0
+SplitsAreOfAtoms = (q : Question) (t f : Term) → is_among (atoms q) t ≡ true → is_among (cases_of q t) f ≡ true → IsCaseOfAtom q f
+
+-- what was told of atoms is a case of them
+abbrev pub ToldCasesAreOfAtoms : Type 0
+ToldCasesAreOfAtoms = (a : Arena) (b : Both) (q : Question) (cases : List Term) → AreCasesTold a b q cases → AreCasesOfAtoms q cases
+
+-- and each order among these cases is an atom, or was told as an order of an equation
+abbrev pub ToldCasesAreOrders : Type 0
+ToldCasesAreOrders = (a : Arena) (b : Both) (q : Question) (cases : List Term) → AreCasesTold a b q cases → AreOrdersTold a b q cases

@@ -4,4 +4,4 @@
 
 mod laws;
 
-pub use laws::{law_added_parts, law_known_relations};
+pub use laws::{law_added_parts, law_cases, law_known_relations};
