@@ -1,0 +1,3 @@
+pub mod Parities
+pub mod Denials
+pub mod Turns

@@ -1,0 +1,3 @@
+pub mod Relations
+pub mod Adding
+pub mod Cases

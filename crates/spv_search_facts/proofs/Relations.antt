@@ -1,0 +1,209 @@
+-- Each relation of whole numbers that is known on a path is an atom, or an order among the cases.
+use Rattle.std.proofs.Common.{◌≡◌, Bool, true, false, cond, ◌&&◌, not, List, [], ◌∷◌, refl, sym, ap, ◌∙◌, subst, Option, Some, None, inl, inr}
+use mathlib.Core.Path.{ap₂}
+use Rattle.std.specs.Prelude.{◌⊎◌}
+use Rattle.std.specs.List.{flat_map}
+use Rattle.std.specs.Cmp.Derive.{both_true}
+use Rattle.std.proofs.lemmas.Bool.{false≢true}
+use Rattle.spv_list.proofs.Tests.{right_true}
+use Rattle.spv_logic.specs.declared.types.Sort.{Sort}
+use Rattle.spv_logic.specs.declared.types.Sort.TheVariants as sort
+use Rattle.spv_logic.specs.declared.types.Shape.{Shape}
+use Rattle.spv_logic.specs.declared.types.Decl.{Decl}
+use Rattle.spv_logic.specs.declared.operators.Head.{Head}
+use Rattle.spv_logic.specs.declared.operators.Head.TheVariants as head
+use Rattle.spv_logic.specs.Terms.{Term, no_terms, terms, term_eq}
+use Rattle.spv_logic.specs.Formulas.{negation, equation, below}
+use Rattle.spv_logic.specs.Sorts.{term_sort, with_sorts, sort_before, result_sort}
+use Rattle.spv_logic.proofs.Equality.{term_eq-true, term_eq-refl}
+use Rattle.spv_term.specs.declared.nodes.Condition.{Condition}
+use Rattle.spv_term.specs.Arena.{Arena}
+use Rattle.spv_atoms.specs.Atoms.{has_sort, is_truth, is_number, is_atom, connects, is_fixed, only_if, with_term, with_terms, atoms_in, atoms_in_all}
+use Rattle.spv_atoms.specs.Order.{passing}
+use Rattle.spv_atoms.specs.Tables.{all_truths}
+use Rattle.spv_atoms.proofs.Members.{has, has-left, has-last, has-parts, or_cases, or_left, or_right}
+use Rattle.spv_proof.specs.Effects.{Question}
+use Rattle.spv_proof.specs.Stand.{question}
+use Rattle.spv_readings.specs.Sayings.{literal}
+use Rattle.spv_leaf_tables.specs.Subterms.{is_among, subterms, arguments, is_plain, truth_arguments}
+use Rattle.spv_leaf_tables.specs.Atoms.{is_open}
+use Rattle.spv_leaf_tables.specs.Atoms as search
+use Rattle.spv_leaf_tables.specs.Laws.{AreFormulas}
+use Rattle.spv_leaf_tables.specs.Tables.{formulas_of}
+use Rattle.spv_leaf_tables.proofs.Closed.{with_term-parts, subterms-has}
+use Rattle.spv_leaf_tables.proofs.Covering.{atoms-there, atoms-are, part-arguments}
+use Rattle.spv_leaf_tables.proofs.Lookups.{passing-parts}
+use Rattle.spv_leaf_tables.proofs.Values.{sort_known}
+use Rattle.spv_split_trees.specs.Paths.{atoms, questions, facts, Known, given, affirmed, denied, lower, upper}
+use Rattle.spv_share.specs.declared.both.Both.{Both}
+use Rattle.spv_live_states.specs.States.{AreRelated}
+use Rattle.spv_search_facts.specs.Cases.{IsCaseOfAtom, itself, its_negation, its_lower, its_upper, AreCasesOfAtoms, IsOrderAmong, lower_case, upper_case, AreOrdersTold}
+use Rattle.spv_search_facts.specs.Laws.{relation}
+
+-- ---- members
+
+with_terms-parts : {A : Type 0} (xs ts : List Term) (u : Term) → has (with_terms xs ts) u ≡ true → (has xs u ≡ true → A) → (has ts u ≡ true → A) → A
+with_terms-parts xs [] u h f g = f h
+with_terms-parts xs (t ∷ ts) u h f g =
+    with_terms-parts (with_term xs t) ts u h
+    (λ k. with_term-parts xs t u k f (λ e. g (or_left (term_eq u t) (has ts u) (ap (term_eq u) (sym e) ∙ term_eq-refl u))))
+    (λ k. g (or_right (term_eq u t) (has ts u) k))
+
+-- a term that has a member among these
+record IsArgumentOf (ts : List Term) (u : Term) : Type 0 where
+  origin : Term
+  among : has ts origin ≡ true
+  there : has (arguments origin) u ≡ true
+
+argument_of : (ts : List Term) (u : Term) → has (flat_map arguments ts) u ≡ true → IsArgumentOf ts u
+argument_of [] u h = absurd (false≢true h)
+argument_of (t ∷ ts) u h =
+    has-parts (arguments t) (flat_map arguments ts) u h (λ k. record { origin = t; among = or_left (term_eq t t) (has ts t) (term_eq-refl t); there = k })
+    (λ k. let o = argument_of ts u k in record { origin = o.origin; among = or_right (term_eq o.origin t) (has ts o.origin) o.among; there = o.there })
+
+-- ---- shapes of terms
+
+negation_no_relation : (u : Term) (h : Head) (x y : Term) → negation u ≡ relation h x y → ⊥
+negation_no_relation u h x y e = cc
+
+negated_same : (u v : Term) → negation u ≡ negation v → u ≡ v
+negated_same u v e = cc
+
+-- a negation that is a literal of a relation negates it
+negates : (c : Bool) (u : Term) (h : Head) (x y : Term) → negation u ≡ literal c (relation h x y) → u ≡ relation h x y
+negates true u h x y e = absurd (negation_no_relation u h x y e)
+negates false u h x y e = negated_same u (relation h x y) e
+
+below_no_negation : (s t u : Term) → below s t ≡ negation u → ⊥
+below_no_negation s t u e = cc
+
+-- ---- relations of whole numbers
+
+module _ (shapes : List Shape) (decls : List Decl) where
+  abbrev truth : Term → Bool
+  truth = is_truth shapes decls
+
+  -- over two whole numbers, a head that gives a truth value is no connective, and not TRUE or FALSE
+  no_connective : (h : Head) (b : Bool) → b ≡ false → has_sort sort.Bool (result_sort shapes decls h (sort.Int ∷ sort.Int ∷ [])) ≡ true → (not (connects b h) && not (is_fixed h)) ≡ true
+  no_connective head.Not b f e = absurd (false≢true e)
+  no_connective head.And b f e = absurd (false≢true e)
+  no_connective head.Or b f e = absurd (false≢true e)
+  no_connective head.Implies b f e = absurd (false≢true e)
+  no_connective head.True b f e = absurd (false≢true e)
+  no_connective head.False b f e = absurd (false≢true e)
+  no_connective head.Eq b f e = ap (λ c. not c && true) f
+  no_connective _ b f e = refl
+
+  module _ (h : Head) (x y : Term) (nx : is_number shapes decls x ≡ true) (ny : is_number shapes decls y ≡ true) where
+    relation_sort : term_sort shapes decls (relation h x y) ≡ result_sort shapes decls h (sort.Int ∷ sort.Int ∷ [])
+    relation_sort =
+        ap₂ (λ o p. with_sorts (sort_before o (sort_before p (Some []))) (result_sort shapes decls h)) (sort_known sort.Int (term_sort shapes decls x) nx) (sort_known sort.Int (term_sort shapes decls y) ny)
+
+    not_truths : all_truths truth (terms x (terms y no_terms)) ≡ false
+    not_truths = ap (λ o. has_sort sort.Bool o && (truth y && true)) (sort_known sort.Int (term_sort shapes decls x) nx)
+
+    relation_is : truth (relation h x y) ≡ true → (not (connects (all_truths truth (terms x (terms y no_terms))) h) && not (is_fixed h)) ≡ true
+    relation_is e = no_connective h (all_truths truth (terms x (terms y no_terms))) not_truths (ap (has_sort sort.Bool) (sym relation_sort) ∙ e)
+
+    -- such a relation is its own atom
+    own_atom : truth (relation h x y) ≡ true → has (atoms_in truth (relation h x y)) (relation h x y) ≡ true
+    own_atom e = by_case (connects (all_truths truth (terms x (terms y no_terms))) h) refl
+      where
+        by_case : (b : Bool) → connects (all_truths truth (terms x (terms y no_terms))) h ≡ b
+            → has (cond b (atoms_in_all truth (terms x (terms y no_terms))) (only_if (is_atom truth (relation h x y)) (relation h x y))) (relation h x y) ≡ true
+        by_case true f = absurd (false≢true (ap (λ b. not b && not (is_fixed h)) (sym f) ∙ relation_is e))
+        by_case false f =
+            ap (λ b. has (only_if b (relation h x y)) (relation h x y)) (both_true e (relation_is e)) ∙ or_left (term_eq (relation h x y) (relation h x y)) false (term_eq-refl (relation h x y))
+
+  -- what a formula negates is a formula
+  under_negation : (o : Option Sort) → has_sort sort.Bool (with_sorts (sort_before o (Some [])) (result_sort shapes decls head.Not)) ≡ true → has_sort sort.Bool o ≡ true
+  under_negation None e = e
+  under_negation (Some sort.Bool) e = refl
+  under_negation (Some sort.Int) e = e
+  under_negation (Some sort.List) e = e
+  under_negation (Some (sort.Ptr t)) e = e
+  under_negation (Some (sort.Whole t)) e = e
+  under_negation (Some (sort.Class t)) e = e
+
+  module _ (fs : List Term) (are : AreFormulas shapes decls fs) (h : Head) (x y : Term) (nx : is_number shapes decls x ≡ true) (ny : is_number shapes decls y ≡ true) where
+    -- a relation that is a subterm of sort Bool is an atom, and so is one whose negation is
+    literal_atom : (c : Bool) (t : Term) → t ≡ literal c (relation h x y) → has (subterms fs) t ≡ true → truth t ≡ true → has (search.atoms shapes decls fs) (relation h x y) ≡ true
+    literal_atom true t e m k =
+        atoms-there shapes decls fs are (relation h x y) (relation h x y) (ap (has (subterms fs)) (sym e) ∙ m) (own_atom h x y nx ny (ap truth (sym e) ∙ k))
+    literal_atom false t e m k =
+        atoms-there shapes decls fs are (negation (relation h x y)) (relation h x y) (ap (has (subterms fs)) (sym e) ∙ m)
+        (has-left (atoms_in truth (relation h x y)) [] (relation h x y) (own_atom h x y nx ny (under_negation (term_sort shapes decls (relation h x y)) (ap truth (sym e) ∙ k))))
+
+    -- an atom that is a literal of a relation is the relation
+    atom_literal : (c : Bool) (t : Term) → t ≡ literal c (relation h x y) → has (search.atoms shapes decls fs) t ≡ true → has (search.atoms shapes decls fs) (relation h x y) ≡ true
+    atom_literal true t e m = ap (has (search.atoms shapes decls fs)) (sym e) ∙ m
+    atom_literal false t e m =
+        absurd (false≢true (right_true (truth (negation (relation h x y))) false (ap (is_atom truth) (sym e) ∙ atoms-are shapes decls fs are t m)))
+
+    -- a question that is a literal of a relation: an atom, or an argument of sort Bool
+    question_literal : (c : Bool) (t : Term) → t ≡ literal c (relation h x y) → has (search.questions shapes decls fs) t ≡ true → has (search.atoms shapes decls fs) (relation h x y) ≡ true
+    question_literal c t e m =
+        with_terms-parts (search.atoms shapes decls fs) (passing is_open (truth_arguments truth (subterms fs))) t m (atom_literal c t e)
+        (λ k. let p = passing-parts is_open (truth_arguments truth (subterms fs)) t k in
+        let r = passing-parts truth (flat_map arguments (passing (is_plain truth) (subterms fs))) t p.among in
+        let o = argument_of (passing (is_plain truth) (subterms fs)) t r.among in
+        literal_atom c t e (part-arguments shapes decls fs are o.origin t (passing-parts (is_plain truth) (subterms fs) o.origin o.among).among o.there) r.passes)
+
+-- ---- what is known
+
+module _ (q : Question) (cases : List Term) (are : AreFormulas q.shapes q.decls (formulas_of q.sequent)) (cases_are : AreCasesOfAtoms q cases)
+    (h : Head) (x y : Term) (nx : is_number q.shapes q.decls x ≡ true) (ny : is_number q.shapes q.decls y ≡ true) where
+  abbrev fs : List Term
+  fs = formulas_of q.sequent
+
+  -- what is to be shown of the relation
+  abbrev IsThere : Bool → Type 0
+  IsThere c = (is_among (atoms q) (relation h x y) ≡ true) ⊎ ((c ≡ true) × IsOrderAmong q cases (relation h x y))
+
+  formula_there : (c : Bool) (t : Term) → t ≡ literal c (relation h x y) → has (formulas_of q.sequent) t ≡ true → IsThere c
+  formula_there c t e m = inl (literal_atom q.shapes q.decls (formulas_of q.sequent) are h x y nx ny c t e (subterms-has (formulas_of q.sequent) t m) (are t m))
+
+  question_there : (d c : Bool) (t : Term) → t ≡ literal d (relation h x y) → has (questions q) t ≡ true → IsThere c
+  question_there d c t e m = inl (question_literal q.shapes q.decls (formulas_of q.sequent) are h x y nx ny d t e m)
+
+  order_there : (c : Bool) (s t : Term) → below s t ≡ literal c (relation h x y) → IsOrderAmong q cases (below s t) → IsThere c
+  order_there true s t e o = inr (refl, subst (IsOrderAmong q cases) e o)
+  order_there false s t e o = absurd (below_no_negation s t (relation h x y) e)
+
+  case_there : (c : Bool) (t : Term) → IsCaseOfAtom q t → t ≡ literal c (relation h x y) → has cases t ≡ true → IsThere c
+  case_there c _ (itself t m) e k = inl (atom_literal q.shapes q.decls (formulas_of q.sequent) are h x y nx ny c t e m)
+  case_there c _ (its_negation t m) e k = inl (ap (has (atoms q)) (sym (negates c t h x y e)) ∙ m)
+  case_there c _ (its_lower s t m) e k = order_there c s t e (lower_case s t m k)
+  case_there c _ (its_upper s t m) e k = order_there c t s e (upper_case s t m k)
+
+  goal_there : (c : Bool) (t : Term) → t ≡ negation q.sequent.goal → t ≡ literal c (relation h x y) → IsThere c
+  goal_there c t n e =
+      let is : q.sequent.goal ≡ relation h x y = negates c q.sequent.goal h x y (sym n ∙ e) in
+      let m : has (formulas_of q.sequent) q.sequent.goal ≡ true = has-last q.sequent.given q.sequent.goal in
+      inl (literal_atom q.shapes q.decls (formulas_of q.sequent) are h x y nx ny true q.sequent.goal is (subterms-has (formulas_of q.sequent) q.sequent.goal m) (are q.sequent.goal m))
+
+  fact_there : (c : Bool) (t : Term) → t ≡ literal c (relation h x y) → has (facts q cases) t ≡ true → IsThere c
+  fact_there c t e m =
+      has-parts q.sequent.given (negation q.sequent.goal ∷ cases) t m (λ k. formula_there c t e (has-left q.sequent.given (q.sequent.goal ∷ []) t k))
+      (λ k. or_cases (term_eq t (negation q.sequent.goal)) (has cases t) k (λ f. goal_there c t (term_eq-true t (negation q.sequent.goal) f) e) (λ f. case_there c t (cases_are.each t f) e f))
+
+  known_there : (c : Bool) (t : Term) → Known q (facts q cases) t → t ≡ literal c (relation h x y) → IsThere c
+  known_there c _ (given t m) e = fact_there c t e m
+  known_there c _ (affirmed t cited m all k) e = question_there c c t e m
+  known_there c _ (denied t cited m all k) e = question_there true c t (negates c t h x y e) m
+  known_there c _ (lower s t m k) e = question_there true c (equation s t) (negates c (equation s t) h x y e) m
+  known_there c _ (upper s t m k) e = question_there true c (equation s t) (negates c (equation s t) h x y e) m
+
+pub relations_are_atoms : (q : Question) (cases : List Term) → AreFormulas q.shapes q.decls (formulas_of q.sequent) → AreCasesOfAtoms q cases → (h : Head) (x y : Term) (c : Bool) → is_number q.shapes q.decls x ≡ true → is_number q.shapes q.decls y ≡ true
+    → Known q (facts q cases) (literal c (relation h x y)) → (is_among (atoms q) (relation h x y) ≡ true) ⊎ ((c ≡ true) × IsOrderAmong q cases (relation h x y))
+relations_are_atoms q cases are cases_are h x y c nx ny k = known_there q cases are cases_are h x y nx ny c (literal c (relation h x y)) k refl
+
+pub relations_are_told : (a : Arena) (c : Condition) (b : Both) (cases : List Term) → AreFormulas a.shapes a.decls (formulas_of (question a c).sequent) → AreCasesOfAtoms (question a c) cases → AreOrdersTold a b (question a c) cases
+    → AreRelated a b (question a c) (facts (question a c) cases)
+relations_are_told a c b cases are cases_are told = record {
+  each = λ h x y d nx ny k.
+      elim (relations_are_atoms (question a c) cases are cases_are h x y d nx ny k) [
+        | inl m ↦ inl m
+        | inr o ↦ elim (told.each (relation h x y) o.1) [ inl m ↦ inl m | inr t ↦ inr (o.0, t) ]
+      ];
+}
