@@ -1,6 +1,5 @@
 -- Where nothing is left to split on, each question has a truth, and each equation of whole numbers that is false has an order.
-use Rattle.std.proofs.Common.{◌≡◌, ◌≢◌, ◌⊎◌, inl, inr, ℕ, suc, ◌<◌, Bool, true, false, cond, ◌&&◌, ◌||◌, not, nat_eq, List, [], ◌∷◌, length, map, slice_get, refl, sym, ap, ◌∙◌, subst, Option, Some, None}
-use mathlib.Core.Path.{ap₂}
+use Rattle.std.proofs.Common.{◌≡◌, ◌≢◌, ◌⊎◌, inl, inr, ℕ, suc, Bool, true, false, ◌&&◌, ◌||◌, not, nat_eq, List, [], ◌∷◌, length, map, slice_get, refl, sym, ap, ◌∙◌, subst, Option, Some, None}
 use Rattle.std.specs.Prelude.{is_some}
 use Rattle.std.specs.Cmp.Derive.{both_true}
 use Rattle.std.proofs.lemmas.Bool.{false≢true}
@@ -40,8 +39,7 @@ use Rattle.spv_split_trees.specs.Paths.{atoms, questions}
 use Rattle.spv_split_trees.specs.Shown.{IsFinished}
 use Rattle.spv_truths.specs.Passes.{at}
 use Rattle.spv_known.specs.declared.facts.Known.{Known}
-use Rattle.spv_known.specs.Facts.{fact_of}
-use Rattle.spv_choosing.specs.Choosing.{is_order, orders, has_order, is_comparison, is_false, lacks_order, HaveValues, HaveOrders}
+use Rattle.spv_choosing.specs.Choosing.{is_order, orders, has_order, is_comparison, is_false, HaveValues, HaveOrders}
 use Rattle.spv_choosing.specs.Laws.{IsFilledBy, GivesValues, AreKnownOn, ListsValues, NothingLeftIsFilled}
 use Rattle.spv_choosing.proofs.Questions.{questions-filled}
 

@@ -12,7 +12,7 @@ use Rattle.spv_logic.specs.Values.{bool_eq}
 use Rattle.spv_logic.specs.Terms.{Term, Terms, term, no_terms, terms, term_eq}
 use Rattle.spv_logic.specs.Formulas.{negation, equation}
 use Rattle.spv_logic.specs.Sorts.{term_sort}
-use Rattle.spv_logic.proofs.Equality.{term_eq-true, term_eq-refl}
+use Rattle.spv_logic.proofs.Equality.{term_eq-refl}
 use Rattle.spv_atoms.specs.Atoms.{has_sort, is_atom, connects, is_fixed, with_term, with_terms}
 use Rattle.spv_atoms.specs.Forms.{constant_values}
 use Rattle.spv_atoms.specs.Order.{passing}

@@ -108,12 +108,7 @@ fn without_order(
 }
 
 /// An atom without a value, else an equation of whole numbers that is false and of whose sides no order is known; or there is none.
-pub fn choose(
-    terms: &Terms,
-    atoms: &[TermId],
-    values: &[Option<bool>],
-    known: &[Known],
-) -> Choice
+pub fn choose(terms: &Terms, atoms: &[TermId], values: &[Option<bool>], known: &[Known]) -> Choice
     requires atoms { AllBelow (length terms.now.nodes) atoms.now }
     ensures choice { IsChoice terms.now atoms.now values.now known.now result }
 {
