@@ -1,23 +1,15 @@
 -- The sayings of all facts, one after the other.
-use Rattle.std.proofs.Common.{◌≡◌, ◌<◌, ℕ, ◌+◌, Bool, true, false, cond, ◌&&◌, ◌||◌, List, [], ◌∷◌, ◌++◌, length, drop, get_or, refl, sym, ap, ◌∙◌}
-use Rattle.std.specs.List.{list_any}
-use Rattle.std.proofs.lemmas.Bool.{false≢true, eqb-true}
+use Rattle.std.proofs.Common.{◌≡◌, ◌<◌, ℕ, ◌+◌, Bool, true, false, ◌||◌, List, [], length, drop, get_or, refl, sym, ap, ◌∙◌}
 use Rattle.std.proofs.lemmas.List.{at_drop_more}
 use Rattle.std.proofs.lemmas.Option.{slice_get-get_or}
-use Rattle.indexmap.specs.IndexSet.{insert_key}
-use Rattle.spv_logic.specs.declared.conditions.TermId.{TermId}
 use Rattle.spv_logic.specs.Terms.{Term, term_eq}
 use Rattle.spv_term.specs.Arena.{Arena, IsArena}
-use Rattle.spv_term.proofs.NodeLemmas.{id_from}
-use Rattle.spv_atoms.specs.Order.{same_id}
 use Rattle.spv_proof.specs.Evaluation.{cites}
 use Rattle.spv_known.specs.declared.facts.Known.{Known}
 use Rattle.spv_known.specs.Facts.{fact_of, facts_of}
 use Rattle.spv_known_lists.specs.declared.sayings.Saying.{Saying}
-use Rattle.spv_known_lists.specs.declared.sayings.Saying.TheVariants.{Affirms, Denies, Orders}
-use Rattle.spv_known_lists.specs.declared.sayings.Order.{Order}
 use Rattle.spv_known_lists.specs.declared.sayings.Sayings.{Sayings}
-use Rattle.spv_known_lists.specs.Sayings.{meaning, Fits, IsSaying, same_saying, order, same_order, says, IsEmpty, Adds, AreSaid, AreThere}
+use Rattle.spv_known_lists.specs.Sayings.{meaning, Fits, IsSaying, same_saying, says, IsEmpty, Adds, AreSaid, AreThere}
 use Rattle.spv_known_lists.proofs.Meanings.{same_meaning}
 
 or_false : (b : Bool) → b ≡ (b || false)

@@ -2,8 +2,7 @@
 use Rattle.std.proofs.Common.{◌≡◌, ◌<◌, Bool, List, [], ◌∷◌, length, slice_get, refl, sym, ap, subst, ◌∙◌, Option, Some, None}
 use mathlib.Core.Path.{ap₂}
 use Rattle.spv_logic.specs.declared.conditions.TermId.{TermId}
-use Rattle.spv_logic.specs.declared.operators.Head.TheVariants.{Not}
-use Rattle.spv_logic.specs.Terms.{Term, Terms, term, terms, no_terms}
+use Rattle.spv_logic.specs.Terms.{Term, term}
 use Rattle.spv_logic.specs.Formulas.{negation}
 use Rattle.spv_term.specs.declared.nodes.Node.{Node}
 use Rattle.spv_term.specs.Arena.{Arena, IsArena, AllBelow, tree, trees}
@@ -15,7 +14,7 @@ use Rattle.spv_truths.specs.Passes.{at}
 use Rattle.spv_known.specs.Values.{told, told_or_apart, value_by, core_value, unless_negation}
 use Rattle.spv_known.proofs.Told.{negated_is, core_of, core_value_of}
 use Rattle.spv_known_lists.specs.declared.sayings.Saying.{Saying}
-use Rattle.spv_known_lists.specs.declared.sayings.Saying.TheVariants.{Affirms, Denies, Orders}
+use Rattle.spv_known_lists.specs.declared.sayings.Saying.TheVariants.{Denies, Orders}
 use Rattle.spv_known_lists.specs.declared.sayings.Sayings.{Sayings}
 use Rattle.spv_known_lists.specs.Sayings.{says, IsSaying}
 use Rattle.spv_known_lists.specs.Values.{truth_of, ordered, direct_value, apart_value, Said, CoresAre, IsFor, ListedFor}

@@ -1,16 +1,11 @@
 -- Lists of values, one term more.
-use Rattle.std.proofs.Common.{◌≡◌, ◌<◌, ℕ, ◌+◌, Bool, List, [], ◌∷◌, ◌++◌, length, refl, sym, ap, subst, ◌∙◌, Option, Some, None, arith}
+use Rattle.std.proofs.Common.{◌≡◌, ℕ, ◌+◌, Bool, List, [], ◌∷◌, ◌++◌, length, refl, sym, ap, subst, ◌∙◌, Option, arith}
 use Rattle.std.proofs.lemmas.List.{length_push}
 use Rattle.spv_logic.specs.declared.conditions.TermId.{TermId}
 use Rattle.spv_logic.specs.Terms.{Term}
 use Rattle.spv_term.specs.Arena.{Arena, tree}
-use Rattle.spv_truths.specs.Passes.{at}
-use Rattle.spv_truths.proofs.Listing.{ValuedTo, valued_next}
-use Rattle.spv_known.specs.Values.{core_value, value_by}
-use Rattle.spv_known.specs.Following.{AreListed}
-use Rattle.spv_known_lists.specs.declared.sayings.Sayings.{Sayings}
-use Rattle.spv_known_lists.specs.Sayings.{AreSaid}
-use Rattle.spv_known_lists.specs.Values.{direct_value, Said, CoresAre, IsFor, ListedFor}
+use Rattle.spv_truths.proofs.Listing.{valued_next}
+use Rattle.spv_known_lists.specs.Values.{IsFor, ListedFor}
 
 module _ (a : Arena) (Holds : List Term → Type 0) (value : List Term → Term → Option Bool) where
   pub listed_none : ListedFor a Holds value 0 []
@@ -25,13 +20,3 @@ module _ (a : Arena) (Holds : List Term → Type 0) (value : List Term → Term 
 
   pub listed_slice : (n : ℕ) (values slice : List (Option Bool)) → slice ≡ values → ListedFor a Holds value n values → ListedFor a Holds value n slice
   listed_slice n values slice e listed = subst (λ (xs : List (Option Bool)). ListedFor a Holds value n xs) (sym e) listed
-
--- the three lists together
-pub lists_are : (a : Arena) (facts : List Term) (given : Sayings) (direct cores all direct_slice cores_slice : List (Option Bool)) → AreSaid a facts given → direct_slice ≡ direct → cores_slice ≡ cores
-    → ListedFor a (Said a given) direct_value (length a.nodes) direct → ListedFor a (Said a given) core_value (length a.nodes) cores → ListedFor a (CoresAre a cores_slice) value_by (length a.nodes) all
-    → AreListed a facts direct cores all
-lists_are a facts given direct cores all direct_slice cores_slice said d c by_direct by_cores by_all = record {
-  told_ones = by_direct.each facts said;
-  core_ones = by_cores.each facts said;
-  all_ones = by_all.each facts (λ t h. ap (λ xs. at xs t.0) c ∙ by_cores.each facts said t h);
-}

@@ -1,13 +1,11 @@
 -- Two sayings are the same where they mean the same.
-use Rattle.std.proofs.Common.{◌≡◌, ◌<◌, Bool, true, false, ◌&&◌, length, refl, sym, ap, ◌∙◌, Option, Some, None}
+use Rattle.std.proofs.Common.{◌≡◌, Bool, true, false, ◌&&◌, refl, sym, ap, ◌∙◌, Option, Some, None}
 use mathlib.Core.Path.{ap₂}
 use Rattle.std.proofs.Math.Bool.{and-true}
-use Rattle.spv_logic.specs.declared.conditions.TermId.{TermId}
 use Rattle.spv_logic.specs.Terms.{Term, term_eq}
 use Rattle.spv_logic.specs.Formulas.{negation, below}
 use Rattle.spv_logic.proofs.Equality.{term_eq-true}
 use Rattle.spv_term.specs.Arena.{Arena, IsArena, tree}
-use Rattle.spv_atoms.specs.Order.{same_id}
 use Rattle.spv_atoms.proofs.Walks.{term_eq-ids}
 use Rattle.spv_proof.specs.Sums.{negated}
 use Rattle.spv_proof_steps.specs.Candidates.{lower}

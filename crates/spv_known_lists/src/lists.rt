@@ -99,12 +99,7 @@ fn core(terms: &Terms, given: &Sayings, direct: &[Option<bool>], t: TermId) -> O
 }
 
 // The value of a term, from those of terms before it.
-fn value(
-    terms: &Terms,
-    cores: &[Option<bool>],
-    before: &[Option<bool>],
-    t: TermId,
-) -> Option<bool>
+fn value(terms: &Terms, cores: &[Option<bool>], before: &[Option<bool>], t: TermId) -> Option<bool>
     requires t { t.0 < length terms.now.nodes }
     requires before { ListedFor terms.now (CoresAre terms.now cores.now) value_by t.0 before.now }
     ensures { IsFor terms.now (CoresAre terms.now cores.now) value_by t result }

@@ -1,5 +1,4 @@
-use Rattle.std.proofs.Common.{refl}
-use Rattle.spv_known_lists.proofs.AllFacts.{said_none, said_next, said_all, there_at}
+use Rattle.spv_known_lists.proofs.AllFacts.{said_next, there_at}
 use Rattle.spv_known_lists.proofs.reading.sayings_of.Goals as goal
 
 pub saying_of-saying-requires : goal.saying_of-saying-requires
