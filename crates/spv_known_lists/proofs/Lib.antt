@@ -1,0 +1,4 @@
+pub mod Meanings
+pub mod AllFacts
+pub mod Giving
+pub mod Listing
