@@ -224,10 +224,15 @@ module _ (a : Arena) (facts : List Term) (are : AreLiterals facts) (over : AreOv
       -- a fact says that it is true, or that it is false
       by_there : (b : Bool) → told facts t ≡ Some b → IsIn a (bare (literal b t)) ⊎ IsCase (literal b t) → clashes (is_truth a) other t ≡ false
       by_there b h (inl k) = in_arena t (record { id = k.id; in_range = k.in_range; is = k.is ∙ bare_literal b t n }) (e ∙ sym f)
-      by_there true h (inr k) = ap (λ o. opposite o (other t)) (ap (computed (is_truth a) other) k.is ∙ (sym (ap numeral_relation k.is) ∙ k.open_one)) ∙ opposite_first (other t)
+      by_there true h (inr k) = by_numerals (numeral_relation t) refl
         where
-          opposite_first : (o : Option Bool) → opposite None o ≡ false
-          opposite_first o = refl
+          computed_is : computed (is_truth a) other t ≡ numeral_relation t
+          computed_is = ap (computed (is_truth a) other) k.is ∙ sym (ap numeral_relation k.is)
+
+          by_numerals : (o : Option Bool) → numeral_relation t ≡ o → clashes (is_truth a) other t ≡ false
+          by_numerals None g = ap (λ o. opposite o (other t)) (computed_is ∙ g)
+          by_numerals (Some true) g = ap₂ opposite (computed_is ∙ g) (f ∙ ap (λ o. or_else o (apart facts (sides t))) h)
+          by_numerals (Some false) g = absurd (k.holds g)
       by_there false h (inr k) = absurd (not_order (sym (ap negated k.is)))
         where
           not_order : negated (below k.left k.right) ≡ Some t → ⊥

@@ -47,7 +47,7 @@ module _ (a : Arena) (ok : IsArena a) (facts : List Term) (are : AreLiterals fac
           let plain_is : plain_at a k.id ≡ Some false = ap (λ (x : Term). cond (atoms.is_connective (is_truth a) x) None (plain x)) k.is ∙ f in
           let told_is : at direct k.id.0 ≡ Some true = lists.told_ones k.id k.in_range ∙ (ap (λ (x : Term). unless_negation (negated x) (told facts x)) k.is ∙ told_true facts are (below s t) e) in
           false≢true (sym (quiet.each k.id k.in_range) ∙ ap₂ opposite plain_is told_is)
-      by_there s t e f (inr k) = none_some (numeral_relation (below s t)) false k.open_one f
+      by_there s t e f (inr k) = k.holds f
 
   module _ (quiet : AreQuiet a direct) where
     abbrev orders : OrdersAreQuiet facts

@@ -63,12 +63,12 @@ pub record IsIn (a : Arena) (t : Term) : Type 0 where
   pub in_range : id.0 < length a.nodes
   pub is : tree a id ≡ t
 
--- an order that is a case: of sides that are not both numerals
+-- an order that is a case; one of numerals holds
 pub record IsCase (t : Term) : Type 0 where
   pub left : Term
   pub right : Term
   pub is : t ≡ below left right
-  pub open_one : numeral_relation t ≡ None
+  pub holds : numeral_relation t ≡ Some false → ⊥
 
 -- facts over an arena: what they say is of its terms, or an order that is a case; and orders are of numbers
 pub record AreOver (a : Arena) (facts : List Term) : Type 0 where

@@ -1,3 +1,3 @@
 pub mod Relations
 pub mod Adding
-pub mod Cases
+pub mod Fewer

@@ -1,4 +1,4 @@
--- Each relation of whole numbers that is known on a path is an atom, or an order among the cases.
+-- Each relation of whole numbers that is known on a path is an atom, or an order that was told.
 use Rattle.std.proofs.Common.{◌≡◌, Bool, true, false, cond, ◌&&◌, not, List, [], ◌∷◌, refl, sym, ap, ◌∙◌, subst, Option, Some, None, inl, inr}
 use mathlib.Core.Path.{ap₂}
 use Rattle.std.specs.Prelude.{◌⊎◌}
@@ -12,7 +12,7 @@ use Rattle.spv_logic.specs.declared.types.Shape.{Shape}
 use Rattle.spv_logic.specs.declared.types.Decl.{Decl}
 use Rattle.spv_logic.specs.declared.operators.Head.{Head}
 use Rattle.spv_logic.specs.declared.operators.Head.TheVariants as head
-use Rattle.spv_logic.specs.Terms.{Term, no_terms, terms, term_eq}
+use Rattle.spv_logic.specs.Terms.{Term, term, no_terms, terms, term_eq}
 use Rattle.spv_logic.specs.Formulas.{negation, equation, below}
 use Rattle.spv_logic.specs.Sorts.{term_sort, with_sorts, sort_before, result_sort}
 use Rattle.spv_logic.proofs.Equality.{term_eq-true, term_eq-refl}
@@ -36,9 +36,12 @@ use Rattle.spv_leaf_tables.proofs.Lookups.{passing-parts}
 use Rattle.spv_leaf_tables.proofs.Values.{sort_known}
 use Rattle.spv_split_trees.specs.Paths.{atoms, questions, facts, Known, given, affirmed, denied, lower, upper}
 use Rattle.spv_share.specs.declared.both.Both.{Both}
-use Rattle.spv_live_states.specs.States.{AreRelated}
-use Rattle.spv_search_facts.specs.Cases.{IsCaseOfAtom, itself, its_negation, its_lower, its_upper, AreCasesOfAtoms, IsOrderAmong, lower_case, upper_case, AreOrdersTold}
-use Rattle.spv_search_facts.specs.Laws.{relation}
+use Rattle.spv_live_states.specs.States.{AreRelated, IsOrderTold, below_it, above_it}
+use Rattle.spv_search_facts.specs.Facts.{IsFormula, of_atoms, of_parts, IsFact, said, ordered, AreFacts}
+
+-- two terms under a head
+abbrev relation : Head → Term → Term → Term
+relation h x y = term h (terms x (terms y no_terms))
 
 -- ---- members
 
@@ -151,59 +154,58 @@ module _ (shapes : List Shape) (decls : List Decl) where
 
 -- ---- what is known
 
-module _ (q : Question) (cases : List Term) (are : AreFormulas q.shapes q.decls (formulas_of q.sequent)) (cases_are : AreCasesOfAtoms q cases)
+module _ (a : Arena) (b : Both) (q : Question) (more : List Term) (are : AreFormulas q.shapes q.decls (formulas_of q.sequent)) (facts_are : AreFacts a b q more)
     (h : Head) (x y : Term) (nx : is_number q.shapes q.decls x ≡ true) (ny : is_number q.shapes q.decls y ≡ true) where
   abbrev fs : List Term
   fs = formulas_of q.sequent
 
   -- what is to be shown of the relation
   abbrev IsThere : Bool → Type 0
-  IsThere c = (is_among (atoms q) (relation h x y) ≡ true) ⊎ ((c ≡ true) × IsOrderAmong q cases (relation h x y))
+  IsThere c = (is_among (atoms q) (relation h x y) ≡ true) ⊎ ((c ≡ true) × IsOrderTold a b q (relation h x y))
 
-  formula_there : (c : Bool) (t : Term) → t ≡ literal c (relation h x y) → has (formulas_of q.sequent) t ≡ true → IsThere c
-  formula_there c t e m = inl (literal_atom q.shapes q.decls (formulas_of q.sequent) are h x y nx ny c t e (subterms-has (formulas_of q.sequent) t m) (are t m))
+  part_there : (c d : Bool) (t : Term) → t ≡ literal d (relation h x y) → has (subterms fs) t ≡ true → truth q.shapes q.decls t ≡ true → IsThere c
+  part_there c d t e m k = inl (literal_atom q.shapes q.decls fs are h x y nx ny d t e m k)
 
   question_there : (d c : Bool) (t : Term) → t ≡ literal d (relation h x y) → has (questions q) t ≡ true → IsThere c
-  question_there d c t e m = inl (question_literal q.shapes q.decls (formulas_of q.sequent) are h x y nx ny d t e m)
+  question_there d c t e m = inl (question_literal q.shapes q.decls fs are h x y nx ny d t e m)
 
-  order_there : (c : Bool) (s t : Term) → below s t ≡ literal c (relation h x y) → IsOrderAmong q cases (below s t) → IsThere c
-  order_there true s t e o = inr (refl, subst (IsOrderAmong q cases) e o)
-  order_there false s t e o = absurd (below_no_negation s t (relation h x y) e)
+  formula_there : (c d : Bool) (t : Term) → IsFormula q t → t ≡ literal d (relation h x y) → IsThere c
+  formula_there c d t (of_atoms m) e = inl (atom_literal q.shapes q.decls fs are h x y nx ny d t e m)
+  formula_there c d t (of_parts m k) e = part_there c d t e m k
 
-  case_there : (c : Bool) (t : Term) → IsCaseOfAtom q t → t ≡ literal c (relation h x y) → has cases t ≡ true → IsThere c
-  case_there c _ (itself t m) e k = inl (atom_literal q.shapes q.decls (formulas_of q.sequent) are h x y nx ny c t e m)
-  case_there c _ (its_negation t m) e k = inl (ap (has (atoms q)) (sym (negates c t h x y e)) ∙ m)
-  case_there c _ (its_lower s t m) e k = order_there c s t e (lower_case s t m k)
-  case_there c _ (its_upper s t m) e k = order_there c t s e (upper_case s t m k)
+  said_there : (c d : Bool) (t : Term) → IsFormula q t → literal d t ≡ literal c (relation h x y) → IsThere c
+  said_there c true t k e = formula_there c c t k e
+  said_there c false t k e = formula_there c true t k (negates c t h x y e)
+
+  order_there : (c : Bool) (t : Term) → IsOrderTold a b q t → t ≡ literal c (relation h x y) → IsThere c
+  order_there true t o e = inr (refl, subst (IsOrderTold a b q) e o)
+  order_there false _ (below_it s t m k) e = absurd (below_no_negation s t (relation h x y) e)
+  order_there false _ (above_it s t m k) e = absurd (below_no_negation t s (relation h x y) e)
+
+  more_there : (c : Bool) (t : Term) → IsFact a b q t → t ≡ literal c (relation h x y) → IsThere c
+  more_there c _ (said d t k) e = said_there c d t k e
+  more_there c _ (ordered t o) e = order_there c t o e
+
+  given_there : (c : Bool) (t : Term) → t ≡ literal c (relation h x y) → has fs t ≡ true → IsThere c
+  given_there c t e m = part_there c c t e (subterms-has fs t m) (are t m)
 
   goal_there : (c : Bool) (t : Term) → t ≡ negation q.sequent.goal → t ≡ literal c (relation h x y) → IsThere c
   goal_there c t n e =
       let is : q.sequent.goal ≡ relation h x y = negates c q.sequent.goal h x y (sym n ∙ e) in
-      let m : has (formulas_of q.sequent) q.sequent.goal ≡ true = has-last q.sequent.given q.sequent.goal in
-      inl (literal_atom q.shapes q.decls (formulas_of q.sequent) are h x y nx ny true q.sequent.goal is (subterms-has (formulas_of q.sequent) q.sequent.goal m) (are q.sequent.goal m))
+      let m : has fs q.sequent.goal ≡ true = has-last q.sequent.given q.sequent.goal in
+      part_there c true q.sequent.goal is (subterms-has fs q.sequent.goal m) (are q.sequent.goal m)
 
-  fact_there : (c : Bool) (t : Term) → t ≡ literal c (relation h x y) → has (facts q cases) t ≡ true → IsThere c
+  fact_there : (c : Bool) (t : Term) → t ≡ literal c (relation h x y) → has (facts q more) t ≡ true → IsThere c
   fact_there c t e m =
-      has-parts q.sequent.given (negation q.sequent.goal ∷ cases) t m (λ k. formula_there c t e (has-left q.sequent.given (q.sequent.goal ∷ []) t k))
-      (λ k. or_cases (term_eq t (negation q.sequent.goal)) (has cases t) k (λ f. goal_there c t (term_eq-true t (negation q.sequent.goal) f) e) (λ f. case_there c t (cases_are.each t f) e f))
+      has-parts q.sequent.given (negation q.sequent.goal ∷ more) t m (λ k. given_there c t e (has-left q.sequent.given (q.sequent.goal ∷ []) t k))
+      (λ k. or_cases (term_eq t (negation q.sequent.goal)) (has more t) k (λ f. goal_there c t (term_eq-true t (negation q.sequent.goal) f) e) (λ f. more_there c t (facts_are.each t f) e))
 
-  known_there : (c : Bool) (t : Term) → Known q (facts q cases) t → t ≡ literal c (relation h x y) → IsThere c
+  known_there : (c : Bool) (t : Term) → Known q (facts q more) t → t ≡ literal c (relation h x y) → IsThere c
   known_there c _ (given t m) e = fact_there c t e m
   known_there c _ (affirmed t cited m all k) e = question_there c c t e m
   known_there c _ (denied t cited m all k) e = question_there true c t (negates c t h x y e) m
   known_there c _ (lower s t m k) e = question_there true c (equation s t) (negates c (equation s t) h x y e) m
   known_there c _ (upper s t m k) e = question_there true c (equation s t) (negates c (equation s t) h x y e) m
 
-pub relations_are_atoms : (q : Question) (cases : List Term) → AreFormulas q.shapes q.decls (formulas_of q.sequent) → AreCasesOfAtoms q cases → (h : Head) (x y : Term) (c : Bool) → is_number q.shapes q.decls x ≡ true → is_number q.shapes q.decls y ≡ true
-    → Known q (facts q cases) (literal c (relation h x y)) → (is_among (atoms q) (relation h x y) ≡ true) ⊎ ((c ≡ true) × IsOrderAmong q cases (relation h x y))
-relations_are_atoms q cases are cases_are h x y c nx ny k = known_there q cases are cases_are h x y nx ny c (literal c (relation h x y)) k refl
-
-pub relations_are_told : (a : Arena) (c : Condition) (b : Both) (cases : List Term) → AreFormulas a.shapes a.decls (formulas_of (question a c).sequent) → AreCasesOfAtoms (question a c) cases → AreOrdersTold a b (question a c) cases
-    → AreRelated a b (question a c) (facts (question a c) cases)
-relations_are_told a c b cases are cases_are told = record {
-  each = λ h x y d nx ny k.
-      elim (relations_are_atoms (question a c) cases are cases_are h x y d nx ny k) [
-        | inl m ↦ inl m
-        | inr o ↦ elim (told.each (relation h x y) o.1) [ inl m ↦ inl m | inr t ↦ inr (o.0, t) ]
-      ];
-}
+pub relations_are_told : (a : Arena) (c : Condition) (b : Both) (fs : List Term) → AreFormulas a.shapes a.decls (formulas_of (question a c).sequent) → AreFacts a b (question a c) fs → AreRelated a b (question a c) (facts (question a c) fs)
+relations_are_told a c b fs are facts_are = record { each = λ h x y d nx ny k. known_there a b (question a c) fs are facts_are h x y nx ny d (literal d (relation h x y)) k refl }

@@ -1,11 +1,10 @@
 // What a search's invariant gives, each law the contract of a function that does nothing.
 
-ghost use Rattle.spv_search_facts.specs.Laws.{KnownRelationsAreAtoms, KnownRelationsAreTold, SplitsAreOfAtoms, SubtermsOfAtomsAreAdded, ToldCasesAreOfAtoms, ToldCasesAreOrders};
+ghost use Rattle.spv_search_facts.specs.Laws.{FewerAreLive, KnownRelationsAreTold, SubtermsOfAtomsAreAdded};
 
-/// On a path whose cases are cases of atoms, each relation of whole numbers that is known, or whose negation is, is an atom, or one
-/// of the orders among the cases. So where these orders were told, each is an atom or an order that was told.
+/// On a path to which nothing else came than that formulas of the search are true or false, and orders that were told of equations, each
+/// relation of whole numbers that is known, or whose negation is, is an atom or an order that was told.
 pub fn law_known_relations()
-    ensures atoms { KnownRelationsAreAtoms }
     ensures told { KnownRelationsAreTold }
 {}
 
@@ -14,10 +13,7 @@ pub fn law_added_parts()
     ensures added { SubtermsOfAtomsAreAdded }
 {}
 
-/// The ways in which a proof splits on an atom are cases of it. Cases that were told of atoms are such ones, and each order among them
-/// is an atom, or was told as an order of an equation.
-pub fn law_cases()
-    ensures splits { SplitsAreOfAtoms }
-    ensures told { ToldCasesAreOfAtoms }
-    ensures orders { ToldCasesAreOrders }
+/// What shows a path live shows one live that has no other facts.
+pub fn law_fewer_facts()
+    ensures live { FewerAreLive }
 {}
