@@ -143,14 +143,22 @@ module _ (shapes : List Shape) (decls : List Decl) where
     atom_literal false t e m =
         absurd (false≢true (right_true (truth (negation (relation h x y))) false (ap (is_atom truth) (sym e) ∙ atoms-are shapes decls fs are t m)))
 
-    -- a question that is a literal of a relation: an atom, or an argument of sort Bool
-    question_literal : (c : Bool) (t : Term) → t ≡ literal c (relation h x y) → has (search.questions shapes decls fs) t ≡ true → has (search.atoms shapes decls fs) (relation h x y) ≡ true
-    question_literal c t e m =
-        with_terms-parts (search.atoms shapes decls fs) (passing is_open (truth_arguments truth (subterms fs))) t m (atom_literal c t e)
-        (λ k. let p = passing-parts is_open (truth_arguments truth (subterms fs)) t k in
-        let r = passing-parts truth (flat_map arguments (passing (is_plain truth) (subterms fs))) t p.among in
-        let o = argument_of (passing (is_plain truth) (subterms fs)) t r.among in
-        literal_atom c t e (part-arguments shapes decls fs are o.origin t (passing-parts (is_plain truth) (subterms fs) o.origin o.among).among o.there) r.passes)
+-- ---- formulas of a search
+
+-- a question is an atom, or an argument of sort Bool
+pub question_formula : (q : Question) → AreFormulas q.shapes q.decls (formulas_of q.sequent) → (t : Term) → is_among (questions q) t ≡ true → IsFormula q t
+question_formula q are t m =
+    with_terms-parts (atoms q) (passing is_open (truth_arguments (truth q.shapes q.decls) (subterms (formulas_of q.sequent)))) t m of_atoms
+    (λ k. let p = passing-parts is_open (truth_arguments (truth q.shapes q.decls) (subterms (formulas_of q.sequent))) t k in
+    let r = passing-parts (truth q.shapes q.decls) (flat_map arguments (passing (is_plain (truth q.shapes q.decls)) (subterms (formulas_of q.sequent)))) t p.among in
+    let o = argument_of (passing (is_plain (truth q.shapes q.decls)) (subterms (formulas_of q.sequent))) t r.among in
+    of_parts (part-arguments q.shapes q.decls (formulas_of q.sequent) are o.origin t (passing-parts (is_plain (truth q.shapes q.decls)) (subterms (formulas_of q.sequent)) o.origin o.among).among o.there) r.passes)
+
+-- one that is a literal of a relation of whole numbers: the relation is an atom
+pub formula_atom : (q : Question) → AreFormulas q.shapes q.decls (formulas_of q.sequent) → (h : Head) (x y : Term) → is_number q.shapes q.decls x ≡ true → is_number q.shapes q.decls y ≡ true
+    → (c : Bool) (t : Term) → IsFormula q t → t ≡ literal c (relation h x y) → is_among (atoms q) (relation h x y) ≡ true
+formula_atom q are h x y nx ny c t (of_atoms m) e = atom_literal q.shapes q.decls (formulas_of q.sequent) are h x y nx ny c t e m
+formula_atom q are h x y nx ny c t (of_parts m k) e = literal_atom q.shapes q.decls (formulas_of q.sequent) are h x y nx ny c t e m k
 
 -- ---- what is known
 
@@ -163,15 +171,14 @@ module _ (a : Arena) (b : Both) (q : Question) (more : List Term) (are : AreForm
   abbrev IsThere : Bool → Type 0
   IsThere c = (is_among (atoms q) (relation h x y) ≡ true) ⊎ ((c ≡ true) × IsOrderTold a b q (relation h x y))
 
+  formula_there : (c d : Bool) (t : Term) → IsFormula q t → t ≡ literal d (relation h x y) → IsThere c
+  formula_there c d t k e = inl (formula_atom q are h x y nx ny d t k e)
+
   part_there : (c d : Bool) (t : Term) → t ≡ literal d (relation h x y) → has (subterms fs) t ≡ true → truth q.shapes q.decls t ≡ true → IsThere c
-  part_there c d t e m k = inl (literal_atom q.shapes q.decls fs are h x y nx ny d t e m k)
+  part_there c d t e m k = formula_there c d t (of_parts m k) e
 
   question_there : (d c : Bool) (t : Term) → t ≡ literal d (relation h x y) → has (questions q) t ≡ true → IsThere c
-  question_there d c t e m = inl (question_literal q.shapes q.decls fs are h x y nx ny d t e m)
-
-  formula_there : (c d : Bool) (t : Term) → IsFormula q t → t ≡ literal d (relation h x y) → IsThere c
-  formula_there c d t (of_atoms m) e = inl (atom_literal q.shapes q.decls fs are h x y nx ny d t e m)
-  formula_there c d t (of_parts m k) e = part_there c d t e m k
+  question_there d c t e m = formula_there c d t (question_formula q are t m) e
 
   said_there : (c d : Bool) (t : Term) → IsFormula q t → literal d t ≡ literal c (relation h x y) → IsThere c
   said_there c true t k e = formula_there c c t k e
