@@ -1,2 +1,3 @@
 pub mod Saying
 pub mod Resting
+pub mod Growing
