@@ -20,7 +20,7 @@ use Rattle.spv_course.specs.Course as course
 use Rattle.spv_course.proofs.Growth.{numbered-push, numbered-more}
 use Rattle.spv_paths.specs.Paths.{fact_in, facts_from, facts_in, IsPath, IsGrown}
 use Rattle.spv_paths.proofs.Following.{case_behind, step_behind}
-use Rattle.spv_told_paths.specs.Steps.{IsDerived, HasNumber}
+use Rattle.spv_told_steps.specs.Steps.{IsDerived, HasNumber}
 
 -- ---- numbers
 

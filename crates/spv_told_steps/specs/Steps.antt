@@ -1,16 +1,9 @@
 -- Facts that come to a path.
-use Rattle.std.specs.Prelude.{◌≡◌, ℕ, Bool, true, false, List, [], ◌∷◌, ◌++◌, Some}
+use Rattle.std.specs.Prelude.{◌≡◌, ℕ, List, [], ◌∷◌, ◌++◌, Some}
 use Rattle.spv_logic.specs.Terms.{Term}
 use Rattle.spv_proof.specs.Effects.{Question, numbered}
-use Rattle.spv_course.specs.declared.entries.Part.{Part}
-use Rattle.spv_course.specs.declared.entries.Part.TheVariants.{True, False}
 use Rattle.spv_course.specs.declared.entries.Entry.{Entry}
 use Rattle.spv_paths.specs.Paths.{facts_in, IsPath, IsGrown}
-
--- the part that a truth is
-abbrev pub part_of : Bool → Part
-part_of true = True
-part_of false = False
 
 -- a path goes on by this fact, which has this number
 pub record IsDerived (q : Question) (cases : List Term) (old new : List Entry) (n : ℕ) (f : Term) : Type 0 where
