@@ -99,7 +99,7 @@ fn compares(terms: &Terms, k: Known, s: TermId, t: TermId) -> bool
     requires t { t.0 < length terms.now.nodes }
     ensures { result
         ≡ (term_eq (below (tree terms.now s) (tree terms.now t)) (fact_of terms.now k)
-            || term_eq (below (tree terms.now t) (tree terms.now s)) (fact_of terms.now k)) }
+        || term_eq (below (tree terms.now t) (tree terms.now s)) (fact_of terms.now k)) }
 {
     puts_below(terms, k, s, t) || puts_below(terms, k, t, s)
 }
