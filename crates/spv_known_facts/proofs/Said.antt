@@ -30,8 +30,8 @@ lower_is : (t : Term) (st : Term × Term) → lower t ≡ Some st → t ≡ belo
 lower_is (term Lt (terms s (terms u no_terms))) st e = ap (λ (p : Term × Term). below p.0 p.1) (same_Some (two s u) st e)
 lower_is _ st e = absurd cc
 
-pub affirms_order : (t f l r : Term) (b : Bool) → Some (l, r) ≡ lower t → b ≡ term_eq (below l r) f → b ≡ term_eq t f
-affirms_order t f l r b e g = g ∙ ap (λ x. term_eq x f) (sym (lower_is t (two l r) (sym e)))
+pub affirms_order : (t l r f : Term) (b : Bool) → Some (l, r) ≡ lower t → b ≡ term_eq (below l r) f → b ≡ term_eq t f
+affirms_order t l r f b e g = g ∙ ap (λ x. term_eq x f) (sym (lower_is t (two l r) (sym e)))
 
 -- an order says of no other term that it is true
 pub order_names_none : (t f : Term) (st : Term × Term) → lower t ≡ None → Some st ≡ lower f → false ≡ term_eq t f
