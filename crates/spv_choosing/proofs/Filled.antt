@@ -1,10 +1,9 @@
 -- Where nothing is left to split on, each question has a truth, and each equation of whole numbers that is false has an order.
-use Rattle.std.proofs.Common.{◌≡◌, ◌≢◌, ◌⊎◌, inl, inr, ℕ, suc, Bool, true, false, ◌&&◌, ◌||◌, not, nat_eq, List, [], ◌∷◌, length, map, slice_get, refl, sym, ap, ◌∙◌, subst, Option, Some, None}
+use Rattle.std.proofs.Common.{◌≡◌, ◌⊎◌, inl, inr, ℕ, suc, Bool, true, false, ◌&&◌, ◌||◌, not, List, [], ◌∷◌, length, map, slice_get, refl, sym, ap, ◌∙◌, subst, Option, Some, None}
 use Rattle.std.specs.Prelude.{is_some}
 use Rattle.std.specs.Cmp.Derive.{both_true}
 use Rattle.std.proofs.lemmas.Bool.{false≢true}
-use Rattle.std.proofs.lemmas.Bool.Decides.{eqb_tells}
-use Rattle.spv_list.proofs.Tests.{left_true, right_true}
+use Rattle.spv_list.proofs.Tests.{left_true}
 use Rattle.spv_logic.specs.declared.conditions.TermId.{TermId}
 use Rattle.spv_logic.specs.declared.types.Sort.{Sort}
 use Rattle.spv_logic.specs.declared.types.Sort.TheVariants as sort
@@ -21,13 +20,11 @@ use Rattle.spv_term.specs.Arena.{Arena, AllBelow, tree}
 use Rattle.spv_term.proofs.TreeLemmas.{AllBelow-at}
 use Rattle.spv_atoms.specs.Atoms as sorts
 use Rattle.spv_atoms.specs.Atoms.{has_sort, is_atom}
-use Rattle.spv_atoms.specs.Order.{passing, same_id}
+use Rattle.spv_atoms.specs.Order.{passing}
 use Rattle.spv_atoms.proofs.Members.{has, has-with_terms}
 use Rattle.spv_proof.specs.Evaluation.{sides}
 use Rattle.spv_proof.specs.Effects.{Question, is_truth, is_number}
-use Rattle.spv_course.specs.declared.entries.Part.{Part}
-use Rattle.spv_course.specs.declared.entries.Part.TheVariants.{True, False, Below, Above}
-use Rattle.spv_course.specs.Course.{literal, are_numbers, asked}
+use Rattle.spv_course.specs.Course.{are_numbers, asked}
 use Rattle.spv_leaf_tables.specs.Subterms.{subterms, truth_arguments}
 use Rattle.spv_leaf_tables.specs.Atoms.{is_open}
 use Rattle.spv_leaf_tables.specs.Laws.{AreFormulas}
@@ -39,11 +36,15 @@ use Rattle.spv_split_trees.specs.Paths.{atoms, questions}
 use Rattle.spv_split_trees.specs.Shown.{IsFinished}
 use Rattle.spv_truths.specs.Passes.{at}
 use Rattle.spv_known.specs.declared.facts.Known.{Known}
-use Rattle.spv_choosing.specs.Choosing.{is_order, orders, has_order, is_comparison, is_false, HaveValues, HaveOrders}
+use Rattle.spv_known.specs.Facts.{fact_of}
+use Rattle.spv_known_facts.specs.Orders.{crosses, orders, has_order}
+use Rattle.spv_known_facts.proofs.Among.{passing_item}
+use Rattle.spv_known_facts.proofs.Ordered.{order_is}
+use Rattle.spv_choosing.specs.Choosing.{is_comparison, is_false, HaveValues, HaveOrders}
 use Rattle.spv_choosing.specs.Laws.{IsFilledBy, GivesValues, AreKnownOn, ListsValues, NothingLeftIsFilled}
 use Rattle.spv_choosing.proofs.Questions.{questions-filled}
 
--- ---- ids and facts that are among others
+-- ---- ids that are among others
 
 -- an id among these whose tree is a term
 record StandsFor (a : Arena) (ids : List TermId) (t : Term) : Type 0 where
@@ -61,31 +62,6 @@ stands_for a (u ∷ ids) t e = by_case (term_eq t (tree a u)) refl (λ h. stands
     by_case false h later =
         let found = later (sym (ap (λ b. b || has (map (tree a) ids) t) h) ∙ e) in
         record { place = suc found.place; id = found.id; here = found.here; is = found.is }
-
--- a fact that is an order of the sides of a term
-record IsOrdered (known : List Known) (t : TermId) : Type 0 where
-  place : ℕ
-  fact : Known
-  here : slice_get known place ≡ Some fact
-  term_is : fact.term ≡ t
-  order : is_order fact.part ≡ true
-
-same_ids : (s t : TermId) → same_id s t ≡ true → s ≡ t
-same_ids s t h = by_case (eqb_tells s.0 t.0)
-  where
-    by_case : ((nat_eq s.0 t.0 ≡ true) × (s.0 ≡ t.0)) ⊎ ((nat_eq s.0 t.0 ≡ false) × (s.0 ≢ t.0)) → s ≡ t
-    by_case (inl same) = let e : s.0 ≡ t.0 = same.1 in let number : ℕ → TermId = λ n. record { 0 = n } in ap number e
-    by_case (inr other) = absurd (false≢true (sym other.0 ∙ h))
-
-order_found : (known : List Known) (t : TermId) → has_order known t ≡ true → IsOrdered known t
-order_found [] t e = absurd (false≢true e)
-order_found (k ∷ known) t e = by_case (orders t k) refl (λ h. order_found known t h)
-  where
-    by_case : (b : Bool) → orders t k ≡ b → (has_order known t ≡ true → IsOrdered known t) → IsOrdered (k ∷ known) t
-    by_case true h later = record { place = 0; fact = k; here = refl; term_is = same_ids k.term t (left_true (same_id k.term t) (is_order k.part) h); order = right_true (same_id k.term t) (is_order k.part) h }
-    by_case false h later =
-        let found = later (sym (ap (λ b. b || has_order known t) h) ∙ e) in
-        record { place = suc found.place; fact = found.fact; here = found.here; term_is = found.term_is; order = found.order }
 
 -- ---- the sorts of an equation
 
@@ -108,12 +84,10 @@ not_false true true false e f h = sym h
 not_false false c d e f h = absurd (false≢true e)
 not_false true false d e f h = absurd (false≢true f)
 
--- what an order says of an equation
-order_says : (q : Question) (fs : List Term) (s t x : Term) (p : Part) → x ≡ equation s t → is_order p ≡ true → paths.Known q fs (literal x p) → paths.Known q fs (below s t) ⊎ paths.Known q fs (below t s)
-order_says q fs s t x True e h k = absurd (false≢true h)
-order_says q fs s t x False e h k = absurd (false≢true h)
-order_says q fs s t x Below e h k = inl (subst (λ y. paths.Known q fs (literal y Below)) e k)
-order_says q fs s t x Above e h k = inr (subst (λ y. paths.Known q fs (literal y Above)) e k)
+-- an order of the sides of an equation puts one of them below the other
+order_says : (q : Question) (fs : List Term) (s t f : Term) → (f ≡ below s t) ⊎ (f ≡ below t s) → paths.Known q fs f → paths.Known q fs (below s t) ⊎ paths.Known q fs (below t s)
+order_says q fs s t f (inl e) k = inl (subst (λ x. paths.Known q fs x) e k)
+order_says q fs s t f (inr e) k = inr (subst (λ x. paths.Known q fs x) e k)
 
 module _ (a : Arena) (c : Sequent) (are : AreFormulas a.shapes a.decls (formulas_of c)) (ids : List TermId) (are_atoms : map (tree a) ids ≡ atoms (asked a c)) (inside : AllBelow (length a.nodes) ids)
     (value : Term → Option Bool) (values : List (Option Bool)) (lists : ListsValues a values value) (known : List Known) (have_values : HaveValues values ids) (have_orders : HaveOrders a values known ids)
@@ -143,8 +117,10 @@ module _ (a : Arena) (c : Sequent) (are : AreFormulas a.shapes a.decls (formulas
       let i = atom_id (equation s t) m in
       let wrong : is_false (at values i.id.0) ≡ true = ap is_false (listed_value (equation s t) i ∙ e) in
       let compared : is_comparison a i.id ≡ true = ap (λ x. are_numbers (sorts.is_number a.shapes a.decls) (sides x)) i.is ∙ both_true h number in
-      let o = order_found known i.id (not_false (is_false (at values i.id.0)) (is_comparison a i.id) (has_order known i.id) wrong compared (have_orders.each i.place i.id i.here)) in
-      order_says (asked a c) fs s t (tree a o.fact.term) o.fact.part (ap (tree a) o.term_is ∙ i.is) o.order (are_known o.place o.fact o.here)
+      let ordered_by : has_order a known i.id ≡ true = not_false (is_false (at values i.id.0)) (is_comparison a i.id) (has_order a known i.id) wrong compared (have_orders.each i.place i.id i.here) in
+      let o = passing_item (orders a i.id) known ordered_by in
+      let crossed : crosses (equation s t) (fact_of a o.item) ≡ true = ap (λ x. crosses x (fact_of a o.item)) (sym i.is) ∙ o.passes in
+      order_says (asked a c) fs s t (fact_of a o.item) (order_is (equation s t) (fact_of a o.item) s t refl crossed) (are_known o.place o.item o.here)
 
   is_filled : (given : Term → Option Bool) → GivesValues (asked a c) value given → IsFilledBy (asked a c) fs given
   is_filled given gives = record {

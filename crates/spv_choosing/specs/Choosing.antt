@@ -1,35 +1,17 @@
 -- Which atom a search splits on next.
 use Rattle.std.specs.Prelude.{◌≡◌, ◌⊎◌, ℕ, Bool, true, false, ◌&&◌, not, List, Option, Some, None, is_some, slice_get}
-use Rattle.std.specs.List.{list_any}
 use Rattle.spv_logic.specs.declared.conditions.TermId.{TermId}
 use Rattle.spv_term.specs.Arena.{Arena, tree}
 use Rattle.spv_atoms.specs.Atoms.{is_number}
-use Rattle.spv_atoms.specs.Order.{same_id}
 use Rattle.spv_proof.specs.Evaluation.{sides}
-use Rattle.spv_course.specs.declared.entries.Part.{Part}
-use Rattle.spv_course.specs.declared.entries.Part.TheVariants.{True, False, Below, Above}
 use Rattle.spv_course.specs.Course.{are_numbers}
 use Rattle.spv_truths.specs.Passes.{at, StandsAt}
 use Rattle.spv_known.specs.declared.facts.Known.{Known}
+use Rattle.spv_known_facts.specs.Orders.{has_order}
 use Rattle.spv_choosing.specs.declared.choosing.Choice.{Choice}
 use Rattle.spv_choosing.specs.declared.choosing.Choice.TheVariants.{Split, Full}
 
 -- ---- orders
-
--- whether what is told of an equation is an order of its sides
-abbrev pub is_order : Part → Bool
-is_order True = false
-is_order False = false
-is_order Below = true
-is_order Above = true
-
--- whether a fact is an order of the sides of a term
-abbrev pub orders : TermId → Known → Bool
-orders t k = same_id k.term t && is_order k.part
-
--- whether one of the facts is
-abbrev pub has_order : List Known → TermId → Bool
-has_order known t = list_any (orders t) known
 
 -- whether a term is an equation of two numbers
 abbrev pub is_comparison : Arena → TermId → Bool
@@ -41,7 +23,7 @@ is_false _ = false
 
 -- whether a term is an equation of two numbers that is false, and no fact is an order of its sides
 abbrev pub lacks_order : Arena → List (Option Bool) → List Known → TermId → Bool
-lacks_order a values known t = is_false (at values t.0) && (is_comparison a t && not (has_order known t))
+lacks_order a values known t = is_false (at values t.0) && (is_comparison a t && not (has_order a known t))
 
 -- ---- the choice
 

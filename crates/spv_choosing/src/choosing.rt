@@ -3,12 +3,14 @@
 ghost use Rattle.std.specs.Prelude.{◌≡◌, ◌<◌, true, None, length, IfSome, IfNone};
 ghost use Rattle.spv_term.specs.Arena.{AllBelow};
 ghost use Rattle.spv_truths.specs.Passes.{at, StandsAt};
+ghost use Rattle.spv_known_facts.specs.Facts.{AreThere};
+ghost use Rattle.spv_known_facts.specs.Orders.{has_order};
 ghost use Rattle.spv_choosing.specs.Choosing as spec;
 ghost use Rattle.spv_choosing.specs.Choosing.{HaveOrders, HaveValues, IsChoice};
 
 use spv_chains::is_number;
-use spv_course::Part;
 use spv_known::Known;
+use spv_known_facts::find_order;
 use spv_proof_steps::sides;
 use spv_term::{TermId, Terms};
 use spv_truths::value_at;
@@ -22,28 +24,16 @@ pub enum Choice {
     Full,
 }
 
-// Whether what is told of an equation is an order of its sides.
-fn is_order(part: Part) -> bool
-    ensures { result ≡ spec.is_order part }
+// Whether a fact is known that is an order of the sides of a term.
+fn is_ordered(terms: &Terms, known: &[Known], t: TermId) -> bool
+    requires known { AreThere terms.now known.now }
+    requires t { t.0 < length terms.now.nodes }
+    ensures { result ≡ has_order terms.now known.now t }
 {
-    match part {
-        Part::True | Part::False => false,
-        Part::Below | Part::Above => true,
+    match find_order(terms, known, t) {
+        Some(_) => true,
+        None => false,
     }
-}
-
-// Whether a fact is an order of the sides of a term.
-fn orders(t: TermId, k: Known) -> bool
-    ensures { result ≡ spec.orders t k }
-{
-    k.term.0 == t.0 && is_order(k.part)
-}
-
-// Whether one of the facts is an order of the sides of a term.
-fn has_order(known: &[Known], t: TermId) -> bool
-    ensures { result ≡ spec.has_order known.now t }
-{
-    known.iter().any(|k| orders(t, *k))
 }
 
 // Whether a term is an equation of two numbers.
@@ -69,10 +59,11 @@ fn is_false(values: &[Option<bool>], t: TermId) -> bool
 
 // Whether a term is an equation of two numbers that is false, and no fact is an order of its sides.
 fn lacks_order(terms: &Terms, values: &[Option<bool>], known: &[Known], t: TermId) -> bool
-    requires { t.0 < length terms.now.nodes }
+    requires known { AreThere terms.now known.now }
+    requires t { t.0 < length terms.now.nodes }
     ensures { result ≡ spec.lacks_order terms.now values.now known.now t }
 {
-    is_false(values, t) && is_comparison(terms, t) && !has_order(known, t)
+    is_false(values, t) && is_comparison(terms, t) && !is_ordered(terms, known, t)
 }
 
 // The first of these atoms that has no value.
@@ -95,7 +86,8 @@ fn without_order(
     values: &[Option<bool>],
     known: &[Known],
 ) -> Option<TermId>
-    requires { AllBelow (length terms.now.nodes) atoms.now }
+    requires atoms { AllBelow (length terms.now.nodes) atoms.now }
+    requires known { AreThere terms.now known.now }
     ensures found { IfSome result (λ t. StandsAt atoms.now t × (spec.lacks_order terms.now values.now known.now t ≡ true)) }
     ensures none { IfNone result (HaveOrders terms.now values.now known.now atoms.now) }
 {
@@ -110,6 +102,7 @@ fn without_order(
 /// An atom without a value, else an equation of whole numbers that is false and of whose sides no order is known; or there is none.
 pub fn choose(terms: &Terms, atoms: &[TermId], values: &[Option<bool>], known: &[Known]) -> Choice
     requires atoms { AllBelow (length terms.now.nodes) atoms.now }
+    requires known { AreThere terms.now known.now }
     ensures choice { IsChoice terms.now atoms.now values.now known.now result }
 {
     if let Some(t) = without_value(atoms, values) {

@@ -1,0 +1,21 @@
+-- Facts that are orders of the sides of an equation.
+use Rattle.std.specs.Prelude.{Bool, List, [], ◌∷◌, is_some}
+use Rattle.std.specs.List.{list_any}
+use Rattle.spv_logic.specs.declared.conditions.TermId.{TermId}
+use Rattle.spv_logic.specs.Terms.{Term}
+use Rattle.spv_term.specs.Arena.{Arena, tree}
+use Rattle.spv_proof.specs.Evaluation.{sides, apart}
+use Rattle.spv_known.specs.declared.facts.Known.{Known}
+use Rattle.spv_known.specs.Facts.{fact_of}
+
+-- whether a formula is an order of the sides of an equation
+abbrev pub crosses : Term → Term → Bool
+crosses e o = is_some (apart (o ∷ []) (sides e))
+
+-- whether a fact is an order of the sides of a term
+abbrev pub orders : Arena → TermId → Known → Bool
+orders a t k = crosses (tree a t) (fact_of a k)
+
+-- whether one of these facts is
+abbrev pub has_order : Arena → List Known → TermId → Bool
+has_order a known t = list_any (orders a t) known
