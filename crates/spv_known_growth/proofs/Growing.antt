@@ -1,5 +1,5 @@
 -- Facts with a further one.
-use Rattle.std.proofs.Common.{◌≡◌, Bool, true, false, List, [], ◌∷◌, ◌++◌, refl, sym, ap, ◌∙◌, Option, None, inl, inr, ◌⊎◌}
+use Rattle.std.proofs.Common.{◌≡◌, true, false, List, sym, ap, ◌∙◌, None, inl, inr, ◌⊎◌}
 use Rattle.std.proofs.lemmas.Bool.{false≢true}
 use Rattle.spv_logic.specs.Terms.{Term, term_eq}
 use Rattle.spv_logic.specs.Formulas.{negation, equation, below}
@@ -9,7 +9,7 @@ use Rattle.spv_atoms.specs.Tables.{numeral_relation}
 use Rattle.spv_atoms.specs.Atoms.{is_number}
 use Rattle.spv_proof.specs.Sums.{negated}
 use Rattle.spv_proof.specs.Evaluation.{sides, cites, bare}
-use Rattle.spv_known.specs.Values.{AreLiterals, AreUncrossed, AreOver, IsIn, IsCase}
+use Rattle.spv_known.specs.Values.{IsIn, IsCase}
 use Rattle.spv_known.proofs.Told.{not_itself}
 use Rattle.spv_known_growth.specs.Laws.{LiteralsGrow, UncrossedGrow, OverGrows}
 use Rattle.spv_known_growth.proofs.Citing.{cited_last}
