@@ -152,7 +152,7 @@ module _ (u : Term) (core : negated u ≡ None) where
       denied true = refl
       denied false = refl
 
-      literal_follows : evaluates is_truth (denials (suc (suc j)) u ∷ []) (literal (is_even j) u) ≡ true
+      pub literal_follows : evaluates is_truth (denials (suc (suc j)) u ∷ []) (literal (is_even j) u) ≡ true
       literal_follows =
           or_right (clashes is_truth from_term (bare (literal (is_even j) u))) (clashes is_truth from_term (denials (suc j) u) || false)
           (or_left (clashes is_truth from_term (denials (suc j) u)) false
@@ -205,7 +205,7 @@ module _ (u : Term) (core : negated u ≡ None) where
       affirmed true = refl
       affirmed false = refl
 
-      term_follows : evaluates is_truth (literal (is_even j) u ∷ []) (denials (suc (suc j)) u) ≡ true
+      pub term_follows : evaluates is_truth (literal (is_even j) u ∷ []) (denials (suc (suc j)) u) ≡ true
       term_follows =
           or_left (clashes is_truth from_literal (denials (suc j) u)) (clashes is_truth from_literal (bare (literal (is_even j) u)) || false)
           (clash_at is_truth from_literal (value_of true (is_even j)) from_literal_core j true from_literal_fits from_literal_bare (ap (turned j) (affirmed (is_even j)) ∙ turned_even j))

@@ -1,3 +1,4 @@
 pub mod Parities
 pub mod Denials
 pub mod Turns
+pub mod Standings

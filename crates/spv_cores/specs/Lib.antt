@@ -1,2 +1,3 @@
 pub mod Cores
+pub mod Standings
 pub mod Laws

@@ -3,6 +3,8 @@
 
 mod laws;
 mod negations;
+mod saying;
 
 pub use laws::law_cores;
-pub use negations::core;
+pub use negations::{core, standing};
+pub use saying::Standing;
