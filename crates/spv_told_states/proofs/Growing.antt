@@ -45,7 +45,8 @@ use Rattle.spv_known.specs.Values.{IsIn, IsCase, AreUncrossed}
 use Rattle.spv_known.specs.Following.{IsKnowledge}
 use Rattle.spv_known.proofs.Told.{facts_are_true}
 use Rattle.spv_known.proofs.Clashing.{bare_literal}
-use Rattle.spv_known_facts.specs.Facts.{clash, crosses}
+use Rattle.spv_known_facts.specs.Orders.{crosses}
+use Rattle.spv_known_facts.specs.Clashes.{clash}
 use Rattle.spv_known_growth.proofs.Growing.{literals_grow, uncrossed_grow, over_grows}
 use Rattle.spv_known_growth.proofs.Valued.{values_grow}
 use Rattle.spv_search_facts.specs.Facts.{IsFormula, of_atoms, of_parts}

@@ -12,7 +12,7 @@ ghost use Rattle.spv_readings.specs.Sayings.{literal};
 ghost use Rattle.spv_course.specs.Derived.{IsFalseTerm};
 ghost use Rattle.spv_paths.specs.Paths.{facts_in, IsPath};
 ghost use Rattle.spv_known.specs.Facts.{AreNumbered, fact_of, facts_of};
-ghost use Rattle.spv_known_facts.specs.Facts.{orders};
+ghost use Rattle.spv_known_facts.specs.Orders.{orders};
 ghost use Rattle.spv_told_steps.specs.Steps.{HasNumber, IsDerived};
 
 use crate::deriving::derive;
