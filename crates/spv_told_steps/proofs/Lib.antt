@@ -1,2 +1,1 @@
-pub mod Deriving
-pub mod Denying
+pub mod Numbers

@@ -1,8 +1,8 @@
 //! Steps that add facts to a path of a search, and the numbers of these facts.
 #![tactic(auto)]
 
-mod deriving;
+mod adding;
 mod evaluating;
 
-pub use deriving::{derive, give, tell};
-pub use evaluating::{deny, evaluate, evaluate_all};
+pub use adding::{derive, give, tell};
+pub use evaluating::{evaluate, evaluate_all};

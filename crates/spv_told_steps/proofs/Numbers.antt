@@ -1,13 +1,13 @@
 -- What steps add to a path.
-use Rattle.std.proofs.Common.{◌≡◌, ℕ, zero, suc, ◌+◌, Bool, true, false, ◌&&◌, ◌||◌, List, [], ◌∷◌, ◌++◌, length, refl, sym, ap, ◌∙◌, subst, Option, Some, None, cond, arith}
+use Rattle.std.proofs.Common.{◌≡◌, ℕ, ◌+◌, Bool, true, false, ◌&&◌, List, [], ◌∷◌, ◌++◌, length, sym, ap, ◌∙◌, subst, Some, None, cond, arith}
 use mathlib.Core.Path.{ap₂}
 use mathlib.Core.List.{append_assoc}
 use Rattle.std.proofs.lemmas.List.{length_push}
 use Rattle.spv_logic.specs.declared.conditions.TermId.{TermId}
-use Rattle.spv_logic.specs.Terms.{Term, term_eq}
+use Rattle.spv_logic.specs.Terms.{Term}
 use Rattle.spv_logic.specs.Formulas.{negation, equation}
 use Rattle.spv_atoms.specs.declared.proofs.Step.{Step}
-use Rattle.spv_atoms.specs.declared.proofs.Step.TheVariants.{Given, Eval}
+use Rattle.spv_atoms.specs.declared.proofs.Step.TheVariants.{Eval}
 use Rattle.spv_atoms.specs.declared.proofs.Stated.{Stated}
 use Rattle.spv_atoms.specs.declared.proofs.Stated.TheVariants.{Is, Same}
 use Rattle.spv_proof.specs.Evaluation.{evaluates}
@@ -18,7 +18,7 @@ use Rattle.spv_course.specs.declared.entries.Entry.{Entry}
 use Rattle.spv_course.specs.declared.entries.Entry.TheVariants.{Told, Derived}
 use Rattle.spv_course.specs.Course as course
 use Rattle.spv_course.proofs.Growth.{numbered-push, numbered-more}
-use Rattle.spv_paths.specs.Paths.{fact_in, facts_from, facts_in, IsPath, IsGrown}
+use Rattle.spv_paths.specs.Paths.{fact_in, facts_from, facts_in, IsPath}
 use Rattle.spv_paths.proofs.Following.{case_behind, step_behind}
 use Rattle.spv_told_steps.specs.Steps.{IsDerived, HasNumber}
 
@@ -32,7 +32,9 @@ facts_count q before (e ∷ es) =
     omega (arith, rest, one)
 
 pub path_count : (q : Question) (es : List Entry) → length (facts_in q es) ≡ length es
-path_count q es = facts_count q [] es
+path_count q es =
+    let all : length (facts_from q [] es) ≡ length {A = Term} [] + length es = facts_count q [] es in
+    omega (arith, all)
 
 -- a fact behind the others has the next number
 last_number : (q : Question) (es : List Entry) (all : List Entry) (e : Entry) (f : Term) (n : ℕ) → all ≡ es ++ e ∷ [] → n ≡ length all → numbered (facts_in q es ++ f ∷ []) n ≡ Some f
