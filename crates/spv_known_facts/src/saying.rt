@@ -17,7 +17,7 @@ use spv_known::Known;
 use spv_proof_steps::candidates::lower;
 use spv_term::{TermId, Terms};
 
-// Whether a fact that is no order says that a term is true.
+// Whether a fact says that a term is true, where the fact is no order.
 fn is_itself(terms: &Terms, k: Known, t: TermId) -> bool
     requires k { k.term.0 < length terms.now.nodes }
     requires t { t.0 < length terms.now.nodes }
@@ -31,7 +31,7 @@ fn is_itself(terms: &Terms, k: Known, t: TermId) -> bool
     }
 }
 
-// Whether a fact says that a term is true that is no order.
+// Whether a fact says that a term is true, where the term is no order.
 fn names(terms: &Terms, k: Known, t: TermId) -> bool
     requires k { k.term.0 < length terms.now.nodes }
     requires t { t.0 < length terms.now.nodes }
