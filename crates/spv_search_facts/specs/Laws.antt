@@ -1,5 +1,5 @@
 -- Which relations can be known on a path, which terms a search adds to its graph, and what fewer facts show.
-use Rattle.std.specs.Prelude.{◌≡◌, Bool, true, List, Option, map}
+use Rattle.std.specs.Prelude.{◌≡◌, Bool, true, List, map}
 use Rattle.spv_logic.specs.declared.conditions.TermId.{TermId}
 use Rattle.spv_logic.specs.Terms.{Term}
 use Rattle.spv_term.specs.declared.nodes.Condition.{Condition}

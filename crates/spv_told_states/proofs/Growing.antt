@@ -1,5 +1,5 @@
 -- How what is told on a path grows: by facts, by known facts, and by literals.
-use Rattle.std.proofs.Common.{◌≡◌, ◌⊎◌, ℕ, zero, suc, Bool, true, false, cond, ◌||◌, List, [], ◌∷◌, ◌++◌, map, refl, sym, ap, ◌∙◌, subst, Option, Some, None, inl, inr}
+use Rattle.std.proofs.Common.{◌≡◌, ◌⊎◌, ℕ, zero, suc, Bool, true, false, cond, ◌||◌, List, [], ◌∷◌, ◌++◌, refl, sym, ap, ◌∙◌, subst, Option, Some, None, inl, inr}
 use mathlib.Core.List.{map-append}
 use Rattle.std.specs.Prelude.{slice_get, is_some}
 use Rattle.std.proofs.lemmas.Bool.{false≢true}
@@ -23,7 +23,7 @@ use Rattle.spv_atoms.specs.Atoms.{has_sort, is_number}
 use Rattle.spv_atoms.specs.Atoms as atoms_of
 use Rattle.spv_atoms.proofs.Members.{has, has-left, has-last, or_left, or_right}
 use Rattle.spv_proof.specs.Sums.{negated}
-use Rattle.spv_proof.specs.Evaluation.{sides, cites, apart, bare}
+use Rattle.spv_proof.specs.Evaluation.{cites, bare}
 use Rattle.spv_proof.specs.Effects.{Question, numbered, is_negation_of, contrary, is_truth}
 use Rattle.spv_proof.specs.Stand.{question}
 use Rattle.spv_course.specs.declared.entries.Part.{Part}
@@ -33,7 +33,6 @@ use Rattle.spv_course.specs.Course.{literal, PartFits}
 use Rattle.spv_course.specs.Literals.{Literal, AreKnown}
 use Rattle.spv_course.proofs.Growth.{numbered-more}
 use Rattle.spv_leaf_tables.specs.Laws.{AreFormulas}
-use Rattle.spv_leaf_tables.specs.Subterms.{is_among}
 use Rattle.spv_leaf_tables.specs.Tables.{formulas_of}
 use Rattle.spv_leaf_tables.proofs.Covering.{atoms-are}
 use Rattle.spv_leaf_tables.proofs.Values.{sort_known}
@@ -307,6 +306,6 @@ stored_case a c es es2 ks ls k more are s e number founded asked quiet unrefuted
       true_ones = λ i m at. elim (at_push ls (literal_of k) m i at) [
         | inl h ↦ values_keep a c are (ls ++ literal_of k ∷ []) k founded ks s.knowledge s.uncrossed quiet unrefuted (meaning a m) true (s.true_ones i m h)
         | inr same ↦ subst (λ (n : Literal). values_of a (ks ++ k ∷ []) (meaning a n) ≡ Some true) same
-          (facts_are_true (facts_of a (ks ++ k ∷ [])) knowledge.literals (fact_of a k) (cited_now a c are (ls ++ literal_of k ∷ []) k founded ks s.knowledge s.uncrossed quiet unrefuted))
+            (facts_are_true (facts_of a (ks ++ k ∷ [])) knowledge.literals (fact_of a k) (cited_now a c are (ls ++ literal_of k ∷ []) k founded ks s.knowledge s.uncrossed quiet unrefuted))
       ];
     }

@@ -1,13 +1,12 @@
 -- A path on which all is told, and whose sides are open, is an open state of a search.
-use Rattle.std.proofs.Common.{◌≡◌, ℕ, Bool, true, false, cond, List, [], ◌∷◌, ◌++◌, map, refl, sym, ap, ◌∙◌, subst, Option, Some, None}
+use Rattle.std.proofs.Common.{◌≡◌, ℕ, Bool, true, false, cond, List, ◌∷◌, map, refl, sym, ap, ◌∙◌, subst, Option, Some, None}
 use Rattle.std.specs.Prelude.{slice_get}
 use Rattle.spv_logic.specs.declared.conditions.TermId.{TermId}
 use Rattle.spv_logic.specs.Terms.{Term, term_eq}
-use Rattle.spv_logic.specs.Formulas.{negation, equation, below}
+use Rattle.spv_logic.specs.Formulas.{negation}
 use Rattle.spv_term.specs.declared.nodes.Condition.{Condition}
 use Rattle.spv_term.specs.Arena.{Arena, tree}
 use Rattle.spv_atoms.proofs.Members.{has, has-left, has-right, has-parts, or_cases, or_left, or_right}
-use Rattle.spv_proof.specs.Effects.{Question}
 use Rattle.spv_proof.specs.Stand.{question}
 use Rattle.spv_course.specs.declared.entries.Part.TheVariants.{True, False, Below, Above}
 use Rattle.spv_course.specs.declared.entries.Part.{Part}
@@ -15,7 +14,6 @@ use Rattle.spv_course.specs.declared.entries.Entry.{Entry}
 use Rattle.spv_course.specs.Course.{literal}
 use Rattle.spv_readings.specs.Sayings as readings
 use Rattle.spv_leaf_tables.specs.Tables.{formulas_of}
-use Rattle.spv_split_trees.specs.Paths as paths
 use Rattle.spv_split_trees.specs.Paths.{atoms, questions, facts, Known, given, lower, upper, IsLive}
 use Rattle.spv_split_trees.proofs.Showing.{shown-live}
 use Rattle.spv_share.specs.declared.both.Both.{Both}

@@ -1,11 +1,11 @@
 -- What is said on a path: facts of it, each of which has the value true.
-use Rattle.std.proofs.Common.{◌≡◌, ℕ, zero, suc, Bool, true, false, ◌&&◌, List, [], ◌∷◌, ◌++◌, map, refl, sym, ap, ◌∙◌, subst, Option, Some, None}
+use Rattle.std.proofs.Common.{◌≡◌, ℕ, zero, suc, true, false, List, [], ◌∷◌, map, refl, sym, ap, ◌∙◌, subst, Option, Some, None}
 use Rattle.std.specs.Prelude.{slice_get}
 use Rattle.std.proofs.lemmas.Bool.{false≢true}
 use Rattle.std.proofs.lemmas.Option.{same_Some}
 use Rattle.spv_list.proofs.Tests.{left_true, right_true}
 use Rattle.spv_logic.specs.declared.operators.Head.TheVariants.{Eq}
-use Rattle.spv_logic.specs.Terms.{Term, Terms, term, no_terms, terms, term_eq}
+use Rattle.spv_logic.specs.Terms.{Term, term, no_terms, terms, term_eq}
 use Rattle.spv_logic.specs.Formulas.{negation, equation, below}
 use Rattle.spv_logic.proofs.Equality.{term_eq-true, term_eq-refl}
 use Rattle.spv_term.specs.declared.nodes.Condition.{Condition}
@@ -21,7 +21,7 @@ use Rattle.spv_course.specs.Course.{literal, are_numbers, PartFits}
 use Rattle.spv_course.specs.Literals.{Literal}
 use Rattle.spv_leaf_tables.specs.Laws.{AreFormulas}
 use Rattle.spv_leaf_tables.specs.Tables.{formulas_of}
-use Rattle.spv_split_trees.specs.Paths.{atoms, facts}
+use Rattle.spv_split_trees.specs.Paths.{facts}
 use Rattle.spv_share.specs.declared.both.Both.{Both}
 use Rattle.spv_share.specs.Both.{told}
 use Rattle.spv_live_states.specs.States as states

@@ -1,5 +1,5 @@
 -- A path on which all is told shows what a search asks of an open state.
-use Rattle.std.specs.Prelude.{◌≡◌, ◌∷◌, Bool, true, List, Option, map, length}
+use Rattle.std.specs.Prelude.{◌≡◌, ◌∷◌, Bool, List, Option, map, length}
 use Rattle.spv_logic.specs.declared.conditions.TermId.{TermId}
 use Rattle.spv_logic.specs.Terms.{Term}
 use Rattle.spv_term.specs.declared.nodes.Condition.{Condition}
