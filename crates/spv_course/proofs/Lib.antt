@@ -2,7 +2,7 @@ pub mod Renumbering
 pub mod Growth
 mod Copies
 mod Derivations
-mod Values
+pub mod Values
 pub mod Bridges
 pub mod Equations
 pub mod Literals

@@ -6,14 +6,15 @@ use Rattle.std.proofs.lemmas.Option.{slice_get-get_or}
 use Rattle.spv_logic.specs.declared.conditions.TermId.{TermId}
 use Rattle.spv_logic.specs.Terms.{Term, term_eq}
 use Rattle.spv_logic.specs.Formulas.{below}
-use Rattle.spv_logic.proofs.Equality.{term_eq-true}
-use Rattle.spv_term.specs.Arena.{Arena}
+use Rattle.spv_logic.proofs.Equality.{term_eq-true, term_eq-refl}
+use Rattle.spv_term.specs.Arena.{Arena, tree}
 use Rattle.spv_proof.specs.Evaluation.{sides, apart}
 use Rattle.spv_proof_steps.specs.Candidates.{lower}
 use Rattle.spv_proof_steps.proofs.Same.{below_some}
 use Rattle.spv_course.specs.declared.entries.Part.TheVariants.{Below, Above}
 use Rattle.spv_course.specs.Course.{by_sides, literal}
 use Rattle.spv_known.specs.declared.facts.Known.{Known}
+use Rattle.spv_known.specs.Facts.{fact_of}
 use Rattle.spv_known_facts.specs.Facts.{IsAmong}
 use Rattle.spv_known_facts.specs.Orders.{crosses, orders, has_order}
 use Rattle.spv_known_facts.proofs.Turns.{AreBefore, one_more}
@@ -65,6 +66,20 @@ order_is t f l r e h =
     by_case true g d k both = inl (sym (term_eq-true (below l r) f g))
     by_case false g true k both = inr (sym (term_eq-true (below r l) f k))
     by_case false g false k both = absurd (false≢true both)
+
+-- how it is told
+pub below_part : (a : Arena) (t : TermId) (k : Known) (l r : Term) (b : Bool) → Some (l, r) ≡ sides (tree a t) → b ≡ term_eq (below l r) (fact_of a k) → b ≡ true → literal (tree a t) Below ≡ fact_of a k
+below_part a t k l r b e g h = ap (λ o. by_sides below o (tree a t)) (sym e) ∙ term_eq-true (below l r) (fact_of a k) (sym g ∙ h)
+
+pub above_part : (a : Arena) (t : TermId) (k : Known) (l r : Term) (b : Bool) → Some (l, r) ≡ sides (tree a t) → b ≡ term_eq (below l r) (fact_of a k) → b ≡ false → crosses (tree a t) (fact_of a k) ≡ true → literal (tree a t) Above ≡ fact_of a k
+above_part a t k l r b e g h crossed = ap (λ o. by_sides (λ x y. below y x) o (tree a t)) (sym e) ∙ by_order (order_is (tree a t) (fact_of a k) l r e crossed)
+  where
+    by_order : (fact_of a k ≡ below l r) ⊎ (fact_of a k ≡ below r l) → below r l ≡ fact_of a k
+    by_order (inl f) = absurd (false≢true (sym h ∙ (g ∙ (ap (term_eq (below l r)) f ∙ term_eq-refl (below l r)))))
+    by_order (inr f) = sym f
+
+pub has_sides : (a : Arena) (t : TermId) (k : Known) → None ≡ sides (tree a t) → orders a t k ≡ true → ⊥
+has_sides a t k e h = false≢true (crosses_none (tree a t) (fact_of a k) e ∙ h)
 
 -- ---- the facts one by one
 

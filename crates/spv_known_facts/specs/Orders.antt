@@ -1,10 +1,13 @@
 -- Facts that are orders of the sides of an equation.
-use Rattle.std.specs.Prelude.{Bool, List, [], ◌∷◌, is_some}
+use Rattle.std.specs.Prelude.{◌≡◌, Bool, List, [], ◌∷◌, is_some}
 use Rattle.std.specs.List.{list_any}
 use Rattle.spv_logic.specs.declared.conditions.TermId.{TermId}
 use Rattle.spv_logic.specs.Terms.{Term}
 use Rattle.spv_term.specs.Arena.{Arena, tree}
 use Rattle.spv_proof.specs.Evaluation.{sides, apart}
+use Rattle.spv_course.specs.declared.entries.Part.{Part}
+use Rattle.spv_course.specs.declared.entries.Part.TheVariants.{True, False, Below, Above}
+use Rattle.spv_course.specs.Course.{literal}
 use Rattle.spv_known.specs.declared.facts.Known.{Known}
 use Rattle.spv_known.specs.Facts.{fact_of}
 
@@ -15,6 +18,13 @@ crosses e o = is_some (apart (o ∷ []) (sides e))
 -- whether a fact is an order of the sides of a term
 abbrev pub orders : Arena → TermId → Known → Bool
 orders a t k = crosses (tree a t) (fact_of a k)
+
+-- how a fact that is an order of the sides of a term is told of the term
+abbrev pub IsOrderPart : Arena → TermId → Known → Part → Type 0
+IsOrderPart a t k True = ⊥
+IsOrderPart a t k False = ⊥
+IsOrderPart a t k Below = literal (tree a t) Below ≡ fact_of a k
+IsOrderPart a t k Above = literal (tree a t) Above ≡ fact_of a k
 
 -- whether one of these facts is
 abbrev pub has_order : Arena → List Known → TermId → Bool

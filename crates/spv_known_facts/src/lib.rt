@@ -6,5 +6,5 @@ mod ordering;
 mod saying;
 
 pub use clashing::{Clash, find_clash};
-pub use ordering::{find_order, order_of, orders};
+pub use ordering::{find_order, order_of, order_part, orders};
 pub use saying::find_fact;

@@ -11,6 +11,7 @@ ghost use Rattle.spv_proof_steps.specs.Candidates as candidates;
 ghost use Rattle.spv_proof_steps.specs.Candidates.{pair_of, PairIn};
 ghost use Rattle.spv_known.specs.Facts.{fact_of};
 ghost use Rattle.spv_known_facts.specs.Facts.{AreThere, IsAmong};
+ghost use Rattle.spv_known_facts.specs.Orders.{IsOrderPart};
 ghost use Rattle.spv_known_facts.specs.Orders as spec;
 
 use spv_course::Part;
@@ -113,6 +114,25 @@ pub fn orders(terms: &Terms, t: TermId, k: Known) -> bool
     match sides(terms, t) {
         Some((left, right)) => compares(terms, k, left, right),
         None => false,
+    }
+}
+
+/// How a fact that is an order of the sides of a term is told of the term.
+pub fn order_part(terms: &Terms, t: TermId, k: Known) -> Part
+    requires t { t.0 < length terms.now.nodes }
+    requires k { k.term.0 < length terms.now.nodes }
+    requires orders { spec.orders terms.now t k ≡ true }
+    ensures { IsOrderPart terms.now t k result }
+{
+    match sides(terms, t) {
+        Some((left, right)) => {
+            if puts_below(terms, k, left, right) {
+                Part::Below
+            } else {
+                Part::Above
+            }
+        }
+        None => unreachable!(),
     }
 }
 

@@ -1,7 +1,7 @@
 -- How what is told on a path grows: by facts, by known facts, and by literals.
 use Rattle.std.proofs.Common.{◌≡◌, ◌⊎◌, ℕ, zero, suc, Bool, true, false, cond, ◌||◌, List, [], ◌∷◌, ◌++◌, refl, sym, ap, ◌∙◌, subst, Option, Some, None, inl, inr}
 use mathlib.Core.List.{map-append}
-use Rattle.std.specs.Prelude.{slice_get, is_some}
+use Rattle.std.specs.Prelude.{⊤, slice_get, is_some}
 use Rattle.std.proofs.lemmas.Bool.{false≢true}
 use Rattle.std.proofs.lemmas.Option.{same_Some}
 use Rattle.spv_list.proofs.Tests.{left_true}
@@ -211,9 +211,12 @@ Numbers a f = (s t : Term) → f ≡ below s t → (is_number a.shapes a.decls s
 no_negation_below : (u s t : Term) → negation u ≡ below s t → ⊥
 no_negation_below u s t e = cc
 
--- no fact that is an order is one of numerals that is false
-abbrev pub IsUnrefuted : Term → Type 0
-IsUnrefuted f = numeral_relation f ≡ Some false → ⊥
+-- an order that is told of an equation is not one of numerals that is false
+abbrev pub IsUnrefuted : Arena → TermId → Part → Type 0
+IsUnrefuted a t True = ⊤
+IsUnrefuted a t False = ⊤
+IsUnrefuted a t Below = numeral_relation (literal (tree a t) Below) ≡ Some false → ⊥
+IsUnrefuted a t Above = numeral_relation (literal (tree a t) Above) ≡ Some false → ⊥
 
 module _ (a : Arena) (c : Condition) (are : AreFormulas a.shapes a.decls (formulas_of (question a c).sequent)) (ls : List Literal) (k : Known) (founded : IsFounded a (question a c) ls k) where
   bare_fact : (p : Part) → PartFits a k.term p → negated (bare (literal (tree a k.term) p)) ≡ None
@@ -222,7 +225,7 @@ module _ (a : Arena) (c : Condition) (are : AreFormulas a.shapes a.decls (formul
   bare_fact Below h = let m = compared a (tree a k.term) h in ap (λ (u : Term). negated (bare (literal u Below))) m.is
   bare_fact Above h = let m = compared a (tree a k.term) h in ap (λ (u : Term). negated (bare (literal u Above))) m.is
 
-  placed : (p : Part) → PartFits a k.term p → IsUnrefuted (literal (tree a k.term) p) → IsPlaced a (literal (tree a k.term) p)
+  placed : (p : Part) → PartFits a k.term p → IsUnrefuted a k.term p → IsPlaced a (literal (tree a k.term) p)
   placed True h u = inl (record { id = k.term; in_range = founded.within; is = sym (bare_literal true (tree a k.term) founded.bare) })
   placed False h u = inl (record { id = k.term; in_range = founded.within; is = sym (bare_literal false (tree a k.term) founded.bare) })
   placed Below h u = let m = compared a (tree a k.term) h in inr (record { left = m.left; right = m.right; is = ap (λ (x : Term). literal x Below) m.is; holds = u })
@@ -252,7 +255,7 @@ module _ (a : Arena) (c : Condition) (are : AreFormulas a.shapes a.decls (formul
       second : (x y u v : Term) → below x y ≡ below u v → y ≡ v
       second x y u v e = cc
 
-  module _ (ks : List Known) (knowledge : IsKnowledge a (facts_of a ks)) (uncrossed : AreUncrossed (facts_of a ks)) (quiet : IsQuiet (facts_of a ks) (fact_of a k)) (unrefuted : IsUnrefuted (fact_of a k)) where
+  module _ (ks : List Known) (knowledge : IsKnowledge a (facts_of a ks)) (uncrossed : AreUncrossed (facts_of a ks)) (quiet : IsQuiet (facts_of a ks) (fact_of a k)) (unrefuted : IsUnrefuted a k.term k.part) where
     pub knowledge_more : IsKnowledge a (facts_of a (ks ++ k ∷ []))
     knowledge_more = subst (λ (fs : List Term). IsKnowledge a fs) (sym (facts_push a ks k)) (record {
       literals =
@@ -273,7 +276,7 @@ module _ (a : Arena) (c : Condition) (are : AreFormulas a.shapes a.decls (formul
     pub cited_now : cites (facts_of a (ks ++ k ∷ [])) (fact_of a k) ≡ true
     cited_now = ap (λ fs. has fs (fact_of a k)) (facts_push a ks k) ∙ has-last (facts_of a ks) (fact_of a k)
 
-  pub stored_known : (es : List Entry) (ks : List Known) → IsStored a c es ks ls → numbered (facts_in (question a c) es) k.fact ≡ Some (fact_of a k) → IsQuiet (facts_of a ks) (fact_of a k) → IsUnrefuted (fact_of a k)
+  pub stored_known : (es : List Entry) (ks : List Known) → IsStored a c es ks ls → numbered (facts_in (question a c) es) k.fact ≡ Some (fact_of a k) → IsQuiet (facts_of a ks) (fact_of a k) → IsUnrefuted a k.term k.part
       → IsStored a c es (ks ++ k ∷ []) ls
   stored_known es ks s number quiet unrefuted = record {
     numbered = numbered_push a (facts_in (question a c) es) ks k s.numbered number;
@@ -292,7 +295,7 @@ literal_of k = record { atom = k.term; part = k.part; why = k.fact }
 
 pub stored_case : (a : Arena) (c : Condition) (es es2 : List Entry) (ks : List Known) (ls : List Literal) (k : Known) (more : List Term) → AreFormulas a.shapes a.decls (formulas_of (question a c).sequent) → IsStored a c es ks ls
     → facts_in (question a c) es2 ≡ facts_in (question a c) es ++ more → numbered (facts_in (question a c) es2) k.fact ≡ Some (fact_of a k) → IsFounded a (question a c) (ls ++ literal_of k ∷ []) k
-    → IsAsked a (question a c) (literal_of k) → IsQuiet (facts_of a ks) (fact_of a k) → IsUnrefuted (fact_of a k) → IsStored a c es2 (ks ++ k ∷ []) (ls ++ literal_of k ∷ [])
+    → IsAsked a (question a c) (literal_of k) → IsQuiet (facts_of a ks) (fact_of a k) → IsUnrefuted a k.term k.part → IsStored a c es2 (ks ++ k ∷ []) (ls ++ literal_of k ∷ [])
 stored_case a c es es2 ks ls k more are s e number founded asked quiet unrefuted =
     let l = stored_longer a c es es2 ks ls more e s in
     let knowledge = knowledge_more a c are (ls ++ literal_of k ∷ []) k founded ks s.knowledge s.uncrossed quiet unrefuted in

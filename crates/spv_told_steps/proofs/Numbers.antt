@@ -1,14 +1,15 @@
 -- What steps add to a path.
-use Rattle.std.proofs.Common.{◌≡◌, ℕ, ◌+◌, Bool, true, false, List, [], ◌∷◌, ◌++◌, length, sym, ap, ◌∙◌, subst, Some, None, cond, arith}
+use Rattle.std.proofs.Common.{◌≡◌, ℕ, ◌+◌, Bool, true, false, ◌&&◌, List, [], ◌∷◌, ◌++◌, length, sym, ap, ◌∙◌, subst, Some, None, cond, arith}
 use mathlib.Core.Path.{ap₂}
+use mathlib.Core.List.{append_assoc}
 use Rattle.std.proofs.lemmas.List.{length_push}
 use Rattle.spv_logic.specs.declared.conditions.TermId.{TermId}
 use Rattle.spv_logic.specs.Terms.{Term}
-use Rattle.spv_logic.specs.Formulas.{negation}
+use Rattle.spv_logic.specs.Formulas.{negation, equation}
 use Rattle.spv_atoms.specs.declared.proofs.Step.{Step}
 use Rattle.spv_atoms.specs.declared.proofs.Step.TheVariants.{Eval}
 use Rattle.spv_atoms.specs.declared.proofs.Stated.{Stated}
-use Rattle.spv_atoms.specs.declared.proofs.Stated.TheVariants.{Is}
+use Rattle.spv_atoms.specs.declared.proofs.Stated.TheVariants.{Is, Same}
 use Rattle.spv_proof.specs.Evaluation.{evaluates}
 use Rattle.spv_proof.specs.Effects.{Question, Adds, adds_if, cited, effect, evaluated, fact_before, is_truth, numbered, stated}
 use Rattle.spv_readings.specs.Sayings.{literal}
@@ -16,10 +17,10 @@ use Rattle.spv_course.specs.declared.entries.Part.{Part}
 use Rattle.spv_course.specs.declared.entries.Entry.{Entry}
 use Rattle.spv_course.specs.declared.entries.Entry.TheVariants.{Told, Derived}
 use Rattle.spv_course.specs.Course as course
-use Rattle.spv_course.proofs.Growth.{numbered-push}
+use Rattle.spv_course.proofs.Growth.{numbered-push, numbered-more}
 use Rattle.spv_paths.specs.Paths.{fact_in, facts_from, facts_in, IsPath}
 use Rattle.spv_paths.proofs.Following.{case_behind, step_behind}
-use Rattle.spv_told_steps.specs.Steps.{IsDerived}
+use Rattle.spv_told_steps.specs.Steps.{IsDerived, HasNumber}
 
 -- ---- numbers
 
@@ -66,11 +67,31 @@ case_derived q es all t part why n cases is count next path =
       number = ap (λ fs. numbered fs n) (ap (facts_in q) here ∙ goes.facts_are) ∙ last_number q es all (Told t part why) (course.literal (q.at t) part) n is count;
     }
 
+-- one fact more, and others behind it
+pub derived_number : (q : Question) (cases : List Term) (old new : List Entry) (n : ℕ) (f : Term) → IsDerived q cases old new n f → HasNumber q cases old new n f
+derived_number q cases old new n f d = record { path = d.path; grown = d.grown; more = f ∷ []; facts_are = d.facts_are; number = d.number }
+
+pub then_derived : (q : Question) (cases : List Term) (old mid new : List Entry) (m n : ℕ) (f g : Term) → HasNumber q cases old mid m f → IsDerived q cases mid new n g → HasNumber q cases old new n g
+then_derived q cases old mid new m n f g first d = record {
+  path = d.path;
+  grown = record { more = first.grown.more ++ d.grown.more; is = d.grown.is ∙ (ap (λ es. es ++ d.grown.more) first.grown.is ∙ append_assoc old first.grown.more d.grown.more) };
+  more = first.more ++ g ∷ [];
+  facts_are = d.facts_are ∙ (ap (λ fs. fs ++ g ∷ []) first.facts_are ∙ append_assoc (facts_in q old) first.more (g ∷ []));
+  number = d.number;
+}
+
+-- what has a number has it where facts come behind
+pub number_stays : (q : Question) (cases : List Term) (old new : List Entry) (m n : ℕ) (f g : Term) → HasNumber q cases old new n g → numbered (facts_in q old) m ≡ Some f → numbered (facts_in q new) m ≡ Some f
+number_stays q cases old new m n f g h e = ap (λ fs. numbered fs m) h.facts_are ∙ numbered-more (facts_in q old) h.more m f e
+
 -- ---- evaluations
 
 pub stated_is : (q : Question) (t : TermId) (b : Bool) → is_truth q (q.at t) ≡ true → stated q (Is t b) ≡ Some (literal b (q.at t))
 stated_is q t true h = ap (λ c. cond c (Some (q.at t)) None) h
 stated_is q t false h = ap (λ c. cond c (Some (negation (q.at t))) None) h
+
+pub stated_same : (q : Question) (s t : TermId) → is_truth q (q.at s) ≡ true → is_truth q (q.at t) ≡ true → stated q (Same s t) ≡ Some (equation (q.at s) (q.at t))
+stated_same q s t h i = ap₂ (λ c d. cond (c && d) (Some (equation (q.at s) (q.at t))) None) h i
 
 pub evaluation_adds : (q : Question) (facts : List Term) (claim : Stated) (ks : List ℕ) (given : List Term) (f : Term) → stated q claim ≡ Some f → cited facts ks ≡ Some given → evaluates (is_truth q) given f ≡ true
     → effect q facts (Eval claim ks) ≡ Adds f

@@ -11,3 +11,11 @@ pub record IsDerived (q : Question) (cases : List Term) (old new : List Entry) (
   pub grown : IsGrown old new
   pub facts_are : facts_in q new ≡ facts_in q old ++ f ∷ []
   pub number : numbered (facts_in q new) n ≡ Some f
+
+-- a path goes on by other facts, and this one has this number
+pub record HasNumber (q : Question) (cases : List Term) (old new : List Entry) (n : ℕ) (f : Term) : Type 0 where
+  pub path : IsPath q cases new
+  pub grown : IsGrown old new
+  pub more : List Term
+  pub facts_are : facts_in q new ≡ facts_in q old ++ more
+  pub number : numbered (facts_in q new) n ≡ Some f

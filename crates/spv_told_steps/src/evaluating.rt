@@ -2,6 +2,7 @@
 
 ghost use Rattle.std.specs.Prelude.{◌≡◌, ◌<◌, [], ◌∷◌, length, List, Some, true, IfOk};
 ghost use Rattle.spv_logic.specs.Terms.{Term};
+ghost use Rattle.spv_logic.specs.Formulas.{negation};
 ghost use Rattle.spv_term.specs.Arena.{tree};
 ghost use Rattle.spv_proof.specs.Evaluation.{evaluates};
 ghost use Rattle.spv_atoms.specs.declared.proofs.Step.TheVariants as step;
@@ -9,8 +10,10 @@ ghost use Rattle.spv_proof.specs.Effects.{Adds, effect, is_truth, numbered};
 ghost use Rattle.spv_proof.specs.Stand.{question};
 ghost use Rattle.spv_readings.specs.Sayings.{literal};
 ghost use Rattle.spv_paths.specs.Paths.{facts_in, IsPath};
-ghost use Rattle.spv_known.specs.Facts.{AreNumbered, facts_of};
-ghost use Rattle.spv_told_steps.specs.Steps.{IsDerived};
+ghost use Rattle.spv_course.specs.Derived.{IsFalseTerm};
+ghost use Rattle.spv_known.specs.Facts.{AreNumbered, fact_of, facts_of};
+ghost use Rattle.spv_known_facts.specs.Orders.{orders};
+ghost use Rattle.spv_told_steps.specs.Steps.{HasNumber, IsDerived};
 
 use crate::adding::derive;
 use spv_atoms::{Stated, Step};
@@ -76,4 +79,28 @@ pub fn evaluate_all(
     let cites = numbers(alloc, known)?;
     let step = Step::Eval(Stated::Is(t, truth), List::from_vec(cites));
     derive(course, terms, condition, step)
+}
+
+/// Puts behind the facts of a path that an equation is false of which a fact puts the sides in order: it equals FALSE, and so its negation
+/// follows. `falsity` is the term FALSE.
+pub fn deny(
+    alloc: Global,
+    course: &mut Course,
+    terms: &Terms,
+    condition: &Condition,
+    equation: TermId,
+    order: Known,
+    falsity: TermId,
+) -> Result<u32, AllocError>
+    ensures { IfOk result (λ n. (cases : List Term) → IsPath (question terms.now condition.now) cases course.old
+        → IsFalseTerm terms.now falsity
+        → is_truth (question terms.now condition.now) (tree terms.now equation) ≡ true
+        → orders terms.now equation order ≡ true
+        → numbered (facts_in (question terms.now condition.now) course.old) order.fact ≡ Some (fact_of terms.now order)
+        → HasNumber (question terms.now condition.now) cases course.old course.new n (negation (tree terms.now equation))) }
+{
+    let claim = Stated::Same(equation, falsity);
+    let equal = evaluate_claim(alloc, course, terms, condition, claim, order.fact)?;
+    let claim = Stated::Is(equation, false);
+    evaluate_claim(alloc, course, terms, condition, claim, equal)
 }

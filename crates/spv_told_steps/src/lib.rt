@@ -5,4 +5,4 @@ mod adding;
 mod evaluating;
 
 pub use adding::{derive, give, tell};
-pub use evaluating::{evaluate, evaluate_all};
+pub use evaluating::{deny, evaluate, evaluate_all};

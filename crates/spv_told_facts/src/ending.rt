@@ -1,0 +1,137 @@
+// The facts that end a path.
+
+ghost use Rattle.std.specs.Prelude.{◌≡◌, ◌<◌, length, List, IfOk};
+ghost use Rattle.spv_logic.specs.Terms.{Term, no_terms, terms};
+ghost use Rattle.spv_logic.specs.Formulas.{below};
+ghost use Rattle.spv_term.specs.Arena.{tree};
+ghost use Rattle.spv_proof.specs.Effects.{is_false};
+ghost use Rattle.spv_atoms.specs.Tables as tables;
+ghost use Rattle.spv_known.specs.declared.facts.Known.{Known};
+ghost use Rattle.spv_known.specs.Facts.{fact_of};
+ghost use Rattle.spv_known_facts.specs.Facts.{AreCores, IsCore};
+ghost use Rattle.spv_known_facts.specs.Clashes.{IsClash};
+ghost use Rattle.spv_told_facts.specs.Learning as spec;
+ghost use Rattle.spv_told_facts.specs.Learning.{ContradictsIf, EndsNow, IsCitable, MayCite};
+
+use spv_course::Course;
+use spv_known::Known;
+use spv_known_facts::{Clash, find_clash, order_of};
+use spv_term::{Condition, Head, TermId, Terms};
+use spv_told_steps::deny;
+use std::alloc::{AllocError, Global};
+
+/// The facts that end a path.
+#[derive(Clone, Copy, Debug)]
+pub struct End {
+    /// The number of a fact.
+    pub first: u32,
+    /// The number of one that contradicts it; none where the first one is never true.
+    pub second: Option<u32>,
+}
+
+// The number of a numeral.
+fn numeral(terms: &Terms, t: TermId) -> Option<i128>
+    requires { t.0 < length terms.now.nodes }
+    ensures { result ≡ tables.numeral (tree terms.now t) }
+{
+    terms.law_arena();
+    match terms.node(t).head {
+        Head::Num(value) => Some(value),
+        _ => None,
+    }
+}
+
+// Whether two terms are numerals of which the first is not below the second.
+fn is_downward(terms: &Terms, low: TermId, high: TermId) -> bool
+    requires low { low.0 < length terms.now.nodes }
+    requires high { high.0 < length terms.now.nodes }
+    ensures { result ≡ is_false (tables.numeral_relation (below (tree terms.now low) (tree terms.now high))) }
+{
+    let Some(a) = numeral(terms, low) else {
+        return false;
+    };
+    let Some(b) = numeral(terms, high) else {
+        return false;
+    };
+    a >= b
+}
+
+// Whether a fact is an order of two numerals that does not hold.
+fn is_refuted(terms: &Terms, k: Known) -> bool
+    requires { k.term.0 < length terms.now.nodes }
+    ensures { result ≡ spec.is_refuted (fact_of terms.now k) }
+{
+    match order_of(terms, k) {
+        Some((low, high)) => is_downward(terms, low, high),
+        None => false,
+    }
+}
+
+// The facts that end a path on which a new fact contradicts a known one. An equation and an order of its sides do so by the equation's
+// negation, which is put behind the others.
+fn end_by(
+    alloc: Global,
+    course: &mut Course,
+    terms: &Terms,
+    condition: &Condition,
+    falsity: TermId,
+    added: Known,
+    clash: Clash,
+) -> Result<End, AllocError>
+    ensures { IfOk result (λ e. (cases : List Term) (ks : List Known) → MayCite terms.now condition.now falsity cases course.old ks
+        → IsCitable terms.now condition.now course.old added
+        → IsClash terms.now ks added clash
+        → EndsNow terms.now condition.now cases course.old course.new e) }
+{
+    match clash {
+        Clash::Opposite(number) => Ok(End {
+            first: added.fact,
+            second: Some(number),
+        }),
+        Clash::Crossed { equation, order } => {
+            let number = deny(
+                alloc,
+                course,
+                terms,
+                condition,
+                equation.term,
+                order,
+                falsity,
+            )?;
+            Ok(End {
+                first: equation.fact,
+                second: Some(number),
+            })
+        }
+    }
+}
+
+/// The facts that end a path by a new fact: one that is never true, since it is an order of two numerals that does not hold, or one that contradicts
+/// a known fact. `falsity` is the term FALSE.
+pub fn contradiction(
+    alloc: Global,
+    course: &mut Course,
+    known: &[Known],
+    terms: &Terms,
+    condition: &Condition,
+    falsity: TermId,
+    added: Known,
+) -> Result<Option<End>, AllocError>
+    requires known { AreCores terms.now known.now }
+    requires added { IsCore terms.now added }
+    ensures { IfOk result (ContradictsIf terms.now condition.now falsity known.now added course.old course.new) }
+{
+    if is_refuted(terms, added) {
+        return Ok(Some(End {
+            first: added.fact,
+            second: None,
+        }));
+    }
+    match find_clash(terms, known, added) {
+        Some(clash) => {
+            let end = end_by(alloc, course, terms, condition, falsity, added, clash)?;
+            Ok(Some(end))
+        }
+        None => Ok(None),
+    }
+}
