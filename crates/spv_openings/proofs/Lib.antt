@@ -1,0 +1,4 @@
+pub mod Standing
+pub mod Nodes
+pub mod Copies
+pub mod BothSides
