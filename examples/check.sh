@@ -33,6 +33,7 @@ for wanted in *.lst; do
     case $(tail -n 1 "$wanted") in
         'RESULT PROVED') compare verify "${wanted%.lst}.pas" "$wanted" 0 ;;
         'RESULT UNPROVED') compare verify "${wanted%.lst}.pas" "$wanted" 1 ;;
+        'RESULT GAVE UP') compare verify "${wanted%.lst}.pas" "$wanted" 2 ;;
         *) echo "$wanted: no RESULT at its end"; failed=$((failed + 1)) ;;
     esac
 done

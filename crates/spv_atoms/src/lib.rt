@@ -17,7 +17,7 @@ pub use forms::{AtomFault, linear};
 pub use formulas::{atoms, is_atom};
 pub use laws::{law_form, law_truth};
 pub use linear_form::Linear;
-pub use numerals::numeral_relation;
+pub use numerals::{numeral, numeral_relation};
 pub use proofs::{Proof, ProofNode, Relation, Split, Stated, Step};
 pub use sets::TermSet;
 pub use valued::{computed, computed_over, connected, truth, values_in_order};

@@ -8,8 +8,8 @@ ghost use Rattle.spv_atoms.specs.Tables as spec;
 
 use spv_term::{Head, TermId, Terms};
 
-// The number of a numeral.
-fn numeral(terms: &Terms, t: TermId) -> Option<i128>
+/// The number of a term that is a numeral.
+pub fn numeral(terms: &Terms, t: TermId) -> Option<i128>
     requires { t.0 < length terms.now.nodes }
     ensures { result ≡ spec.numeral (tree terms.now t) }
 {

@@ -7,8 +7,9 @@ use Rattle.spv_logic.specs.Conditions.{Meaning}
 use Rattle.spv_program.specs.Programs.{Program}
 use Rattle.spv_meaning.specs.Correct.{Correct}
 use Rattle.spv_reports.specs.declared.mode.Mode.{Mode}
+use Rattle.spv_decided.specs.declared.verdicts.Decided.{Decided}
 use Rattle.spv_reports.specs.declared.mode.Mode.TheVariants as mode
-use Rattle.spv_reports.specs.Reports.{Findings, IsReportOn, has_verdicts, all_proved}
+use Rattle.spv_reports.specs.Reports.{AreVerdictsIn, Findings, IsReportOn, has_verdicts, all_proved, none_unproved}
 use Rattle.spv_reports.proofs.Reports.{proved_correct}
 use Rattle.spv_listing.specs.Page.{page}
 use Rattle.spv_refusals.specs.declared.refusal.Refusal.{Refusal}
@@ -23,17 +24,18 @@ use Rattle.spv_cli.specs.Promises.{IsOneOf, IsThere, IsDueFor}
 
 -- ---- what is found, by the status
 
-found_status : (f : Found) → IsOneOf (0 ∷ 1 ∷ 3 ∷ 4 ∷ 8 ∷ []) (status f)
+found_status : (f : Found) → IsOneOf (0 ∷ 1 ∷ 2 ∷ 3 ∷ 4 ∷ 8 ∷ []) (status f)
 found_status ReadFailed = refl
 found_status (Refusing r) = refl
 found_status (Reporting r) = by_mode r.mode
   where
-    by_proved : (b : Bool) → IsOneOf (0 ∷ 1 ∷ 3 ∷ 4 ∷ 8 ∷ []) (cond b 0 1)
-    by_proved true = refl
-    by_proved false = refl
+    by_verdicts : (b n : Bool) → IsOneOf (0 ∷ 1 ∷ 2 ∷ 3 ∷ 4 ∷ 8 ∷ []) (cond b 0 (cond n 2 1))
+    by_verdicts true n = refl
+    by_verdicts false true = refl
+    by_verdicts false false = refl
 
-    by_mode : (m : Mode) → IsOneOf (0 ∷ 1 ∷ 3 ∷ 4 ∷ 8 ∷ []) (status_in m r.verdicts)
-    by_mode mode.Verify = by_proved (all_proved r.verdicts)
+    by_mode : (m : Mode) → IsOneOf (0 ∷ 1 ∷ 2 ∷ 3 ∷ 4 ∷ 8 ∷ []) (status_in m r.verdicts)
+    by_mode (mode.Verify limits) = by_verdicts (all_proved r.verdicts) (none_unproved r.verdicts)
     by_mode mode.Conditions = refl
 
 -- another status
@@ -45,20 +47,73 @@ there {X} P {o} {p} e h = subst (λ q. IsThere q P) (sym e) h
 
 -- what stands in a report with status 0
 abbrev pub IsProvedReport : Findings → Type 0
-IsProvedReport r = (r.mode ≡ mode.Verify) × (all_proved r.verdicts ≡ true)
+IsProvedReport r = (has_verdicts r.mode ≡ true) × (all_proved r.verdicts ≡ true)
 
 at_zero : (o : Reading) (c : Command) (f : Found) → IsFound o c f → status f ≡ 0 → IsThere (report f) IsProvedReport
 at_zero o c ReadFailed is e = absurd (false≢true (not_of (4 ∷ []) refl e))
 at_zero o c (Refusing r) is e = absurd (false≢true (not_of (3 ∷ []) refl e))
 at_zero o c (Reporting r) is e = by_mode r.mode refl e
   where
-    by_proved : (b : Bool) → ◌≡◌ {A = ℕ} (cond b 0 1) 0 → b ≡ true
-    by_proved true e = refl
-    by_proved false e = absurd (false≢true (not_of (1 ∷ []) refl e))
+    by_verdicts : (b n : Bool) → ◌≡◌ {A = ℕ} (cond b 0 (cond n 2 1)) 0 → b ≡ true
+    by_verdicts true n e = refl
+    by_verdicts false true e = absurd (false≢true (not_of (2 ∷ []) refl e))
+    by_verdicts false false e = absurd (false≢true (not_of (1 ∷ []) refl e))
 
     by_mode : (m : Mode) → r.mode ≡ m → status_in m r.verdicts ≡ 0 → IsProvedReport r
-    by_mode mode.Verify same e = (same, by_proved (all_proved r.verdicts) e)
+    by_mode (mode.Verify limits) same e = (ap has_verdicts same, by_verdicts (all_proved r.verdicts) (none_unproved r.verdicts) e)
     by_mode mode.Conditions same e = absurd (false≢true (not_of (8 ∷ []) refl e))
+
+-- what stands in a report with status 1, with status 2, and with status 8
+abbrev pub IsUnprovedReport : Findings → Type 0
+IsUnprovedReport r = (has_verdicts r.mode ≡ true) × (none_unproved r.verdicts ≡ false)
+
+abbrev pub IsGivenUpReport : Findings → Type 0
+IsGivenUpReport r = (has_verdicts r.mode ≡ true) × (none_unproved r.verdicts ≡ true) × (all_proved r.verdicts ≡ false)
+
+abbrev pub IsListReport : Findings → Type 0
+IsListReport r = (has_verdicts r.mode ≡ false) × (r.verdicts ≡ [])
+
+at_one : (o : Reading) (c : Command) (f : Found) → IsFound o c f → status f ≡ 1 → IsThere (report f) IsUnprovedReport
+at_one o c ReadFailed is e = absurd (false≢true (not_of (4 ∷ []) refl e))
+at_one o c (Refusing r) is e = absurd (false≢true (not_of (3 ∷ []) refl e))
+at_one o c (Reporting r) is e = by_mode r.mode refl e
+  where
+    by_verdicts : (b n : Bool) → ◌≡◌ {A = ℕ} (cond b 0 (cond n 2 1)) 1 → n ≡ false
+    by_verdicts true n e = absurd (false≢true (not_of (0 ∷ []) refl e))
+    by_verdicts false true e = absurd (false≢true (not_of (2 ∷ []) refl e))
+    by_verdicts false false e = refl
+
+    by_mode : (m : Mode) → r.mode ≡ m → status_in m r.verdicts ≡ 1 → IsUnprovedReport r
+    by_mode (mode.Verify limits) same e = (ap has_verdicts same, by_verdicts (all_proved r.verdicts) (none_unproved r.verdicts) e)
+    by_mode mode.Conditions same e = absurd (false≢true (not_of (8 ∷ []) refl e))
+
+at_two : (o : Reading) (c : Command) (f : Found) → IsFound o c f → status f ≡ 2 → IsThere (report f) IsGivenUpReport
+at_two o c ReadFailed is e = absurd (false≢true (not_of (4 ∷ []) refl e))
+at_two o c (Refusing r) is e = absurd (false≢true (not_of (3 ∷ []) refl e))
+at_two o c (Reporting r) is e = by_mode r.mode refl e
+  where
+    by_verdicts : (b n : Bool) → ◌≡◌ {A = ℕ} (cond b 0 (cond n 2 1)) 2 → (n ≡ true) × (b ≡ false)
+    by_verdicts true n e = absurd (false≢true (not_of (0 ∷ []) refl e))
+    by_verdicts false true e = (refl, refl)
+    by_verdicts false false e = absurd (false≢true (not_of (1 ∷ []) refl e))
+
+    by_mode : (m : Mode) → r.mode ≡ m → status_in m r.verdicts ≡ 2 → IsGivenUpReport r
+    by_mode (mode.Verify limits) same e = let k = by_verdicts (all_proved r.verdicts) (none_unproved r.verdicts) e in (ap has_verdicts same, k.0, k.1)
+    by_mode mode.Conditions same e = absurd (false≢true (not_of (8 ∷ []) refl e))
+
+at_eight : (o : Reading) (c : Command) (f : Found) → IsFound o c f → status f ≡ 8 → IsThere (report f) IsListReport
+at_eight o c ReadFailed is e = absurd (false≢true (not_of (4 ∷ []) refl e))
+at_eight o c (Refusing r) is e = absurd (false≢true (not_of (3 ∷ []) refl e))
+at_eight o c (Reporting r) is e = by_mode r.mode refl is.1.is_on.verdicts e
+  where
+    by_verdicts : (b n : Bool) → ◌≡◌ {A = ℕ} (cond b 0 (cond n 2 1)) 8 → ⊥
+    by_verdicts true n e = false≢true (not_of (0 ∷ []) refl e)
+    by_verdicts false true e = false≢true (not_of (2 ∷ []) refl e)
+    by_verdicts false false e = false≢true (not_of (1 ∷ []) refl e)
+
+    by_mode : (m : Mode) → r.mode ≡ m → AreVerdictsIn m r.arena r.conditions r.verdicts → status_in m r.verdicts ≡ 8 → IsListReport r
+    by_mode (mode.Verify limits) same right e = absurd (by_verdicts (all_proved r.verdicts) (none_unproved r.verdicts) e)
+    by_mode mode.Conditions same right e = (ap has_verdicts same, right)
 
 pub map_there : {X : Type 0} (o : Option X) {P Q : X → Type 0} → IsThere o P → ((x : X) → P x → Q x) → IsThere o Q
 map_there None h f = absurd h
@@ -99,8 +154,44 @@ module _ (o : Reading) (w : Writing) (ran : Ran) where
       (λ file f is r s cut e. absurd (false≢true (not_of (5 ∷ []) refl (sym s ∙ e))))
       (λ file m e. absurd (false≢true (not_of (6 ∷ []) refl (sym m.status ∙ e))))
 
+  -- what a status says of the report
+  by_status : (n : ℕ) (P : Findings → Type 0) → (IsOneOf (5 ∷ 6 ∷ 7 ∷ []) n → ⊥) → ((c : Command) (f : Found) → IsFound o c f → status f ≡ n → IsThere (report f) P)
+      → (c : Option Command) → HasRunFor c o w ran → ran.status ≡ n → IsThere ran.report P
+  by_status n P other at = by_case (λ c. ran.status ≡ n → IsThere ran.report P)
+      (λ unread none s written e. absurd (other (not_of (5 ∷ 6 ∷ 7 ∷ []) refl (sym s ∙ e))))
+      (λ unread none s cut e. absurd (other (not_of (5 ∷ 6 ∷ 7 ∷ []) refl (sym s ∙ e))))
+      (λ file f is r s written e. there P r (at file f is (sym s ∙ e)))
+      (λ file f is r s cut e. absurd (other (not_of (5 ∷ 6 ∷ 7 ∷ []) refl (sym s ∙ e))))
+      (λ file m e. absurd (other (not_of (5 ∷ 6 ∷ 7 ∷ []) refl (sym m.status ∙ e))))
+
+  pub unproved : (c : Option Command) → HasRunFor c o w ran → ran.status ≡ 1 → IsThere ran.report IsUnprovedReport
+  unproved = by_status 1 IsUnprovedReport false≢true (at_one o)
+
+  pub gave_up : (c : Option Command) → HasRunFor c o w ran → ran.status ≡ 2 → IsThere ran.report IsGivenUpReport
+  gave_up = by_status 2 IsGivenUpReport false≢true (at_two o)
+
+  pub listed : (c : Option Command) → HasRunFor c o w ran → ran.status ≡ 8 → IsThere ran.report IsListReport
+  listed = by_status 8 IsListReport false≢true (at_eight o)
+
+  -- verdicts are right within the limits of the words
+  pub right_verdicts : (c : Option Command) → HasRunFor c o w ran → IfSome ran.report (λ r. IsThere c (λ d. AreVerdictsIn d.mode r.arena r.conditions r.verdicts))
+  right_verdicts = by_case (λ c. IfSome ran.report (λ r. IsThere c (λ d. AreVerdictsIn d.mode r.arena r.conditions r.verdicts)))
+      (λ unread none s written. if_same _ none tt)
+      (λ unread none s cut. if_same _ none tt)
+      (λ file f is r s written. if_same _ r (found file f is))
+      (λ file f is r s cut. if_same _ r (found file f is))
+      (λ file m. if_same _ m.report tt)
+    where
+      if_same : (P : Findings → Type 0) {o p : Option Findings} → o ≡ p → IfSome p P → IfSome o P
+      if_same P {o} {p} e h = subst (λ q. IfSome q P) (sym e) h
+
+      found : (d : Command) (f : Found) → IsFound o d f → IfSome (report f) (λ r. AreVerdictsIn d.mode r.arena r.conditions r.verdicts)
+      found d ReadFailed is = tt
+      found d (Refusing r) is = tt
+      found d (Reporting r) (read, report, same, told) = subst (λ (m : Mode). AreVerdictsIn m r.arena r.conditions r.verdicts) same report.is_on.verdicts
+
   pub correct : (c : Option Command) → HasRunFor c o w ran → ran.status ≡ 0 → IsThere ran.report (λ r. (world : Meaning) (p : Program) → IsReportOn p r → Correct p world)
-  correct c has e = map_there ran.report (proved c has e) (λ r h world p is. proved_correct r world (ap has_verdicts h.0) h.1 p is)
+  correct c has e = map_there ran.report (proved c has e) (λ r h world p is. proved_correct r world h.0 h.1 p is)
 
   -- the program of the told text is correct
   pub correct_of_text : IsOneProgram → (c : Option Command) → HasRunFor c o w ran → ran.status ≡ 0
@@ -112,25 +203,25 @@ module _ (o : Reading) (w : Writing) (ran : Ran) where
       (λ d f is r s cut e. absurd (false≢true (not_of (5 ∷ []) refl (sym s ∙ e))))
       (λ d m e. absurd (false≢true (not_of (6 ∷ []) refl (sym m.status ∙ e))))
     where
-      of : (told : Option (List ℕ)) (r : Findings) → r.mode ≡ mode.Verify → all_proved r.verdicts ≡ true → IfSome told (λ text. IsReportOf text r)
+      of : (told : Option (List ℕ)) (r : Findings) → has_verdicts r.mode ≡ true → all_proved r.verdicts ≡ true → IfSome told (λ text. IsReportOf text r)
           → IfSome told (λ text. (world : Meaning) (p : Program) → IsProgramOf text p → Correct p world)
       of None r same proved is = tt
-      of (Some text) r same proved is = λ world p of_text. proved_correct r world (ap has_verdicts same) proved p (subst (λ (q : Program). IsReportOn q r) (one text is.program p is.of_text of_text) is.is_on)
+      of (Some text) r same proved is = λ world p of_text. proved_correct r world same proved p (subst (λ (q : Program). IsReportOn q r) (one text is.program p is.of_text of_text) is.is_on)
 
       found : (d : Command) (f : Found) → IsFound o d f → status f ≡ 0 → IfSome (o.told d.file) (λ text. (world : Meaning) (p : Program) → IsProgramOf text p → Correct p world)
       found d ReadFailed is e = absurd (false≢true (not_of (4 ∷ []) refl e))
       found d (Refusing r) is e = absurd (false≢true (not_of (3 ∷ []) refl e))
       found d (Reporting r) (read, report, same, told) e = let h = at_zero o d (Reporting r) (read, report, same, told) e in of (o.told d.file) r h.0 h.1 told
 
-  pub page_written : (c : Option Command) → HasRunFor c o w ran → IsOneOf (0 ∷ 1 ∷ 8 ∷ []) ran.status → IsThere ran.report (λ r. w.written_after ≡ added w.written_before (page r))
-  page_written = by_case (λ c. IsOneOf (0 ∷ 1 ∷ 8 ∷ []) ran.status → IsThere ran.report (λ r. w.written_after ≡ added w.written_before (page r)))
-      (λ unread none s written e. absurd (false≢true (not_of (0 ∷ 1 ∷ 8 ∷ []) e s)))
-      (λ unread none s cut e. absurd (false≢true (not_of (0 ∷ 1 ∷ 8 ∷ []) e s)))
-      (λ file f is r s written e. there (λ r. w.written_after ≡ added w.written_before (page r)) r (found file f (not_of (0 ∷ 1 ∷ 8 ∷ []) e s) written.written))
-      (λ file f is r s cut e. absurd (false≢true (not_of (0 ∷ 1 ∷ 8 ∷ []) e s)))
-      (λ file m e. absurd (false≢true (not_of (0 ∷ 1 ∷ 8 ∷ []) e m.status)))
+  pub page_written : (c : Option Command) → HasRunFor c o w ran → IsOneOf (0 ∷ 1 ∷ 2 ∷ 8 ∷ []) ran.status → IsThere ran.report (λ r. w.written_after ≡ added w.written_before (page r))
+  page_written = by_case (λ c. IsOneOf (0 ∷ 1 ∷ 2 ∷ 8 ∷ []) ran.status → IsThere ran.report (λ r. w.written_after ≡ added w.written_before (page r)))
+      (λ unread none s written e. absurd (false≢true (not_of (0 ∷ 1 ∷ 2 ∷ 8 ∷ []) e s)))
+      (λ unread none s cut e. absurd (false≢true (not_of (0 ∷ 1 ∷ 2 ∷ 8 ∷ []) e s)))
+      (λ file f is r s written e. there (λ r. w.written_after ≡ added w.written_before (page r)) r (found file f (not_of (0 ∷ 1 ∷ 2 ∷ 8 ∷ []) e s) written.written))
+      (λ file f is r s cut e. absurd (false≢true (not_of (0 ∷ 1 ∷ 2 ∷ 8 ∷ []) e s)))
+      (λ file m e. absurd (false≢true (not_of (0 ∷ 1 ∷ 2 ∷ 8 ∷ []) e m.status)))
     where
-      found : (c : Command) (f : Found) → IsOneOf (0 ∷ 1 ∷ 8 ∷ []) (status f) → w.written_after ≡ added w.written_before (output c.file f) → IsThere (report f) (λ r. w.written_after ≡ added w.written_before (page r))
+      found : (c : Command) (f : Found) → IsOneOf (0 ∷ 1 ∷ 2 ∷ 8 ∷ []) (status f) → w.written_after ≡ added w.written_before (output c.file f) → IsThere (report f) (λ r. w.written_after ≡ added w.written_before (page r))
       found file ReadFailed e h = absurd (false≢true e)
       found file (Refusing r) e h = absurd (false≢true e)
       found file (Reporting r) e h = h
@@ -139,7 +230,7 @@ module _ (o : Reading) (w : Writing) (ran : Ran) where
   part_written = by_case (λ c. ran.status ≡ 5 → (text : List ℕ) × IsDueFor c o.told o.faults_before o.faults_after ran.report text × AddsPrefix w.written_before w.written_after text)
       (λ unread none s written e. absurd (false≢true (not_of (7 ∷ []) refl (sym s ∙ e))))
       (λ unread none s cut e. (words_line, subst (λ r. IsDueFor None o.told o.faults_before o.faults_after r words_line) (sym none) refl, cut.prefix))
-      (λ file f is r s written e. absurd (false≢true (not_of (0 ∷ 1 ∷ 3 ∷ 4 ∷ 8 ∷ []) (found_status f) (sym s ∙ e))))
+      (λ file f is r s written e. absurd (false≢true (not_of (0 ∷ 1 ∷ 2 ∷ 3 ∷ 4 ∷ 8 ∷ []) (found_status f) (sym s ∙ e))))
       (λ file f is r s cut e. (output file.file f, subst (λ p. IsDueFor (Some file) o.told o.faults_before o.faults_after p (output file.file f)) (sym r) (due file f is), cut.prefix))
       (λ file m e. absurd (false≢true (not_of (6 ∷ []) refl (sym m.status ∙ e))))
     where
@@ -147,6 +238,37 @@ module _ (o : Reading) (w : Writing) (ran : Ran) where
       due file ReadFailed is = inl (refl, is.rose)
       due file (Refusing r) is = inr (r, is.1, refl)
       due file (Reporting r) is = refl
+
+  -- ---- completeness
+
+  pub complete_status : (c : Option Command) → HasRunFor c o w ran → IsThere c (λ d. IsThere (o.told d.file) (λ text. (r : Refusal) → IsRefused d.mode text r → ⊥))
+      → DidNotRise o.faults_before o.faults_after → DidNotRise w.faults_before w.faults_after → IsOneOf (0 ∷ 1 ∷ 2 ∷ 6 ∷ 8 ∷ []) ran.status
+  complete_status = by_case (λ c. IsThere c (λ d. IsThere (o.told d.file) (λ text. (r : Refusal) → IsRefused d.mode text r → ⊥))
+      → DidNotRise o.faults_before o.faults_after → DidNotRise w.faults_before w.faults_after → IsOneOf (0 ∷ 1 ∷ 2 ∷ 6 ∷ 8 ∷ []) ran.status)
+      (λ unread none s written h d k. absurd h)
+      (λ unread none s cut h d k. absurd h)
+      (λ file f is r s written h d k. not_of (0 ∷ 1 ∷ 2 ∷ 6 ∷ 8 ∷ []) (found file f is h d) (sym s))
+      (λ file f is r s cut h d k. absurd (rose_not w.faults_before w.faults_after cut.rose k))
+      (λ file m h d k. not_of (0 ∷ 1 ∷ 2 ∷ 6 ∷ 8 ∷ []) refl (sym m.status))
+    where
+      never : (told : Option (List ℕ)) (m : Mode) (r : Refusal) → IfSome told (λ text. IsRefused m text r) → IsThere told (λ text. (r : Refusal) → IsRefused m text r → ⊥) → ⊥
+      never None m r is h = h
+      never (Some text) m r is h = h r is
+
+      by_verdicts : (b n : Bool) → IsOneOf (0 ∷ 1 ∷ 2 ∷ 6 ∷ 8 ∷ []) (cond b 0 (cond n 2 1))
+      by_verdicts true n = refl
+      by_verdicts false true = refl
+      by_verdicts false false = refl
+
+      by_mode : (m : Mode) (verdicts : List Decided) → IsOneOf (0 ∷ 1 ∷ 2 ∷ 6 ∷ 8 ∷ []) (status_in m verdicts)
+      by_mode (mode.Verify limits) verdicts = by_verdicts (all_proved verdicts) (none_unproved verdicts)
+      by_mode mode.Conditions verdicts = refl
+
+      found : (c : Command) (f : Found) → IsFound o c f → IsThere (o.told c.file) (λ text. (r : Refusal) → IsRefused c.mode text r → ⊥) → DidNotRise o.faults_before o.faults_after
+          → IsOneOf (0 ∷ 1 ∷ 2 ∷ 6 ∷ 8 ∷ []) (status f)
+      found c ReadFailed is h d = absurd (rose_not o.faults_before o.faults_after is.rose d)
+      found c (Refusing r) is h d = absurd (never (o.told c.file) c.mode r is.1 h)
+      found c (Reporting r) is h d = by_mode r.mode r.verdicts
 
   -- ---- refusals
 

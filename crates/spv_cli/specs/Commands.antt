@@ -4,6 +4,7 @@ use Rattle.std.specs.List.{starts_with}
 use Rattle.std.specs.Str.{bytes_eq}
 use Rattle.spv_reports.specs.declared.mode.Mode.{Mode}
 use Rattle.spv_reports.specs.declared.mode.Mode.TheVariants.{Verify, Conditions}
+use Rattle.spv_reports.specs.Reports.{default_limits}
 
 -- what is asked of a file
 pub record Command : Type 0 where
@@ -11,7 +12,7 @@ pub record Command : Type 0 where
   pub file : List ℕ
 
 abbrev pub mode_of : List ℕ → Option Mode
-mode_of word = if bytes_eq word (codes "verify") then Some Verify else (if bytes_eq word (codes "conditions") then Some Conditions else None)
+mode_of word = if bytes_eq word (codes "verify") then Some (Verify default_limits) else (if bytes_eq word (codes "conditions") then Some Conditions else None)
 
 -- a file does not begin with `-`
 abbrev pub command_in : Option Mode → List ℕ → Option Command

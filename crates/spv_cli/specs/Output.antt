@@ -1,9 +1,9 @@
 -- What is written.
 use Rattle.std.specs.Prelude.{ℕ, List, [], ◌∷◌, ◌++◌, codes, decimal, if◌then◌else◌}
-use Rattle.spv_decision.specs.declared.verdict.Verdict.{Verdict}
+use Rattle.spv_decided.specs.declared.verdicts.Decided.{Decided}
 use Rattle.spv_reports.specs.declared.mode.Mode.{Mode}
 use Rattle.spv_reports.specs.declared.mode.Mode.TheVariants.{Verify, Conditions}
-use Rattle.spv_reports.specs.Reports.{Findings, all_proved}
+use Rattle.spv_reports.specs.Reports.{Findings, all_proved, none_unproved}
 use Rattle.spv_refusals.specs.declared.refusal.Refusal.{Refusal}
 use Rattle.spv_refusals.specs.Refusals.{reason, line_of, detail_of}
 
@@ -22,8 +22,12 @@ read_fault_line file = codes "READ FAULT " ++ file ++ codes "\n"
 abbrev pub words_line : List ℕ
 words_line = codes "WORDS\n"
 
-abbrev pub status_in : Mode → List Verdict → ℕ
-status_in Verify verdicts = if all_proved verdicts then 0 else 1
+-- all conditions are proved; or one is unproved; or neither, since the search gave up
+abbrev pub verdict_status : List Decided → ℕ
+verdict_status verdicts = if all_proved verdicts then 0 else (if none_unproved verdicts then 2 else 1)
+
+abbrev pub status_in : Mode → List Decided → ℕ
+status_in (Verify limits) verdicts = verdict_status verdicts
 status_in Conditions verdicts = 8
 
 -- the status of a page

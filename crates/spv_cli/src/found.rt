@@ -4,7 +4,7 @@ ghost use Rattle.std.specs.Prelude.{◌≡◌, IfErr, IfOk, OnErr};
 ghost use Rattle.spv_reports.specs.Reports.{IsReport};
 ghost use Rattle.spv_verify.specs.Causes.{IsCause};
 ghost use Rattle.spv_verify.specs.Refusals.{IsReportOf};
-ghost use Rattle.spv_cli.specs.Output.{status_in};
+ghost use Rattle.spv_cli.specs.Output as due;
 ghost use Rattle.spv_cli.specs.Runs as spec;
 ghost use Rattle.spv_cli.specs.Runs.{IsFound, MayBeRead};
 
@@ -12,7 +12,7 @@ use crate::output::{read_fault_line, refusal_line};
 use spv_io::{TextFault, Texts};
 use spv_lexer::LONGEST_TEXT;
 use spv_refusals::{Refusal, VerifyFault};
-use spv_reports::{Mode, Report, Verdict, all_proved};
+use spv_reports::{Decided, Mode, Report, all_proved, none_unproved};
 use spv_verify::{list, verify};
 use std::alloc::{AllocError, Global};
 
@@ -42,7 +42,7 @@ fn report_of(alloc: Global, mode: Mode, text: &[u8]) -> Result<Report, VerifyFau
     ensures cause { IfErr result (IsCause mode text.now) }
 {
     match mode {
-        Mode::Verify => verify(alloc, text),
+        Mode::Verify(limits) => verify(alloc, text, limits),
         Mode::Conditions => list(alloc, text),
     }
 }
@@ -92,12 +92,25 @@ pub(crate) fn output(alloc: Global, file: &str, found: &Found) -> Result<Vec<u8>
     }
 }
 
+// The status of verdicts.
+fn verdict_status(verdicts: &[Decided]) -> u8
+    ensures { result ≡ due.verdict_status verdicts.now }
+{
+    if all_proved(verdicts) {
+        0
+    } else if none_unproved(verdicts) {
+        2
+    } else {
+        1
+    }
+}
+
 // The status of a page.
-fn page_status(mode: Mode, verdicts: &[Verdict]) -> u8
-    ensures { result ≡ status_in mode verdicts.now }
+fn page_status(mode: &Mode, verdicts: &[Decided]) -> u8
+    ensures { result ≡ due.status_in mode.now verdicts.now }
 {
     match mode {
-        Mode::Verify => { if all_proved(verdicts) { 0 } else { 1 } }
+        Mode::Verify(_) => verdict_status(verdicts),
         Mode::Conditions => 8,
     }
 }

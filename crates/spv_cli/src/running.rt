@@ -6,9 +6,8 @@ ghost use Rattle.spv_io.specs.Sink.{added, AddsPrefix};
 ghost use Rattle.spv_io.specs.Texts.{named};
 ghost use Rattle.spv_meaning.specs.Correct.{Correct};
 ghost use Rattle.spv_logic.specs.Conditions.{Meaning};
-ghost use Rattle.spv_reports.specs.declared.mode.Mode.TheVariants as mode;
 ghost use Rattle.spv_program.specs.Programs.{Program};
-ghost use Rattle.spv_reports.specs.Reports.{IsReport, IsReportOn, all_proved};
+ghost use Rattle.spv_reports.specs.Reports.{AreVerdictsIn, IsReport, IsReportOn, all_proved, has_verdicts, none_unproved};
 ghost use Rattle.spv_listing.specs.Page.{page};
 ghost use Rattle.spv_refusals.specs.declared.refusal.Refusal.{Refusal};
 ghost use Rattle.spv_cli.specs.Commands as spec;
@@ -21,7 +20,7 @@ ghost use Rattle.spv_cli.specs.Promises.{IsOneOf, IsThere, IsTold, IsRefusalLine
 
 use crate::found::{NoMemory, find, into_report, output, status};
 use spv_io::{Failed, Sink, Texts};
-use spv_reports::{Mode, Report};
+use spv_reports::{Mode, Report, default_limits};
 use spv_term::World;
 use spv_verify::law_not_both;
 use std::alloc::{AllocError, Global};
@@ -29,16 +28,17 @@ use std::alloc::{AllocError, Global};
 /// How a run ended.
 #[derive(Drop)]
 pub struct Ran {
-    /// The status: 0 where every condition is proved, 1 where one is not, 3 where the text is refused,
-    /// 4 where it cannot be read, 5 where the output cannot be written, 6 for want of memory, 7 where
-    /// the words are no command, 8 where conditions alone were asked for.
+    /// The status: 0 where every condition is proved, 1 where one is unproved, 2 where none is and the
+    /// search gave up on one, 3 where the text is refused, 4 where it cannot be read, 5 where the output
+    /// cannot be written, 6 for want of memory, 7 where the words are no command, 8 where conditions alone
+    /// were asked for.
     pub status: u8,
     /// The report, where a page was due.
     pub report: Option<Report>,
 }
 
 // What the words ask of a file, if they are a command.
-#[derive(Clone, Copy)]
+#[derive(Drop)]
 struct Command<'a> {
     mode: Mode,
     file: &'a str,
@@ -49,7 +49,7 @@ fn mode_of(word: &str) -> Option<Mode>
     ensures { result ≡ spec.mode_of word.now }
 {
     if word == "verify" {
-        return Some(Mode::Verify);
+        return Some(Mode::Verify(default_limits()));
     }
     if word == "conditions" {
         return Some(Mode::Conditions);
@@ -199,20 +199,29 @@ pub fn run<W: World, T: Texts, K: Sink>(
 
     // Status 0 comes only where all is proved. The program that the report is on is correct then, in the world at hand and in every other;
     // and so is the program that the told text is.
-    ensures proved { result.status ≡ 0 → IsThere result.report (λ r. (r.mode ≡ mode.Verify) × IsTrue (all_proved r.verdicts)) }
+    ensures proved { result.status ≡ 0 → IsThere result.report (λ r. IsTrue (has_verdicts r.mode) × IsTrue (all_proved r.verdicts)) }
     ensures correct { result.status ≡ 0 → IsThere result.report (λ r. (p : Program) → IsReportOn p r → Correct p (W.apply world.now)) }
     ensures correct_everywhere { result.status ≡ 0 → IsThere result.report (λ r. (m : Meaning) (p : Program) → IsReportOn p r → Correct p m) }
     ensures correct_text { result.status ≡ 0 → IsThere (command_of (map string_bytes words.now))
         (λ c. IfSome (T.told texts.old c.file) (λ text. (m : Meaning) (p : Program) → IsProgramOf text p → Correct p m)) }
-    ensures unproved { result.status ≡ 1 → IsThere result.report (λ r. (r.mode ≡ mode.Verify) × (all_proved r.verdicts ≡ false)) }
-    ensures listed { result.status ≡ 8 → IsThere result.report (λ r. (r.mode ≡ mode.Conditions) × (r.verdicts ≡ [])) }
 
-    // A report is that of the told text, for what the words ask; its conditions are those of its program, and its verdicts are right.
+    // With status 1 a condition is unproved; with 2 none is, and the search gave up on one.
+    ensures unproved { result.status ≡ 1 → IsThere result.report (λ r. IsTrue (has_verdicts r.mode) × (none_unproved r.verdicts ≡ false)) }
+    ensures gave_up { result.status ≡ 2 → IsThere result.report
+        (λ r. IsTrue (has_verdicts r.mode) × IsTrue (none_unproved r.verdicts) × (all_proved r.verdicts ≡ false)) }
+    ensures listed { result.status ≡ 8 → IsThere result.report (λ r. (has_verdicts r.mode ≡ false) × (r.verdicts ≡ [])) }
+
+    // A report is that of the told text, for what the words ask, and its conditions are those of its program.
     ensures of_text { IfSome result.report (λ r. IsThere (command_of (map string_bytes words.now))
         (λ c. IfSome (T.told texts.old c.file) (λ text. IsReportOf text r))) }
     ensures mode { IfSome result.report (λ r. IsThere (command_of (map string_bytes words.now)) (λ c. r.mode ≡ c.mode)) }
     ensures findings { IfSome result.report IsReport }
-    ensures reported { IsSome result.report → IsOneOf (0 ∷ 1 ∷ 5 ∷ 8 ∷ []) result.status }
+    ensures reported { IsSome result.report → IsOneOf (0 ∷ 1 ∷ 2 ∷ 5 ∷ 8 ∷ []) result.status }
+
+    // Each verdict is right, within the limits of the words: what is proved has a proof that is accepted, what is unproved has a table
+    // that falsifies its condition, and where the search gave up its limit was reached.
+    ensures verdicts { IfSome result.report (λ r. IsThere (command_of (map string_bytes words.now))
+        (λ c. AreVerdictsIn c.mode r.arena r.conditions r.verdicts)) }
 
     // Status 3 comes exactly where the told text is refused, but for a failed write and want of memory.
     ensures refused { IsTold (map string_bytes words.now) (T.told texts.old) (λ c text. (r : Refusal) × IsRefused c.mode text r)
@@ -220,18 +229,21 @@ pub fn run<W: World, T: Texts, K: Sink>(
     ensures refusal { result.status ≡ 3 → IsThere (command_of (map string_bytes words.now))
         (λ c. (line : List ℕ) × IsRefusalLine (T.told texts.old) c line × (K.written sink.new ≡ added (K.written sink.old) line)) }
 
-    // A text that is not refused has a report, but for want of memory.
+    // A text that is not refused has a report, but for want of memory; and one of the statuses of a report, but for a failed write.
     ensures complete { IsTold (map string_bytes words.now) (T.told texts.old) (λ c text. (r : Refusal) → IsRefused c.mode text r → ⊥)
         → DidNotRise (T.faults texts.old) (T.faults texts.new) → IsSome result.report ⊎ (result.status ≡ 6) }
+    ensures complete_status { IsTold (map string_bytes words.now) (T.told texts.old) (λ c text. (r : Refusal) → IsRefused c.mode text r → ⊥)
+        → DidNotRise (T.faults texts.old) (T.faults texts.new) → DidNotRise (K.faults sink.old) (K.faults sink.new)
+        → IsOneOf (0 ∷ 1 ∷ 2 ∷ 6 ∷ 8 ∷ []) result.status }
 
     // Status 4 comes only where a read failed, and status 5 only where a write did.
     ensures read_fault { result.status ≡ 4 → Rose (T.faults texts.old) (T.faults texts.new) }
     ensures write_fault { result.status ≡ 5 → Rose (K.faults sink.old) (K.faults sink.new) }
-    ensures texts_sound { IsOneOf (0 ∷ 1 ∷ 3 ∷ 7 ∷ 8 ∷ []) result.status → T.faults texts.new ≡ T.faults texts.old }
-    ensures sink_sound { IsOneOf (0 ∷ 1 ∷ 3 ∷ 4 ∷ 6 ∷ 7 ∷ 8 ∷ []) result.status → K.faults sink.new ≡ K.faults sink.old }
+    ensures texts_sound { IsOneOf (0 ∷ 1 ∷ 2 ∷ 3 ∷ 7 ∷ 8 ∷ []) result.status → T.faults texts.new ≡ T.faults texts.old }
+    ensures sink_sound { IsOneOf (0 ∷ 1 ∷ 2 ∷ 3 ∷ 4 ∷ 6 ∷ 7 ∷ 8 ∷ []) result.status → K.faults sink.new ≡ K.faults sink.old }
 
     // What is written, where the sink tells it.
-    ensures page { IsOneOf (0 ∷ 1 ∷ 8 ∷ []) result.status → IsThere result.report
+    ensures page { IsOneOf (0 ∷ 1 ∷ 2 ∷ 8 ∷ []) result.status → IsThere result.report
         (λ r. K.written sink.new ≡ added (K.written sink.old) (page r)) }
     ensures read_fault_line { result.status ≡ 4 → IsThere (command_of (map string_bytes words.now))
         (λ c. K.written sink.new ≡ added (K.written sink.old) (read_fault_line c.file)) }
@@ -243,12 +255,12 @@ pub fn run<W: World, T: Texts, K: Sink>(
 
     // The file is read at most once, and only for a command.
     ensures unread { command_of (map string_bytes words.now) ≡ None → T.asked texts.new ≡ T.asked texts.old }
-    ensures asked { IsOneOf (0 ∷ 1 ∷ 3 ∷ 4 ∷ 8 ∷ []) result.status → IsThere (command_of (map string_bytes words.now))
+    ensures asked { IsOneOf (0 ∷ 1 ∷ 2 ∷ 3 ∷ 4 ∷ 8 ∷ []) result.status → IsThere (command_of (map string_bytes words.now))
         (λ c. T.asked texts.new ≡ named (T.asked texts.old) c.file) }
     ensures once { IfSome (command_of (map string_bytes words.now))
         (λ c. (T.asked texts.new ≡ T.asked texts.old) ⊎ (T.asked texts.new ≡ named (T.asked texts.old) c.file)) }
 
-    ensures statuses { IsOneOf (0 ∷ 1 ∷ 3 ∷ 4 ∷ 5 ∷ 6 ∷ 7 ∷ 8 ∷ []) result.status }
+    ensures statuses { IsOneOf (0 ∷ 1 ∷ 2 ∷ 3 ∷ 4 ∷ 5 ∷ 6 ∷ 7 ∷ 8 ∷ []) result.status }
 {
     law_not_both();
     let _ = world;

@@ -1,12 +1,12 @@
 -- Texts that are added one after the other.
-use Rattle.std.proofs.Common.{◌≡◌, ℕ, zero, suc, ◌<◌, ◌≤◌, ◌+◌, List, [], ◌∷◌, ◌++◌, map, length, take, get_or, Option, refl, sym, ap, ◌∙◌, append_assoc, append-nil, arith}
+use Rattle.std.proofs.Common.{◌≡◌, ℕ, zero, suc, ◌<◌, ◌≤◌, ◌+◌, List, [], ◌∷◌, ◌++◌, length, take, get_or, Option, refl, sym, ap, ◌∙◌, append_assoc, append-nil, arith}
 use Rattle.spv_names.specs.declared.names.Symbol.{Symbol}
 use Rattle.spv_term.specs.declared.nodes.Condition.{Condition}
 use Rattle.spv_term.specs.Arena.{Arena}
-use Rattle.spv_decision.specs.declared.verdict.Verdict.{Verdict}
-use Rattle.spv_decision.specs.Verdicts.{IsVerdict, AreVerdicts}
+use Rattle.spv_decided.specs.declared.verdicts.Decided.{Decided}
+use Rattle.spv_decided.specs.Views.{VerdictIn}
 use Rattle.spv_assign.specs.Conditions.{AreIn, IsIn, condition_of, conditions_of}
-use Rattle.spv_listing.specs.Page.{claim_lines, claims, condition_lines, blocks}
+use Rattle.spv_listing.specs.Page.{claim_lines, claims, condition_lines, blocks, AreDecided}
 
 -- one text, and then another
 pub then_added : {A : Type 0} (o p q a b : List A) → p ≡ o ++ a → q ≡ p ++ b → q ≡ o ++ (a ++ b)
@@ -20,13 +20,13 @@ not_below_zero k h = grind (arith)
 below : (k n : ℕ) → suc k < suc n → k < n
 below k n h = grind (arith)
 
-pub same_length : (a : Arena) (cs : List Condition) (vs : List Verdict) → AreVerdicts a cs vs → length cs ≡ length vs
+pub same_length : (a : Arena) (cs : List Condition) (vs : List Decided) → AreDecided cs vs → length cs ≡ length vs
 same_length a [] [] right = refl
 same_length a [] (v ∷ vs) right = absurd right
 same_length a (c ∷ cs) [] right = absurd right
 same_length a (c ∷ cs) (v ∷ vs) right = ap suc (same_length a cs vs right.1)
 
-pub verdict_at : (a : Arena) (cs : List Condition) (vs : List Verdict) (k : ℕ) (c : Condition) (v : Verdict) → AreVerdicts a cs vs → k < length cs → IsVerdict a (get_or cs k c) (get_or vs k v)
+pub verdict_at : (a : Arena) (cs : List Condition) (vs : List Decided) (k : ℕ) (c : Condition) (v : Decided) → AreDecided cs vs → k < length cs → VerdictIn (get_or vs k v).terms (get_or vs k v).verdict
 verdict_at a [] vs k c v right within = absurd (not_below_zero k within)
 verdict_at a (d ∷ cs) [] k c v right within = absurd right
 verdict_at a (d ∷ cs) (w ∷ vs) zero c v right within = right.0
@@ -34,31 +34,31 @@ verdict_at a (d ∷ cs) (w ∷ vs) (suc k) c v right within = verdict_at a cs vs
 
 -- ---- blocks
 
-pub blocks_more : (names : List (List ℕ)) (titles : List (Option Symbol)) (a : Arena) (n : ℕ) (cs : List Condition) (vs : List Verdict) (k : ℕ) (c : Condition) (v : Verdict)
-    → AreVerdicts a cs vs → k < length cs
-    → blocks names titles a n (conditions_of a (take (suc k) cs)) (take (suc k) vs)
-    ≡ blocks names titles a n (conditions_of a (take k cs)) (take k vs) ++ condition_lines names titles a (k + n) (condition_of a (get_or cs k c)) (get_or vs k v)
+pub blocks_more : (names : List (List ℕ)) (titles : List (Option Symbol)) (a : Arena) (n : ℕ) (cs : List Condition) (vs : List Decided) (k : ℕ) (c : Condition) (v : Decided)
+    → AreDecided cs vs → k < length cs
+    → blocks names titles n (conditions_of a (take (suc k) cs)) (take (suc k) vs)
+    ≡ blocks names titles n (conditions_of a (take k cs)) (take k vs) ++ condition_lines names titles (k + n) (condition_of a (get_or cs k c)) (get_or vs k v)
 blocks_more names titles a n [] vs k c v right within = absurd (not_below_zero k within)
 blocks_more names titles a n (d ∷ cs) [] k c v right within = absurd right
 blocks_more names titles a n (d ∷ cs) (w ∷ vs) zero c v right within =
-    append-nil (condition_lines names titles a n (condition_of a d) w) ∙ ap (λ m. condition_lines names titles a m (condition_of a d) w) (plain n)
+    append-nil (condition_lines names titles n (condition_of a d) w) ∙ ap (λ m. condition_lines names titles m (condition_of a d) w) (plain n)
   where
     plain : (i : ℕ) → i ≡ 0 + i
     plain i = grind (arith)
 blocks_more names titles a n (d ∷ cs) (w ∷ vs) (suc k) c v right within =
-    let here = condition_lines names titles a n (condition_of a d) w in
-    let later : ℕ → List ℕ = λ m. condition_lines names titles a m (condition_of a (get_or cs k c)) (get_or vs k v) in
+    let here = condition_lines names titles n (condition_of a d) w in
+    let later : ℕ → List ℕ = λ m. condition_lines names titles m (condition_of a (get_or cs k c)) (get_or vs k v) in
     let more = blocks_more names titles a (suc n) cs vs k c v right.1 (below k (length cs) within) in
     ap (λ l. here ++ l) more
-    ∙ sym (append_assoc here (blocks names titles a (suc n) (conditions_of a (take k cs)) (take k vs)) (later (k + suc n)))
-    ∙ ap (λ m. (here ++ blocks names titles a (suc n) (conditions_of a (take k cs)) (take k vs)) ++ later m) (shift k n)
+    ∙ sym (append_assoc here (blocks names titles (suc n) (conditions_of a (take k cs)) (take k vs)) (later (k + suc n)))
+    ∙ ap (λ m. (here ++ blocks names titles (suc n) (conditions_of a (take k cs)) (take k vs)) ++ later m) (shift k n)
   where
     shift : (i j : ℕ) → i + suc j ≡ suc i + j
     shift i j = grind (arith)
 
 -- from the length on, all are taken
-pub blocks_all : (names : List (List ℕ)) (titles : List (Option Symbol)) (a : Arena) (n : ℕ) (cs : List Condition) (vs : List Verdict) (k : ℕ)
-    → AreVerdicts a cs vs → length cs ≤ k → blocks names titles a n (conditions_of a (take k cs)) (take k vs) ≡ blocks names titles a n (conditions_of a cs) vs
+pub blocks_all : (names : List (List ℕ)) (titles : List (Option Symbol)) (a : Arena) (n : ℕ) (cs : List Condition) (vs : List Decided) (k : ℕ)
+    → AreDecided cs vs → length cs ≤ k → blocks names titles n (conditions_of a (take k cs)) (take k vs) ≡ blocks names titles n (conditions_of a cs) vs
 blocks_all names titles a n [] [] zero right all = refl
 blocks_all names titles a n [] [] (suc k) right all = refl
 blocks_all names titles a n [] (v ∷ vs) k right all = absurd right
@@ -68,7 +68,7 @@ blocks_all names titles a n (c ∷ cs) (v ∷ vs) zero right all = absurd (none 
     none : (i : ℕ) → suc i ≤ 0 → ⊥
     none i h = grind (arith)
 blocks_all names titles a n (c ∷ cs) (v ∷ vs) (suc k) right all =
-    ap (λ l. condition_lines names titles a n (condition_of a c) v ++ l) (blocks_all names titles a (suc n) cs vs k right.1 (less (length cs) k all))
+    ap (λ l. condition_lines names titles n (condition_of a c) v ++ l) (blocks_all names titles a (suc n) cs vs k right.1 (less (length cs) k all))
   where
     less : (i j : ℕ) → suc i ≤ suc j → i ≤ j
     less i j h = grind (arith)

@@ -2,7 +2,6 @@
 #![tactic(auto)]
 
 mod listing;
-mod printed;
 
 pub use listing::{page, push_claim};
-pub use printed::{push_head, push_term};
+pub use spv_printed::{push_head, push_term};

@@ -14,11 +14,21 @@ use Rattle.spv_course.specs.declared.entries.Entry.{Entry}
 use Rattle.spv_course.specs.declared.entries.Entry.TheVariants.{Told, Derived}
 use Rattle.spv_course.specs.Course.{added_by, literal}
 use Rattle.spv_course.proofs.Growth.{numbered-more, numbered-push}
-use Rattle.spv_paths.specs.Paths.{fact_in, facts_from, facts_in, Follow, AreCases, IsPath}
+use Rattle.spv_paths.specs.Paths.{fact_in, facts_from, facts_in, Follow, AreCases, AreSearchSteps, IsPath, IsSearchStep}
 use Rattle.spv_paths.specs.Laws.{GoesOn}
 
 abbrev entries_of : List Entry → List Entry
 entries_of es = es
+
+search-append : (es more : List Entry) → AreSearchSteps es → AreSearchSteps more → AreSearchSteps (es ++ more)
+search-append [] more h k = k
+search-append (e ∷ es) more h k = (h.0, search-append es more h.1 k)
+
+search-take : (es : List Entry) (count : ℕ) → AreSearchSteps es → AreSearchSteps (take count es)
+search-take [] zero h = tt
+search-take [] (suc count) h = tt
+search-take (e ∷ es) zero h = tt
+search-take (e ∷ es) (suc count) h = (h.0, search-take es count h.1)
 
 module _ (q : Question) where
   facts-append : (before : List Term) (es more : List Entry) → facts_from q before (es ++ more) ≡ facts_from q (facts_from q before es) more
@@ -39,7 +49,7 @@ module _ (q : Question) where
   no_entry i e h = cc
 
   pub begins : IsPath q [] []
-  begins = record { follow = tt; cases_are = record { each = λ i t part why at. absurd (no_entry i (Told t part why) at) } }
+  begins = record { follow = tt; steps = tt; cases_are = record { each = λ i t part why at. absurd (no_entry i (Told t part why) at) } }
 
   -- one entry more, where it is a case if it is told
   cases-push : (cases : List Term) (es : List Entry) (e : Entry) → AreCases q cases es → ((t : TermId) (part : Part) (why : ℕ) → e ≡ Told t part why → numbered cases why ≡ Some (literal (q.at t) part)) → AreCases q cases (es ++ e ∷ [])
@@ -65,6 +75,7 @@ module _ (q : Question) where
   case_behind cases es t part h = record {
     path = record {
       follow = follow-append [] es (Told t part (length cases + 1) ∷ []) h.follow (tt, tt);
+      steps = search-append es (Told t part (length cases + 1) ∷ []) h.steps (tt, tt);
       cases_are = cases-push (cases ++ literal (q.at t) part ∷ []) es (Told t part (length cases + 1)) (cases-more cases (literal (q.at t) part ∷ []) es h.cases_are) last;
     };
     facts_are = facts-append [] es (Told t part (length cases + 1) ∷ []);
@@ -80,10 +91,11 @@ module _ (q : Question) where
   no_told : (s : Step) (t : TermId) (part : Part) (why : ℕ) → Derived s ≡ Told t part why → ⊥
   no_told s t part why e = cc
 
-  pub step_behind : (cases : List Term) (es : List Entry) (s : Step) (t : Term) → IsPath q cases es → effect q (facts_in q es) s ≡ Adds t → GoesOn q cases es (es ++ Derived s ∷ []) t
-  step_behind cases es s t h adds = record {
+  pub step_behind : (cases : List Term) (es : List Entry) (s : Step) (t : Term) → IsPath q cases es → IsSearchStep s → effect q (facts_in q es) s ≡ Adds t → GoesOn q cases es (es ++ Derived s ∷ []) t
+  step_behind cases es s t h own adds = record {
     path = record {
       follow = follow-append [] es (Derived s ∷ []) h.follow ((t, adds), tt);
+      steps = search-append es (Derived s ∷ []) h.steps (own, tt);
       cases_are = cases-push cases es (Derived s) h.cases_are (λ u part why e. absurd (no_told s u part why e));
     };
     facts_are = facts-append [] es (Derived s ∷ []) ∙ ap (λ (x : Effect). facts_in q es ++ added_by x ∷ []) adds;
@@ -111,6 +123,7 @@ module _ (q : Question) where
       → ((i : ℕ) (t : TermId) (part : Part) (why : ℕ) → i < count → slice_get es i ≡ Some (Told t part why) → why ≤ length cases) → IsPath q cases (take count es)
   first_path cases more es count h own = record {
     follow = follow-take [] es count h.follow;
+    steps = search-take es count h.steps;
     cases_are = record {
       each = λ i t part why at.
           let k = take-at es i count (Told t part why) at in

@@ -1,3 +1,4 @@
 mod Turning
 pub mod Following
 pub mod Behind
+pub mod Within

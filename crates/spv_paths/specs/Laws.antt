@@ -2,16 +2,19 @@
 use Rattle.std.specs.Prelude.{◌≡◌, ℕ, ◌+◌, ◌<◌, ◌≤◌, List, [], ◌∷◌, ◌++◌, take, length, Option, Some, slice_get}
 use Rattle.spv_logic.specs.declared.conditions.TermId.{TermId}
 use Rattle.spv_logic.specs.Terms.{Term}
+use Rattle.spv_term.specs.declared.nodes.Condition.{Condition}
+use Rattle.spv_term.specs.Arena.{Arena}
 use Rattle.spv_atoms.specs.declared.proofs.Step.{Step}
 use Rattle.spv_atoms.specs.declared.proofs.Step.TheVariants.{Contra}
 use Rattle.spv_proof.specs.Effects.{Question, Adds, effect}
 use Rattle.spv_proof.specs.Accepted.{Closed, walk}
+use Rattle.spv_proof.specs.Stand.{question, StepsIn}
 use Rattle.spv_course.specs.declared.entries.Part.{Part}
 use Rattle.spv_course.specs.declared.entries.Entry.{Entry}
 use Rattle.spv_course.specs.declared.entries.Entry.TheVariants.{Told, Derived}
-use Rattle.spv_course.specs.Course.{literal}
+use Rattle.spv_course.specs.Course.{IsCourse, literal}
 use Rattle.spv_course.specs.Steps.{closing_steps_of}
-use Rattle.spv_paths.specs.Paths.{facts_in, IsPath, as_entries}
+use Rattle.spv_paths.specs.Paths.{facts_in, EntriesIn, IsPath, IsSearchStep, as_entries}
 
 -- at its start a path has no facts
 abbrev pub BeginsEmpty : Type 0
@@ -27,8 +30,9 @@ abbrev pub CasesComeBehind : Type 0
 CasesComeBehind = (q : Question) (cases : List Term) (es : List Entry) (t : TermId) (part : Part) → IsPath q cases es
     → GoesOn q (cases ++ literal (q.at t) part ∷ []) es (es ++ Told t part (length cases + 1) ∷ []) (literal (q.at t) part)
 
+-- so has the fact of a step that a search puts there
 abbrev pub StepsComeBehind : Type 0
-StepsComeBehind = (q : Question) (cases : List Term) (es : List Entry) (s : Step) (t : Term) → IsPath q cases es → effect q (facts_in q es) s ≡ Adds t → GoesOn q cases es (es ++ Derived s ∷ []) t
+StepsComeBehind = (q : Question) (cases : List Term) (es : List Entry) (s : Step) (t : Term) → IsPath q cases es → IsSearchStep s → effect q (facts_in q es) s ≡ Adds t → GoesOn q cases es (es ++ Derived s ∷ []) t
 
 -- the first facts of a path are one, also with its cases alone that are told among them
 abbrev pub FirstArePath : Type 0
@@ -39,3 +43,11 @@ FirstArePath = (q : Question) (cases more : List Term) (es : List Entry) (count 
 abbrev pub StepsClose : Type 0
 StepsClose = (q : Question) (cases : List Term) (es : List Entry) (front : List Step) (first : ℕ) (second : Option ℕ) → IsPath q cases es → walk q (facts_in q es) (front ++ Contra first second ∷ []) ≡ Closed
     → walk q cases (closing_steps_of (length cases) (es ++ as_entries front) first second) ≡ Closed
+
+-- the terms that the steps of a path name are in the arena, since each of them adds a fact
+abbrev pub StepsAreIn : Type 0
+StepsAreIn = (a : Arena) (c : Condition) (cases : List Term) (es : List Entry) → IsPath (question a c) cases es → EntriesIn a es
+
+-- so are those of the closing steps of a course over the arena
+abbrev pub CoursesCloseIn : Type 0
+CoursesCloseIn = (a : Arena) (es : List Entry) (count first : ℕ) (second : Option ℕ) → IsCourse a es → StepsIn a (closing_steps_of count es first second)

@@ -2,9 +2,11 @@
 use Rattle.std.specs.Prelude.{◌≡◌, ℕ, List, [], ◌∷◌, ◌++◌, map, Option, Some, slice_get, ⊤}
 use Rattle.spv_logic.specs.declared.conditions.TermId.{TermId}
 use Rattle.spv_logic.specs.Terms.{Term}
+use Rattle.spv_term.specs.Arena.{Arena}
 use Rattle.spv_atoms.specs.declared.proofs.Step.{Step}
-use Rattle.spv_atoms.specs.declared.proofs.Step.TheVariants.{Contra}
+use Rattle.spv_atoms.specs.declared.proofs.Step.TheVariants.{Contra, Eval, Given}
 use Rattle.spv_proof.specs.Effects.{Question, Adds, effect, numbered}
+use Rattle.spv_proof.specs.Stand.{StepIn}
 use Rattle.spv_course.specs.declared.entries.Part.{Part}
 use Rattle.spv_course.specs.declared.entries.Entry.{Entry}
 use Rattle.spv_course.specs.declared.entries.Entry.TheVariants.{Told, Derived}
@@ -38,6 +40,21 @@ abbrev pub Follow : Question → List Term → List Entry → Type 0
 Follow q before [] = ⊤
 Follow q before (e ∷ es) = MayFollow q before e × Follow q (before ++ fact_in q before e ∷ []) es
 
+-- a step that a search puts on its path: a hypothesis, or that the goal is false; or an evaluation
+abbrev pub IsSearchStep : Step → Type 0
+IsSearchStep (Given k) = ⊤
+IsSearchStep (Eval s ks) = ⊤
+IsSearchStep _ = ⊥
+
+abbrev pub IsSearchEntry : Entry → Type 0
+IsSearchEntry (Told t part why) = ⊤
+IsSearchEntry (Derived s) = IsSearchStep s
+
+-- what is derived is so by such steps
+abbrev pub AreSearchSteps : List Entry → Type 0
+AreSearchSteps [] = ⊤
+AreSearchSteps (e ∷ es) = IsSearchEntry e × AreSearchSteps es
+
 -- what is told is one of these cases, by its number
 pub record AreCases (q : Question) (cases : List Term) (es : List Entry) : Type 0 where
   pub each : (i : ℕ) (t : TermId) (part : Part) (why : ℕ) → slice_get es i ≡ Some (Told t part why) → numbered cases why ≡ Some (literal (q.at t) part)
@@ -45,7 +62,19 @@ pub record AreCases (q : Question) (cases : List Term) (es : List Entry) : Type 
 -- entries are the facts of a path with these cases
 pub record IsPath (q : Question) (cases : List Term) (es : List Entry) : Type 0 where
   pub follow : Follow q [] es
+  pub steps : AreSearchSteps es
   pub cases_are : AreCases q cases es
+
+-- ---- arenas
+
+-- the terms that the step of an entry names are in an arena
+abbrev pub EntryIn : Arena → Entry → Type 0
+EntryIn a (Told t part why) = ⊤
+EntryIn a (Derived s) = StepIn a s
+
+abbrev pub EntriesIn : Arena → List Entry → Type 0
+EntriesIn a [] = ⊤
+EntriesIn a (e ∷ es) = EntryIn a e × EntriesIn a es
 
 -- ---- closing steps
 

@@ -3,7 +3,7 @@
 ghost use Rattle.std.specs.Prelude.{◌≡◌, ◌++◌, ◌∷◌, [], List, length, IfOk, OnOk};
 ghost use Rattle.spv_logic.specs.Terms.{Term};
 ghost use Rattle.spv_proof.specs.Accepted.{Closed, walk};
-ghost use Rattle.spv_proof.specs.Stand.{question};
+ghost use Rattle.spv_proof.specs.Stand.{question, StepsIn};
 ghost use Rattle.spv_atoms.specs.declared.proofs.Step.TheVariants as step;
 ghost use Rattle.spv_paths.specs.Paths.{as_entries, EndsPath, facts_in, IsClosing, IsGrown, IsPath, turned};
 
@@ -73,8 +73,8 @@ fn close(
 }
 
 /// The steps that close a path behind its cases, from steps that close it behind all its facts: those of its other facts come first, and
-/// the numbers are changed. The path is as it was. `cases` is how many cases it has. Where a number would be too large the answer is want
-/// of memory.
+/// the numbers are changed. The terms that they name are in the arena where those of the given steps are. The path is as it was. `cases` is
+/// how many cases it has. Where a number would be too large the answer is want of memory.
 pub fn closed_behind(
     alloc: Global,
     terms: &Terms,
@@ -86,6 +86,8 @@ pub fn closed_behind(
     requires closes { walk (question terms.now condition.now) (facts_in (question terms.now condition.now) path.old) steps.items ≡ Closed }
     ensures closes { IfOk result (λ v. (known : List Term) → length known ≡ cases → IsPath (question terms.now condition.now) known path.old
         → walk (question terms.now condition.now) known v.items ≡ Closed) }
+    ensures within { IfOk result (λ v. (known : List Term) → IsPath (question terms.now condition.now) known path.old
+        → StepsIn terms.now steps.items → StepsIn terms.now v.items) }
     ensures path { path.new ≡ path.old }
 {
     let _ = terms;

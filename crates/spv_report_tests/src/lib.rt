@@ -1,9 +1,9 @@
-//! What no clause says of the conditions that are decided today: their checker, their decision and their reports.
+//! What no clause says of reports: what they hold, worked searches within limits, and what tables have to meet.
 #![tactic(auto)]
 
 #[cfg(test)]
-mod checks;
-#[cfg(test)]
-mod decisions;
+mod limits;
 #[cfg(test)]
 mod reports;
+#[cfg(test)]
+mod tables;

@@ -1,3 +1,2 @@
-pub mod Heads
-pub mod Forms
+pub mod Proved
 pub mod Reports

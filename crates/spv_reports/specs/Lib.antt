@@ -1,3 +1,1 @@
 pub mod Reports
-pub mod Parts
-pub mod Heads

@@ -1,8 +1,7 @@
 -- Reports, and what each keeps.
-use Rattle.std.specs.Prelude.{◌≡◌, ⊤, ℕ, Bool, true, false, ◌&&◌, not, List, [], Option, None, IsTrue}
+use Rattle.std.specs.Prelude.{◌≡◌, ⊤, ℕ, Bool, true, false, not, List, [], ◌∷◌, Option, None, IsTrue}
 use Rattle.std.specs.List.{list_all}
 use Rattle.spv_names.specs.declared.names.Symbol.{Symbol}
-use Rattle.spv_logic.specs.Conditions as logic
 use Rattle.spv_logic.specs.Conditions.{Meaning}
 use Rattle.spv_term.specs.declared.nodes.Condition.{Condition}
 use Rattle.spv_term.specs.Arena.{Arena, IsArena}
@@ -17,53 +16,75 @@ use Rattle.spv_events.specs.declared.faults.GenFault.{GenFault}
 use Rattle.spv_events.specs.declared.faults.GenFault.TheVariants as limit
 use Rattle.spv_events.specs.Events.{Walked}
 use Rattle.spv_conditions.specs.Making.{main_events, empty_arena, MeetsLimit, IsWithinLimits}
-use Rattle.spv_decision.specs.declared.verdict.Verdict.{Verdict}
-use Rattle.spv_decision.specs.declared.verdict.Verdict.TheVariants.{Proved, Unproved}
-use Rattle.spv_decision.specs.Forms.{is_conjunction}
-use Rattle.spv_decision.specs.Verdicts.{AreVerdicts}
+use Rattle.spv_verdicts.specs.Verdicts.{Limits}
+use Rattle.spv_decided.specs.declared.verdicts.Decided.{Decided}
+use Rattle.spv_decided.specs.declared.verdicts.Verdict.{Verdict}
+use Rattle.spv_decided.specs.declared.verdicts.Verdict.TheVariants.{Proved, Unproved, GaveUp}
+use Rattle.spv_decided.specs.Views.{IsDecided}
+use Rattle.spv_taken.specs.Taken.{is_taken}
 use Rattle.spv_reports.specs.declared.mode.Mode.{Mode}
 use Rattle.spv_reports.specs.declared.mode.Mode.TheVariants.{Verify, Conditions}
 use Rattle.spv_reports.specs.declared.fault.ReportFault.{ReportFault}
-use Rattle.spv_reports.specs.declared.fault.ReportFault.TheVariants.{Form, Stopped, Undecided}
+use Rattle.spv_reports.specs.declared.fault.ReportFault.TheVariants.{Form, Stopped, NotTaken}
 
 -- what contracts see of a report: the names of its program and the first names of its types, its conditions over an arena, what it is
--- for, and the verdicts
+-- for, and what was decided of each condition
 pub record Findings : Type 0 where
   pub names : List (List ℕ)
   pub titles : List (Option Symbol)
   pub arena : Arena
   pub conditions : List Condition
   pub mode : Mode
-  pub verdicts : List Verdict
+  pub verdicts : List Decided
 
--- ---- conditions that are decided so far
+abbrev pub findings : List (List ℕ) → List (Option Symbol) → Arena → List Condition → Mode → List Decided → Findings
+findings names titles arena conditions mode verdicts =
+    record { names = names; titles = titles; arena = arena; conditions = conditions; mode = mode; verdicts = verdicts }
 
-abbrev pub is_decided : logic.Condition → Bool
-is_decided c = list_all is_conjunction c.claim.given && is_conjunction c.claim.goal
+-- ---- what a report is for
 
-abbrev pub are_decided : List logic.Condition → Bool
-are_decided conditions = list_all is_decided conditions
+-- the limits of a search where none are given
+abbrev pub default_limits : Limits
+default_limits = record { splits = 20000; pivots = 5000 }
+
+abbrev pub has_verdicts : Mode → Bool
+has_verdicts (Verify limits) = true
+has_verdicts Conditions = false
+
+-- where verdicts are wanted, the program is one of those that are verified so far
+abbrev pub IsTakenFor : Mode → Program → Type 0
+IsTakenFor (Verify limits) p = is_taken p ≡ true
+IsTakenFor Conditions p = ⊤
 
 -- ---- verdicts
 
-abbrev pub has_verdicts : Mode → Bool
-has_verdicts Verify = true
-has_verdicts Conditions = false
+-- within these limits one decision on each condition, and in that order
+abbrev pub AreVerdicts : Arena → Limits → List Condition → List Decided → Type 0
+AreVerdicts a limits [] [] = Unit {0}
+AreVerdicts a limits (c ∷ cs) (d ∷ ds) = IsDecided a c limits d × AreVerdicts a limits cs ds
+AreVerdicts a limits _ _ = ⊥
 
--- a report of conditions alone has no verdict; every other one has a right one on each condition, in their order
-abbrev pub AreVerdictsIn : Mode → Arena → List Condition → List Verdict → Type 0
-AreVerdictsIn Verify a conditions verdicts = AreVerdicts a conditions verdicts × IsTrue (are_decided (conditions_of a conditions))
+-- a report of conditions alone has no verdict; every other one has a right one on each condition, in their order, within its limits
+abbrev pub AreVerdictsIn : Mode → Arena → List Condition → List Decided → Type 0
+AreVerdictsIn (Verify limits) a conditions verdicts = AreVerdicts a limits conditions verdicts
 AreVerdictsIn Conditions a conditions verdicts = verdicts ≡ []
 
 abbrev pub is_proved : Verdict → Bool
-is_proved (Proved p) = true
+is_proved (Proved nodes) = true
 is_proved (Unproved u) = false
+is_proved (GaveUp l) = false
 
 abbrev pub is_unproved : Verdict → Bool
-is_unproved v = not (is_proved v)
+is_unproved (Proved nodes) = false
+is_unproved (Unproved u) = true
+is_unproved (GaveUp l) = false
 
-abbrev pub all_proved : List Verdict → Bool
-all_proved verdicts = list_all is_proved verdicts
+-- the outcome of a report is one of three: all its conditions are proved, or one is unproved, or none is and the search gave up
+abbrev pub all_proved : List Decided → Bool
+all_proved verdicts = list_all (λ d. is_proved d.verdict) verdicts
+
+abbrev pub none_unproved : List Decided → Bool
+none_unproved verdicts = list_all (λ d. not (is_unproved d.verdict)) verdicts
 
 -- ---- reports
 
@@ -72,6 +93,7 @@ pub record IsReportOn (p : Program) (r : Findings) : Type 0 where
   pub typed : IsTrue (well_typed p)
   pub framed : frame_fault p ≡ None
   pub covered : IsTrue (only_control p)
+  pub taken : IsTakenFor r.mode p
   pub sound : IsArena r.arena
   pub shapes : r.arena.shapes ≡ shapes p
   pub decls : r.arena.decls ≡ p.symbols
@@ -86,22 +108,23 @@ pub record IsReport (r : Findings) : Type 0 where
   pub program : Program
   pub is_on : IsReportOn program r
 
--- the program that a report is on is correct in a world where the report has verdicts and none of them is unproved
+-- the program that a report is on is correct in a world where the report has verdicts and all of them are Proved
 abbrev pub ProvedIsCorrectIn : Findings → Meaning → Type 0
 ProvedIsCorrectIn r world = IsTrue (has_verdicts r.mode) → IsTrue (all_proved r.verdicts) → (p : Program) → IsReportOn p r → Correct p world
 
 -- ---- why there is none
 
--- a condition is of a form that is not decided; want of memory has no cause
-abbrev pub IsUndecidedIn : Mode → List logic.Condition → ReportFault → Type 0
-IsUndecidedIn mode conditions Undecided = (has_verdicts mode ≡ true) × (are_decided conditions ≡ false)
-IsUndecidedIn mode conditions (Stopped limit.Memory) = ⊤
-IsUndecidedIn mode conditions _ = ⊥
+-- verdicts are wanted on a program that is not verified so far; want of memory has no cause
+abbrev pub IsNotTakenIn : Mode → Program → ReportFault → Type 0
+IsNotTakenIn mode p NotTaken = (has_verdicts mode ≡ true) × (is_taken p ≡ false)
+IsNotTakenIn mode p (Stopped limit.Memory) = ⊤
+IsNotTakenIn mode p _ = ⊥
 
--- the program is of no form whose conditions are made, or they meet a limit, or one of them is not decided; want of memory has no cause
+-- the program is of no form whose conditions are made, or they meet a limit, or verdicts are wanted and it is not verified so far; want
+-- of memory has no cause
 abbrev pub IsReportFault : Program → Mode → ReportFault → Type 0
 IsReportFault p mode Form = only_control p ≡ false
 IsReportFault p mode (Stopped limit.Memory) = ⊤
 IsReportFault p mode (Stopped e) = (only_control p ≡ true) × MeetsLimit e p
-IsReportFault p mode Undecided =
-    (only_control p ≡ true) × IsWithinLimits p × (has_verdicts mode ≡ true) × (are_decided (program.conditions_of p) ≡ false)
+IsReportFault p mode NotTaken =
+    (only_control p ≡ true) × IsWithinLimits p × (has_verdicts mode ≡ true) × (is_taken p ≡ false)

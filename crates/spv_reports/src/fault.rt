@@ -17,9 +17,9 @@ pub enum ReportFault {
     /// Its conditions meet a limit, or there is no memory left.
     #[error("{0}")]
     Stopped(GenFault),
-    /// It has a condition that is not decided so far.
-    #[error("a condition is of a form that is not decided")]
-    Undecided,
+    /// It is no program that is verified so far.
+    #[error("no program of this form is verified")]
+    NotTaken,
 }
 
 impl From<AllocError> for ReportFault {

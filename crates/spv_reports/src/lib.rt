@@ -1,12 +1,15 @@
-//! Reports: a program, its conditions, and where they are decided a verdict on each.
+//! Reports: a program's conditions, and where verdicts are wanted what was decided of each.
 #![tactic(auto)]
 
-mod deciding;
 mod fault;
+mod limits;
 mod mode;
 mod report;
+mod verdicts;
 
 pub use fault::ReportFault;
+pub use limits::default_limits;
 pub use mode::Mode;
-pub use report::{Report, all_proved, law_report, report_on};
-pub use spv_decision::{Branch, Table, Unproved, Verdict, Verdicts};
+pub use report::{Report, law_report};
+pub use spv_decided::{Decided, Limit, Limits, Unproved, Verdict, Wide};
+pub use verdicts::{all_proved, is_proved, is_unproved, none_unproved};

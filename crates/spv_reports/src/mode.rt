@@ -1,10 +1,12 @@
 // What a report is for.
 
+use spv_decided::Limits;
+
 /// What a report is for.
-#[derive(Clone, Copy, PartialEq, Eq, Debug)]
+#[derive(Debug, Drop)]
 pub enum Mode {
-    /// A verdict on each condition.
-    Verify,
+    /// A verdict on each condition, within these limits.
+    Verify(Limits),
     /// The conditions alone.
     Conditions,
 }

@@ -6,9 +6,11 @@ use Rattle.spv_term.specs.Arena.{Arena}
 use Rattle.spv_atoms.specs.declared.proofs.Step.{Step}
 use Rattle.spv_proof.specs.Accepted as accepted
 use Rattle.spv_proof.specs.Accepted.{walk}
+use Rattle.spv_proof.specs.Stand.{StepsIn}
 use Rattle.spv_course.specs.Course.{asked, IsCourse}
-use Rattle.spv_course.specs.Steps.{AreTold, IsEnd}
+use Rattle.spv_course.specs.Steps.{AreTold, closing_steps_of, IsEnd}
 use Rattle.spv_course.proofs.Literals.{are_told}
+use Rattle.spv_paths.proofs.Within.{course_closes_in}
 use Rattle.spv_share_graph.specs.Holding.{HasNoClash}
 use Rattle.spv_share_rows.specs.declared.standing.Standing.{Standing}
 use Rattle.spv_share.specs.declared.both.Both.{Both}
@@ -47,11 +49,12 @@ if_none b (Some x) h e = absurd (cc)
 -- steps that close the path
 pub closed_by : (a : Arena) (b : Both) (count : ℕ) (steps : List Step) (o : Outcome) (first : ℕ) (second : Option ℕ) → IsBoth a b → IsOutcome a b o → o ≡ outcome.Ended first second
     → ((a : Arena) (c : Sequent) (known : List Term) → length known ≡ count → IsCourse a b.trail.course → AreTold a known b.trail.course → IsEnd a b.trail.course first second → walk (asked a c) known steps ≡ accepted.Closed)
-    → Closes a b count steps
-closed_by a b count steps o first second h k e closes = record {
+    → steps ≡ closing_steps_of count b.trail.course first second → Closes a b count steps
+closed_by a b count steps o first second h k e closes exact = record {
   ends = λ c known many are.
       let P : Outcome → Type 0 = λ x. IsOutcome a b x in
       closes a c known many h.sound.trail.course (are_told a known b.trail.course are) (subst P e k);
+  within = subst (StepsIn a) (sym exact) (course_closes_in a b.trail.course count first second h.sound.trail.course);
 }
 
 -- ---- a round without an outcome

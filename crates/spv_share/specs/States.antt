@@ -8,6 +8,7 @@ use Rattle.spv_term.specs.Arena.{Arena}
 use Rattle.spv_atoms.specs.declared.proofs.Step.{Step}
 use Rattle.spv_proof.specs.Accepted as accepted
 use Rattle.spv_proof.specs.Accepted.{walk}
+use Rattle.spv_proof.specs.Stand.{StepsIn}
 use Rattle.spv_congruence.specs.Graph.{are_same, Graph}
 use Rattle.spv_course.specs.Course.{asked}
 use Rattle.spv_course.specs.Literals.{AreKnown}
@@ -107,9 +108,11 @@ pub record IsOpen (b : Both) : Type 0 where
   -- each other equality has a point for one of its strict orders
   pub apart : (row : ℕ) (r : Related) → slice_get b.relations.items row ≡ Some r → is_open b r ≡ true → HasOrder b.standing row
 
--- on each path whose facts of these numbers are the literals that were told, the steps end in a contradiction
+-- on each path whose facts of these numbers are the literals that were told, the steps end in a contradiction; the terms that they name are in the
+-- arena
 pub record Closes (a : Arena) (b : Both) (count : ℕ) (steps : List Step) : Type 0 where
   pub ends : (c : Sequent) (known : List Term) → length known ≡ count → AreKnown a known (told b) → walk (asked a c) known steps ≡ accepted.Closed
+  pub within : StepsIn a steps
 
 -- a check of the tableau was stopped; its evidence is over the rows, and over bounds that literals of their relations are
 pub record IsLimit (b : Both) : Type 0 where

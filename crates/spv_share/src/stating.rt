@@ -154,8 +154,8 @@ impl Both {
 
     /// What was told comes to this, where both sides tell each other equalities until nothing is new. `Closed`: on each path whose
     /// facts of the numbers that were told are the literals, the steps end in a contradiction; their own facts are numbered from
-    /// `facts` + 1. `Limit`: a check of the tableau was stopped, and its evidence stands. Where a step's number would be too large
-    /// the answer is want of memory.
+    /// `facts` + 1, and the terms that they name are in the arena. `Limit`: a check of the tableau was stopped, and its evidence
+    /// stands. Where a step's number would be too large the answer is want of memory.
     pub fn state(&mut self, alloc: Global, terms: &Terms, facts: u32) -> Result<Shared, AllocError>
         requires both { IsBoth terms.now self.old }
         ensures both { IsBoth terms.now self.new }

@@ -169,6 +169,30 @@ impl Evidence {
         self.right = refused.right().frac();
     }
 
+    /// The same evidence, with room for as much.
+    pub fn copied(&self, alloc: Global) -> Result<Evidence, AllocError>
+        ensures { IfOk result (λ e. e ≡ self.now) }
+    {
+        let mut bounds = Vec::with_capacity(alloc, self.room.bounds)?;
+        bounds.extend_from_slice(self.bounds.as_slice())?;
+        let mut start = Vec::with_capacity(alloc, self.room.basis)?;
+        start.extend_from_slice(self.start.as_slice())?;
+        let mut held = Vec::with_capacity(alloc, self.room.held)?;
+        held.extend_from_slice(self.held.as_slice())?;
+        let mut steps = Vec::with_capacity(alloc, self.room.steps)?;
+        steps.extend_from_slice(self.steps.as_slice())?;
+        Ok(Evidence {
+            room: self.room,
+            bounds,
+            start,
+            held,
+            steps,
+            op: self.op,
+            left: self.left,
+            right: self.right,
+        })
+    }
+
     /// The bounds of the rows at that time.
     pub fn bounds(&self) -> &[(u32, Side, Frac)]
         ensures { map bound_in result.now ≡ self.now.start.bounds }

@@ -290,6 +290,13 @@ impl Tableau {
         answer
     }
 
+    /// What the last check came to; `None` before the first one.
+    pub fn answer(&self) -> Option<Checked>
+        ensures { result ≡ self.now.answer }
+    {
+        self.answer
+    }
+
     /// The contradiction of the last check: multiples of bounds in which all parts cancel, and the bounds sum to
     /// less than 0. Each has its row, its side and its factor, which is not negative.
     pub fn combination(&self) -> &[(u32, Side, Frac)]

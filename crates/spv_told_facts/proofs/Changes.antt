@@ -13,6 +13,7 @@ use Rattle.spv_course.specs.declared.entries.Entry.{Entry}
 use Rattle.spv_course.specs.Literals.{Literal}
 use Rattle.spv_share.specs.declared.both.Both.{Both}
 use Rattle.spv_share.specs.Both.{IsBoth, Stays, told}
+use Rattle.spv_share.proofs.Claiming.{stays_then}
 use Rattle.spv_paths.specs.Paths.{IsGrown}
 use Rattle.spv_truths.specs.Passes.{at}
 use Rattle.spv_known.specs.declared.facts.Known.{Known}
@@ -30,17 +31,6 @@ longer_then xs ys zs g h = record { more = g.more ++ h.more; is = h.is ∙ (ap (
 
 pub stays_same : (b : Both) → Stays b b
 stays_same b = record { nodes = refl; terms = refl; truth = refl; falsity = refl; relations = refl; forms = refl; pivots = refl }
-
-pub stays_then : (x y z : Both) → Stays x y → Stays y z → Stays x z
-stays_then x y z g h = record {
-  nodes = h.nodes ∙ g.nodes;
-  terms = h.terms ∙ g.terms;
-  truth = h.truth ∙ g.truth;
-  falsity = h.falsity ∙ g.falsity;
-  relations = h.relations ∙ g.relations;
-  forms = h.forms ∙ g.forms;
-  pivots = h.pivots ∙ g.pivots;
-}
 
 pub goes_same : (a : Arena) (b : Both) → Goes a b b
 goes_same a b = record { longer = record { more = []; is = sym (append-nil (told b)) }; levels = λ l h. h; stays = stays_same b }

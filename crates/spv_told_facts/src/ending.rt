@@ -13,10 +13,11 @@ ghost use Rattle.spv_known_facts.specs.Clashes.{IsClash};
 ghost use Rattle.spv_told_facts.specs.Learning as spec;
 ghost use Rattle.spv_told_facts.specs.Learning.{ContradictsIf, EndsNow, IsCitable, MayCite};
 
+use spv_atoms::numeral;
 use spv_course::Course;
 use spv_known::Known;
 use spv_known_facts::{Clash, find_clash, order_of};
-use spv_term::{Condition, Head, TermId, Terms};
+use spv_term::{Condition, TermId, Terms};
 use spv_told_steps::deny;
 use std::alloc::{AllocError, Global};
 
@@ -27,18 +28,6 @@ pub struct End {
     pub first: u32,
     /// The number of one that contradicts it; none where the first one is never true.
     pub second: Option<u32>,
-}
-
-// The number of a numeral.
-fn numeral(terms: &Terms, t: TermId) -> Option<i128>
-    requires { t.0 < length terms.now.nodes }
-    ensures { result ≡ tables.numeral (tree terms.now t) }
-{
-    terms.law_arena();
-    match terms.node(t).head {
-        Head::Num(value) => Some(value),
-        _ => None,
-    }
 }
 
 // Whether two terms are numerals of which the first is not below the second.

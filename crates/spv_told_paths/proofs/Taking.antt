@@ -42,7 +42,7 @@ use Rattle.spv_told_facts.proofs.Cores.{atom_bare}
 use Rattle.spv_told_facts.proofs.Learned.{contradicts_none, contradicts_some, grown_then, quiet_among}
 use Rattle.spv_told_paths.specs.declared.path.Ground.{Ground}
 use Rattle.spv_told_paths.specs.declared.path.ToldPath.{ToldPath}
-use Rattle.spv_told_paths.specs.Paths.{GoesOn, IsAskedOf, IsBegun, IsEnded, IsHeld, IsSplitAtom, IsToldPath, WasToldWith}
+use Rattle.spv_told_paths.specs.Paths.{GoesOn, HasPath, IsAskedOf, IsBegun, IsEnded, IsHeld, IsSplitAtom, IsToldPath, WasToldWith}
 use Rattle.spv_told_paths.proofs.Going.{goes_on_then, one_longer}
 use Rattle.spv_told_facts.specs.declared.ending.End.{End}
 use Rattle.spv_told_facts.proofs.Changes.{goes_same}
@@ -195,6 +195,12 @@ module _ (a : Arena) (c : Condition) (g : Ground) (old : ToldPath) (asked : IsAs
     pub case_held : WasToldWith a c why old → (now : ToldPath) → now.course ≡ es → now.known.items ≡ old.known.items ++ added ∷ [] → now.lists ≡ old.lists → TellsLiteral a old.both now.both (literal_of added) → IsBoth a now.both → IsHeld a c g now
     case_held w now course_is known_is lists_are l both =
         held_now a c g old asked t p n atom fits w.cases mid w.path_told (derived w.cases w.path_told w.count) none stands now (course_is ∙ same) known_is lists_are l both
+
+    pub case_path : WasToldWith a c why old → (now : ToldPath) → now.course ≡ es → HasPath a c now.course
+    case_path w now course_is = record {
+      cases = w.cases ++ literal (tree a t) p ∷ [];
+      path = subst (IsPath (question a c) (w.cases ++ literal (tree a t) p ∷ [])) (sym (course_is ∙ same)) (derived w.cases w.path_told w.count).path;
+    }
 
     pub case_told : (cases : List Term) → IsToldPath a c cases old → why ≡ length cases + 1 → (now new : ToldPath) → now.course ≡ es → now.known.items ≡ old.known.items ++ added ∷ []
         → ((cs : List Term) → IsPath (question a c) cs now.course → IsBegun a c cs now.known.items → IsToldPath a c cs new) → IsToldPath a c (cases ++ literal (tree a t) p ∷ []) new

@@ -18,7 +18,7 @@ use Rattle.spv_course.specs.declared.entries.Entry.{Entry}
 use Rattle.spv_course.specs.declared.entries.Entry.TheVariants.{Told, Derived}
 use Rattle.spv_course.specs.Course as course
 use Rattle.spv_course.proofs.Growth.{numbered-push, numbered-more}
-use Rattle.spv_paths.specs.Paths.{fact_in, facts_from, facts_in, IsPath}
+use Rattle.spv_paths.specs.Paths.{fact_in, facts_from, facts_in, IsPath, IsSearchStep}
 use Rattle.spv_paths.proofs.Following.{case_behind, step_behind}
 use Rattle.spv_told_steps.specs.Steps.{IsDerived, HasNumber}
 
@@ -45,9 +45,9 @@ last_number q es all e f n is count =
 
 -- ---- steps
 
-pub step_derived : (q : Question) (es all : List Entry) (s : Step) (n : ℕ) → all ≡ es ++ Derived s ∷ [] → n ≡ length all → (cases : List Term) (f : Term) → IsPath q cases es → effect q (facts_in q es) s ≡ Adds f → IsDerived q cases es all n f
-step_derived q es all s n is count cases f path adds =
-    let goes = step_behind q cases es s f path adds in
+pub step_derived : (q : Question) (es all : List Entry) (s : Step) (n : ℕ) → all ≡ es ++ Derived s ∷ [] → n ≡ length all → IsSearchStep s → (cases : List Term) (f : Term) → IsPath q cases es → effect q (facts_in q es) s ≡ Adds f → IsDerived q cases es all n f
+step_derived q es all s n is count own cases f path adds =
+    let goes = step_behind q cases es s f path own adds in
     record {
       path = subst (IsPath q cases) (sym is) goes.path;
       grown = record { more = Derived s ∷ []; is = is };

@@ -6,7 +6,7 @@ ghost use Rattle.spv_term.specs.Arena.{tree};
 ghost use Rattle.spv_proof.specs.Effects.{Adds, effect, given_effect};
 ghost use Rattle.spv_proof.specs.Stand.{question};
 ghost use Rattle.spv_course.specs.Course.{literal};
-ghost use Rattle.spv_paths.specs.Paths.{facts_in, IsPath};
+ghost use Rattle.spv_paths.specs.Paths.{facts_in, IsPath, IsSearchStep};
 ghost use Rattle.spv_told_steps.specs.Steps.{IsDerived};
 
 use spv_atoms::Step;
@@ -25,13 +25,15 @@ fn count_of(course: &Course) -> Result<u32, AllocError>
     Ok(count as u32)
 }
 
-/// Puts the fact of a step behind those of a path, and answers its number. Where a number would be too large the answer is want of memory.
+/// Puts the fact of a step, which gives a hypothesis or evaluates, behind those of a path, and answers its number. Where a number would be too
+/// large the answer is want of memory.
 pub fn derive(
     course: &mut Course,
     terms: &Terms,
     condition: &Condition,
     step: Step,
 ) -> Result<u32, AllocError>
+    requires { IsSearchStep step }
     ensures { IfOk result (λ n. (cases : List Term) (f : Term) → IsPath (question terms.now condition.now) cases course.old
         → effect (question terms.now condition.now) (facts_in (question terms.now condition.now) course.old) step ≡ Adds f
         → IsDerived (question terms.now condition.now) cases course.old course.new n f) }

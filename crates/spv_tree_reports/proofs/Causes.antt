@@ -20,7 +20,7 @@ use Rattle.spv_events.specs.declared.faults.GenFault.TheVariants as limit
 use Rattle.spv_refusals.specs.declared.refusal.Refusal.TheVariants as refusal
 use Rattle.spv_reports.specs.declared.mode.Mode.{Mode}
 use Rattle.spv_reports.specs.declared.fault.ReportFault.{ReportFault}
-use Rattle.spv_reports.specs.declared.fault.ReportFault.TheVariants.{Form, Stopped, Undecided}
+use Rattle.spv_reports.specs.declared.fault.ReportFault.TheVariants.{Form, Stopped, NotTaken}
 use Rattle.spv_reports.specs.Reports.{Findings, IsReportFault}
 use Rattle.spv_tree_reports.specs.Walks.{IsTypeCause, IsFrameCause, is_typed_as}
 use Rattle.spv_tree_reports.specs.Programs.{IsProgramRefusal, IsProgramCause, IsFramedCause, IsTreeCause, IsFramedReport, IsTreeReport}
@@ -63,11 +63,11 @@ program_told mode names p Memory framed is = tt
 pub form_told : (p : Program) (mode : Mode) (fault : ReportFault) (detail : List ℕ) → fault ≡ Form → detail ≡ [] → IsReportFault p mode fault → IsProgramRefusal mode p (refusal.Form 1 detail)
 form_told p mode fault detail e d is = inl (subst (IsReportFault p mode) e is, ap (refusal.Form 1) d)
 
-undecided : (p : Program) (mode : Mode) (detail : List ℕ) → detail ≡ [] → IsReportFault p mode Undecided → IsProgramRefusal mode p (refusal.Form 1 detail)
-undecided p mode detail d (covered, within, asked, not) = inr (inr (record { covered = covered; within = within; asked = asked; undecided = not; told = ap (refusal.Form 1) d }))
+not_taken : (p : Program) (mode : Mode) (detail : List ℕ) → detail ≡ [] → IsReportFault p mode NotTaken → IsProgramRefusal mode p (refusal.Form 1 detail)
+not_taken p mode detail d (covered, within, asked, other) = inr (inr (record { covered = covered; within = within; asked = asked; taken = other; told = ap (refusal.Form 1) d }))
 
-pub undecided_told : (p : Program) (mode : Mode) (fault : ReportFault) (detail : List ℕ) → fault ≡ Undecided → detail ≡ [] → IsReportFault p mode fault → IsProgramRefusal mode p (refusal.Form 1 detail)
-undecided_told p mode fault detail e d is = undecided p mode detail d (subst (IsReportFault p mode) e is)
+pub not_taken_told : (p : Program) (mode : Mode) (fault : ReportFault) (detail : List ℕ) → fault ≡ NotTaken → detail ≡ [] → IsReportFault p mode fault → IsProgramRefusal mode p (refusal.Form 1 detail)
+not_taken_told p mode fault detail e d is = not_taken p mode detail d (subst (IsReportFault p mode) e is)
 
 limit_met : (p : Program) (mode : Mode) (e : GenFault) (v : VerifyFault) → Tells (limit_refusal e) v → IsReportFault p mode (Stopped e) → IsProgramCause mode p v
 limit_met p mode (limit.Conditions n) (Refused r) tells (covered, meets) = inr (inl (record { covered = covered; limit = limit.Conditions n; meets = meets; told = tells }))

@@ -2,13 +2,13 @@
 use Rattle.std.specs.Prelude.{◌≡◌, ⊤, ℕ, ◌⊎◌, true, false, List, [], Some, None}
 use Rattle.spv_syntax.specs.declared.programs.Program.{Program as Tree}
 use Rattle.spv_program.specs.Programs.{Program}
-use Rattle.spv_meaning.specs.ProgramConditions.{conditions_of}
 use Rattle.spv_control.specs.Blocks.{only_control}
 use Rattle.spv_frame_walk.specs.FrameWalk.{frame_fault}
 use Rattle.spv_events.specs.declared.faults.GenFault.{GenFault}
 use Rattle.spv_conditions.specs.Making.{MeetsLimit, IsWithinLimits}
 use Rattle.spv_reports.specs.declared.mode.Mode.{Mode}
-use Rattle.spv_reports.specs.Reports.{Findings, IsReportOn, has_verdicts, are_decided}
+use Rattle.spv_taken.specs.Taken.{is_taken}
+use Rattle.spv_reports.specs.Reports.{Findings, IsReportOn, has_verdicts}
 use Rattle.spv_refusals.specs.declared.refusal.Refusal.{Refusal}
 use Rattle.spv_refusals.specs.declared.refusal.Refusal.TheVariants as refusal
 use Rattle.spv_refusals.specs.declared.fault.VerifyFault.{VerifyFault}
@@ -29,16 +29,16 @@ pub record IsLimitRefusal (p : Program) (r : Refusal) : Type 0 where
   pub meets : MeetsLimit limit p
   pub told : limit_refusal limit ≡ Some r
 
--- a condition is of a form that is not decided so far, and is to be decided
-pub record IsDecisionRefusal (mode : Mode) (p : Program) (r : Refusal) : Type 0 where
+-- verdicts are wanted, and the program is none of those that are verified so far
+pub record IsNotTakenRefusal (mode : Mode) (p : Program) (r : Refusal) : Type 0 where
   pub covered : only_control p ≡ true
   pub within : IsWithinLimits p
   pub asked : has_verdicts mode ≡ true
-  pub undecided : are_decided (conditions_of p) ≡ false
+  pub taken : is_taken p ≡ false
   pub told : r ≡ refusal.Form 1 []
 
 abbrev pub IsProgramRefusal : Mode → Program → Refusal → Type 0
-IsProgramRefusal mode p r = IsFormRefusal p r ⊎ (IsLimitRefusal p r ⊎ IsDecisionRefusal mode p r)
+IsProgramRefusal mode p r = IsFormRefusal p r ⊎ (IsLimitRefusal p r ⊎ IsNotTakenRefusal mode p r)
 
 -- a tree is refused so: for a fault of names, types or frames, or for one of its program
 abbrev pub IsTreeRefusal : Mode → List (List ℕ) → Tree → Refusal → Type 0

@@ -5,6 +5,7 @@ ghost use Rattle.spv_frame_walk.specs.FrameWalk.{frame_fault};
 ghost use Rattle.spv_syntax.specs.Reads.{well_formed};
 ghost use Rattle.spv_program.specs.Programs as plain;
 ghost use Rattle.spv_program.specs.Typing.{well_typed};
+ghost use Rattle.spv_reports.specs.declared.mode.Mode.{Mode};
 ghost use Rattle.spv_reports.specs.Reports.{IsReportFault};
 ghost use Rattle.spv_tree_reports.specs.Programs.{IsFramedCause, IsFramedReport, IsProgramCause, IsTreeCause, IsTreeReport};
 ghost use Rattle.spv_tree_reports.specs.Walks.{IsFrameCause, IsTypeCause, is_typed_as};
@@ -13,20 +14,20 @@ use spv_frame_check::checked;
 use spv_list::List;
 use spv_names::Names;
 use spv_refusals::{Refusal, VerifyFault, of_frames, of_limits, of_types};
-use spv_reports::{Mode, Report, ReportFault, report_on};
+use spv_reporting::report_on;
+use spv_reports::{Mode, Report, ReportFault};
 use spv_syntax::Program;
 use spv_types::{Typed, typed};
 use std::alloc::Global;
 
 // What a program without a report is refused for.
-fn told(alloc: Global, mode: Mode, fault: ReportFault) -> VerifyFault
-    ensures { (p : plain.Program) → IsReportFault p mode fault → IsProgramCause mode p result }
+fn told(alloc: Global, fault: ReportFault) -> VerifyFault
+    ensures { (p : plain.Program) (mode : Mode) → IsReportFault p mode fault → IsProgramCause mode p result }
 {
-    let _ = mode;
     match fault {
         ReportFault::Form => VerifyFault::Refused(Refusal::Form(1, List::new(alloc))),
         ReportFault::Stopped(limit) => of_limits(alloc, limit),
-        ReportFault::Undecided => VerifyFault::Refused(Refusal::Form(1, List::new(alloc))),
+        ReportFault::NotTaken => VerifyFault::Refused(Refusal::Form(1, List::new(alloc))),
     }
 }
 
@@ -61,7 +62,7 @@ fn framed_report(
     match check_frames(alloc, program, &names) {
         Ok(()) => match report_on(alloc, names, program, mode) {
             Ok(report) => Ok(report),
-            Err(fault) => Err(told(alloc, mode, fault)),
+            Err(fault) => Err(told(alloc, fault)),
         },
         Err(fault) => Err(fault),
     }
@@ -81,8 +82,8 @@ fn typed_program(alloc: Global, tree: &Program, names: &Names) -> Result<Typed, 
 }
 
 /// The report of a text's tree, for what its mode says; or what the text is refused for: its first fault of names and types, else of
-/// frames; and where it has none, that no conditions are made of such a program, that they are too many or too large, or that one of them
-/// is not decided so far. The tree is well formed, as each tree is that a reading answers, and the names are those of the table.
+/// frames; and where it has none, that no conditions are made of such a program, that they are too many or too large, or, where verdicts
+/// are wanted, that no such program is verified so far. The tree is well formed, as each tree is that a reading answers, and the names are those of the table.
 /// Memory: there was not enough of it.
 pub fn report_of(
     alloc: Global,

@@ -10,19 +10,15 @@ use Rattle.spv_language.specs.Texts.{IsFaultOf, TextsHaveOneTree}
 use Rattle.spv_syntax.specs.declared.programs.Program.{Program as TextTree}
 use Rattle.spv_syntax.specs.Reads.{Reads}
 use Rattle.spv_program.specs.Programs.{Program}
-use Rattle.spv_meaning.specs.ProgramConditions.{conditions_of}
 use Rattle.spv_well_typed.proofs.Outcomes.{no_fault, same_value}
 use Rattle.spv_frame_walk.specs.FrameWalk.{frame_fault}
 use Rattle.spv_control.specs.Blocks.{only_control}
-use Rattle.spv_assign.specs.Conditions as arena
-use Rattle.spv_term.specs.Arena.{Arena}
-use Rattle.spv_term.specs.declared.nodes.Condition.{Condition}
-use Rattle.spv_decision.specs.declared.verdict.Verdict.{Verdict}
+use Rattle.spv_taken.specs.Taken.{is_taken}
 use Rattle.spv_events.specs.declared.faults.GenFault.{GenFault}
 use Rattle.spv_conditions.specs.Making.{MeetsLimit, IsWithinLimits, MeetsNoOther}
 use Rattle.spv_reports.specs.declared.mode.Mode.{Mode}
 use Rattle.spv_reports.specs.declared.mode.Mode.TheVariants.{Verify, Conditions}
-use Rattle.spv_reports.specs.Reports.{Findings, IsReportOn, AreVerdictsIn, has_verdicts, are_decided}
+use Rattle.spv_reports.specs.Reports.{Findings, IsReportOn, IsTakenFor, has_verdicts}
 use Rattle.spv_refusals.specs.declared.refusal.Refusal.{Refusal}
 use Rattle.spv_refusals.specs.Told.{text_refusal, limit_refusal}
 use Rattle.spv_tree_reports.specs.Walks.{IsSound, IsWalkRefusal, is_typed_as}
@@ -53,10 +49,10 @@ sound_not_refused names tree p r sound (inr (q, typed, frame)) = none-some _ (sy
 never : (b : Bool) → b ≡ true → b ≡ false → ⊥
 never b h k = false≢true (sym k ∙ h)
 
--- where there are verdicts, all is decided
-all_decided : (mode : Mode) (a : Arena) (cs : List Condition) (vs : List Verdict) → has_verdicts mode ≡ true → AreVerdictsIn mode a cs vs → are_decided (arena.conditions_of a cs) ≡ true
-all_decided Verify a cs vs asked right = right.1
-all_decided Conditions a cs vs asked right = absurd (false≢true asked)
+-- where there are verdicts, the program is one of those that are verified so far
+taken_there : (mode : Mode) (p : Program) → has_verdicts mode ≡ true → IsTakenFor mode p → is_taken p ≡ true
+taken_there (Verify limits) p asked is = is
+taken_there Conditions p asked is = absurd (false≢true asked)
 
 module _ (one : MeetsNoOther) (p : Program) (f : Findings) (is : IsReportOn p f) where
   within : IsWithinLimits p
@@ -69,8 +65,7 @@ module _ (one : MeetsNoOther) (p : Program) (f : Findings) (is : IsReportOn p f)
   pub program_not_refused : (r : Refusal) → IsProgramRefusal f.mode p r → ⊥
   program_not_refused r (inl form) = never (only_control p) is.covered form.0
   program_not_refused r (inr (inl limits)) = no_limit limits.limit r limits.meets limits.told
-  program_not_refused r (inr (inr decision)) =
-      never (are_decided (conditions_of p)) (ap are_decided (sym is.conditions) ∙ all_decided f.mode f.arena f.conditions f.verdicts decision.asked is.verdicts) decision.undecided
+  program_not_refused r (inr (inr other)) = never (is_taken p) (taken_there f.mode p other.asked is.taken) other.taken
 
   pub tree_not_refused : (names : List (List ℕ)) (tree : TextTree) (r : Refusal) → IsSound names tree p → IsTreeRefusal f.mode names tree r → ⊥
   tree_not_refused names tree r sound (inl walk) = sound_not_refused names tree p r sound walk

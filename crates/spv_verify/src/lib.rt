@@ -4,5 +4,5 @@
 mod verifying;
 
 pub use spv_refusals::{Refusal, VerifyFault};
-pub use spv_reports::{Mode, Report, law_report};
+pub use spv_reports::{Limits, Mode, Report, default_limits, law_report};
 pub use verifying::{law_not_both, list, verify};

@@ -11,7 +11,7 @@ use spv_conditions::law_limits;
 use spv_language::law_one_tree;
 use spv_names::Names;
 use spv_refusals::{VerifyFault, of_text};
-use spv_reports::{Mode, Report};
+use spv_reports::{Limits, Mode, Report};
 use spv_syntax::Program;
 use spv_tree_reports as trees;
 use std::alloc::Global;
@@ -47,19 +47,19 @@ fn report_of(alloc: Global, text: &[u8], mode: Mode) -> Result<Report, VerifyFau
     report
 }
 
-/// The report of a text with a verdict on each condition. Or what the text is refused for: its first fault, in the order of reading,
+/// The report of a text with a verdict on each condition, found within these limits. Or what the text is refused for: its first fault, in the order of reading,
 /// names and types, frames; and where it has none, that no conditions are made of such a program, that they are too many or too large,
-/// or that one of them is not decided so far. Memory: there was not enough of it.
-pub fn verify(alloc: Global, text: &[u8]) -> Result<Report, VerifyFault>
+/// or that no such program is verified so far. Memory: there was not enough of it.
+pub fn verify(alloc: Global, text: &[u8], limits: Limits) -> Result<Report, VerifyFault>
     ensures report { IfOk result (IsReportOf text.now) }
-    ensures mode { IfOk result (λ r. r.mode ≡ mode.Verify) }
+    ensures mode { IfOk result (λ r. r.mode ≡ mode.Verify limits) }
     ensures findings { IfOk result IsReport }
-    ensures cause { IfErr result (IsCause mode.Verify text.now) }
+    ensures cause { IfErr result (IsCause (mode.Verify limits) text.now) }
 {
-    report_of(alloc, text, Mode::Verify)
+    report_of(alloc, text, Mode::Verify(limits))
 }
 
-/// The report of a text with its conditions alone. Or what the text is refused for, as for `verify`; each condition may be of any form.
+/// The report of a text with its conditions alone. Or what the text is refused for, as for `verify`; but each program of whose form conditions are made has them.
 pub fn list(alloc: Global, text: &[u8]) -> Result<Report, VerifyFault>
     ensures report { IfOk result (IsReportOf text.now) }
     ensures mode { IfOk result (λ r. r.mode ≡ mode.Conditions) }

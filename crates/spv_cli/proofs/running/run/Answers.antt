@@ -1,4 +1,4 @@
-use Rattle.spv_cli.proofs.Promises.{correct, map_there, correct_of_text, page_written, part_written, refused}
+use Rattle.spv_cli.proofs.Promises.{complete_status, correct, correct_of_text, gave_up, listed, map_there, page_written, part_written, proved, refused, right_verdicts, unproved}
 use Rattle.spv_cli.proofs.running.run.Goals as goal
 
 pub returns-clause-correct : goal.returns-clause-correct
@@ -18,3 +18,21 @@ returns-clause-cut g c = part_written _ _ c.attempt.result _ c.attempt.ensures
 
 pub returns-clause-refused : goal.returns-clause-refused
 returns-clause-refused g c = refused _ _ c.attempt.result c.law_not_both.ensures.both _ c.attempt.ensures
+
+pub returns-clause-proved : goal.returns-clause-proved
+returns-clause-proved g c = proved _ _ c.attempt.result _ c.attempt.ensures
+
+pub returns-clause-unproved : goal.returns-clause-unproved
+returns-clause-unproved g c = unproved _ _ c.attempt.result _ c.attempt.ensures
+
+pub returns-clause-gave_up : goal.returns-clause-gave_up
+returns-clause-gave_up g c = gave_up _ _ c.attempt.result _ c.attempt.ensures
+
+pub returns-clause-listed : goal.returns-clause-listed
+returns-clause-listed g c = listed _ _ c.attempt.result _ c.attempt.ensures
+
+pub returns-clause-verdicts : goal.returns-clause-verdicts
+returns-clause-verdicts g c = right_verdicts _ _ c.attempt.result _ c.attempt.ensures
+
+pub returns-clause-complete_status : goal.returns-clause-complete_status
+returns-clause-complete_status g c = complete_status _ _ c.attempt.result _ c.attempt.ensures

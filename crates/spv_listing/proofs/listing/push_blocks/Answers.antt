@@ -1,7 +1,7 @@
-use Rattle.std.proofs.Common.{◌≡◌, ◌++◌, ◌<◌, ◌+◌, ℕ, List, get_or, suc, take, map, sym, ap, ◌∙◌, subst, arith}
+use Rattle.std.proofs.Common.{◌≡◌, ◌++◌, ◌<◌, ◌+◌, ℕ, List, length, get_or, rules, suc, take, sym, ap, ◌∙◌, subst, arith}
 use Rattle.spv_term.specs.declared.nodes.Condition.{Condition}
-use Rattle.spv_decision.specs.declared.verdict.Verdict.{Verdict}
-use Rattle.spv_decision.specs.Verdicts.{IsVerdict}
+use Rattle.spv_decided.specs.declared.verdicts.Decided.{Decided}
+use Rattle.spv_decided.specs.Views.{VerdictIn}
 use Rattle.spv_assign.specs.Conditions.{IsIn, condition_of, conditions_of}
 use Rattle.spv_listing.specs.Page.{blocks, condition_lines}
 use Rattle.spv_listing.proofs.Chains.{then_added, in_at, same_length, verdict_at, blocks_more, blocks_all}
@@ -11,13 +11,18 @@ pub bounds-verdicts-place : goal.bounds-verdicts-place
 bounds-verdicts-place c =
     subst (λ n. c.loop-place.place < n) (same_length c.args.terms.now c.args.conditions.now c.args.verdicts.now c.requires.verdicts) c.loop-place-test.true
 
+pub offset_bounds-verdicts-place : goal.offset_bounds-verdicts-place
+offset_bounds-verdicts-place c =
+    let within : c.loop-place.place < length c.args.verdicts.now = subst (λ n. c.loop-place.place < n) (same_length c.args.terms.now c.args.conditions.now c.args.verdicts.now c.requires.verdicts) c.loop-place-test.true in
+    search (rules, within)
+
 pub push_condition-requires-clause-verdict : goal.push_condition-requires-clause-verdict
 push_condition-requires-clause-verdict c =
     let a = c.args.terms.now in
     let condition = c.index-conditions-place.result in
     let verdict = c.index-verdicts-place.result in
     let here = verdict_at a c.args.conditions.now c.args.verdicts.now c.loop-place.place condition verdict c.requires.verdicts c.loop-place-test.true in
-    subst (λ d. IsVerdict a d verdict) (sym c.index-conditions-place.is) (subst (IsVerdict a _) (sym c.index-verdicts-place.is) here)
+    subst (λ (d : Decided). VerdictIn d.terms d.verdict) (sym c.index-verdicts-place.is) here
 
 pub push_condition-requires-clause-in_range : goal.push_condition-requires-clause-in_range
 push_condition-requires-clause-in_range c =
@@ -35,13 +40,13 @@ loop-place-preserved c =
     let verdict = c.index-verdicts-place.result in
     let next : suc k ≡ k + 1 = grind (arith) in
     let more = blocks_more names titles a 1 cs vs k condition verdict c.requires.verdicts c.loop-place-test.true in
-    let all = then_added c.args.out.now.items c.loop-place.out.items c.push_condition.new.out.items (blocks names titles a 1 (conditions_of a (take k cs)) (take k vs)) (condition_lines names titles a (k + 1) (condition_of a condition) verdict) c.loop-place.invariant c.in_ok-push_condition.ensures in
-    let lines : Condition → Verdict → List ℕ = λ d w. condition_lines names titles a (k + 1) (condition_of a d) w in
+    let all = then_added c.args.out.now.items c.loop-place.out.items c.push_condition.new.out.items (blocks names titles 1 (conditions_of a (take k cs)) (take k vs)) (condition_lines names titles (k + 1) (condition_of a condition) verdict) c.loop-place.invariant c.in_ok-push_condition.ensures in
+    let lines : Condition → Decided → List ℕ = λ d w. condition_lines names titles (k + 1) (condition_of a d) w in
     let same = ap (λ d. lines d verdict) c.index-conditions-place.is ∙ ap (lines (get_or cs k condition)) c.index-verdicts-place.is in
     all
-    ∙ ap (λ l. c.args.out.now.items ++ (blocks names titles a 1 (conditions_of a (take k cs)) (take k vs) ++ l)) same
+    ∙ ap (λ l. c.args.out.now.items ++ (blocks names titles 1 (conditions_of a (take k cs)) (take k vs) ++ l)) same
     ∙ ap (λ l. c.args.out.now.items ++ l) (sym more)
-    ∙ ap (λ m. c.args.out.now.items ++ blocks names titles a 1 (conditions_of a (take m cs)) (take m vs)) next
+    ∙ ap (λ m. c.args.out.now.items ++ blocks names titles 1 (conditions_of a (take m cs)) (take m vs)) next
 
 pub returns : goal.returns
 returns c =

@@ -1,4 +1,4 @@
-use Rattle.std.proofs.Common.{◌≡◌, ◌++◌, ◌+◌, ℕ, List, get_or, suc, take, sym, ap, ◌∙◌, subst, arith}
+use Rattle.std.proofs.Common.{◌≡◌, ◌++◌, ◌+◌, ℕ, List, suc, take, sym, ap, ◌∙◌, subst, arith}
 use Rattle.spv_term.specs.declared.nodes.Condition.{Condition}
 use Rattle.spv_assign.specs.Conditions.{IsIn, condition_of, conditions_of}
 use Rattle.spv_listing.specs.Page.{claim_lines, claims}

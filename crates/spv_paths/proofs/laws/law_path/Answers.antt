@@ -1,5 +1,6 @@
 use Rattle.spv_paths.proofs.Following.{begins, case_behind, step_behind, first_path}
 use Rattle.spv_paths.proofs.Behind.{steps_close}
+use Rattle.spv_paths.proofs.Within.{course_closes_in, path_in}
 use Rattle.spv_paths.proofs.laws.law_path.Goals as goal
 
 pub returns-clause-begins : goal.returns-clause-begins
@@ -16,3 +17,9 @@ returns-clause-first c = first_path
 
 pub returns-clause-closes : goal.returns-clause-closes
 returns-clause-closes c = steps_close
+
+pub returns-clause-within : goal.returns-clause-within
+returns-clause-within c = path_in
+
+pub returns-clause-courses : goal.returns-clause-courses
+returns-clause-courses c = course_closes_in

@@ -5,7 +5,7 @@ use Rattle.spv_proof.specs.Stand.{question}
 use Rattle.spv_term.specs.Arena.{tree}
 use Rattle.spv_told_facts.proofs.Citing.{stored_cores}
 use Rattle.spv_told_facts.proofs.Cores.{atom_bare}
-use Rattle.spv_told_paths.proofs.Taking.{atom_told, case_held, case_ended, case_ended_goes, case_told, case_goes}
+use Rattle.spv_told_paths.proofs.Taking.{atom_told, case_held, case_ended, case_ended_goes, case_path, case_told, case_goes}
 use Rattle.spv_told_paths.proofs.path.ToldPath.tell_case.Goals as goal
 
 pub contradiction-requires-clause-known : goal.contradiction-requires-clause-known
@@ -26,6 +26,12 @@ settle-requires-clause-held c =
     case_held c.args.terms.now c.args.condition.now c.args.ground.now c.args.self.now c.requires.asked c.args.atom c.args.part c.in_ok-fact.fact c.args.why c.requires.atom c.requires.part c.tell.new.course c.in_ok-fact.ensures c.contradiction.new.course c.as_slice.result.now c.as_slice.ensures.value c.in_ok-end.end
     c.in_ok-end.ensures c.in-None.is c.requires.told
     (record { course = c.contradiction.new.course; known = c.push.new.self; both = c.tell_literal.new.both; lists = c.args.self.now.lists }) refl c.in_ok-push-in-None.ensures.items refl c.in_ok-tell_literal-in-None.ensures.tells c.in_ok-tell_literal-in-None.ensures.both
+
+pub settle-requires-clause-path : goal.settle-requires-clause-path
+settle-requires-clause-path c =
+    case_path c.args.terms.now c.args.condition.now c.args.ground.now c.args.self.now c.requires.asked c.args.atom c.args.part c.in_ok-fact.fact c.args.why c.requires.atom c.requires.part c.tell.new.course c.in_ok-fact.ensures c.contradiction.new.course c.as_slice.result.now c.as_slice.ensures.value c.in_ok-end.end
+    c.in_ok-end.ensures c.in-None.is c.requires.told
+    (record { course = c.contradiction.new.course; known = c.push.new.self; both = c.tell_literal.new.both; lists = c.args.self.now.lists }) refl
 
 pub returns-in-Some-clause-told : goal.returns-in-Some-clause-told
 returns-in-Some-clause-told c =

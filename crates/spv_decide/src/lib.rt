@@ -1,0 +1,6 @@
+//! Deciding a condition: a search for a proof of it is opened and made.
+#![tactic(auto)]
+
+mod deciding;
+
+pub use deciding::decide;

@@ -1,8 +1,0 @@
-pub mod Soundness
-pub mod Looks
-pub mod Shown
-pub mod Same
-pub mod ValuedLemmas
-pub mod StepLemmas
-pub mod AddLemmas
-pub mod CheckLemmas

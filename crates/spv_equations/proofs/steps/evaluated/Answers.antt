@@ -1,5 +1,0 @@
-use Rattle.std.proofs.Common.{length}
-use Rattle.spv_equations.proofs.steps.evaluated.Goals as goal
-
-pub evaluates-requires-clause-cited : goal.evaluates-requires-clause-cited
-evaluates-requires-clause-cited c = rw c.as_slice.ensures.value (c.in_ok-list.ensures.in_range (length c.args.terms.now.nodes) c.requires.facts c.in-Some-2.list c.in-Some-2.is)

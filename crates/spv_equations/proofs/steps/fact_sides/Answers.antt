@@ -1,5 +1,0 @@
-use Rattle.std.proofs.Common.{refl, length}
-use Rattle.spv_equations.proofs.steps.fact_sides.Goals as goal
-
-pub sides-requires : goal.sides-requires
-sides-requires c = c.in-Some.ensures.in_range (length c.args.terms.now.nodes) c.requires c.in-Some.t refl

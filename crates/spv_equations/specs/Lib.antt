@@ -1,9 +1,0 @@
-pub mod Shape
-pub mod Evaluation
-pub mod Accepted
-pub mod Candidates
-pub mod Valued
-pub mod Added
-pub mod Steps
-pub mod Stops
-pub mod Laws

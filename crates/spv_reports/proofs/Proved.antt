@@ -1,0 +1,36 @@
+-- A condition whose verdict is Proved is true in every world.
+use Rattle.std.proofs.Common.{◌≡◌, true, List, sym, subst}
+use Rattle.std.proofs.lemmas.Bool.{false≢true}
+use Rattle.spv_logic.specs.Shapes.{shapes_ok}
+use Rattle.spv_logic.specs.declared.types.Shape.{Shape}
+use Rattle.spv_logic.specs.declared.types.Decl.{Decl}
+use Rattle.spv_logic.specs.Conditions.{Meaning, Sequent, TrueIn}
+use Rattle.spv_term.specs.declared.nodes.Condition.{Condition}
+use Rattle.spv_term.specs.Arena.{Arena, sequent}
+use Rattle.spv_proof.specs.Stand.{question}
+use Rattle.spv_proof.proofs.Soundness.{accepted_true}
+use Rattle.spv_verdicts.specs.Verdicts.{Limits, IsRight}
+use Rattle.spv_decided.specs.declared.verdicts.Decided.{Decided}
+use Rattle.spv_decided.specs.declared.verdicts.Verdict.{Verdict}
+use Rattle.spv_decided.specs.declared.verdicts.Verdict.TheVariants.{Proved, Unproved, GaveUp}
+use Rattle.spv_decided.specs.Views.{IsDecided, verdict_in}
+use Rattle.spv_reports.specs.Reports.{is_proved}
+
+-- the copy that was decided claims the same, over the same types and symbols
+pub proved_true : (a : Arena) (c : Condition) (limits : Limits) (d : Decided) (world : Meaning) → shapes_ok a.shapes ≡ true → IsDecided a c limits d → is_proved d.verdict ≡ true
+    → TrueIn a.shapes a.decls world (sequent a c)
+proved_true a c limits d world ok is proved = here (copied d.verdict is.right proved)
+  where
+    shapes_there : shapes_ok d.terms.shapes ≡ true
+    shapes_there = subst (λ (s : List Shape). shapes_ok s ≡ true) (sym is.shapes) ok
+
+    copied : (v : Verdict) → IsRight d.terms (question d.terms d.condition) limits (verdict_in d.terms v) → is_proved v ≡ true → TrueIn d.terms.shapes d.terms.decls world (sequent d.terms d.condition)
+    copied (Proved nodes) right proved = accepted_true world (question d.terms d.condition) shapes_there nodes right
+    copied (Unproved u) right proved = absurd (false≢true proved)
+    copied (GaveUp l) right proved = absurd (false≢true proved)
+
+    here : TrueIn d.terms.shapes d.terms.decls world (sequent d.terms d.condition) → TrueIn a.shapes a.decls world (sequent a c)
+    here there =
+        subst (λ (s : Sequent). TrueIn a.shapes a.decls world s) is.claim.claim
+        (subst (λ (x : List Decl). TrueIn a.shapes x world (sequent d.terms d.condition)) is.decls
+        (subst (λ (s : List Shape). TrueIn s d.terms.decls world (sequent d.terms d.condition)) is.shapes there))

@@ -1,0 +1,15 @@
+pub mod Lists
+pub mod Staying
+pub mod Marks
+pub mod Branching
+pub mod Taking
+pub mod Visiting
+pub mod Splitting
+pub mod Tables
+pub mod Consulted
+pub mod Stops
+pub mod Ended
+pub mod Turns
+pub mod Calls
+pub mod Advance
+pub mod Ends

@@ -1,0 +1,120 @@
+// A search.
+
+ghost use Rattle.std.specs.Prelude.{◌≡◌, ◌<◌, [], false, length, IfOk};
+ghost use Rattle.spv_term.specs.Arena.{AllBelow};
+ghost use Rattle.spv_full_states.specs.States.{AreListed};
+ghost use Rattle.spv_guide.specs.Guiding.{IsGuide};
+ghost use Rattle.spv_leaf_tables.specs.Laws.{AreFormulas};
+ghost use Rattle.spv_leaf_tables.specs.Tables.{formulas_of};
+ghost use Rattle.spv_proof.specs.Stand.{question};
+ghost use Rattle.spv_share.specs.Both.{IsBoth, told};
+ghost use Rattle.spv_told_paths.specs.Paths.{IsToldOrEnded};
+ghost use Rattle.spv_search.specs.Searching.{IsSetUp, IsWithin};
+ghost use Rattle.spv_search.specs.Finding.{IsFound};
+
+use crate::walking::run;
+use spv_branches::{Branches, Finished};
+use spv_decided::{Limit, Limits, Verdict};
+use spv_guide::Guide;
+use spv_share::Both;
+use spv_term::{Condition, TermId, Terms};
+use spv_told_facts::End;
+use spv_told_paths::{Ground, ToldPath};
+use std::alloc::{AllocError, Global};
+
+// The verdict where no branch is left: proved, or that the splits are spent.
+fn conclude(
+    alloc: Global,
+    terms: &Terms,
+    condition: &Condition,
+    limits: &Limits,
+    branches: Branches,
+) -> Result<Verdict, AllocError>
+    requires within { IsWithin terms.now condition.now limits.now branches }
+    requires none { branches.is_left ≡ false }
+    requires formulas { AreFormulas terms.now.shapes terms.now.decls (formulas_of (question terms.now condition.now).sequent) }
+    ensures { IfOk result (IsFound terms.now condition.now limits.now) }
+{
+    let _ = terms;
+    let _ = condition;
+    let _ = limits;
+    let finished = branches.finish(alloc)?;
+    match finished {
+        Finished::Proved(proof) => Ok(Verdict::Proved(proof)),
+        Finished::Open(tree) => Ok(Verdict::GaveUp(Limit::Splits(tree))),
+    }
+}
+
+// The search from a path without cases, which is told or ends.
+fn explore(
+    alloc: Global,
+    terms: &Terms,
+    condition: &Condition,
+    subterms: &[TermId],
+    listed: &[bool],
+    atoms: &[TermId],
+    ground: &Ground,
+    limits: &Limits,
+    guide: &Guide,
+    path: &mut ToldPath,
+    end: Option<End>,
+) -> Result<Verdict, AllocError>
+    requires given { AllBelow (length terms.now.nodes) condition.now.given }
+    requires goal { condition.now.goal.0 < length terms.now.nodes }
+    requires listed { AreListed terms.now condition.now subterms.now listed.now }
+    requires guide { IsGuide terms.now guide.now }
+    requires set_up { IsSetUp terms.now condition.now atoms.now ground.now limits.now path.old.both }
+    requires told { IsToldOrEnded terms.now condition.now [] path.old end }
+    ensures { IfOk result (IsFound terms.now condition.now limits.now) }
+{
+    let mut branches = Branches::new(alloc);
+    let mut marks = Vec::new(alloc);
+    let found = run(
+        alloc,
+        terms,
+        condition,
+        subterms,
+        listed,
+        atoms,
+        ground,
+        limits,
+        guide,
+        path,
+        &mut branches,
+        &mut marks,
+        end,
+    )?;
+    match found {
+        Some(verdict) => Ok(verdict),
+        None => conclude(alloc, terms, condition, limits, branches),
+    }
+}
+
+/// What a search for a proof of a condition finds within limits, where both sides were opened for its atoms and its questions and were told
+/// nothing: a proof; the truths of its atoms in a table that falsifies it; or the limit that was reached. `subterms` are those of its formulas, and
+/// `listed` says which of them a table lists. The terms of the verdict are in the arena.
+pub fn search(
+    alloc: Global,
+    terms: &Terms,
+    condition: &Condition,
+    subterms: &[TermId],
+    listed: &[bool],
+    atoms: &[TermId],
+    ground: &Ground,
+    both: Both,
+    limits: &Limits,
+) -> Result<Verdict, AllocError>
+    requires given { AllBelow (length terms.now.nodes) condition.now.given }
+    requires goal { condition.now.goal.0 < length terms.now.nodes }
+    requires listed { AreListed terms.now condition.now subterms.now listed.now }
+    requires set_up { IsSetUp terms.now condition.now atoms.now ground.now limits.now both }
+    requires both { IsBoth terms.now both }
+    requires untold { told both ≡ [] }
+    ensures { IfOk result (IsFound terms.now condition.now limits.now) }
+{
+    let guide = Guide::new(alloc, terms, condition, atoms)?;
+    let (mut path, end) = ToldPath::begin(alloc, terms, condition, ground, both)?;
+    explore(
+        alloc, terms, condition, subterms, listed, atoms, ground, limits, &guide, &mut path, end,
+    )
+}

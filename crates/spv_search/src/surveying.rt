@@ -1,0 +1,68 @@
+// The table of a full path.
+
+ghost use Rattle.std.specs.Prelude.{◌≡◌, ◌<◌, length, IfOk, IfSome, IfNone};
+ghost use Rattle.spv_term.specs.Arena.{AllBelow};
+ghost use Rattle.spv_full_states.specs.States.{AreListed};
+ghost use Rattle.spv_full_tables.specs.Numbers.{IsFullTable};
+ghost use Rattle.spv_search.specs.Finding.{HasFullState, IsFoundAlways};
+
+use spv_decided::{Limit, Unproved, Verdict, Wide};
+use spv_full_states::{law_full_state, law_wide_value};
+use spv_full_tables::full_table;
+use spv_share::Both;
+use spv_surviving::{SurvivingFault, surviving};
+use spv_table::Table;
+use spv_term::{Condition, TermId, Terms};
+use std::alloc::{AllocError, Global};
+
+// What the table of a full path shows: the condition is unproved, or an operation is too wide.
+fn judge(
+    alloc: Global,
+    terms: &Terms,
+    condition: &Condition,
+    subterms: &[TermId],
+    listed: &[bool],
+    both: &Both,
+    table: Table,
+) -> Result<Verdict, AllocError>
+    requires given { AllBelow (length terms.now.nodes) condition.now.given }
+    requires goal { condition.now.goal.0 < length terms.now.nodes }
+    requires listed { AreListed terms.now condition.now subterms.now listed.now }
+    requires state { HasFullState terms.now condition.now both.now }
+    requires table { IsFullTable terms.now both.now subterms.now listed.now table.values }
+    ensures { IfOk result (IsFoundAlways terms.now condition.now) }
+{
+    law_full_state();
+    law_wide_value();
+    let _ = subterms;
+    let _ = listed;
+    let _ = both;
+    match surviving(alloc, terms, condition, &table) {
+        Ok(Some(branch)) => Ok(Verdict::Unproved(Unproved { branch, table })),
+        Ok(None) => unreachable!(),
+        Err(SurvivingFault::Wide(t, wide)) => Ok(Verdict::GaveUp(Limit::Number(Wide::Value(
+            table, t, wide.op, wide.left, wide.right,
+        )))),
+        Err(SurvivingFault::Memory) => Err(AllocError),
+    }
+}
+
+/// The verdict at a full path: its table falsifies the condition, or an operation in it is too wide.
+pub(crate) fn survey(
+    alloc: Global,
+    terms: &Terms,
+    condition: &Condition,
+    subterms: &[TermId],
+    listed: &[bool],
+    both: &Both,
+) -> Result<Verdict, AllocError>
+    requires given { AllBelow (length terms.now.nodes) condition.now.given }
+    requires goal { condition.now.goal.0 < length terms.now.nodes }
+    requires listed { AreListed terms.now condition.now subterms.now listed.now }
+    requires state { HasFullState terms.now condition.now both.now }
+    ensures { IfOk result (IsFoundAlways terms.now condition.now) }
+{
+    law_full_state();
+    let table = full_table(alloc, terms, both, subterms, listed)?;
+    judge(alloc, terms, condition, subterms, listed, both, table)
+}

@@ -1,0 +1,129 @@
+// From branch to branch.
+
+ghost use Rattle.std.specs.Prelude.{◌≡◌, ◌<◌, true, length, IfOk};
+ghost use Rattle.spv_term.specs.Arena.{AllBelow};
+ghost use Rattle.spv_full_states.specs.States.{AreListed};
+ghost use Rattle.spv_guide.specs.Guiding.{IsGuide};
+ghost use Rattle.spv_search.specs.Searching.{IsArrived, IsRunning};
+ghost use Rattle.spv_search.specs.Finding.{IsVisited};
+ghost use Rattle.spv_search.specs.Walking.{IsWalked};
+
+use crate::advancing::advance;
+use crate::branch::take_branch;
+use spv_branches::Branches;
+use spv_decided::{Limits, Verdict};
+use spv_guide::Guide;
+use spv_term::{Condition, TermId, Terms};
+use spv_told_facts::End;
+use spv_told_paths::{Ground, PathMark, ToldPath};
+use std::alloc::{AllocError, Global};
+
+// The branch that comes next is gone to, and taken.
+fn turn(
+    alloc: Global,
+    terms: &Terms,
+    condition: &Condition,
+    subterms: &[TermId],
+    listed: &[bool],
+    atoms: &[TermId],
+    ground: &Ground,
+    limits: &Limits,
+    guide: &Guide,
+    path: &mut ToldPath,
+    branches: &mut Branches,
+    marks: &mut Vec<PathMark>,
+) -> Result<Option<Verdict>, AllocError>
+    requires given { AllBelow (length terms.now.nodes) condition.now.given }
+    requires goal { condition.now.goal.0 < length terms.now.nodes }
+    requires listed { AreListed terms.now condition.now subterms.now listed.now }
+    requires guide { IsGuide terms.now guide.now }
+    requires running { IsRunning terms.now condition.now atoms.now ground.now limits.now path.old branches.old marks.old.items }
+    requires comes { branches.old.is_left ≡ true }
+    ensures { IfOk result (IsVisited terms.now condition.now atoms.now ground.now limits.now path.new branches.old branches.new marks.new.items) }
+{
+    let end = advance(
+        alloc,
+        terms,
+        condition,
+        atoms,
+        ground,
+        limits,
+        path,
+        branches,
+        marks.as_slice(),
+    )?;
+    take_branch(
+        alloc, terms, condition, subterms, listed, atoms, ground, limits, guide, path, branches,
+        marks, end,
+    )
+}
+
+// All branches that are left, until a verdict is found. Each leaves less room to the tree.
+fn walk(
+    alloc: Global,
+    terms: &Terms,
+    condition: &Condition,
+    subterms: &[TermId],
+    listed: &[bool],
+    atoms: &[TermId],
+    ground: &Ground,
+    limits: &Limits,
+    guide: &Guide,
+    path: &mut ToldPath,
+    branches: &mut Branches,
+    marks: &mut Vec<PathMark>,
+) -> Result<Option<Verdict>, AllocError>
+    requires given { AllBelow (length terms.now.nodes) condition.now.given }
+    requires goal { condition.now.goal.0 < length terms.now.nodes }
+    requires listed { AreListed terms.now condition.now subterms.now listed.now }
+    requires guide { IsGuide terms.now guide.now }
+    requires running { IsRunning terms.now condition.now atoms.now ground.now limits.now path.old branches.old marks.old.items }
+    ensures { IfOk result (IsWalked terms.now condition.now limits.now branches.new) }
+{
+    while branches.is_left() {
+        let found = turn(
+            alloc, terms, condition, subterms, listed, atoms, ground, limits, guide, path,
+            branches, marks,
+        )?;
+        if let Some(verdict) = found {
+            return Ok(Some(verdict));
+        }
+    }
+    Ok(None)
+}
+
+/// The branch that comes next, whose path is told or ends, and all that are left behind it, until a verdict is found.
+pub(crate) fn run(
+    alloc: Global,
+    terms: &Terms,
+    condition: &Condition,
+    subterms: &[TermId],
+    listed: &[bool],
+    atoms: &[TermId],
+    ground: &Ground,
+    limits: &Limits,
+    guide: &Guide,
+    path: &mut ToldPath,
+    branches: &mut Branches,
+    marks: &mut Vec<PathMark>,
+    end: Option<End>,
+) -> Result<Option<Verdict>, AllocError>
+    requires given { AllBelow (length terms.now.nodes) condition.now.given }
+    requires goal { condition.now.goal.0 < length terms.now.nodes }
+    requires listed { AreListed terms.now condition.now subterms.now listed.now }
+    requires guide { IsGuide terms.now guide.now }
+    requires arrived { IsArrived terms.now condition.now atoms.now ground.now limits.now path.old branches.old marks.old.items end }
+    ensures { IfOk result (IsWalked terms.now condition.now limits.now branches.new) }
+{
+    let found = take_branch(
+        alloc, terms, condition, subterms, listed, atoms, ground, limits, guide, path, branches,
+        marks, end,
+    )?;
+    match found {
+        Some(verdict) => Ok(Some(verdict)),
+        None => walk(
+            alloc, terms, condition, subterms, listed, atoms, ground, limits, guide, path,
+            branches, marks,
+        ),
+    }
+}

@@ -1,0 +1,5 @@
+mod Calls
+mod Substituted
+mod Lists
+mod Heads
+mod Statements

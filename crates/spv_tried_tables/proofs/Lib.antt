@@ -1,0 +1,4 @@
+pub mod Worths
+pub mod Apart
+pub mod Whole
+pub mod Shown

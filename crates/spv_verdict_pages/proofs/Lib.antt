@@ -1,0 +1,5 @@
+pub mod Reach
+pub mod Waiting
+pub mod Splits
+pub mod Operands
+pub mod Counted

@@ -1,0 +1,5 @@
+pub mod ProofLines
+pub mod VerdictLines
+pub mod Counting
+pub mod Totals
+pub mod Rows
