@@ -8,6 +8,7 @@ use Rattle.spv_logic.specs.declared.conditions.TermId.{TermId}
 use Rattle.spv_logic.specs.declared.operators.Head.{Head}
 use Rattle.spv_logic.specs.Terms.{Term}
 use Rattle.spv_logic.proofs.Equality.{head_eq-true, head_eq-refl}
+use Rattle.spv_logic.specs.contracts.operators.HeadOrd.TheImpl.Laws as order_laws
 use Rattle.spv_term.specs.declared.nodes.Node.{Node}
 use Rattle.spv_term.specs.Arena.{Arena, IsArena, AllBelow, tree}
 use Rattle.spv_term.proofs.ArenaLemmas.{tree-node}
@@ -29,10 +30,10 @@ module _ {X : Type 0} where
   set_other (x ∷ xs) (suc i) (suc j) y h = set_other xs i j y (λ e. h (ap suc e))
 
 same-true : (h k : Head) → same h k ≡ true → h ≡ k
-same-true h k e = head_eq-true h k (sym (head_test h k) ∙ e)
+same-true h k e = head_eq-true h k (sym (head_test h k) ∙ order_laws.matches_eq-law h k ∙ e)
 
 same-refl : (h : Head) → same h h ≡ true
-same-refl h = head_test h h ∙ head_eq-refl h
+same-refl h = sym (order_laws.matches_eq-law h h) ∙ head_test h h ∙ head_eq-refl h
 
 -- the head of a term is that of its node
 pub head-at : (a : Arena) → IsArena a → (ids : List TermId) (i : ℕ) (t : TermId) (n : Node) → slice_get ids i ≡ Some t → slice_get a.nodes t.0 ≡ Some n → slice_get (heads a ids) i ≡ Some n.head

@@ -1,9 +1,10 @@
 -- Terms of one head, each with the next one behind it.
 use Rattle.std.specs.Prelude.{◌≡◌, ℕ, suc, ◌<◌, ◌≤◌, Bool, List, map, length, Option, Some, slice_get, unwrap_or, if◌then◌else◌}
 use Rattle.std.specs.Map.{lookup}
+use Rattle.std.specs.Ordering.{is_eq}
 use Rattle.spv_logic.specs.declared.conditions.TermId.{TermId}
 use Rattle.spv_logic.specs.declared.operators.Head.{Head}
-use Rattle.spv_logic.specs.contracts.operators.HeadPartialEq.TheImpl as of_heads
+use Rattle.spv_logic.specs.contracts.operators.HeadOrd.TheImpl as of_heads
 use Rattle.spv_logic.specs.Terms.{Term, term}
 use Rattle.spv_term.specs.Arena.{Arena, tree}
 
@@ -28,9 +29,9 @@ pub record AreChained (hs : List Head) (next : List ℕ) : Type 0 where
 
 -- ---- on the way
 
--- the program's test of heads
+-- whether the program's order does not tell two heads apart
 abbrev pub same : Head → Head → Bool
-same h k = of_heads.ghosts.eq h k
+same h k = is_eq (of_heads.ghosts.cmp h k)
 
 abbrev pub place_in : List (Head × ℕ) → Head → Option ℕ
 place_in entries h = lookup (same h) entries

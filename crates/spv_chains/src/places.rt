@@ -3,15 +3,15 @@
 ghost use Rattle.std.specs.Prelude.{◌≡◌, [], OnOk};
 ghost use Rattle.spv_chains.specs.Chains.{place_in, PutsPlace};
 
-use indexmap::IndexMap;
 use spv_term::Head;
 use std::alloc::{AllocError, Global};
+use std::collections::BTreeMap;
 use std::marker::Model;
 
-/// A place for each of some heads. A look-up goes by a hash.
+/// A place for each of some heads. A look-up goes by the order of heads, so that no choice of numerals makes it long.
 #[derive(Drop)]
 pub(crate) struct Places {
-    entries: IndexMap<Head, usize>,
+    entries: BTreeMap<Head, usize>,
 }
 
 impl Model for Places {
@@ -29,7 +29,7 @@ impl Places {
         ensures { result ≡ [] }
     {
         Places {
-            entries: IndexMap::new(alloc),
+            entries: BTreeMap::new(alloc),
         }
     }
 

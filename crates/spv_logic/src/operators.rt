@@ -4,7 +4,7 @@ use crate::types::{Sort, TypeId};
 use spv_names::Symbol;
 
 /// The head of a term: a variable, a numeral, a declared symbol or a built-in operator.
-#[derive(Clone, Copy, PartialEq, Eq, Hash, Debug)]
+#[derive(Clone, Copy, PartialEq, Eq, PartialOrd, Ord, Hash, Debug)]
 pub enum Head {
     /// A variable: its name, its sort, and 0 for the program's own or the number of a fresh one.
     Var(Symbol, Sort, u32),

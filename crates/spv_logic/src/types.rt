@@ -8,7 +8,7 @@ use spv_names::Symbol;
 pub struct TypeId(pub u32);
 
 /// The sort of a term.
-#[derive(Clone, Copy, PartialEq, Eq, Hash, Debug)]
+#[derive(Clone, Copy, PartialEq, Eq, PartialOrd, Ord, Hash, Debug)]
 pub enum Sort {
     /// A whole number, without limit.
     Int,

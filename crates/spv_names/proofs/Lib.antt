@@ -1,1 +1,3 @@
 pub mod NameTable
+pub mod Packed
+pub mod Places

@@ -1,15 +1,14 @@
 -- What the code asks of the definitions on tables of names.
-use Rattle.std.proofs.Common.{◌≡◌, ◌≢◌, ◌<◌, ◌+◌, ◌||◌, ℕ, suc, Bool, true, false, cond, not, List, [], ◌∷◌, ◌++◌, map, length, Some, slice_get, position, None, nat_lt, slice_index_or, if◌then◌else◌, Contains, refl, sym, ap, subst, ◌∙◌, true≢false, arith}
+use Rattle.std.proofs.Common.{◌≡◌, ◌≢◌, ◌<◌, ◌+◌, ◌||◌, ℕ, suc, Bool, true, false, cond, not, List, [], ◌∷◌, ◌++◌, map, length, Some, slice_get, position, None, nat_lt, slice_index_or, if◌then◌else◌, Contains, Result, Ok, Err, IfOk, OnOk, refl, sym, ap, subst, ◌∙◌, true≢false, arith}
 use Rattle.std.specs.List.{list_any, position_or_len}
 use Rattle.std.specs.Str.{bytes_eq}
 use Rattle.std.proofs.lemmas.Slice.Eq.{bytes_eq-Decides}
-use Rattle.std.proofs.lemmas.List.{length-append, length-map, map-append}
+use Rattle.std.proofs.lemmas.List.{length-append, length-map}
 use Rattle.std.proofs.lemmas.Option.{slice_get_within, slice_get_read, slice_get-map, get_or_from_slice_get, slice_get-get_or}
 use Rattle.std.proofs.lemmas.List.Elements.{All-push}
 use Rattle.std.proofs.lemmas.List.Quantifiers.{all_pairs_push}
 use Rattle.std.proofs.lemmas.List.Folds.{list_any_at}
 use Rattle.std.proofs.Math.Numerals.{one-add}
-use Rattle.indexmap.specs.IndexSet.{insert_key}
 use Rattle.std.specs.Char.{is_ascii_lowercase, to_ascii_uppercase}
 use Rattle.std.proofs.lemmas.Bool.Decides.{nat_tests}
 use Rattle.spv_names.specs.Names.{IsFolded, folded, IsNameTable, place_of, with_text}
@@ -18,10 +17,6 @@ use Rattle.spv_names.specs.Names.{IsFolded, folded, IsNameTable, place_of, with_
 pub list_any-map : {A B : Type 0} (p : B → Bool) (f : A → B) (xs : List A) → list_any p (map f xs) ≡ list_any (λ x. p (f x)) xs
 list_any-map p f [] = refl
 list_any-map p f (x ∷ xs) = ap (λ b. p (f x) || b) (list_any-map p f xs)
-
-pub position_or_len-map : {A B : Type 0} (p : B → Bool) (f : A → B) (xs : List A) → position_or_len p (map f xs) ≡ position_or_len (λ x. p (f x)) xs
-position_or_len-map p f [] = refl
-position_or_len-map p f (x ∷ xs) = ap (λ n. cond (not (p (f x))) (1 + n) 0) (position_or_len-map p f xs)
 
 -- a text that stands somewhere is found
 pub found_at : (texts : List (List ℕ)) (text : List ℕ) (i : ℕ) → slice_get texts i ≡ Some text → list_any (bytes_eq text) texts ≡ true
@@ -69,22 +64,46 @@ stands (x ∷ xs) text = by (bytes_eq text x) refl (stands xs text)
         split true f = rw f (rw f at h)
         split false f = rw f (rw f at h)
 
-module _ {K : Type 0} (text_of : K → List ℕ) (keys : List K) (text : List ℕ) where
-  -- a key that `position` finds
-  pub found : (i : ℕ) → position (λ k. bytes_eq text (text_of k)) keys ≡ Some i → i ≡ place_of (map text_of keys) text
-  found i at = place_from_position _ keys i at ∙ sym (position_or_len-map (bytes_eq text) text_of keys)
+-- one that stands nowhere is not found
+pub not_there : (texts : List (List ℕ)) (text : List ℕ) → (Contains texts text → ⊥) → list_any (bytes_eq text) texts ≡ false
+not_there texts text nowhere = by (list_any (bytes_eq text) texts) refl
+  where
+    by : (b : Bool) → list_any (bytes_eq text) texts ≡ b → list_any (bytes_eq text) texts ≡ false
+    by false e = e
+    by true e =
+        let known : with_text texts text ≡ texts = rw e refl in
+        absurd (nowhere (contains_at texts text (place_of texts text) (ap (λ l. slice_get l (place_of texts text)) (sym known) ∙ stands texts text)))
 
-  -- it is the text
-  pub found_stands : (i : ℕ) → position (λ k. bytes_eq text (text_of k)) keys ≡ Some i → list_any (λ k. bytes_eq text (text_of k)) keys ≡ true → slice_get (map text_of keys) i ≡ Some text
-  found_stands i at there =
-      let texts : List (List ℕ) = map text_of keys in
-      let known : with_text texts text ≡ texts = rw (list_any-map (bytes_eq text) text_of keys ∙ there) refl in
-      let at_place : slice_get (with_text texts text) i ≡ Some text = rw (found i at) (stands texts text) in
-      rw known at at_place
+-- its place is then the length of the list
+place_of-new : (texts : List (List ℕ)) (text : List ℕ) → list_any (bytes_eq text) texts ≡ false → place_of texts text ≡ length texts
+place_of-new [] text none = refl
+place_of-new (x ∷ texts) text none = by (bytes_eq text x) refl (place_of-new texts text)
+  where
+    by : (b : Bool) → bytes_eq text x ≡ b → (list_any (bytes_eq text) texts ≡ false → place_of texts text ≡ length texts) → place_of (x ∷ texts) text ≡ length (x ∷ texts)
+    by true e rest = absurd (true≢false (sym (ap (λ b. b || list_any (bytes_eq text) texts) e) ∙ none))
+    by false e rest =
+        let others = rest (sym (ap (λ b. b || list_any (bytes_eq text) texts) e) ∙ none) in
+        ap (λ b. cond (not b) (1 + place_of texts text) 0) e ∙ omega (arith, others)
 
-  -- a key that is not found
-  pub missing : list_any (λ k. bytes_eq text (text_of k)) keys ≡ false → list_any (bytes_eq text) (map text_of keys) ≡ false
-  missing none = list_any-map (bytes_eq text) text_of keys ∙ none
+-- what `enter` says where a new text was put at the end
+pub record IsPut (texts more : List (List ℕ)) (text : List ℕ) (i : ℕ) : Type 0 where
+  pub number : i ≡ place_of texts text
+  pub stands : slice_get more i ≡ Some text
+
+pub put : (texts more : List (List ℕ)) (text : List ℕ) (i : ℕ) → (Contains texts text → ⊥) → more ≡ texts ++ text ∷ [] → i ≡ length texts → IsPut texts more text i
+put texts more text i nowhere grown last =
+    let none = not_there texts text nowhere in
+    let place : i ≡ place_of texts text = last ∙ sym (place_of-new texts text none) in
+    let same : more ≡ with_text texts text = grown ∙ sym (with_text-new texts text none) in
+    record { number = place; stands = (λ j. slice_get (same j) (place j)) ∙ stands texts text }
+
+pub if_put : {S E : Type 0} {P R : S → Type 0} {Q : Type 0} (r : Result S E) → IfOk r P → OnOk r Q → ((s : S) → P s → Q → R s) → IfOk r R
+if_put (Ok s) p q gives = gives s p q
+if_put (Err e) p q gives = tt
+
+pub on_put : {S E : Type 0} {Q R : Type 0} (r : Result S E) → OnOk r Q → (Q → R) → OnOk r R
+on_put (Ok s) q gives = gives q
+on_put (Err e) q gives = tt
 
 -- a table stays one when a text in upper case is entered and there is room
 pub IsNameTable-with_text : (texts : List (List ℕ)) (text : List ℕ) → IsNameTable texts → IsFolded text → length texts < 2147483648
@@ -98,16 +117,6 @@ IsNameTable-with_text texts text table folded room = by (list_any (bytes_eq text
       folded = All-push IsFolded texts text table.folded folded;
       few = omega (arith, length-append texts (text ∷ []));
     })
-
--- the keys of a set after one more, as texts
-pub map-insert_key : {K : Type 0} (text_of : K → List ℕ) (keys : List K) (k : K)
-    → map text_of (insert_key (λ a b. bytes_eq (text_of a) (text_of b)) keys k) ≡ with_text (map text_of keys) (text_of k)
-map-insert_key {K} text_of keys k = by (list_any (bytes_eq (text_of k)) (map text_of keys)) refl
-  where
-    by : (b : Bool) → list_any (bytes_eq (text_of k)) (map text_of keys) ≡ b
-        → map text_of (if list_any (λ x. bytes_eq (text_of k) (text_of x)) keys then keys else keys ++ k ∷ []) ≡ (if list_any (bytes_eq (text_of k)) (map text_of keys) then map text_of keys else map text_of keys ++ text_of k ∷ [])
-    by true e = rw (e, sym (list_any-map (bytes_eq (text_of k)) text_of keys) ∙ e) refl
-    by false e = rw (e, sym (list_any-map (bytes_eq (text_of k)) text_of keys) ∙ e) (map-append text_of keys (k ∷ []))
 
 -- each text of a table is in upper case
 pub folded_at : (texts : List (List ℕ)) (text : List ℕ) (i : ℕ) → IsNameTable texts → slice_get texts i ≡ Some text → IsFolded text

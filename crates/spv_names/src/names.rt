@@ -1,30 +1,37 @@
 //! The table of names.
-ghost use Rattle.std.specs.Prelude.{◌≡◌, ◌≢◌, ◌<◌, ◌≤◌, ◌↔◌, ℕ, [], All, AllPairs, Contains, IsNone, IsTrue, IfSome, IfOk, OnOk, OnErr, Some, length, slice_get};
+ghost use Rattle.std.specs.Prelude.{◌≡◌, ◌≢◌, ◌<◌, ◌≤◌, ◌↔◌, ℕ, [], ◌∷◌, ◌++◌, All, AllPairs, Contains, IsNone, IsTrue, IfSome, IfOk, OnOk, OnErr, Some, length, slice_get};
 ghost use Rattle.spv_names.specs.Names.{IsFolded, place_of, with_text};
 
-use indexmap::IndexSet;
+use crate::maps::{LongPlaces, ShortPlaces, place_in, put_place};
 use std::alloc::{AllocError, Global};
+use std::collections::BTreeMap;
 use std::marker::Model;
 
 /// The number of a name: its place in the list of a `Names`, from 0 up.
 #[derive(Clone, Copy, PartialEq, Eq, PartialOrd, Ord, Hash, Debug)]
 pub struct Symbol(pub u32);
 
-/// A list of different texts in upper case, in the order in which they were entered. A look-up goes by a text's hash.
+/// A list of different texts in upper case, in the order in which they were entered. A look-up goes by the order of the
+/// texts, so that no choice of texts makes it long.
 #[derive(Drop)]
 pub struct Names {
-    texts: IndexSet<Vec<u8>>,
+    texts: Vec<Vec<u8>>,
+    short: ShortPlaces,
+    long: LongPlaces,
 }
 
 impl Model for Names {
     ghost use Rattle.std.specs.Prelude.{List, ℕ, map};
-    ghost use Rattle.spv_names.specs.Names.{IsNameTable};
+    ghost use Rattle.spv_names.specs.Names.{IsNameTable, ArePlaces};
 
     ghost Value = { List (List ℕ) };
 
-    ghost view = { λ n. map (λ t. t.items) n.texts.keys };
+    ghost view = { λ n. map (λ t. t.items) n.texts.items };
 
-    ghost invariant = { λ n. IsNameTable (map (λ t. t.items) n.texts.keys) };
+    ghost invariant = { λ n. record {
+      table : IsNameTable (map (λ t. t.items) n.texts.items);
+      places : ArePlaces (λ t. t.items) n.short n.long (map (λ t. t.items) n.texts.items);
+    } };
 }
 
 impl Names {
@@ -33,7 +40,9 @@ impl Names {
         ensures { result ≡ [] }
     {
         Names {
-            texts: IndexSet::new(alloc),
+            texts: Vec::new(alloc),
+            short: BTreeMap::new(alloc),
+            long: BTreeMap::new(alloc),
         }
     }
 
@@ -64,9 +73,25 @@ impl Names {
         if let Some(known) = self.find(text) {
             return Ok(known);
         }
-        let owned = Vec::from_slice(*self.texts.allocator(), text)?;
-        let (place, _) = self.texts.insert_full(owned)?;
-        Ok(Symbol(place as u32))
+        self.push(text)
+    }
+
+    // Puts a new text at the end.
+    fn push(&mut self, text: &[u8]) -> Result<Symbol, AllocError>
+        requires room { length self.old < 2147483648 }
+        requires folded { IsFolded text.now }
+        requires new { ¬ Contains self.old text.now }
+        ensures number { IfOk result (λ s. s.0 ≡ length self.old) }
+        ensures pushed { OnOk result (self.new ≡ self.old ++ text.now ∷ []) }
+        ensures err { OnErr result (self.new ≡ self.old) }
+    {
+        let place = self.texts.len() as u32;
+        let alloc = *self.texts.allocator();
+        let owned = Vec::from_slice(alloc, text)?;
+        self.texts.reserve(1)?;
+        put_place(alloc, &mut self.short, &mut self.long, text, place)?;
+        self.texts.push(owned).unwrap();
+        Ok(Symbol(place))
     }
 
     /// The number of a text that was entered. It takes no memory.
@@ -76,8 +101,8 @@ impl Names {
         ensures number { IfSome result (λ s. s.0 ≡ place_of self.now text.now) }
         ensures stands { IfSome result (λ s. slice_get self.now s.0 ≡ Some text.now) }
     {
-        let place = self.texts.get_index_of(text)?;
-        Some(Symbol(place as u32))
+        let place = place_in(&self.short, &self.long, text)?;
+        Some(Symbol(place))
     }
 
     /// The text of a name.

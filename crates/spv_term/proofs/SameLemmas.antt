@@ -1,9 +1,8 @@
 -- The program's `==` of heads and nodes is sameness.
-use Rattle.std.proofs.Common.{◌≡◌, ℕ, Bool, true, false, ◌&&◌, ◌||◌, List, [], ◌∷◌, ◌++◌, position, Some, None, if◌then◌else◌, refl, sym, ap, ◌∙◌, nat_eq, inl, inr}
-use Rattle.std.specs.List.{list_any}
-use Rattle.std.specs.Map.{keys_of, values_of}
-use Rattle.std.proofs.lemmas.List.{map_push}
-use Rattle.indexmap.specs.IndexMap.{insert_entry}
+use Rattle.std.proofs.Common.{◌≡◌, ℕ, Bool, true, false, ◌&&◌, List, [], ◌∷◌, ◌++◌, length, position, cond, Option, Some, None, if◌then◌else◌, refl, sym, ap, ◌∙◌, nat_eq, inl, inr}
+use Rattle.std.specs.BTreeMap.{BTreeMap, get, Updates}
+use Rattle.std.specs.Map.{lookup}
+use Rattle.std.specs.Ordering.{is_eq}
 use Rattle.std.proofs.lemmas.Bool.{false≢true, eqb-true}
 use Rattle.spv_list.proofs.Tests.{left_true, right_true}
 use denote.Struct.Field.{Field}
@@ -22,8 +21,11 @@ use Rattle.spv_logic.specs.contracts.operators.HeadPartialEq.TheImpl as of_heads
 use Rattle.spv_term.specs.declared.nodes.Node.{Node}
 use Rattle.spv_term.specs.contracts.nodes.NodePartialEq.TheImpl as of_nodes
 use Rattle.spv_term.specs.contracts.nodes.NodeEq.TheImpl.Laws as node_laws
-use Rattle.spv_term.specs.Arena.{node_eq, has_node, place_of}
-use Rattle.spv_term.proofs.NodeLemmas.{ids_eq-true, node_eq-unique, found_there, found_absent}
+use Rattle.spv_term.specs.contracts.nodes.NodeOrd.TheImpl as in_order
+use Rattle.spv_term.specs.contracts.nodes.NodeOrd.TheImpl.Laws as order_laws
+use Rattle.spv_names.proofs.Places.{position-push}
+use Rattle.spv_term.specs.Arena.{node_eq, number_of, ArePlaces, has_node, place_of}
+use Rattle.spv_term.proofs.NodeLemmas.{ids_eq-true, node_eq-true, node_eq-refl, node_eq-unique, found_there, found_absent}
 
 -- for each variant, fields that the test finds equal are the same
 abbrev AllSound : (Fss : List (List Field)) → Each Bool Fss → Type 0
@@ -37,15 +39,6 @@ same_choice (Fs ∷ Fss) each sound (inl x) (inl y) h = ap inl (sound.0 x y h)
 same_choice (Fs ∷ Fss) each sound (inl x) (inr d) h = absurd (false≢true h)
 same_choice (Fs ∷ Fss) each sound (inr c) (inl y) h = absurd (false≢true h)
 same_choice (Fs ∷ Fss) each sound (inr c) (inr d) h = ap inr (same_choice Fss each.1 sound.1 c d h)
-
--- a key that no entry has goes last
-insert_entry-absent : {K X : Type 0} (eq : K → K → Bool) (k : K) (x : X) (entries : List (K × X)) → list_any (eq k) (keys_of entries) ≡ false → insert_entry eq entries k x ≡ entries ++ (k, x) ∷ []
-insert_entry-absent eq k x [] h = refl
-insert_entry-absent {K} {X} eq k x (e ∷ entries) h = by (eq k e.0) refl (λ f. insert_entry-absent eq k x entries (sym (ap (λ b. b || list_any (eq k) (keys_of entries)) f) ∙ h))
-  where
-    by : (b : Bool) → eq k e.0 ≡ b → (eq k e.0 ≡ false → insert_entry eq entries k x ≡ entries ++ (k, x) ∷ []) → insert_entry eq (e ∷ entries) k x ≡ e ∷ (entries ++ (k, x) ∷ [])
-    by true f rest = absurd (false≢true (sym h ∙ ap (λ b. b || list_any (eq k) (keys_of entries)) f))
-    by false f rest = ap (λ b. if b then (e.0, x) ∷ entries else e ∷ insert_entry eq entries k x) f ∙ ap (λ fs. e ∷ fs) (rest f)
 
 type_same : (t u : TypeId) → nat_eq t.0 u.0 ≡ true → t ≡ u
 type_same t u h = ap (λ n. record { 0 = n }) (eqb-true t.0 u.0 h)
@@ -199,20 +192,34 @@ node_itself n = node_laws.laws-law.refl n
 same_test : of_nodes.ghosts.eq ≡ node_eq
 same_test = λ i m n. node_eq-unique of_nodes.ghosts.eq node_same node_itself m n i
 
+-- nodes that the program's order does not tell apart are the same
+same_place : (n : Node) → (λ (k : Node). is_eq (in_order.ghosts.cmp n k)) ≡ node_eq n
+same_place n = λ i k. (sym (order_laws.matches_eq-law n k) ∙ (λ j. same_test j n k)) i
+
 -- ---- what a map of nodes finds, and what it has after a new node was put into it
 
-pub some_found : (nodes ms : List Node) (n : Node) (i : ℕ) → ms ≡ nodes → Some i ≡ position (of_nodes.ghosts.eq n) ms → (i ≡ place_of nodes n) × (true ≡ has_node nodes n)
-some_found nodes ms n i e h = found_there nodes n i (h ∙ (λ j. position (same_test j n) (e j)))
+module _ (nodes ms : List Node) (places : BTreeMap Node ℕ) (n : Node) (e : ms ≡ nodes) (are : ArePlaces places ms) where
+  number-is : get (in_order.ghosts.cmp) places n ≡ position (node_eq n) nodes
+  number-is = ap (λ t. lookup t places.entries) (same_place n) ∙ are.each n ∙ ap (position (node_eq n)) e
 
-pub none_found : (nodes ms : List Node) (n : Node) → ms ≡ nodes → None ≡ position (of_nodes.ghosts.eq n) ms → false ≡ has_node nodes n
-none_found nodes ms n e h = found_absent nodes n (h ∙ (λ j. position (same_test j n) (e j)))
+  pub some_found : (i : ℕ) → Some i ≡ get (in_order.ghosts.cmp) places n → (i ≡ place_of nodes n) × (true ≡ has_node nodes n)
+  some_found i h = found_there nodes n i (h ∙ number-is)
 
-module _ (entries more : List (Node × Sort)) (n : Node) (s : Sort) (new : has_node (keys_of entries) n ≡ false) (e : more ≡ insert_entry of_nodes.ghosts.eq entries n s) where
-  inserted : more ≡ entries ++ (n, s) ∷ []
-  inserted = e ∙ insert_entry-absent of_nodes.ghosts.eq n s entries (ap (λ t. list_any (t n) (keys_of entries)) same_test ∙ new)
+  pub none_found : None ≡ get (in_order.ghosts.cmp) places n → false ≡ has_node nodes n
+  none_found h = found_absent nodes n (h ∙ number-is)
 
-  pub keys-inserted : keys_of more ≡ keys_of entries ++ n ∷ []
-  keys-inserted = ap keys_of inserted ∙ map_push (λ p. p.0) entries (n, s)
+pub number-put : (old new : BTreeMap Node ℕ) (n : Node) (o : Option ℕ) → Updates (in_order.ghosts.cmp) old new n o
+    → (m : Node) → number_of new m ≡ (if node_eq n m then o else number_of old m)
+number-put old new n o h m =
+    ap (λ t. lookup t new.entries) (sym (same_place m)) ∙ h.0 m
+    ∙ (λ i. cond (same_place n i m) o (lookup (same_place m i) old.entries))
 
-  pub values-inserted : values_of more ≡ values_of entries ++ s ∷ []
-  values-inserted = ap values_of inserted ∙ map_push (λ p. p.1) entries (n, s)
+node_eq-symm : (m n : Node) → node_eq m n ≡ node_eq n m
+node_eq-symm m n = sym (node_eq-unique (λ a b. node_eq b a) (λ a b h. sym (node_eq-true b a h)) node_eq-refl m n)
+
+pub ArePlaces-push : (old new : BTreeMap Node ℕ) (nodes ms : List Node) (n : Node) (i : ℕ) → ArePlaces old nodes → has_node nodes n ≡ false
+    → ((m : Node) → number_of new m ≡ (if node_eq n m then Some i else number_of old m)) → i ≡ length nodes → ms ≡ nodes ++ n ∷ [] → ArePlaces new ms
+ArePlaces-push old new nodes ms n i places absent put last is = record {
+  each = λ m. put m ∙ (λ j. cond (node_eq-symm n m j) (Some (last j)) (places.each m j))
+      ∙ sym (position-push (node_eq m) nodes n (λ same. ap (has_node nodes) (node_eq-true m n same) ∙ absent)) ∙ ap (position (node_eq m)) (sym is);
+}

@@ -1,6 +1,8 @@
 -- The arena of terms: its nodes, and the tree and the sort that each stands for.
-use Rattle.std.specs.Prelude.{◌≡◌, ℕ, ◌<◌, ◌≤◌, ◌^◌, Bool, true, false, ◌&&◌, not, List, [], ◌∷◌, ◌++◌, map, length, take, pos, nat_eq, fold, Some, IsSome, unwrap_or, IsTrue, slice_get, slice_index_or, if◌then◌else◌}
+use Rattle.std.specs.Prelude.{◌≡◌, ℕ, ◌<◌, ◌≤◌, ◌^◌, Bool, true, false, ◌&&◌, not, List, [], ◌∷◌, ◌++◌, map, length, take, pos, position, nat_eq, fold, Option, Some, IsSome, unwrap_or, IsTrue, slice_get, slice_index_or, if◌then◌else◌}
+use Rattle.std.specs.BTreeMap.{BTreeMap}
 use Rattle.std.specs.List.{list_all, list_any, position_or_len}
+use Rattle.std.specs.Map.{lookup}
 use Rattle.spv_logic.specs.declared.conditions.TermId.{TermId}
 use Rattle.spv_logic.specs.declared.types.Sort.{Sort}
 use Rattle.spv_logic.specs.declared.types.Sort.TheVariants as sort
@@ -47,6 +49,14 @@ with_node nodes n = if has_node nodes n then nodes else nodes ++ n ∷ []
 -- where a node stands; the number of nodes where it is not there
 abbrev pub place_of : List Node → Node → ℕ
 place_of nodes n = position_or_len (node_eq n) nodes
+
+-- the number that a map from nodes to numbers has for a node
+abbrev pub number_of : BTreeMap Node ℕ → Node → Option ℕ
+number_of places n = lookup (node_eq n) places.entries
+
+-- for each node of a list a map has its place, and for no other node any
+pub record ArePlaces (places : BTreeMap Node ℕ) (nodes : List Node) : Type 0 where
+  pub each : (n : Node) → number_of places n ≡ position (node_eq n) nodes
 
 -- each id is that of one of so many nodes
 abbrev pub AllBelow : ℕ → List TermId → Type 0

@@ -5,7 +5,7 @@ ghost use Rattle.spv_logic.specs.Shapes.{shapes_ok};
 use smallvec::SmallVec;
 use spv_logic::{Decl, Shape, TermId, TypeId};
 use std::alloc::{AllocError, Global};
-use std::hash::{Hash, Hasher};
+use std::cmp::Ordering;
 use std::marker::Model;
 
 /// The arguments of a node, in order: up to three of them stand in the node itself.
@@ -78,16 +78,42 @@ impl Eq for Arguments {
     ghost laws = { Prim.search (comparing, rules) };
 }
 
-impl Hash for Arguments {
-    ghost use Rattle.std.specs.Cmp.{unsigned_Decides};
-    ghost use Rattle.std.specs.Hash as fed;
+impl PartialOrd for Arguments {
+    ghost use Rattle.std.proofs.Common.{rules};
+    ghost use Rattle.std.specs.Cmp.{partial_order_from_own_ties, unsigned_ties};
+    ghost use Rattle.std.specs.Cmp.Rules.{comparing};
+    ghost use Rattle.std.specs.Cmp.Lexicographic.{slice_cmp, lists_ties};
+    ghost use Rattle.spv_logic.specs.declared.conditions.TermId.{TermId};
+    ghost use Rattle.std.specs.Ordering.{on, nat_cmp, as_partial_cmp};
 
-    ghost hash_input = { fed.slice (λ t. fed.u32 t.0) };
+    ghost partial_cmp = { as_partial_cmp (slice_cmp (on (λ t. t.0) nat_cmp)) };
 
-    ghost respects_eq = { (fed.items_Alike (fed.on_Alike (λ t. t.0) (fed.same_Alike fed.u32 unsigned_Decides))).fed };
+    ghost laws = { partial_order_from_own_ties (Prim.search (comparing, rules))
+        (lists_ties (on (λ (t : TermId). t.0) nat_cmp) (λ t u. unsigned_ties t.0 u.0)) };
 
-    fn hash<H: Hasher>(&self, state: &mut H) {
-        self.list.as_slice().hash(state);
+    fn partial_cmp(&self, other: &Arguments) -> Option<Ordering> {
+        Some(self.cmp(other))
+    }
+}
+
+impl Ord for Arguments {
+    ghost use Rattle.std.proofs.Common.{rules};
+    ghost use Rattle.std.specs.Cmp.{unsigned_ties};
+    ghost use Rattle.std.specs.Cmp.Rules.{comparing};
+    ghost use Rattle.std.specs.Cmp.Lexicographic.{slice_cmp, lists_ties};
+    ghost use Rattle.std.specs.Ordering.{on, nat_cmp};
+    ghost use Rattle.spv_logic.specs.declared.conditions.TermId.{TermId};
+
+    ghost cmp = { slice_cmp (on (λ t. t.0) nat_cmp) };
+
+    ghost total = { Prim.search (comparing, rules) };
+
+    ghost matches_partial_cmp = { Prim.search (comparing, rules) };
+
+    ghost matches_eq = { lists_ties (on (λ (t : TermId). t.0) nat_cmp) (λ t u. unsigned_ties t.0 u.0) };
+
+    fn cmp(&self, other: &Arguments) -> Ordering {
+        self.list.as_slice().cmp(&other.list.as_slice())
     }
 }
 

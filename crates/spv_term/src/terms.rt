@@ -1,24 +1,28 @@
 //! The arena.
-ghost use Rattle.std.specs.Prelude.{◌≡◌, ◌<◌, ◌≤◌, [], ◌∷◌, ◌++◌, length, Some, IsSome, IfSome, is_some, IsTrue, nat_eq, IsErr, IfOk, IfErr, OnOk, OnErr, slice_get};
+ghost use Rattle.std.specs.Prelude.{◌≡◌, ◌<◌, ◌≤◌, [], ◌∷◌, ◌++◌, length, Some, IsSome, IfSome, is_some, IsTrue, nat_eq, if◌then◌else◌, IsErr, IfOk, IfErr, OnOk, OnErr, slice_get};
 ghost use Rattle.spv_logic.specs.Terms.{term};
 ghost use Rattle.spv_logic.specs.Sorts as spec;
+ghost use Rattle.spv_term.specs.declared.nodes.Node.{Node};
 ghost use Rattle.spv_term.specs.declared.nodes.TermFault.TheVariants.{Size, Memory};
-ghost use Rattle.spv_term.specs.Arena.{node, has_node, with_node, place_of, lacks_room, AllBelow, tree, trees, sort_at, sorts_at, symbols_differ, decls_in_range, MayFollow, IsArena, Extends};
+ghost use Rattle.spv_term.specs.Arena.{node, node_eq, number_of, has_node, with_node, place_of, lacks_room, AllBelow, tree, trees, sort_at, sorts_at, symbols_differ, decls_in_range, MayFollow, IsArena, Extends};
 
 use crate::lists::{Arguments, Shapes};
 use crate::nodes::{Node, TermFault};
 use crate::sorts::result_sort;
-use indexmap::IndexMap;
 use spv_list::List;
 use spv_logic::{Decl, Head, Sort, TermId};
-use std::alloc::Global;
+use std::alloc::{AllocError, Global};
+use std::collections::BTreeMap;
 use std::marker::Model;
 
 /// Terms, each of which stands once: a term's id is the place of its node, and a node's arguments
-/// have smaller ids. Nodes are added at the end and never change.
+/// have smaller ids. Nodes are added at the end and never change. A look-up goes by the order of nodes, so that no
+/// choice of terms makes it long.
 #[derive(Drop)]
 pub struct Terms {
-    nodes: IndexMap<Node, Sort>,
+    nodes: Vec<Node>,
+    sorts: Vec<Sort>,
+    places: BTreeMap<Node, u32>,
     most: u32,
     shapes: Shapes,
     decls: List<Decl>,
@@ -26,17 +30,27 @@ pub struct Terms {
 
 impl Model for Terms {
     ghost use Rattle.std.specs.Prelude.{◌≡◌};
-    ghost use Rattle.indexmap.specs.IndexMap.{keys, values};
-    ghost use Rattle.spv_term.specs.Arena.{Arena, IsArena, sorts_of};
+    ghost use Rattle.spv_term.specs.Arena.{Arena, IsArena, ArePlaces, sorts_of};
 
     ghost Value = { Arena };
 
-    ghost view = { λ t. record { nodes = keys t.nodes; most = t.most; shapes = t.shapes; decls = t.decls } };
+    ghost view = { λ t. record { nodes = t.nodes.items; most = t.most; shapes = t.shapes; decls = t.decls } };
 
     ghost invariant = { λ t. record {
-      arena : IsArena (record { nodes = keys t.nodes; most = t.most; shapes = t.shapes; decls = t.decls });
-      sorts : values t.nodes ≡ sorts_of t.shapes t.decls (keys t.nodes);
+      arena : IsArena (record { nodes = t.nodes.items; most = t.most; shapes = t.shapes; decls = t.decls });
+      sorts : t.sorts.items ≡ sorts_of t.shapes t.decls t.nodes.items;
+      places : ArePlaces t.places t.nodes.items;
     } };
+}
+
+// Puts a number for a node into a map.
+fn put_place(places: &mut BTreeMap<Node, u32>, node: Node, place: u32) -> Result<(), AllocError>
+    ensures ok { OnOk result ((n : Node) → number_of places.new n
+        ≡ (if node_eq node n then Some place else number_of places.old n)) }
+    ensures err { OnErr result (places.new.entries ≡ places.old.entries) }
+{
+    let _none = places.insert(node, place)?;
+    Ok(())
 }
 
 impl Terms {
@@ -52,7 +66,9 @@ impl Terms {
     {
         shapes.law_shapes();
         Terms {
-            nodes: IndexMap::new(alloc),
+            nodes: Vec::new(alloc),
+            sorts: Vec::new(alloc),
+            places: BTreeMap::new(alloc),
             most,
             shapes,
             decls,
@@ -112,8 +128,8 @@ impl Terms {
         ensures there { IfSome result (λ t. t.0 ≡ place_of self.now.nodes node.now) }
         ensures found { is_some result ≡ has_node self.now.nodes node.now }
     {
-        let place = self.nodes.get_index_of(node)?;
-        Some(TermId(place as u32))
+        let place = self.places.get(node)?;
+        Some(TermId(*place))
     }
 
     // Whether there may be no more terms.
@@ -134,11 +150,14 @@ impl Terms {
         ensures err { IfErr result (λ e. e ≡ Memory) }
         ensures unchanged { OnErr result (self.new ≡ self.old) }
     {
-        let place = self.nodes.len();
-        match self.nodes.insert(node, sort) {
-            Ok(_) => Ok(TermId(place as u32)),
-            Err(_) => Err(TermFault::Memory),
-        }
+        let place = self.nodes.len() as u32;
+        let key = self.node_over(node.head, node.args.as_slice())?;
+        self.nodes.reserve(1)?;
+        self.sorts.reserve(1)?;
+        put_place(&mut self.places, key, place)?;
+        self.nodes.push(node).unwrap();
+        self.sorts.push(sort).unwrap();
+        Ok(TermId(place))
     }
 
     // The first one's sort; of no terms, that of a number.
@@ -169,7 +188,7 @@ impl Terms {
         requires { t.0 < length self.now.nodes }
         ensures { slice_get self.now.nodes t.0 ≡ Some result.now }
     {
-        self.nodes.get_index(t.0 as usize).unwrap().0
+        &self.nodes[t.0 as usize]
     }
 
     /// The sort of a term.
@@ -177,7 +196,7 @@ impl Terms {
         requires { t.0 < length self.now.nodes }
         ensures { result ≡ sort_at self.now t }
     {
-        *self.nodes.get_index(t.0 as usize).unwrap().1
+        self.sorts[t.0 as usize]
     }
 
     /// How many terms there are: their ids are the numbers below it.
