@@ -22,42 +22,18 @@ use Rattle.spv_decided.specs.Nodes.{is_split_tree, joined, first_tree, tree_at, 
 use Rattle.spv_decided.specs.Growing.{grown_trees, grown_at}
 use Rattle.spv_decided.specs.Laws.{AllClosed, PartsClosed}
 use Rattle.spv_decided.proofs.ClosedTrees.{closed_accepted}
+use Rattle.spv_decided.proofs.SplitCounts.{splits_in, one_split_more}
 use Rattle.spv_branches.specs.Branches.{root, Comes}
 use Rattle.spv_branches.specs.Counts.{some_open, split_count}
 use Rattle.spv_branches.proofs.Coming.{BranchesStand, all_stand, stands}
 
 -- ---- splits
 
-abbrev splits_in : List Tree → ℕ
-splits_in [] = zero
-splits_in (t ∷ ts) = splits t + splits_in ts
-
-joined_splits : (ts : List Tree) → splits_all (joined ts) ≡ splits_in ts
-joined_splits [] = refl
-joined_splits (t ∷ ts) = ap (λ k. splits t + k) (joined_splits ts)
-
-cut_splits : (k : ℕ) (ts : List Tree) → splits_in (take k ts) + splits_in (drop k ts) ≡ splits_in ts
-cut_splits zero [] = refl
-cut_splits zero (t ∷ ts) = sum_of_none (splits_in (t ∷ ts))
-  where
-    sum_of_none : (n : ℕ) → zero + n ≡ n
-    sum_of_none n = omega arith
-cut_splits (suc k) [] = refl
-cut_splits (suc k) (t ∷ ts) = grouped (splits t) (splits_in (take k ts)) (splits_in (drop k ts)) (splits_in ts) (cut_splits k ts)
-  where
-    grouped : (a b c d : ℕ) → b + c ≡ d → (a + b) + c ≡ a + d
-    grouped a b c d e = omega (arith, e)
-
 pub splits-counted : (at : TermId → Term) (nodes : List Grown) → splits_in (grown_trees at nodes) ≡ split_count nodes
 splits-counted at [] = refl
 splits-counted at (grown.Open ∷ nodes) = ap (λ k. zero + k) (splits-counted at nodes)
 splits-counted at (grown.Closed steps ∷ nodes) = ap (λ k. zero + k) (splits-counted at nodes)
-splits-counted at (grown.Split t count ∷ nodes) =
-    one_more (splits_all (joined (take count (grown_trees at nodes)))) (splits_in (take count (grown_trees at nodes))) (splits_in (drop count (grown_trees at nodes))) (splits_in (grown_trees at nodes)) (split_count nodes)
-    (joined_splits (take count (grown_trees at nodes))) (cut_splits count (grown_trees at nodes)) (splits-counted at nodes)
-  where
-    one_more : (j a b c d : ℕ) → j ≡ a → a + b ≡ c → c ≡ d → suc j + b ≡ 1 + d
-    one_more j a b c d e f g = omega (arith, e, f, g)
+splits-counted at (grown.Split t count ∷ nodes) = one_split_more count (grown_trees at nodes) (split_count nodes) (splits-counted at nodes)
 
 -- ---- open paths
 

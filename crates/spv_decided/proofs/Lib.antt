@@ -1,3 +1,4 @@
 pub mod OneTree
 pub mod ClosedTrees
 mod GrownTrees
+pub mod SplitCounts

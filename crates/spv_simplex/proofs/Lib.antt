@@ -5,3 +5,4 @@ pub mod Held
 pub mod Searches
 pub mod Checking
 pub mod Accepting
+pub mod MovingOn

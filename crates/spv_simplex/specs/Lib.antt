@@ -4,3 +4,4 @@ pub mod Evidence
 pub mod Searching
 pub mod Checks
 pub mod Laws
+pub mod Spreading

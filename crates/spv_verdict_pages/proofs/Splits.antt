@@ -14,28 +14,9 @@ use Rattle.spv_decided.specs.declared.verdicts.Limit.TheVariants as limit
 use Rattle.spv_decided.specs.Nodes.{is_split_tree, joined, trees_at, first_tree, tree_at}
 use Rattle.spv_decided.specs.Views.{limit_in}
 use Rattle.spv_decided.proofs.OneTree.{one_tree}
+use Rattle.spv_decided.proofs.SplitCounts.{splits_in, one_split_more}
 use Rattle.spv_verdict_pages.specs.Counting.{is_split, split_count}
 use Rattle.spv_verdict_pages.specs.VerdictLines.{limit_text}
-
-abbrev splits_in : List Tree → ℕ
-splits_in [] = zero
-splits_in (t ∷ ts) = splits t + splits_in ts
-
-joined_splits : (ts : List Tree) → splits_all (joined ts) ≡ splits_in ts
-joined_splits [] = refl
-joined_splits (t ∷ ts) = ap (λ k. splits t + k) (joined_splits ts)
-
-cut_splits : (k : ℕ) (ts : List Tree) → splits_in (take k ts) + splits_in (drop k ts) ≡ splits_in ts
-cut_splits zero [] = refl
-cut_splits zero (t ∷ ts) = sum_of_none (splits_in (t ∷ ts))
-  where
-    sum_of_none : (n : ℕ) → zero + n ≡ n
-    sum_of_none n = omega arith
-cut_splits (suc k) [] = refl
-cut_splits (suc k) (t ∷ ts) = grouped (splits t) (splits_in (take k ts)) (splits_in (drop k ts)) (splits_in ts) (cut_splits k ts)
-  where
-    grouped : (a b c d : ℕ) → b + c ≡ d → (a + b) + c ≡ a + d
-    grouped a b c d e = omega (arith, e)
 
 -- 1 for a split, 0 for each other node
 abbrev weight : SplitNode → ℕ
@@ -46,14 +27,7 @@ counted at [] = refl
 counted at (node.Open ∷ nodes) = ap (λ k. zero + k) (counted at nodes) ∙ sym (sum_by-cons weight node.Open nodes)
 counted at (node.Closed steps ∷ nodes) = ap (λ k. zero + k) (counted at nodes) ∙ sym (sum_by-cons weight (node.Closed steps) nodes)
 counted at (node.Split t parts ∷ nodes) =
-    let ts = trees_at at nodes in
-    let count = length parts in
-    one_more (splits_all (joined (take count ts))) (splits_in (take count ts)) (splits_in (drop count ts)) (splits_in ts) (split_count nodes)
-    (joined_splits (take count ts)) (cut_splits count ts) (counted at nodes)
-    ∙ sym (sum_by-cons weight (node.Split t parts) nodes)
-  where
-    one_more : (j a b c d : ℕ) → j ≡ a → a + b ≡ c → c ≡ d → suc j + b ≡ 1 + d
-    one_more j a b c d e f g = omega (arith, e, f, g)
+    one_split_more (length parts) (trees_at at nodes) (split_count nodes) (counted at nodes) ∙ sym (sum_by-cons weight (node.Split t parts) nodes)
 
 single : (ts : List Tree) → length ts ≡ 1 → splits (first_tree ts) ≡ splits_in ts
 single [] e = absurd (omega (arith, e))

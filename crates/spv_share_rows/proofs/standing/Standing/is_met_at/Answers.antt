@@ -1,0 +1,10 @@
+use Rattle.std.proofs.Common.{refl, ◌∙◌}
+use Rattle.spv_simplex.specs.Spreading.{point_in}
+use Rattle.spv_share_rows.proofs.OnRows.{all_met}
+use Rattle.spv_share_rows.proofs.standing.Standing.is_met_at.Goals as goal
+
+pub returns-then-is_within : goal.returns-then-is_within
+returns-then-is_within c =
+    λ upper.
+    all_met c.law_sides.ensures.lower c.law_sides.ensures.upper c.args.self.now c.args.row c.args.saying c.constant.result c.bounds_of-bounds.result c.of-value.result (point_in c.args.point.now) c.constant.ensures.form c.constant.ensures.room c.bounds_of-bounds.ensures
+    (c.of-value.ensures ∙ c.row_value_at.ensures) (c.if-is_within.ensures refl) (c.is_within-then-is_within.ensures upper)
