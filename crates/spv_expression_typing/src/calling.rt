@@ -1,7 +1,8 @@
 // Calls that are statements.
 
-ghost use Rattle.std.specs.Prelude.{◌≡◌, IfOk, IfErr, Ok};
+ghost use Rattle.std.specs.Prelude.{◌≡◌, IfOk, IfErr, Ok, Some};
 ghost use Rattle.spv_typing.specs.ExpressionWalk as spec;
+ghost use Rattle.spv_syntax.specs.StatementViews.{given_of};
 ghost use Rattle.spv_typing.specs.StatementWalk.{arguments_of};
 ghost use Rattle.spv_scopes.specs.Answers.{Stops};
 ghost use Rattle.spv_scopes.specs.Scopes.{scope_of};
@@ -22,28 +23,33 @@ use spv_typed::{Call, Expression};
 use spv_typing::TypeFault;
 use std::alloc::Global;
 
-// The arguments of what is called, as it wants them read; there may be none.
+// The arguments of what is called, as it wants them read.
+fn some_arguments(
+    scope: &Scope<'_, '_>,
+    alloc: Global,
+    callee: Callee<'_>,
+    given: &Several<Formula>,
+) -> Result<Vec<(u32, Given<Expression, Reached>)>, TypeFault>
+    ensures ok { IfOk result (λ gs. given_as (way_in callee.entry) 0 (arguments_of (scope_of scope.now) (Some given.now)) ≡ Ok (all_given gs.items)) }
+    ensures err { IfErr result (λ e. Stops e (given_as (way_in callee.entry) 0 (arguments_of (scope_of scope.now) (Some given.now)))) }
+{
+    let forms = Expressions { scope: *scope };
+    arguments(&forms, alloc, &callee, &given.first, given.more.as_slice())
+}
+
+// The same where there may be none.
 fn all_arguments(
     scope: &Scope<'_, '_>,
     alloc: Global,
     callee: Callee<'_>,
-    given: &Option<Several<Formula>>,
+    given: &Option<Box<Several<Formula>>>,
 ) -> Result<Vec<(u32, Given<Expression, Reached>)>, TypeFault>
-    ensures ok { IfOk result (λ gs. given_as (way_in callee.entry) 0 (arguments_of (scope_of scope.now) given.now) ≡ Ok (all_given gs.items)) }
-    ensures err { IfErr result (λ e. Stops e (given_as (way_in callee.entry) 0 (arguments_of (scope_of scope.now) given.now))) }
+    ensures ok { IfOk result (λ gs. given_as (way_in callee.entry) 0 (arguments_of (scope_of scope.now) (given_of given.now)) ≡ Ok (all_given gs.items)) }
+    ensures err { IfErr result (λ e. Stops e (given_as (way_in callee.entry) 0 (arguments_of (scope_of scope.now) (given_of given.now)))) }
 {
     match given {
         None => Ok(Vec::new(alloc)),
-        Some(several) => {
-            let forms = Expressions { scope: *scope };
-            arguments(
-                &forms,
-                alloc,
-                &callee,
-                &several.first,
-                several.more.as_slice(),
-            )
-        }
+        Some(several) => some_arguments(scope, alloc, callee, several),
     }
 }
 
@@ -55,10 +61,10 @@ pub fn call(
     at: u32,
     name: Symbol,
     heading: &Heading,
-    given: &Option<Several<Formula>>,
+    given: &Option<Box<Several<Formula>>>,
 ) -> Result<Call, TypeFault>
-    ensures ok { IfOk result (λ c. spec.call_of (scope_of scope.now) line at (heading_of name heading.now) (arguments_of (scope_of scope.now) given.now) ≡ Ok c) }
-    ensures err { IfErr result (λ e. Stops e (spec.call_of (scope_of scope.now) line at (heading_of name heading.now) (arguments_of (scope_of scope.now) given.now))) }
+    ensures ok { IfOk result (λ c. spec.call_of (scope_of scope.now) line at (heading_of name heading.now) (arguments_of (scope_of scope.now) (given_of given.now)) ≡ Ok c) }
+    ensures err { IfErr result (λ e. Stops e (spec.call_of (scope_of scope.now) line at (heading_of name heading.now) (arguments_of (scope_of scope.now) (given_of given.now)))) }
 {
     let read = all_arguments(scope, alloc, Callee::Routine(name, heading), given)?;
     call_with(scope.known, alloc, line, at, name, heading, read)
@@ -70,9 +76,9 @@ pub fn no_call(
     alloc: Global,
     line: u32,
     count: Option<usize>,
-    given: &Option<Several<Formula>>,
+    given: &Option<Box<Several<Formula>>>,
 ) -> TypeFault
-    ensures { Stops result (spec.no_call line count (arguments_of (scope_of scope.now) given.now)) }
+    ensures { Stops result (spec.no_call line count (arguments_of (scope_of scope.now) (given_of given.now))) }
 {
     match all_arguments(scope, alloc, Callee::Other(count), given) {
         Ok(read) => no_call_fault(line, count, read.len()),

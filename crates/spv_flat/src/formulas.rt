@@ -39,9 +39,9 @@ fn relation(tree: &Relation, out: &mut Vec<TokenKind>) -> Result<(), AllocError>
     simple(&tree.left, out)?;
     match &tree.right {
         None => Ok(()),
-        Some((operator, right)) => {
-            out::token(out::comparison(*operator), out)?;
-            simple(right, out)?;
+        Some(side) => {
+            out::token(out::comparison(side.0), out)?;
+            simple(&side.1, out)?;
             Ok(())
         }
     }
@@ -89,13 +89,13 @@ fn factor(tree: &Factor, out: &mut Vec<TokenKind>) -> Result<(), AllocError>
             Ok(())
         }
         FactorForm::Place(place) => designator(place, out),
-        FactorForm::Application(f, first, more, behind) => {
+        FactorForm::Application(f, given) => {
             out::token(TokenKind::Name(f.symbol), out)?;
             out::sign(Sign::OpenParenthesis, out)?;
-            formula(first, out)?;
-            more_formulas(more, out)?;
+            formula(&given.first, out)?;
+            more_formulas(&given.more, out)?;
             out::sign(Sign::CloseParenthesis, out)?;
-            selectors(behind, out)?;
+            selectors(&given.behind, out)?;
             Ok(())
         }
         FactorForm::Bracketed(inside) => {

@@ -4,7 +4,7 @@ ghost use Rattle.std.specs.Prelude.{◌≡◌, OnOk};
 ghost use Rattle.spv_syntax.specs.Members.{in_kinds};
 ghost use Rattle.spv_syntax.specs.StatementSpelling.{arguments_spelling, arm_spelling, block_spelling, direction_kind, invariant_spelling, loop_spelling, more_arms_spelling, more_statements_spelling, otherwise_spelling, statement_spelling};
 ghost use Rattle.spv_syntax.specs.Model.StatementSizes.{more_statements_of, more_arms_of};
-ghost use Rattle.spv_syntax.specs.StatementViews.{invariant_of, otherwise_of};
+ghost use Rattle.spv_syntax.specs.StatementViews.{given_of, invariant_of, otherwise_of};
 ghost use Rattle.spv_flat.specs.Flat.{Adds};
 
 use crate::formulas::{designator, formula};
@@ -17,12 +17,12 @@ use std::alloc::AllocError;
 
 // Adds the tokens of arguments, with their brackets, where there are any.
 fn arguments(
-    arguments: &Option<Several<Formula>>,
+    given: &Option<Box<Several<Formula>>>,
     out: &mut Vec<TokenKind>,
 ) -> Result<(), AllocError>
-    ensures { OnOk result (Adds (arguments_spelling in_kinds arguments.now) out.old.items out.new.items) }
+    ensures { OnOk result (Adds (arguments_spelling in_kinds (given_of given.now)) out.old.items out.new.items) }
 {
-    match arguments {
+    match given {
         None => Ok(()),
         Some(formulas) => {
             out::sign(Sign::OpenParenthesis, out)?;

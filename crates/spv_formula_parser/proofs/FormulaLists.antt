@@ -9,7 +9,7 @@ use Rattle.spv_syntax.specs.declared.operators.Adding.{Adding}
 use Rattle.spv_syntax.specs.declared.operators.Multiplying.{Multiplying}
 use Rattle.spv_syntax.specs.Formulas.{Formula, Term, Factor, Selector, no_more_terms, more_terms, no_more_factors, more_factors, no_more_formulas, more_formulas, no_selectors, selectors}
 use Rattle.spv_syntax.specs.Model.FormulaSizes.{more_terms_of, more_factors_of, more_formulas_of, selectors_of}
-use Rattle.spv_reading.specs.Readers.{Reader, after, and_then, operated}
+use Rattle.spv_reading.specs.Readers.{Stop, Outcome, Read, Halted, Reader, after, and_then, operated}
 use Rattle.spv_reading.specs.FormulaReaders.{selector_by, read_inner, read_factor, read_formula}
 use Rattle.spv_front.specs.Lists.{put}
 use Rattle.spv_formula_parser.specs.Factors.{begins_selector, selector_on, factor_at}
@@ -33,8 +33,8 @@ put-selectors [] = refl
 put-selectors (s ∷ ss) = ap (selectors s) (put-selectors ss)
 
 -- what was read, with the list as the code has it
-pub read_list : {L : Type 0} {total : Option (L × List Token)} {xs ys : L} {rest : List Token} → total ≡ Some (xs, rest) → xs ≡ ys → total ≡ Some (ys, rest)
-read_list {L} {total} {xs} {ys} {rest} e f = e ∙ ap (λ l. Some (l, rest)) f
+pub read_list : {L : Type 0} {total : Outcome L} {xs ys : L} {rest : List Token} → total ≡ Read (xs, rest) → xs ≡ ys → total ≡ Read (ys, rest)
+read_list {L} {total} {xs} {ys} {rest} e f = e ∙ ap (λ l. Read (l, rest)) f
 
 -- ---- an item behind an operator
 
@@ -42,11 +42,11 @@ module _ {O A : Type 0} (item : Reader A) where
   pub no_operator : {o : Option O} (tokens : List Token) → o ≡ None → operated o item tokens ≡ None
   no_operator tokens e = ap (λ p. operated p item tokens) e
 
-  pub an_operator : {o : Option O} {p : O} {x : A} {mid rest : List Token} (tokens : List Token) → o ≡ Some p → mid ≡ after tokens → item mid ≡ Some (x, rest) → operated o item tokens ≡ Some (Some ((p, x), rest))
-  an_operator {o} {p} {x} {mid} {rest} tokens e m f = ap (λ q. operated q item tokens) e ∙ ap (λ r. Some (and_then r (λ y behind. Some ((p, y), behind)))) (ap item (sym m) ∙ f)
+  pub an_operator : {o : Option O} {p : O} {x : A} {mid rest : List Token} (tokens : List Token) → o ≡ Some p → mid ≡ after tokens → item mid ≡ Read (x, rest) → operated o item tokens ≡ Some (Read ((p, x), rest))
+  an_operator {o} {p} {x} {mid} {rest} tokens e m f = ap (λ q. operated q item tokens) e ∙ ap (λ r. Some (and_then r (λ y behind. Read ((p, y), behind)))) (ap item (sym m) ∙ f)
 
-  pub no_operand : {o : Option O} {p : O} {mid : List Token} (tokens : List Token) → o ≡ Some p → mid ≡ after tokens → item mid ≡ None → operated o item tokens ≡ Some None
-  no_operand {o} {p} {mid} tokens e m f = ap (λ q. operated q item tokens) e ∙ ap (λ r. Some (and_then r (λ y behind. Some ((p, y), behind)))) (ap item (sym m) ∙ f)
+  pub no_operand : {s : Stop} {o : Option O} {p : O} {mid : List Token} (tokens : List Token) → o ≡ Some p → mid ≡ after tokens → item mid ≡ Halted s → operated o item tokens ≡ Some (Halted s)
+  no_operand {s} {o} {p} {mid} tokens e m f = ap (λ q. operated q item tokens) e ∙ ap (λ r. Some (and_then r (λ y behind. Read ((p, y), behind)))) (ap item (sym m) ∙ f)
 
 -- ---- selectors
 

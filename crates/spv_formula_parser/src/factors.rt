@@ -1,29 +1,35 @@
 // Factors and designators.
 
 ghost use Rattle.std.specs.Prelude.{◌≡◌, Some, None, IfOk, IsErrAnd};
+ghost use Rattle.spv_syntax.specs.Formulas as plain;
 ghost use Rattle.spv_syntax.specs.Model.FormulaSizes.{more_formulas_of, selectors_of};
 ghost use Rattle.spv_reading.specs.FormulaReaders.{read_inner, read_factor, read_field, read_more_formulas, read_index, read_selectors, read_application, read_place, read_named, read_bracketed, read_designator};
 ghost use Rattle.spv_reading.specs.Readers as reader;
-ghost use Rattle.spv_front.specs.Faults.{IsSyntax};
+ghost use Rattle.spv_reading.specs.Readers.{Stop, Read, Halted};
+ghost use Rattle.spv_front.specs.Faults.{IsStop};
 ghost use Rattle.spv_formula_parser.specs.Factors.{read_selector, read_class, read_negation, factor_at};
 ghost use Rattle.spv_formula_parser.specs.Factors as spec;
 
 use crate::formulas::inner;
-use spv_front::fault::{Fault, unexpected};
+use spv_front::fault::{Fault, out_of_levels, unexpected};
 use spv_front::front::{after, first_line, front, is_sign, name, past_sign};
-use spv_syntax::{Designator, Factor, FactorForm, Formula, Name, Selector, SelectorForm};
+use spv_front::lists::push;
+use spv_syntax::{
+    Application, Designator, Factor, FactorForm, Formula, Name, Selector, SelectorForm,
+};
 use spv_tokens::{Sign, Token, TokenKind, Word};
-use std::alloc::Global;
+use std::alloc::{AllocError, Global};
 
 // {"," formula}
 #[cycle(formula)]
+#[inline(never)]
 fn more_formulas(
     alloc: Global,
     levels: u32,
     tokens: &[Token],
 ) -> Result<(Vec<Formula>, &[Token]), Fault>
-    ensures read { IfOk result (λ r. read_more_formulas (read_inner levels) tokens.now ≡ Some (more_formulas_of r.0.items, r.1.now)) }
-    ensures absent { IsErrAnd result IsSyntax → read_more_formulas (read_inner levels) tokens.now ≡ None }
+    ensures read { IfOk result (λ r. read_more_formulas (read_inner levels) tokens.now ≡ Read (more_formulas_of r.0.items, r.1.now)) }
+    ensures absent { (s : Stop) → IsErrAnd result (IsStop s) → read_more_formulas (read_inner levels) tokens.now ≡ Halted s }
 {
     let mut more = Vec::new(alloc);
     let mut rest = tokens;
@@ -32,7 +38,7 @@ fn more_formulas(
             return Ok((more, rest));
         }
         let (read, next) = inner(alloc, levels, after(rest))?;
-        more.push(read)?;
+        push(&mut more, read)?;
         rest = next;
     }
     Ok((more, rest))
@@ -40,14 +46,15 @@ fn more_formulas(
 
 // "[" formula {"," formula} "]", behind the bracket on this line
 #[cycle(formula)]
+#[inline(never)]
 fn index(
     alloc: Global,
     levels: u32,
     line: u32,
     tokens: &[Token],
 ) -> Result<(Selector, &[Token]), Fault>
-    ensures read { IfOk result (λ r. read_index (read_inner levels) line tokens.now ≡ Some (r.0, r.1.now)) }
-    ensures absent { IsErrAnd result IsSyntax → read_index (read_inner levels) line tokens.now ≡ None }
+    ensures read { IfOk result (λ r. read_index (read_inner levels) line tokens.now ≡ Read (r.0, r.1.now)) }
+    ensures absent { (s : Stop) → IsErrAnd result (IsStop s) → read_index (read_inner levels) line tokens.now ≡ Halted s }
 {
     let (first, rest) = inner(alloc, levels, tokens)?;
     let first = Box::new(alloc, first)?;
@@ -59,8 +66,8 @@ fn index(
 
 // "." name, behind the period on this line
 fn field(line: u32, tokens: &[Token]) -> Result<(Selector, &[Token]), Fault>
-    ensures read { IfOk result (λ r. read_field line tokens.now ≡ Some (r.0, r.1.now)) }
-    ensures absent { IsErrAnd result IsSyntax → read_field line tokens.now ≡ None }
+    ensures read { IfOk result (λ r. read_field line tokens.now ≡ Read (r.0, r.1.now)) }
+    ensures absent { (s : Stop) → IsErrAnd result (IsStop s) → read_field line tokens.now ≡ Halted s }
 {
     let (x, rest) = name(tokens)?;
     let form = SelectorForm::Field(x);
@@ -79,8 +86,8 @@ fn begins_selector(tokens: &[Token]) -> bool
 // "[" formula {"," formula} "]" | "." name | "^"
 #[cycle(formula)]
 fn selector(alloc: Global, levels: u32, tokens: &[Token]) -> Result<(Selector, &[Token]), Fault>
-    ensures read { IfOk result (λ r. read_selector (read_inner levels) tokens.now ≡ Some (r.0, r.1.now)) }
-    ensures absent { IsErrAnd result IsSyntax → read_selector (read_inner levels) tokens.now ≡ None }
+    ensures read { IfOk result (λ r. read_selector (read_inner levels) tokens.now ≡ Read (r.0, r.1.now)) }
+    ensures absent { (s : Stop) → IsErrAnd result (IsStop s) → read_selector (read_inner levels) tokens.now ≡ Halted s }
 {
     let line = first_line(tokens);
     let rest = after(tokens);
@@ -97,13 +104,14 @@ fn selector(alloc: Global, levels: u32, tokens: &[Token]) -> Result<(Selector, &
 
 /// {selector}
 #[cycle(formula)]
+#[inline(never)]
 pub fn selectors(
     alloc: Global,
     levels: u32,
     tokens: &[Token],
 ) -> Result<(Vec<Selector>, &[Token]), Fault>
-    ensures read { IfOk result (λ r. read_selectors (read_inner levels) tokens.now ≡ Some (selectors_of r.0.items, r.1.now)) }
-    ensures absent { IsErrAnd result IsSyntax → read_selectors (read_inner levels) tokens.now ≡ None }
+    ensures read { IfOk result (λ r. read_selectors (read_inner levels) tokens.now ≡ Read (selectors_of r.0.items, r.1.now)) }
+    ensures absent { (s : Stop) → IsErrAnd result (IsStop s) → read_selectors (read_inner levels) tokens.now ≡ Halted s }
 {
     let mut behind = Vec::new(alloc);
     let mut rest = tokens;
@@ -112,7 +120,7 @@ pub fn selectors(
             return Ok((behind, rest));
         }
         let (read, next) = selector(alloc, levels, rest)?;
-        behind.push(read)?;
+        push(&mut behind, read)?;
         rest = next;
     }
     Ok((behind, rest))
@@ -124,8 +132,8 @@ pub fn designator(
     levels: u32,
     tokens: &[Token],
 ) -> Result<(Designator, &[Token]), Fault>
-    ensures read { IfOk result (λ r. read_designator (read_inner levels) tokens.now ≡ Some (r.0, r.1.now)) }
-    ensures absent { IsErrAnd result IsSyntax → read_designator (read_inner levels) tokens.now ≡ None }
+    ensures read { IfOk result (λ r. read_designator (read_inner levels) tokens.now ≡ Read (r.0, r.1.now)) }
+    ensures absent { (s : Stop) → IsErrAnd result (IsStop s) → read_designator (read_inner levels) tokens.now ≡ Halted s }
 {
     let (name, rest) = name(tokens)?;
     let (behind, rest) = selectors(alloc, levels, rest)?;
@@ -133,37 +141,61 @@ pub fn designator(
     Ok((Designator { line, name, behind }, rest))
 }
 
+// An application of a name.
+#[inline(never)]
+fn applied(
+    alloc: Global,
+    f: Name,
+    first: Formula,
+    more: Vec<Formula>,
+    behind: Vec<Selector>,
+) -> Result<Factor, AllocError>
+    ensures { IfOk result (λ a. a ≡ plain.application f.line f first (more_formulas_of more.items) (selectors_of behind.items)) }
+{
+    let given = Box::new(
+        alloc,
+        Application {
+            first,
+            more,
+            behind,
+        },
+    )?;
+    Ok(Factor {
+        line: f.line,
+        form: FactorForm::Application(f, given),
+    })
+}
+
 // "(" formula {"," formula} ")" {selector}, behind a name and the bracket
 #[cycle(formula)]
+#[inline(never)]
 fn application(
     alloc: Global,
     levels: u32,
     f: Name,
     tokens: &[Token],
 ) -> Result<(Factor, &[Token]), Fault>
-    ensures read { IfOk result (λ r. read_application (read_inner levels) f tokens.now ≡ Some (r.0, r.1.now)) }
-    ensures absent { IsErrAnd result IsSyntax → read_application (read_inner levels) f tokens.now ≡ None }
+    ensures read { IfOk result (λ r. read_application (read_inner levels) f tokens.now ≡ Read (r.0, r.1.now)) }
+    ensures absent { (s : Stop) → IsErrAnd result (IsStop s) → read_application (read_inner levels) f tokens.now ≡ Halted s }
 {
     let (first, rest) = inner(alloc, levels, tokens)?;
-    let first = Box::new(alloc, first)?;
     let (more, rest) = more_formulas(alloc, levels, rest)?;
     let rest = past_sign(Sign::CloseParenthesis, rest)?;
     let (behind, rest) = selectors(alloc, levels, rest)?;
-    let line = f.line;
-    let form = FactorForm::Application(f, first, more, behind);
-    Ok((Factor { line, form }, rest))
+    Ok((applied(alloc, f, first, more, behind)?, rest))
 }
 
 // {selector}, behind a name
 #[cycle(formula)]
+#[inline(never)]
 fn place(
     alloc: Global,
     levels: u32,
     name: Name,
     tokens: &[Token],
 ) -> Result<(Factor, &[Token]), Fault>
-    ensures read { IfOk result (λ r. read_place (read_inner levels) name tokens.now ≡ Some (r.0, r.1.now)) }
-    ensures absent { IsErrAnd result IsSyntax → read_place (read_inner levels) name tokens.now ≡ None }
+    ensures read { IfOk result (λ r. read_place (read_inner levels) name tokens.now ≡ Read (r.0, r.1.now)) }
+    ensures absent { (s : Stop) → IsErrAnd result (IsStop s) → read_place (read_inner levels) name tokens.now ≡ Halted s }
 {
     let (behind, rest) = selectors(alloc, levels, tokens)?;
     let line = name.line;
@@ -174,8 +206,8 @@ fn place(
 // What begins with this name.
 #[cycle(formula)]
 fn named(alloc: Global, levels: u32, x: Name, tokens: &[Token]) -> Result<(Factor, &[Token]), Fault>
-    ensures read { IfOk result (λ r. read_named (read_inner levels) x tokens.now ≡ Some (r.0, r.1.now)) }
-    ensures absent { IsErrAnd result IsSyntax → read_named (read_inner levels) x tokens.now ≡ None }
+    ensures read { IfOk result (λ r. read_named (read_inner levels) x tokens.now ≡ Read (r.0, r.1.now)) }
+    ensures absent { (s : Stop) → IsErrAnd result (IsStop s) → read_named (read_inner levels) x tokens.now ≡ Halted s }
 {
     if is_sign(Sign::OpenParenthesis, tokens) {
         application(alloc, levels, x, after(tokens))
@@ -186,14 +218,15 @@ fn named(alloc: Global, levels: u32, x: Name, tokens: &[Token]) -> Result<(Facto
 
 // "(" formula ")", behind the bracket on this line
 #[cycle(formula)]
+#[inline(never)]
 fn bracketed(
     alloc: Global,
     levels: u32,
     line: u32,
     tokens: &[Token],
 ) -> Result<(Factor, &[Token]), Fault>
-    ensures read { IfOk result (λ r. read_bracketed (read_inner levels) line tokens.now ≡ Some (r.0, r.1.now)) }
-    ensures absent { IsErrAnd result IsSyntax → read_bracketed (read_inner levels) line tokens.now ≡ None }
+    ensures read { IfOk result (λ r. read_bracketed (read_inner levels) line tokens.now ≡ Read (r.0, r.1.now)) }
+    ensures absent { (s : Stop) → IsErrAnd result (IsStop s) → read_bracketed (read_inner levels) line tokens.now ≡ Halted s }
 {
     let (read, rest) = inner(alloc, levels, tokens)?;
     let read = Box::new(alloc, read)?;
@@ -204,8 +237,8 @@ fn bracketed(
 
 // "#" name, behind the sign on this line
 fn class(line: u32, tokens: &[Token]) -> Result<(Factor, &[Token]), Fault>
-    ensures read { IfOk result (λ r. read_class line tokens.now ≡ Some (r.0, r.1.now)) }
-    ensures absent { IsErrAnd result IsSyntax → read_class line tokens.now ≡ None }
+    ensures read { IfOk result (λ r. read_class line tokens.now ≡ Read (r.0, r.1.now)) }
+    ensures absent { (s : Stop) → IsErrAnd result (IsStop s) → read_class line tokens.now ≡ Halted s }
 {
     let (x, rest) = name(tokens)?;
     let form = FactorForm::Class(x);
@@ -214,17 +247,18 @@ fn class(line: u32, tokens: &[Token]) -> Result<(Factor, &[Token]), Fault>
 
 // NOT factor, behind NOT on this line
 #[cycle(formula)]
+#[inline(never)]
 fn negation(
     alloc: Global,
     levels: u32,
     line: u32,
     tokens: &[Token],
 ) -> Result<(Factor, &[Token]), Fault>
-    ensures read { IfOk result (λ r. read_negation levels line tokens.now ≡ Some (r.0, r.1.now)) }
-    ensures absent { IsErrAnd result IsSyntax → read_negation levels line tokens.now ≡ None }
+    ensures read { IfOk result (λ r. read_negation levels line tokens.now ≡ Read (r.0, r.1.now)) }
+    ensures absent { (s : Stop) → IsErrAnd result (IsStop s) → read_negation levels line tokens.now ≡ Halted s }
 {
     if levels == 0 {
-        return Err(unexpected(tokens));
+        return Err(out_of_levels(tokens));
     }
     let (read, rest) = factor(alloc, levels - 1, tokens)?;
     let form = FactorForm::Negation(Box::new(alloc, read)?);
@@ -234,8 +268,8 @@ fn negation(
 // number | TRUE | FALSE | NIL | "#" name | "(" formula ")" | NOT factor, or what begins with a name
 #[cycle(formula)]
 fn any_factor(alloc: Global, levels: u32, tokens: &[Token]) -> Result<(Factor, &[Token]), Fault>
-    ensures read { IfOk result (λ r. factor_at levels tokens.now ≡ Some (r.0, r.1.now)) }
-    ensures absent { IsErrAnd result IsSyntax → factor_at levels tokens.now ≡ None }
+    ensures read { IfOk result (λ r. factor_at levels tokens.now ≡ Read (r.0, r.1.now)) }
+    ensures absent { (s : Stop) → IsErrAnd result (IsStop s) → factor_at levels tokens.now ≡ Halted s }
 {
     let [first, rest @ ..] = tokens else {
         return Err(unexpected(tokens));
@@ -258,8 +292,8 @@ fn any_factor(alloc: Global, levels: u32, tokens: &[Token]) -> Result<(Factor, &
 // A factor, with this many levels inside it at most.
 #[cycle(formula)]
 pub fn factor(alloc: Global, levels: u32, tokens: &[Token]) -> Result<(Factor, &[Token]), Fault>
-    ensures read { IfOk result (λ r. read_factor levels tokens.now ≡ Some (r.0, r.1.now)) }
-    ensures absent { IsErrAnd result IsSyntax → read_factor levels tokens.now ≡ None }
+    ensures read { IfOk result (λ r. read_factor levels tokens.now ≡ Read (r.0, r.1.now)) }
+    ensures absent { (s : Stop) → IsErrAnd result (IsStop s) → read_factor levels tokens.now ≡ Halted s }
 {
     any_factor(alloc, levels, tokens)
 }

@@ -1,15 +1,18 @@
 // Formulas.
 
 ghost use Rattle.std.specs.Prelude.{◌≡◌, Some, None, IfOk, IsErrAnd};
+ghost use Rattle.spv_syntax.specs.FormulaViews.{conclusion_of, right_side_of};
 ghost use Rattle.spv_syntax.specs.Model.FormulaSizes.{more_terms_of, more_factors_of};
 ghost use Rattle.spv_reading.specs.Readers as reader;
-ghost use Rattle.spv_reading.specs.FormulaReaders.{comparison_of, adding_of, multiplying_of, read_inner, read_factor, read_more_factors, read_term, read_more_terms, read_sum, read_simple, read_relation, read_formula};
-ghost use Rattle.spv_front.specs.Faults.{IsSyntax};
+ghost use Rattle.spv_reading.specs.FormulaReaders.{comparison_of, adding_of, multiplying_of, read_inner, read_factor, read_more_factors, read_term, read_more_terms, read_sum, read_simple, right_side_by, read_relation, read_conclusion, read_formula};
+ghost use Rattle.spv_reading.specs.Readers.{Stop, Read, Halted};
+ghost use Rattle.spv_front.specs.Faults.{IsStop};
 
 use crate::factors::factor;
 use spv_front::constants::prefix;
-use spv_front::fault::{Fault, unexpected};
+use spv_front::fault::{Fault, out_of_levels};
 use spv_front::front::{after, first_line, front, is_sign};
+use spv_front::lists::push;
 use spv_syntax::{
     Adding, Comparison, Factor, Formula, Multiplying, PlusOrMinus, Relation, Simple, Term,
 };
@@ -58,13 +61,14 @@ fn multiplying(tokens: &[Token]) -> Option<Multiplying>
 
 // {("*" | DIV | MOD | AND) factor}
 #[cycle(formula)]
+#[inline(never)]
 fn more_factors(
     alloc: Global,
     levels: u32,
     tokens: &[Token],
 ) -> Result<(Vec<(Multiplying, Factor)>, &[Token]), Fault>
-    ensures read { IfOk result (λ r. read_more_factors (read_factor levels) tokens.now ≡ Some (more_factors_of r.0.items, r.1.now)) }
-    ensures absent { IsErrAnd result IsSyntax → read_more_factors (read_factor levels) tokens.now ≡ None }
+    ensures read { IfOk result (λ r. read_more_factors (read_factor levels) tokens.now ≡ Read (more_factors_of r.0.items, r.1.now)) }
+    ensures absent { (s : Stop) → IsErrAnd result (IsStop s) → read_more_factors (read_factor levels) tokens.now ≡ Halted s }
 {
     let mut more = Vec::new(alloc);
     let mut rest = tokens;
@@ -73,7 +77,7 @@ fn more_factors(
             return Ok((more, rest));
         };
         let (read, next) = factor(alloc, levels, after(rest))?;
-        more.push((operator, read))?;
+        push(&mut more, (operator, read))?;
         rest = next;
     }
     Ok((more, rest))
@@ -82,8 +86,8 @@ fn more_factors(
 // factor {("*" | DIV | MOD | AND) factor}
 #[cycle(formula)]
 fn term(alloc: Global, levels: u32, tokens: &[Token]) -> Result<(Term, &[Token]), Fault>
-    ensures read { IfOk result (λ r. read_term (read_factor levels) tokens.now ≡ Some (r.0, r.1.now)) }
-    ensures absent { IsErrAnd result IsSyntax → read_term (read_factor levels) tokens.now ≡ None }
+    ensures read { IfOk result (λ r. read_term (read_factor levels) tokens.now ≡ Read (r.0, r.1.now)) }
+    ensures absent { (s : Stop) → IsErrAnd result (IsStop s) → read_term (read_factor levels) tokens.now ≡ Halted s }
 {
     let line = first_line(tokens);
     let (first, rest) = factor(alloc, levels, tokens)?;
@@ -93,13 +97,14 @@ fn term(alloc: Global, levels: u32, tokens: &[Token]) -> Result<(Term, &[Token])
 
 // {("+" | "-" | OR) term}
 #[cycle(formula)]
+#[inline(never)]
 fn more_terms(
     alloc: Global,
     levels: u32,
     tokens: &[Token],
 ) -> Result<(Vec<(Adding, Term)>, &[Token]), Fault>
-    ensures read { IfOk result (λ r. read_more_terms (read_factor levels) tokens.now ≡ Some (more_terms_of r.0.items, r.1.now)) }
-    ensures absent { IsErrAnd result IsSyntax → read_more_terms (read_factor levels) tokens.now ≡ None }
+    ensures read { IfOk result (λ r. read_more_terms (read_factor levels) tokens.now ≡ Read (more_terms_of r.0.items, r.1.now)) }
+    ensures absent { (s : Stop) → IsErrAnd result (IsStop s) → read_more_terms (read_factor levels) tokens.now ≡ Halted s }
 {
     let mut more = Vec::new(alloc);
     let mut rest = tokens;
@@ -108,7 +113,7 @@ fn more_terms(
             return Ok((more, rest));
         };
         let (read, next) = term(alloc, levels, after(rest))?;
-        more.push((operator, read))?;
+        push(&mut more, (operator, read))?;
         rest = next;
     }
     Ok((more, rest))
@@ -123,8 +128,8 @@ fn sum(
     prefix: Option<PlusOrMinus>,
     tokens: &[Token],
 ) -> Result<(Simple, &[Token]), Fault>
-    ensures read { IfOk result (λ r. read_sum (read_factor levels) line prefix tokens.now ≡ Some (r.0, r.1.now)) }
-    ensures absent { IsErrAnd result IsSyntax → read_sum (read_factor levels) line prefix tokens.now ≡ None }
+    ensures read { IfOk result (λ r. read_sum (read_factor levels) line prefix tokens.now ≡ Read (r.0, r.1.now)) }
+    ensures absent { (s : Stop) → IsErrAnd result (IsStop s) → read_sum (read_factor levels) line prefix tokens.now ≡ Halted s }
 {
     let (first, rest) = term(alloc, levels, tokens)?;
     let (more, rest) = more_terms(alloc, levels, rest)?;
@@ -140,8 +145,8 @@ fn sum(
 // ["+" | "-"] term {("+" | "-" | OR) term}
 #[cycle(formula)]
 fn simple(alloc: Global, levels: u32, tokens: &[Token]) -> Result<(Simple, &[Token]), Fault>
-    ensures read { IfOk result (λ r. read_simple (read_factor levels) tokens.now ≡ Some (r.0, r.1.now)) }
-    ensures absent { IsErrAnd result IsSyntax → read_simple (read_factor levels) tokens.now ≡ None }
+    ensures read { IfOk result (λ r. read_simple (read_factor levels) tokens.now ≡ Read (r.0, r.1.now)) }
+    ensures absent { (s : Stop) → IsErrAnd result (IsStop s) → read_simple (read_factor levels) tokens.now ≡ Halted s }
 {
     let line = first_line(tokens);
     match prefix(tokens) {
@@ -150,60 +155,76 @@ fn simple(alloc: Global, levels: u32, tokens: &[Token]) -> Result<(Simple, &[Tok
     }
 }
 
+// [("=" | "<>" | "<" | "<=" | ">" | ">=") simple]
+#[cycle(formula)]
+#[inline(never)]
+fn right_side(
+    alloc: Global,
+    levels: u32,
+    tokens: &[Token],
+) -> Result<(Option<Box<(Comparison, Simple)>>, &[Token]), Fault>
+    ensures read { IfOk result (λ r. right_side_by (read_factor levels) (comparison_of (reader.front tokens.now)) tokens.now ≡ Read (right_side_of r.0, r.1.now)) }
+    ensures absent { (s : Stop) → IsErrAnd result (IsStop s) → right_side_by (read_factor levels) (comparison_of (reader.front tokens.now)) tokens.now ≡ Halted s }
+{
+    let Some(operator) = comparison(tokens) else {
+        return Ok((None, tokens));
+    };
+    let (right, rest) = simple(alloc, levels, after(tokens))?;
+    let side = Box::new(alloc, (operator, right))?;
+    Ok((Some(side), rest))
+}
+
 // simple [("=" | "<>" | "<" | "<=" | ">" | ">=") simple]
 #[cycle(formula)]
 fn relation(alloc: Global, levels: u32, tokens: &[Token]) -> Result<(Relation, &[Token]), Fault>
-    ensures read { IfOk result (λ r. read_relation (read_factor levels) tokens.now ≡ Some (r.0, r.1.now)) }
-    ensures absent { IsErrAnd result IsSyntax → read_relation (read_factor levels) tokens.now ≡ None }
+    ensures read { IfOk result (λ r. read_relation (read_factor levels) tokens.now ≡ Read (r.0, r.1.now)) }
+    ensures absent { (s : Stop) → IsErrAnd result (IsStop s) → read_relation (read_factor levels) tokens.now ≡ Halted s }
 {
     let line = first_line(tokens);
     let (left, rest) = simple(alloc, levels, tokens)?;
-    let Some(operator) = comparison(rest) else {
-        let read = Relation {
-            line,
-            left,
-            right: None,
-        };
-        return Ok((read, rest));
-    };
-    let (right, rest) = simple(alloc, levels, after(rest))?;
-    let read = Relation {
-        line,
-        left,
-        right: Some((operator, right)),
-    };
-    Ok((read, rest))
+    let (right, rest) = right_side(alloc, levels, rest)?;
+    Ok((Relation { line, left, right }, rest))
+}
+
+// ["->" formula]
+#[cycle(formula)]
+#[inline(never)]
+fn conclusion(
+    alloc: Global,
+    levels: u32,
+    tokens: &[Token],
+) -> Result<(Option<Box<Formula>>, &[Token]), Fault>
+    ensures read { IfOk result (λ r. read_conclusion (read_inner levels) tokens.now ≡ Read (conclusion_of r.0, r.1.now)) }
+    ensures absent { (s : Stop) → IsErrAnd result (IsStop s) → read_conclusion (read_inner levels) tokens.now ≡ Halted s }
+{
+    if !is_sign(Sign::Arrow, tokens) {
+        return Ok((None, tokens));
+    }
+    let (right, rest) = inner(alloc, levels, after(tokens))?;
+    let right = Box::new(alloc, right)?;
+    Ok((Some(right), rest))
 }
 
 /// relation ["->" formula]
 #[cycle(formula)]
 pub fn formula(alloc: Global, levels: u32, tokens: &[Token]) -> Result<(Formula, &[Token]), Fault>
-    ensures read { IfOk result (λ r. read_formula levels tokens.now ≡ Some (r.0, r.1.now)) }
-    ensures absent { IsErrAnd result IsSyntax → read_formula levels tokens.now ≡ None }
+    ensures read { IfOk result (λ r. read_formula levels tokens.now ≡ Read (r.0, r.1.now)) }
+    ensures absent { (s : Stop) → IsErrAnd result (IsStop s) → read_formula levels tokens.now ≡ Halted s }
 {
     let line = first_line(tokens);
     let (left, rest) = relation(alloc, levels, tokens)?;
-    if !is_sign(Sign::Arrow, rest) {
-        let read = Formula {
-            line,
-            left,
-            right: None,
-        };
-        return Ok((read, rest));
-    }
-    let (right, rest) = inner(alloc, levels, after(rest))?;
-    let right = Some(Box::new(alloc, right)?);
+    let (right, rest) = conclusion(alloc, levels, rest)?;
     Ok((Formula { line, left, right }, rest))
 }
 
 /// A formula one level down: with one level more it is a formula at that level.
 #[cycle(formula)]
 pub fn inner(alloc: Global, levels: u32, tokens: &[Token]) -> Result<(Formula, &[Token]), Fault>
-    ensures read { IfOk result (λ r. read_inner levels tokens.now ≡ Some (r.0, r.1.now)) }
-    ensures absent { IsErrAnd result IsSyntax → read_inner levels tokens.now ≡ None }
+    ensures read { IfOk result (λ r. read_inner levels tokens.now ≡ Read (r.0, r.1.now)) }
+    ensures absent { (s : Stop) → IsErrAnd result (IsStop s) → read_inner levels tokens.now ≡ Halted s }
 {
     if levels == 0 {
-        return Err(unexpected(tokens));
+        return Err(out_of_levels(tokens));
     }
     formula(alloc, levels - 1, tokens)
 }

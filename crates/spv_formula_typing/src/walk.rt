@@ -57,10 +57,10 @@ fn relation<F: Forms>(
 {
     match &tree.right {
         None => simple(forms, alloc, &tree.left),
-        Some((operator, behind)) => {
+        Some(side) => {
             let left = simple(forms, alloc, &tree.left)?;
-            let right = simple(forms, alloc, behind)?;
-            related(forms, alloc, tree.line, *operator, left, right)
+            let right = simple(forms, alloc, &side.1)?;
+            related(forms, alloc, tree.line, side.0, left, right)
         }
     }
 }
@@ -138,9 +138,9 @@ fn factor<F: Forms>(
             let reached = read(forms, alloc, place)?;
             Ok(forms.finish(alloc, reached)?)
         }
-        FactorForm::Application(x, first, more, behind) => {
-            let called = application(forms, alloc, tree.line, *x, first, more)?;
-            let reached = selectors(forms, alloc, tree.line, called, behind)?;
+        FactorForm::Application(x, given) => {
+            let called = application(forms, alloc, tree.line, *x, &given.first, &given.more)?;
+            let reached = selectors(forms, alloc, tree.line, called, &given.behind)?;
             Ok(forms.finish(alloc, reached)?)
         }
         FactorForm::Bracketed(inside) => formula(forms, alloc, inside),

@@ -5,7 +5,8 @@ ghost use Rattle.spv_reading.specs.Readers as reader;
 ghost use Rattle.spv_reading.specs.FormulaReaders.{prefix_of};
 ghost use Rattle.spv_reading.specs.StatementReaders as spec;
 ghost use Rattle.spv_reading.specs.StatementReaders.{read_scalar, read_constant, read_constants};
-ghost use Rattle.spv_front.specs.Faults.{IsSyntax};
+ghost use Rattle.spv_reading.specs.Readers.{Stop, Read, Halted};
+ghost use Rattle.spv_front.specs.Faults.{IsStop};
 
 use crate::fault::{Fault, unexpected};
 use crate::front::{after, first_line, front};
@@ -27,8 +28,8 @@ pub fn prefix(tokens: &[Token]) -> Option<PlusOrMinus>
 
 // number | name
 fn scalar(tokens: &[Token]) -> Result<(Scalar, &[Token]), Fault>
-    ensures read { IfOk result (λ r. read_scalar tokens.now ≡ Some (r.0, r.1.now)) }
-    ensures absent { IsErrAnd result IsSyntax → read_scalar tokens.now ≡ None }
+    ensures read { IfOk result (λ r. read_scalar tokens.now ≡ Read (r.0, r.1.now)) }
+    ensures absent { (s : Stop) → IsErrAnd result (IsStop s) → read_scalar tokens.now ≡ Halted s }
 {
     match tokens {
         [
@@ -57,8 +58,8 @@ fn scalar(tokens: &[Token]) -> Result<(Scalar, &[Token]), Fault>
 
 /// ["+" | "-"] (number | name)
 pub fn constant(tokens: &[Token]) -> Result<(Constant, &[Token]), Fault>
-    ensures read { IfOk result (λ r. read_constant tokens.now ≡ Some (r.0, r.1.now)) }
-    ensures absent { IsErrAnd result IsSyntax → read_constant tokens.now ≡ None }
+    ensures read { IfOk result (λ r. read_constant tokens.now ≡ Read (r.0, r.1.now)) }
+    ensures absent { (s : Stop) → IsErrAnd result (IsStop s) → read_constant tokens.now ≡ Halted s }
 {
     let line = first_line(tokens);
     let sign = prefix(tokens);
@@ -96,8 +97,8 @@ impl PartReader<Constant> for ConstantReader {
 
 /// constant {"," constant}
 pub fn constants(alloc: Global, tokens: &[Token]) -> Result<(Several<Constant>, &[Token]), Fault>
-    ensures read { IfOk result (λ r. read_constants tokens.now ≡ Some (r.0, r.1.now)) }
-    ensures absent { IsErrAnd result IsSyntax → read_constants tokens.now ≡ None }
+    ensures read { IfOk result (λ r. read_constants tokens.now ≡ Read (r.0, r.1.now)) }
+    ensures absent { (s : Stop) → IsErrAnd result (IsStop s) → read_constants tokens.now ≡ Halted s }
 {
     several::<ConstantReader, Constant>(alloc, 0, Sign::Comma, tokens)
 }

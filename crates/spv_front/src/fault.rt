@@ -1,17 +1,20 @@
 // Why a part is not read.
 
-ghost use Rattle.std.specs.Prelude.{◌≡◌};
+ghost use Rattle.std.specs.Prelude.{◌≡◌, length};
+ghost use Rattle.spv_reading.specs.Readers.{wrong, deep};
 ghost use Rattle.spv_front.specs.declared.fault.Fault.TheVariants.{Memory};
-ghost use Rattle.spv_front.specs.Faults.{IsSyntax};
+ghost use Rattle.spv_front.specs.Faults.{IsStop};
 
 use spv_tokens::Token;
 use std::alloc::{AllocError, AllocFailed};
 
-/// Why a part is not read.
+/// Why a part is not read. A number says how many tokens are left there.
 #[derive(Clone, Copy)]
 pub enum Fault {
-    /// The tokens do not begin with it. The line is that of the first token with which it can't go on, where there is one.
-    Syntax(Option<u32>),
+    /// It can't go on with the first of these tokens, or there are none of them.
+    Syntax(usize),
+    /// A part is due there, and no level is left for it.
+    Deep(usize),
     /// There was no memory left.
     Memory,
 }
@@ -34,7 +37,14 @@ impl<T: Drop> From<AllocFailed<T>> for Fault {
 
 /// No part goes on with the first of these tokens.
 pub fn unexpected(tokens: &[Token]) -> Fault
-    ensures { IsSyntax result }
+    ensures { IsStop (wrong (length tokens.now)) result }
 {
-    Fault::Syntax(tokens.first().map(|token| token.line))
+    Fault::Syntax(tokens.len())
+}
+
+/// No level is left for the part that begins with these tokens.
+pub fn out_of_levels(tokens: &[Token]) -> Fault
+    ensures { IsStop (deep (length tokens.now)) result }
+{
+    Fault::Deep(tokens.len())
 }

@@ -1,11 +1,11 @@
 // The first of the tokens that are left.
 
-ghost use Rattle.std.specs.Prelude.{◌≡◌, true, false, Some, None, IfOk, IsErrAnd};
+ghost use Rattle.std.specs.Prelude.{◌≡◌, true, false, length, IfOk, IsErrAnd};
 ghost use Rattle.spv_tokens.specs.declared.token.TokenKind.TheVariants as kind;
 ghost use Rattle.spv_syntax.specs.Steps as steps;
-ghost use Rattle.spv_reading.specs.Readers.{is};
+ghost use Rattle.spv_reading.specs.Readers.{Stop, Read, Halted, wrong, is};
 ghost use Rattle.spv_reading.specs.Readers as reader;
-ghost use Rattle.spv_front.specs.Faults.{IsSyntax};
+ghost use Rattle.spv_front.specs.Faults.{IsStop};
 
 use crate::fault::{Fault, unexpected};
 use spv_syntax::Name;
@@ -65,7 +65,8 @@ pub fn is_sign(sign: Sign, tokens: &[Token]) -> bool
 pub fn past_word(word: Word, tokens: &[Token]) -> Result<&[Token], Fault>
     ensures there { IfOk result (λ rest. is (kind.Word word) (reader.front tokens.now) ≡ true) }
     ensures behind { IfOk result (λ rest. rest.now ≡ reader.after tokens.now) }
-    ensures absent { IsErrAnd result IsSyntax → is (kind.Word word) (reader.front tokens.now) ≡ false }
+    ensures absent { (s : Stop) → IsErrAnd result (IsStop s) → is (kind.Word word) (reader.front tokens.now) ≡ false }
+    ensures place { (s : Stop) → IsErrAnd result (IsStop s) → s ≡ wrong (length tokens.now) }
 {
     if is_word(word, tokens) {
         Ok(after(tokens))
@@ -78,7 +79,8 @@ pub fn past_word(word: Word, tokens: &[Token]) -> Result<&[Token], Fault>
 pub fn past_sign(sign: Sign, tokens: &[Token]) -> Result<&[Token], Fault>
     ensures there { IfOk result (λ rest. is (kind.Sign sign) (reader.front tokens.now) ≡ true) }
     ensures behind { IfOk result (λ rest. rest.now ≡ reader.after tokens.now) }
-    ensures absent { IsErrAnd result IsSyntax → is (kind.Sign sign) (reader.front tokens.now) ≡ false }
+    ensures absent { (s : Stop) → IsErrAnd result (IsStop s) → is (kind.Sign sign) (reader.front tokens.now) ≡ false }
+    ensures place { (s : Stop) → IsErrAnd result (IsStop s) → s ≡ wrong (length tokens.now) }
 {
     if is_sign(sign, tokens) {
         Ok(after(tokens))
@@ -89,8 +91,8 @@ pub fn past_sign(sign: Sign, tokens: &[Token]) -> Result<&[Token], Fault>
 
 /// The name at the front.
 pub fn name(tokens: &[Token]) -> Result<(Name, &[Token]), Fault>
-    ensures read { IfOk result (λ r. reader.name tokens.now ≡ Some (r.0, r.1.now)) }
-    ensures absent { IsErrAnd result IsSyntax → reader.name tokens.now ≡ None }
+    ensures read { IfOk result (λ r. reader.name tokens.now ≡ Read (r.0, r.1.now)) }
+    ensures absent { (s : Stop) → IsErrAnd result (IsStop s) → reader.name tokens.now ≡ Halted s }
 {
     match front(tokens) {
         Some(TokenKind::Name(symbol)) => {

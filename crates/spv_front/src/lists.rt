@@ -1,11 +1,11 @@
 // Lists of parts.
 
-ghost use Rattle.std.specs.Prelude.{◌≡◌, ◌∷◌, ℕ, [], Some, None, IfOk, IsErrAnd};
+ghost use Rattle.std.specs.Prelude.{◌≡◌, ◌∷◌, ◌++◌, ℕ, [], Some, None, IfOk, OnOk, IsErrAnd};
 ghost use Rattle.spv_tokens.specs.declared.token.TokenKind.TheVariants as kind;
-ghost use Rattle.spv_reading.specs.Readers.{Reader, behind, all_items, several_of, starting, headed_by};
+ghost use Rattle.spv_reading.specs.Readers.{Stop, Read, Halted, Reader, behind, all_items, several_of, starting, headed_by};
 ghost use Rattle.spv_reading.specs.Readers as reader;
 ghost use Rattle.spv_reading.specs.TypeReaders.{begins_name};
-ghost use Rattle.spv_front.specs.Faults.{IsSyntax};
+ghost use Rattle.spv_front.specs.Faults.{IsStop};
 ghost use Rattle.spv_front.specs.Lists.{first_and};
 
 use crate::fault::Fault;
@@ -13,7 +13,7 @@ use crate::front::{after, front, is_sign, is_word};
 use spv_list::List;
 use spv_syntax::Several;
 use spv_tokens::{Sign, Token, TokenKind, Word};
-use std::alloc::Global;
+use std::alloc::{AllocError, Global};
 
 /// What reads parts of one kind, of which a text has lists. What stands in a part inside one another has this many levels at most.
 pub trait PartReader<T> {
@@ -22,8 +22,28 @@ pub trait PartReader<T> {
 
     /// The part at the front, and the tokens behind it.
     fn read(alloc: Global, levels: u32, tokens: &[Token]) -> Result<(T, &[Token]), Fault>
-        ensures read { IfOk result (λ r. reader levels tokens.now ≡ Some (r.0, r.1.now)) }
-        ensures absent { IsErrAnd result IsSyntax → reader levels tokens.now ≡ None };
+        ensures read { IfOk result (λ r. reader levels tokens.now ≡ Read (r.0, r.1.now)) }
+        ensures absent { (s : Stop) → IsErrAnd result (IsStop s) → reader levels tokens.now ≡ Halted s };
+}
+
+// The first part of a list, in room for one alone.
+fn push_first<T: Drop>(parts: &mut Vec<T>, part: T) -> Result<(), AllocError>
+    ensures { OnOk result (parts.new.items ≡ parts.old.items ++ part ∷ []) }
+{
+    parts.reserve_exact(1)?;
+    parts.push(part)?;
+    Ok(())
+}
+
+/// Puts a part at the end of a list. Most lists have one part at most, so the first one takes room for one alone.
+pub fn push<T: Drop>(parts: &mut Vec<T>, part: T) -> Result<(), AllocError>
+    ensures { OnOk result (parts.new.items ≡ parts.old.items ++ part ∷ []) }
+{
+    if parts.is_empty() {
+        return push_first(parts, part);
+    }
+    parts.push(part)?;
+    Ok(())
 }
 
 // As many parts as follow, each behind a sign.
@@ -33,8 +53,8 @@ fn further<R: PartReader<T>, T: Drop>(
     sign: Sign,
     tokens: &[Token],
 ) -> Result<(Vec<T>, &[Token]), Fault>
-    ensures read { IfOk result (λ r. all_items [] ◌∷◌ (behind (kind.Sign sign) (R.reader levels)) tokens.now ≡ Some (r.0.items, r.1.now)) }
-    ensures absent { IsErrAnd result IsSyntax → all_items [] ◌∷◌ (behind (kind.Sign sign) (R.reader levels)) tokens.now ≡ None }
+    ensures read { IfOk result (λ r. all_items [] ◌∷◌ (behind (kind.Sign sign) (R.reader levels)) tokens.now ≡ Read (r.0.items, r.1.now)) }
+    ensures absent { (s : Stop) → IsErrAnd result (IsStop s) → all_items [] ◌∷◌ (behind (kind.Sign sign) (R.reader levels)) tokens.now ≡ Halted s }
 {
     let mut parts = Vec::new(alloc);
     let mut rest = tokens;
@@ -43,7 +63,7 @@ fn further<R: PartReader<T>, T: Drop>(
             return Ok((parts, rest));
         }
         let (part, next) = R::read(alloc, levels, after(rest))?;
-        parts.push(part)?;
+        push(&mut parts, part)?;
         rest = next;
     }
     Ok((parts, rest))
@@ -56,8 +76,8 @@ pub fn several<R: PartReader<T>, T: Drop>(
     sign: Sign,
     tokens: &[Token],
 ) -> Result<(Several<T>, &[Token]), Fault>
-    ensures read { IfOk result (λ r. several_of (kind.Sign sign) (R.reader levels) tokens.now ≡ Some (r.0, r.1.now)) }
-    ensures absent { IsErrAnd result IsSyntax → several_of (kind.Sign sign) (R.reader levels) tokens.now ≡ None }
+    ensures read { IfOk result (λ r. several_of (kind.Sign sign) (R.reader levels) tokens.now ≡ Read (r.0, r.1.now)) }
+    ensures absent { (s : Stop) → IsErrAnd result (IsStop s) → several_of (kind.Sign sign) (R.reader levels) tokens.now ≡ Halted s }
 {
     let (first, rest) = R::read(alloc, levels, tokens)?;
     let (more, rest) = further::<R, T>(alloc, levels, sign, rest)?;
@@ -79,8 +99,8 @@ fn others<R: PartReader<T>, T: Drop>(
     first: T,
     tokens: &[Token],
 ) -> Result<(Vec<T>, &[Token]), Fault>
-    ensures read { IfOk result (λ r. first_and first (all_items [] ◌∷◌ (starting begins_name (R.reader levels))) tokens.now ≡ Some (r.0.items, r.1.now)) }
-    ensures absent { IsErrAnd result IsSyntax → first_and first (all_items [] ◌∷◌ (starting begins_name (R.reader levels))) tokens.now ≡ None }
+    ensures read { IfOk result (λ r. first_and first (all_items [] ◌∷◌ (starting begins_name (R.reader levels))) tokens.now ≡ Read (r.0.items, r.1.now)) }
+    ensures absent { (s : Stop) → IsErrAnd result (IsStop s) → first_and first (all_items [] ◌∷◌ (starting begins_name (R.reader levels))) tokens.now ≡ Halted s }
 {
     let mut parts = Vec::new(alloc);
     parts.push(first)?;
@@ -103,8 +123,8 @@ pub fn headed<R: PartReader<T>, T: Drop>(
     word: Word,
     tokens: &[Token],
 ) -> Result<(List<T>, &[Token]), Fault>
-    ensures read { IfOk result (λ r. headed_by (kind.Word word) begins_name (R.reader levels) tokens.now ≡ Some (r.0, r.1.now)) }
-    ensures absent { IsErrAnd result IsSyntax → headed_by (kind.Word word) begins_name (R.reader levels) tokens.now ≡ None }
+    ensures read { IfOk result (λ r. headed_by (kind.Word word) begins_name (R.reader levels) tokens.now ≡ Read (r.0, r.1.now)) }
+    ensures absent { (s : Stop) → IsErrAnd result (IsStop s) → headed_by (kind.Word word) begins_name (R.reader levels) tokens.now ≡ Halted s }
 {
     if !is_word(word, tokens) {
         let none = List::from_vec(Vec::new(alloc));

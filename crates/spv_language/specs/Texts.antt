@@ -6,7 +6,7 @@ use Rattle.spv_lexer.specs.Tokens.{numbered, names_after}
 use Rattle.spv_lexer.specs.Tokens as lexer
 use Rattle.spv_lexer.specs.declared.LexFault.{LexFault}
 use Rattle.spv_lexer.specs.declared.LexFault.TheVariants.{TextTooLong, Memory}
-use Rattle.spv_parser.specs.Causes.{IsAllowed, HasTreeCause}
+use Rattle.spv_parser.specs.Causes.{IsAllowed, HasTreeCause, HasFormulaTextCause}
 use Rattle.spv_language.specs.declared.fault.LanguageFault.{LanguageFault}
 use Rattle.spv_language.specs.declared.fault.LanguageFault.TheVariants.{Tokens, Tree}
 
@@ -47,10 +47,15 @@ HasLengthFor TextTooLong text = longest_text < length text
 HasLengthFor Memory text = Unit {0}
 HasLengthFor _ text = IsShort text
 
--- the text has no tree, for this fault; of a text that no tree reads the line is left open, and want of memory has no cause
+-- the text has no tree, for this fault; a text that no tree reads goes wrong at the line that is told, and want of memory has no cause
 abbrev pub IsFaultOf : {A : Type 0} → (List Token → A → Type 0) → List (List ℕ) → List ℕ → LanguageFault → Type 0
 IsFaultOf reads names text (Tokens fault) = HasLengthFor fault text × lexer.HasTextCause text fault
 IsFaultOf reads names text (Tree fault) = IsCut text × HasTreeCause reads (tokens_of names text) fault
+
+-- the same of a formula text; of one that no tree reads the line is that of one of its tokens
+abbrev pub IsFormulaFaultOf : List (List ℕ) → List ℕ → LanguageFault → Type 0
+IsFormulaFaultOf names text (Tokens fault) = HasLengthFor fault text × lexer.HasTextCause text fault
+IsFormulaFaultOf names text (Tree fault) = IsCut text × HasFormulaTextCause (tokens_of names text) fault
 
 -- two trees of one text are equal
 abbrev pub TextsHaveOneTree : {A : Type 0} → (List Token → A → Type 0) → Type 0

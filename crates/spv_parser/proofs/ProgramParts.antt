@@ -1,6 +1,6 @@
 -- A program up to its main block.
 use Rattle.std.proofs.Common.{true, ◌≡◌, ℕ, List, ap, ◌∙◌, rules}
-use Rattle.std.specs.Prelude.{Option, Some, None}
+use Rattle.std.specs.Prelude.{Option}
 use Rattle.spv_tokens.specs.declared.token.Token.{Token}
 use Rattle.spv_tokens.specs.declared.token.TokenKind.TheVariants as kind
 use Rattle.spv_tokens.specs.declared.token.Word.TheVariants as word
@@ -12,25 +12,25 @@ use Rattle.spv_syntax.specs.declared.routines.RoutineMark.{RoutineMark}
 use Rattle.spv_syntax.specs.declared.programs.Program.{Program}
 use Rattle.spv_syntax.specs.Formulas.{Formula}
 use Rattle.spv_syntax.specs.Steps.{first_line}
-use Rattle.spv_reading.specs.Readers.{front, after, is, and_then, name, ended}
+use Rattle.spv_reading.specs.Readers.{Stop, Outcome, Read, Halted, front, after, is, and_then, name, ended}
 use Rattle.spv_reading.specs.StatementReaders.{read_block}
 use Rattle.spv_reading.specs.DeclarationReaders.{read_declarations}
 use Rattle.spv_reading.specs.RoutineReaders.{read_files, read_routines, read_condition, read_program}
 
 -- where a part is not read, nothing is that begins with it
-pub none_behind : {A B : Type 0} {o : Option (A × List Token)} (next : A → List Token → Option (B × List Token)) → o ≡ None → and_then o next ≡ None
+pub none_behind : {A B : Type 0} {s : Stop} {o : Outcome A} (next : A → List Token → Outcome B) → o ≡ Halted s → and_then o next ≡ Halted s
 none_behind next e = ap (λ o. and_then o next) e
 
 -- what is read behind ENTRY, in a program with these parts
-abbrev pub behind_entry : ℕ → List Token → Name → Option (Several Name) → Declarations → List RoutineMark → Option Formula → Option (Option Formula × List Token) → Option (Program × List Token)
+abbrev pub behind_entry : ℕ → List Token → Name → Option (Several Name) → Declarations → List RoutineMark → Option Formula → Outcome (Option Formula) → Outcome Program
 behind_entry n tokens x files d rs entry o =
-    and_then o (λ exit eight. and_then (ended (kind.Sign sign.Period) (read_block n) eight) (λ b rest. Some (record { line = first_line tokens; name = x; files = files; declarations = d; routines = rs; entry = entry; exit = exit; block = b }, rest)))
+    and_then o (λ exit eight. and_then (ended (kind.Sign sign.Period) (read_block n) eight) (λ b rest. Read (record { line = first_line tokens; name = x; files = files; declarations = d; routines = rs; entry = entry; exit = exit; block = b }, rest)))
 
-module _ (n : ℕ) (tokens : List Token) {one two three four five six seven : List Token} {x : Name} {files : Option (Several Name)} {d : Declarations} {rs : List RoutineMark} {entry : Option Formula} (begins : is (kind.Word word.Program) (front tokens) ≡ true) (behind : one ≡ after tokens) (named : name one ≡ Some (x, two)) (listed : read_files two ≡ Some (files, three)) (ends : is (kind.Sign sign.Semicolon) (front three) ≡ true) (next : four ≡ after three) (declared : read_declarations n four ≡ Some (d, five)) (marked : read_routines n five ≡ Some (rs, six)) (entered : read_condition n (kind.Word word.Entry) six ≡ Some (entry, seven)) where
+module _ (n : ℕ) (tokens : List Token) {one two three four five six seven : List Token} {x : Name} {files : Option (Several Name)} {d : Declarations} {rs : List RoutineMark} {entry : Option Formula} (begins : is (kind.Word word.Program) (front tokens) ≡ true) (behind : one ≡ after tokens) (named : name one ≡ Read (x, two)) (listed : read_files two ≡ Read (files, three)) (ends : is (kind.Sign sign.Semicolon) (front three) ≡ true) (next : four ≡ after three) (declared : read_declarations n four ≡ Read (d, five)) (marked : read_routines n five ≡ Read (rs, six)) (entered : read_condition n (kind.Word word.Entry) six ≡ Read (entry, seven)) where
   -- what is read is what EXIT and the main block make of it
   pub up_to_entry : read_program n tokens ≡ behind_entry n tokens x files d rs entry (read_condition n (kind.Word word.Exit) seven)
   up_to_entry = search rules
 
   -- what is read is what the main block makes of it
-  pub up_to_exit : {exit : Option Formula} {eight : List Token} → read_condition n (kind.Word word.Exit) seven ≡ Some (exit, eight) → read_program n tokens ≡ behind_entry n tokens x files d rs entry (Some (exit, eight))
+  pub up_to_exit : {exit : Option Formula} {eight : List Token} → read_condition n (kind.Word word.Exit) seven ≡ Read (exit, eight) → read_program n tokens ≡ behind_entry n tokens x files d rs entry (Read (exit, eight))
   up_to_exit e = up_to_entry ∙ ap (behind_entry n tokens x files d rs entry) e

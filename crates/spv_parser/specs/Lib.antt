@@ -1,2 +1,3 @@
 pub mod Causes
 pub mod Marks
+pub mod Stopped

@@ -1,12 +1,12 @@
 -- What a loop over where routines begin and end has read.
-use Rattle.std.specs.Prelude.{◌≡◌, ◌≤◌, ℕ, ◌-◌, List, ◌++◌, Option, Some}
+use Rattle.std.specs.Prelude.{◌≡◌, ◌≤◌, ℕ, ◌-◌, List, ◌++◌}
 use Rattle.spv_tokens.specs.declared.token.Token.{Token}
 use Rattle.spv_syntax.specs.declared.routines.RoutineMark.{RoutineMark}
-use Rattle.spv_reading.specs.Readers.{and_then}
+use Rattle.spv_reading.specs.Readers.{Outcome, Read, and_then}
 use Rattle.spv_reading.specs.RoutineReaders.{marks}
 
 -- all that is read is these marks and those that are still to come at the front of the rest, in as many turns as are left, where
 -- this many routines have begun and not ended
-pub record MarksSoFar (levels : ℕ) (total : Option (List RoutineMark × List Token)) (end counter begun : ℕ) (done : List RoutineMark) (rest : List Token) : Type 0 where
-  pub same : total ≡ and_then (marks levels (end - counter) begun rest) (λ others behind. Some (done ++ others, behind))
+pub record MarksSoFar (levels : ℕ) (total : Outcome (List RoutineMark)) (end counter begun : ℕ) (done : List RoutineMark) (rest : List Token) : Type 0 where
+  pub same : total ≡ and_then (marks levels (end - counter) begun rest) (λ others behind. Read (done ++ others, behind))
   pub within : begun ≤ counter

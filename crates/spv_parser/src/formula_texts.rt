@@ -3,7 +3,9 @@
 ghost use Rattle.std.specs.Prelude.{◌≡◌, Some, None, IfOk, IsErrAnd, IfSome, IsNone};
 ghost use Rattle.spv_reading.specs.RuleReaders.{read_asserted, read_formula_text};
 ghost use Rattle.spv_reading.specs.RuleReaders as spec;
-ghost use Rattle.spv_front.specs.Faults.{IsSyntax};
+ghost use Rattle.spv_reading.specs.Readers.{Stop, Read};
+ghost use Rattle.spv_front.specs.Faults.{IsStop};
+ghost use Rattle.spv_parser.specs.Stopped.{IsHalted, IsStopping};
 
 use spv_formula_parser::formulas::formula;
 use spv_front::fault::{Fault, unexpected};
@@ -24,13 +26,12 @@ fn before_period(tokens: &[Token]) -> Option<&[Token]>
     }
 }
 
-// The line at which a text goes wrong behind a whole formula, at this token or one of those behind it. A period
-// ends the formula, so then it is the one behind it, or else the last of the text.
-pub fn surplus(tokens: &[Token], first: Token, behind: &[Token]) -> u32 {
-    match (first.kind, behind) {
-        (TokenKind::Sign(Sign::Period), [second, ..]) => second.line,
-        (TokenKind::Sign(Sign::Period), []) => tokens.last().map_or(1, |token| token.line),
-        (_, _) => first.line,
+// How many tokens are left where a text goes wrong behind a whole formula, at this token or those behind it. A period ends
+// the formula, so then it is behind it.
+pub fn surplus(first: Token, behind: &[Token]) -> usize {
+    match first.kind {
+        TokenKind::Sign(Sign::Period) => behind.len(),
+        _ => behind.len() + 1,
     }
 }
 
@@ -38,20 +39,34 @@ pub fn surplus(tokens: &[Token], first: Token, behind: &[Token]) -> u32 {
 fn unended(alloc: Global, levels: u32, tokens: &[Token]) -> Fault {
     match formula(alloc, levels, tokens) {
         Ok((_, [])) => unexpected(&[]),
-        Ok((_, [token, behind @ ..])) => Fault::Syntax(Some(surplus(tokens, *token, behind))),
+        Ok((_, [token, behind @ ..])) => Fault::Syntax(surplus(*token, behind)),
         Err(fault) => fault,
+    }
+}
+
+// A fault of the tokens before the last one, as one of all of them.
+fn before_last(fault: Fault) -> Fault
+    ensures { (s : Stop) → IsStop s result → IsStopping fault }
+{
+    match fault {
+        Fault::Syntax(left) => Fault::Syntax(left.saturating_add(1)),
+        Fault::Deep(left) => Fault::Deep(left.saturating_add(1)),
+        Fault::Memory => Fault::Memory,
     }
 }
 
 // formula ".", to the end of the tokens
 fn asserted(alloc: Global, levels: u32, tokens: &[Token]) -> Result<(Formula, &[Token]), Fault>
-    ensures read { IfOk result (λ r. read_asserted levels tokens.now ≡ Some (r.0, r.1.now)) }
-    ensures absent { IsErrAnd result IsSyntax → read_asserted levels tokens.now ≡ None }
+    ensures read { IfOk result (λ r. read_asserted levels tokens.now ≡ Read (r.0, r.1.now)) }
+    ensures absent { (s : Stop) → IsErrAnd result (IsStop s) → IsHalted (read_asserted levels tokens.now) }
 {
     let Some(inside) = before_period(tokens) else {
         return Err(unended(alloc, levels, tokens));
     };
-    formula(alloc, levels, inside)
+    match formula(alloc, levels, inside) {
+        Ok(read) => Ok(read),
+        Err(fault) => Err(before_last(fault)),
+    }
 }
 
 // PROGRAM name ";" decls ASSERT formula "."
@@ -60,8 +75,8 @@ pub fn formula_text(
     levels: u32,
     tokens: &[Token],
 ) -> Result<(FormulaText, &[Token]), Fault>
-    ensures read { IfOk result (λ r. read_formula_text levels tokens.now ≡ Some (r.0, r.1.now)) }
-    ensures absent { IsErrAnd result IsSyntax → read_formula_text levels tokens.now ≡ None }
+    ensures read { IfOk result (λ r. read_formula_text levels tokens.now ≡ Read (r.0, r.1.now)) }
+    ensures absent { (s : Stop) → IsErrAnd result (IsStop s) → IsHalted (read_formula_text levels tokens.now) }
 {
     let line = first_line(tokens);
     let rest = past_word(Word::Program, tokens)?;

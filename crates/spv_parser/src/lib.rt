@@ -2,6 +2,7 @@
 #![tactic(auto)]
 
 mod formula_texts;
+mod lines;
 mod parser;
 mod programs;
 mod refused;

@@ -2,11 +2,14 @@
 
 ghost use Rattle.std.specs.Prelude.{◌≤◌, OnOk, IfOk, IfErr};
 ghost use Rattle.spv_syntax.specs.Reads.{Reads, ReadsRules, ReadsFormulaText};
-ghost use Rattle.spv_parser.specs.Causes.{IsAllowed, HasTreeCause, IsForbidden, IsRefusalOf};
+ghost use Rattle.spv_front.specs.declared.fault.Fault.TheVariants.{Syntax};
+ghost use Rattle.spv_parser.specs.Causes.{IsAllowed, HasTreeCause, HasFormulaTextCause, IsForbidden, IsRefusalOf};
 
 use crate::formula_texts::{formula_text, surplus};
+use crate::lines::line_where;
 use crate::programs::program_at;
 use crate::refused::SyntaxFault;
+use spv_expected::{law_program_stops, law_rule_stops};
 use spv_front::fault::Fault;
 use spv_level::{law_enough, law_enough_formula_text, law_enough_rules, left_out, too_deep};
 use spv_reading::laws::{law_formula_texts, law_programs, law_rules};
@@ -34,13 +37,19 @@ fn allowed(alloc: Global, tokens: &[Token]) -> Result<(), SyntaxFault>
 
 // The refusal of tokens of which no part is read for this fault.
 fn refusal(tokens: &[Token], fault: Fault) -> SyntaxFault
-    ensures { IsRefusalOf fault result }
+    ensures { IsRefusalOf tokens.now fault result }
 {
     match fault {
-        Fault::Memory => SyntaxFault::Memory,
-        Fault::Syntax(Some(line)) => SyntaxFault::Syntax(line),
-        Fault::Syntax(None) => SyntaxFault::Syntax(tokens.last().map_or(1, |token| token.line)),
+        Fault::Syntax(left) => SyntaxFault::Syntax(line_where(tokens, left)),
+        Fault::Deep(_) | Fault::Memory => SyntaxFault::Memory,
     }
+}
+
+// The refusal of tokens of which so many are left behind what is read.
+fn refused_with(tokens: &[Token], left: usize) -> SyntaxFault
+    ensures { IsRefusalOf tokens.now (Syntax left) result }
+{
+    SyntaxFault::Syntax(line_where(tokens, left))
 }
 
 // The program that these tokens are, with as many levels as any has or more.
@@ -52,10 +61,11 @@ fn program_within(alloc: Global, levels: u32, tokens: &[Token]) -> Result<Progra
 {
     law_programs();
     law_enough();
+    law_program_stops();
     allowed(alloc, tokens)?;
     match program_at(alloc, levels, tokens) {
         Ok((tree, [])) => Ok(tree),
-        Ok((_, [token, ..])) => Err(SyntaxFault::Syntax(token.line)),
+        Ok((_, rest)) => Err(refused_with(tokens, rest.len())),
         Err(fault) => Err(refusal(tokens, fault)),
     }
 }
@@ -78,10 +88,11 @@ fn rules_within(alloc: Global, levels: u32, tokens: &[Token]) -> Result<RuleTree
 {
     law_rules();
     law_enough_rules();
+    law_rule_stops();
     allowed(alloc, tokens)?;
     match rule_file(alloc, levels, tokens) {
         Ok((tree, [])) => Ok(tree),
-        Ok((_, [token, ..])) => Err(SyntaxFault::Syntax(token.line)),
+        Ok((_, rest)) => Err(refused_with(tokens, rest.len())),
         Err(fault) => Err(refusal(tokens, fault)),
     }
 }
@@ -100,14 +111,16 @@ fn formula_within(alloc: Global, levels: u32, tokens: &[Token]) -> Result<Formul
     requires enough { 199 ≤ levels }
     ensures tree { IfOk result (λ t. ReadsFormulaText tokens.now t) }
     ensures allowed { IfOk result (λ t. IsAllowed tokens.now) }
-    ensures cause { IfErr result (HasTreeCause ReadsFormulaText tokens.now) }
+    ensures cause { IfErr result (HasFormulaTextCause tokens.now) }
 {
     law_formula_texts();
     law_enough_formula_text();
     allowed(alloc, tokens)?;
     match formula_text(alloc, levels, tokens) {
         Ok((tree, [])) => Ok(tree),
-        Ok((_, [token, behind @ ..])) => Err(SyntaxFault::Syntax(surplus(tokens, *token, behind))),
+        Ok((_, [token, behind @ ..])) => {
+            Err(refused_with(tokens, surplus(*token, behind).saturating_add(1)))
+        }
         Err(fault) => Err(refusal(tokens, fault)),
     }
 }
@@ -116,7 +129,7 @@ fn formula_within(alloc: Global, levels: u32, tokens: &[Token]) -> Result<Formul
 pub fn formula(alloc: Global, tokens: &[Token]) -> Result<FormulaText, SyntaxFault>
     ensures tree { IfOk result (λ t. ReadsFormulaText tokens.now t) }
     ensures allowed { IfOk result (λ t. IsAllowed tokens.now) }
-    ensures cause { IfErr result (HasTreeCause ReadsFormulaText tokens.now) }
+    ensures cause { IfErr result (HasFormulaTextCause tokens.now) }
 {
     formula_within(alloc, LEVELS, tokens)
 }

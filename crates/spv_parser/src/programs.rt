@@ -2,7 +2,8 @@
 
 ghost use Rattle.std.specs.Prelude.{◌≡◌, Some, None, IfOk, IsErrAnd};
 ghost use Rattle.spv_reading.specs.RoutineReaders.{read_files, read_program};
-ghost use Rattle.spv_front.specs.Faults.{IsSyntax};
+ghost use Rattle.spv_reading.specs.Readers.{Stop, Read, Halted};
+ghost use Rattle.spv_front.specs.Faults.{IsStop};
 
 use crate::routine_marks::{ended_block, routines};
 use spv_front::fault::Fault;
@@ -17,8 +18,8 @@ use std::alloc::Global;
 
 // ["(" names ")"]
 fn files(alloc: Global, tokens: &[Token]) -> Result<(Option<Several<Name>>, &[Token]), Fault>
-    ensures read { IfOk result (λ r. read_files tokens.now ≡ Some (r.0, r.1.now)) }
-    ensures absent { IsErrAnd result IsSyntax → read_files tokens.now ≡ None }
+    ensures read { IfOk result (λ r. read_files tokens.now ≡ Read (r.0, r.1.now)) }
+    ensures absent { (s : Stop) → IsErrAnd result (IsStop s) → read_files tokens.now ≡ Halted s }
 {
     if !is_sign(Sign::OpenParenthesis, tokens) {
         return Ok((None, tokens));
@@ -34,8 +35,8 @@ pub fn program_at(
     levels: u32,
     tokens: &[Token],
 ) -> Result<(Program, &[Token]), Fault>
-    ensures read { IfOk result (λ r. read_program levels tokens.now ≡ Some (r.0, r.1.now)) }
-    ensures absent { IsErrAnd result IsSyntax → read_program levels tokens.now ≡ None }
+    ensures read { IfOk result (λ r. read_program levels tokens.now ≡ Read (r.0, r.1.now)) }
+    ensures absent { (s : Stop) → IsErrAnd result (IsStop s) → read_program levels tokens.now ≡ Halted s }
 {
     let line = first_line(tokens);
     let rest = past_word(Word::Program, tokens)?;

@@ -16,11 +16,12 @@ pub enum SyntaxFault {
     /// No such word stands there, and the level of the text exceeds 200. The line is that of the first token after which it does.
     #[error("line {0}: the text goes too deep")]
     TooDeep(u32),
-    /// Neither is so, and no tree reads the tokens. The line is the one at which they go wrong: that of the
-    /// token that fits no tree so far, or where there is no such token that of the last one, or 1 without any token.
+    /// Neither is so, and no tree reads the tokens. The line is the one at which they go wrong: that of the first token with which
+    /// they begin no text any more, or where all of them begin one that of the last one, or 1 without any token.
     #[error("line {0}: no program goes on so")]
     Syntax(u32),
-    /// There was no memory left.
+    /// There was no memory left, or no level for a part inside others. No text that is not too deep has been seen to need more levels
+    /// than there are.
     #[error("out of memory")]
     Memory,
 }

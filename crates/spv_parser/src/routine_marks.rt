@@ -2,10 +2,10 @@
 
 ghost use Rattle.std.specs.Prelude.{◌≡◌, ◌<◌, ◌-◌, ◌^◌, Some, None, IfOk, IsErrAnd};
 ghost use Rattle.spv_tokens.specs.declared.token.TokenKind.TheVariants as kind;
-ghost use Rattle.spv_reading.specs.Readers.{ended};
+ghost use Rattle.spv_reading.specs.Readers.{Stop, Read, Halted, ended};
 ghost use Rattle.spv_reading.specs.StatementReaders.{read_block};
 ghost use Rattle.spv_reading.specs.RoutineReaders as routine;
-ghost use Rattle.spv_front.specs.Faults.{IsSyntax};
+ghost use Rattle.spv_front.specs.Faults.{IsStop};
 
 use spv_front::fault::{Fault, unexpected};
 use spv_front::front::past_sign;
@@ -22,8 +22,8 @@ pub fn ended_block(
     sign: Sign,
     tokens: &[Token],
 ) -> Result<(Block, &[Token]), Fault>
-    ensures read { IfOk result (λ r. ended (kind.Sign sign) (read_block levels) tokens.now ≡ Some (r.0, r.1.now)) }
-    ensures absent { IsErrAnd result IsSyntax → ended (kind.Sign sign) (read_block levels) tokens.now ≡ None }
+    ensures read { IfOk result (λ r. ended (kind.Sign sign) (read_block levels) tokens.now ≡ Read (r.0, r.1.now)) }
+    ensures absent { (s : Stop) → IsErrAnd result (IsStop s) → ended (kind.Sign sign) (read_block levels) tokens.now ≡ Halted s }
 {
     let (block, rest) = block(alloc, levels, tokens)?;
     let rest = past_sign(sign, rest)?;
@@ -47,8 +47,8 @@ pub fn routines(
     levels: u32,
     tokens: &[Token],
 ) -> Result<(Vec<RoutineMark>, &[Token]), Fault>
-    ensures read { IfOk result (λ r. routine.read_routines levels tokens.now ≡ Some (r.0.items, r.1.now)) }
-    ensures absent { IsErrAnd result IsSyntax → routine.read_routines levels tokens.now ≡ None }
+    ensures read { IfOk result (λ r. routine.read_routines levels tokens.now ≡ Read (r.0.items, r.1.now)) }
+    ensures absent { (s : Stop) → IsErrAnd result (IsStop s) → routine.read_routines levels tokens.now ≡ Halted s }
 {
     let mut marks = Vec::new(alloc);
     let mut rest = tokens;

@@ -1,5 +1,5 @@
 -- What is read as declarations is spelled at the front, on its lines.
-use Rattle.std.proofs.Common.{◌≡◌, ℕ, List, ◌∷◌, Option, Some, refl, ap, ◌∙◌}
+use Rattle.std.proofs.Common.{ℕ, List, Option, refl}
 use Rattle.spv_tokens.specs.declared.token.Token.{Token}
 use Rattle.spv_tokens.specs.declared.token.TokenKind.TheVariants as kind
 use Rattle.spv_tokens.specs.declared.token.Word.TheVariants as word
@@ -8,20 +8,18 @@ use Rattle.spv_syntax.specs.declared.lists.Several.{Several}
 use Rattle.spv_syntax.specs.declared.declarations.NameOrClass.{NameOrClass}
 use Rattle.spv_syntax.specs.declared.declarations.NameOrClass.TheVariants as either
 use Rattle.spv_syntax.specs.declared.declarations.SortName.{SortName}
-use Rattle.spv_syntax.specs.Lists.{several, headed}
-use Rattle.spv_syntax.specs.Steps.{Step, passes, first_line, lines_agree}
-use Rattle.spv_syntax.specs.Reads.{kinds}
-use Rattle.spv_reading.specs.Readers.{front, after, is, and_then, name, several_of, optional}
+use Rattle.spv_syntax.specs.Steps.{first_line}
+use Rattle.spv_reading.specs.Readers.{Read, front, after, is, and_then, name, several_of, optional}
 use Rattle.spv_reading.specs.StatementReaders.{read_constant}
 use Rattle.spv_reading.specs.TypeReaders.{begins_name, read_type}
 use Rattle.spv_reading.specs.DeclarationReaders.{read_const, read_name_or_class, read_sort, read_sorts, read_symbol, read_typedef, read_vars, read_declarations}
 use Rattle.spv_reading.specs.Parts.{InFront, Part, BeginsWith, constant_part, type_part, several_part, const_part, typedef_part, vars_part, sort_part, symbol_part, declarations_part}
-use Rattle.spv_reading.proofs.Fronts.{Passed, passed, is-true, begun, join, started}
+use Rattle.spv_reading.proofs.Fronts.{Passed, passed, is-true, join, started}
 use Rattle.spv_reading.proofs.Sound.{On, on_some, on_then, on_if, on_past, on_more, name_sound, several_sound, headed_sound, on_optional, ended_sound}
 use Rattle.spv_reading.proofs.StatementSound.{constant_sound}
 use Rattle.spv_reading.proofs.TypeSound.{names_sound, type_sound}
 use Rattle.spv_syntax.specs.Members.{in_kinds, in_lines}
-use Rattle.spv_syntax.specs.ProgramSpelling.{name_or_class_spelling, sort_spelling, sorts_spelling, symbol_spelling, typedef_spelling, vars_spelling, const_spelling}
+use Rattle.spv_syntax.specs.ProgramSpelling.{name_or_class_spelling, sorts_spelling}
 
 pub const_sound : (tokens : List Token) → On (read_const tokens) (BeginsWith const_part tokens)
 const_sound tokens =
@@ -43,7 +41,7 @@ pub either_sound : (tokens : List Token) → On (read_name_or_class tokens) (Eit
 either_sound tokens =
     on_if (is (kind.Sign sign.Hash) (front tokens)) _ _ (λ h. class_there (after tokens) (passed _ tokens (is-true _ (front tokens) h))) (λ h. on_then (name_sound tokens) (λ x rest a. on_some _ (either.Name x) rest a))
   where
-    class_there : (mid : List Token) → Passed (kind.Sign sign.Hash) tokens mid → On (and_then (name mid) (λ x rest. Some (either.Class x, rest))) (EitherAt tokens)
+    class_there : (mid : List Token) → Passed (kind.Sign sign.Hash) tokens mid → On (and_then (name mid) (λ x rest. Read (either.Class x, rest))) (EitherAt tokens)
     class_there mid p =
         on_then (name_sound mid) (λ x rest a. on_some _ (either.Class x) rest (join p a))
 

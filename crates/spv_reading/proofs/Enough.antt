@@ -1,7 +1,7 @@
 -- As many items as tokens are enough.
 use Rattle.std.proofs.Common.{◌≡◌, ℕ, zero, suc, ◌<◌, ◌≤◌, List, [], ◌∷◌, Option, Some, None, length, refl, sym, ap, ◌∙◌, arith}
 use Rattle.spv_tokens.specs.declared.token.Token.{Token}
-use Rattle.spv_reading.specs.Readers.{Reader, and_then, Next, items_by, items, all_items}
+use Rattle.spv_reading.specs.Readers.{Outcome, Read, Halted, Reader, and_then, Next, items_by, items, all_items}
 use Rattle.spv_reading.proofs.Sound.{OnItem}
 
 -- each item has a token
@@ -11,12 +11,12 @@ pub record HasTokens {A : Type 0} (next : Next A) : Type 0 where
 
 module _ {A L : Type 0} (none : L) (add : A → L → L) (next : Next A) (has_tokens : HasTokens next) where
   -- the same others behind an item
-  by_same : (tokens : List Token) (one two : Reader L) (read : Option (Option (A × List Token))) → ((x : A) (rest : List Token) → read ≡ Some (Some (x, rest)) → one rest ≡ two rest) → items_by none add one read tokens ≡ items_by none add two read tokens
+  by_same : (tokens : List Token) (one two : Reader L) (read : Option (Outcome A)) → ((x : A) (rest : List Token) → read ≡ Some (Read (x, rest)) → one rest ≡ two rest) → items_by none add one read tokens ≡ items_by none add two read tokens
   by_same tokens one two None h = refl
-  by_same tokens one two (Some None) h = refl
-  by_same tokens one two (Some (Some r)) h = ap (λ o. and_then o (λ xs rest. Some (add r.0 xs, rest))) (h r.0 r.1 refl)
+  by_same tokens one two (Some (Halted s)) h = refl
+  by_same tokens one two (Some (Read r)) h = ap (λ o. and_then o (λ xs rest. Read (add r.0 xs, rest))) (h r.0 r.1 refl)
 
-  none_left : (n : ℕ) → items none add next n [] ≡ Some (none, [])
+  none_left : (n : ℕ) → items none add next n [] ≡ Read (none, [])
   none_left zero = refl
   none_left (suc n) = ap (λ read. items_by none add (items none add next n) read []) has_tokens.none
 

@@ -13,10 +13,10 @@ use Rattle.spv_syntax.specs.declared.operators.Multiplying.{Multiplying}
 use Rattle.spv_syntax.specs.Formulas.{Formula, formula, no_conclusion, implies, relation, no_right_side, compared, simple, no_more_terms, more_terms, term, no_more_factors, more_factors, Factor, class, place, application, bracketed, negation, no_more_formulas, more_formulas, designator, no_selectors, selectors, index, field, content}
 use Rattle.spv_syntax.specs.Steps.{Step, begins, passes, first_line, lines_agree}
 use Rattle.spv_syntax.specs.Reads.{kinds}
-use Rattle.spv_reading.specs.Readers.{front, after, is, Reader, nothing, and_then, name, operated}
+use Rattle.spv_reading.specs.Readers.{Read, front, after, is, Reader, nothing, and_then, name, operated}
 use Rattle.spv_reading.specs.FormulaReaders.{prefix_of, comparison_of, adding_of, multiplying_of, read_more_formulas, read_index, read_field, selector_by, read_selectors, read_application, read_place, read_named, read_bracketed, read_designator, factor_by, read_more_factors, read_term, read_more_terms, simple_by, read_simple, right_side_by, read_relation, read_conclusion, formula_by, read_inner, read_factor, read_formula}
 use Rattle.spv_reading.specs.Parts.{BeginsWith, name_part, led, formula_part, conclusion_part, relation_part, right_side_part, simple_part, added_term_part, more_terms_part, term_part, multiplied_factor_part, more_factors_part, factor_part, more_formulas_part, designator_part, selectors_part, selector_part}
-use Rattle.spv_reading.proofs.Fronts.{Passed, some_is, passed, is-true, begun, begins_at, join, starting_at, started}
+use Rattle.spv_reading.proofs.Fronts.{Passed, some_is, passed, is-true, begun, join, starting_at, started}
 use Rattle.spv_reading.proofs.Sound.{On, OnItem, on_none, on_some, on_then, on_if, on_past, name_begins, name_sound, name_at_sound, IsList, items_sound, on_item, on_no_item, behind_sound}
 use Rattle.spv_syntax.specs.Members.{in_kinds, in_lines}
 use Rattle.spv_syntax.specs.FormulaSpelling.{factor_spelling, adding_kind, comparison_kind, multiplying_kind, prefix_kind}
@@ -113,16 +113,16 @@ module _ (inner : Reader Formula) (inner_sound : (tokens : List Token) → On (i
 
   -- a factor, where the one behind NOT is read by `below`
   module _ (below : Reader Factor) (below_sound : (tokens : List Token) → On (below tokens) (BeginsWith factor_part tokens)) where
-    negation_sound : (tokens mid : List Token) → Passed (kind.Word word.Not) tokens mid → On (and_then (below mid) (λ f rest. Some (negation (first_line tokens) f, rest))) (BeginsWith factor_part tokens)
+    negation_sound : (tokens mid : List Token) → Passed (kind.Word word.Not) tokens mid → On (and_then (below mid) (λ f rest. Read (negation (first_line tokens) f, rest))) (BeginsWith factor_part tokens)
     negation_sound tokens mid p =
         on_then (below_sound mid) (λ f rest a. on_some _ (negation (first_line tokens) f) rest (started (join p a)))
 
-    class_sound : (tokens mid : List Token) → Passed (kind.Sign sign.Hash) tokens mid → On (and_then (name mid) (λ x rest. Some (class (first_line tokens) x, rest))) (BeginsWith factor_part tokens)
+    class_sound : (tokens mid : List Token) → Passed (kind.Sign sign.Hash) tokens mid → On (and_then (name mid) (λ x rest. Read (class (first_line tokens) x, rest))) (BeginsWith factor_part tokens)
     class_sound tokens mid p =
         on_then (name_sound mid) (λ x rest a. on_some _ (class (first_line tokens) x) rest (started (join p a)))
 
     -- a factor of one token
-    one_token : (f : Factor) (k : TokenKind) (tokens : List Token) → ((rest : List TokenKind) → factor_spelling in_kinds f rest ≡ k ∷ rest) → ((steps : List Step) → (factor_spelling in_lines) f steps ≡ begins (first_line tokens) ∷ passes ∷ steps) → front tokens ≡ Some k → On (Some (f, after tokens)) (BeginsWith factor_part tokens)
+    one_token : (f : Factor) (k : TokenKind) (tokens : List Token) → ((rest : List TokenKind) → factor_spelling in_kinds f rest ≡ k ∷ rest) → ((steps : List Step) → (factor_spelling in_lines) f steps ≡ begins (first_line tokens) ∷ passes ∷ steps) → front tokens ≡ Some k → On (Read (f, after tokens)) (BeginsWith factor_part tokens)
     one_token f k tokens spelled lined e =
         let p = passed k tokens e in
         on_some _ f (after tokens) (record {
@@ -203,7 +203,7 @@ module _ (factor : Reader Factor) (factor_sound : (tokens : List Token) → On (
       on_then (simple_sound tokens) (λ s mid a. on_then (right_side_sound mid (comparison_of (front mid)) refl) (λ right rest b. on_some _ (relation (first_line tokens) s right) rest (started (join a b))))
 
   module _ (inner : Reader Formula) (inner_sound : (tokens : List Token) → On (inner tokens) (BeginsWith formula_part tokens)) where
-    implied_sound : (tokens mid : List Token) → Passed (kind.Sign sign.Arrow) tokens mid → On (and_then (inner mid) (λ f rest. Some (implies f, rest))) (BeginsWith conclusion_part tokens)
+    implied_sound : (tokens mid : List Token) → Passed (kind.Sign sign.Arrow) tokens mid → On (and_then (inner mid) (λ f rest. Read (implies f, rest))) (BeginsWith conclusion_part tokens)
     implied_sound tokens mid p =
         on_then (inner_sound mid) (λ f rest a. on_some _ (implies f) rest (join p a))
 

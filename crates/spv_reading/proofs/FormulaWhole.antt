@@ -12,7 +12,7 @@ use Rattle.spv_syntax.specs.Formulas.{Formula, formula, Conclusion, no_conclusio
 use Rattle.spv_syntax.specs.Members.{in_kinds}
 use Rattle.spv_syntax.specs.FormulaSpelling.{more_terms_spelling, right_side_spelling, selector_spelling, term_spelling}
 use Rattle.spv_syntax.specs.Steps.{Step, begins, passes, first_line}
-use Rattle.spv_reading.specs.Readers.{first, front, after, is, Reader, nothing, behind, operated, items}
+use Rattle.spv_reading.specs.Readers.{Read, first, front, after, is, Reader, nothing, behind, operated, items}
 use Rattle.spv_reading.specs.FormulaReaders.{prefix_of, comparison_of, adding_of, multiplying_of, selector_by, read_application, read_named, factor_by, read_term, read_sum, simple_by, read_simple, right_side_by, read_relation, read_conclusion, formula_by, read_inner, read_factor, read_formula}
 use Rattle.spv_reading.specs.Continuing.{continues_selectors, continues_factor, continues_term, continues_simple, continues_relation, continues_formula, continues_formulas}
 use Rattle.spv_reading.specs.Depths.{formula_depth, conclusion_depth, relation_depth, right_side_depth, simple_depth, more_terms_depth, term_depth, more_factors_depth, factor_depth, more_formulas_depth, selectors_depth, selector_depth}
@@ -68,7 +68,7 @@ module _ (factor : Reader Factor) where
       let c = h (length a.rest) a.rest spelled steps (omega arith) a.stands e in
       record {
         rest = c.rest;
-        is = and_then_is _ a.is (and_then_is _ c.is (ap (λ l. Some (term l f more, c.rest)) b.line));
+        is = and_then_is _ a.is (and_then_is _ c.is (ap (λ l. Read (term l f more, c.rest)) b.line));
         stands = c.stands;
         shorter = omega (arith, a.shorter, c.shorter);
       }
@@ -134,7 +134,7 @@ module _ (factor : Reader Factor) where
       let c = h a.rest spelled steps a.stands e in
       record {
         rest = c.rest;
-        is = and_then_is _ a.is (and_then_is _ c.is (ap (λ l. Some (relation l left right, c.rest)) b.line));
+        is = and_then_is _ a.is (and_then_is _ c.is (ap (λ l. Read (relation l left right, c.rest)) b.line));
         stands = c.stands;
         shorter = omega (arith, a.shorter, c.shorter);
       }
@@ -146,7 +146,7 @@ module _ (factor : Reader Factor) where
       let c = h a.rest spelled steps a.stands e in
       record {
         rest = c.rest;
-        is = and_then_is _ a.is (and_then_is _ c.is (ap (λ l. Some (formula l left right, c.rest)) b.line));
+        is = and_then_is _ a.is (and_then_is _ c.is (ap (λ l. Read (formula l left right, c.rest)) b.line));
         stands = c.stands;
         shorter = omega (arith, a.shorter, c.shorter);
       }
@@ -194,7 +194,7 @@ module _ (inner : Reader Formula) where
       let a = name_complete x p.stands in
       record {
         rest = a.rest;
-        is = ap (λ o. selector_by inner o tokens) p.front ∙ ap Some (and_then_is _ a.is (ap (λ l. Some (field l x, a.rest)) b.line));
+        is = ap (λ o. selector_by inner o tokens) p.front ∙ ap Some (and_then_is _ a.is (ap (λ l. Read (field l x, a.rest)) b.line));
         stands = a.stands;
         shorter = omega (arith, p.shorter, a.shorter);
       }
@@ -205,7 +205,7 @@ module _ (inner : Reader Formula) where
       let p = taken_of b.stands in
       record {
         rest = after tokens;
-        is = ap (λ o. selector_by inner o tokens) p.front ∙ ap (λ l. Some (Some (content l, after tokens))) b.line;
+        is = ap (λ o. selector_by inner o tokens) p.front ∙ ap (λ l. Some (Read (content l, after tokens))) b.line;
         stands = p.stands;
         shorter = p.shorter;
       }
@@ -258,7 +258,7 @@ module _ (inner : Reader Formula) where
         let no_bracket = ap (is (kind.Sign sign.OpenParenthesis)) (front_of p.stands) ∙ selectors_end behind spelled (left_false _ _ e) in
         record {
           rest = d.rest;
-          is = ap (λ o. factor_by inner below o tokens) p.front ∙ ap (λ y. read_named inner y (after tokens)) (name_same tokens x n.line) ∙ if_false _ no_bracket (and_then_is _ d.is refl) ∙ ap (λ l. Some (place l (designator x.line x behind), d.rest)) (sym n.line ∙ b.line) ∙ ap (λ l. Some (place line (designator l x behind), d.rest)) (sym n.line ∙ m.line);
+          is = ap (λ o. factor_by inner below o tokens) p.front ∙ ap (λ y. read_named inner y (after tokens)) (name_same tokens x n.line) ∙ if_false _ no_bracket (and_then_is _ d.is refl) ∙ ap (λ l. Read (place l (designator x.line x behind), d.rest)) (sym n.line ∙ b.line) ∙ ap (λ l. Read (place line (designator l x behind), d.rest)) (sym n.line ∙ m.line);
           stands = d.stands;
           shorter = omega (arith, p.shorter, d.shorter);
         }
@@ -276,7 +276,7 @@ module _ (inner : Reader Formula) where
         let a = g (after tokens) spelled steps p.stands e in
         record {
           rest = a.rest;
-          is = ap (λ o. factor_by inner below o tokens) p.front ∙ and_then_is _ a.is (ap (λ l. Some (negation l f, a.rest)) b.line);
+          is = ap (λ o. factor_by inner below o tokens) p.front ∙ and_then_is _ a.is (ap (λ l. Read (negation l f, a.rest)) b.line);
           stands = a.stands;
           shorter = omega (arith, p.shorter, a.shorter);
         }
@@ -288,19 +288,19 @@ module _ (inner : Reader Formula) where
         let a = name_complete x p.stands in
         record {
           rest = a.rest;
-          is = ap (λ o. factor_by inner below o tokens) p.front ∙ and_then_is _ a.is (ap (λ l. Some (class l x, a.rest)) b.line);
+          is = ap (λ o. factor_by inner below o tokens) p.front ∙ and_then_is _ a.is (ap (λ l. Read (class l x, a.rest)) b.line);
           stands = a.stands;
           shorter = omega (arith, p.shorter, a.shorter);
         }
 
     -- a factor of one token
-    one_token : (f : ℕ → Factor) (k : TokenKind) (line : ℕ) → ((tokens : List Token) → factor_by inner below (Some k) tokens ≡ Some (f (first_line tokens), after tokens)) → (tokens : List Token) (spelled : List TokenKind) (steps : List Step) → Stands tokens (k ∷ spelled) (begins line ∷ passes ∷ steps) → Answers (factor_by inner below (front tokens) tokens) (f line) tokens spelled steps
+    one_token : (f : ℕ → Factor) (k : TokenKind) (line : ℕ) → ((tokens : List Token) → factor_by inner below (Some k) tokens ≡ Read (f (first_line tokens), after tokens)) → (tokens : List Token) (spelled : List TokenKind) (steps : List Step) → Stands tokens (k ∷ spelled) (begins line ∷ passes ∷ steps) → Answers (factor_by inner below (front tokens) tokens) (f line) tokens spelled steps
     one_token f k line h tokens spelled steps s =
         let b = begun_of s in
         let p = taken_of b.stands in
         record {
           rest = after tokens;
-          is = ap (λ o. factor_by inner below o tokens) p.front ∙ h tokens ∙ ap (λ l. Some (f l, after tokens)) b.line;
+          is = ap (λ o. factor_by inner below o tokens) p.front ∙ h tokens ∙ ap (λ l. Read (f l, after tokens)) b.line;
           stands = p.stands;
           shorter = omega (arith, p.shorter);
         }

@@ -1,5 +1,5 @@
 -- What the first token says.
-use Rattle.std.proofs.Common.{◌≡◌, ℕ, ◌<◌, true, ◌&&◌, List, [], ◌∷◌, Option, Some, None, length, refl, ap, ◌∙◌, arith}
+use Rattle.std.proofs.Common.{◌≡◌, ℕ, true, ◌&&◌, List, [], ◌∷◌, Option, Some, None, refl, ap, ◌∙◌}
 use Rattle.std.proofs.lemmas.Bool.{false≢true, eq-eqb}
 use denote.Enum.Bare.{same_true}
 use Rattle.spv_tokens.specs.declared.token.Token.{Token}
@@ -9,7 +9,7 @@ use Rattle.spv_tokens.specs.contracts.token.Word.{the_type as words}
 use Rattle.spv_tokens.specs.contracts.token.Sign.{the_type as signs}
 use Rattle.spv_syntax.specs.Steps.{Step, begins, passes, first_line, lines_agree}
 use Rattle.spv_syntax.specs.Reads.{kinds}
-use Rattle.spv_reading.specs.Readers.{first, front, after, same_kind, is}
+use Rattle.spv_reading.specs.Readers.{Read, first, front, after, same_kind, is}
 use Rattle.spv_reading.specs.Parts.{InFront}
 
 pub front_is : (tokens : List Token) → front tokens ≡ first (kinds tokens)
@@ -22,6 +22,9 @@ Passed k tokens rest = InFront (λ ks. k ∷ ks) (λ steps. passes ∷ steps) to
 
 pub some_is : {A : Type 0} (x y : A) → Some x ≡ Some y → x ≡ y
 some_is x y e = cc
+
+pub read_is : {A : Type 0} (r s : A × List Token) → Read r ≡ Read s → r ≡ s
+read_is r s e = cc
 
 pub passed : (k : TokenKind) (tokens : List Token) → front tokens ≡ Some k → Passed k tokens (after tokens)
 unfolding lines_agree

@@ -1,12 +1,12 @@
 -- A program is read exactly where a well formed tree reads the tokens.
-use Rattle.std.proofs.Common.{◌≡◌, ℕ, ◌+◌, ◌≤◌, true, List, [], ◌∷◌, Option, Some, None, length, refl, sym, ap, ◌∙◌, arith}
+use Rattle.std.proofs.Common.{◌≡◌, ℕ, ◌+◌, ◌≤◌, true, List, [], ◌∷◌, Some, length, refl, sym, ap, ◌∙◌, arith}
 use Rattle.spv_tokens.specs.declared.token.Token.{Token}
 use Rattle.spv_tokens.specs.declared.token.TokenKind.{TokenKind}
 use Rattle.spv_syntax.specs.Members.{in_kinds}
 use Rattle.spv_syntax.specs.ProgramSpelling.{program_spelling}
 use Rattle.spv_syntax.specs.Steps.{lines_agree}
 use Rattle.spv_syntax.specs.Reads.{kinds, Reads}
-use Rattle.spv_reading.specs.Readers.{Reader}
+use Rattle.spv_reading.specs.Readers.{Outcome, Read, Halted, Reader}
 use Rattle.spv_reading.specs.RoutineReaders.{read_whole, read_program}
 use Rattle.spv_reading.specs.Depths.{program_depth}
 use Rattle.spv_reading.specs.Laws.{ReadIsTree, TreeIsRead, EnoughLevelsForTrees, OneTree}
@@ -20,10 +20,10 @@ use Rattle.spv_reading.proofs.RoutineWhole.{program_complete}
 -- ---- whole texts of any kind
 
 -- nothing is behind a whole reading
-pub whole_is : {A : Type 0} (read : Option (A × List Token)) (x : A) → read_whole read ≡ Some x → read ≡ Some (x, [])
-whole_is None x e = absurd (cc (e))
-whole_is (Some (y, [])) x e = ap (λ z. Some (z, [])) (some_is y x e)
-whole_is (Some (y, t ∷ tokens)) x e = absurd (cc (e))
+pub whole_is : {A : Type 0} (read : Outcome A) (x : A) → read_whole read ≡ Some x → read ≡ Read (x, [])
+whole_is (Halted s) x e = absurd (cc (e))
+whole_is (Read (y, [])) x e = ap (λ z. Read (z, [])) (some_is y x e)
+whole_is (Read (y, t ∷ tokens)) x e = absurd (cc (e))
 
 pub no_steps : (tokens : List Token) → lines_agree [] tokens ≡ true
 unfolding lines_agree
@@ -33,8 +33,8 @@ no_tokens : (tokens : List Token) → kinds tokens ≡ [] → tokens ≡ []
 no_tokens [] e = refl
 no_tokens (t ∷ tokens) e = absurd (cc (e))
 
-pub whole_answer : {A : Type 0} {read : Option (A × List Token)} {x : A} {tokens : List Token} → Answers read x tokens [] [] → read_whole read ≡ Some x
-whole_answer {x} a = ap read_whole (a.is ∙ ap (λ rest. Some (x, rest)) (no_tokens a.rest a.stands.spelled))
+pub whole_answer : {A : Type 0} {read : Outcome A} {x : A} {tokens : List Token} → Answers read x tokens [] [] → read_whole read ≡ Some x
+whole_answer {x} a = ap read_whole (a.is ∙ ap (λ rest. Read (x, rest)) (no_tokens a.rest a.stands.spelled))
 
 module _ {A : Type 0} (read : ℕ → Reader A) (depth : A → ℕ) (spelled : A → List TokenKind → List TokenKind) (reads : List Token → A → Type 0) (is_read : TreeIsRead read depth reads) (is_spelled : (tokens : List Token) (x : A) → reads tokens x → kinds tokens ≡ spelled x []) (shallow : (x : A) (rest : List TokenKind) → depth x + length rest ≤ length (spelled x rest)) where
   pub enough_by : EnoughLevelsForTrees read reads

@@ -5,7 +5,7 @@ use Rattle.spv_tokens.specs.declared.token.TokenKind.{TokenKind}
 use Rattle.spv_syntax.specs.Reads.{kinds}
 use Rattle.spv_reading.specs.Readers.{Reader}
 use Rattle.spv_reading.specs.Laws.{Kind, SpelledIsRead, EnoughLevels, SpelledIsOne}
-use Rattle.spv_reading.proofs.Fronts.{some_is}
+use Rattle.spv_reading.proofs.Fronts.{read_is}
 use Rattle.spv_reading.proofs.Whole.{Complete}
 
 kinds_length : (tokens : List Token) → length (kinds tokens) ≡ length tokens
@@ -29,5 +29,5 @@ module _ {A : Type 0} (k : Kind A) (read : ℕ → Reader A) (depth : A → ℕ)
   one_by whole tokens x y spelled others steps further s t =
       let a = read_by whole (max (depth x) (depth y)) tokens x spelled steps (omega arith) s in
       let b = read_by whole (max (depth x) (depth y)) tokens y others further (omega arith) t in
-      let both : (x, a.rest) ≡ (y, b.rest) = some_is (x, a.rest) (y, b.rest) (sym a.read ∙ b.read) in
+      let both : (x, a.rest) ≡ (y, b.rest) = read_is (x, a.rest) (y, b.rest) (sym a.read ∙ b.read) in
       (ap (λ p. p.0) both, sym a.stands.spelled ∙ ap (λ p. kinds p.1) both ∙ b.stands.spelled)

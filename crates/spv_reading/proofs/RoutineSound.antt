@@ -1,5 +1,5 @@
 -- What is read as routines and programs is spelled at the front, on its lines, and each routine that begins ends.
-use Rattle.std.proofs.Common.{◌≡◌, ℕ, zero, suc, Bool, true, false, List, [], ◌∷◌, Option, Some, refl, ap, ◌∙◌}
+use Rattle.std.proofs.Common.{◌≡◌, ℕ, zero, suc, Bool, true, false, List, [], ◌∷◌, Option, Some, refl, ◌∙◌}
 use Rattle.std.specs.Cmp.Derive.{both_true}
 use Rattle.spv_tokens.specs.declared.token.Token.{Token}
 use Rattle.spv_tokens.specs.declared.token.TokenKind.{TokenKind}
@@ -15,10 +15,9 @@ use Rattle.spv_syntax.specs.declared.routines.Clauses.{Clauses}
 use Rattle.spv_syntax.specs.declared.routines.RoutineMark.{RoutineMark}
 use Rattle.spv_syntax.specs.declared.routines.RoutineMark.TheVariants.{Announced, Begins, Ends}
 use Rattle.spv_syntax.specs.declared.programs.Program.{Program}
-use Rattle.spv_syntax.specs.Lists.{several, headed}
-use Rattle.spv_syntax.specs.Steps.{Step, begins, passes, first_line, lines_agree}
-use Rattle.spv_syntax.specs.Reads.{kinds, block_ok, routines_ok, well_formed}
-use Rattle.spv_reading.specs.Readers.{front, after, is, Reader, and_then, past, name, several_of, optional, ended}
+use Rattle.spv_syntax.specs.Steps.{Step, begins, passes, first_line}
+use Rattle.spv_syntax.specs.Reads.{block_ok, routines_ok, well_formed}
+use Rattle.spv_reading.specs.Readers.{Read, front, after, is, Reader, and_then, past, name, several_of, optional, ended}
 use Rattle.spv_reading.specs.FormulaReaders.{read_formula}
 use Rattle.spv_reading.specs.StatementReaders.{read_block}
 use Rattle.spv_reading.specs.TypeReaders.{read_names, begins_name}
@@ -32,10 +31,8 @@ use Rattle.spv_reading.proofs.StatementSound.{block_is_sound}
 use Rattle.spv_reading.proofs.TypeSound.{names_sound}
 use Rattle.spv_reading.proofs.DeclarationSound.{const_sound, vars_sound, either_sound, declarations_sound}
 use Rattle.spv_syntax.specs.Members.{in_kinds, in_lines}
-use Rattle.spv_syntax.specs.FormulaSpelling.{formula_spelling, name_kind}
-use Rattle.spv_syntax.specs.ProgramSpelling.{clauses_spelling, declarations_spelling, entry_spelling, exit_spelling, files_spelling, global_group_spelling, group_form_spelling, group_spelling, heading_form_spelling, initial_spelling, item_spelling, locals_spelling, params_spelling, result_spelling, routines_spelling, start_spelling, vars_spelling, const_spelling, globals_spelling, heading_spelling, routine_mark_spelling}
-use Rattle.spv_syntax.specs.StatementSpelling.{block_spelling}
-use Rattle.spv_syntax.specs.TypeSpelling.{names_spelling}
+use Rattle.spv_syntax.specs.FormulaSpelling.{name_kind}
+use Rattle.spv_syntax.specs.ProgramSpelling.{group_form_spelling, heading_form_spelling, result_spelling}
 
 -- ---- headings
 
@@ -58,11 +55,11 @@ var_group : (tokens mid : List Token) → Passed (kind.Word word.Var) tokens mid
 var_group tokens mid p =
     on_then (names_sound mid) (λ xs last a. on_then (typed_sound last) (λ t rest b. on_some _ (group.Variables true xs t) rest (join p (join a b))))
 
-procedure_group : (tokens mid : List Token) → Passed (kind.Word word.Procedure) tokens mid → On (and_then (read_names mid) (λ xs rest. Some (group.Procedures xs, rest))) (GroupAt tokens)
+procedure_group : (tokens mid : List Token) → Passed (kind.Word word.Procedure) tokens mid → On (and_then (read_names mid) (λ xs rest. Read (group.Procedures xs, rest))) (GroupAt tokens)
 procedure_group tokens mid p =
     on_then (names_sound mid) (λ xs rest a. on_some _ (group.Procedures xs) rest (join p a))
 
-function_group : (tokens mid : List Token) → Passed (kind.Word word.Function) tokens mid → On (and_then (read_names mid) (λ xs last. and_then (typed_name last) (λ t rest. Some (group.Functions xs t, rest)))) (GroupAt tokens)
+function_group : (tokens mid : List Token) → Passed (kind.Word word.Function) tokens mid → On (and_then (read_names mid) (λ xs last. and_then (typed_name last) (λ t rest. Read (group.Functions xs t, rest)))) (GroupAt tokens)
 function_group tokens mid p =
     on_then (names_sound mid) (λ xs last a. on_then (typed_sound last) (λ t rest b. on_some _ (group.Functions xs t) rest (join p (join a b))))
 
@@ -87,11 +84,11 @@ result_sound tokens =
 abbrev HeadingAt : List Token → HeadingForm → List Token → Type 0
 HeadingAt tokens x rest = Inside (heading_form_spelling in_kinds) (heading_form_spelling in_lines) tokens x rest
 
-procedure_sound : (tokens mid : List Token) → Passed (kind.Word word.Procedure) tokens mid → On (and_then (name mid) (λ x last. and_then (read_params last) (λ p rest. Some (heading.Procedure x p, rest)))) (HeadingAt tokens)
+procedure_sound : (tokens mid : List Token) → Passed (kind.Word word.Procedure) tokens mid → On (and_then (name mid) (λ x last. and_then (read_params last) (λ p rest. Read (heading.Procedure x p, rest)))) (HeadingAt tokens)
 procedure_sound tokens mid p =
     on_then (name_sound mid) (λ x last n. on_then (params_sound last) (λ q rest a. on_some _ (heading.Procedure x q) rest (join p (join n a))))
 
-function_sound : (tokens mid : List Token) → Passed (kind.Word word.Function) tokens mid → On (and_then (name mid) (λ x last. and_then (read_params last) (λ p next. and_then (read_result next) (λ t rest. Some (heading.Function x p t, rest))))) (HeadingAt tokens)
+function_sound : (tokens mid : List Token) → Passed (kind.Word word.Function) tokens mid → On (and_then (name mid) (λ x last. and_then (read_params last) (λ p next. and_then (read_result next) (λ t rest. Read (heading.Function x p t, rest))))) (HeadingAt tokens)
 function_sound tokens mid p =
     on_then (name_sound mid) (λ x last n. on_then (params_sound last) (λ q next a. on_then (result_sound next) (λ t rest b. on_some _ (heading.Function x q t) rest (join p (join n (join a b))))))
 
@@ -117,7 +114,7 @@ global_group_sound : (tokens : List Token) → On (read_global_group tokens) (Be
 global_group_sound tokens =
     on_if (is (kind.Word word.Var) (front tokens)) _ _ (λ h. by_place (after tokens) (passed _ tokens (is-true _ (front tokens) h))) (λ h. on_then (items_are_sound tokens) (λ xs rest a. on_some _ (record { line = first_line tokens; by_place = false; items = xs }) rest (started a)))
   where
-    by_place : (mid : List Token) → Passed (kind.Word word.Var) tokens mid → On (and_then (read_items mid) (λ xs rest. Some (record { line = first_line tokens; by_place = true; items = xs }, rest))) (BeginsWith global_group_part tokens)
+    by_place : (mid : List Token) → Passed (kind.Word word.Var) tokens mid → On (and_then (read_items mid) (λ xs rest. Read (record { line = first_line tokens; by_place = true; items = xs }, rest))) (BeginsWith global_group_part tokens)
     by_place mid p =
         on_then (items_are_sound mid) (λ xs rest a. on_some _ (record { line = first_line tokens; by_place = true; items = xs }) rest (started (join p a)))
 
@@ -160,14 +157,14 @@ mark_sound : (n : ℕ) (tokens : List Token) → On (read_mark n tokens) (MarkAt
 mark_sound n tokens =
     on_then (ended_sound (kind.Sign sign.Semicolon) heading_part read_heading tokens (heading_sound tokens)) (λ h mid a. on_then (clauses_sound n mid) (λ c last b. behind h mid a c last b))
   where
-    announced : (h : Heading) (mid : List Token) → BeginsWith (ended_part (kind.Sign sign.Semicolon) heading_part) tokens h mid → (c : Clauses) (last : List Token) → BeginsWith clauses_part mid c last → (next : List Token) → Passed (kind.Word word.Forward) last next → On (past (kind.Sign sign.Semicolon) next (λ rest. Some (Announced h c, rest))) (MarkAt tokens)
+    announced : (h : Heading) (mid : List Token) → BeginsWith (ended_part (kind.Sign sign.Semicolon) heading_part) tokens h mid → (c : Clauses) (last : List Token) → BeginsWith clauses_part mid c last → (next : List Token) → Passed (kind.Word word.Forward) last next → On (past (kind.Sign sign.Semicolon) next (λ rest. Read (Announced h c, rest))) (MarkAt tokens)
     announced h mid a c last b next p =
         on_past (kind.Sign sign.Semicolon) next (λ rest q. on_some _ (Announced h c) rest (record {
           here = join a (join b (join p q));
           opens = λ begun ms. refl;
         }))
 
-    begins_there : (h : Heading) (mid : List Token) → BeginsWith (ended_part (kind.Sign sign.Semicolon) heading_part) tokens h mid → (c : Clauses) (last : List Token) → BeginsWith clauses_part mid c last → On (and_then (read_locals n last) (λ l rest. Some (Begins h c l, rest))) (MarkAt tokens)
+    begins_there : (h : Heading) (mid : List Token) → BeginsWith (ended_part (kind.Sign sign.Semicolon) heading_part) tokens h mid → (c : Clauses) (last : List Token) → BeginsWith clauses_part mid c last → On (and_then (read_locals n last) (λ l rest. Read (Begins h c l, rest))) (MarkAt tokens)
     begins_there h mid a c last b =
         on_then (locals_sound n last) (λ l rest d. on_some _ (Begins h c l) rest (record {
           here = join a (join b d);
@@ -191,18 +188,18 @@ ended_block_sound n k tokens =
       a.ok,
     ))
 
-no_marks : (tokens : List Token) → On (Some ([], tokens)) (MarksAt zero tokens)
+no_marks : (tokens : List Token) → On (Read ([], tokens)) (MarksAt zero tokens)
 no_marks tokens = on_some _ [] tokens (record { here = record { spelled = refl; lined = λ steps. refl }; ok = refl })
 
 module _ (n : ℕ) (others : ℕ → Reader (List RoutineMark)) (others_sound : (begun : ℕ) (tokens : List Token) → On (others begun tokens) (MarksAt begun tokens)) where
-  opening_sound : (begun : ℕ) (tokens : List Token) → On (and_then (read_mark n tokens) (λ m mid. and_then (others (begun_behind begun m) mid) (λ ms rest. Some (m ∷ ms, rest)))) (MarksAt begun tokens)
+  opening_sound : (begun : ℕ) (tokens : List Token) → On (and_then (read_mark n tokens) (λ m mid. and_then (others (begun_behind begun m) mid) (λ ms rest. Read (m ∷ ms, rest)))) (MarksAt begun tokens)
   opening_sound begun tokens =
       on_then (mark_sound n tokens) (λ m mid a. on_then (others_sound (begun_behind begun m) mid) (λ ms rest b. on_some _ (m ∷ ms) rest (record {
         here = join a.here b.here;
         ok = a.opens begun ms ∙ b.ok;
       })))
 
-  closing_sound : (begun : ℕ) (tokens : List Token) → On (and_then (ended (kind.Sign sign.Semicolon) (read_block n) tokens) (λ b mid. and_then (others begun mid) (λ ms rest. Some (Ends b ∷ ms, rest)))) (MarksAt (suc begun) tokens)
+  closing_sound : (begun : ℕ) (tokens : List Token) → On (and_then (ended (kind.Sign sign.Semicolon) (read_block n) tokens) (λ b mid. and_then (others begun mid) (λ ms rest. Read (Ends b ∷ ms, rest)))) (MarksAt (suc begun) tokens)
   closing_sound begun tokens =
       on_then (ended_block_sound n (kind.Sign sign.Semicolon) tokens) (λ b mid a. on_then (others_sound begun mid) (λ ms rest c. on_some _ (Ends b ∷ ms) rest (record {
         here = join a.0 c.here;

@@ -1,29 +1,23 @@
 -- What is read as a rule file is spelled at the front, on its lines.
-use Rattle.std.proofs.Common.{◌≡◌, ℕ, List, ◌∷◌, Option, Some, refl, ap, ◌∙◌}
+use Rattle.std.proofs.Common.{◌≡◌, ℕ, List, Option, Some, refl}
 use Rattle.spv_tokens.specs.declared.token.Token.{Token}
 use Rattle.spv_tokens.specs.declared.token.TokenKind.{TokenKind}
 use Rattle.spv_tokens.specs.declared.token.TokenKind.TheVariants as kind
 use Rattle.spv_tokens.specs.declared.token.Word.TheVariants as word
 use Rattle.spv_tokens.specs.declared.token.Sign.TheVariants as sign
 use Rattle.spv_syntax.specs.declared.rules.RuleForm.TheVariants.{Replace, Infer}
-use Rattle.spv_syntax.specs.Lists.{each, headed}
-use Rattle.spv_syntax.specs.TypeSpelling.{names_spelling}
-use Rattle.spv_syntax.specs.Steps.{passes, first_line}
+use Rattle.spv_syntax.specs.Steps.{first_line}
 use Rattle.spv_reading.specs.Readers.{front}
 use Rattle.spv_reading.specs.FormulaReaders.{read_formula}
 use Rattle.spv_reading.specs.TypeReaders.{begins_name}
 use Rattle.spv_reading.specs.DeclarationReaders.{read_sort}
 use Rattle.spv_reading.specs.RuleReaders.{read_rule_vars, begins_rule, read_premise, read_replace, read_infer, rule_on, read_rule_form, read_rule, read_rules}
 use Rattle.spv_reading.specs.Parts.{BeginsWith, sort_part, rule_vars_part, premise_part, rule_form_part, rule_part, rule_tree_part}
-use Rattle.spv_reading.proofs.Fronts.{Passed, passed, begun, join, started}
+use Rattle.spv_reading.proofs.Fronts.{Passed, passed, join, started}
 use Rattle.spv_reading.proofs.Sound.{On, on_none, on_some, on_then, on_past, on_more, items_sound, each_list, starting_sound, headed_sound, on_optional, ended_sound}
 use Rattle.spv_reading.proofs.FormulaSound.{formula_sound}
 use Rattle.spv_reading.proofs.TypeSound.{names_sound}
 use Rattle.spv_reading.proofs.DeclarationSound.{sort_sound}
-use Rattle.spv_syntax.specs.Members.{in_kinds, in_lines}
-use Rattle.spv_syntax.specs.FormulaSpelling.{formula_spelling}
-use Rattle.spv_syntax.specs.ProgramSpelling.{sort_spelling}
-use Rattle.spv_syntax.specs.RuleSpelling.{premise_spelling, rule_spelling, rule_vars_spelling}
 
 rule_vars_sound : (tokens : List Token) → On (read_rule_vars tokens) (BeginsWith rule_vars_part tokens)
 rule_vars_sound tokens =

@@ -5,36 +5,36 @@ use Rattle.spv_tokens.specs.declared.token.TokenKind.{TokenKind}
 use Rattle.spv_tokens.specs.declared.token.TokenKind.TheVariants as kind
 use Rattle.spv_names.specs.declared.names.Symbol.{Symbol}
 use Rattle.spv_syntax.specs.declared.names.Name.{Name}
-use Rattle.spv_syntax.specs.Lists.{each, further}
+use Rattle.spv_syntax.specs.Lists.{further}
 use Rattle.spv_syntax.specs.Steps.{Step, passes, first_line, lines_agree}
 use Rattle.spv_syntax.specs.Reads.{kinds}
-use Rattle.spv_reading.specs.Readers.{front, after, is, Reader, and_then, past, name_of, name, Next, behind, items_by, items, all_items, several_of, starting, headed_by, optional, ended}
+use Rattle.spv_reading.specs.Readers.{Outcome, Read, Stop, Halted, front, after, is, Reader, and_then, past, name_of, name, Next, behind, items_by, items, all_items, several_of, starting, headed_by, optional, ended}
 use Rattle.spv_reading.specs.Parts.{Part, BeginsWith, name_part, led, several_part, each_part, headed_part, ended_part}
-use Rattle.spv_reading.proofs.Fronts.{Passed, some_is, passed, is-true, begun, join, started}
+use Rattle.spv_reading.proofs.Fronts.{Passed, some_is, read_is, passed, is-true, join, started}
 
 -- P of what is read, if anything is
-pub record On {A : Type 0} (read : Option (A × List Token)) (P : A → List Token → Type 0) : Type 0 where
-  pub at : (x : A) (rest : List Token) → read ≡ Some (x, rest) → P x rest
+pub record On {A : Type 0} (read : Outcome A) (P : A → List Token → Type 0) : Type 0 where
+  pub at : (x : A) (rest : List Token) → read ≡ Read (x, rest) → P x rest
 
 -- the same of an item, if one begins and is read
-pub record OnItem {A : Type 0} (read : Option (Option (A × List Token))) (P : A → List Token → Type 0) : Type 0 where
-  pub at : (x : A) (rest : List Token) → read ≡ Some (Some (x, rest)) → P x rest
+pub record OnItem {A : Type 0} (read : Option (Outcome A)) (P : A → List Token → Type 0) : Type 0 where
+  pub at : (x : A) (rest : List Token) → read ≡ Some (Read (x, rest)) → P x rest
 
-pub on_none : {A : Type 0} (P : A → List Token → Type 0) → On None P
+pub on_none : {A : Type 0} {s : Stop} (P : A → List Token → Type 0) → On (Halted s) P
 on_none P = record { at = λ x rest e. absurd (cc) }
 
-pub on_some : {A : Type 0} (P : A → List Token → Type 0) (x : A) (rest : List Token) → P x rest → On (Some (x, rest)) P
-on_some P x rest h = record { at = λ y others e. subst (λ p. P p.0 p.1) (some_is (x, rest) (y, others) e) h }
+pub on_some : {A : Type 0} (P : A → List Token → Type 0) (x : A) (rest : List Token) → P x rest → On (Read (x, rest)) P
+on_some P x rest h = record { at = λ y others e. subst (λ p. P p.0 p.1) (read_is (x, rest) (y, others) e) h }
 
-pub on_then : {A B : Type 0} {read : Option (A × List Token)} {next : A → List Token → Option (B × List Token)} {P : A → List Token → Type 0} {Q : B → List Token → Type 0} → On read P → ((x : A) (mid : List Token) → P x mid → On (next x mid) Q) → On (and_then read next) Q
-on_then {read = None} a f = on_none _
-on_then {read = Some r} a f = f r.0 r.1 (a.at r.0 r.1 refl)
+pub on_then : {A B : Type 0} {read : Outcome A} {next : A → List Token → Outcome B} {P : A → List Token → Type 0} {Q : B → List Token → Type 0} → On read P → ((x : A) (mid : List Token) → P x mid → On (next x mid) Q) → On (and_then read next) Q
+on_then {read = Read r} a f = f r.0 r.1 (a.at r.0 r.1 refl)
+on_then {read = Halted s} a f = on_none _
 
-pub on_if : {A : Type 0} (b : Bool) (x y : Option (A × List Token)) {P : A → List Token → Type 0} → (b ≡ true → On x P) → (b ≡ false → On y P) → On (if b then x else y) P
+pub on_if : {A : Type 0} (b : Bool) (x y : Outcome A) {P : A → List Token → Type 0} → (b ≡ true → On x P) → (b ≡ false → On y P) → On (if b then x else y) P
 on_if true x y f g = f refl
 on_if false x y f g = g refl
 
-pub on_past : {B : Type 0} (k : TokenKind) (tokens : List Token) {next : List Token → Option (B × List Token)} {Q : B → List Token → Type 0} → ((rest : List Token) → Passed k tokens rest → On (next rest) Q) → On (past k tokens next) Q
+pub on_past : {B : Type 0} (k : TokenKind) (tokens : List Token) {next : List Token → Outcome B} {Q : B → List Token → Type 0} → ((rest : List Token) → Passed k tokens rest → On (next rest) Q) → On (past k tokens next) Q
 on_past k tokens f = on_if (is k (front tokens)) _ _ (λ h. f (after tokens) (passed k tokens (is-true k (front tokens) h))) (λ h. on_none _)
 
 -- ---- names
@@ -81,7 +81,7 @@ module _ {A L : Type 0} {none : L} {add : A → L → L} {item : Part A} {list :
     lined = λ steps. ap (λ s. lines_agree s tokens) (is_list.add_lined x xs steps) ∙ a.lined (list.lined xs steps) ∙ b.lined steps;
   }
 
-  by_sound : (tokens : List Token) (others : Reader L) (read : Option (Option (A × List Token))) → OnItem read (BeginsWith item tokens) → ((mid : List Token) → On (others mid) (BeginsWith list mid)) → On (items_by none add others read tokens) (BeginsWith list tokens)
+  by_sound : (tokens : List Token) (others : Reader L) (read : Option (Outcome A)) → OnItem read (BeginsWith item tokens) → ((mid : List Token) → On (others mid) (BeginsWith list mid)) → On (items_by none add others read tokens) (BeginsWith list tokens)
   by_sound tokens others None a b = on_some _ _ _ (none_begins tokens)
   by_sound tokens others (Some read) a b =
       let first : On read (BeginsWith item tokens) = record { at = λ x rest e. a.at x rest (ap Some e) } in
@@ -91,7 +91,7 @@ module _ {A L : Type 0} {none : L} {add : A → L → L} {item : Part A} {list :
   items_sound next h zero tokens = on_some _ _ _ (none_begins tokens)
   items_sound next h (suc n) tokens = by_sound tokens (items none add next n) (next tokens) (h tokens) (items_sound next h n)
 
-pub on_item : {A : Type 0} {read : Option (A × List Token)} {P : A → List Token → Type 0} → On read P → OnItem (Some read) P
+pub on_item : {A : Type 0} {read : Outcome A} {P : A → List Token → Type 0} → On read P → OnItem (Some read) P
 on_item a = record { at = λ x rest e. a.at x rest (some_is _ _ e) }
 
 pub on_no_item : {A : Type 0} (P : A → List Token → Type 0) → OnItem None P
@@ -111,16 +111,16 @@ pub behind_sound : {A : Type 0} (part : Part A) (k : TokenKind) (item : Reader A
 behind_sound part k item h tokens = by_behind part k item tokens (is k (front tokens)) refl h
 
 -- two facts of what is read
-pub on_both : {A : Type 0} {read : Option (A × List Token)} {P Q : A → List Token → Type 0} → On read P → On read Q → On read (λ x rest. P x rest × Q x rest)
+pub on_both : {A : Type 0} {read : Outcome A} {P Q : A → List Token → Type 0} → On read P → On read Q → On read (λ x rest. P x rest × Q x rest)
 on_both a b = record { at = λ x rest e. (a.at x rest e, b.at x rest e) }
 
 -- a fact that follows from another
-pub on_more : {A : Type 0} {read : Option (A × List Token)} {P Q : A → List Token → Type 0} → On read P → ((x : A) (rest : List Token) → P x rest → Q x rest) → On read Q
+pub on_more : {A : Type 0} {read : Outcome A} {P Q : A → List Token → Type 0} → On read P → ((x : A) (rest : List Token) → P x rest → Q x rest) → On read Q
 on_more a f = record { at = λ x rest e. f x rest (a.at x rest e) }
 
 -- what is true of each item, and of a list where it is true of its items
 module _ {A L : Type 0} {none : L} {add : A → L → L} (P : A → Type 0) (Q : L → Type 0) (q_none : Q none) (q_add : (x : A) (xs : L) → P x → Q xs → Q (add x xs)) where
-  by_all : (tokens : List Token) (others : Reader L) (read : Option (Option (A × List Token))) → OnItem read (λ x rest. P x) → ((mid : List Token) → On (others mid) (λ xs rest. Q xs)) → On (items_by none add others read tokens) (λ xs rest. Q xs)
+  by_all : (tokens : List Token) (others : Reader L) (read : Option (Outcome A)) → OnItem read (λ x rest. P x) → ((mid : List Token) → On (others mid) (λ xs rest. Q xs)) → On (items_by none add others read tokens) (λ xs rest. Q xs)
   by_all tokens others None a b = on_some _ _ _ q_none
   by_all tokens others (Some read) a b =
       let first : On read (λ x rest. P x) = record { at = λ x rest e. a.at x rest (ap Some e) } in
@@ -172,7 +172,7 @@ pub headed_sound : {A : Type 0} (k : TokenKind) (begins : Option TokenKind → B
 headed_sound k begins part item h tokens =
     on_if (is k (front tokens)) _ _ (λ e. some_there (after tokens) (passed k tokens (is-true k (front tokens) e))) (λ e. on_some _ [] tokens (record { spelled = refl; lined = λ steps. refl }))
   where
-    some_there : (mid : List Token) → Passed k tokens mid → On (and_then (item mid) (λ x last. and_then (all_items [] ◌∷◌ (starting begins item) last) (λ xs rest. Some (x ∷ xs, rest)))) (BeginsWith (headed_part k part) tokens)
+    some_there : (mid : List Token) → Passed k tokens mid → On (and_then (item mid) (λ x last. and_then (all_items [] ◌∷◌ (starting begins item) last) (λ xs rest. Read (x ∷ xs, rest)))) (BeginsWith (headed_part k part) tokens)
     some_there mid p =
         on_then (h mid) (λ x last a. on_then (items_sound (each_list part) _ (starting_sound begins part item h) _ last) (λ xs rest b. on_some _ (x ∷ xs) rest (join p (join a b))))
 

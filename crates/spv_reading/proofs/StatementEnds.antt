@@ -1,5 +1,5 @@
 -- What stands behind a part of a statement does not go on with it.
-use Rattle.std.proofs.Common.{◌≡◌, Bool, true, false, ◌||◌, ◌&&◌, not, List, ◌∷◌, Option, Some, None, refl, ap, ◌∙◌}
+use Rattle.std.proofs.Common.{◌≡◌, Bool, true, false, ◌&&◌, not, List, ◌∷◌, Option, Some, None, refl, ap}
 use Rattle.std.proofs.lemmas.Bool.{false≢true}
 use Rattle.spv_tokens.specs.declared.token.TokenKind.{TokenKind}
 use Rattle.spv_tokens.specs.declared.token.TokenKind.TheVariants as kind

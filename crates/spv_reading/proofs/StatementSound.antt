@@ -1,5 +1,5 @@
 -- What is read as a statement is spelled at the front, on its lines, and each ELSE belongs to the nearest IF.
-use Rattle.std.proofs.Common.{◌≡◌, ℕ, zero, suc, Bool, true, false, ◌&&◌, not, List, ◌∷◌, Option, Some, None, refl, sym, ap, ◌∙◌}
+use Rattle.std.proofs.Common.{◌≡◌, ℕ, zero, suc, Bool, true, false, ◌&&◌, not, List, ◌∷◌, Option, Some, None, refl, sym, ap}
 use Rattle.std.specs.Cmp.Derive.{both_true}
 use Rattle.spv_tokens.specs.declared.token.Token.{Token}
 use Rattle.spv_tokens.specs.declared.token.TokenKind.{TokenKind}
@@ -13,19 +13,17 @@ use Rattle.spv_syntax.specs.declared.operators.PlusOrMinus.{PlusOrMinus}
 use Rattle.spv_syntax.specs.declared.operators.Direction.{Direction}
 use Rattle.spv_syntax.specs.Formulas.{Formula, designator, Selectors, no_selectors, selectors}
 use Rattle.spv_syntax.specs.Statements.{Statement, empty, assignment, call, creation, compound, conditional, selection, repetition, assertion, Otherwise, nothing_otherwise, otherwise, Block, block, no_more_statements, more_statements, Arm, no_arm, arm, no_more_arms, more_arms, Loop, while_loop, repeat_loop, for_loop}
-use Rattle.spv_syntax.specs.FormulaSpelling.{formula_spelling, name_kind}
 use Rattle.spv_syntax.specs.StatementSpelling.{direction_kind}
-use Rattle.spv_syntax.specs.Lists.{several}
-use Rattle.spv_syntax.specs.Steps.{Step, passes, first_line, lines_agree}
-use Rattle.spv_syntax.specs.Reads.{kinds, ends_open, otherwise_ends_open, loop_ends_open, may_end, statement_ok, otherwise_ok, block_ok, more_statements_ok, arm_ok, more_arms_ok, loop_ok}
-use Rattle.spv_reading.specs.Readers.{front, after, is, Reader, and_then, behind}
+use Rattle.spv_syntax.specs.Steps.{first_line}
+use Rattle.spv_syntax.specs.Reads.{ends_open, otherwise_ends_open, loop_ends_open, may_end, statement_ok, otherwise_ok, block_ok, more_statements_ok, arm_ok, more_arms_ok, loop_ok}
+use Rattle.spv_reading.specs.Readers.{Read, front, after, is, Reader, and_then, behind}
 use Rattle.spv_reading.specs.FormulaReaders.{prefix_of, read_inner, read_formula}
 use Rattle.spv_reading.specs.StatementReaders.{scalar_by, signed_by, read_constant, read_constants, begins_constant, direction_of, read_more_statements, read_block_behind, block_by, read_arm, read_more_arms, read_otherwise, read_while, read_repeat, read_to, read_for, loop_by, read_repetition, read_call, read_plain_call, read_becomes, read_action, read_creation, read_conditional, read_selection, statement_on, statement_by, read_lower, read_statement, read_block}
 use Rattle.spv_reading.specs.Parts.{InFront, BeginsWith, name_part, led, formula_part, selectors_part, constant_part, constants_part, statement_part, otherwise_part, block_part, more_statements_part, arm_part, more_arms_part, loop_part}
-use Rattle.spv_reading.proofs.Fronts.{Passed, some_is, passed, is-true, begun, begins_at, join, starting_at, started}
+use Rattle.spv_reading.proofs.Fronts.{Passed, some_is, passed, is-true, begun, join, starting_at, started}
 use Rattle.spv_reading.proofs.Sound.{On, on_none, on_some, on_then, on_if, on_past, on_both, on_more, name_begins, name_sound, IsList, items_sound, items_all, behind_sound, behind_all, several_sound}
 use Rattle.spv_reading.proofs.FormulaSound.{prefix_is, selectors_sound, designator_sound, inner_sound, formula_sound}
-use Rattle.spv_syntax.specs.Members.{in_kinds, in_lines}
+use Rattle.spv_syntax.specs.Members.{in_lines}
 use Rattle.spv_syntax.specs.TypeSpelling.{scalar_spelling, scalar_kind}
 
 -- ---- constants
@@ -153,7 +151,7 @@ module _ (lower : Reader Statement) (lower_sound : (tokens : List Token) → On 
         may = λ s e. refl;
       }))
     where
-      else_sound : (mid : List Token) → Passed Else tokens mid → is Else (front tokens) ≡ true → On (and_then (lower mid) (λ s rest. Some (otherwise s, rest))) (OtherwiseAt tokens)
+      else_sound : (mid : List Token) → Passed Else tokens mid → is Else (front tokens) ≡ true → On (and_then (lower mid) (λ s rest. Read (otherwise s, rest))) (OtherwiseAt tokens)
       else_sound mid p h =
           on_then (lower_sound mid) (λ s rest a. on_some _ (otherwise s) rest (record {
             here = join p a.here;
@@ -229,7 +227,7 @@ module _ (lower : Reader Statement) (lower_sound : (tokens : List Token) → On 
     becomes_sound x selected tokens mid last n s l =
         on_if (is (kind.Sign sign.Becomes) (front last)) _ _ (λ h. assigned (after last) (passed _ last (is-true _ (front last) h))) (λ h. by_selectors selected s)
       where
-        assigned : (next : List Token) → Passed (kind.Sign sign.Becomes) last next → On (and_then (read next) (λ f rest. Some (assignment x.line (designator x.line x selected) f, rest))) (StatementAt tokens)
+        assigned : (next : List Token) → Passed (kind.Sign sign.Becomes) last next → On (and_then (read next) (λ f rest. Read (assignment x.line (designator x.line x selected) f, rest))) (StatementAt tokens)
         assigned next p =
             on_then (read_sound next) (λ f rest a. on_some _ (assignment x.line (designator x.line x selected) f) rest (record {
               here = starting_at x.line l (starting_at x.line l (join n (join s (join p a))));
@@ -258,7 +256,7 @@ module _ (lower : Reader Statement) (lower_sound : (tokens : List Token) → On 
           shut = refl;
         }))))
 
-    compound_sound : (tokens mid : List Token) → Passed (kind.Word word.Begin) tokens mid → On (and_then (read_block_behind lower (first_line tokens) mid) (λ b rest. Some (compound (first_line tokens) b, rest))) (StatementAt tokens)
+    compound_sound : (tokens mid : List Token) → Passed (kind.Word word.Begin) tokens mid → On (and_then (read_block_behind lower (first_line tokens) mid) (λ b rest. Read (compound (first_line tokens) b, rest))) (StatementAt tokens)
     compound_sound tokens mid p =
         on_then (block_sound tokens mid p) (λ b rest a. on_some _ (compound (first_line tokens) b) rest (record {
           here = started a.here;
@@ -282,7 +280,7 @@ module _ (lower : Reader Statement) (lower_sound : (tokens : List Token) → On 
           shut = refl;
         }))))))
 
-    assertion_sound : (tokens mid : List Token) → Passed (kind.Word word.Assert) tokens mid → On (and_then (read mid) (λ f rest. Some (assertion (first_line tokens) f, rest))) (StatementAt tokens)
+    assertion_sound : (tokens mid : List Token) → Passed (kind.Word word.Assert) tokens mid → On (and_then (read mid) (λ f rest. Read (assertion (first_line tokens) f, rest))) (StatementAt tokens)
     assertion_sound tokens mid p =
         on_then (read_sound mid) (λ f rest a. on_some _ (assertion (first_line tokens) f) rest (record {
           here = started (join p a);
@@ -290,7 +288,7 @@ module _ (lower : Reader Statement) (lower_sound : (tokens : List Token) → On 
           shut = refl;
         }))
 
-    empty_sound : (tokens : List Token) → On (Some (empty (first_line tokens), tokens)) (StatementAt tokens)
+    empty_sound : (tokens : List Token) → On (Read (empty (first_line tokens), tokens)) (StatementAt tokens)
     empty_sound tokens = on_some _ (empty (first_line tokens)) tokens (record {
       here = record { spelled = refl; lined = λ steps. begun tokens steps };
       ok = refl;

@@ -20,7 +20,7 @@ use Rattle.spv_syntax.specs.FormulaSpelling.{formula_spelling}
 use Rattle.spv_syntax.specs.StatementSpelling.{direction_kind, loop_spelling, more_statements_spelling, statement_spelling}
 use Rattle.spv_syntax.specs.Steps.{Step, passes, first_line}
 use Rattle.spv_syntax.specs.Reads.{may_end, statement_ok, otherwise_ok, block_ok, more_statements_ok, arm_ok, more_arms_ok, loop_ok}
-use Rattle.spv_reading.specs.Readers.{first, front, after, is, Reader, behind, items}
+use Rattle.spv_reading.specs.Readers.{Read, first, front, after, is, Reader, behind, items}
 use Rattle.spv_reading.specs.FormulaReaders.{prefix_of, read_designator, read_inner, read_formula}
 use Rattle.spv_reading.specs.StatementReaders.{scalar_by, read_scalar, signed_by, read_constant, read_constants, begins_constant, direction_of, read_block_behind, block_by, read_arm, read_otherwise, read_to, loop_by, read_repetition, read_plain_call, read_becomes, statement_on, statement_by, read_lower, read_statement, read_block}
 use Rattle.spv_reading.specs.Continuing.{continues_selectors, continues_formula, begins_statement, continues_action, continues_statement, continues_statements, continues_arm, continues_arms, continues_loop, continues_otherwise}
@@ -45,7 +45,7 @@ scalar_is (scalar.Name x) {tokens} s =
     let p = taken_of b.stands in
     record {
       rest = after tokens;
-      is = ap (λ o. scalar_by o tokens) p.front ∙ ap (λ l. Some (scalar.Name (record { line = l; symbol = x.symbol }), after tokens)) b.line;
+      is = ap (λ o. scalar_by o tokens) p.front ∙ ap (λ l. Read (scalar.Name (record { line = l; symbol = x.symbol }), after tokens)) b.line;
       stands = p.stands;
       shorter = omega (arith, p.shorter);
     }
@@ -169,7 +169,7 @@ module _ (lower : Reader Statement) where
           let b = begun_of s in
           answers_after (omega arith) (ap (λ o. statement_on lower read inner o tokens) (front_of s) ∙ no_statement (first spelled) (left_false (begins_statement (first spelled)) _ (left_false (continues_action (first spelled)) _ e))) (done b.stands (ap empty b.line))
         where
-          no_statement : (o : Option TokenKind) → begins_statement o ≡ false → statement_on lower read inner o tokens ≡ Some (empty (first_line tokens), tokens)
+          no_statement : (o : Option TokenKind) → begins_statement o ≡ false → statement_on lower read inner o tokens ≡ Read (empty (first_line tokens), tokens)
           no_statement (Some (kind.Name x)) f = absurd (false≢true (sym f))
           no_statement (Some (kind.Word word.New)) f = absurd (false≢true (sym f))
           no_statement (Some (kind.Word word.Begin)) f = absurd (false≢true (sym f))

@@ -1,5 +1,5 @@
 -- What is read as a type is spelled at the front, on its lines.
-use Rattle.std.proofs.Common.{◌≡◌, ℕ, zero, suc, List, Option, Some, None, refl, ◌∙◌}
+use Rattle.std.proofs.Common.{◌≡◌, ℕ, zero, suc, List, Option, Some, None, refl}
 use Rattle.spv_tokens.specs.declared.token.Token.{Token}
 use Rattle.spv_tokens.specs.declared.token.TokenKind.{TokenKind}
 use Rattle.spv_tokens.specs.declared.token.TokenKind.TheVariants as kind
@@ -9,10 +9,10 @@ use Rattle.spv_syntax.specs.declared.names.Name.{Name}
 use Rattle.spv_syntax.specs.declared.names.Scalar.TheVariants as scalar
 use Rattle.spv_syntax.specs.Types.{TypeDenoter, named, range, pointer, array, fields, no_more_types, more_types, no_field, field, no_more_fields, more_fields}
 use Rattle.spv_syntax.specs.Steps.{first_line}
-use Rattle.spv_reading.specs.Readers.{front, after, is, Reader, and_then, name}
+use Rattle.spv_reading.specs.Readers.{Read, front, after, is, Reader, and_then, name}
 use Rattle.spv_reading.specs.TypeReaders.{read_names, begins_name, read_upper, read_range, read_type_name, read_more_types, read_array, read_field_part, read_more_fields, read_record, type_on, read_lower_type, read_type}
 use Rattle.spv_reading.specs.Parts.{BeginsWith, name_part, led, names_part, type_part, more_types_part, field_part, more_fields_part}
-use Rattle.spv_reading.proofs.Fronts.{Passed, passed, is-true, begun, begins_at, join, starting_at, started}
+use Rattle.spv_reading.proofs.Fronts.{Passed, passed, is-true, begun, join, starting_at, started}
 use Rattle.spv_reading.proofs.Sound.{On, on_none, on_some, on_then, on_if, on_past, on_more, name_begins, name_sound, IsList, items_sound, behind_sound, several_sound}
 use Rattle.spv_reading.proofs.StatementSound.{constant_sound}
 
@@ -31,7 +31,7 @@ named_sound x tokens mid n l =
     upper last q =
         on_then (constant_sound last) (λ high rest b. on_some _ (range x.line (record { line = x.line; sign = None; value = scalar.Name x }) high) rest (starting_at x.line l (starting_at x.line l (join n (join q b)))))
 
-pointer_sound : (tokens mid : List Token) → Passed (kind.Sign sign.Caret) tokens mid → On (and_then (name mid) (λ x rest. Some (pointer (first_line tokens) x, rest))) (BeginsWith type_part tokens)
+pointer_sound : (tokens mid : List Token) → Passed (kind.Sign sign.Caret) tokens mid → On (and_then (name mid) (λ x rest. Read (pointer (first_line tokens) x, rest))) (BeginsWith type_part tokens)
 pointer_sound tokens mid p =
     on_then (name_sound mid) (λ x rest a. on_some _ (pointer (first_line tokens) x) rest (started (join p a)))
 

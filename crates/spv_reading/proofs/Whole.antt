@@ -1,5 +1,5 @@
 -- What is spelled is read: how this goes through the ways to put readers together.
-use Rattle.std.proofs.Common.{◌≡◌, ℕ, zero, suc, ◌<◌, ◌≤◌, Bool, true, false, ◌&&◌, ◌||◌, List, [], ◌∷◌, Option, Some, None, is_some, length, refl, sym, ap, ◌∙◌, if◌then◌else◌, nat_eq, arith}
+use Rattle.std.proofs.Common.{◌≡◌, ℕ, zero, suc, ◌<◌, ◌≤◌, Bool, true, false, ◌||◌, List, [], ◌∷◌, Option, Some, None, is_some, length, refl, sym, ap, ◌∙◌, if◌then◌else◌, nat_eq, arith}
 use Rattle.std.proofs.lemmas.Bool.{false≢true, eqb-true}
 use Rattle.spv_list.proofs.Tests.{left_true, right_true, left_false, right_false}
 use Rattle.spv_tokens.specs.declared.token.Token.{Token}
@@ -10,21 +10,21 @@ use Rattle.spv_syntax.specs.declared.names.Name.{Name}
 use Rattle.spv_syntax.specs.Lists.{further}
 use Rattle.spv_syntax.specs.Steps.{Step, begins, passes, first_line, lines_agree}
 use Rattle.spv_syntax.specs.Reads.{kinds}
-use Rattle.spv_reading.specs.Readers.{first, front, after, is, same_kind, Reader, and_then, past, name_of, name, Next, behind, operated, items_by, items, several_of}
+use Rattle.spv_reading.specs.Readers.{Outcome, Read, first, front, after, is, same_kind, Reader, and_then, past, name_of, name, Next, behind, operated, items_by, items, several_of}
 use Rattle.spv_reading.specs.Parts.{Part, Stands, name_part, led, several_part}
 use Rattle.spv_reading.proofs.Fronts.{front_is}
 
 -- the part is read, and the rest stands behind it
-pub record Answers {A : Type 0} (read : Option (A × List Token)) (x : A) (tokens : List Token) (spelled : List TokenKind) (steps : List Step) : Type 0 where
+pub record Answers {A : Type 0} (read : Outcome A) (x : A) (tokens : List Token) (spelled : List TokenKind) (steps : List Step) : Type 0 where
   pub rest : List Token
-  pub is : read ≡ Some (x, rest)
+  pub is : read ≡ Read (x, rest)
   pub stands : Stands rest spelled steps
   pub shorter : length rest ≤ length tokens
 
 -- the same of an item, which has a token
-pub record AnswersItem {A : Type 0} (read : Option (Option (A × List Token))) (x : A) (tokens : List Token) (spelled : List TokenKind) (steps : List Step) : Type 0 where
+pub record AnswersItem {A : Type 0} (read : Option (Outcome A)) (x : A) (tokens : List Token) (spelled : List TokenKind) (steps : List Step) : Type 0 where
   pub rest : List Token
-  pub is : read ≡ Some (Some (x, rest))
+  pub is : read ≡ Some (Read (x, rest))
   pub stands : Stands rest spelled steps
   pub shorter : length rest < length tokens
 
@@ -78,7 +78,7 @@ taken_of {k} {tokens = t ∷ tokens} {spelled} h =
 
 -- ---- readers
 
-pub and_then_is : {A B : Type 0} {read : Option (A × List Token)} {x : A} {mid : List Token} {o : Option (B × List Token)} (next : A → List Token → Option (B × List Token)) → read ≡ Some (x, mid) → next x mid ≡ o → and_then read next ≡ o
+pub and_then_is : {A B : Type 0} {read : Outcome A} {x : A} {mid : List Token} {o : Outcome B} (next : A → List Token → Outcome B) → read ≡ Read (x, mid) → next x mid ≡ o → and_then read next ≡ o
 and_then_is {x} {mid} next e f = ap (λ r. and_then r next) e ∙ f
 
 pub if_true : {A : Type 0} {b : Bool} {x o : A} (y : A) → b ≡ true → x ≡ o → (if b then x else y) ≡ o
@@ -87,24 +87,24 @@ if_true {x} y e f = ap (λ c. if c then x else y) e ∙ f
 pub if_false : {A : Type 0} {b : Bool} {y o : A} (x : A) → b ≡ false → y ≡ o → (if b then x else y) ≡ o
 if_false {y} x e f = ap (λ c. if c then x else y) e ∙ f
 
-pub past_is : {B : Type 0} {o : Option B} (k : TokenKind) (tokens : List Token) (next : List Token → Option B) → is k (front tokens) ≡ true → next (after tokens) ≡ o → past k tokens next ≡ o
+pub past_is : {B : Type 0} {o : Outcome B} (k : TokenKind) (tokens : List Token) (next : List Token → Outcome B) → is k (front tokens) ≡ true → next (after tokens) ≡ o → past k tokens next ≡ o
 past_is k tokens next e f = if_true _ e f
 
-pub operated_is : {O A : Type 0} {o : Option O} {operator : O} {x : A} {rest : List Token} (item : Reader A) (tokens : List Token) → o ≡ Some operator → item (after tokens) ≡ Some (x, rest) → operated o item tokens ≡ Some (Some ((operator, x), rest))
-operated_is {operator} item tokens e f = ap (λ a. operated a item tokens) e ∙ ap (λ r. Some (and_then r (λ y others. Some ((operator, y), others)))) f
+pub operated_is : {O A : Type 0} {o : Option O} {operator : O} {x : A} {rest : List Token} (item : Reader A) (tokens : List Token) → o ≡ Some operator → item (after tokens) ≡ Read (x, rest) → operated o item tokens ≡ Some (Read ((operator, x), rest))
+operated_is {operator} item tokens e f = ap (λ a. operated a item tokens) e ∙ ap (λ r. Some (and_then r (λ y others. Read ((operator, y), others)))) f
 
 pub operated_none : {O A : Type 0} {o : Option O} (item : Reader A) (tokens : List Token) → o ≡ None → operated o item tokens ≡ None
 operated_none item tokens e = ap (λ a. operated a item tokens) e
 
 -- ---- lists
 
-pub items_none : {A L : Type 0} (none : L) (add : A → L → L) (next : Next A) (n : ℕ) (tokens : List Token) → next tokens ≡ None → items none add next n tokens ≡ Some (none, tokens)
+pub items_none : {A L : Type 0} (none : L) (add : A → L → L) (next : Next A) (n : ℕ) (tokens : List Token) → next tokens ≡ None → items none add next n tokens ≡ Read (none, tokens)
 items_none none add next zero tokens e = refl
 items_none none add next (suc n) tokens e = ap (λ r. items_by none add (items none add next n) r tokens) e
 
-pub items_more : {A L : Type 0} (none : L) (add : A → L → L) (next : Next A) (n : ℕ) (tokens mid rest : List Token) (x : A) (xs : L) → next tokens ≡ Some (Some (x, mid)) → items none add next n mid ≡ Some (xs, rest) → items none add next (suc n) tokens ≡ Some (add x xs, rest)
+pub items_more : {A L : Type 0} (none : L) (add : A → L → L) (next : Next A) (n : ℕ) (tokens mid rest : List Token) (x : A) (xs : L) → next tokens ≡ Some (Read (x, mid)) → items none add next n mid ≡ Read (xs, rest) → items none add next (suc n) tokens ≡ Read (add x xs, rest)
 items_more none add next n tokens mid rest x xs e f =
-    ap (λ r. items_by none add (items none add next n) r tokens) e ∙ ap (λ r. and_then r (λ ys others. Some (add x ys, others))) f
+    ap (λ r. items_by none add (items none add next n) r tokens) e ∙ ap (λ r. and_then r (λ ys others. Read (add x ys, others))) f
 
 -- a list is none
 pub none_complete : {A L : Type 0} (none : L) (add : A → L → L) (next : Next A) (n : ℕ) {tokens : List Token} {spelled : List TokenKind} {steps : List Step} → Stands tokens spelled steps → next tokens ≡ None → Answers (items none add next n tokens) none tokens spelled steps
@@ -125,8 +125,8 @@ none_of (Some x) h = absurd (false≢true (sym h))
 
 -- ---- names
 
-pub name_is : (tokens : List Token) (x : Name) → front tokens ≡ Some (kind.Name x.symbol) → first_line tokens ≡ x.line → name tokens ≡ Some (x, after tokens)
-name_is tokens x e l = ap (λ o. name_of o tokens) e ∙ ap (λ line. Some (record { line = line; symbol = x.symbol }, after tokens)) l
+pub name_is : (tokens : List Token) (x : Name) → front tokens ≡ Some (kind.Name x.symbol) → first_line tokens ≡ x.line → name tokens ≡ Read (x, after tokens)
+name_is tokens x e l = ap (λ o. name_of o tokens) e ∙ ap (λ line. Read (record { line = line; symbol = x.symbol }, after tokens)) l
 
 pub name_complete : (x : Name) {tokens : List Token} {spelled : List TokenKind} {steps : List Step} → Stands tokens (name_part.spelled x spelled) (name_part.lined x steps) → Answers (name tokens) x tokens spelled steps
 name_complete x {tokens} h =
@@ -152,26 +152,26 @@ behind_complete k item part continues x same h tokens spelled steps s e =
 
 -- ---- answers put together
 
-pub done : {A : Type 0} {x y : A} {tokens : List Token} {spelled : List TokenKind} {steps : List Step} → Stands tokens spelled steps → y ≡ x → Answers (Some (y, tokens)) x tokens spelled steps
-done {tokens} s e = record { rest = tokens; is = ap (λ z. Some (z, tokens)) e; stands = s; shorter = omega arith }
+pub done : {A : Type 0} {x y : A} {tokens : List Token} {spelled : List TokenKind} {steps : List Step} → Stands tokens spelled steps → y ≡ x → Answers (Read (y, tokens)) x tokens spelled steps
+done {tokens} s e = record { rest = tokens; is = ap (λ z. Read (z, tokens)) e; stands = s; shorter = omega arith }
 
-pub then_answers : {A B : Type 0} {read : Option (A × List Token)} {x : A} {tokens : List Token} {middle : List TokenKind} {between : List Step} {next : A → List Token → Option (B × List Token)} {y : B} {spelled : List TokenKind} {steps : List Step} → Answers read x tokens middle between → ((z : A) → z ≡ x → (mid : List Token) → Stands mid middle between → Answers (next z mid) y mid spelled steps) → Answers (and_then read next) y tokens spelled steps
+pub then_answers : {A B : Type 0} {read : Outcome A} {x : A} {tokens : List Token} {middle : List TokenKind} {between : List Step} {next : A → List Token → Outcome B} {y : B} {spelled : List TokenKind} {steps : List Step} → Answers read x tokens middle between → ((z : A) → z ≡ x → (mid : List Token) → Stands mid middle between → Answers (next z mid) y mid spelled steps) → Answers (and_then read next) y tokens spelled steps
 then_answers {x} a f =
     let b = f x refl a.rest a.stands in
     record { rest = b.rest; is = and_then_is _ a.is b.is; stands = b.stands; shorter = omega (arith, a.shorter, b.shorter) }
 
-pub past_answers : {B : Type 0} (k : TokenKind) {tokens : List Token} {middle : List TokenKind} {between : List Step} {next : List Token → Option (B × List Token)} {y : B} {spelled : List TokenKind} {steps : List Step} → same_kind k k ≡ true → Stands tokens (k ∷ middle) (passes ∷ between) → ((mid : List Token) → Stands mid middle between → Answers (next mid) y mid spelled steps) → Answers (past k tokens next) y tokens spelled steps
+pub past_answers : {B : Type 0} (k : TokenKind) {tokens : List Token} {middle : List TokenKind} {between : List Step} {next : List Token → Outcome B} {y : B} {spelled : List TokenKind} {steps : List Step} → same_kind k k ≡ true → Stands tokens (k ∷ middle) (passes ∷ between) → ((mid : List Token) → Stands mid middle between → Answers (next mid) y mid spelled steps) → Answers (past k tokens next) y tokens spelled steps
 past_answers k {tokens} {next} same s f =
     let p = taken_of s in
     let b = f (after tokens) p.stands in
     record { rest = b.rest; is = past_is k tokens next (ap (is k) p.front ∙ same) b.is; stands = b.stands; shorter = omega (arith, p.shorter, b.shorter) }
 
 -- an answer for the tokens behind the first
-pub answers_after : {A : Type 0} {read other : Option (A × List Token)} {x : A} {tokens mid : List Token} {spelled : List TokenKind} {steps : List Step} → length mid ≤ length tokens → other ≡ read → Answers read x mid spelled steps → Answers other x tokens spelled steps
+pub answers_after : {A : Type 0} {read other : Outcome A} {x : A} {tokens mid : List Token} {spelled : List TokenKind} {steps : List Step} → length mid ≤ length tokens → other ≡ read → Answers read x mid spelled steps → Answers other x tokens spelled steps
 answers_after l e a = record { rest = a.rest; is = e ∙ a.is; stands = a.stands; shorter = omega (arith, a.shorter) }
 
 -- the same of an item, behind its first token
-pub item_after : {A : Type 0} {read : Option (A × List Token)} {other : Option (Option (A × List Token))} {x : A} {tokens mid : List Token} {spelled : List TokenKind} {steps : List Step} → length mid < length tokens → other ≡ Some read → Answers read x mid spelled steps → AnswersItem other x tokens spelled steps
+pub item_after : {A : Type 0} {read : Outcome A} {other : Option (Outcome A)} {x : A} {tokens mid : List Token} {spelled : List TokenKind} {steps : List Step} → length mid < length tokens → other ≡ Some read → Answers read x mid spelled steps → AnswersItem other x tokens spelled steps
 item_after l e a = record { rest = a.rest; is = e ∙ ap Some a.is; stands = a.stands; shorter = omega (arith, a.shorter) }
 
 -- ---- at least one part

@@ -4,7 +4,7 @@ use Rattle.spv_tokens.specs.declared.token.Token.{Token}
 use Rattle.spv_tokens.specs.declared.token.TokenKind.{TokenKind}
 use Rattle.spv_syntax.specs.Steps.{Step}
 use Rattle.spv_syntax.specs.declared.programs.Program.{Program}
-use Rattle.spv_reading.specs.Readers.{first, Reader}
+use Rattle.spv_reading.specs.Readers.{first, Read, Reader}
 use Rattle.spv_reading.specs.RoutineReaders.{read_program, read_whole}
 use Rattle.spv_reading.specs.Parts.{Part, BeginsWith, Stands}
 
@@ -20,7 +20,7 @@ pub record ReadAs {A : Type 0} (k : Kind A) (tokens : List Token) (x : A) (rest 
   pub formed : IsTrue (k.formed x)
 
 abbrev pub ReadIsSpelled : {A : Type 0} → Kind A → (ℕ → Reader A) → Type 0
-ReadIsSpelled {A} k read = (n : ℕ) (tokens rest : List Token) (x : A) → read n tokens ≡ Some (x, rest) → ReadAs k tokens x rest
+ReadIsSpelled {A} k read = (n : ℕ) (tokens rest : List Token) (x : A) → read n tokens ≡ Read (x, rest) → ReadAs k tokens x rest
 
 -- the part is well formed and spelled at the front, each part on its line, and the token behind it does not go on with it
 pub record IsSpelled {A : Type 0} (k : Kind A) (tokens : List Token) (x : A) (spelled : List TokenKind) (steps : List Step) : Type 0 where
@@ -31,7 +31,7 @@ pub record IsSpelled {A : Type 0} (k : Kind A) (tokens : List Token) (x : A) (sp
 -- the part is read, and this stands behind it
 pub record IsRead {A : Type 0} (reader : Reader A) (x : A) (tokens : List Token) (spelled : List TokenKind) (steps : List Step) : Type 0 where
   pub rest : List Token
-  pub read : reader tokens ≡ Some (x, rest)
+  pub read : reader tokens ≡ Read (x, rest)
   pub stands : Stands rest spelled steps
 
 -- what is spelled is read, at as many levels as it has

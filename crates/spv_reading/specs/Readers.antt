@@ -1,4 +1,4 @@
--- Reading at the front of tokens: a part, and the tokens behind it, or nothing.
+-- Reading at the front of tokens: a part, and the tokens behind it, or where the tokens go wrong.
 use Rattle.std.specs.Prelude.{ℕ, zero, suc, Bool, false, if◌then◌else◌, List, [], ◌∷◌, Option, Some, None, length}
 use denote.Enum.Bare.{sameb}
 use Rattle.spv_tokens.specs.declared.token.Token.{Token}
@@ -37,25 +37,39 @@ is k (Some l) = same_kind l k
 
 -- ---- parts
 
-abbrev pub Reader : Type 0 → Type 0
-Reader A = List Token → Option (A × List Token)
+-- why reading stops where so many tokens are left: none goes on so, or a part is due for which no level is left
+pub data Stop : Type 0 where
+  wrong : ℕ → Stop
+  deep : ℕ → Stop
 
--- nothing is read
+-- what comes of reading: a part and the tokens behind it, or a stop
+pub data Outcome (A : Type 0) : Type 0 where
+  Read : A × List Token → Outcome A
+  Halted : Stop → Outcome A
+
+abbrev pub Reader : Type 0 → Type 0
+Reader A = List Token → Outcome A
+
+-- no part fits the first token
+abbrev pub misfit : {A : Type 0} → Reader A
+misfit tokens = Halted (wrong (length tokens))
+
+-- no level is left
 abbrev pub nothing : {A : Type 0} → Reader A
-nothing tokens = None
+nothing tokens = Halted (deep (length tokens))
 
 -- a part, and then what the next reader makes of it and of the tokens behind it
-abbrev pub and_then : {A B : Type 0} → Option (A × List Token) → (A → List Token → Option (B × List Token)) → Option (B × List Token)
-and_then None next = None
-and_then (Some r) next = next r.0 r.1
+abbrev pub and_then : {A B : Type 0} → Outcome A → (A → List Token → Outcome B) → Outcome B
+and_then (Read r) next = next r.0 r.1
+and_then (Halted s) next = Halted s
 
 -- behind this word or sign, if the tokens begin with it
-abbrev pub past : {B : Type 0} → TokenKind → List Token → (List Token → Option B) → Option B
-past k tokens next = if is k (front tokens) then next (after tokens) else None
+abbrev pub past : {B : Type 0} → TokenKind → List Token → (List Token → Outcome B) → Outcome B
+past k tokens next = if is k (front tokens) then next (after tokens) else misfit tokens
 
 abbrev pub name_of : Option TokenKind → Reader Name
-name_of (Some (kind.Name x)) tokens = Some (record { line = first_line tokens; symbol = x }, after tokens)
-name_of _ tokens = None
+name_of (Some (kind.Name x)) tokens = Read (record { line = first_line tokens; symbol = x }, after tokens)
+name_of _ tokens = misfit tokens
 
 abbrev pub name : Reader Name
 name tokens = name_of (front tokens) tokens
@@ -64,7 +78,7 @@ name tokens = name_of (front tokens) tokens
 
 -- what is read where an item may follow: no item begins here, or one is read, or fails to be
 abbrev pub Next : Type 0 → Type 0
-Next A = List Token → Option (Option (A × List Token))
+Next A = List Token → Option (Outcome A)
 
 -- an item behind this word or sign
 abbrev pub behind : {A : Type 0} → TokenKind → Reader A → Next A
@@ -73,16 +87,16 @@ behind k item tokens = if is k (front tokens) then Some (item (after tokens)) el
 -- an item behind an operator
 abbrev pub operated : {O A : Type 0} → Option O → Reader A → Next (O × A)
 operated None item tokens = None
-operated (Some o) item tokens = Some (and_then (item (after tokens)) (λ x rest. Some ((o, x), rest)))
+operated (Some o) item tokens = Some (and_then (item (after tokens)) (λ x rest. Read ((o, x), rest)))
 
 -- an item and the others, or none
-abbrev pub items_by : {A L : Type 0} → L → (A → L → L) → Reader L → Option (Option (A × List Token)) → Reader L
-items_by none add others None tokens = Some (none, tokens)
-items_by none add others (Some item) tokens = and_then item (λ x mid. and_then (others mid) (λ xs rest. Some (add x xs, rest)))
+abbrev pub items_by : {A L : Type 0} → L → (A → L → L) → Reader L → Option (Outcome A) → Reader L
+items_by none add others None tokens = Read (none, tokens)
+items_by none add others (Some item) tokens = and_then item (λ x mid. and_then (others mid) (λ xs rest. Read (add x xs, rest)))
 
 -- as many items as follow, n at most: a list that is `none`, or an item put in front of the others by `add`
 abbrev pub items : {A L : Type 0} → L → (A → L → L) → Next A → ℕ → Reader L
-items none add next zero tokens = Some (none, tokens)
+items none add next zero tokens = Read (none, tokens)
 items none add next (suc n) tokens = items_by none add (items none add next n) (next tokens) tokens
 
 -- as many items as follow
@@ -91,7 +105,7 @@ all_items none add next tokens = items none add next (length tokens) tokens
 
 -- at least one part, and a word or sign between two of them
 abbrev pub several_of : {A : Type 0} → TokenKind → Reader A → Reader (Several A)
-several_of k item tokens = and_then (item tokens) (λ x mid. and_then (all_items [] ◌∷◌ (behind k item) mid) (λ xs rest. Some (record { first = x; more = xs }, rest)))
+several_of k item tokens = and_then (item tokens) (λ x mid. and_then (all_items [] ◌∷◌ (behind k item) mid) (λ xs rest. Read (record { first = x; more = xs }, rest)))
 
 -- ---- parts that stand behind a word
 
@@ -102,12 +116,12 @@ starting begins item tokens = if begins (front tokens) then Some (item tokens) e
 -- a word and at least one item, if the word is there, and as many items as begin
 abbrev pub headed_by : {A : Type 0} → TokenKind → (Option TokenKind → Bool) → Reader A → Reader (List A)
 headed_by k begins item tokens =
-    if is k (front tokens) then and_then (item (after tokens)) (λ x mid. and_then (all_items [] ◌∷◌ (starting begins item) mid) (λ xs rest. Some (x ∷ xs, rest))) else Some ([], tokens)
+    if is k (front tokens) then and_then (item (after tokens)) (λ x mid. and_then (all_items [] ◌∷◌ (starting begins item) mid) (λ xs rest. Read (x ∷ xs, rest))) else Read ([], tokens)
 
 -- what stands behind this word or sign, if it is there
 abbrev pub optional : {A : Type 0} → TokenKind → Reader A → Reader (Option A)
-optional k part tokens = if is k (front tokens) then and_then (part (after tokens)) (λ x rest. Some (Some x, rest)) else Some (None, tokens)
+optional k part tokens = if is k (front tokens) then and_then (part (after tokens)) (λ x rest. Read (Some x, rest)) else Read (None, tokens)
 
 -- a part and the word or sign that ends it
 abbrev pub ended : {A : Type 0} → TokenKind → Reader A → Reader A
-ended k part tokens = and_then (part tokens) (λ x mid. past k mid (λ rest. Some (x, rest)))
+ended k part tokens = and_then (part tokens) (λ x mid. past k mid (λ rest. Read (x, rest)))

@@ -13,7 +13,7 @@ use Rattle.spv_syntax.specs.declared.rules.RuleTree.{RuleTree}
 use Rattle.spv_syntax.specs.declared.formula_texts.FormulaText.{FormulaText}
 use Rattle.spv_syntax.specs.Formulas.{Formula}
 use Rattle.spv_syntax.specs.Steps.{first_line}
-use Rattle.spv_reading.specs.Readers.{front, after, is, Reader, and_then, past, name, all_items, starting, headed_by, optional, ended}
+use Rattle.spv_reading.specs.Readers.{front, after, is, Outcome, Read, Halted, wrong, Reader, misfit, and_then, past, name, all_items, starting, headed_by, optional, ended}
 use Rattle.spv_reading.specs.FormulaReaders.{read_formula}
 use Rattle.spv_reading.specs.TypeReaders.{read_names, begins_name}
 use Rattle.spv_reading.specs.DeclarationReaders.{read_sort, read_declarations}
@@ -21,7 +21,7 @@ use Rattle.spv_reading.specs.DeclarationReaders.{read_sort, read_declarations}
 -- names ":" sort ";"
 abbrev pub read_rule_vars : Reader RuleVars
 read_rule_vars tokens =
-    and_then (read_names tokens) (λ xs mid. past (kind.Sign sign.Colon) mid (λ last. and_then (ended (kind.Sign sign.Semicolon) read_sort last) (λ s rest. Some (record { line = first_line tokens; names = xs; sort = s }, rest))))
+    and_then (read_names tokens) (λ xs mid. past (kind.Sign sign.Colon) mid (λ last. and_then (ended (kind.Sign sign.Semicolon) read_sort last) (λ s rest. Read (record { line = first_line tokens; names = xs; sort = s }, rest))))
 
 -- whether a rule begins with the token
 abbrev pub begins_rule : Option TokenKind → Bool
@@ -33,9 +33,9 @@ begins_rule _ = false
 abbrev pub before_period : List Token → Option (List Token)
 before_period tokens = if is (kind.Sign sign.Period) (front (drop (length tokens - 1) tokens)) then Some (take (length tokens - 1) tokens) else None
 
--- what is read of these tokens, where there are some to be read
-abbrev pub read_inside : {A : Type 0} → Reader A → Option (List Token) → Option (A × List Token)
-read_inside item None = None
+-- what is read of these tokens, where there are some to be read; where there are none, nothing is said of the place
+abbrev pub read_inside : {A : Type 0} → Reader A → Option (List Token) → Outcome A
+read_inside item None = Halted (wrong 0)
 read_inside item (Some inside) = item inside
 
 -- ---- formulas in them have n levels at most
@@ -48,16 +48,16 @@ module _ (n : ℕ) where
   -- formula BY formula [WHERE formula], behind REPLACE
   abbrev pub read_replace : Reader RuleForm
   read_replace tokens =
-      and_then (read_formula n tokens) (λ f mid. past (kind.Word word.By) mid (λ last. and_then (read_formula n last) (λ g next. and_then (read_premise (kind.Word word.Where) next) (λ h rest. Some (Replace f g h, rest)))))
+      and_then (read_formula n tokens) (λ f mid. past (kind.Word word.By) mid (λ last. and_then (read_formula n last) (λ g next. and_then (read_premise (kind.Word word.Where) next) (λ h rest. Read (Replace f g h, rest)))))
 
   -- formula [FROM formula], behind INFER
   abbrev pub read_infer : Reader RuleForm
-  read_infer tokens = and_then (read_formula n tokens) (λ f mid. and_then (read_premise (kind.Word word.From) mid) (λ h rest. Some (Infer f h, rest)))
+  read_infer tokens = and_then (read_formula n tokens) (λ f mid. and_then (read_premise (kind.Word word.From) mid) (λ h rest. Read (Infer f h, rest)))
 
   abbrev pub rule_on : Option TokenKind → Reader RuleForm
   rule_on (Some (kind.Word word.Replace)) tokens = read_replace (after tokens)
   rule_on (Some (kind.Word word.Infer)) tokens = read_infer (after tokens)
-  rule_on _ tokens = None
+  rule_on _ tokens = misfit tokens
 
   -- REPLACE formula BY formula [WHERE formula] | INFER formula [FROM formula]
   abbrev pub read_rule_form : Reader RuleForm
@@ -65,12 +65,12 @@ module _ (n : ℕ) where
 
   -- the same with its ";"
   abbrev pub read_rule : Reader Rule
-  read_rule tokens = and_then (ended (kind.Sign sign.Semicolon) read_rule_form tokens) (λ x rest. Some (record { line = first_line tokens; form = x }, rest))
+  read_rule tokens = and_then (ended (kind.Sign sign.Semicolon) read_rule_form tokens) (λ x rest. Read (record { line = first_line tokens; form = x }, rest))
 
   -- [VAR rvars {rvars}] {rule}
   abbrev pub read_rules : Reader RuleTree
   read_rules tokens =
-      and_then (headed_by (kind.Word word.Var) begins_name read_rule_vars tokens) (λ vs mid. and_then (all_items [] ◌∷◌ (starting begins_rule read_rule) mid) (λ rs rest. Some (record { line = first_line tokens; variables = vs; rules = rs }, rest)))
+      and_then (headed_by (kind.Word word.Var) begins_name read_rule_vars tokens) (λ vs mid. and_then (all_items [] ◌∷◌ (starting begins_rule read_rule) mid) (λ rs rest. Read (record { line = first_line tokens; variables = vs; rules = rs }, rest)))
 
   -- formula ".", to the end of the tokens: as the period would go on with the formula, this is taken away first
   abbrev pub read_asserted : Reader Formula
@@ -79,4 +79,4 @@ module _ (n : ℕ) where
   -- PROGRAM name ";" decls ASSERT formula "."
   abbrev pub read_formula_text : Reader FormulaText
   read_formula_text tokens =
-      past (kind.Word word.Program) tokens (λ one. and_then (ended (kind.Sign sign.Semicolon) name one) (λ x two. and_then (read_declarations n two) (λ ds three. past (kind.Word word.Assert) three (λ four. and_then (read_asserted four) (λ f rest. Some (record { line = first_line tokens; name = x; declarations = ds; formula = f }, rest))))))
+      past (kind.Word word.Program) tokens (λ one. and_then (ended (kind.Sign sign.Semicolon) name one) (λ x two. and_then (read_declarations n two) (λ ds three. past (kind.Word word.Assert) three (λ four. and_then (read_asserted four) (λ f rest. Read (record { line = first_line tokens; name = x; declarations = ds; formula = f }, rest))))))

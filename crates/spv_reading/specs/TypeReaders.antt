@@ -10,7 +10,7 @@ use Rattle.spv_syntax.specs.declared.names.Scalar.TheVariants as scalar
 use Rattle.spv_syntax.specs.declared.names.Constant.{Constant}
 use Rattle.spv_syntax.specs.Types.{TypeDenoter, named, range, pointer, array, fields, MoreTypes, no_more_types, more_types, Field, no_field, field, MoreFields, no_more_fields, more_fields}
 use Rattle.spv_syntax.specs.Steps.{first_line}
-use Rattle.spv_reading.specs.Readers.{front, after, is, Reader, and_then, past, name, behind, all_items, several_of}
+use Rattle.spv_reading.specs.Readers.{front, after, is, Read, Reader, misfit, nothing, and_then, past, name, behind, all_items, several_of}
 use Rattle.spv_reading.specs.StatementReaders.{read_constant}
 
 -- name {"," name}
@@ -24,7 +24,7 @@ begins_name _ = false
 
 -- ".." constant, without the sign, behind its lower bound
 abbrev pub read_upper : ℕ → Constant → Reader TypeDenoter
-read_upper line low tokens = and_then (read_constant tokens) (λ high rest. Some (range line low high, rest))
+read_upper line low tokens = and_then (read_constant tokens) (λ high rest. Read (range line low high, rest))
 
 -- constant ".." constant
 abbrev pub read_range : Reader TypeDenoter
@@ -33,7 +33,7 @@ read_range tokens = and_then (read_constant tokens) (λ low mid. past (kind.Sign
 -- what begins with a name
 abbrev pub read_type_name : Name → Reader TypeDenoter
 read_type_name x tokens =
-    if is (kind.Sign sign.Range) (front tokens) then read_upper x.line (record { line = x.line; sign = None; value = scalar.Name x }) (after tokens) else Some (named x.line x, tokens)
+    if is (kind.Sign sign.Range) (front tokens) then read_upper x.line (record { line = x.line; sign = None; value = scalar.Name x }) (after tokens) else Read (named x.line x, tokens)
 
 -- ---- types inside others are read by `lower`
 
@@ -45,12 +45,12 @@ module _ (lower : Reader TypeDenoter) where
   -- "[" type {"," type} "]" OF type, behind ARRAY
   abbrev pub read_array : ℕ → Reader TypeDenoter
   read_array line tokens =
-      past (kind.Sign sign.OpenBracket) tokens (λ inside. and_then (lower inside) (λ t mid. and_then (read_more_types mid) (λ more last. past (kind.Sign sign.CloseBracket) last (λ shut. past (kind.Word word.Of) shut (λ next. and_then (lower next) (λ elements rest. Some (array line t more elements, rest)))))))
+      past (kind.Sign sign.OpenBracket) tokens (λ inside. and_then (lower inside) (λ t mid. and_then (read_more_types mid) (λ more last. past (kind.Sign sign.CloseBracket) last (λ shut. past (kind.Word word.Of) shut (λ next. and_then (lower next) (λ elements rest. Read (array line t more elements, rest)))))))
 
   -- [names ":" type]
   abbrev pub read_field_part : Reader Field
   read_field_part tokens =
-      if begins_name (front tokens) then and_then (read_names tokens) (λ names mid. past (kind.Sign sign.Colon) mid (λ last. and_then (lower last) (λ t rest. Some (field (first_line tokens) names t, rest)))) else Some (no_field (first_line tokens), tokens)
+      if begins_name (front tokens) then and_then (read_names tokens) (λ names mid. past (kind.Sign sign.Colon) mid (λ last. and_then (lower last) (λ t rest. Read (field (first_line tokens) names t, rest)))) else Read (no_field (first_line tokens), tokens)
 
   -- {";" field}
   abbrev pub read_more_fields : Reader MoreFields
@@ -58,17 +58,17 @@ module _ (lower : Reader TypeDenoter) where
 
   -- field {";" field} END, behind RECORD
   abbrev pub read_record : ℕ → Reader TypeDenoter
-  read_record line tokens = and_then (read_field_part tokens) (λ f mid. and_then (read_more_fields mid) (λ more last. past (kind.Word word.End) last (λ rest. Some (fields line f more, rest))))
+  read_record line tokens = and_then (read_field_part tokens) (λ f mid. and_then (read_more_fields mid) (λ more last. past (kind.Word word.End) last (λ rest. Read (fields line f more, rest))))
 
   abbrev pub type_on : Option TokenKind → Reader TypeDenoter
   type_on (Some (kind.Name x)) tokens = read_type_name (record { line = first_line tokens; symbol = x }) (after tokens)
   type_on (Some (kind.Number n)) tokens = read_range tokens
   type_on (Some (kind.Sign sign.Plus)) tokens = read_range tokens
   type_on (Some (kind.Sign sign.Minus)) tokens = read_range tokens
-  type_on (Some (kind.Sign sign.Caret)) tokens = and_then (name (after tokens)) (λ x rest. Some (pointer (first_line tokens) x, rest))
+  type_on (Some (kind.Sign sign.Caret)) tokens = and_then (name (after tokens)) (λ x rest. Read (pointer (first_line tokens) x, rest))
   type_on (Some (kind.Word word.Array)) tokens = read_array (first_line tokens) (after tokens)
   type_on (Some (kind.Word word.Record)) tokens = read_record (first_line tokens) (after tokens)
-  type_on _ tokens = None
+  type_on _ tokens = misfit tokens
 
   abbrev pub type_by : Reader TypeDenoter
   type_by tokens = type_on (front tokens) tokens
@@ -77,7 +77,7 @@ module _ (lower : Reader TypeDenoter) where
 
 -- a type one level down
 abbrev pub read_lower_type : ℕ → Reader TypeDenoter
-read_lower_type zero tokens = None
+read_lower_type zero tokens = nothing tokens
 read_lower_type (suc n) tokens = type_by (read_lower_type n) tokens
 
 abbrev pub read_type : ℕ → Reader TypeDenoter

@@ -6,7 +6,8 @@ ghost use Rattle.spv_tokens.specs.declared.token.Word.TheVariants as word;
 ghost use Rattle.spv_tokens.specs.declared.token.Sign.TheVariants as sign;
 ghost use Rattle.spv_reading.specs.Readers as reader;
 ghost use Rattle.spv_reading.specs.RoutineReaders as routine;
-ghost use Rattle.spv_front.specs.Faults.{IsSyntax};
+ghost use Rattle.spv_reading.specs.Readers.{Stop, Read, Halted};
+ghost use Rattle.spv_front.specs.Faults.{IsStop};
 ghost use Rattle.spv_routine_parser.specs.RoutineParts.{read_initial};
 
 use spv_formula_parser::formulas::formula;
@@ -24,8 +25,8 @@ use std::alloc::Global;
 
 // ":" name
 fn typed_name(tokens: &[Token]) -> Result<(Name, &[Token]), Fault>
-    ensures read { IfOk result (λ r. routine.typed_name tokens.now ≡ Some (r.0, r.1.now)) }
-    ensures absent { IsErrAnd result IsSyntax → routine.typed_name tokens.now ≡ None }
+    ensures read { IfOk result (λ r. routine.typed_name tokens.now ≡ Read (r.0, r.1.now)) }
+    ensures absent { (s : Stop) → IsErrAnd result (IsStop s) → routine.typed_name tokens.now ≡ Halted s }
 {
     let rest = past_sign(Sign::Colon, tokens)?;
     name(rest)
@@ -37,8 +38,8 @@ fn variables(
     by_place: bool,
     tokens: &[Token],
 ) -> Result<(GroupForm, &[Token]), Fault>
-    ensures read { IfOk result (λ r. routine.read_variables by_place tokens.now ≡ Some (r.0, r.1.now)) }
-    ensures absent { IsErrAnd result IsSyntax → routine.read_variables by_place tokens.now ≡ None }
+    ensures read { IfOk result (λ r. routine.read_variables by_place tokens.now ≡ Read (r.0, r.1.now)) }
+    ensures absent { (s : Stop) → IsErrAnd result (IsStop s) → routine.read_variables by_place tokens.now ≡ Halted s }
 {
     let (names, rest) = names(alloc, tokens)?;
     let (of, rest) = typed_name(rest)?;
@@ -47,8 +48,8 @@ fn variables(
 
 // [VAR] names ":" name | PROCEDURE names | FUNCTION names ":" name
 fn group_form(alloc: Global, tokens: &[Token]) -> Result<(GroupForm, &[Token]), Fault>
-    ensures read { IfOk result (λ r. routine.group_on (reader.front tokens.now) tokens.now ≡ Some (r.0, r.1.now)) }
-    ensures absent { IsErrAnd result IsSyntax → routine.group_on (reader.front tokens.now) tokens.now ≡ None }
+    ensures read { IfOk result (λ r. routine.group_on (reader.front tokens.now) tokens.now ≡ Read (r.0, r.1.now)) }
+    ensures absent { (s : Stop) → IsErrAnd result (IsStop s) → routine.group_on (reader.front tokens.now) tokens.now ≡ Halted s }
 {
     match front(tokens) {
         Some(TokenKind::Word(Word::Var)) => variables(alloc, true, after(tokens)),
@@ -81,8 +82,8 @@ impl PartReader<Group> for RoutineReader {
 
 // ["(" group {";" group} ")"]
 fn params(alloc: Global, tokens: &[Token]) -> Result<(Option<Params>, &[Token]), Fault>
-    ensures read { IfOk result (λ r. routine.read_params tokens.now ≡ Some (r.0, r.1.now)) }
-    ensures absent { IsErrAnd result IsSyntax → routine.read_params tokens.now ≡ None }
+    ensures read { IfOk result (λ r. routine.read_params tokens.now ≡ Read (r.0, r.1.now)) }
+    ensures absent { (s : Stop) → IsErrAnd result (IsStop s) → routine.read_params tokens.now ≡ Halted s }
 {
     if !is_sign(Sign::OpenParenthesis, tokens) {
         return Ok((None, tokens));
@@ -95,8 +96,8 @@ fn params(alloc: Global, tokens: &[Token]) -> Result<(Option<Params>, &[Token]),
 
 // [":" name]
 fn result_type(tokens: &[Token]) -> Result<(Option<Name>, &[Token]), Fault>
-    ensures read { IfOk result (λ r. routine.read_result tokens.now ≡ Some (r.0, r.1.now)) }
-    ensures absent { IsErrAnd result IsSyntax → routine.read_result tokens.now ≡ None }
+    ensures read { IfOk result (λ r. routine.read_result tokens.now ≡ Read (r.0, r.1.now)) }
+    ensures absent { (s : Stop) → IsErrAnd result (IsStop s) → routine.read_result tokens.now ≡ Halted s }
 {
     if !is_sign(Sign::Colon, tokens) {
         return Ok((None, tokens));
@@ -107,8 +108,8 @@ fn result_type(tokens: &[Token]) -> Result<(Option<Name>, &[Token]), Fault>
 
 // PROCEDURE name [params] | FUNCTION name [params] [":" name]
 fn heading_form(alloc: Global, tokens: &[Token]) -> Result<(HeadingForm, &[Token]), Fault>
-    ensures read { IfOk result (λ r. routine.heading_on (reader.front tokens.now) tokens.now ≡ Some (r.0, r.1.now)) }
-    ensures absent { IsErrAnd result IsSyntax → routine.heading_on (reader.front tokens.now) tokens.now ≡ None }
+    ensures read { IfOk result (λ r. routine.heading_on (reader.front tokens.now) tokens.now ≡ Read (r.0, r.1.now)) }
+    ensures absent { (s : Stop) → IsErrAnd result (IsStop s) → routine.heading_on (reader.front tokens.now) tokens.now ≡ Halted s }
 {
     match front(tokens) {
         Some(TokenKind::Word(Word::Procedure)) => {
@@ -128,8 +129,8 @@ fn heading_form(alloc: Global, tokens: &[Token]) -> Result<(HeadingForm, &[Token
 
 // heading ";"
 fn heading(alloc: Global, tokens: &[Token]) -> Result<(Heading, &[Token]), Fault>
-    ensures read { IfOk result (λ r. reader.ended (kind.Sign sign.Semicolon) routine.read_heading tokens.now ≡ Some (r.0, r.1.now)) }
-    ensures absent { IsErrAnd result IsSyntax → reader.ended (kind.Sign sign.Semicolon) routine.read_heading tokens.now ≡ None }
+    ensures read { IfOk result (λ r. reader.ended (kind.Sign sign.Semicolon) routine.read_heading tokens.now ≡ Read (r.0, r.1.now)) }
+    ensures absent { (s : Stop) → IsErrAnd result (IsStop s) → reader.ended (kind.Sign sign.Semicolon) routine.read_heading tokens.now ≡ Halted s }
 {
     let line = first_line(tokens);
     let (form, rest) = heading_form(alloc, tokens)?;
@@ -149,8 +150,8 @@ pub fn begins_heading(tokens: &[Token]) -> bool
 
 // name | "#" name
 fn item(tokens: &[Token]) -> Result<(Item, &[Token]), Fault>
-    ensures read { IfOk result (λ r. routine.read_item tokens.now ≡ Some (r.0, r.1.now)) }
-    ensures absent { IsErrAnd result IsSyntax → routine.read_item tokens.now ≡ None }
+    ensures read { IfOk result (λ r. routine.read_item tokens.now ≡ Read (r.0, r.1.now)) }
+    ensures absent { (s : Stop) → IsErrAnd result (IsStop s) → routine.read_item tokens.now ≡ Halted s }
 {
     let line = first_line(tokens);
     let (form, rest) = name_or_class(tokens)?;
@@ -192,8 +193,8 @@ fn globals(
     alloc: Global,
     tokens: &[Token],
 ) -> Result<(Option<Several<GlobalGroup>>, &[Token]), Fault>
-    ensures read { IfOk result (λ r. reader.optional (kind.Word word.Global) routine.read_global_groups tokens.now ≡ Some (r.0, r.1.now)) }
-    ensures absent { IsErrAnd result IsSyntax → reader.optional (kind.Word word.Global) routine.read_global_groups tokens.now ≡ None }
+    ensures read { IfOk result (λ r. reader.optional (kind.Word word.Global) routine.read_global_groups tokens.now ≡ Read (r.0, r.1.now)) }
+    ensures absent { (s : Stop) → IsErrAnd result (IsStop s) → reader.optional (kind.Word word.Global) routine.read_global_groups tokens.now ≡ Halted s }
 {
     if !is_word(Word::Global, tokens) {
         return Ok((None, tokens));
@@ -220,8 +221,8 @@ impl PartReader<Start> for RoutineReader {
 
 // [INITIAL start {"," start} ";"]
 fn initial(alloc: Global, tokens: &[Token]) -> Result<(Option<Several<Start>>, &[Token]), Fault>
-    ensures read { IfOk result (λ r. read_initial tokens.now ≡ Some (r.0, r.1.now)) }
-    ensures absent { IsErrAnd result IsSyntax → read_initial tokens.now ≡ None }
+    ensures read { IfOk result (λ r. read_initial tokens.now ≡ Read (r.0, r.1.now)) }
+    ensures absent { (s : Stop) → IsErrAnd result (IsStop s) → read_initial tokens.now ≡ Halted s }
 {
     if !is_word(Word::Initial, tokens) {
         return Ok((None, tokens));
@@ -238,8 +239,8 @@ pub fn condition(
     word: Word,
     tokens: &[Token],
 ) -> Result<(Option<Formula>, &[Token]), Fault>
-    ensures read { IfOk result (λ r. routine.read_condition levels (kind.Word word) tokens.now ≡ Some (r.0, r.1.now)) }
-    ensures absent { IsErrAnd result IsSyntax → routine.read_condition levels (kind.Word word) tokens.now ≡ None }
+    ensures read { IfOk result (λ r. routine.read_condition levels (kind.Word word) tokens.now ≡ Read (r.0, r.1.now)) }
+    ensures absent { (s : Stop) → IsErrAnd result (IsStop s) → routine.read_condition levels (kind.Word word) tokens.now ≡ Halted s }
 {
     if !is_word(word, tokens) {
         return Ok((None, tokens));
@@ -251,8 +252,8 @@ pub fn condition(
 
 // [GLOBAL ..] [INITIAL ..] [ENTRY formula ";"] [EXIT formula ";"]
 fn clauses(alloc: Global, levels: u32, tokens: &[Token]) -> Result<(Clauses, &[Token]), Fault>
-    ensures read { IfOk result (λ r. routine.read_clauses levels tokens.now ≡ Some (r.0, r.1.now)) }
-    ensures absent { IsErrAnd result IsSyntax → routine.read_clauses levels tokens.now ≡ None }
+    ensures read { IfOk result (λ r. routine.read_clauses levels tokens.now ≡ Read (r.0, r.1.now)) }
+    ensures absent { (s : Stop) → IsErrAnd result (IsStop s) → routine.read_clauses levels tokens.now ≡ Halted s }
 {
     let line = first_line(tokens);
     let (globals, rest) = globals(alloc, tokens)?;
@@ -271,8 +272,8 @@ fn clauses(alloc: Global, levels: u32, tokens: &[Token]) -> Result<(Clauses, &[T
 
 // [CONST const {const}] [VAR vars {vars}]
 fn locals(alloc: Global, levels: u32, tokens: &[Token]) -> Result<(Locals, &[Token]), Fault>
-    ensures read { IfOk result (λ r. routine.read_locals levels tokens.now ≡ Some (r.0, r.1.now)) }
-    ensures absent { IsErrAnd result IsSyntax → routine.read_locals levels tokens.now ≡ None }
+    ensures read { IfOk result (λ r. routine.read_locals levels tokens.now ≡ Read (r.0, r.1.now)) }
+    ensures absent { (s : Stop) → IsErrAnd result (IsStop s) → routine.read_locals levels tokens.now ≡ Halted s }
 {
     let line = first_line(tokens);
     let (constants, rest) = headed::<DeclarationReader, Const>(alloc, levels, Word::Const, tokens)?;
@@ -293,8 +294,8 @@ fn mark_behind(
     clauses: Clauses,
     tokens: &[Token],
 ) -> Result<(RoutineMark, &[Token]), Fault>
-    ensures read { IfOk result (λ r. routine.read_mark_behind levels heading clauses tokens.now ≡ Some (r.0, r.1.now)) }
-    ensures absent { IsErrAnd result IsSyntax → routine.read_mark_behind levels heading clauses tokens.now ≡ None }
+    ensures read { IfOk result (λ r. routine.read_mark_behind levels heading clauses tokens.now ≡ Read (r.0, r.1.now)) }
+    ensures absent { (s : Stop) → IsErrAnd result (IsStop s) → routine.read_mark_behind levels heading clauses tokens.now ≡ Halted s }
 {
     if is_word(Word::Forward, tokens) {
         let rest = past_sign(Sign::Semicolon, after(tokens))?;
@@ -307,8 +308,8 @@ fn mark_behind(
 
 // heading ";" clauses, and what stands behind them
 pub fn mark(alloc: Global, levels: u32, tokens: &[Token]) -> Result<(RoutineMark, &[Token]), Fault>
-    ensures read { IfOk result (λ r. routine.read_mark levels tokens.now ≡ Some (r.0, r.1.now)) }
-    ensures absent { IsErrAnd result IsSyntax → routine.read_mark levels tokens.now ≡ None }
+    ensures read { IfOk result (λ r. routine.read_mark levels tokens.now ≡ Read (r.0, r.1.now)) }
+    ensures absent { (s : Stop) → IsErrAnd result (IsStop s) → routine.read_mark levels tokens.now ≡ Halted s }
 {
     let (heading, rest) = heading(alloc, tokens)?;
     let (clauses, rest) = clauses(alloc, levels, rest)?;

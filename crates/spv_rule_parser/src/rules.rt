@@ -3,10 +3,10 @@
 ghost use Rattle.std.specs.Prelude.{◌≡◌, ◌∷◌, [], Some, None, IfOk, IsErrAnd};
 ghost use Rattle.spv_tokens.specs.declared.token.TokenKind.TheVariants as kind;
 ghost use Rattle.spv_reading.specs.Readers as reader;
-ghost use Rattle.spv_reading.specs.Readers.{all_items, starting};
+ghost use Rattle.spv_reading.specs.Readers.{Stop, Read, Halted, all_items, starting};
 ghost use Rattle.spv_reading.specs.RuleReaders.{read_rule_vars, read_premise, read_replace, read_infer, read_rule_form, read_rule, read_rules};
 ghost use Rattle.spv_reading.specs.RuleReaders as spec;
-ghost use Rattle.spv_front.specs.Faults.{IsSyntax};
+ghost use Rattle.spv_front.specs.Faults.{IsStop};
 
 use spv_formula_parser::formulas::formula;
 use spv_front::fault::{Fault, unexpected};
@@ -43,8 +43,8 @@ fn premise(
     word: Word,
     tokens: &[Token],
 ) -> Result<(Option<Formula>, &[Token]), Fault>
-    ensures read { IfOk result (λ r. read_premise levels (kind.Word word) tokens.now ≡ Some (r.0, r.1.now)) }
-    ensures absent { IsErrAnd result IsSyntax → read_premise levels (kind.Word word) tokens.now ≡ None }
+    ensures read { IfOk result (λ r. read_premise levels (kind.Word word) tokens.now ≡ Read (r.0, r.1.now)) }
+    ensures absent { (s : Stop) → IsErrAnd result (IsStop s) → read_premise levels (kind.Word word) tokens.now ≡ Halted s }
 {
     if !is_word(word, tokens) {
         return Ok((None, tokens));
@@ -55,8 +55,8 @@ fn premise(
 
 // formula BY formula [WHERE formula], behind REPLACE
 fn replace(alloc: Global, levels: u32, tokens: &[Token]) -> Result<(RuleForm, &[Token]), Fault>
-    ensures read { IfOk result (λ r. read_replace levels tokens.now ≡ Some (r.0, r.1.now)) }
-    ensures absent { IsErrAnd result IsSyntax → read_replace levels tokens.now ≡ None }
+    ensures read { IfOk result (λ r. read_replace levels tokens.now ≡ Read (r.0, r.1.now)) }
+    ensures absent { (s : Stop) → IsErrAnd result (IsStop s) → read_replace levels tokens.now ≡ Halted s }
 {
     let (left, rest) = formula(alloc, levels, tokens)?;
     let rest = past_word(Word::By, rest)?;
@@ -67,8 +67,8 @@ fn replace(alloc: Global, levels: u32, tokens: &[Token]) -> Result<(RuleForm, &[
 
 // formula [FROM formula], behind INFER
 fn infer(alloc: Global, levels: u32, tokens: &[Token]) -> Result<(RuleForm, &[Token]), Fault>
-    ensures read { IfOk result (λ r. read_infer levels tokens.now ≡ Some (r.0, r.1.now)) }
-    ensures absent { IsErrAnd result IsSyntax → read_infer levels tokens.now ≡ None }
+    ensures read { IfOk result (λ r. read_infer levels tokens.now ≡ Read (r.0, r.1.now)) }
+    ensures absent { (s : Stop) → IsErrAnd result (IsStop s) → read_infer levels tokens.now ≡ Halted s }
 {
     let (inferred, rest) = formula(alloc, levels, tokens)?;
     let (condition, rest) = premise(alloc, levels, Word::From, rest)?;
@@ -77,8 +77,8 @@ fn infer(alloc: Global, levels: u32, tokens: &[Token]) -> Result<(RuleForm, &[To
 
 // REPLACE formula BY formula [WHERE formula] | INFER formula [FROM formula]
 fn rule_form(alloc: Global, levels: u32, tokens: &[Token]) -> Result<(RuleForm, &[Token]), Fault>
-    ensures read { IfOk result (λ r. read_rule_form levels tokens.now ≡ Some (r.0, r.1.now)) }
-    ensures absent { IsErrAnd result IsSyntax → read_rule_form levels tokens.now ≡ None }
+    ensures read { IfOk result (λ r. read_rule_form levels tokens.now ≡ Read (r.0, r.1.now)) }
+    ensures absent { (s : Stop) → IsErrAnd result (IsStop s) → read_rule_form levels tokens.now ≡ Halted s }
 {
     let rest = after(tokens);
     match front(tokens) {
@@ -90,8 +90,8 @@ fn rule_form(alloc: Global, levels: u32, tokens: &[Token]) -> Result<(RuleForm, 
 
 // The same with the semicolon that ends it.
 fn rule(alloc: Global, levels: u32, tokens: &[Token]) -> Result<(Rule, &[Token]), Fault>
-    ensures read { IfOk result (λ r. read_rule levels tokens.now ≡ Some (r.0, r.1.now)) }
-    ensures absent { IsErrAnd result IsSyntax → read_rule levels tokens.now ≡ None }
+    ensures read { IfOk result (λ r. read_rule levels tokens.now ≡ Read (r.0, r.1.now)) }
+    ensures absent { (s : Stop) → IsErrAnd result (IsStop s) → read_rule levels tokens.now ≡ Halted s }
 {
     let line = first_line(tokens);
     let (form, rest) = rule_form(alloc, levels, tokens)?;
@@ -111,8 +111,8 @@ fn begins_rule(tokens: &[Token]) -> bool
 
 // {rule}
 fn rule_list(alloc: Global, levels: u32, tokens: &[Token]) -> Result<(Vec<Rule>, &[Token]), Fault>
-    ensures read { IfOk result (λ r. all_items [] ◌∷◌ (starting spec.begins_rule (read_rule levels)) tokens.now ≡ Some (r.0.items, r.1.now)) }
-    ensures absent { IsErrAnd result IsSyntax → all_items [] ◌∷◌ (starting spec.begins_rule (read_rule levels)) tokens.now ≡ None }
+    ensures read { IfOk result (λ r. all_items [] ◌∷◌ (starting spec.begins_rule (read_rule levels)) tokens.now ≡ Read (r.0.items, r.1.now)) }
+    ensures absent { (s : Stop) → IsErrAnd result (IsStop s) → all_items [] ◌∷◌ (starting spec.begins_rule (read_rule levels)) tokens.now ≡ Halted s }
 {
     let mut rules = Vec::new(alloc);
     let mut rest = tokens;
@@ -133,8 +133,8 @@ pub fn rule_file(
     levels: u32,
     tokens: &[Token],
 ) -> Result<(RuleTree, &[Token]), Fault>
-    ensures read { IfOk result (λ r. read_rules levels tokens.now ≡ Some (r.0, r.1.now)) }
-    ensures absent { IsErrAnd result IsSyntax → read_rules levels tokens.now ≡ None }
+    ensures read { IfOk result (λ r. read_rules levels tokens.now ≡ Read (r.0, r.1.now)) }
+    ensures absent { (s : Stop) → IsErrAnd result (IsStop s) → read_rules levels tokens.now ≡ Halted s }
 {
     let line = first_line(tokens);
     let (variables, rest) = headed::<RuleVarsReader, RuleVars>(alloc, levels, Word::Var, tokens)?;

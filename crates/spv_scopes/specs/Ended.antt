@@ -2,6 +2,7 @@
 use Rattle.std.specs.Prelude.{List, Option}
 use Rattle.spv_names.specs.declared.names.Symbol.{Symbol}
 use Rattle.spv_program.specs.Programs.{Main, Program}
+use Rattle.spv_scopes.specs.declared.ending.Tables.{Tables}
 
 -- a program with these titles and this main block
 abbrev pub ended : Program → List (Option Symbol) → Main → Program
@@ -14,4 +15,17 @@ ended p titles main = record {
   symbols = p.symbols;
   routines = p.routines;
   main = main;
+}
+
+-- a program with these tables
+abbrev pub tabled : Program → Tables → Program
+tabled p tables = record {
+  forms = p.forms;
+  titles = p.titles;
+  types = tables.types;
+  constants = tables.constants;
+  variables = tables.variables;
+  symbols = tables.symbols;
+  routines = p.routines;
+  main = p.main;
 }

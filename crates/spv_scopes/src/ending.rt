@@ -2,7 +2,7 @@
 
 ghost use Rattle.std.specs.Prelude.{◌≡◌, IfOk};
 ghost use Rattle.spv_typed.specs.ProgramViews.{main_of};
-ghost use Rattle.spv_scopes.specs.Ended.{ended};
+ghost use Rattle.spv_scopes.specs.Ended.{ended, tabled};
 ghost use Rattle.spv_scopes.specs.Symbols.{decl_of, symbols_of};
 ghost use Rattle.spv_scopes.specs.Views.{known_names_of};
 
@@ -10,7 +10,7 @@ use crate::functions::KnownNames;
 use crate::known::{Known, Signature};
 use crate::routines::copied;
 use spv_list::List;
-use spv_logic::Decl;
+use spv_logic::{Decl, TypeId};
 use spv_named::Named;
 use spv_names::Symbol;
 use spv_typed::{Main, Program};
@@ -54,12 +54,56 @@ fn listed_symbols(alloc: Global, table: &Named<Signature>) -> Result<List<Decl>,
     Ok(all)
 }
 
+// The tables of a program as lists.
+#[derive(Drop)]
+struct Tables {
+    types: List<(Symbol, TypeId)>,
+    constants: List<(Symbol, i64)>,
+    variables: List<(Symbol, TypeId)>,
+    symbols: List<Decl>,
+}
+
 impl Known {
     /// The names that are known from the start.
     pub fn start(&self) -> &KnownNames
         ensures { known_names_of result.now ≡ self.now.start }
     {
         &self.start
+    }
+
+    // The tables as lists.
+    fn tables(&self, alloc: Global) -> Result<Tables, AllocError>
+        ensures types { IfOk result (λ t. t.types ≡ self.now.program.types) }
+        ensures constants { IfOk result (λ t. t.constants ≡ self.now.program.constants) }
+        ensures variables { IfOk result (λ t. t.variables ≡ self.now.program.variables) }
+        ensures symbols { IfOk result (λ t. t.symbols ≡ self.now.program.symbols) }
+    {
+        let types = listed(alloc, &self.types)?;
+        let constants = listed(alloc, &self.constants)?;
+        let variables = listed(alloc, &self.variables)?;
+        let symbols = listed_symbols(alloc, &self.symbols)?;
+        Ok(Tables {
+            types,
+            constants,
+            variables,
+            symbols,
+        })
+    }
+
+    // The whole program, with these tables.
+    fn with_tables(self, tables: Tables, titles: List<Option<Symbol>>, main: Main) -> Program
+        ensures { result ≡ ended (tabled self.program tables) titles (main_of main) }
+    {
+        Program {
+            forms: self.forms.into_list(),
+            titles,
+            types: tables.types,
+            constants: tables.constants,
+            variables: tables.variables,
+            symbols: tables.symbols,
+            routines: self.routines,
+            main,
+        }
     }
 
     /// The whole program, with the first name of each type that has one, and its main block.
@@ -71,19 +115,7 @@ impl Known {
     ) -> Result<Program, AllocError>
         ensures { IfOk result (λ p. p ≡ ended self.program titles (main_of main)) }
     {
-        let types = listed(alloc, &self.types)?;
-        let constants = listed(alloc, &self.constants)?;
-        let variables = listed(alloc, &self.variables)?;
-        let symbols = listed_symbols(alloc, &self.symbols)?;
-        Ok(Program {
-            forms: self.forms.into_list(),
-            titles,
-            types,
-            constants,
-            variables,
-            symbols,
-            routines: self.routines,
-            main,
-        })
+        let tables = self.tables(alloc)?;
+        Ok(self.with_tables(tables, titles, main))
     }
 }

@@ -1,13 +1,19 @@
 -- Statements behind their first word.
 use Rattle.std.specs.Prelude.{ℕ, Some}
-use Rattle.spv_syntax.specs.Statements.{Statement, compound, assertion}
-use Rattle.spv_reading.specs.Readers.{Reader, and_then}
+use Rattle.spv_syntax.specs.declared.names.Name.{Name}
+use Rattle.spv_syntax.specs.Formulas.{designator, Selectors}
+use Rattle.spv_syntax.specs.Statements.{Statement, assignment, compound, assertion}
+use Rattle.spv_reading.specs.Readers.{Read, Reader, and_then}
 use Rattle.spv_reading.specs.FormulaReaders.{read_formula}
 use Rattle.spv_reading.specs.StatementReaders.{read_block_behind, read_repetition, read_lower}
 
+-- formula, behind a name, its selectors and the sign
+abbrev pub read_assigned : ℕ → Name → Selectors → Reader Statement
+read_assigned n x selected tokens = and_then (read_formula n tokens) (λ f rest. Read (assignment x.line (designator x.line x selected) f, rest))
+
 -- statement {";" statement} END, behind BEGIN on this line
 abbrev pub read_compound : ℕ → ℕ → Reader Statement
-read_compound n line tokens = and_then (read_block_behind (read_lower n) line tokens) (λ b rest. Some (compound line b, rest))
+read_compound n line tokens = and_then (read_block_behind (read_lower n) line tokens) (λ b rest. Read (compound line b, rest))
 
 -- formula loop, behind INVARIANT on this line
 abbrev pub read_with_invariant : ℕ → ℕ → Reader Statement
@@ -15,4 +21,4 @@ read_with_invariant n line tokens = and_then (read_formula n tokens) (λ f rest.
 
 -- formula, behind ASSERT on this line
 abbrev pub read_assertion : ℕ → ℕ → Reader Statement
-read_assertion n line tokens = and_then (read_formula n tokens) (λ f rest. Some (assertion line f, rest))
+read_assertion n line tokens = and_then (read_formula n tokens) (λ f rest. Read (assertion line f, rest))

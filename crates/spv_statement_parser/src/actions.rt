@@ -2,16 +2,20 @@
 
 ghost use Rattle.std.specs.Prelude.{◌≡◌, Some, None, IfOk, IsErrAnd};
 ghost use Rattle.spv_syntax.specs.Model.FormulaSizes.{selectors_of};
-ghost use Rattle.spv_reading.specs.FormulaReaders.{read_inner, read_formula};
+ghost use Rattle.spv_tokens.specs.declared.token.TokenKind.TheVariants as kind;
+ghost use Rattle.spv_tokens.specs.declared.token.Sign.TheVariants as sign;
+ghost use Rattle.spv_reading.specs.Readers.{Stop, Read, Halted, several_of};
+ghost use Rattle.spv_reading.specs.FormulaReaders.{read_designator, read_inner, read_formula};
 ghost use Rattle.spv_reading.specs.StatementReaders.{read_call, read_creation, read_becomes, read_action};
-ghost use Rattle.spv_front.specs.Faults.{IsSyntax};
+ghost use Rattle.spv_front.specs.Faults.{IsStop};
+ghost use Rattle.spv_statement_parser.specs.Compound.{read_assigned};
 
 use spv_formula_parser::factors::{designator, selectors};
 use spv_formula_parser::formulas::{formula, inner};
 use spv_front::fault::{Fault, unexpected};
 use spv_front::front::{after, is_sign, past_sign};
 use spv_front::lists::{PartReader, several};
-use spv_syntax::{Designator, Formula, Name, Selector, Statement, StatementForm};
+use spv_syntax::{Designator, Formula, Name, Selector, Several, Statement, StatementForm};
 use spv_tokens::{Sign, Token};
 use std::alloc::Global;
 
@@ -27,15 +31,44 @@ impl PartReader<Formula> for ArgumentReader {
 }
 
 // A formula in a box.
+#[inline(never)]
 pub fn boxed_formula(
     alloc: Global,
     levels: u32,
     tokens: &[Token],
 ) -> Result<(Box<Formula>, &[Token]), Fault>
-    ensures read { IfOk result (λ r. read_formula levels tokens.now ≡ Some (r.0.value, r.1.now)) }
-    ensures absent { IsErrAnd result IsSyntax → read_formula levels tokens.now ≡ None }
+    ensures read { IfOk result (λ r. read_formula levels tokens.now ≡ Read (r.0.value, r.1.now)) }
+    ensures absent { (s : Stop) → IsErrAnd result (IsStop s) → read_formula levels tokens.now ≡ Halted s }
 {
     let (read, rest) = formula(alloc, levels, tokens)?;
+    Ok((Box::new(alloc, read)?, rest))
+}
+
+// Arguments in a box.
+#[inline(never)]
+fn arguments(
+    alloc: Global,
+    levels: u32,
+    tokens: &[Token],
+) -> Result<(Box<Several<Formula>>, &[Token]), Fault>
+    ensures read { IfOk result (λ r. several_of (kind.Sign sign.Comma) (read_inner levels) tokens.now ≡ Read (r.0.value, r.1.now)) }
+    ensures absent { (s : Stop) → IsErrAnd result (IsStop s) → several_of (kind.Sign sign.Comma) (read_inner levels) tokens.now ≡ Halted s }
+{
+    let (read, rest) = several::<ArgumentReader, Formula>(alloc, levels, Sign::Comma, tokens)?;
+    Ok((Box::new(alloc, read)?, rest))
+}
+
+// A designator in a box.
+#[inline(never)]
+fn boxed_designator(
+    alloc: Global,
+    levels: u32,
+    tokens: &[Token],
+) -> Result<(Box<Designator>, &[Token]), Fault>
+    ensures read { IfOk result (λ r. read_designator (read_inner levels) tokens.now ≡ Read (r.0.value, r.1.now)) }
+    ensures absent { (s : Stop) → IsErrAnd result (IsStop s) → read_designator (read_inner levels) tokens.now ≡ Halted s }
+{
+    let (read, rest) = designator(alloc, levels, tokens)?;
     Ok((Box::new(alloc, read)?, rest))
 }
 
@@ -46,13 +79,13 @@ fn call(
     name: Name,
     tokens: &[Token],
 ) -> Result<(Statement, &[Token]), Fault>
-    ensures read { IfOk result (λ r. read_call (read_inner levels) name tokens.now ≡ Some (r.0, r.1.now)) }
-    ensures absent { IsErrAnd result IsSyntax → read_call (read_inner levels) name tokens.now ≡ None }
+    ensures read { IfOk result (λ r. read_call (read_inner levels) name tokens.now ≡ Read (r.0, r.1.now)) }
+    ensures absent { (s : Stop) → IsErrAnd result (IsStop s) → read_call (read_inner levels) name tokens.now ≡ Halted s }
 {
-    let (arguments, rest) = several::<ArgumentReader, Formula>(alloc, levels, Sign::Comma, tokens)?;
+    let (given, rest) = arguments(alloc, levels, tokens)?;
     let rest = past_sign(Sign::CloseParenthesis, rest)?;
     let line = name.line;
-    let form = StatementForm::Call(name, Some(arguments));
+    let form = StatementForm::Call(name, Some(given));
     Ok((Statement { line, form }, rest))
 }
 
@@ -63,13 +96,32 @@ pub fn creation(
     line: u32,
     tokens: &[Token],
 ) -> Result<(Statement, &[Token]), Fault>
-    ensures read { IfOk result (λ r. read_creation (read_inner levels) line tokens.now ≡ Some (r.0, r.1.now)) }
-    ensures absent { IsErrAnd result IsSyntax → read_creation (read_inner levels) line tokens.now ≡ None }
+    ensures read { IfOk result (λ r. read_creation (read_inner levels) line tokens.now ≡ Read (r.0, r.1.now)) }
+    ensures absent { (s : Stop) → IsErrAnd result (IsStop s) → read_creation (read_inner levels) line tokens.now ≡ Halted s }
 {
     let rest = past_sign(Sign::OpenParenthesis, tokens)?;
-    let (place, rest) = designator(alloc, levels, rest)?;
+    let (place, rest) = boxed_designator(alloc, levels, rest)?;
     let rest = past_sign(Sign::CloseParenthesis, rest)?;
     let form = StatementForm::New(place);
+    Ok((Statement { line, form }, rest))
+}
+
+// formula, behind a name, its selectors and the sign
+#[inline(never)]
+fn assigned(
+    alloc: Global,
+    levels: u32,
+    name: Name,
+    behind: Vec<Selector>,
+    tokens: &[Token],
+) -> Result<(Statement, &[Token]), Fault>
+    ensures read { IfOk result (λ r. read_assigned levels name (selectors_of behind.items) tokens.now ≡ Read (r.0, r.1.now)) }
+    ensures absent { (s : Stop) → IsErrAnd result (IsStop s) → read_assigned levels name (selectors_of behind.items) tokens.now ≡ Halted s }
+{
+    let line = name.line;
+    let place = Box::new(alloc, Designator { line, name, behind })?;
+    let (value, rest) = boxed_formula(alloc, levels, tokens)?;
+    let form = StatementForm::Assignment(place, value);
     Ok((Statement { line, form }, rest))
 }
 
@@ -81,17 +133,15 @@ fn becomes(
     behind: Vec<Selector>,
     tokens: &[Token],
 ) -> Result<(Statement, &[Token]), Fault>
-    ensures read { IfOk result (λ r. read_becomes (read_formula levels) (read_inner levels) name (selectors_of behind.items) tokens.now ≡ Some (r.0, r.1.now)) }
-    ensures absent { IsErrAnd result IsSyntax → read_becomes (read_formula levels) (read_inner levels) name (selectors_of behind.items) tokens.now ≡ None }
+    ensures read { IfOk result (λ r. read_becomes (read_formula levels) (read_inner levels) name (selectors_of behind.items) tokens.now ≡ Read (r.0, r.1.now)) }
+    ensures absent { (s : Stop) → IsErrAnd result (IsStop s) → read_becomes (read_formula levels) (read_inner levels) name (selectors_of behind.items) tokens.now ≡ Halted s }
 {
-    let line = name.line;
     if is_sign(Sign::Becomes, tokens) {
-        let (value, rest) = boxed_formula(alloc, levels, after(tokens))?;
-        let form = StatementForm::Assignment(Designator { line, name, behind }, value);
-        return Ok((Statement { line, form }, rest));
+        return assigned(alloc, levels, name, behind, after(tokens));
     }
     match behind.as_slice() {
         [] => {
+            let line = name.line;
             let form = StatementForm::Call(name, None);
             Ok((Statement { line, form }, tokens))
         }
@@ -106,8 +156,8 @@ pub fn action(
     name: Name,
     tokens: &[Token],
 ) -> Result<(Statement, &[Token]), Fault>
-    ensures read { IfOk result (λ r. read_action (read_formula levels) (read_inner levels) name tokens.now ≡ Some (r.0, r.1.now)) }
-    ensures absent { IsErrAnd result IsSyntax → read_action (read_formula levels) (read_inner levels) name tokens.now ≡ None }
+    ensures read { IfOk result (λ r. read_action (read_formula levels) (read_inner levels) name tokens.now ≡ Read (r.0, r.1.now)) }
+    ensures absent { (s : Stop) → IsErrAnd result (IsStop s) → read_action (read_formula levels) (read_inner levels) name tokens.now ≡ Halted s }
 {
     if is_sign(Sign::OpenParenthesis, tokens) {
         return call(alloc, levels, name, after(tokens));

@@ -5,7 +5,8 @@ ghost use Rattle.spv_syntax.specs.StatementViews.{invariant_of};
 ghost use Rattle.spv_reading.specs.Readers as reader;
 ghost use Rattle.spv_reading.specs.FormulaReaders.{read_formula};
 ghost use Rattle.spv_reading.specs.StatementReaders.{direction_of, read_to, read_while, read_repeat, read_for, loop_by, read_repetition, read_lower};
-ghost use Rattle.spv_front.specs.Faults.{IsSyntax};
+ghost use Rattle.spv_reading.specs.Readers.{Stop, Read, Halted};
+ghost use Rattle.spv_front.specs.Faults.{IsStop};
 
 use crate::actions::boxed_formula;
 use crate::statements::{boxed, more_statements};
@@ -28,14 +29,15 @@ fn direction(tokens: &[Token]) -> Option<Direction>
 
 // formula DO statement, behind WHILE on this line
 #[cycle(statement)]
+#[inline(never)]
 fn while_loop(
     alloc: Global,
     levels: u32,
     line: u32,
     tokens: &[Token],
 ) -> Result<(Loop, &[Token]), Fault>
-    ensures read { IfOk result (λ r. read_while (read_lower levels) (read_formula levels) line tokens.now ≡ Some (r.0, r.1.now)) }
-    ensures absent { IsErrAnd result IsSyntax → read_while (read_lower levels) (read_formula levels) line tokens.now ≡ None }
+    ensures read { IfOk result (λ r. read_while (read_lower levels) (read_formula levels) line tokens.now ≡ Read (r.0, r.1.now)) }
+    ensures absent { (s : Stop) → IsErrAnd result (IsStop s) → read_while (read_lower levels) (read_formula levels) line tokens.now ≡ Halted s }
 {
     let (test, rest) = boxed_formula(alloc, levels, tokens)?;
     let rest = past_word(Word::Do, rest)?;
@@ -46,14 +48,15 @@ fn while_loop(
 
 // statement {";" statement} UNTIL formula, behind REPEAT on this line
 #[cycle(statement)]
+#[inline(never)]
 fn repeat_loop(
     alloc: Global,
     levels: u32,
     line: u32,
     tokens: &[Token],
 ) -> Result<(Loop, &[Token]), Fault>
-    ensures read { IfOk result (λ r. read_repeat (read_lower levels) (read_formula levels) line tokens.now ≡ Some (r.0, r.1.now)) }
-    ensures absent { IsErrAnd result IsSyntax → read_repeat (read_lower levels) (read_formula levels) line tokens.now ≡ None }
+    ensures read { IfOk result (λ r. read_repeat (read_lower levels) (read_formula levels) line tokens.now ≡ Read (r.0, r.1.now)) }
+    ensures absent { (s : Stop) → IsErrAnd result (IsStop s) → read_repeat (read_lower levels) (read_formula levels) line tokens.now ≡ Halted s }
 {
     let (first, rest) = boxed(alloc, levels, tokens)?;
     let (more, rest) = more_statements(alloc, levels, rest)?;
@@ -65,6 +68,7 @@ fn repeat_loop(
 
 // (TO | DOWNTO) formula DO statement, behind the first bound of FOR on this line
 #[cycle(statement)]
+#[inline(never)]
 fn for_behind(
     alloc: Global,
     levels: u32,
@@ -73,8 +77,8 @@ fn for_behind(
     from: Box<Formula>,
     tokens: &[Token],
 ) -> Result<(Loop, &[Token]), Fault>
-    ensures read { IfOk result (λ r. read_to (read_lower levels) (read_formula levels) line variable from.value (direction_of (reader.front tokens.now)) tokens.now ≡ Some (r.0, r.1.now)) }
-    ensures absent { IsErrAnd result IsSyntax → read_to (read_lower levels) (read_formula levels) line variable from.value (direction_of (reader.front tokens.now)) tokens.now ≡ None }
+    ensures read { IfOk result (λ r. read_to (read_lower levels) (read_formula levels) line variable from.value (direction_of (reader.front tokens.now)) tokens.now ≡ Read (r.0, r.1.now)) }
+    ensures absent { (s : Stop) → IsErrAnd result (IsStop s) → read_to (read_lower levels) (read_formula levels) line variable from.value (direction_of (reader.front tokens.now)) tokens.now ≡ Halted s }
 {
     let Some(towards) = direction(tokens) else {
         return Err(unexpected(tokens));
@@ -88,14 +92,15 @@ fn for_behind(
 
 // name ":=" formula (TO | DOWNTO) formula DO statement, behind FOR on this line
 #[cycle(statement)]
+#[inline(never)]
 fn for_loop(
     alloc: Global,
     levels: u32,
     line: u32,
     tokens: &[Token],
 ) -> Result<(Loop, &[Token]), Fault>
-    ensures read { IfOk result (λ r. read_for (read_lower levels) (read_formula levels) line tokens.now ≡ Some (r.0, r.1.now)) }
-    ensures absent { IsErrAnd result IsSyntax → read_for (read_lower levels) (read_formula levels) line tokens.now ≡ None }
+    ensures read { IfOk result (λ r. read_for (read_lower levels) (read_formula levels) line tokens.now ≡ Read (r.0, r.1.now)) }
+    ensures absent { (s : Stop) → IsErrAnd result (IsStop s) → read_for (read_lower levels) (read_formula levels) line tokens.now ≡ Halted s }
 {
     let (variable, rest) = name(tokens)?;
     let rest = past_sign(Sign::Becomes, rest)?;
@@ -106,8 +111,8 @@ fn for_loop(
 // The loop at the front.
 #[cycle(statement)]
 fn any_loop(alloc: Global, levels: u32, tokens: &[Token]) -> Result<(Loop, &[Token]), Fault>
-    ensures read { IfOk result (λ r. loop_by (read_lower levels) (read_formula levels) (reader.front tokens.now) tokens.now ≡ Some (r.0, r.1.now)) }
-    ensures absent { IsErrAnd result IsSyntax → loop_by (read_lower levels) (read_formula levels) (reader.front tokens.now) tokens.now ≡ None }
+    ensures read { IfOk result (λ r. loop_by (read_lower levels) (read_formula levels) (reader.front tokens.now) tokens.now ≡ Read (r.0, r.1.now)) }
+    ensures absent { (s : Stop) → IsErrAnd result (IsStop s) → loop_by (read_lower levels) (read_formula levels) (reader.front tokens.now) tokens.now ≡ Halted s }
 {
     let line = first_line(tokens);
     let rest = after(tokens);
@@ -121,6 +126,7 @@ fn any_loop(alloc: Global, levels: u32, tokens: &[Token]) -> Result<(Loop, &[Tok
 
 // A loop behind its invariant, if it has one. The statement begins on this line.
 #[cycle(statement)]
+#[inline(never)]
 pub fn repetition(
     alloc: Global,
     levels: u32,
@@ -128,8 +134,8 @@ pub fn repetition(
     invariant: Option<Box<Formula>>,
     tokens: &[Token],
 ) -> Result<(Statement, &[Token]), Fault>
-    ensures read { IfOk result (λ r. read_repetition (read_lower levels) (read_formula levels) line (invariant_of invariant) tokens.now ≡ Some (r.0, r.1.now)) }
-    ensures absent { IsErrAnd result IsSyntax → read_repetition (read_lower levels) (read_formula levels) line (invariant_of invariant) tokens.now ≡ None }
+    ensures read { IfOk result (λ r. read_repetition (read_lower levels) (read_formula levels) line (invariant_of invariant) tokens.now ≡ Read (r.0, r.1.now)) }
+    ensures absent { (s : Stop) → IsErrAnd result (IsStop s) → read_repetition (read_lower levels) (read_formula levels) line (invariant_of invariant) tokens.now ≡ Halted s }
 {
     let (read, rest) = any_loop(alloc, levels, tokens)?;
     let form = StatementForm::Loop(invariant, Box::new(alloc, read)?);

@@ -5,27 +5,30 @@ ghost use Rattle.spv_syntax.specs.Model.StatementSizes.{more_statements_of, more
 ghost use Rattle.spv_syntax.specs.StatementViews.{otherwise_of};
 ghost use Rattle.spv_reading.specs.FormulaReaders.{read_formula};
 ghost use Rattle.spv_reading.specs.StatementReaders.{read_more_statements, read_block_behind, read_arm, read_more_arms, read_otherwise, read_conditional, read_selection, read_lower, read_statement, read_block};
-ghost use Rattle.spv_front.specs.Faults.{IsSyntax};
+ghost use Rattle.spv_reading.specs.Readers.{Stop, Read, Halted};
+ghost use Rattle.spv_front.specs.Faults.{IsStop};
 ghost use Rattle.spv_statement_parser.specs.Compound.{read_compound, read_with_invariant, read_assertion};
 
 use crate::actions::{action, boxed_formula, creation};
 use crate::loops::repetition;
 use spv_front::constants::{begins_constant, constants};
-use spv_front::fault::{Fault, unexpected};
+use spv_front::fault::{Fault, out_of_levels};
 use spv_front::front::{after, first_line, front, is_sign, is_word, past_sign, past_word};
+use spv_front::lists::push;
 use spv_syntax::{Arm, Block, Name, Statement, StatementForm};
 use spv_tokens::{Sign, Token, TokenKind, Word};
 use std::alloc::Global;
 
 // {";" statement}
 #[cycle(statement)]
+#[inline(never)]
 pub fn more_statements(
     alloc: Global,
     levels: u32,
     tokens: &[Token],
 ) -> Result<(Vec<Statement>, &[Token]), Fault>
-    ensures read { IfOk result (λ r. read_more_statements (read_lower levels) tokens.now ≡ Some (more_statements_of r.0.items, r.1.now)) }
-    ensures absent { IsErrAnd result IsSyntax → read_more_statements (read_lower levels) tokens.now ≡ None }
+    ensures read { IfOk result (λ r. read_more_statements (read_lower levels) tokens.now ≡ Read (more_statements_of r.0.items, r.1.now)) }
+    ensures absent { (s : Stop) → IsErrAnd result (IsStop s) → read_more_statements (read_lower levels) tokens.now ≡ Halted s }
 {
     let mut more = Vec::new(alloc);
     let mut rest = tokens;
@@ -34,7 +37,7 @@ pub fn more_statements(
             return Ok((more, rest));
         }
         let (read, next) = lower(alloc, levels, after(rest))?;
-        more.push(read)?;
+        push(&mut more, read)?;
         rest = next;
     }
     Ok((more, rest))
@@ -42,14 +45,15 @@ pub fn more_statements(
 
 // BEGIN statement {";" statement} END, behind BEGIN on this line
 #[cycle(statement)]
+#[inline(never)]
 fn block_behind(
     alloc: Global,
     levels: u32,
     line: u32,
     tokens: &[Token],
 ) -> Result<(Block, &[Token]), Fault>
-    ensures read { IfOk result (λ r. read_block_behind (read_lower levels) line tokens.now ≡ Some (r.0, r.1.now)) }
-    ensures absent { IsErrAnd result IsSyntax → read_block_behind (read_lower levels) line tokens.now ≡ None }
+    ensures read { IfOk result (λ r. read_block_behind (read_lower levels) line tokens.now ≡ Read (r.0, r.1.now)) }
+    ensures absent { (s : Stop) → IsErrAnd result (IsStop s) → read_block_behind (read_lower levels) line tokens.now ≡ Halted s }
 {
     let (first, rest) = boxed(alloc, levels, tokens)?;
     let (more, rest) = more_statements(alloc, levels, rest)?;
@@ -59,8 +63,8 @@ fn block_behind(
 
 /// BEGIN statement {";" statement} END
 pub fn block(alloc: Global, levels: u32, tokens: &[Token]) -> Result<(Block, &[Token]), Fault>
-    ensures read { IfOk result (λ r. read_block levels tokens.now ≡ Some (r.0, r.1.now)) }
-    ensures absent { IsErrAnd result IsSyntax → read_block levels tokens.now ≡ None }
+    ensures read { IfOk result (λ r. read_block levels tokens.now ≡ Read (r.0, r.1.now)) }
+    ensures absent { (s : Stop) → IsErrAnd result (IsStop s) → read_block levels tokens.now ≡ Halted s }
 {
     let line = first_line(tokens);
     let rest = past_word(Word::Begin, tokens)?;
@@ -69,9 +73,10 @@ pub fn block(alloc: Global, levels: u32, tokens: &[Token]) -> Result<(Block, &[T
 
 // [constant {"," constant} ":" statement]
 #[cycle(statement)]
+#[inline(never)]
 fn arm(alloc: Global, levels: u32, tokens: &[Token]) -> Result<(Arm, &[Token]), Fault>
-    ensures read { IfOk result (λ r. read_arm (read_lower levels) tokens.now ≡ Some (r.0, r.1.now)) }
-    ensures absent { IsErrAnd result IsSyntax → read_arm (read_lower levels) tokens.now ≡ None }
+    ensures read { IfOk result (λ r. read_arm (read_lower levels) tokens.now ≡ Read (r.0, r.1.now)) }
+    ensures absent { (s : Stop) → IsErrAnd result (IsStop s) → read_arm (read_lower levels) tokens.now ≡ Halted s }
 {
     let line = first_line(tokens);
     if !begins_constant(tokens) {
@@ -86,9 +91,10 @@ fn arm(alloc: Global, levels: u32, tokens: &[Token]) -> Result<(Arm, &[Token]), 
 
 // {";" arm}
 #[cycle(statement)]
+#[inline(never)]
 fn more_arms(alloc: Global, levels: u32, tokens: &[Token]) -> Result<(Vec<Arm>, &[Token]), Fault>
-    ensures read { IfOk result (λ r. read_more_arms (read_lower levels) tokens.now ≡ Some (more_arms_of r.0.items, r.1.now)) }
-    ensures absent { IsErrAnd result IsSyntax → read_more_arms (read_lower levels) tokens.now ≡ None }
+    ensures read { IfOk result (λ r. read_more_arms (read_lower levels) tokens.now ≡ Read (more_arms_of r.0.items, r.1.now)) }
+    ensures absent { (s : Stop) → IsErrAnd result (IsStop s) → read_more_arms (read_lower levels) tokens.now ≡ Halted s }
 {
     let mut more = Vec::new(alloc);
     let mut rest = tokens;
@@ -97,21 +103,37 @@ fn more_arms(alloc: Global, levels: u32, tokens: &[Token]) -> Result<(Vec<Arm>, 
             return Ok((more, rest));
         }
         let (read, next) = arm(alloc, levels, after(rest))?;
-        more.push(read)?;
+        push(&mut more, read)?;
         rest = next;
     }
     Ok((more, rest))
 }
 
+// The same in a box.
+#[cycle(statement)]
+#[inline(never)]
+fn boxed_arms(
+    alloc: Global,
+    levels: u32,
+    tokens: &[Token],
+) -> Result<(Box<Vec<Arm>>, &[Token]), Fault>
+    ensures read { IfOk result (λ r. read_more_arms (read_lower levels) tokens.now ≡ Read (more_arms_of r.0.value.items, r.1.now)) }
+    ensures absent { (s : Stop) → IsErrAnd result (IsStop s) → read_more_arms (read_lower levels) tokens.now ≡ Halted s }
+{
+    let (read, rest) = more_arms(alloc, levels, tokens)?;
+    Ok((Box::new(alloc, read)?, rest))
+}
+
 // [ELSE statement]
 #[cycle(statement)]
+#[inline(never)]
 fn otherwise(
     alloc: Global,
     levels: u32,
     tokens: &[Token],
 ) -> Result<(Option<Box<Statement>>, &[Token]), Fault>
-    ensures read { IfOk result (λ r. read_otherwise (read_lower levels) tokens.now ≡ Some (otherwise_of r.0, r.1.now)) }
-    ensures absent { IsErrAnd result IsSyntax → read_otherwise (read_lower levels) tokens.now ≡ None }
+    ensures read { IfOk result (λ r. read_otherwise (read_lower levels) tokens.now ≡ Read (otherwise_of r.0, r.1.now)) }
+    ensures absent { (s : Stop) → IsErrAnd result (IsStop s) → read_otherwise (read_lower levels) tokens.now ≡ Halted s }
 {
     if !is_word(Word::Else, tokens) {
         return Ok((None, tokens));
@@ -122,14 +144,15 @@ fn otherwise(
 
 // formula THEN statement [ELSE statement], behind IF on this line
 #[cycle(statement)]
+#[inline(never)]
 fn conditional(
     alloc: Global,
     levels: u32,
     line: u32,
     tokens: &[Token],
 ) -> Result<(Statement, &[Token]), Fault>
-    ensures read { IfOk result (λ r. read_conditional (read_lower levels) (read_formula levels) line tokens.now ≡ Some (r.0, r.1.now)) }
-    ensures absent { IsErrAnd result IsSyntax → read_conditional (read_lower levels) (read_formula levels) line tokens.now ≡ None }
+    ensures read { IfOk result (λ r. read_conditional (read_lower levels) (read_formula levels) line tokens.now ≡ Read (r.0, r.1.now)) }
+    ensures absent { (s : Stop) → IsErrAnd result (IsStop s) → read_conditional (read_lower levels) (read_formula levels) line tokens.now ≡ Halted s }
 {
     let (test, rest) = boxed_formula(alloc, levels, tokens)?;
     let rest = past_word(Word::Then, rest)?;
@@ -141,20 +164,21 @@ fn conditional(
 
 // formula OF arm {";" arm} END, behind CASE on this line
 #[cycle(statement)]
+#[inline(never)]
 fn selection(
     alloc: Global,
     levels: u32,
     line: u32,
     tokens: &[Token],
 ) -> Result<(Statement, &[Token]), Fault>
-    ensures read { IfOk result (λ r. read_selection (read_lower levels) (read_formula levels) line tokens.now ≡ Some (r.0, r.1.now)) }
-    ensures absent { IsErrAnd result IsSyntax → read_selection (read_lower levels) (read_formula levels) line tokens.now ≡ None }
+    ensures read { IfOk result (λ r. read_selection (read_lower levels) (read_formula levels) line tokens.now ≡ Read (r.0, r.1.now)) }
+    ensures absent { (s : Stop) → IsErrAnd result (IsStop s) → read_selection (read_lower levels) (read_formula levels) line tokens.now ≡ Halted s }
 {
     let (value, rest) = boxed_formula(alloc, levels, tokens)?;
     let rest = past_word(Word::Of, rest)?;
     let (first, rest) = arm(alloc, levels, rest)?;
     let first = Box::new(alloc, first)?;
-    let (more, rest) = more_arms(alloc, levels, rest)?;
+    let (more, rest) = boxed_arms(alloc, levels, rest)?;
     let rest = past_word(Word::End, rest)?;
     let form = StatementForm::Case(value, first, more);
     Ok((Statement { line, form }, rest))
@@ -162,44 +186,47 @@ fn selection(
 
 // BEGIN statement {";" statement} END as a statement, behind BEGIN on this line
 #[cycle(statement)]
+#[inline(never)]
 fn compound(
     alloc: Global,
     levels: u32,
     line: u32,
     tokens: &[Token],
 ) -> Result<(Statement, &[Token]), Fault>
-    ensures read { IfOk result (λ r. read_compound levels line tokens.now ≡ Some (r.0, r.1.now)) }
-    ensures absent { IsErrAnd result IsSyntax → read_compound levels line tokens.now ≡ None }
+    ensures read { IfOk result (λ r. read_compound levels line tokens.now ≡ Read (r.0, r.1.now)) }
+    ensures absent { (s : Stop) → IsErrAnd result (IsStop s) → read_compound levels line tokens.now ≡ Halted s }
 {
-    let (block, rest) = block_behind(alloc, levels, line, tokens)?;
-    let form = StatementForm::Block(block);
+    let (read, rest) = block_behind(alloc, levels, line, tokens)?;
+    let form = StatementForm::Block(Box::new(alloc, read)?);
     Ok((Statement { line, form }, rest))
 }
 
 // INVARIANT formula loop, behind INVARIANT on this line
 #[cycle(statement)]
+#[inline(never)]
 fn with_invariant(
     alloc: Global,
     levels: u32,
     line: u32,
     tokens: &[Token],
 ) -> Result<(Statement, &[Token]), Fault>
-    ensures read { IfOk result (λ r. read_with_invariant levels line tokens.now ≡ Some (r.0, r.1.now)) }
-    ensures absent { IsErrAnd result IsSyntax → read_with_invariant levels line tokens.now ≡ None }
+    ensures read { IfOk result (λ r. read_with_invariant levels line tokens.now ≡ Read (r.0, r.1.now)) }
+    ensures absent { (s : Stop) → IsErrAnd result (IsStop s) → read_with_invariant levels line tokens.now ≡ Halted s }
 {
     let (invariant, rest) = boxed_formula(alloc, levels, tokens)?;
     repetition(alloc, levels, line, Some(invariant), rest)
 }
 
 // ASSERT formula, behind ASSERT on this line
+#[inline(never)]
 fn assertion(
     alloc: Global,
     levels: u32,
     line: u32,
     tokens: &[Token],
 ) -> Result<(Statement, &[Token]), Fault>
-    ensures read { IfOk result (λ r. read_assertion levels line tokens.now ≡ Some (r.0, r.1.now)) }
-    ensures absent { IsErrAnd result IsSyntax → read_assertion levels line tokens.now ≡ None }
+    ensures read { IfOk result (λ r. read_assertion levels line tokens.now ≡ Read (r.0, r.1.now)) }
+    ensures absent { (s : Stop) → IsErrAnd result (IsStop s) → read_assertion levels line tokens.now ≡ Halted s }
 {
     let (read, rest) = boxed_formula(alloc, levels, tokens)?;
     let form = StatementForm::Assert(read);
@@ -209,8 +236,8 @@ fn assertion(
 // A statement, with this many levels inside it at most.
 #[cycle(statement)]
 fn statement(alloc: Global, levels: u32, tokens: &[Token]) -> Result<(Statement, &[Token]), Fault>
-    ensures read { IfOk result (λ r. read_statement levels tokens.now ≡ Some (r.0, r.1.now)) }
-    ensures absent { IsErrAnd result IsSyntax → read_statement levels tokens.now ≡ None }
+    ensures read { IfOk result (λ r. read_statement levels tokens.now ≡ Read (r.0, r.1.now)) }
+    ensures absent { (s : Stop) → IsErrAnd result (IsStop s) → read_statement levels tokens.now ≡ Halted s }
 {
     let line = first_line(tokens);
     let rest = after(tokens);
@@ -235,11 +262,11 @@ fn statement(alloc: Global, levels: u32, tokens: &[Token]) -> Result<(Statement,
 // A statement one level down: with one level more it is a statement at that level.
 #[cycle(statement)]
 pub fn lower(alloc: Global, levels: u32, tokens: &[Token]) -> Result<(Statement, &[Token]), Fault>
-    ensures read { IfOk result (λ r. read_lower levels tokens.now ≡ Some (r.0, r.1.now)) }
-    ensures absent { IsErrAnd result IsSyntax → read_lower levels tokens.now ≡ None }
+    ensures read { IfOk result (λ r. read_lower levels tokens.now ≡ Read (r.0, r.1.now)) }
+    ensures absent { (s : Stop) → IsErrAnd result (IsStop s) → read_lower levels tokens.now ≡ Halted s }
 {
     if levels == 0 {
-        return Err(unexpected(tokens));
+        return Err(out_of_levels(tokens));
     }
     statement(alloc, levels - 1, tokens)
 }
@@ -251,8 +278,8 @@ pub fn boxed(
     levels: u32,
     tokens: &[Token],
 ) -> Result<(Box<Statement>, &[Token]), Fault>
-    ensures read { IfOk result (λ r. read_lower levels tokens.now ≡ Some (r.0.value, r.1.now)) }
-    ensures absent { IsErrAnd result IsSyntax → read_lower levels tokens.now ≡ None }
+    ensures read { IfOk result (λ r. read_lower levels tokens.now ≡ Read (r.0.value, r.1.now)) }
+    ensures absent { (s : Stop) → IsErrAnd result (IsStop s) → read_lower levels tokens.now ≡ Halted s }
 {
     let (read, rest) = lower(alloc, levels, tokens)?;
     Ok((Box::new(alloc, read)?, rest))

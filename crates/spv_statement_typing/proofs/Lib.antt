@@ -1,3 +1,4 @@
 pub mod Counters
 pub mod Faults
+pub mod LabelLemmas
 pub mod Loops

@@ -3,7 +3,9 @@ use Rattle.std.proofs.Common.{◌≡◌, ◌<◌, ◌≤◌, ◌+◌, ℕ, zero,
 use Rattle.std.proofs.Math.Path.{fun_ext}
 use Rattle.std.proofs.Math.Seq.{drop-cons}
 use Rattle.std.proofs.lemmas.List.{drop_all}
-use Rattle.spv_program.specs.Statements.{Statement, Arms, Sequence, Empty, Repeat, no_arms, arm}
+use Rattle.spv_logic.specs.declared.types.Sort.TheVariants as sort
+use Rattle.spv_program.specs.Expressions.{Expression}
+use Rattle.spv_program.specs.Statements.{Statement, Arms, Sequence, Empty, If, Case, Repeat, no_arms, arm}
 use Rattle.std.specs.declared.boxed.Box.{Box}
 use Rattle.std.specs.Global.{Global, Vec}
 use Rattle.spv_syntax.specs.declared.statements.LoopForm.{LoopForm}
@@ -19,10 +21,12 @@ use Rattle.spv_typed.specs.declared.statements.Arm.{Arm}
 use Rattle.spv_typed.specs.StatementViews.{block_of, arms_of}
 use Rattle.spv_typing.specs.declared.faults.TypeFault.{TypeFault}
 use Rattle.spv_typing.specs.Outcomes.{Outcome, after, each}
-use Rattle.spv_typing.specs.StatementWalk.{Setting, statement_walk, more_statements_walk, arm_walk, more_arms_walk, loop_walk, test_of, new_labels, one_more, dropped}
+use Rattle.spv_typing.specs.ExpressionWalk.{expression_of}
+use Rattle.spv_typing.specs.StatementWalk.{Setting, ArmsSoFar, counting_kept, statement_walk, more_statements_walk, arm_walk, more_arms_walk, loop_walk, test_of, new_labels, one_more, dropped}
 use Rattle.spv_scopes.specs.Answers.{Stops}
 use Rattle.spv_formula_typing.proofs.Exits.{stops_after}
 use Rattle.spv_statement_typing.specs.Chains.{chain_walk, in_front, so_far, arms_walk, repeat_walk}
+use Rattle.spv_statement_typing.specs.Parts.{tested}
 
 -- ---- statements
 
@@ -211,3 +215,28 @@ repeat_walked at line on f whole form a xs b first more test h k p q r =
     ∙ sym (repeat_is at line on f a.value xs.items b.value)
     ∙ ap (λ (l : LoopForm). loop_walk at line f (loop_of on l)) (sym k)
     ∙ ap (loop_walk at line f) h
+
+-- ---- a CASE
+
+-- what it is about is there, and its arms stop
+pub selection_stops : (at : Setting) (line : ℕ) (about : Formula) (value : Expression) (first : tree.Arm) (more : List tree.Arm) (e : TypeFault) → tested at line sort.Int about ≡ Ok value
+    → Stops e (arms_walk at first more) → Stops e (statement_walk at (tree.selection line about first (more_arms_of more)))
+selection_stops at line about value first more e h k =
+    subst (Stops e) (inner (arm_walk at (so_far [] []) first) ∙ ap (λ o. after o (λ v. after (arm_walk at (so_far [] []) first) (λ one. after (more_arms_walk at one (more_arms_of more)) (λ all. Ok (Case line v (all.arms no_arms)))))) (sym h) ∙ outer (expression_of at.inside sort.Int about))
+    (stops_after e (arms_walk at first more) (λ arms. Ok (Case line value arms)) k)
+  where
+    behind : (o : Outcome ArmsSoFar) → after (after o (λ all. Ok (all.arms no_arms))) (λ arms. Ok (Case line value arms)) ≡ after o (λ all. Ok (Case line value (all.arms no_arms)))
+    behind (Ok all) = refl
+    behind (Err x) = refl
+
+    inner : (o : Outcome ArmsSoFar)
+        → after (after o (λ one. after (more_arms_walk at one (more_arms_of more)) (λ all. Ok (all.arms no_arms)))) (λ arms. Ok (Case line value arms))
+        ≡ after o (λ one. after (more_arms_walk at one (more_arms_of more)) (λ all. Ok (Case line value (all.arms no_arms))))
+    inner (Ok one) = behind (more_arms_walk at one (more_arms_of more))
+    inner (Err x) = refl
+
+    outer : (o : Outcome Expression)
+        → after (after o (λ n. counting_kept at line (If line n Empty Empty) n)) (λ v. after (arm_walk at (so_far [] []) first) (λ one. after (more_arms_walk at one (more_arms_of more)) (λ all. Ok (Case line v (all.arms no_arms)))))
+        ≡ after o (λ n. after (counting_kept at line (If line n Empty Empty) n) (λ v. after (arm_walk at (so_far [] []) first) (λ one. after (more_arms_walk at one (more_arms_of more)) (λ all. Ok (Case line v (all.arms no_arms))))))
+    outer (Ok n) = refl
+    outer (Err x) = refl

@@ -1,5 +1,6 @@
 pub mod Calls
 pub mod Chains
 pub mod Counters
+pub mod Labels
 pub mod Parts
 pub mod Settings

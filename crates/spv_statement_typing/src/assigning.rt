@@ -1,19 +1,50 @@
 // Assignments and NEW.
 
 ghost use Rattle.std.specs.Prelude.{◌≡◌, IfOk, IfErr, Ok};
+ghost use Rattle.spv_program.specs.Statements as plain;
 ghost use Rattle.spv_typing.specs.StatementWalk as spec;
 ghost use Rattle.spv_scopes.specs.Answers.{Stops};
 ghost use Rattle.spv_statement_typing.specs.Parts.{assigned_to, created_at};
 ghost use Rattle.spv_statement_typing.specs.Settings.{setting_of};
 
-use crate::setting::{Setting, kept};
+use crate::setting::{Setting, in_box, kept};
 use spv_counted_changes::{changed_by_assignment, changed_by_creation};
 use spv_expression_typing::{Reached, operand, settled_expression, written};
 use spv_logic::TypeId;
 use spv_syntax::{Designator, Formula};
 use spv_typed::{Expression, Statement, StatementForm};
 use spv_typing::TypeFault;
-use std::alloc::Global;
+use std::alloc::{AllocError, Global};
+
+// An assignment of these sides.
+fn assigning(
+    alloc: Global,
+    place: spv_typed::Designator,
+    value: Expression,
+) -> Result<Statement, AllocError>
+    ensures { IfOk result (λ s. s ≡ plain.Assign place value) }
+{
+    let place = in_box(alloc, place)?;
+    let value = in_box(alloc, value)?;
+    Ok(Statement {
+        form: StatementForm::Assign(place, value),
+    })
+}
+
+// NEW of this place.
+fn creating(
+    alloc: Global,
+    line: u32,
+    place: spv_typed::Designator,
+    of: TypeId,
+) -> Result<Statement, AllocError>
+    ensures { IfOk result (λ s. s ≡ plain.New line place of) }
+{
+    let place = in_box(alloc, place)?;
+    Ok(Statement {
+        form: StatementForm::New(line, place, of),
+    })
+}
 
 // An assignment whose sides are there.
 fn assigned(
@@ -36,13 +67,7 @@ fn assigned(
                 &d,
                 &value,
             )?;
-            kept(
-                line,
-                changed,
-                Statement {
-                    form: StatementForm::Assign(d, value),
-                },
-            )
+            kept(line, changed, assigning(alloc, d, value)?)
         }
     }
 }
@@ -87,13 +112,7 @@ fn created(
                 &d,
                 of,
             )?;
-            kept(
-                line,
-                changed,
-                Statement {
-                    form: StatementForm::New(line, d, of),
-                },
-            )
+            kept(line, changed, creating(alloc, line, d, of)?)
         }
     }
 }

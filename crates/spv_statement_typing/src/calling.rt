@@ -1,6 +1,7 @@
 // Calls that are statements.
 
 ghost use Rattle.std.specs.Prelude.{◌≡◌, IfOk, IfErr, Ok};
+ghost use Rattle.spv_syntax.specs.StatementViews.{given_of};
 ghost use Rattle.spv_typing.specs.Known.{meaning};
 ghost use Rattle.spv_typing.specs.StatementWalk as spec;
 ghost use Rattle.spv_scopes.specs.Answers.{Stops};
@@ -52,10 +53,10 @@ fn routine_called(
     at: u32,
     name: Symbol,
     heading: &Heading,
-    given: &Option<Several<Formula>>,
+    given: &Option<Box<Several<Formula>>>,
 ) -> Result<Statement, TypeFault>
-    ensures ok { IfOk result (λ s. routine_called (setting_of setting.now) line at (heading_of name heading.now) given.now ≡ Ok s) }
-    ensures err { IfErr result (λ e. Stops e (routine_called (setting_of setting.now) line at (heading_of name heading.now) given.now)) }
+    ensures ok { IfOk result (λ s. routine_called (setting_of setting.now) line at (heading_of name heading.now) (given_of given.now) ≡ Ok s) }
+    ensures err { IfErr result (λ e. Stops e (routine_called (setting_of setting.now) line at (heading_of name heading.now) (given_of given.now))) }
 {
     let made = call(&setting.inside, alloc, line, at, name, heading, given)?;
     performed(setting, alloc, line, name, heading, made)
@@ -68,9 +69,9 @@ fn no_procedure(
     alloc: Global,
     line: u32,
     count: Option<usize>,
-    given: &Option<Several<Formula>>,
+    given: &Option<Box<Several<Formula>>>,
 ) -> TypeFault
-    ensures { Stops result (spec.no_procedure line count (spec.arguments_of (setting_of setting.now).inside given.now)) }
+    ensures { Stops result (spec.no_procedure line count (spec.arguments_of (setting_of setting.now).inside (given_of given.now))) }
 {
     no_call(&setting.inside, alloc, line, count, given)
 }
@@ -81,10 +82,10 @@ pub(crate) fn called(
     alloc: Global,
     line: u32,
     x: Name,
-    given: &Option<Several<Formula>>,
+    given: &Option<Box<Several<Formula>>>,
 ) -> Result<Statement, TypeFault>
-    ensures ok { IfOk result (λ s. spec.called (setting_of setting.now) line x (meaning (setting_of setting.now).inside x.symbol) (spec.arguments_of (setting_of setting.now).inside given.now) ≡ Ok s) }
-    ensures err { IfErr result (λ e. Stops e (spec.called (setting_of setting.now) line x (meaning (setting_of setting.now).inside x.symbol) (spec.arguments_of (setting_of setting.now).inside given.now))) }
+    ensures ok { IfOk result (λ s. spec.called (setting_of setting.now) line x (meaning (setting_of setting.now).inside x.symbol) (spec.arguments_of (setting_of setting.now).inside (given_of given.now)) ≡ Ok s) }
+    ensures err { IfErr result (λ e. Stops e (spec.called (setting_of setting.now) line x (meaning (setting_of setting.now).inside x.symbol) (spec.arguments_of (setting_of setting.now).inside (given_of given.now)))) }
 {
     match setting.inside.meaning(x.symbol) {
         Some(Meaning::Routine(name, heading)) => {

@@ -12,7 +12,7 @@ ghost use Rattle.spv_statement_typing.specs.Counters.{is_counter};
 ghost use Rattle.spv_statement_typing.specs.Parts.{head_kept, head_settled, tested, uncounted};
 ghost use Rattle.spv_statement_typing.specs.Settings.{setting_of};
 
-use crate::setting::{Setting, kept};
+use crate::setting::{Setting, in_box, kept};
 use spv_counted_changes::{changed_by_head, changed_by_test, is_counted, is_own};
 use spv_expression_typing::{expression_of, operand, settled_expression};
 use spv_formula_typing::Operand;
@@ -23,7 +23,7 @@ use spv_scopes::{Meaning, Scope};
 use spv_syntax::{Formula, Name};
 use spv_typed::{Counting, Expression};
 use spv_typing::TypeFault;
-use std::alloc::Global;
+use std::alloc::{AllocError, Global};
 
 /// A test, or what a CASE is about.
 pub(crate) fn tested(
@@ -32,13 +32,14 @@ pub(crate) fn tested(
     line: u32,
     wanted: Sort,
     tree: &Formula,
-) -> Result<Expression, TypeFault>
-    ensures ok { IfOk result (λ x. tested (setting_of setting.now) line wanted tree.now ≡ Ok x) }
+) -> Result<Box<Expression>, TypeFault>
+    ensures ok { IfOk result (λ x. tested (setting_of setting.now) line wanted tree.now ≡ Ok x.value) }
     ensures err { IfErr result (λ e. Stops e (tested (setting_of setting.now) line wanted tree.now)) }
 {
     let made = expression_of(&setting.inside, alloc, wanted, tree)?;
     let changed = changed_by_test(&setting.inside, alloc, setting.counted, line, &made)?;
-    kept(line, changed, made)
+    let made = kept(line, changed, made)?;
+    Ok(in_box(alloc, made)?)
 }
 
 fn direction_of(sign: spv_syntax::Direction) -> Direction
@@ -128,6 +129,29 @@ fn head_kept(
     kept(line, changed, head)
 }
 
+fn head_in_box(alloc: Global, head: Counting) -> Result<Box<Counting>, AllocError>
+    ensures { IfOk result (λ b. counting_of b.value ≡ counting_of head) }
+{
+    Ok(Box::new(alloc, head)?)
+}
+
+// The same in a box.
+fn boxed_head(
+    setting: &Setting<'_, '_, '_, '_>,
+    alloc: Global,
+    line: u32,
+    x: Name,
+    direction: Direction,
+    first: Expression,
+    last: Expression,
+) -> Result<Box<Counting>, TypeFault>
+    ensures ok { IfOk result (λ c. head_kept (setting_of setting.now) line x direction first last ≡ Ok (counting_of c.value)) }
+    ensures err { IfErr result (λ e. Stops e (head_kept (setting_of setting.now) line x direction first last)) }
+{
+    let head = head_kept(setting, alloc, line, x, direction, first, last)?;
+    Ok(head_in_box(alloc, head)?)
+}
+
 // The head of a FOR whose ends are read, each with its line.
 fn head_settled(
     setting: &Setting<'_, '_, '_, '_>,
@@ -139,14 +163,14 @@ fn head_settled(
     a: Operand<Expression>,
     under: u32,
     b: Operand<Expression>,
-) -> Result<Counting, TypeFault>
-    ensures ok { IfOk result (λ c. head_settled (setting_of setting.now) line x direction on (operand_of a) under (operand_of b) ≡ Ok (counting_of c)) }
+) -> Result<Box<Counting>, TypeFault>
+    ensures ok { IfOk result (λ c. head_settled (setting_of setting.now) line x direction on (operand_of a) under (operand_of b) ≡ Ok (counting_of c.value)) }
     ensures err { IfErr result (λ e. Stops e (head_settled (setting_of setting.now) line x direction on (operand_of a) under (operand_of b))) }
 {
     counter_of(&setting.inside, x)?;
     let first = settled_expression(on, Sort::Int, a)?;
     let last = settled_expression(under, Sort::Int, b)?;
-    head_kept(setting, alloc, line, x, direction, first, last)
+    boxed_head(setting, alloc, line, x, direction, first, last)
 }
 
 fn declared(scope: &Scope<'_, '_>, x: Name) -> Result<(), TypeFault>
@@ -168,8 +192,8 @@ pub(crate) fn counting(
     from: &Formula,
     towards: spv_syntax::Direction,
     to: &Formula,
-) -> Result<Counting, TypeFault>
-    ensures ok { IfOk result (λ c. spec.counting (setting_of setting.now) line x from.now towards to.now ≡ Ok (counting_of c)) }
+) -> Result<Box<Counting>, TypeFault>
+    ensures ok { IfOk result (λ c. spec.counting (setting_of setting.now) line x from.now towards to.now ≡ Ok (counting_of c.value)) }
     ensures err { IfErr result (λ e. Stops e (spec.counting (setting_of setting.now) line x from.now towards to.now)) }
 {
     declared(&setting.inside, x)?;

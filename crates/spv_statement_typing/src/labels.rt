@@ -7,27 +7,32 @@ ghost use Rattle.spv_typing.specs.StatementWalk as spec;
 ghost use Rattle.spv_scopes.specs.Answers.{Stops};
 ghost use Rattle.spv_scopes.specs.Scopes.{scope_of};
 
-use indexmap::IndexSet;
 use spv_list::List;
 use spv_scopes::Scope;
 use spv_syntax::{Constant, Several};
 use spv_type_typing::constant;
 use spv_typing::TypeFault;
 use std::alloc::{AllocError, Global};
+use std::collections::BTreeSet;
 use std::marker::Model;
 
-/// Numbers, each once, in the order in which they were added. A look-up goes by a hash.
+/// Numbers, each once, in the order in which they were added. A look-up goes by the order of the numbers, so that no
+/// choice of labels makes it long.
 #[derive(Drop)]
 pub(crate) struct LabelSet {
-    seen: IndexSet<i64>,
+    listed: Vec<i64>,
+    sorted: BTreeSet<i64>,
 }
 
 impl Model for LabelSet {
     ghost use Rattle.std.specs.Prelude.{List, ℤ};
+    ghost use Rattle.spv_statement_typing.specs.Labels.{AreThose};
 
     ghost Value = { List ℤ };
 
-    ghost view = { λ l. l.seen.keys };
+    ghost view = { λ l. l.listed.items };
+
+    ghost invariant = { λ l. AreThose l.sorted l.listed.items };
 }
 
 impl LabelSet {
@@ -36,7 +41,8 @@ impl LabelSet {
         ensures { result ≡ [] }
     {
         LabelSet {
-            seen: IndexSet::new(alloc),
+            listed: Vec::new(alloc),
+            sorted: BTreeSet::new(alloc),
         }
     }
 
@@ -44,7 +50,7 @@ impl LabelSet {
     fn has(&self, z: i64) -> bool
         ensures { result ≡ list_any (int_eq z) self.now }
     {
-        self.seen.contains(&z)
+        self.sorted.contains(&z)
     }
 
     // Puts a number that is new at the end.
@@ -52,7 +58,9 @@ impl LabelSet {
         requires { list_any (int_eq z) self.old ≡ false }
         ensures { OnOk result (self.new ≡ self.old ++ z ∷ []) }
     {
-        self.seen.insert(z)?;
+        self.listed.reserve(1)?;
+        let _new = self.sorted.insert(z)?;
+        self.listed.push(z).unwrap();
         Ok(())
     }
 }

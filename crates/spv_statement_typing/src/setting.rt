@@ -7,6 +7,7 @@ ghost use Rattle.spv_scopes.specs.Answers.{Stops};
 use spv_names::Symbol;
 use spv_scopes::Scope;
 use spv_typing::TypeFault;
+use std::alloc::{AllocError, Global};
 
 /// Where a statement stands: what its expressions see, what its annotations see, and the variables that the FORs around
 /// it count with, innermost first.
@@ -29,4 +30,11 @@ pub(crate) fn kept<T: Drop>(line: u32, changed: Option<Symbol>, made: T) -> Resu
         None => Ok(made),
         Some(v) => Err(TypeFault::ControlChanged(line, v)),
     }
+}
+
+// A part of a statement in a box.
+pub(crate) fn in_box<T: Drop>(alloc: Global, part: T) -> Result<Box<T>, AllocError>
+    ensures { IfOk result (λ b. b.value ≡ part) }
+{
+    Ok(Box::new(alloc, part)?)
 }

@@ -19,7 +19,7 @@ use crate::assigning::{assignment, creation};
 use crate::calling::called;
 use crate::heads::{counting, tested};
 use crate::labels::{LabelSet, arm_labels};
-use crate::setting::Setting;
+use crate::setting::{Setting, in_box};
 use spv_annotation_typing::annotation;
 use spv_logic::Sort;
 use spv_names::Symbol;
@@ -37,15 +37,6 @@ fn push<T: Drop>(items: &mut Vec<T>, item: T) -> Result<(), AllocError>
     Ok(())
 }
 
-fn in_box(
-    alloc: Global,
-    statement: spv_typed::Statement,
-) -> Result<Box<spv_typed::Statement>, AllocError>
-    ensures { IfOk result (λ b. b.value ≡ statement) }
-{
-    Ok(Box::new(alloc, statement)?)
-}
-
 // The empty statement.
 fn nothing(alloc: Global) -> spv_typed::Statement
     ensures { result ≡ Empty }
@@ -60,13 +51,16 @@ fn invariant(
     setting: &Setting<'_, '_, '_, '_>,
     alloc: Global,
     tree: &Option<Box<Formula>>,
-) -> Result<Option<Annotation>, TypeFault>
-    ensures ok { IfOk result (λ a. if_there (annotation (setting_of setting.now).noted) (invariant_of tree.now) ≡ Ok (option_map annotation_of a)) }
+) -> Result<Box<Option<Annotation>>, TypeFault>
+    ensures ok { IfOk result (λ a. if_there (annotation (setting_of setting.now).noted) (invariant_of tree.now) ≡ Ok (option_map annotation_of a.value)) }
     ensures err { IfErr result (λ e. Stops e (if_there (annotation (setting_of setting.now).noted) (invariant_of tree.now))) }
 {
     match tree {
-        None => Ok(None),
-        Some(formula) => Ok(Some(annotation(&setting.noted, alloc, formula)?)),
+        None => Ok(in_box(alloc, None)?),
+        Some(formula) => {
+            let noted = annotation(&setting.noted, alloc, formula)?;
+            Ok(in_box(alloc, Some(noted))?)
+        }
     }
 }
 
@@ -79,6 +73,7 @@ fn assertion(
     ensures err { IfErr result (λ e. Stops e (after (annotation (setting_of setting.now).noted tree.now) (λ a. Ok (Assert a)))) }
 {
     let noted = annotation(&setting.noted, alloc, tree)?;
+    let noted = in_box(alloc, noted)?;
     Ok(spv_typed::Statement {
         form: spv_typed::StatementForm::Assert(noted),
     })
@@ -215,7 +210,7 @@ fn selection(
     ensures err { IfErr result (λ e. Stops e (spec.statement_walk (setting_of setting.now) (tree.selection line about.now first.now (more_arms_of more.now)))) }
 {
     let value = tested(setting, alloc, line, Sort::Int, about)?;
-    let made = arms(setting, alloc, first, more)?;
+    let made = boxed_arms(setting, alloc, first, more)?;
     Ok(spv_typed::Statement {
         form: spv_typed::StatementForm::Case(line, value, made),
     })
@@ -239,6 +234,21 @@ fn arms(
         add_arm(setting, alloc, &mut seen, &mut made, other)?;
     }
     Ok(made)
+}
+
+// The same in a box.
+#[cycle(statements)]
+fn boxed_arms(
+    setting: &Setting<'_, '_, '_, '_>,
+    alloc: Global,
+    first: &Arm,
+    more: &[Arm],
+) -> Result<Box<Vec<spv_typed::Arm>>, TypeFault>
+    ensures ok { IfOk result (λ xs. arms_walk (setting_of setting.now) first.now more.now ≡ Ok (arms_of xs.value.items)) }
+    ensures err { IfErr result (λ e. Stops e (arms_walk (setting_of setting.now) first.now more.now)) }
+{
+    let made = arms(setting, alloc, first, more)?;
+    Ok(in_box(alloc, made)?)
 }
 
 // One more arm, where it has labels.
@@ -306,11 +316,11 @@ fn repeated(
     setting: &Setting<'_, '_, '_, '_>,
     alloc: Global,
     line: u32,
-    noted: Option<Annotation>,
+    noted: Box<Option<Annotation>>,
     inside: &Loop,
 ) -> Result<spv_typed::Statement, TypeFault>
-    ensures ok { IfOk result (λ s. spec.loop_walk (setting_of setting.now) line (option_map annotation_of noted) inside.now ≡ Ok s) }
-    ensures err { IfErr result (λ e. Stops e (spec.loop_walk (setting_of setting.now) line (option_map annotation_of noted) inside.now)) }
+    ensures ok { IfOk result (λ s. spec.loop_walk (setting_of setting.now) line (option_map annotation_of noted.value) inside.now ≡ Ok s) }
+    ensures err { IfErr result (λ e. Stops e (spec.loop_walk (setting_of setting.now) line (option_map annotation_of noted.value) inside.now)) }
 {
     match &inside.form {
         LoopForm::While(test, body) => while_loop(setting, alloc, line, noted, test, body),
@@ -329,12 +339,12 @@ fn while_loop(
     setting: &Setting<'_, '_, '_, '_>,
     alloc: Global,
     line: u32,
-    noted: Option<Annotation>,
+    noted: Box<Option<Annotation>>,
     test: &Formula,
     body: &Statement,
 ) -> Result<spv_typed::Statement, TypeFault>
-    ensures ok { IfOk result (λ s. while_walk (setting_of setting.now) line (option_map annotation_of noted) test.now body.now ≡ Ok s) }
-    ensures err { IfErr result (λ e. Stops e (while_walk (setting_of setting.now) line (option_map annotation_of noted) test.now body.now)) }
+    ensures ok { IfOk result (λ s. while_walk (setting_of setting.now) line (option_map annotation_of noted.value) test.now body.now ≡ Ok s) }
+    ensures err { IfErr result (λ e. Stops e (while_walk (setting_of setting.now) line (option_map annotation_of noted.value) test.now body.now)) }
 {
     let value = tested(setting, alloc, line, Sort::Bool, test)?;
     let made = boxed(setting, alloc, body)?;
@@ -348,13 +358,13 @@ fn repeat_loop(
     setting: &Setting<'_, '_, '_, '_>,
     alloc: Global,
     line: u32,
-    noted: Option<Annotation>,
+    noted: Box<Option<Annotation>>,
     first: &Statement,
     more: &[Statement],
     test: &Formula,
 ) -> Result<spv_typed::Statement, TypeFault>
-    ensures ok { IfOk result (λ s. repeat_walk (setting_of setting.now) line (option_map annotation_of noted) first.now more.now test.now ≡ Ok s) }
-    ensures err { IfErr result (λ e. Stops e (repeat_walk (setting_of setting.now) line (option_map annotation_of noted) first.now more.now test.now)) }
+    ensures ok { IfOk result (λ s. repeat_walk (setting_of setting.now) line (option_map annotation_of noted.value) first.now more.now test.now ≡ Ok s) }
+    ensures err { IfErr result (λ e. Stops e (repeat_walk (setting_of setting.now) line (option_map annotation_of noted.value) first.now more.now test.now)) }
 {
     let made = boxed_statements(setting, alloc, first, more)?;
     let value = tested(setting, alloc, line, Sort::Bool, test)?;
@@ -397,12 +407,12 @@ fn for_loop(
     setting: &Setting<'_, '_, '_, '_>,
     alloc: Global,
     line: u32,
-    noted: Option<Annotation>,
-    head: spv_typed::Counting,
+    noted: Box<Option<Annotation>>,
+    head: Box<spv_typed::Counting>,
     body: &Statement,
 ) -> Result<spv_typed::Statement, TypeFault>
-    ensures ok { IfOk result (λ s. for_walk (setting_of setting.now) line (option_map annotation_of noted) (counting_of head) body.now ≡ Ok s) }
-    ensures err { IfErr result (λ e. Stops e (for_walk (setting_of setting.now) line (option_map annotation_of noted) (counting_of head) body.now)) }
+    ensures ok { IfOk result (λ s. for_walk (setting_of setting.now) line (option_map annotation_of noted.value) (counting_of head.value) body.now ≡ Ok s) }
+    ensures err { IfErr result (λ e. Stops e (for_walk (setting_of setting.now) line (option_map annotation_of noted.value) (counting_of head.value) body.now)) }
 {
     let counted = counted_inside(alloc, head.variable, setting.counted)?;
     let within = Setting {

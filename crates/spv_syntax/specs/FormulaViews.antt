@@ -14,9 +14,9 @@ abbrev pub conclusion_of : Option (Box Formula Global) → Conclusion
 conclusion_of None = no_conclusion
 conclusion_of (Some f) = implies f.value
 
-abbrev pub right_side_of : Option (Comparison × Simple) → RightSide
+abbrev pub right_side_of : Option (Box (Comparison × Simple) Global) → RightSide
 right_side_of None = no_right_side
-right_side_of (Some r) = compared r.0 r.1
+right_side_of (Some r) = compared r.value.0 r.value.1
 
 abbrev pub factor_of : ℕ → FactorForm → Factor
 factor_of line (factor.Number n) = number line n
@@ -24,7 +24,7 @@ factor_of line (factor.Truth b) = truth line b
 factor_of line factor.Nil = nil line
 factor_of line (factor.Class x) = class line x
 factor_of line (factor.Place d) = place line d
-factor_of line (factor.Application f first more behind) = application line f first.value (more_formulas_of more.items) (selectors_of behind.items)
+factor_of line (factor.Application f a) = application line f a.value.first (more_formulas_of a.value.more.items) (selectors_of a.value.behind.items)
 factor_of line (factor.Bracketed f) = bracketed line f.value
 factor_of line (factor.Negation f) = negation line f.value
 

@@ -20,14 +20,18 @@ abbrev pub otherwise_of : Option (Box Statement Global) → Otherwise
 otherwise_of None = nothing_otherwise
 otherwise_of (Some s) = otherwise s.value
 
+abbrev pub given_of : Option (Box (Several Formula) Global) → Option (Several Formula)
+given_of None = None
+given_of (Some a) = Some a.value
+
 abbrev pub statement_of : ℕ → StatementForm → Statement
 statement_of line form.Empty = empty line
-statement_of line (form.Assignment d f) = assignment line d f.value
-statement_of line (form.Call x arguments) = call line x arguments
-statement_of line (form.New d) = creation line d
-statement_of line (form.Block b) = compound line b
+statement_of line (form.Assignment d f) = assignment line d.value f.value
+statement_of line (form.Call x arguments) = call line x (given_of arguments)
+statement_of line (form.New d) = creation line d.value
+statement_of line (form.Block b) = compound line b.value
 statement_of line (form.If f s other) = conditional line f.value s.value (otherwise_of other)
-statement_of line (form.Case f first more) = selection line f.value first.value (more_arms_of more.items)
+statement_of line (form.Case f first more) = selection line f.value first.value (more_arms_of more.value.items)
 statement_of line (form.Loop invariant l) = repetition line (invariant_of invariant) l.value
 statement_of line (form.Assert f) = assertion line f.value
 

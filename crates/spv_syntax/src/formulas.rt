@@ -49,7 +49,7 @@ pub struct Relation {
     /// The left side.
     pub left: Simple,
     /// The operator and the right side, where they are there.
-    pub right: Option<(Comparison, Simple)>,
+    pub right: Option<Box<(Comparison, Simple)>>,
 }
 
 impl Model for Relation {
@@ -172,11 +172,23 @@ pub enum FactorForm {
     /// `designator`
     Place(Designator),
     /// `name "(" formula {"," formula} ")" {selector}`
-    Application(Name, Box<Formula>, Vec<Formula>, Vec<Selector>),
+    Application(Name, Box<Application>),
     /// `"(" formula ")"`
     Bracketed(Box<Formula>),
     /// `NOT factor`
     Negation(Box<Factor>),
+}
+
+/// The arguments of an application, and what stands behind them.
+#[cycle(formula)]
+#[derive(Drop)]
+pub struct Application {
+    /// The first argument.
+    pub first: Formula,
+    /// The other arguments, in order.
+    pub more: Vec<Formula>,
+    /// The selectors, in order.
+    pub behind: Vec<Selector>,
 }
 
 impl Model for Factor {

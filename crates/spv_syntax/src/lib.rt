@@ -16,7 +16,8 @@ mod types;
 pub use declarations::{Const, Declarations, NameOrClass, SortName, SymbolText, Typedef, Vars};
 pub use formula_texts::FormulaText;
 pub use formulas::{
-    Designator, Factor, FactorForm, Formula, Relation, Selector, SelectorForm, Simple, Term,
+    Application, Designator, Factor, FactorForm, Formula, Relation, Selector, SelectorForm, Simple,
+    Term,
 };
 pub use lists::Several;
 pub use names::{Constant, Name, Scalar};

@@ -23,17 +23,17 @@ pub enum StatementForm {
     /// Nothing.
     Empty,
     /// `designator ":=" formula`
-    Assignment(Designator, Box<Formula>),
+    Assignment(Box<Designator>, Box<Formula>),
     /// `name ["(" formula {"," formula} ")"]`
-    Call(Name, Option<Several<Formula>>),
+    Call(Name, Option<Box<Several<Formula>>>),
     /// `NEW "(" designator ")"`
-    New(Designator),
+    New(Box<Designator>),
     /// `block`
-    Block(Block),
+    Block(Box<Block>),
     /// `IF formula THEN statement [ELSE statement]`
     If(Box<Formula>, Box<Statement>, Option<Box<Statement>>),
     /// `CASE formula OF arm {";" arm} END`
-    Case(Box<Formula>, Box<Arm>, Vec<Arm>),
+    Case(Box<Formula>, Box<Arm>, Box<Vec<Arm>>),
     /// `[INVARIANT formula] loop`
     Loop(Option<Box<Formula>>, Box<Loop>),
     /// `ASSERT formula`

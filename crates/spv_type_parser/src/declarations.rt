@@ -5,7 +5,8 @@ ghost use Rattle.spv_tokens.specs.declared.token.TokenKind.TheVariants as kind;
 ghost use Rattle.spv_tokens.specs.declared.token.Sign.TheVariants as sign;
 ghost use Rattle.spv_reading.specs.Readers as reader;
 ghost use Rattle.spv_reading.specs.DeclarationReaders.{read_const, read_name_or_class, read_sort, read_sorts, read_symbol, read_typedef, read_vars, read_declarations};
-ghost use Rattle.spv_front.specs.Faults.{IsSyntax};
+ghost use Rattle.spv_reading.specs.Readers.{Stop, Read, Halted};
+ghost use Rattle.spv_front.specs.Faults.{IsStop};
 
 use crate::types::{names, type_denoter};
 use spv_front::constants::constant;
@@ -67,8 +68,8 @@ impl PartReader<Vars> for DeclarationReader {
 
 /// name | "#" name
 pub fn name_or_class(tokens: &[Token]) -> Result<(NameOrClass, &[Token]), Fault>
-    ensures read { IfOk result (λ r. read_name_or_class tokens.now ≡ Some (r.0, r.1.now)) }
-    ensures absent { IsErrAnd result IsSyntax → read_name_or_class tokens.now ≡ None }
+    ensures read { IfOk result (λ r. read_name_or_class tokens.now ≡ Read (r.0, r.1.now)) }
+    ensures absent { (s : Stop) → IsErrAnd result (IsStop s) → read_name_or_class tokens.now ≡ Halted s }
 {
     if is_sign(Sign::Hash, tokens) {
         let (class, rest) = name(after(tokens))?;
@@ -81,8 +82,8 @@ pub fn name_or_class(tokens: &[Token]) -> Result<(NameOrClass, &[Token]), Fault>
 
 /// name | "#" name, as a sort
 pub fn sort(tokens: &[Token]) -> Result<(SortName, &[Token]), Fault>
-    ensures read { IfOk result (λ r. read_sort tokens.now ≡ Some (r.0, r.1.now)) }
-    ensures absent { IsErrAnd result IsSyntax → read_sort tokens.now ≡ None }
+    ensures read { IfOk result (λ r. read_sort tokens.now ≡ Read (r.0, r.1.now)) }
+    ensures absent { (s : Stop) → IsErrAnd result (IsStop s) → read_sort tokens.now ≡ Halted s }
 {
     let line = first_line(tokens);
     let (form, rest) = name_or_class(tokens)?;
@@ -99,8 +100,8 @@ impl PartReader<SortName> for DeclarationReader {
 
 // ["(" sort {"," sort} ")"]
 fn sorts(alloc: Global, tokens: &[Token]) -> Result<(Option<Several<SortName>>, &[Token]), Fault>
-    ensures read { IfOk result (λ r. reader.optional (kind.Sign sign.OpenParenthesis) read_sorts tokens.now ≡ Some (r.0, r.1.now)) }
-    ensures absent { IsErrAnd result IsSyntax → reader.optional (kind.Sign sign.OpenParenthesis) read_sorts tokens.now ≡ None }
+    ensures read { IfOk result (λ r. reader.optional (kind.Sign sign.OpenParenthesis) read_sorts tokens.now ≡ Read (r.0, r.1.now)) }
+    ensures absent { (s : Stop) → IsErrAnd result (IsStop s) → reader.optional (kind.Sign sign.OpenParenthesis) read_sorts tokens.now ≡ Halted s }
 {
     if !is_sign(Sign::OpenParenthesis, tokens) {
         return Ok((None, tokens));
@@ -142,8 +143,8 @@ pub fn declarations(
     levels: u32,
     tokens: &[Token],
 ) -> Result<(Declarations, &[Token]), Fault>
-    ensures read { IfOk result (λ r. read_declarations levels tokens.now ≡ Some (r.0, r.1.now)) }
-    ensures absent { IsErrAnd result IsSyntax → read_declarations levels tokens.now ≡ None }
+    ensures read { IfOk result (λ r. read_declarations levels tokens.now ≡ Read (r.0, r.1.now)) }
+    ensures absent { (s : Stop) → IsErrAnd result (IsStop s) → read_declarations levels tokens.now ≡ Halted s }
 {
     let line = first_line(tokens);
     let (constants, rest) = headed::<DeclarationReader, Const>(alloc, levels, Word::Const, tokens)?;

@@ -4,11 +4,12 @@ ghost use Rattle.std.specs.Prelude.{◌≡◌, Some, None, IfOk, IsErrAnd};
 ghost use Rattle.spv_syntax.specs.Model.TypeSizes.{more_types_of, more_fields_of};
 ghost use Rattle.spv_reading.specs.Readers as reader;
 ghost use Rattle.spv_reading.specs.TypeReaders.{read_names, read_upper, read_range, read_type_name, read_more_types, read_array, read_field_part, read_more_fields, read_record, read_lower_type, read_type};
-ghost use Rattle.spv_front.specs.Faults.{IsSyntax};
+ghost use Rattle.spv_reading.specs.Readers.{Stop, Read, Halted};
+ghost use Rattle.spv_front.specs.Faults.{IsStop};
 ghost use Rattle.spv_type_parser.specs.TypeParts.{read_range_behind, read_pointer, read_named_field};
 
 use spv_front::constants::constant;
-use spv_front::fault::{Fault, unexpected};
+use spv_front::fault::{Fault, out_of_levels, unexpected};
 use spv_front::front::{after, first_line, front, is_sign, name, past_sign, past_word};
 use spv_front::lists::{PartReader, is_name, several};
 use spv_syntax::{Constant, Field, Name, Scalar, Several, TypeDenoter, TypeForm};
@@ -28,16 +29,16 @@ impl PartReader<Name> for NameReader {
 
 /// name {"," name}
 pub fn names(alloc: Global, tokens: &[Token]) -> Result<(Several<Name>, &[Token]), Fault>
-    ensures read { IfOk result (λ r. read_names tokens.now ≡ Some (r.0, r.1.now)) }
-    ensures absent { IsErrAnd result IsSyntax → read_names tokens.now ≡ None }
+    ensures read { IfOk result (λ r. read_names tokens.now ≡ Read (r.0, r.1.now)) }
+    ensures absent { (s : Stop) → IsErrAnd result (IsStop s) → read_names tokens.now ≡ Halted s }
 {
     several::<NameReader, Name>(alloc, 0, Sign::Comma, tokens)
 }
 
 // constant, behind `constant ".."`
 fn upper(line: u32, low: Constant, tokens: &[Token]) -> Result<(TypeDenoter, &[Token]), Fault>
-    ensures read { IfOk result (λ r. read_upper line low tokens.now ≡ Some (r.0, r.1.now)) }
-    ensures absent { IsErrAnd result IsSyntax → read_upper line low tokens.now ≡ None }
+    ensures read { IfOk result (λ r. read_upper line low tokens.now ≡ Read (r.0, r.1.now)) }
+    ensures absent { (s : Stop) → IsErrAnd result (IsStop s) → read_upper line low tokens.now ≡ Halted s }
 {
     match constant(tokens) {
         Ok((high, rest)) => {
@@ -54,8 +55,8 @@ fn range_behind(
     low: Constant,
     tokens: &[Token],
 ) -> Result<(TypeDenoter, &[Token]), Fault>
-    ensures read { IfOk result (λ r. read_range_behind line low tokens.now ≡ Some (r.0, r.1.now)) }
-    ensures absent { IsErrAnd result IsSyntax → read_range_behind line low tokens.now ≡ None }
+    ensures read { IfOk result (λ r. read_range_behind line low tokens.now ≡ Read (r.0, r.1.now)) }
+    ensures absent { (s : Stop) → IsErrAnd result (IsStop s) → read_range_behind line low tokens.now ≡ Halted s }
 {
     let rest = past_sign(Sign::Range, tokens)?;
     upper(line, low, rest)
@@ -63,8 +64,8 @@ fn range_behind(
 
 // constant ".." constant
 fn range(tokens: &[Token]) -> Result<(TypeDenoter, &[Token]), Fault>
-    ensures read { IfOk result (λ r. read_range tokens.now ≡ Some (r.0, r.1.now)) }
-    ensures absent { IsErrAnd result IsSyntax → read_range tokens.now ≡ None }
+    ensures read { IfOk result (λ r. read_range tokens.now ≡ Read (r.0, r.1.now)) }
+    ensures absent { (s : Stop) → IsErrAnd result (IsStop s) → read_range tokens.now ≡ Halted s }
 {
     let line = first_line(tokens);
     match constant(tokens) {
@@ -75,8 +76,8 @@ fn range(tokens: &[Token]) -> Result<(TypeDenoter, &[Token]), Fault>
 
 // name [".." constant], behind the name
 fn type_name(first: Name, tokens: &[Token]) -> Result<(TypeDenoter, &[Token]), Fault>
-    ensures read { IfOk result (λ r. read_type_name first tokens.now ≡ Some (r.0, r.1.now)) }
-    ensures absent { IsErrAnd result IsSyntax → read_type_name first tokens.now ≡ None }
+    ensures read { IfOk result (λ r. read_type_name first tokens.now ≡ Read (r.0, r.1.now)) }
+    ensures absent { (s : Stop) → IsErrAnd result (IsStop s) → read_type_name first tokens.now ≡ Halted s }
 {
     let line = first.line;
     if is_sign(Sign::Range, tokens) {
@@ -95,8 +96,8 @@ fn type_name(first: Name, tokens: &[Token]) -> Result<(TypeDenoter, &[Token]), F
 
 // name, behind "^"
 fn pointer(line: u32, tokens: &[Token]) -> Result<(TypeDenoter, &[Token]), Fault>
-    ensures read { IfOk result (λ r. read_pointer line tokens.now ≡ Some (r.0, r.1.now)) }
-    ensures absent { IsErrAnd result IsSyntax → read_pointer line tokens.now ≡ None }
+    ensures read { IfOk result (λ r. read_pointer line tokens.now ≡ Read (r.0, r.1.now)) }
+    ensures absent { (s : Stop) → IsErrAnd result (IsStop s) → read_pointer line tokens.now ≡ Halted s }
 {
     let (to, rest) = name(tokens)?;
     let form = TypeForm::Pointer(to);
@@ -110,11 +111,11 @@ fn lower_type(
     levels: u32,
     tokens: &[Token],
 ) -> Result<(TypeDenoter, &[Token]), Fault>
-    ensures read { IfOk result (λ r. read_lower_type levels tokens.now ≡ Some (r.0, r.1.now)) }
-    ensures absent { IsErrAnd result IsSyntax → read_lower_type levels tokens.now ≡ None }
+    ensures read { IfOk result (λ r. read_lower_type levels tokens.now ≡ Read (r.0, r.1.now)) }
+    ensures absent { (s : Stop) → IsErrAnd result (IsStop s) → read_lower_type levels tokens.now ≡ Halted s }
 {
     if levels == 0 {
-        return Err(unexpected(tokens));
+        return Err(out_of_levels(tokens));
     }
     type_denoter(alloc, levels - 1, tokens)
 }
@@ -126,8 +127,8 @@ fn more_types(
     levels: u32,
     tokens: &[Token],
 ) -> Result<(Vec<TypeDenoter>, &[Token]), Fault>
-    ensures read { IfOk result (λ r. read_more_types (read_lower_type levels) tokens.now ≡ Some (more_types_of r.0.items, r.1.now)) }
-    ensures absent { IsErrAnd result IsSyntax → read_more_types (read_lower_type levels) tokens.now ≡ None }
+    ensures read { IfOk result (λ r. read_more_types (read_lower_type levels) tokens.now ≡ Read (more_types_of r.0.items, r.1.now)) }
+    ensures absent { (s : Stop) → IsErrAnd result (IsStop s) → read_more_types (read_lower_type levels) tokens.now ≡ Halted s }
 {
     let mut types = Vec::new(alloc);
     let mut rest = tokens;
@@ -150,8 +151,8 @@ fn array(
     line: u32,
     tokens: &[Token],
 ) -> Result<(TypeDenoter, &[Token]), Fault>
-    ensures read { IfOk result (λ r. read_array (read_lower_type levels) line tokens.now ≡ Some (r.0, r.1.now)) }
-    ensures absent { IsErrAnd result IsSyntax → read_array (read_lower_type levels) line tokens.now ≡ None }
+    ensures read { IfOk result (λ r. read_array (read_lower_type levels) line tokens.now ≡ Read (r.0, r.1.now)) }
+    ensures absent { (s : Stop) → IsErrAnd result (IsStop s) → read_array (read_lower_type levels) line tokens.now ≡ Halted s }
 {
     let rest = past_sign(Sign::OpenBracket, tokens)?;
     let (first, rest) = lower_type(alloc, levels, rest)?;
@@ -168,8 +169,8 @@ fn array(
 // names ":" type, one level down
 #[cycle(types)]
 fn named_field(alloc: Global, levels: u32, tokens: &[Token]) -> Result<(Field, &[Token]), Fault>
-    ensures read { IfOk result (λ r. read_named_field (read_lower_type levels) tokens.now ≡ Some (r.0, r.1.now)) }
-    ensures absent { IsErrAnd result IsSyntax → read_named_field (read_lower_type levels) tokens.now ≡ None }
+    ensures read { IfOk result (λ r. read_named_field (read_lower_type levels) tokens.now ≡ Read (r.0, r.1.now)) }
+    ensures absent { (s : Stop) → IsErrAnd result (IsStop s) → read_named_field (read_lower_type levels) tokens.now ≡ Halted s }
 {
     let line = first_line(tokens);
     let (names, rest) = names(alloc, tokens)?;
@@ -182,8 +183,8 @@ fn named_field(alloc: Global, levels: u32, tokens: &[Token]) -> Result<(Field, &
 // [names ":" type]
 #[cycle(types)]
 fn field(alloc: Global, levels: u32, tokens: &[Token]) -> Result<(Field, &[Token]), Fault>
-    ensures read { IfOk result (λ r. read_field_part (read_lower_type levels) tokens.now ≡ Some (r.0, r.1.now)) }
-    ensures absent { IsErrAnd result IsSyntax → read_field_part (read_lower_type levels) tokens.now ≡ None }
+    ensures read { IfOk result (λ r. read_field_part (read_lower_type levels) tokens.now ≡ Read (r.0, r.1.now)) }
+    ensures absent { (s : Stop) → IsErrAnd result (IsStop s) → read_field_part (read_lower_type levels) tokens.now ≡ Halted s }
 {
     if is_name(tokens) {
         named_field(alloc, levels, tokens)
@@ -200,8 +201,8 @@ fn more_fields(
     levels: u32,
     tokens: &[Token],
 ) -> Result<(Vec<Field>, &[Token]), Fault>
-    ensures read { IfOk result (λ r. read_more_fields (read_lower_type levels) tokens.now ≡ Some (more_fields_of r.0.items, r.1.now)) }
-    ensures absent { IsErrAnd result IsSyntax → read_more_fields (read_lower_type levels) tokens.now ≡ None }
+    ensures read { IfOk result (λ r. read_more_fields (read_lower_type levels) tokens.now ≡ Read (more_fields_of r.0.items, r.1.now)) }
+    ensures absent { (s : Stop) → IsErrAnd result (IsStop s) → read_more_fields (read_lower_type levels) tokens.now ≡ Halted s }
 {
     let mut fields = Vec::new(alloc);
     let mut rest = tokens;
@@ -224,8 +225,8 @@ fn record(
     line: u32,
     tokens: &[Token],
 ) -> Result<(TypeDenoter, &[Token]), Fault>
-    ensures read { IfOk result (λ r. read_record (read_lower_type levels) line tokens.now ≡ Some (r.0, r.1.now)) }
-    ensures absent { IsErrAnd result IsSyntax → read_record (read_lower_type levels) line tokens.now ≡ None }
+    ensures read { IfOk result (λ r. read_record (read_lower_type levels) line tokens.now ≡ Read (r.0, r.1.now)) }
+    ensures absent { (s : Stop) → IsErrAnd result (IsStop s) → read_record (read_lower_type levels) line tokens.now ≡ Halted s }
 {
     let (first, rest) = field(alloc, levels, tokens)?;
     let first = Box::new(alloc, first)?;
@@ -242,8 +243,8 @@ pub fn type_denoter(
     levels: u32,
     tokens: &[Token],
 ) -> Result<(TypeDenoter, &[Token]), Fault>
-    ensures read { IfOk result (λ r. read_type levels tokens.now ≡ Some (r.0, r.1.now)) }
-    ensures absent { IsErrAnd result IsSyntax → read_type levels tokens.now ≡ None }
+    ensures read { IfOk result (λ r. read_type levels tokens.now ≡ Read (r.0, r.1.now)) }
+    ensures absent { (s : Stop) → IsErrAnd result (IsStop s) → read_type levels tokens.now ≡ Halted s }
 {
     let line = first_line(tokens);
     match front(tokens) {

@@ -20,13 +20,13 @@ arms_of [] = no_arms
 arms_of (a ∷ others) = arm a.labels a.body.value (arms_of others)
 
 abbrev pub statement_of : StatementForm → Statement
-statement_of (form.Assign d e) = Assign d e
+statement_of (form.Assign d e) = Assign d.value e.value
 statement_of (form.Perform c) = Perform c
-statement_of (form.New line d t) = New line d t
+statement_of (form.New line d t) = New line d.value t
 statement_of (form.Block statements) = block_of statements.items
-statement_of (form.If line e a b) = If line e a.value b.value
-statement_of (form.Case line e arms) = Case line e (arms_of arms.items)
-statement_of (form.While line f e s) = While line (option_map annotation_of f) e s.value
-statement_of (form.Repeat line f s e) = Repeat line (option_map annotation_of f) s.value e
-statement_of (form.For line f count s) = For line (option_map annotation_of f) (counting_of count) s.value
-statement_of (form.Assert a) = Assert (annotation_of a)
+statement_of (form.If line e a b) = If line e.value a.value b.value
+statement_of (form.Case line e arms) = Case line e.value (arms_of arms.value.items)
+statement_of (form.While line f e s) = While line (option_map annotation_of f.value) e.value s.value
+statement_of (form.Repeat line f s e) = Repeat line (option_map annotation_of f.value) s.value e.value
+statement_of (form.For line f count s) = For line (option_map annotation_of f.value) (counting_of count.value) s.value
+statement_of (form.Assert a) = Assert (annotation_of a.value)

@@ -21,25 +21,25 @@ pub struct Statement {
 #[derive(Drop)]
 pub enum StatementForm {
     /// An assignment.
-    Assign(Designator, Expression),
+    Assign(Box<Designator>, Box<Expression>),
     /// A procedure's call.
     Perform(Call),
     /// NEW of a pointer to cells of this type.
-    New(u32, Designator, TypeId),
+    New(u32, Box<Designator>, TypeId),
     /// Statements one after the other; none is the empty statement.
     Block(Vec<Statement>),
     /// An IF; without ELSE the second statement is empty.
-    If(u32, Expression, Box<Statement>, Box<Statement>),
+    If(u32, Box<Expression>, Box<Statement>, Box<Statement>),
     /// A CASE, with the arms that have labels.
-    Case(u32, Expression, Vec<Arm>),
+    Case(u32, Box<Expression>, Box<Vec<Arm>>),
     /// A WHILE.
-    While(u32, Option<Annotation>, Expression, Box<Statement>),
+    While(u32, Box<Option<Annotation>>, Box<Expression>, Box<Statement>),
     /// A REPEAT.
-    Repeat(u32, Option<Annotation>, Box<Statement>, Expression),
+    Repeat(u32, Box<Option<Annotation>>, Box<Statement>, Box<Expression>),
     /// A FOR.
-    For(u32, Option<Annotation>, Counting, Box<Statement>),
+    For(u32, Box<Option<Annotation>>, Box<Counting>, Box<Statement>),
     /// An ASSERT.
-    Assert(Annotation),
+    Assert(Box<Annotation>),
 }
 
 impl Model for Statement {

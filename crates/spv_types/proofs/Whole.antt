@@ -1,9 +1,9 @@
 -- The parts of a text make the whole.
-use Rattle.std.proofs.Common.{◌≡◌, ℕ, Bool, List, Option, Some, None, Ok, Err, refl, sym, ap, ◌∙◌, subst}
+use Rattle.std.proofs.Common.{◌≡◌, List, Option, None, Ok, Err, refl, sym, ap, ◌∙◌, subst}
 use Rattle.spv_syntax.specs.declared.programs.Program.{Program as ProgramText}
 use Rattle.spv_syntax.specs.declared.formula_texts.FormulaText.{FormulaText}
 use Rattle.spv_program.specs.Formulas.{Annotation}
-use Rattle.spv_program.specs.Statements.{Statement, Assert}
+use Rattle.spv_program.specs.Statements.{Assert}
 use Rattle.spv_program.specs.Programs.{Main, Program}
 use Rattle.spv_typing.specs.declared.faults.TypeFault.{TypeFault}
 use Rattle.spv_typing.specs.declared.faults.TypeFault.TheVariants.{Undeclared, DeclaredTwice, LabelTwice, WrongType, Count, Nested, ProcParameter, ControlChanged, Memory}

@@ -89,16 +89,17 @@ pub fn typed(alloc: Global, tree: &spv_syntax::Program, names: &Names) -> Result
 }
 
 // The main block of a formula text: its one ASSERT.
-fn asserted(formula: Annotation) -> Main
-    ensures { main_of result ≡ record { entry = None; exit = None; body = Assert (annotation_of formula) } }
+fn asserted(alloc: Global, formula: Annotation) -> Result<Main, AllocError>
+    ensures { IfOk result (λ m. main_of m ≡ record { entry = None; exit = None; body = Assert (annotation_of formula) }) }
 {
-    Main {
+    let formula = Box::new(alloc, formula)?;
+    Ok(Main {
         entry: None,
         exit: None,
         body: Statement {
             form: StatementForm::Assert(formula),
         },
-    }
+    })
 }
 
 // The declarations of a formula text, and its one ASSERT as a main block.
@@ -109,7 +110,7 @@ fn formula_parts(known: &mut Known, alloc: Global, tree: &FormulaText) -> Result
 {
     declarations(known, alloc, &tree.declarations)?;
     let formula = annotation_at_top(known, alloc, &tree.formula)?;
-    Ok(asserted(formula))
+    Ok(asserted(alloc, formula)?)
 }
 
 // What the program of a formula text ends with.

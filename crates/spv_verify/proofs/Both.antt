@@ -34,7 +34,7 @@ by_reading text f r is (Tokens lex.TextTooLong) (above, long) told = let short :
 by_reading text f r is (Tokens lex.Memory) stops told = none-some _ told
 by_reading text f r is (Tree (syntax.Profile line word)) (cut, out) told = none-some _ (sym is.of_text.is_tree.allowed.known ∙ out)
 by_reading text f r is (Tree (syntax.TooDeep line)) (cut, (known, deep)) told = none-some _ (sym is.of_text.is_tree.allowed.shallow ∙ deep)
-by_reading text f r is (Tree (syntax.Syntax line)) (cut, (allowed, none)) told = none is.of_text.tree is.of_text.is_tree.is_tree
+by_reading text f r is (Tree (syntax.Syntax line)) (cut, (allowed, none, line_is)) told = none is.of_text.tree is.of_text.is_tree.is_tree
 by_reading text f r is (Tree syntax.Memory) stops told = none-some _ told
 
 -- a tree is one program

@@ -9,10 +9,16 @@ use Rattle.spv_formula_parser.proofs.+formula.Given as goal
 
 -- each level has twenty places, one for each function
 abbrev pub decreases-formulas::formula : goal.decreases-formulas::formula
-decreases-formulas::formula l = 20 * l.levels + 15
+decreases-formulas::formula l = 20 * l.levels + 16
+
+abbrev pub decreases-formulas::conclusion : goal.decreases-formulas::conclusion
+decreases-formulas::conclusion l = 20 * l.levels + 1
 
 abbrev pub decreases-formulas::relation : goal.decreases-formulas::relation
-decreases-formulas::relation l = 20 * l.levels + 14
+decreases-formulas::relation l = 20 * l.levels + 15
+
+abbrev pub decreases-formulas::right_side : goal.decreases-formulas::right_side
+decreases-formulas::right_side l = 20 * l.levels + 14
 
 abbrev pub decreases-formulas::simple : goal.decreases-formulas::simple
 decreases-formulas::simple l = 20 * l.levels + 13

@@ -20,10 +20,10 @@ pub statements::more_statements-returns-then-not-is_sign-clause-read : goal.stat
 statements::more_statements-returns-then-not-is_sign-clause-read t c = read_list (stopped c.loop.invariant (when_absent _ c.if-not-is_sign.ensures)) (put-more_statements c.loop.more.items)
 
 pub statements::more_statements-returns-in_err-read-clause-absent : goal.statements::more_statements-returns-in_err-read-clause-absent
-statements::more_statements-returns-in_err-read-clause-absent t c h = failed c.loop.invariant c.loop-test.true (when_there (read_lower c.args.levels) c.if-not-is_sign.ensures c.after.ensures (c.in_err-read.ensures.absent (same_fault _ c.from_residual.result c.from_residual.ensures.1 h)))
+statements::more_statements-returns-in_err-read-clause-absent t c s h = failed c.loop.invariant c.loop-test.true (when_there (read_lower c.args.levels) c.if-not-is_sign.ensures c.after.ensures (c.in_err-read.ensures.absent s (same_fault s _ c.from_residual.result c.from_residual.ensures.1 h)))
 
 pub statements::more_statements-loop-preserved : goal.statements::more_statements-loop-preserved
-statements::more_statements-loop-preserved t c = turn c.loop.invariant c.loop-test.true (when_there (read_lower c.args.levels) c.if-not-is_sign.ensures c.after.ensures c.in_ok-read.ensures.read) c.in_ok-push.ensures.items
+statements::more_statements-loop-preserved t c = turn c.loop.invariant c.loop-test.true (when_there (read_lower c.args.levels) c.if-not-is_sign.ensures c.after.ensures c.in_ok-read.ensures.read) c.in_ok-push.ensures
 
 pub statements::more_statements-returns-clause-read : goal.statements::more_statements-returns-clause-read
 statements::more_statements-returns-clause-read t c = read_list (over c.loop.invariant (omega (arith, c.loop-test.false))) (put-more_statements c.loop.more.items)
@@ -34,10 +34,10 @@ pub statements::more_arms-returns-then-not-is_sign-clause-read : goal.statements
 statements::more_arms-returns-then-not-is_sign-clause-read t c = read_list (stopped c.loop.invariant (when_absent _ c.if-not-is_sign.ensures)) (put-more_arms c.loop.more.items)
 
 pub statements::more_arms-returns-in_err-read-clause-absent : goal.statements::more_arms-returns-in_err-read-clause-absent
-statements::more_arms-returns-in_err-read-clause-absent t c h = failed c.loop.invariant c.loop-test.true (when_there (read_arm (read_lower c.args.levels)) c.if-not-is_sign.ensures c.after.ensures (c.in_err-read.ensures.absent (same_fault _ c.from_residual.result c.from_residual.ensures.1 h)))
+statements::more_arms-returns-in_err-read-clause-absent t c s h = failed c.loop.invariant c.loop-test.true (when_there (read_arm (read_lower c.args.levels)) c.if-not-is_sign.ensures c.after.ensures (c.in_err-read.ensures.absent s (same_fault s _ c.from_residual.result c.from_residual.ensures.1 h)))
 
 pub statements::more_arms-loop-preserved : goal.statements::more_arms-loop-preserved
-statements::more_arms-loop-preserved t c = turn c.loop.invariant c.loop-test.true (when_there (read_arm (read_lower c.args.levels)) c.if-not-is_sign.ensures c.after.ensures c.in_ok-read.ensures.read) c.in_ok-push.ensures.items
+statements::more_arms-loop-preserved t c = turn c.loop.invariant c.loop-test.true (when_there (read_arm (read_lower c.args.levels)) c.if-not-is_sign.ensures c.after.ensures c.in_ok-read.ensures.read) c.in_ok-push.ensures
 
 pub statements::more_arms-returns-clause-read : goal.statements::more_arms-returns-clause-read
 statements::more_arms-returns-clause-read t c = read_list (over c.loop.invariant (omega (arith, c.loop-test.false))) (put-more_arms c.loop.more.items)

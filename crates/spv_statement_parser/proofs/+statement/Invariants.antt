@@ -44,6 +44,9 @@ decreases-statements::block_behind l = 20 * l.levels + 4
 abbrev pub decreases-statements::more_arms : goal.decreases-statements::more_arms
 decreases-statements::more_arms l = 20 * l.levels + 3
 
+abbrev pub decreases-statements::boxed_arms : goal.decreases-statements::boxed_arms
+decreases-statements::boxed_arms l = 20 * l.levels + 4
+
 abbrev pub decreases-statements::arm : goal.decreases-statements::arm
 decreases-statements::arm l = 20 * l.levels + 2
 

@@ -48,7 +48,7 @@ conclusion_falls line left (Some f) = omega arith
 pub formula_falls : (a : formula.Inside) → deep-Formula a ≤ suc (relation_size a.left + conclusion_size (conclusion_of a.right))
 formula_falls a = conclusion_falls a.line a.left a.right
 
-right_side_falls : (line : ℕ) (left : Simple) (right : Option (Comparison × Simple)) →
+right_side_falls : (line : ℕ) (left : Simple) (right : Option (Box (Comparison × Simple) Global)) →
     deep-Relation (record { line = line; left = left; right = right }) ≤ suc (simple_size left + right_side_size (right_side_of right))
 right_side_falls line left None = omega arith
 right_side_falls line left (Some r) = omega arith
@@ -68,7 +68,7 @@ form_falls line (Truth b) = omega arith
 form_falls line Nil = omega arith
 form_falls line (Class x) = omega arith
 form_falls line (Place d) = omega arith
-form_falls line (Application f first more behind) = omega (arith, most_formulas more.items, most_selectors behind.items)
+form_falls line (Application f a) = omega (arith, most_formulas a.value.more.items, most_selectors a.value.behind.items)
 form_falls line (Bracketed f) = omega arith
 form_falls line (Negation f) = omega arith
 

@@ -35,7 +35,7 @@ form_falls line (form.New d) = omega arith
 form_falls line (form.Block b) = omega arith
 form_falls line (form.If f s None) = omega arith
 form_falls line (form.If f s (Some other)) = omega arith
-form_falls line (form.Case f first more) = omega (arith, most_arms more.items)
+form_falls line (form.Case f first more) = omega (arith, most_arms more.value.items)
 form_falls line (form.Loop invariant l) = omega arith
 form_falls line (form.Assert f) = omega arith
 

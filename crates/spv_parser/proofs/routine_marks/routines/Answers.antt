@@ -7,10 +7,10 @@ use Rattle.spv_parser.proofs.routine_marks.routines.Goals.{then-begins_heading+i
 use Rattle.spv_parser.proofs.routine_marks.routines.Goals as goal
 
 pub returns-in_err-first-clause-absent : goal.returns-in_err-first-clause-absent
-returns-in_err-first-clause-absent c h = begins_none c.loop.invariant c.loop-test.true (sym c.if-begins_heading.ensures) (c.in_err-first.ensures.absent (same_fault _ c.from_residual.result c.from_residual.ensures.1 h))
+returns-in_err-first-clause-absent c s h = begins_none c.loop.invariant c.loop-test.true (sym c.if-begins_heading.ensures) (c.in_err-first.ensures.absent s (same_fault s _ c.from_residual.result c.from_residual.ensures.1 h))
 
 pub returns-in_err-last-clause-absent : goal.returns-in_err-last-clause-absent
-returns-in_err-last-clause-absent c h = ends_none c.loop.invariant c.loop-test.true (sym c.if-begins_heading.ensures) (omega (arith, c.if-begun-gt0.true)) (c.in_err-last.ensures.absent (same_fault _ c.from_residual-in_err-last.result c.from_residual-in_err-last.ensures.1 h))
+returns-in_err-last-clause-absent c s h = ends_none c.loop.invariant c.loop-test.true (sym c.if-begins_heading.ensures) (omega (arith, c.if-begun-gt0.true)) (c.in_err-last.ensures.absent s (same_fault s _ c.from_residual-in_err-last.result c.from_residual-in_err-last.ensures.1 h))
 
 pub returns-else-begun-gt0-clause-read : goal.returns-else-begun-gt0-clause-read
 returns-else-begun-gt0-clause-read c = stops c.loop.invariant (sym c.if-begins_heading.ensures) (omega (arith, c.if-begun-gt0.false))

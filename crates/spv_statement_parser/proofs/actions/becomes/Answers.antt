@@ -1,7 +1,8 @@
-use Rattle.std.proofs.Common.{length, subst, ◌≤◌}
+use Rattle.std.proofs.Common.{length, subst, ◌≤◌, ◌∙◌}
 use Rattle.spv_reading.specs.FormulaReaders.{read_inner, read_formula}
+use Rattle.spv_front.proofs.Exits.{halted}
 use Rattle.spv_statement_parser.proofs.Calls.{no_call}
 use Rattle.spv_statement_parser.proofs.actions.becomes.Goals as goal
 
 pub returns-clause-absent : goal.returns-clause-absent
-returns-clause-absent c h = no_call (read_formula c.args.levels) (read_inner c.args.levels) c.args.name c.args.behind.items c.args.tokens.now (subst (λ xs. 1 ≤ length xs) c.as_slice.ensures.value c.in_default.len_at_least) c.if-is_sign.ensures
+returns-clause-absent c s h = no_call (read_formula c.args.levels) (read_inner c.args.levels) c.args.name c.args.behind.items c.args.tokens.now (subst (λ xs. 1 ≤ length xs) c.as_slice.ensures.value c.in_default.len_at_least) c.if-is_sign.ensures ∙ halted s c.unexpected.result c.unexpected.ensures h

@@ -11,7 +11,7 @@ use Rattle.spv_statement_typing.proofs.heads.counting.Goals as goal
 
 pub returns-clause-ok : goal.returns-clause-ok
 returns-clause-ok c =
-    subst (λ (o : Outcome Counting). IfOk c.head_settled.result (λ r. o ≡ Ok (counting_of r)))
+    subst (λ (o : Outcome Counting). IfOk c.head_settled.result (λ r. o ≡ Ok (counting_of r.value)))
     (sym (counting_is (setting_of c.args.setting.now) c.args.line c.args.x c.args.from.now c.args.to.now c.args.towards (operand_of c.in_ok-a.a) (operand_of c.in_ok-b.b)
     c.from.inside.line c.to.inside.line c.direction_of.result c.in_ok-declared.ensures.ok c.in_ok-a.ensures.ok c.in_ok-b.ensures.ok (ap formula_line c.from.view_is) (ap formula_line c.to.view_is)
     c.direction_of.ensures))

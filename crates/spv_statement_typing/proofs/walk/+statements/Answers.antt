@@ -9,11 +9,11 @@ use Rattle.spv_syntax.specs.Model.StatementSizes.{more_statements_of, more_arms_
 use Rattle.spv_program.specs.Statements.{Statement}
 use Rattle.spv_typed.specs.FormulaViews.{annotation_of}
 use Rattle.spv_typing.specs.Outcomes.{Outcome}
-use Rattle.spv_typing.specs.StatementWalk.{arm_walk}
+use Rattle.spv_typing.specs.StatementWalk.{statement_walk, arm_walk}
 use Rattle.spv_scopes.specs.Answers.{Stops}
 use Rattle.spv_statement_typing.specs.Chains.{so_far, arms_walk}
 use Rattle.spv_statement_typing.specs.Settings.{setting_of}
-use Rattle.spv_statement_typing.proofs.Loops.{chain_more, chain_all, arm_is, arms_stop, arms_all, statement_within, arm_within, repeat_walked}
+use Rattle.spv_statement_typing.proofs.Loops.{chain_more, chain_all, arm_is, arms_stop, arms_all, statement_within, arm_within, repeat_walked, selection_stops}
 use Rattle.spv_statement_typing.proofs.walk.+statements.Goals as goal
 
 -- ---- statements one after the other
@@ -78,12 +78,19 @@ add_arm-returns-in_err-next-in-Some-clause-err t c =
     (c.in_err-next-in-Some.ensures.err c.tree.inside.line c.args.made.now.items) in
     search rules
 
+pub selection-returns-in_err-made-clause-err : goal.selection-returns-in_err-made-clause-err
+selection-returns-in_err-made-clause-err t c =
+    let stopped : Stops c.in_err-made.field-0.0 (statement_walk (setting_of c.args.setting.now) (tree.selection c.args.line c.args.about.now c.args.first.now (more_arms_of c.args.more.now))) =
+    selection_stops (setting_of c.args.setting.now) c.args.line c.args.about.now c.in_ok-value.value.value c.args.first.now c.args.more.now c.in_err-made.field-0.0 c.in_ok-value.ensures.ok
+    c.in_err-made.ensures.err in
+    search rules
+
 -- ---- loops
 
 pub repeated-returns-in-Repeat-clause-err : goal.repeated-returns-in-Repeat-clause-err
 repeated-returns-in-Repeat-clause-err t c =
     subst (λ (o : Outcome Statement). IfErr c.repeat_loop.result (λ e. Stops e o))
-    (repeat_walked (setting_of c.args.setting.now) c.args.line c.inside.inside.line (option_map annotation_of c.args.noted) c.args.inside.now c.inside.inside.form c.in-Repeat.first c.in-Repeat.more
+    (repeat_walked (setting_of c.args.setting.now) c.args.line c.inside.inside.line (option_map annotation_of c.args.noted.value) c.args.inside.now c.inside.inside.form c.in-Repeat.first c.in-Repeat.more
     c.in-Repeat.test c.deref-in-Repeat.result.now c.deref-in-Repeat-2.result.now c.deref-in-Repeat-3.result.now c.inside.view_is c.in-Repeat.is c.deref-in-Repeat.ensures c.deref-in-Repeat-2.ensures.value
     c.deref-in-Repeat-3.ensures)
     c.repeat_loop.ensures.err

@@ -30,7 +30,10 @@ abbrev pub decreases-conditional : goal.decreases-conditional
 decreases-conditional l = 8 * (statement_size l.first.now + otherwise_size (otherwise_of l.other.now)) + 4
 
 abbrev pub decreases-selection : goal.decreases-selection
-decreases-selection l = 8 * (arm_size l.first.now + more_arms_size (more_arms_of l.more.now)) + 5
+decreases-selection l = 8 * (arm_size l.first.now + more_arms_size (more_arms_of l.more.now)) + 6
+
+abbrev pub decreases-boxed_arms : goal.decreases-boxed_arms
+decreases-boxed_arms l = 8 * (arm_size l.first.now + more_arms_size (more_arms_of l.more.now)) + 5
 
 abbrev pub decreases-arms : goal.decreases-arms
 decreases-arms l = 8 * (arm_size l.first.now + more_arms_size (more_arms_of l.more.now)) + 4

@@ -1,0 +1,14 @@
+mod Small
+mod Follows
+mod FormulaFollows
+mod StatementFollows
+mod TypeFollows
+mod DeclarationFollows
+mod RoutineFollows
+mod RuleFollows
+mod Completions
+mod Fitting
+mod Ends
+mod Completing
+mod Going
+mod Texts

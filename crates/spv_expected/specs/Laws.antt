@@ -1,0 +1,19 @@
+-- Where reading stops.
+use Rattle.std.specs.Prelude.{◌≡◌, ℕ, ◌+◌, ◌≤◌, List, ◌∷◌, length}
+use Rattle.spv_tokens.specs.declared.token.Token.{Token}
+use Rattle.spv_begins.specs.Lines.{line_where}
+use Rattle.spv_begins.specs.Begins.{GoesWrongAt}
+use Rattle.spv_reading.specs.Readers.{wrong, deep, Read, Halted, Reader}
+
+-- where reading stops, with as many levels as there may be, the tokens go wrong
+abbrev pub StopsWhereWrong : {A : Type 0} → (ℕ → Reader A) → (List Token → A → Type 0) → Type 0
+StopsWhereWrong read reads = (n : ℕ) (tokens : List Token) (left : ℕ) → read n tokens ≡ Halted (wrong left) → GoesWrongAt reads tokens (line_where tokens left)
+
+-- and where tokens are left behind what is read, they go wrong with the first of these
+abbrev pub LeavesWhatIsWrong : {A : Type 0} → (ℕ → Reader A) → (List Token → A → Type 0) → Type 0
+LeavesWhatIsWrong {A} read reads =
+    (n : ℕ) (tokens : List Token) (x : A) (t : Token) (rest : List Token) → read n tokens ≡ Read (x, t ∷ rest) → GoesWrongAt reads tokens (line_where tokens (length (t ∷ rest)))
+
+-- where no level is left, at least as many tokens are read as there were levels
+abbrev pub LevelsTakeTokens : {A : Type 0} → (ℕ → Reader A) → Type 0
+LevelsTakeTokens read = (n : ℕ) (tokens : List Token) (left : ℕ) → read n tokens ≡ Halted (deep left) → left + n ≤ length tokens

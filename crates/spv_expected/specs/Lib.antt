@@ -1,0 +1,3 @@
+pub mod Expected
+pub mod Machine
+pub mod Laws
