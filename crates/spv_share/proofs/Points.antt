@@ -7,25 +7,16 @@ use Rattle.spv_tableaux.specs.Bounds.{Bound, bound_on, breaks, limits, Meets}
 use Rattle.spv_tableaux.specs.Forms.{rows_of}
 use Rattle.spv_readings.specs.declared.saying.Saying.{Saying}
 use Rattle.spv_readings.specs.declared.saying.Saying.TheVariants.{Above, Below}
-use Rattle.spv_rational.specs.Rational.{Rational}
 use Rattle.spv_simplex.specs.State.{IsTableau, kept_point}
-use Rattle.spv_simplex.specs.Spreading.{IsPointOf, point_in}
 use Rattle.spv_simplex.specs.Checks.{IsFeasible}
 use Rattle.spv_share_rows.specs.declared.standing.Standing.{Standing}
-use Rattle.spv_share_rows.specs.Standing.{IsBack, IsMet, IsMetAt, Stands}
+use Rattle.spv_share_rows.specs.Standing.{IsBack, IsMet, Stands}
 use Rattle.spv_share_rows.specs.Forcing.{HasPoint}
 use Rattle.spv_share_rows.proofs.Meeting.{met_point, stands_point}
 use Rattle.spv_share.specs.States.{HasOrder, IsApart, by_point, by_bounds}
 
 pub split_above : (b : Standing) (row : ℕ) → IsTableau b.tableau → IsFeasible b.tableau → IsMet b row Above → IsApart b row
 split_above b row kept met at_point = by_point (inl (met_point b row Above kept met at_point))
-
--- another point
-pub point_above : (b : Standing) (row : ℕ) (values : List Rational) → IsPointOf b.tableau values → IsMetAt b row Above (point_in values) → IsApart b row
-point_above b row values p met = by_point (inl (record { point = point_in values; solution = p.solution; stand = p.meets; meets = met }))
-
-pub point_below : (b : Standing) (row : ℕ) (values : List Rational) → IsPointOf b.tableau values → IsMetAt b row Below (point_in values) → IsApart b row
-point_below b row values p met = by_point (inr (record { point = point_in values; solution = p.solution; stand = p.meets; meets = met }))
 
 pub split_below : (b : Standing) (row : ℕ) → IsTableau b.tableau → IsFeasible b.tableau → IsMet b row Below → IsApart b row
 split_below b row kept met at_point = by_point (inr (met_point b row Below kept met at_point))

@@ -7,7 +7,6 @@ ghost use Rattle.spv_course.specs.Course.{facts};
 ghost use Rattle.spv_course.specs.Derived.{is_number};
 ghost use Rattle.spv_simplex.specs.State.{IsTableau};
 ghost use Rattle.spv_simplex.specs.Checks.{IsFeasible};
-ghost use Rattle.spv_simplex.specs.Spreading.{IsPointOf};
 ghost use Rattle.spv_share_rows.specs.Standing.{IsStanding};
 ghost use Rattle.spv_share.specs.declared.relations.Related.{Related};
 ghost use Rattle.spv_share.specs.declared.both.Both.{Both};
@@ -21,7 +20,6 @@ use spv_frac::Frac;
 use spv_list::List;
 use spv_readings::Saying;
 use spv_share_rows::Tried;
-use spv_simplex::Spread;
 use spv_term::Terms;
 use std::alloc::{AllocError, Global};
 
@@ -34,20 +32,6 @@ pub(crate) enum Sought {
     Joined,
     // A check of the tableau was stopped.
     Stopped,
-}
-
-// So many equalities are looked at one by one, each with a check of the tableau, and no other point is made first.
-const FEW: usize = 16;
-
-// How many wait.
-fn count_waiting(waits: &[bool]) -> usize {
-    let mut count = 0usize;
-    for waiting in waits {
-        if *waiting && count < usize::MAX {
-            count += 1;
-        }
-    }
-    count
 }
 
 impl Both {
@@ -130,67 +114,6 @@ impl Both {
         }
     }
 
-    // Whether another point has the sides of an equality at a distance of 1 or more.
-    fn is_split_at(&self, point: &Spread, related: Related) -> bool
-        requires standing { IsStanding self.now.standing }
-        requires row { related.row < length self.now.standing.tableau.forms }
-        requires point { IsPointOf self.now.standing.tableau point.now }
-        ensures { IsTrue result → IsApart self.now.standing related.row }
-    {
-        self.standing.is_met_at(point, related.row, Saying::Above)
-            || self.standing.is_met_at(point, related.row, Saying::Below)
-    }
-
-    // The relation at a place waits no more, if another point keeps its sides apart.
-    fn sift_point(&self, terms: &Terms, waits: &mut Vec<bool>, point: &Spread, place: usize)
-        requires sound { IsSound terms.now self.now }
-        requires point { IsPointOf self.now.standing.tableau point.now }
-        requires place { place < length self.now.relations.items }
-        requires sifted { AreSifted self.now waits.old.items }
-        ensures { AreSifted self.now waits.new.items }
-    {
-        let _ = terms;
-        if !waits[place] {
-            return;
-        }
-        let related = self.relations[place];
-        if self.is_split_at(point, related) {
-            waits[place] = false;
-        }
-    }
-
-    // Those that another point keeps apart wait no more.
-    fn sift_points(&self, terms: &Terms, waits: &mut Vec<bool>, point: &Spread)
-        requires sound { IsSound terms.now self.now }
-        requires point { IsPointOf self.now.standing.tableau point.now }
-        requires sifted { AreSifted self.now waits.old.items }
-        ensures { AreSifted self.now waits.new.items }
-    {
-        for place in 0..self.relations.as_slice().len() {
-            self.sift_point(terms, waits, point, place);
-        }
-    }
-
-    // Where many wait, another point is made that keeps as many apart as it can: one pass over the columns in place of a check for each
-    // column.
-    fn sift_many(
-        &self,
-        alloc: Global,
-        terms: &Terms,
-        waits: &mut Vec<bool>,
-    ) -> Result<(), AllocError>
-        requires sound { IsSound terms.now self.now }
-        requires point { IsFeasible self.now.standing.tableau }
-        requires sifted { AreSifted self.now waits.old.items }
-        ensures { OnOk result (AreSifted self.now waits.new.items) }
-    {
-        if count_waiting(waits.as_slice()) > FEW {
-            let point = self.standing.tableau.spread(alloc)?;
-            self.sift_points(terms, waits, &point);
-        }
-        Ok(())
-    }
-
     // Which of the relations wait: equalities that the graph does not join, and that neither bounds nor the kept point keep apart.
     fn candidates(&self, alloc: Global, terms: &Terms) -> Result<Vec<bool>, AllocError>
         requires sound { IsSound terms.now self.now }
@@ -200,7 +123,6 @@ impl Both {
         let count = self.relations.as_slice().len();
         let mut waits = vec![in alloc; true; count]?;
         self.sift(terms, &mut waits);
-        self.sift_many(alloc, terms, &mut waits)?;
         Ok(waits)
     }
 

@@ -12,7 +12,7 @@ use Rattle.spv_rational.specs.Rational.{Rational, number}
 use Rattle.spv_atoms.specs.Linear.{IdForm}
 use Rattle.spv_tableaux.specs.declared.side.Side.{Side}
 use Rattle.spv_tableaux.specs.declared.side.Side.TheVariants.{Lower, Upper}
-use Rattle.spv_tableaux.specs.Rows.{column_of, Point}
+use Rattle.spv_tableaux.specs.Rows.{column_of}
 use Rattle.spv_tableaux.specs.Bounds.{Bound, bound_on, breaks}
 use Rattle.spv_simplex.specs.State.{kept_point, rows_in}
 use Rattle.spv_readings.specs.declared.saying.Saying.{Saying}
@@ -22,7 +22,7 @@ use Rattle.spv_bounds.specs.declared.bounds.Bounds.{Bounds}
 use Rattle.spv_bounds.specs.Bounds.{bound_at, bounds_in, has_room}
 use Rattle.spv_bounds.specs.Laws.{LowerIsFound, UpperIsFound}
 use Rattle.spv_share_rows.specs.declared.standing.Standing.{Standing}
-use Rattle.spv_share_rows.specs.Standing.{IsMetAt, KeepsWithin, Stands, StandsOn}
+use Rattle.spv_share_rows.specs.Standing.{IsMet, KeepsWithin, Stands, StandsOn}
 use Rattle.spv_steps.specs.Trail.{bound_of}
 use Rattle.spv_share_rows.proofs.Forms.{form_at}
 use Rattle.spv_share_rows.proofs.Adding.{constant_is}
@@ -92,12 +92,12 @@ keeps_within : (side : Side) (o : Option Fraction) (value : Rational) → KeepsW
 keeps_within side None value h w e = absurd (cc)
 keeps_within side (Some v) value h w e = ap (λ k. breaks side (number k) value) (sym (same_Some v w e)) ∙ h
 
-pub all_met : LowerIsFound → UpperIsFound → (b : Standing) (row : ℕ) (x : Saying) (z : ℤ) (bs : Bounds) (value : Rational) (v : Point) → ((f : IdForm) → slice_get b.tableau.forms row ≡ Some f → z ≡ f.constant) → has_room z ≡ true
-    → ((row : ℕ) → bounds_in row bs ≡ bounds_of row (to_z w128 (of_z w128 z)) x) → value ≡ v (column_of (rows_in b.tableau) row)
-    → KeepsWithin Lower bs.lower value → KeepsWithin Upper bs.upper value → IsMetAt b row x v
-all_met lower upper b row x z bs value at_point constant room are is low high = record {
+pub all_met : LowerIsFound → UpperIsFound → (b : Standing) (row : ℕ) (x : Saying) (z : ℤ) (bs : Bounds) (value : Rational) → ((f : IdForm) → slice_get b.tableau.forms row ≡ Some f → z ≡ f.constant) → has_room z ≡ true
+    → ((row : ℕ) → bounds_in row bs ≡ bounds_of row (to_z w128 (of_z w128 z)) x) → value ≡ kept_point b.tableau (column_of (rows_in b.tableau) row)
+    → KeepsWithin Lower bs.lower value → KeepsWithin Upper bs.upper value → IsMet b row x
+all_met lower upper b row x z bs value constant room are is low high = record {
   each = λ f at.
-      by_sides lower upper (λ side w. breaks side w (at_point (column_of (rows_in b.tableau) row)) ≡ false) row x z bs f (constant f at) room are
+      by_sides lower upper (λ side v. breaks side v (kept_point b.tableau (column_of (rows_in b.tableau) row)) ≡ false) row x z bs f (constant f at) room are
       (λ w e. ap (breaks Lower (number w)) (sym is) ∙ keeps_within Lower bs.lower value low w e)
       (λ w e. ap (breaks Upper (number w)) (sym is) ∙ keeps_within Upper bs.upper value high w e);
 }

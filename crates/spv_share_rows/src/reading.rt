@@ -1,14 +1,13 @@
 //! What stands on a row.
 
 ghost use Rattle.std.specs.Prelude.{◌≡◌, ◌<◌, ◌≤◌, List, [], length, Some, false, IfOk, IsTrue};
-ghost use Rattle.spv_simplex.specs.Spreading.{IsPointOf, point_in};
 ghost use Rattle.spv_simplex.specs.State.{with_first};
 ghost use Rattle.spv_tableaux.specs.Numbers.{is_less};
 ghost use Rattle.spv_tableaux.specs.Bounds.{Bound, bound_on, breaks};
 ghost use Rattle.spv_simplex.specs.Checks.{HoldsAsserted};
 ghost use Rattle.spv_atom_rows.specs.Rows.{HaveRoom};
 ghost use Rattle.spv_rational.specs.Rational.{number};
-ghost use Rattle.spv_share_rows.specs.Standing.{IsMet, IsMetAt, IsStanding, KeepsWithin, Stands, StandsOn};
+ghost use Rattle.spv_share_rows.specs.Standing.{IsMet, IsStanding, KeepsWithin, Stands, StandsOn};
 
 use crate::standing::Standing;
 use spv_atoms::Linear;
@@ -16,7 +15,7 @@ use spv_bounds::{RowSources, bounds_of, law_sides};
 use spv_frac::{Frac, law_frac};
 use spv_number::Number;
 use spv_readings::Saying;
-use spv_simplex::{Mark, Side, Spread, Tableau, can_open, law_asserted};
+use spv_simplex::{Mark, Side, Tableau, can_open, law_asserted};
 use std::alloc::{AllocError, Global};
 
 // Whether two fractions are one number.
@@ -114,19 +113,6 @@ impl Standing {
         law_sides();
         let bounds = bounds_of(self.constant(row), saying);
         let value = Number::of(self.tableau.row_value(row));
-        is_within(Side::Lower, bounds.lower, value) && is_within(Side::Upper, bounds.upper, value)
-    }
-
-    /// The same for another point.
-    pub fn is_met_at(&self, point: &Spread, row: u32, saying: Saying) -> bool
-        requires standing { IsStanding self.now }
-        requires point { IsPointOf self.now.tableau point.now }
-        requires row { row < length self.now.tableau.forms }
-        ensures { IsTrue result → IsMetAt self.now row saying (point_in point.now) }
-    {
-        law_sides();
-        let bounds = bounds_of(self.constant(row), saying);
-        let value = Number::of(self.tableau.row_value_at(point, row));
         is_within(Side::Lower, bounds.lower, value) && is_within(Side::Upper, bounds.upper, value)
     }
 }

@@ -5,4 +5,3 @@ pub mod Held
 pub mod Searches
 pub mod Checking
 pub mod Accepting
-pub mod MovingOn

@@ -1,5 +1,5 @@
 -- The value of a term at the kept point.
-use Rattle.std.proofs.Common.{◌≡◌, ℕ, ◌+◌, ◌<◌, true, List, length, Option, Some, slice_index_or, sym, ap, ◌∙◌, subst, arith}
+use Rattle.std.proofs.Common.{◌≡◌, ℕ, ◌+◌, ◌<◌, true, List, length, Option, Some, slice_index_or, sym, ap, ◌∙◌, arith}
 use Rattle.std.specs.List.{list_any, position}
 use Rattle.std.specs.Option.{IsSome}
 use Rattle.std.proofs.lemmas.List.{take_all, get_or_default}
@@ -11,7 +11,7 @@ use Rattle.spv_rational.proofs.Field.{same, number_is}
 use Rattle.spv_atoms.specs.Order.{same_id}
 use Rattle.spv_atoms.proofs.Places.{place_there}
 use Rattle.spv_tableaux.specs.Numbers.{nothing}
-use Rattle.spv_tableaux.specs.Rows.{column_of, columns}
+use Rattle.spv_tableaux.specs.Rows.{column_of}
 use Rattle.spv_simplex.specs.State.{State, IsKept, kept_point, rows_in, value_from, value_of}
 use Rattle.spv_steps.specs.Trail.{Trail}
 
@@ -33,29 +33,14 @@ value_is s ids trail met capacity k t o place at e r f read is =
     ∙ get_or_default s.values place r nothing (has_value s ids trail met capacity k t o place at e)
     ∙ ap (value_from s) (sym e ∙ at ∙ ap (position (same_id t)) k.ids_are)
 
--- the value of a row's column, among values of all columns
-pub row_value_in : (s : State) (ids : List TermId) (trail : Trail) (met capacity : ℕ) → IsKept s ids trail met capacity → (values : List Rational) → length values ≡ columns (rows_in s) → (row count : ℕ)
-    → row < length s.forms → count ≡ length ids → (r : Rational) (f : Fraction) → r ≡ slice_index_or values (count + row) r → f ≡ r.fraction
-    → number f ≡ slice_index_or values (column_of (rows_in s) row) nothing
-row_value_in s ids trail met capacity k values all row count below many r f read is =
+-- the value of a row's column
+pub row_value_is : (s : State) (ids : List TermId) (trail : Trail) (met capacity : ℕ) → IsKept s ids trail met capacity → (row count : ℕ) → row < length s.forms → count ≡ length ids
+    → (r : Rational) (f : Fraction) → r ≡ slice_index_or s.values (count + row) r → f ≡ r.fraction → number f ≡ kept_point s (column_of (rows_in s) row)
+row_value_is s ids trail met capacity k row count below many r f read is =
     let parts : count ≡ (rows_in s).parts = many ∙ ap (λ i. length i) k.ids_are in
     ap number is ∙ same (number r.fraction) r (number_is r.fraction r.is_lowest) ∙ read
-    ∙ get_or_default values (count + row) r nothing (inside count row (length values) (length s.forms) below parts all)
-    ∙ ap (λ p. slice_index_or values (p + row) nothing) parts
+    ∙ get_or_default s.values (count + row) r nothing (inside count row (length s.values) (length s.forms) below parts k.tableau.count)
+    ∙ ap (λ p. slice_index_or s.values (p + row) nothing) parts
   where
     inside : (p i n m : ℕ) → i < m → p ≡ (rows_in s).parts → n ≡ (rows_in s).parts + m → p + i < n
     inside p i n m h e f = omega (arith, e, f)
-
-pub row_value_is : (s : State) (ids : List TermId) (trail : Trail) (met capacity : ℕ) → IsKept s ids trail met capacity → (row count : ℕ) → row < length s.forms → count ≡ length ids
-    → (r : Rational) (f : Fraction) → r ≡ slice_index_or s.values (count + row) r → f ≡ r.fraction → number f ≡ kept_point s (column_of (rows_in s) row)
-row_value_is s ids trail met capacity k row count below many r f read is = row_value_in s ids trail met capacity k s.values k.tableau.count row count below many r f read is
-
--- the same at another point, as a view of the state has it
-pub row_value_seen : (s now : State) → s ≡ now → (ids : List TermId) (trail : Trail) (met capacity : ℕ) → IsKept s ids trail met capacity → (values point : List Rational) → values ≡ point
-    → length point ≡ columns (rows_in now) → (row count : ℕ) → row < length now.forms → count ≡ length ids → (r : Rational) (f : Fraction) → r ≡ slice_index_or values (count + row) r → f ≡ r.fraction
-    → number f ≡ slice_index_or point (column_of (rows_in now) row) nothing
-row_value_seen s now view ids trail met capacity k values point at all row count below many r f read is =
-    row_value_in s ids trail met capacity k values (ap (λ (v : List Rational). length v) at ∙ subst (λ (x : State). length point ≡ columns (rows_in x)) (sym view) all) row count
-    (subst (λ (x : State). row < length x.forms) (sym view) below) many r f read is
-    ∙ ap (λ (v : List Rational). slice_index_or v (column_of (rows_in s) row) nothing) at
-    ∙ ap (λ (x : State). slice_index_or point (column_of (rows_in x) row) nothing) view

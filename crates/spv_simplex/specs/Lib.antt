@@ -4,4 +4,3 @@ pub mod Evidence
 pub mod Searching
 pub mod Checks
 pub mod Laws
-pub mod Spreading

@@ -8,13 +8,11 @@ mod evidence;
 mod forms;
 mod laws;
 mod searching;
-mod spreading;
 mod tableau;
 
 pub use checked::Checked;
 pub use evidence::Evidence;
 pub use forms::can_open;
 pub use laws::law_asserted;
-pub use spreading::Spread;
 pub use spv_tableaux::Side;
 pub use tableau::{Mark, Tableau};

@@ -12,8 +12,7 @@ ghost use Rattle.spv_tableaux.specs.Forms.{rows_of, part_ids};
 ghost use Rattle.spv_simplex.specs.declared.checked.Checked.TheVariants as checked;
 ghost use Rattle.spv_simplex.specs.State.{IsTableau, IsOpened, LeavesValue, compared, IsUncomparable, MayAssert, kept_point, rows_in, with_bound, with_first, value_of};
 ghost use Rattle.spv_simplex.specs.State as spec;
-ghost use Rattle.spv_simplex.specs.Checks.{IsChecked, IsFeasible, HoldsAsserted};
-ghost use Rattle.spv_simplex.specs.Spreading.{IsPointOf, point_in};
+ghost use Rattle.spv_simplex.specs.Checks.{IsChecked, HoldsAsserted};
 ghost use Rattle.spv_steps.specs.Trail.{bound_of};
 ghost use Rattle.spv_steps.specs.Combining.{multiple_in};
 
@@ -22,7 +21,6 @@ use crate::checked::Checked;
 use crate::evidence::{Evidence, Room};
 use crate::forms::{Form, Parts, forms_of};
 use crate::searching::search;
-use crate::spreading::{Spread, spread_out};
 use spv_atoms::Linear;
 use spv_dictionary::Dictionary;
 use spv_frac::{Frac, TooWide};
@@ -224,28 +222,6 @@ impl Tableau {
         let place = self.parts.len() + row as usize;
         let values = self.values.as_slice();
         values[place].frac()
-    }
-
-    /// The value of a row at another point.
-    pub fn row_value_at(&self, point: &Spread, row: u32) -> Frac
-        requires point { IsPointOf self.now point.now }
-        requires row { row < length self.now.forms }
-        ensures { number result ≡ point_in point.now (column_of (rows_in self.now) row) }
-    {
-        let place = self.parts.len() + row as usize;
-        let values = point.values.as_slice();
-        values[place].frac()
-    }
-
-    /// Another point that meets all bounds: each column outside the basis is at a number of its own there, where the
-    /// bounds let it, so that few rows that may differ from 0 are 0.
-    pub fn spread(&self, alloc: Global) -> Result<Spread, AllocError>
-        requires feasible { IsFeasible self.now }
-        ensures { IfOk result (λ p. IsPointOf self.now p) }
-    {
-        self.dictionary.law_dictionary();
-        let values = spread_out(alloc, &self.dictionary, &self.trail, self.values.as_slice())?;
-        Ok(Spread { values })
     }
 
     /// Asserts a bound on a side of a row that has none there.
