@@ -141,14 +141,17 @@ impl<'k, 'o> Forms for Annotations<'k, 'o> {
         class_at(&self.scope, line, x)
     }
 
+    #[inline(never)]
     fn begin(&self, alloc: Global, line: u32, x: Name) -> Result<Sorted, TypeFault> {
         name_alone(&self.scope, alloc, line, x)
     }
 
+    #[inline(never)]
     fn begin_written(&self, alloc: Global, line: u32, x: Name) -> Result<Sorted, TypeFault> {
         name_alone(&self.scope, alloc, line, x)
     }
 
+    #[inline(never)]
     fn callee(&self, line: u32, x: Name) -> Result<Callee<'k>, TypeFault>
         ensures ok { IfOk result (λ c. (given : List (Argument FormulaText spec.Sorted)) →
             spec.applied (scope_of self.now.scope) line x given ≡ after (given_as (way_in c) 0 given) (applied_to (scope_of self.now.scope) line c)) }
@@ -161,6 +164,7 @@ impl<'k, 'o> Forms for Annotations<'k, 'o> {
         callee.way(place)
     }
 
+    #[inline(never)]
     fn applied(
         &self,
         alloc: Global,
@@ -175,6 +179,7 @@ impl<'k, 'o> Forms for Annotations<'k, 'o> {
         applying::applied(&self.scope, alloc, line, callee, given)
     }
 
+    #[inline(never)]
     fn indexed(
         &self,
         alloc: Global,
@@ -188,6 +193,7 @@ impl<'k, 'o> Forms for Annotations<'k, 'o> {
         indexed_at(self.scope.known, alloc, line, reached, indices)
     }
 
+    #[inline(never)]
     fn field_of(
         &self,
         alloc: Global,
@@ -199,6 +205,7 @@ impl<'k, 'o> Forms for Annotations<'k, 'o> {
     }
 
     #[tactic(auto, using(crate::proofs::Contents::content_is))]
+    #[inline(never)]
     fn content_of(
         &self,
         alloc: Global,
@@ -209,6 +216,7 @@ impl<'k, 'o> Forms for Annotations<'k, 'o> {
         content_at(self.scope.known, alloc, line, at, reached)
     }
 
+    #[inline(never)]
     fn finish(&self, _alloc: Global, reached: Sorted) -> Result<Operand<Formula>, AllocError> {
         let of = reached.sort();
         Ok(Operand::Of(reached.into_formula(), of))
@@ -226,7 +234,7 @@ pub fn annotation(
     ensures ok { IfOk result (λ a. spec.annotation (scope_of scope.now) tree.now ≡ Ok (annotation_of a)) }
     ensures err { IfErr result (λ e. Stops e (spec.annotation (scope_of scope.now) tree.now)) }
 {
-    let line = tree.line;
+    let line = tree.line();
     let operand = formula(&Annotations { scope: *scope }, alloc, tree)?;
     let formula = settled_formula(line, Sort::Bool, operand)?;
     Ok(Annotation { formula, line })

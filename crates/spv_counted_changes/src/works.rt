@@ -142,9 +142,9 @@ fn open_value<'a>(works: &mut Vec<Work<'a>>, value: &'a Expression) -> Result<()
         ExpressionForm::Nil(_) => Ok(()),
         ExpressionForm::Read(d) => push(works, Work::Selectors(d.selectors.as_slice())),
         ExpressionForm::Result(c) => open_call(works, c),
-        ExpressionForm::Through(c, _, _, behind) => {
-            push(works, Work::Selectors(behind.as_slice()))?;
-            open_call(works, c)
+        ExpressionForm::Through(t) => {
+            push(works, Work::Selectors(t.selectors.as_slice()))?;
+            open_call(works, &t.call)
         }
         ExpressionForm::Negative(a) => push(works, Work::Value(a)),
         ExpressionForm::Calculated(_, a, b) => open_both(works, a, b),

@@ -148,14 +148,17 @@ impl<'k, 'o> Forms for Expressions<'k, 'o> {
         Err(class_fault(&self.scope, line, x))
     }
 
+    #[inline(never)]
     fn begin(&self, alloc: Global, line: u32, x: Name) -> Result<Reached, TypeFault> {
         name_read(&self.scope, alloc, line, x)
     }
 
+    #[inline(never)]
     fn begin_written(&self, alloc: Global, line: u32, x: Name) -> Result<Reached, TypeFault> {
         name_written(&self.scope, alloc, line, x)
     }
 
+    #[inline(never)]
     fn callee(&self, line: u32, x: Name) -> Result<Callee<'k>, TypeFault>
         ensures ok { IfOk result (λ c. (given : List (Argument ExpressionText spec.Reached)) →
             spec.applied_of (scope_of self.now.scope) line x (function (scope_of self.now.scope) x.symbol) given
@@ -170,6 +173,7 @@ impl<'k, 'o> Forms for Expressions<'k, 'o> {
         callee.way(place)
     }
 
+    #[inline(never)]
     fn applied(
         &self,
         alloc: Global,
@@ -184,6 +188,7 @@ impl<'k, 'o> Forms for Expressions<'k, 'o> {
         applying::applied(&self.scope, alloc, line, x, callee, given)
     }
 
+    #[inline(never)]
     fn indexed(
         &self,
         alloc: Global,
@@ -197,6 +202,7 @@ impl<'k, 'o> Forms for Expressions<'k, 'o> {
         indexed_at(self.scope.known, alloc, line, reached, indices)
     }
 
+    #[inline(never)]
     fn field_of(
         &self,
         _alloc: Global,
@@ -207,6 +213,7 @@ impl<'k, 'o> Forms for Expressions<'k, 'o> {
         field_at(self.scope.known, line, reached, x)
     }
 
+    #[inline(never)]
     fn content_of(
         &self,
         _alloc: Global,
@@ -217,10 +224,11 @@ impl<'k, 'o> Forms for Expressions<'k, 'o> {
         content_at(self.scope.known, line, at, reached)
     }
 
-    fn finish(&self, _alloc: Global, reached: Reached) -> Result<Operand<Expression>, AllocError> {
+    #[inline(never)]
+    fn finish(&self, alloc: Global, reached: Reached) -> Result<Operand<Expression>, AllocError> {
         let known = self.scope.known;
         let of = known.sort_of(reached.of());
-        Ok(Operand::Of(reached.into_expression(), of))
+        Ok(Operand::Of(reached.into_expression(alloc)?, of))
     }
 
     ghost indexes = { λ s line r given. refl };
@@ -248,7 +256,7 @@ pub fn expression_of(
     ensures ok { IfOk result (λ x. spec.expression_of (scope_of scope.now) wanted tree.now ≡ Ok x) }
     ensures err { IfErr result (λ e. Stops e (spec.expression_of (scope_of scope.now) wanted tree.now)) }
 {
-    let line = tree.line;
+    let line = tree.line();
     let found = operand(scope, alloc, tree)?;
     settled_expression(line, wanted, found)
 }

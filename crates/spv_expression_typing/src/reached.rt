@@ -7,7 +7,7 @@ ghost use Rattle.spv_expression_typing.specs.Views.{base_of, cell_in, first_cell
 
 use spv_logic::TypeId;
 use spv_names::Symbol;
-use spv_typed::{Call, Designator, Expression, ExpressionForm, Selector};
+use spv_typed::{Call, Designator, Expression, ExpressionForm, Selector, Through};
 use std::alloc::{AllocError, Global};
 use std::marker::Model;
 
@@ -110,41 +110,44 @@ fn behind_first(selectors: Vec<Selector>) -> Vec<Selector>
 
 // A function's result, which is followed by `^` where anything follows it.
 #[tactic(auto, using(crate::proofs::Links::result_through, crate::proofs::Links::result_alone))]
-fn result_with(call: Call, selectors: Vec<Selector>) -> ExpressionForm
-    ensures { expression_of result ≡ spec.result_at call (links_of selectors.items) }
+fn result_with(
+    alloc: Global,
+    call: Call,
+    selectors: Vec<Selector>,
+) -> Result<ExpressionForm, AllocError>
+    ensures { IfOk result (λ form. expression_of form ≡ spec.result_at call (links_of selectors.items)) }
 {
-    match first_cell(selectors.as_slice()) {
-        Some((line, t)) => ExpressionForm::Through(call, line, t, behind_first(selectors)),
-        None => ExpressionForm::Result(call),
-    }
+    let Some((line, of)) = first_cell(selectors.as_slice()) else {
+        return Ok(ExpressionForm::Result(call));
+    };
+    let through = Through {
+        call,
+        line,
+        of,
+        selectors: behind_first(selectors),
+    };
+    Ok(ExpressionForm::Through(Box::new(alloc, through)?))
 }
 
 #[tactic(auto, using(crate::proofs::Links::chained_are))]
-fn value_with(base: Base, selectors: Vec<Selector>) -> Expression
-    ensures { result ≡ value_of (base_of base) (links_of selectors.items) }
+fn value_with(alloc: Global, base: Base, selectors: Vec<Selector>) -> Result<Expression, AllocError>
+    ensures { IfOk result (λ e. e ≡ value_of (base_of base) (links_of selectors.items)) }
 {
-    match base {
-        Base::Name(line, name) => Expression {
-            form: ExpressionForm::Read(Designator {
-                line,
-                name,
-                selectors,
-            }),
-        },
-        Base::Result(line, name) => Expression {
-            form: ExpressionForm::Read(Designator {
-                line,
-                name,
-                selectors,
-            }),
-        },
-        Base::Number(z) => Expression {
-            form: ExpressionForm::Numeral(z),
-        },
-        Base::Called(call) => Expression {
-            form: result_with(call, selectors),
-        },
-    }
+    let form = match base {
+        Base::Name(line, name) => ExpressionForm::Read(Designator {
+            line,
+            name,
+            selectors,
+        }),
+        Base::Result(line, name) => ExpressionForm::Read(Designator {
+            line,
+            name,
+            selectors,
+        }),
+        Base::Number(z) => ExpressionForm::Numeral(z),
+        Base::Called(call) => result_with(alloc, call, selectors)?,
+    };
+    Ok(Expression { form })
 }
 
 impl Reached {
@@ -200,9 +203,9 @@ impl Reached {
 
     // The value.
     #[tactic(auto, using(crate::proofs::Links::value_is))]
-    pub(crate) fn into_expression(self) -> Expression
-        ensures { result ≡ spec.expression_at self }
+    pub(crate) fn into_expression(self, alloc: Global) -> Result<Expression, AllocError>
+        ensures { IfOk result (λ e. e ≡ spec.expression_at self) }
     {
-        value_with(self.base, self.selectors)
+        value_with(alloc, self.base, self.selectors)
     }
 }

@@ -10,7 +10,7 @@ use crate::names::prefix;
 use crate::out;
 use crate::spelled::Spelled;
 use spv_syntax::{
-    Designator, Factor, FactorForm, Formula, Relation, Selector, SelectorForm, Simple, Term,
+    Designator, Factor, FactorForm, Formula, Relation, Selector, SelectorForm, Simple, Term, items,
 };
 use spv_tokens::{Sign, TokenKind, Word};
 use std::alloc::AllocError;
@@ -54,7 +54,7 @@ fn simple(tree: &Simple, out: &mut Vec<TokenKind>) -> Result<(), AllocError>
 {
     prefix(tree.prefix, out)?;
     term(&tree.first, out)?;
-    for (operator, part) in &tree.more {
+    for (operator, part) in items(&tree.more) {
         out::token(out::adding(*operator), out)?;
         term(part, out)?;
     }
@@ -67,7 +67,7 @@ fn term(tree: &Term, out: &mut Vec<TokenKind>) -> Result<(), AllocError>
     ensures { OnOk result (Adds (term_spelling in_kinds tree.now) out.old.items out.new.items) }
 {
     factor(&tree.first, out)?;
-    for (operator, part) in &tree.more {
+    for (operator, part) in items(&tree.more) {
         out::token(out::multiplying(*operator), out)?;
         factor(part, out)?;
     }
@@ -131,7 +131,7 @@ fn selector(tree: &Selector, out: &mut Vec<TokenKind>) -> Result<(), AllocError>
         SelectorForm::Index(first, more) => {
             out::sign(Sign::OpenBracket, out)?;
             formula(first, out)?;
-            more_formulas(more, out)?;
+            more_formulas(items(more), out)?;
             out::sign(Sign::CloseBracket, out)?;
             Ok(())
         }

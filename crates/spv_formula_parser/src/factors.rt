@@ -2,6 +2,8 @@
 
 ghost use Rattle.std.specs.Prelude.{◌≡◌, Some, None, IfOk, IsErrAnd};
 ghost use Rattle.spv_syntax.specs.Formulas as plain;
+ghost use Rattle.spv_syntax.specs.Lines.{factor_line};
+ghost use Rattle.spv_syntax.specs.Steps.{first_line};
 ghost use Rattle.spv_syntax.specs.Model.FormulaSizes.{more_formulas_of, selectors_of};
 ghost use Rattle.spv_reading.specs.FormulaReaders.{read_inner, read_factor, read_field, read_more_formulas, read_index, read_selectors, read_application, read_place, read_named, read_bracketed, read_designator};
 ghost use Rattle.spv_reading.specs.Readers as reader;
@@ -15,7 +17,7 @@ use spv_front::fault::{Fault, out_of_levels, unexpected};
 use spv_front::front::{after, first_line, front, is_sign, name, past_sign};
 use spv_front::lists::push;
 use spv_syntax::{
-    Application, Designator, Factor, FactorForm, Formula, Name, Selector, SelectorForm,
+    Application, Designator, Factor, FactorForm, Formula, Name, Selector, SelectorForm, in_box,
 };
 use spv_tokens::{Sign, Token, TokenKind, Word};
 use std::alloc::{AllocError, Global};
@@ -59,6 +61,7 @@ fn index(
     let (first, rest) = inner(alloc, levels, tokens)?;
     let first = Box::new(alloc, first)?;
     let (more, rest) = more_formulas(alloc, levels, rest)?;
+    let more = in_box(alloc, more)?;
     let rest = past_sign(Sign::CloseBracket, rest)?;
     let form = SelectorForm::Index(first, more);
     Ok((Selector { line, form }, rest))
@@ -137,8 +140,7 @@ pub fn designator(
 {
     let (name, rest) = name(tokens)?;
     let (behind, rest) = selectors(alloc, levels, rest)?;
-    let line = name.line;
-    Ok((Designator { line, name, behind }, rest))
+    Ok((Designator { name, behind }, rest))
 }
 
 // An application of a name.
@@ -177,6 +179,7 @@ fn application(
 ) -> Result<(Factor, &[Token]), Fault>
     ensures read { IfOk result (λ r. read_application (read_inner levels) f tokens.now ≡ Read (r.0, r.1.now)) }
     ensures absent { (s : Stop) → IsErrAnd result (IsStop s) → read_application (read_inner levels) f tokens.now ≡ Halted s }
+    ensures line { IfOk result (λ r. factor_line r.0 ≡ f.line) }
 {
     let (first, rest) = inner(alloc, levels, tokens)?;
     let (more, rest) = more_formulas(alloc, levels, rest)?;
@@ -196,10 +199,11 @@ fn place(
 ) -> Result<(Factor, &[Token]), Fault>
     ensures read { IfOk result (λ r. read_place (read_inner levels) name tokens.now ≡ Read (r.0, r.1.now)) }
     ensures absent { (s : Stop) → IsErrAnd result (IsStop s) → read_place (read_inner levels) name tokens.now ≡ Halted s }
+    ensures line { IfOk result (λ r. factor_line r.0 ≡ name.line) }
 {
     let (behind, rest) = selectors(alloc, levels, tokens)?;
     let line = name.line;
-    let form = FactorForm::Place(Designator { line, name, behind });
+    let form = FactorForm::Place(Designator { name, behind });
     Ok((Factor { line, form }, rest))
 }
 
@@ -208,6 +212,7 @@ fn place(
 fn named(alloc: Global, levels: u32, x: Name, tokens: &[Token]) -> Result<(Factor, &[Token]), Fault>
     ensures read { IfOk result (λ r. read_named (read_inner levels) x tokens.now ≡ Read (r.0, r.1.now)) }
     ensures absent { (s : Stop) → IsErrAnd result (IsStop s) → read_named (read_inner levels) x tokens.now ≡ Halted s }
+    ensures line { IfOk result (λ r. factor_line r.0 ≡ x.line) }
 {
     if is_sign(Sign::OpenParenthesis, tokens) {
         application(alloc, levels, x, after(tokens))
@@ -227,6 +232,7 @@ fn bracketed(
 ) -> Result<(Factor, &[Token]), Fault>
     ensures read { IfOk result (λ r. read_bracketed (read_inner levels) line tokens.now ≡ Read (r.0, r.1.now)) }
     ensures absent { (s : Stop) → IsErrAnd result (IsStop s) → read_bracketed (read_inner levels) line tokens.now ≡ Halted s }
+    ensures line { IfOk result (λ r. factor_line r.0 ≡ line) }
 {
     let (read, rest) = inner(alloc, levels, tokens)?;
     let read = Box::new(alloc, read)?;
@@ -239,6 +245,7 @@ fn bracketed(
 fn class(line: u32, tokens: &[Token]) -> Result<(Factor, &[Token]), Fault>
     ensures read { IfOk result (λ r. read_class line tokens.now ≡ Read (r.0, r.1.now)) }
     ensures absent { (s : Stop) → IsErrAnd result (IsStop s) → read_class line tokens.now ≡ Halted s }
+    ensures line { IfOk result (λ r. factor_line r.0 ≡ line) }
 {
     let (x, rest) = name(tokens)?;
     let form = FactorForm::Class(x);
@@ -256,6 +263,7 @@ fn negation(
 ) -> Result<(Factor, &[Token]), Fault>
     ensures read { IfOk result (λ r. read_negation levels line tokens.now ≡ Read (r.0, r.1.now)) }
     ensures absent { (s : Stop) → IsErrAnd result (IsStop s) → read_negation levels line tokens.now ≡ Halted s }
+    ensures line { IfOk result (λ r. factor_line r.0 ≡ line) }
 {
     if levels == 0 {
         return Err(out_of_levels(tokens));
@@ -270,6 +278,7 @@ fn negation(
 fn any_factor(alloc: Global, levels: u32, tokens: &[Token]) -> Result<(Factor, &[Token]), Fault>
     ensures read { IfOk result (λ r. factor_at levels tokens.now ≡ Read (r.0, r.1.now)) }
     ensures absent { (s : Stop) → IsErrAnd result (IsStop s) → factor_at levels tokens.now ≡ Halted s }
+    ensures line { IfOk result (λ r. factor_line r.0 ≡ first_line tokens.now) }
 {
     let [first, rest @ ..] = tokens else {
         return Err(unexpected(tokens));
@@ -294,6 +303,7 @@ fn any_factor(alloc: Global, levels: u32, tokens: &[Token]) -> Result<(Factor, &
 pub fn factor(alloc: Global, levels: u32, tokens: &[Token]) -> Result<(Factor, &[Token]), Fault>
     ensures read { IfOk result (λ r. read_factor levels tokens.now ≡ Read (r.0, r.1.now)) }
     ensures absent { (s : Stop) → IsErrAnd result (IsStop s) → read_factor levels tokens.now ≡ Halted s }
+    ensures line { IfOk result (λ r. factor_line r.0 ≡ first_line tokens.now) }
 {
     any_factor(alloc, levels, tokens)
 }

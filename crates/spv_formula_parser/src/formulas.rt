@@ -2,6 +2,8 @@
 
 ghost use Rattle.std.specs.Prelude.{◌≡◌, Some, None, IfOk, IsErrAnd};
 ghost use Rattle.spv_syntax.specs.FormulaViews.{conclusion_of, right_side_of};
+ghost use Rattle.spv_syntax.specs.Lines.{relation_line, simple_line, term_line};
+ghost use Rattle.spv_syntax.specs.Steps.{first_line};
 ghost use Rattle.spv_syntax.specs.Model.FormulaSizes.{more_terms_of, more_factors_of};
 ghost use Rattle.spv_reading.specs.Readers as reader;
 ghost use Rattle.spv_reading.specs.FormulaReaders.{comparison_of, adding_of, multiplying_of, read_inner, read_factor, read_more_factors, read_term, read_more_terms, read_sum, read_simple, right_side_by, read_relation, read_conclusion, read_formula};
@@ -14,7 +16,7 @@ use spv_front::fault::{Fault, out_of_levels};
 use spv_front::front::{after, first_line, front, is_sign};
 use spv_front::lists::push;
 use spv_syntax::{
-    Adding, Comparison, Factor, Formula, Multiplying, PlusOrMinus, Relation, Simple, Term,
+    Adding, Comparison, Factor, Formula, Multiplying, PlusOrMinus, Relation, Simple, Term, in_box,
 };
 use spv_tokens::{Sign, Token, TokenKind, Word};
 use std::alloc::Global;
@@ -88,11 +90,12 @@ fn more_factors(
 fn term(alloc: Global, levels: u32, tokens: &[Token]) -> Result<(Term, &[Token]), Fault>
     ensures read { IfOk result (λ r. read_term (read_factor levels) tokens.now ≡ Read (r.0, r.1.now)) }
     ensures absent { (s : Stop) → IsErrAnd result (IsStop s) → read_term (read_factor levels) tokens.now ≡ Halted s }
+    ensures line { IfOk result (λ r. term_line r.0 ≡ first_line tokens.now) }
 {
-    let line = first_line(tokens);
     let (first, rest) = factor(alloc, levels, tokens)?;
     let (more, rest) = more_factors(alloc, levels, rest)?;
-    Ok((Term { line, first, more }, rest))
+    let more = in_box(alloc, more)?;
+    Ok((Term { first, more }, rest))
 }
 
 // {("+" | "-" | OR) term}
@@ -130,9 +133,11 @@ fn sum(
 ) -> Result<(Simple, &[Token]), Fault>
     ensures read { IfOk result (λ r. read_sum (read_factor levels) line prefix tokens.now ≡ Read (r.0, r.1.now)) }
     ensures absent { (s : Stop) → IsErrAnd result (IsStop s) → read_sum (read_factor levels) line prefix tokens.now ≡ Halted s }
+    ensures line { IfOk result (λ r. simple_line r.0 ≡ line) }
 {
     let (first, rest) = term(alloc, levels, tokens)?;
     let (more, rest) = more_terms(alloc, levels, rest)?;
+    let more = in_box(alloc, more)?;
     let read = Simple {
         line,
         prefix,
@@ -147,6 +152,7 @@ fn sum(
 fn simple(alloc: Global, levels: u32, tokens: &[Token]) -> Result<(Simple, &[Token]), Fault>
     ensures read { IfOk result (λ r. read_simple (read_factor levels) tokens.now ≡ Read (r.0, r.1.now)) }
     ensures absent { (s : Stop) → IsErrAnd result (IsStop s) → read_simple (read_factor levels) tokens.now ≡ Halted s }
+    ensures line { IfOk result (λ r. simple_line r.0 ≡ first_line tokens.now) }
 {
     let line = first_line(tokens);
     match prefix(tokens) {
@@ -179,11 +185,11 @@ fn right_side(
 fn relation(alloc: Global, levels: u32, tokens: &[Token]) -> Result<(Relation, &[Token]), Fault>
     ensures read { IfOk result (λ r. read_relation (read_factor levels) tokens.now ≡ Read (r.0, r.1.now)) }
     ensures absent { (s : Stop) → IsErrAnd result (IsStop s) → read_relation (read_factor levels) tokens.now ≡ Halted s }
+    ensures line { IfOk result (λ r. relation_line r.0 ≡ first_line tokens.now) }
 {
-    let line = first_line(tokens);
     let (left, rest) = simple(alloc, levels, tokens)?;
     let (right, rest) = right_side(alloc, levels, rest)?;
-    Ok((Relation { line, left, right }, rest))
+    Ok((Relation { left, right }, rest))
 }
 
 // ["->" formula]
@@ -211,10 +217,9 @@ pub fn formula(alloc: Global, levels: u32, tokens: &[Token]) -> Result<(Formula,
     ensures read { IfOk result (λ r. read_formula levels tokens.now ≡ Read (r.0, r.1.now)) }
     ensures absent { (s : Stop) → IsErrAnd result (IsStop s) → read_formula levels tokens.now ≡ Halted s }
 {
-    let line = first_line(tokens);
     let (left, rest) = relation(alloc, levels, tokens)?;
     let (right, rest) = conclusion(alloc, levels, rest)?;
-    Ok((Formula { line, left, right }, rest))
+    Ok((Formula { left, right }, rest))
 }
 
 /// A formula one level down: with one level more it is a formula at that level.

@@ -4,14 +4,14 @@ ghost use Rattle.std.specs.Prelude.{◌≡◌, IfNone, IfSome, None, Some, optio
 ghost use Rattle.spv_typing.specs.OperatorWalk as spec;
 ghost use Rattle.spv_formula_typing.specs.Operands.{numeral_alone, numeral_of};
 
-use spv_syntax::{Designator, Factor, FactorForm, Formula, Name, Relation, Simple, Term};
+use spv_syntax::{Designator, Factor, FactorForm, Formula, Name, Relation, Simple, Term, items};
 
 // The number that a term is, where it is a numeral alone.
 pub(crate) fn number_alone(tree: &Term) -> Option<i64>
     ensures number { IfSome result (λ z. numeral_alone tree.now ≡ Some z) }
     ensures none { IfNone result (numeral_alone tree.now ≡ None) }
 {
-    match tree.more.as_slice() {
+    match items(&tree.more) {
         [] => number_of(&tree.first),
         _ => None,
     }
@@ -51,7 +51,7 @@ fn simple_alone(tree: &Simple) -> Option<&Designator>
 {
     match tree.prefix {
         Some(_) => None,
-        None => match tree.more.as_slice() {
+        None => match items(&tree.more) {
             [] => term_alone(&tree.first),
             _ => None,
         },
@@ -61,7 +61,7 @@ fn simple_alone(tree: &Simple) -> Option<&Designator>
 fn term_alone(tree: &Term) -> Option<&Designator>
     ensures { option_copied result ≡ spec.term_alone tree.now }
 {
-    match tree.more.as_slice() {
+    match items(&tree.more) {
         [] => factor_alone(&tree.first),
         _ => None,
     }

@@ -72,6 +72,7 @@ pub(crate) fn truths<F: Forms>(
 }
 
 // Two factors with an operator between them.
+#[inline(never)]
 pub(crate) fn product<F: Forms>(
     forms: &F,
     alloc: Global,
@@ -92,6 +93,7 @@ pub(crate) fn product<F: Forms>(
 }
 
 // Two terms with an operator between them.
+#[inline(never)]
 pub(crate) fn total<F: Forms>(
     forms: &F,
     alloc: Global,
@@ -111,6 +113,7 @@ pub(crate) fn total<F: Forms>(
 }
 
 // NOT before a factor.
+#[inline(never)]
 pub(crate) fn opposite<F: Forms>(
     forms: &F,
     alloc: Global,
@@ -125,6 +128,7 @@ pub(crate) fn opposite<F: Forms>(
 }
 
 // A sign `-` before a term that is no numeral.
+#[inline(never)]
 pub(crate) fn negative<F: Forms>(
     forms: &F,
     alloc: Global,
@@ -139,6 +143,7 @@ pub(crate) fn negative<F: Forms>(
 }
 
 // A sign `+`, which leaves a number as it is.
+#[inline(never)]
 pub(crate) fn positive<F: Forms>(
     forms: &F,
     line: u32,
@@ -200,6 +205,7 @@ fn ordered<F: Forms>(
 }
 
 // The two sides of a relation.
+#[inline(never)]
 pub(crate) fn related<F: Forms>(
     forms: &F,
     alloc: Global,
@@ -222,6 +228,7 @@ pub(crate) fn related<F: Forms>(
 }
 
 // `a -> b`
+#[inline(never)]
 pub(crate) fn conclusion<F: Forms>(
     forms: &F,
     alloc: Global,

@@ -14,7 +14,7 @@ use crate::operators::{conclusion, negative, opposite, positive, product, relate
 use spv_logic::Sort;
 use spv_syntax::{
     Designator, Factor, FactorForm, Formula, Name, PlusOrMinus, Relation, Selector, SelectorForm,
-    Simple, Term,
+    Simple, Term, items,
 };
 use spv_typing::TypeFault;
 use std::alloc::{AllocError, Global};
@@ -28,6 +28,7 @@ fn push<T: Drop>(items: &mut Vec<T>, item: T) -> Result<(), AllocError>
 
 /// What a formula becomes.
 #[cycle(formulas)]
+#[inline(never)]
 pub fn formula<F: Forms>(
     forms: &F,
     alloc: Global,
@@ -41,12 +42,13 @@ pub fn formula<F: Forms>(
         Some(behind) => {
             let left = relation(forms, alloc, &tree.left)?;
             let right = formula(forms, alloc, behind)?;
-            conclusion(forms, alloc, tree.line, left, right)
+            conclusion(forms, alloc, tree.line(), left, right)
         }
     }
 }
 
 #[cycle(formulas)]
+#[inline(never)]
 fn relation<F: Forms>(
     forms: &F,
     alloc: Global,
@@ -60,12 +62,13 @@ fn relation<F: Forms>(
         Some(side) => {
             let left = simple(forms, alloc, &tree.left)?;
             let right = simple(forms, alloc, &side.1)?;
-            related(forms, alloc, tree.line, side.0, left, right)
+            related(forms, alloc, tree.line(), side.0, left, right)
         }
     }
 }
 
 // The first term with the sign in front of it.
+#[inline(never)]
 fn with_sign<F: Forms>(
     forms: &F,
     alloc: Global,
@@ -88,6 +91,7 @@ fn with_sign<F: Forms>(
 }
 
 #[cycle(formulas)]
+#[inline(never)]
 fn simple<F: Forms>(
     forms: &F,
     alloc: Global,
@@ -99,7 +103,7 @@ fn simple<F: Forms>(
     let first = term(forms, alloc, &tree.first)?;
     let line = tree.line;
     let mut so_far = with_sign(forms, alloc, line, tree.prefix, &tree.first, first)?;
-    for (operator, part) in &tree.more {
+    for (operator, part) in items(&tree.more) {
         let next = term(forms, alloc, part)?;
         so_far = total(forms, alloc, line, *operator, so_far, next)?;
     }
@@ -107,13 +111,14 @@ fn simple<F: Forms>(
 }
 
 #[cycle(formulas)]
+#[inline(never)]
 fn term<F: Forms>(forms: &F, alloc: Global, tree: &Term) -> Result<Operand<F::Formed>, TypeFault>
     ensures ok { IfOk result (λ o. spec.term_walk (F.forms forms.now) tree.now ≡ Ok (operand_of o)) }
     ensures err { IfErr result (λ e. Stops e (spec.term_walk (F.forms forms.now) tree.now)) }
 {
-    let line = tree.line;
+    let line = tree.line();
     let mut so_far = factor(forms, alloc, &tree.first)?;
-    for (operator, part) in &tree.more {
+    for (operator, part) in items(&tree.more) {
         let next = factor(forms, alloc, part)?;
         so_far = product(forms, alloc, line, *operator, so_far, next)?;
     }
@@ -121,6 +126,7 @@ fn term<F: Forms>(forms: &F, alloc: Global, tree: &Term) -> Result<Operand<F::Fo
 }
 
 #[cycle(formulas)]
+#[inline(never)]
 fn factor<F: Forms>(
     forms: &F,
     alloc: Global,
@@ -153,12 +159,13 @@ fn factor<F: Forms>(
 
 // A designator that is read.
 #[cycle(formulas)]
+#[inline(never)]
 fn read<F: Forms>(forms: &F, alloc: Global, tree: &Designator) -> Result<F::Reached, TypeFault>
     ensures ok { IfOk result (λ r. spec.designator_walk (F.forms forms.now) (F.forms forms.now).begin tree.now ≡ Ok r) }
     ensures err { IfErr result (λ e. Stops e (spec.designator_walk (F.forms forms.now) (F.forms forms.now).begin tree.now)) }
 {
-    let start = forms.begin(alloc, tree.line, tree.name)?;
-    selectors(forms, alloc, tree.line, start, &tree.behind)
+    let start = forms.begin(alloc, tree.name.line, tree.name)?;
+    selectors(forms, alloc, tree.name.line, start, &tree.behind)
 }
 
 /// What a designator that is written comes to.
@@ -171,11 +178,12 @@ pub fn written<F: Forms>(
     ensures ok { IfOk result (λ r. spec.designator_walk (F.forms forms.now) (F.forms forms.now).begin_written tree.now ≡ Ok r) }
     ensures err { IfErr result (λ e. Stops e (spec.designator_walk (F.forms forms.now) (F.forms forms.now).begin_written tree.now)) }
 {
-    let start = forms.begin_written(alloc, tree.line, tree.name)?;
-    selectors(forms, alloc, tree.line, start, &tree.behind)
+    let start = forms.begin_written(alloc, tree.name.line, tree.name)?;
+    selectors(forms, alloc, tree.name.line, start, &tree.behind)
 }
 
 #[cycle(formulas)]
+#[inline(never)]
 fn selectors<F: Forms>(
     forms: &F,
     alloc: Global,
@@ -194,6 +202,7 @@ fn selectors<F: Forms>(
 }
 
 #[cycle(formulas)]
+#[inline(never)]
 fn selector<F: Forms>(
     forms: &F,
     alloc: Global,
@@ -206,7 +215,7 @@ fn selector<F: Forms>(
 {
     match &tree.form {
         SelectorForm::Index(first, more) => {
-            let indices = operands(forms, alloc, first, more)?;
+            let indices = operands(forms, alloc, first, items(more))?;
             forms.indexed(alloc, line, reached, indices)
         }
         SelectorForm::Field(x) => forms.field_of(alloc, line, reached, *x),
@@ -216,6 +225,7 @@ fn selector<F: Forms>(
 
 // A name with arguments.
 #[cycle(formulas)]
+#[inline(never)]
 fn application<F: Forms>(
     forms: &F,
     alloc: Global,
@@ -234,6 +244,7 @@ fn application<F: Forms>(
 
 /// The arguments of what is called, as it wants them read, each with its line.
 #[cycle(formulas)]
+#[inline(never)]
 pub fn arguments<F: Forms>(
     forms: &F,
     alloc: Global,
@@ -246,17 +257,18 @@ pub fn arguments<F: Forms>(
 {
     let mut given = Vec::new(alloc);
     let one = argument(forms, alloc, callee, 0, first)?;
-    push(&mut given, (first.line, one))?;
+    push(&mut given, (first.line(), one))?;
     let mut place = 0;
     for other in more {
         place += 1;
         let next = argument(forms, alloc, callee, place, other)?;
-        push(&mut given, (other.line, next))?;
+        push(&mut given, (other.line(), next))?;
     }
     Ok(given)
 }
 
 #[cycle(formulas)]
+#[inline(never)]
 fn argument<F: Forms>(
     forms: &F,
     alloc: Global,
@@ -276,6 +288,7 @@ fn argument<F: Forms>(
 
 #[cycle(formulas)]
 #[tactic(auto, using(crate::proofs::Places::place_given, crate::proofs::Places::no_place_given))]
+#[inline(never)]
 fn as_place<F: Forms>(
     forms: &F,
     alloc: Global,
@@ -294,6 +307,7 @@ fn as_place<F: Forms>(
 }
 
 #[cycle(formulas)]
+#[inline(never)]
 fn operands<F: Forms>(
     forms: &F,
     alloc: Global,
@@ -305,10 +319,10 @@ fn operands<F: Forms>(
 {
     let mut found = Vec::new(alloc);
     let one = formula(forms, alloc, first)?;
-    push(&mut found, (first.line, one))?;
+    push(&mut found, (first.line(), one))?;
     for other in more {
         let next = formula(forms, alloc, other)?;
-        push(&mut found, (other.line, next))?;
+        push(&mut found, (other.line(), next))?;
     }
     Ok(found)
 }

@@ -35,10 +35,10 @@ pub(crate) fn open_value<'a>(own: &NameSet, value: &'a Expression) -> Opened<'a>
         ExpressionForm::Nil(_) => nothing(),
         ExpressionForm::Read(d) => one(Work::Place(d, false)),
         ExpressionForm::Result(c) => one(Work::Call(c)),
-        ExpressionForm::Through(c, line, t, behind) => three(
-            Work::Call(c),
-            Work::Known(cell_use(*t, false, *line)),
-            Work::Selectors(behind.as_slice(), false),
+        ExpressionForm::Through(t) => three(
+            Work::Call(&t.call),
+            Work::Known(cell_use(t.of, false, t.line)),
+            Work::Selectors(t.selectors.as_slice(), false),
         ),
         ExpressionForm::Negative(a) => one(Work::Value(a)),
         ExpressionForm::Calculated(_, a, b) => two(Work::Value(a), Work::Value(b)),

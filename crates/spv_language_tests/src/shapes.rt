@@ -3,7 +3,7 @@
 use crate::texts::program_of;
 use spv_language::LanguageFault;
 use spv_syntax::{
-    Adding, Direction, Formula, LoopForm, Program, RoutineMark, Statement, StatementForm,
+    Adding, Direction, Formula, LoopForm, Program, RoutineMark, Statement, StatementForm, items,
 };
 use std::alloc::Global;
 use std::test::Fail;
@@ -33,8 +33,11 @@ fn has_arrow_on_the_right(read: &Formula) -> bool {
 
 // Whether a formula is one factor, OR, and two factors that AND joins.
 fn has_and_inside_or(read: &Formula) -> bool {
-    match read.left.left.more.as_slice() {
-        [(Adding::Or, term)] => read.left.left.first.more.is_empty() && term.more.len() == 1,
+    let sum = &read.left.left;
+    match items(&sum.more) {
+        [(Adding::Or, term)] => {
+            items(&sum.first.more).is_empty() && items(&term.more).len() == 1
+        }
         _ => false,
     }
 }

@@ -119,7 +119,7 @@ fn assigned(
     ensures absent { (s : Stop) → IsErrAnd result (IsStop s) → read_assigned levels name (selectors_of behind.items) tokens.now ≡ Halted s }
 {
     let line = name.line;
-    let place = Box::new(alloc, Designator { line, name, behind })?;
+    let place = Box::new(alloc, Designator { name, behind })?;
     let (value, rest) = boxed_formula(alloc, levels, tokens)?;
     let form = StatementForm::Assignment(place, value);
     Ok((Statement { line, form }, rest))

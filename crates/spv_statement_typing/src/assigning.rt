@@ -130,6 +130,6 @@ pub(crate) fn creation(
     let reached = written(&setting.inside, alloc, place)?;
     match setting.inside.known.target(reached.of()) {
         Some(t) => created(setting, alloc, line, reached, t),
-        None => Err(TypeFault::WrongType(place.line)),
+        None => Err(TypeFault::WrongType(place.name.line)),
     }
 }

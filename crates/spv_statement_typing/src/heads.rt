@@ -197,8 +197,8 @@ pub(crate) fn counting(
     ensures err { IfErr result (λ e. Stops e (spec.counting (setting_of setting.now) line x from.now towards to.now)) }
 {
     declared(&setting.inside, x)?;
-    let on = from.line;
-    let under = to.line;
+    let on = from.line();
+    let under = to.line();
     let a = operand(&setting.inside, alloc, from)?;
     let b = operand(&setting.inside, alloc, to)?;
     head_settled(

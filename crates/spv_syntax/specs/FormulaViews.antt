@@ -8,6 +8,7 @@ use Rattle.spv_syntax.specs.declared.formulas.FactorForm.TheVariants as factor
 use Rattle.spv_syntax.specs.declared.formulas.SelectorForm.{SelectorForm}
 use Rattle.spv_syntax.specs.declared.formulas.SelectorForm.TheVariants as selector
 use Rattle.spv_syntax.specs.Formulas.{Formula, Conclusion, no_conclusion, implies, Simple, RightSide, no_right_side, compared, Factor, number, truth, nil, class, place, application, bracketed, negation, Selector, index, field, content}
+use Rattle.spv_syntax.specs.Lines.{items_in}
 use Rattle.spv_syntax.specs.Model.FormulaSizes.{more_formulas_of, selectors_of}
 
 abbrev pub conclusion_of : Option (Box Formula Global) → Conclusion
@@ -29,6 +30,6 @@ factor_of line (factor.Bracketed f) = bracketed line f.value
 factor_of line (factor.Negation f) = negation line f.value
 
 abbrev pub selector_of : ℕ → SelectorForm → Selector
-selector_of line (selector.Index first more) = index line first.value (more_formulas_of more.items)
+selector_of line (selector.Index first more) = index line first.value (more_formulas_of (items_in more))
 selector_of line (selector.Field x) = field line x
 selector_of line selector.Content = content line

@@ -1,4 +1,5 @@
 pub mod Formulas
+pub mod Lines
 pub mod FormulaViews
 pub mod Members
 pub mod FormulaSpelling

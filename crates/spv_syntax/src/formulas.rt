@@ -1,5 +1,8 @@
 // Formulas.
 
+ghost use Rattle.std.specs.Prelude.{◌≡◌};
+ghost use Rattle.spv_syntax.specs.Lines.{formula_line, relation_line, term_line};
+
 use crate::names::Name;
 use crate::operators::{Adding, Comparison, Multiplying, PlusOrMinus};
 use spv_tokens::Numeral;
@@ -9,8 +12,6 @@ use std::marker::Model;
 #[cycle(formula)]
 #[derive(Drop)]
 pub struct Formula {
-    /// The line of its first token.
-    pub line: u32,
     /// What stands left of `->`.
     pub left: Relation,
     /// What stands right of it, where it is there.
@@ -27,9 +28,10 @@ impl Model for Formula {
 
     ghost coded = { coded_by way_formula };
 
+    ghost use Rattle.spv_syntax.specs.Lines.{relation_line};
     ghost use Rattle.spv_syntax.specs.FormulaViews.{conclusion_of};
 
-    ghost view = { λ a. plain.formula a.line a.left (conclusion_of a.right) };
+    ghost view = { λ a. plain.formula (relation_line a.left) a.left (conclusion_of a.right) };
 
     ghost use Rattle.spv_syntax.specs.Model.FormulaSizes.{formula_size};
 
@@ -40,12 +42,19 @@ impl Model for Formula {
     ghost size_decreases = { λ a h. formula_falls a };
 }
 
+impl Formula {
+    /// The line of its first token.
+    pub fn line(&self) -> u32
+        ensures { result ≡ formula_line self.now }
+    {
+        self.left.line()
+    }
+}
+
 /// `simple [("=" | "<>" | "<" | "<=" | ">" | ">=") simple]`
 #[cycle(formula)]
 #[derive(Drop)]
 pub struct Relation {
-    /// The line of its first token.
-    pub line: u32,
     /// The left side.
     pub left: Simple,
     /// The operator and the right side, where they are there.
@@ -62,9 +71,10 @@ impl Model for Relation {
 
     ghost coded = { coded_by way_relation };
 
+    ghost use Rattle.spv_syntax.specs.Lines.{simple_line};
     ghost use Rattle.spv_syntax.specs.FormulaViews.{right_side_of};
 
-    ghost view = { λ a. plain.relation a.line a.left (right_side_of a.right) };
+    ghost view = { λ a. plain.relation (simple_line a.left) a.left (right_side_of a.right) };
 
     ghost use Rattle.spv_syntax.specs.Model.FormulaSizes.{relation_size};
 
@@ -73,6 +83,15 @@ impl Model for Relation {
     ghost use Rattle.spv_syntax.specs.Model.FormulaFalls.{relation_falls};
 
     ghost size_decreases = { λ a h. relation_falls a };
+}
+
+impl Relation {
+    /// The line of its first token.
+    pub fn line(&self) -> u32
+        ensures { result ≡ relation_line self.now }
+    {
+        self.left.line
+    }
 }
 
 /// `["+" | "-"] term {("+" | "-" | OR) term}`
@@ -85,8 +104,8 @@ pub struct Simple {
     pub prefix: Option<PlusOrMinus>,
     /// The first term.
     pub first: Term,
-    /// The other terms, each with the operator in front of it.
-    pub more: Vec<(Adding, Term)>,
+    /// The other terms, each with the operator in front of it, where there are any.
+    pub more: Option<Box<Vec<(Adding, Term)>>>,
 }
 
 impl Model for Simple {
@@ -99,9 +118,10 @@ impl Model for Simple {
 
     ghost coded = { coded_by way_simple };
 
+    ghost use Rattle.spv_syntax.specs.Lines.{items_in};
     ghost use Rattle.spv_syntax.specs.Model.FormulaSizes.{more_terms_of};
 
-    ghost view = { λ a. plain.simple a.line a.prefix a.first (more_terms_of a.more.items) };
+    ghost view = { λ a. plain.simple a.line a.prefix a.first (more_terms_of (items_in a.more)) };
 
     ghost use Rattle.spv_syntax.specs.Model.FormulaSizes.{simple_size};
 
@@ -116,12 +136,10 @@ impl Model for Simple {
 #[cycle(formula)]
 #[derive(Drop)]
 pub struct Term {
-    /// The line of its first token.
-    pub line: u32,
     /// The first factor.
     pub first: Factor,
-    /// The other factors, each with the operator in front of it.
-    pub more: Vec<(Multiplying, Factor)>,
+    /// The other factors, each with the operator in front of it, where there are any.
+    pub more: Option<Box<Vec<(Multiplying, Factor)>>>,
 }
 
 impl Model for Term {
@@ -134,9 +152,10 @@ impl Model for Term {
 
     ghost coded = { coded_by way_term };
 
+    ghost use Rattle.spv_syntax.specs.Lines.{factor_line, items_in};
     ghost use Rattle.spv_syntax.specs.Model.FormulaSizes.{more_factors_of};
 
-    ghost view = { λ a. plain.term a.line a.first (more_factors_of a.more.items) };
+    ghost view = { λ a. plain.term (factor_line a.first) a.first (more_factors_of (items_in a.more)) };
 
     ghost use Rattle.spv_syntax.specs.Model.FormulaSizes.{term_size};
 
@@ -145,6 +164,15 @@ impl Model for Term {
     ghost use Rattle.spv_syntax.specs.Model.FormulaFalls.{term_falls};
 
     ghost size_decreases = { λ a h. term_falls a };
+}
+
+impl Term {
+    /// The line of its first token.
+    pub fn line(&self) -> u32
+        ensures { result ≡ term_line self.now }
+    {
+        self.first.line
+    }
 }
 
 /// A number, a truth value, NIL, a class, a place, an application, a formula in brackets or a negation.
@@ -218,8 +246,6 @@ impl Model for Factor {
 #[cycle(formula)]
 #[derive(Drop)]
 pub struct Designator {
-    /// The line of its first token.
-    pub line: u32,
     /// The name.
     pub name: Name,
     /// The selectors, in order.
@@ -238,7 +264,7 @@ impl Model for Designator {
 
     ghost use Rattle.spv_syntax.specs.Model.FormulaSizes.{selectors_of};
 
-    ghost view = { λ a. plain.designator a.line a.name (selectors_of a.behind.items) };
+    ghost view = { λ a. plain.designator a.name.line a.name (selectors_of a.behind.items) };
 
     ghost use Rattle.spv_syntax.specs.Model.FormulaSizes.{designator_size};
 
@@ -264,7 +290,7 @@ pub struct Selector {
 #[derive(Drop)]
 pub enum SelectorForm {
     /// `"[" formula {"," formula} "]"`
-    Index(Box<Formula>, Vec<Formula>),
+    Index(Box<Formula>, Option<Box<Vec<Formula>>>),
     /// `"." name`
     Field(Name),
     /// `"^"`

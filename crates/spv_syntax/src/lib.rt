@@ -19,7 +19,7 @@ pub use formulas::{
     Application, Designator, Factor, FactorForm, Formula, Relation, Selector, SelectorForm, Simple,
     Term,
 };
-pub use lists::Several;
+pub use lists::{Several, in_box, items};
 pub use names::{Constant, Name, Scalar};
 pub use operators::{Adding, Comparison, Direction, Multiplying, PlusOrMinus};
 pub use programs::Program;

@@ -30,8 +30,9 @@ pub(crate) fn expression_divides(e: &Expression) -> bool
         ExpressionForm::Nil(_) => false,
         ExpressionForm::Read(d) => selectors_divide(d.selectors.as_slice()),
         ExpressionForm::Result(c) => arguments_divide(c.arguments.as_slice()),
-        ExpressionForm::Through(c, _, _, others) => {
-            arguments_divide(c.arguments.as_slice()) || selectors_divide(others.as_slice())
+        ExpressionForm::Through(t) => {
+            arguments_divide(t.call.arguments.as_slice())
+                || selectors_divide(t.selectors.as_slice())
         }
         ExpressionForm::Negative(a) => expression_divides(a),
         ExpressionForm::Calculated(o, a, b) => is_division(*o) || either_divides(a, b),

@@ -18,7 +18,7 @@ pub fn has_no_calls(e: &Expression) -> bool
         ExpressionForm::Nil(_) => true,
         ExpressionForm::Read(d) => place_has_no_calls(d),
         ExpressionForm::Result(_) => false,
-        ExpressionForm::Through(_, _, _, _) => false,
+        ExpressionForm::Through(_) => false,
         ExpressionForm::Negative(a) => has_no_calls(a),
         ExpressionForm::Calculated(_, a, b) => has_no_calls(a) && has_no_calls(b),
         ExpressionForm::Compared(_, a, b) => has_no_calls(a) && has_no_calls(b),

@@ -38,7 +38,7 @@ pub(crate) fn expression(
         ExpressionForm::Nil(t) => write(pieces, Head::Nil(*t), 0),
         ExpressionForm::Read(d) => place(pieces, names, d),
         ExpressionForm::Result(_) => write(pieces, Head::False, 0),
-        ExpressionForm::Through(_, _, _, _) => write(pieces, Head::False, 0),
+        ExpressionForm::Through(_) => write(pieces, Head::False, 0),
         ExpressionForm::Negative(a) => {
             write_numeral(pieces, &0)?;
             expression(pieces, names, a)?;

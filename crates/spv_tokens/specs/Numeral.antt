@@ -1,8 +1,7 @@
--- A number as a text spells it: a whole number from 0 up, kept in a signed machine number.
-use Rattle.std.specs.Prelude.{ℤ, pos, negsuc, ◌≤ℤ◌, ◌≡◌, refl}
-use Rattle.std.specs.Int.RustNames.{unsigned_abs}
+-- A number as a text spells it: a whole number from 0 up, in two halves.
+use Rattle.std.specs.Prelude.{ℕ, ◌+◌, ◌*◌, ◌<◌, ◌/◌, ◌%◌, ◌≡◌}
+use Rattle.std.proofs.lemmas.Nat.{div-mul-add, mod-mul-add}
 
--- a number from 0 up is that of its digits
-pub pos-unsigned_abs : (z : ℤ) → pos 0 ≤ℤ z → pos (unsigned_abs z) ≡ z
-pos-unsigned_abs (pos n) h = refl
-pos-unsigned_abs (negsuc n) h = absurd h.le
+-- the halves are those of the number
+pub halves_back : (high low : ℕ) → low < 4294967296 → ((high * 4294967296 + low) / 4294967296 ≡ high) × ((high * 4294967296 + low) % 4294967296 ≡ low)
+halves_back high low h = (div-mul-add high 4294967296 low h, mod-mul-add high 4294967296 low h)

@@ -109,27 +109,27 @@ pub enum Sign {
     Arrow,
 }
 
-/// A number as a text spells it: from 0 to 9223372036854775807. It has no sign; that is a token of its own.
+/// A number as a text spells it: from 0 to 9223372036854775807. It has no sign; that is a token of its own. It stands in two
+/// halves, so that a token takes 16 bytes.
 #[derive(Clone, Copy, PartialEq, Eq, Debug)]
 pub struct Numeral {
-    value: i64,
+    high: u32,
+    low: u32,
 }
 
 impl Model for Numeral {
-    ghost use Rattle.std.specs.Prelude.{ℕ, ℤ, pos, ◌≤ℤ◌};
-    ghost use Rattle.std.specs.Int.RustNames.{unsigned_abs};
-    ghost use Rattle.std.proofs.Common.{ap};
-    ghost use Rattle.spv_tokens.specs.Numeral.{pos-unsigned_abs};
+    ghost use Rattle.std.specs.Prelude.{ℕ, ◌+◌, ◌*◌, ◌<◌, ◌/◌, ◌%◌};
+    ghost use Rattle.spv_tokens.specs.Numeral.{halves_back};
 
     ghost Value = { ℕ };
 
-    ghost view = { λ n. unsigned_abs n.value };
+    ghost view = { λ n. n.high * 4294967296 + n.low };
 
-    ghost invariant = { λ n. pos 0 ≤ℤ n.value };
+    ghost invariant = { λ n. (n.high < 2147483648) × (n.low < 4294967296) };
 
-    ghost inverse = { λ m. record { value = pos m } };
+    ghost inverse = { λ m. record { high = m / 4294967296; low = m % 4294967296 } };
 
-    ghost inverse_ok = { λ n h. ap (λ (z : ℤ). record n { value = z }) (pos-unsigned_abs n.value h) };
+    ghost inverse_ok = { λ n h. λ i. record { high = (halves_back n.high n.low h.1).0 i; low = (halves_back n.high n.low h.1).1 i } };
 }
 
 impl Numeral {
@@ -138,14 +138,18 @@ impl Numeral {
         requires { pos 0 ≤ℤ value }
         ensures { pos result ≡ value }
     {
-        Numeral { value }
+        let whole = value.unsigned_abs();
+        Numeral {
+            high: (whole / 4_294_967_296) as u32,
+            low: (whole % 4_294_967_296) as u32,
+        }
     }
 
     /// Its value.
     pub fn value(self) -> i64
         ensures { result ≡ pos self }
     {
-        self.value
+        i64::from(self.high) * 4_294_967_296 + i64::from(self.low)
     }
 }
 

@@ -27,8 +27,8 @@ pub enum ExpressionForm {
     Read(Designator),
     /// A function's result.
     Result(Call),
-    /// A function's result, followed by `^` (its line, the type of the cells) and further selectors.
-    Through(Call, u32, TypeId, Vec<Selector>),
+    /// A function's result, followed by `^`.
+    Through(Box<Through>),
     /// A sign `-` that does not belong to a numeral.
     Negative(Box<Expression>),
     /// Two numbers calculated to one.
@@ -39,6 +39,20 @@ pub enum ExpressionForm {
     Negated(Box<Expression>),
     /// Two truth values joined.
     Joined(Connective, Box<Expression>, Box<Expression>),
+}
+
+/// What stands behind the pointer that a function's call comes to.
+#[cycle(expressions)]
+#[derive(Drop)]
+pub struct Through {
+    /// The call.
+    pub call: Call,
+    /// The line of `^`.
+    pub line: u32,
+    /// The type of the cells.
+    pub of: TypeId,
+    /// The selectors behind `^`, in order.
+    pub selectors: Vec<Selector>,
 }
 
 impl Model for Expression {

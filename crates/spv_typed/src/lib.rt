@@ -6,7 +6,7 @@ mod formulas;
 mod programs;
 mod statements;
 
-pub use expressions::{Argument, Call, Designator, Expression, ExpressionForm, Selector};
+pub use expressions::{Argument, Call, Designator, Expression, ExpressionForm, Selector, Through};
 pub use formulas::{Annotation, Formula, FormulaForm};
 pub use programs::{Formal, GlobalItem, Main, Program, Routine};
 pub use statements::{Arm, Counting, Statement, StatementForm};

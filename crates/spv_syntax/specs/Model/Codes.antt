@@ -1,5 +1,5 @@
 -- How the parts of trees are kept apart: each as a tree of numbers that gives it back.
-use Rattle.std.specs.Prelude.{ℕ, zero, suc, ◌≡◌, refl, Option, Some, None}
+use Rattle.std.specs.Prelude.{ℕ, zero, suc, ◌≡◌, refl}
 use base.Stored.{Gv, gnil, gnum, gcons, num}
 use Rattle.spv_syntax.specs.declared.lists.Several.{Several}
 use Rattle.spv_syntax.specs.declared.names.Name.{Name}

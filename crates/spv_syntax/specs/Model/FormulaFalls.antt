@@ -4,6 +4,8 @@ use Rattle.std.specs.declared.boxed.Box.{Box}
 use Rattle.std.specs.Global.{Global}
 use Rattle.std.proofs.Common.{arith}
 use denote.Param.Weighed.{most}
+use Rattle.std.specs.declared.vec.Vec.{Vec}
+use Rattle.spv_syntax.specs.declared.operators.PlusOrMinus.{PlusOrMinus}
 use Rattle.spv_syntax.specs.declared.operators.Comparison.{Comparison}
 use Rattle.spv_syntax.specs.declared.operators.Adding.{Adding}
 use Rattle.spv_syntax.specs.declared.operators.Multiplying.{Multiplying}
@@ -21,6 +23,7 @@ use Rattle.spv_syntax.specs.declared.formulas.SelectorForm.TheVariants.{Index, F
 use Rattle.spv_syntax.specs.declared.formulas.Designator.TheShapes.{weighed-Simple-more-at-2, weighed-Term-more-at-2}
 use Rattle.spv_syntax.specs.declared.formulas.Designator.TheDeep.{deep-FactorForm, deep-SelectorForm, deep-Formula, deep-Relation, deep-Simple, deep-Term, deep-Factor, deep-Designator, deep-Selector}
 use Rattle.spv_syntax.specs.Formulas.{Formula, Relation, Simple, Term, Factor, Selector}
+use Rattle.spv_syntax.specs.Lines.{items_in}
 use Rattle.spv_syntax.specs.Model.FormulaSizes.{more_terms_of, more_factors_of, more_formulas_of, selectors_of, formula_size, conclusion_size, relation_size, right_side_size, simple_size, more_terms_size, term_size, more_factors_size, factor_size, more_formulas_size, selectors_size, selector_size}
 use Rattle.spv_syntax.specs.FormulaViews.{conclusion_of, right_side_of, factor_of, selector_of}
 
@@ -40,27 +43,37 @@ most_selectors : (ss : List Selector) → most (λ s. selector_size s + 1) ss �
 most_selectors [] = omega arith
 most_selectors (s ∷ ss) = omega (arith, most_selectors ss)
 
-conclusion_falls : (line : ℕ) (left : Relation) (right : Option (Box Formula Global)) →
-    deep-Formula (record { line = line; left = left; right = right }) ≤ suc (relation_size left + conclusion_size (conclusion_of right))
-conclusion_falls line left None = omega arith
-conclusion_falls line left (Some f) = omega arith
+conclusion_falls : (left : Relation) (right : Option (Box Formula Global)) →
+    deep-Formula (record { left = left; right = right }) ≤ suc (relation_size left + conclusion_size (conclusion_of right))
+conclusion_falls left None = omega arith
+conclusion_falls left (Some f) = omega arith
 
 pub formula_falls : (a : formula.Inside) → deep-Formula a ≤ suc (relation_size a.left + conclusion_size (conclusion_of a.right))
-formula_falls a = conclusion_falls a.line a.left a.right
+formula_falls a = conclusion_falls a.left a.right
 
-right_side_falls : (line : ℕ) (left : Simple) (right : Option (Box (Comparison × Simple) Global)) →
-    deep-Relation (record { line = line; left = left; right = right }) ≤ suc (simple_size left + right_side_size (right_side_of right))
-right_side_falls line left None = omega arith
-right_side_falls line left (Some r) = omega arith
+right_side_falls : (left : Simple) (right : Option (Box (Comparison × Simple) Global)) →
+    deep-Relation (record { left = left; right = right }) ≤ suc (simple_size left + right_side_size (right_side_of right))
+right_side_falls left None = omega arith
+right_side_falls left (Some r) = omega arith
 
 pub relation_falls : (a : relation.Inside) → deep-Relation a ≤ suc (simple_size a.left + right_side_size (right_side_of a.right))
-relation_falls a = right_side_falls a.line a.left a.right
+relation_falls a = right_side_falls a.left a.right
 
-pub simple_falls : (a : simple.Inside) → deep-Simple a ≤ suc (term_size a.first + more_terms_size (more_terms_of a.more.items))
-simple_falls a = omega (arith, most_terms a.more.items)
+more_terms_fall : (line : ℕ) (prefix : Option PlusOrMinus) (first : Term) (more : Option (Box (Vec (Adding × Term) Global) Global)) →
+    deep-Simple (record { line = line; prefix = prefix; first = first; more = more }) ≤ suc (term_size first + more_terms_size (more_terms_of (items_in more)))
+more_terms_fall line prefix first None = omega arith
+more_terms_fall line prefix first (Some more) = omega (arith, most_terms more.value.items)
 
-pub term_falls : (a : term.Inside) → deep-Term a ≤ suc (factor_size a.first + more_factors_size (more_factors_of a.more.items))
-term_falls a = omega (arith, most_factors a.more.items)
+pub simple_falls : (a : simple.Inside) → deep-Simple a ≤ suc (term_size a.first + more_terms_size (more_terms_of (items_in a.more)))
+simple_falls a = more_terms_fall a.line a.prefix a.first a.more
+
+more_factors_fall : (first : Factor) (more : Option (Box (Vec (Multiplying × Factor) Global) Global)) →
+    deep-Term (record { first = first; more = more }) ≤ suc (factor_size first + more_factors_size (more_factors_of (items_in more)))
+more_factors_fall first None = omega arith
+more_factors_fall first (Some more) = omega (arith, most_factors more.value.items)
+
+pub term_falls : (a : term.Inside) → deep-Term a ≤ suc (factor_size a.first + more_factors_size (more_factors_of (items_in a.more)))
+term_falls a = more_factors_fall a.first a.more
 
 form_falls : (line : ℕ) (f : FactorForm) → max (deep-FactorForm f) 0 ≤ factor_size (factor_of line f)
 form_falls line (Number n) = omega arith
@@ -79,7 +92,8 @@ pub designator_falls : (a : designator.Inside) → deep-Designator a ≤ suc (se
 designator_falls a = omega (arith, most_selectors a.behind.items)
 
 selector_form_falls : (line : ℕ) (s : SelectorForm) → max (deep-SelectorForm s) 0 ≤ selector_size (selector_of line s)
-selector_form_falls line (Index first more) = omega (arith, most_formulas more.items)
+selector_form_falls line (Index first None) = omega arith
+selector_form_falls line (Index first (Some more)) = omega (arith, most_formulas more.value.items)
 selector_form_falls line (Field x) = omega arith
 selector_form_falls line Content = omega arith
 
