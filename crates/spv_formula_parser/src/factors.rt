@@ -12,7 +12,7 @@ ghost use Rattle.spv_front.specs.Faults.{IsStop};
 ghost use Rattle.spv_formula_parser.specs.Factors.{read_selector, read_class, read_negation, factor_at};
 ghost use Rattle.spv_formula_parser.specs.Factors as spec;
 
-use crate::formulas::inner;
+use crate::formulas::{inner, inner_in_box};
 use spv_front::fault::{Fault, out_of_levels, unexpected};
 use spv_front::front::{after, first_line, front, is_sign, name, past_sign};
 use spv_front::lists::push;
@@ -22,10 +22,10 @@ use spv_syntax::{
 use spv_tokens::{Sign, Token, TokenKind, Word};
 use std::alloc::{AllocError, Global};
 
-// {"," formula}
+// {"," formula}, by a loop
 #[cycle(formula)]
 #[inline(never)]
-fn more_formulas(
+fn further_formulas(
     alloc: Global,
     levels: u32,
     tokens: &[Token],
@@ -46,6 +46,22 @@ fn more_formulas(
     Ok((more, rest))
 }
 
+// {"," formula}
+#[cycle(formula)]
+fn more_formulas(
+    alloc: Global,
+    levels: u32,
+    tokens: &[Token],
+) -> Result<(Vec<Formula>, &[Token]), Fault>
+    ensures read { IfOk result (λ r. read_more_formulas (read_inner levels) tokens.now ≡ Read (more_formulas_of r.0.items, r.1.now)) }
+    ensures absent { (s : Stop) → IsErrAnd result (IsStop s) → read_more_formulas (read_inner levels) tokens.now ≡ Halted s }
+{
+    if !is_sign(Sign::Comma, tokens) {
+        return Ok((Vec::new(alloc), tokens));
+    }
+    further_formulas(alloc, levels, tokens)
+}
+
 // "[" formula {"," formula} "]", behind the bracket on this line
 #[cycle(formula)]
 #[inline(never)]
@@ -58,8 +74,7 @@ fn index(
     ensures read { IfOk result (λ r. read_index (read_inner levels) line tokens.now ≡ Read (r.0, r.1.now)) }
     ensures absent { (s : Stop) → IsErrAnd result (IsStop s) → read_index (read_inner levels) line tokens.now ≡ Halted s }
 {
-    let (first, rest) = inner(alloc, levels, tokens)?;
-    let first = Box::new(alloc, first)?;
+    let (first, rest) = inner_in_box(alloc, levels, tokens)?;
     let (more, rest) = more_formulas(alloc, levels, rest)?;
     let more = in_box(alloc, more)?;
     let rest = past_sign(Sign::CloseBracket, rest)?;
@@ -105,10 +120,10 @@ fn selector(alloc: Global, levels: u32, tokens: &[Token]) -> Result<(Selector, &
     }
 }
 
-/// {selector}
+// {selector}, by a loop
 #[cycle(formula)]
 #[inline(never)]
-pub fn selectors(
+fn further_selectors(
     alloc: Global,
     levels: u32,
     tokens: &[Token],
@@ -127,6 +142,22 @@ pub fn selectors(
         rest = next;
     }
     Ok((behind, rest))
+}
+
+/// {selector}
+#[cycle(formula)]
+pub fn selectors(
+    alloc: Global,
+    levels: u32,
+    tokens: &[Token],
+) -> Result<(Vec<Selector>, &[Token]), Fault>
+    ensures read { IfOk result (λ r. read_selectors (read_inner levels) tokens.now ≡ Read (selectors_of r.0.items, r.1.now)) }
+    ensures absent { (s : Stop) → IsErrAnd result (IsStop s) → read_selectors (read_inner levels) tokens.now ≡ Halted s }
+{
+    if !begins_selector(tokens) {
+        return Ok((Vec::new(alloc), tokens));
+    }
+    further_selectors(alloc, levels, tokens)
 }
 
 /// name {selector}
@@ -234,8 +265,7 @@ fn bracketed(
     ensures absent { (s : Stop) → IsErrAnd result (IsStop s) → read_bracketed (read_inner levels) line tokens.now ≡ Halted s }
     ensures line { IfOk result (λ r. factor_line r.0 ≡ line) }
 {
-    let (read, rest) = inner(alloc, levels, tokens)?;
-    let read = Box::new(alloc, read)?;
+    let (read, rest) = inner_in_box(alloc, levels, tokens)?;
     let rest = past_sign(Sign::CloseParenthesis, rest)?;
     let form = FactorForm::Bracketed(read);
     Ok((Factor { line, form }, rest))

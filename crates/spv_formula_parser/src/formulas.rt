@@ -2,7 +2,7 @@
 
 ghost use Rattle.std.specs.Prelude.{◌≡◌, Some, None, IfOk, IsErrAnd};
 ghost use Rattle.spv_syntax.specs.FormulaViews.{conclusion_of, right_side_of};
-ghost use Rattle.spv_syntax.specs.Lines.{relation_line, simple_line, term_line};
+ghost use Rattle.spv_syntax.specs.Lines.{items_in, relation_line, simple_line, term_line};
 ghost use Rattle.spv_syntax.specs.Steps.{first_line};
 ghost use Rattle.spv_syntax.specs.Model.FormulaSizes.{more_terms_of, more_factors_of};
 ghost use Rattle.spv_reading.specs.Readers as reader;
@@ -61,10 +61,10 @@ fn multiplying(tokens: &[Token]) -> Option<Multiplying>
     }
 }
 
-// {("*" | DIV | MOD | AND) factor}
+// {("*" | DIV | MOD | AND) factor}, by a loop
 #[cycle(formula)]
 #[inline(never)]
-fn more_factors(
+fn further_factors(
     alloc: Global,
     levels: u32,
     tokens: &[Token],
@@ -85,6 +85,23 @@ fn more_factors(
     Ok((more, rest))
 }
 
+// {("*" | DIV | MOD | AND) factor}
+#[cycle(formula)]
+fn more_factors(
+    alloc: Global,
+    levels: u32,
+    tokens: &[Token],
+) -> Result<(Option<Box<Vec<(Multiplying, Factor)>>>, &[Token]), Fault>
+    ensures read { IfOk result (λ r. read_more_factors (read_factor levels) tokens.now ≡ Read (more_factors_of (items_in r.0), r.1.now)) }
+    ensures absent { (s : Stop) → IsErrAnd result (IsStop s) → read_more_factors (read_factor levels) tokens.now ≡ Halted s }
+{
+    if multiplying(tokens).is_none() {
+        return Ok((None, tokens));
+    }
+    let (more, rest) = further_factors(alloc, levels, tokens)?;
+    Ok((in_box(alloc, more)?, rest))
+}
+
 // factor {("*" | DIV | MOD | AND) factor}
 #[cycle(formula)]
 fn term(alloc: Global, levels: u32, tokens: &[Token]) -> Result<(Term, &[Token]), Fault>
@@ -94,14 +111,13 @@ fn term(alloc: Global, levels: u32, tokens: &[Token]) -> Result<(Term, &[Token])
 {
     let (first, rest) = factor(alloc, levels, tokens)?;
     let (more, rest) = more_factors(alloc, levels, rest)?;
-    let more = in_box(alloc, more)?;
     Ok((Term { first, more }, rest))
 }
 
-// {("+" | "-" | OR) term}
+// {("+" | "-" | OR) term}, by a loop
 #[cycle(formula)]
 #[inline(never)]
-fn more_terms(
+fn further_terms(
     alloc: Global,
     levels: u32,
     tokens: &[Token],
@@ -122,6 +138,23 @@ fn more_terms(
     Ok((more, rest))
 }
 
+// {("+" | "-" | OR) term}
+#[cycle(formula)]
+fn more_terms(
+    alloc: Global,
+    levels: u32,
+    tokens: &[Token],
+) -> Result<(Option<Box<Vec<(Adding, Term)>>>, &[Token]), Fault>
+    ensures read { IfOk result (λ r. read_more_terms (read_factor levels) tokens.now ≡ Read (more_terms_of (items_in r.0), r.1.now)) }
+    ensures absent { (s : Stop) → IsErrAnd result (IsStop s) → read_more_terms (read_factor levels) tokens.now ≡ Halted s }
+{
+    if adding(tokens).is_none() {
+        return Ok((None, tokens));
+    }
+    let (more, rest) = further_terms(alloc, levels, tokens)?;
+    Ok((in_box(alloc, more)?, rest))
+}
+
 // term {("+" | "-" | OR) term}, behind the sign on this line
 #[cycle(formula)]
 fn sum(
@@ -137,7 +170,6 @@ fn sum(
 {
     let (first, rest) = term(alloc, levels, tokens)?;
     let (more, rest) = more_terms(alloc, levels, rest)?;
-    let more = in_box(alloc, more)?;
     let read = Simple {
         line,
         prefix,
@@ -161,9 +193,25 @@ fn simple(alloc: Global, levels: u32, tokens: &[Token]) -> Result<(Simple, &[Tok
     }
 }
 
-// [("=" | "<>" | "<" | "<=" | ">" | ">=") simple]
+// simple, behind the operator
 #[cycle(formula)]
 #[inline(never)]
+fn compared(
+    alloc: Global,
+    levels: u32,
+    operator: Comparison,
+    tokens: &[Token],
+) -> Result<(Box<(Comparison, Simple)>, &[Token]), Fault>
+    ensures operator { IfOk result (λ r. r.0.value.0 ≡ operator) }
+    ensures read { IfOk result (λ r. read_simple (read_factor levels) tokens.now ≡ Read (r.0.value.1, r.1.now)) }
+    ensures absent { (s : Stop) → IsErrAnd result (IsStop s) → read_simple (read_factor levels) tokens.now ≡ Halted s }
+{
+    let (right, rest) = simple(alloc, levels, tokens)?;
+    Ok((Box::new(alloc, (operator, right))?, rest))
+}
+
+// [("=" | "<>" | "<" | "<=" | ">" | ">=") simple]
+#[cycle(formula)]
 fn right_side(
     alloc: Global,
     levels: u32,
@@ -175,8 +223,7 @@ fn right_side(
     let Some(operator) = comparison(tokens) else {
         return Ok((None, tokens));
     };
-    let (right, rest) = simple(alloc, levels, after(tokens))?;
-    let side = Box::new(alloc, (operator, right))?;
+    let (side, rest) = compared(alloc, levels, operator, after(tokens))?;
     Ok((Some(side), rest))
 }
 
@@ -194,7 +241,6 @@ fn relation(alloc: Global, levels: u32, tokens: &[Token]) -> Result<(Relation, &
 
 // ["->" formula]
 #[cycle(formula)]
-#[inline(never)]
 fn conclusion(
     alloc: Global,
     levels: u32,
@@ -206,8 +252,7 @@ fn conclusion(
     if !is_sign(Sign::Arrow, tokens) {
         return Ok((None, tokens));
     }
-    let (right, rest) = inner(alloc, levels, after(tokens))?;
-    let right = Box::new(alloc, right)?;
+    let (right, rest) = inner_in_box(alloc, levels, after(tokens))?;
     Ok((Some(right), rest))
 }
 
@@ -232,4 +277,19 @@ pub fn inner(alloc: Global, levels: u32, tokens: &[Token]) -> Result<(Formula, &
         return Err(out_of_levels(tokens));
     }
     formula(alloc, levels - 1, tokens)
+}
+
+/// The same, in a box.
+#[cycle(formula)]
+#[inline(never)]
+pub fn inner_in_box(
+    alloc: Global,
+    levels: u32,
+    tokens: &[Token],
+) -> Result<(Box<Formula>, &[Token]), Fault>
+    ensures read { IfOk result (λ r. read_inner levels tokens.now ≡ Read (r.0.value, r.1.now)) }
+    ensures absent { (s : Stop) → IsErrAnd result (IsStop s) → read_inner levels tokens.now ≡ Halted s }
+{
+    let (read, rest) = inner(alloc, levels, tokens)?;
+    Ok((Box::new(alloc, read)?, rest))
 }
