@@ -2,7 +2,8 @@
 
 ghost use Rattle.std.specs.Prelude.{OnOk};
 ghost use Rattle.spv_syntax.specs.Members.{in_kinds};
-ghost use Rattle.spv_syntax.specs.FormulaSpelling.{designator_spelling, factor_spelling, formula_spelling, more_formulas_spelling, relation_spelling, selector_spelling, selectors_spelling, simple_spelling, term_spelling};
+ghost use Rattle.spv_syntax.specs.FormulaSpelling.{conclusion_spelling, designator_spelling, factor_spelling, formula_spelling, more_formulas_spelling, relation_spelling, selector_spelling, selectors_spelling, simple_spelling, term_spelling};
+ghost use Rattle.spv_syntax.specs.FormulaViews.{conclusion_of};
 ghost use Rattle.spv_syntax.specs.Model.FormulaSizes.{more_formulas_of, selectors_of};
 ghost use Rattle.spv_flat.specs.Flat.{Adds};
 
@@ -10,7 +11,8 @@ use crate::names::prefix;
 use crate::out;
 use crate::spelled::Spelled;
 use spv_syntax::{
-    Designator, Factor, FactorForm, Formula, Relation, Selector, SelectorForm, Simple, Term, items,
+    Designator, Factor, FactorForm, Formula, FormulaForm, Relation, Selector, SelectorForm, Simple,
+    Term, items,
 };
 use spv_tokens::{Sign, TokenKind, Word};
 use std::alloc::AllocError;
@@ -20,8 +22,21 @@ use std::alloc::AllocError;
 pub fn formula(tree: &Formula, out: &mut Vec<TokenKind>) -> Result<(), AllocError>
     ensures { OnOk result (Adds (formula_spelling in_kinds tree.now) out.old.items out.new.items) }
 {
-    relation(&tree.left, out)?;
-    match &tree.right {
+    match &tree.form {
+        FormulaForm::Factor(alone) => factor(alone, out),
+        FormulaForm::Implication(whole) => {
+            relation(&whole.left, out)?;
+            conclusion(&whole.right, out)
+        }
+    }
+}
+
+// Adds the arrow and the tokens behind it, where they are there.
+#[cycle(formulas)]
+fn conclusion(tree: &Option<Formula>, out: &mut Vec<TokenKind>) -> Result<(), AllocError>
+    ensures { OnOk result (Adds (conclusion_spelling in_kinds (conclusion_of tree.now)) out.old.items out.new.items) }
+{
+    match tree {
         None => Ok(()),
         Some(right) => {
             out::sign(Sign::Arrow, out)?;
@@ -54,7 +69,7 @@ fn simple(tree: &Simple, out: &mut Vec<TokenKind>) -> Result<(), AllocError>
 {
     prefix(tree.prefix, out)?;
     term(&tree.first, out)?;
-    for (operator, part) in items(&tree.more) {
+    for (operator, part) in &tree.more {
         out::token(out::adding(*operator), out)?;
         term(part, out)?;
     }
@@ -67,7 +82,7 @@ fn term(tree: &Term, out: &mut Vec<TokenKind>) -> Result<(), AllocError>
     ensures { OnOk result (Adds (term_spelling in_kinds tree.now) out.old.items out.new.items) }
 {
     factor(&tree.first, out)?;
-    for (operator, part) in items(&tree.more) {
+    for (operator, part) in &tree.more {
         out::token(out::multiplying(*operator), out)?;
         factor(part, out)?;
     }

@@ -4,7 +4,7 @@ ghost use Rattle.std.specs.Prelude.{◌≡◌, OnOk};
 ghost use Rattle.spv_syntax.specs.Members.{in_kinds};
 ghost use Rattle.spv_syntax.specs.StatementSpelling.{arguments_spelling, arm_spelling, block_spelling, direction_kind, invariant_spelling, loop_spelling, more_arms_spelling, more_statements_spelling, otherwise_spelling, statement_spelling};
 ghost use Rattle.spv_syntax.specs.Model.StatementSizes.{more_statements_of, more_arms_of};
-ghost use Rattle.spv_syntax.specs.StatementViews.{given_of, invariant_of, otherwise_of};
+ghost use Rattle.spv_syntax.specs.StatementViews.{given_of, otherwise_of};
 ghost use Rattle.spv_flat.specs.Flat.{Adds};
 
 use crate::formulas::{designator, formula};
@@ -34,8 +34,8 @@ fn arguments(
 }
 
 // Adds the tokens of an invariant, where there is one.
-fn invariant(invariant: &Option<Box<Formula>>, out: &mut Vec<TokenKind>) -> Result<(), AllocError>
-    ensures { OnOk result (Adds (invariant_spelling in_kinds (invariant_of invariant.now)) out.old.items out.new.items) }
+fn invariant(invariant: &Option<Formula>, out: &mut Vec<TokenKind>) -> Result<(), AllocError>
+    ensures { OnOk result (Adds (invariant_spelling in_kinds invariant.now) out.old.items out.new.items) }
 {
     match invariant {
         None => Ok(()),

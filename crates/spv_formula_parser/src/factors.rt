@@ -12,7 +12,7 @@ ghost use Rattle.spv_front.specs.Faults.{IsStop};
 ghost use Rattle.spv_formula_parser.specs.Factors.{read_selector, read_class, read_negation, factor_at};
 ghost use Rattle.spv_formula_parser.specs.Factors as spec;
 
-use crate::formulas::{inner, inner_in_box};
+use crate::formulas::inner;
 use spv_front::fault::{Fault, out_of_levels, unexpected};
 use spv_front::front::{after, first_line, front, is_sign, name, past_sign};
 use spv_front::lists::push;
@@ -74,7 +74,7 @@ fn index(
     ensures read { IfOk result (λ r. read_index (read_inner levels) line tokens.now ≡ Read (r.0, r.1.now)) }
     ensures absent { (s : Stop) → IsErrAnd result (IsStop s) → read_index (read_inner levels) line tokens.now ≡ Halted s }
 {
-    let (first, rest) = inner_in_box(alloc, levels, tokens)?;
+    let (first, rest) = inner(alloc, levels, tokens)?;
     let (more, rest) = more_formulas(alloc, levels, rest)?;
     let more = in_box(alloc, more)?;
     let rest = past_sign(Sign::CloseBracket, rest)?;
@@ -265,7 +265,7 @@ fn bracketed(
     ensures absent { (s : Stop) → IsErrAnd result (IsStop s) → read_bracketed (read_inner levels) line tokens.now ≡ Halted s }
     ensures line { IfOk result (λ r. factor_line r.0 ≡ line) }
 {
-    let (read, rest) = inner_in_box(alloc, levels, tokens)?;
+    let (read, rest) = inner(alloc, levels, tokens)?;
     let rest = past_sign(Sign::CloseParenthesis, rest)?;
     let form = FactorForm::Bracketed(read);
     Ok((Factor { line, form }, rest))

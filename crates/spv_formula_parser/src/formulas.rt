@@ -2,13 +2,16 @@
 
 ghost use Rattle.std.specs.Prelude.{◌≡◌, Some, None, IfOk, IsErrAnd};
 ghost use Rattle.spv_syntax.specs.FormulaViews.{conclusion_of, right_side_of};
-ghost use Rattle.spv_syntax.specs.Lines.{items_in, relation_line, simple_line, term_line};
+ghost use Rattle.spv_syntax.specs.Formulas as plain;
+ghost use Rattle.spv_syntax.specs.Lines.{factor_line, relation_line, simple_line, term_line};
 ghost use Rattle.spv_syntax.specs.Steps.{first_line};
 ghost use Rattle.spv_syntax.specs.Model.FormulaSizes.{more_terms_of, more_factors_of};
 ghost use Rattle.spv_reading.specs.Readers as reader;
 ghost use Rattle.spv_reading.specs.FormulaReaders.{comparison_of, adding_of, multiplying_of, read_inner, read_factor, read_more_factors, read_term, read_more_terms, read_sum, read_simple, right_side_by, read_relation, read_conclusion, read_formula};
 ghost use Rattle.spv_reading.specs.Readers.{Stop, Read, Halted};
 ghost use Rattle.spv_front.specs.Faults.{IsStop};
+ghost use Rattle.spv_formula_parser.specs.Formulas as spec;
+ghost use Rattle.spv_formula_parser.specs.Formulas.{from_factor};
 
 use crate::factors::factor;
 use spv_front::constants::prefix;
@@ -16,10 +19,11 @@ use spv_front::fault::{Fault, out_of_levels};
 use spv_front::front::{after, first_line, front, is_sign};
 use spv_front::lists::push;
 use spv_syntax::{
-    Adding, Comparison, Factor, Formula, Multiplying, PlusOrMinus, Relation, Simple, Term, in_box,
+    Adding, Comparison, Factor, Formula, FormulaForm, Implication, Multiplying, PlusOrMinus,
+    Relation, Simple, Term,
 };
 use spv_tokens::{Sign, Token, TokenKind, Word};
-use std::alloc::Global;
+use std::alloc::{AllocError, Global};
 
 // The operator of a relation at the front, where there is one.
 fn comparison(tokens: &[Token]) -> Option<Comparison>
@@ -91,15 +95,14 @@ fn more_factors(
     alloc: Global,
     levels: u32,
     tokens: &[Token],
-) -> Result<(Option<Box<Vec<(Multiplying, Factor)>>>, &[Token]), Fault>
-    ensures read { IfOk result (λ r. read_more_factors (read_factor levels) tokens.now ≡ Read (more_factors_of (items_in r.0), r.1.now)) }
+) -> Result<(Vec<(Multiplying, Factor)>, &[Token]), Fault>
+    ensures read { IfOk result (λ r. read_more_factors (read_factor levels) tokens.now ≡ Read (more_factors_of r.0.items, r.1.now)) }
     ensures absent { (s : Stop) → IsErrAnd result (IsStop s) → read_more_factors (read_factor levels) tokens.now ≡ Halted s }
 {
     if multiplying(tokens).is_none() {
-        return Ok((None, tokens));
+        return Ok((Vec::new(alloc), tokens));
     }
-    let (more, rest) = further_factors(alloc, levels, tokens)?;
-    Ok((in_box(alloc, more)?, rest))
+    further_factors(alloc, levels, tokens)
 }
 
 // factor {("*" | DIV | MOD | AND) factor}
@@ -144,15 +147,14 @@ fn more_terms(
     alloc: Global,
     levels: u32,
     tokens: &[Token],
-) -> Result<(Option<Box<Vec<(Adding, Term)>>>, &[Token]), Fault>
-    ensures read { IfOk result (λ r. read_more_terms (read_factor levels) tokens.now ≡ Read (more_terms_of (items_in r.0), r.1.now)) }
+) -> Result<(Vec<(Adding, Term)>, &[Token]), Fault>
+    ensures read { IfOk result (λ r. read_more_terms (read_factor levels) tokens.now ≡ Read (more_terms_of r.0.items, r.1.now)) }
     ensures absent { (s : Stop) → IsErrAnd result (IsStop s) → read_more_terms (read_factor levels) tokens.now ≡ Halted s }
 {
     if adding(tokens).is_none() {
-        return Ok((None, tokens));
+        return Ok((Vec::new(alloc), tokens));
     }
-    let (more, rest) = further_terms(alloc, levels, tokens)?;
-    Ok((in_box(alloc, more)?, rest))
+    further_terms(alloc, levels, tokens)
 }
 
 // term {("+" | "-" | OR) term}, behind the sign on this line
@@ -245,15 +247,108 @@ fn conclusion(
     alloc: Global,
     levels: u32,
     tokens: &[Token],
-) -> Result<(Option<Box<Formula>>, &[Token]), Fault>
+) -> Result<(Option<Formula>, &[Token]), Fault>
     ensures read { IfOk result (λ r. read_conclusion (read_inner levels) tokens.now ≡ Read (conclusion_of r.0, r.1.now)) }
     ensures absent { (s : Stop) → IsErrAnd result (IsStop s) → read_conclusion (read_inner levels) tokens.now ≡ Halted s }
 {
     if !is_sign(Sign::Arrow, tokens) {
         return Ok((None, tokens));
     }
-    let (right, rest) = inner_in_box(alloc, levels, after(tokens))?;
+    let (right, rest) = inner(alloc, levels, after(tokens))?;
     Ok((Some(right), rest))
+}
+
+// A formula of these sides.
+fn implication(alloc: Global, left: Relation, right: Option<Formula>) -> Result<Formula, AllocError>
+    ensures { IfOk result (λ f. f ≡ plain.formula (relation_line left) left (conclusion_of right)) }
+{
+    let whole = Box::new(alloc, Implication { left, right })?;
+    Ok(Formula {
+        form: FormulaForm::Implication(whole),
+    })
+}
+
+// What stands behind this factor in a product, a sum, a relation and a formula.
+#[cycle(formula)]
+#[inline(never)]
+fn behind_factor(
+    alloc: Global,
+    levels: u32,
+    first: Factor,
+    tokens: &[Token],
+) -> Result<(Formula, &[Token]), Fault>
+    ensures read { IfOk result (λ r. from_factor (read_factor levels) (read_inner levels) (factor_line first) first tokens.now ≡ Read (r.0, r.1.now)) }
+    ensures absent { (s : Stop) → IsErrAnd result (IsStop s) → from_factor (read_factor levels) (read_inner levels) (factor_line first) first tokens.now ≡ Halted s }
+{
+    let line = first.line;
+    let (more, rest) = more_factors(alloc, levels, tokens)?;
+    let first = Term { first, more };
+    let (more, rest) = more_terms(alloc, levels, rest)?;
+    let left = Simple {
+        line,
+        prefix: None,
+        first,
+        more,
+    };
+    let (right, rest) = right_side(alloc, levels, rest)?;
+    let left = Relation { left, right };
+    let (right, rest) = conclusion(alloc, levels, rest)?;
+    Ok((implication(alloc, left, right)?, rest))
+}
+
+// Whether an operator or an arrow stands at the front.
+fn goes_on(tokens: &[Token]) -> bool
+    ensures { result ≡ spec.goes_on (reader.front tokens.now) }
+{
+    match front(tokens) {
+        Some(TokenKind::Sign(sign)) => matches!(
+            sign,
+            Sign::Star
+                | Sign::Plus
+                | Sign::Minus
+                | Sign::Equal
+                | Sign::NotEqual
+                | Sign::Less
+                | Sign::AtMost
+                | Sign::Greater
+                | Sign::AtLeast
+                | Sign::Arrow
+        ),
+        Some(TokenKind::Word(word)) => {
+            matches!(word, Word::Div | Word::Mod | Word::And | Word::Or)
+        }
+        _ => false,
+    }
+}
+
+// A formula that no sign begins.
+#[cycle(formula)]
+fn plain_formula(alloc: Global, levels: u32, tokens: &[Token]) -> Result<(Formula, &[Token]), Fault>
+    ensures read { IfOk result (λ r. spec.read_plain (read_factor levels) (read_inner levels) tokens.now ≡ Read (r.0, r.1.now)) }
+    ensures absent { (s : Stop) → IsErrAnd result (IsStop s) → spec.read_plain (read_factor levels) (read_inner levels) tokens.now ≡ Halted s }
+{
+    let (first, rest) = factor(alloc, levels, tokens)?;
+    if goes_on(rest) {
+        return behind_factor(alloc, levels, first, rest);
+    }
+    let form = FormulaForm::Factor(Box::new(alloc, first)?);
+    Ok((Formula { form }, rest))
+}
+
+// A formula that a sign begins.
+#[cycle(formula)]
+#[inline(never)]
+fn signed_formula(
+    alloc: Global,
+    levels: u32,
+    tokens: &[Token],
+) -> Result<(Formula, &[Token]), Fault>
+    ensures read { IfOk result (λ r. read_formula levels tokens.now ≡ Read (r.0, r.1.now)) }
+    ensures absent { (s : Stop) → IsErrAnd result (IsStop s) → read_formula levels tokens.now ≡ Halted s }
+{
+    let (left, rest) = relation(alloc, levels, tokens)?;
+    let (right, rest) = conclusion(alloc, levels, rest)?;
+    Ok((implication(alloc, left, right)?, rest))
 }
 
 /// relation ["->" formula]
@@ -262,9 +357,10 @@ pub fn formula(alloc: Global, levels: u32, tokens: &[Token]) -> Result<(Formula,
     ensures read { IfOk result (λ r. read_formula levels tokens.now ≡ Read (r.0, r.1.now)) }
     ensures absent { (s : Stop) → IsErrAnd result (IsStop s) → read_formula levels tokens.now ≡ Halted s }
 {
-    let (left, rest) = relation(alloc, levels, tokens)?;
-    let (right, rest) = conclusion(alloc, levels, rest)?;
-    Ok((Formula { left, right }, rest))
+    match prefix(tokens) {
+        None => plain_formula(alloc, levels, tokens),
+        Some(_) => signed_formula(alloc, levels, tokens),
+    }
 }
 
 /// A formula one level down: with one level more it is a formula at that level.
@@ -277,19 +373,4 @@ pub fn inner(alloc: Global, levels: u32, tokens: &[Token]) -> Result<(Formula, &
         return Err(out_of_levels(tokens));
     }
     formula(alloc, levels - 1, tokens)
-}
-
-/// The same, in a box.
-#[cycle(formula)]
-#[inline(never)]
-pub fn inner_in_box(
-    alloc: Global,
-    levels: u32,
-    tokens: &[Token],
-) -> Result<(Box<Formula>, &[Token]), Fault>
-    ensures read { IfOk result (λ r. read_inner levels tokens.now ≡ Read (r.0.value, r.1.now)) }
-    ensures absent { (s : Stop) → IsErrAnd result (IsStop s) → read_inner levels tokens.now ≡ Halted s }
-{
-    let (read, rest) = inner(alloc, levels, tokens)?;
-    Ok((Box::new(alloc, read)?, rest))
 }

@@ -1,4 +1,3 @@
-pub mod Lines
 pub mod Exits
 pub mod Loops
 pub mod Places

@@ -4,14 +4,16 @@ ghost use Rattle.std.specs.Prelude.{◌≡◌, IfNone, IfSome, None, Some, optio
 ghost use Rattle.spv_typing.specs.OperatorWalk as spec;
 ghost use Rattle.spv_formula_typing.specs.Operands.{numeral_alone, numeral_of};
 
-use spv_syntax::{Designator, Factor, FactorForm, Formula, Name, Relation, Simple, Term, items};
+use spv_syntax::{
+    Designator, Factor, FactorForm, Formula, FormulaForm, Name, Relation, Simple, Term,
+};
 
 // The number that a term is, where it is a numeral alone.
 pub(crate) fn number_alone(tree: &Term) -> Option<i64>
     ensures number { IfSome result (λ z. numeral_alone tree.now ≡ Some z) }
     ensures none { IfNone result (numeral_alone tree.now ≡ None) }
 {
-    match items(&tree.more) {
+    match tree.more.as_slice() {
         [] => number_of(&tree.first),
         _ => None,
     }
@@ -31,9 +33,12 @@ fn number_of(tree: &Factor) -> Option<i64>
 pub(crate) fn designator_alone(tree: &Formula) -> Option<&Designator>
     ensures { option_copied result ≡ spec.designator_alone tree.now }
 {
-    match &tree.right {
-        None => relation_alone(&tree.left),
-        Some(_) => None,
+    match &tree.form {
+        FormulaForm::Factor(alone) => factor_alone(alone),
+        FormulaForm::Implication(whole) => match &whole.right {
+            None => relation_alone(&whole.left),
+            Some(_) => None,
+        },
     }
 }
 
@@ -51,7 +56,7 @@ fn simple_alone(tree: &Simple) -> Option<&Designator>
 {
     match tree.prefix {
         Some(_) => None,
-        None => match items(&tree.more) {
+        None => match tree.more.as_slice() {
             [] => term_alone(&tree.first),
             _ => None,
         },
@@ -61,7 +66,7 @@ fn simple_alone(tree: &Simple) -> Option<&Designator>
 fn term_alone(tree: &Term) -> Option<&Designator>
     ensures { option_copied result ≡ spec.term_alone tree.now }
 {
-    match items(&tree.more) {
+    match tree.more.as_slice() {
         [] => factor_alone(&tree.first),
         _ => None,
     }

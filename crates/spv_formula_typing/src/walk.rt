@@ -1,6 +1,9 @@
 // The walk over a formula, in the order of the text, operands before their operator.
 
 ghost use Rattle.std.specs.Prelude.{◌≡◌, [], ◌∷◌, ◌++◌, IfOk, IfErr, OnOk, Ok};
+ghost use Rattle.spv_syntax.specs.Formulas as plain;
+ghost use Rattle.spv_syntax.specs.FormulaViews.{conclusion_of};
+ghost use Rattle.spv_syntax.specs.Lines.{relation_line};
 ghost use Rattle.spv_syntax.specs.Model.FormulaSizes.{more_formulas_of, selectors_of};
 ghost use Rattle.spv_typing.specs.OperatorWalk as spec;
 ghost use Rattle.spv_scopes.specs.Answers.{Stops};
@@ -13,8 +16,8 @@ use crate::forms::{Forms, Given, Operand, Way};
 use crate::operators::{conclusion, negative, opposite, positive, product, related, total};
 use spv_logic::Sort;
 use spv_syntax::{
-    Designator, Factor, FactorForm, Formula, Name, PlusOrMinus, Relation, Selector, SelectorForm,
-    Simple, Term, items,
+    Designator, Factor, FactorForm, Formula, FormulaForm, Name, PlusOrMinus, Relation, Selector,
+    SelectorForm, Simple, Term, items,
 };
 use spv_typing::TypeFault;
 use std::alloc::{AllocError, Global};
@@ -37,12 +40,30 @@ pub fn formula<F: Forms>(
     ensures ok { IfOk result (λ o. spec.formula_walk (F.forms forms.now) tree.now ≡ Ok (operand_of o)) }
     ensures err { IfErr result (λ e. Stops e (spec.formula_walk (F.forms forms.now) tree.now)) }
 {
-    match &tree.right {
-        None => relation(forms, alloc, &tree.left),
+    match &tree.form {
+        FormulaForm::Factor(alone) => factor(forms, alloc, alone),
+        FormulaForm::Implication(whole) => implied(forms, alloc, &whole.left, &whole.right),
+    }
+}
+
+#[cycle(formulas)]
+#[inline(never)]
+fn implied<F: Forms>(
+    forms: &F,
+    alloc: Global,
+    left: &Relation,
+    right: &Option<Formula>,
+) -> Result<Operand<F::Formed>, TypeFault>
+    ensures ok { IfOk result (λ o. spec.formula_walk (F.forms forms.now) (plain.formula (relation_line left.now) left.now (conclusion_of right.now)) ≡ Ok (operand_of o)) }
+    ensures err { IfErr result (λ e. Stops e (spec.formula_walk (F.forms forms.now) (plain.formula (relation_line left.now) left.now (conclusion_of right.now)))) }
+{
+    match right {
+        None => relation(forms, alloc, left),
         Some(behind) => {
-            let left = relation(forms, alloc, &tree.left)?;
-            let right = formula(forms, alloc, behind)?;
-            conclusion(forms, alloc, tree.line(), left, right)
+            let line = left.line();
+            let a = relation(forms, alloc, left)?;
+            let b = formula(forms, alloc, behind)?;
+            conclusion(forms, alloc, line, a, b)
         }
     }
 }
@@ -103,7 +124,7 @@ fn simple<F: Forms>(
     let first = term(forms, alloc, &tree.first)?;
     let line = tree.line;
     let mut so_far = with_sign(forms, alloc, line, tree.prefix, &tree.first, first)?;
-    for (operator, part) in items(&tree.more) {
+    for (operator, part) in &tree.more {
         let next = term(forms, alloc, part)?;
         so_far = total(forms, alloc, line, *operator, so_far, next)?;
     }
@@ -118,7 +139,7 @@ fn term<F: Forms>(forms: &F, alloc: Global, tree: &Term) -> Result<Operand<F::Fo
 {
     let line = tree.line();
     let mut so_far = factor(forms, alloc, &tree.first)?;
-    for (operator, part) in items(&tree.more) {
+    for (operator, part) in &tree.more {
         let next = factor(forms, alloc, part)?;
         so_far = product(forms, alloc, line, *operator, so_far, next)?;
     }

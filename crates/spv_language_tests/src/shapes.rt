@@ -3,7 +3,8 @@
 use crate::texts::program_of;
 use spv_language::LanguageFault;
 use spv_syntax::{
-    Adding, Direction, Formula, LoopForm, Program, RoutineMark, Statement, StatementForm, items,
+    Adding, Direction, Formula, FormulaForm, LoopForm, Program, RoutineMark, Statement,
+    StatementForm,
 };
 use std::alloc::Global;
 use std::test::Fail;
@@ -23,21 +24,33 @@ enum Shape {
     Nested,
 }
 
+// What stands right of the arrow, where there is one.
+fn conclusion(read: &Formula) -> Option<&Formula> {
+    match &read.form {
+        FormulaForm::Factor(_) => None,
+        FormulaForm::Implication(whole) => match &whole.right {
+            Some(behind) => Some(behind),
+            None => None,
+        },
+    }
+}
+
 // Whether a formula is `.. -> (.. -> ..)`.
 fn has_arrow_on_the_right(read: &Formula) -> bool {
-    match &read.right {
-        Some(behind) => behind.right.is_some(),
+    match conclusion(read) {
+        Some(behind) => conclusion(behind).is_some(),
         None => false,
     }
 }
 
 // Whether a formula is one factor, OR, and two factors that AND joins.
 fn has_and_inside_or(read: &Formula) -> bool {
-    let sum = &read.left.left;
-    match items(&sum.more) {
-        [(Adding::Or, term)] => {
-            items(&sum.first.more).is_empty() && items(&term.more).len() == 1
-        }
+    let FormulaForm::Implication(whole) = &read.form else {
+        return false;
+    };
+    let sum = &whole.left.left;
+    match sum.more.as_slice() {
+        [(Adding::Or, term)] => sum.first.more.is_empty() && term.more.len() == 1,
         _ => false,
     }
 }

@@ -30,20 +30,6 @@ impl PartReader<Formula> for ArgumentReader {
     }
 }
 
-// A formula in a box.
-#[inline(never)]
-pub fn boxed_formula(
-    alloc: Global,
-    levels: u32,
-    tokens: &[Token],
-) -> Result<(Box<Formula>, &[Token]), Fault>
-    ensures read { IfOk result (λ r. read_formula levels tokens.now ≡ Read (r.0.value, r.1.now)) }
-    ensures absent { (s : Stop) → IsErrAnd result (IsStop s) → read_formula levels tokens.now ≡ Halted s }
-{
-    let (read, rest) = formula(alloc, levels, tokens)?;
-    Ok((Box::new(alloc, read)?, rest))
-}
-
 // Arguments in a box.
 #[inline(never)]
 fn arguments(
@@ -120,7 +106,7 @@ fn assigned(
 {
     let line = name.line;
     let place = Box::new(alloc, Designator { name, behind })?;
-    let (value, rest) = boxed_formula(alloc, levels, tokens)?;
+    let (value, rest) = formula(alloc, levels, tokens)?;
     let form = StatementForm::Assignment(place, value);
     Ok((Statement { line, form }, rest))
 }

@@ -1,15 +1,14 @@
 // Loops.
 
 ghost use Rattle.std.specs.Prelude.{◌≡◌, Some, None, IfOk, IsErrAnd};
-ghost use Rattle.spv_syntax.specs.StatementViews.{invariant_of};
 ghost use Rattle.spv_reading.specs.Readers as reader;
 ghost use Rattle.spv_reading.specs.FormulaReaders.{read_formula};
 ghost use Rattle.spv_reading.specs.StatementReaders.{direction_of, read_to, read_while, read_repeat, read_for, loop_by, read_repetition, read_lower};
 ghost use Rattle.spv_reading.specs.Readers.{Stop, Read, Halted};
 ghost use Rattle.spv_front.specs.Faults.{IsStop};
 
-use crate::actions::boxed_formula;
 use crate::statements::{boxed, more_statements};
+use spv_formula_parser::formulas::formula;
 use spv_front::fault::{Fault, unexpected};
 use spv_front::front::{after, first_line, front, name, past_sign, past_word};
 use spv_syntax::{Direction, Formula, Loop, LoopForm, Name, Statement, StatementForm};
@@ -39,7 +38,7 @@ fn while_loop(
     ensures read { IfOk result (λ r. read_while (read_lower levels) (read_formula levels) line tokens.now ≡ Read (r.0, r.1.now)) }
     ensures absent { (s : Stop) → IsErrAnd result (IsStop s) → read_while (read_lower levels) (read_formula levels) line tokens.now ≡ Halted s }
 {
-    let (test, rest) = boxed_formula(alloc, levels, tokens)?;
+    let (test, rest) = formula(alloc, levels, tokens)?;
     let rest = past_word(Word::Do, rest)?;
     let (body, rest) = boxed(alloc, levels, rest)?;
     let form = LoopForm::While(test, body);
@@ -61,7 +60,7 @@ fn repeat_loop(
     let (first, rest) = boxed(alloc, levels, tokens)?;
     let (more, rest) = more_statements(alloc, levels, rest)?;
     let rest = past_word(Word::Until, rest)?;
-    let (test, rest) = boxed_formula(alloc, levels, rest)?;
+    let (test, rest) = formula(alloc, levels, rest)?;
     let form = LoopForm::Repeat(first, more, test);
     Ok((Loop { line, form }, rest))
 }
@@ -74,16 +73,16 @@ fn for_behind(
     levels: u32,
     line: u32,
     variable: Name,
-    from: Box<Formula>,
+    from: Formula,
     tokens: &[Token],
 ) -> Result<(Loop, &[Token]), Fault>
-    ensures read { IfOk result (λ r. read_to (read_lower levels) (read_formula levels) line variable from.value (direction_of (reader.front tokens.now)) tokens.now ≡ Read (r.0, r.1.now)) }
-    ensures absent { (s : Stop) → IsErrAnd result (IsStop s) → read_to (read_lower levels) (read_formula levels) line variable from.value (direction_of (reader.front tokens.now)) tokens.now ≡ Halted s }
+    ensures read { IfOk result (λ r. read_to (read_lower levels) (read_formula levels) line variable from (direction_of (reader.front tokens.now)) tokens.now ≡ Read (r.0, r.1.now)) }
+    ensures absent { (s : Stop) → IsErrAnd result (IsStop s) → read_to (read_lower levels) (read_formula levels) line variable from (direction_of (reader.front tokens.now)) tokens.now ≡ Halted s }
 {
     let Some(towards) = direction(tokens) else {
         return Err(unexpected(tokens));
     };
-    let (to, rest) = boxed_formula(alloc, levels, after(tokens))?;
+    let (to, rest) = formula(alloc, levels, after(tokens))?;
     let rest = past_word(Word::Do, rest)?;
     let (body, rest) = boxed(alloc, levels, rest)?;
     let form = LoopForm::For(variable, from, towards, to, body);
@@ -104,7 +103,7 @@ fn for_loop(
 {
     let (variable, rest) = name(tokens)?;
     let rest = past_sign(Sign::Becomes, rest)?;
-    let (from, rest) = boxed_formula(alloc, levels, rest)?;
+    let (from, rest) = formula(alloc, levels, rest)?;
     for_behind(alloc, levels, line, variable, from, rest)
 }
 
@@ -131,11 +130,11 @@ pub fn repetition(
     alloc: Global,
     levels: u32,
     line: u32,
-    invariant: Option<Box<Formula>>,
+    invariant: Option<Formula>,
     tokens: &[Token],
 ) -> Result<(Statement, &[Token]), Fault>
-    ensures read { IfOk result (λ r. read_repetition (read_lower levels) (read_formula levels) line (invariant_of invariant) tokens.now ≡ Read (r.0, r.1.now)) }
-    ensures absent { (s : Stop) → IsErrAnd result (IsStop s) → read_repetition (read_lower levels) (read_formula levels) line (invariant_of invariant) tokens.now ≡ Halted s }
+    ensures read { IfOk result (λ r. read_repetition (read_lower levels) (read_formula levels) line invariant tokens.now ≡ Read (r.0, r.1.now)) }
+    ensures absent { (s : Stop) → IsErrAnd result (IsStop s) → read_repetition (read_lower levels) (read_formula levels) line invariant tokens.now ≡ Halted s }
 {
     let (read, rest) = any_loop(alloc, levels, tokens)?;
     let form = StatementForm::Loop(invariant, Box::new(alloc, read)?);

@@ -9,8 +9,9 @@ ghost use Rattle.spv_reading.specs.Readers.{Stop, Read, Halted};
 ghost use Rattle.spv_front.specs.Faults.{IsStop};
 ghost use Rattle.spv_statement_parser.specs.Compound.{read_compound, read_with_invariant, read_assertion};
 
-use crate::actions::{action, boxed_formula, creation};
+use crate::actions::{action, creation};
 use crate::loops::repetition;
+use spv_formula_parser::formulas::formula;
 use spv_front::constants::{begins_constant, constants};
 use spv_front::fault::{Fault, out_of_levels};
 use spv_front::front::{after, first_line, front, is_sign, is_word, past_sign, past_word};
@@ -154,7 +155,7 @@ fn conditional(
     ensures read { IfOk result (λ r. read_conditional (read_lower levels) (read_formula levels) line tokens.now ≡ Read (r.0, r.1.now)) }
     ensures absent { (s : Stop) → IsErrAnd result (IsStop s) → read_conditional (read_lower levels) (read_formula levels) line tokens.now ≡ Halted s }
 {
-    let (test, rest) = boxed_formula(alloc, levels, tokens)?;
+    let (test, rest) = formula(alloc, levels, tokens)?;
     let rest = past_word(Word::Then, rest)?;
     let (then, rest) = boxed(alloc, levels, rest)?;
     let (other, rest) = otherwise(alloc, levels, rest)?;
@@ -174,7 +175,7 @@ fn selection(
     ensures read { IfOk result (λ r. read_selection (read_lower levels) (read_formula levels) line tokens.now ≡ Read (r.0, r.1.now)) }
     ensures absent { (s : Stop) → IsErrAnd result (IsStop s) → read_selection (read_lower levels) (read_formula levels) line tokens.now ≡ Halted s }
 {
-    let (value, rest) = boxed_formula(alloc, levels, tokens)?;
+    let (value, rest) = formula(alloc, levels, tokens)?;
     let rest = past_word(Word::Of, rest)?;
     let (first, rest) = arm(alloc, levels, rest)?;
     let first = Box::new(alloc, first)?;
@@ -213,7 +214,7 @@ fn with_invariant(
     ensures read { IfOk result (λ r. read_with_invariant levels line tokens.now ≡ Read (r.0, r.1.now)) }
     ensures absent { (s : Stop) → IsErrAnd result (IsStop s) → read_with_invariant levels line tokens.now ≡ Halted s }
 {
-    let (invariant, rest) = boxed_formula(alloc, levels, tokens)?;
+    let (invariant, rest) = formula(alloc, levels, tokens)?;
     repetition(alloc, levels, line, Some(invariant), rest)
 }
 
@@ -228,7 +229,7 @@ fn assertion(
     ensures read { IfOk result (λ r. read_assertion levels line tokens.now ≡ Read (r.0, r.1.now)) }
     ensures absent { (s : Stop) → IsErrAnd result (IsStop s) → read_assertion levels line tokens.now ≡ Halted s }
 {
-    let (read, rest) = boxed_formula(alloc, levels, tokens)?;
+    let (read, rest) = formula(alloc, levels, tokens)?;
     let form = StatementForm::Assert(read);
     Ok((Statement { line, form }, rest))
 }

@@ -205,14 +205,14 @@ repeat_is at line on f first more test = by_case (statement_walk at first) (more
     by_case (Ok a) (Err e) = refl
     by_case (Err e) q = refl
 
-pub repeat_walked : (at : Setting) (line on : ℕ) (f : Option Annotation) (whole : tree.Loop) (form : LoopForm) (a : Box tree.Statement Global) (xs : Vec tree.Statement) (b : Box Formula Global)
-    (first : tree.Statement) (more : List tree.Statement) (test : Formula) → loop_of on form ≡ whole → form ≡ RepeatForm a xs b → first ≡ a.value → more ≡ xs.items → test ≡ b.value
+pub repeat_walked : (at : Setting) (line on : ℕ) (f : Option Annotation) (whole : tree.Loop) (form : LoopForm) (a : Box tree.Statement Global) (xs : Vec tree.Statement) (b : Formula)
+    (first : tree.Statement) (more : List tree.Statement) (test : Formula) → loop_of on form ≡ whole → form ≡ RepeatForm a xs b → first ≡ a.value → more ≡ xs.items → test ≡ b
     → repeat_walk at line f first more test ≡ loop_walk at line f whole
 repeat_walked at line on f whole form a xs b first more test h k p q r =
     ap (λ (s : tree.Statement). repeat_walk at line f s more test) p
     ∙ ap (λ (ss : List tree.Statement). repeat_walk at line f a.value ss test) q
     ∙ ap (λ (g : Formula). repeat_walk at line f a.value xs.items g) r
-    ∙ sym (repeat_is at line on f a.value xs.items b.value)
+    ∙ sym (repeat_is at line on f a.value xs.items b)
     ∙ ap (λ (l : LoopForm). loop_walk at line f (loop_of on l)) (sym k)
     ∙ ap (loop_walk at line f) h
 

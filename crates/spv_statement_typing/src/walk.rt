@@ -2,7 +2,7 @@
 
 ghost use Rattle.std.specs.Prelude.{◌≡◌, ◌++◌, ◌∷◌, [], IfOk, IfErr, OnOk, Ok, List, ℕ, option_map};
 ghost use Rattle.spv_program.specs.Statements.{Assert, Empty};
-ghost use Rattle.spv_syntax.specs.StatementViews.{invariant_of, otherwise_of};
+ghost use Rattle.spv_syntax.specs.StatementViews.{otherwise_of};
 ghost use Rattle.spv_syntax.specs.Model.StatementSizes.{more_arms_of, more_statements_of};
 ghost use Rattle.spv_syntax.specs.Statements as tree;
 ghost use Rattle.spv_typed.specs.FormulaViews.{annotation_of};
@@ -50,10 +50,10 @@ fn nothing(alloc: Global) -> spv_typed::Statement
 fn invariant(
     setting: &Setting<'_, '_, '_, '_>,
     alloc: Global,
-    tree: &Option<Box<Formula>>,
+    tree: &Option<Formula>,
 ) -> Result<Box<Option<Annotation>>, TypeFault>
-    ensures ok { IfOk result (λ a. if_there (annotation (setting_of setting.now).noted) (invariant_of tree.now) ≡ Ok (option_map annotation_of a.value)) }
-    ensures err { IfErr result (λ e. Stops e (if_there (annotation (setting_of setting.now).noted) (invariant_of tree.now))) }
+    ensures ok { IfOk result (λ a. if_there (annotation (setting_of setting.now).noted) tree.now ≡ Ok (option_map annotation_of a.value)) }
+    ensures err { IfErr result (λ e. Stops e (if_there (annotation (setting_of setting.now).noted) tree.now)) }
 {
     match tree {
         None => Ok(in_box(alloc, None)?),
@@ -300,11 +300,11 @@ fn repetition(
     setting: &Setting<'_, '_, '_, '_>,
     alloc: Global,
     line: u32,
-    noted: &Option<Box<Formula>>,
+    noted: &Option<Formula>,
     inside: &Loop,
 ) -> Result<spv_typed::Statement, TypeFault>
-    ensures ok { IfOk result (λ s. spec.statement_walk (setting_of setting.now) (tree.repetition line (invariant_of noted.now) inside.now) ≡ Ok s) }
-    ensures err { IfErr result (λ e. Stops e (spec.statement_walk (setting_of setting.now) (tree.repetition line (invariant_of noted.now) inside.now))) }
+    ensures ok { IfOk result (λ s. spec.statement_walk (setting_of setting.now) (tree.repetition line noted.now inside.now) ≡ Ok s) }
+    ensures err { IfErr result (λ e. Stops e (spec.statement_walk (setting_of setting.now) (tree.repetition line noted.now inside.now))) }
 {
     let made = invariant(setting, alloc, noted)?;
     repeated(setting, alloc, line, made, inside)

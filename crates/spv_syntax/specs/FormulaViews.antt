@@ -3,17 +3,23 @@ use Rattle.std.specs.Prelude.{ℕ, Option, Some, None}
 use Rattle.std.specs.declared.boxed.Box.{Box}
 use Rattle.std.specs.Global.{Global}
 use Rattle.spv_syntax.specs.declared.operators.Comparison.{Comparison}
+use Rattle.spv_syntax.specs.declared.formulas.FormulaForm.{FormulaForm}
+use Rattle.spv_syntax.specs.declared.formulas.FormulaForm.TheVariants as form
 use Rattle.spv_syntax.specs.declared.formulas.FactorForm.{FactorForm}
 use Rattle.spv_syntax.specs.declared.formulas.FactorForm.TheVariants as factor
 use Rattle.spv_syntax.specs.declared.formulas.SelectorForm.{SelectorForm}
 use Rattle.spv_syntax.specs.declared.formulas.SelectorForm.TheVariants as selector
-use Rattle.spv_syntax.specs.Formulas.{Formula, Conclusion, no_conclusion, implies, Simple, RightSide, no_right_side, compared, Factor, number, truth, nil, class, place, application, bracketed, negation, Selector, index, field, content}
-use Rattle.spv_syntax.specs.Lines.{items_in}
+use Rattle.spv_syntax.specs.Formulas.{Formula, formula, Conclusion, no_conclusion, implies, Simple, RightSide, no_right_side, compared, Factor, number, truth, nil, class, place, application, bracketed, negation, Selector, index, field, content}
+use Rattle.spv_syntax.specs.Lines.{items_in, relation_line, lone_factor}
 use Rattle.spv_syntax.specs.Model.FormulaSizes.{more_formulas_of, selectors_of}
 
-abbrev pub conclusion_of : Option (Box Formula Global) → Conclusion
+abbrev pub conclusion_of : Option Formula → Conclusion
 conclusion_of None = no_conclusion
-conclusion_of (Some f) = implies f.value
+conclusion_of (Some f) = implies f
+
+abbrev pub formula_of : FormulaForm → Formula
+formula_of (form.Factor f) = lone_factor f.value
+formula_of (form.Implication a) = formula (relation_line a.value.left) a.value.left (conclusion_of a.value.right)
 
 abbrev pub right_side_of : Option (Box (Comparison × Simple) Global) → RightSide
 right_side_of None = no_right_side
@@ -26,10 +32,10 @@ factor_of line factor.Nil = nil line
 factor_of line (factor.Class x) = class line x
 factor_of line (factor.Place d) = place line d
 factor_of line (factor.Application f a) = application line f a.value.first (more_formulas_of a.value.more.items) (selectors_of a.value.behind.items)
-factor_of line (factor.Bracketed f) = bracketed line f.value
+factor_of line (factor.Bracketed f) = bracketed line f
 factor_of line (factor.Negation f) = negation line f.value
 
 abbrev pub selector_of : ℕ → SelectorForm → Selector
-selector_of line (selector.Index first more) = index line first.value (more_formulas_of (items_in more))
+selector_of line (selector.Index first more) = index line first (more_formulas_of (items_in more))
 selector_of line (selector.Field x) = field line x
 selector_of line selector.Content = content line

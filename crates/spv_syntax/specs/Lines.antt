@@ -1,9 +1,10 @@
--- The line on which a part of a formula begins, and the items of a list that stands in a box where it is not empty.
+-- The line on which a part of a formula begins, a formula that is a factor alone, and the items of a list that stands in a box where it
+-- is not empty.
 use Rattle.std.specs.Prelude.{ℕ, List, [], Option, Some, None}
 use Rattle.std.specs.declared.boxed.Box.{Box}
 use Rattle.std.specs.declared.vec.Vec.{Vec}
 use Rattle.std.specs.Global.{Global}
-use Rattle.spv_syntax.specs.Formulas.{Formula, formula, Relation, relation, Simple, simple, Term, term, Factor, number, truth, nil, class, place, application, bracketed, negation}
+use Rattle.spv_syntax.specs.Formulas.{Formula, formula, no_conclusion, Relation, relation, no_right_side, Simple, simple, no_more_terms, Term, term, no_more_factors, Factor, number, truth, nil, class, place, application, bracketed, negation}
 
 abbrev pub items_in : {T : Type 0} → Option (Box (Vec T Global) Global) → List T
 items_in None = []
@@ -30,3 +31,8 @@ relation_line (relation l _ _) = l
 
 abbrev pub formula_line : Formula → ℕ
 formula_line (formula l _ _) = l
+
+-- a factor with no sign in front of it and no operator behind it
+abbrev pub lone_factor : Factor → Formula
+lone_factor f =
+    formula (factor_line f) (relation (factor_line f) (simple (factor_line f) None (term (factor_line f) f no_more_factors) no_more_terms) no_right_side) no_conclusion

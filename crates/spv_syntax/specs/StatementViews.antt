@@ -12,10 +12,6 @@ use Rattle.spv_syntax.specs.Formulas.{Formula}
 use Rattle.spv_syntax.specs.Statements.{Statement, empty, assignment, call, creation, compound, conditional, selection, repetition, assertion, Otherwise, nothing_otherwise, otherwise, Arm, no_arm, arm, Loop, while_loop, repeat_loop, for_loop}
 use Rattle.spv_syntax.specs.Model.StatementSizes.{more_statements_of, more_arms_of}
 
-abbrev pub invariant_of : Option (Box Formula Global) → Option Formula
-invariant_of None = None
-invariant_of (Some f) = Some f.value
-
 abbrev pub otherwise_of : Option (Box Statement Global) → Otherwise
 otherwise_of None = nothing_otherwise
 otherwise_of (Some s) = otherwise s.value
@@ -26,20 +22,20 @@ given_of (Some a) = Some a.value
 
 abbrev pub statement_of : ℕ → StatementForm → Statement
 statement_of line form.Empty = empty line
-statement_of line (form.Assignment d f) = assignment line d.value f.value
+statement_of line (form.Assignment d f) = assignment line d.value f
 statement_of line (form.Call x arguments) = call line x (given_of arguments)
 statement_of line (form.New d) = creation line d.value
 statement_of line (form.Block b) = compound line b.value
-statement_of line (form.If f s other) = conditional line f.value s.value (otherwise_of other)
-statement_of line (form.Case f first more) = selection line f.value first.value (more_arms_of more.value.items)
-statement_of line (form.Loop invariant l) = repetition line (invariant_of invariant) l.value
-statement_of line (form.Assert f) = assertion line f.value
+statement_of line (form.If f s other) = conditional line f s.value (otherwise_of other)
+statement_of line (form.Case f first more) = selection line f first.value (more_arms_of more.value.items)
+statement_of line (form.Loop invariant l) = repetition line invariant l.value
+statement_of line (form.Assert f) = assertion line f
 
 abbrev pub arm_of : ℕ → Option (Several Constant × Box Statement Global) → Arm
 arm_of line None = no_arm line
 arm_of line (Some a) = arm line a.0 a.1.value
 
 abbrev pub loop_of : ℕ → LoopForm → Loop
-loop_of line (While f s) = while_loop line f.value s.value
-loop_of line (Repeat first more f) = repeat_loop line first.value (more_statements_of more.items) f.value
-loop_of line (For x from direction to s) = for_loop line x from.value direction to.value s.value
+loop_of line (While f s) = while_loop line f s.value
+loop_of line (Repeat first more f) = repeat_loop line first.value (more_statements_of more.items) f
+loop_of line (For x from direction to s) = for_loop line x from direction to s.value

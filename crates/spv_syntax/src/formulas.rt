@@ -8,14 +8,32 @@ use crate::operators::{Adding, Comparison, Multiplying, PlusOrMinus};
 use spv_tokens::Numeral;
 use std::marker::Model;
 
-/// `relation ["->" formula]`
+/// A formula.
 #[cycle(formula)]
 #[derive(Drop)]
 pub struct Formula {
+    /// What it is.
+    pub form: FormulaForm,
+}
+
+/// What a formula is.
+#[cycle(formula)]
+#[derive(Drop)]
+pub enum FormulaForm {
+    /// `factor`, with no sign in front of it and no operator behind it
+    Factor(Box<Factor>),
+    /// `relation ["->" formula]`
+    Implication(Box<Implication>),
+}
+
+/// `relation ["->" formula]`
+#[cycle(formula)]
+#[derive(Drop)]
+pub struct Implication {
     /// What stands left of `->`.
     pub left: Relation,
     /// What stands right of it, where it is there.
-    pub right: Option<Box<Formula>>,
+    pub right: Option<Formula>,
 }
 
 impl Model for Formula {
@@ -28,10 +46,9 @@ impl Model for Formula {
 
     ghost coded = { coded_by way_formula };
 
-    ghost use Rattle.spv_syntax.specs.Lines.{relation_line};
-    ghost use Rattle.spv_syntax.specs.FormulaViews.{conclusion_of};
+    ghost use Rattle.spv_syntax.specs.FormulaViews.{formula_of};
 
-    ghost view = { λ a. plain.formula (relation_line a.left) a.left (conclusion_of a.right) };
+    ghost view = { λ a. formula_of a.form };
 
     ghost use Rattle.spv_syntax.specs.Model.FormulaSizes.{formula_size};
 
@@ -47,7 +64,10 @@ impl Formula {
     pub fn line(&self) -> u32
         ensures { result ≡ formula_line self.now }
     {
-        self.left.line()
+        match &self.form {
+            FormulaForm::Factor(factor) => factor.line,
+            FormulaForm::Implication(whole) => whole.left.line(),
+        }
     }
 }
 
@@ -104,8 +124,8 @@ pub struct Simple {
     pub prefix: Option<PlusOrMinus>,
     /// The first term.
     pub first: Term,
-    /// The other terms, each with the operator in front of it, where there are any.
-    pub more: Option<Box<Vec<(Adding, Term)>>>,
+    /// The other terms, each with the operator in front of it.
+    pub more: Vec<(Adding, Term)>,
 }
 
 impl Model for Simple {
@@ -118,10 +138,9 @@ impl Model for Simple {
 
     ghost coded = { coded_by way_simple };
 
-    ghost use Rattle.spv_syntax.specs.Lines.{items_in};
     ghost use Rattle.spv_syntax.specs.Model.FormulaSizes.{more_terms_of};
 
-    ghost view = { λ a. plain.simple a.line a.prefix a.first (more_terms_of (items_in a.more)) };
+    ghost view = { λ a. plain.simple a.line a.prefix a.first (more_terms_of a.more.items) };
 
     ghost use Rattle.spv_syntax.specs.Model.FormulaSizes.{simple_size};
 
@@ -138,8 +157,8 @@ impl Model for Simple {
 pub struct Term {
     /// The first factor.
     pub first: Factor,
-    /// The other factors, each with the operator in front of it, where there are any.
-    pub more: Option<Box<Vec<(Multiplying, Factor)>>>,
+    /// The other factors, each with the operator in front of it.
+    pub more: Vec<(Multiplying, Factor)>,
 }
 
 impl Model for Term {
@@ -152,10 +171,10 @@ impl Model for Term {
 
     ghost coded = { coded_by way_term };
 
-    ghost use Rattle.spv_syntax.specs.Lines.{factor_line, items_in};
+    ghost use Rattle.spv_syntax.specs.Lines.{factor_line};
     ghost use Rattle.spv_syntax.specs.Model.FormulaSizes.{more_factors_of};
 
-    ghost view = { λ a. plain.term (factor_line a.first) a.first (more_factors_of (items_in a.more)) };
+    ghost view = { λ a. plain.term (factor_line a.first) a.first (more_factors_of a.more.items) };
 
     ghost use Rattle.spv_syntax.specs.Model.FormulaSizes.{term_size};
 
@@ -202,7 +221,7 @@ pub enum FactorForm {
     /// `name "(" formula {"," formula} ")" {selector}`
     Application(Name, Box<Application>),
     /// `"(" formula ")"`
-    Bracketed(Box<Formula>),
+    Bracketed(Formula),
     /// `NOT factor`
     Negation(Box<Factor>),
 }
@@ -290,7 +309,7 @@ pub struct Selector {
 #[derive(Drop)]
 pub enum SelectorForm {
     /// `"[" formula {"," formula} "]"`
-    Index(Box<Formula>, Option<Box<Vec<Formula>>>),
+    Index(Formula, Option<Box<Vec<Formula>>>),
     /// `"." name`
     Field(Name),
     /// `"^"`

@@ -16,8 +16,8 @@ mod types;
 pub use declarations::{Const, Declarations, NameOrClass, SortName, SymbolText, Typedef, Vars};
 pub use formula_texts::FormulaText;
 pub use formulas::{
-    Application, Designator, Factor, FactorForm, Formula, Relation, Selector, SelectorForm, Simple,
-    Term,
+    Application, Designator, Factor, FactorForm, Formula, FormulaForm, Implication, Relation,
+    Selector, SelectorForm, Simple, Term,
 };
 pub use lists::{Several, in_box, items};
 pub use names::{Constant, Name, Scalar};

@@ -23,7 +23,7 @@ pub enum StatementForm {
     /// Nothing.
     Empty,
     /// `designator ":=" formula`
-    Assignment(Box<Designator>, Box<Formula>),
+    Assignment(Box<Designator>, Formula),
     /// `name ["(" formula {"," formula} ")"]`
     Call(Name, Option<Box<Several<Formula>>>),
     /// `NEW "(" designator ")"`
@@ -31,13 +31,13 @@ pub enum StatementForm {
     /// `block`
     Block(Box<Block>),
     /// `IF formula THEN statement [ELSE statement]`
-    If(Box<Formula>, Box<Statement>, Option<Box<Statement>>),
+    If(Formula, Box<Statement>, Option<Box<Statement>>),
     /// `CASE formula OF arm {";" arm} END`
-    Case(Box<Formula>, Box<Arm>, Box<Vec<Arm>>),
+    Case(Formula, Box<Arm>, Box<Vec<Arm>>),
     /// `[INVARIANT formula] loop`
-    Loop(Option<Box<Formula>>, Box<Loop>),
+    Loop(Option<Formula>, Box<Loop>),
     /// `ASSERT formula`
-    Assert(Box<Formula>),
+    Assert(Formula),
 }
 
 impl Model for Statement {
@@ -146,11 +146,11 @@ pub struct Loop {
 #[derive(Drop)]
 pub enum LoopForm {
     /// `WHILE formula DO statement`
-    While(Box<Formula>, Box<Statement>),
+    While(Formula, Box<Statement>),
     /// `REPEAT statement {";" statement} UNTIL formula`
-    Repeat(Box<Statement>, Vec<Statement>, Box<Formula>),
+    Repeat(Box<Statement>, Vec<Statement>, Formula),
     /// `FOR name ":=" formula (TO | DOWNTO) formula DO statement`
-    For(Name, Box<Formula>, Direction, Box<Formula>, Box<Statement>),
+    For(Name, Formula, Direction, Formula, Box<Statement>),
 }
 
 impl Model for Loop {

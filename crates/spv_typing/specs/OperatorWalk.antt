@@ -14,6 +14,7 @@ use Rattle.spv_syntax.specs.declared.operators.Adding.{Adding}
 use Rattle.spv_syntax.specs.declared.operators.Adding.TheVariants as adding
 use Rattle.spv_syntax.specs.declared.operators.Multiplying.{Multiplying}
 use Rattle.spv_syntax.specs.declared.operators.Multiplying.TheVariants as multiplying
+pub use Rattle.spv_syntax.specs.Lines.{formula_line}
 use Rattle.spv_syntax.specs.Formulas.{Formula, Relation, Simple, MoreTerms, Term, MoreFactors, Factor, MoreFormulas, Designator, Selectors, Selector, formula, no_conclusion, implies, relation, no_right_side, compared, simple, no_more_terms, more_terms, term, no_more_factors, more_factors, number, truth, nil, class, place, application, bracketed, negation, no_more_formulas, more_formulas, designator, no_selectors, selectors, index, field, content}
 use Rattle.spv_program.specs.declared.operators.Arithmetic.{Arithmetic}
 use Rattle.spv_program.specs.declared.operators.Arithmetic.TheVariants as arithmetic
@@ -136,9 +137,6 @@ module _ {X S : Type 0} (k : Forms X S) where
       where_so k.may_imply (wrong line) (two_of line sort.Bool a b (λ x y. Of (k.implied x y) sort.Bool))
 
 -- ---- what an argument is, by its form alone
-
-abbrev pub formula_line : Formula → ℕ
-formula_line (formula line r c) = line
 
 -- the designator that a formula is
 abbrev pub factor_alone : Factor → Option Designator

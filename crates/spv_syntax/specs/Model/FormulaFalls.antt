@@ -16,16 +16,18 @@ use Rattle.spv_syntax.specs.declared.formulas.Term.TheInside as term
 use Rattle.spv_syntax.specs.declared.formulas.Factor.TheInside as factor
 use Rattle.spv_syntax.specs.declared.formulas.Designator.TheInside as designator
 use Rattle.spv_syntax.specs.declared.formulas.Selector.TheInside as selector
+use Rattle.spv_syntax.specs.declared.formulas.FormulaForm.{FormulaForm}
+use Rattle.spv_syntax.specs.declared.formulas.FormulaForm.TheVariants as form
 use Rattle.spv_syntax.specs.declared.formulas.FactorForm.{FactorForm}
 use Rattle.spv_syntax.specs.declared.formulas.FactorForm.TheVariants.{Number, Truth, Nil, Class, Place, Application, Bracketed, Negation}
 use Rattle.spv_syntax.specs.declared.formulas.SelectorForm.{SelectorForm}
 use Rattle.spv_syntax.specs.declared.formulas.SelectorForm.TheVariants.{Index, Field, Content}
 use Rattle.spv_syntax.specs.declared.formulas.Designator.TheShapes.{weighed-Simple-more-at-2, weighed-Term-more-at-2}
-use Rattle.spv_syntax.specs.declared.formulas.Designator.TheDeep.{deep-FactorForm, deep-SelectorForm, deep-Formula, deep-Relation, deep-Simple, deep-Term, deep-Factor, deep-Designator, deep-Selector}
+use Rattle.spv_syntax.specs.declared.formulas.Designator.TheDeep.{deep-FormulaForm, deep-Implication, deep-FactorForm, deep-SelectorForm, deep-Formula, deep-Relation, deep-Simple, deep-Term, deep-Factor, deep-Designator, deep-Selector}
 use Rattle.spv_syntax.specs.Formulas.{Formula, Relation, Simple, Term, Factor, Selector}
 use Rattle.spv_syntax.specs.Lines.{items_in}
 use Rattle.spv_syntax.specs.Model.FormulaSizes.{more_terms_of, more_factors_of, more_formulas_of, selectors_of, formula_size, conclusion_size, relation_size, right_side_size, simple_size, more_terms_size, term_size, more_factors_size, factor_size, more_formulas_size, selectors_size, selector_size}
-use Rattle.spv_syntax.specs.FormulaViews.{conclusion_of, right_side_of, factor_of, selector_of}
+use Rattle.spv_syntax.specs.FormulaViews.{formula_of, conclusion_of, right_side_of, factor_of, selector_of}
 
 most_terms : (ts : List (Adding × Term)) → most (λ t. weighed-Simple-more-at-2.weight Term (λ u. term_size u + 1) t) ts ≤ more_terms_size (more_terms_of ts) + 1
 most_terms [] = omega arith
@@ -43,13 +45,17 @@ most_selectors : (ss : List Selector) → most (λ s. selector_size s + 1) ss �
 most_selectors [] = omega arith
 most_selectors (s ∷ ss) = omega (arith, most_selectors ss)
 
-conclusion_falls : (left : Relation) (right : Option (Box Formula Global)) →
-    deep-Formula (record { left = left; right = right }) ≤ suc (relation_size left + conclusion_size (conclusion_of right))
+conclusion_falls : (left : Relation) (right : Option Formula) →
+    deep-Implication (record { left = left; right = right }) ≤ suc (relation_size left + conclusion_size (conclusion_of right))
 conclusion_falls left None = omega arith
 conclusion_falls left (Some f) = omega arith
 
-pub formula_falls : (a : formula.Inside) → deep-Formula a ≤ suc (relation_size a.left + conclusion_size (conclusion_of a.right))
-formula_falls a = conclusion_falls a.left a.right
+formula_form_falls : (f : FormulaForm) → max (deep-FormulaForm f) 0 ≤ formula_size (formula_of f)
+formula_form_falls (form.Factor f) = omega arith
+formula_form_falls (form.Implication a) = omega (arith, conclusion_falls a.value.left a.value.right)
+
+pub formula_falls : (a : formula.Inside) → deep-Formula a ≤ formula_size (formula_of a.form)
+formula_falls a = formula_form_falls a.form
 
 right_side_falls : (left : Simple) (right : Option (Box (Comparison × Simple) Global)) →
     deep-Relation (record { left = left; right = right }) ≤ suc (simple_size left + right_side_size (right_side_of right))
@@ -59,21 +65,11 @@ right_side_falls left (Some r) = omega arith
 pub relation_falls : (a : relation.Inside) → deep-Relation a ≤ suc (simple_size a.left + right_side_size (right_side_of a.right))
 relation_falls a = right_side_falls a.left a.right
 
-more_terms_fall : (line : ℕ) (prefix : Option PlusOrMinus) (first : Term) (more : Option (Box (Vec (Adding × Term) Global) Global)) →
-    deep-Simple (record { line = line; prefix = prefix; first = first; more = more }) ≤ suc (term_size first + more_terms_size (more_terms_of (items_in more)))
-more_terms_fall line prefix first None = omega arith
-more_terms_fall line prefix first (Some more) = omega (arith, most_terms more.value.items)
+pub simple_falls : (a : simple.Inside) → deep-Simple a ≤ suc (term_size a.first + more_terms_size (more_terms_of a.more.items))
+simple_falls a = omega (arith, most_terms a.more.items)
 
-pub simple_falls : (a : simple.Inside) → deep-Simple a ≤ suc (term_size a.first + more_terms_size (more_terms_of (items_in a.more)))
-simple_falls a = more_terms_fall a.line a.prefix a.first a.more
-
-more_factors_fall : (first : Factor) (more : Option (Box (Vec (Multiplying × Factor) Global) Global)) →
-    deep-Term (record { first = first; more = more }) ≤ suc (factor_size first + more_factors_size (more_factors_of (items_in more)))
-more_factors_fall first None = omega arith
-more_factors_fall first (Some more) = omega (arith, most_factors more.value.items)
-
-pub term_falls : (a : term.Inside) → deep-Term a ≤ suc (factor_size a.first + more_factors_size (more_factors_of (items_in a.more)))
-term_falls a = more_factors_fall a.first a.more
+pub term_falls : (a : term.Inside) → deep-Term a ≤ suc (factor_size a.first + more_factors_size (more_factors_of a.more.items))
+term_falls a = omega (arith, most_factors a.more.items)
 
 form_falls : (line : ℕ) (f : FactorForm) → max (deep-FactorForm f) 0 ≤ factor_size (factor_of line f)
 form_falls line (Number n) = omega arith

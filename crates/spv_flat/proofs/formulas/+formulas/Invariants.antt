@@ -1,7 +1,8 @@
 use Rattle.std.proofs.Common.{◌+◌, ◌*◌}
 use Rattle.spv_syntax.specs.Members.{in_kinds}
 use Rattle.spv_syntax.specs.FormulaSpelling.{more_factors_spelling, more_formulas_spelling, more_terms_spelling, selectors_spelling}
-use Rattle.spv_syntax.specs.Model.FormulaSizes.{more_terms_of, more_factors_of, more_formulas_of, selectors_of, formula_size, relation_size, simple_size, term_size, factor_size, designator_size, selector_size, more_formulas_size, selectors_size}
+use Rattle.spv_syntax.specs.FormulaViews.{conclusion_of}
+use Rattle.spv_syntax.specs.Model.FormulaSizes.{more_terms_of, more_factors_of, more_formulas_of, selectors_of, formula_size, conclusion_size, relation_size, simple_size, term_size, factor_size, designator_size, selector_size, more_formulas_size, selectors_size}
 use Rattle.spv_flat.proofs.Loops.{ComeTo}
 use Rattle.spv_flat.proofs.formulas.+formulas.Given as goal
 
@@ -19,6 +20,9 @@ invariant-selectors-loop-part l = ComeTo (λ ss. selectors_spelling in_kinds (se
 
 abbrev pub decreases-formula : goal.decreases-formula
 decreases-formula l = 2 * formula_size l.tree.now
+
+abbrev pub decreases-conclusion : goal.decreases-conclusion
+decreases-conclusion l = 2 * conclusion_size (conclusion_of l.tree.now) + 1
 
 abbrev pub decreases-relation : goal.decreases-relation
 decreases-relation l = 2 * relation_size l.tree.now

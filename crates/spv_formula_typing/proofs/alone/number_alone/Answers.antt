@@ -1,6 +1,6 @@
 use Rattle.std.proofs.Common.{◌≤◌, List, length, ap, ◌∙◌, sym, subst}
 use Rattle.spv_syntax.specs.Formulas.{Factor}
-use Rattle.spv_syntax.specs.Lines.{factor_line, items_in}
+use Rattle.spv_syntax.specs.Lines.{factor_line}
 use Rattle.spv_syntax.specs.declared.operators.Multiplying.{Multiplying}
 use Rattle.spv_formula_typing.specs.Operands.{numeral_alone}
 use Rattle.spv_formula_typing.proofs.Places.{no_number}
@@ -9,5 +9,5 @@ use Rattle.spv_formula_typing.proofs.alone.number_alone.Goals as goal
 pub returns-in_default-clause-none : goal.returns-in_default-clause-none
 returns-in_default-clause-none c =
     sym (ap numeral_alone c.tree.view_is)
-    ∙ no_number (factor_line c.tree.inside.first) c.tree.inside.first (items_in c.tree.inside.more)
-    (subst (λ (l : List (Multiplying × Factor)). 1 ≤ length l) c.items.ensures c.in_default.len_at_least)
+    ∙ no_number (factor_line c.tree.inside.first) c.tree.inside.first c.tree.inside.more.items
+    (subst (λ (l : List (Multiplying × Factor)). 1 ≤ length l) c.as_slice.ensures.value c.in_default.len_at_least)

@@ -1,6 +1,5 @@
 use Rattle.std.proofs.Common.{Option, ◌≤◌, List, length, ap, ◌∙◌, sym, subst}
 use Rattle.spv_syntax.specs.Formulas.{Term, simple}
-use Rattle.spv_syntax.specs.Lines.{items_in}
 use Rattle.spv_syntax.specs.declared.operators.PlusOrMinus.{PlusOrMinus}
 use Rattle.spv_syntax.specs.Model.FormulaSizes.{more_terms_of}
 use Rattle.spv_syntax.specs.declared.operators.Adding.{Adding}
@@ -10,7 +9,7 @@ use Rattle.spv_formula_typing.proofs.alone.simple_alone.Goals as goal
 
 pub returns-in_default : goal.returns-in_default
 returns-in_default c =
-    more_terms_behind c.tree.inside.line c.tree.inside.first (items_in c.tree.inside.more)
-    (subst (λ (l : List (Adding × Term)). 1 ≤ length l) c.items.ensures c.in_default.len_at_least)
-    ∙ ap (λ (p : Option PlusOrMinus). spec.simple_alone (simple c.tree.inside.line p c.tree.inside.first (more_terms_of (items_in c.tree.inside.more)))) (sym c.in-None.is)
+    more_terms_behind c.tree.inside.line c.tree.inside.first c.tree.inside.more.items
+    (subst (λ (l : List (Adding × Term)). 1 ≤ length l) c.as_slice.ensures.value c.in_default.len_at_least)
+    ∙ ap (λ (p : Option PlusOrMinus). spec.simple_alone (simple c.tree.inside.line p c.tree.inside.first (more_terms_of c.tree.inside.more.items))) (sym c.in-None.is)
     ∙ ap spec.simple_alone c.tree.view_is

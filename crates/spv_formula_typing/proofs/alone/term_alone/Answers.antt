@@ -1,6 +1,6 @@
 use Rattle.std.proofs.Common.{◌≤◌, List, length, ap, ◌∙◌, subst}
 use Rattle.spv_syntax.specs.Formulas.{Factor}
-use Rattle.spv_syntax.specs.Lines.{factor_line, items_in}
+use Rattle.spv_syntax.specs.Lines.{factor_line}
 use Rattle.spv_syntax.specs.declared.operators.Multiplying.{Multiplying}
 use Rattle.spv_typing.specs.OperatorWalk as spec
 use Rattle.spv_formula_typing.proofs.Places.{more_factors_behind}
@@ -8,6 +8,6 @@ use Rattle.spv_formula_typing.proofs.alone.term_alone.Goals as goal
 
 pub returns-in_default : goal.returns-in_default
 returns-in_default c =
-    more_factors_behind (factor_line c.tree.inside.first) c.tree.inside.first (items_in c.tree.inside.more)
-    (subst (λ (l : List (Multiplying × Factor)). 1 ≤ length l) c.items.ensures c.in_default.len_at_least)
+    more_factors_behind (factor_line c.tree.inside.first) c.tree.inside.first c.tree.inside.more.items
+    (subst (λ (l : List (Multiplying × Factor)). 1 ≤ length l) c.as_slice.ensures.value c.in_default.len_at_least)
     ∙ ap spec.term_alone c.tree.view_is

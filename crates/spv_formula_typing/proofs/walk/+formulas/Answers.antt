@@ -2,13 +2,12 @@ use Rattle.std.proofs.Common.{◌≡◌, ◌≤◌, ◌<◌, ◌+◌, ◌*◌, L
 use Rattle.std.specs.Option.{option_copied}
 use Rattle.spv_syntax.specs.Formulas.{Formula, Term, Factor, Selector, term}
 use Rattle.spv_syntax.specs.declared.operators.Multiplying.{Multiplying}
-use Rattle.spv_syntax.specs.Lines.{factor_line, items_in}
+use Rattle.spv_syntax.specs.Lines.{factor_line}
 use Rattle.spv_syntax.specs.Model.FormulaSizes.{more_formulas_of, more_factors_of, selectors_of, factor_size, term_size, formula_size, more_formulas_size, selectors_size, selector_size}
 use Rattle.spv_typing.specs.Outcomes.{after}
 use Rattle.spv_typing.specs.OperatorWalk.{designator_alone}
 use Rattle.spv_scopes.specs.Answers.{Stops}
 use Rattle.spv_formula_typing.specs.declared.forms.Way.TheVariants.{Place}
-use Rattle.spv_formula_typing.proofs.Lines.{line_is}
 use Rattle.spv_formula_typing.proofs.Exits.{stops_after}
 use Rattle.spv_formula_typing.proofs.Places.{place_given}
 use Rattle.spv_formula_typing.proofs.Loops.{found_pushed, given_begun, given_pushed, given_stopped, given_all}
@@ -27,21 +26,21 @@ selectors-selector-requires g t c =
 pub operands-loop-other-preserved : goal.operands-loop-other-preserved
 operands-loop-other-preserved g t c =
     found_pushed (g.F.Forms.forms c.args.forms.now) c.args.first.now c.args.more.now c.loop-other.other-index c.loop-other.found.items c.push-in-loop-other.new.items.items
-    c.other-item.result c.line-in-loop-other.result c.in_ok-next.next c.loop-other-test.true c.other-item.is (c.line-in-loop-other.ensures ∙ line_is c.other-item.result) c.in_ok-next.ensures.ok
+    c.other-item.result c.line-in-loop-other.result c.in_ok-next.next c.loop-other-test.true c.other-item.is c.line-in-loop-other.ensures c.in_ok-next.ensures.ok
     c.in_ok-push-2.ensures c.loop-other.invariant
 
 pub arguments-loop-other-init : goal.arguments-loop-other-init
 arguments-loop-other-init g t c = (
   refl,
   given_begun (g.F.Forms.forms c.args.forms.now) c.args.first.now c.args.more.now (g.F.Forms.way_of c.args.forms.now c.args.callee.now) c.new-given.result.items
-      c.push.new.items.items c.line.result c.in_ok-one.one (c.line.ensures ∙ line_is c.args.first.now) c.in_ok-one.ensures.ok c.new-given.ensures.items c.in_ok-push.ensures,
+      c.push.new.items.items c.line.result c.in_ok-one.one c.line.ensures c.in_ok-one.ensures.ok c.new-given.ensures.items c.in_ok-push.ensures,
 )
 
 pub arguments-loop-other-preserved : goal.arguments-loop-other-preserved
 arguments-loop-other-preserved g t c =
     given_pushed (g.F.Forms.forms c.args.forms.now) c.args.first.now c.args.more.now (g.F.Forms.way_of c.args.forms.now c.args.callee.now) c.loop-other.other-index c.loop-other.place
     c.loop-other.given.items c.push-in-loop-other.new.items.items c.other-item.result c.line-in-loop-other.result c.in_ok-next.next c.loop-other.invariant.0 c.loop-other-test.true
-    c.other-item.is (c.line-in-loop-other.ensures ∙ line_is c.other-item.result) c.in_ok-next.ensures.ok c.in_ok-push-2.ensures c.loop-other.invariant.1
+    c.other-item.is c.line-in-loop-other.ensures c.in_ok-next.ensures.ok c.in_ok-push-2.ensures c.loop-other.invariant.1
 
 pub arguments-overflow_add-place : goal.arguments-overflow_add-place
 arguments-overflow_add-place g t c =
@@ -92,12 +91,12 @@ as_place-returns-in_err-written-in-Some-clause-err g t c =
 
 pub term-factor-requires-in-loop-operator : goal.term-factor-requires-in-loop-operator
 term-factor-requires-in-loop-operator g t c =
-    let same : c.items-operator-items.result.now ≡ items_in c.tree.inside.more = c.items-operator-items.ensures in
+    let same : c.deref-operator-items.result.now ≡ c.tree.inside.more.items = c.deref-operator-items.ensures.value in
     let within : factor_size c.loop-operator-item.result.1 < term_size c.args.tree.now =
     subst (λ (x : Multiplying × Factor). factor_size x.1 < term_size c.args.tree.now) (sym c.loop-operator-item.is)
-    (subst (λ (x : Term). factor_size (get_or c.items-operator-items.result.now c.loop-operator.operator-index c.loop-operator-item.result).1 < term_size x) c.tree.view_is
-    (subst (λ (fs : List (Multiplying × Factor)). factor_size (get_or fs c.loop-operator.operator-index c.loop-operator-item.result).1 < term_size (term (factor_line c.tree.inside.first) c.tree.inside.first (more_factors_of (items_in c.tree.inside.more)))) (sym same)
-    (factor_within (factor_line c.tree.inside.first) c.tree.inside.first (items_in c.tree.inside.more) c.loop-operator.operator-index c.loop-operator-item.result
+    (subst (λ (x : Term). factor_size (get_or c.deref-operator-items.result.now c.loop-operator.operator-index c.loop-operator-item.result).1 < term_size x) c.tree.view_is
+    (subst (λ (fs : List (Multiplying × Factor)). factor_size (get_or fs c.loop-operator.operator-index c.loop-operator-item.result).1 < term_size (term (factor_line c.tree.inside.first) c.tree.inside.first (more_factors_of c.tree.inside.more.items))) (sym same)
+    (factor_within (factor_line c.tree.inside.first) c.tree.inside.first c.tree.inside.more.items c.loop-operator.operator-index c.loop-operator-item.result
     (subst (λ (fs : List (Multiplying × Factor)). c.loop-operator.operator-index < length fs) same c.loop-operator-test.true)))) in
     let falls : 5 * factor_size c.loop-operator-item.result.1 < 5 * term_size c.args.tree.now = omega (arith, within) in
     search rules

@@ -1,5 +1,6 @@
 use Rattle.std.proofs.Common.{◌≡◌, ◌+◌, ◌*◌, drop}
-use Rattle.spv_syntax.specs.Model.FormulaSizes.{more_terms_of, more_factors_of, more_formulas_of, selectors_of, formula_size, relation_size, simple_size, term_size, factor_size, designator_size, selector_size, more_formulas_size, selectors_size}
+use Rattle.spv_syntax.specs.FormulaViews.{conclusion_of}
+use Rattle.spv_syntax.specs.Model.FormulaSizes.{more_terms_of, more_factors_of, more_formulas_of, selectors_of, formula_size, conclusion_size, relation_size, simple_size, term_size, factor_size, designator_size, selector_size, more_formulas_size, selectors_size}
 use Rattle.spv_typing.specs.OperatorWalk.{more_terms_walk, more_factors_walk, selectors_walk, simple_walk, term_walk}
 use Rattle.spv_formula_typing.specs.Operands.{operand_of, operands_of}
 use Rattle.spv_formula_typing.specs.Arguments.{all_given}
@@ -28,6 +29,9 @@ invariant-operands-loop-other g l = FoundSoFar (g.F.Forms.forms l.forms) l.first
 
 abbrev pub decreases-formula : goal.decreases-formula
 decreases-formula g l = 5 * formula_size l.tree.now
+
+abbrev pub decreases-implied : goal.decreases-implied
+decreases-implied g l = 5 * (relation_size l.left.now + conclusion_size (conclusion_of l.right.now)) + 1
 
 abbrev pub decreases-relation : goal.decreases-relation
 decreases-relation g l = 5 * relation_size l.tree.now

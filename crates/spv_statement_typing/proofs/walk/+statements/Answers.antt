@@ -91,6 +91,6 @@ pub repeated-returns-in-Repeat-clause-err : goal.repeated-returns-in-Repeat-clau
 repeated-returns-in-Repeat-clause-err t c =
     subst (λ (o : Outcome Statement). IfErr c.repeat_loop.result (λ e. Stops e o))
     (repeat_walked (setting_of c.args.setting.now) c.args.line c.inside.inside.line (option_map annotation_of c.args.noted.value) c.args.inside.now c.inside.inside.form c.in-Repeat.first c.in-Repeat.more
-    c.in-Repeat.test c.deref-in-Repeat.result.now c.deref-in-Repeat-2.result.now c.deref-in-Repeat-3.result.now c.inside.view_is c.in-Repeat.is c.deref-in-Repeat.ensures c.deref-in-Repeat-2.ensures.value
-    c.deref-in-Repeat-3.ensures)
+    c.in-Repeat.test c.deref-in-Repeat.result.now c.deref-in-Repeat-2.result.now c.in-Repeat.test c.inside.view_is c.in-Repeat.is c.deref-in-Repeat.ensures c.deref-in-Repeat-2.ensures.value
+    refl)
     c.repeat_loop.ensures.err
