@@ -95,10 +95,10 @@ fn factor(tree: &Factor, out: &mut Vec<TokenKind>) -> Result<(), AllocError>
     ensures { OnOk result (Adds (factor_spelling in_kinds tree.now) out.old.items out.new.items) }
 {
     match &tree.form {
-        FactorForm::Number(n) => out::token(TokenKind::Number(*n), out),
-        FactorForm::Truth(value) => out::token(out::truth(*value), out),
-        FactorForm::Nil => out::word(Word::Nil, out),
-        FactorForm::Class(x) => {
+        FactorForm::Number(_, n) => out::token(TokenKind::Number(*n), out),
+        FactorForm::Truth(_, value) => out::token(out::truth(*value), out),
+        FactorForm::Nil(_) => out::word(Word::Nil, out),
+        FactorForm::Class(_, x) => {
             out::sign(Sign::Hash, out)?;
             out::token(TokenKind::Name(x.symbol), out)?;
             Ok(())
@@ -113,13 +113,13 @@ fn factor(tree: &Factor, out: &mut Vec<TokenKind>) -> Result<(), AllocError>
             selectors(&given.behind, out)?;
             Ok(())
         }
-        FactorForm::Bracketed(inside) => {
+        FactorForm::Bracketed(_, inside) => {
             out::sign(Sign::OpenParenthesis, out)?;
             formula(inside, out)?;
             out::sign(Sign::CloseParenthesis, out)?;
             Ok(())
         }
-        FactorForm::Negation(negated) => {
+        FactorForm::Negation(_, negated) => {
             out::word(Word::Not, out)?;
             factor(negated, out)?;
             Ok(())

@@ -48,6 +48,7 @@ fn further_formulas(
 
 // {"," formula}
 #[cycle(formula)]
+#[inline(always)]
 fn more_formulas(
     alloc: Global,
     levels: u32,
@@ -93,6 +94,7 @@ fn field(line: u32, tokens: &[Token]) -> Result<(Selector, &[Token]), Fault>
 }
 
 // Whether the tokens begin with a selector.
+#[inline(always)]
 fn begins_selector(tokens: &[Token]) -> bool
     ensures { result ≡ spec.begins_selector (reader.front tokens.now) }
 {
@@ -146,6 +148,7 @@ fn further_selectors(
 
 /// {selector}
 #[cycle(formula)]
+#[inline(always)]
 pub fn selectors(
     alloc: Global,
     levels: u32,
@@ -193,10 +196,8 @@ fn applied(
             behind,
         },
     )?;
-    Ok(Factor {
-        line: f.line,
-        form: FactorForm::Application(f, given),
-    })
+    let form = FactorForm::Application(f, given);
+    Ok(Factor { form })
 }
 
 // "(" formula {"," formula} ")" {selector}, behind a name and the bracket
@@ -233,9 +234,8 @@ fn place(
     ensures line { IfOk result (λ r. factor_line r.0 ≡ name.line) }
 {
     let (behind, rest) = selectors(alloc, levels, tokens)?;
-    let line = name.line;
     let form = FactorForm::Place(Designator { name, behind });
-    Ok((Factor { line, form }, rest))
+    Ok((Factor { form }, rest))
 }
 
 // What begins with this name.
@@ -267,8 +267,8 @@ fn bracketed(
 {
     let (read, rest) = inner(alloc, levels, tokens)?;
     let rest = past_sign(Sign::CloseParenthesis, rest)?;
-    let form = FactorForm::Bracketed(read);
-    Ok((Factor { line, form }, rest))
+    let form = FactorForm::Bracketed(line, read);
+    Ok((Factor { form }, rest))
 }
 
 // "#" name, behind the sign on this line
@@ -278,8 +278,8 @@ fn class(line: u32, tokens: &[Token]) -> Result<(Factor, &[Token]), Fault>
     ensures line { IfOk result (λ r. factor_line r.0 ≡ line) }
 {
     let (x, rest) = name(tokens)?;
-    let form = FactorForm::Class(x);
-    Ok((Factor { line, form }, rest))
+    let form = FactorForm::Class(line, x);
+    Ok((Factor { form }, rest))
 }
 
 // NOT factor, behind NOT on this line
@@ -299,8 +299,8 @@ fn negation(
         return Err(out_of_levels(tokens));
     }
     let (read, rest) = factor(alloc, levels - 1, tokens)?;
-    let form = FactorForm::Negation(Box::new(alloc, read)?);
-    Ok((Factor { line, form }, rest))
+    let form = FactorForm::Negation(line, Box::new(alloc, read)?);
+    Ok((Factor { form }, rest))
 }
 
 // number | TRUE | FALSE | NIL | "#" name | "(" formula ")" | NOT factor, or what begins with a name
@@ -315,17 +315,17 @@ fn any_factor(alloc: Global, levels: u32, tokens: &[Token]) -> Result<(Factor, &
     };
     let line = first.line;
     let form = match first.kind {
-        TokenKind::Number(n) => FactorForm::Number(n),
-        TokenKind::Word(Word::True) => FactorForm::Truth(true),
-        TokenKind::Word(Word::False) => FactorForm::Truth(false),
-        TokenKind::Word(Word::Nil) => FactorForm::Nil,
+        TokenKind::Number(n) => FactorForm::Number(line, n),
+        TokenKind::Word(Word::True) => FactorForm::Truth(line, true),
+        TokenKind::Word(Word::False) => FactorForm::Truth(line, false),
+        TokenKind::Word(Word::Nil) => FactorForm::Nil(line),
         TokenKind::Word(Word::Not) => return negation(alloc, levels, line, rest),
         TokenKind::Sign(Sign::Hash) => return class(line, rest),
         TokenKind::Sign(Sign::OpenParenthesis) => return bracketed(alloc, levels, line, rest),
         TokenKind::Name(symbol) => return named(alloc, levels, Name { line, symbol }, rest),
         _ => return Err(unexpected(tokens)),
     };
-    Ok((Factor { line, form }, rest))
+    Ok((Factor { form }, rest))
 }
 
 // A factor, with this many levels inside it at most.

@@ -26,6 +26,7 @@ use spv_tokens::{Sign, Token, TokenKind, Word};
 use std::alloc::{AllocError, Global};
 
 // The operator of a relation at the front, where there is one.
+#[inline(always)]
 fn comparison(tokens: &[Token]) -> Option<Comparison>
     ensures { result ≡ comparison_of (reader.front tokens.now) }
 {
@@ -41,6 +42,7 @@ fn comparison(tokens: &[Token]) -> Option<Comparison>
 }
 
 // The operator between terms at the front, where there is one.
+#[inline(always)]
 fn adding(tokens: &[Token]) -> Option<Adding>
     ensures { result ≡ adding_of (reader.front tokens.now) }
 {
@@ -53,6 +55,7 @@ fn adding(tokens: &[Token]) -> Option<Adding>
 }
 
 // The operator between factors at the front, where there is one.
+#[inline(always)]
 fn multiplying(tokens: &[Token]) -> Option<Multiplying>
     ensures { result ≡ multiplying_of (reader.front tokens.now) }
 {
@@ -91,6 +94,7 @@ fn further_factors(
 
 // {("*" | DIV | MOD | AND) factor}
 #[cycle(formula)]
+#[inline(always)]
 fn more_factors(
     alloc: Global,
     levels: u32,
@@ -107,6 +111,7 @@ fn more_factors(
 
 // factor {("*" | DIV | MOD | AND) factor}
 #[cycle(formula)]
+#[inline(always)]
 fn term(alloc: Global, levels: u32, tokens: &[Token]) -> Result<(Term, &[Token]), Fault>
     ensures read { IfOk result (λ r. read_term (read_factor levels) tokens.now ≡ Read (r.0, r.1.now)) }
     ensures absent { (s : Stop) → IsErrAnd result (IsStop s) → read_term (read_factor levels) tokens.now ≡ Halted s }
@@ -143,6 +148,7 @@ fn further_terms(
 
 // {("+" | "-" | OR) term}
 #[cycle(formula)]
+#[inline(always)]
 fn more_terms(
     alloc: Global,
     levels: u32,
@@ -159,6 +165,7 @@ fn more_terms(
 
 // term {("+" | "-" | OR) term}, behind the sign on this line
 #[cycle(formula)]
+#[inline(always)]
 fn sum(
     alloc: Global,
     levels: u32,
@@ -183,6 +190,7 @@ fn sum(
 
 // ["+" | "-"] term {("+" | "-" | OR) term}
 #[cycle(formula)]
+#[inline(always)]
 fn simple(alloc: Global, levels: u32, tokens: &[Token]) -> Result<(Simple, &[Token]), Fault>
     ensures read { IfOk result (λ r. read_simple (read_factor levels) tokens.now ≡ Read (r.0, r.1.now)) }
     ensures absent { (s : Stop) → IsErrAnd result (IsStop s) → read_simple (read_factor levels) tokens.now ≡ Halted s }
@@ -243,6 +251,7 @@ fn relation(alloc: Global, levels: u32, tokens: &[Token]) -> Result<(Relation, &
 
 // ["->" formula]
 #[cycle(formula)]
+#[inline(always)]
 fn conclusion(
     alloc: Global,
     levels: u32,
@@ -280,7 +289,7 @@ fn behind_factor(
     ensures read { IfOk result (λ r. from_factor (read_factor levels) (read_inner levels) (factor_line first) first tokens.now ≡ Read (r.0, r.1.now)) }
     ensures absent { (s : Stop) → IsErrAnd result (IsStop s) → from_factor (read_factor levels) (read_inner levels) (factor_line first) first tokens.now ≡ Halted s }
 {
-    let line = first.line;
+    let line = first.line();
     let (more, rest) = more_factors(alloc, levels, tokens)?;
     let first = Term { first, more };
     let (more, rest) = more_terms(alloc, levels, rest)?;

@@ -24,7 +24,7 @@ fn number_of(tree: &Factor) -> Option<i64>
     ensures none { IfNone result (numeral_of tree.now ≡ None) }
 {
     match &tree.form {
-        FactorForm::Number(n) => Some(n.value()),
+        FactorForm::Number(_, n) => Some(n.value()),
         _ => None,
     }
 }

@@ -157,23 +157,23 @@ fn factor<F: Forms>(
     ensures err { IfErr result (λ e. Stops e (spec.factor_walk (F.forms forms.now) tree.now)) }
 {
     match &tree.form {
-        FactorForm::Number(n) => Ok(Operand::Of(forms.numeral(n.value()), Sort::Int)),
-        FactorForm::Truth(value) => Ok(Operand::Of(forms.boolean(*value), Sort::Bool)),
-        FactorForm::Nil => Ok(Operand::Nil(tree.line)),
-        FactorForm::Class(x) => forms.class_of(tree.line, *x),
+        FactorForm::Number(_, n) => Ok(Operand::Of(forms.numeral(n.value()), Sort::Int)),
+        FactorForm::Truth(_, value) => Ok(Operand::Of(forms.boolean(*value), Sort::Bool)),
+        FactorForm::Nil(line) => Ok(Operand::Nil(*line)),
+        FactorForm::Class(line, x) => forms.class_of(*line, *x),
         FactorForm::Place(place) => {
             let reached = read(forms, alloc, place)?;
             Ok(forms.finish(alloc, reached)?)
         }
         FactorForm::Application(x, given) => {
-            let called = application(forms, alloc, tree.line, *x, &given.first, &given.more)?;
-            let reached = selectors(forms, alloc, tree.line, called, &given.behind)?;
+            let called = application(forms, alloc, x.line, *x, &given.first, &given.more)?;
+            let reached = selectors(forms, alloc, x.line, called, &given.behind)?;
             Ok(forms.finish(alloc, reached)?)
         }
-        FactorForm::Bracketed(inside) => formula(forms, alloc, inside),
-        FactorForm::Negation(negated) => {
+        FactorForm::Bracketed(_, inside) => formula(forms, alloc, inside),
+        FactorForm::Negation(line, negated) => {
             let a = factor(forms, alloc, negated)?;
-            opposite(forms, alloc, tree.line, a)
+            opposite(forms, alloc, *line, a)
         }
     }
 }

@@ -10,7 +10,7 @@ use Rattle.spv_syntax.specs.declared.formulas.FactorForm.TheVariants as factor
 use Rattle.spv_syntax.specs.declared.formulas.SelectorForm.{SelectorForm}
 use Rattle.spv_syntax.specs.declared.formulas.SelectorForm.TheVariants as selector
 use Rattle.spv_syntax.specs.Formulas.{Formula, formula, Conclusion, no_conclusion, implies, Simple, RightSide, no_right_side, compared, Factor, number, truth, nil, class, place, application, bracketed, negation, Selector, index, field, content}
-use Rattle.spv_syntax.specs.Lines.{items_in, relation_line, lone_factor}
+use Rattle.spv_syntax.specs.Lines.{items_in, designator_line, relation_line, lone_factor}
 use Rattle.spv_syntax.specs.Model.FormulaSizes.{more_formulas_of, selectors_of}
 
 abbrev pub conclusion_of : Option Formula → Conclusion
@@ -25,15 +25,15 @@ abbrev pub right_side_of : Option (Box (Comparison × Simple) Global) → RightS
 right_side_of None = no_right_side
 right_side_of (Some r) = compared r.value.0 r.value.1
 
-abbrev pub factor_of : ℕ → FactorForm → Factor
-factor_of line (factor.Number n) = number line n
-factor_of line (factor.Truth b) = truth line b
-factor_of line factor.Nil = nil line
-factor_of line (factor.Class x) = class line x
-factor_of line (factor.Place d) = place line d
-factor_of line (factor.Application f a) = application line f a.value.first (more_formulas_of a.value.more.items) (selectors_of a.value.behind.items)
-factor_of line (factor.Bracketed f) = bracketed line f
-factor_of line (factor.Negation f) = negation line f.value
+abbrev pub factor_of : FactorForm → Factor
+factor_of (factor.Number line n) = number line n
+factor_of (factor.Truth line b) = truth line b
+factor_of (factor.Nil line) = nil line
+factor_of (factor.Class line x) = class line x
+factor_of (factor.Place d) = place (designator_line d) d
+factor_of (factor.Application f a) = application f.line f a.value.first (more_formulas_of a.value.more.items) (selectors_of a.value.behind.items)
+factor_of (factor.Bracketed line f) = bracketed line f
+factor_of (factor.Negation line f) = negation line f.value
 
 abbrev pub selector_of : ℕ → SelectorForm → Selector
 selector_of line (selector.Index first more) = index line first (more_formulas_of (items_in more))

@@ -4,11 +4,14 @@ use Rattle.std.specs.Prelude.{ℕ, List, [], Option, Some, None}
 use Rattle.std.specs.declared.boxed.Box.{Box}
 use Rattle.std.specs.declared.vec.Vec.{Vec}
 use Rattle.std.specs.Global.{Global}
-use Rattle.spv_syntax.specs.Formulas.{Formula, formula, no_conclusion, Relation, relation, no_right_side, Simple, simple, no_more_terms, Term, term, no_more_factors, Factor, number, truth, nil, class, place, application, bracketed, negation}
+use Rattle.spv_syntax.specs.Formulas.{Formula, formula, no_conclusion, Relation, relation, no_right_side, Simple, simple, no_more_terms, Term, term, no_more_factors, Factor, number, truth, nil, class, place, application, bracketed, negation, Designator, designator}
 
 abbrev pub items_in : {T : Type 0} → Option (Box (Vec T Global) Global) → List T
 items_in None = []
 items_in (Some items) = items.value.items
+
+abbrev pub designator_line : Designator → ℕ
+designator_line (designator l _ _) = l
 
 abbrev pub factor_line : Factor → ℕ
 factor_line (number l _) = l

@@ -1,7 +1,7 @@
 // Formulas.
 
 ghost use Rattle.std.specs.Prelude.{◌≡◌};
-ghost use Rattle.spv_syntax.specs.Lines.{formula_line, relation_line, term_line};
+ghost use Rattle.spv_syntax.specs.Lines.{factor_line, formula_line, relation_line, term_line};
 
 use crate::names::Name;
 use crate::operators::{Adding, Comparison, Multiplying, PlusOrMinus};
@@ -65,7 +65,7 @@ impl Formula {
         ensures { result ≡ formula_line self.now }
     {
         match &self.form {
-            FormulaForm::Factor(factor) => factor.line,
+            FormulaForm::Factor(factor) => factor.line(),
             FormulaForm::Implication(whole) => whole.left.line(),
         }
     }
@@ -190,7 +190,7 @@ impl Term {
     pub fn line(&self) -> u32
         ensures { result ≡ term_line self.now }
     {
-        self.first.line
+        self.first.line()
     }
 }
 
@@ -198,32 +198,30 @@ impl Term {
 #[cycle(formula)]
 #[derive(Drop)]
 pub struct Factor {
-    /// The line of its first token.
-    pub line: u32,
     /// What it is.
     pub form: FactorForm,
 }
 
-/// What a factor is.
+/// What a factor is. A number in front is the line of its first token; where a name is the first token, it has the line.
 #[cycle(formula)]
 #[derive(Drop)]
 pub enum FactorForm {
     /// `number`
-    Number(Numeral),
+    Number(u32, Numeral),
     /// TRUE or FALSE
-    Truth(bool),
+    Truth(u32, bool),
     /// NIL
-    Nil,
+    Nil(u32),
     /// `"#" name`
-    Class(Name),
+    Class(u32, Name),
     /// `designator`
     Place(Designator),
     /// `name "(" formula {"," formula} ")" {selector}`
     Application(Name, Box<Application>),
     /// `"(" formula ")"`
-    Bracketed(Formula),
+    Bracketed(u32, Formula),
     /// `NOT factor`
-    Negation(Box<Factor>),
+    Negation(u32, Box<Factor>),
 }
 
 /// The arguments of an application, and what stands behind them.
@@ -250,7 +248,7 @@ impl Model for Factor {
 
     ghost use Rattle.spv_syntax.specs.FormulaViews.{factor_of};
 
-    ghost view = { λ a. factor_of a.line a.form };
+    ghost view = { λ a. factor_of a.form };
 
     ghost use Rattle.spv_syntax.specs.Model.FormulaSizes.{factor_size};
 
@@ -259,6 +257,24 @@ impl Model for Factor {
     ghost use Rattle.spv_syntax.specs.Model.FormulaFalls.{factor_falls};
 
     ghost size_decreases = { λ a h. factor_falls a };
+}
+
+impl Factor {
+    /// The line of its first token.
+    pub fn line(&self) -> u32
+        ensures { result ≡ factor_line self.now }
+    {
+        match &self.form {
+            FactorForm::Number(line, _) => *line,
+            FactorForm::Truth(line, _) => *line,
+            FactorForm::Nil(line) => *line,
+            FactorForm::Class(line, _) => *line,
+            FactorForm::Place(place) => place.name.line,
+            FactorForm::Application(f, _) => f.line,
+            FactorForm::Bracketed(line, _) => *line,
+            FactorForm::Negation(line, _) => *line,
+        }
+    }
 }
 
 /// `name {selector}`

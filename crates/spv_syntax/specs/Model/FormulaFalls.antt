@@ -71,18 +71,18 @@ simple_falls a = omega (arith, most_terms a.more.items)
 pub term_falls : (a : term.Inside) → deep-Term a ≤ suc (factor_size a.first + more_factors_size (more_factors_of a.more.items))
 term_falls a = omega (arith, most_factors a.more.items)
 
-form_falls : (line : ℕ) (f : FactorForm) → max (deep-FactorForm f) 0 ≤ factor_size (factor_of line f)
-form_falls line (Number n) = omega arith
-form_falls line (Truth b) = omega arith
-form_falls line Nil = omega arith
-form_falls line (Class x) = omega arith
-form_falls line (Place d) = omega arith
-form_falls line (Application f a) = omega (arith, most_formulas a.value.more.items, most_selectors a.value.behind.items)
-form_falls line (Bracketed f) = omega arith
-form_falls line (Negation f) = omega arith
+form_falls : (f : FactorForm) → max (deep-FactorForm f) 0 ≤ factor_size (factor_of f)
+form_falls (Number line n) = omega arith
+form_falls (Truth line b) = omega arith
+form_falls (Nil line) = omega arith
+form_falls (Class line x) = omega arith
+form_falls (Place d) = omega arith
+form_falls (Application f a) = omega (arith, most_formulas a.value.more.items, most_selectors a.value.behind.items)
+form_falls (Bracketed line f) = omega arith
+form_falls (Negation line f) = omega arith
 
-pub factor_falls : (a : factor.Inside) → deep-Factor a ≤ factor_size (factor_of a.line a.form)
-factor_falls a = form_falls a.line a.form
+pub factor_falls : (a : factor.Inside) → deep-Factor a ≤ factor_size (factor_of a.form)
+factor_falls a = form_falls a.form
 
 pub designator_falls : (a : designator.Inside) → deep-Designator a ≤ suc (selectors_size (selectors_of a.behind.items))
 designator_falls a = omega (arith, most_selectors a.behind.items)
