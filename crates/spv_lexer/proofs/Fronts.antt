@@ -1,15 +1,17 @@
 -- What the code that reads a front asks of the definitions.
-use Rattle.std.proofs.Common.{◌≡◌, ◌<◌, ◌≤◌, ◌+◌, ◌-◌, ◌*◌, ℕ, suc, Bool, true, false, nat_eq, List, [], ◌∷◌, Option, Some, None, length, drop, take, fold, nat_le, codes, take_while, if◌then◌else◌, slice_index_or, refl, sym, ap, ◌∙◌, arith, add-one}
+use Rattle.std.proofs.Common.{◌≡◌, ◌<◌, ◌≤◌, ◌+◌, ◌-◌, ◌*◌, ℕ, suc, Bool, true, false, nat_eq, List, [], ◌∷◌, Option, Some, None, length, drop, take, fold, nat_le, codes, take_while, if◌then◌else◌, slice_index_or, refl, sym, ap, subst, ◌∙◌, true≢false, arith, add-one}
 use Rattle.std.proofs.Math.Seq.{drop-cons}
 use Rattle.std.proofs.lemmas.List.{length-map, length-take, take-map, take-append-drop}
 use Rattle.std.proofs.lemmas.List.Sums.{fold_more, fold-append, prefix_len-le-length}
 use Rattle.std.specs.List.{starts_with, prefix_len}
-use Rattle.std.specs.Option.{option_map}
+use Rattle.std.specs.Option.{option_map, option_map_or}
 use Rattle.std.specs.Map.{lookup}
 use Rattle.std.specs.Str.{bytes_eq}
+use Rattle.std.proofs.lemmas.Bool.{eqb-true}
 use Rattle.std.proofs.lemmas.Bool.Decides.{nat_tests}
-use Rattle.spv_lexer.specs.Spelling.{number, long_signs}
-use Rattle.spv_lexer.specs.Front.{token, fault, numeral_too_large, Front, gap, is_blank, through, letters, comment, longest_sign, front, decimal, numeral}
+use Rattle.spv_tokens.specs.declared.token.Sign.{Sign}
+use Rattle.spv_lexer.specs.Spelling.{number, sign, long_signs, short_signs}
+use Rattle.spv_lexer.specs.Front.{token, fault, numeral_too_large, bad_byte, Front, gap, is_blank, through, letters, comment, longest_sign, front, decimal, numeral}
 use Rattle.std.specs.Char.{is_ascii_alphabetic, is_ascii_alphanumeric, is_ascii_digit, to_ascii_uppercase}
 use Rattle.spv_names.specs.Names.{folded}
 use Rattle.spv_lexer.proofs.LookUps.{lookup-none_of_length}
@@ -91,6 +93,35 @@ pub front-front_by : (text : List ℕ) → 0 < length text → front text ≡ fr
 unfolding front
 front-front_by [] h = absurd (omega arith)
 front-front_by (b ∷ rest) h = refl
+
+-- what stands at the front of a text that begins with a known byte
+pub front-same : (P : List ℕ → Front) (b : ℕ) (text : List ℕ) → 0 < length text → slice_index_or text 0 0 ≡ b → ((rest : List ℕ) → P (b ∷ rest) ≡ front (b ∷ rest)) → P text ≡ front text
+front-same P b [] h is same = absurd (omega arith)
+front-same P b (a ∷ rest) h is same = subst (λ (x : ℕ). P (x ∷ rest) ≡ front (x ∷ rest)) (sym is) (same rest)
+
+-- the sign of one byte that such a text begins with
+pub short-same : (b : ℕ) (o : Option Sign) (text : List ℕ) → 0 < length text → slice_index_or text 0 0 ≡ b → lookup (bytes_eq (b ∷ [])) short_signs ≡ o → lookup (bytes_eq (take 1 text)) short_signs ≡ o
+short-same b o text h is found = rw (take_one text h, is) found
+
+-- a byte that passes a test which no blank passes
+pub no_blank : (p : ℕ → Bool) → p 32 ≡ false → p 9 ≡ false → p 10 ≡ false → p 13 ≡ false → (b : ℕ) → p b ≡ true → is_blank b ≡ false
+no_blank p f g h i b passes = rw (apart 32 f, apart 9 g, apart 10 h, apart 13 i) refl
+  where
+    by : (n : ℕ) (t : Bool) → nat_eq b n ≡ t → p n ≡ false → t ≡ false
+    by n true e none = absurd (true≢false (sym passes ∙ ap p (eqb-true b n e) ∙ none))
+    by n false e none = refl
+
+    apart : (n : ℕ) → p n ≡ false → nat_eq b n ≡ false
+    apart n none = by n (nat_eq b n) refl none
+
+-- a byte that begins nothing
+pub front-bad_byte : (b : ℕ) (rest : List ℕ) → is_blank b ≡ false → is_ascii_alphabetic b ≡ false → is_ascii_digit b ≡ false → nat_eq 123 b ≡ false → nat_eq 40 b ≡ false
+    → nat_eq b 60 ≡ false → nat_eq b 62 ≡ false → nat_eq b 58 ≡ false → nat_eq b 46 ≡ false → nat_eq b 45 ≡ false → lookup (bytes_eq (b ∷ [])) short_signs ≡ None → front (b ∷ rest) ≡ fault bad_byte
+unfolding front longest_sign
+front-bad_byte b rest blank letter digit brace parenthesis less greater colon period minus none =
+    let long : lookup (bytes_eq (take 2 (b ∷ rest))) long_signs ≡ None = rw (less, greater, colon, period, minus) refl in
+    let nothing : longest_sign (b ∷ rest) ≡ fault bad_byte = λ i. option_map_or (λ s. token (sign s) 2) (long i) (option_map_or (λ s. token (sign s) 1) (none i) (fault bad_byte)) in
+    rw (blank, letter, digit, brace, parenthesis) nothing
 
 -- a row at the front, in a text and in its upper case
 pub run_fits : (p : ℕ → Bool) (rest upper : List ℕ) → upper ≡ folded rest → prefix_len p rest ≤ length upper

@@ -8,3 +8,4 @@ pub mod Joins
 pub mod LongestSign
 pub mod Gaps
 pub mod Counts
+pub mod Lines

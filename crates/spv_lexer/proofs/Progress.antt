@@ -1,6 +1,6 @@
 -- How far the walk over a text has come.
 use Rattle.std.proofs.Common.{◌≡◌, ◌<◌, ◌≤◌, ◌+◌, ◌-◌, ◌++◌, ◌==◌, ℕ, Bool, true, false, if◌then◌else◌, List, [], ◌∷◌, Some, None, Result, Ok, Err, IsErrAnd, IfErr, OnErr, length, drop, take, count_by, refl, sym, ap, ◌∙◌, arith}
-use Rattle.std.proofs.lemmas.List.{length-append, length-drop, length-take, append_assoc, append-nil}
+use Rattle.std.proofs.lemmas.List.{take_rest, length-append, length-drop, length-take, append_assoc, append-nil}
 use Rattle.std.proofs.Math.Seq.{take-append_seam}
 use Rattle.std.proofs.lemmas.List.Sums.{count_by-le-length, fold-append}
 use Rattle.spv_tokens.specs.declared.token.Token.{Token}
@@ -134,10 +134,9 @@ on_err (Ok x) Q q = tt
 on_err (Err e) Q q = q
 
 -- the line behind a piece in the middle of a text
-pub next_line : (text : List ℕ) (line at k n : ℕ) → n ≡ count_by (λ b. b == 10) (take (at + k - at) (drop at text)) → line + n ≡ line_after line k (drop at text)
-next_line text line at k n is = let same : at + k - at ≡ k = omega arith in ap (λ m. line + m) (rw same at is)
+pub next_line : (text : List ℕ) (line at k n : ℕ) → n ≡ count_by (λ b. b == 10) (take k (take (length text - at) (drop at text))) → line + n ≡ line_after line k (drop at text)
+next_line text line at k n is = ap (λ m. line + m) (rw take_rest at is)
 
 -- no more lines end than there are bytes
-pub next_line-bound : (text : List ℕ) (line at k n : ℕ) → n ≡ count_by (λ b. b == 10) (take (at + k - at) (drop at text)) → line + n ≤ line + k
-next_line-bound text line at k n is =
-    omega (arith, count_by-le-length (λ b. b == 10) (take (at + k - at) (drop at text)), length-take (at + k - at) (drop at text))
+pub lines-bound : (rest : List ℕ) (k n : ℕ) → n ≡ count_by (λ b. b == 10) (take k rest) → n ≤ k
+lines-bound rest k n is = omega (arith, count_by-le-length (λ b. b == 10) (take k rest), length-take k rest)

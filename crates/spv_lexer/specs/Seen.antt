@@ -1,26 +1,46 @@
 -- What the lexer's own answers say, in the words of the definition.
-use Rattle.std.specs.Prelude.{◌≡◌, ℕ, List, [], ◌∷◌, Option, Some, None, take_while}
-use Rattle.std.specs.Char.{is_ascii_alphanumeric}
+use Rattle.std.specs.Prelude.{◌≡◌, ℕ, ◌==◌, List, [], ◌∷◌, Option, Some, None, codes, count_by, if◌then◌else◌, nat_eq, take, take_while, ⊤}
+use Rattle.std.specs.Char.{is_ascii_alphanumeric, is_ascii_digit}
+use Rattle.std.specs.List.{starts_with}
+use Rattle.spv_tokens.specs.declared.token.Sign.TheVariants.{OpenParenthesis}
 use Rattle.spv_tokens.specs.declared.token.Token.{Token}
 use Rattle.spv_tokens.specs.declared.token.TokenKind.{TokenKind}
-use Rattle.spv_lexer.specs.Spelling.{number, sign}
-use Rattle.spv_lexer.specs.Front.{Front, gap, token, fault, nothing, letters, bad_byte, open_comment, numeral_too_large}
+use Rattle.spv_lexer.specs.Spelling.{sign}
+use Rattle.spv_lexer.specs.Front.{Front, gap, token, fault, nothing, comment, letters, numeral, bad_byte, open_comment, numeral_too_large}
 use Rattle.spv_lexer.specs.Tokens.{kind_of, with_name}
 use Rattle.spv_lexer.specs.declared.front.Front.{Front as Seen}
-use Rattle.spv_lexer.specs.declared.front.Front.TheVariants.{Gap, Letters, Number, Sign, BadByte, OpenComment, NumeralTooLarge}
+use Rattle.spv_lexer.specs.declared.front.Front.TheVariants.{LineFeed, Blank, Comment, Letters, Digits, ShortSign, LongSign, BadByte, OpenComment}
 use Rattle.spv_lexer.specs.declared.lexer.Piece.{Piece}
 use Rattle.spv_lexer.specs.declared.LexFault.{LexFault}
 use Rattle.spv_lexer.specs.declared.LexFault.TheVariants.{BadByte as BadByteAt, OpenComment as OpenCommentAt, NumeralTooLarge as NumeralTooLargeAt, TextTooLong, Memory}
 
 -- the front of a text at which the lexer saw this
 abbrev pub front_seen : List ℕ → Seen → Front
-front_seen text (Gap k) = gap k
+front_seen text LineFeed = gap 1
+front_seen text Blank = gap 1
+front_seen text (Comment k) = gap k
 front_seen text Letters = letters (take_while is_ascii_alphanumeric text)
-front_seen text (Number n k) = token (number n) k
-front_seen text (Sign s k) = token (sign s) k
+front_seen text Digits = numeral (take_while is_ascii_digit text)
+front_seen text (ShortSign s) = token (sign s) 1
+front_seen text (LongSign s) = token (sign s) 2
 front_seen text BadByte = fault bad_byte
 front_seen text OpenComment = fault open_comment
-front_seen text NumeralTooLarge = fault numeral_too_large
+
+-- a line ends in a line feed, and in no other blank
+abbrev pub EndsLines : List ℕ → Seen → Type 0
+EndsLines text LineFeed = count_by (λ b. b == 10) (take 1 text) ≡ 1
+EndsLines text Blank = count_by (λ b. b == 10) (take 1 text) ≡ 0
+EndsLines text (Comment k) = ⊤
+EndsLines text Letters = ⊤
+EndsLines text Digits = ⊤
+EndsLines text (ShortSign s) = ⊤
+EndsLines text (LongSign s) = ⊤
+EndsLines text BadByte = ⊤
+EndsLines text OpenComment = ⊤
+
+-- what stands at the front of a text that begins with a left parenthesis
+abbrev pub parenthesis_or_comment : List ℕ → Front
+parenthesis_or_comment text = if starts_with nat_eq text (codes "(*") then comment (codes "(*") (codes "*)") text else token (sign OpenParenthesis) 1
 
 -- the piece is this front, and takes the names from old to new
 abbrev pub IsPieceOf : Front → List (List ℕ) → List (List ℕ) → Piece → Type 0

@@ -1,36 +1,37 @@
 //! What stands at the front of a text.
-ghost use Rattle.std.specs.Prelude.{◌≡◌, ◌<◌, ◌≤◌, Some, None, IfSome, if◌then◌else◌, length, nat_le, take_while};
+ghost use Rattle.std.specs.Prelude.{◌≡◌, ◌<◌, ◌≤◌, Some, None, IfSome, if◌then◌else◌, length, nat_le, take};
 ghost use Rattle.std.specs.Char.{is_ascii_alphanumeric, is_ascii_digit};
 ghost use Rattle.std.specs.List.{prefix_len};
-ghost use Rattle.spv_lexer.specs.Front.{is_blank as is_blank_byte, through as bytes_through, comment as comment_of, numeral as numeral_of, decimal as decimal_of, longest_sign as longest_sign_of, front as front_of};
-ghost use Rattle.spv_lexer.specs.Seen.{front_seen};
+ghost use Rattle.std.specs.Map.{lookup};
+ghost use Rattle.std.specs.Str.{bytes_eq};
+ghost use Rattle.spv_lexer.specs.Spelling.{short_signs};
+ghost use Rattle.spv_lexer.specs.Front.{through as bytes_through, comment as comment_of, decimal as decimal_of, longest_sign as longest_sign_of, front as front_of};
+ghost use Rattle.spv_lexer.specs.Seen.{front_seen, parenthesis_or_comment, EndsLines};
 
-use crate::signs::{long_sign, short_sign};
+use crate::signs::long_sign;
 use spv_tokens::{Numeral, Sign};
 
 /// What stands at the front of a text. A length is a number of bytes.
 #[derive(Clone, Copy)]
 pub(crate) enum Front {
-    /// A blank or a whole comment, with its length.
-    Gap(usize),
+    /// A line feed.
+    LineFeed,
+    /// Another blank.
+    Blank,
+    /// A whole comment, with its length.
+    Comment(usize),
     /// A word or a name: a row of letters and digits.
     Letters,
-    /// A number, with its length.
-    Number(Numeral, usize),
-    /// A sign, with its length.
-    Sign(Sign, usize),
+    /// A number: a row of digits.
+    Digits,
+    /// A sign of one byte.
+    ShortSign(Sign),
+    /// A sign of two bytes.
+    LongSign(Sign),
     /// A byte that begins nothing.
     BadByte,
     /// A comment without an end.
     OpenComment,
-    /// A number that no `Numeral` has.
-    NumeralTooLarge,
-}
-
-fn is_blank(byte: u8) -> bool
-    ensures { result ≡ is_blank_byte byte }
-{
-    byte == b' ' || byte == b'\t' || byte == b'\n' || byte == b'\r'
 }
 
 /// How many letters and digits stand at the front.
@@ -46,7 +47,7 @@ pub(crate) fn letters(text: &[u8]) -> usize
 }
 
 /// How many digits stand at the front.
-fn digits(text: &[u8]) -> usize
+pub(crate) fn digits(text: &[u8]) -> usize
     ensures { result ≡ prefix_len is_ascii_digit text.now }
 {
     for (len, byte) in text.iter().enumerate() {
@@ -73,16 +74,17 @@ fn through(text: &[u8], closing: &[u8]) -> Option<usize>
 /// The comment that begins with the first `opening` bytes.
 fn comment(text: &[u8], opening: &[u8], closing: &[u8]) -> Front
     requires { length opening.now ≤ length text.now }
-    ensures { front_seen text.now result ≡ comment_of opening.now closing.now text.now }
+    ensures front { front_seen text.now result ≡ comment_of opening.now closing.now text.now }
+    ensures lines { EndsLines text.now result }
 {
     match through(&text[opening.len()..], closing) {
-        Some(len) => Front::Gap(opening.len() + len),
+        Some(len) => Front::Comment(opening.len() + len),
         None => Front::OpenComment,
     }
 }
 
 /// The number that a row of digits spells, if a `Numeral` has it.
-fn decimal(digits: &[u8]) -> Option<Numeral>
+pub(crate) fn decimal(digits: &[u8]) -> Option<Numeral>
     ensures { let n = decimal_of digits.now in
         result ≡ (if nat_le n 9223372036854775807 then Some n else None) }
 {
@@ -96,51 +98,58 @@ fn decimal(digits: &[u8]) -> Option<Numeral>
     Some(Numeral::new(value))
 }
 
-/// The numeral at the front.
-fn numeral(text: &[u8]) -> Front
-    ensures { front_seen text.now result ≡ numeral_of (take_while is_ascii_digit text.now) }
+/// The longest sign at the front, where `short` is the sign of one byte.
+fn longest_sign(text: &[u8], short: Sign) -> Front
+    requires { lookup (bytes_eq (take 1 text.now)) short_signs ≡ Some short }
+    ensures front { front_seen text.now result ≡ longest_sign_of text.now }
+    ensures lines { EndsLines text.now result }
 {
-    let len = digits(text);
-    match decimal(&text[..len]) {
-        Some(number) => Front::Number(number, len),
-        None => Front::NumeralTooLarge,
+    match long_sign(text) {
+        Some(long) => Front::LongSign(long),
+        None => Front::ShortSign(short),
     }
 }
 
-/// The longest sign at the front.
-fn longest_sign(text: &[u8]) -> Front
-    requires { 0 < length text.now }
-    ensures { front_seen text.now result ≡ longest_sign_of text.now }
+/// A left parenthesis, or the comment that begins with it.
+fn parenthesis(text: &[u8]) -> Front
+    ensures front { front_seen text.now result ≡ parenthesis_or_comment text.now }
+    ensures lines { EndsLines text.now result }
 {
-    if let Some(sign) = long_sign(text) {
-        return Front::Sign(sign, 2);
+    if text.starts_with(b"(*") {
+        return comment(text, b"(*", b"*)");
     }
-    match short_sign(text) {
-        Some(sign) => Front::Sign(sign, 1),
-        None => Front::BadByte,
-    }
+    Front::ShortSign(Sign::OpenParenthesis)
 }
 
 /// What stands at the front of a text that is not empty.
 pub(crate) fn read_front(text: &[u8]) -> Front
     requires { 0 < length text.now }
-    ensures { front_seen text.now result ≡ front_of text.now }
+    ensures front { front_seen text.now result ≡ front_of text.now }
+    ensures lines { EndsLines text.now result }
 {
     let byte = text[0];
-    if is_blank(byte) {
-        return Front::Gap(1);
+    match byte {
+        b'\n' => Front::LineFeed,
+        b' ' | b'\t' | b'\r' => Front::Blank,
+        b'{' => comment(text, b"{", b"}"),
+        b'(' => parenthesis(text),
+        b'<' => longest_sign(text, Sign::Less),
+        b'>' => longest_sign(text, Sign::Greater),
+        b':' => longest_sign(text, Sign::Colon),
+        b'.' => longest_sign(text, Sign::Period),
+        b'-' => longest_sign(text, Sign::Minus),
+        b'+' => Front::ShortSign(Sign::Plus),
+        b'*' => Front::ShortSign(Sign::Star),
+        b'=' => Front::ShortSign(Sign::Equal),
+        b')' => Front::ShortSign(Sign::CloseParenthesis),
+        b'[' => Front::ShortSign(Sign::OpenBracket),
+        b']' => Front::ShortSign(Sign::CloseBracket),
+        b',' => Front::ShortSign(Sign::Comma),
+        b';' => Front::ShortSign(Sign::Semicolon),
+        b'^' => Front::ShortSign(Sign::Caret),
+        b'#' => Front::ShortSign(Sign::Hash),
+        _ if byte.is_ascii_alphabetic() => Front::Letters,
+        _ if byte.is_ascii_digit() => Front::Digits,
+        _ => Front::BadByte,
     }
-    if byte.is_ascii_alphabetic() {
-        return Front::Letters;
-    }
-    if byte.is_ascii_digit() {
-        return numeral(text);
-    }
-    if text.starts_with(b"{") {
-        return comment(text, b"{", b"}");
-    }
-    if text.starts_with(b"(*") {
-        return comment(text, b"(*", b"*)");
-    }
-    longest_sign(text)
 }

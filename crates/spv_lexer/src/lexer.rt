@@ -1,5 +1,5 @@
 //! The walk over a text, piece by piece.
-ghost use Rattle.std.specs.Prelude.{◌≡◌, ◌≤◌, ◌<◌, ◌==◌, ◌++◌, ◌↔◌, ℕ, List, All, None, IfOk, IfErr, OnOk, OnErr, length, take, count_by};
+ghost use Rattle.std.specs.Prelude.{◌≡◌, ◌≤◌, ◌<◌, ◌==◌, ◌++◌, ◌↔◌, ℕ, List, All, None, Some, IfOk, IfErr, OnOk, OnErr, length, take, count_by};
 ghost use Rattle.spv_names.specs.Names.{IsFolded, folded};
 ghost use Rattle.spv_lexer.specs.Spelling.{word_or_name};
 ghost use Rattle.spv_lexer.specs.Front.{front as front_of};
@@ -8,17 +8,51 @@ ghost use Rattle.spv_lexer.specs.Tokens.{kind_of, with_name, names_after, number
 ghost use Rattle.spv_lexer.specs.Seen.{IsPieceOf, IsRefusalOf, tokens_of};
 
 use crate::LexFault;
-use crate::front::{Front, letters, read_front};
+use crate::front::{Front, decimal, digits, letters, read_front};
 use crate::words::word_of;
 use spv_names::Names;
 use spv_tokens::{Token, TokenKind};
 use std::alloc::{AllocError, Global};
 
-/// A piece of a text: a token or a gap between tokens, with its length in bytes.
+/// A piece of a text: a token or a gap between tokens, with its length in bytes and how many lines end in it.
 #[derive(Clone, Copy)]
 pub(crate) struct Piece {
     pub(crate) kind: Option<TokenKind>,
     pub(crate) len: usize,
+    pub(crate) lines: usize,
+}
+
+/// A gap with this length, in which so many lines end.
+fn gap(len: usize, lines: usize) -> Piece
+    ensures kind { result.kind ≡ None }
+    ensures len { result.len ≡ len }
+    ensures lines { result.lines ≡ lines }
+{
+    Piece {
+        kind: None,
+        len,
+        lines,
+    }
+}
+
+/// A token with this length. No line ends in a token.
+fn token(kind: TokenKind, len: usize) -> Piece
+    ensures kind { result.kind ≡ Some kind }
+    ensures len { result.len ≡ len }
+    ensures lines { result.lines ≡ 0 }
+{
+    Piece {
+        kind: Some(kind),
+        len,
+        lines: 0,
+    }
+}
+
+/// How many lines end in a text.
+fn line_ends(text: &[u8]) -> usize
+    ensures { result ≡ count_by (λ b. b == 10) text.now }
+{
+    text.iter().filter(|byte| **byte == b'\n').count()
 }
 
 /// The text in upper case.
@@ -51,30 +85,30 @@ fn read_piece(rest: &[u8], upper: &[u8], line: u32, names: &mut Names) -> Result
     requires folded { upper.now ≡ folded rest.now }
     requires room { length names.old < 2147483648 }
     ensures piece { IfOk result (IsPieceOf (front_of rest.now) names.old names.new) }
+    ensures lines { IfOk result (λ p. p.lines ≡ count_by (λ b. b == 10) (take p.len rest.now)) }
     ensures refused { IfErr result (IsRefusalOf (front_of rest.now) line) }
     ensures err { OnErr result (names.new ≡ names.old) }
 {
     match read_front(rest) {
-        Front::Gap(len) => Ok(Piece { kind: None, len }),
+        Front::LineFeed => Ok(gap(1, 1)),
+        Front::Blank => Ok(gap(1, 0)),
+        Front::Comment(len) => Ok(gap(len, line_ends(&rest[..len]))),
         Front::Letters => {
             let len = letters(rest);
             let kind = word_or_name_kind(&upper[..len], names)?;
-            Ok(Piece {
-                kind: Some(kind),
-                len,
-            })
+            Ok(token(kind, len))
         }
-        Front::Number(number, len) => Ok(Piece {
-            kind: Some(TokenKind::Number(number)),
-            len,
-        }),
-        Front::Sign(sign, len) => Ok(Piece {
-            kind: Some(TokenKind::Sign(sign)),
-            len,
-        }),
+        Front::Digits => {
+            let len = digits(rest);
+            match decimal(&rest[..len]) {
+                Some(number) => Ok(token(TokenKind::Number(number), len)),
+                None => Err(LexFault::NumeralTooLarge(line)),
+            }
+        }
+        Front::ShortSign(sign) => Ok(token(TokenKind::Sign(sign), 1)),
+        Front::LongSign(sign) => Ok(token(TokenKind::Sign(sign), 2)),
         Front::BadByte => Err(LexFault::BadByte(line)),
         Front::OpenComment => Err(LexFault::OpenComment(line)),
-        Front::NumeralTooLarge => Err(LexFault::NumeralTooLarge(line)),
     }
 }
 
@@ -86,13 +120,6 @@ fn push_token(tokens: &mut Vec<Token>, kind: Option<TokenKind>, line: u32) -> Re
         tokens.push(Token { kind, line })?;
     }
     Ok(())
-}
-
-/// How many lines end in a text.
-fn line_ends(text: &[u8]) -> usize
-    ensures { result ≡ count_by (λ b. b == 10) text.now }
-{
-    text.iter().filter(|byte| **byte == b'\n').count()
 }
 
 /// The tokens of a text that is short enough, whose upper case is `upper`.
@@ -112,7 +139,7 @@ fn read(alloc: Global, text: &[u8], upper: &[u8], names: &mut Names) -> Result<V
     while at < text.len() {
         let piece = read_piece(&text[at..], &upper[at..], line, names)?;
         push_token(&mut tokens, piece.kind, line)?;
-        line += line_ends(&text[at..at + piece.len]) as u32;
+        line += piece.lines as u32;
         at += piece.len;
     }
     Ok(tokens)

@@ -1,8 +1,8 @@
 //! The signs of the language.
-ghost use Rattle.std.specs.Prelude.{◌≡◌, ◌∷◌, ◌<◌, [], length, take};
+ghost use Rattle.std.specs.Prelude.{◌≡◌, ◌∷◌, [], take};
 ghost use Rattle.std.specs.Map.{lookup};
 ghost use Rattle.std.specs.Str.{bytes_eq};
-ghost use Rattle.spv_lexer.specs.Spelling.{long_signs, short_signs};
+ghost use Rattle.spv_lexer.specs.Spelling.{long_signs};
 
 use spv_tokens::Sign;
 
@@ -21,31 +21,6 @@ fn sign_of_two(first: u8, second: u8) -> Option<Sign>
     }
 }
 
-/// The sign of this byte, if there is one.
-fn sign_of_one(byte: u8) -> Option<Sign>
-    ensures { result ≡ lookup (bytes_eq (byte ∷ [])) short_signs }
-{
-    match byte {
-        b'+' => Some(Sign::Plus),
-        b'-' => Some(Sign::Minus),
-        b'*' => Some(Sign::Star),
-        b'=' => Some(Sign::Equal),
-        b'<' => Some(Sign::Less),
-        b'>' => Some(Sign::Greater),
-        b'(' => Some(Sign::OpenParenthesis),
-        b')' => Some(Sign::CloseParenthesis),
-        b'[' => Some(Sign::OpenBracket),
-        b']' => Some(Sign::CloseBracket),
-        b',' => Some(Sign::Comma),
-        b';' => Some(Sign::Semicolon),
-        b':' => Some(Sign::Colon),
-        b'.' => Some(Sign::Period),
-        b'^' => Some(Sign::Caret),
-        b'#' => Some(Sign::Hash),
-        _ => None,
-    }
-}
-
 /// The sign of the first two bytes, if there is one.
 pub(crate) fn long_sign(text: &[u8]) -> Option<Sign>
     ensures { result ≡ lookup (bytes_eq (take 2 text.now)) long_signs }
@@ -54,12 +29,4 @@ pub(crate) fn long_sign(text: &[u8]) -> Option<Sign>
         return None;
     }
     sign_of_two(text[0], text[1])
-}
-
-/// The sign of the first byte, if there is one.
-pub(crate) fn short_sign(text: &[u8]) -> Option<Sign>
-    requires { 0 < length text.now }
-    ensures { result ≡ lookup (bytes_eq (take 1 text.now)) short_signs }
-{
-    sign_of_one(text[0])
 }

@@ -3,10 +3,10 @@ use Rattle.std.proofs.lemmas.List.{take_rest}
 use Rattle.spv_lexer.specs.Front.{comment}
 use Rattle.spv_lexer.proofs.front.comment.Goals as goal
 
-pub returns-in-Some : goal.returns-in-Some
+pub returns-in-Some-clause-front : goal.returns-in-Some-clause-front
 unfolding comment
-returns-in-Some c = rw (sym (rw take_rest at c.in-Some.ensures.end)) refl
+returns-in-Some-clause-front c = rw (sym (rw take_rest at c.in-Some.ensures.end)) refl
 
-pub returns-in-None : goal.returns-in-None
+pub returns-in-None-clause-front : goal.returns-in-None-clause-front
 unfolding comment
-returns-in-None c = rw (sym (rw take_rest at c.in-None.ensures.end)) refl
+returns-in-None-clause-front c = rw (sym (rw take_rest at c.in-None.ensures.end)) refl

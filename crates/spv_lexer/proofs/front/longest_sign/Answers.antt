@@ -2,14 +2,10 @@ use Rattle.std.proofs.Common.{refl, sym}
 use Rattle.spv_lexer.specs.Front.{longest_sign}
 use Rattle.spv_lexer.proofs.front.longest_sign.Goals as goal
 
-pub returns-in-Some : goal.returns-in-Some
+pub returns-in-Some-clause-front : goal.returns-in-Some-clause-front
 unfolding longest_sign
-returns-in-Some c = rw (sym c.in-Some.ensures) refl
+returns-in-Some-clause-front c = rw (sym c.in-Some.ensures) refl
 
-pub returns-in-Some-short_sign : goal.returns-in-Some-short_sign
+pub returns-in-None-clause-front : goal.returns-in-None-clause-front
 unfolding longest_sign
-returns-in-Some-short_sign c = rw (sym c.in_default.ensures, sym c.in-Some-short_sign.ensures) refl
-
-pub returns-in-None : goal.returns-in-None
-unfolding longest_sign
-returns-in-None c = rw (sym c.in_default.ensures, sym c.in-None.ensures) refl
+returns-in-None-clause-front c = rw (sym c.in-None.ensures, c.requires) refl

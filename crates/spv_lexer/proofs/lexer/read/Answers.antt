@@ -1,5 +1,5 @@
-use Rattle.std.proofs.Common.{◌≡◌, sym, arith, rules, None}
-use Rattle.spv_lexer.proofs.Progress.{Reached-start, Reached-piece, Reached-grown, Reached-refused, Reached-end, step_size, next_line, next_line-bound, if_err, on_err}
+use Rattle.std.proofs.Common.{◌≡◌, ◌-◌, length, take, drop, sym, arith, None}
+use Rattle.spv_lexer.proofs.Progress.{Reached-start, Reached-piece, Reached-grown, Reached-refused, Reached-end, step_size, next_line, lines-bound, if_err, on_err}
 use Rattle.std.specs.Char.{to_ascii_uppercase}
 use Rattle.std.proofs.lemmas.List.{take_rest, drop-drop, drop-map}
 use Rattle.std.proofs.Math.ListN.{drop_of_length-le}
@@ -34,24 +34,26 @@ overflow_add-at c =
     let size = step_size c.args.text.now c.loop-at.at c.loop-at.names c.read_piece.new.names c.in_ok-piece.piece c.loop-at-test.true c.in_ok-piece.ensures.piece in
     omega arith
 
-pub slice_bounds-line_ends-end : goal.slice_bounds-line_ends-end
-slice_bounds-line_ends-end c =
-    let size = step_size c.args.text.now c.loop-at.at c.loop-at.names c.read_piece.new.names c.in_ok-piece.piece c.loop-at-test.true c.in_ok-piece.ensures.piece in
-    search rules
-
 pub loop-at-smaller : goal.loop-at-smaller
 loop-at-smaller c =
     let size = step_size c.args.text.now c.loop-at.at c.loop-at.names c.read_piece.new.names c.in_ok-piece.piece c.loop-at-test.true c.in_ok-piece.ensures.piece in
     omega arith
 
+pub overflow_add-line : goal.overflow_add-line
+overflow_add-line c =
+    let size = step_size c.args.text.now c.loop-at.at c.loop-at.names c.read_piece.new.names c.in_ok-piece.piece c.loop-at-test.true c.in_ok-piece.ensures.piece in
+    let few = lines-bound (take (length c.args.text.now - c.loop-at.at) (drop c.loop-at.at c.args.text.now)) c.in_ok-piece.piece.len c.in_ok-piece.piece.lines c.in_ok-piece.ensures.lines in
+    omega arith
+
 pub loop-at-preserved : goal.loop-at-preserved
 loop-at-preserved c =
     let size = step_size c.args.text.now c.loop-at.at c.loop-at.names c.read_piece.new.names c.in_ok-piece.piece c.loop-at-test.true c.in_ok-piece.ensures.piece in
+    let few = lines-bound (take (length c.args.text.now - c.loop-at.at) (drop c.loop-at.at c.args.text.now)) c.in_ok-piece.piece.len c.in_ok-piece.piece.lines c.in_ok-piece.ensures.lines in
     let reached = Reached-piece _ _ _ _ _ _ c.loop-at.invariant.reached c.in_ok-piece.piece c.read_piece.new.names (rw take_rest at c.in_ok-piece.ensures.piece) in
     record {
-      reached = rw (next_line c.args.text.now c.loop-at.line c.loop-at.at c.in_ok-piece.piece.len c.line_ends.result c.line_ends.ensures, c.in_ok-push_token.ensures, sym (drop-drop c.in_ok-piece.piece.len c.loop-at.at c.args.text.now)) reached;
+      reached = rw (next_line c.args.text.now c.loop-at.line c.loop-at.at c.in_ok-piece.piece.len c.in_ok-piece.piece.lines c.in_ok-piece.ensures.lines, c.in_ok-push_token.ensures, sym (drop-drop c.in_ok-piece.piece.len c.loop-at.at c.args.text.now)) reached;
       within = omega arith;
-      lines = let bound = next_line-bound c.args.text.now c.loop-at.line c.loop-at.at c.in_ok-piece.piece.len c.line_ends.result c.line_ends.ensures in omega arith;
+      lines = omega arith;
       room = omega arith;
     }
 
