@@ -35,7 +35,7 @@ pub record Follows {A : Type 0} (m : ℕ) (from : List Expected) (tokens : List 
   pub wrong : (left : ℕ) → o ≡ Halted (wrong left) → (ps : List Expected) → Wrong (from ++ ps) tokens left
   pub deep : (left : ℕ) → o ≡ Halted (deep left) → left + m ≤ length tokens
 
-stop_is : {A : Type 0} (s t : Stop) → ◌≡◌ {A = Outcome A} (Halted s) (Halted t) → s ≡ t
+pub stop_is : {A : Type 0} (s t : Stop) → ◌≡◌ {A = Outcome A} (Halted s) (Halted t) → s ≡ t
 stop_is s t e = cc
 
 wrong_is : (l n : ℕ) → wrong l ≡ wrong n → l ≡ n

@@ -80,39 +80,39 @@ completed _ _ _ (after_opening p parts ps tokens left e w) h =
 
 -- ---- the same tokens and others behind them
 
-few_left : (ps : List Expected) (tokens : List Token) (left : ℕ) → Wrong ps tokens left → left ≤ length tokens
+pub few_left : (ps : List Expected) (tokens : List Token) (left : ℕ) → Wrong ps tokens left → left ≤ length tokens
 few_left _ _ _ (misfits p ps tokens e) = omega arith
 few_left _ _ _ (surplus t tokens) = omega arith
 few_left _ _ _ (after_taking p parts ps t tokens left e w) = let l = few_left (parts ++ ps) tokens left w in omega (arith, l)
 few_left _ _ _ (after_opening p parts ps tokens left e w) = few_left (parts ++ ps) tokens left w
 
 -- nothing is before tokens that are all that is left
-none_before : (before : List Token) (t : Token) (behind : List Token) (tokens : List Token) → tokens ≡ before ++ t ∷ behind → length tokens ≡ length (t ∷ behind) → before ≡ []
-none_before [] t behind tokens e n = refl
-none_before (u ∷ before) t behind tokens e n =
-    let same : length tokens ≡ suc (length (before ++ t ∷ behind)) = ap length e in
-    absurd (omega (arith, n, same, length_of before (t ∷ behind)))
+pub none_before : (before rest tokens : List Token) → tokens ≡ before ++ rest → length tokens ≡ length rest → before ≡ []
+none_before [] rest tokens e n = refl
+none_before (u ∷ before) rest tokens e n =
+    let same : length tokens ≡ suc (length (before ++ rest)) = ap length e in
+    absurd (omega (arith, n, same, length_of before rest))
 
-fronts : (before : List Token) (t : Token) (behind others : List Token) → front (before ++ t ∷ behind) ≡ front (before ++ t ∷ others)
+pub fronts : (before : List Token) (t : Token) (behind others : List Token) → front (before ++ t ∷ behind) ≡ front (before ++ t ∷ others)
 fronts [] t behind others = refl
 fronts (u ∷ before) t behind others = refl
 
-tails : (u t : Token) (xs ys : List Token) → u ∷ xs ≡ t ∷ ys → xs ≡ ys
+pub tails : (u t : Token) (xs ys : List Token) → u ∷ xs ≡ t ∷ ys → xs ≡ ys
 tails u t xs ys e = cc
 
-heads : (u t : Token) (xs ys : List Token) → u ∷ xs ≡ t ∷ ys → u ≡ t
+pub heads : (u t : Token) (xs ys : List Token) → u ∷ xs ≡ t ∷ ys → u ≡ t
 heads u t xs ys e = cc
 
 module _ (t : Token) (behind others : List Token) where
   pub wrong_again : (ps : List Expected) (tokens : List Token) (left : ℕ) → Wrong ps tokens left → (before : List Token) → tokens ≡ before ++ t ∷ behind → left ≡ length (t ∷ behind) → Wrong ps (before ++ t ∷ others) (length (t ∷ others))
   wrong_again _ _ _ (misfits p ps tokens e) before is many =
-      subst (λ (b : List Token). Wrong (p ∷ ps) (b ++ t ∷ others) (length (t ∷ others))) (sym (none_before before t behind tokens is many))
-      (misfits p ps (t ∷ others) (ap (predict p) (sym (front_at before is (none_before before t behind tokens is many))) ∙ e))
+      subst (λ (b : List Token). Wrong (p ∷ ps) (b ++ t ∷ others) (length (t ∷ others))) (sym (none_before before (t ∷ behind) tokens is many))
+      (misfits p ps (t ∷ others) (ap (predict p) (sym (front_at before is (none_before before (t ∷ behind) tokens is many))) ∙ e))
     where
       front_at : (b : List Token) → tokens ≡ b ++ t ∷ behind → b ≡ [] → front tokens ≡ Some t.kind
       front_at b f none = ap front f ∙ ap (λ (c : List Token). front (c ++ t ∷ behind)) none
   wrong_again _ _ _ (surplus u tokens) before is many =
-      subst (λ (b : List Token). Wrong [] (b ++ t ∷ others) (length (t ∷ others))) (sym (none_before before t behind (u ∷ tokens) is many)) (surplus t others)
+      subst (λ (b : List Token). Wrong [] (b ++ t ∷ others) (length (t ∷ others))) (sym (none_before before (t ∷ behind) (u ∷ tokens) is many)) (surplus t others)
   wrong_again _ _ _ (after_taking p parts ps u tokens left e w) [] is many =
       let l = few_left (parts ++ ps) tokens left w in
       let shut : tokens ≡ behind = tails u t tokens behind is in
@@ -126,13 +126,13 @@ module _ (t : Token) (behind others : List Token) where
 
 -- ---- what goes wrong is not all there
 
-taken_is : (qs rs : List Expected) → taken qs ≡ taken rs → qs ≡ rs
+pub taken_is : (qs rs : List Expected) → taken qs ≡ taken rs → qs ≡ rs
 taken_is qs rs e = cc
 
-opened_is : (qs rs : List Expected) → opened qs ≡ opened rs → qs ≡ rs
+pub opened_is : (qs rs : List Expected) → opened qs ≡ opened rs → qs ≡ rs
 opened_is qs rs e = cc
 
-not_taken : (qs rs : List Expected) → taken qs ≡ opened rs → ⊥
+pub not_taken : (qs rs : List Expected) → taken qs ≡ opened rs → ⊥
 not_taken qs rs e = absurd (cc (e))
 
 fits_none : (qs : List Expected) → taken qs ≡ unexpected → ⊥
@@ -141,13 +141,26 @@ fits_none qs e = absurd (cc (e))
 opens_none : (qs : List Expected) → opened qs ≡ unexpected → ⊥
 opens_none qs e = absurd (cc (e))
 
+-- one step
+
+pub wrong_taken : (p : Expected) (parts ps : List Expected) (t : Token) (tokens : List Token) (left : ℕ) → predict p (Some t.kind) ≡ taken parts → Wrong (p ∷ ps) (t ∷ tokens) left → Wrong (parts ++ ps) tokens left
+wrong_taken p parts ps t tokens left e (misfits _ _ _ f) = absurd (fits_none parts (sym e ∙ f))
+wrong_taken p parts ps t tokens left e (after_taking _ others _ _ _ _ f w) = subst (λ (qs : List Expected). Wrong (qs ++ ps) tokens left) (taken_is others parts (sym f ∙ e)) w
+wrong_taken p parts ps t tokens left e (after_opening _ others _ _ _ f w) = absurd (not_taken parts others (sym e ∙ f))
+
+pub wrong_opened : (p : Expected) (parts ps : List Expected) (tokens : List Token) (left : ℕ) → predict p (front tokens) ≡ opened parts → Wrong (p ∷ ps) tokens left → Wrong (parts ++ ps) tokens left
+wrong_opened p parts ps tokens left e (misfits _ _ _ f) = absurd (opens_none parts (sym e ∙ f))
+wrong_opened p parts ps _ left e (after_taking _ others _ t tokens _ f w) = absurd (not_taken others parts (sym f ∙ e))
+wrong_opened p parts ps tokens left e (after_opening _ others _ _ _ f w) = subst (λ (qs : List Expected). Wrong (qs ++ ps) tokens left) (opened_is others parts (sym f ∙ e)) w
+
+-- what goes wrong does so behind where it leads
+pub wrong_behind : {ps : List Expected} {tokens : List Token} {qs : List Expected} {mid : List Token} (left : ℕ) → Leads ps tokens qs mid → Wrong ps tokens left → Wrong qs mid left
+wrong_behind left (here ps tokens) w = w
+wrong_behind left (takes p parts ps t tokens qs rest e a) w = wrong_behind left a (wrong_taken p parts ps t tokens left e w)
+wrong_behind left (opens p parts ps tokens qs rest e a) w = wrong_behind left a (wrong_opened p parts ps tokens left e w)
+
+nothing_wrong : (left : ℕ) → Wrong [] [] left → ⊥
+nothing_wrong left w = elim w [ ]
+
 pub not_both : (ps : List Expected) (tokens : List Token) (left : ℕ) → Leads ps tokens [] [] → Wrong ps tokens left → ⊥
-not_both _ _ left (here _ _) w = elim w [ ]
-not_both _ _ left (takes p parts ps t tokens _ _ e a) (misfits _ _ _ f) = fits_none parts (sym e ∙ f)
-not_both _ _ left (takes p parts ps t tokens _ _ e a) (after_taking _ others _ _ _ _ f w) =
-    not_both (parts ++ ps) tokens left a (subst (λ (qs : List Expected). Wrong (qs ++ ps) tokens left) (taken_is others parts (sym f ∙ e)) w)
-not_both _ _ left (takes p parts ps t tokens _ _ e a) (after_opening _ others _ _ _ f w) = absurd (not_taken parts others (sym e ∙ f))
-not_both _ _ left (opens p parts ps tokens _ _ e a) (misfits _ _ _ f) = opens_none parts (sym e ∙ f)
-not_both _ _ left (opens p parts ps _ _ _ e a) (after_taking _ others _ t tokens _ f w) = absurd (not_taken others parts (sym f ∙ e))
-not_both _ _ left (opens p parts ps tokens _ _ e a) (after_opening _ others _ _ _ f w) =
-    not_both (parts ++ ps) tokens left a (subst (λ (qs : List Expected). Wrong (qs ++ ps) tokens left) (opened_is others parts (sym f ∙ e)) w)
+not_both ps tokens left a w = nothing_wrong left (wrong_behind left a w)

@@ -11,4 +11,9 @@ mod Fitting
 mod Ends
 mod Completing
 mod Going
+mod Places
+mod Periods
+mod Asserting
+mod Bodies
+mod FormulaTexts
 mod Texts

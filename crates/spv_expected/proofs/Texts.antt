@@ -3,8 +3,7 @@ use Rattle.std.proofs.Common.{◌≡◌, ℕ, suc, true, List, [], ◌∷◌, �
 use Rattle.spv_tokens.specs.declared.token.Token.{Token}
 use Rattle.spv_syntax.specs.Reads.{Reads, ReadsRules}
 use Rattle.spv_begins.specs.Lines.{line_where}
-use Rattle.spv_begins.specs.Begins.{Begins, GoesWrongAt, with_token, at_end}
-use Rattle.spv_begins.proofs.Among.{line_at, line_at_end}
+use Rattle.spv_begins.specs.Begins.{Begins, GoesWrongAt}
 use Rattle.spv_reading.specs.Readers.{Outcome, Read, Halted, wrong, deep, Reader}
 use Rattle.spv_reading.specs.RoutineReaders.{read_whole, read_program}
 use Rattle.spv_reading.specs.RuleReaders.{read_rules}
@@ -18,6 +17,7 @@ use Rattle.spv_expected.proofs.Small.{nothing_behind}
 use Rattle.spv_expected.proofs.Completions.{fits}
 use Rattle.spv_expected.proofs.Follows.{Follows, wrong_on}
 use Rattle.spv_expected.proofs.Going.{completed, wrong_again, not_both}
+use Rattle.spv_expected.proofs.Places.{at_token, at_the_end}
 use Rattle.spv_expected.proofs.RoutineFollows.{program_follows}
 use Rattle.spv_expected.proofs.RuleFollows.{rules_follow}
 
@@ -59,16 +59,10 @@ module _ {A : Type 0} (read : ℕ → Reader A) (reads : List Token → A → Ty
 
   by_rest : (tokens before rest : List Token) (left : ℕ) (more : List Token) → Wrong parts tokens left → tokens ≡ before ++ rest → length rest ≡ left → Leads parts (before ++ more) [] [] → GoesWrongAt reads tokens (line_where tokens left)
   by_rest tokens before [] left more w is many a =
-      let all : tokens ≡ before = is ∙ nothing_behind before in
-      let begun : Begins reads tokens = subst (λ (ts : List Token). Begins reads ts) (sym all) (begins_by before more a) in
-      subst (λ (l : ℕ). GoesWrongAt reads tokens l) (sym (line_at_end tokens) ∙ ap (line_where tokens) many) (at_end tokens begun)
+      at_the_end reads tokens left (sym many) (subst (λ (ts : List Token). Begins reads ts) (sym (is ∙ nothing_behind before)) (begins_by before more a))
   by_rest tokens before (t ∷ behind) left more w is many a =
-      let here_wrong : Wrong parts (before ++ t ∷ behind) (length (t ∷ behind)) = subst (λ (p : List Token × ℕ). Wrong parts p.0 p.1) (pair tokens (before ++ t ∷ behind) left (length (t ∷ behind)) is (sym many)) w in
-      let at : GoesWrongAt reads (before ++ t ∷ behind) t.line = with_token before t behind (record { right = begins_by before more a; wrong = wrong_with before t behind here_wrong }) in
-      subst (λ (p : List Token × ℕ). GoesWrongAt reads p.0 p.1) (pair (before ++ t ∷ behind) tokens t.line (line_where tokens left) (sym is) (sym (line_at before t behind) ∙ ap (λ (ts : List Token). line_where ts (length (t ∷ behind))) (sym is) ∙ ap (line_where tokens) many)) at
-    where
-      pair : (xs ys : List Token) (k l : ℕ) → xs ≡ ys → k ≡ l → ◌≡◌ {A = List Token × ℕ} (xs, k) (ys, l)
-      pair xs ys k l e f = cc (e, f)
+      let here_wrong : Wrong parts (before ++ t ∷ behind) (length (t ∷ behind)) = subst (λ (l : ℕ). Wrong parts (before ++ t ∷ behind) l) (sym many) (subst (λ (ts : List Token). Wrong parts ts left) is w) in
+      at_token reads tokens before t behind left is (sym many) (record { right = begins_by before more a; wrong = wrong_with before t behind here_wrong })
 
   goes_wrong : (tokens : List Token) (left : ℕ) → Wrong parts tokens left → GoesWrongAt reads tokens (line_where tokens left)
   goes_wrong tokens left w =

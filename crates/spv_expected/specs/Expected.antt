@@ -325,3 +325,7 @@ program =
 
 abbrev pub rule_file : List Expected
 rule_file = rule_var_part ∷ rules ∷ []
+
+-- a formula text without the period that ends it, with which the formula could go on
+abbrev pub formula_text : List Expected
+formula_text = token (kind.Word word.Program) ∷ name ∷ token (kind.Sign sign.Semicolon) ∷ const_part ∷ type_part ∷ var_part ∷ declare_part ∷ token (kind.Word word.Assert) ∷ formula ∷ []

@@ -4,6 +4,7 @@ use Rattle.spv_tokens.specs.declared.token.Token.{Token}
 use Rattle.spv_begins.specs.Lines.{line_where}
 use Rattle.spv_begins.specs.Begins.{GoesWrongAt}
 use Rattle.spv_reading.specs.Readers.{wrong, deep, Read, Halted, Reader}
+use Rattle.spv_reading.specs.RoutineReaders.{read_whole}
 
 -- where reading stops, with as many levels as there may be, the tokens go wrong
 abbrev pub StopsWhereWrong : {A : Type 0} → (ℕ → Reader A) → (List Token → A → Type 0) → Type 0
@@ -17,3 +18,7 @@ LeavesWhatIsWrong {A} read reads =
 -- where no level is left, at least as many tokens are read as there were levels
 abbrev pub LevelsTakeTokens : {A : Type 0} → (ℕ → Reader A) → Type 0
 LevelsTakeTokens read = (n : ℕ) (tokens : List Token) (left : ℕ) → read n tokens ≡ Halted (deep left) → left + n ≤ length tokens
+
+-- the two read the same as whole texts
+abbrev pub ReadTheSame : {A : Type 0} → (ℕ → Reader A) → (ℕ → Reader A) → Type 0
+ReadTheSame one other = (n : ℕ) (tokens : List Token) → read_whole (one n tokens) ≡ read_whole (other n tokens)

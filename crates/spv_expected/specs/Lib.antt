@@ -1,3 +1,4 @@
 pub mod Expected
+pub mod FormulaTexts
 pub mod Machine
 pub mod Laws

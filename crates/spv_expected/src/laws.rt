@@ -1,9 +1,10 @@
 // Facts about the definitions, each the contract of a function that does nothing.
 
-ghost use Rattle.spv_syntax.specs.Reads.{Reads, ReadsRules};
+ghost use Rattle.spv_syntax.specs.Reads.{Reads, ReadsRules, ReadsFormulaText};
 ghost use Rattle.spv_reading.specs.RoutineReaders.{read_program};
-ghost use Rattle.spv_reading.specs.RuleReaders.{read_rules};
-ghost use Rattle.spv_expected.specs.Laws.{StopsWhereWrong, LeavesWhatIsWrong, LevelsTakeTokens};
+ghost use Rattle.spv_reading.specs.RuleReaders.{read_rules, read_formula_text};
+ghost use Rattle.spv_expected.specs.FormulaTexts.{whole_formula_text};
+ghost use Rattle.spv_expected.specs.Laws.{StopsWhereWrong, LeavesWhatIsWrong, LevelsTakeTokens, ReadTheSame};
 
 /// Where no program is read, the tokens go wrong at the token at which reading stops, or at their end; where tokens are left behind
 /// one, with the first of these.
@@ -18,4 +19,11 @@ pub fn law_rule_stops()
     ensures stops { StopsWhereWrong read_rules ReadsRules }
     ensures surplus { LeavesWhatIsWrong read_rules ReadsRules }
     ensures levels { LevelsTakeTokens read_rules }
+{}
+
+/// Where no formula text is read, its tokens go wrong at the token at which reading stops, or at their end.
+pub fn law_formula_text_stops()
+    ensures stops { StopsWhereWrong whole_formula_text ReadsFormulaText }
+    ensures same { ReadTheSame whole_formula_text read_formula_text }
+    ensures levels { LevelsTakeTokens whole_formula_text }
 {}

@@ -3,4 +3,4 @@
 
 mod laws;
 
-pub use laws::{law_program_stops, law_rule_stops};
+pub use laws::{law_formula_text_stops, law_program_stops, law_rule_stops};

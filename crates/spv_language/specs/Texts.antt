@@ -6,7 +6,7 @@ use Rattle.spv_lexer.specs.Tokens.{numbered, names_after}
 use Rattle.spv_lexer.specs.Tokens as lexer
 use Rattle.spv_lexer.specs.declared.LexFault.{LexFault}
 use Rattle.spv_lexer.specs.declared.LexFault.TheVariants.{TextTooLong, Memory}
-use Rattle.spv_parser.specs.Causes.{IsAllowed, HasTreeCause, HasFormulaTextCause}
+use Rattle.spv_parser.specs.Causes.{IsAllowed, HasTreeCause}
 use Rattle.spv_language.specs.declared.fault.LanguageFault.{LanguageFault}
 use Rattle.spv_language.specs.declared.fault.LanguageFault.TheVariants.{Tokens, Tree}
 
@@ -51,11 +51,6 @@ HasLengthFor _ text = IsShort text
 abbrev pub IsFaultOf : {A : Type 0} → (List Token → A → Type 0) → List (List ℕ) → List ℕ → LanguageFault → Type 0
 IsFaultOf reads names text (Tokens fault) = HasLengthFor fault text × lexer.HasTextCause text fault
 IsFaultOf reads names text (Tree fault) = IsCut text × HasTreeCause reads (tokens_of names text) fault
-
--- the same of a formula text; of one that no tree reads the line is that of one of its tokens
-abbrev pub IsFormulaFaultOf : List (List ℕ) → List ℕ → LanguageFault → Type 0
-IsFormulaFaultOf names text (Tokens fault) = HasLengthFor fault text × lexer.HasTextCause text fault
-IsFormulaFaultOf names text (Tree fault) = IsCut text × HasFormulaTextCause (tokens_of names text) fault
 
 -- two trees of one text are equal
 abbrev pub TextsHaveOneTree : {A : Type 0} → (List Token → A → Type 0) → Type 0

@@ -17,8 +17,7 @@ pub enum LanguageFault {
     /// The text has no tokens.
     #[error("{0}")]
     Tokens(LexFault),
-    /// It has tokens, and they have no tree. Where no tree reads them the line is the one at which they go wrong; of a formula text it is
-    /// proved only that it is the line of one of them.
+    /// It has tokens, and they have no tree. Where no tree reads them the line is the one at which they go wrong.
     #[error("{0}")]
     Tree(SyntaxFault),
 }

@@ -3,7 +3,7 @@
 ghost use Rattle.std.specs.Prelude.{◌≡◌, ◌<◌, ◌≤◌, ◌++◌, ℕ, List, All, length, IfOk, IfErr, OnOk, OnErr};
 ghost use Rattle.spv_lexer.specs.Tokens.{IsInTable};
 ghost use Rattle.spv_syntax.specs.Reads.{Reads, ReadsRules, ReadsFormulaText};
-ghost use Rattle.spv_language.specs.Texts.{tokens_of, names_with, longest_text, AreNamesOfSome, IsTreeOf, IsFaultOf, IsFormulaFaultOf};
+ghost use Rattle.spv_language.specs.Texts.{tokens_of, names_with, longest_text, AreNamesOfSome, IsTreeOf, IsFaultOf};
 
 use crate::LanguageFault;
 use spv_names::Names;
@@ -51,7 +51,7 @@ pub fn formula(alloc: Global, text: &[u8], names: &mut Names) -> Result<FormulaT
     ensures names { OnOk result (names.new ≡ names_with names.old text.now) }
     ensures in_table { OnOk result (All (λ t. IsInTable names.new t.kind) (tokens_of names.old text.now)) }
     ensures few { OnOk result (length (tokens_of names.old text.now) ≤ longest_text) }
-    ensures cause { IfErr result (IsFormulaFaultOf names.old text.now) }
+    ensures cause { IfErr result (IsFaultOf ReadsFormulaText names.old text.now) }
     ensures grown { OnErr result (AreNamesOfSome names.old text.now names.new) }
     ensures kept { (more : List (List ℕ)) × (names.new ≡ names.old ++ more) }
 {

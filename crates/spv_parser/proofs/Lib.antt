@@ -1,3 +1,4 @@
 pub mod MarkTurns
 pub mod ProgramParts
 pub mod Wholes
+pub mod FormulaTexts

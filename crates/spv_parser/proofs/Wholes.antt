@@ -3,17 +3,18 @@ use Rattle.std.proofs.Common.{◌≡◌, ℕ, ◌≤◌, ◌<◌, List, [], ◌�
 use Rattle.std.specs.Prelude.{Some, None}
 use Rattle.spv_tokens.specs.declared.token.Token.{Token}
 use Rattle.spv_begins.specs.Lines.{line_where}
+use Rattle.spv_begins.specs.Begins.{GoesWrongAt}
 use Rattle.spv_reading.specs.Readers.{Stop, wrong, Outcome, Read, Halted, Reader}
 use Rattle.spv_reading.specs.RoutineReaders.{read_whole}
 use Rattle.spv_reading.specs.Laws.{ReadIsTree}
 use Rattle.spv_level.specs.Laws.{LowIsRead}
+use Rattle.spv_expected.specs.Laws.{ReadTheSame}
 use Rattle.spv_front.specs.declared.fault.Fault.{Fault}
 use Rattle.spv_front.specs.declared.fault.Fault.TheVariants as fault
 use Rattle.spv_parser.specs.declared.refused.SyntaxFault.{SyntaxFault}
 use Rattle.spv_parser.specs.declared.refused.SyntaxFault.TheVariants.{Profile, TooDeep, Syntax, Memory}
 use Rattle.spv_front.specs.Faults.{IsStop}
-use Rattle.spv_parser.specs.Causes.{IsAllowed, IsRefusalOf, HasCauseBy}
-use Rattle.spv_parser.specs.Stopped.{IsHalted}
+use Rattle.spv_parser.specs.Causes.{IsAllowed, IsRefusalOf, HasTreeCause}
 
 nothing_left : {A : Type 0} (x : A) (rest : List Token) → length rest < 1 → read_whole (Read (x, rest)) ≡ Some x
 nothing_left x [] none = refl
@@ -22,10 +23,6 @@ nothing_left x (t ∷ rest) none = absurd (omega (arith, none))
 left_over : {A : Type 0} (x : A) (rest : List Token) → 1 ≤ length rest → read_whole (Read (x, rest)) ≡ None
 left_over x [] some = absurd (omega (arith, some))
 left_over x (t ∷ rest) some = refl
-
-halted_whole : {A : Type 0} (o : Outcome A) → IsHalted o → read_whole o ≡ None
-halted_whole (Read r) h = absurd h
-halted_whole (Halted s) h = refl
 
 module _ {A : Type 0} (read : ℕ → Reader A) (reads : List Token → A → Type 0) (n : ℕ) where
   -- what is read to the end of the tokens is their tree
@@ -45,20 +42,26 @@ module _ {A : Type 0} (read : ℕ → Reader A) (reads : List Token → A → Ty
   pub none_where_halted : {tokens : List Token} {s : Stop} → 199 ≤ n → LowIsRead read reads → IsAllowed tokens → read n tokens ≡ Halted s → (y : A) → reads tokens y → ⊥
   none_where_halted {tokens} enough law allowed e = none_whole enough law allowed (ap read_whole e)
 
-  pub none_where_none : {tokens : List Token} → 199 ≤ n → LowIsRead read reads → IsAllowed tokens → IsHalted (read n tokens) → (y : A) → reads tokens y → ⊥
-  none_where_none {tokens} enough law allowed h = none_whole enough law allowed (halted_whole (read n tokens) h)
+-- ---- the same of a reader that reads the same
+
+module _ {A : Type 0} (one other : ℕ → Reader A) (reads : List Token → A → Type 0) (same : ReadTheSame one other) where
+  pub same_tree : ReadIsTree other reads → ReadIsTree one reads
+  same_tree law n tokens x e = law n tokens x (sym (same n tokens) ∙ e)
+
+  pub same_low : LowIsRead other reads → LowIsRead one reads
+  same_low law n tokens x enough shallow r = same n tokens ∙ law n tokens x enough shallow r
 
 -- ---- so the refusal has its cause
 
-module _ {A : Type 0} (goes_wrong : List Token → ℕ → Type 0) (reads : List Token → A → Type 0) where
-  pub refused : {tokens : List Token} (r : SyntaxFault) (left : ℕ) → IsAllowed tokens → ((y : A) → reads tokens y → ⊥) → goes_wrong tokens (line_where tokens left) → IsRefusalOf tokens (fault.Syntax left) r → HasCauseBy goes_wrong reads tokens r
-  refused {tokens} (Syntax line) left allowed none w h = (allowed, none, subst (λ (l : ℕ). goes_wrong tokens l) (sym h) w)
+module _ {A : Type 0} (reads : List Token → A → Type 0) where
+  pub refused : {tokens : List Token} (r : SyntaxFault) (left : ℕ) → IsAllowed tokens → ((y : A) → reads tokens y → ⊥) → GoesWrongAt reads tokens (line_where tokens left) → IsRefusalOf tokens (fault.Syntax left) r → HasTreeCause reads tokens r
+  refused {tokens} (Syntax line) left allowed none w h = (allowed, none, subst (λ (l : ℕ). GoesWrongAt reads tokens l) (sym h) w)
   refused (Profile line word) left allowed none w h = absurd h
   refused (TooDeep line) left allowed none w h = absurd h
   refused Memory left allowed none w h = absurd h
 
   -- of a fault of reading
-  pub refused_by : {tokens : List Token} (f : Fault) (r : SyntaxFault) → IsAllowed tokens → ((left : ℕ) → IsStop (wrong left) f → ((y : A) → reads tokens y → ⊥) × goes_wrong tokens (line_where tokens left)) → IsRefusalOf tokens f r → HasCauseBy goes_wrong reads tokens r
+  pub refused_by : {tokens : List Token} (f : Fault) (r : SyntaxFault) → IsAllowed tokens → ((left : ℕ) → IsStop (wrong left) f → ((y : A) → reads tokens y → ⊥) × GoesWrongAt reads tokens (line_where tokens left)) → IsRefusalOf tokens f r → HasTreeCause reads tokens r
   refused_by {tokens} (fault.Syntax left) r allowed w h = let both = w left refl in refused r left allowed both.0 both.1 h
   refused_by {tokens} (fault.Deep left) Memory allowed w h = tt
   refused_by {tokens} fault.Memory Memory allowed w h = tt

@@ -1,15 +1,12 @@
--- That nothing is read.
-use Rattle.spv_reading.specs.Readers.{Outcome, Read, Halted}
+-- Faults in the tokens before the last one.
+use Rattle.std.specs.Prelude.{◌≡◌}
+use Rattle.spv_reading.specs.Readers.{Stop}
+use Rattle.spv_front.specs.Faults.{IsStop}
 use Rattle.spv_front.specs.declared.fault.Fault.{Fault}
-use Rattle.spv_front.specs.declared.fault.Fault.TheVariants.{Syntax, Deep, Memory}
+use Rattle.spv_expected.specs.FormulaTexts.{before_last}
 
--- reading stops somewhere
-abbrev pub IsHalted : {A : Type 0} → Outcome A → Type 0
-IsHalted (Read r) = ⊥
-IsHalted (Halted s) = Unit {0}
-
--- the fault is some stop of reading, and no want of memory
-abbrev pub IsStopping : Fault → Type 0
-IsStopping (Syntax left) = Unit {0}
-IsStopping (Deep left) = Unit {0}
-IsStopping Memory = ⊥
+-- the stop is that of the fault, with one more token left
+pub record IsOneMore (s : Stop) (fault : Fault) : Type 0 where
+  pub before : Stop
+  pub told : IsStop before fault
+  pub more : s ≡ before_last before

@@ -1,15 +1,17 @@
 // Formula texts.
 
-ghost use Rattle.std.specs.Prelude.{◌≡◌, Some, None, IfOk, IsErrAnd, IfSome, IsNone};
-ghost use Rattle.spv_reading.specs.RuleReaders.{read_asserted, read_formula_text};
+ghost use Rattle.std.specs.Prelude.{◌≡◌, List, [], Some, None, IfOk, IsErrAnd, IfSome, IsNone, length};
 ghost use Rattle.spv_reading.specs.RuleReaders as spec;
-ghost use Rattle.spv_reading.specs.Readers.{Stop, Read};
+ghost use Rattle.spv_reading.specs.FormulaReaders.{read_formula};
+ghost use Rattle.spv_reading.specs.Readers.{Stop, Read, Halted};
+ghost use Rattle.spv_expected.specs.FormulaTexts as whole;
+ghost use Rattle.spv_expected.specs.FormulaTexts.{without_period, whole_asserted, whole_formula_text};
 ghost use Rattle.spv_front.specs.Faults.{IsStop};
-ghost use Rattle.spv_parser.specs.Stopped.{IsHalted, IsStopping};
+ghost use Rattle.spv_parser.specs.Stopped.{IsOneMore};
 
 use spv_formula_parser::formulas::formula;
-use spv_front::fault::{Fault, unexpected};
-use spv_front::front::{first_line, name, past_sign, past_word};
+use spv_front::fault::Fault;
+use spv_front::front::{after, first_line, is_sign, name, past_sign, past_word};
 use spv_syntax::{Formula, FormulaText};
 use spv_tokens::{Sign, Token, TokenKind, Word};
 use spv_type_parser::declarations::declarations;
@@ -26,57 +28,63 @@ fn before_period(tokens: &[Token]) -> Option<&[Token]>
     }
 }
 
-// How many tokens are left where a text goes wrong behind a whole formula, at this token or those behind it. A period ends
-// the formula, so then it is behind it.
-pub fn surplus(first: Token, behind: &[Token]) -> usize {
-    match first.kind {
-        TokenKind::Sign(Sign::Period) => behind.len(),
-        _ => behind.len() + 1,
+// How many tokens are left where a text goes wrong that has these behind a whole formula. A period first could end the text, so
+// then it is behind that.
+fn surplus(rest: &[Token]) -> usize
+    ensures { result ≡ length (whole.surplus rest.now) }
+{
+    if is_sign(Sign::Period, rest) {
+        return after(rest).len();
     }
+    rest.len()
 }
 
 // Why no formula and period stand here, where the tokens do not end with a period.
-fn unended(alloc: Global, levels: u32, tokens: &[Token]) -> Fault {
+fn unended(alloc: Global, levels: u32, tokens: &[Token]) -> Fault
+    ensures { (s : Stop) → IsStop s result → without_period (read_formula levels tokens.now) ≡ Halted s }
+{
     match formula(alloc, levels, tokens) {
-        Ok((_, [])) => unexpected(&[]),
-        Ok((_, [token, behind @ ..])) => Fault::Syntax(surplus(*token, behind)),
+        Ok((_, rest)) => Fault::Syntax(surplus(rest)),
         Err(fault) => fault,
     }
 }
 
-// A fault of the tokens before the last one, as one of all of them.
+// A fault in the tokens before the last one, as one in all of them. There are never so many left that one more is not told.
 fn before_last(fault: Fault) -> Fault
-    ensures { (s : Stop) → IsStop s result → IsStopping fault }
+    ensures { (s : Stop) → IsStop s result → IsOneMore s fault }
 {
     match fault {
-        Fault::Syntax(left) => Fault::Syntax(left.saturating_add(1)),
-        Fault::Deep(left) => Fault::Deep(left.saturating_add(1)),
+        Fault::Syntax(left) => match left.checked_add(1) {
+            Some(left) => Fault::Syntax(left),
+            None => Fault::Memory,
+        },
+        Fault::Deep(left) => match left.checked_add(1) {
+            Some(left) => Fault::Deep(left),
+            None => Fault::Memory,
+        },
         Fault::Memory => Fault::Memory,
     }
 }
 
 // formula ".", to the end of the tokens
-fn asserted(alloc: Global, levels: u32, tokens: &[Token]) -> Result<(Formula, &[Token]), Fault>
-    ensures read { IfOk result (λ r. read_asserted levels tokens.now ≡ Read (r.0, r.1.now)) }
-    ensures absent { (s : Stop) → IsErrAnd result (IsStop s) → IsHalted (read_asserted levels tokens.now) }
+fn asserted(alloc: Global, levels: u32, tokens: &[Token]) -> Result<Formula, Fault>
+    ensures read { IfOk result (λ f. whole_asserted levels tokens.now ≡ Read (f, [])) }
+    ensures absent { (s : Stop) → IsErrAnd result (IsStop s) → whole_asserted levels tokens.now ≡ Halted s }
 {
     let Some(inside) = before_period(tokens) else {
         return Err(unended(alloc, levels, tokens));
     };
     match formula(alloc, levels, inside) {
-        Ok(read) => Ok(read),
+        Ok((formula, [])) => Ok(formula),
+        Ok((_, rest)) => Err(before_last(Fault::Syntax(surplus(rest)))),
         Err(fault) => Err(before_last(fault)),
     }
 }
 
-// PROGRAM name ";" decls ASSERT formula "."
-pub fn formula_text(
-    alloc: Global,
-    levels: u32,
-    tokens: &[Token],
-) -> Result<(FormulaText, &[Token]), Fault>
-    ensures read { IfOk result (λ r. read_formula_text levels tokens.now ≡ Read (r.0, r.1.now)) }
-    ensures absent { (s : Stop) → IsErrAnd result (IsStop s) → IsHalted (read_formula_text levels tokens.now) }
+// PROGRAM name ";" decls ASSERT formula ".", to the end of the tokens
+pub fn formula_text(alloc: Global, levels: u32, tokens: &[Token]) -> Result<FormulaText, Fault>
+    ensures read { IfOk result (λ t. whole_formula_text levels tokens.now ≡ Read (t, [])) }
+    ensures absent { (s : Stop) → IsErrAnd result (IsStop s) → whole_formula_text levels tokens.now ≡ Halted s }
 {
     let line = first_line(tokens);
     let rest = past_word(Word::Program, tokens)?;
@@ -84,12 +92,11 @@ pub fn formula_text(
     let rest = past_sign(Sign::Semicolon, rest)?;
     let (declarations, rest) = declarations(alloc, levels, rest)?;
     let rest = past_word(Word::Assert, rest)?;
-    let (formula, rest) = asserted(alloc, levels, rest)?;
-    let text = FormulaText {
+    let formula = asserted(alloc, levels, rest)?;
+    Ok(FormulaText {
         line,
         name,
         declarations,
         formula,
-    };
-    Ok((text, rest))
+    })
 }

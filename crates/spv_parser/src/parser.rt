@@ -3,13 +3,13 @@
 ghost use Rattle.std.specs.Prelude.{◌≤◌, OnOk, IfOk, IfErr};
 ghost use Rattle.spv_syntax.specs.Reads.{Reads, ReadsRules, ReadsFormulaText};
 ghost use Rattle.spv_front.specs.declared.fault.Fault.TheVariants.{Syntax};
-ghost use Rattle.spv_parser.specs.Causes.{IsAllowed, HasTreeCause, HasFormulaTextCause, IsForbidden, IsRefusalOf};
+ghost use Rattle.spv_parser.specs.Causes.{IsAllowed, HasTreeCause, IsForbidden, IsRefusalOf};
 
-use crate::formula_texts::{formula_text, surplus};
+use crate::formula_texts::formula_text;
 use crate::lines::line_where;
 use crate::programs::program_at;
 use crate::refused::SyntaxFault;
-use spv_expected::{law_program_stops, law_rule_stops};
+use spv_expected::{law_formula_text_stops, law_program_stops, law_rule_stops};
 use spv_front::fault::Fault;
 use spv_level::{law_enough, law_enough_formula_text, law_enough_rules, left_out, too_deep};
 use spv_reading::laws::{law_formula_texts, law_programs, law_rules};
@@ -111,16 +111,14 @@ fn formula_within(alloc: Global, levels: u32, tokens: &[Token]) -> Result<Formul
     requires enough { 199 ≤ levels }
     ensures tree { IfOk result (λ t. ReadsFormulaText tokens.now t) }
     ensures allowed { IfOk result (λ t. IsAllowed tokens.now) }
-    ensures cause { IfErr result (HasFormulaTextCause tokens.now) }
+    ensures cause { IfErr result (HasTreeCause ReadsFormulaText tokens.now) }
 {
     law_formula_texts();
     law_enough_formula_text();
+    law_formula_text_stops();
     allowed(alloc, tokens)?;
     match formula_text(alloc, levels, tokens) {
-        Ok((tree, [])) => Ok(tree),
-        Ok((_, [token, behind @ ..])) => {
-            Err(refused_with(tokens, surplus(*token, behind).saturating_add(1)))
-        }
+        Ok(tree) => Ok(tree),
         Err(fault) => Err(refusal(tokens, fault)),
     }
 }
@@ -129,7 +127,7 @@ fn formula_within(alloc: Global, levels: u32, tokens: &[Token]) -> Result<Formul
 pub fn formula(alloc: Global, tokens: &[Token]) -> Result<FormulaText, SyntaxFault>
     ensures tree { IfOk result (λ t. ReadsFormulaText tokens.now t) }
     ensures allowed { IfOk result (λ t. IsAllowed tokens.now) }
-    ensures cause { IfErr result (HasFormulaTextCause tokens.now) }
+    ensures cause { IfErr result (HasTreeCause ReadsFormulaText tokens.now) }
 {
     formula_within(alloc, LEVELS, tokens)
 }

@@ -1,20 +1,17 @@
-use Rattle.std.proofs.Common.{refl}
+use Rattle.std.proofs.Common.{arith}
 use Rattle.spv_syntax.specs.Reads.{ReadsFormulaText}
-use Rattle.spv_begins.specs.Lines.{IsLineAmong}
 use Rattle.spv_reading.specs.Readers.{wrong}
 use Rattle.spv_reading.specs.RuleReaders.{read_formula_text}
-use Rattle.spv_parser.proofs.Wholes.{whole_tree, none_with_more, none_where_none, refused, refused_by}
+use Rattle.spv_expected.specs.FormulaTexts.{whole_formula_text}
+use Rattle.spv_parser.proofs.Wholes.{whole_tree, none_where_halted, same_tree, same_low, refused_by}
 use Rattle.spv_parser.proofs.parser.formula_within.Goals as goal
 
-pub returns-in-Ok-default-empty-clause-tree : goal.returns-in-Ok-default-empty-clause-tree
-returns-in-Ok-default-empty-clause-tree c = whole_tree read_formula_text ReadsFormulaText c.args.levels c.law_formula_texts.ensures.read_is_tree c.in-Ok-default-empty.ensures.read c.in-Ok-default-empty.len_below
-
-pub returns-in-Ok-default-len1-up-clause-cause : goal.returns-in-Ok-default-len1-up-clause-cause
-returns-in-Ok-default-len1-up-clause-cause c =
-    let none = none_with_more read_formula_text ReadsFormulaText c.args.levels c.requires.enough c.law_enough_formula_text.ensures.formula_texts c.in_ok-allowed.ensures.allowed c.in-Ok-default-len1-up.ensures.read c.in-Ok-default-len1-up.len_at_least in
-    refused IsLineAmong ReadsFormulaText c.refused_with.result _ c.in_ok-allowed.ensures.allowed none (record { left = _; is = refl }) c.refused_with.ensures
+pub returns-in-Ok-clause-tree : goal.returns-in-Ok-clause-tree
+returns-in-Ok-clause-tree c = whole_tree whole_formula_text ReadsFormulaText c.args.levels (same_tree whole_formula_text read_formula_text ReadsFormulaText c.law_formula_text_stops.ensures.same c.law_formula_texts.ensures.read_is_tree) c.in-Ok.ensures.read (omega arith)
 
 pub returns-in-Err-clause-cause : goal.returns-in-Err-clause-cause
 returns-in-Err-clause-cause c =
-    refused_by IsLineAmong ReadsFormulaText c.in-Err.fault c.refusal.result c.in_ok-allowed.ensures.allowed
-    (λ left is. (none_where_none read_formula_text ReadsFormulaText c.args.levels c.requires.enough c.law_enough_formula_text.ensures.formula_texts c.in_ok-allowed.ensures.allowed (c.in-Err.ensures.absent (wrong left) is), record { left = left; is = refl })) c.refusal.ensures
+    refused_by ReadsFormulaText c.in-Err.fault c.refusal.result c.in_ok-allowed.ensures.allowed
+    (λ left is.
+    let e = c.in-Err.ensures.absent (wrong left) is in
+    (none_where_halted whole_formula_text ReadsFormulaText c.args.levels c.requires.enough (same_low whole_formula_text read_formula_text ReadsFormulaText c.law_formula_text_stops.ensures.same c.law_enough_formula_text.ensures.formula_texts) c.in_ok-allowed.ensures.allowed e, c.law_formula_text_stops.ensures.stops c.args.levels c.args.tokens.now left e)) c.refusal.ensures
