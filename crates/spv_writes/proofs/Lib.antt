@@ -1,3 +1,6 @@
 pub mod Lists
 pub mod Places
 pub mod Steps
+pub mod Kept
+pub mod Outlines
+pub mod Popped
