@@ -110,3 +110,20 @@ all_right f (x ∷ xs) ys h = all_right f xs ys (right_true (f x) (list_all f (x
 pub all_both : {X : Type 0} (f : X → Bool) (xs ys : List X) → list_all f xs ≡ true → list_all f ys ≡ true → list_all f (xs ++ ys) ≡ true
 all_both f [] ys h k = k
 all_both f (x ∷ xs) ys h k = both_true (left_true (f x) (list_all f xs) h) (all_both f xs ys (right_true (f x) (list_all f xs) h) k)
+
+-- what is in two lists is in one of them
+pub any_of_two : {X : Type 0} (f : X → Bool) (xs ys : List X) (Q : Type 0) → list_any f (xs ++ ys) ≡ true → (list_any f xs ≡ true → Q) → (list_any f ys ≡ true → Q) → Q
+any_of_two f [] ys Q h first second = second h
+any_of_two {X} f (x ∷ xs) ys Q h first second = by_case (f x) refl h (λ h. any_of_two f xs ys Q h (λ k. first (or_right (f x) (list_any f xs) k)) second)
+  where
+    by_case : (b : Bool) → f x ≡ b → (b || list_any f (xs ++ ys)) ≡ true → (list_any f (xs ++ ys) ≡ true → Q) → Q
+    by_case true e h later = first (or_left (f x) (list_any f xs) e)
+    by_case false e h later = later h
+
+pub filter_two : {X : Type 0} (keep : X → Bool) (xs ys : List X) → filter keep (xs ++ ys) ≡ filter keep xs ++ filter keep ys
+filter_two keep [] ys = refl
+filter_two {X} keep (x ∷ xs) ys = by_keep (keep x) (filter_two keep xs ys)
+  where
+    by_keep : (b : Bool) → filter keep (xs ++ ys) ≡ filter keep xs ++ filter keep ys → cond b (x ∷ filter keep (xs ++ ys)) (filter keep (xs ++ ys)) ≡ cond b (x ∷ filter keep xs) (filter keep xs) ++ filter keep ys
+    by_keep true e = ap (λ (zs : List X). x ∷ zs) e
+    by_keep false e = e

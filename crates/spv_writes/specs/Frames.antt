@@ -1,0 +1,44 @@
+-- Which areas the names and items of a routine are.
+use Rattle.std.specs.Prelude.{ℕ, Bool, true, false, ◌||◌, not, List, [], ◌∷◌, ◌++◌, map, length, Option, Some, None}
+use Rattle.std.specs.List.{list_any, flat_map}
+use Rattle.spv_names.specs.declared.names.Symbol.{Symbol}
+use Rattle.spv_program.specs.declared.types.Item.{Item}
+use Rattle.spv_program.specs.declared.types.Item.TheVariants.{Variable, Class}
+use Rattle.spv_program.specs.Lists.{found}
+use Rattle.spv_program.specs.Programs.{GlobalItem, Routine}
+use Rattle.spv_program.specs.Uses.{Root, Own, Shared, same_item}
+use Rattle.spv_program.specs.Changes.{var_items}
+use Rattle.spv_meaning.specs.Places.{Place, Binding, Frame, State, ProgramVariable, Holding, Referring, whole}
+use Rattle.spv_meaning.specs.Starts.{Area, At, CellsOf, bound_area, frame_areas}
+
+-- the area of a variable or a class of the program
+abbrev pub area_of_item : Item → Area
+area_of_item (Variable x) = At (whole (ProgramVariable x))
+area_of_item (Class t) = CellsOf t
+
+abbrev pub bound_areas : ℕ → Symbol → Option Binding → List Area
+bound_areas number x None = []
+bound_areas number x (Some b) = bound_area number (x, b) ∷ []
+
+-- what a name covers that the newest frame binds
+abbrev pub own_areas : List Frame → Symbol → List Area
+own_areas [] x = []
+own_areas (f ∷ frames) x = bound_areas (length frames) x (found f.names x)
+
+-- what a root covers: an own name, or an item of the program
+abbrev pub root_areas : List Frame → Root → List Area
+root_areas frames (Own x) = own_areas frames x
+root_areas frames (Shared i) = area_of_item i ∷ []
+
+abbrev pub areas_of : List Frame → List Root → List Area
+areas_of frames roots = flat_map (root_areas frames) roots
+
+-- the places that names refer to
+abbrev pub referred : List (Symbol × Binding) → List Area
+referred [] = []
+referred ((x, Holding v) ∷ names) = referred names
+referred ((x, Referring a) ∷ names) = At a ∷ referred names
+
+-- what a routine may write: what the names of its frame cover, its VAR places among them, and the items of its VAR groups
+abbrev pub routine_areas : Routine → State → List Area
+routine_areas r state = frame_areas state.frames ++ map area_of_item (var_items r.globals)
