@@ -5,3 +5,6 @@ pub mod Kept
 pub mod Outlines
 pub mod Popped
 pub mod Covering
+pub mod Names
+pub mod Records
+pub mod Entering

@@ -1,0 +1,127 @@
+-- Names of a routine lie in the areas of their roots.
+use Rattle.std.proofs.Common.{◌≡◌, ℕ, Bool, true, false, cond, ◌&&◌, ◌||◌, List, [], ◌∷◌, ◌++◌, map, length, refl, sym, ap, subst, ◌∙◌, Option, Some, None, is_some}
+use Rattle.std.specs.Option.{option_and_then}
+use Rattle.std.specs.List.{list_all, list_any, flat_map}
+use Rattle.std.proofs.lemmas.Bool.{false≢true}
+use Rattle.spv_list.proofs.Tests.{left_true, right_true, left_false, right_false}
+use Rattle.spv_names.specs.declared.names.Symbol.{Symbol}
+use Rattle.spv_logic.specs.declared.types.TypeId.{TypeId}
+use Rattle.spv_logic.specs.declared.conditions.RoutineId.{RoutineId}
+use Rattle.spv_logic.specs.Values.{Value}
+use Rattle.spv_program.specs.declared.types.Item.TheVariants.{Variable}
+use Rattle.spv_program.specs.Lists.{same_name, found}
+use Rattle.spv_program.specs.Programs.{Formal, Routine, Program, routine_at, routine_in}
+use Rattle.spv_program.specs.Scopes.{result_name, own_names, is_own}
+use Rattle.spv_program.specs.Uses.{Root, Own, Shared, name_root}
+use Rattle.spv_program.proofs.SortFacts.{nothing_there}
+use Rattle.spv_meaning.specs.Places.{Place, Binding, Frame, HeapRow, State, ProgramVariable, OwnValue, Holding, Referring, whole}
+use Rattle.spv_meaning.specs.Views.{bound_place, place_in, place_of}
+use Rattle.spv_meaning.specs.FrameTypes.{FrameType, IsIn, Slot, binding_right, formal_slot, frame_of, frames_right, in_main, in_routine, names_right, own_slot, slot_in, slots_of}
+use Rattle.spv_meaning.specs.Starts.{Area, At, IsRight}
+use Rattle.spv_meaning.proofs.Maps.{same_names}
+use Rattle.spv_preservation.proofs.Roots.{FirstFrame, first_frame}
+use Rattle.spv_writes.specs.Writes.{Outline, is_in_one, reference, outline, outlines}
+use Rattle.spv_writes.specs.Frames.{bound_areas, own_areas, root_areas, areas_of, referred}
+use Rattle.spv_writes.proofs.Lists.{or_left}
+use Rattle.spv_writes.proofs.Places.{below_itself}
+use Rattle.spv_writes.proofs.Outlines.{bounds_stay}
+
+-- ---- the names of a frame
+
+own_slots : (own : List (Symbol × TypeId)) (x : Symbol) → is_some (found own x) ≡ is_some (slot_in (map own_slot own) x)
+own_slots [] x = refl
+own_slots (n ∷ own) x = by_name (same_name n.0 x) (own_slots own x)
+  where
+    by_name : (b : Bool) → is_some (found own x) ≡ is_some (slot_in (map own_slot own) x) → is_some (cond b (Some n.1) (found own x)) ≡ is_some (cond b (Some (own_slot n)) (slot_in (map own_slot own) x))
+    by_name true later = refl
+    by_name false later = later
+
+formal_slots : (formals : List Formal) (own : List (Symbol × TypeId)) (x : Symbol) → is_some (found (map (λ f. (f.name, f.of)) formals ++ own) x) ≡ is_some (slot_in (map formal_slot formals ++ map own_slot own) x)
+formal_slots [] own x = own_slots own x
+formal_slots (f ∷ formals) own x = by_name (same_name f.name x) (formal_slots formals own x)
+  where
+    by_name : (b : Bool) → is_some (found (map (λ f. (f.name, f.of)) formals ++ own) x) ≡ is_some (slot_in (map formal_slot formals ++ map own_slot own) x)
+        → is_some (cond b (Some f.of) (found (map (λ f. (f.name, f.of)) formals ++ own) x)) ≡ is_some (cond b (Some (formal_slot f)) (slot_in (map formal_slot formals ++ map own_slot own) x))
+    by_name true later = refl
+    by_name false later = later
+
+names_there : (p : Program) (older : List FrameType) (heap : List HeapRow) (slots : List Slot) (names : List (Symbol × Binding)) (x : Symbol) → names_right p older heap slots names ≡ true → is_some (slot_in slots x) ≡ is_some (found names x)
+names_there p older heap [] [] x right = refl
+names_there p older heap [] (n ∷ names) x right = absurd (false≢true right)
+names_there p older heap (s ∷ slots) [] x right = absurd (false≢true right)
+names_there p older heap (s ∷ slots) (n ∷ names) x right =
+    ap (λ y. is_some (cond (same_name y x) (Some s) (slot_in slots x))) (same_names s.name n.0 (left_true (same_name s.name n.0) _ right))
+    ∙ by_name (same_name n.0 x) (names_there p older heap slots names x (right_true (binding_right p older heap s n.1) _ rest))
+  where
+    rest : (binding_right p older heap s n.1 && names_right p older heap slots names) ≡ true
+    rest = right_true (same_name s.name n.0) _ right
+
+    by_name : (b : Bool) → is_some (slot_in slots x) ≡ is_some (found names x) → is_some (cond b (Some s) (slot_in slots x)) ≡ is_some (cond b (Some n.1) (found names x))
+    by_name true later = refl
+    by_name false later = later
+
+-- the own names of a routine are those that its frame binds
+pub own_bound : (p : Program) (older : List FrameType) (heap : List HeapRow) (r : Routine) (names : List (Symbol × Binding)) (x : Symbol) → names_right p older heap (slots_of r) names ≡ true → is_own (Some r) x ≡ is_some (found names x)
+own_bound p older heap r names x right = formal_slots r.formals (result_name r.name r.result ++ r.locals) x ∙ names_there p older heap (slots_of r) names x right
+
+-- ---- where names lie
+
+in_bound : (heap : List HeapRow) (number : ℕ) (x : Symbol) (b : Binding) → is_in_one heap (bound_areas number x (Some b)) (bound_place number x (Some b)) ≡ true
+in_bound heap number x (Holding v) = or_left _ false (below_itself (whole (OwnValue number x)))
+in_bound heap number x (Referring a) = or_left _ false (below_itself a)
+
+-- the place of a name lies in the areas of the name's root
+pub name_in : (p : Program) (here : Option RoutineId) (types : List FrameType) → IsIn p here types → (state : State) → IsRight p types state → (x : Symbol) → is_in_one state.heap (root_areas state.frames (name_root (is_own (routine_in p here)) x)) (place_of here state x) ≡ true
+name_in p None _ (in_main types) state right x = or_left _ false (below_itself (whole (ProgramVariable x)))
+name_in p (Some _) _ (in_routine id r older there) state right x =
+    ap (λ o. is_in_one state.heap (root_areas state.frames (name_root (is_own o) x)) (place_in state.frames x)) there ∙ by_frames state.frames right.frames
+  where
+    by_frames : (frames : List Frame) → frames_right p (frame_of id r ∷ older) state.heap frames ≡ true → is_in_one state.heap (root_areas frames (name_root (is_own (Some r)) x)) (place_in frames x) ≡ true
+    by_frames [] h = absurd (false≢true h)
+    by_frames (f ∷ frames) h = by_found (found f.names x) refl (own_bound p older state.heap r f.names x (first_frame p (frame_of id r) older state.heap f frames h).names)
+      where
+        by_found : (o : Option Binding) → found f.names x ≡ o → is_own (Some r) x ≡ is_some (found f.names x) → is_in_one state.heap (root_areas (f ∷ frames) (name_root (is_own (Some r)) x)) (place_in (f ∷ frames) x) ≡ true
+        by_found None is own =
+            ap (λ b. is_in_one state.heap (root_areas (f ∷ frames) (cond b (Own x) (Shared (Variable x)))) (bound_place (length frames) x (found f.names x))) (own ∙ ap is_some is)
+            ∙ (ap (λ o. is_in_one state.heap (root_areas (f ∷ frames) (Shared (Variable x))) (bound_place (length frames) x o)) is ∙ or_left _ false (below_itself (whole (ProgramVariable x))))
+        by_found (Some b) is own =
+            ap (λ c. is_in_one state.heap (root_areas (f ∷ frames) (cond c (Own x) (Shared (Variable x)))) (bound_place (length frames) x (found f.names x))) (own ∙ ap is_some is)
+            ∙ (ap (λ o. is_in_one state.heap (bound_areas (length frames) x o) (bound_place (length frames) x o)) is ∙ in_bound state.heap (length frames) x b)
+
+-- ---- names that refer to nothing
+
+-- where no slot is a VAR parameter, no name refers to a place
+pub none_referred : (p : Program) (older : List FrameType) (heap : List HeapRow) (slots : List Slot) (names : List (Symbol × Binding)) → list_any (λ s. s.by_place) slots ≡ false → names_right p older heap slots names ≡ true → referred names ≡ []
+none_referred p older heap [] [] none right = refl
+none_referred p older heap [] (n ∷ names) none right = absurd (false≢true right)
+none_referred p older heap (s ∷ slots) [] none right = absurd (false≢true right)
+none_referred p older heap (s ∷ slots) ((x, b) ∷ names) none right =
+    by_binding b s.by_place (left_false s.by_place (list_any (λ s. s.by_place) slots) none) (left_true (binding_right p older heap s b) _ rest)
+    (none_referred p older heap slots names (right_false s.by_place (list_any (λ s. s.by_place) slots) none) (right_true (binding_right p older heap s b) _ rest))
+  where
+    rest : (binding_right p older heap s b && names_right p older heap slots names) ≡ true
+    rest = right_true (same_name s.name x) _ right
+
+    by_binding : (b : Binding) (place : Bool) → place ≡ false → binding_right p older heap (record { name = s.name; of = s.of; by_place = place }) b ≡ true → referred names ≡ [] → referred ((x, b) ∷ names) ≡ []
+    by_binding (Holding v) place is h later = later
+    by_binding (Referring a) true is h later = absurd (false≢true (sym is))
+    by_binding (Referring a) false is h later = absurd (false≢true h)
+
+pub own_by_value : (own : List (Symbol × TypeId)) → list_any (λ s. s.by_place) (map own_slot own) ≡ false
+own_by_value [] = refl
+own_by_value (n ∷ own) = own_by_value own
+
+pub formals_by_place : (formals : List Formal) → list_any (λ s. s.by_place) (map formal_slot formals) ≡ list_any (λ f. f.by_place) formals
+formals_by_place [] = refl
+formals_by_place (f ∷ formals) = ap (λ b. f.by_place || b) (formals_by_place formals)
+
+-- ---- areas that are read later
+
+-- the areas of roots stay where references stay
+pub areas_kept : (s t : State) → outlines t ≡ outlines s → (roots : List Root) → areas_of t.frames roots ≡ areas_of s.frames roots
+areas_kept s t same [] = refl
+areas_kept s t same (root ∷ roots) = λ i. one root i ++ areas_kept s t same roots i
+  where
+    one : (root : Root) → root_areas t.frames root ≡ root_areas s.frames root
+    one (Own x) = bounds_stay s t same x
+    one (Shared i) = refl
