@@ -44,12 +44,12 @@ use Rattle.spv_preservation.proofs.Calls.{GotRight, FixedRight, BoundRight, Leve
 -- ---- what well typed comparisons and calls tell
 
 -- the sorts of two operands that are compared
-record Compares (a b : Option Sort) (r : Sort) : Type 0 where
-  left : Sort
-  right : Sort
-  left_is : a ≡ Some left
-  right_is : b ≡ Some right
-  is_truth : sort.Bool ≡ r
+pub record Compares (a b : Option Sort) (r : Sort) : Type 0 where
+  pub left : Sort
+  pub right : Sort
+  pub left_is : a ≡ Some left
+  pub right_is : b ≡ Some right
+  pub is_truth : sort.Bool ≡ r
 
 numbers_compare : (a b : Option Sort) (r : Sort) → numbers a b sort.Bool ≡ Some r → Compares a b r
 numbers_compare a b r h =
@@ -73,7 +73,7 @@ equals_compare a b r h =
       is_truth = sort_told (sort_eq two.right two.left && comparable two.left) sort.Bool r two.gives;
     }
 
-compares : (o : Comparison) (a b : Option Sort) (r : Sort) → compared_sort comparable o a b ≡ Some r → Compares a b r
+pub compares : (o : Comparison) (a b : Option Sort) (r : Sort) → compared_sort comparable o a b ≡ Some r → Compares a b r
 compares comparison.Equal a b r h = equals_compare a b r h
 compares comparison.NotEqual a b r h = equals_compare a b r h
 compares comparison.Less a b r h = numbers_compare a b r h

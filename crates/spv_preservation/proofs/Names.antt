@@ -22,7 +22,7 @@ use Rattle.spv_preservation.proofs.Places.{place_pushed}
 
 -- ---- slots
 
-abbrev slot_type : Option Slot → Option TypeId
+abbrev pub slot_type : Option Slot → Option TypeId
 slot_type None = None
 slot_type (Some s) = Some s.of
 
@@ -35,7 +35,7 @@ own_slots (n ∷ own) x = by_name (same_name n.0 x) (own_slots own x)
     by_name true later = refl
     by_name false later = later
 
-formal_slots : (formals : List Formal) (own : List (Symbol × TypeId)) (x : Symbol) → found (map (λ f. (f.name, f.of)) formals ++ own) x ≡ slot_type (slot_in (map formal_slot formals ++ map own_slot own) x)
+pub formal_slots : (formals : List Formal) (own : List (Symbol × TypeId)) (x : Symbol) → found (map (λ f. (f.name, f.of)) formals ++ own) x ≡ slot_type (slot_in (map formal_slot formals ++ map own_slot own) x)
 formal_slots [] own x = own_slots own x
 formal_slots (f ∷ formals) own x = by_name (same_name f.name x) (formal_slots formals own x)
   where
@@ -47,11 +47,11 @@ formal_slots (f ∷ formals) own x = by_name (same_name f.name x) (formal_slots 
 -- ---- names
 
 -- what a right frame has under a name
-data Bound (p : Program) (older : List FrameType) (heap : List HeapRow) (slots : List Slot) (names : List (Symbol × Binding)) (x : Symbol) : Type 0 where
+pub data Bound (p : Program) (older : List FrameType) (heap : List HeapRow) (slots : List Slot) (names : List (Symbol × Binding)) (x : Symbol) : Type 0 where
   Missing : slot_in slots x ≡ None → found names x ≡ None → Bound p older heap slots names x
   There : (s : Slot) (b : Binding) → slot_in slots x ≡ Some s → found names x ≡ Some b → binding_right p older heap s b ≡ true → Bound p older heap slots names x
 
-bound : (p : Program) (older : List FrameType) (heap : List HeapRow) (slots : List Slot) (names : List (Symbol × Binding)) (x : Symbol) → names_right p older heap slots names ≡ true → Bound p older heap slots names x
+pub bound : (p : Program) (older : List FrameType) (heap : List HeapRow) (slots : List Slot) (names : List (Symbol × Binding)) (x : Symbol) → names_right p older heap slots names ≡ true → Bound p older heap slots names x
 bound p older heap [] [] x right = Missing refl refl
 bound p older heap [] (n ∷ names) x right = absurd (false≢true right)
 bound p older heap (s ∷ slots) [] x right = absurd (false≢true right)

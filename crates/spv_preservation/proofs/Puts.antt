@@ -26,7 +26,7 @@ use Rattle.spv_preservation.proofs.Growing.{grows_not, frames_grow}
 -- ---- cells
 
 -- a cell with another content keeps its type, and so do the others
-types_stay : (heap : List HeapRow) (cell : ℕ) (w : Value) (other : ℕ) → cell_type (with_content heap cell w) other ≡ cell_type heap other
+pub types_stay : (heap : List HeapRow) (cell : ℕ) (w : Value) (other : ℕ) → cell_type (with_content heap cell w) other ≡ cell_type heap other
 types_stay [] cell w other = refl
 types_stay (r ∷ heap) cell w other = by_cell (nat_eq r.cell cell) (types_stay heap cell w other)
   where

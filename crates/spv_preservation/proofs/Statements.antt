@@ -50,7 +50,7 @@ new_is_positive : (heap : List HeapRow) (cell : ℕ) → is_new heap cell ≡ tr
 new_is_positive heap zero h = absurd (false≢true h)
 new_is_positive heap (suc n) h = grind (arith, nat_tests)
 
-new_is_nowhere : (heap : List HeapRow) (cell : ℕ) → is_new heap cell ≡ true → is_some (row_of heap cell) ≡ false
+pub new_is_nowhere : (heap : List HeapRow) (cell : ℕ) → is_new heap cell ≡ true → is_some (row_of heap cell) ≡ false
 new_is_nowhere heap zero h = absurd (false≢true h)
 new_is_nowhere heap (suc n) h = by_not (is_some (row_of heap (suc n))) h
   where

@@ -8,3 +8,4 @@ pub mod Covering
 pub mod Names
 pub mod Records
 pub mod Entering
+pub mod Evaluating

@@ -19,7 +19,8 @@ use Rattle.spv_meaning.specs.Views.{bound_place, place_in, place_of}
 use Rattle.spv_meaning.specs.FrameTypes.{FrameType, IsIn, Slot, binding_right, formal_slot, frame_of, frames_right, in_main, in_routine, names_right, own_slot, slot_in, slots_of}
 use Rattle.spv_meaning.specs.Starts.{Area, At, IsRight}
 use Rattle.spv_meaning.proofs.Maps.{same_names}
-use Rattle.spv_preservation.proofs.Roots.{FirstFrame, first_frame}
+use Rattle.spv_preservation.proofs.Roots.{first_frame}
+use Rattle.spv_preservation.proofs.Names.{Bound, Missing, There, slot_type, formal_slots, bound}
 use Rattle.spv_writes.specs.Writes.{Outline, is_in_one, reference, outline, outlines}
 use Rattle.spv_writes.specs.Frames.{bound_areas, own_areas, root_areas, areas_of, referred}
 use Rattle.spv_writes.proofs.Lists.{or_left}
@@ -28,41 +29,18 @@ use Rattle.spv_writes.proofs.Outlines.{bounds_stay}
 
 -- ---- the names of a frame
 
-own_slots : (own : List (Symbol × TypeId)) (x : Symbol) → is_some (found own x) ≡ is_some (slot_in (map own_slot own) x)
-own_slots [] x = refl
-own_slots (n ∷ own) x = by_name (same_name n.0 x) (own_slots own x)
-  where
-    by_name : (b : Bool) → is_some (found own x) ≡ is_some (slot_in (map own_slot own) x) → is_some (cond b (Some n.1) (found own x)) ≡ is_some (cond b (Some (own_slot n)) (slot_in (map own_slot own) x))
-    by_name true later = refl
-    by_name false later = later
-
-formal_slots : (formals : List Formal) (own : List (Symbol × TypeId)) (x : Symbol) → is_some (found (map (λ f. (f.name, f.of)) formals ++ own) x) ≡ is_some (slot_in (map formal_slot formals ++ map own_slot own) x)
-formal_slots [] own x = own_slots own x
-formal_slots (f ∷ formals) own x = by_name (same_name f.name x) (formal_slots formals own x)
-  where
-    by_name : (b : Bool) → is_some (found (map (λ f. (f.name, f.of)) formals ++ own) x) ≡ is_some (slot_in (map formal_slot formals ++ map own_slot own) x)
-        → is_some (cond b (Some f.of) (found (map (λ f. (f.name, f.of)) formals ++ own) x)) ≡ is_some (cond b (Some (formal_slot f)) (slot_in (map formal_slot formals ++ map own_slot own) x))
-    by_name true later = refl
-    by_name false later = later
-
-names_there : (p : Program) (older : List FrameType) (heap : List HeapRow) (slots : List Slot) (names : List (Symbol × Binding)) (x : Symbol) → names_right p older heap slots names ≡ true → is_some (slot_in slots x) ≡ is_some (found names x)
-names_there p older heap [] [] x right = refl
-names_there p older heap [] (n ∷ names) x right = absurd (false≢true right)
-names_there p older heap (s ∷ slots) [] x right = absurd (false≢true right)
-names_there p older heap (s ∷ slots) (n ∷ names) x right =
-    ap (λ y. is_some (cond (same_name y x) (Some s) (slot_in slots x))) (same_names s.name n.0 (left_true (same_name s.name n.0) _ right))
-    ∙ by_name (same_name n.0 x) (names_there p older heap slots names x (right_true (binding_right p older heap s n.1) _ rest))
-  where
-    rest : (binding_right p older heap s n.1 && names_right p older heap slots names) ≡ true
-    rest = right_true (same_name s.name n.0) _ right
-
-    by_name : (b : Bool) → is_some (slot_in slots x) ≡ is_some (found names x) → is_some (cond b (Some s) (slot_in slots x)) ≡ is_some (cond b (Some n.1) (found names x))
-    by_name true later = refl
-    by_name false later = later
+some_type : (o : Option Slot) → is_some (slot_type o) ≡ is_some o
+some_type None = refl
+some_type (Some s) = refl
 
 -- the own names of a routine are those that its frame binds
 pub own_bound : (p : Program) (older : List FrameType) (heap : List HeapRow) (r : Routine) (names : List (Symbol × Binding)) (x : Symbol) → names_right p older heap (slots_of r) names ≡ true → is_own (Some r) x ≡ is_some (found names x)
-own_bound p older heap r names x right = formal_slots r.formals (result_name r.name r.result ++ r.locals) x ∙ names_there p older heap (slots_of r) names x right
+own_bound p older heap r names x right =
+    ap is_some (formal_slots r.formals (result_name r.name r.result ++ r.locals) x) ∙ (some_type (slot_in (slots_of r) x) ∙ by_bound (bound p older heap (slots_of r) names x right))
+  where
+    by_bound : Bound p older heap (slots_of r) names x → is_some (slot_in (slots_of r) x) ≡ is_some (found names x)
+    by_bound (Missing e h) = ap is_some e ∙ sym (ap is_some h)
+    by_bound (There s b e h right) = ap is_some e ∙ sym (ap is_some h)
 
 -- ---- where names lie
 

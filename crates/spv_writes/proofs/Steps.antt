@@ -22,6 +22,8 @@ use Rattle.spv_meaning.proofs.Puts.{look_elsewhere, below_cell}
 use Rattle.spv_facts.specs.Places.{IsPlace}
 use Rattle.spv_facts.proofs.Places.{put_parts, put_exists}
 use Rattle.spv_preservation.specs.Right.{Grows}
+use Rattle.spv_preservation.proofs.Puts.{types_stay}
+use Rattle.spv_preservation.proofs.Statements.{new_is_nowhere}
 use Rattle.spv_writes.specs.Writes.{is_touched}
 use Rattle.spv_writes.proofs.Lists.{clash, number_swap, any_same, any_fails}
 use Rattle.spv_writes.proofs.Places.{roots_same, root_itself, lies_by, lies_typed, types_swap, cell_test, typed}
@@ -37,24 +39,6 @@ put_beside p state b e place v a apart = by_root (same_root b.root a.root) refl 
         subst (λ r. look (put state b v) (record { root = r; path = a.path }) ≡ look state (record { root = r; path = a.path })) (roots_same b.root a.root is)
         (put_parts (shapes p) state b e place v a.path apart)
     by_root false is apart = look_elsewhere state b a v is
-
--- a cell with another content keeps its type, and so do the others
-types_stay : (heap : List HeapRow) (cell : ℕ) (w : Value) (other : ℕ) → cell_type (with_content heap cell w) other ≡ cell_type heap other
-types_stay [] cell w other = refl
-types_stay (r ∷ heap) cell w other = by_cell (nat_eq r.cell cell) (types_stay heap cell w other)
-  where
-    by_other : (b : Bool) → option_and_then row_type (cond b (Some (record { cell = r.cell; type = r.type; content = w })) (row_of heap other)) ≡ option_and_then row_type (cond b (Some r) (row_of heap other))
-    by_other true = refl
-    by_other false = refl
-
-    further : (b : Bool) → cell_type (with_content heap cell w) other ≡ cell_type heap other → option_and_then row_type (cond b (Some r) (row_of (with_content heap cell w) other)) ≡ option_and_then row_type (cond b (Some r) (row_of heap other))
-    further true later = refl
-    further false later = later
-
-    by_cell : (b : Bool) → cell_type (with_content heap cell w) other ≡ cell_type heap other
-        → cell_type (cond b (record { cell = r.cell; type = r.type; content = w } ∷ heap) (r ∷ with_content heap cell w)) other ≡ cell_type (r ∷ heap) other
-    by_cell true later = by_other (nat_eq r.cell other)
-    by_cell false later = further (nat_eq r.cell other) later
 
 -- a root with another value leaves the types of all cells
 pub put_types : (state : State) (r : Root) (w : Value) (cell : ℕ) → cell_type (with_root state r w).heap cell ≡ cell_type state.heap cell
@@ -101,14 +85,6 @@ put_class p state a v whole t there outside = by_root a.root (with_part (value_o
         at_cell cell r.item w r.is outside
 
 -- ---- new cells
-
-new_is_nowhere : (heap : List HeapRow) (cell : ℕ) → is_new heap cell ≡ true → is_some (row_of heap cell) ≡ false
-new_is_nowhere heap zero h = absurd (false≢true h)
-new_is_nowhere heap (suc n) h = by_not (is_some (row_of heap (suc n))) h
-  where
-    by_not : (b : Bool) → not b ≡ true → b ≡ false
-    by_not true h = absurd (false≢true h)
-    by_not false h = refl
 
 -- a cell that is there is another one than a new one
 pub new_is_another : (heap : List HeapRow) (cell other : ℕ) (r : HeapRow) → is_new heap cell ≡ true → row_of heap other ≡ Some r → nat_eq cell other ≡ false
