@@ -137,7 +137,7 @@ later_in : (heap later : List HeapRow) → Grows heap later → (a b : Place) �
 later_in heap later g a b below (At c) h = below_on a b c below h
 later_in heap later g a b below (CellsOf t) h = ap (λ r. lies_in later r t) (sym (below_root a b below)) ∙ lies_later heap later g b.root t h
 
-later_one : (heap later : List HeapRow) → Grows heap later → (a b : Place) → is_below a b ≡ true → (areas : List Area) → is_in_one heap areas b ≡ true → is_in_one later areas a ≡ true
+pub later_one : (heap later : List HeapRow) → Grows heap later → (a b : Place) → is_below a b ≡ true → (areas : List Area) → is_in_one heap areas b ≡ true → is_in_one later areas a ≡ true
 later_one heap later g a b below areas h = any_passes (is_in heap b) (is_in later a) (λ area k. later_in heap later g a b below area k) areas h
 
 -- places that names refer to in some areas lie there in all later heaps

@@ -9,3 +9,4 @@ pub mod Names
 pub mod Records
 pub mod Entering
 pub mod Evaluating
+pub mod Running
