@@ -30,7 +30,7 @@ over_keeps p typed below keeps = record {
   next = λ here types inside loop counts body end candidate before state leaves choices. counted p typed below keeps here types inside loop counts body end candidate before state leaves choices;
 }
 
-level_keeps : (p : Program) → well_typed p ≡ true → (turns : ℕ) → LevelKeeps p (level p turns)
+pub level_keeps : (p : Program) → well_typed p ≡ true → (turns : ℕ) → LevelKeeps p (level p turns)
 level_keeps p typed zero = over_keeps p typed None (λ l e. absurd (nothing_there e))
 level_keeps p typed (suc n) = over_keeps p typed (Some (level p n)) (λ l e. subst (LevelKeeps p) (some_is e) (level_keeps p typed n))
 

@@ -10,3 +10,4 @@ pub mod Records
 pub mod Entering
 pub mod Evaluating
 pub mod Running
+pub mod Sharing

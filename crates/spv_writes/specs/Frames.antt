@@ -1,11 +1,14 @@
 -- Which areas the names and items of a routine are.
-use Rattle.std.specs.Prelude.{ℕ, Bool, true, false, ◌||◌, not, List, [], ◌∷◌, ◌++◌, map, length, Option, Some, None}
+use Rattle.std.specs.Prelude.{ℕ, Bool, true, false, ◌||◌, not, List, [], ◌∷◌, ◌++◌, map, length, Option, Some, None, IsTrue, ◌≡◌}
 use Rattle.std.specs.List.{list_any, flat_map}
 use Rattle.spv_names.specs.declared.names.Symbol.{Symbol}
 use Rattle.spv_program.specs.declared.types.Item.{Item}
 use Rattle.spv_program.specs.declared.types.Item.TheVariants.{Variable, Class}
 use Rattle.spv_program.specs.Lists.{found}
-use Rattle.spv_program.specs.Programs.{GlobalItem, Routine}
+use Rattle.spv_logic.specs.declared.conditions.RoutineId.{RoutineId}
+use Rattle.spv_program.specs.Programs.{GlobalItem, Routine, Program, routine_at}
+use Rattle.spv_program.specs.Scopes.{name_type}
+use Rattle.spv_program.specs.Frames.{is_initial}
 use Rattle.spv_program.specs.Uses.{Root, Own, Shared, same_item}
 use Rattle.spv_program.specs.Changes.{var_items}
 use Rattle.spv_meaning.specs.Places.{Place, Binding, Frame, State, ProgramVariable, Holding, Referring, whole}
@@ -42,3 +45,7 @@ referred ((x, Referring a) ∷ names) = At a ∷ referred names
 -- what a routine may write: what the names of its frame cover, its VAR places among them, and the items of its VAR groups
 abbrev pub routine_areas : Routine → State → List Area
 routine_areas r state = frame_areas state.frames ++ map area_of_item (var_items r.globals)
+
+-- an INITIAL name of a routine stands for nothing that a statement of the routine may use
+pub record InitialNamesAreHidden (p : Program) : Type 0 where
+  pub each : (id : RoutineId) (r : Routine) → routine_at p id ≡ Some r → (x : Symbol) → IsTrue (is_initial r x) → name_type p (Some r) x ≡ None
