@@ -4,10 +4,3 @@ pub mod Steps
 pub mod Kept
 pub mod Outlines
 pub mod Popped
-pub mod Covering
-pub mod Names
-pub mod Records
-pub mod Entering
-pub mod Evaluating
-pub mod Running
-pub mod Sharing

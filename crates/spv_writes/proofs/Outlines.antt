@@ -12,12 +12,11 @@ use Rattle.spv_meaning.specs.Views.{bound_place, place_in}
 use Rattle.spv_meaning.specs.Starts.{Area, At, bound_area, frame_areas}
 use Rattle.spv_facts.specs.Places.{IsPlace}
 use Rattle.spv_writes.specs.Writes.{Outline, Writes, reference, outline, outlines}
-use Rattle.spv_writes.specs.Frames.{bound_areas, own_areas}
 use Rattle.spv_writes.proofs.Kept.{kept}
 
 -- ---- a put
 
-abbrev reference_of : Symbol × Binding → Symbol × Option Place
+abbrev pub reference_of : Symbol × Binding → Symbol × Option Place
 reference_of n = (n.0, reference n.1)
 
 abbrev named : Symbol → Option Place → Symbol × Option Place
@@ -65,7 +64,7 @@ outlines_stay p areas s t w =
 
 -- ---- what outlines tell
 
-abbrev area_from : ℕ → Symbol × Option Place → Area
+abbrev pub area_from : ℕ → Symbol × Option Place → Area
 area_from number (x, None) = At (whole (OwnValue number x))
 area_from number (x, Some a) = At a
 
@@ -73,7 +72,7 @@ abbrev areas_from : List Outline → List Area
 areas_from [] = []
 areas_from (o ∷ others) = map (area_from (length others)) o.names
 
-as_long : (frames : List Frame) → length (map outline frames) ≡ length frames
+pub as_long : (frames : List Frame) → length (map outline frames) ≡ length frames
 as_long [] = refl
 as_long (f ∷ frames) = ap suc (as_long frames)
 
@@ -118,29 +117,3 @@ place_told (f ∷ frames) x = name_from (length frames) f.names x ∙ ap (λ n. 
 
 pub places_stay : (s t : State) → outlines t ≡ outlines s → (x : Symbol) → place_in t.frames x ≡ place_in s.frames x
 places_stay s t same x = place_told t.frames x ∙ (ap (λ k. place_among k x) same ∙ sym (place_told s.frames x))
-
--- what an own name covers
-abbrev covered_from : ℕ → Symbol → Option (Option Place) → List Area
-covered_from number x None = []
-covered_from number x (Some o) = area_from number (x, o) ∷ []
-
-abbrev covered_among : List Outline → Symbol → List Area
-covered_among [] x = []
-covered_among (o ∷ others) x = covered_from (length others) x (found o.names x)
-
-bound_from : (number : ℕ) (names : List (Symbol × Binding)) (x : Symbol) → bound_areas number x (found names x) ≡ covered_from number x (found (map reference_of names) x)
-bound_from number [] x = refl
-bound_from number (n ∷ names) x = by_name (same_name n.0 x) n.1 (bound_from number names x)
-  where
-    by_name : (b : Bool) (c : Binding) → bound_areas number x (found names x) ≡ covered_from number x (found (map reference_of names) x)
-        → bound_areas number x (cond b (Some c) (found names x)) ≡ covered_from number x (cond b (Some (reference c)) (found (map reference_of names) x))
-    by_name true (Holding v) later = refl
-    by_name true (Referring a) later = refl
-    by_name false c later = later
-
-covered_told : (frames : List Frame) (x : Symbol) → own_areas frames x ≡ covered_among (map outline frames) x
-covered_told [] x = refl
-covered_told (f ∷ frames) x = bound_from (length frames) f.names x ∙ ap (λ n. covered_from n x (found (map reference_of f.names) x)) (sym (as_long frames))
-
-pub bounds_stay : (s t : State) → outlines t ≡ outlines s → (x : Symbol) → own_areas t.frames x ≡ own_areas s.frames x
-bounds_stay s t same x = covered_told t.frames x ∙ (ap (λ k. covered_among k x) same ∙ sym (covered_told s.frames x))

@@ -22,10 +22,10 @@ use Rattle.spv_meaning.proofs.Maps.{same_names}
 use Rattle.spv_preservation.proofs.Roots.{first_frame}
 use Rattle.spv_preservation.proofs.Names.{Bound, Missing, There, slot_type, formal_slots, bound}
 use Rattle.spv_writes.specs.Writes.{Outline, is_in_one, reference, outline, outlines}
-use Rattle.spv_writes.specs.Frames.{bound_areas, own_areas, root_areas, areas_of, referred}
+use Rattle.spv_frame_law.specs.Frames.{bound_areas, own_areas, root_areas, areas_of, referred}
 use Rattle.spv_writes.proofs.Lists.{or_left}
 use Rattle.spv_writes.proofs.Places.{below_itself}
-use Rattle.spv_writes.proofs.Outlines.{bounds_stay}
+use Rattle.spv_writes.proofs.Outlines.{reference_of, area_from, as_long}
 
 -- ---- the names of a frame
 
@@ -94,6 +94,32 @@ formals_by_place [] = refl
 formals_by_place (f ∷ formals) = ap (λ b. f.by_place || b) (formals_by_place formals)
 
 -- ---- areas that are read later
+
+-- what an own name covers
+abbrev covered_from : ℕ → Symbol → Option (Option Place) → List Area
+covered_from number x None = []
+covered_from number x (Some o) = area_from number (x, o) ∷ []
+
+abbrev covered_among : List Outline → Symbol → List Area
+covered_among [] x = []
+covered_among (o ∷ others) x = covered_from (length others) x (found o.names x)
+
+bound_from : (number : ℕ) (names : List (Symbol × Binding)) (x : Symbol) → bound_areas number x (found names x) ≡ covered_from number x (found (map reference_of names) x)
+bound_from number [] x = refl
+bound_from number (n ∷ names) x = by_name (same_name n.0 x) n.1 (bound_from number names x)
+  where
+    by_name : (b : Bool) (c : Binding) → bound_areas number x (found names x) ≡ covered_from number x (found (map reference_of names) x)
+        → bound_areas number x (cond b (Some c) (found names x)) ≡ covered_from number x (cond b (Some (reference c)) (found (map reference_of names) x))
+    by_name true (Holding v) later = refl
+    by_name true (Referring a) later = refl
+    by_name false c later = later
+
+covered_told : (frames : List Frame) (x : Symbol) → own_areas frames x ≡ covered_among (map outline frames) x
+covered_told [] x = refl
+covered_told (f ∷ frames) x = bound_from (length frames) f.names x ∙ ap (λ n. covered_from n x (found (map reference_of f.names) x)) (sym (as_long frames))
+
+pub bounds_stay : (s t : State) → outlines t ≡ outlines s → (x : Symbol) → own_areas t.frames x ≡ own_areas s.frames x
+bounds_stay s t same x = covered_told t.frames x ∙ (ap (λ k. covered_among k x) same ∙ sym (covered_told s.frames x))
 
 -- the areas of roots stay where references stay
 pub areas_kept : (s t : State) → outlines t ≡ outlines s → (roots : List Root) → areas_of t.frames roots ≡ areas_of s.frames roots

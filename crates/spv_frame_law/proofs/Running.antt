@@ -50,16 +50,16 @@ use Rattle.spv_preservation.proofs.Calls.{GotRight, FixedRight, BoundRight, Coun
 use Rattle.spv_preservation.proofs.Expressions.{IsCallee, is_callee, evaluates, fixes, binds_rightly}
 use Rattle.spv_preservation.proofs.Statements.{walks, counted}
 use Rattle.spv_writes.specs.Writes.{Writes, nothing, puts, creates, is_in, is_in_one, is_cells_of, has_cells_of}
-use Rattle.spv_writes.specs.Frames.{area_of_item, root_areas, areas_of, referred}
+use Rattle.spv_frame_law.specs.Frames.{area_of_item, root_areas, areas_of, referred}
 use Rattle.spv_writes.proofs.Lists.{or_left, all_left, all_right}
 use Rattle.spv_writes.proofs.Places.{below_itself}
 use Rattle.spv_writes.proofs.Steps.{new_grows, new_root}
 use Rattle.spv_writes.proofs.Kept.{IsCovered, widen, one_put}
-use Rattle.spv_writes.proofs.Covering.{among_areas, roots_among, items_among, refers_into, referred_covered, covered_both, covered_by, later_one}
-use Rattle.spv_writes.proofs.Names.{name_in}
-use Rattle.spv_writes.proofs.Records.{is_among, use_among, call_among, ChangesAmong, AllKeepTo, And, if_and, if_as, moved, Wrote, wrote_on, GotSame, FixedSame, BoundSame, LevelWrites}
-use Rattle.spv_writes.proofs.Entering.{call_areas, entered_writes}
-use Rattle.spv_writes.proofs.Evaluating.{evaluates_same, fixes_in, binds_same}
+use Rattle.spv_frame_law.proofs.Covering.{among_areas, roots_among, items_among, refers_into, referred_covered, covered_both, covered_by, later_one}
+use Rattle.spv_frame_law.proofs.Names.{name_in}
+use Rattle.spv_frame_law.proofs.Records.{is_among, use_among, call_among, ChangesAmong, AllKeepTo, And, if_and, if_as, moved, Wrote, wrote_on, GotSame, FixedSame, BoundSame, LevelWrites}
+use Rattle.spv_frame_law.proofs.Entering.{call_areas, entered_writes}
+use Rattle.spv_frame_law.proofs.Evaluating.{evaluates_same, fixes_in, binds_same}
 
 -- ---- what uses tell
 

@@ -33,10 +33,10 @@ use Rattle.spv_program.proofs.ExpressionSorting.{mapped}
 use Rattle.spv_meaning.proofs.RoutineStarts.{item_passes}
 use Rattle.spv_preservation.proofs.Calls.{routine_right}
 use Rattle.spv_preservation.proofs.Expressions.{Compares, compares}
-use Rattle.spv_writes.specs.Frames.{InitialNamesAreHidden}
+use Rattle.spv_frame_law.specs.Frames.{InitialNamesAreHidden}
 use Rattle.spv_writes.proofs.Lists.{or_left, or_right, clash, swapped, all_left, all_right, all_both}
-use Rattle.spv_writes.proofs.Covering.{items_same, is_own_or}
-use Rattle.spv_writes.proofs.Records.{KeepsTo, AllKeepTo}
+use Rattle.spv_frame_law.proofs.Covering.{items_same, is_own_or}
+use Rattle.spv_frame_law.proofs.Records.{KeepsTo, AllKeepTo}
 
 -- ---- names that stand for the same
 

@@ -20,7 +20,7 @@ use Rattle.spv_meaning.specs.Starts.{Area, At, CellsOf, lies_in, bound_area}
 use Rattle.spv_meaning.proofs.Maps.{same_names}
 use Rattle.spv_preservation.specs.Right.{Grows}
 use Rattle.spv_writes.specs.Writes.{is_below, is_in, is_in_one, is_cells_of, has_cells_of, is_area_of, without_frame, outline, outlines, reference}
-use Rattle.spv_writes.specs.Frames.{area_of_item, bound_areas, own_areas, root_areas, areas_of, referred}
+use Rattle.spv_frame_law.specs.Frames.{area_of_item, bound_areas, own_areas, root_areas, areas_of, referred}
 use Rattle.spv_writes.proofs.Lists.{or_left, or_right, any_passes, any_left, any_right, any_of_two, filter_two}
 use Rattle.spv_writes.proofs.Places.{below_on, below_root, lies_typed, lies_by}
 use Rattle.spv_writes.proofs.Kept.{IsCovered}

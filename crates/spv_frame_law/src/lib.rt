@@ -1,0 +1,2 @@
+//! What runs of framed programs write: the frame law.
+#![tactic(auto)]
