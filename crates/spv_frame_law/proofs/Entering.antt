@@ -88,7 +88,7 @@ module _ (p : Program) (typed : well_typed p ≡ true) (level : Level) (keeps : 
       (routine_writes state left.right rest))
 
 -- a call of what changes nothing writes nothing
-no_items : (globals : List GlobalItem) → list_any (λ g. g.is_var) globals ≡ false → var_items globals ≡ []
+pub no_items : (globals : List GlobalItem) → list_any (λ g. g.is_var) globals ≡ false → var_items globals ≡ []
 no_items [] none = refl
 no_items (g ∷ globals) none =
     ap (λ b. map (λ g. g.item) (cond b (g ∷ filter (λ g. g.is_var) globals) (filter (λ g. g.is_var) globals))) (left_false g.is_var (list_any (λ g. g.is_var) globals) none)

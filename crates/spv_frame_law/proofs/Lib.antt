@@ -5,3 +5,4 @@ pub mod Entering
 pub mod Evaluating
 pub mod Running
 pub mod Sharing
+pub mod Levels
