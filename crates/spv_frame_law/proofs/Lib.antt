@@ -6,3 +6,4 @@ pub mod Evaluating
 pub mod Running
 pub mod Sharing
 pub mod Levels
+pub mod Apart

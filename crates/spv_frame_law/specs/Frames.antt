@@ -2,16 +2,19 @@
 use Rattle.std.specs.Prelude.{ℕ, Bool, true, false, ◌||◌, not, List, [], ◌∷◌, ◌++◌, map, length, Option, Some, None, IsTrue, ◌≡◌}
 use Rattle.std.specs.List.{list_any, flat_map}
 use Rattle.spv_names.specs.declared.names.Symbol.{Symbol}
+use Rattle.spv_logic.specs.declared.operators.Head.{Head}
+use Rattle.spv_logic.specs.declared.operators.Head.TheVariants as head
 use Rattle.spv_program.specs.declared.types.Item.{Item}
 use Rattle.spv_program.specs.declared.types.Item.TheVariants.{Variable, Class}
 use Rattle.spv_program.specs.Lists.{found}
 use Rattle.spv_logic.specs.declared.conditions.RoutineId.{RoutineId}
 use Rattle.spv_program.specs.Programs.{GlobalItem, Routine, Program, routine_at}
-use Rattle.spv_program.specs.Scopes.{name_type}
+use Rattle.spv_program.specs.Scopes.{is_own, name_type}
 use Rattle.spv_program.specs.Frames.{is_initial}
-use Rattle.spv_program.specs.Uses.{Root, Own, Shared, same_item}
+use Rattle.spv_program.specs.Uses.{Root, Own, Shared, same_root, name_root}
 use Rattle.spv_program.specs.Changes.{var_items}
 use Rattle.spv_meaning.specs.Places.{Place, Binding, Frame, State, ProgramVariable, Holding, Referring, whole}
+use Rattle.spv_meaning.specs.Views.{sees}
 use Rattle.spv_meaning.specs.Starts.{Area, At, CellsOf, bound_area, frame_areas}
 
 -- the area of a variable or a class of the program
@@ -49,3 +52,16 @@ routine_areas r state = frame_areas state.frames ++ map area_of_item (var_items 
 -- an INITIAL name of a routine stands for nothing that a statement of the routine may use
 pub record InitialNamesAreHidden (p : Program) : Type 0 where
   pub each : (id : RoutineId) (r : Routine) → routine_at p id ≡ Some r → (x : Symbol) → IsTrue (is_initial r x) → name_type p (Some r) x ≡ None
+
+-- ---- what shows
+
+-- whether a root is an own name of a routine, or an item that it sees
+abbrev pub root_shown : Option Routine → Root → Bool
+root_shown here (Own x) = is_own here x
+root_shown here (Shared i) = sees here i
+
+-- whether a variable or a class of a view is that of one of these roots
+abbrev pub is_of_one : Option Routine → List Root → Head → Bool
+is_of_one here roots (head.Var x s n) = list_any (same_root (name_root (is_own here) x)) roots
+is_of_one here roots (head.ClassVar t n) = list_any (same_root (Shared (Class t))) roots
+is_of_one here roots _ = false

@@ -1,28 +1,33 @@
 -- What is proved of what runs write.
-use Rattle.std.specs.Prelude.{◌≡◌, ℕ, zero, suc, List, ◌++◌, map, Option, Some, None, IsTrue}
+use Rattle.std.specs.Prelude.{◌≡◌, ℕ, zero, suc, false, List, [], ◌∷◌, Option, Some, None, IsTrue}
 use Rattle.std.specs.List.{list_all}
 use Rattle.spv_logic.specs.declared.types.TypeId.{TypeId}
 use Rattle.spv_logic.specs.declared.types.Sort.{Sort}
 use Rattle.spv_logic.specs.declared.conditions.RoutineId.{RoutineId}
+use Rattle.spv_logic.specs.declared.operators.Head.{Head}
 use Rattle.spv_logic.specs.Values.{Value}
+use Rattle.spv_logic.specs.Fits.{fits}
 use Rattle.spv_program.specs.Expressions.{Expression, Designator}
 use Rattle.spv_program.specs.Statements.{Statement}
-use Rattle.spv_program.specs.Programs.{Routine, Program, routine_at, routine_in}
+use Rattle.spv_program.specs.Programs.{Routine, Program, shapes, routine_at, routine_in}
 use Rattle.spv_program.specs.Scopes.{is_own}
+use Rattle.spv_program.specs.Uses.{Root}
 use Rattle.spv_program.specs.Frames.{root_of, framed}
 use Rattle.spv_program.specs.Changes.{changed_roots}
 use Rattle.spv_program.specs.ExpressionTypes.{expression_sort, designator_type}
 use Rattle.spv_program.specs.Typing.{statement_ok, well_typed}
-use Rattle.spv_meaning.specs.Places.{State}
+use Rattle.spv_meaning.specs.Places.{Place, State, put}
+use Rattle.spv_meaning.specs.Views.{now_view}
 use Rattle.spv_meaning.specs.Outcomes.{Ended}
 use Rattle.spv_meaning.specs.Levels.{Here, Level, pop}
 use Rattle.spv_meaning.specs.Evaluation.{Got, Fixed, evaluate, fix}
 use Rattle.spv_meaning.specs.Walks.{level, run}
 use Rattle.spv_meaning.specs.FrameTypes.{FrameType, IsIn}
-use Rattle.spv_meaning.specs.Starts.{IsRight, IsRightFor}
+use Rattle.spv_meaning.specs.Starts.{Area, IsRight, IsRightFor, IsStart, apart}
 use Rattle.spv_meaning.specs.Correct.{begun}
+use Rattle.spv_facts.specs.Places.{IsPlace}
 use Rattle.spv_writes.specs.Writes.{Writes, is_in_one}
-use Rattle.spv_frame_law.specs.Frames.{InitialNamesAreHidden, root_areas, areas_of, routine_areas}
+use Rattle.spv_frame_law.specs.Frames.{InitialNamesAreHidden, root_areas, areas_of, routine_areas, root_shown, is_of_one}
 
 -- the programs that the frame law is about: well typed, framed, and no INITIAL name of a routine hides what its statements
 -- may use
@@ -80,3 +85,35 @@ FunctionsChangeTheirFramesAlone =
     (p : Program) → IsFramed p → (id : RoutineId) (r : Routine) (t : TypeId) → routine_at p id ≡ Some r → r.result ≡ Some t → (state : State) → IsRightFor p (Some id) state
     → (turns : ℕ) (choices : List Value) (after : State) → (run p turns (begun p (Some id) state) r.body state choices).end ≡ Ended after
     → pop after ≡ pop state
+
+-- ---- what stays apart
+
+-- where nothing overlaps that a routine has, nothing overlaps after writing
+abbrev pub WritingKeepsApart : Type 0
+WritingKeepsApart =
+    (p : Program) (here : Option RoutineId) (state : State) → IsRightFor p here state → IsTrue (apart (routine_in p here) state)
+    → (areas : List Area) (after : State) → Writes p areas state after → IsTrue (apart (routine_in p here) after)
+
+-- a statement that ended, from a start, ended in a start
+abbrev pub StatementsLeaveStarts : Type 0
+StatementsLeaveStarts =
+    (p : Program) → IsFramed p → (here : Here) (s : Statement) → IsTrue (statement_ok p (routine_in p here.routine) s) → (state : State) → IsStart p here.routine state
+    → (turns : ℕ) (choices : List Value) (after : State) → (run p turns here s state choices).end ≡ Ended after → IsStart p here.routine after
+
+-- ---- views
+
+-- after writing in the areas of roots that show, from a start, every other name and class of the view shows what it did
+abbrev pub OtherNamesShowWhatTheyDid : Type 0
+OtherNamesShowWhatTheyDid =
+    (p : Program) (here : Option RoutineId) (state : State) → IsStart p here state
+    → (roots : List Root) → IsTrue (list_all (root_shown (routine_in p here)) roots)
+    → (after : State) → Writes p (areas_of state.frames roots) state after
+    → (h : Head) → is_of_one (routine_in p here) roots h ≡ false → now_view p here after h ≡ now_view p here state h
+
+-- a put at or below one name of the view, or in a cell of one class, changes that name alone, or that class
+abbrev pub PutChangesOneOfTheView : Type 0
+PutChangesOneOfTheView =
+    (p : Program) (here : Option RoutineId) (state : State) → IsStart p here state
+    → (root : Root) → IsTrue (root_shown (routine_in p here) root)
+    → (a : Place) (e : Sort) (v : Value) → IsPlace (shapes p) state a e → IsTrue (fits (shapes p) v e) → IsTrue (is_in_one state.heap (root_areas state.frames root) a)
+    → (h : Head) → is_of_one (routine_in p here) (root ∷ []) h ≡ false → now_view p here (put state a v) h ≡ now_view p here state h
