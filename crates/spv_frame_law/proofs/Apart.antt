@@ -46,7 +46,7 @@ items_apart heap (Variable x) (Class u) h = refl
 items_apart heap (Class t) (Variable y) h = refl
 items_apart heap (Class t) (Class u) h = h
 
-area_is : (g : GlobalItem) → item_area g ≡ area_of_item g.item
+pub area_is : (g : GlobalItem) → item_area g ≡ area_of_item g.item
 area_is g = of_item g.item g.is_var g.line
   where
     of_item : (i : Item) (is_var : Bool) (line : ℕ) → item_area (record { item = i; is_var = is_var; line = line }) ≡ area_of_item i

@@ -7,3 +7,5 @@ pub mod Running
 pub mod Sharing
 pub mod Levels
 pub mod Apart
+pub mod Starts
+pub mod Views

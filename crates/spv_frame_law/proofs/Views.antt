@@ -1,0 +1,164 @@
+-- What a view shows after writing.
+use Rattle.std.proofs.Common.{◌≡◌, ℕ, zero, suc, Bool, true, false, cond, not, ◌&&◌, ◌||◌, List, [], ◌∷◌, ◌++◌, map, filter, length, refl, sym, ap, subst, ◌∙◌, nat_eq, Option, Some, None, is_some, option_map}
+use Rattle.std.specs.Option.{option_and_then}
+use Rattle.std.specs.List.{list_all, list_any}
+use Rattle.std.proofs.lemmas.Bool.{false≢true}
+use Rattle.spv_list.proofs.Tests.{left_true, right_true}
+use Rattle.spv_names.specs.declared.names.Symbol.{Symbol}
+use Rattle.spv_logic.specs.declared.types.TypeId.{TypeId}
+use Rattle.spv_logic.specs.declared.types.Sort.{Sort}
+use Rattle.spv_logic.specs.declared.conditions.RoutineId.{RoutineId}
+use Rattle.spv_logic.specs.declared.operators.Head.{Head}
+use Rattle.spv_logic.specs.declared.operators.Head.TheVariants as head
+use Rattle.spv_logic.specs.Values.{Value}
+use Rattle.spv_logic.specs.Fits.{fits}
+use Rattle.spv_program.specs.declared.types.Item.{Item}
+use Rattle.spv_program.specs.declared.types.Item.TheVariants.{Variable, Class}
+use Rattle.spv_program.specs.Lists.{same_name, found, all_differ}
+use Rattle.spv_program.specs.Types.{sort_of}
+use Rattle.spv_program.specs.Programs.{Routine, Program, shapes, routine_at, routine_in}
+use Rattle.spv_program.specs.Scopes.{own_names, own_names_in, is_own}
+use Rattle.spv_program.specs.Uses.{Root, Own, Shared, same_root, name_root}
+use Rattle.spv_program.specs.Frames.{lists}
+use Rattle.spv_program.proofs.SortFacts.{nothing_there, some_is}
+use Rattle.spv_meaning.specs.Places.{Place, Binding, Frame, HeapRow, State, ProgramVariable, Holding, Referring, whole, look, put}
+use Rattle.spv_meaning.specs.Views.{bound_place, place_in, place_of, class_of, sees, shown_names, shown_type, of_sort, now_view}
+use Rattle.spv_meaning.specs.FrameTypes.{FrameType, IsIn, frame_of, frames_right, in_main, in_routine}
+use Rattle.spv_meaning.specs.Starts.{Area, At, CellsOf, IsRight, IsRightFor, IsStart, is_of_type, overlap, bound_area, frame_areas, item_area, apart}
+use Rattle.spv_meaning.proofs.RoutineStarts.{found_passes}
+use Rattle.spv_facts.specs.Places.{IsPlace}
+use Rattle.spv_preservation.proofs.Roots.{first_frame}
+use Rattle.spv_writes.specs.Writes.{Writes, is_in, is_in_one, is_touched}
+use Rattle.spv_writes.proofs.Lists.{any_left}
+use Rattle.spv_writes.proofs.Kept.{one_put, untouched_stays, class_stays}
+use Rattle.spv_writes.proofs.Outlines.{outlines_stay, places_stay}
+use Rattle.spv_frame_law.specs.Frames.{area_of_item, root_areas, areas_of, root_shown, is_of_one}
+use Rattle.spv_frame_law.proofs.Names.{own_bound}
+use Rattle.spv_frame_law.proofs.Apart.{own_untouched, item_untouched, main_untouched}
+
+-- ---- what shows is touched by no area of other roots
+
+-- the place of a name is what the name covers
+bound_is : (number : ℕ) (x : Symbol) (b : Binding) → At (bound_place number x (Some b)) ≡ bound_area number (x, b)
+bound_is number x (Holding v) = refl
+bound_is number x (Referring a) = refl
+
+-- a name that shows and is no own name is a variable that is seen
+found_append : {X : Type 0} (xs ys : List (Symbol × X)) (x : Symbol) → is_some (found xs x) ≡ false → found (xs ++ ys) x ≡ found ys x
+found_append [] ys x none = refl
+found_append {X} (n ∷ xs) ys x none = by_name (same_name n.0 x) none (found_append xs ys x)
+  where
+    by_name : (b : Bool) → is_some (cond b (Some n.1) (found xs x)) ≡ false → (is_some (found xs x) ≡ false → found (xs ++ ys) x ≡ found ys x) → cond b (Some n.1) (found (xs ++ ys) x) ≡ found ys x
+    by_name true none later = absurd (false≢true (sym none))
+    by_name false none later = later none
+
+shown_seen : (p : Program) (here : Option Routine) (x : Symbol) (t : TypeId) → shown_type p here x ≡ Some t → is_own here x ≡ false → sees here (Variable x) ≡ true
+shown_seen p here x t shown other =
+    found_passes (λ y. sees here (Variable y)) p.variables x t (sym (found_append (own_names_in here) (filter (λ n. sees here (Variable n.0)) p.variables) x other) ∙ shown)
+
+-- where a routine or the main block runs, no area of roots that show touches the place of another name, or another class
+record Untouched (p : Program) (here : Option RoutineId) (state : State) (roots : List Root) : Type 0 where
+  name : (x : Symbol) (t : TypeId) → shown_type p (routine_in p here) x ≡ Some t → list_any (same_root (name_root (is_own (routine_in p here)) x)) roots ≡ false → is_touched state.heap (areas_of state.frames roots) (At (place_of here state x)) ≡ false
+  class : (t : TypeId) → sees (routine_in p here) (Class t) ≡ true → list_any (same_root (Shared (Class t))) roots ≡ false → is_touched state.heap (areas_of state.frames roots) (CellsOf t) ≡ false
+
+main_shown : (p : Program) (state : State) (roots : List Root) → list_all (root_shown None) roots ≡ true → Untouched p None state roots
+main_shown p state roots shown = record {
+  name = λ x t is other. main_untouched state.heap state.frames (Variable x) roots shown other;
+  class = λ t seen other. main_untouched state.heap state.frames (Class t) roots shown other;
+}
+
+module _ (p : Program) (id : RoutineId) (r : Routine) (older : List FrameType) (state : State) (f : Frame) (frames : List Frame) (is : state.frames ≡ f ∷ frames) (right : frames_right p (frame_of id r ∷ older) state.heap (f ∷ frames) ≡ true) (parts : apart (Some r) state ≡ true) (roots : List Root) (shown : list_all (root_shown (Some r)) roots ≡ true) where
+  differ : all_differ (overlap state.heap) (map (bound_area (length frames)) f.names ++ map item_area r.globals) ≡ true
+  differ = ap (λ k. all_differ (overlap state.heap) (frame_areas k ++ map item_area r.globals)) (sym is) ∙ parts
+
+  own_is : (x : Symbol) → is_own (Some r) x ≡ is_some (found f.names x)
+  own_is x = own_bound p older state.heap r f.names x (first_frame p (frame_of id r) older state.heap f frames right).names
+
+  shown_name : (x : Symbol) (t : TypeId) → shown_type p (Some r) x ≡ Some t → list_any (same_root (name_root (is_own (Some r)) x)) roots ≡ false → is_touched state.heap (areas_of (f ∷ frames) roots) (At (place_in (f ∷ frames) x)) ≡ false
+  shown_name x t told other = by_found (found f.names x) refl (own_is x) other
+    where
+      by_found : (o : Option Binding) → found f.names x ≡ o → is_own (Some r) x ≡ is_some (found f.names x) → list_any (same_root (name_root (is_own (Some r)) x)) roots ≡ false → is_touched state.heap (areas_of (f ∷ frames) roots) (At (place_in (f ∷ frames) x)) ≡ false
+      by_found None there own other =
+          let none : is_own (Some r) x ≡ false = own ∙ ap is_some there in
+          ap (λ o. is_touched state.heap (areas_of (f ∷ frames) roots) (At (bound_place (length frames) x o))) there
+          ∙ item_untouched state.heap r f frames differ (Variable x) (shown_seen p (Some r) x t told none) roots shown
+          (ap (λ b. list_any (same_root (cond b (Own x) (Shared (Variable x)))) roots) (sym none) ∙ other)
+      by_found (Some b) there own other =
+          let has : is_own (Some r) x ≡ true = own ∙ ap is_some there in
+          ap (λ o. is_touched state.heap (areas_of (f ∷ frames) roots) (At (bound_place (length frames) x o))) there
+          ∙ (ap (is_touched state.heap (areas_of (f ∷ frames) roots)) (bound_is (length frames) x b)
+          ∙ own_untouched state.heap r f frames differ x b there roots shown
+          (ap (λ c. list_any (same_root (cond c (Own x) (Shared (Variable x)))) roots) (sym has) ∙ other))
+
+  shown_class : (t : TypeId) → sees (Some r) (Class t) ≡ true → list_any (same_root (Shared (Class t))) roots ≡ false → is_touched state.heap (areas_of (f ∷ frames) roots) (CellsOf t) ≡ false
+  shown_class t seen other = item_untouched state.heap r f frames differ (Class t) seen roots shown other
+
+routine_shown : (p : Program) (id : RoutineId) (r : Routine) → routine_at p id ≡ Some r → (older : List FrameType) (state : State) → IsRight p (frame_of id r ∷ older) state → apart (Some r) state ≡ true → (roots : List Root) → list_all (root_shown (Some r)) roots ≡ true → Untouched p (Some id) state roots
+routine_shown p id r there older state right parts roots shown = by_frames state.frames refl right.frames
+  where
+    by_frames : (frames : List Frame) → state.frames ≡ frames → frames_right p (frame_of id r ∷ older) state.heap frames ≡ true → Untouched p (Some id) state roots
+    by_frames [] is h = absurd (false≢true h)
+    by_frames (f ∷ frames) is h = record {
+      name = λ x t told other.
+          ap (λ k. is_touched state.heap (areas_of k roots) (At (place_in k x))) is
+          ∙ shown_name p id r older state f frames is h parts roots shown x t (ap (λ o. shown_type p o x) (sym there) ∙ told) (ap (λ o. list_any (same_root (name_root (is_own o) x)) roots) (sym there) ∙ other);
+      class = λ t seen other.
+          ap (λ k. is_touched state.heap (areas_of k roots) (CellsOf t)) is
+          ∙ shown_class p id r older state f frames is h parts roots shown t (ap (λ o. sees o (Class t)) (sym there) ∙ seen) other;
+    }
+
+untouched : (p : Program) (here : Option RoutineId) (state : State) → IsStart p here state → (roots : List Root) → list_all (root_shown (routine_in p here)) roots ≡ true → Untouched p here state roots
+untouched p here state start roots shown = by_types here start.right.types start.right.inside start.right.right start.areas shown
+  where
+    by_types : (here : Option RoutineId) (types : List FrameType) → IsIn p here types → IsRight p types state → apart (routine_in p here) state ≡ true → list_all (root_shown (routine_in p here)) roots ≡ true → Untouched p here state roots
+    by_types None _ (in_main types) right parts shown = main_shown p state roots shown
+    by_types (Some _) _ (in_routine id r older there) right parts shown =
+        routine_shown p id r there older state right (ap (λ o. apart o state) (sym there) ∙ parts) roots (ap (λ o. list_all (root_shown o) roots) (sym there) ∙ shown)
+
+-- ---- views
+
+place_stays : (p : Program) (areas : List Area) (here : Option RoutineId) (s t : State) → Writes p areas s t → (x : Symbol) → place_of here t x ≡ place_of here s x
+place_stays p areas None s t w x = refl
+place_stays p areas (Some id) s t w x = places_stay s t (outlines_stay p areas s t w) x
+
+value_there : (p : Program) (t : TypeId) (o : Option Value) → is_of_type p t o ≡ true → is_some o ≡ true
+value_there p t None h = absurd (false≢true h)
+value_there p t (Some v) h = refl
+
+pub view_stays : (p : Program) (here : Option RoutineId) (state : State) → IsStart p here state → (roots : List Root) → list_all (root_shown (routine_in p here)) roots ≡ true → (after : State) → Writes p (areas_of state.frames roots) state after
+    → (h : Head) → is_of_one (routine_in p here) roots h ≡ false → now_view p here after h ≡ now_view p here state h
+view_stays p here state start roots shown after w (head.Var x s zero) other = by_type (shown_type p (routine_in p here) x) refl
+  where
+    held : (t : TypeId) → shown_type p (routine_in p here) x ≡ Some t → (o : Option Value) → look state (place_of here state x) ≡ o → is_some o ≡ true → look after (place_of here state x) ≡ look state (place_of here state x)
+    held t told None is h = absurd (false≢true h)
+    held t told (Some v) is h =
+        untouched_stays p (areas_of state.frames roots) state after w (place_of here state x) v is ((untouched p here state start roots shown).name x t told other) ∙ sym is
+
+    by_type : (o : Option TypeId) → shown_type p (routine_in p here) x ≡ o → now_view p here after (head.Var x s zero) ≡ now_view p here state (head.Var x s zero)
+    by_type None told = ap (λ o. of_sort (option_map (sort_of p.forms) o) s (look after (place_of here after x))) told ∙ sym (ap (λ o. of_sort (option_map (sort_of p.forms) o) s (look state (place_of here state x))) told)
+    by_type (Some t) told =
+        ap (of_sort (option_map (sort_of p.forms) (shown_type p (routine_in p here) x)) s)
+        (ap (look after) (place_stays p (areas_of state.frames roots) here state after w x)
+        ∙ held t told (look state (place_of here state x)) refl (value_there p t (look state (place_of here state x)) (start.names x t told)))
+view_stays p here state start roots shown after w (head.Var x s (suc n)) other = refl
+view_stays p here state start roots shown after w (head.ClassVar t zero) other = by_seen (sees (routine_in p here) (Class t)) refl
+  where
+    by_seen : (b : Bool) → sees (routine_in p here) (Class t) ≡ b → now_view p here after (head.ClassVar t zero) ≡ now_view p here state (head.ClassVar t zero)
+    by_seen true seen =
+        ap (λ c. cond (sees (routine_in p here) (Class t)) (Some c) None)
+        (class_stays p (areas_of state.frames roots) state after w t ((untouched p here state start roots shown).class t seen other))
+    by_seen false seen =
+        ap (λ b. cond b (Some (class_of (shapes p) after.heap t)) None) seen ∙ sym (ap (λ b. cond b (Some (class_of (shapes p) state.heap t)) None) seen)
+view_stays p here state start roots shown after w (head.ClassVar t (suc n)) other = refl
+view_stays p here state start roots shown after w _ other = refl
+
+-- one put
+pub put_shows : (p : Program) (here : Option RoutineId) (state : State) → IsStart p here state → (root : Root) → root_shown (routine_in p here) root ≡ true → (a : Place) (e : Sort) (v : Value) → IsPlace (shapes p) state a e → fits (shapes p) v e ≡ true → is_in_one state.heap (root_areas state.frames root) a ≡ true
+    → (h : Head) → is_of_one (routine_in p here) (root ∷ []) h ≡ false → now_view p here (put state a v) h ≡ now_view p here state h
+put_shows p here state start root shown a e v place fit inside h other =
+    view_stays p here state start (root ∷ []) (alone (root_shown (routine_in p here) root) shown) (put state a v)
+    (one_put p (areas_of state.frames (root ∷ [])) state a e v place fit (any_left (is_in state.heap a) (root_areas state.frames root) [] inside)) h other
+  where
+    alone : (b : Bool) → b ≡ true → (b && true) ≡ true
+    alone true h = refl
+    alone false h = h
