@@ -4,3 +4,4 @@ pub mod Steps
 pub mod Kept
 pub mod Outlines
 pub mod Popped
+pub mod Agreeing
