@@ -85,7 +85,7 @@ still_there heap new cell t nowhere told = by_cell (nat_eq new.cell cell) refl
     by_cell false e = told
 
 -- a new cell with a value of its type
-with_cell_right : (p : Program) (types : List FrameType) (before : List HeapRow) (state : State) (cell : ℕ) (t : TypeId) (v : Value) → Leaves p types before state → is_new state.heap cell ≡ true → fits (shapes p) v (sort_of p.forms t) ≡ true → Leaves p types before (with_new_cell cell t v state)
+pub with_cell_right : (p : Program) (types : List FrameType) (before : List HeapRow) (state : State) (cell : ℕ) (t : TypeId) (v : Value) → Leaves p types before state → is_new state.heap cell ≡ true → fits (shapes p) v (sort_of p.forms t) ≡ true → Leaves p types before (with_new_cell cell t v state)
 with_cell_right p types before state cell t v leaves new fit =
     let row : HeapRow = record { cell = cell; type = t; content = v } in
     let grows : Grows state.heap (row ∷ state.heap) = record { keeps = λ other u e. still_there state.heap row other u (new_is_nowhere state.heap cell new) e } in

@@ -5,3 +5,4 @@ pub mod Kept
 pub mod Outlines
 pub mod Popped
 pub mod Agreeing
+pub mod Right
