@@ -6,3 +6,4 @@ pub mod Outlines
 pub mod Popped
 pub mod Agreeing
 pub mod Right
+pub mod Rows

@@ -59,6 +59,24 @@ picked {X} f g (x ∷ xs) h k = by_first (f x) refl h (λ h. picked f g xs h (ri
     by_first true e h later = record { item = x; passes = e; fails = left_false (g x) (list_any g xs) k }
     by_first false e h later = later h
 
+-- something that passes two tests
+pub record Chosen {X : Type 0} (f g : X → Bool) : Type 0 where
+  pub item : X
+  pub one : f item ≡ true
+  pub two : g item ≡ true
+
+pub chosen_from : {X : Type 0} (f g : X → Bool) (xs : List X) → list_any f xs ≡ true → list_all g xs ≡ true → Chosen f g
+chosen_from f g [] h k = absurd (false≢true h)
+chosen_from {X} f g (x ∷ xs) h k = by_first (f x) refl h (λ h. chosen_from f g xs h (right_true (g x) (list_all g xs) k))
+  where
+    by_first : (b : Bool) → f x ≡ b → (b || list_any f xs) ≡ true → (list_any f xs ≡ true → Chosen f g) → Chosen f g
+    by_first true e h later = record { item = x; one = e; two = left_true (g x) (list_all g xs) k }
+    by_first false e h later = later h
+
+pub all_same : {X : Type 0} (f g : X → Bool) → ((x : X) → f x ≡ g x) → (xs : List X) → list_all f xs ≡ list_all g xs
+all_same f g same [] = refl
+all_same f g same (x ∷ xs) = λ i. same x i && all_same f g same xs i
+
 pub any_same : {X : Type 0} (f g : X → Bool) → ((x : X) → f x ≡ g x) → (xs : List X) → list_any f xs ≡ list_any g xs
 any_same f g same [] = refl
 any_same f g same (x ∷ xs) = λ i. same x i || any_same f g same xs i

@@ -150,7 +150,7 @@ one_type heap (CellOf cell) t u h k = sym (lies_by heap cell u t (lies_typed hea
 -- ---- areas
 
 -- a place in an area that does not overlap another place parts from that place
-in_apart : (heap : List HeapRow) (b a : Place) (area : Area) → is_in heap b area ≡ true → overlap heap area (At a) ≡ false → places_overlap b a ≡ false
+pub in_apart : (heap : List HeapRow) (b a : Place) (area : Area) → is_in heap b area ≡ true → overlap heap area (At a) ≡ false → places_overlap b a ≡ false
 in_apart heap b a (At c) inside apart = not_so (places_overlap b a) (λ h. sym apart ∙ overlaps_above b c a inside h)
 in_apart heap b a (CellsOf t) inside apart =
     not_so (places_overlap b a) (λ h. sym apart ∙ (ap (λ r. lies_in heap r t) (sym (roots_same b.root a.root (left_true (same_root b.root a.root) (paths_meet b.path a.path) h))) ∙ inside))

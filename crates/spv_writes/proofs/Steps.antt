@@ -55,7 +55,7 @@ put_lies state r w (OwnValue n x) t = refl
 put_lies state r w (CellOf cell) t =
     cell_test t (row_of (with_root state r w).heap cell) ∙ (ap (typed t) (put_types state r w cell) ∙ sym (cell_test t (row_of state.heap cell)))
 
-put_overlaps : (state : State) (r : Root) (w : Value) (one two : Area) → overlap (with_root state r w).heap one two ≡ overlap state.heap one two
+pub put_overlaps : (state : State) (r : Root) (w : Value) (one two : Area) → overlap (with_root state r w).heap one two ≡ overlap state.heap one two
 put_overlaps state r w (At a) (At b) = refl
 put_overlaps state r w (At a) (CellsOf t) = put_lies state r w a.root t
 put_overlaps state r w (CellsOf t) (At b) = put_lies state r w b.root t
@@ -126,13 +126,13 @@ new_lies state cell t v new (CellOf other) w there u =
     let r = behind content_of (row_of state.heap other) w there in
     ap (λ o. is_cell_of u o) (new_row state.heap cell other t v r.item new r.is) ∙ sym (ap (λ o. is_cell_of u o) r.is)
 
+pub new_overlap : (state : State) (cell : ℕ) (t : TypeId) (v : Value) → is_new state.heap cell ≡ true → (a : Place) (w : Value) → root_value state a.root ≡ Some w → (b : Area) → overlap (with_new_cell cell t v state).heap b (At a) ≡ overlap state.heap b (At a)
+new_overlap state cell t v new a w there (At b) = refl
+new_overlap state cell t v new a w there (CellsOf u) = new_lies state cell t v new a.root w there u
+
 -- what touched no place that is there, touches it beside a new cell neither
 pub new_touches : (state : State) (cell : ℕ) (t : TypeId) (v : Value) → is_new state.heap cell ≡ true → (areas : List Area) (a : Place) (w : Value) → root_value state a.root ≡ Some w → is_touched (with_new_cell cell t v state).heap areas (At a) ≡ is_touched state.heap areas (At a)
-new_touches state cell t v new areas a w there = any_same _ (λ b. overlap state.heap b (At a)) each areas
-  where
-    each : (b : Area) → overlap (with_new_cell cell t v state).heap b (At a) ≡ overlap state.heap b (At a)
-    each (At b) = refl
-    each (CellsOf u) = new_lies state cell t v new a.root w there u
+new_touches state cell t v new areas a w there = any_same _ (λ b. overlap state.heap b (At a)) (new_overlap state cell t v new a w there) areas
 
 -- a new cell of another type is none of a type
 new_none : (state : State) (cell : ℕ) (t u : TypeId) (v : Value) → same_type t u ≡ false → (r : Root) → lies_in state.heap r u ≡ false → lies_in (with_new_cell cell t v state).heap r u ≡ false
