@@ -37,7 +37,7 @@ pub record There {X : Type 0} (o : Option X) (test : X → Bool) : Type 0 where
   pub is : o ≡ Some item
   pub passes : test item ≡ true
 
-sort_there : (o : Option Sort) (test : Sort → Bool) → on_sort o test ≡ true → There o test
+pub sort_there : (o : Option Sort) (test : Sort → Bool) → on_sort o test ≡ true → There o test
 sort_there None test h = absurd (false≢true h)
 sort_there (Some s) test h = record { item = s; is = refl; passes = h }
 

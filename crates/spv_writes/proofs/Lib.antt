@@ -7,3 +7,4 @@ pub mod Popped
 pub mod Agreeing
 pub mod Right
 pub mod Rows
+pub mod Parts

@@ -46,6 +46,18 @@ has_cells_of areas t = list_any (is_cells_of t) areas
 abbrev pub is_touched : List HeapRow → List Area → Area → Bool
 is_touched heap areas area = list_any (λ b. overlap heap b area) areas
 
+-- a part of a place
+abbrev pub part_of : Place → List PathStep → Place
+part_of a rel = record { root = a.root; path = a.path ++ rel }
+
+abbrev pub lies_below : Place → Area → Bool
+lies_below a (At b) = is_below b a
+lies_below a (CellsOf t) = false
+
+-- whether each of the areas that overlaps a place lies at or below a part of it
+abbrev pub is_touched_below : List HeapRow → List Area → Place → List PathStep → Bool
+is_touched_below heap areas a rel = list_all (λ b. not (overlap heap b (At a)) || lies_below (part_of a rel) b) areas
+
 -- ---- writing
 
 -- a state becomes another by puts in these areas, each of a value of the place's sort, and by new cells of the types whose
