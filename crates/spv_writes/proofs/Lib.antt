@@ -8,3 +8,4 @@ pub mod Agreeing
 pub mod Right
 pub mod Rows
 pub mod Parts
+pub mod Classes

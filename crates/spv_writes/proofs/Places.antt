@@ -161,7 +161,7 @@ one_apart heap areas b a inside apart =
     in_apart heap b a q.item q.passes q.fails
 
 -- and one in an area that does not overlap the cells of a type is no such cell
-in_no_class : (heap : List HeapRow) (b : Place) (t : TypeId) (area : Area) → is_in heap b area ≡ true → overlap heap area (CellsOf t) ≡ false → lies_in heap b.root t ≡ false
+pub in_no_class : (heap : List HeapRow) (b : Place) (t : TypeId) (area : Area) → is_in heap b area ≡ true → overlap heap area (CellsOf t) ≡ false → lies_in heap b.root t ≡ false
 in_no_class heap b t (At c) inside apart = ap (λ r. lies_in heap r t) (sym (below_root b c inside)) ∙ apart
 in_no_class heap b t (CellsOf u) inside apart = not_so (lies_in heap b.root t) (λ h. sym apart ∙ one_type heap b.root u t inside h)
 

@@ -9,7 +9,7 @@ use Rattle.spv_logic.specs.Values.{Value}
 use Rattle.spv_logic.specs.Fits.{fits}
 use Rattle.spv_program.specs.Types.{same_type, sort_of}
 use Rattle.spv_program.specs.Programs.{Program, shapes}
-use Rattle.spv_meaning.specs.Places.{Root, PathStep, Place, Binding, Frame, HeapRow, State, ProgramVariable, OwnValue, CellOf, Holding, Referring, put}
+use Rattle.spv_meaning.specs.Places.{Root, PathStep, Place, Binding, Frame, HeapRow, State, ProgramVariable, OwnValue, CellOf, Holding, Referring, whole, put}
 use Rattle.spv_meaning.specs.Walks.{is_new, with_new_cell}
 use Rattle.spv_meaning.specs.Starts.{Area, At, CellsOf, same_root, same_step, lies_in, overlap}
 use Rattle.spv_facts.specs.Places.{IsPlace}
@@ -57,6 +57,10 @@ lies_below a (CellsOf t) = false
 -- whether each of the areas that overlaps a place lies at or below a part of it
 abbrev pub is_touched_below : List HeapRow → List Area → Place → List PathStep → Bool
 is_touched_below heap areas a rel = list_all (λ b. not (overlap heap b (At a)) || lies_below (part_of a rel) b) areas
+
+-- whether each of the areas that overlaps the cells of a type lies in one cell
+abbrev pub is_touched_in : List HeapRow → List Area → TypeId → ℕ → Bool
+is_touched_in heap areas t cell = list_all (λ b. not (overlap heap b (CellsOf t)) || lies_below (whole (CellOf cell)) b) areas
 
 -- ---- writing
 
