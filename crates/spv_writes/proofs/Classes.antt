@@ -3,6 +3,7 @@ use Rattle.std.proofs.Common.{◌≡◌, ℕ, zero, suc, Bool, true, false, cond
 use Rattle.std.specs.Option.{option_and_then}
 use Rattle.std.specs.List.{list_all, list_any}
 use Rattle.std.specs.Ordering.{int_eq}
+use Rattle.std.specs.Cmp.Derive.{both_true}
 use Rattle.std.proofs.lemmas.Bool.{false≢true, eqb-true, eq-eqb}
 use Rattle.std.proofs.lemmas.Bool.Decides.{nat_tests}
 use Rattle.spv_list.proofs.Tests.{left_true, right_true}
@@ -19,7 +20,7 @@ use Rattle.spv_program.specs.Types.{same_type, sort_of}
 use Rattle.spv_program.specs.Programs.{Program, shapes}
 use Rattle.spv_program.proofs.SortFacts.{nothing_there, some_is, sort_is, Behind, behind}
 use Rattle.spv_program.proofs.ExpressionSorting.{same_types}
-use Rattle.spv_meaning.specs.Places.{Root, Place, HeapRow, State, ProgramVariable, OwnValue, CellOf, whole, row_of, content_of, root_value, with_content, with_root, part_at, with_part, look, put, value_or_zero}
+use Rattle.spv_meaning.specs.Places.{Root, PathStep, Place, HeapRow, State, ProgramVariable, OwnValue, CellOf, whole, row_of, content_of, root_value, with_content, with_root, part_at, with_part, look, put, value_or_zero}
 use Rattle.spv_meaning.specs.Views.{with_heap_row, class_of}
 use Rattle.spv_meaning.specs.Walks.{is_new, with_new_cell}
 use Rattle.spv_meaning.specs.Evaluation.{is_cell_of}
@@ -33,11 +34,11 @@ use Rattle.spv_facts.proofs.Places.{root_after}
 use Rattle.spv_preservation.proofs.Roots.{root_there}
 use Rattle.spv_preservation.proofs.Frames.{leaves_now}
 use Rattle.spv_preservation.proofs.Statements.{new_is_nowhere, with_cell_right}
-use Rattle.spv_writes.specs.Writes.{Writes, is_below, is_in, is_in_one, is_cells_of, has_cells_of, lies_below, is_touched_in}
-use Rattle.spv_writes.proofs.Lists.{not_so, clash, Chosen, chosen_from, all_same, number_swap}
+use Rattle.spv_writes.specs.Writes.{Writes, begins_with, is_below, is_in, is_in_one, is_cells_of, has_cells_of, lies_below, is_touched_in}
+use Rattle.spv_writes.proofs.Lists.{or_left, not_so, clash, Chosen, chosen_from, all_same, number_swap}
 use Rattle.spv_writes.proofs.Places.{roots_same, below_root, below_on, in_no_class, lies_by, types_swap}
 use Rattle.spv_writes.proofs.Steps.{put_types, put_overlaps, put_class, new_grows, new_look, new_class, new_is_another}
-use Rattle.spv_writes.proofs.Kept.{Steps, kept}
+use Rattle.spv_writes.proofs.Kept.{Steps, kept, one_put}
 use Rattle.spv_writes.proofs.Agreeing.{There, sort_there}
 use Rattle.spv_writes.proofs.Right.{put_stays_right}
 use Rattle.spv_writes.proofs.Rows.{InOrder, put_twice, put_back, put_either}
@@ -296,3 +297,23 @@ one_cell_written p ok types areas s t w right u cell type below =
       below = below;
     }) in
     q.is ∙ ap (λ o. set_cell c cell (value_or_zero o)) (sym q.there)
+
+-- a put at or below a cell
+pub put_in_cell : (p : Program) → shapes_ok (shapes p) ≡ true → (types : List FrameType) (s : State) → IsRight p types s → (u : TypeId) (cell : ℕ) → cell_type s.heap cell ≡ Some u → (path : List PathStep) (e : Sort) (w : Value) → IsPlace (shapes p) s (record { root = CellOf cell; path = path }) e → fits (shapes p) w e ≡ true
+    → class_of (shapes p) (put s (record { root = CellOf cell; path = path }) w).heap u ≡ set_cell (class_of (shapes p) s.heap u) cell (value_or_zero (look (put s (record { root = CellOf cell; path = path }) w) (whole (CellOf cell))))
+put_in_cell p ok types s right u cell type path e w place fit =
+    let a : Place = record { root = CellOf cell; path = path } in
+    let areas : List Area = At (whole (CellOf cell)) ∷ [] in
+    one_cell_written p ok types areas s (put s a w) (one_put p areas s a e w place fit (or_left (is_below a (whole (CellOf cell))) false (inside path))) right u cell type
+    (at_itself (not (lies_in s.heap (CellOf cell) u)))
+  where
+    same : (nat_eq cell cell && true) ≡ true
+    same = both_true (eq-eqb cell cell refl) refl
+
+    inside : (path : List PathStep) → (nat_eq cell cell && begins_with path []) ≡ true
+    inside [] = same
+    inside (x ∷ path) = same
+
+    at_itself : (b : Bool) → ((b || (nat_eq cell cell && true)) && true) ≡ true
+    at_itself true = refl
+    at_itself false = both_true same refl
