@@ -70,7 +70,7 @@ below_writes p typed to (suc n) l e = subst (LevelWrites p) (some_is e) (level_w
 
 -- ---- the frame law
 
-all_keep : (p : Program) → IsFramed p → AllKeepTo p
+pub all_keep : (p : Program) → IsFramed p → AllKeepTo p
 all_keep p f = keeps_to p f.typed f.framed f.hidden
 
 pub statement_writes : (p : Program) → IsFramed p → (here : Here) (types : List FrameType) → IsIn p here.routine types → (s : Statement) → statement_ok p (routine_in p here.routine) s ≡ true → (state : State) → IsRight p types state

@@ -132,11 +132,11 @@ module _ (p : Program) (r : Option Routine) (wide own : Symbol → Bool) (alike 
 
 -- ---- uses that are allowed
 
--- whether what is written is an own name, or one of these items
-abbrev use_kept : List Item → Use → Bool
-use_kept items u = not u.changes || is_own_or items u.root
+-- whether the root of what is written passes a test
+abbrev use_kept : (Root → Bool) → Use → Bool
+use_kept keep u = not u.changes || keep u.root
 
-item_itself : (i : Item) → same_item i i ≡ true
+pub item_itself : (i : Item) → same_item i i ≡ true
 item_itself (Variable x) = eq-eqb x.0 x.0 refl
 item_itself (Class t) = eq-eqb t.0 t.0 refl
 
@@ -167,7 +167,7 @@ abbrev Allowed : List GlobalItem → List Use → Type 0
 Allowed globals us = list_all (λ u. use_allowed globals u.root u.changes) us ≡ true
 
 abbrev Kept : List GlobalItem → List Use → Type 0
-Kept globals us = list_all (use_kept (var_items globals)) us ≡ true
+Kept globals us = list_all (use_kept (is_own_or (var_items globals))) us ≡ true
 
 all_kept : (globals : List GlobalItem) (us : List Use) → Allowed globals us → Kept globals us
 all_kept globals [] h = refl
@@ -180,31 +180,31 @@ same_kept globals us vs same h = all_kept globals vs (subst (Allowed globals) sa
 
 -- annotations write nothing
 mutual
-  formula_kept : (items : List Item) (own : Symbol → Bool) (f : Formula) → list_all (use_kept items) (formula_uses own f) ≡ true
-  formula_kept items own (formula.Numeral z) = refl
-  formula_kept items own (formula.Boolean b) = refl
-  formula_kept items own (formula.NilOf t) = refl
-  formula_kept items own (formula.Named line x) = refl
-  formula_kept items own (formula.ClassOf line t) = refl
-  formula_kept items own (formula.Element a i) = all_both (use_kept items) (formula_uses own a) (formula_uses own i) (formula_kept items own a) (formula_kept items own i)
-  formula_kept items own (formula.FieldOf r f) = formula_kept items own r
-  formula_kept items own (formula.Content line t q) = all_both (use_kept items) (formula_uses own q) (record { root = Shared (Class t); changes = false; line = line } ∷ []) (formula_kept items own q) refl
-  formula_kept items own (formula.Applied f fs) = formulas_kept items own fs
-  formula_kept items own (formula.Known b fs) = formulas_kept items own fs
-  formula_kept items own (formula.Negative f) = formula_kept items own f
-  formula_kept items own (formula.Calculated o f g) = all_both (use_kept items) (formula_uses own f) (formula_uses own g) (formula_kept items own f) (formula_kept items own g)
-  formula_kept items own (formula.Compared o f g) = all_both (use_kept items) (formula_uses own f) (formula_uses own g) (formula_kept items own f) (formula_kept items own g)
-  formula_kept items own (formula.Negated f) = formula_kept items own f
-  formula_kept items own (formula.Joined o f g) = all_both (use_kept items) (formula_uses own f) (formula_uses own g) (formula_kept items own f) (formula_kept items own g)
-  formula_kept items own (formula.Implied f g) = all_both (use_kept items) (formula_uses own f) (formula_uses own g) (formula_kept items own f) (formula_kept items own g)
+  formula_kept : (keep : Root → Bool) (own : Symbol → Bool) (f : Formula) → list_all (use_kept keep) (formula_uses own f) ≡ true
+  formula_kept keep own (formula.Numeral z) = refl
+  formula_kept keep own (formula.Boolean b) = refl
+  formula_kept keep own (formula.NilOf t) = refl
+  formula_kept keep own (formula.Named line x) = refl
+  formula_kept keep own (formula.ClassOf line t) = refl
+  formula_kept keep own (formula.Element a i) = all_both (use_kept keep) (formula_uses own a) (formula_uses own i) (formula_kept keep own a) (formula_kept keep own i)
+  formula_kept keep own (formula.FieldOf r f) = formula_kept keep own r
+  formula_kept keep own (formula.Content line t q) = all_both (use_kept keep) (formula_uses own q) (record { root = Shared (Class t); changes = false; line = line } ∷ []) (formula_kept keep own q) refl
+  formula_kept keep own (formula.Applied f fs) = formulas_kept keep own fs
+  formula_kept keep own (formula.Known b fs) = formulas_kept keep own fs
+  formula_kept keep own (formula.Negative f) = formula_kept keep own f
+  formula_kept keep own (formula.Calculated o f g) = all_both (use_kept keep) (formula_uses own f) (formula_uses own g) (formula_kept keep own f) (formula_kept keep own g)
+  formula_kept keep own (formula.Compared o f g) = all_both (use_kept keep) (formula_uses own f) (formula_uses own g) (formula_kept keep own f) (formula_kept keep own g)
+  formula_kept keep own (formula.Negated f) = formula_kept keep own f
+  formula_kept keep own (formula.Joined o f g) = all_both (use_kept keep) (formula_uses own f) (formula_uses own g) (formula_kept keep own f) (formula_kept keep own g)
+  formula_kept keep own (formula.Implied f g) = all_both (use_kept keep) (formula_uses own f) (formula_uses own g) (formula_kept keep own f) (formula_kept keep own g)
 
-  formulas_kept : (items : List Item) (own : Symbol → Bool) (fs : Formulas) → list_all (use_kept items) (formulas_uses own fs) ≡ true
-  formulas_kept items own no_formulas = refl
-  formulas_kept items own (formulas f fs) = all_both (use_kept items) (formula_uses own f) (formulas_uses own fs) (formula_kept items own f) (formulas_kept items own fs)
+  formulas_kept : (keep : Root → Bool) (own : Symbol → Bool) (fs : Formulas) → list_all (use_kept keep) (formulas_uses own fs) ≡ true
+  formulas_kept keep own no_formulas = refl
+  formulas_kept keep own (formulas f fs) = all_both (use_kept keep) (formula_uses own f) (formulas_uses own fs) (formula_kept keep own f) (formulas_kept keep own fs)
 
-annotation_kept : (items : List Item) (own : Symbol → Bool) (f : Option Annotation) → list_all (use_kept items) (annotation_uses own f) ≡ true
-annotation_kept items own None = refl
-annotation_kept items own (Some a) = formula_kept items own a.formula
+annotation_kept : (keep : Root → Bool) (own : Symbol → Bool) (f : Option Annotation) → list_all (use_kept keep) (annotation_uses own f) ≡ true
+annotation_kept keep own None = refl
+annotation_kept keep own (Some a) = formula_kept keep own a.formula
 
 -- ---- statements
 
@@ -214,7 +214,7 @@ module _ (p : Program) (r : Option Routine) (wide own : Symbol → Bool) (alike 
   allowed u = use_allowed globals u.root u.changes
 
   abbrev keeps : Use → Bool
-  keeps = use_kept (var_items globals)
+  keeps = use_kept (is_own_or (var_items globals))
 
   test_kept : (e : Expression) (s : Sort) → is_sort s (expression_sort p r e) ≡ true → Allowed globals (expression_uses wide e) → Kept globals (expression_uses own e)
   test_kept e s h all = same_kept globals (expression_uses wide e) (expression_uses own e) (expression_alike p r wide own alike e s (is_sort-true s (expression_sort p r e) h)) all
@@ -264,13 +264,13 @@ module _ (p : Program) (r : Option Routine) (wide own : Symbol → Bool) (alike 
     statement_kept (While line f e s) ok all =
         let parts = right_true (annotation_ok p (body_scope p r) f) (is_sort sort.Bool (expression_sort p r e) && statement_ok p r s) ok in
         parts_kept (annotation_uses wide f) (expression_uses wide e ++ statement_uses wide s) (annotation_uses own f) (expression_uses own e ++ statement_uses own s) all
-        (λ all. annotation_kept (var_items globals) own f) (λ all.
+        (λ all. annotation_kept (is_own_or (var_items globals)) own f) (λ all.
         parts_kept (expression_uses wide e) (statement_uses wide s) (expression_uses own e) (statement_uses own s) all
         (test_kept e sort.Bool (left_true (is_sort sort.Bool (expression_sort p r e)) _ parts)) (statement_kept s (right_true (is_sort sort.Bool (expression_sort p r e)) _ parts)))
     statement_kept (Repeat line f s e) ok all =
         let parts = right_true (annotation_ok p (body_scope p r) f) (is_sort sort.Bool (expression_sort p r e) && statement_ok p r s) ok in
         parts_kept (annotation_uses wide f) (statement_uses wide s ++ expression_uses wide e) (annotation_uses own f) (statement_uses own s ++ expression_uses own e) all
-        (λ all. annotation_kept (var_items globals) own f) (λ all.
+        (λ all. annotation_kept (is_own_or (var_items globals)) own f) (λ all.
         parts_kept (statement_uses wide s) (expression_uses wide e) (statement_uses own s) (expression_uses own e) all
         (statement_kept s (right_true (is_sort sort.Bool (expression_sort p r e)) _ parts)) (test_kept e sort.Bool (left_true (is_sort sort.Bool (expression_sort p r e)) _ parts)))
     statement_kept (For line f count s) ok all =
@@ -280,7 +280,7 @@ module _ (p : Program) (r : Option Routine) (wide own : Symbol → Bool) (alike 
         let ends_are = right_true (is_sort sort.Int (sort_of_type p (name_type p r count.variable))) _ head in
         let name = alike count.variable number.item number.is in
         parts_kept (annotation_uses wide f) (counter wide ∷ (expression_uses wide count.first ++ (expression_uses wide count.last ++ statement_uses wide s))) (annotation_uses own f) (counter own ∷ (expression_uses own count.first ++ (expression_uses own count.last ++ statement_uses own s))) all
-        (λ all. annotation_kept (var_items globals) own f) (λ all.
+        (λ all. annotation_kept (is_own_or (var_items globals)) own f) (λ all.
         parts_kept (counter wide ∷ []) (expression_uses wide count.first ++ (expression_uses wide count.last ++ statement_uses wide s)) (counter own ∷ []) (expression_uses own count.first ++ (expression_uses own count.last ++ statement_uses own s)) all
         (same_kept globals (counter wide ∷ []) (counter own ∷ []) (λ i. record { root = cond (name i) (Own count.variable) (Shared (Variable count.variable)); changes = true; line = line } ∷ [])) (λ all.
         parts_kept (expression_uses wide count.first) (expression_uses wide count.last ++ statement_uses wide s) (expression_uses own count.first) (expression_uses own count.last ++ statement_uses own s) all
@@ -291,7 +291,7 @@ module _ (p : Program) (r : Option Routine) (wide own : Symbol → Bool) (alike 
       where
         counter : (Symbol → Bool) → Use
         counter own = record { root = name_root own count.variable; changes = true; line = line }
-    statement_kept (Assert a) ok all = formula_kept (var_items globals) own a.formula
+    statement_kept (Assert a) ok all = formula_kept (is_own_or (var_items globals)) own a.formula
 
     arms_kept : (arms : Arms) → arms_ok p r arms ≡ true → Allowed globals (arms_uses wide arms) → Kept globals (arms_uses own arms)
     arms_kept no_arms ok all = refl
@@ -301,12 +301,12 @@ module _ (p : Program) (r : Option Routine) (wide own : Symbol → Bool) (alike 
 
 -- ---- routines
 
-kept_roots : (items : List Item) (us : List Use) → list_all (use_kept items) us ≡ true → list_all (is_own_or items) (map (λ u. u.root) (filter (λ u. u.changes) us)) ≡ true
-kept_roots items [] h = refl
-kept_roots items (u ∷ us) h = by_change u.changes (left_true (use_kept items u) _ h) (kept_roots items us (right_true (use_kept items u) _ h))
+kept_roots : (keep : Root → Bool) (us : List Use) → list_all (use_kept keep) us ≡ true → list_all keep (map (λ u. u.root) (filter (λ u. u.changes) us)) ≡ true
+kept_roots keep [] h = refl
+kept_roots keep (u ∷ us) h = by_change u.changes (left_true (use_kept keep u) _ h) (kept_roots keep us (right_true (use_kept keep u) _ h))
   where
-    by_change : (b : Bool) → (not b || is_own_or items u.root) ≡ true → list_all (is_own_or items) (map (λ u. u.root) (filter (λ u. u.changes) us)) ≡ true
-        → list_all (is_own_or items) (map (λ u. u.root) (cond b (u ∷ filter (λ u. u.changes) us) (filter (λ u. u.changes) us))) ≡ true
+    by_change : (b : Bool) → (not b || keep u.root) ≡ true → list_all keep (map (λ u. u.root) (filter (λ u. u.changes) us)) ≡ true
+        → list_all keep (map (λ u. u.root) (cond b (u ∷ filter (λ u. u.changes) us) (filter (λ u. u.changes) us))) ≡ true
     by_change true ok later = both_true ok later
     by_change false ok later = later
 
@@ -362,7 +362,7 @@ keeps_to p typed frames hidden = record { each = λ id q there. one id q there }
             (all_right allowed exit body (all_right allowed entry (exit ++ body) uses)) in
         record {
           body = all_both (is_own_or (var_items q.globals)) (map (λ u. u.root) (filter (λ u. u.changes) (statement_uses (is_own (Some q)) q.body))) (flat_map (changed_by_call p) (statement_calls q.body))
-              (kept_roots (var_items q.globals) (statement_uses (is_own (Some q)) q.body) written) (called_items p q.globals (statement_calls q.body) (covered_calls p (Some q) q.globals (statement_calls q.body) calls));
+              (kept_roots (is_own_or (var_items q.globals)) (statement_uses (is_own (Some q)) q.body) written) (called_items p q.globals (statement_calls q.body) (covered_calls p (Some q) q.globals (statement_calls q.body) calls));
           function = λ has. quiet (changes_nothing q) (is_some q.result) has (left_true (changes_nothing q || not (is_some q.result)) _ ok);
         }
       where
@@ -370,3 +370,85 @@ keeps_to p typed frames hidden = record { each = λ id q there. one id q there }
         quiet true c has h = refl
         quiet false true has h = h
         quiet false false has h = has
+
+-- ---- names that are own
+
+-- the root of what is written is that of a name, or an item of the program
+module _ (keep : Root → Bool) (own : Symbol → Bool) (names : (x : Symbol) → keep (name_root own x) ≡ true) (items : (i : Item) → keep (Shared i) ≡ true) where
+  abbrev Named : List Use → Type 0
+  Named us = list_all (use_kept keep) us ≡ true
+
+  kept_if : (b c : Bool) → c ≡ true → (not b || c) ≡ true
+  kept_if true c h = h
+  kept_if false c h = refl
+
+  both_named : (us vs : List Use) → Named us → Named vs → Named (us ++ vs)
+  both_named us vs one two = all_both (use_kept keep) us vs one two
+
+  mutual
+    expression_named : (e : Expression) → Named (expression_uses own e)
+    expression_named (Numeral z) = refl
+    expression_named (Boolean b) = refl
+    expression_named (NilOf t) = refl
+    expression_named (Read d) = designator_named d false
+    expression_named (Result c) = call_named c
+    expression_named (Through c line t others) = both_named (call_uses own c) (record { root = Shared (Class t); changes = false; line = line } ∷ selector_uses own false others) (call_named c) (selector_named others false)
+    expression_named (Negative e) = expression_named e
+    expression_named (Calculated o a b) = both_named (expression_uses own a) (expression_uses own b) (expression_named a) (expression_named b)
+    expression_named (Compared o a b) = both_named (expression_uses own a) (expression_uses own b) (expression_named a) (expression_named b)
+    expression_named (Negated e) = expression_named e
+    expression_named (Joined o a b) = both_named (expression_uses own a) (expression_uses own b) (expression_named a) (expression_named b)
+
+    designator_named : (d : Designator) (writes : Bool) → Named (designator_uses own writes d)
+    designator_named (designator line x others) writes = both_true (kept_if (writes && not (has_cell others)) (keep (name_root own x)) (names x)) (selector_named others writes)
+
+    selector_named : (others : Selectors) (writes : Bool) → Named (selector_uses own writes others)
+    selector_named no_selectors writes = refl
+    selector_named (at_index t e others) writes = both_named (expression_uses own e) (selector_uses own writes others) (expression_named e) (selector_named others writes)
+    selector_named (at_field t f others) writes = selector_named others writes
+    selector_named (at_cell line t others) writes = both_true (kept_if (writes && not (has_cell others)) (keep (Shared (Class t))) (items (Class t))) (selector_named others writes)
+
+    call_named : (c : Call) → Named (call_uses own c)
+    call_named (call id line given) = arguments_named given
+
+    arguments_named : (given : Arguments) → Named (argument_uses own given)
+    arguments_named no_arguments = refl
+    arguments_named (by_value e others) = both_named (expression_uses own e) (argument_uses own others) (expression_named e) (arguments_named others)
+    arguments_named (by_place d others) = both_named (designator_uses own true d) (argument_uses own others) (designator_named d true) (arguments_named others)
+
+  mutual
+    pub statement_named : (s : Statement) → Named (statement_uses own s)
+    statement_named Empty = refl
+    statement_named (Assign d e) = both_named (designator_uses own true d) (expression_uses own e) (designator_named d true) (expression_named e)
+    statement_named (Perform c) = call_named c
+    statement_named (New line d t) = both_named (designator_uses own true d) (record { root = Shared (Class t); changes = true; line = line } ∷ []) (designator_named d true) (both_true (items (Class t)) refl)
+    statement_named (Sequence a b) = both_named (statement_uses own a) (statement_uses own b) (statement_named a) (statement_named b)
+    statement_named (If line e a b) = both_named (expression_uses own e) (statement_uses own a ++ statement_uses own b) (expression_named e) (both_named (statement_uses own a) (statement_uses own b) (statement_named a) (statement_named b))
+    statement_named (Case line e arms) = both_named (expression_uses own e) (arms_uses own arms) (expression_named e) (arms_named arms)
+    statement_named (While line f e s) =
+        both_named (annotation_uses own f) (expression_uses own e ++ statement_uses own s) (annotation_kept keep own f) (both_named (expression_uses own e) (statement_uses own s) (expression_named e) (statement_named s))
+    statement_named (Repeat line f s e) =
+        both_named (annotation_uses own f) (statement_uses own s ++ expression_uses own e) (annotation_kept keep own f) (both_named (statement_uses own s) (expression_uses own e) (statement_named s) (expression_named e))
+    statement_named (For line f count s) =
+        both_named (annotation_uses own f) (record { root = name_root own count.variable; changes = true; line = line } ∷ (expression_uses own count.first ++ (expression_uses own count.last ++ statement_uses own s))) (annotation_kept keep own f)
+        (both_true (names count.variable) (both_named (expression_uses own count.first) (expression_uses own count.last ++ statement_uses own s) (expression_named count.first)
+        (both_named (expression_uses own count.last) (statement_uses own s) (expression_named count.last) (statement_named s))))
+    statement_named (Assert a) = formula_kept keep own a.formula
+
+    arms_named : (arms : Arms) → Named (arms_uses own arms)
+    arms_named no_arms = refl
+    arms_named (arm labels s others) = both_named (statement_uses own s) (arms_uses own others) (statement_named s) (arms_named others)
+
+  called_named : (p : Program) (cs : List Call) → list_all keep (flat_map (changed_by_call p) cs) ≡ true
+  called_named p [] = refl
+  called_named p (call id line given ∷ cs) = all_both keep (map Shared (items_of_callee (routine_at p id))) (flat_map (changed_by_call p) cs) (each (items_of_callee (routine_at p id))) (called_named p cs)
+    where
+      each : (xs : List Item) → list_all keep (map Shared xs) ≡ true
+      each [] = refl
+      each (i ∷ xs) = both_true (items i) (each xs)
+
+-- what a statement changes are own names, and items of the program
+pub roots_named : (p : Program) (here : Option Routine) (keep : Root → Bool) → ((x : Symbol) → keep (name_root (is_own here) x) ≡ true) → ((i : Item) → keep (Shared i) ≡ true) → (s : Statement) → list_all keep (changed_roots p here s) ≡ true
+roots_named p here keep names items s =
+    all_both keep (map (λ u. u.root) (filter (λ u. u.changes) (statement_uses (is_own here) s))) (flat_map (changed_by_call p) (statement_calls s))
+    (kept_roots keep (statement_uses (is_own here) s) (statement_named keep (is_own here) names items s)) (called_named keep (is_own here) names items p (statement_calls s))

@@ -16,6 +16,7 @@ use Rattle.spv_program.specs.Types.{sort_of}
 use Rattle.spv_program.specs.FormulaTypes.{is_sort}
 use Rattle.spv_program.specs.Statements.{Statement}
 use Rattle.spv_program.specs.Programs.{GlobalItem, Routine, Program, shapes, routine_at, routine_in}
+use Rattle.spv_program.specs.Changes.{changed_roots}
 use Rattle.spv_program.specs.Typing.{statement_ok}
 use Rattle.spv_program.proofs.SortFacts.{is_sort-true, Behind, behind}
 use Rattle.spv_meaning.specs.Places.{Root, Place, Binding, Frame, HeapRow, State, ProgramVariable, OwnValue, CellOf, Holding, Referring}
@@ -27,11 +28,11 @@ use Rattle.spv_meaning.specs.Starts.{Area, At, CellsOf, IsRight, IsRightFor, IsS
 use Rattle.spv_preservation.specs.Right.{Grows}
 use Rattle.spv_preservation.proofs.Roots.{first_frame}
 use Rattle.spv_preservation.proofs.Starts.{right_is_start}
-use Rattle.spv_preservation.proofs.Levels.{statement_leaves}
 use Rattle.spv_writes.specs.Writes.{Writes}
 use Rattle.spv_writes.proofs.Lists.{all_both}
 use Rattle.spv_writes.proofs.Places.{lies_by}
 use Rattle.spv_writes.proofs.Kept.{grows}
+use Rattle.spv_writes.proofs.Right.{right_stays}
 use Rattle.spv_writes.proofs.Outlines.{outlines_stay, areas_stay}
 use Rattle.spv_frame_law.specs.Frames.{area_of_item, areas_of}
 use Rattle.spv_frame_law.specs.Laws.{IsFramed}
@@ -130,11 +131,14 @@ apart_stays p here state right parts areas after w = by_types here right.types r
         ∙ (differ_kept state.heap after.heap (grows p areas state after w) (frame_areas state.frames ++ map item_area r.globals) (in_frames r older id state.frames refl h.frames)
         ∙ (ap (λ o. apart o state) (sym there) ∙ parts)))
 
+pub start_stays : (p : Program) (here : Option RoutineId) (state : State) → IsStart p here state → (areas : List Area) (after : State) → Writes p areas state after → IsStart p here after
+start_stays p here state start areas after w =
+    let q = start.right in
+    right_is_start p here after (record { types = q.types; inside = q.inside; right = right_stays p q.types areas state after w q.right }) (apart_stays p here state q start.areas areas after w)
+
 -- a statement that ended, from a start, ended in a start
 pub leaves_start : (p : Program) → IsFramed p → (here : Here) (s : Statement) → statement_ok p (routine_in p here.routine) s ≡ true → (state : State) → IsStart p here.routine state
     → (turns : ℕ) (choices : List Value) (after : State) → (run p turns here s state choices).end ≡ Ended after → IsStart p here.routine after
 leaves_start p f here s ok state start turns choices after ended =
-    let q = start.right in
-    let left = statement_leaves p f.typed here q.types q.inside s ok state q.right turns choices after ended in
-    let w = statement_writes p f here q.types q.inside s ok state q.right turns choices after ended in
-    right_is_start p here.routine after (record { types = q.types; inside = q.inside; right = left.right }) (apart_stays p here.routine state q start.areas _ after w)
+    start_stays p here.routine state start (areas_of state.frames (changed_roots p (routine_in p here.routine) s)) after
+    (statement_writes p f here start.right.types start.right.inside s ok state start.right.right turns choices after ended)

@@ -2,6 +2,7 @@
 use Rattle.std.proofs.Common.{◌≡◌, ℕ, zero, suc, Bool, true, false, cond, not, ◌&&◌, ◌||◌, List, [], ◌∷◌, ◌++◌, map, filter, length, refl, sym, ap, subst, ◌∙◌, nat_eq, Option, Some, None, is_some, option_map}
 use Rattle.std.specs.Option.{option_and_then}
 use Rattle.std.specs.List.{list_all, list_any}
+use Rattle.std.specs.Cmp.Derive.{both_true}
 use Rattle.std.proofs.lemmas.Bool.{false≢true}
 use Rattle.spv_list.proofs.Tests.{left_true, right_true}
 use Rattle.spv_names.specs.declared.names.Symbol.{Symbol}
@@ -16,23 +17,35 @@ use Rattle.spv_program.specs.declared.types.Item.{Item}
 use Rattle.spv_program.specs.declared.types.Item.TheVariants.{Variable, Class}
 use Rattle.spv_program.specs.Lists.{same_name, found, all_differ}
 use Rattle.spv_program.specs.Types.{sort_of}
-use Rattle.spv_program.specs.Programs.{Routine, Program, shapes, routine_at, routine_in}
+use Rattle.spv_program.specs.Programs.{GlobalItem, Routine, Program, shapes, routine_at, routine_in}
 use Rattle.spv_program.specs.Scopes.{own_names, own_names_in, is_own}
-use Rattle.spv_program.specs.Uses.{Root, Own, Shared, same_root, name_root}
+use Rattle.spv_program.specs.Uses.{Root, Own, Shared, same_item, same_root, name_root}
 use Rattle.spv_program.specs.Frames.{lists}
+use Rattle.spv_program.specs.Changes.{var_items, changed_roots}
+use Rattle.spv_program.specs.Statements.{Statement}
+use Rattle.spv_program.specs.Typing.{statement_ok}
 use Rattle.spv_program.proofs.SortFacts.{nothing_there, some_is}
 use Rattle.spv_meaning.specs.Places.{Place, Binding, Frame, HeapRow, State, ProgramVariable, Holding, Referring, whole, look, put}
 use Rattle.spv_meaning.specs.Views.{bound_place, place_in, place_of, class_of, sees, shown_names, shown_type, of_sort, now_view}
+use Rattle.spv_meaning.specs.Outcomes.{Ended}
+use Rattle.spv_meaning.specs.Levels.{Here}
+use Rattle.spv_meaning.specs.Walks.{run}
+use Rattle.spv_meaning.specs.Correct.{body_of, routine_body, is_there}
 use Rattle.spv_meaning.specs.FrameTypes.{FrameType, IsIn, frame_of, frames_right, in_main, in_routine}
 use Rattle.spv_meaning.specs.Starts.{Area, At, CellsOf, IsRight, IsRightFor, IsStart, is_of_type, overlap, bound_area, frame_areas, item_area, apart}
 use Rattle.spv_meaning.proofs.RoutineStarts.{found_passes}
 use Rattle.spv_facts.specs.Places.{IsPlace}
 use Rattle.spv_preservation.proofs.Roots.{first_frame}
 use Rattle.spv_writes.specs.Writes.{Writes, is_in, is_in_one, is_touched}
-use Rattle.spv_writes.proofs.Lists.{any_left}
+use Rattle.spv_writes.proofs.Lists.{or_left, or_right, swapped, any_left}
 use Rattle.spv_writes.proofs.Kept.{one_put, untouched_stays, class_stays}
 use Rattle.spv_writes.proofs.Outlines.{outlines_stay, places_stay}
 use Rattle.spv_frame_law.specs.Frames.{area_of_item, root_areas, areas_of, root_shown, is_of_one}
+use Rattle.spv_frame_law.specs.Laws.{IsFramed}
+use Rattle.spv_frame_law.proofs.Covering.{items_same, is_own_or}
+use Rattle.spv_frame_law.proofs.Records.{KeepsTo, AllKeepTo}
+use Rattle.spv_frame_law.proofs.Sharing.{item_itself, roots_named}
+use Rattle.spv_frame_law.proofs.Levels.{all_keep, statement_writes}
 use Rattle.spv_frame_law.proofs.Names.{own_bound}
 use Rattle.spv_frame_law.proofs.Apart.{own_untouched, item_untouched, main_untouched}
 
@@ -162,3 +175,67 @@ put_shows p here state start root shown a e v place fit inside h other =
     alone : (b : Bool) → b ≡ true → (b && true) ≡ true
     alone true h = refl
     alone false h = h
+
+-- ---- statements
+
+-- something that passes two tests
+all_and : {X : Type 0} (f g h : X → Bool) → ((x : X) → f x ≡ true → g x ≡ true → h x ≡ true) → (xs : List X) → list_all f xs ≡ true → list_all g xs ≡ true → list_all h xs ≡ true
+all_and f g h both [] one two = refl
+all_and f g h both (x ∷ xs) one two =
+    both_true (both x (left_true (f x) (list_all f xs) one) (left_true (g x) (list_all g xs) two)) (all_and f g h both xs (right_true (f x) (list_all f xs) one) (right_true (g x) (list_all g xs) two))
+
+-- an item that a list may change is one that it has
+may_change_has : (globals : List GlobalItem) (i : Item) → list_any (same_item i) (var_items globals) ≡ true → lists globals i false ≡ true
+may_change_has [] i h = h
+may_change_has (g ∷ globals) i h = by_group g.is_var h (may_change_has globals i)
+  where
+    by_item : (b : Bool) → same_item i g.item ≡ b → (var : Bool) → (b || list_any (same_item i) (var_items globals)) ≡ true → (list_any (same_item i) (var_items globals) ≡ true → lists globals i false ≡ true) → ((same_item g.item i && (var || true)) || lists globals i false) ≡ true
+    by_item true e var h later = or_left (same_item g.item i && (var || true)) (lists globals i false) (both_true (swapped same_item items_same item_itself g.item i ∙ e) (or_right var true refl))
+    by_item false e var h later = or_right (same_item g.item i && (var || true)) (lists globals i false) (later h)
+
+    by_group : (b : Bool) → list_any (same_item i) (map (λ g. g.item) (cond b (g ∷ filter (λ g. g.is_var) globals) (filter (λ g. g.is_var) globals))) ≡ true → (list_any (same_item i) (var_items globals) ≡ true → lists globals i false ≡ true) → lists (record { item = g.item; is_var = b; line = g.line } ∷ globals) i false ≡ true
+    by_group true h later = by_item (same_item i g.item) refl true h later
+    by_group false h later = or_right (same_item g.item i && true) (lists globals i false) (later h)
+
+-- whether an own name is one that is own
+abbrev is_own_root : Option Routine → Root → Bool
+is_own_root here (Own x) = is_own here x
+is_own_root here (Shared i) = true
+
+own_named : (here : Option Routine) (x : Symbol) (b : Bool) → is_own here x ≡ b → is_own_root here (cond b (Own x) (Shared (Variable x))) ≡ true
+own_named here x true e = e
+own_named here x false e = refl
+
+changed_named : (p : Program) (here : Option Routine) (s : Statement) → list_all (is_own_root here) (changed_roots p here s) ≡ true
+changed_named p here s = roots_named p here (is_own_root here) (λ x. own_named here x (is_own here x) refl) (λ i. refl) s
+
+-- what a body changes shows
+pub body_shown : (p : Program) → IsFramed p → (here : Option RoutineId) → is_there p here ≡ true → list_all (root_shown (routine_in p here)) (changed_roots p (routine_in p here) (body_of p here)) ≡ true
+body_shown p f None there = all_and (is_own_root None) (λ r. true) (root_shown None) each (changed_roots p None p.main.body) (changed_named p None p.main.body) (all_true (changed_roots p None p.main.body))
+  where
+    all_true : (xs : List Root) → list_all (λ r. true) xs ≡ true
+    all_true [] = refl
+    all_true (x ∷ xs) = all_true xs
+
+    each : (r : Root) → is_own_root None r ≡ true → true ≡ true → root_shown None r ≡ true
+    each (Own x) own h = own
+    each (Shared i) own h = refl
+body_shown p f (Some id) there = by_routine (routine_at p id) refl there
+  where
+    each : (q : Routine) (r : Root) → is_own_root (Some q) r ≡ true → is_own_or (var_items q.globals) r ≡ true → root_shown (Some q) r ≡ true
+    each q (Own x) own h = own
+    each q (Shared i) own h = may_change_has q.globals i h
+
+    by_routine : (o : Option Routine) → routine_at p id ≡ o → is_some o ≡ true → list_all (root_shown (routine_at p id)) (changed_roots p (routine_at p id) (routine_body (routine_at p id))) ≡ true
+    by_routine None is h = absurd (false≢true h)
+    by_routine (Some q) is h =
+        ap (λ o. list_all (root_shown o) (changed_roots p o (routine_body o))) is
+        ∙ all_and (is_own_root (Some q)) (is_own_or (var_items q.globals)) (root_shown (Some q)) (each q) (changed_roots p (Some q) q.body) (changed_named p (Some q) q.body) ((all_keep p f).each id q is).body
+
+-- what a statement does not change shows what it did
+pub statement_shows : (p : Program) → IsFramed p → (here : Here) (s : Statement) → statement_ok p (routine_in p here.routine) s ≡ true → list_all (root_shown (routine_in p here.routine)) (changed_roots p (routine_in p here.routine) s) ≡ true
+    → (state : State) → IsStart p here.routine state → (turns : ℕ) (choices : List Value) (after : State) → (run p turns here s state choices).end ≡ Ended after
+    → (h : Head) → is_of_one (routine_in p here.routine) (changed_roots p (routine_in p here.routine) s) h ≡ false → now_view p here.routine after h ≡ now_view p here.routine state h
+statement_shows p f here s ok shown state start turns choices after ended h other =
+    view_stays p here.routine state start (changed_roots p (routine_in p here.routine) s) shown after
+    (statement_writes p f here start.right.types start.right.inside s ok state start.right.right turns choices after ended) h other

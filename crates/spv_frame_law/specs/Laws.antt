@@ -24,7 +24,7 @@ use Rattle.spv_meaning.specs.Evaluation.{Got, Fixed, evaluate, fix}
 use Rattle.spv_meaning.specs.Walks.{level, run}
 use Rattle.spv_meaning.specs.FrameTypes.{FrameType, IsIn}
 use Rattle.spv_meaning.specs.Starts.{Area, IsRight, IsRightFor, IsStart, apart}
-use Rattle.spv_meaning.specs.Correct.{begun}
+use Rattle.spv_meaning.specs.Correct.{begun, body_of, is_there}
 use Rattle.spv_facts.specs.Places.{IsPlace}
 use Rattle.spv_writes.specs.Writes.{Writes, is_in_one}
 use Rattle.spv_frame_law.specs.Frames.{InitialNamesAreHidden, root_areas, areas_of, routine_areas, root_shown, is_of_one}
@@ -94,6 +94,12 @@ WritingKeepsApart =
     (p : Program) (here : Option RoutineId) (state : State) → IsRightFor p here state → IsTrue (apart (routine_in p here) state)
     → (areas : List Area) (after : State) → Writes p areas state after → IsTrue (apart (routine_in p here) after)
 
+-- writing leaves starts
+abbrev pub WritingLeavesStarts : Type 0
+WritingLeavesStarts =
+    (p : Program) (here : Option RoutineId) (state : State) → IsStart p here state
+    → (areas : List Area) (after : State) → Writes p areas state after → IsStart p here after
+
 -- a statement that ended, from a start, ended in a start
 abbrev pub StatementsLeaveStarts : Type 0
 StatementsLeaveStarts =
@@ -117,3 +123,20 @@ PutChangesOneOfTheView =
     → (root : Root) → IsTrue (root_shown (routine_in p here) root)
     → (a : Place) (e : Sort) (v : Value) → IsPlace (shapes p) state a e → IsTrue (fits (shapes p) v e) → IsTrue (is_in_one state.heap (root_areas state.frames root) a)
     → (h : Head) → is_of_one (routine_in p here) (root ∷ []) h ≡ false → now_view p here (put state a v) h ≡ now_view p here state h
+
+-- what the body of a routine, or of the main block, changes shows
+abbrev pub BodiesChangeWhatShows : Type 0
+BodiesChangeWhatShows =
+    (p : Program) → IsFramed p → (here : Option RoutineId) → IsTrue (is_there p here)
+    → IsTrue (list_all (root_shown (routine_in p here)) (changed_roots p (routine_in p here) (body_of p here)))
+
+-- after a statement that ended, from a start, whose changes show, every name and class that it does not change shows what it
+-- did
+abbrev pub StatementsChangeWhatTheyMay : Type 0
+StatementsChangeWhatTheyMay =
+    (p : Program) → IsFramed p → (here : Here) (s : Statement) → IsTrue (statement_ok p (routine_in p here.routine) s)
+    → IsTrue (list_all (root_shown (routine_in p here.routine)) (changed_roots p (routine_in p here.routine) s))
+    → (state : State) → IsStart p here.routine state
+    → (turns : ℕ) (choices : List Value) (after : State) → (run p turns here s state choices).end ≡ Ended after
+    → (h : Head) → is_of_one (routine_in p here.routine) (changed_roots p (routine_in p here.routine) s) h ≡ false
+    → now_view p here.routine after h ≡ now_view p here.routine state h
