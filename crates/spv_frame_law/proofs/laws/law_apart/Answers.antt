@@ -1,0 +1,11 @@
+use Rattle.spv_frame_law.proofs.Starts.{apart_stays, start_stays, leaves_start}
+use Rattle.spv_frame_law.proofs.laws.law_apart.Goals as goal
+
+pub returns-clause-apart : goal.returns-clause-apart
+returns-clause-apart c = apart_stays
+
+pub returns-clause-starts : goal.returns-clause-starts
+returns-clause-starts c = start_stays
+
+pub returns-clause-statements : goal.returns-clause-statements
+returns-clause-statements c = leaves_start
