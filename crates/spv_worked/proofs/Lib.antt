@@ -1,2 +1,3 @@
 pub mod Untrue
 mod TwoRows
+mod Puts

@@ -3,6 +3,7 @@ pub mod LoopRuns
 pub mod FaultRuns
 pub mod CallRuns
 pub mod CellRuns
+pub mod WrittenRuns
 pub mod Terms
 pub mod StatementConditions
 pub mod CallConditions

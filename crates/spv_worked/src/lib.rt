@@ -7,3 +7,4 @@ pub mod conditions;
 pub mod doubts;
 pub mod runs;
 pub mod typing;
+pub mod written;
