@@ -2,6 +2,7 @@
 use Rattle.std.proofs.Common.{◌≡◌, ℕ, Bool, true, false, cond, ◌&&◌, ◌||◌, not, List, [], ◌∷◌, ◌++◌, map, filter, length, refl, sym, ap, subst, ◌∙◌, nat_eq, Option, Some, None, is_some}
 use Rattle.std.specs.Option.{option_and_then}
 use Rattle.std.specs.List.{list_all, list_any, flat_map}
+use Rattle.std.specs.Cmp.Derive.{both_true}
 use Rattle.std.proofs.lemmas.Bool.{false≢true, eq-eqb}
 use Rattle.spv_list.proofs.Tests.{left_true, right_true}
 use Rattle.spv_names.specs.declared.names.Symbol.{Symbol}
@@ -93,6 +94,30 @@ item_among f i (j ∷ items) among h = by_first (same_item i j) refl among (λ a
 abbrev pub refers_into : List HeapRow → List Area → Symbol × Binding → Bool
 refers_into heap areas (x, Holding v) = true
 refers_into heap areas (x, Referring a) = is_in_one heap areas a
+
+-- whether the names that refer to places refer, one after the other, into the areas of these roots
+abbrev pub refer_in_turn : List HeapRow → List Frame → List (Symbol × Binding) → List Root → Bool
+refer_in_turn heap frames [] [] = true
+refer_in_turn heap frames [] (root ∷ roots) = false
+refer_in_turn heap frames ((x, Holding v) ∷ names) roots = refer_in_turn heap frames names roots
+refer_in_turn heap frames ((x, Referring a) ∷ names) [] = false
+refer_in_turn heap frames ((x, Referring a) ∷ names) (root ∷ roots) = is_in_one heap (root_areas frames root) a && refer_in_turn heap frames names roots
+
+more_areas : (heap : List HeapRow) (front areas : List Area) (names : List (Symbol × Binding)) → list_all (refers_into heap areas) names ≡ true → list_all (refers_into heap (front ++ areas)) names ≡ true
+more_areas heap front areas [] all = refl
+more_areas heap front areas ((x, Holding v) ∷ names) all = more_areas heap front areas names all
+more_areas heap front areas ((x, Referring a) ∷ names) all =
+    both_true (any_right (is_in heap a) front areas (left_true (is_in_one heap areas a) (list_all (refers_into heap areas) names) all))
+    (more_areas heap front areas names (right_true (is_in_one heap areas a) (list_all (refers_into heap areas) names) all))
+
+-- then all of them refer into the areas of the roots
+pub in_turn_all : (heap : List HeapRow) (frames : List Frame) (names : List (Symbol × Binding)) (roots : List Root) → refer_in_turn heap frames names roots ≡ true → list_all (refers_into heap (areas_of frames roots)) names ≡ true
+in_turn_all heap frames [] roots h = refl
+in_turn_all heap frames ((x, Holding v) ∷ names) roots h = in_turn_all heap frames names roots h
+in_turn_all heap frames ((x, Referring a) ∷ names) [] h = absurd (false≢true h)
+in_turn_all heap frames ((x, Referring a) ∷ names) (root ∷ roots) h =
+    both_true (any_left (is_in heap a) (root_areas frames root) (areas_of frames roots) (left_true (is_in_one heap (root_areas frames root) a) _ h))
+    (more_areas heap (root_areas frames root) (areas_of frames roots) names (in_turn_all heap frames names roots (right_true (is_in_one heap (root_areas frames root) a) _ h)))
 
 pub referred_member : (f : Area → Bool) (names : List (Symbol × Binding)) (x : Symbol) (a : Place) → found names x ≡ Some (Referring a) → f (At a) ≡ true → list_any f (referred names) ≡ true
 referred_member f [] x a there h = absurd (nothing_there there)

@@ -43,7 +43,7 @@ use Rattle.spv_writes.proofs.Lists.{or_left, any_passes, any_left, any_right}
 use Rattle.spv_writes.proofs.Places.{path_further}
 use Rattle.spv_writes.proofs.Kept.{unwritten}
 use Rattle.spv_frame_law.proofs.Names.{name_in}
-use Rattle.spv_frame_law.proofs.Covering.{refers_into}
+use Rattle.spv_frame_law.proofs.Covering.{refer_in_turn}
 use Rattle.spv_frame_law.proofs.Records.{KeepsTo, AllKeepTo, And, if_and, if_as, moved, GotSame, FixedSame, BoundSame, LevelWrites}
 use Rattle.spv_frame_law.proofs.Entering.{call_areas, entered_writes, nothing_called}
 
@@ -55,15 +55,6 @@ further_in heap areas a s h = any_passes (is_in heap a) (is_in heap (record { ro
     each : (area : Area) → is_in heap a area ≡ true → is_in heap (record { root = a.root; path = a.path ++ s ∷ [] }) area ≡ true
     each (At b) k = both_true (left_true _ _ k) (path_further a.path (s ∷ []) b.path (right_true _ _ k))
     each (CellsOf t) k = k
-
--- ---- names that refer to places
-
-more_areas : (heap : List HeapRow) (front areas : List Area) (names : List (Symbol × Binding)) → list_all (refers_into heap areas) names ≡ true → list_all (refers_into heap (front ++ areas)) names ≡ true
-more_areas heap front areas [] all = refl
-more_areas heap front areas ((x, Holding v) ∷ names) all = more_areas heap front areas names all
-more_areas heap front areas ((x, Referring a) ∷ names) all =
-    both_true (any_right (is_in heap a) front areas (left_true (is_in_one heap areas a) (list_all (refers_into heap areas) names) all))
-    (more_areas heap front areas names (right_true (is_in_one heap areas a) (list_all (refers_into heap areas) names) all))
 
 -- ---- expressions
 
@@ -111,13 +102,13 @@ module _ (p : Program) (typed : well_typed p ≡ true) (to : AllKeepTo p) (below
       none bound b = nothing_called p types bound.state.heap q bound.names ((to.each id q there).function (ap is_some is)) b.names
 
   -- parameters with one more in front
-  bound_first : (state : State) (x : Symbol) (b : Binding) (front roots : List Root) → refers_into state.heap (areas_of state.frames (front ++ roots)) (x, b) ≡ true → (others : Outcome Bound) → IfEnded (BoundSame state roots) others
-      → ((names : List (Symbol × Binding)) → list_all (refers_into state.heap (areas_of state.frames roots)) names ≡ true → list_all (refers_into state.heap (areas_of state.frames (front ++ roots))) names ≡ true)
-      → IfEnded (BoundSame state (front ++ roots)) (bind x b others)
-  bound_first state x b front roots first others rest_same more =
-      if_then (BoundSame state roots) (BoundSame state (front ++ roots)) others _ rest_same (λ bound rest q.
-      if_ends (BoundSame state (front ++ roots)) (record { names = (x, b) ∷ bound.names; state = bound.state }) rest
-      (record { same = q.same; names = both_true first (more bound.names q.names) }))
+  bound_first : (state : State) (x : Symbol) (b : Binding) (roots more : List Root) → (others : Outcome Bound) → IfEnded (BoundSame state roots) others
+      → ((names : List (Symbol × Binding)) → refer_in_turn state.heap state.frames names roots ≡ true → refer_in_turn state.heap state.frames ((x, b) ∷ names) more ≡ true)
+      → IfEnded (BoundSame state more) (bind x b others)
+  bound_first state x b roots more others rest_same first =
+      if_then (BoundSame state roots) (BoundSame state more) others _ rest_same (λ bound rest q.
+      if_ends (BoundSame state more) (record { names = (x, b) ∷ bound.names; state = bound.state }) rest
+      (record { same = q.same; names = first bound.names q.names }))
 
   mutual
     pub evaluates_same : (e : Expression) (s : Sort) → expression_sort p r e ≡ Some s → Evaluates e
@@ -209,7 +200,7 @@ module _ (p : Program) (typed : well_typed p ≡ true) (to : AllKeepTo p) (below
         let roots = place_roots own others in
         if_then (GotSame state) (BoundSame state roots) (evaluate p below here e state choices) _ (evaluates_same e (sort_of p.forms f.of) s state right choices) (λ got rest g.
         if_then (GotSame state) (BoundSame state roots) (for_parameter p f got rest) _ (if_unless (GotSame state) (takes_value p.forms f.of got.value) fault.Range got rest (λ passes. g)) (λ taken last k.
-        bound_first state f.name (Holding taken.value) [] roots refl (arguments p below here formals others taken.state last)
+        bound_first state f.name (Holding taken.value) roots roots (arguments p below here formals others taken.state last)
         (moved (λ x. IfEnded (BoundSame state roots) (arguments p below here formals others x last)) taken.state state k.same
         (binds_same formals others (right_true (is_sort (sort_of p.forms f.of) (expression_sort p r e)) _ rest_fit) state right last))
         (λ names all. all)))
@@ -219,10 +210,10 @@ module _ (p : Program) (typed : well_typed p ≡ true) (to : AllKeepTo p) (below
         let root = root_of own d in
         let roots = place_roots own others in
         if_then (FixedSame state root) (BoundSame state (root ∷ roots)) (fix p below here d state choices) _ (fixes_in d u.item u.is state right choices) (λ fixed rest q.
-        bound_first state f.name (Referring fixed.place) (root ∷ []) roots (any_left (is_in state.heap fixed.place) (root_areas state.frames root) (areas_of state.frames roots) q.inside) (arguments p below here formals others fixed.state rest)
+        bound_first state f.name (Referring fixed.place) roots (root ∷ roots) (arguments p below here formals others fixed.state rest)
         (moved (λ x. IfEnded (BoundSame state roots) (arguments p below here formals others x rest)) fixed.state state q.same
         (binds_same formals others (right_true (stands_for p f.of (designator_type p r d)) _ rest_fit) state right rest))
-        (λ names all. more_areas state.heap (root_areas state.frames root) (areas_of state.frames roots) names all))
+        (λ names all. both_true q.inside all))
       where
         stands : (o : Option TypeId) → stands_for p f.of o ≡ true → Behind (λ u. Some u) o (unwrap_or o f.of)
         stands None h = absurd (false≢true h)

@@ -30,7 +30,7 @@ use Rattle.spv_writes.proofs.Lists.{or_left, or_right, any_left, any_right}
 use Rattle.spv_writes.proofs.Kept.{chain}
 use Rattle.spv_writes.proofs.Outlines.{outlines_stay}
 use Rattle.spv_frame_law.proofs.Names.{areas_kept}
-use Rattle.spv_frame_law.proofs.Covering.{is_own_or, refers_into}
+use Rattle.spv_frame_law.proofs.Covering.{is_own_or, refer_in_turn}
 
 -- ---- what a statement may change
 
@@ -137,10 +137,10 @@ pub record FixedSame (state : State) (root : Root) (fixed : Fixed) : Type 0 wher
   pub same : fixed.state ≡ state
   pub inside : is_in_one state.heap (root_areas state.frames root) fixed.place ≡ true
 
--- the state is as it was, and VAR parameters refer to places in the areas of roots
+-- the state is as it was, and VAR parameters refer in turn to places in the areas of roots
 pub record BoundSame (state : State) (roots : List Root) (bound : Bound) : Type 0 where
   pub same : bound.state ≡ state
-  pub names : list_all (refers_into state.heap (areas_of state.frames roots)) bound.names ≡ true
+  pub names : refer_in_turn state.heap state.frames bound.names roots ≡ true
 
 -- what there is with one turn less writes what it may
 pub record LevelWrites (p : Program) (level : Level) : Type 0 where

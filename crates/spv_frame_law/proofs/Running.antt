@@ -55,7 +55,7 @@ use Rattle.spv_writes.proofs.Lists.{or_left, all_left, all_right}
 use Rattle.spv_writes.proofs.Places.{below_itself}
 use Rattle.spv_writes.proofs.Steps.{new_grows, new_root}
 use Rattle.spv_writes.proofs.Kept.{IsCovered, widen, one_put}
-use Rattle.spv_frame_law.proofs.Covering.{among_areas, roots_among, items_among, refers_into, referred_covered, covered_both, covered_by, later_one}
+use Rattle.spv_frame_law.proofs.Covering.{among_areas, roots_among, items_among, refers_into, in_turn_all, referred_covered, covered_both, covered_by, later_one}
 use Rattle.spv_frame_law.proofs.Names.{name_in}
 use Rattle.spv_frame_law.proofs.Records.{is_among, use_among, call_among, ChangesAmong, AllKeepTo, And, if_and, if_as, moved, Wrote, wrote_on, GotSame, FixedSame, BoundSame, LevelWrites}
 use Rattle.spv_frame_law.proofs.Entering.{call_areas, entered_writes}
@@ -227,7 +227,7 @@ module _ (p : Program) (typed : well_typed p ≡ true) (to : AllKeepTo p) (below
       covered_both state.heap (referred bound.names) (map area_of_item (var_items q.globals)) (areas_of state.frames roots)
       (referred_covered state.heap (areas_of state.frames roots) bound.names
       (wider_names state.heap (areas_of state.frames (place_roots own given)) (areas_of state.frames roots) bound.names
-      (λ a h. roots_among (is_in state.heap a) state.frames (place_roots own given) roots placed h) b.names))
+      (λ a h. roots_among (is_in state.heap a) state.frames (place_roots own given) roots placed h) (in_turn_all state.heap state.frames bound.names (place_roots own given) b.names)))
       (covered_by state.heap (map area_of_item (var_items q.globals)) (areas_of state.frames roots) (λ f h. items_among f state.frames (var_items q.globals) roots items h))
 
   called : (id : RoutineId) (given : Arguments) (q : Routine) → IsCallee p r id given q → list_all (is_among roots) (place_roots own given) ≡ true → list_all (is_among roots) (map Shared (var_items q.globals)) ≡ true → (state : State) → IsRight p types state → (choices : List Value) → IfEnded (Writing state) (perform_run (Some q) id given state choices)
