@@ -17,13 +17,13 @@ use Rattle.spv_program.specs.Programs.{GlobalItem, Routine, Program, routine_at,
 use Rattle.spv_program.specs.Uses.{Root, Own, Shared, same_item, same_root}
 use Rattle.spv_program.specs.Frames.{lists}
 use Rattle.spv_program.proofs.SortFacts.{nothing_there, some_is}
-use Rattle.spv_meaning.specs.Places.{Binding, Frame, HeapRow, State}
-use Rattle.spv_meaning.specs.Starts.{Area, At, CellsOf, overlap, bound_area, frame_areas, item_area, apart}
+use Rattle.spv_meaning.specs.Places.{Place, Binding, Frame, HeapRow, State}
+use Rattle.spv_meaning.specs.Starts.{Area, At, CellsOf, same_root as same_place_root, paths_meet, places_overlap, lies_in, overlap, bound_area, frame_areas, item_area, apart}
 use Rattle.spv_meaning.proofs.Differing.{not_true, none_left, none_right, none_both}
 use Rattle.spv_meaning.proofs.Maps.{same_names}
-use Rattle.spv_writes.specs.Writes.{is_touched}
-use Rattle.spv_writes.proofs.Lists.{number_swap}
-use Rattle.spv_writes.proofs.Places.{places_swap, types_swap}
+use Rattle.spv_writes.specs.Writes.{is_in, is_touched}
+use Rattle.spv_writes.proofs.Lists.{not_so, any_fails}
+use Rattle.spv_writes.proofs.Places.{places_swap, types_swap, roots_same, below_root, overlaps_above, one_type}
 use Rattle.spv_frame_law.specs.Frames.{area_of_item, bound_areas, own_areas, root_areas, areas_of, root_shown}
 use Rattle.spv_frame_law.proofs.Covering.{items_same}
 
@@ -52,6 +52,18 @@ area_is g = of_item g.item g.is_var g.line
     of_item : (i : Item) (is_var : Bool) (line : ℕ) → item_area (record { item = i; is_var = is_var; line = line }) ≡ area_of_item i
     of_item (Variable x) is_var line = refl
     of_item (Class t) is_var line = refl
+
+-- a place in an area that another does not overlap is not overlapped by it
+in_apart_from : (heap : List HeapRow) (a : Place) (one two : Area) → is_in heap a one ≡ true → overlap heap two one ≡ false → overlap heap two (At a) ≡ false
+in_apart_from heap a (At c) (At d) inside apart =
+    not_so (places_overlap d a) (λ h. sym apart ∙ (places_swap d c ∙ overlaps_above a c d inside (places_swap a d ∙ h)))
+in_apart_from heap a (At c) (CellsOf t) inside apart = ap (λ r. lies_in heap r t) (sym (below_root a c inside)) ∙ apart
+in_apart_from heap a (CellsOf t) (At d) inside apart =
+    not_so (places_overlap d a) (λ h. sym apart ∙ (ap (λ r. lies_in heap r t) (roots_same d.root a.root (left_true (same_place_root d.root a.root) (paths_meet d.path a.path) h)) ∙ inside))
+in_apart_from heap a (CellsOf t) (CellsOf u) inside apart = not_so (lies_in heap a.root u) (λ h. sym apart ∙ (types_swap t u (same_type t u) refl ∙ one_type heap a.root t u inside h))
+
+pub in_untouched : (heap : List HeapRow) (a : Place) (areas : List Area) (one : Area) → is_in heap a one ≡ true → is_touched heap areas one ≡ false → is_touched heap areas (At a) ≡ false
+in_untouched heap a areas one inside none = any_fails (λ b. overlap heap b (At a)) (λ b. overlap heap b one) (λ b h. in_apart_from heap a one b inside h) areas none
 
 -- ---- members that a test fails for
 

@@ -21,7 +21,7 @@ use Rattle.spv_meaning.specs.Starts.{Area, At, CellsOf, lies_in, bound_area}
 use Rattle.spv_meaning.proofs.Maps.{same_names}
 use Rattle.spv_preservation.specs.Right.{Grows}
 use Rattle.spv_writes.specs.Writes.{is_below, is_in, is_in_one, is_cells_of, has_cells_of, is_area_of, without_frame, outline, outlines, reference}
-use Rattle.spv_frame_law.specs.Frames.{area_of_item, bound_areas, own_areas, root_areas, areas_of, referred}
+use Rattle.spv_frame_law.specs.Frames.{area_of_item, bound_areas, own_areas, root_areas, areas_of, referred, refer_in_turn}
 use Rattle.spv_writes.proofs.Lists.{or_left, or_right, any_passes, any_left, any_right, any_of_two, filter_two}
 use Rattle.spv_writes.proofs.Places.{below_on, below_root, lies_typed, lies_by}
 use Rattle.spv_writes.proofs.Kept.{IsCovered}
@@ -94,14 +94,6 @@ item_among f i (j ∷ items) among h = by_first (same_item i j) refl among (λ a
 abbrev pub refers_into : List HeapRow → List Area → Symbol × Binding → Bool
 refers_into heap areas (x, Holding v) = true
 refers_into heap areas (x, Referring a) = is_in_one heap areas a
-
--- whether the names that refer to places refer, one after the other, into the areas of these roots
-abbrev pub refer_in_turn : List HeapRow → List Frame → List (Symbol × Binding) → List Root → Bool
-refer_in_turn heap frames [] [] = true
-refer_in_turn heap frames [] (root ∷ roots) = false
-refer_in_turn heap frames ((x, Holding v) ∷ names) roots = refer_in_turn heap frames names roots
-refer_in_turn heap frames ((x, Referring a) ∷ names) [] = false
-refer_in_turn heap frames ((x, Referring a) ∷ names) (root ∷ roots) = is_in_one heap (root_areas frames root) a && refer_in_turn heap frames names roots
 
 more_areas : (heap : List HeapRow) (front areas : List Area) (names : List (Symbol × Binding)) → list_all (refers_into heap areas) names ≡ true → list_all (refers_into heap (front ++ areas)) names ≡ true
 more_areas heap front areas [] all = refl

@@ -10,20 +10,20 @@ use Rattle.spv_logic.specs.declared.conditions.RoutineId.{RoutineId}
 use Rattle.spv_logic.specs.Values.{Value}
 use Rattle.spv_program.specs.declared.types.Item.{Item}
 use Rattle.spv_program.specs.Lists.{same_name, found}
-use Rattle.spv_program.specs.Expressions.{Expression, Designator}
+use Rattle.spv_program.specs.Expressions.{Expression, Designator, Arguments}
 use Rattle.spv_program.specs.Statements.{Statement}
-use Rattle.spv_program.specs.Programs.{Routine, Program, routine_at, routine_in}
+use Rattle.spv_program.specs.Programs.{Formal, Routine, Program, routine_at, routine_in}
 use Rattle.spv_program.specs.Scopes.{result_name}
 use Rattle.spv_program.specs.Uses.{Root, Own, Shared}
 use Rattle.spv_program.specs.Frames.{changes_nothing}
 use Rattle.spv_program.specs.Changes.{var_items, changed_roots}
-use Rattle.spv_program.specs.ExpressionTypes.{expression_sort, designator_type}
+use Rattle.spv_program.specs.ExpressionTypes.{expression_sort, designator_type, arguments_fit}
 use Rattle.spv_program.specs.Typing.{statement_ok, well_typed}
 use Rattle.spv_program.proofs.SortFacts.{nothing_there, some_is}
 use Rattle.spv_meaning.specs.Places.{Binding, Frame, HeapRow, State}
 use Rattle.spv_meaning.specs.Outcomes.{Ended}
-use Rattle.spv_meaning.specs.Levels.{Here, Level, pop}
-use Rattle.spv_meaning.specs.Evaluation.{Got, Fixed, evaluate, fix}
+use Rattle.spv_meaning.specs.Levels.{Here, Level, Bound, pop}
+use Rattle.spv_meaning.specs.Evaluation.{Got, Fixed, evaluate, fix, arguments}
 use Rattle.spv_meaning.specs.Walks.{level_over, level, run}
 use Rattle.spv_meaning.specs.FrameTypes.{FrameType, IsIn, formal_slot, frame_of, frames_right, in_routine, names_right, own_slot, slots_of}
 use Rattle.spv_meaning.specs.Starts.{Area, IsRight, IsRightFor, bound_area, frame_areas}
@@ -32,19 +32,21 @@ use Rattle.spv_meaning.proofs.Differing.{not_true, none_both}
 use Rattle.spv_meaning.proofs.Maps.{same_names}
 use Rattle.spv_preservation.proofs.Growing.{grows_not}
 use Rattle.spv_preservation.proofs.Roots.{first_frame}
-use Rattle.spv_preservation.proofs.Calls.{LevelKeeps, routine_right}
+use Rattle.spv_preservation.proofs.Frames.{leaves_now}
+use Rattle.spv_preservation.proofs.Calls.{BoundRight, LevelKeeps, routine_right}
+use Rattle.spv_preservation.proofs.Expressions.{binds_rightly}
 use Rattle.spv_preservation.proofs.Levels.{level_keeps}
 use Rattle.spv_writes.specs.Writes.{Writes, without_frame}
 use Rattle.spv_writes.proofs.Lists.{or_left, or_right, any_left, any_right, any_of_two}
 use Rattle.spv_writes.proofs.Kept.{widen, unwritten}
 use Rattle.spv_writes.proofs.Popped.{popped}
 use Rattle.spv_frame_law.specs.Frames.{area_of_item, bound_areas, root_areas, areas_of, referred, routine_areas}
-use Rattle.spv_frame_law.specs.Laws.{IsFramed, IsFixedIn, below_turns}
+use Rattle.spv_frame_law.specs.Laws.{IsFramed, IsFixedIn, IsBoundIn, below_turns}
 use Rattle.spv_frame_law.proofs.Covering.{covered_by, item_among, is_own_or, left_areas}
 use Rattle.spv_frame_law.proofs.Names.{none_referred, own_by_value, formals_by_place}
 use Rattle.spv_frame_law.proofs.Records.{KeepsTo, AllKeepTo, Wrote, GotSame, FixedSame, LevelWrites, changes_itself}
 use Rattle.spv_frame_law.proofs.Entering.{no_items}
-use Rattle.spv_frame_law.proofs.Evaluating.{evaluates_same, fixes_in}
+use Rattle.spv_frame_law.proofs.Evaluating.{evaluates_same, fixes_in, binds_same}
 use Rattle.spv_frame_law.proofs.Running.{runs_write, counting}
 use Rattle.spv_frame_law.proofs.Sharing.{keeps_to}
 
@@ -88,6 +90,18 @@ pub place_fixed : (p : Program) → IsFramed p → (here : Here) (types : List F
 place_fixed p f here types inside d t told state right turns choices fixed ended =
     let q = (fixes_in p f.typed (all_keep p f) (below_turns p turns) (below_keeps p f.typed turns) (below_writes p f.typed (all_keep p f) turns) here types inside d t told state right choices).holds fixed ended in
     record { same = q.same; inside = q.inside }
+
+pub arguments_bound : (p : Program) → IsFramed p → (here : Here) (types : List FrameType) → IsIn p here.routine types → (formals : List Formal) (given : Arguments) → arguments_fit p (routine_in p here.routine) formals given ≡ true → (state : State) → IsRight p types state
+    → (turns : ℕ) (choices : List Value) (bound : Bound) → (arguments p (below_turns p turns) here formals given state choices).end ≡ Ended bound → IsBoundIn p here state given bound
+arguments_bound p f here types inside formals given fit state right turns choices bound ended =
+    let q = (binds_same p f.typed (all_keep p f) (below_turns p turns) (below_keeps p f.typed turns) (below_writes p f.typed (all_keep p f) turns) here types inside formals given fit state right choices).holds bound ended in
+    record { same = q.same; names = q.names }
+
+-- parameters are rightly bound
+pub bound_rightly : (p : Program) → IsFramed p → (here : Here) (types : List FrameType) → IsIn p here.routine types → (formals : List Formal) (given : Arguments) → arguments_fit p (routine_in p here.routine) formals given ≡ true → (state : State) → IsRight p types state
+    → (turns : ℕ) (choices : List Value) (bound : Bound) → (arguments p (below_turns p turns) here formals given state choices).end ≡ Ended bound → BoundRight p types state.heap formals bound
+bound_rightly p f here types inside formals given fit state right turns choices bound ended =
+    (binds_rightly p f.typed (below_turns p turns) (below_keeps p f.typed turns) here types inside formals given fit state.heap state (leaves_now p types state right) choices).holds bound ended
 
 -- ---- routines
 

@@ -25,12 +25,12 @@ use Rattle.spv_meaning.specs.Starts.{Area, IsRight}
 use Rattle.spv_preservation.proofs.Outcomes.{IfEnded}
 use Rattle.spv_preservation.proofs.Calls.{Counts}
 use Rattle.spv_writes.specs.Writes.{Writes, is_in_one}
-use Rattle.spv_frame_law.specs.Frames.{root_areas, areas_of}
+use Rattle.spv_frame_law.specs.Frames.{root_areas, areas_of, refer_in_turn}
 use Rattle.spv_writes.proofs.Lists.{or_left, or_right, any_left, any_right}
 use Rattle.spv_writes.proofs.Kept.{chain}
 use Rattle.spv_writes.proofs.Outlines.{outlines_stay}
 use Rattle.spv_frame_law.proofs.Names.{areas_kept}
-use Rattle.spv_frame_law.proofs.Covering.{is_own_or, refer_in_turn}
+use Rattle.spv_frame_law.proofs.Covering.{is_own_or}
 
 -- ---- what a statement may change
 

@@ -40,14 +40,14 @@ use Rattle.spv_writes.specs.Writes.{Writes, is_in, is_in_one, is_touched}
 use Rattle.spv_writes.proofs.Lists.{or_left, or_right, swapped, any_left}
 use Rattle.spv_writes.proofs.Kept.{one_put, untouched_stays, class_stays}
 use Rattle.spv_writes.proofs.Outlines.{outlines_stay, places_stay}
-use Rattle.spv_frame_law.specs.Frames.{area_of_item, root_areas, areas_of, root_shown, is_of_one}
+use Rattle.spv_frame_law.specs.Frames.{area_of_item, bound_areas, root_areas, areas_of, root_shown, is_of_one}
 use Rattle.spv_frame_law.specs.Laws.{IsFramed}
 use Rattle.spv_frame_law.proofs.Covering.{items_same, is_own_or}
 use Rattle.spv_frame_law.proofs.Records.{KeepsTo, AllKeepTo}
 use Rattle.spv_frame_law.proofs.Sharing.{item_itself, roots_named}
 use Rattle.spv_frame_law.proofs.Levels.{all_keep, statement_writes}
 use Rattle.spv_frame_law.proofs.Names.{own_bound}
-use Rattle.spv_frame_law.proofs.Apart.{own_untouched, item_untouched, main_untouched}
+use Rattle.spv_frame_law.proofs.Apart.{in_untouched, own_untouched, item_untouched, main_untouched}
 
 -- ---- what shows is touched by no area of other roots
 
@@ -127,6 +127,43 @@ untouched p here state start roots shown = by_types here start.right.types start
     by_types None _ (in_main types) right parts shown = main_shown p state roots shown
     by_types (Some _) _ (in_routine id r older there) right parts shown =
         routine_shown p id r there older state right (ap (λ o. apart o state) (sym there) ∙ parts) roots (ap (λ o. list_all (root_shown o) roots) (sym there) ∙ shown)
+
+-- a place in the areas of a root is touched by no area of other roots
+pub shown_apart : (p : Program) (here : Option RoutineId) (state : State) → IsStart p here state → (root : Root) → root_shown (routine_in p here) root ≡ true → (others : List Root) → list_all (root_shown (routine_in p here)) others ≡ true → list_any (same_root root) others ≡ false
+    → (a : Place) → is_in_one state.heap (root_areas state.frames root) a ≡ true → is_touched state.heap (areas_of state.frames others) (At a) ≡ false
+shown_apart p here state start root shown others all other a inside = by_types here start.right.types start.right.inside start.right.right start.areas shown all
+  where
+    only : (b : Bool) → (b || false) ≡ true → b ≡ true
+    only true h = refl
+    only false h = h
+
+    in_main_block : (root : Root) → root_shown None root ≡ true → list_all (root_shown None) others ≡ true → list_any (same_root root) others ≡ false → is_in_one state.heap (root_areas state.frames root) a ≡ true → is_touched state.heap (areas_of state.frames others) (At a) ≡ false
+    in_main_block (Own x) shown all other inside = absurd (false≢true shown)
+    in_main_block (Shared i) shown all other inside =
+        in_untouched state.heap a (areas_of state.frames others) (area_of_item i) (only (is_in state.heap a (area_of_item i)) inside) (main_untouched state.heap state.frames i others all other)
+
+    in_a_routine : (r : Routine) (f : Frame) (frames : List Frame) → all_differ (overlap state.heap) (map (bound_area (length frames)) f.names ++ map item_area r.globals) ≡ true → (root : Root) → root_shown (Some r) root ≡ true → list_all (root_shown (Some r)) others ≡ true → list_any (same_root root) others ≡ false
+        → is_in_one state.heap (root_areas (f ∷ frames) root) a ≡ true → is_touched state.heap (areas_of (f ∷ frames) others) (At a) ≡ false
+    in_a_routine r f frames differ (Own x) shown all other inside = by_found (found f.names x) refl inside
+      where
+        by_found : (o : Option Binding) → found f.names x ≡ o → is_in_one state.heap (bound_areas (length frames) x o) a ≡ true → is_touched state.heap (areas_of (f ∷ frames) others) (At a) ≡ false
+        by_found None is inside = absurd (false≢true inside)
+        by_found (Some b) is inside =
+            in_untouched state.heap a (areas_of (f ∷ frames) others) (bound_area (length frames) (x, b)) (only (is_in state.heap a (bound_area (length frames) (x, b))) inside) (own_untouched state.heap r f frames differ x b is others all other)
+    in_a_routine r f frames differ (Shared i) shown all other inside =
+        in_untouched state.heap a (areas_of (f ∷ frames) others) (area_of_item i) (only (is_in state.heap a (area_of_item i)) inside) (item_untouched state.heap r f frames differ i shown others all other)
+
+    by_frames : (older : List FrameType) (id : RoutineId) (r : Routine) (frames : List Frame) → state.frames ≡ frames → frames_right p (frame_of id r ∷ older) state.heap frames ≡ true → apart (Some r) state ≡ true → root_shown (Some r) root ≡ true → list_all (root_shown (Some r)) others ≡ true → is_touched state.heap (areas_of state.frames others) (At a) ≡ false
+    by_frames older id r [] is h parts shown all = absurd (false≢true h)
+    by_frames older id r (f ∷ frames) is h parts shown all =
+        ap (λ k. is_touched state.heap (areas_of k others) (At a)) is
+        ∙ in_a_routine r f frames (ap (λ k. all_differ (overlap state.heap) (frame_areas k ++ map item_area r.globals)) (sym is) ∙ parts) root shown all other
+        (ap (λ k. is_in_one state.heap (root_areas k root) a) (sym is) ∙ inside)
+
+    by_types : (here : Option RoutineId) (types : List FrameType) → IsIn p here types → IsRight p types state → apart (routine_in p here) state ≡ true → root_shown (routine_in p here) root ≡ true → list_all (root_shown (routine_in p here)) others ≡ true → is_touched state.heap (areas_of state.frames others) (At a) ≡ false
+    by_types None _ (in_main types) right parts shown all = in_main_block root shown all other inside
+    by_types (Some _) _ (in_routine id r older there) right parts shown all =
+        by_frames older id r state.frames refl right.frames (ap (λ o. apart o state) (sym there) ∙ parts) (ap (λ o. root_shown o root) (sym there) ∙ shown) (ap (λ o. list_all (root_shown o) others) (sym there) ∙ all)
 
 -- ---- views
 

@@ -1,33 +1,34 @@
 -- What is proved of what runs write.
-use Rattle.std.specs.Prelude.{◌≡◌, ℕ, zero, suc, false, List, [], ◌∷◌, Option, Some, None, IsTrue}
+use Rattle.std.specs.Prelude.{◌≡◌, ℕ, zero, suc, false, List, [], ◌∷◌, ◌++◌, Option, Some, None, IsTrue}
 use Rattle.std.specs.List.{list_all}
+use Rattle.spv_names.specs.declared.names.Symbol.{Symbol}
 use Rattle.spv_logic.specs.declared.types.TypeId.{TypeId}
 use Rattle.spv_logic.specs.declared.types.Sort.{Sort}
 use Rattle.spv_logic.specs.declared.conditions.RoutineId.{RoutineId}
 use Rattle.spv_logic.specs.declared.operators.Head.{Head}
 use Rattle.spv_logic.specs.Values.{Value}
 use Rattle.spv_logic.specs.Fits.{fits}
-use Rattle.spv_program.specs.Expressions.{Expression, Designator}
+use Rattle.spv_program.specs.Expressions.{Expression, Designator, Arguments, call}
 use Rattle.spv_program.specs.Statements.{Statement}
-use Rattle.spv_program.specs.Programs.{Routine, Program, shapes, routine_at, routine_in}
-use Rattle.spv_program.specs.Scopes.{is_own}
+use Rattle.spv_program.specs.Programs.{Formal, Routine, Program, shapes, routine_at, routine_in}
+use Rattle.spv_program.specs.Scopes.{result_name, is_own}
 use Rattle.spv_program.specs.Uses.{Root}
-use Rattle.spv_program.specs.Frames.{root_of, framed}
+use Rattle.spv_program.specs.Frames.{root_of, place_roots, arguments_apart, framed}
 use Rattle.spv_program.specs.Changes.{changed_roots}
-use Rattle.spv_program.specs.ExpressionTypes.{expression_sort, designator_type}
+use Rattle.spv_program.specs.ExpressionTypes.{expression_sort, designator_type, callee, arguments_fit}
 use Rattle.spv_program.specs.Typing.{statement_ok, well_typed}
-use Rattle.spv_meaning.specs.Places.{Place, State, put}
+use Rattle.spv_meaning.specs.Places.{Place, Binding, State, put}
 use Rattle.spv_meaning.specs.Views.{now_view}
 use Rattle.spv_meaning.specs.Outcomes.{Ended}
-use Rattle.spv_meaning.specs.Levels.{Here, Level, pop}
-use Rattle.spv_meaning.specs.Evaluation.{Got, Fixed, evaluate, fix}
+use Rattle.spv_meaning.specs.Levels.{Here, Level, Bound, choose_all, push, pop}
+use Rattle.spv_meaning.specs.Evaluation.{Got, Fixed, evaluate, fix, arguments}
 use Rattle.spv_meaning.specs.Walks.{level, run}
 use Rattle.spv_meaning.specs.FrameTypes.{FrameType, IsIn}
 use Rattle.spv_meaning.specs.Starts.{Area, IsRight, IsRightFor, IsStart, apart}
 use Rattle.spv_meaning.specs.Correct.{begun, body_of, is_there}
 use Rattle.spv_facts.specs.Places.{IsPlace}
 use Rattle.spv_writes.specs.Writes.{Writes, is_in_one}
-use Rattle.spv_frame_law.specs.Frames.{InitialNamesAreHidden, root_areas, areas_of, routine_areas, root_shown, is_of_one}
+use Rattle.spv_frame_law.specs.Frames.{InitialNamesAreHidden, root_areas, areas_of, refer_in_turn, routine_areas, root_shown, is_of_one, call_shown}
 
 -- the programs that the frame law is about: well typed, framed, and no INITIAL name of a routine hides what its statements
 -- may use
@@ -71,6 +72,19 @@ PlacesAreFixedInTheirAreas =
     → (turns : ℕ) (choices : List Value) (fixed : Fixed) → (fix p (below_turns p turns) here d state choices).end ≡ Ended fixed
     → IsFixedIn p here state d fixed
 
+-- parameters that are bound: the state is as it was, and VAR parameters refer in turn into the areas of the roots of their
+-- arguments
+pub record IsBoundIn (p : Program) (here : Here) (state : State) (given : Arguments) (bound : Bound) : Type 0 where
+  pub same : bound.state ≡ state
+  pub names : IsTrue (refer_in_turn state.heap state.frames bound.names (place_roots (is_own (routine_in p here.routine)) given))
+
+abbrev pub ArgumentsReferIntoTheirAreas : Type 0
+ArgumentsReferIntoTheirAreas =
+    (p : Program) → IsFramed p → (here : Here) (types : List FrameType) → IsIn p here.routine types
+    → (formals : List Formal) (given : Arguments) → IsTrue (arguments_fit p (routine_in p here.routine) formals given) → (state : State) → IsRight p types state
+    → (turns : ℕ) (choices : List Value) (bound : Bound) → (arguments p (below_turns p turns) here formals given state choices).end ≡ Ended bound
+    → IsBoundIn p here state given bound
+
 -- the body of a routine that ended wrote in what the names of its frame cover, its VAR places among them, and in the items
 -- of its VAR groups: it changed nothing else, and it added cells only of their types
 abbrev pub RoutinesWriteWhatTheyMay : Type 0
@@ -105,6 +119,17 @@ abbrev pub StatementsLeaveStarts : Type 0
 StatementsLeaveStarts =
     (p : Program) → IsFramed p → (here : Here) (s : Statement) → IsTrue (statement_ok p (routine_in p here.routine) s) → (state : State) → IsStart p here.routine state
     → (turns : ℕ) (choices : List Value) (after : State) → (run p turns here s state choices).end ≡ Ended after → IsStart p here.routine after
+
+-- from a start, a call whose VAR arguments have different roots, none of them an item of the callee's list, begins its
+-- routine in a start: the callee's frame is apart, and its VAR places exist
+abbrev pub CallsBeginInStarts : Type 0
+CallsBeginInStarts =
+    (p : Program) → IsFramed p → (here : Here) (state : State) → IsStart p here.routine state
+    → (id : RoutineId) (line : ℕ) (given : Arguments) (q : Routine) → callee p (routine_in p here.routine) (call id line given) ≡ Some q
+    → IsTrue (arguments_apart p (routine_in p here.routine) (call id line given)) → IsTrue (call_shown p (routine_in p here.routine) (call id line given))
+    → (turns : ℕ) (choices : List Value) (bound : Bound) → (arguments p (below_turns p turns) here q.formals given state choices).end ≡ Ended bound
+    → (others : List Value) (own : List (Symbol × Binding)) → (choose_all p (result_name q.name q.result ++ q.locals) others).end ≡ Ended own
+    → IsStart p (Some id) (push id (bound.names ++ own) bound.state)
 
 -- ---- views
 

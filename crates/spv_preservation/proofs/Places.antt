@@ -74,7 +74,7 @@ cell_sort p types heap cell t is = by_row (row_of heap cell) is
 
 -- ---- a frame on top
 
-numbers_below : (types : List FrameType) (number k : ℕ) (x : Symbol) (t : TypeId) → option_and_then (own_type x) (frame_type types number) ≡ Some t → nat_eq number (length types + k) ≡ false
+pub numbers_below : (types : List FrameType) (number k : ℕ) (x : Symbol) (t : TypeId) → option_and_then (own_type x) (frame_type types number) ≡ Some t → nat_eq number (length types + k) ≡ false
 numbers_below [] number k x t told = absurd (nothing_there told)
 numbers_below (u ∷ types) number k x t told = by_number (nat_eq number (length types)) refl told (λ k told. numbers_below types number k x t told)
   where

@@ -142,7 +142,7 @@ pub types_swap : (t u : TypeId) (b : Bool) → same_type t u ≡ b → same_type
 types_swap t u b h = number_swap t.0 u.0 b h
 
 -- what is of one type is of no other
-one_type : (heap : List HeapRow) (r : Root) (t u : TypeId) → lies_in heap r t ≡ true → lies_in heap r u ≡ true → same_type t u ≡ true
+pub one_type : (heap : List HeapRow) (r : Root) (t u : TypeId) → lies_in heap r t ≡ true → lies_in heap r u ≡ true → same_type t u ≡ true
 one_type heap (ProgramVariable x) t u h k = absurd (false≢true h)
 one_type heap (OwnValue n x) t u h k = absurd (false≢true h)
 one_type heap (CellOf cell) t u h k = sym (lies_by heap cell u t (lies_typed heap cell t h)) ∙ k
