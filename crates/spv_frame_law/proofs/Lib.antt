@@ -9,3 +9,4 @@ pub mod Levels
 pub mod Apart
 pub mod Starts
 pub mod Views
+pub mod Callees

@@ -1,23 +1,29 @@
 // The frame law, each claim the contract of a function that does nothing.
 
-ghost use Rattle.spv_frame_law.specs.Laws.{StatementsWriteWhatTheyChange, ExpressionsLeaveTheState, PlacesAreFixedInTheirAreas, RoutinesWriteWhatTheyMay, FunctionsChangeTheirFramesAlone, WritingKeepsApart, WritingLeavesStarts, StatementsLeaveStarts, OtherNamesShowWhatTheyDid, PutChangesOneOfTheView, BodiesChangeWhatShows, StatementsChangeWhatTheyMay};
+ghost use Rattle.spv_writes.specs.Laws.{PutLeavesPlacesApart};
+ghost use Rattle.spv_frame_law.specs.Laws.{StatementsWriteWhatTheyChange, ExpressionsLeaveTheState, PlacesAreFixedInTheirAreas, ArgumentsReferIntoTheirAreas, RoutinesWriteWhatTheyMay, FunctionsChangeTheirFramesAlone, WritingKeepsApart, WritingLeavesStarts, StatementsLeaveStarts, CallsBeginInStarts, OtherNamesShowWhatTheyDid, PutChangesOneOfTheView, BodiesChangeWhatShows, StatementsChangeWhatTheyMay};
 
 /// A run of a routine of a framed program changes only its own frame, its VAR places and the items of its VAR groups, and adds
 /// cells only of their types; a function changes nothing but its own frame. A statement writes in the areas of what it
-/// changes, an expression leaves the state as it was, and a place is fixed in the areas of its designator's root.
+/// changes, an expression leaves the state as it was, a place is fixed in the areas of its designator's root, and VAR
+/// parameters refer into those of their arguments.
 pub fn law_frame()
     ensures routines { RoutinesWriteWhatTheyMay }
     ensures functions { FunctionsChangeTheirFramesAlone }
     ensures statements { StatementsWriteWhatTheyChange }
     ensures expressions { ExpressionsLeaveTheState }
     ensures places { PlacesAreFixedInTheirAreas }
+    ensures arguments { ArgumentsReferIntoTheirAreas }
 {}
 
-/// What does not overlap does not overlap after writing: writing leaves starts, and so do statements of framed programs.
+/// A put leaves what is at a place that does not overlap. What does not overlap does not overlap after writing: writing leaves
+/// starts, and so do statements of framed programs, whose calls begin in starts.
 pub fn law_apart()
+    ensures put { PutLeavesPlacesApart }
     ensures apart { WritingKeepsApart }
     ensures starts { WritingLeavesStarts }
     ensures statements { StatementsLeaveStarts }
+    ensures calls { CallsBeginInStarts }
 {}
 
 /// The view of a routine, or of the main block: after writing in the areas of some names every other name shows what it did.

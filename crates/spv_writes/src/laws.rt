@@ -1,13 +1,12 @@
 // What writing in areas keeps, each claim the contract of a function that does nothing.
 
-ghost use Rattle.spv_writes.specs.Laws.{WritingChains, WithoutAreasNothingIsWritten, PutLeavesPlacesApart, UntouchedPlacesStay, PlacesStayThere, OnePartIsWritten, CellsKeepTypes, UntouchedClassesStay, OneCellIsWritten, PutInACellIsSetCell, NewCellIsExtend, NewCellLeavesOtherClasses, ReferencesStay, RightStatesStayRight, PoppedWritingIsBelow, PoppedStateIsAsItWas};
+ghost use Rattle.spv_writes.specs.Laws.{WritingChains, WithoutAreasNothingIsWritten, UntouchedPlacesStay, PlacesStayThere, OnePartIsWritten, CellsKeepTypes, UntouchedClassesStay, OneCellIsWritten, PutInACellIsSetCell, NewCellIsExtend, NewCellLeavesOtherClasses, ReferencesStay, RightStatesStayRight, PoppedWritingIsBelow, PoppedStateIsAsItWas};
 
 /// Writing chains. A place that no area overlaps holds what it held, and each place stays there; where the areas that
 /// overlap a place lie at or below a part of it, the whole is the old one with that part.
 pub fn law_writing()
     ensures chains { WritingChains }
     ensures nothing { WithoutAreasNothingIsWritten }
-    ensures apart { PutLeavesPlacesApart }
     ensures untouched { UntouchedPlacesStay }
     ensures existing { PlacesStayThere }
     ensures parts { OnePartIsWritten }

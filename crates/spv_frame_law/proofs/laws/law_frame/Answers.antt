@@ -1,4 +1,4 @@
-use Rattle.spv_frame_law.proofs.Levels.{statement_writes, expression_same, place_fixed, routine_writes, function_alone}
+use Rattle.spv_frame_law.proofs.Levels.{statement_writes, expression_same, place_fixed, arguments_bound, routine_writes, function_alone}
 use Rattle.spv_frame_law.proofs.laws.law_frame.Goals as goal
 
 pub returns-clause-routines : goal.returns-clause-routines
@@ -15,3 +15,6 @@ returns-clause-expressions c = expression_same
 
 pub returns-clause-places : goal.returns-clause-places
 returns-clause-places c = place_fixed
+
+pub returns-clause-arguments : goal.returns-clause-arguments
+returns-clause-arguments c = arguments_bound

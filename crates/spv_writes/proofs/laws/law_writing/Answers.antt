@@ -1,4 +1,3 @@
-use Rattle.spv_writes.proofs.Steps.{put_beside}
 use Rattle.spv_writes.proofs.Kept.{chain, unwritten, untouched_stays, existing}
 use Rattle.spv_writes.proofs.Parts.{part_written}
 use Rattle.spv_writes.proofs.laws.law_writing.Goals as goal
@@ -8,9 +7,6 @@ returns-clause-chains c = chain
 
 pub returns-clause-nothing : goal.returns-clause-nothing
 returns-clause-nothing c = unwritten
-
-pub returns-clause-apart : goal.returns-clause-apart
-returns-clause-apart c = put_beside
 
 pub returns-clause-untouched : goal.returns-clause-untouched
 returns-clause-untouched c = untouched_stays
