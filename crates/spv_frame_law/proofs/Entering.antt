@@ -26,17 +26,13 @@ use Rattle.spv_preservation.proofs.Growing.{grows_not}
 use Rattle.spv_preservation.proofs.Frames.{all_chosen, pushed}
 use Rattle.spv_preservation.proofs.Calls.{BoundRight, LevelKeeps, routine_right}
 use Rattle.spv_writes.specs.Writes.{Writes, without_frame}
-use Rattle.spv_frame_law.specs.Frames.{area_of_item, areas_of, referred}
+use Rattle.spv_frame_law.specs.Frames.{area_of_item, areas_of, referred, call_areas}
 use Rattle.spv_writes.proofs.Lists.{any_left, any_right, any_of_two}
 use Rattle.spv_writes.proofs.Kept.{IsCovered, widen}
 use Rattle.spv_writes.proofs.Popped.{popped}
 use Rattle.spv_frame_law.proofs.Covering.{covered_by, left_areas, referred_front}
 use Rattle.spv_frame_law.proofs.Names.{none_referred, own_by_value, formals_by_place}
 use Rattle.spv_frame_law.proofs.Records.{ChangesAmong, changes_itself, KeepsTo, Wrote, LevelWrites, if_as}
-
--- what a call writes: the VAR places of its frame, and the items of its VAR groups
-abbrev pub call_areas : List (Symbol × Binding) → Routine → List Area
-call_areas names q = referred names ++ map area_of_item (var_items q.globals)
 
 module _ (p : Program) (typed : well_typed p ≡ true) (level : Level) (keeps : LevelKeeps p level) (writes : LevelWrites p level) (id : RoutineId) (q : Routine) (there : routine_at p id ≡ Some q) (to : KeepsTo p q) (types : List FrameType) where
   abbrev inner : List FrameType

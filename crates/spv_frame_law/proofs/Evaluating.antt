@@ -38,13 +38,13 @@ use Rattle.spv_preservation.proofs.Frames.{leaves_now}
 use Rattle.spv_preservation.proofs.Calls.{BoundRight, LevelKeeps}
 use Rattle.spv_preservation.proofs.Expressions.{IsCallee, is_callee, Compares, compares, binds_rightly}
 use Rattle.spv_writes.specs.Writes.{Writes, is_below, is_in, is_in_one}
-use Rattle.spv_frame_law.specs.Frames.{root_areas, areas_of, refer_in_turn}
+use Rattle.spv_frame_law.specs.Frames.{root_areas, areas_of, refer_in_turn, call_areas}
 use Rattle.spv_writes.proofs.Lists.{or_left, any_passes, any_left, any_right}
 use Rattle.spv_writes.proofs.Places.{path_further}
 use Rattle.spv_writes.proofs.Kept.{unwritten}
 use Rattle.spv_frame_law.proofs.Names.{name_in}
 use Rattle.spv_frame_law.proofs.Records.{KeepsTo, AllKeepTo, And, if_and, if_as, moved, GotSame, FixedSame, BoundSame, LevelWrites}
-use Rattle.spv_frame_law.proofs.Entering.{call_areas, entered_writes, nothing_called}
+use Rattle.spv_frame_law.proofs.Entering.{entered_writes, nothing_called}
 
 -- ---- places further
 

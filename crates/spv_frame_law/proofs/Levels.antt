@@ -22,7 +22,7 @@ use Rattle.spv_program.specs.Typing.{statement_ok, well_typed}
 use Rattle.spv_program.proofs.SortFacts.{nothing_there, some_is}
 use Rattle.spv_meaning.specs.Places.{Binding, Frame, HeapRow, State}
 use Rattle.spv_meaning.specs.Outcomes.{Ended}
-use Rattle.spv_meaning.specs.Levels.{Here, Level, Bound, pop}
+use Rattle.spv_meaning.specs.Levels.{Here, Level, Bound, enter, pop}
 use Rattle.spv_meaning.specs.Evaluation.{Got, Fixed, evaluate, fix, arguments}
 use Rattle.spv_meaning.specs.Walks.{level_over, level, run}
 use Rattle.spv_meaning.specs.FrameTypes.{FrameType, IsIn, formal_slot, frame_of, frames_right, in_routine, names_right, own_slot, slots_of}
@@ -40,12 +40,12 @@ use Rattle.spv_writes.specs.Writes.{Writes, without_frame}
 use Rattle.spv_writes.proofs.Lists.{or_left, or_right, any_left, any_right, any_of_two}
 use Rattle.spv_writes.proofs.Kept.{widen, unwritten}
 use Rattle.spv_writes.proofs.Popped.{popped}
-use Rattle.spv_frame_law.specs.Frames.{area_of_item, bound_areas, root_areas, areas_of, referred, routine_areas}
+use Rattle.spv_frame_law.specs.Frames.{area_of_item, bound_areas, root_areas, areas_of, referred, call_areas, routine_areas}
 use Rattle.spv_frame_law.specs.Laws.{IsFramed, IsFixedIn, IsBoundIn, below_turns}
 use Rattle.spv_frame_law.proofs.Covering.{covered_by, item_among, is_own_or, left_areas}
 use Rattle.spv_frame_law.proofs.Names.{none_referred, own_by_value, formals_by_place}
 use Rattle.spv_frame_law.proofs.Records.{KeepsTo, AllKeepTo, Wrote, GotSame, FixedSame, LevelWrites, changes_itself}
-use Rattle.spv_frame_law.proofs.Entering.{no_items}
+use Rattle.spv_frame_law.proofs.Entering.{no_items, entered_writes}
 use Rattle.spv_frame_law.proofs.Evaluating.{evaluates_same, fixes_in, binds_same}
 use Rattle.spv_frame_law.proofs.Running.{runs_write, counting}
 use Rattle.spv_frame_law.proofs.Sharing.{keeps_to}
@@ -102,6 +102,13 @@ pub bound_rightly : (p : Program) → IsFramed p → (here : Here) (types : List
     → (turns : ℕ) (choices : List Value) (bound : Bound) → (arguments p (below_turns p turns) here formals given state choices).end ≡ Ended bound → BoundRight p types state.heap formals bound
 bound_rightly p f here types inside formals given fit state right turns choices bound ended =
     (binds_rightly p f.typed (below_turns p turns) (below_keeps p f.typed turns) here types inside formals given fit state.heap state (leaves_now p types state right) choices).holds bound ended
+
+-- a called routine
+pub called_writes : (p : Program) → IsFramed p → (id : RoutineId) (q : Routine) → routine_at p id ≡ Some q → (types : List FrameType) (bound : Bound) → IsRight p types bound.state → names_right p types bound.state.heap (map formal_slot q.formals) bound.names ≡ true
+    → (turns : ℕ) (choices : List Value) (after : State) → (enter p (level p turns) id (Some q) bound choices).end ≡ Ended after → Writes p (call_areas bound.names q) bound.state (pop after)
+called_writes p f id q there types bound right names turns choices after ended =
+    (entered_writes p f.typed (level p turns) (level_keeps p f.typed turns) (level_writes p f.typed (all_keep p f) turns) id q there ((all_keep p f).each id q there) types bound.state.heap bound
+    (record { leaves = leaves_now p types bound.state right; names = names }) choices).holds after ended
 
 -- ---- routines
 

@@ -1,6 +1,7 @@
 pub mod Covering
 pub mod Names
 pub mod Records
+pub mod Uses
 pub mod Entering
 pub mod Evaluating
 pub mod Running

@@ -13,7 +13,7 @@ use Rattle.spv_program.specs.Statements.{Statement}
 use Rattle.spv_program.specs.Programs.{Routine, Program, routine_at, routine_in}
 use Rattle.spv_program.specs.Scopes.{is_own}
 use Rattle.spv_program.specs.Uses.{Root, Own, Shared, Use, same_root, name_root, statement_uses, statement_calls}
-use Rattle.spv_program.specs.Frames.{changes_nothing}
+use Rattle.spv_program.specs.Frames.{changes_nothing, callee_covered, arguments_apart}
 use Rattle.spv_program.specs.Changes.{var_items, changed_by_call, changed_roots}
 use Rattle.spv_program.specs.Typing.{statement_ok}
 use Rattle.spv_meaning.specs.Places.{HeapRow, State}
@@ -34,11 +34,15 @@ use Rattle.spv_frame_law.proofs.Covering.{is_own_or}
 
 -- ---- what a statement may change
 
+-- whether the root of what is written passes a test
+abbrev pub use_kept : (Root → Bool) → Use → Bool
+use_kept keep u = not u.changes || keep u.root
+
 abbrev pub is_among : List Root → Root → Bool
 is_among roots root = list_any (same_root root) roots
 
 abbrev pub use_among : List Root → Use → Bool
-use_among roots u = not u.changes || is_among roots u.root
+use_among roots = use_kept (is_among roots)
 
 abbrev pub call_among : Program → List Root → Call → Bool
 call_among p roots c = list_all (is_among roots) (changed_by_call p c)
@@ -90,9 +94,11 @@ changes_itself p here s =
 
 -- ---- what routines keep to
 
--- the body of a routine writes own names and items of its VAR groups alone, and a function has neither VAR parameters nor
--- VAR groups
+-- the body of a routine writes own names and items of its VAR groups alone, its list has what it calls, no two VAR arguments
+-- of a call have one root, and a function has neither VAR parameters nor VAR groups
 pub record KeepsTo (p : Program) (q : Routine) : Type 0 where
+  pub uses : list_all (use_kept (is_own_or (var_items q.globals))) (statement_uses (is_own (Some q)) q.body) ≡ true
+  pub calls : list_all (λ c. callee_covered p q.globals c && arguments_apart p (Some q) c) (statement_calls q.body) ≡ true
   pub body : list_all (is_own_or (var_items q.globals)) (changed_roots p (Some q) q.body) ≡ true
   pub function : is_some q.result ≡ true → changes_nothing q ≡ true
 

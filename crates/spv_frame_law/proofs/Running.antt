@@ -50,7 +50,7 @@ use Rattle.spv_preservation.proofs.Calls.{GotRight, FixedRight, BoundRight, Coun
 use Rattle.spv_preservation.proofs.Expressions.{IsCallee, is_callee, evaluates, fixes, binds_rightly}
 use Rattle.spv_preservation.proofs.Statements.{walks, counted}
 use Rattle.spv_writes.specs.Writes.{Writes, nothing, puts, creates, is_in, is_in_one, is_cells_of, has_cells_of}
-use Rattle.spv_frame_law.specs.Frames.{area_of_item, root_areas, areas_of, referred}
+use Rattle.spv_frame_law.specs.Frames.{area_of_item, root_areas, areas_of, referred, call_areas}
 use Rattle.spv_writes.proofs.Lists.{or_left, all_left, all_right}
 use Rattle.spv_writes.proofs.Places.{below_itself}
 use Rattle.spv_writes.proofs.Steps.{new_grows, new_root}
@@ -58,31 +58,9 @@ use Rattle.spv_writes.proofs.Kept.{IsCovered, widen, one_put}
 use Rattle.spv_frame_law.proofs.Covering.{among_areas, roots_among, items_among, refers_into, in_turn_all, referred_covered, covered_both, covered_by, later_one}
 use Rattle.spv_frame_law.proofs.Names.{name_in}
 use Rattle.spv_frame_law.proofs.Records.{is_among, use_among, call_among, ChangesAmong, AllKeepTo, And, if_and, if_as, moved, Wrote, wrote_on, GotSame, FixedSame, BoundSame, LevelWrites}
-use Rattle.spv_frame_law.proofs.Entering.{call_areas, entered_writes}
+use Rattle.spv_frame_law.proofs.Uses.{written_root, place_roots_kept}
+use Rattle.spv_frame_law.proofs.Entering.{entered_writes}
 use Rattle.spv_frame_law.proofs.Evaluating.{evaluates_same, fixes_in, binds_same}
-
--- ---- what uses tell
-
--- the root of a place that is written is among its uses
-written_below : (roots : List Root) (own : Symbol → Bool) (root : Root) (line : ℕ) (others : Selectors) → list_all (use_among roots) (record { root = root; changes = true && not (has_cell others); line = line } ∷ selector_uses own true others) ≡ true → is_among roots (root_behind root others) ≡ true
-written_below roots own root line no_selectors all = left_true (is_among roots root) true all
-written_below roots own root line (at_index t e others) all =
-    written_below roots own root line others
-    (both_true (left_true (use_among roots (record { root = root; changes = not (has_cell others); line = line })) _ all)
-    (all_right (use_among roots) (expression_uses own e) (selector_uses own true others) (right_true (use_among roots (record { root = root; changes = not (has_cell others); line = line })) _ all)))
-written_below roots own root line (at_field t f others) all = written_below roots own root line others all
-written_below roots own root line (at_cell at t others) all = written_below roots own (Shared (Class t)) at others all
-
-pub written_root : (roots : List Root) (own : Symbol → Bool) (d : Designator) → list_all (use_among roots) (designator_uses own true d) ≡ true → is_among roots (root_of own d) ≡ true
-written_root roots own (designator line x others) all = written_below roots own (name_root own x) line others all
-
--- the roots of VAR arguments are among the uses of the arguments
-place_roots_among : (roots : List Root) (own : Symbol → Bool) (given : Arguments) → list_all (use_among roots) (argument_uses own given) ≡ true → list_all (is_among roots) (place_roots own given) ≡ true
-place_roots_among roots own no_arguments all = refl
-place_roots_among roots own (by_value e others) all = place_roots_among roots own others (all_right (use_among roots) (expression_uses own e) (argument_uses own others) all)
-place_roots_among roots own (by_place d others) all =
-    both_true (written_root roots own d (all_left (use_among roots) (designator_uses own true d) (argument_uses own others) all))
-    (place_roots_among roots own others (all_right (use_among roots) (designator_uses own true d) (argument_uses own others) all))
 
 -- ---- places in areas of roots
 
@@ -250,7 +228,7 @@ module _ (p : Program) (typed : well_typed p ≡ true) (to : AllKeepTo p) (below
       by_callee (Some q) is h =
           let found = is_callee p r id line given q is in
           subst (λ o. IfEnded (Writing state) (perform_run o id given state choices)) (sym found.there)
-          (called id given q found (place_roots_among roots own given uses) (ap (λ o. list_all (is_among roots) (map Shared (items_of_callee o))) (sym found.there) ∙ items) state right choices)
+          (called id given q found (place_roots_kept (is_among roots) own given uses) (ap (λ o. list_all (is_among roots) (map Shared (items_of_callee o))) (sym found.there) ∙ items) state right choices)
 
   -- ---- FOR
 
@@ -333,13 +311,13 @@ module _ (p : Program) (typed : well_typed p ≡ true) (to : AllKeepTo p) (below
     pub runs_write : (s : Statement) → statement_ok p r s ≡ true → ChangesAmong p r roots s → Runs (walk p below here s)
     runs_write Empty ok h state right choices = if_ends (Done state) state choices (unwritten_yet state right)
     runs_write (Assign d e) ok h state right choices =
-        full (Assign d e) ok state right choices (assigned d e ok (written_root roots own d (all_left (use_among roots) (designator_uses own true d) (expression_uses own e) h.uses)) state right choices)
+        full (Assign d e) ok state right choices (assigned d e ok (written_root (is_among roots) own d (all_left (use_among roots) (designator_uses own true d) (expression_uses own e) h.uses)) state right choices)
     runs_write (Perform (call id line given)) ok h state right choices =
         full (Perform (call id line given)) ok state right choices
         (performed id line given ok h.uses (left_true (list_all (is_among roots) (changed_by_call p (call id line given))) true (all_right (call_among p roots) (argument_calls given) (call id line given ∷ []) h.calls)) state right choices)
     runs_write (New line d t) ok h state right choices =
         full (New line d t) ok state right choices
-        (creating line d t ok (written_root roots own d (all_left (use_among roots) (designator_uses own true d) _ h.uses))
+        (creating line d t ok (written_root (is_among roots) own d (all_left (use_among roots) (designator_uses own true d) _ h.uses))
         (left_true (is_among roots (Shared (Class t))) true (all_right (use_among roots) (designator_uses own true d) (record { root = Shared (Class t); changes = true; line = line } ∷ []) h.uses)) state right choices)
     runs_write (Sequence a b) ok h state right choices =
         if_then (Done state) (Done state) (walk p below here a state choices) _

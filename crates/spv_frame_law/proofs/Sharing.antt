@@ -36,7 +36,7 @@ use Rattle.spv_preservation.proofs.Expressions.{Compares, compares}
 use Rattle.spv_frame_law.specs.Frames.{InitialNamesAreHidden}
 use Rattle.spv_writes.proofs.Lists.{or_left, or_right, clash, swapped, all_left, all_right, all_both}
 use Rattle.spv_frame_law.proofs.Covering.{items_same, is_own_or}
-use Rattle.spv_frame_law.proofs.Records.{KeepsTo, AllKeepTo}
+use Rattle.spv_frame_law.proofs.Records.{use_kept, KeepsTo, AllKeepTo}
 
 -- ---- names that stand for the same
 
@@ -131,10 +131,6 @@ module _ (p : Program) (r : Option Routine) (wide own : Symbol → Bool) (alike 
         stands (Some u) h = record { item = u; is = refl; gives = refl }
 
 -- ---- uses that are allowed
-
--- whether the root of what is written passes a test
-abbrev use_kept : (Root → Bool) → Use → Bool
-use_kept keep u = not u.changes || keep u.root
 
 pub item_itself : (i : Item) → same_item i i ≡ true
 item_itself (Variable x) = eq-eqb x.0 x.0 refl
@@ -361,6 +357,8 @@ keeps_to p typed frames hidden = record { each = λ id q there. one id q there }
         let written = statement_kept p (Some q) wide (is_own (Some q)) (λ x t is. alike id q there x t is (is_initial q x) refl) q.globals q.body (routine_right p typed id q there).body
             (all_right allowed exit body (all_right allowed entry (exit ++ body) uses)) in
         record {
+          uses = written;
+          calls = calls;
           body = all_both (is_own_or (var_items q.globals)) (map (λ u. u.root) (filter (λ u. u.changes) (statement_uses (is_own (Some q)) q.body))) (flat_map (changed_by_call p) (statement_calls q.body))
               (kept_roots (is_own_or (var_items q.globals)) (statement_uses (is_own (Some q)) q.body) written) (called_items p q.globals (statement_calls q.body) (covered_calls p (Some q) q.globals (statement_calls q.body) calls));
           function = λ has. quiet (changes_nothing q) (is_some q.result) has (left_true (changes_nothing q || not (is_some q.result)) _ ok);

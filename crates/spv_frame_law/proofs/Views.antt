@@ -19,8 +19,9 @@ use Rattle.spv_program.specs.Lists.{same_name, found, all_differ}
 use Rattle.spv_program.specs.Types.{sort_of}
 use Rattle.spv_program.specs.Programs.{GlobalItem, Routine, Program, shapes, routine_at, routine_in}
 use Rattle.spv_program.specs.Scopes.{own_names, own_names_in, is_own}
-use Rattle.spv_program.specs.Uses.{Root, Own, Shared, same_item, same_root, name_root}
-use Rattle.spv_program.specs.Frames.{lists}
+use Rattle.spv_program.specs.Uses.{Root, Own, Shared, Use, same_item, same_root, name_root, statement_uses, statement_calls}
+use Rattle.spv_program.specs.Expressions.{Call, call}
+use Rattle.spv_program.specs.Frames.{lists, lists_cover, globals_of, arguments_apart, callee_covered, routine_framed}
 use Rattle.spv_program.specs.Changes.{var_items, changed_roots}
 use Rattle.spv_program.specs.Statements.{Statement}
 use Rattle.spv_program.specs.Typing.{statement_ok}
@@ -37,14 +38,15 @@ use Rattle.spv_meaning.proofs.RoutineStarts.{found_passes}
 use Rattle.spv_facts.specs.Places.{IsPlace}
 use Rattle.spv_preservation.proofs.Roots.{first_frame}
 use Rattle.spv_writes.specs.Writes.{Writes, is_in, is_in_one, is_touched}
-use Rattle.spv_writes.proofs.Lists.{or_left, or_right, swapped, any_left}
+use Rattle.spv_writes.proofs.Lists.{or_left, or_right, swapped, any_left, any_passes}
 use Rattle.spv_writes.proofs.Kept.{one_put, untouched_stays, class_stays}
 use Rattle.spv_writes.proofs.Outlines.{outlines_stay, places_stay}
-use Rattle.spv_frame_law.specs.Frames.{area_of_item, bound_areas, root_areas, areas_of, root_shown, is_of_one}
+use Rattle.spv_frame_law.specs.Frames.{area_of_item, bound_areas, root_areas, areas_of, root_shown, is_of_one, call_shown}
 use Rattle.spv_frame_law.specs.Laws.{IsFramed}
 use Rattle.spv_frame_law.proofs.Covering.{items_same, is_own_or}
-use Rattle.spv_frame_law.proofs.Records.{KeepsTo, AllKeepTo}
-use Rattle.spv_frame_law.proofs.Sharing.{item_itself, roots_named}
+use Rattle.spv_frame_law.proofs.Records.{use_kept, KeepsTo, AllKeepTo}
+use Rattle.spv_frame_law.proofs.Uses.{placed, statement_placed}
+use Rattle.spv_frame_law.proofs.Sharing.{item_itself, statement_named, roots_named}
 use Rattle.spv_frame_law.proofs.Levels.{all_keep, statement_writes}
 use Rattle.spv_frame_law.proofs.Names.{own_bound}
 use Rattle.spv_frame_law.proofs.Apart.{in_untouched, own_untouched, item_untouched, main_untouched}
@@ -246,6 +248,10 @@ own_named here x false e = refl
 changed_named : (p : Program) (here : Option Routine) (s : Statement) → list_all (is_own_root here) (changed_roots p here s) ≡ true
 changed_named p here s = roots_named p here (is_own_root here) (λ x. own_named here x (is_own here x) refl) (λ i. refl) s
 
+routine_root : (q : Routine) (r : Root) → is_own_root (Some q) r ≡ true → is_own_or (var_items q.globals) r ≡ true → root_shown (Some q) r ≡ true
+routine_root q (Own x) own h = own
+routine_root q (Shared i) own h = may_change_has q.globals i h
+
 -- what a body changes shows
 pub body_shown : (p : Program) → IsFramed p → (here : Option RoutineId) → is_there p here ≡ true → list_all (root_shown (routine_in p here)) (changed_roots p (routine_in p here) (body_of p here)) ≡ true
 body_shown p f None there = all_and (is_own_root None) (λ r. true) (root_shown None) each (changed_roots p None p.main.body) (changed_named p None p.main.body) (all_true (changed_roots p None p.main.body))
@@ -259,15 +265,73 @@ body_shown p f None there = all_and (is_own_root None) (λ r. true) (root_shown 
     each (Shared i) own h = refl
 body_shown p f (Some id) there = by_routine (routine_at p id) refl there
   where
-    each : (q : Routine) (r : Root) → is_own_root (Some q) r ≡ true → is_own_or (var_items q.globals) r ≡ true → root_shown (Some q) r ≡ true
-    each q (Own x) own h = own
-    each q (Shared i) own h = may_change_has q.globals i h
-
     by_routine : (o : Option Routine) → routine_at p id ≡ o → is_some o ≡ true → list_all (root_shown (routine_at p id)) (changed_roots p (routine_at p id) (routine_body (routine_at p id))) ≡ true
     by_routine None is h = absurd (false≢true h)
     by_routine (Some q) is h =
         ap (λ o. list_all (root_shown o) (changed_roots p o (routine_body o))) is
-        ∙ all_and (is_own_root (Some q)) (is_own_or (var_items q.globals)) (root_shown (Some q)) (each q) (changed_roots p (Some q) q.body) (changed_named p (Some q) q.body) ((all_keep p f).each id q is).body
+        ∙ all_and (is_own_root (Some q)) (is_own_or (var_items q.globals)) (root_shown (Some q)) (routine_root q) (changed_roots p (Some q) q.body) (changed_named p (Some q) q.body) ((all_keep p f).each id q is).body
+
+-- ---- calls
+
+shown_use : (r : Routine) (u : Use) → use_kept (is_own_root (Some r)) u ≡ true → use_kept (is_own_or (var_items r.globals)) u ≡ true → use_kept (root_shown (Some r)) u ≡ true
+shown_use r u one two = by_change u.changes one two
+  where
+    by_change : (b : Bool) → (not b || is_own_root (Some r) u.root) ≡ true → (not b || is_own_or (var_items r.globals) u.root) ≡ true → (not b || root_shown (Some r) u.root) ≡ true
+    by_change true one two = routine_root r u.root one two
+    by_change false one two = refl
+
+main_use : (u : Use) → use_kept (is_own_root None) u ≡ true → use_kept (root_shown None) u ≡ true
+main_use u h = by_change u.changes u.root h
+  where
+    by_change : (b : Bool) (r : Root) → (not b || is_own_root None r) ≡ true → (not b || root_shown None r) ≡ true
+    by_change true (Own x) h = h
+    by_change true (Shared i) h = refl
+    by_change false r h = refl
+
+-- what a list has in any group it has
+lists_any : (globals : List GlobalItem) (i : Item) (var : Bool) → lists globals i var ≡ true → lists globals i false ≡ true
+lists_any globals i var h = any_passes (λ g. same_item g.item i && (g.is_var || not var)) (λ g. same_item g.item i && (g.is_var || true)) (λ g h. both_true (left_true (same_item g.item i) _ h) (or_right g.is_var true refl)) globals h
+
+covered_shown : (r : Routine) (inner : List GlobalItem) → lists_cover r.globals inner ≡ true → list_all (λ g. sees (Some r) g.item) inner ≡ true
+covered_shown r [] h = refl
+covered_shown r (g ∷ inner) h = both_true (lists_any r.globals g.item g.is_var (left_true (lists r.globals g.item g.is_var) _ h)) (covered_shown r inner (right_true (lists r.globals g.item g.is_var) _ h))
+
+main_sees : (inner : List GlobalItem) → list_all (λ g. sees None g.item) inner ≡ true
+main_sees [] = refl
+main_sees (g ∷ inner) = main_sees inner
+
+abbrev call_ok : Program → Option Routine → Call → Bool
+call_ok p here c = arguments_apart p here c && call_shown p here c
+
+routine_call : (p : Program) (r : Routine) (c : Call) → (callee_covered p r.globals c && arguments_apart p (Some r) c) ≡ true → placed (root_shown (Some r)) (is_own (Some r)) c ≡ true → call_ok p (Some r) c ≡ true
+routine_call p r (call id line given) one two =
+    both_true (right_true (callee_covered p r.globals (call id line given)) _ one)
+    (both_true two (covered_shown r (globals_of (routine_at p id)) (left_true (callee_covered p r.globals (call id line given)) _ one)))
+
+main_call : (p : Program) (c : Call) → arguments_apart p None c ≡ true → placed (root_shown None) (is_own None) c ≡ true → call_ok p None c ≡ true
+main_call p (call id line given) one two = both_true one (both_true two (main_sees (globals_of (routine_at p id))))
+
+named_uses : (here : Option Routine) (s : Statement) → list_all (use_kept (is_own_root here)) (statement_uses (is_own here) s) ≡ true
+named_uses here s = statement_named (is_own_root here) (is_own here) (λ x. own_named here x (is_own here x) refl) (λ i. refl) s
+
+-- each call in a body is such that it begins its routine in a start
+pub body_calls : (p : Program) → IsFramed p → (here : Option RoutineId) → is_there p here ≡ true → list_all (call_ok p (routine_in p here)) (statement_calls (body_of p here)) ≡ true
+body_calls p f None there =
+    let uses = all_and (use_kept (is_own_root None)) (λ u. true) (use_kept (root_shown None)) (λ u h k. main_use u h) (statement_uses (is_own None) p.main.body) (named_uses None p.main.body) (all_uses (statement_uses (is_own None) p.main.body)) in
+    all_and (arguments_apart p None) (placed (root_shown None) (is_own None)) (call_ok p None) (main_call p) (statement_calls p.main.body) (right_true (list_all (routine_framed p) p.routines) _ f.framed) (statement_placed (root_shown None) (is_own None) p.main.body uses)
+  where
+    all_uses : (us : List Use) → list_all (λ u. true) us ≡ true
+    all_uses [] = refl
+    all_uses (u ∷ us) = all_uses us
+body_calls p f (Some id) there = by_routine (routine_at p id) refl there
+  where
+    by_routine : (o : Option Routine) → routine_at p id ≡ o → is_some o ≡ true → list_all (call_ok p (routine_at p id)) (statement_calls (routine_body (routine_at p id))) ≡ true
+    by_routine None is h = absurd (false≢true h)
+    by_routine (Some q) is h =
+        let to = (all_keep p f).each id q is in
+        let uses = all_and (use_kept (is_own_root (Some q))) (use_kept (is_own_or (var_items q.globals))) (use_kept (root_shown (Some q))) (shown_use q) (statement_uses (is_own (Some q)) q.body) (named_uses (Some q) q.body) to.uses in
+        ap (λ o. list_all (call_ok p o) (statement_calls (routine_body o))) is
+        ∙ all_and (λ c. callee_covered p q.globals c && arguments_apart p (Some q) c) (placed (root_shown (Some q)) (is_own (Some q))) (call_ok p (Some q)) (routine_call p q) (statement_calls q.body) to.calls (statement_placed (root_shown (Some q)) (is_own (Some q)) q.body uses)
 
 -- what a statement does not change shows what it did
 pub statement_shows : (p : Program) → IsFramed p → (here : Here) (s : Statement) → statement_ok p (routine_in p here.routine) s ≡ true → list_all (root_shown (routine_in p here.routine)) (changed_roots p (routine_in p here.routine) s) ≡ true

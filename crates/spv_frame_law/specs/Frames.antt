@@ -55,6 +55,10 @@ refer_in_turn heap frames ((x, Holding v) ∷ names) roots = refer_in_turn heap 
 refer_in_turn heap frames ((x, Referring a) ∷ names) [] = false
 refer_in_turn heap frames ((x, Referring a) ∷ names) (root ∷ roots) = is_in_one heap (root_areas frames root) a && refer_in_turn heap frames names roots
 
+-- what a call writes: the places that VAR parameters refer to, and the items of the routine's VAR groups
+abbrev pub call_areas : List (Symbol × Binding) → Routine → List Area
+call_areas names r = referred names ++ map area_of_item (var_items r.globals)
+
 -- what a routine may write: what the names of its frame cover, its VAR places among them, and the items of its VAR groups
 abbrev pub routine_areas : Routine → State → List Area
 routine_areas r state = frame_areas state.frames ++ map area_of_item (var_items r.globals)

@@ -1,5 +1,5 @@
 -- What is proved of what runs write.
-use Rattle.std.specs.Prelude.{◌≡◌, ℕ, zero, suc, false, List, [], ◌∷◌, ◌++◌, Option, Some, None, IsTrue}
+use Rattle.std.specs.Prelude.{◌≡◌, ℕ, zero, suc, false, ◌&&◌, List, [], ◌∷◌, ◌++◌, map, Option, Some, None, IsTrue}
 use Rattle.std.specs.List.{list_all}
 use Rattle.spv_names.specs.declared.names.Symbol.{Symbol}
 use Rattle.spv_logic.specs.declared.types.TypeId.{TypeId}
@@ -12,7 +12,7 @@ use Rattle.spv_program.specs.Expressions.{Expression, Designator, Arguments, cal
 use Rattle.spv_program.specs.Statements.{Statement}
 use Rattle.spv_program.specs.Programs.{Formal, Routine, Program, shapes, routine_at, routine_in}
 use Rattle.spv_program.specs.Scopes.{result_name, is_own}
-use Rattle.spv_program.specs.Uses.{Root}
+use Rattle.spv_program.specs.Uses.{Root, statement_calls}
 use Rattle.spv_program.specs.Frames.{root_of, place_roots, arguments_apart, framed}
 use Rattle.spv_program.specs.Changes.{changed_roots}
 use Rattle.spv_program.specs.ExpressionTypes.{expression_sort, designator_type, callee, arguments_fit}
@@ -20,15 +20,15 @@ use Rattle.spv_program.specs.Typing.{statement_ok, well_typed}
 use Rattle.spv_meaning.specs.Places.{Place, Binding, State, put}
 use Rattle.spv_meaning.specs.Views.{now_view}
 use Rattle.spv_meaning.specs.Outcomes.{Ended}
-use Rattle.spv_meaning.specs.Levels.{Here, Level, Bound, choose_all, push, pop}
+use Rattle.spv_meaning.specs.Levels.{Here, Level, Bound, choose_all, enter, push, pop}
 use Rattle.spv_meaning.specs.Evaluation.{Got, Fixed, evaluate, fix, arguments}
 use Rattle.spv_meaning.specs.Walks.{level, run}
-use Rattle.spv_meaning.specs.FrameTypes.{FrameType, IsIn}
+use Rattle.spv_meaning.specs.FrameTypes.{FrameType, IsIn, formal_slot, names_right}
 use Rattle.spv_meaning.specs.Starts.{Area, IsRight, IsRightFor, IsStart, apart}
 use Rattle.spv_meaning.specs.Correct.{begun, body_of, is_there}
 use Rattle.spv_facts.specs.Places.{IsPlace}
 use Rattle.spv_writes.specs.Writes.{Writes, is_in_one}
-use Rattle.spv_frame_law.specs.Frames.{InitialNamesAreHidden, root_areas, areas_of, refer_in_turn, routine_areas, root_shown, is_of_one, call_shown}
+use Rattle.spv_frame_law.specs.Frames.{InitialNamesAreHidden, root_areas, areas_of, refer_in_turn, call_areas, routine_areas, root_shown, is_of_one, call_shown}
 
 -- the programs that the frame law is about: well typed, framed, and no INITIAL name of a routine hides what its statements
 -- may use
@@ -100,6 +100,15 @@ FunctionsChangeTheirFramesAlone =
     → (turns : ℕ) (choices : List Value) (after : State) → (run p turns (begun p (Some id) state) r.body state choices).end ≡ Ended after
     → pop after ≡ pop state
 
+-- a called routine whose run ended wrote, below its frame, in the places that its VAR parameters refer to, and in the items of
+-- its VAR groups
+abbrev pub CalledRoutinesWriteWhatTheyMay : Type 0
+CalledRoutinesWriteWhatTheyMay =
+    (p : Program) → IsFramed p → (id : RoutineId) (q : Routine) → routine_at p id ≡ Some q → (types : List FrameType) (bound : Bound) → IsRight p types bound.state
+    → IsTrue (names_right p types bound.state.heap (map formal_slot q.formals) bound.names)
+    → (turns : ℕ) (choices : List Value) (after : State) → (enter p (level p turns) id (Some q) bound choices).end ≡ Ended after
+    → Writes p (call_areas bound.names q) bound.state (pop after)
+
 -- ---- what stays apart
 
 -- where nothing overlaps that a routine has, nothing overlaps after writing
@@ -130,6 +139,12 @@ CallsBeginInStarts =
     → (turns : ℕ) (choices : List Value) (bound : Bound) → (arguments p (below_turns p turns) here q.formals given state choices).end ≡ Ended bound
     → (others : List Value) (own : List (Symbol × Binding)) → (choose_all p (result_name q.name q.result ++ q.locals) others).end ≡ Ended own
     → IsStart p (Some id) (push id (bound.names ++ own) bound.state)
+
+-- each call in the body of a routine, or of the main block, is such
+abbrev pub BodiesCallSo : Type 0
+BodiesCallSo =
+    (p : Program) → IsFramed p → (here : Option RoutineId) → IsTrue (is_there p here)
+    → IsTrue (list_all (λ c. arguments_apart p (routine_in p here) c && call_shown p (routine_in p here) c) (statement_calls (body_of p here)))
 
 -- ---- views
 

@@ -1,7 +1,7 @@
 // The frame law, each claim the contract of a function that does nothing.
 
 ghost use Rattle.spv_writes.specs.Laws.{PutLeavesPlacesApart};
-ghost use Rattle.spv_frame_law.specs.Laws.{StatementsWriteWhatTheyChange, ExpressionsLeaveTheState, PlacesAreFixedInTheirAreas, ArgumentsReferIntoTheirAreas, RoutinesWriteWhatTheyMay, FunctionsChangeTheirFramesAlone, WritingKeepsApart, WritingLeavesStarts, StatementsLeaveStarts, CallsBeginInStarts, OtherNamesShowWhatTheyDid, PutChangesOneOfTheView, BodiesChangeWhatShows, StatementsChangeWhatTheyMay};
+ghost use Rattle.spv_frame_law.specs.Laws.{StatementsWriteWhatTheyChange, ExpressionsLeaveTheState, PlacesAreFixedInTheirAreas, ArgumentsReferIntoTheirAreas, RoutinesWriteWhatTheyMay, FunctionsChangeTheirFramesAlone, CalledRoutinesWriteWhatTheyMay, WritingKeepsApart, WritingLeavesStarts, StatementsLeaveStarts, CallsBeginInStarts, BodiesCallSo, OtherNamesShowWhatTheyDid, PutChangesOneOfTheView, BodiesChangeWhatShows, StatementsChangeWhatTheyMay};
 
 /// A run of a routine of a framed program changes only its own frame, its VAR places and the items of its VAR groups, and adds
 /// cells only of their types; a function changes nothing but its own frame. A statement writes in the areas of what it
@@ -10,6 +10,7 @@ ghost use Rattle.spv_frame_law.specs.Laws.{StatementsWriteWhatTheyChange, Expres
 pub fn law_frame()
     ensures routines { RoutinesWriteWhatTheyMay }
     ensures functions { FunctionsChangeTheirFramesAlone }
+    ensures calls { CalledRoutinesWriteWhatTheyMay }
     ensures statements { StatementsWriteWhatTheyChange }
     ensures expressions { ExpressionsLeaveTheState }
     ensures places { PlacesAreFixedInTheirAreas }
@@ -24,6 +25,7 @@ pub fn law_apart()
     ensures starts { WritingLeavesStarts }
     ensures statements { StatementsLeaveStarts }
     ensures calls { CallsBeginInStarts }
+    ensures bodies { BodiesCallSo }
 {}
 
 /// The view of a routine, or of the main block: after writing in the areas of some names every other name shows what it did.

@@ -1,4 +1,4 @@
-use Rattle.spv_frame_law.proofs.Levels.{statement_writes, expression_same, place_fixed, arguments_bound, routine_writes, function_alone}
+use Rattle.spv_frame_law.proofs.Levels.{statement_writes, expression_same, place_fixed, arguments_bound, routine_writes, function_alone, called_writes}
 use Rattle.spv_frame_law.proofs.laws.law_frame.Goals as goal
 
 pub returns-clause-routines : goal.returns-clause-routines
@@ -18,3 +18,6 @@ returns-clause-places c = place_fixed
 
 pub returns-clause-arguments : goal.returns-clause-arguments
 returns-clause-arguments c = arguments_bound
+
+pub returns-clause-calls : goal.returns-clause-calls
+returns-clause-calls c = called_writes
