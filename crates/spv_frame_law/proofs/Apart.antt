@@ -1,30 +1,25 @@
 -- The areas of different roots do not overlap where a routine's are apart, and stay so.
-use Rattle.std.proofs.Common.{◌≡◌, ℕ, zero, suc, Bool, true, false, cond, not, ◌&&◌, ◌||◌, List, [], ◌∷◌, ◌++◌, map, length, refl, sym, ap, subst, ◌∙◌, Option, Some, None, is_some}
-use Rattle.std.specs.Option.{option_and_then}
+use Rattle.std.proofs.Common.{◌≡◌, ℕ, Bool, true, false, cond, not, ◌&&◌, ◌||◌, List, [], ◌∷◌, ◌++◌, map, length, refl, sym, ap, ◌∙◌, Option, Some, None}
 use Rattle.std.specs.List.{list_all, list_any}
-use Rattle.std.specs.Cmp.Derive.{both_true}
 use Rattle.std.proofs.lemmas.Bool.{false≢true}
 use Rattle.spv_list.proofs.Tests.{left_true, right_true, left_false, right_false, both_false}
 use Rattle.spv_names.specs.declared.names.Symbol.{Symbol}
-use Rattle.spv_logic.specs.declared.types.TypeId.{TypeId}
-use Rattle.spv_logic.specs.declared.conditions.RoutineId.{RoutineId}
-use Rattle.spv_logic.specs.Values.{Value}
 use Rattle.spv_program.specs.declared.types.Item.{Item}
 use Rattle.spv_program.specs.declared.types.Item.TheVariants.{Variable, Class}
 use Rattle.spv_program.specs.Lists.{same_name, found, all_differ}
 use Rattle.spv_program.specs.Types.{same_type}
-use Rattle.spv_program.specs.Programs.{GlobalItem, Routine, Program, routine_at, routine_in}
+use Rattle.spv_program.specs.Programs.{GlobalItem, Routine}
 use Rattle.spv_program.specs.Uses.{Root, Own, Shared, same_item, same_root}
 use Rattle.spv_program.specs.Frames.{lists}
 use Rattle.spv_program.proofs.SortFacts.{nothing_there, some_is}
-use Rattle.spv_meaning.specs.Places.{Place, Binding, Frame, HeapRow, State}
-use Rattle.spv_meaning.specs.Starts.{Area, At, CellsOf, same_root as same_place_root, paths_meet, places_overlap, lies_in, overlap, bound_area, frame_areas, item_area, apart}
+use Rattle.spv_meaning.specs.Places.{Place, Binding, Frame, HeapRow}
+use Rattle.spv_meaning.specs.Starts.{Area, At, CellsOf, same_root as same_place_root, paths_meet, places_overlap, lies_in, overlap, bound_area, item_area, apart}
 use Rattle.spv_meaning.proofs.Differing.{not_true, none_left, none_right, none_both}
 use Rattle.spv_meaning.proofs.Maps.{same_names}
 use Rattle.spv_writes.specs.Writes.{is_in, is_touched}
 use Rattle.spv_writes.proofs.Lists.{not_so, any_fails}
 use Rattle.spv_writes.proofs.Places.{places_swap, types_swap, roots_same, below_root, overlaps_above, one_type}
-use Rattle.spv_frame_law.specs.Frames.{area_of_item, bound_areas, own_areas, root_areas, areas_of, root_shown}
+use Rattle.spv_frame_law.specs.Frames.{area_of_item, bound_areas, root_areas, areas_of, root_shown}
 use Rattle.spv_frame_law.proofs.Covering.{items_same}
 
 -- ---- overlapping

@@ -1,9 +1,8 @@
 -- Calls begin their routines in starts.
-use Rattle.std.proofs.Common.{◌≡◌, ℕ, zero, suc, Bool, true, false, cond, not, ◌&&◌, ◌||◌, List, [], ◌∷◌, ◌++◌, ◌+◌, map, length, refl, sym, ap, subst, ◌∙◌, nat_eq, Option, Some, None, is_some, arith}
-use Rattle.std.specs.Option.{option_and_then}
+use Rattle.std.proofs.Common.{◌≡◌, ℕ, Bool, true, false, not, ◌&&◌, List, [], ◌∷◌, ◌++◌, ◌+◌, map, length, refl, sym, ap, subst, ◌∙◌, nat_eq, Option, Some, None, arith}
 use Rattle.std.specs.List.{list_all, list_any}
 use Rattle.std.specs.Cmp.Derive.{both_true}
-use Rattle.std.proofs.lemmas.Bool.{false≢true, eq-eqb}
+use Rattle.std.proofs.lemmas.Bool.{false≢true}
 use Rattle.std.proofs.lemmas.Bool.Decides.{nat_tests}
 use Rattle.spv_list.proofs.Tests.{left_true, right_true, left_false, right_false, both_false, and_false}
 use Rattle.spv_names.specs.declared.names.Symbol.{Symbol}
@@ -14,24 +13,23 @@ use Rattle.spv_program.specs.declared.types.Item.{Item}
 use Rattle.spv_program.specs.declared.types.Item.TheVariants.{Variable, Class}
 use Rattle.spv_program.specs.Lists.{same_name, all_differ}
 use Rattle.spv_program.specs.Types.{sort_of}
-use Rattle.spv_program.specs.FormulaTypes.{is_sort}
 use Rattle.spv_program.specs.Expressions.{Arguments, call}
 use Rattle.spv_program.specs.Programs.{Formal, GlobalItem, Routine, Program, shapes, routine_at, routine_in}
 use Rattle.spv_program.specs.Scopes.{result_name, is_own}
 use Rattle.spv_program.specs.Uses.{Root, Own, Shared, same_item, same_root}
 use Rattle.spv_program.specs.Frames.{place_roots, is_item_of, roots_apart, globals_of, arguments_apart}
 use Rattle.spv_program.specs.ExpressionTypes.{callee}
-use Rattle.spv_program.specs.Typing.{item_exists, may_be_initial, variables_among, scope_names, types_exist, result_ok, heading_ok, routine_ok, declarations_ok, well_typed}
+use Rattle.spv_program.specs.Typing.{item_exists, variables_among, scope_names, types_exist, result_ok, heading_ok, routine_ok, declarations_ok, well_typed}
 use Rattle.spv_program.specs.Types.{type_exists}
-use Rattle.spv_program.proofs.SortFacts.{is_sort-true, Behind, behind}
+use Rattle.spv_program.proofs.SortFacts.{is_sort-true, behind}
 use Rattle.spv_meaning.specs.Places as places
 use Rattle.spv_meaning.specs.Places.{Place, Binding, Frame, HeapRow, State, ProgramVariable, OwnValue, CellOf, Holding, Referring, whole}
 use Rattle.spv_meaning.specs.Views.{sees}
 use Rattle.spv_meaning.specs.Outcomes.{Ended}
 use Rattle.spv_meaning.specs.Levels.{Here, Bound, choose_all, push}
 use Rattle.spv_meaning.specs.Evaluation.{arguments}
-use Rattle.spv_meaning.specs.FrameTypes.{FrameType, IsIn, Slot, binding_right, formal_slot, frame_of, frame_type, in_routine, names_right, own_slot, own_type, path_sort, place_sort, root_type, slots_of}
-use Rattle.spv_meaning.specs.Starts.{Area, At, CellsOf, IsRight, IsStart, overlap, bound_area, frame_areas, item_area, apart}
+use Rattle.spv_meaning.specs.FrameTypes.{FrameType, Slot, binding_right, formal_slot, frame_of, in_routine, names_right, own_slot, path_sort, place_sort, root_type, slots_of}
+use Rattle.spv_meaning.specs.Starts.{Area, At, IsStart, overlap, bound_area, item_area, apart}
 use Rattle.spv_meaning.proofs.Differing.{not_true, none_both, one_more, first_differs, others_differ, differ_front, differ_around, differ_with}
 use Rattle.spv_meaning.proofs.Maps.{same_names, other_way}
 use Rattle.spv_meaning.proofs.RightFrames.{names_append}
@@ -39,14 +37,14 @@ use Rattle.spv_meaning.proofs.RoutineStarts.{item_passes}
 use Rattle.spv_preservation.proofs.Roots.{as_many}
 use Rattle.spv_preservation.proofs.Places.{numbers_below}
 use Rattle.spv_preservation.proofs.Frames.{all_chosen, pushed}
-use Rattle.spv_preservation.proofs.Calls.{BoundRight, names_differ}
-use Rattle.spv_preservation.proofs.Expressions.{IsCallee, is_callee}
+use Rattle.spv_preservation.proofs.Calls.{names_differ}
+use Rattle.spv_preservation.proofs.Expressions.{is_callee}
 use Rattle.spv_preservation.proofs.Starts.{right_is_start}
-use Rattle.spv_writes.specs.Writes.{is_in, is_in_one, is_touched, is_kept_by}
-use Rattle.spv_writes.proofs.Lists.{clash, not_so, swapped, all_left, all_right}
+use Rattle.spv_writes.specs.Writes.{is_in_one, is_touched, is_kept_by}
+use Rattle.spv_writes.proofs.Lists.{swapped}
 use Rattle.spv_writes.proofs.Places.{places_swap, one_apart}
 use Rattle.spv_frame_law.specs.Frames.{area_of_item, root_areas, areas_of, referred, refer_in_turn, root_shown, call_shown}
-use Rattle.spv_frame_law.specs.Laws.{IsFramed, IsBoundIn, below_turns}
+use Rattle.spv_frame_law.specs.Laws.{IsFramed, below_turns}
 use Rattle.spv_frame_law.proofs.Covering.{items_same, refers_into, in_turn_all}
 use Rattle.spv_frame_law.proofs.Names.{none_referred, own_by_value}
 use Rattle.spv_frame_law.proofs.Apart.{overlap_swap, items_apart, area_is}

@@ -1,7 +1,6 @@
 -- What the areas of roots have in them.
-use Rattle.std.proofs.Common.{◌≡◌, ℕ, Bool, true, false, cond, ◌&&◌, ◌||◌, not, List, [], ◌∷◌, ◌++◌, map, filter, length, refl, sym, ap, subst, ◌∙◌, nat_eq, Option, Some, None, is_some}
-use Rattle.std.specs.Option.{option_and_then}
-use Rattle.std.specs.List.{list_all, list_any, flat_map}
+use Rattle.std.proofs.Common.{◌≡◌, ℕ, Bool, true, false, cond, ◌||◌, not, List, [], ◌∷◌, ◌++◌, map, filter, length, refl, sym, ap, ◌∙◌, Option, Some, None}
+use Rattle.std.specs.List.{list_all, list_any}
 use Rattle.std.specs.Cmp.Derive.{both_true}
 use Rattle.std.proofs.lemmas.Bool.{false≢true, eq-eqb}
 use Rattle.spv_list.proofs.Tests.{left_true, right_true}
@@ -16,12 +15,11 @@ use Rattle.spv_program.proofs.SortFacts.{nothing_there, some_is}
 use Rattle.spv_program.proofs.ExpressionSorting.{same_types}
 use Rattle.spv_meaning.specs.Places.{Place, Binding, Frame, HeapRow, State, Holding, Referring, OwnValue, whole}
 use Rattle.spv_meaning.specs.Places as places
-use Rattle.spv_meaning.specs.FrameTypes.{cell_type}
-use Rattle.spv_meaning.specs.Starts.{Area, At, CellsOf, lies_in, bound_area}
+use Rattle.spv_meaning.specs.Starts.{Area, At, CellsOf, lies_in}
 use Rattle.spv_meaning.proofs.Maps.{same_names}
 use Rattle.spv_preservation.specs.Right.{Grows}
-use Rattle.spv_writes.specs.Writes.{is_below, is_in, is_in_one, is_cells_of, has_cells_of, is_area_of, without_frame, outline, outlines, reference}
-use Rattle.spv_frame_law.specs.Frames.{area_of_item, bound_areas, own_areas, root_areas, areas_of, referred, refer_in_turn}
+use Rattle.spv_writes.specs.Writes.{is_below, is_in, is_in_one, is_cells_of, has_cells_of, is_area_of, without_frame}
+use Rattle.spv_frame_law.specs.Frames.{area_of_item, bound_areas, root_areas, areas_of, referred, refer_in_turn}
 use Rattle.spv_writes.proofs.Lists.{or_left, or_right, any_passes, any_left, any_right, any_of_two, filter_two}
 use Rattle.spv_writes.proofs.Places.{below_on, below_root, lies_typed, lies_by}
 use Rattle.spv_writes.proofs.Kept.{IsCovered}

@@ -1,7 +1,6 @@
 -- What the run of a called routine writes.
-use Rattle.std.proofs.Common.{◌≡◌, ℕ, Bool, true, false, cond, ◌&&◌, not, List, [], ◌∷◌, ◌++◌, map, filter, length, refl, sym, ap, subst, ◌∙◌, Option, Some, None, is_some, option_map}
-use Rattle.std.specs.List.{list_all, list_any}
-use Rattle.std.proofs.lemmas.Bool.{false≢true}
+use Rattle.std.proofs.Common.{◌≡◌, ℕ, Bool, true, false, cond, not, List, [], ◌∷◌, ◌++◌, map, filter, length, refl, sym, ap, subst, ◌∙◌, Some, option_map}
+use Rattle.std.specs.List.{list_any}
 use Rattle.spv_list.proofs.Tests.{left_true, right_true, left_false, right_false}
 use Rattle.spv_names.specs.declared.names.Symbol.{Symbol}
 use Rattle.spv_logic.specs.declared.types.TypeId.{TypeId}
@@ -15,9 +14,9 @@ use Rattle.spv_program.specs.Changes.{var_items, changed_roots}
 use Rattle.spv_program.specs.Typing.{well_typed, statement_ok}
 use Rattle.spv_meaning.specs.Places.{Binding, HeapRow, State}
 use Rattle.spv_meaning.specs.Views.{entry_view}
-use Rattle.spv_meaning.specs.Outcomes.{Outcome, and_then, meets}
+use Rattle.spv_meaning.specs.Outcomes.{meets}
 use Rattle.spv_meaning.specs.Levels.{Here, Level, Bound, push, pop, choose_all, run_routine, enter, reached_entry, reached_exit}
-use Rattle.spv_meaning.specs.FrameTypes.{FrameType, IsIn, frame_of, formal_slot, in_routine, names_right, own_slot}
+use Rattle.spv_meaning.specs.FrameTypes.{FrameType, frame_of, formal_slot, in_routine, names_right, own_slot}
 use Rattle.spv_meaning.specs.Starts.{Area, IsRight}
 use Rattle.spv_meaning.proofs.Differing.{not_true}
 use Rattle.spv_meaning.proofs.RightFrames.{names_append}
@@ -28,7 +27,7 @@ use Rattle.spv_preservation.proofs.Calls.{BoundRight, LevelKeeps, routine_right}
 use Rattle.spv_writes.specs.Writes.{Writes, without_frame}
 use Rattle.spv_frame_law.specs.Frames.{area_of_item, areas_of, referred, call_areas}
 use Rattle.spv_writes.proofs.Lists.{any_left, any_right, any_of_two}
-use Rattle.spv_writes.proofs.Kept.{IsCovered, widen}
+use Rattle.spv_writes.proofs.Kept.{widen}
 use Rattle.spv_writes.proofs.Popped.{popped}
 use Rattle.spv_frame_law.proofs.Covering.{covered_by, left_areas, referred_front}
 use Rattle.spv_frame_law.proofs.Names.{none_referred, own_by_value, formals_by_place}

@@ -1,8 +1,6 @@
 -- Expressions leave the state as it was, and designators are fixed in the areas of their roots.
-use Rattle.std.proofs.Common.{◌≡◌, ℕ, Bool, true, false, cond, ◌&&◌, ◌||◌, not, List, [], ◌∷◌, ◌++◌, map, refl, sym, ap, subst, ◌∙◌, Option, Some, None, is_some, ℤ, pos}
+use Rattle.std.proofs.Common.{◌≡◌, Bool, true, false, cond, ◌&&◌, not, List, [], ◌∷◌, ◌++◌, refl, sym, ap, subst, ◌∙◌, Option, Some, None, is_some}
 use Rattle.std.specs.Option.{option_and_then, unwrap_or}
-use Rattle.std.specs.List.{list_all, list_any}
-use Rattle.std.specs.Ordering.{int_eq}
 use Rattle.std.specs.Cmp.Derive.{both_true}
 use Rattle.std.proofs.lemmas.Bool.{false≢true}
 use Rattle.spv_list.proofs.Tests.{left_true, right_true}
@@ -11,39 +9,38 @@ use Rattle.spv_logic.specs.declared.types.TypeId.{TypeId}
 use Rattle.spv_logic.specs.declared.types.Sort.{Sort}
 use Rattle.spv_logic.specs.declared.types.Sort.TheVariants as sort
 use Rattle.spv_logic.specs.declared.conditions.RoutineId.{RoutineId}
-use Rattle.spv_logic.specs.Values.{Value, Number, Truth, Pointer, number_of, pointer_of}
+use Rattle.spv_logic.specs.Values.{Value, number_of, pointer_of}
 use Rattle.spv_program.specs.declared.types.Item.TheVariants.{Class}
-use Rattle.spv_program.specs.declared.operators.Arithmetic.{Arithmetic}
 use Rattle.spv_program.specs.Types.{same_type, form_at, sort_of, element_of, field_of, target_of, takes_index, takes_value}
 use Rattle.spv_program.specs.Expressions.{Expression, Designator, Selectors, Call, Arguments, Numeral, Boolean, NilOf, Read, Result, Through, Negative, Calculated, Compared, Negated, Joined, designator, no_selectors, at_index, at_field, at_cell, call, no_arguments, by_value, by_place}
-use Rattle.spv_program.specs.Programs.{Formal, Routine, Program, shapes, routine_at, routine_in}
+use Rattle.spv_program.specs.Programs.{Formal, Routine, Program, routine_at, routine_in}
 use Rattle.spv_program.specs.Scopes.{is_own, name_type}
-use Rattle.spv_program.specs.Uses.{Root, Own, Shared, name_root}
+use Rattle.spv_program.specs.Uses.{Root, Shared, name_root}
 use Rattle.spv_program.specs.Frames.{root_behind, root_of, place_roots}
 use Rattle.spv_program.specs.FormulaTypes.{is_sort}
 use Rattle.spv_program.specs.ExpressionTypes.{is_nil, may_read, may_write, sort_of_type, result_type, stands_for, expression_sort, designator_type, selected_type, callee, arguments_fit}
 use Rattle.spv_program.specs.Typing.{well_typed}
-use Rattle.spv_program.proofs.SortFacts.{some_is, is_sort-true, Behind, behind, passed, chosen, failed}
+use Rattle.spv_program.proofs.SortFacts.{is_sort-true, Behind, behind, passed, chosen, failed}
 use Rattle.spv_program.proofs.FormulaSorting.{two_truths, two_numbers, one_of}
 use Rattle.spv_program.proofs.ExpressionSorting.{same_types, mapped}
 use Rattle.spv_meaning.specs.declared.faults.Fault.TheVariants as fault
 use Rattle.spv_meaning.specs.Places.{PathStep, Place, Binding, HeapRow, State, CellOf, IndexStep, FieldStep, Holding, Referring, whole, row_of}
 use Rattle.spv_meaning.specs.Outcomes.{Outcome, and_then}
 use Rattle.spv_meaning.specs.Levels.{Here, Level, Bound, with_turn, pop, enter, result_in}
-use Rattle.spv_meaning.specs.Evaluation.{Got, Fixed, gives, calculated, to_element, to_field, is_cell_of, to_cell, holds_now, bind, for_parameter, formals_of, evaluate, fix, select, result, arguments}
-use Rattle.spv_meaning.specs.FrameTypes.{FrameType, IsIn, frame_of}
+use Rattle.spv_meaning.specs.Evaluation.{Got, Fixed, gives, to_element, to_field, is_cell_of, to_cell, holds_now, bind, for_parameter, formals_of, evaluate, fix, select, result, arguments}
+use Rattle.spv_meaning.specs.FrameTypes.{FrameType, IsIn}
 use Rattle.spv_meaning.specs.Starts.{Area, At, CellsOf, IsRight}
 use Rattle.spv_preservation.proofs.Outcomes.{IfEnded, if_ends, if_then, if_unless, if_turn}
 use Rattle.spv_preservation.proofs.Frames.{leaves_now}
 use Rattle.spv_preservation.proofs.Calls.{BoundRight, LevelKeeps}
-use Rattle.spv_preservation.proofs.Expressions.{IsCallee, is_callee, Compares, compares, binds_rightly}
-use Rattle.spv_writes.specs.Writes.{Writes, is_below, is_in, is_in_one}
-use Rattle.spv_frame_law.specs.Frames.{root_areas, areas_of, refer_in_turn, call_areas}
-use Rattle.spv_writes.proofs.Lists.{or_left, any_passes, any_left, any_right}
+use Rattle.spv_preservation.proofs.Expressions.{is_callee, compares, binds_rightly}
+use Rattle.spv_writes.specs.Writes.{Writes, is_in, is_in_one}
+use Rattle.spv_frame_law.specs.Frames.{root_areas, refer_in_turn, call_areas}
+use Rattle.spv_writes.proofs.Lists.{or_left, any_passes}
 use Rattle.spv_writes.proofs.Places.{path_further}
 use Rattle.spv_writes.proofs.Kept.{unwritten}
 use Rattle.spv_frame_law.proofs.Names.{name_in}
-use Rattle.spv_frame_law.proofs.Records.{KeepsTo, AllKeepTo, And, if_and, if_as, moved, GotSame, FixedSame, BoundSame, LevelWrites}
+use Rattle.spv_frame_law.proofs.Records.{AllKeepTo, And, if_and, moved, GotSame, FixedSame, BoundSame, LevelWrites}
 use Rattle.spv_frame_law.proofs.Entering.{entered_writes, nothing_called}
 
 -- ---- places further

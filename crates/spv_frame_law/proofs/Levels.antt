@@ -1,5 +1,5 @@
 -- What runs with any number of turns write.
-use Rattle.std.proofs.Common.{◌≡◌, ℕ, zero, suc, Bool, true, false, cond, not, ◌&&◌, List, [], ◌∷◌, ◌++◌, map, drop, ◌||◌, length, refl, sym, ap, subst, ◌∙◌, Option, Some, None, is_some}
+use Rattle.std.proofs.Common.{◌≡◌, ℕ, zero, suc, Bool, true, false, cond, not, List, [], ◌∷◌, ◌++◌, map, drop, ◌||◌, length, refl, sym, ap, subst, ◌∙◌, Option, Some, None, is_some}
 use Rattle.std.specs.List.{list_all, list_any}
 use Rattle.std.proofs.lemmas.Bool.{false≢true}
 use Rattle.spv_list.proofs.Tests.{left_true, right_true}
@@ -20,7 +20,7 @@ use Rattle.spv_program.specs.Changes.{var_items, changed_roots}
 use Rattle.spv_program.specs.ExpressionTypes.{expression_sort, designator_type, arguments_fit}
 use Rattle.spv_program.specs.Typing.{statement_ok, well_typed}
 use Rattle.spv_program.proofs.SortFacts.{nothing_there, some_is}
-use Rattle.spv_meaning.specs.Places.{Binding, Frame, HeapRow, State}
+use Rattle.spv_meaning.specs.Places.{Binding, Frame, State}
 use Rattle.spv_meaning.specs.Outcomes.{Ended}
 use Rattle.spv_meaning.specs.Levels.{Here, Level, Bound, enter, pop}
 use Rattle.spv_meaning.specs.Evaluation.{Got, Fixed, evaluate, fix, arguments}
@@ -37,14 +37,14 @@ use Rattle.spv_preservation.proofs.Calls.{BoundRight, LevelKeeps, routine_right}
 use Rattle.spv_preservation.proofs.Expressions.{binds_rightly}
 use Rattle.spv_preservation.proofs.Levels.{level_keeps}
 use Rattle.spv_writes.specs.Writes.{Writes, without_frame}
-use Rattle.spv_writes.proofs.Lists.{or_left, or_right, any_left, any_right, any_of_two}
+use Rattle.spv_writes.proofs.Lists.{or_right, any_left, any_right, any_of_two}
 use Rattle.spv_writes.proofs.Kept.{widen, unwritten}
 use Rattle.spv_writes.proofs.Popped.{popped}
 use Rattle.spv_frame_law.specs.Frames.{area_of_item, bound_areas, root_areas, areas_of, referred, call_areas, routine_areas}
 use Rattle.spv_frame_law.specs.Laws.{IsFramed, IsFixedIn, IsBoundIn, below_turns}
 use Rattle.spv_frame_law.proofs.Covering.{covered_by, item_among, is_own_or, left_areas}
 use Rattle.spv_frame_law.proofs.Names.{none_referred, own_by_value, formals_by_place}
-use Rattle.spv_frame_law.proofs.Records.{KeepsTo, AllKeepTo, Wrote, GotSame, FixedSame, LevelWrites, changes_itself}
+use Rattle.spv_frame_law.proofs.Records.{AllKeepTo, LevelWrites, changes_itself}
 use Rattle.spv_frame_law.proofs.Entering.{no_items, entered_writes}
 use Rattle.spv_frame_law.proofs.Evaluating.{evaluates_same, fixes_in, binds_same}
 use Rattle.spv_frame_law.proofs.Running.{runs_write, counting}

@@ -1,24 +1,20 @@
 -- Names of a routine lie in the areas of their roots.
-use Rattle.std.proofs.Common.{◌≡◌, ℕ, Bool, true, false, cond, ◌&&◌, ◌||◌, List, [], ◌∷◌, ◌++◌, map, length, refl, sym, ap, subst, ◌∙◌, Option, Some, None, is_some}
-use Rattle.std.specs.Option.{option_and_then}
-use Rattle.std.specs.List.{list_all, list_any, flat_map}
+use Rattle.std.proofs.Common.{◌≡◌, ℕ, Bool, true, false, cond, ◌&&◌, ◌||◌, List, [], ◌∷◌, ◌++◌, map, length, refl, sym, ap, ◌∙◌, Option, Some, None, is_some}
+use Rattle.std.specs.List.{list_any}
 use Rattle.std.proofs.lemmas.Bool.{false≢true}
 use Rattle.spv_list.proofs.Tests.{left_true, right_true, left_false, right_false}
 use Rattle.spv_names.specs.declared.names.Symbol.{Symbol}
 use Rattle.spv_logic.specs.declared.types.TypeId.{TypeId}
 use Rattle.spv_logic.specs.declared.conditions.RoutineId.{RoutineId}
-use Rattle.spv_logic.specs.Values.{Value}
 use Rattle.spv_program.specs.declared.types.Item.TheVariants.{Variable}
 use Rattle.spv_program.specs.Lists.{same_name, found}
-use Rattle.spv_program.specs.Programs.{Formal, Routine, Program, routine_at, routine_in}
-use Rattle.spv_program.specs.Scopes.{result_name, own_names, is_own}
+use Rattle.spv_program.specs.Programs.{Formal, Routine, Program, routine_in}
+use Rattle.spv_program.specs.Scopes.{result_name, is_own}
 use Rattle.spv_program.specs.Uses.{Root, Own, Shared, name_root}
-use Rattle.spv_program.proofs.SortFacts.{nothing_there}
 use Rattle.spv_meaning.specs.Places.{Place, Binding, Frame, HeapRow, State, ProgramVariable, OwnValue, Holding, Referring, whole}
 use Rattle.spv_meaning.specs.Views.{bound_place, place_in, place_of}
 use Rattle.spv_meaning.specs.FrameTypes.{FrameType, IsIn, Slot, binding_right, formal_slot, frame_of, frames_right, in_main, in_routine, names_right, own_slot, slot_in, slots_of}
-use Rattle.spv_meaning.specs.Starts.{Area, At, IsRight}
-use Rattle.spv_meaning.proofs.Maps.{same_names}
+use Rattle.spv_meaning.specs.Starts.{Area, IsRight}
 use Rattle.spv_preservation.proofs.Roots.{first_frame}
 use Rattle.spv_preservation.proofs.Names.{Bound, Missing, There, slot_type, formal_slots, bound}
 use Rattle.spv_writes.specs.Writes.{Outline, is_in_one, reference, outline, outlines}

@@ -1,12 +1,10 @@
 -- What goes down the induction over runs.
-use Rattle.std.proofs.Common.{◌≡◌, ℕ, Bool, true, false, cond, ◌&&◌, ◌||◌, not, List, [], ◌∷◌, ◌++◌, map, filter, refl, sym, ap, subst, ◌∙◌, Option, Some, None, is_some, ℤ}
+use Rattle.std.proofs.Common.{◌≡◌, Bool, true, false, cond, ◌&&◌, ◌||◌, not, List, [], ◌∷◌, map, filter, refl, sym, subst, Option, Some, is_some, ℤ}
 use Rattle.std.specs.List.{list_all, list_any, flat_map}
 use Rattle.std.specs.Cmp.Derive.{both_true}
 use Rattle.std.proofs.lemmas.Bool.{eq-eqb}
-use Rattle.spv_names.specs.declared.names.Symbol.{Symbol}
 use Rattle.spv_logic.specs.declared.conditions.RoutineId.{RoutineId}
 use Rattle.spv_logic.specs.Values.{Value}
-use Rattle.spv_program.specs.declared.types.Item.{Item}
 use Rattle.spv_program.specs.declared.types.Item.TheVariants.{Variable, Class}
 use Rattle.spv_program.specs.Expressions.{Call}
 use Rattle.spv_program.specs.Statements.{Statement}
@@ -16,12 +14,12 @@ use Rattle.spv_program.specs.Uses.{Root, Own, Shared, Use, same_root, name_root,
 use Rattle.spv_program.specs.Frames.{changes_nothing, callee_covered, arguments_apart}
 use Rattle.spv_program.specs.Changes.{var_items, changed_by_call, changed_roots}
 use Rattle.spv_program.specs.Typing.{statement_ok}
-use Rattle.spv_meaning.specs.Places.{HeapRow, State}
-use Rattle.spv_meaning.specs.Outcomes.{Ended, Outcome}
+use Rattle.spv_meaning.specs.Places.{State}
+use Rattle.spv_meaning.specs.Outcomes.{Outcome}
 use Rattle.spv_meaning.specs.Levels.{Here, Loop, Level, Bound}
 use Rattle.spv_meaning.specs.Evaluation.{Got, Fixed}
 use Rattle.spv_meaning.specs.FrameTypes.{FrameType, IsIn}
-use Rattle.spv_meaning.specs.Starts.{Area, IsRight}
+use Rattle.spv_meaning.specs.Starts.{IsRight}
 use Rattle.spv_preservation.proofs.Outcomes.{IfEnded}
 use Rattle.spv_preservation.proofs.Calls.{Counts}
 use Rattle.spv_writes.specs.Writes.{Writes, is_in_one}

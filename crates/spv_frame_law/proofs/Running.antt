@@ -1,7 +1,6 @@
 -- Statements write in the areas of the roots that they change.
-use Rattle.std.proofs.Common.{◌≡◌, ℕ, zero, suc, Bool, true, false, cond, not, ◌&&◌, ◌||◌, List, [], ◌∷◌, ◌++◌, map, refl, sym, ap, subst, ◌∙◌, Option, Some, None, is_some, ℤ, option_map}
-use Rattle.std.specs.Option.{option_and_then}
-use Rattle.std.specs.List.{list_all, list_any, flat_map}
+use Rattle.std.proofs.Common.{◌≡◌, ℕ, Bool, true, false, cond, ◌&&◌, List, [], ◌∷◌, ◌++◌, map, refl, sym, ap, subst, ◌∙◌, Option, Some, None, ℤ, option_map}
+use Rattle.std.specs.List.{list_all, list_any}
 use Rattle.std.specs.Ordering.{int_eq}
 use Rattle.std.specs.Cmp.Derive.{both_true}
 use Rattle.std.proofs.lemmas.Bool.{false≢true, eq-eqb}
@@ -17,27 +16,27 @@ use Rattle.spv_logic.specs.Fits.{fits}
 use Rattle.spv_program.specs.declared.types.Item.TheVariants.{Class}
 use Rattle.spv_program.specs.Lists.{all_differ}
 use Rattle.spv_program.specs.Types.{form_at, sort_of, target_of, takes_value}
-use Rattle.spv_program.specs.Expressions.{Expression, Designator, Selectors, Call, Arguments, designator, no_selectors, at_index, at_field, at_cell, call, no_arguments, by_value, by_place}
+use Rattle.spv_program.specs.Expressions.{Expression, Designator, Arguments, call}
 use Rattle.spv_program.specs.Formulas.{Annotation}
 use Rattle.spv_program.specs.Statements.{Counting, Statement, Arms, Empty, Assign, Perform, New, Sequence, If, Case, While, Repeat, For, Assert, no_arms, arm}
-use Rattle.spv_program.specs.Programs.{Routine, Program, shapes, routine_at, routine_in}
+use Rattle.spv_program.specs.Programs.{Routine, Program, shapes, routine_in}
 use Rattle.spv_program.specs.Scopes.{is_own, name_type, body_scope}
-use Rattle.spv_program.specs.Uses.{Root, Own, Shared, Use, has_cell, name_root, annotation_uses, expression_uses, designator_uses, selector_uses, argument_uses, statement_uses, arms_uses, designator_calls, expression_calls, argument_calls, calls_with, statement_calls, arms_calls}
-use Rattle.spv_program.specs.Frames.{root_behind, root_of, place_roots}
+use Rattle.spv_program.specs.Uses.{Root, Shared, name_root, annotation_uses, expression_uses, designator_uses, argument_uses, statement_uses, arms_uses, expression_calls, argument_calls, statement_calls, arms_calls}
+use Rattle.spv_program.specs.Frames.{root_of, place_roots}
 use Rattle.spv_program.specs.Changes.{changed_by_call, var_items, items_of_callee}
 use Rattle.spv_program.specs.FormulaTypes.{is_sort, same_sort, annotation_ok}
 use Rattle.spv_program.specs.ExpressionTypes.{may_write, sort_of_type, expression_sort, designator_type, callee}
 use Rattle.spv_program.specs.Typing.{well_typed, is_type, leads_to, labels_in, is_procedure, may_count, counting_ok, statement_ok, arms_ok}
-use Rattle.spv_program.proofs.SortFacts.{is_sort-true, some_is, Behind, behind}
+use Rattle.spv_program.proofs.SortFacts.{is_sort-true, some_is, Behind}
 use Rattle.spv_program.proofs.ExpressionSorting.{same_types, target_there, mapped}
 use Rattle.spv_meaning.specs.declared.faults.Fault.TheVariants as fault
-use Rattle.spv_meaning.specs.Places.{Binding, Holding, Referring, Place, HeapRow, State, row_of, root_value, put}
+use Rattle.spv_meaning.specs.Places.{Binding, Holding, Referring, Place, HeapRow, State, put}
 use Rattle.spv_meaning.specs.Outcomes.{Outcome, ends, and_then, stops_unless, take_choice}
 use Rattle.spv_meaning.specs.Levels.{Here, Run, Loop, Level, Bound, with_turn, reached_in_body, pop, enter}
 use Rattle.spv_meaning.specs.Evaluation.{Fixed, evaluate, fix, arguments, formals_of}
 use Rattle.spv_meaning.specs.Walks.{is_new, with_new_cell, create, reaches, is_past, next_candidate, counter_place, counter_takes, count_on, walk, walk_arms}
 use Rattle.spv_meaning.specs.FrameTypes.{FrameType, IsIn, place_sort}
-use Rattle.spv_meaning.specs.Starts.{Area, CellsOf, IsRight}
+use Rattle.spv_meaning.specs.Starts.{Area, IsRight}
 use Rattle.spv_facts.specs.Places.{IsPlace}
 use Rattle.spv_preservation.specs.Right.{Leaves}
 use Rattle.spv_preservation.proofs.Outcomes.{IfEnded, if_ends, if_stops, if_then, if_unless, if_turn, if_taken, if_meets}
@@ -48,8 +47,8 @@ use Rattle.spv_preservation.proofs.Names.{name_place}
 use Rattle.spv_preservation.proofs.Frames.{leaves_now}
 use Rattle.spv_preservation.proofs.Calls.{GotRight, FixedRight, BoundRight, Counts, LevelKeeps}
 use Rattle.spv_preservation.proofs.Expressions.{IsCallee, is_callee, evaluates, fixes, binds_rightly}
-use Rattle.spv_preservation.proofs.Statements.{walks, counted}
-use Rattle.spv_writes.specs.Writes.{Writes, nothing, puts, creates, is_in, is_in_one, is_cells_of, has_cells_of}
+use Rattle.spv_preservation.proofs.Statements.{walks}
+use Rattle.spv_writes.specs.Writes.{Writes, nothing, creates, is_in, is_in_one, is_cells_of}
 use Rattle.spv_frame_law.specs.Frames.{area_of_item, root_areas, areas_of, referred, call_areas}
 use Rattle.spv_writes.proofs.Lists.{or_left, all_left, all_right}
 use Rattle.spv_writes.proofs.Places.{below_itself}

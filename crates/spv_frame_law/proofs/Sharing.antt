@@ -1,5 +1,5 @@
 -- What framed programs say of the roots that bodies change.
-use Rattle.std.proofs.Common.{◌≡◌, ℕ, Bool, true, false, cond, not, ◌&&◌, ◌||◌, List, [], ◌∷◌, ◌++◌, map, filter, refl, sym, ap, subst, ◌∙◌, Option, Some, None, is_some, ℤ, pos}
+use Rattle.std.proofs.Common.{◌≡◌, Bool, true, false, cond, not, ◌&&◌, ◌||◌, List, [], ◌∷◌, ◌++◌, map, filter, refl, sym, ap, subst, ◌∙◌, Option, Some, None, is_some}
 use Rattle.std.specs.Option.{option_and_then, unwrap_or}
 use Rattle.std.specs.List.{list_all, list_any, flat_map}
 use Rattle.std.specs.Ordering.{int_eq}
@@ -18,23 +18,23 @@ use Rattle.spv_program.specs.Types.{same_type, form_at, sort_of, element_of, fie
 use Rattle.spv_program.specs.Expressions.{Expression, Designator, Selectors, Call, Arguments, Numeral, Boolean, NilOf, Read, Result, Through, Negative, Calculated, Compared, Negated, Joined, designator, no_selectors, at_index, at_field, at_cell, call, no_arguments, by_value, by_place}
 use Rattle.spv_program.specs.Formulas as formula
 use Rattle.spv_program.specs.Formulas.{Formula, Formulas, Annotation, no_formulas, formulas}
-use Rattle.spv_program.specs.Statements.{Counting, Statement, Arms, Empty, Assign, Perform, New, Sequence, If, Case, While, Repeat, For, Assert, no_arms, arm}
-use Rattle.spv_program.specs.Programs.{Formal, GlobalItem, Routine, Program, routine_at, routine_in}
+use Rattle.spv_program.specs.Statements.{Statement, Arms, Empty, Assign, Perform, New, Sequence, If, Case, While, Repeat, For, Assert, no_arms, arm}
+use Rattle.spv_program.specs.Programs.{Formal, GlobalItem, Routine, Program, routine_at}
 use Rattle.spv_program.specs.Scopes.{is_own, name_type, result_name, body_scope}
 use Rattle.spv_program.specs.Uses.{Root, Own, Shared, Use, same_item, has_cell, name_root, annotation_uses, formula_uses, formulas_uses, expression_uses, designator_uses, selector_uses, call_uses, argument_uses, statement_uses, arms_uses, statement_calls}
 use Rattle.spv_program.specs.Frames.{is_formal, is_initial, routine_uses, lists, use_allowed, lists_cover, globals_of, arguments_apart, callee_covered, changes_nothing, routine_framed, framed}
 use Rattle.spv_program.specs.Changes.{var_items, items_of_callee, changed_by_call, changed_roots}
 use Rattle.spv_program.specs.FormulaTypes.{is_sort, same_sort, annotation_ok}
 use Rattle.spv_program.specs.ExpressionTypes.{is_nil, may_read, may_write, sort_of_type, result_type, stands_for, expression_sort, designator_type, selected_type, callee, arguments_fit}
-use Rattle.spv_program.specs.Typing.{well_typed, is_type, leads_to, labels_in, is_procedure, may_count, counting_ok, statement_ok, arms_ok}
-use Rattle.spv_program.proofs.SortFacts.{nothing_there, some_is, is_sort-true, Behind, behind, passed, chosen, failed}
+use Rattle.spv_program.specs.Typing.{well_typed, leads_to, labels_in, is_procedure, may_count, counting_ok, statement_ok, arms_ok}
+use Rattle.spv_program.proofs.SortFacts.{nothing_there, is_sort-true, Behind, behind, passed, chosen, failed}
 use Rattle.spv_program.proofs.FormulaSorting.{two_truths, two_numbers, one_of}
 use Rattle.spv_program.proofs.ExpressionSorting.{mapped}
 use Rattle.spv_meaning.proofs.RoutineStarts.{item_passes}
 use Rattle.spv_preservation.proofs.Calls.{routine_right}
-use Rattle.spv_preservation.proofs.Expressions.{Compares, compares}
+use Rattle.spv_preservation.proofs.Expressions.{compares}
 use Rattle.spv_frame_law.specs.Frames.{InitialNamesAreHidden}
-use Rattle.spv_writes.proofs.Lists.{or_left, or_right, clash, swapped, all_left, all_right, all_both}
+use Rattle.spv_writes.proofs.Lists.{or_left, or_right, swapped, all_left, all_right, all_both}
 use Rattle.spv_frame_law.proofs.Covering.{items_same, is_own_or}
 use Rattle.spv_frame_law.proofs.Records.{use_kept, KeepsTo, AllKeepTo}
 
@@ -355,7 +355,7 @@ keeps_to p typed frames hidden = record { each = λ id q there. one id q there }
         let body : List Use = statement_uses wide q.body in
         let allowed : Use → Bool = λ u. use_allowed q.globals u.root u.changes in
         let written = statement_kept p (Some q) wide (is_own (Some q)) (λ x t is. alike id q there x t is (is_initial q x) refl) q.globals q.body (routine_right p typed id q there).body
-            (all_right allowed exit body (all_right allowed entry (exit ++ body) uses)) in
+        (all_right allowed exit body (all_right allowed entry (exit ++ body) uses)) in
         record {
           uses = written;
           calls = calls;

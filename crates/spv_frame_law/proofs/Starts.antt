@@ -1,6 +1,5 @@
 -- What is apart stays apart, and statements leave starts.
-use Rattle.std.proofs.Common.{◌≡◌, ℕ, Bool, true, false, cond, not, ◌&&◌, ◌||◌, List, [], ◌∷◌, ◌++◌, map, length, refl, sym, ap, subst, ◌∙◌, Option, Some, None, is_some}
-use Rattle.std.specs.Option.{option_and_then}
+use Rattle.std.proofs.Common.{◌≡◌, ℕ, Bool, true, not, ◌&&◌, ◌||◌, List, [], ◌∷◌, ◌++◌, map, length, refl, sym, ap, ◌∙◌, Option, Some, None, is_some}
 use Rattle.std.specs.List.{list_all, list_any}
 use Rattle.std.specs.Cmp.Derive.{both_true}
 use Rattle.std.proofs.lemmas.Bool.{false≢true}
@@ -13,13 +12,12 @@ use Rattle.spv_program.specs.declared.types.Item.{Item}
 use Rattle.spv_program.specs.declared.types.Item.TheVariants.{Variable, Class}
 use Rattle.spv_program.specs.Lists.{same_name, all_differ}
 use Rattle.spv_program.specs.Types.{sort_of}
-use Rattle.spv_program.specs.FormulaTypes.{is_sort}
 use Rattle.spv_program.specs.Statements.{Statement}
-use Rattle.spv_program.specs.Programs.{GlobalItem, Routine, Program, shapes, routine_at, routine_in}
+use Rattle.spv_program.specs.Programs.{GlobalItem, Routine, Program, shapes, routine_in}
 use Rattle.spv_program.specs.Changes.{changed_roots}
 use Rattle.spv_program.specs.Typing.{statement_ok}
-use Rattle.spv_program.proofs.SortFacts.{is_sort-true, Behind, behind}
-use Rattle.spv_meaning.specs.Places.{Root, Place, Binding, Frame, HeapRow, State, ProgramVariable, OwnValue, CellOf, Holding, Referring}
+use Rattle.spv_program.proofs.SortFacts.{is_sort-true, behind}
+use Rattle.spv_meaning.specs.Places.{Root, Binding, Frame, HeapRow, State, ProgramVariable, OwnValue, CellOf, Holding, Referring}
 use Rattle.spv_meaning.specs.Outcomes.{Ended}
 use Rattle.spv_meaning.specs.Levels.{Here}
 use Rattle.spv_meaning.specs.Walks.{run}
@@ -76,7 +74,7 @@ differ_kept : (heap later : List HeapRow) → Grows heap later → (areas : List
 differ_kept heap later g [] all = refl
 differ_kept heap later g (a ∷ areas) all =
     λ i. not (any_kept heap later g a areas (left_true (area_there heap a) (list_all (area_there heap) areas) all) (right_true (area_there heap a) (list_all (area_there heap) areas) all) i)
-        && differ_kept heap later g areas (right_true (area_there heap a) (list_all (area_there heap) areas) all) i
+    && differ_kept heap later g areas (right_true (area_there heap a) (list_all (area_there heap) areas) all) i
 
 -- ---- the areas of a right frame
 

@@ -1,6 +1,5 @@
 -- What a view shows after writing.
-use Rattle.std.proofs.Common.{◌≡◌, ℕ, zero, suc, Bool, true, false, cond, not, ◌&&◌, ◌||◌, List, [], ◌∷◌, ◌++◌, map, filter, length, refl, sym, ap, subst, ◌∙◌, nat_eq, Option, Some, None, is_some, option_map}
-use Rattle.std.specs.Option.{option_and_then}
+use Rattle.std.proofs.Common.{◌≡◌, ℕ, zero, suc, Bool, true, false, cond, not, ◌&&◌, ◌||◌, List, [], ◌∷◌, ◌++◌, map, filter, length, refl, sym, ap, ◌∙◌, Option, Some, None, is_some, option_map}
 use Rattle.std.specs.List.{list_all, list_any}
 use Rattle.std.specs.Cmp.Derive.{both_true}
 use Rattle.std.proofs.lemmas.Bool.{false≢true}
@@ -18,22 +17,21 @@ use Rattle.spv_program.specs.declared.types.Item.TheVariants.{Variable, Class}
 use Rattle.spv_program.specs.Lists.{same_name, found, all_differ}
 use Rattle.spv_program.specs.Types.{sort_of}
 use Rattle.spv_program.specs.Programs.{GlobalItem, Routine, Program, shapes, routine_at, routine_in}
-use Rattle.spv_program.specs.Scopes.{own_names, own_names_in, is_own}
+use Rattle.spv_program.specs.Scopes.{own_names_in, is_own}
 use Rattle.spv_program.specs.Uses.{Root, Own, Shared, Use, same_item, same_root, name_root, statement_uses, statement_calls}
 use Rattle.spv_program.specs.Expressions.{Call, call}
 use Rattle.spv_program.specs.Frames.{lists, lists_cover, globals_of, arguments_apart, callee_covered, routine_framed}
 use Rattle.spv_program.specs.Changes.{var_items, changed_roots}
 use Rattle.spv_program.specs.Statements.{Statement}
 use Rattle.spv_program.specs.Typing.{statement_ok}
-use Rattle.spv_program.proofs.SortFacts.{nothing_there, some_is}
-use Rattle.spv_meaning.specs.Places.{Place, Binding, Frame, HeapRow, State, ProgramVariable, Holding, Referring, whole, look, put}
-use Rattle.spv_meaning.specs.Views.{bound_place, place_in, place_of, class_of, sees, shown_names, shown_type, of_sort, now_view}
+use Rattle.spv_meaning.specs.Places.{Place, Binding, Frame, State, Holding, Referring, look, put}
+use Rattle.spv_meaning.specs.Views.{bound_place, place_in, place_of, class_of, sees, shown_type, of_sort, now_view}
 use Rattle.spv_meaning.specs.Outcomes.{Ended}
 use Rattle.spv_meaning.specs.Levels.{Here}
 use Rattle.spv_meaning.specs.Walks.{run}
 use Rattle.spv_meaning.specs.Correct.{body_of, routine_body, is_there}
 use Rattle.spv_meaning.specs.FrameTypes.{FrameType, IsIn, frame_of, frames_right, in_main, in_routine}
-use Rattle.spv_meaning.specs.Starts.{Area, At, CellsOf, IsRight, IsRightFor, IsStart, is_of_type, overlap, bound_area, frame_areas, item_area, apart}
+use Rattle.spv_meaning.specs.Starts.{Area, At, CellsOf, IsRight, IsStart, is_of_type, overlap, bound_area, frame_areas, item_area, apart}
 use Rattle.spv_meaning.proofs.RoutineStarts.{found_passes}
 use Rattle.spv_facts.specs.Places.{IsPlace}
 use Rattle.spv_preservation.proofs.Roots.{first_frame}
@@ -44,7 +42,7 @@ use Rattle.spv_writes.proofs.Outlines.{outlines_stay, places_stay}
 use Rattle.spv_frame_law.specs.Frames.{area_of_item, bound_areas, root_areas, areas_of, root_shown, is_of_one, call_shown}
 use Rattle.spv_frame_law.specs.Laws.{IsFramed}
 use Rattle.spv_frame_law.proofs.Covering.{items_same, is_own_or}
-use Rattle.spv_frame_law.proofs.Records.{use_kept, KeepsTo, AllKeepTo}
+use Rattle.spv_frame_law.proofs.Records.{use_kept}
 use Rattle.spv_frame_law.proofs.Uses.{placed, statement_placed}
 use Rattle.spv_frame_law.proofs.Sharing.{item_itself, statement_named, roots_named}
 use Rattle.spv_frame_law.proofs.Levels.{all_keep, statement_writes}

@@ -1,5 +1,5 @@
 -- Which areas the names and items of a routine are.
-use Rattle.std.specs.Prelude.{ℕ, Bool, true, false, ◌&&◌, ◌||◌, not, List, [], ◌∷◌, ◌++◌, map, length, Option, Some, None, IsTrue, ◌≡◌}
+use Rattle.std.specs.Prelude.{ℕ, Bool, true, false, ◌&&◌, List, [], ◌∷◌, ◌++◌, map, length, Option, Some, None, IsTrue, ◌≡◌}
 use Rattle.std.specs.List.{list_all, list_any, flat_map}
 use Rattle.spv_names.specs.declared.names.Symbol.{Symbol}
 use Rattle.spv_logic.specs.declared.operators.Head.{Head}
@@ -8,13 +8,13 @@ use Rattle.spv_program.specs.declared.types.Item.{Item}
 use Rattle.spv_program.specs.declared.types.Item.TheVariants.{Variable, Class}
 use Rattle.spv_program.specs.Lists.{found}
 use Rattle.spv_logic.specs.declared.conditions.RoutineId.{RoutineId}
-use Rattle.spv_program.specs.Programs.{GlobalItem, Routine, Program, routine_at}
+use Rattle.spv_program.specs.Programs.{Routine, Program, routine_at}
 use Rattle.spv_program.specs.Scopes.{is_own, name_type}
 use Rattle.spv_program.specs.Expressions.{Call, call}
 use Rattle.spv_program.specs.Frames.{is_initial, place_roots, globals_of}
 use Rattle.spv_program.specs.Uses.{Root, Own, Shared, same_root, name_root}
 use Rattle.spv_program.specs.Changes.{var_items}
-use Rattle.spv_meaning.specs.Places.{Place, Binding, Frame, HeapRow, State, ProgramVariable, Holding, Referring, whole}
+use Rattle.spv_meaning.specs.Places.{Binding, Frame, HeapRow, State, ProgramVariable, Holding, Referring, whole}
 use Rattle.spv_meaning.specs.Views.{sees}
 use Rattle.spv_meaning.specs.Starts.{Area, At, CellsOf, bound_area, frame_areas}
 use Rattle.spv_writes.specs.Writes.{is_in_one}

@@ -1,10 +1,9 @@
 -- Two sorts that share a value have the same values.
-use Rattle.std.proofs.Common.{◌≡◌, ℕ, Bool, true, false, cond, ◌&&◌, not, List, [], ◌∷◌, ℤ, pos, refl, sym, ap, subst, ◌∙◌, nat_eq, Option, Some, None, is_some}
+use Rattle.std.proofs.Common.{◌≡◌, Bool, true, ◌&&◌, List, [], ◌∷◌, pos, refl, sym, ap, subst, ◌∙◌, Option, Some, None}
 use Rattle.std.specs.Ordering.{int_eq}
 use Rattle.std.specs.Cmp.Derive.{both_true}
 use Rattle.std.proofs.lemmas.Bool.{false≢true}
 use Rattle.spv_list.proofs.Tests.{left_true, right_true}
-use Rattle.spv_logic.specs.declared.types.TypeId.{TypeId}
 use Rattle.spv_logic.specs.declared.types.Sort.{Sort}
 use Rattle.spv_logic.specs.declared.types.Sort.TheVariants as sort
 use Rattle.spv_logic.specs.declared.types.Shape.{Shape}
@@ -12,8 +11,7 @@ use Rattle.spv_logic.specs.declared.types.Shape.TheVariants as shape
 use Rattle.spv_logic.specs.declared.types.Field.{Field}
 use Rattle.spv_logic.specs.Values.{Value, Rows, Number, Truth, Pointer, ArrayOf, RecordOf, ClassOf, AtomOf, PairOf, no_rows, row}
 use Rattle.spv_logic.specs.Shapes.{shape_at, element_of_shape, fields_of_shape, element_sort, fields_of, content_sort, is_list, is_pointer}
-use Rattle.spv_logic.specs.Terms.{sort_eq}
-use Rattle.spv_logic.specs.Fits.{ascend, lacks, keys_are_pointers, cells_after, on_sort, on_fields, no_fields, on_first_field, fits, rows_fit, fields_fit}
+use Rattle.spv_logic.specs.Fits.{ascend, lacks, keys_are_pointers, cells_after, on_sort, on_fields, fits, rows_fit, fields_fit}
 use Rattle.spv_logic.proofs.Equality.{int_eq-true, sort_eq-true}
 use Rattle.spv_logic.proofs.Sorting.{array_parts, class_parts}
 use Rattle.spv_program.proofs.SortFacts.{nothing_there}

@@ -1,31 +1,30 @@
 -- A class of which one cell was written.
-use Rattle.std.proofs.Common.{◌≡◌, ℕ, zero, suc, Bool, true, false, cond, ◌&&◌, ◌||◌, not, List, [], ◌∷◌, ℤ, pos, refl, sym, ap, subst, ◌∙◌, nat_eq, nat_lt, Option, Some, None, is_some, arith}
+use Rattle.std.proofs.Common.{◌≡◌, ℕ, zero, suc, Bool, true, false, cond, ◌&&◌, ◌||◌, not, List, [], ◌∷◌, pos, refl, sym, ap, subst, ◌∙◌, nat_eq, nat_lt, Option, Some, None, is_some}
 use Rattle.std.specs.Option.{option_and_then}
-use Rattle.std.specs.List.{list_all, list_any}
+use Rattle.std.specs.List.{list_all}
 use Rattle.std.specs.Ordering.{int_eq}
 use Rattle.std.specs.Cmp.Derive.{both_true}
 use Rattle.std.proofs.lemmas.Bool.{false≢true, eqb-true, eq-eqb}
-use Rattle.std.proofs.lemmas.Bool.Decides.{nat_tests}
 use Rattle.spv_list.proofs.Tests.{left_true, right_true}
 use Rattle.spv_logic.specs.declared.types.TypeId.{TypeId}
 use Rattle.spv_logic.specs.declared.types.Sort.{Sort}
 use Rattle.spv_logic.specs.declared.types.Sort.TheVariants as sort
 use Rattle.spv_logic.specs.Values.{Value, Rows, ClassOf, Pointer, members_of, default_in, rows_in, row_at, put_row, with_cell, with_member}
 use Rattle.spv_logic.specs.Terms.{class_with}
-use Rattle.spv_logic.specs.Shapes.{shapes_ok, content_sort, sort_of_type}
+use Rattle.spv_logic.specs.Shapes.{shapes_ok, sort_of_type}
 use Rattle.spv_logic.specs.Fits.{ascend, lacks, keys_are_pointers, cells_after, fits, rows_fit}
 use Rattle.spv_logic.proofs.Sorting.{class_parts, class_put, with_cell-after}
 use Rattle.spv_logic.proofs.Changes.{class_same, pos_differs, differs}
 use Rattle.spv_program.specs.Types.{same_type, sort_of}
 use Rattle.spv_program.specs.Programs.{Program, shapes}
-use Rattle.spv_program.proofs.SortFacts.{nothing_there, some_is, sort_is, Behind, behind}
+use Rattle.spv_program.proofs.SortFacts.{nothing_there, some_is, sort_is, behind}
 use Rattle.spv_program.proofs.ExpressionSorting.{same_types}
-use Rattle.spv_meaning.specs.Places.{Root, PathStep, Place, HeapRow, State, ProgramVariable, OwnValue, CellOf, whole, row_of, content_of, root_value, with_content, with_root, part_at, with_part, look, put, value_or_zero}
+use Rattle.spv_meaning.specs.Places.{Root, PathStep, Place, HeapRow, State, ProgramVariable, OwnValue, CellOf, whole, row_of, content_of, root_value, with_content, with_root, with_part, look, put, value_or_zero}
 use Rattle.spv_meaning.specs.Views.{with_heap_row, class_of}
 use Rattle.spv_meaning.specs.Walks.{is_new, with_new_cell}
 use Rattle.spv_meaning.specs.Evaluation.{is_cell_of}
 use Rattle.spv_meaning.specs.FrameTypes.{FrameType, row_type, cell_type}
-use Rattle.spv_meaning.specs.Starts.{Area, At, CellsOf, IsRight, is_of_type, row_ok, heap_ok, same_root, lies_in, overlap}
+use Rattle.spv_meaning.specs.Starts.{Area, At, CellsOf, IsRight, is_of_type, row_ok, same_root, lies_in, overlap}
 use Rattle.spv_meaning.proofs.Heaps.{class_fits}
 use Rattle.spv_meaning.proofs.Puts.{look_elsewhere}
 use Rattle.spv_evaluation.proofs.Settings.{content}
@@ -34,12 +33,11 @@ use Rattle.spv_facts.proofs.Places.{root_after}
 use Rattle.spv_preservation.proofs.Roots.{root_there}
 use Rattle.spv_preservation.proofs.Frames.{leaves_now}
 use Rattle.spv_preservation.proofs.Statements.{new_is_nowhere, with_cell_right}
-use Rattle.spv_writes.specs.Writes.{Writes, begins_with, is_below, is_in, is_in_one, is_cells_of, has_cells_of, lies_below, is_touched_in}
-use Rattle.spv_writes.proofs.Lists.{or_left, not_so, clash, Chosen, chosen_from, all_same, number_swap}
-use Rattle.spv_writes.proofs.Places.{roots_same, below_root, below_on, in_no_class, lies_by, types_swap}
-use Rattle.spv_writes.proofs.Steps.{put_types, put_overlaps, put_class, new_grows, new_look, new_class, new_is_another}
+use Rattle.spv_writes.specs.Writes.{Writes, begins_with, is_below, is_in, is_cells_of, lies_below, is_touched_in}
+use Rattle.spv_writes.proofs.Lists.{or_left, not_so, clash, chosen_from, all_same, number_swap}
+use Rattle.spv_writes.proofs.Places.{roots_same, below_root, below_on, in_no_class, lies_by}
+use Rattle.spv_writes.proofs.Steps.{put_types, put_overlaps, put_class, new_grows, new_look, new_class}
 use Rattle.spv_writes.proofs.Kept.{Steps, kept, one_put}
-use Rattle.spv_writes.proofs.Agreeing.{There, sort_there}
 use Rattle.spv_writes.proofs.Right.{put_stays_right}
 use Rattle.spv_writes.proofs.Rows.{InOrder, put_twice, put_back, put_either}
 
@@ -86,9 +84,9 @@ module _ (p : Program) (ok : shapes_ok (shapes p) ≡ true) (t : TypeId) where
       let q = class_parts (shapes p) c s e refl h in
       let now : fits (shapes p) (row_at (rows_in c) (pos cell) (default_in c)) e ≡ true = ap (λ k. fits (shapes p) k e) there ∙ fit in
       let rows : put_row (rows_in c) (pos cell) (row_at (rows_in c) (pos cell) (default_in c)) (default_in c) ≡ rows_in c = put_back (default_in c) (rows_in c) (pos cell)
-          (class_order (members_of c) (default_in c) _ (set_fits c cell (row_at (rows_in c) (pos cell) (default_in c)) h now))
-          (class_order q.cells (default_in c) (rows_in c) (subst (λ k. IsClass (ClassOf q.cells (default_in k) (rows_in k))) (sym q.is) (subst IsClass q.is h)))
-          (class_same (shapes p) s e c (row_at (rows_in c) (pos cell) (default_in c)) (pos cell) refl h) in
+      (class_order (members_of c) (default_in c) _ (set_fits c cell (row_at (rows_in c) (pos cell) (default_in c)) h now))
+      (class_order q.cells (default_in c) (rows_in c) (subst (λ k. IsClass (ClassOf q.cells (default_in k) (rows_in k))) (sym q.is) (subst IsClass q.is h)))
+      (class_same (shapes p) s e c (row_at (rows_in c) (pos cell) (default_in c)) (pos cell) refl h) in
       ap (λ k. set_cell c cell k) (sym there) ∙ (ap (ClassOf (members_of c) (default_in c)) rows ∙ all_of c q.cells q.other q.rows q.is)
     where
       all_of : (c : Value) (cells : List ℕ) (d : Value) (rows : Rows) → c ≡ ClassOf cells d rows → ClassOf (members_of c) (default_in c) (rows_in c) ≡ c

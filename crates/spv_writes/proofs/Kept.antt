@@ -1,7 +1,5 @@
 -- What writing in areas keeps.
-use Rattle.std.proofs.Common.{◌≡◌, ℕ, Bool, true, false, cond, List, [], ◌∷◌, ◌++◌, refl, sym, ap, subst, ◌∙◌, Option, Some, None, is_some}
-use Rattle.std.specs.Option.{option_and_then}
-use Rattle.std.specs.List.{list_any}
+use Rattle.std.proofs.Common.{◌≡◌, ℕ, true, false, List, [], refl, ap, ◌∙◌, Option, Some, None, is_some}
 use Rattle.std.proofs.lemmas.Bool.{false≢true}
 use Rattle.spv_logic.specs.declared.types.TypeId.{TypeId}
 use Rattle.spv_logic.specs.declared.types.Sort.{Sort}
@@ -9,11 +7,10 @@ use Rattle.spv_logic.specs.Values.{Value}
 use Rattle.spv_logic.specs.Fits.{fits}
 use Rattle.spv_program.specs.Types.{sort_of}
 use Rattle.spv_program.specs.Programs.{Program, shapes}
-use Rattle.spv_program.proofs.SortFacts.{nothing_there, Behind, behind}
+use Rattle.spv_program.proofs.SortFacts.{behind}
 use Rattle.spv_meaning.specs.Places.{Place, HeapRow, State, root_value, part_at, look, exists, put}
 use Rattle.spv_meaning.specs.Views.{class_of}
 use Rattle.spv_meaning.specs.Walks.{is_new, with_new_cell}
-use Rattle.spv_meaning.specs.FrameTypes.{cell_type}
 use Rattle.spv_meaning.specs.Starts.{Area, At, CellsOf}
 use Rattle.spv_facts.specs.Places.{IsPlace}
 use Rattle.spv_facts.proofs.Places.{put_exists}
@@ -21,7 +18,7 @@ use Rattle.spv_preservation.specs.Right.{Grows}
 use Rattle.spv_preservation.proofs.Growing.{grows_on, grows_not}
 use Rattle.spv_writes.specs.Writes.{Writes, nothing, puts, creates, is_in_one, has_cells_of, is_touched}
 use Rattle.spv_writes.proofs.Places.{one_apart, one_no_class, new_no_class}
-use Rattle.spv_writes.proofs.Steps.{put_beside, put_grows, put_touches, put_class, new_grows, new_root, new_look, new_touches, new_touches_class, new_class}
+use Rattle.spv_writes.proofs.Steps.{put_beside, put_grows, put_touches, put_class, new_grows, new_look, new_touches, new_touches_class, new_class}
 
 -- ---- one step, and all
 

@@ -7,10 +7,9 @@ use Rattle.spv_logic.specs.Values.{Value}
 use Rattle.spv_program.specs.Lists.{same_name, found, changed}
 use Rattle.spv_program.specs.Programs.{Program}
 use Rattle.spv_program.proofs.SortFacts.{nothing_there}
-use Rattle.spv_meaning.specs.Places.{Root, Place, Binding, Frame, State, ProgramVariable, OwnValue, CellOf, Holding, Referring, frame_at, held, own_value, root_value, with_frame_value, with_root, whole, put, value_or_zero, with_part}
+use Rattle.spv_meaning.specs.Places.{Root, Place, Binding, Frame, State, ProgramVariable, OwnValue, CellOf, Holding, Referring, frame_at, held, own_value, root_value, with_frame_value, with_root, whole, value_or_zero, with_part}
 use Rattle.spv_meaning.specs.Views.{bound_place, place_in}
 use Rattle.spv_meaning.specs.Starts.{Area, At, bound_area, frame_areas}
-use Rattle.spv_facts.specs.Places.{IsPlace}
 use Rattle.spv_writes.specs.Writes.{Outline, Writes, reference, outline, outlines}
 use Rattle.spv_writes.proofs.Kept.{kept}
 

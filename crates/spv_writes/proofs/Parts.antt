@@ -1,34 +1,31 @@
 -- A whole of which one part was written.
-use Rattle.std.proofs.Common.{◌≡◌, ℕ, Bool, true, false, cond, ◌&&◌, ◌||◌, not, List, [], ◌∷◌, ◌++◌, ℤ, pos, refl, sym, ap, subst, ◌∙◌, Option, Some, None, is_some}
+use Rattle.std.proofs.Common.{◌≡◌, Bool, true, false, ◌&&◌, ◌||◌, not, List, [], ◌∷◌, ◌++◌, pos, refl, sym, ap, subst, ◌∙◌, Option, Some, None}
 use Rattle.std.specs.Option.{option_and_then, unwrap_or}
-use Rattle.std.specs.List.{list_all, list_any}
-use Rattle.std.specs.Cmp.Derive.{both_true}
 use Rattle.std.proofs.lemmas.Bool.{false≢true}
 use Rattle.spv_list.proofs.Tests.{left_true, right_true}
-use Rattle.spv_names.specs.declared.names.Symbol.{Symbol}
 use Rattle.spv_logic.specs.declared.types.Sort.{Sort}
 use Rattle.spv_logic.specs.declared.types.Shape.{Shape}
-use Rattle.spv_logic.specs.Values.{Value, Rows, Number, ArrayOf, RecordOf, row_at, rows_in, default_in, put_row, set_row}
-use Rattle.spv_logic.specs.Shapes.{element_sort, fields_of, field_sort_of}
-use Rattle.spv_logic.specs.Fits.{ascend, lacks, fits, rows_fit, on_sort}
+use Rattle.spv_logic.specs.Values.{Value, Rows, Number, ArrayOf, RecordOf, row_at, rows_in, default_in, put_row}
+use Rattle.spv_logic.specs.Shapes.{element_sort}
+use Rattle.spv_logic.specs.Fits.{ascend, lacks, fits, rows_fit}
 use Rattle.spv_logic.proofs.Sorting.{array_parts, selected, stored}
 use Rattle.spv_logic.proofs.Changes.{array_same}
 use Rattle.spv_program.specs.Programs.{Program, shapes}
 use Rattle.spv_program.proofs.SortFacts.{nothing_there, some_is, Behind, behind}
-use Rattle.spv_meaning.specs.Places.{PathStep, Place, State, IndexStep, FieldStep, row_found, step_part, part_at, with_step, with_part, root_value, look, put, value_or_zero}
+use Rattle.spv_meaning.specs.Places.{PathStep, Place, State, IndexStep, FieldStep, step_part, part_at, with_step, with_part, root_value, look, put, value_or_zero}
 use Rattle.spv_meaning.specs.FrameTypes.{step_sort, path_sort}
 use Rattle.spv_meaning.specs.Starts.{Area, At, CellsOf, same_step, overlap}
-use Rattle.spv_evaluation.proofs.Steps.{array_step, field_step}
+use Rattle.spv_evaluation.proofs.Steps.{array_step}
 use Rattle.spv_facts.specs.Places.{IsPlace}
 use Rattle.spv_facts.proofs.Values.{record_is}
-use Rattle.spv_facts.proofs.Parts.{StepThere, step_there, with_fits, part_same}
+use Rattle.spv_facts.proofs.Parts.{step_there, with_fits, part_same}
 use Rattle.spv_facts.proofs.Places.{root_after}
-use Rattle.spv_writes.specs.Writes.{Writes, begins_with, is_below, is_in, is_in_one, part_of, lies_below, is_touched_below}
-use Rattle.spv_writes.proofs.Lists.{Chosen, chosen_from, all_same}
+use Rattle.spv_writes.specs.Writes.{Writes, begins_with, is_below, is_in, part_of, lies_below, is_touched_below}
+use Rattle.spv_writes.proofs.Lists.{chosen_from, all_same}
 use Rattle.spv_writes.proofs.Places.{steps_same, below_root, below_path, below_on, in_apart}
 use Rattle.spv_writes.proofs.Steps.{put_beside, put_overlaps, new_look, new_overlap}
 use Rattle.spv_writes.proofs.Kept.{Steps, kept}
-use Rattle.spv_writes.proofs.Agreeing.{There, sort_there, sorts_agree}
+use Rattle.spv_writes.proofs.Agreeing.{sort_there, sorts_agree}
 use Rattle.spv_writes.proofs.Rows.{InOrder, put_twice, put_back, set_twice, set_back}
 
 -- ---- steps
@@ -59,7 +56,7 @@ module _ (shapes : List Shape) where
       let now : row_at (rows_in u) i d ≡ v = some_is (sym (array_step shapes u (Number i) s e told fit) ∙ there) in
       let held = selected shapes u s e i told fit in
       let rows : put_row (rows_in u) i (row_at (rows_in u) i d) d ≡ rows_in u = put_back d (rows_in u) i (array_order d (put_row (rows_in u) i (row_at (rows_in u) i d) d) s (stored shapes u s e i (row_at (rows_in u) i d) told fit held))
-          (array_order d (rows_in u) s (subst (λ k. fits shapes (ArrayOf (default_in k) (rows_in k)) s ≡ true) (sym q.is) (subst (λ k. fits shapes k s ≡ true) q.is fit))) (array_same shapes s e u (row_at (rows_in u) i d) i told fit) in
+      (array_order d (rows_in u) s (subst (λ k. fits shapes (ArrayOf (default_in k) (rows_in k)) s ≡ true) (sym q.is) (subst (λ k. fits shapes k s ≡ true) q.is fit))) (array_same shapes s e u (row_at (rows_in u) i d) i told fit) in
       ap (λ k. ArrayOf d (put_row (rows_in u) i k d)) (sym now) ∙ (ap (ArrayOf d) rows ∙ whole u q.other q.rows q.is)
     where
       whole : (u d : Value) (rows : Rows) → u ≡ ArrayOf d rows → ArrayOf (default_in u) (rows_in u) ≡ u
@@ -244,7 +241,7 @@ part_written p areas s t w a rel e place below u there =
     let fit : fits (shapes p) u one.item ≡ true = ap (λ k. fits (shapes p) k one.item) same ∙ whole.fit in
     let part = part_there (shapes p) rel u one.item e one.gives fit in
     let q = kept p areas (Parted p areas a rel u one.item e one.gives fit) (parted_steps p areas a rel u one.item e one.gives fit) s t w
-        (record { now = part.part; ok = part.fit; is = there ∙ ap Some (sym (part_back (shapes p) rel u one.item e one.gives fit part.part part.is)); below = below }) in
+    (record { now = part.part; ok = part.fit; is = there ∙ ap Some (sym (part_back (shapes p) rel u one.item e one.gives fit part.part part.is)); below = below }) in
     q.is ∙ ap (λ o. Some (with_part u rel (value_or_zero o))) (sym (behind_root (root_value t a.root) (with_part u rel q.now) q.now q.is (part_same (shapes p) rel u one.item e one.gives fit q.now)))
   where
     behind_root : (o : Option Value) (whole now : Value) → option_and_then (λ w. part_at w a.path) o ≡ Some whole → part_at whole rel ≡ Some now → option_and_then (λ w. part_at w (a.path ++ rel)) o ≡ Some now

@@ -1,12 +1,9 @@
 -- Places that lie in areas, and places that part.
-use Rattle.std.proofs.Common.{◌≡◌, ℕ, Bool, true, false, ◌&&◌, List, [], ◌∷◌, ◌++◌, refl, sym, ap, subst, ◌∙◌, nat_eq, ℤ, Option, Some, None}
+use Rattle.std.proofs.Common.{◌≡◌, ℕ, Bool, true, false, ◌&&◌, List, [], ◌∷◌, ◌++◌, refl, sym, ap, ◌∙◌, nat_eq, Option, Some, None}
 use Rattle.std.specs.Option.{option_and_then}
-use Rattle.std.specs.List.{list_any}
-use Rattle.std.specs.Ordering.{int_eq}
 use Rattle.std.specs.Cmp.Derive.{both_true}
 use Rattle.std.proofs.lemmas.Bool.{false≢true, eqb-true, eq-eqb}
 use Rattle.spv_list.proofs.Tests.{left_true, right_true}
-use Rattle.spv_names.specs.declared.names.Symbol.{Symbol}
 use Rattle.spv_logic.specs.declared.types.TypeId.{TypeId}
 use Rattle.spv_logic.proofs.Equality.{int_eq-true, int_eq-refl}
 use Rattle.spv_program.specs.Lists.{same_name}
@@ -18,7 +15,7 @@ use Rattle.spv_meaning.specs.Evaluation.{is_cell_of}
 use Rattle.spv_meaning.specs.Starts.{Area, At, CellsOf, same_root, same_step, paths_meet, places_overlap, lies_in, overlap}
 use Rattle.spv_meaning.proofs.Maps.{same_names}
 use Rattle.spv_writes.specs.Writes.{begins_with, is_below, is_in, is_in_one, is_cells_of, has_cells_of, is_touched}
-use Rattle.spv_writes.proofs.Lists.{not_so, clash, swapped, number_swap, Picked, picked}
+use Rattle.spv_writes.proofs.Lists.{not_so, swapped, number_swap, picked}
 
 -- ---- roots
 

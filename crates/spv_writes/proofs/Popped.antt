@@ -1,23 +1,20 @@
 -- What was written over a frame that is popped.
-use Rattle.std.proofs.Common.{◌≡◌, ℕ, suc, Bool, true, false, cond, not, List, [], ◌∷◌, drop, filter, length, refl, sym, ap, subst, ◌∙◌, nat_eq, Option, Some, None}
+use Rattle.std.proofs.Common.{◌≡◌, ℕ, Bool, true, false, cond, not, List, [], ◌∷◌, drop, length, refl, sym, ap, subst, ◌∙◌, nat_eq, Some}
 use Rattle.std.specs.Option.{option_and_then}
-use Rattle.std.specs.List.{list_all, list_any}
+use Rattle.std.specs.List.{list_all}
 use Rattle.std.proofs.lemmas.Bool.{false≢true}
 use Rattle.spv_names.specs.declared.names.Symbol.{Symbol}
 use Rattle.spv_logic.specs.declared.types.TypeId.{TypeId}
-use Rattle.spv_logic.specs.declared.types.Sort.{Sort}
 use Rattle.spv_logic.specs.Values.{Value}
-use Rattle.spv_logic.specs.Fits.{fits}
 use Rattle.spv_list.proofs.Tests.{left_true, right_true}
 use Rattle.spv_program.specs.Lists.{changed}
-use Rattle.spv_program.specs.Programs.{Program, shapes}
+use Rattle.spv_program.specs.Programs.{Program}
 use Rattle.spv_meaning.specs.Places.{Root, Place, Frame, HeapRow, State, ProgramVariable, OwnValue, CellOf, Holding, frame_at, own_value, root_value, with_frame_value, with_root, with_part, value_or_zero, put}
 use Rattle.spv_meaning.specs.Levels.{pop}
 use Rattle.spv_meaning.specs.Walks.{with_new_cell}
 use Rattle.spv_meaning.specs.Starts.{Area, At, CellsOf}
 use Rattle.spv_meaning.proofs.Puts.{same_length}
-use Rattle.spv_facts.specs.Places.{IsPlace}
-use Rattle.spv_writes.specs.Writes.{Writes, nothing, puts, creates, is_below, is_in, is_in_one, is_cells_of, has_cells_of, is_kept_by, is_area_of, without_frame}
+use Rattle.spv_writes.specs.Writes.{Writes, nothing, puts, creates, is_in, is_cells_of, is_kept_by, is_area_of, without_frame}
 use Rattle.spv_writes.proofs.Lists.{any_filter}
 use Rattle.spv_writes.proofs.Places.{below_root}
 use Rattle.spv_writes.proofs.Kept.{unwritten}

@@ -1,8 +1,8 @@
 -- Right states stay right.
-use Rattle.std.proofs.Common.{◌≡◌, ℕ, Bool, true, false, cond, not, ◌&&◌, List, [], ◌∷◌, length, refl, sym, ap, subst, ◌∙◌, nat_eq, Option, Some, None}
+use Rattle.std.proofs.Common.{◌≡◌, ℕ, Bool, true, false, cond, not, List, [], ◌∷◌, length, refl, sym, ap, subst, ◌∙◌, nat_eq, Option, Some, None}
 use Rattle.std.specs.Option.{option_and_then}
 use Rattle.std.proofs.lemmas.Bool.{false≢true}
-use Rattle.spv_list.proofs.Tests.{left_true, right_true}
+use Rattle.spv_list.proofs.Tests.{left_true}
 use Rattle.spv_names.specs.declared.names.Symbol.{Symbol}
 use Rattle.spv_logic.specs.declared.types.TypeId.{TypeId}
 use Rattle.spv_logic.specs.declared.types.Sort.{Sort}
@@ -11,10 +11,9 @@ use Rattle.spv_logic.specs.Fits.{fits}
 use Rattle.spv_program.specs.Lists.{same_name, found, changed}
 use Rattle.spv_program.specs.Types.{sort_of}
 use Rattle.spv_program.specs.Programs.{Program, shapes}
-use Rattle.spv_program.proofs.SortFacts.{nothing_there, some_is, Behind, behind}
-use Rattle.spv_meaning.specs.Places.{Root, Place, Binding, Frame, HeapRow, State, ProgramVariable, OwnValue, CellOf, Holding, Referring, held, own_value, frame_at, row_of, content_of, root_value, with_root, with_part, value_or_zero, put}
-use Rattle.spv_meaning.specs.Walks.{with_new_cell}
-use Rattle.spv_meaning.specs.FrameTypes.{FrameType, Slot, binding_right, frame_type, frames_right, kept_type, names_right, own_type, root_type, row_type, slot_in}
+use Rattle.spv_program.proofs.SortFacts.{nothing_there, behind}
+use Rattle.spv_meaning.specs.Places.{Root, Place, Frame, HeapRow, State, ProgramVariable, OwnValue, CellOf, Holding, Referring, held, own_value, frame_at, row_of, content_of, root_value, with_root, with_part, value_or_zero, put}
+use Rattle.spv_meaning.specs.FrameTypes.{FrameType, frame_type, frames_right, kept_type, own_type, root_type, row_type, slot_in}
 use Rattle.spv_meaning.specs.Starts.{Area, IsRight, is_of_type}
 use Rattle.spv_meaning.proofs.Maps.{same_names, found-changed-other}
 use Rattle.spv_facts.specs.Places.{IsPlace}
@@ -25,7 +24,6 @@ use Rattle.spv_preservation.proofs.Names.{Bound, Missing, There, bound}
 use Rattle.spv_preservation.proofs.Frames.{leaves_now}
 use Rattle.spv_preservation.proofs.Statements.{with_cell_right}
 use Rattle.spv_writes.specs.Writes.{Writes}
-use Rattle.spv_writes.proofs.Lists.{clash}
 use Rattle.spv_writes.proofs.Kept.{kept}
 use Rattle.spv_writes.proofs.Agreeing.{sorts_agree}
 

@@ -1,5 +1,5 @@
 -- Rows that hold the same are the same: what is put twice, and put back.
-use Rattle.std.proofs.Common.{◌≡◌, ℕ, Bool, true, false, cond, ◌&&◌, not, ℤ, refl, sym, ap, subst, ◌∙◌, Option, Some, None, arith}
+use Rattle.std.proofs.Common.{◌≡◌, Bool, true, false, cond, ◌&&◌, not, ℤ, refl, sym, ap, subst, ◌∙◌, Some, arith}
 use Rattle.std.proofs.lemmas.Int.{ints}
 use Rattle.std.specs.Int.RustNames.{int_lt}
 use Rattle.std.specs.Ordering.{int_eq}
@@ -10,7 +10,7 @@ use Rattle.spv_logic.specs.Fits.{ascend, ascend_after, lacks}
 use Rattle.spv_logic.proofs.Equality.{int_eq-true, int_eq-refl, value_eq-refl}
 use Rattle.spv_logic.proofs.Sorting.{after_weaker, ascend_from_after}
 use Rattle.spv_logic.proofs.Changes.{put_other}
-use Rattle.spv_program.proofs.SortFacts.{nothing_there, some_is}
+use Rattle.spv_program.proofs.SortFacts.{some_is}
 use Rattle.spv_meaning.specs.Places.{row_found}
 use Rattle.spv_writes.proofs.Lists.{clash}
 

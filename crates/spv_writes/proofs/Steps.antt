@@ -1,18 +1,15 @@
 -- What one put, and one new cell, leave as it was.
-use Rattle.std.proofs.Common.{◌≡◌, ℕ, zero, suc, Bool, true, false, cond, ◌&&◌, not, List, [], ◌∷◌, refl, sym, ap, subst, ◌∙◌, nat_eq, Option, Some, None, is_some}
+use Rattle.std.proofs.Common.{◌≡◌, ℕ, Bool, true, false, cond, ◌&&◌, List, [], ◌∷◌, refl, sym, ap, subst, ◌∙◌, nat_eq, Some, is_some}
 use Rattle.std.specs.Option.{option_and_then}
-use Rattle.std.specs.List.{list_any}
-use Rattle.std.proofs.lemmas.Bool.{false≢true, eqb-true, eq-eqb}
+use Rattle.std.proofs.lemmas.Bool.{eqb-true}
 use Rattle.spv_logic.specs.declared.types.TypeId.{TypeId}
 use Rattle.spv_logic.specs.declared.types.Sort.{Sort}
-use Rattle.spv_logic.specs.declared.types.Shape.{Shape}
 use Rattle.spv_logic.specs.declared.operators.Head.TheVariants as head
 use Rattle.spv_logic.specs.Values.{Value}
-use Rattle.spv_logic.specs.Fits.{fits}
 use Rattle.spv_program.specs.Types.{same_type}
 use Rattle.spv_program.specs.Programs.{Program, shapes}
-use Rattle.spv_program.proofs.SortFacts.{nothing_there, some_is, Behind, behind}
-use Rattle.spv_meaning.specs.Places.{Root, Place, HeapRow, State, ProgramVariable, OwnValue, CellOf, row_of, content_of, root_value, with_content, with_root, part_at, with_part, look, exists, value_or_zero, put}
+use Rattle.spv_program.proofs.SortFacts.{some_is, behind}
+use Rattle.spv_meaning.specs.Places.{Root, Place, HeapRow, State, ProgramVariable, OwnValue, CellOf, row_of, content_of, root_value, with_content, with_root, part_at, with_part, look, value_or_zero, put}
 use Rattle.spv_meaning.specs.Views.{with_heap_row, class_of}
 use Rattle.spv_meaning.specs.Walks.{is_new, with_new_cell}
 use Rattle.spv_meaning.specs.Evaluation.{is_cell_of}
@@ -20,13 +17,13 @@ use Rattle.spv_meaning.specs.FrameTypes.{row_type, cell_type}
 use Rattle.spv_meaning.specs.Starts.{Area, At, CellsOf, same_root, paths_meet, places_overlap, lies_in, overlap}
 use Rattle.spv_meaning.proofs.Puts.{look_elsewhere, below_cell}
 use Rattle.spv_facts.specs.Places.{IsPlace}
-use Rattle.spv_facts.proofs.Places.{put_parts, put_exists}
+use Rattle.spv_facts.proofs.Places.{put_parts}
 use Rattle.spv_preservation.specs.Right.{Grows}
 use Rattle.spv_preservation.proofs.Puts.{types_stay}
 use Rattle.spv_preservation.proofs.Statements.{new_is_nowhere}
 use Rattle.spv_writes.specs.Writes.{is_touched}
-use Rattle.spv_writes.proofs.Lists.{clash, number_swap, any_same, any_fails}
-use Rattle.spv_writes.proofs.Places.{roots_same, root_itself, lies_by, lies_typed, types_swap, cell_test, typed}
+use Rattle.spv_writes.proofs.Lists.{clash, any_same, any_fails}
+use Rattle.spv_writes.proofs.Places.{roots_same, lies_by, types_swap, cell_test, typed}
 
 -- ---- puts
 
