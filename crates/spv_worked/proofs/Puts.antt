@@ -1,15 +1,13 @@
 -- What small programs write, put by put.
-use Rattle.std.proofs.Common.{List, [], ◌∷◌, pos, refl}
-use Rattle.spv_names.specs.declared.names.Symbol.{Symbol}
+use Rattle.std.proofs.Common.{[], ◌∷◌, pos, refl}
 use Rattle.spv_logic.specs.declared.types.Sort.TheVariants as sort
-use Rattle.spv_logic.specs.Values.{Value, Pointer, ArrayOf, no_rows, row}
-use Rattle.spv_meaning.specs.Places.{Place, State, ProgramVariable, CellOf, IndexStep, FieldStep, whole, put}
+use Rattle.spv_logic.specs.Values.{Pointer, ArrayOf, no_rows, row}
+use Rattle.spv_meaning.specs.Places.{Place, ProgramVariable, CellOf, IndexStep, FieldStep, whole, put}
 use Rattle.spv_meaning.specs.Walks.{with_new_cell}
-use Rattle.spv_writes.specs.Writes.{Writes, nothing, puts, creates}
-use Rattle.spv_worked.specs.Small.{a, i, q, x, val, integer, row_of_nine, ref, node, z, state, with_cells}
-use Rattle.spv_worked.specs.CellRuns.{node_cell, node_with}
+use Rattle.spv_writes.specs.Writes.{nothing, puts, creates}
+use Rattle.spv_worked.specs.Small.{a, i, q, val, row_of_nine, node, z}
+use Rattle.spv_worked.specs.CellRuns.{node_with}
 use Rattle.spv_worked.specs.WrittenRuns.{FillingWrites, MakingWrites, AddingWrites, first_of_a, unfilled, filled, unmade, made, unadded, added}
-
 
 pub filling_writes : FillingWrites
 filling_writes =

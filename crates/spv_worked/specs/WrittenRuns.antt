@@ -1,26 +1,26 @@
 -- What runs with calls write.
-use Rattle.std.specs.Prelude.{◌≡◌, ℕ, Bool, true, false, List, [], ◌∷◌, Option, Some, None, pos}
+use Rattle.std.specs.Prelude.{◌≡◌, true, false, List, [], ◌∷◌, Some, None, pos}
 use Rattle.spv_logic.specs.declared.operators.Head.TheVariants as head
-use Rattle.spv_logic.specs.Values.{Value, Pointer, ArrayOf, RecordOf, no_rows, row}
+use Rattle.spv_logic.specs.Values.{Pointer, ArrayOf, no_rows, row}
 use Rattle.spv_logic.specs.Terms.{worth}
 use Rattle.spv_logic.specs.Conditions.{Meaning, Valuation}
 use Rattle.spv_program.specs.declared.operators.Arithmetic.TheVariants as arithmetic
 use Rattle.spv_program.specs.declared.operators.Comparison.TheVariants as comparison
-use Rattle.spv_program.specs.declared.types.Item.TheVariants.{Variable, Class}
+use Rattle.spv_program.specs.declared.types.Item.TheVariants.{Class}
 use Rattle.spv_program.specs.Expressions.{Result, Calculated, Compared, call, no_arguments, by_value, by_place}
 use Rattle.spv_program.specs.Statements.{Empty, Assign, Perform, New, If}
 use Rattle.spv_program.specs.Programs.{Routine, Program, shapes}
 use Rattle.spv_program.specs.Changes.{changed_roots}
-use Rattle.spv_meaning.specs.Places.{Place, State, ProgramVariable, CellOf, IndexStep, whole, with_part, look}
+use Rattle.spv_meaning.specs.Places.{Place, State, ProgramVariable, IndexStep, whole, with_part, look}
 use Rattle.spv_meaning.specs.Views.{class_of, entry_view}
-use Rattle.spv_meaning.specs.Outcomes.{End, Ended}
-use Rattle.spv_meaning.specs.Evaluation.{Got, evaluate}
+use Rattle.spv_meaning.specs.Outcomes.{Ended}
+use Rattle.spv_meaning.specs.Evaluation.{evaluate}
 use Rattle.spv_meaning.specs.Starts.{Area, At, CellsOf}
 use Rattle.spv_writes.specs.Writes.{Writes, is_touched, is_touched_below}
 use Rattle.spv_frame_law.specs.Frames.{areas_of}
 use Rattle.spv_frame_law.specs.Laws.{below_turns}
 use Rattle.spv_worked.specs.Small.{x, i, a, p, q, f, n, integer, row_of_nine, ref, node, program, num, at, read, set, element, content, block, value_formal, place_formal, routine, z, state, with_cells, main_run}
-use Rattle.spv_worked.specs.CallRuns.{fill, inc, twice}
+use Rattle.spv_worked.specs.CallRuns.{fill, twice}
 use Rattle.spv_worked.specs.CellRuns.{node_cell, node_with}
 
 -- what the main block may change, as areas
