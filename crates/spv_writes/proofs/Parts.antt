@@ -136,6 +136,35 @@ module _ (shapes : List Shape) where
       ∙ (ap (with_step u x) (part_below path more k.part r.item e r.gives k.fit part (sym (ap (option_and_then (λ w. part_at w path)) k.is) ∙ there) v)
       ∙ sym (with_first u x path k.part (with_part part more v) k.is))
 
+  -- a part of a whole that is an old value with something in it, and what becomes of that
+  record Renewed (old : Value) (rel : List PathStep) (e : Sort) (part : Option Value) : Type 0 where
+    now : Value
+    ok : fits shapes now e ≡ true
+    is : part ≡ Some (with_part old rel now)
+
+  -- a value put below that renews it
+  renewed : (path rel more : List PathStep) (w : Value) (t f : Sort) → path_sort shapes t (path ++ (rel ++ more)) ≡ Some f → fits shapes w t ≡ true
+      → (u : Value) (s e : Sort) → path_sort shapes s rel ≡ Some e → fits shapes u s ≡ true → (now : Value) → fits shapes now e ≡ true → part_at w path ≡ Some (with_part u rel now)
+      → (v : Value) → fits shapes v f ≡ true → Renewed u rel e (part_at (with_part w (path ++ (rel ++ more)) v) path)
+  renewed path rel more w t f leads fit u s e leads_u fit_u now ok there v ok_v =
+      let one = path_split path (rel ++ more) t f leads in
+      let two = path_split rel more one.item f one.gives in
+      let old : Value = with_part u rel now in
+      let whole = part_there path w t one.item one.is fit in
+      let old_fit : fits shapes old one.item ≡ true = ap (λ k. fits shapes k one.item) (some_is (sym there ∙ whole.is)) ∙ whole.fit in
+      let part : part_at old rel ≡ Some now = part_same shapes rel u s e leads_u fit_u now in
+      let here = part_there rel old one.item two.item two.is old_fit in
+      let now_fit : fits shapes now two.item ≡ true = ap (λ k. fits shapes k two.item) (some_is (sym part ∙ here.is)) ∙ here.fit in
+      let next : Value = with_part now more v in
+      let next_ok = sorts_agree shapes now two.item e now_fit ok next (with_fits shapes more now two.item f two.gives now_fit v ok_v) in
+      record {
+        now = next;
+        ok = next_ok;
+        is = ap (λ k. part_at k path) (part_below path (rel ++ more) w t one.item one.is fit old there v)
+            ∙ (part_same shapes path w t one.item one.is fit (with_part old (rel ++ more) v)
+            ∙ ap Some (part_below rel more old one.item two.item two.is old_fit now part v ∙ part_twice rel u s e leads_u fit_u now next ok next_ok));
+      }
+
 -- what is behind two pieces of a path
 part_behind : (path more : List PathStep) (u : Value) → part_at u (path ++ more) ≡ option_and_then (λ k. part_at k more) (part_at u path)
 part_behind [] more u = refl
@@ -162,6 +191,13 @@ goes_on (t ∷ path) (s ∷ front) rel h =
     let r = goes_on path front rel (right_true (same_step s t) (begins_with path (front ++ rel)) h) in
     record { more = r.more; is = λ i. sym (steps_same s t (left_true (same_step s t) (begins_with path (front ++ rel)) h)) i ∷ r.is i }
 
+-- what a place holds, by what its root holds
+looked : (path : List PathStep) (o : Option Value) (w : Value) → o ≡ Some w → option_and_then (λ k. part_at k path) o ≡ part_at w path
+looked path o w is = ap (option_and_then (λ k. part_at k path)) is
+
+held_part : (path : List PathStep) (o : Option Value) (w old : Value) → o ≡ Some w → option_and_then (λ k. part_at k path) o ≡ Some old → part_at w path ≡ Some old
+held_part path o w old is holds = sym (looked path o w is) ∙ holds
+
 -- ---- writing
 
 module _ (p : Program) (areas : List Area) (a : Place) (rel : List PathStep) (u : Value) (s e : Sort) (leads : path_sort (shapes p) s rel ≡ Some e) (fit : fits (shapes p) u s ≡ true) where
@@ -177,26 +213,13 @@ module _ (p : Program) (areas : List Area) (a : Place) (rel : List PathStep) (u 
   put_part x b f v place ok_v q below =
       let root : a.root ≡ b.root = below_root b (part_of a rel) below in
       let way = goes_on b.path a.path rel (below_path b (part_of a rel) below) in
-      let leads_b : path_sort (shapes p) place.sort (a.path ++ (rel ++ way.more)) ≡ Some f = sym (ap (path_sort (shapes p) place.sort) way.is) ∙ place.leads in
-      let one = path_split (shapes p) a.path (rel ++ way.more) place.sort f leads_b in
-      let two = path_split (shapes p) rel way.more one.item f one.gives in
-      let old : Value = with_part u rel q.now in
-      let there : part_at place.whole a.path ≡ Some old = sym (ap (option_and_then (λ w. part_at w a.path)) (ap (root_value x) root ∙ place.is)) ∙ q.is in
-      let whole = part_there (shapes p) a.path place.whole place.sort one.item one.is place.fit in
-      let old_fit : fits (shapes p) old one.item ≡ true = ap (λ k. fits (shapes p) k one.item) (some_is (sym there ∙ whole.is)) ∙ whole.fit in
-      let part : part_at old rel ≡ Some q.now = part_same (shapes p) rel u s e leads fit q.now in
-      let here = part_there (shapes p) rel old one.item two.item two.is old_fit in
-      let now_fit : fits (shapes p) q.now two.item ≡ true = ap (λ k. fits (shapes p) k two.item) (some_is (sym part ∙ here.is)) ∙ here.fit in
-      let next : Value = with_part q.now way.more v in
-      let next_ok = sorts_agree (shapes p) q.now two.item e now_fit q.ok next (with_fits (shapes p) way.more q.now two.item f two.gives now_fit v ok_v) in
+      let next = renewed (shapes p) a.path rel way.more place.whole place.sort f (sym (ap (path_sort (shapes p) place.sort) way.is) ∙ place.leads) place.fit u s e leads fit q.now q.ok
+      (held_part a.path (root_value x a.root) place.whole (with_part u rel q.now) (ap (root_value x) root ∙ place.is) q.is) v ok_v in
       record {
-        now = next;
-        ok = next_ok;
-        is = ap (option_and_then (λ w. part_at w a.path)) (ap (root_value (put x b v)) root ∙ root_after (shapes p) x b f place v)
-            ∙ (ap (λ k. part_at (with_part place.whole k v) a.path) way.is
-            ∙ (ap (λ k. part_at k a.path) (part_below (shapes p) a.path (rel ++ way.more) place.whole place.sort one.item one.is place.fit old there v)
-            ∙ (part_same (shapes p) a.path place.whole place.sort one.item one.is place.fit (with_part old (rel ++ way.more) v)
-            ∙ ap Some (part_below (shapes p) rel way.more old one.item two.item two.is old_fit q.now part v ∙ part_twice (shapes p) rel u s e leads fit q.now next q.ok next_ok))));
+        now = next.now;
+        ok = next.ok;
+        is = looked a.path (root_value (put x b v) a.root) (with_part place.whole b.path v) (ap (root_value (put x b v)) root ∙ root_after (shapes p) x b f place v)
+            ∙ (ap (λ k. part_at (with_part place.whole k v) a.path) way.is ∙ next.is);
         below = still x b v q.below;
       }
     where
@@ -236,14 +259,22 @@ pub part_written : (p : Program) (areas : List Area) (s t : State) → Writes p 
     → (u : Value) → look s a ≡ Some u → look t a ≡ Some (with_part u rel (value_or_zero (look t (part_of a rel))))
 part_written p areas s t w a rel e place below u there =
     let one = path_split (shapes p) a.path rel place.sort e place.leads in
-    let whole = part_there (shapes p) a.path place.whole place.sort one.item one.is place.fit in
-    let same : u ≡ whole.part = some_is (sym there ∙ (ap (option_and_then (λ w. part_at w a.path)) place.is ∙ whole.is)) in
-    let fit : fits (shapes p) u one.item ≡ true = ap (λ k. fits (shapes p) k one.item) same ∙ whole.fit in
-    let part = part_there (shapes p) rel u one.item e one.gives fit in
-    let q = kept p areas (Parted p areas a rel u one.item e one.gives fit) (parted_steps p areas a rel u one.item e one.gives fit) s t w
-    (record { now = part.part; ok = part.fit; is = there ∙ ap Some (sym (part_back (shapes p) rel u one.item e one.gives fit part.part part.is)); below = below }) in
-    q.is ∙ ap (λ o. Some (with_part u rel (value_or_zero o))) (sym (behind_root (root_value t a.root) (with_part u rel q.now) q.now q.is (part_same (shapes p) rel u one.item e one.gives fit q.now)))
+    by_sort one.item one.gives (fits_there one.item (part_there (shapes p) a.path place.whole place.sort one.item one.is place.fit))
   where
-    behind_root : (o : Option Value) (whole now : Value) → option_and_then (λ w. part_at w a.path) o ≡ Some whole → part_at whole rel ≡ Some now → option_and_then (λ w. part_at w (a.path ++ rel)) o ≡ Some now
-    behind_root None whole now is there = absurd (nothing_there is)
-    behind_root (Some w) whole now is there = part_behind a.path rel w ∙ (ap (option_and_then (λ k. part_at k rel)) is ∙ there)
+    -- what is at the place has the sort that its path leads to
+    fits_there : (f : Sort) → PartThere (shapes p) place.whole a.path f → fits (shapes p) u f ≡ true
+    fits_there f k = subst (λ v. fits (shapes p) v f ≡ true) (sym (some_is (sym (held_part a.path (root_value s a.root) place.whole u place.is there) ∙ k.is))) k.fit
+
+    behind_root : (o : Option Value) (now : Value) → option_and_then (λ w. part_at w a.path) o ≡ Some (with_part u rel now) → part_at (with_part u rel now) rel ≡ Some now → option_and_then (λ w. part_at w (a.path ++ rel)) o ≡ Some now
+    behind_root None now is there = absurd (nothing_there is)
+    behind_root (Some w) now is there = part_behind a.path rel w ∙ (ap (option_and_then (λ k. part_at k rel)) is ∙ there)
+
+    told : (f : Sort) (leads : path_sort (shapes p) f rel ≡ Some e) (fit : fits (shapes p) u f ≡ true) → Parted p areas a rel u f e leads fit t → look t a ≡ Some (with_part u rel (value_or_zero (look t (part_of a rel))))
+    told f leads fit q = q.is ∙ ap (λ o. Some (with_part u rel (value_or_zero o))) (sym (behind_root (root_value t a.root) q.now q.is (part_same (shapes p) rel u f e leads fit q.now)))
+
+    begun : (f : Sort) (leads : path_sort (shapes p) f rel ≡ Some e) (fit : fits (shapes p) u f ≡ true) → PartThere (shapes p) u rel e → Parted p areas a rel u f e leads fit s
+    begun f leads fit k = record { now = k.part; ok = k.fit; is = there ∙ ap Some (sym (part_back (shapes p) rel u f e leads fit k.part k.is)); below = below }
+
+    by_sort : (f : Sort) → path_sort (shapes p) f rel ≡ Some e → fits (shapes p) u f ≡ true → look t a ≡ Some (with_part u rel (value_or_zero (look t (part_of a rel))))
+    by_sort f leads fit =
+        told f leads fit (kept p areas (Parted p areas a rel u f e leads fit) (parted_steps p areas a rel u f e leads fit) s t w (begun f leads fit (part_there (shapes p) rel u f e leads fit)))
