@@ -336,7 +336,11 @@ pub keeps_to : (p : Program) → well_typed p ≡ true → framed p ≡ true →
 keeps_to p typed frames hidden = record { each = λ id q there. one id q there }
   where
     alike : (id : RoutineId) (q : Routine) → routine_at p id ≡ Some q → (x : Symbol) (t : TypeId) → name_type p (Some q) x ≡ Some t → (b : Bool) → is_initial q x ≡ b → (is_own (Some q) x || is_initial q x) ≡ is_own (Some q) x
-    alike id q there x t is true e = absurd (nothing_there (sym (hidden.each id q there x e) ∙ is))
+    alike id q there x t is true e = by_own (is_own (Some q) x) refl
+      where
+        by_own : (b : Bool) → is_own (Some q) x ≡ b → (is_own (Some q) x || is_initial q x) ≡ is_own (Some q) x
+        by_own true own = ap (λ c. c || is_initial q x) own ∙ sym own
+        by_own false own = absurd (nothing_there (sym (hidden.each id q there x e own) ∙ is))
     alike id q there x t is false e = ap (λ b. is_own (Some q) x || b) e ∙ or_false (is_own (Some q) x)
       where
         or_false : (b : Bool) → (b || false) ≡ b

@@ -63,9 +63,10 @@ call_areas names r = referred names ++ map area_of_item (var_items r.globals)
 abbrev pub routine_areas : Routine → State → List Area
 routine_areas r state = frame_areas state.frames ++ map area_of_item (var_items r.globals)
 
--- an INITIAL name of a routine stands for nothing that a statement of the routine may use
+-- an INITIAL name of a routine that is no own name of it stands for nothing that a statement of the routine may use
 pub record InitialNamesAreHidden (p : Program) : Type 0 where
-  pub each : (id : RoutineId) (r : Routine) → routine_at p id ≡ Some r → (x : Symbol) → IsTrue (is_initial r x) → name_type p (Some r) x ≡ None
+  pub each : (id : RoutineId) (r : Routine) → routine_at p id ≡ Some r
+      → (x : Symbol) → IsTrue (is_initial r x) → is_own (Some r) x ≡ false → name_type p (Some r) x ≡ None
 
 -- ---- what shows
 
