@@ -1,5 +1,5 @@
 -- What framed programs say of the roots that bodies change.
-use Rattle.std.proofs.Common.{◌≡◌, Bool, true, false, cond, not, ◌&&◌, ◌||◌, List, [], ◌∷◌, ◌++◌, map, filter, refl, sym, ap, subst, ◌∙◌, Option, Some, None, is_some}
+use Rattle.std.proofs.Common.{◌≡◌, ℕ, Bool, true, false, cond, not, ◌&&◌, ◌||◌, List, [], ◌∷◌, ◌++◌, map, filter, refl, sym, ap, subst, ◌∙◌, Option, Some, None, is_some}
 use Rattle.std.specs.Option.{option_and_then, unwrap_or}
 use Rattle.std.specs.List.{list_all, list_any, flat_map}
 use Rattle.std.specs.Ordering.{int_eq}
@@ -13,14 +13,14 @@ use Rattle.spv_logic.specs.declared.types.Sort.TheVariants as sort
 use Rattle.spv_logic.specs.declared.conditions.RoutineId.{RoutineId}
 use Rattle.spv_program.specs.declared.types.Item.{Item}
 use Rattle.spv_program.specs.declared.types.Item.TheVariants.{Variable, Class}
-use Rattle.spv_program.specs.Lists.{found, all_differ}
+use Rattle.spv_program.specs.Lists.{found, all_differ, same_name}
 use Rattle.spv_program.specs.Types.{same_type, form_at, sort_of, element_of, field_of, target_of}
 use Rattle.spv_program.specs.Expressions.{Expression, Designator, Selectors, Call, Arguments, Numeral, Boolean, NilOf, Read, Result, Through, Negative, Calculated, Compared, Negated, Joined, designator, no_selectors, at_index, at_field, at_cell, call, no_arguments, by_value, by_place}
 use Rattle.spv_program.specs.Formulas as formula
 use Rattle.spv_program.specs.Formulas.{Formula, Formulas, Annotation, no_formulas, formulas}
 use Rattle.spv_program.specs.Statements.{Statement, Arms, Empty, Assign, Perform, New, Sequence, If, Case, While, Repeat, For, Assert, no_arms, arm}
 use Rattle.spv_program.specs.Programs.{Formal, GlobalItem, Routine, Program, routine_at}
-use Rattle.spv_program.specs.Scopes.{is_own, name_type, result_name, body_scope}
+use Rattle.spv_program.specs.Scopes.{is_own, name_type, result_name, body_scope, is_value_parameter}
 use Rattle.spv_program.specs.Uses.{Root, Own, Shared, Use, same_item, has_cell, name_root, annotation_uses, formula_uses, formulas_uses, expression_uses, designator_uses, selector_uses, call_uses, argument_uses, statement_uses, arms_uses, statement_calls}
 use Rattle.spv_program.specs.Frames.{is_formal, is_initial, routine_uses, lists, use_allowed, lists_cover, globals_of, arguments_apart, callee_covered, changes_nothing, routine_framed, framed}
 use Rattle.spv_program.specs.Changes.{var_items, items_of_callee, changed_by_call, changed_roots}
@@ -33,15 +33,24 @@ use Rattle.spv_program.proofs.ExpressionSorting.{mapped}
 use Rattle.spv_meaning.proofs.RoutineStarts.{item_passes}
 use Rattle.spv_preservation.proofs.Calls.{routine_right}
 use Rattle.spv_preservation.proofs.Expressions.{compares}
-use Rattle.spv_frame_law.specs.Frames.{InitialNamesAreHidden}
-use Rattle.spv_writes.proofs.Lists.{or_left, or_right, swapped, all_left, all_right, all_both}
+use Rattle.spv_frame_law.specs.Frames.{InitialNamesAreHidden, may_use}
+use Rattle.spv_writes.proofs.Lists.{all_both, all_left, all_right, clash, or_left, or_right, swapped}
 use Rattle.spv_frame_law.proofs.Covering.{items_same, is_own_or}
 use Rattle.spv_frame_law.proofs.Records.{use_kept, KeepsTo, AllKeepTo}
 
 -- ---- names that stand for the same
 
+abbrev pub first_of_place : Designator → Symbol
+first_of_place (designator line x others) = x
+
+-- the names that statements may read, write and count with are own or not own alike
+pub record Alike (p : Program) (r : Option Routine) (wide own : Symbol → Bool) : Type 0 where
+  pub reads : (d : Designator) (t : TypeId) → designator_type p r d ≡ Some t → may_read r d ≡ true → wide (first_of_place d) ≡ own (first_of_place d)
+  pub writes : (d : Designator) (t : TypeId) → designator_type p r d ≡ Some t → may_write r d ≡ true → wide (first_of_place d) ≡ own (first_of_place d)
+  pub counts : (x : Symbol) → may_count r x ≡ true → wide x ≡ own x
+
 -- expressions whose names are own or not own alike have the same uses
-module _ (p : Program) (r : Option Routine) (wide own : Symbol → Bool) (alike : (x : Symbol) (t : TypeId) → name_type p r x ≡ Some t → wide x ≡ own x) where
+module _ (p : Program) (r : Option Routine) (wide own : Symbol → Bool) (alike : Alike p r wide own) where
   both_alike : (a b : Expression) → expression_uses wide a ≡ expression_uses own a → expression_uses wide b ≡ expression_uses own b → expression_uses wide a ++ expression_uses wide b ≡ expression_uses own a ++ expression_uses own b
   both_alike a b one two = λ i. one i ++ two i
 
@@ -52,7 +61,7 @@ module _ (p : Program) (r : Option Routine) (wide own : Symbol → Bool) (alike 
     expression_alike (NilOf t) s h = refl
     expression_alike (Read d) s h =
         let t = mapped (sort_of p.forms) (designator_type p r d) s (chosen (may_read r d) _ s h) in
-        designator_alike d t.item t.is false
+        designator_alike d t.item t.is false (alike.reads d t.item t.is (passed (may_read r d) _ s h))
     expression_alike (Result c) s h =
         let t = mapped (sort_of p.forms) (option_and_then result_type (callee p r c)) s h in
         let q = behind result_type (callee p r c) t.item t.is in
@@ -80,10 +89,9 @@ module _ (p : Program) (r : Option Routine) (wide own : Symbol → Bool) (alike 
         two_truths (expression_sort p r a) (expression_sort p r b) s (expression_uses wide (Joined o a b) ≡ expression_uses own (Joined o a b))
         (λ x y told. both_alike a b (expression_alike a sort.Bool x) (expression_alike b sort.Bool y)) h
 
-    designator_alike : (d : Designator) (t : TypeId) → designator_type p r d ≡ Some t → (writes : Bool) → designator_uses wide writes d ≡ designator_uses own writes d
-    designator_alike (designator line x others) t h writes =
+    designator_alike : (d : Designator) (t : TypeId) → designator_type p r d ≡ Some t → (writes : Bool) → wide (first_of_place d) ≡ own (first_of_place d) → designator_uses wide writes d ≡ designator_uses own writes d
+    designator_alike (designator line x others) t h writes name =
         let q = behind (λ t. selected_type p r t others) (name_type p r x) t h in
-        let name = alike x q.item q.is in
         let rest = selector_alike others q.item t q.gives writes in
         λ i. record { root = cond (name i) (Own x) (Shared (Variable x)); changes = writes && not (has_cell others); line = line } ∷ rest i
 
@@ -122,7 +130,7 @@ module _ (p : Program) (r : Option Routine) (wide own : Symbol → Bool) (alike 
     arguments_alike (f ∷ formals) (by_place d others) fit =
         let rest_fit = right_true (may_write r d) _ (right_true f.by_place _ fit) in
         let u = stands (designator_type p r d) (left_true (stands_for p f.of (designator_type p r d)) _ rest_fit) in
-        let one = designator_alike d u.item u.is true in
+        let one = designator_alike d u.item u.is true (alike.writes d u.item u.is (left_true (may_write r d) _ (right_true f.by_place _ fit))) in
         let two = arguments_alike formals others (right_true (stands_for p f.of (designator_type p r d)) _ rest_fit) in
         λ i. one i ++ two i
       where
@@ -205,7 +213,7 @@ annotation_kept keep own (Some a) = formula_kept keep own a.formula
 -- ---- statements
 
 -- statements whose uses are allowed with some names taken for own ones write only own names and items of VAR groups
-module _ (p : Program) (r : Option Routine) (wide own : Symbol → Bool) (alike : (x : Symbol) (t : TypeId) → name_type p r x ≡ Some t → wide x ≡ own x) (globals : List GlobalItem) where
+module _ (p : Program) (r : Option Routine) (wide own : Symbol → Bool) (alike : Alike p r wide own) (globals : List GlobalItem) where
   abbrev allowed : Use → Bool
   allowed u = use_allowed globals u.root u.changes
 
@@ -219,8 +227,8 @@ module _ (p : Program) (r : Option Routine) (wide own : Symbol → Bool) (alike 
   parts_kept : (us vs us' vs' : List Use) → Allowed globals (us ++ vs) → (Allowed globals us → Kept globals us') → (Allowed globals vs → Kept globals vs') → Kept globals (us' ++ vs')
   parts_kept us vs us' vs' all one two = all_both keeps us' vs' (one (all_left allowed us vs all)) (two (all_right allowed us vs all))
 
-  place_kept : (d : Designator) (t : TypeId) → designator_type p r d ≡ Some t → Allowed globals (designator_uses wide true d) → Kept globals (designator_uses own true d)
-  place_kept d t is all = same_kept globals (designator_uses wide true d) (designator_uses own true d) (designator_alike p r wide own alike d t is true) all
+  place_kept : (d : Designator) (t : TypeId) → designator_type p r d ≡ Some t → may_write r d ≡ true → Allowed globals (designator_uses wide true d) → Kept globals (designator_uses own true d)
+  place_kept d t is ok all = same_kept globals (designator_uses wide true d) (designator_uses own true d) (designator_alike p r wide own alike d t is true (alike.writes d t is ok)) all
 
   mutual
     statement_kept : (s : Statement) → statement_ok p r s ≡ true → Allowed globals (statement_uses wide s) → Kept globals (statement_uses own s)
@@ -231,7 +239,7 @@ module _ (p : Program) (r : Option Routine) (wide own : Symbol → Bool) (alike 
         by_type None is h = absurd (false≢true h)
         by_type (Some t) is h =
             parts_kept (designator_uses wide true d) (expression_uses wide e) (designator_uses own true d) (expression_uses own e) all
-            (place_kept d t is) (test_kept e (sort_of p.forms t) h)
+            (place_kept d t is (left_true (may_write r d) _ ok)) (test_kept e (sort_of p.forms t) h)
     statement_kept (Perform c) ok all = by_callee (callee p r c) refl ok
       where
         by_callee : (o : Option Routine) → callee p r c ≡ o → is_procedure o ≡ true → Kept globals (statement_uses own (Perform c))
@@ -243,7 +251,7 @@ module _ (p : Program) (r : Option Routine) (wide own : Symbol → Bool) (alike 
         by_type None is h = absurd (false≢true h)
         by_type (Some q) is h =
             let new : List Use = record { root = Shared (Class t); changes = true; line = line } ∷ [] in
-            parts_kept (designator_uses wide true d) new (designator_uses own true d) new all (place_kept d q is) (all_kept globals new)
+            parts_kept (designator_uses wide true d) new (designator_uses own true d) new all (place_kept d q is (left_true (may_write r d) _ ok)) (all_kept globals new)
     statement_kept (Sequence a b) ok all =
         parts_kept (statement_uses wide a) (statement_uses wide b) (statement_uses own a) (statement_uses own b) all
         (statement_kept a (left_true (statement_ok p r a) _ ok)) (statement_kept b (right_true (statement_ok p r a) _ ok))
@@ -274,7 +282,7 @@ module _ (p : Program) (r : Option Routine) (wide own : Symbol → Bool) (alike 
         let head = right_true (may_count r count.variable) _ (left_true (counting_ok p r count s) _ parts) in
         let number = mapped (sort_of p.forms) (name_type p r count.variable) sort.Int (is_sort-true sort.Int _ (left_true (is_sort sort.Int (sort_of_type p (name_type p r count.variable))) _ head)) in
         let ends_are = right_true (is_sort sort.Int (sort_of_type p (name_type p r count.variable))) _ head in
-        let name = alike count.variable number.item number.is in
+        let name = alike.counts count.variable (left_true (may_count r count.variable) _ (left_true (counting_ok p r count s) _ parts)) in
         parts_kept (annotation_uses wide f) (counter wide ∷ (expression_uses wide count.first ++ (expression_uses wide count.last ++ statement_uses wide s))) (annotation_uses own f) (counter own ∷ (expression_uses own count.first ++ (expression_uses own count.last ++ statement_uses own s))) all
         (λ all. annotation_kept (is_own_or (var_items globals)) own f) (λ all.
         parts_kept (counter wide ∷ []) (expression_uses wide count.first ++ (expression_uses wide count.last ++ statement_uses wide s)) (counter own ∷ []) (expression_uses own count.first ++ (expression_uses own count.last ++ statement_uses own s)) all
@@ -331,21 +339,57 @@ covered_calls p r globals [] h = refl
 covered_calls p r globals (c ∷ cs) h =
     both_true (left_true (callee_covered p globals c) _ (left_true (callee_covered p globals c && arguments_apart p r c) _ h)) (covered_calls p r globals cs (right_true (callee_covered p globals c && arguments_apart p r c) _ h))
 
+found_behind : {X : Type 0} (xs ys : List (Symbol × X)) (x : Symbol) → is_some (found ys x) ≡ true → is_some (found (xs ++ ys) x) ≡ true
+found_behind [] ys x h = h
+found_behind {X} (n ∷ xs) ys x h = by_name (same_name n.0 x) (found_behind xs ys x h)
+  where
+    by_name : (b : Bool) → is_some (found (xs ++ ys) x) ≡ true → is_some (cond b (Some n.1) (found (xs ++ ys) x)) ≡ true
+    by_name true later = refl
+    by_name false later = later
+
+parameter_own : (formals : List Formal) (others : List (Symbol × TypeId)) (x : Symbol) → list_any (λ f. same_name f.name x && not f.by_place) formals ≡ true → is_some (found (map (λ f. (f.name, f.of)) formals ++ others) x) ≡ true
+parameter_own [] others x h = absurd (false≢true h)
+parameter_own (f ∷ formals) others x h = by_name (same_name f.name x) h (parameter_own formals others x)
+  where
+    by_name : (b : Bool) → ((b && not f.by_place) || list_any (λ f. same_name f.name x && not f.by_place) formals) ≡ true → (list_any (λ f. same_name f.name x && not f.by_place) formals ≡ true → is_some (found (map (λ f. (f.name, f.of)) formals ++ others) x) ≡ true)
+        → is_some (cond b (Some f.of) (found (map (λ f. (f.name, f.of)) formals ++ others) x)) ≡ true
+    by_name true h later = refl
+    by_name false h later = later h
+
+-- a routine counts with own names
+count_own : (q : Routine) (x : Symbol) → may_count (Some q) x ≡ true → is_own (Some q) x ≡ true
+count_own q x ok = by_local (is_some (found q.locals x)) refl ok
+  where
+    by_local : (b : Bool) → is_some (found q.locals x) ≡ b → (b || is_value_parameter q x) ≡ true → is_own (Some q) x ≡ true
+    by_local true e h = found_behind (map (λ f. (f.name, f.of)) q.formals) (result_name q.name q.result ++ q.locals) x (found_behind (result_name q.name q.result) q.locals x e)
+    by_local false e h = parameter_own q.formals (result_name q.name q.result ++ q.locals) x h
+
 -- the routines of a framed program keep to their lists
 pub keeps_to : (p : Program) → well_typed p ≡ true → framed p ≡ true → InitialNamesAreHidden p → AllKeepTo p
 keeps_to p typed frames hidden = record { each = λ id q there. one id q there }
   where
-    alike : (id : RoutineId) (q : Routine) → routine_at p id ≡ Some q → (x : Symbol) (t : TypeId) → name_type p (Some q) x ≡ Some t → (b : Bool) → is_initial q x ≡ b → (is_own (Some q) x || is_initial q x) ≡ is_own (Some q) x
-    alike id q there x t is true e = by_own (is_own (Some q) x) refl
+    or_false : (b : Bool) → (b || false) ≡ b
+    or_false true = refl
+    or_false false = refl
+
+    -- a name that is used is no INITIAL name, or own
+    used : (id : RoutineId) (q : Routine) → routine_at p id ≡ Some q → (line : ℕ) (x : Symbol) (others : Selectors) → may_use p q (designator line x others) x ≡ true → (b c : Bool) → is_initial q x ≡ b → is_own (Some q) x ≡ c → (is_own (Some q) x || is_initial q x) ≡ is_own (Some q) x
+    used id q there line x others usable false c e own = ap (λ b. is_own (Some q) x || b) e ∙ or_false (is_own (Some q) x)
+    used id q there line x others usable true true e own = ap (λ c. c || is_initial q x) own ∙ sym own
+    used id q there line x others usable true false e own = clash (may_use p q (designator line x others) x) usable (hidden.each id q there x e own line others)
+
+    alike : (id : RoutineId) (q : Routine) → routine_at p id ≡ Some q → Alike p (Some q) (λ x. is_own (Some q) x || is_initial q x) (is_own (Some q))
+    alike id q there = record { reads = reads; writes = writes; counts = λ x ok. ap (λ c. c || is_initial q x) (count_own q x ok) ∙ sym (count_own q x ok) }
       where
-        by_own : (b : Bool) → is_own (Some q) x ≡ b → (is_own (Some q) x || is_initial q x) ≡ is_own (Some q) x
-        by_own true own = ap (λ c. c || is_initial q x) own ∙ sym own
-        by_own false own = absurd (nothing_there (sym (hidden.each id q there x e own) ∙ is))
-    alike id q there x t is false e = ap (λ b. is_own (Some q) x || b) e ∙ or_false (is_own (Some q) x)
-      where
-        or_false : (b : Bool) → (b || false) ≡ b
-        or_false true = refl
-        or_false false = refl
+        reads : (d : Designator) (t : TypeId) → designator_type p (Some q) d ≡ Some t → may_read (Some q) d ≡ true → (is_own (Some q) (first_of_place d) || is_initial q (first_of_place d)) ≡ is_own (Some q) (first_of_place d)
+        reads (designator line x others) t h ok =
+            let k = behind (λ t. selected_type p (Some q) t others) (name_type p (Some q) x) t h in
+            used id q there line x others (both_true (ap is_some k.is) (or_left (may_read (Some q) (designator line x others)) _ ok)) (is_initial q x) (is_own (Some q) x) refl refl
+
+        writes : (d : Designator) (t : TypeId) → designator_type p (Some q) d ≡ Some t → may_write (Some q) d ≡ true → (is_own (Some q) (first_of_place d) || is_initial q (first_of_place d)) ≡ is_own (Some q) (first_of_place d)
+        writes (designator line x others) t h ok =
+            let k = behind (λ t. selected_type p (Some q) t others) (name_type p (Some q) x) t h in
+            used id q there line x others (both_true (ap is_some k.is) (or_right (may_read (Some q) (designator line x others)) _ ok)) (is_initial q x) (is_own (Some q) x) refl refl
 
     one : (id : RoutineId) (q : Routine) → routine_at p id ≡ Some q → KeepsTo p q
     one id q there =
@@ -358,7 +402,7 @@ keeps_to p typed frames hidden = record { each = λ id q there. one id q there }
         let exit : List Use = annotation_uses (λ x. is_formal q x || (is_some (found (result_name q.name q.result) x) || is_initial q x)) q.exit in
         let body : List Use = statement_uses wide q.body in
         let allowed : Use → Bool = λ u. use_allowed q.globals u.root u.changes in
-        let written = statement_kept p (Some q) wide (is_own (Some q)) (λ x t is. alike id q there x t is (is_initial q x) refl) q.globals q.body (routine_right p typed id q there).body
+        let written = statement_kept p (Some q) wide (is_own (Some q)) (alike id q there) q.globals q.body (routine_right p typed id q there).body
         (all_right allowed exit body (all_right allowed entry (exit ++ body) uses)) in
         record {
           uses = written;

@@ -1,5 +1,5 @@
 -- Which areas the names and items of a routine are.
-use Rattle.std.specs.Prelude.{ℕ, Bool, true, false, ◌&&◌, List, [], ◌∷◌, ◌++◌, map, length, Option, Some, None, IsTrue, ◌≡◌}
+use Rattle.std.specs.Prelude.{ℕ, Bool, true, false, ◌&&◌, ◌||◌, is_some, List, [], ◌∷◌, ◌++◌, map, length, Option, Some, None, IsTrue, ◌≡◌}
 use Rattle.std.specs.List.{list_all, list_any, flat_map}
 use Rattle.spv_names.specs.declared.names.Symbol.{Symbol}
 use Rattle.spv_logic.specs.declared.operators.Head.{Head}
@@ -10,7 +10,8 @@ use Rattle.spv_program.specs.Lists.{found}
 use Rattle.spv_logic.specs.declared.conditions.RoutineId.{RoutineId}
 use Rattle.spv_program.specs.Programs.{Routine, Program, routine_at}
 use Rattle.spv_program.specs.Scopes.{is_own, name_type}
-use Rattle.spv_program.specs.Expressions.{Call, call}
+use Rattle.spv_program.specs.Expressions.{Designator, Selectors, Call, designator, call}
+use Rattle.spv_program.specs.ExpressionTypes.{may_read, may_write}
 use Rattle.spv_program.specs.Frames.{is_initial, place_roots, globals_of}
 use Rattle.spv_program.specs.Uses.{Root, Own, Shared, same_root, name_root}
 use Rattle.spv_program.specs.Changes.{var_items}
@@ -63,10 +64,15 @@ call_areas names r = referred names ++ map area_of_item (var_items r.globals)
 abbrev pub routine_areas : Routine → State → List Area
 routine_areas r state = frame_areas state.frames ++ map area_of_item (var_items r.globals)
 
--- an INITIAL name of a routine that is no own name of it stands for nothing that a statement of the routine may use
+-- whether a statement of a routine may read or write something under a name, with these selectors
+abbrev pub may_use : Program → Routine → Designator → Symbol → Bool
+may_use p r d x = is_some (name_type p (Some r) x) && (may_read (Some r) d || may_write (Some r) d)
+
+-- no statement of a routine may use an INITIAL name that is no own name
 pub record InitialNamesAreHidden (p : Program) : Type 0 where
   pub each : (id : RoutineId) (r : Routine) → routine_at p id ≡ Some r
-      → (x : Symbol) → IsTrue (is_initial r x) → is_own (Some r) x ≡ false → name_type p (Some r) x ≡ None
+      → (x : Symbol) → IsTrue (is_initial r x) → is_own (Some r) x ≡ false
+      → (line : ℕ) (others : Selectors) → may_use p r (designator line x others) x ≡ false
 
 -- ---- what shows
 
