@@ -4,8 +4,8 @@ use Rattle.std.specs.List.{list_all, list_any}
 use Rattle.std.specs.Ordering.{int_eq}
 use Rattle.std.specs.Cmp.Derive.{both_true}
 use Rattle.std.proofs.lemmas.Bool.{false≢true, eq-eqb}
-use Rattle.spv_list.proofs.Tests.{left_true, right_true}
-use Rattle.spv_names.specs.declared.names.Symbol.{Symbol}
+use Rattle.spv_logic.proofs.list.Tests.{left_true, right_true}
+use Rattle.spv_logic.specs.declared.names.names.Symbol.{Symbol}
 use Rattle.spv_logic.specs.declared.types.TypeId.{TypeId}
 use Rattle.spv_logic.specs.declared.types.Sort.{Sort}
 use Rattle.spv_logic.specs.declared.types.Sort.TheVariants as sort
@@ -37,7 +37,7 @@ use Rattle.spv_meaning.specs.Evaluation.{Fixed, evaluate, fix, arguments, formal
 use Rattle.spv_meaning.specs.Walks.{is_new, with_new_cell, create, reaches, is_past, next_candidate, counter_place, counter_takes, count_on, walk, walk_arms}
 use Rattle.spv_meaning.specs.FrameTypes.{FrameType, IsIn, place_sort}
 use Rattle.spv_meaning.specs.Starts.{Area, IsRight}
-use Rattle.spv_facts.specs.Places.{IsPlace}
+use Rattle.spv_preservation.specs.facts.Places.{IsPlace}
 use Rattle.spv_preservation.specs.Right.{Leaves}
 use Rattle.spv_preservation.proofs.Outcomes.{IfEnded, if_ends, if_stops, if_then, if_unless, if_turn, if_taken, if_meets}
 use Rattle.spv_preservation.proofs.Growing.{grows_not}

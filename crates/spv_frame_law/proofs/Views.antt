@@ -3,8 +3,8 @@ use Rattle.std.proofs.Common.{◌≡◌, ℕ, zero, suc, Bool, true, false, cond
 use Rattle.std.specs.List.{list_all, list_any}
 use Rattle.std.specs.Cmp.Derive.{both_true}
 use Rattle.std.proofs.lemmas.Bool.{false≢true}
-use Rattle.spv_list.proofs.Tests.{left_true, right_true}
-use Rattle.spv_names.specs.declared.names.Symbol.{Symbol}
+use Rattle.spv_logic.proofs.list.Tests.{left_true, right_true}
+use Rattle.spv_logic.specs.declared.names.names.Symbol.{Symbol}
 use Rattle.spv_logic.specs.declared.types.TypeId.{TypeId}
 use Rattle.spv_logic.specs.declared.types.Sort.{Sort}
 use Rattle.spv_logic.specs.declared.conditions.RoutineId.{RoutineId}
@@ -33,7 +33,7 @@ use Rattle.spv_meaning.specs.Correct.{body_of, routine_body, is_there}
 use Rattle.spv_meaning.specs.FrameTypes.{FrameType, IsIn, frame_of, frames_right, in_main, in_routine}
 use Rattle.spv_meaning.specs.Starts.{Area, At, CellsOf, IsRight, IsStart, is_of_type, overlap, bound_area, frame_areas, item_area, apart}
 use Rattle.spv_meaning.proofs.RoutineStarts.{found_passes}
-use Rattle.spv_facts.specs.Places.{IsPlace}
+use Rattle.spv_preservation.specs.facts.Places.{IsPlace}
 use Rattle.spv_preservation.proofs.Roots.{first_frame}
 use Rattle.spv_writes.specs.Writes.{Writes, is_in, is_in_one, is_touched}
 use Rattle.spv_writes.proofs.Lists.{or_left, or_right, swapped, any_left, any_passes}

@@ -1,7 +1,7 @@
 -- What is proved of what runs write.
 use Rattle.std.specs.Prelude.{◌≡◌, ℕ, zero, suc, false, ◌&&◌, List, [], ◌∷◌, ◌++◌, map, Option, Some, None, IsTrue}
 use Rattle.std.specs.List.{list_all}
-use Rattle.spv_names.specs.declared.names.Symbol.{Symbol}
+use Rattle.spv_logic.specs.declared.names.names.Symbol.{Symbol}
 use Rattle.spv_logic.specs.declared.types.TypeId.{TypeId}
 use Rattle.spv_logic.specs.declared.types.Sort.{Sort}
 use Rattle.spv_logic.specs.declared.conditions.RoutineId.{RoutineId}
@@ -26,7 +26,7 @@ use Rattle.spv_meaning.specs.Walks.{level, run}
 use Rattle.spv_meaning.specs.FrameTypes.{FrameType, IsIn, formal_slot, names_right}
 use Rattle.spv_meaning.specs.Starts.{Area, IsRight, IsRightFor, IsStart, apart}
 use Rattle.spv_meaning.specs.Correct.{begun, body_of, is_there}
-use Rattle.spv_facts.specs.Places.{IsPlace}
+use Rattle.spv_preservation.specs.facts.Places.{IsPlace}
 use Rattle.spv_writes.specs.Writes.{Writes, is_in_one}
 use Rattle.spv_frame_law.specs.Frames.{InitialNamesAreHidden, root_areas, areas_of, refer_in_turn, call_areas, routine_areas, root_shown, is_of_one, call_shown}
 

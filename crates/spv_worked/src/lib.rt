@@ -5,6 +5,8 @@
 
 pub mod conditions;
 pub mod doubts;
+pub mod frame_texts;
 pub mod runs;
+pub mod typed_texts;
 pub mod typing;
 pub mod written;

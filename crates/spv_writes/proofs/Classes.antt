@@ -5,7 +5,7 @@ use Rattle.std.specs.List.{list_all}
 use Rattle.std.specs.Ordering.{int_eq}
 use Rattle.std.specs.Cmp.Derive.{both_true}
 use Rattle.std.proofs.lemmas.Bool.{false≢true, eqb-true, eq-eqb}
-use Rattle.spv_list.proofs.Tests.{left_true, right_true}
+use Rattle.spv_logic.proofs.list.Tests.{left_true, right_true}
 use Rattle.spv_logic.specs.declared.types.TypeId.{TypeId}
 use Rattle.spv_logic.specs.declared.types.Sort.{Sort}
 use Rattle.spv_logic.specs.declared.types.Sort.TheVariants as sort
@@ -27,9 +27,9 @@ use Rattle.spv_meaning.specs.FrameTypes.{FrameType, row_type, cell_type}
 use Rattle.spv_meaning.specs.Starts.{Area, At, CellsOf, IsRight, is_of_type, row_ok, same_root, lies_in, overlap}
 use Rattle.spv_meaning.proofs.Heaps.{class_fits}
 use Rattle.spv_meaning.proofs.Puts.{look_elsewhere}
-use Rattle.spv_evaluation.proofs.Settings.{content}
-use Rattle.spv_facts.specs.Places.{IsPlace}
-use Rattle.spv_facts.proofs.Places.{root_after}
+use Rattle.spv_rule_soundness.proofs.evaluation.Settings.{content}
+use Rattle.spv_preservation.specs.facts.Places.{IsPlace}
+use Rattle.spv_preservation.proofs.facts.Places.{root_after}
 use Rattle.spv_preservation.proofs.Roots.{root_there}
 use Rattle.spv_preservation.proofs.Frames.{leaves_now}
 use Rattle.spv_preservation.proofs.Statements.{new_is_nowhere, with_cell_right}

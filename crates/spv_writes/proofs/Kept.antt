@@ -12,8 +12,8 @@ use Rattle.spv_meaning.specs.Places.{Place, HeapRow, State, root_value, part_at,
 use Rattle.spv_meaning.specs.Views.{class_of}
 use Rattle.spv_meaning.specs.Walks.{is_new, with_new_cell}
 use Rattle.spv_meaning.specs.Starts.{Area, At, CellsOf}
-use Rattle.spv_facts.specs.Places.{IsPlace}
-use Rattle.spv_facts.proofs.Places.{put_exists}
+use Rattle.spv_preservation.specs.facts.Places.{IsPlace}
+use Rattle.spv_preservation.proofs.facts.Places.{put_exists}
 use Rattle.spv_preservation.specs.Right.{Grows}
 use Rattle.spv_preservation.proofs.Growing.{grows_on, grows_not}
 use Rattle.spv_writes.specs.Writes.{Writes, nothing, puts, creates, is_in_one, has_cells_of, is_touched}

@@ -2,7 +2,7 @@
 use Rattle.std.proofs.Common.{◌≡◌, Bool, true, false, ◌&&◌, ◌||◌, not, List, [], ◌∷◌, ◌++◌, pos, refl, sym, ap, subst, ◌∙◌, Option, Some, None}
 use Rattle.std.specs.Option.{option_and_then, unwrap_or}
 use Rattle.std.proofs.lemmas.Bool.{false≢true}
-use Rattle.spv_list.proofs.Tests.{left_true, right_true}
+use Rattle.spv_logic.proofs.list.Tests.{left_true, right_true}
 use Rattle.spv_logic.specs.declared.types.Sort.{Sort}
 use Rattle.spv_logic.specs.declared.types.Shape.{Shape}
 use Rattle.spv_logic.specs.Values.{Value, Rows, Number, ArrayOf, RecordOf, row_at, rows_in, default_in, put_row}
@@ -15,11 +15,11 @@ use Rattle.spv_program.proofs.SortFacts.{nothing_there, some_is, Behind, behind}
 use Rattle.spv_meaning.specs.Places.{PathStep, Place, State, IndexStep, FieldStep, step_part, part_at, with_step, with_part, root_value, look, put, value_or_zero}
 use Rattle.spv_meaning.specs.FrameTypes.{step_sort, path_sort}
 use Rattle.spv_meaning.specs.Starts.{Area, At, CellsOf, same_step, overlap}
-use Rattle.spv_evaluation.proofs.Steps.{array_step}
-use Rattle.spv_facts.specs.Places.{IsPlace}
-use Rattle.spv_facts.proofs.Values.{record_is}
-use Rattle.spv_facts.proofs.Parts.{step_there, with_fits, part_same}
-use Rattle.spv_facts.proofs.Places.{root_after}
+use Rattle.spv_rule_soundness.proofs.evaluation.Steps.{array_step}
+use Rattle.spv_preservation.specs.facts.Places.{IsPlace}
+use Rattle.spv_preservation.proofs.facts.Values.{record_is}
+use Rattle.spv_preservation.proofs.facts.Parts.{step_there, with_fits, part_same}
+use Rattle.spv_preservation.proofs.facts.Places.{root_after}
 use Rattle.spv_writes.specs.Writes.{Writes, begins_with, is_below, is_in, part_of, lies_below, is_touched_below}
 use Rattle.spv_writes.proofs.Lists.{chosen_from, all_same}
 use Rattle.spv_writes.proofs.Places.{steps_same, below_root, below_path, below_on, in_apart}

@@ -3,10 +3,10 @@ use Rattle.std.proofs.Common.{◌≡◌, ℕ, Bool, true, false, cond, not, List
 use Rattle.std.specs.Option.{option_and_then}
 use Rattle.std.specs.List.{list_all}
 use Rattle.std.proofs.lemmas.Bool.{false≢true}
-use Rattle.spv_names.specs.declared.names.Symbol.{Symbol}
+use Rattle.spv_logic.specs.declared.names.names.Symbol.{Symbol}
 use Rattle.spv_logic.specs.declared.types.TypeId.{TypeId}
 use Rattle.spv_logic.specs.Values.{Value}
-use Rattle.spv_list.proofs.Tests.{left_true, right_true}
+use Rattle.spv_logic.proofs.list.Tests.{left_true, right_true}
 use Rattle.spv_program.specs.Lists.{changed}
 use Rattle.spv_program.specs.Programs.{Program}
 use Rattle.spv_meaning.specs.Places.{Root, Place, Frame, HeapRow, State, ProgramVariable, OwnValue, CellOf, Holding, frame_at, own_value, root_value, with_frame_value, with_root, with_part, value_or_zero, put}

@@ -2,8 +2,8 @@
 use Rattle.std.proofs.Common.{◌≡◌, ℕ, Bool, true, false, cond, not, List, [], ◌∷◌, length, refl, sym, ap, subst, ◌∙◌, nat_eq, Option, Some, None}
 use Rattle.std.specs.Option.{option_and_then}
 use Rattle.std.proofs.lemmas.Bool.{false≢true}
-use Rattle.spv_list.proofs.Tests.{left_true}
-use Rattle.spv_names.specs.declared.names.Symbol.{Symbol}
+use Rattle.spv_logic.proofs.list.Tests.{left_true}
+use Rattle.spv_logic.specs.declared.names.names.Symbol.{Symbol}
 use Rattle.spv_logic.specs.declared.types.TypeId.{TypeId}
 use Rattle.spv_logic.specs.declared.types.Sort.{Sort}
 use Rattle.spv_logic.specs.Values.{Value}
@@ -16,8 +16,8 @@ use Rattle.spv_meaning.specs.Places.{Root, Place, Frame, HeapRow, State, Program
 use Rattle.spv_meaning.specs.FrameTypes.{FrameType, frame_type, frames_right, kept_type, own_type, root_type, row_type, slot_in}
 use Rattle.spv_meaning.specs.Starts.{Area, IsRight, is_of_type}
 use Rattle.spv_meaning.proofs.Maps.{same_names, found-changed-other}
-use Rattle.spv_facts.specs.Places.{IsPlace}
-use Rattle.spv_facts.proofs.Parts.{with_fits}
+use Rattle.spv_preservation.specs.facts.Places.{IsPlace}
+use Rattle.spv_preservation.proofs.facts.Parts.{with_fits}
 use Rattle.spv_preservation.proofs.Roots.{FirstFrame, first_frame, root_there}
 use Rattle.spv_preservation.proofs.Puts.{root_put}
 use Rattle.spv_preservation.proofs.Names.{Bound, Missing, There, bound}

@@ -4,7 +4,7 @@ use Rattle.std.proofs.lemmas.Int.{ints}
 use Rattle.std.specs.Int.RustNames.{int_lt}
 use Rattle.std.specs.Ordering.{int_eq}
 use Rattle.std.proofs.lemmas.Bool.{false≢true}
-use Rattle.spv_list.proofs.Tests.{left_true, right_true}
+use Rattle.spv_logic.proofs.list.Tests.{left_true, right_true}
 use Rattle.spv_logic.specs.Values.{Value, Rows, no_rows, row, value_eq, row_at, put_row, set_row}
 use Rattle.spv_logic.specs.Fits.{ascend, ascend_after, lacks}
 use Rattle.spv_logic.proofs.Equality.{int_eq-true, int_eq-refl, value_eq-refl}

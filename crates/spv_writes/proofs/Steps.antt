@@ -16,8 +16,8 @@ use Rattle.spv_meaning.specs.Evaluation.{is_cell_of}
 use Rattle.spv_meaning.specs.FrameTypes.{row_type, cell_type}
 use Rattle.spv_meaning.specs.Starts.{Area, At, CellsOf, same_root, paths_meet, places_overlap, lies_in, overlap}
 use Rattle.spv_meaning.proofs.Puts.{look_elsewhere, below_cell}
-use Rattle.spv_facts.specs.Places.{IsPlace}
-use Rattle.spv_facts.proofs.Places.{put_parts}
+use Rattle.spv_preservation.specs.facts.Places.{IsPlace}
+use Rattle.spv_preservation.proofs.facts.Places.{put_parts}
 use Rattle.spv_preservation.specs.Right.{Grows}
 use Rattle.spv_preservation.proofs.Puts.{types_stay}
 use Rattle.spv_preservation.proofs.Statements.{new_is_nowhere}

@@ -17,7 +17,7 @@ use Rattle.spv_meaning.specs.Levels.{pop}
 use Rattle.spv_meaning.specs.Walks.{is_new, with_new_cell}
 use Rattle.spv_meaning.specs.FrameTypes.{FrameType, cell_type}
 use Rattle.spv_meaning.specs.Starts.{Area, At, CellsOf, IsRight, places_overlap}
-use Rattle.spv_facts.specs.Places.{IsPlace}
+use Rattle.spv_preservation.specs.facts.Places.{IsPlace}
 use Rattle.spv_writes.specs.Writes.{Writes, part_of, is_touched, is_touched_below, is_touched_in, outlines, is_area_of, without_frame}
 
 -- ---- writing, one after the other

@@ -1,7 +1,7 @@
 -- What lies in areas, and what it is to write in them.
 use Rattle.std.specs.Prelude.{ℕ, Bool, true, false, ◌&&◌, ◌||◌, not, List, [], ◌∷◌, ◌++◌, map, filter, Option, Some, None, IsTrue, nat_eq}
 use Rattle.std.specs.List.{list_all, list_any}
-use Rattle.spv_names.specs.declared.names.Symbol.{Symbol}
+use Rattle.spv_logic.specs.declared.names.names.Symbol.{Symbol}
 use Rattle.spv_logic.specs.declared.types.TypeId.{TypeId}
 use Rattle.spv_logic.specs.declared.types.Sort.{Sort}
 use Rattle.spv_logic.specs.declared.conditions.RoutineId.{RoutineId}
@@ -12,7 +12,7 @@ use Rattle.spv_program.specs.Programs.{Program, shapes}
 use Rattle.spv_meaning.specs.Places.{Root, PathStep, Place, Binding, Frame, HeapRow, State, ProgramVariable, OwnValue, CellOf, Holding, Referring, whole, put}
 use Rattle.spv_meaning.specs.Walks.{is_new, with_new_cell}
 use Rattle.spv_meaning.specs.Starts.{Area, At, CellsOf, same_root, same_step, lies_in, overlap}
-use Rattle.spv_facts.specs.Places.{IsPlace}
+use Rattle.spv_preservation.specs.facts.Places.{IsPlace}
 
 -- ---- what lies in areas
 
