@@ -38,7 +38,7 @@ abbrev pub c : Symbol
 c = named 12
 
 abbrev pub start : KnownNames
-start = record { integer = named 0; boolean = named 1; list = named 2; functions = [] }
+start = record { integer = named 0; boolean = named 1; list = named 2; functions = []; reserved = [] }
 
 abbrev pub integer : TypeId
 integer = record { 0 = 0 }

@@ -180,7 +180,7 @@ abbrev pub car : Symbol
 car = named 30
 
 abbrev pub with_car : View
-with_car = at_top (record start { functions = (car, walk.Car) ∷ [] }) program
+with_car = at_top (record start { functions = (car, walk.Car) ∷ []; reserved = car ∷ [] }) program
 
 -- `CAR(x)`
 abbrev pub car_tree : tree.Formula

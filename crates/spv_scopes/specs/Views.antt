@@ -34,6 +34,9 @@ known_names_of k = record {
       (k.select, spec.Select) ∷ (k.store, spec.Store) ∷ (k.put, spec.Put) ∷ (k.cell, spec.Cell) ∷ (k.set_cell, spec.SetCell)
       ∷ (k.extend, spec.Extend) ∷ (k.pointer_to, spec.PointerTo) ∷ (k.car, spec.Car) ∷ (k.cdr, spec.Cdr)
       ∷ (k.cons, spec.Cons) ∷ (k.atom, spec.Atom) ∷ [];
+  reserved =
+      k.select ∷ k.store ∷ k.field ∷ k.put ∷ k.cell ∷ k.set_cell ∷ k.extend ∷ k.pointer_to ∷ k.car ∷ k.cdr ∷ k.cons ∷ k.atom
+      ∷ k.implies ∷ [];
 }
 
 -- ---- routines

@@ -28,15 +28,11 @@ impl Known {
         }
     }
 
-    /// Whether symbols and routines of the program may take a name: no function of formulas has it either.
+    /// Whether symbols and routines of the program may take a name: no printed term is written with it either.
     pub fn is_free_for_call(&self, x: Symbol) -> bool
         ensures { result ≡ spec.is_free_for_call self.now x }
     {
-        let free = self.is_free(x);
-        match self.start.function(x) {
-            Some(_) => false,
-            None => free,
-        }
+        self.is_free(x) && !self.start.is_reserved(x)
     }
 
     /// Adds a constant.

@@ -3,7 +3,7 @@
 ghost use Rattle.std.specs.Prelude.{◌≡◌, option_map};
 ghost use Rattle.spv_names.specs.Names.{IsFolded};
 ghost use Rattle.spv_program.specs.Lists.{found};
-ghost use Rattle.spv_typing.specs.Known.{known_in, number_in, is_fixed};
+ghost use Rattle.spv_typing.specs.Known.{known_in, number_in, is_fixed, is_reserved};
 ghost use Rattle.spv_scopes.specs.Views.{function_of, known_names_of};
 
 use spv_names::{Names, Symbol};
@@ -67,6 +67,10 @@ pub struct KnownNames {
     pub cons: Symbol,
     /// ATOM
     pub atom: Symbol,
+    /// FIELD, which printed terms alone have
+    pub field: Symbol,
+    /// IMPLIES, which printed terms alone have
+    pub implies: Symbol,
 }
 
 fn number_of(names: &Names, text: &[u8]) -> Symbol
@@ -99,6 +103,8 @@ impl KnownNames {
             cdr: number_of(names, b"CDR"),
             cons: number_of(names, b"CONS"),
             atom: number_of(names, b"ATOM"),
+            field: number_of(names, b"FIELD"),
+            implies: number_of(names, b"IMPLIES"),
         }
     }
 
@@ -107,6 +113,25 @@ impl KnownNames {
         ensures { result ≡ is_fixed (known_names_of self.now) x }
     {
         self.integer.0 == x.0 || self.boolean.0 == x.0 || self.list.0 == x.0
+    }
+
+    /// Whether a name is a word that printed terms are written with.
+    pub fn is_reserved(&self, x: Symbol) -> bool
+        ensures { result ≡ is_reserved (known_names_of self.now) x }
+    {
+        self.select.0 == x.0
+            || self.store.0 == x.0
+            || self.field.0 == x.0
+            || self.put.0 == x.0
+            || self.cell.0 == x.0
+            || self.set_cell.0 == x.0
+            || self.extend.0 == x.0
+            || self.pointer_to.0 == x.0
+            || self.car.0 == x.0
+            || self.cdr.0 == x.0
+            || self.cons.0 == x.0
+            || self.atom.0 == x.0
+            || self.implies.0 == x.0
     }
 
     /// The function of formulas of a name.

@@ -1,5 +1,6 @@
 -- What is known where the walk stands: names from the start, the program so far, and the names of a routine.
 use Rattle.std.specs.Prelude.{ℕ, Bool, ◌&&◌, ◌||◌, not, List, [], ◌∷◌, ◌++◌, map, Option, None, is_some, ℤ, codes}
+use Rattle.std.specs.List.{list_any}
 use Rattle.spv_names.specs.declared.names.Symbol.{Symbol}
 use Rattle.spv_names.specs.Names.{place_of}
 use Rattle.spv_logic.specs.declared.types.TypeId.{TypeId}
@@ -23,6 +24,8 @@ pub record KnownNames : Type 0 where
   pub boolean : Symbol
   pub list : Symbol
   pub functions : List (Symbol × Function)
+  -- the words that printed terms are written with
+  pub reserved : List Symbol
 
 abbrev pub number_in : List (List ℕ) → List ℕ → Symbol
 number_in names text = record { 0 = place_of names text }
@@ -40,7 +43,17 @@ known_in names = record {
       ∷ (number_in names (codes "POINTERTO"), PointerTo) ∷ (number_in names (codes "CAR"), Car)
       ∷ (number_in names (codes "CDR"), Cdr) ∷ (number_in names (codes "CONS"), Cons)
       ∷ (number_in names (codes "ATOM"), Atom) ∷ [];
+  reserved =
+      number_in names (codes "SELECT") ∷ number_in names (codes "STORE") ∷ number_in names (codes "FIELD")
+      ∷ number_in names (codes "PUT") ∷ number_in names (codes "CELL") ∷ number_in names (codes "SETCELL")
+      ∷ number_in names (codes "EXTEND") ∷ number_in names (codes "POINTERTO") ∷ number_in names (codes "CAR")
+      ∷ number_in names (codes "CDR") ∷ number_in names (codes "CONS") ∷ number_in names (codes "ATOM")
+      ∷ number_in names (codes "IMPLIES") ∷ [];
 }
+
+-- whether a name is a word that printed terms are written with; no symbol and no routine has such a name
+abbrev pub is_reserved : KnownNames → Symbol → Bool
+is_reserved k x = list_any (λ word. same_name word x) k.reserved
 
 -- whether a name is that of a type or sort that is known from the start; it is never declared again
 abbrev pub is_fixed : KnownNames → Symbol → Bool
@@ -143,6 +156,6 @@ is_named names x = is_some (found names x)
 abbrev pub is_free : Known → Symbol → Bool
 is_free k x = not (is_named (program_names k) x)
 
--- whether symbols and routines may: no function of formulas has it
+-- whether symbols and routines may
 abbrev pub is_free_for_call : Known → Symbol → Bool
-is_free_for_call k x = is_free k x && not (is_some (found k.start.functions x))
+is_free_for_call k x = is_free k x && not (is_reserved k.start x)

@@ -1,3 +1,0 @@
-pub mod Signs
-pub mod Laws
-pub mod Expressions

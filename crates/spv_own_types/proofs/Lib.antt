@@ -1,3 +1,0 @@
-pub mod Merged
-pub mod Written
-pub mod Programs
