@@ -2,7 +2,7 @@
 use Rattle.std.proofs.Common.{◌≡◌, Bool, true, false, cond, ◌≤◌, ℕ, suc, List, [], ◌∷◌, length, map, Option, Some, None, Result, Ok, Err, IfOk, refl, sym, ap, subst, ◌∙◌, option_map, nat_eq, arith}
 use Rattle.std.proofs.Math.Path.{fun_ext}
 use Rattle.std.proofs.lemmas.Bool.Decides.{nat_tests}
-use Rattle.spv_syntax.specs.declared.names.Name.{Name}
+use Rattle.spv_tree.specs.declared.syntax.names.Name.{Name}
 use Rattle.spv_program.specs.Formulas.{Formula}
 use Rattle.spv_typing.specs.declared.faults.TypeFault.{TypeFault}
 use Rattle.spv_typing.specs.declared.faults.TypeFault.TheVariants.{Count}
@@ -10,14 +10,14 @@ use Rattle.spv_typing.specs.Outcomes.{Outcome, after, where_so, wrong}
 use Rattle.spv_typing.specs.Known as known
 use Rattle.spv_typing.specs.OperatorWalk.{Operand, Argument, operands}
 use Rattle.spv_typing.specs.FormulaWalk.{Sorted, known_applied, put_applied, put_with, named_applied, applied, applied_of}
-use Rattle.spv_scopes.specs.declared.functions.Function.{Function}
-use Rattle.spv_scopes.specs.declared.functions.Function.TheVariants as function
-use Rattle.spv_scopes.specs.declared.scopes.Meaning.{Meaning}
-use Rattle.spv_scopes.specs.declared.scopes.Meaning.TheVariants as meaning
-use Rattle.spv_typed.specs.ProgramViews.{formal_of}
-use Rattle.spv_scopes.specs.Symbols.{decl_of}
-use Rattle.spv_scopes.specs.Views.{function_of}
-use Rattle.spv_scopes.specs.Scopes.{meaning_of}
+use Rattle.spv_environments.specs.declared.functions.Function.{Function}
+use Rattle.spv_environments.specs.declared.functions.Function.TheVariants as function
+use Rattle.spv_environments.specs.declared.scopes.Meaning.{Meaning}
+use Rattle.spv_environments.specs.declared.scopes.Meaning.TheVariants as meaning
+use Rattle.spv_program.specs.typed.ProgramViews.{formal_of}
+use Rattle.spv_environments.specs.Symbols.{decl_of}
+use Rattle.spv_environments.specs.Views.{function_of}
+use Rattle.spv_environments.specs.Scopes.{meaning_of}
 use Rattle.spv_formula_typing.specs.declared.forms.Way.{Way}
 use Rattle.spv_formula_typing.specs.declared.forms.Way.TheVariants as way
 use Rattle.spv_formula_typing.specs.Arguments.{Given, AsValue, AsField, given_one, given_as}

@@ -4,12 +4,12 @@ use Rattle.std.proofs.Math.Seq.{drop-cons}
 use Rattle.std.proofs.lemmas.List.{drop_all}
 use Rattle.spv_logic.specs.declared.types.Sort.{Sort}
 use Rattle.spv_program.specs.Formulas.{Formula, Formulas, NilOf, no_formulas, formulas}
-use Rattle.spv_typed.specs.FormulaViews.{formulas_of}
+use Rattle.spv_program.specs.typed.FormulaViews.{formulas_of}
 use Rattle.spv_typing.specs.declared.faults.TypeFault.{TypeFault}
 use Rattle.spv_typing.specs.Outcomes.{Outcome, after, wrong}
 use Rattle.spv_typing.specs.OperatorWalk.{Operand, settled}
 use Rattle.spv_typing.specs.FormulaWalk.{settled_all}
-use Rattle.spv_scopes.specs.Answers.{Stops}
+use Rattle.spv_environments.specs.Answers.{Stops}
 use Rattle.spv_formula_typing.proofs.Exits.{stops_after}
 use Rattle.spv_annotation_typing.specs.Signatures.{joined}
 

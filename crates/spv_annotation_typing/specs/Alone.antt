@@ -1,7 +1,7 @@
 -- Names alone, kind by kind.
 use Rattle.std.specs.Prelude.{ℕ, length, Ok, is_some, nat_eq, if◌then◌else◌}
 use Rattle.spv_logic.specs.declared.types.Decl.{Decl}
-use Rattle.spv_syntax.specs.declared.names.Name.{Name}
+use Rattle.spv_tree.specs.declared.syntax.names.Name.{Name}
 use Rattle.spv_program.specs.Formulas.{Applied, no_formulas}
 use Rattle.spv_typing.specs.declared.faults.TypeFault.{TypeFault}
 use Rattle.spv_typing.specs.declared.faults.TypeFault.TheVariants.{Count}

@@ -1,7 +1,7 @@
 -- Applications, by what is called and its arguments as they were read.
 use Rattle.std.specs.Prelude.{ℕ, List, [], ◌∷◌, length, Option, Some, None, Result, Ok, Err, nat_eq, if◌then◌else◌}
 use Rattle.spv_logic.specs.declared.types.Decl.{Decl}
-use Rattle.spv_syntax.specs.declared.names.Name.{Name}
+use Rattle.spv_tree.specs.declared.syntax.names.Name.{Name}
 use Rattle.spv_program.specs.Formulas.{Formula, Applied, Known as KnownApplied}
 use Rattle.spv_typing.specs.declared.faults.TypeFault.{TypeFault}
 use Rattle.spv_typing.specs.declared.faults.TypeFault.TheVariants.{Count}
@@ -9,12 +9,12 @@ use Rattle.spv_typing.specs.Outcomes.{Outcome, after, where_so, wrong, undeclare
 use Rattle.spv_typing.specs.Known.{Scope, Function}
 use Rattle.spv_typing.specs.OperatorWalk.{Operand}
 use Rattle.spv_typing.specs.FormulaWalk.{Sorted, with_sort, arity, signature_of, settled_all, operator_of, put_with}
-use Rattle.spv_scopes.specs.declared.functions.Function.{Function as FunctionText}
-use Rattle.spv_scopes.specs.declared.functions.Function.TheVariants as function
-use Rattle.spv_scopes.specs.declared.scopes.Meaning.{Meaning}
-use Rattle.spv_scopes.specs.declared.scopes.Meaning.TheVariants as meaning
-use Rattle.spv_scopes.specs.Views.{function_of}
-use Rattle.spv_scopes.specs.Symbols.{decl_of}
+use Rattle.spv_environments.specs.declared.functions.Function.{Function as FunctionText}
+use Rattle.spv_environments.specs.declared.functions.Function.TheVariants as function
+use Rattle.spv_environments.specs.declared.scopes.Meaning.{Meaning}
+use Rattle.spv_environments.specs.declared.scopes.Meaning.TheVariants as meaning
+use Rattle.spv_environments.specs.Views.{function_of}
+use Rattle.spv_environments.specs.Symbols.{decl_of}
 use Rattle.spv_formula_typing.specs.declared.forms.Way.{Way}
 use Rattle.spv_formula_typing.specs.declared.forms.Way.TheVariants as way
 use Rattle.spv_formula_typing.specs.Arguments.{Given, AsValue, AsPlace, NoPlace, AsField}

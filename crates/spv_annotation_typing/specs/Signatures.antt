@@ -11,7 +11,7 @@ use Rattle.spv_program.specs.Formulas.{Formula, Formulas, formulas}
 use Rattle.spv_typing.specs.Outcomes.{Outcome, after, wrong}
 use Rattle.spv_typing.specs.OperatorWalk.{Operand, Of, NilAt}
 use Rattle.spv_typing.specs.FormulaWalk.{Signature}
-use Rattle.spv_scopes.specs.declared.known.Signature.{Signature as SignatureText}
+use Rattle.spv_environments.specs.declared.known.Signature.{Signature as SignatureText}
 
 abbrev pub signature_view : SignatureText → Signature
 signature_view s = record { wanted = s.args; result = s.result }

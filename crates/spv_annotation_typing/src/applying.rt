@@ -2,11 +2,11 @@
 
 ghost use Rattle.std.specs.Prelude.{◌≡◌, ◌∷◌, [], ◌++◌, IfOk, IfErr, OnOk, Ok, None};
 ghost use Rattle.spv_typing.specs.FormulaWalk as spec;
-ghost use Rattle.spv_scopes.specs.Answers.{Stops};
-ghost use Rattle.spv_scopes.specs.Scopes.{scope_of};
-ghost use Rattle.spv_scopes.specs.Symbols.{decl_of};
-ghost use Rattle.spv_scopes.specs.Views.{function_of};
-ghost use Rattle.spv_typed.specs.FormulaViews.{formulas_of};
+ghost use Rattle.spv_environments.specs.Answers.{Stops};
+ghost use Rattle.spv_environments.specs.Scopes.{scope_of};
+ghost use Rattle.spv_environments.specs.Symbols.{decl_of};
+ghost use Rattle.spv_environments.specs.Views.{function_of};
+ghost use Rattle.spv_program.specs.typed.FormulaViews.{formulas_of};
 ghost use Rattle.spv_formula_typing.specs.Operands.{operands_of};
 ghost use Rattle.spv_formula_typing.specs.Arguments.{all_given};
 ghost use Rattle.spv_annotation_typing.specs.Applied.{applied_to, known_on, routine_fault, put_given, symbol_on, values};
@@ -16,13 +16,13 @@ use crate::putting::put_applied;
 use crate::settling::settled_formula;
 use crate::signatures::{arity, operator_of, signature_of};
 use crate::sorted::{Sorted, boxed};
+use spv_environments::{Function, Known, Scope, Signature};
 use spv_formula_typing::{Given, Operand};
 use spv_logic::Sort;
-use spv_names::Symbol;
+use spv_logic::names::Symbol;
 use spv_program::BuiltIn;
-use spv_scopes::{Function, Known, Scope, Signature};
-use spv_syntax::Name;
-use spv_typed::{Formula, FormulaForm};
+use spv_program::typed::{Formula, FormulaForm};
+use spv_tree::syntax::Name;
 use spv_typing::TypeFault;
 use std::alloc::{AllocError, Global};
 

@@ -5,15 +5,15 @@ ghost use Rattle.spv_program.specs.Formulas.{Formula as FormulaText};
 ghost use Rattle.spv_typing.specs.Outcomes.{after};
 ghost use Rattle.spv_typing.specs.OperatorWalk.{Argument};
 ghost use Rattle.spv_typing.specs.FormulaWalk as spec;
-ghost use Rattle.spv_scopes.specs.Answers.{Stops};
-ghost use Rattle.spv_scopes.specs.Scopes.{scope_of};
+ghost use Rattle.spv_environments.specs.Answers.{Stops};
+ghost use Rattle.spv_environments.specs.Scopes.{scope_of};
 ghost use Rattle.spv_formula_typing.specs.Arguments.{given_as};
 ghost use Rattle.spv_annotation_typing.specs.Applied.{way_in, applied_to, function_callee, meaning_callee};
 
+use spv_environments::{Function, Meaning, Scope, Signature};
 use spv_formula_typing::Way;
-use spv_names::Symbol;
-use spv_scopes::{Function, Meaning, Scope, Signature};
-use spv_syntax::Name;
+use spv_logic::names::Symbol;
+use spv_tree::syntax::Name;
 use spv_typing::TypeFault;
 
 /// What a name with arguments calls.

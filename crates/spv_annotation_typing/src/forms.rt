@@ -1,10 +1,10 @@
 // Annotations as forms of the walk over formulas.
 
 ghost use Rattle.std.specs.Prelude.{◌≡◌, refl, IfOk, IfErr, Ok};
-ghost use Rattle.spv_typed.specs.FormulaViews.{annotation_of};
+ghost use Rattle.spv_program.specs.typed.FormulaViews.{annotation_of};
 ghost use Rattle.spv_typing.specs.FormulaWalk as spec;
-ghost use Rattle.spv_scopes.specs.Answers.{Stops};
-ghost use Rattle.spv_scopes.specs.Scopes.{scope_of};
+ghost use Rattle.spv_environments.specs.Answers.{Stops};
+ghost use Rattle.spv_environments.specs.Scopes.{scope_of};
 
 use crate::applying;
 use crate::callee::{Callee, called};
@@ -12,12 +12,12 @@ use crate::naming::{class_at, name_alone};
 use crate::selecting::{content_at, field_in, indexed_at};
 use crate::settling::settled_formula;
 use crate::sorted::{Sorted, boxed};
+use spv_environments::Scope;
 use spv_formula_typing::{Forms, Given, Operand, Way, formula};
 use spv_logic::{Sort, TypeId};
+use spv_program::typed::{Annotation, Formula, FormulaForm};
 use spv_program::{Arithmetic, Comparison, Connective};
-use spv_scopes::Scope;
-use spv_syntax::Name;
-use spv_typed::{Annotation, Formula, FormulaForm};
+use spv_tree::syntax::Name;
 use spv_typing::TypeFault;
 use std::alloc::{AllocError, Global};
 
@@ -229,7 +229,7 @@ impl<'k, 'o> Forms for Annotations<'k, 'o> {
 pub fn annotation(
     scope: &Scope<'_, '_>,
     alloc: Global,
-    tree: &spv_syntax::Formula,
+    tree: &spv_tree::syntax::Formula,
 ) -> Result<Annotation, TypeFault>
     ensures ok { IfOk result (λ a. spec.annotation (scope_of scope.now) tree.now ≡ Ok (annotation_of a)) }
     ensures err { IfErr result (λ e. Stops e (spec.annotation (scope_of scope.now) tree.now)) }

@@ -3,19 +3,19 @@
 ghost use Rattle.std.specs.Prelude.{◌≡◌, IfOk, IfErr, Ok};
 ghost use Rattle.spv_typing.specs.FormulaWalk as spec;
 ghost use Rattle.spv_typing.specs.Known.{meaning};
-ghost use Rattle.spv_scopes.specs.Answers.{Stops};
-ghost use Rattle.spv_scopes.specs.Scopes.{scope_of};
-ghost use Rattle.spv_scopes.specs.Symbols.{decl_of};
+ghost use Rattle.spv_environments.specs.Answers.{Stops};
+ghost use Rattle.spv_environments.specs.Scopes.{scope_of};
+ghost use Rattle.spv_environments.specs.Symbols.{decl_of};
 ghost use Rattle.spv_formula_typing.specs.Operands.{operand_of};
 ghost use Rattle.spv_annotation_typing.specs.Alone.{symbol_alone, unknown_alone};
 
 use crate::sorted::Sorted;
+use spv_environments::{Meaning, Scope, Signature};
 use spv_formula_typing::Operand;
 use spv_logic::Sort;
-use spv_names::Symbol;
-use spv_scopes::{Meaning, Scope, Signature};
-use spv_syntax::Name;
-use spv_typed::{Formula, FormulaForm};
+use spv_logic::names::Symbol;
+use spv_program::typed::{Formula, FormulaForm};
+use spv_tree::syntax::Name;
 use spv_typing::TypeFault;
 use std::alloc::Global;
 

@@ -4,8 +4,8 @@ ghost use Rattle.std.specs.Prelude.{◌≡◌, [], ◌∷◌, IfNone, IfOk, IfEr
 ghost use Rattle.spv_logic.specs.Shapes.{fields_of};
 ghost use Rattle.spv_program.specs.Programs.{shapes};
 ghost use Rattle.spv_typing.specs.FormulaWalk as spec;
-ghost use Rattle.spv_scopes.specs.Answers.{Stops};
-ghost use Rattle.spv_scopes.specs.Scopes.{scope_of};
+ghost use Rattle.spv_environments.specs.Answers.{Stops};
+ghost use Rattle.spv_environments.specs.Scopes.{scope_of};
 ghost use Rattle.spv_formula_typing.specs.Operands.{operand_of};
 ghost use Rattle.spv_formula_typing.specs.Arguments.{all_given, given_of};
 ghost use Rattle.spv_annotation_typing.specs.Applied.{field_in, put_given, put_parts, put_three, value_in};
@@ -13,12 +13,12 @@ ghost use Rattle.spv_annotation_typing.specs.Applied.{field_in, put_given, put_p
 use crate::applying::push;
 use crate::settling::settled_formula;
 use crate::sorted::Sorted;
+use spv_environments::{Known, Scope};
 use spv_formula_typing::{Given, Operand};
 use spv_logic::Sort;
 use spv_program::BuiltIn;
-use spv_scopes::{Known, Scope};
-use spv_syntax::Name;
-use spv_typed::{Formula, FormulaForm};
+use spv_program::typed::{Formula, FormulaForm};
+use spv_tree::syntax::Name;
 use spv_typing::TypeFault;
 use std::alloc::Global;
 

@@ -4,17 +4,17 @@ ghost use Rattle.std.specs.Prelude.{◌≡◌, IfOk, IfErr, Ok};
 ghost use Rattle.spv_logic.specs.Shapes.{fields_of};
 ghost use Rattle.spv_program.specs.Programs.{shapes};
 ghost use Rattle.spv_typing.specs.FormulaWalk as spec;
-ghost use Rattle.spv_scopes.specs.Answers.{Stops};
+ghost use Rattle.spv_environments.specs.Answers.{Stops};
 ghost use Rattle.spv_formula_typing.specs.Operands.{operand_of, operands_of};
 ghost use Rattle.spv_annotation_typing.specs.Selected.{content_of, element_at, indexed_in};
 
 use crate::settling::settled_formula;
 use crate::sorted::{Sorted, boxed};
+use spv_environments::Known;
 use spv_formula_typing::Operand;
 use spv_logic::Sort;
-use spv_scopes::Known;
-use spv_syntax::Name;
-use spv_typed::{Formula, FormulaForm};
+use spv_program::typed::{Formula, FormulaForm};
+use spv_tree::syntax::Name;
 use spv_typing::TypeFault;
 use std::alloc::Global;
 

@@ -3,18 +3,18 @@
 ghost use Rattle.std.specs.Prelude.{◌≡◌, IfOk, IfErr, Ok};
 ghost use Rattle.spv_program.specs.Programs.{shapes};
 ghost use Rattle.spv_typing.specs.FormulaWalk as spec;
-ghost use Rattle.spv_scopes.specs.Answers.{Stops};
-ghost use Rattle.spv_scopes.specs.Scopes.{scope_of};
-ghost use Rattle.spv_scopes.specs.Views.{function_of};
+ghost use Rattle.spv_environments.specs.Answers.{Stops};
+ghost use Rattle.spv_environments.specs.Scopes.{scope_of};
+ghost use Rattle.spv_environments.specs.Views.{function_of};
 ghost use Rattle.spv_formula_typing.specs.Operands.{operand_of, operands_of};
 ghost use Rattle.spv_annotation_typing.specs.Signatures.{array_sorts, array_signature, class_behind, class_in, class_sort, content_signature, first_array, first_class, member_signature, signature_view, wants};
 
+use spv_environments::{Function, Known, Scope, Signature};
 use spv_formula_typing::Operand;
-use spv_list::List;
+use spv_logic::list::List;
 use spv_logic::{Sort, TypeId};
 use spv_program::BuiltIn;
-use spv_scopes::{Function, Known, Scope, Signature};
-use spv_typed::Formula;
+use spv_program::typed::Formula;
 use spv_typing::TypeFault;
 use std::alloc::{AllocError, Global};
 

@@ -1,11 +1,11 @@
 // A formula and its sort.
 
 ghost use Rattle.std.specs.Prelude.{◌≡◌, IfOk};
-ghost use Rattle.spv_typed.specs.FormulaViews.{formula_of};
+ghost use Rattle.spv_program.specs.typed.FormulaViews.{formula_of};
 ghost use Rattle.spv_typing.specs.FormulaWalk as spec;
 
 use spv_logic::Sort;
-use spv_typed::{Formula, FormulaForm};
+use spv_program::typed::{Formula, FormulaForm};
 use std::alloc::{AllocError, Global};
 use std::marker::Model;
 
@@ -18,8 +18,8 @@ pub struct Sorted {
 
 impl Model for Sorted {
     ghost use Rattle.std.specs.Coded.{codes};
-    ghost use Rattle.spv_list.specs.Ways.{coded_by};
-    ghost use Rattle.spv_typed.specs.Model.FormulaCodes.{way_formula};
+    ghost use Rattle.spv_logic.specs.list.Ways.{coded_by};
+    ghost use Rattle.spv_program.specs.typed.Model.FormulaCodes.{way_formula};
     ghost use Rattle.spv_typing.specs.FormulaWalk as spec;
 
     ghost Value = { spec.Sorted };

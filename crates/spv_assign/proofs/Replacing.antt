@@ -10,8 +10,8 @@ use Rattle.spv_term.specs.declared.nodes.Condition.{Condition}
 use Rattle.spv_term.specs.Arena.{Arena, AllBelow, tree, sort_at, sorts_at, sequent}
 use Rattle.spv_program.specs.Calls.{replacing}
 use Rattle.spv_meaning.specs.Before as before
-use Rattle.spv_substitution.specs.Images.{head_at, pairs_at, substituted}
-use Rattle.spv_substitution.specs.Parts.{AddsParts, LacksPart}
+use Rattle.spv_term.specs.substitution.Images.{head_at, pairs_at, substituted}
+use Rattle.spv_term.specs.substitution.Parts.{AddsParts, LacksPart}
 use Rattle.spv_assign.specs.Conditions.{condition_of, conditions_of, AreIn, sorts_of, terms_in, all_terms_in, pairs_of, ids_in, all_ids_in, with_ids, ids_behind, all_with_ids, with_given, Assumes}
 use Rattle.spv_assign.proofs.Cutting.{cut, all_ids-below, same_length, AreIn-ids}
 

@@ -8,7 +8,7 @@ use Rattle.spv_logic.specs.Terms.{Term}
 use Rattle.spv_logic.specs.Conditions as logic
 use Rattle.spv_term.specs.declared.nodes.Condition.{Condition}
 use Rattle.spv_term.specs.Arena.{Arena, AllBelow, tree, sort_at, sequent}
-use Rattle.spv_substitution.specs.Images.{head_at}
+use Rattle.spv_term.specs.substitution.Images.{head_at}
 use Rattle.spv_meaning.specs.Before as before
 
 -- what a condition claims, and where it comes from

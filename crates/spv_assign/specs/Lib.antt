@@ -1,1 +1,5 @@
+pub mod supply
 pub mod Conditions
+pub mod creation_trace
+pub mod limits
+pub mod limited_steps

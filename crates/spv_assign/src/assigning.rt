@@ -4,13 +4,13 @@ ghost use Rattle.std.specs.Prelude.{◌≡◌, ◌<◌, [], ◌∷◌, map, leng
 ghost use Rattle.spv_logic.specs.Substitution.{is_variable};
 ghost use Rattle.spv_term.specs.declared.nodes.TermFault.TheVariants.{Size};
 ghost use Rattle.spv_term.specs.Arena.{tree, sort_at, Extends};
-ghost use Rattle.spv_substitution.specs.Images.{head_at, ArePairs};
-ghost use Rattle.spv_substitution.specs.Parts.{AddsParts, LacksPart};
+ghost use Rattle.spv_term.specs.substitution.Images.{head_at, ArePairs};
+ghost use Rattle.spv_term.specs.substitution.Parts.{AddsParts, LacksPart};
 ghost use Rattle.spv_meaning.specs.Before as before;
 ghost use Rattle.spv_assign.specs.Conditions.{conditions_of, AreIn, sorts_of, all_terms_in, pairs_of};
 
 use crate::pieces::{all_ids, all_with_ids};
-use spv_substitution::substitute_all;
+use spv_term::substitution::substitute_all;
 use spv_term::{Condition, TermFault, TermId, Terms};
 use std::alloc::Global;
 

@@ -4,7 +4,7 @@ ghost use Rattle.std.specs.Prelude.{◌≡◌, ◌++◌, [], ◌∷◌, map, IfO
 ghost use Rattle.spv_term.specs.declared.nodes.TermFault.TheVariants.{Memory};
 ghost use Rattle.spv_assign.specs.Conditions.{with_given, Assumes};
 
-use spv_list::List;
+use spv_logic::list::List;
 use spv_term::{Condition, TermFault, TermId};
 use std::alloc::{AllocError, Global};
 

@@ -3,8 +3,12 @@
 #![tactic(auto)]
 
 mod assigning;
+pub mod creation_trace;
 mod hypotheses;
+pub mod limited_steps;
+pub mod limits;
 mod pieces;
+pub mod supply;
 
 pub use assigning::{before_assign, replaced};
 pub use hypotheses::assuming;

@@ -3,7 +3,7 @@
 ghost use Rattle.std.specs.Prelude.{◌≡◌, ◌<◌, ◌≤◌, ◌++◌, [], ◌∷◌, length, drop, IfOk, OnOk};
 ghost use Rattle.spv_assign.specs.Conditions.{ids_in, all_ids_in, with_ids, ids_behind, all_with_ids};
 
-use spv_list::List;
+use spv_logic::list::List;
 use spv_term::{Condition, TermId};
 use std::alloc::{AllocError, Global};
 

@@ -3,7 +3,7 @@ use Rattle.std.proofs.Common.{◌≡◌, Bool, true, false, cond, ◌&&◌, ◌|
 use Rattle.std.proofs.lemmas.Bool.{false≢true}
 use Rattle.std.specs.Int.RustNames.{int_lt}
 use Rattle.std.specs.Ordering.{int_eq}
-use Rattle.spv_list.proofs.Tests.{left_true, right_true}
+use Rattle.spv_logic.proofs.list.Tests.{left_true, right_true}
 use Rattle.spv_logic.specs.declared.types.Sort.{Sort}
 use Rattle.spv_logic.specs.declared.types.Sort.TheVariants as sort
 use Rattle.spv_logic.specs.declared.types.Shape.{Shape}

@@ -4,9 +4,9 @@ ghost use Rattle.std.specs.Prelude.{◌≡◌, IsTrue};
 ghost use Rattle.spv_atoms.specs.Shape.{is_tree};
 
 use spv_frac::Frac;
-use spv_list::List;
 use spv_logic::TermId;
-use spv_names::Symbol;
+use spv_logic::list::List;
+use spv_logic::names::Symbol;
 use std::marker::Model;
 
 /// A relation of two whole numbers.

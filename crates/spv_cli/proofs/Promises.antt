@@ -7,12 +7,12 @@ use Rattle.spv_logic.specs.Conditions.{Meaning}
 use Rattle.spv_program.specs.Programs.{Program}
 use Rattle.spv_meaning.specs.Correct.{Correct}
 use Rattle.spv_reports.specs.declared.mode.Mode.{Mode}
-use Rattle.spv_decided.specs.declared.verdicts.Decided.{Decided}
+use Rattle.spv_verdicts.specs.declared.answers.verdicts.Decided.{Decided}
 use Rattle.spv_reports.specs.declared.mode.Mode.TheVariants as mode
 use Rattle.spv_reports.specs.Reports.{AreVerdictsIn, Findings, IsReportOn, has_verdicts, all_proved, none_unproved}
 use Rattle.spv_reports.proofs.Reports.{proved_correct}
 use Rattle.spv_listing.specs.Page.{page}
-use Rattle.spv_refusals.specs.declared.refusal.Refusal.{Refusal}
+use Rattle.spv_verify.specs.declared.refused.refusal.Refusal.{Refusal}
 use Rattle.spv_verify.specs.Refusals.{IsProgramOf, IsRefused, IsReportOf, HaveNotBoth, IsOneProgram}
 use Rattle.spv_cli.specs.declared.found.Found.{Found}
 use Rattle.spv_cli.specs.declared.found.Found.TheVariants.{ReadFailed, Refusing, Reporting}

@@ -1,11 +1,11 @@
 -- What is written.
 use Rattle.std.specs.Prelude.{ℕ, List, [], ◌∷◌, ◌++◌, codes, decimal, if◌then◌else◌}
-use Rattle.spv_decided.specs.declared.verdicts.Decided.{Decided}
+use Rattle.spv_verdicts.specs.declared.answers.verdicts.Decided.{Decided}
 use Rattle.spv_reports.specs.declared.mode.Mode.{Mode}
 use Rattle.spv_reports.specs.declared.mode.Mode.TheVariants.{Verify, Conditions}
 use Rattle.spv_reports.specs.Reports.{Findings, all_proved, none_unproved}
-use Rattle.spv_refusals.specs.declared.refusal.Refusal.{Refusal}
-use Rattle.spv_refusals.specs.Refusals.{reason, line_of, detail_of}
+use Rattle.spv_verify.specs.declared.refused.refusal.Refusal.{Refusal}
+use Rattle.spv_verify.specs.refused.Refusals.{reason, line_of, detail_of}
 
 -- what a refusal tells behind its line, behind a space
 abbrev pub behind_line : List ℕ → List ℕ

@@ -5,7 +5,7 @@ use Rattle.spv_io.specs.Faults.{Rose}
 use Rattle.spv_reports.specs.Reports.{Findings}
 use Rattle.spv_listing.specs.Page.{page}
 use Rattle.spv_verify.specs.Refusals.{IsRefused}
-use Rattle.spv_refusals.specs.declared.refusal.Refusal.{Refusal}
+use Rattle.spv_verify.specs.declared.refused.refusal.Refusal.{Refusal}
 use Rattle.spv_cli.specs.Commands.{Command, command_of}
 use Rattle.spv_cli.specs.Output.{words_line, read_fault_line, refusal_line}
 

@@ -11,8 +11,8 @@ ghost use Rattle.spv_cli.specs.Runs.{IsFound, MayBeRead};
 use crate::output::{read_fault_line, refusal_line};
 use spv_io::{TextFault, Texts};
 use spv_lexer::LONGEST_TEXT;
-use spv_refusals::{Refusal, VerifyFault};
 use spv_reports::{Decided, Mode, Report, all_proved, none_unproved};
+use spv_verify::refused::{Refusal, VerifyFault};
 use spv_verify::{list, verify};
 use std::alloc::{AllocError, Global};
 

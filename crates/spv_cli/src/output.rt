@@ -4,7 +4,7 @@ ghost use Rattle.std.specs.Prelude.{◌≡◌, ◌++◌, IfOk, OnOk};
 ghost use Rattle.spv_cli.specs.Output as spec;
 
 use itoa::Buffer;
-use spv_refusals::Refusal;
+use spv_verify::refused::Refusal;
 use std::alloc::{AllocError, Global};
 
 // What a refusal tells behind its line, behind a space.

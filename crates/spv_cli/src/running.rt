@@ -9,7 +9,7 @@ ghost use Rattle.spv_logic.specs.Conditions.{Meaning};
 ghost use Rattle.spv_program.specs.Programs.{Program};
 ghost use Rattle.spv_reports.specs.Reports.{AreVerdictsIn, IsReport, IsReportOn, all_proved, has_verdicts, none_unproved};
 ghost use Rattle.spv_listing.specs.Page.{page};
-ghost use Rattle.spv_refusals.specs.declared.refusal.Refusal.{Refusal};
+ghost use Rattle.spv_verify.specs.declared.refused.refusal.Refusal.{Refusal};
 ghost use Rattle.spv_cli.specs.Commands as spec;
 ghost use Rattle.spv_cli.specs.Commands.{command_of};
 ghost use Rattle.spv_cli.specs.Words.{command_view};

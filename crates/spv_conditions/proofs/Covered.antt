@@ -1,6 +1,6 @@
 -- Where a program has no routines, its well typed main block calls nothing.
 use Rattle.std.proofs.Common.{◌≡◌, Bool, true, false, ◌&&◌, List, [], ◌∷◌, Option, Some, None, is_some, refl, sym, ap, ◌∙◌}
-use Rattle.spv_list.proofs.Tests.{left_true, right_true}
+use Rattle.spv_logic.proofs.list.Tests.{left_true, right_true}
 use Rattle.spv_logic.specs.declared.types.Sort.{Sort}
 use Rattle.spv_logic.specs.declared.types.Sort.TheVariants as sort
 use Rattle.spv_program.specs.Expressions.{Expression}
@@ -14,7 +14,7 @@ use Rattle.std.specs.Ordering.{int_eq}
 use Rattle.std.specs.List.{list_all}
 use Rattle.spv_program.specs.Lists.{all_differ}
 use Rattle.spv_meaning.specs.Assignments.{has_no_routines}
-use Rattle.spv_control.specs.Blocks.{is_whole, none, calls_nothing, is_control, arms_control, only_control}
+use Rattle.spv_rule_soundness.specs.control.Blocks.{is_whole, none, calls_nothing, is_control, arms_control, only_control}
 use Rattle.spv_conditions.specs.Plain.{is_plain, arms_plain}
 use Rattle.spv_conditions.proofs.Calls.{expression-calls}
 

@@ -1,18 +1,18 @@
 -- What the code's statements and places are made of.
 use Rattle.std.proofs.Common.{◌≡◌, ◌<◌, ℕ, zero, suc, false, List, [], ◌∷◌, length, map, get_or, refl, arith}
-use Rattle.spv_names.specs.declared.names.Symbol.{Symbol}
+use Rattle.spv_logic.specs.declared.names.names.Symbol.{Symbol}
 use Rattle.spv_program.specs.Expressions.{designator}
 use Rattle.spv_program.specs.Statements.{Statement}
-use Rattle.spv_typed.specs.declared.expressions.Selector.{Selector}
-use Rattle.spv_typed.specs.declared.expressions.Selector.TheVariants as selector
-use Rattle.spv_typed.specs.declared.statements.Arm.{Arm}
-use Rattle.spv_typed.specs.declared.programs.Routine.{Routine}
-use Rattle.spv_typed.specs.ExpressionViews.{selectors_of}
-use Rattle.spv_typed.specs.StatementViews.{arms_of, block_of}
-use Rattle.spv_typed.specs.ProgramViews.{routine_of}
-use Rattle.spv_typed.specs.Model.StatementSizes.{arms_size, statement_size}
+use Rattle.spv_program.specs.declared.typed.expressions.Selector.{Selector}
+use Rattle.spv_program.specs.declared.typed.expressions.Selector.TheVariants as selector
+use Rattle.spv_program.specs.declared.typed.statements.Arm.{Arm}
+use Rattle.spv_program.specs.declared.typed.programs.Routine.{Routine}
+use Rattle.spv_program.specs.typed.ExpressionViews.{selectors_of}
+use Rattle.spv_program.specs.typed.StatementViews.{arms_of, block_of}
+use Rattle.spv_program.specs.typed.ProgramViews.{routine_of}
+use Rattle.spv_program.specs.typed.Model.StatementSizes.{arms_size, statement_size}
 use Rattle.spv_meaning.specs.Assignments.{has_no_routines}
-use Rattle.spv_control.specs.Blocks.{is_whole}
+use Rattle.spv_rule_soundness.specs.control.Blocks.{is_whole}
 
 pub not_whole : (line : ℕ) (x : Symbol) (ss : List Selector) → 0 < length ss → is_whole (designator line x (selectors_of ss)) ≡ false
 not_whole line x [] h = absurd (omega arith)

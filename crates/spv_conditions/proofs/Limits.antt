@@ -1,9 +1,9 @@
 -- Which limit the walk over a main block meets.
 use Rattle.std.proofs.Common.{◌≡◌, refl, sym, ap, ◌∙◌}
 use Rattle.spv_program.specs.Programs.{Program}
-use Rattle.spv_events.specs.declared.faults.GenFault.{GenFault}
-use Rattle.spv_events.specs.declared.faults.GenFault.TheVariants as fault
-use Rattle.spv_limits.specs.Laws.{MadeMeetsNone, OneIsMet}
+use Rattle.spv_assign.specs.declared.creation_trace.faults.GenFault.{GenFault}
+use Rattle.spv_assign.specs.declared.creation_trace.faults.GenFault.TheVariants as fault
+use Rattle.spv_assign.specs.limits.Laws.{MadeMeetsNone, OneIsMet}
 use Rattle.spv_conditions.specs.Making.{MeetsLimit, IsWithinLimits, main_events, empty_arena}
 
 pub meets_no_other : MadeMeetsNone → (p : Program) (e : GenFault) → MeetsLimit e p → IsWithinLimits p → e ≡ fault.Memory

@@ -2,7 +2,7 @@
 use Rattle.std.proofs.Common.{◌≡◌, ℕ, ◌<◌, ◌≤◌, true, ◌&&◌, List, [], ◌∷◌, Option, None, option_map, Ok, Err, IfOk, IfErr, IsErrAnd, Vec, refl, sym, ap, subst, ◌∙◌, arith}
 use Rattle.std.specs.List.{list_all}
 use Rattle.std.specs.Global.{Global}
-use Rattle.spv_list.proofs.Tests.{left_true, right_true}
+use Rattle.spv_logic.proofs.list.Tests.{left_true, right_true}
 use Rattle.spv_logic.specs.declared.conditions.TermId.{TermId}
 use Rattle.spv_logic.specs.declared.conditions.Kind.TheVariants as kind
 use Rattle.spv_logic.specs.declared.conditions.RoutineId.{RoutineId}
@@ -17,30 +17,30 @@ use Rattle.spv_program.specs.Statements.{Statement}
 use Rattle.spv_program.specs.FormulaTypes.{annotation_ok}
 use Rattle.spv_program.specs.Typing.{well_typed, declarations_ok, routine_ok, statement_ok}
 use Rattle.spv_program.specs.Supplies.{Supply, full_supply}
-use Rattle.spv_supply.specs.Numbers.{AreThere}
+use Rattle.spv_assign.specs.supply.Numbers.{AreThere}
 use Rattle.spv_assign.specs.Conditions.{conditions_of, AreIn}
 use Rattle.spv_meaning.specs.Before.{before, annotation_term, wanted_if_there, assuming_if_there}
 use Rattle.spv_meaning.specs.Assignments.{has_no_routines}
 use Rattle.spv_meaning.specs.ProgramConditions as whole
 use Rattle.spv_meaning.specs.ProgramConditions.{main_conditions}
-use Rattle.spv_control.specs.Blocks.{is_control, only_control}
-use Rattle.spv_events.specs.declared.faults.GenFault.{GenFault}
-use Rattle.spv_events.specs.declared.faults.GenFault.TheVariants as fault
-use Rattle.spv_events.specs.Events.{Event, Walked, Stops}
-use Rattle.spv_events.specs.StatementEvents.{events, in_order, one_if_there}
-use Rattle.spv_events.proofs.Walks.{nothing_walked}
-use Rattle.spv_flow_steps.proofs.Limits.{same_stop}
+use Rattle.spv_rule_soundness.specs.control.Blocks.{is_control, only_control}
+use Rattle.spv_assign.specs.declared.creation_trace.faults.GenFault.{GenFault}
+use Rattle.spv_assign.specs.declared.creation_trace.faults.GenFault.TheVariants as fault
+use Rattle.spv_assign.specs.creation_trace.Events.{Event, Walked, Stops}
+use Rattle.spv_assign.specs.creation_trace.StatementEvents.{events, in_order, one_if_there}
+use Rattle.spv_assign.proofs.creation_trace.Walks.{nothing_walked}
+use Rattle.spv_assign.proofs.limited_steps.Limits.{same_stop}
 use Rattle.spv_flow_parts.specs.declared.bodies.Body.{Body}
 use Rattle.spv_flow_parts.specs.Standing.{AreNotes, IsBody, Stands}
 use Rattle.spv_flow_parts.specs.Walks.{AreThese, IsNoted, IsThere, Listed, Comes, made_of}
 use Rattle.spv_flow_parts.proofs.Steps.{went, stopped_at}
 use Rattle.spv_flow_parts.proofs.LoopLemmas.{note_there, note_term}
 use Rattle.spv_flow_parts.proofs.Steps.{AreThese-Extends}
-use Rattle.spv_flow_rules.specs.Events.{events_by}
-use Rattle.spv_plain_leaves.specs.Plain.{IsRight, Walks, plain_making, plain_taking}
-use Rattle.spv_plain_leaves.proofs.Taken.{right_taken}
-use Rattle.spv_plain_leaves.proofs.Same.{same_events}
-use Rattle.spv_flow_leaves.specs.Parts.{IsTaken}
+use Rattle.spv_flow.specs.statement_rules.Events.{events_by}
+use Rattle.spv_conditions.specs.whole_variables.Plain.{IsRight, Walks, plain_making, plain_taking}
+use Rattle.spv_conditions.proofs.whole_variables.Taken.{right_taken}
+use Rattle.spv_conditions.proofs.whole_variables.Same.{same_events}
+use Rattle.spv_flow_parts.specs.leaves.Parts.{IsTaken}
 use Rattle.spv_conditions.specs.Making.{behind, behind_main, empty_arena, main_events, MakesBlock, MakesMain, IsLimit}
 
 -- ---- what is right

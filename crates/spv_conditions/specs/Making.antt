@@ -8,12 +8,12 @@ use Rattle.spv_logic.specs.declared.conditions.RoutineId.{RoutineId}
 use Rattle.spv_logic.specs.Conditions.{Condition}
 use Rattle.spv_meaning.specs.Before.{Made, before, annotation_term, wanted_if_there}
 use Rattle.spv_meaning.specs.ProgramConditions.{main_conditions}
-use Rattle.spv_events.specs.declared.faults.GenFault.{GenFault}
-use Rattle.spv_events.specs.declared.faults.GenFault.TheVariants as fault
-use Rattle.spv_events.specs.Events.{Event, Answers, Stops}
-use Rattle.spv_events.specs.StatementEvents.{events, in_order, one_if_there}
+use Rattle.spv_assign.specs.declared.creation_trace.faults.GenFault.{GenFault}
+use Rattle.spv_assign.specs.declared.creation_trace.faults.GenFault.TheVariants as fault
+use Rattle.spv_assign.specs.creation_trace.Events.{Event, Answers, Stops}
+use Rattle.spv_assign.specs.creation_trace.StatementEvents.{events, in_order, one_if_there}
 use Rattle.spv_flow_parts.specs.Walks.{AreThese, Listed}
-use Rattle.spv_limits.specs.Laws.{IsMadeWhole}
+use Rattle.spv_assign.specs.limits.Laws.{IsMadeWhole}
 
 -- how many terms there may be
 abbrev pub most_terms : ℕ

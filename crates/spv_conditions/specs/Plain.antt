@@ -1,7 +1,7 @@
 -- Statements whose assignments are to whole variables, and which create no cells and call no procedure.
 use Rattle.std.specs.Prelude.{Bool, true, false, ◌&&◌}
 use Rattle.spv_program.specs.Statements.{Statement, Arms, Empty, Assign, Perform, New, Sequence, If, Case, While, Repeat, For, Assert, no_arms, arm}
-use Rattle.spv_control.specs.Blocks.{is_whole}
+use Rattle.spv_rule_soundness.specs.control.Blocks.{is_whole}
 
 abbrev mutual
   pub is_plain : Statement → Bool

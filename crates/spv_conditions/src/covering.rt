@@ -3,13 +3,13 @@
 ghost use Rattle.std.specs.Prelude.{◌≡◌, IsTrue};
 ghost use Rattle.spv_program.specs.Typing.{well_typed};
 ghost use Rattle.spv_meaning.specs.Assignments.{has_no_routines};
-ghost use Rattle.spv_control.specs.Blocks.{only_control};
+ghost use Rattle.spv_rule_soundness.specs.control.Blocks.{only_control};
 ghost use Rattle.spv_conditions.specs.Plain.{arms_plain, is_plain};
-ghost use Rattle.spv_typed.specs.ExpressionViews.{selectors_of};
-ghost use Rattle.spv_typed.specs.StatementViews.{arms_of, block_of};
-ghost use Rattle.spv_control.specs.Blocks.{is_whole};
+ghost use Rattle.spv_program.specs.typed.ExpressionViews.{selectors_of};
+ghost use Rattle.spv_program.specs.typed.StatementViews.{arms_of, block_of};
+ghost use Rattle.spv_rule_soundness.specs.control.Blocks.{is_whole};
 
-use spv_typed::{Arm, Designator, Program, Statement, StatementForm};
+use spv_program::typed::{Arm, Designator, Program, Statement, StatementForm};
 
 // Whether a place is a whole variable.
 fn is_whole(place: &Designator) -> bool

@@ -1,11 +1,11 @@
 // What is true of conditions and limits, as contracts of functions that do nothing.
 
 ghost use Rattle.spv_logic.specs.Conditions.{Meaning};
-ghost use Rattle.spv_control.specs.Laws.{TrueConditionsGiveCorrectIn};
+ghost use Rattle.spv_rule_soundness.specs.control.Laws.{TrueConditionsGiveCorrectIn};
 ghost use Rattle.spv_conditions.specs.Making.{MeetsNoOther, MeetsOne};
 
-use spv_control::laws::law_control;
-use spv_limits::law_one_limit;
+use spv_assign::limits::law_one_limit;
+use spv_rule_soundness::control::laws::law_control;
 use spv_term::World;
 
 /// Where the conditions of such a program are true in a world, the program is correct in it: for every world at once, and for one

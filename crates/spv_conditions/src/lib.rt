@@ -1,10 +1,12 @@
 //! The conditions of a program.
 #![tactic(auto)]
 
+pub mod bodies;
 mod covering;
 mod laws;
 mod making;
 mod opening;
+pub mod whole_variables;
 
 pub use covering::is_covered;
 pub use laws::{law_conditions, law_limits};

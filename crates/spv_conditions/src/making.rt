@@ -4,24 +4,24 @@ ghost use Rattle.std.specs.Prelude.{◌≡◌, IfOk, IfErr, IsTrue, None};
 ghost use Rattle.spv_term.specs.Arena.{Extends, IsArena};
 ghost use Rattle.spv_program.specs.Typing.{well_typed};
 ghost use Rattle.spv_meaning.specs.ProgramConditions as whole;
-ghost use Rattle.spv_control.specs.Blocks.{only_control};
+ghost use Rattle.spv_rule_soundness.specs.control.Blocks.{only_control};
 ghost use Rattle.spv_assign.specs.Conditions.{AreIn, conditions_of};
-ghost use Rattle.spv_events.specs.Events.{Walked};
+ghost use Rattle.spv_assign.specs.creation_trace.Events.{Walked};
 ghost use Rattle.spv_flow_parts.specs.Standing.{Stands};
-ghost use Rattle.spv_plain_leaves.specs.Plain.{IsRight};
+ghost use Rattle.spv_conditions.specs.whole_variables.Plain.{IsRight};
 ghost use Rattle.spv_conditions.specs.Making as making;
 ghost use Rattle.spv_conditions.specs.Making.{IsLimit, MakesBlock, MakesMain, main_events};
 
+use crate::bodies::body_of;
 use crate::opening::empty_arena;
-use spv_bodies::body_of;
-use spv_events::GenFault;
+use crate::whole_variables::PlainLeaves;
+use spv_assign::creation_trace::GenFault;
+use spv_assign::supply::Supply;
 use spv_flow::before;
 use spv_flow_parts::{Body, known, noted, wanted_note};
 use spv_logic::Kind;
-use spv_plain_leaves::PlainLeaves;
-use spv_supply::Supply;
+use spv_program::typed::Program;
 use spv_term::{Condition, Terms};
-use spv_typed::Program;
 use std::alloc::Global;
 
 /// The conditions of a program, and the arena that has their terms.

@@ -6,12 +6,12 @@ ghost use Rattle.spv_program.specs.Types.{shape_of_form, shapes_of, sort_of};
 ghost use Rattle.spv_program.specs.Typing.{declarations_ok};
 ghost use Rattle.spv_conditions.specs.Making.{empty_arena};
 
-use spv_changed::sort_of;
-use spv_list::List;
+use spv_effects::mod_sets::sort_of;
+use spv_logic::list::List;
 use spv_logic::{Decl, Field, Shape};
+use spv_program::typed::Program;
 use spv_program::{TypeField, TypeForm};
 use spv_term::{Shapes, Terms};
-use spv_typed::Program;
 use std::alloc::{AllocError, Global};
 
 /// How many terms the conditions of a program may have.

@@ -3,7 +3,7 @@ use Rattle.std.proofs.Common.{◌≡◌, ◌≢◌, ℕ, zero, suc, ◌<◌, ◌
 use Rattle.std.proofs.lemmas.List.{length-set, length_push, get_or-set_same, get_or-set_other, get_or_append_left, get_or_past}
 use Rattle.spv_logic.specs.declared.conditions.TermId.{TermId}
 use Rattle.spv_term.specs.declared.nodes.Node.{Node}
-use Rattle.spv_classes.proofs.Lists.{same_or_apart, get_left, get_push, get_within}
+use Rattle.spv_union_find.proofs.classes.Lists.{same_or_apart, get_left, get_push, get_within}
 use Rattle.spv_congruence.specs.Graph.{HasNode, Waits}
 use Rattle.spv_congruence.specs.Keep.{HasPut, KeepsUses, uses_at}
 use Rattle.spv_congruence.proofs.Goings.{waits_left, waits_right}

@@ -3,7 +3,7 @@ use Rattle.std.proofs.Common.{◌≡◌, ℕ, zero, suc, ◌+◌, ◌<◌, List,
 use Rattle.std.proofs.lemmas.List.{map_more}
 use Rattle.spv_logic.specs.declared.conditions.TermId.{TermId}
 use Rattle.spv_term.specs.Arena.{AllBelow}
-use Rattle.spv_classes.specs.declared.joins.Join.{Join}
+use Rattle.spv_union_find.specs.declared.classes.joins.Join.{Join}
 use Rattle.spv_congruence.specs.Graph.{label_of}
 
 pub below_at : (n : ℕ) (ts : List TermId) (i : ℕ) (d : TermId) → AllBelow n ts → i < length ts → (get_or ts i d).0 < n

@@ -7,11 +7,11 @@ use Rattle.spv_logic.specs.declared.operators.Head.{Head}
 use Rattle.spv_logic.specs.declared.operators.Head.TheVariants.{Num, True, False}
 use Rattle.spv_logic.proofs.Equality.{int_eq-true, int_eq-refl}
 use Rattle.spv_term.specs.declared.nodes.Node.{Node}
-use Rattle.spv_classes.specs.declared.joins.Join.{Join}
-use Rattle.spv_classes.specs.Classes.{label, size, next, one_label, with_next, IsJoin, AreJoins}
-use Rattle.spv_classes.proofs.Lists.{same_or_apart, nat_same, nat_apart}
-use Rattle.spv_classes.proofs.Labels.{label_push, next_push, one_label-lower, one_label-other, by_joins, label_of_label}
-use Rattle.spv_classes.proofs.Circles.{Walk, In, others, IsRing, ring}
+use Rattle.spv_union_find.specs.declared.classes.joins.Join.{Join}
+use Rattle.spv_union_find.specs.classes.Classes.{label, size, next, one_label, with_next, IsJoin, AreJoins}
+use Rattle.spv_union_find.proofs.classes.Lists.{same_or_apart, nat_same, nat_apart}
+use Rattle.spv_union_find.proofs.classes.Labels.{label_push, next_push, one_label-lower, one_label-other, by_joins, label_of_label}
+use Rattle.spv_union_find.proofs.classes.Circles.{Walk, In, others, IsRing, ring}
 use Rattle.spv_congruence.specs.Clashes.{opposed, AreOpposed, Clashes}
 use Rattle.spv_congruence.specs.Graph.{HasNode, id, label_of, are_same}
 use Rattle.spv_congruence.specs.Keep.{Kept, graph, Fits, IsNode}

@@ -1,10 +1,10 @@
 -- Equalities that are still to be joined.
 use Rattle.std.proofs.Common.{◌≡◌, ◌≢◌, ℕ, zero, suc, List, [], ◌∷◌, ◌++◌, map, length, slice_get, Some, refl, sym, ap, ◌∙◌, inl, inr, ◌⊎◌}
 use Rattle.spv_logic.specs.declared.conditions.TermId.{TermId}
-use Rattle.spv_classes.specs.declared.joins.Join.{Join}
-use Rattle.spv_classes.specs.Classes.{label, one_label}
-use Rattle.spv_classes.proofs.Lists.{same_or_apart, by_last, get_left, get_push, get_within}
-use Rattle.spv_classes.proofs.Labels.{label_push, label_stays, label_was_lower}
+use Rattle.spv_union_find.specs.declared.classes.joins.Join.{Join}
+use Rattle.spv_union_find.specs.classes.Classes.{label, one_label}
+use Rattle.spv_union_find.proofs.classes.Lists.{same_or_apart, by_last, get_left, get_push, get_within}
+use Rattle.spv_union_find.proofs.classes.Labels.{label_push, label_stays, label_was_lower}
 use Rattle.spv_congruence.specs.declared.facts.Equal.{Equal}
 use Rattle.spv_congruence.specs.Graph.{label_of, Agrees, Due, Waits, HasLabel}
 

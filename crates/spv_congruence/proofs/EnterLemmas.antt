@@ -2,19 +2,19 @@
 use Rattle.std.proofs.Common.{◌≡◌, ◌≢◌, ℕ, suc, ◌<◌, Bool, true, false, ◌&&◌, nat_eq, List, [], ◌∷◌, ◌++◌, map, take, length, slice_get, Option, Some, None, refl, sym, ap, ◌∙◌, subst, inl, inr, ◌⊎◌, arith, if◌then◌else◌}
 use Rattle.std.specs.Cmp.Lexicographic.{pointwise}
 use Rattle.std.proofs.lemmas.Bool.{false≢true, eqb-true}
-use Rattle.spv_list.proofs.Tests.{left_true, right_true}
+use Rattle.spv_logic.proofs.list.Tests.{left_true, right_true}
 use Rattle.spv_logic.specs.declared.conditions.TermId.{TermId}
 use Rattle.spv_logic.specs.declared.operators.Head.{Head}
 use Rattle.spv_logic.specs.Terms.{head_eq}
 use Rattle.spv_logic.proofs.Equality.{head_eq-true, head_eq-refl}
 use Rattle.spv_term.specs.declared.nodes.Node.{Node}
-use Rattle.spv_classes.specs.declared.joins.Cause.TheVariants.{Congruent}
-use Rattle.spv_classes.specs.declared.joins.Join.{Join}
-use Rattle.spv_classes.specs.Classes.{label, AreJoins}
-use Rattle.spv_classes.proofs.Lists.{by_last, of_push, get_left, get_push, get_within, nat_same, same_or_apart}
-use Rattle.spv_classes.proofs.Labels.{label_of_label}
-use Rattle.spv_signatures.specs.Signatures.{Signature, is_for, held}
-use Rattle.spv_signatures.proofs.RowLemmas.{held_push}
+use Rattle.spv_union_find.specs.declared.classes.joins.Cause.TheVariants.{Congruent}
+use Rattle.spv_union_find.specs.declared.classes.joins.Join.{Join}
+use Rattle.spv_union_find.specs.classes.Classes.{label, AreJoins}
+use Rattle.spv_union_find.proofs.classes.Lists.{by_last, of_push, get_left, get_push, get_within, nat_same, same_or_apart}
+use Rattle.spv_union_find.proofs.classes.Labels.{label_of_label}
+use Rattle.spv_union_find.specs.signatures.Signatures.{Signature, is_for, held}
+use Rattle.spv_union_find.proofs.signatures.RowLemmas.{held_push}
 use Rattle.spv_congruence.specs.declared.facts.Fact.{Fact}
 use Rattle.spv_congruence.specs.declared.facts.Equal.{Equal}
 use Rattle.spv_congruence.specs.Graph.{label_of, labels, HasNode, IsEarly, IsCause, AreCongruent, IsRow, IsDue, IsEntered, IsLevel, Due, Waits}

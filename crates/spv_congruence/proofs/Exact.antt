@@ -6,17 +6,17 @@ use Rattle.spv_logic.specs.Terms.{term}
 use Rattle.spv_term.specs.declared.nodes.Node.{Node}
 use Rattle.spv_term.specs.Arena.{Arena, IsArena, tree, trees}
 use Rattle.spv_term.proofs.ArenaLemmas.{tree-node}
-use Rattle.spv_classes.specs.declared.joins.Cause.{Cause}
-use Rattle.spv_classes.specs.declared.joins.Cause.TheVariants as cause
-use Rattle.spv_classes.specs.declared.joins.Join.{Join}
-use Rattle.spv_classes.specs.Classes.{label, IsJoin, AreJoins}
-use Rattle.spv_classes.proofs.Lists.{by_last, same_or_apart, get_left, get_push, get_within, nat_same, take_push, take_whole}
-use Rattle.spv_classes.proofs.Labels.{label_was_lower, label_stays, all_but_last, last_join}
-use Rattle.spv_joined.specs.Joined.{Joined, AllJoined, told, itself, turned, through, congruent, none, more, IsAmong}
-use Rattle.spv_joined.specs.Joined as joined
-use Rattle.spv_joined.specs.Laws.{Respects}
-use Rattle.spv_joined.proofs.Kept.{kept}
-use Rattle.spv_signatures.specs.Signatures.{held}
+use Rattle.spv_union_find.specs.declared.classes.joins.Cause.{Cause}
+use Rattle.spv_union_find.specs.declared.classes.joins.Cause.TheVariants as cause
+use Rattle.spv_union_find.specs.declared.classes.joins.Join.{Join}
+use Rattle.spv_union_find.specs.classes.Classes.{label, IsJoin, AreJoins}
+use Rattle.spv_union_find.proofs.classes.Lists.{by_last, same_or_apart, get_left, get_push, get_within, nat_same, take_push, take_whole}
+use Rattle.spv_union_find.proofs.classes.Labels.{label_was_lower, label_stays, all_but_last, last_join}
+use Rattle.spv_term.specs.closure.Joined.{Joined, AllJoined, told, itself, turned, through, congruent, none, more, IsAmong}
+use Rattle.spv_term.specs.closure.Joined as joined
+use Rattle.spv_term.specs.closure.Laws.{Respects}
+use Rattle.spv_term.proofs.closure.Kept.{kept}
+use Rattle.spv_union_find.specs.signatures.Signatures.{held}
 use Rattle.spv_congruence.specs.Graph.{Graph, id, label_of, labels, HasNode, IsEarly, IsCause, IsLink, IsEntered, IsGraph, Waits, are_same}
 use Rattle.spv_congruence.specs.Keep.{Kept, graph, Fits}
 use Rattle.spv_congruence.specs.Told.{IsOf, IsAdded, IsTold, IsExact}

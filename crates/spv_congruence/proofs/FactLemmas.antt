@@ -4,10 +4,10 @@ use Rattle.std.proofs.lemmas.Bool.{false≢true}
 use Rattle.std.proofs.lemmas.List.{length_push}
 use Rattle.spv_logic.specs.declared.conditions.TermId.{TermId}
 use Rattle.spv_term.specs.declared.nodes.Node.{Node}
-use Rattle.spv_classes.specs.declared.joins.Cause.TheVariants.{Told}
-use Rattle.spv_classes.specs.declared.joins.Join.{Join}
-use Rattle.spv_classes.proofs.Lists.{of_push, get_left, get_push, get_within}
-use Rattle.spv_signatures.specs.Signatures.{Signature}
+use Rattle.spv_union_find.specs.declared.classes.joins.Cause.TheVariants.{Told}
+use Rattle.spv_union_find.specs.declared.classes.joins.Join.{Join}
+use Rattle.spv_union_find.proofs.classes.Lists.{of_push, get_left, get_push, get_within}
+use Rattle.spv_union_find.specs.signatures.Signatures.{Signature}
 use Rattle.spv_congruence.specs.declared.facts.Fact.{Fact}
 use Rattle.spv_congruence.specs.declared.facts.Equal.{Equal}
 use Rattle.spv_congruence.specs.Graph.{IsEarly, IsDue, IsEntered, IsLevel, Due, Waits}

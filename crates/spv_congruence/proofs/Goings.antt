@@ -4,14 +4,14 @@ use Rattle.std.proofs.lemmas.List.{append-nil, append_assoc}
 use Rattle.spv_logic.specs.declared.conditions.TermId.{TermId}
 use Rattle.spv_term.specs.declared.nodes.Node.{Node}
 use Rattle.spv_term.specs.Arena.{AllBelow}
-use Rattle.spv_classes.specs.declared.joins.Cause.{Cause}
-use Rattle.spv_classes.specs.declared.joins.Cause.TheVariants.{Congruent}
-use Rattle.spv_classes.specs.declared.joins.Join.{Join}
-use Rattle.spv_classes.specs.Classes.{Classes, label, size, join_of, AreJoins, IsJoin, HasMembers}
-use Rattle.spv_classes.proofs.Counts.{joins_few}
-use Rattle.spv_classes.proofs.Steps.{five, join_of-is}
-use Rattle.spv_classes.proofs.Lists.{get_left, get_push, get_within, same_or_apart}
-use Rattle.spv_signatures.specs.Signatures.{Signature}
+use Rattle.spv_union_find.specs.declared.classes.joins.Cause.{Cause}
+use Rattle.spv_union_find.specs.declared.classes.joins.Cause.TheVariants.{Congruent}
+use Rattle.spv_union_find.specs.declared.classes.joins.Join.{Join}
+use Rattle.spv_union_find.specs.classes.Classes.{Classes, label, size, join_of, AreJoins, IsJoin, HasMembers}
+use Rattle.spv_union_find.proofs.classes.Counts.{joins_few}
+use Rattle.spv_union_find.proofs.classes.Steps.{five, join_of-is}
+use Rattle.spv_union_find.proofs.classes.Lists.{get_left, get_push, get_within, same_or_apart}
+use Rattle.spv_union_find.specs.signatures.Signatures.{Signature}
 use Rattle.spv_congruence.specs.declared.facts.Equal.{Equal}
 use Rattle.spv_congruence.specs.Graph.{HasNode, IsEarly, IsDue, IsLevel, Waits, HasLabel, label_of, labels}
 use Rattle.spv_congruence.specs.Keep.{Kept, Fits, Enters, OtherTable, GoesOn, with_join, IsNow, IsNode, HasUsers, uses_at, signed}

@@ -4,9 +4,9 @@ use Rattle.std.proofs.lemmas.List.{append-nil, append_assoc, length-append, leng
 use Rattle.spv_logic.specs.declared.conditions.TermId.{TermId}
 use Rattle.spv_term.specs.declared.nodes.Node.{Node}
 use Rattle.spv_term.specs.Arena.{Arena}
-use Rattle.spv_classes.specs.declared.joins.Join.{Join}
-use Rattle.spv_classes.proofs.Lists.{get_left, get_within, got, same_or_apart, take_whole}
-use Rattle.spv_signatures.specs.Signatures.{Signature}
+use Rattle.spv_union_find.specs.declared.classes.joins.Join.{Join}
+use Rattle.spv_union_find.proofs.classes.Lists.{get_left, get_within, got, same_or_apart, take_whole}
+use Rattle.spv_union_find.specs.signatures.Signatures.{Signature}
 use Rattle.spv_congruence.specs.declared.facts.Fact.{Fact}
 use Rattle.spv_congruence.specs.declared.facts.Level.{Level}
 use Rattle.spv_congruence.specs.Graph.{Graph, HasNode, AreTerms, now_at}

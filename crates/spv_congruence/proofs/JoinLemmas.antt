@@ -2,13 +2,13 @@
 use Rattle.std.proofs.Common.{◌≡◌, ℕ, List, [], ◌∷◌, ◌++◌, map, take, slice_get, Option, Some, sym, ap, ◌∙◌, subst, inl, inr, ◌⊎◌, arith}
 use Rattle.spv_logic.specs.declared.conditions.TermId.{TermId}
 use Rattle.spv_term.specs.declared.nodes.Node.{Node}
-use Rattle.spv_classes.specs.declared.joins.Cause.{Cause}
-use Rattle.spv_classes.specs.declared.joins.Cause.TheVariants.{Told, Congruent}
-use Rattle.spv_classes.specs.declared.joins.Join.{Join}
-use Rattle.spv_classes.specs.Classes.{label, IsJoin}
-use Rattle.spv_classes.proofs.Lists.{of_push, get_left, get_within, take_push, take_whole}
-use Rattle.spv_classes.proofs.Labels.{label_was_lower, label_stays}
-use Rattle.spv_signatures.specs.Signatures.{Signature, held}
+use Rattle.spv_union_find.specs.declared.classes.joins.Cause.{Cause}
+use Rattle.spv_union_find.specs.declared.classes.joins.Cause.TheVariants.{Told, Congruent}
+use Rattle.spv_union_find.specs.declared.classes.joins.Join.{Join}
+use Rattle.spv_union_find.specs.classes.Classes.{label, IsJoin}
+use Rattle.spv_union_find.proofs.classes.Lists.{of_push, get_left, get_within, take_push, take_whole}
+use Rattle.spv_union_find.proofs.classes.Labels.{label_was_lower, label_stays}
+use Rattle.spv_union_find.specs.signatures.Signatures.{Signature, held}
 use Rattle.spv_congruence.specs.declared.facts.Fact.{Fact}
 use Rattle.spv_congruence.specs.declared.facts.Equal.{Equal}
 use Rattle.spv_congruence.specs.Graph.{id, label_of, HasNode, IsEarly, IsCause, IsLink, IsDue, IsEntered, IsLevel, Waits, HasLabel}

@@ -2,10 +2,10 @@
 use Rattle.std.proofs.Common.{◌≡◌, ℕ, ◌<◌, ◌≤◌, List, take, slice_get, Option, Some, arith}
 use Rattle.spv_logic.specs.declared.conditions.TermId.{TermId}
 use Rattle.spv_term.specs.declared.nodes.Node.{Node}
-use Rattle.spv_classes.specs.declared.joins.Cause.{Cause}
-use Rattle.spv_classes.specs.declared.joins.Cause.TheVariants.{Told, Congruent}
-use Rattle.spv_classes.specs.declared.joins.Join.{Join}
-use Rattle.spv_signatures.specs.Signatures.{Signature}
+use Rattle.spv_union_find.specs.declared.classes.joins.Cause.{Cause}
+use Rattle.spv_union_find.specs.declared.classes.joins.Cause.TheVariants.{Told, Congruent}
+use Rattle.spv_union_find.specs.declared.classes.joins.Join.{Join}
+use Rattle.spv_union_find.specs.signatures.Signatures.{Signature}
 use Rattle.spv_congruence.specs.declared.facts.Fact.{Fact}
 use Rattle.spv_congruence.specs.declared.facts.Equal.{Equal}
 use Rattle.spv_congruence.specs.Graph.{HasNode, IsEarly, AreCongruent, IsCause, IsRow, IsLink, IsDue, IsLevel}

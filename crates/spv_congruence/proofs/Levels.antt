@@ -1,9 +1,9 @@
 -- The levels of a graph, when a fact is told, when facts are taken back, and when terms are added and entered.
 use Rattle.std.proofs.Common.{◌≡◌, ◌≢◌, ℕ, ◌+◌, ◌<◌, ◌≤◌, List, [], ◌∷◌, ◌++◌, take, length, slice_get, sym, ap, ◌∙◌, subst, inl, inr, ◌⊎◌, arith}
 use Rattle.std.proofs.lemmas.List.{length-append, length_push, length-take-le, get_or_append_left, get_or_push, get_or-take, take-append-le, take-take, take_all}
-use Rattle.spv_classes.specs.declared.joins.Join.{Join}
-use Rattle.spv_classes.proofs.Lists.{get_left, get_take, same_or_apart}
-use Rattle.spv_signatures.specs.Signatures.{Signature, cells_of}
+use Rattle.spv_union_find.specs.declared.classes.joins.Join.{Join}
+use Rattle.spv_union_find.proofs.classes.Lists.{get_left, get_take, same_or_apart}
+use Rattle.spv_union_find.specs.signatures.Signatures.{Signature, cells_of}
 use Rattle.spv_congruence.specs.declared.facts.Fact.{Fact}
 use Rattle.spv_congruence.specs.declared.facts.Level.{Level}
 use Rattle.spv_congruence.specs.Graph.{Graph, IsLevel, Rises, IsUpTo, IsGraph, now_at, nowhere, level_at, joins_at, rows_at, terms_at}

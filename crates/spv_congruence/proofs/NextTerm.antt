@@ -5,14 +5,14 @@ use Rattle.std.proofs.lemmas.Bool.Decides.{nat_tests}
 use Rattle.std.proofs.lemmas.List.{length-append, length_push, take-append-le}
 use Rattle.spv_logic.specs.declared.conditions.TermId.{TermId}
 use Rattle.spv_term.specs.declared.nodes.Node.{Node}
-use Rattle.spv_classes.specs.declared.joins.Cause.TheVariants.{Congruent}
-use Rattle.spv_classes.specs.declared.joins.Join.{Join}
-use Rattle.spv_classes.specs.Classes.{label, size, join_of, AreJoins}
-use Rattle.spv_classes.proofs.Lists.{by_last, get_left, get_push, get_within, nat_apart}
-use Rattle.spv_classes.proofs.Labels.{label_stays, size_push, label_of_label}
-use Rattle.spv_classes.proofs.Circles.{ring}
-use Rattle.spv_classes.proofs.Steps.{five}
-use Rattle.spv_signatures.specs.Signatures.{Signature}
+use Rattle.spv_union_find.specs.declared.classes.joins.Cause.TheVariants.{Congruent}
+use Rattle.spv_union_find.specs.declared.classes.joins.Join.{Join}
+use Rattle.spv_union_find.specs.classes.Classes.{label, size, join_of, AreJoins}
+use Rattle.spv_union_find.proofs.classes.Lists.{by_last, get_left, get_push, get_within, nat_apart}
+use Rattle.spv_union_find.proofs.classes.Labels.{label_stays, size_push, label_of_label}
+use Rattle.spv_union_find.proofs.classes.Circles.{ring}
+use Rattle.spv_union_find.proofs.classes.Steps.{five}
+use Rattle.spv_union_find.specs.signatures.Signatures.{Signature}
 use Rattle.spv_congruence.specs.declared.facts.Fact.{Fact}
 use Rattle.spv_congruence.specs.Graph.{Graph, id, label_of, labels, HasNode, HasLabel, IsEarly, AreTerms, IsLink, IsLevel, Rises, IsUpTo, level_at, joins_at, rows_at, terms_at, weight, weight_of}
 use Rattle.spv_congruence.proofs.JoinLemmas.{label_early}

@@ -3,11 +3,11 @@ use Rattle.std.proofs.Common.{◌≡◌, ◌≢◌, ℕ, zero, suc, ◌+◌, ◌
 use Rattle.std.proofs.lemmas.List.{append-nil, length-map}
 use Rattle.spv_logic.specs.declared.conditions.TermId.{TermId}
 use Rattle.spv_term.specs.declared.nodes.Node.{Node}
-use Rattle.spv_classes.specs.declared.joins.Cause.TheVariants.{Congruent}
-use Rattle.spv_classes.specs.declared.joins.Join.{Join}
-use Rattle.spv_classes.specs.Classes.{Classes, join_of, IsJoin, AreJoins}
-use Rattle.spv_classes.proofs.Steps.{join_of-is}
-use Rattle.spv_signatures.specs.Signatures.{Signature, cells_of}
+use Rattle.spv_union_find.specs.declared.classes.joins.Cause.TheVariants.{Congruent}
+use Rattle.spv_union_find.specs.declared.classes.joins.Join.{Join}
+use Rattle.spv_union_find.specs.classes.Classes.{Classes, join_of, IsJoin, AreJoins}
+use Rattle.spv_union_find.proofs.classes.Steps.{join_of-is}
+use Rattle.spv_union_find.specs.signatures.Signatures.{Signature, cells_of}
 use Rattle.spv_congruence.specs.declared.facts.Equal.{Equal}
 use Rattle.spv_congruence.specs.Graph.{label_of, labels, HasNode, IsEarly, IsLevel, IsUpTo, weight, weight_of}
 use Rattle.spv_congruence.specs.Keep.{Kept, graph, Fits, Enters, OtherTable, GoesOn, IsNow, EntersNext, signed, with_join}

@@ -8,8 +8,8 @@ use Rattle.spv_term.specs.Arena.{Arena, IsArena}
 use Rattle.spv_term.proofs.NodeLemmas.{id_from}
 use Rattle.spv_term.proofs.ArenaLemmas.{args_before}
 use Rattle.spv_term.proofs.TreeLemmas.{AllBelow-at}
-use Rattle.spv_classes.proofs.Lists.{get_left, get_within, same_or_apart}
-use Rattle.spv_classes.proofs.Counts.{count_less}
+use Rattle.spv_union_find.proofs.classes.Lists.{get_left, get_within, same_or_apart}
+use Rattle.spv_union_find.proofs.classes.Counts.{count_less}
 use Rattle.spv_congruence.specs.Graph.{Graph, HasNode, IsEarly}
 use Rattle.spv_congruence.specs.Keep.{Kept, graph, HasPut, IsMissing, IsNode}
 use Rattle.spv_congruence.specs.Told.{IsPart, argument, AddsParts, IsOf}

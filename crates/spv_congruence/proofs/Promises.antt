@@ -1,11 +1,11 @@
 -- What the calls of a graph promise.
 use Rattle.std.proofs.Common.{◌≡◌, ◌≢◌, ℕ, ◌*◌, ◌<◌, ◌≤◌, List, [], ◌∷◌, ◌++◌, take, length, get_or, Result, Ok, Err, OnOk, refl, sym, ap, ◌∙◌, subst, inl, inr, ◌⊎◌, arith}
 use Rattle.std.proofs.lemmas.List.{append_assoc, append-nil, take_all, take-append-le, get_or_append_left, get_or_push}
-use Rattle.spv_classes.specs.declared.joins.Join.{Join}
-use Rattle.spv_classes.specs.Classes.{label, size, IsJoin, AreJoins}
-use Rattle.spv_classes.proofs.Lists.{by_last, same_or_apart, take_whole}
-use Rattle.spv_classes.proofs.Labels.{label_was_lower, label_stays, all_but_last, last_join}
-use Rattle.spv_classes.proofs.Circles.{size_upper, size_other}
+use Rattle.spv_union_find.specs.declared.classes.joins.Join.{Join}
+use Rattle.spv_union_find.specs.classes.Classes.{label, size, IsJoin, AreJoins}
+use Rattle.spv_union_find.proofs.classes.Lists.{by_last, same_or_apart, take_whole}
+use Rattle.spv_union_find.proofs.classes.Labels.{label_was_lower, label_stays, all_but_last, last_join}
+use Rattle.spv_union_find.proofs.classes.Circles.{size_upper, size_other}
 use Rattle.spv_congruence.specs.declared.facts.Fact.{Fact}
 use Rattle.spv_congruence.specs.declared.facts.Level.{Level}
 use Rattle.spv_congruence.specs.Graph.{IsGraph, now_at, nowhere, level_at, joins_at}

@@ -6,8 +6,8 @@ use Rattle.spv_term.specs.declared.nodes.Node.{Node}
 use Rattle.spv_term.specs.Arena.{AllBelow}
 use Rattle.spv_term.proofs.NodeLemmas.{id_from}
 use Rattle.spv_term.proofs.TreeLemmas.{AllBelow-le}
-use Rattle.spv_classes.proofs.Lists.{get_left, get_push, get_within, get_take, same_or_apart}
-use Rattle.spv_signatures.specs.Signatures.{cells_of}
+use Rattle.spv_union_find.proofs.classes.Lists.{get_left, get_push, get_within, get_take, same_or_apart}
+use Rattle.spv_union_find.specs.signatures.Signatures.{cells_of}
 use Rattle.spv_congruence.specs.declared.facts.Level.{Level}
 use Rattle.spv_congruence.specs.Graph.{Graph, HasNode, IsEarly, AreTerms, IsUpTo, IsGraph, nowhere, level_at, joins_at, rows_at, label_of, weight, weight_of, Waits}
 use Rattle.spv_congruence.specs.Keep.{Kept, graph, Fits, HasPut, KeepsUses, MakesRoom, IsPrepared, IsMissing, AreNodes, Puts, Adds, EntersNext, uses_at}

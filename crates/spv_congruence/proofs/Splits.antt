@@ -4,13 +4,13 @@ use Rattle.std.proofs.lemmas.List.{take_all}
 use Rattle.std.proofs.lemmas.Bool.{false≢true}
 use Rattle.std.proofs.lemmas.Bool.Decides.{nat_tests}
 use Rattle.spv_logic.specs.declared.conditions.TermId.{TermId}
-use Rattle.spv_classes.specs.declared.joins.Cause.{Cause}
-use Rattle.spv_classes.specs.declared.joins.Cause.TheVariants as cause
-use Rattle.spv_classes.specs.declared.joins.Join.{Join}
-use Rattle.spv_classes.specs.Classes.{label, one_label, count_of, IsJoin, AreJoins, IsLatest}
-use Rattle.spv_classes.proofs.Lists.{same_or_apart, nat_same, nat_apart}
-use Rattle.spv_classes.proofs.Labels.{one_label-lower, one_label-other}
-use Rattle.spv_classes.proofs.Moments.{label_next, same_later}
+use Rattle.spv_union_find.specs.declared.classes.joins.Cause.{Cause}
+use Rattle.spv_union_find.specs.declared.classes.joins.Cause.TheVariants as cause
+use Rattle.spv_union_find.specs.declared.classes.joins.Join.{Join}
+use Rattle.spv_union_find.specs.classes.Classes.{label, one_label, count_of, IsJoin, AreJoins, IsLatest}
+use Rattle.spv_union_find.proofs.classes.Lists.{same_or_apart, nat_same, nat_apart}
+use Rattle.spv_union_find.proofs.classes.Labels.{one_label-lower, one_label-other}
+use Rattle.spv_union_find.proofs.classes.Moments.{label_next, same_later}
 use Rattle.spv_congruence.specs.declared.facts.Fact.{Fact}
 use Rattle.spv_congruence.specs.declared.facts.Link.{Link}
 use Rattle.spv_congruence.specs.declared.explaining.Work.{Work}

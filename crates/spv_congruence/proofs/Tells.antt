@@ -3,9 +3,9 @@ use Rattle.std.proofs.Common.{◌≡◌, ℕ, zero, suc, ◌+◌, ◌<◌, ◌�
 use Rattle.std.proofs.lemmas.List.{length_push, length-take-le, take-append-drop, take-take, get_or-take, take_all, take-append-le, get_or_push}
 use Rattle.spv_logic.specs.declared.conditions.TermId.{TermId}
 use Rattle.spv_term.specs.declared.nodes.Node.{Node}
-use Rattle.spv_classes.specs.declared.joins.Join.{Join}
-use Rattle.spv_classes.proofs.Lists.{take_whole, of_push}
-use Rattle.spv_signatures.specs.Signatures.{Signature, cells_of}
+use Rattle.spv_union_find.specs.declared.classes.joins.Join.{Join}
+use Rattle.spv_union_find.proofs.classes.Lists.{take_whole, of_push}
+use Rattle.spv_union_find.specs.signatures.Signatures.{Signature, cells_of}
 use Rattle.spv_congruence.specs.declared.facts.Fact.{Fact}
 use Rattle.spv_congruence.specs.declared.facts.Level.{Level}
 use Rattle.spv_congruence.specs.declared.facts.Equal.{Equal}

@@ -1,9 +1,9 @@
 -- Explanations: links one behind the other from one term to another one.
 use Rattle.std.specs.Prelude.{◌≡◌, ◌≢◌, ℕ, suc, ◌+◌, ◌<◌, ◌≤◌, true, List, [], ◌∷◌, ◌++◌, take, length, slice_get, Some, ◌⊎◌, nat_eq, not, zero}
 use Rattle.spv_logic.specs.declared.conditions.TermId.{TermId}
-use Rattle.spv_classes.specs.declared.joins.Cause.{Cause}
-use Rattle.spv_classes.specs.declared.joins.Cause.TheVariants as cause
-use Rattle.spv_classes.specs.Classes.{count_of}
+use Rattle.spv_union_find.specs.declared.classes.joins.Cause.{Cause}
+use Rattle.spv_union_find.specs.declared.classes.joins.Cause.TheVariants as cause
+use Rattle.spv_union_find.specs.classes.Classes.{count_of}
 use Rattle.spv_congruence.specs.declared.facts.Fact.{Fact}
 use Rattle.spv_congruence.specs.declared.facts.Link.{Link}
 use Rattle.spv_congruence.specs.declared.facts.Link.TheVariants.{Told, Congruent}

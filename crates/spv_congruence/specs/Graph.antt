@@ -2,11 +2,11 @@
 use Rattle.std.specs.Prelude.{◌≡◌, ℕ, suc, ◌+◌, ◌<◌, ◌≤◌, Bool, true, List, [], ◌∷◌, map, take, length, slice_get, slice_index_or, Option, Some, None, nat_eq, ◌⊎◌}
 use Rattle.spv_logic.specs.declared.conditions.TermId.{TermId}
 use Rattle.spv_term.specs.declared.nodes.Node.{Node}
-use Rattle.spv_classes.specs.declared.joins.Cause.{Cause}
-use Rattle.spv_classes.specs.declared.joins.Cause.TheVariants.{Told, Congruent}
-use Rattle.spv_classes.specs.declared.joins.Join.{Join}
-use Rattle.spv_classes.specs.Classes.{label}
-use Rattle.spv_signatures.specs.Signatures.{Signature, held, cells_of}
+use Rattle.spv_union_find.specs.declared.classes.joins.Cause.{Cause}
+use Rattle.spv_union_find.specs.declared.classes.joins.Cause.TheVariants.{Told, Congruent}
+use Rattle.spv_union_find.specs.declared.classes.joins.Join.{Join}
+use Rattle.spv_union_find.specs.classes.Classes.{label}
+use Rattle.spv_union_find.specs.signatures.Signatures.{Signature, held, cells_of}
 use Rattle.spv_congruence.specs.declared.facts.Fact.{Fact}
 use Rattle.spv_congruence.specs.declared.facts.Level.{Level}
 use Rattle.spv_congruence.specs.declared.facts.Equal.{Equal}

@@ -4,10 +4,10 @@ use Rattle.spv_logic.specs.declared.conditions.TermId.{TermId}
 use Rattle.spv_logic.specs.declared.operators.Head.{Head}
 use Rattle.spv_term.specs.declared.nodes.Node.{Node}
 use Rattle.spv_term.specs.Arena.{AllBelow}
-use Rattle.spv_classes.specs.declared.joins.Cause.TheVariants.{Told}
-use Rattle.spv_classes.specs.declared.joins.Join.{Join}
-use Rattle.spv_classes.specs.Classes.{Classes}
-use Rattle.spv_signatures.specs.Signatures.{Signature, Table, held, cells_of}
+use Rattle.spv_union_find.specs.declared.classes.joins.Cause.TheVariants.{Told}
+use Rattle.spv_union_find.specs.declared.classes.joins.Join.{Join}
+use Rattle.spv_union_find.specs.classes.Classes.{Classes}
+use Rattle.spv_union_find.specs.signatures.Signatures.{Signature, Table, held, cells_of}
 use Rattle.spv_congruence.specs.declared.facts.Fact.{Fact}
 use Rattle.spv_congruence.specs.declared.facts.Level.{Level}
 use Rattle.spv_congruence.specs.declared.facts.Equal.{Equal}

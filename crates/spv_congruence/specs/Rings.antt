@@ -4,8 +4,8 @@ use Rattle.spv_logic.specs.declared.conditions.TermId.{TermId}
 use Rattle.spv_logic.specs.declared.operators.Head.{Head}
 use Rattle.spv_logic.specs.declared.operators.Head.TheVariants.{Num, True, False}
 use Rattle.spv_term.specs.declared.nodes.Node.{Node}
-use Rattle.spv_classes.specs.declared.joins.Join.{Join}
-use Rattle.spv_classes.specs.Classes.{next, size}
+use Rattle.spv_union_find.specs.declared.classes.joins.Join.{Join}
+use Rattle.spv_union_find.specs.classes.Classes.{next, size}
 use Rattle.spv_congruence.specs.Graph.{HasNode, label_of}
 use Rattle.spv_congruence.specs.Keep.{Kept}
 use Rattle.spv_congruence.specs.Clashes.{opposed}

@@ -3,8 +3,8 @@ use Rattle.std.specs.Prelude.{◌≡◌, ℕ, ◌*◌, ◌<◌, ◌≤◌, ◌�
 use Rattle.spv_logic.specs.declared.conditions.TermId.{TermId}
 use Rattle.spv_term.specs.declared.nodes.Node.{Node}
 use Rattle.spv_term.specs.Arena.{Arena, IsArena}
-use Rattle.spv_classes.specs.Classes.{size}
-use Rattle.spv_joined.specs.Joined.{JoinedIn}
+use Rattle.spv_union_find.specs.classes.Classes.{size}
+use Rattle.spv_term.specs.closure.Joined.{JoinedIn}
 use Rattle.spv_congruence.specs.declared.facts.Fact.{Fact}
 use Rattle.spv_congruence.specs.Graph.{Graph, HasNode, IsEarly, IsFact, are_same, label_of, joins_at, level_at}
 

@@ -3,7 +3,7 @@ use Rattle.std.specs.Prelude.{◌≡◌, ℕ, ◌+◌, ◌<◌, Bool, true, fals
 use Rattle.spv_logic.specs.declared.conditions.TermId.{TermId}
 use Rattle.spv_term.specs.declared.nodes.Node.{Node}
 use Rattle.spv_term.specs.Arena.{Arena}
-use Rattle.spv_classes.specs.Classes.{count_of}
+use Rattle.spv_union_find.specs.classes.Classes.{count_of}
 use Rattle.spv_congruence.specs.Keep.{Kept, graph, Adds, IsMissing}
 use Rattle.spv_congruence.specs.Told.{IsPart}
 

@@ -4,13 +4,13 @@ ghost use Rattle.std.specs.Prelude.{◌≡◌, ◌<◌, ◌≤◌, ◌+◌, ◌^
 ghost use Rattle.spv_logic.specs.declared.conditions.TermId.{TermId};
 ghost use Rattle.spv_term.specs.declared.nodes.Node.{Node};
 ghost use Rattle.spv_term.specs.Arena.{AllBelow, node};
-ghost use Rattle.spv_signatures.specs.Signatures.{cells_of};
+ghost use Rattle.spv_union_find.specs.signatures.Signatures.{cells_of};
 ghost use Rattle.spv_congruence.specs.Graph.{HasNode, IsGraph, Waits};
 ghost use Rattle.spv_congruence.specs.Keep.{graph, Adds, AreNodes, Fits, HasPut, IsMissing, IsPrepared, KeepsUses, MakesRoom, Puts, uses_at};
 
 use crate::kept::Kept;
-use spv_classes::Classes;
 use spv_term::{Arguments, Head, Node, TermId};
+use spv_union_find::classes::Classes;
 use std::alloc::{AllocError, Global};
 
 // Puts a node at a place, with none at the places in between.

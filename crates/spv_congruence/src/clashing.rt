@@ -5,7 +5,7 @@ ghost use Rattle.spv_logic.specs.declared.conditions.TermId.{TermId};
 ghost use Rattle.spv_congruence.specs.Clashes as spec;
 ghost use Rattle.spv_congruence.specs.Clashes.{AreOpposed, AreSeparate, Clashes};
 ghost use Rattle.spv_congruence.specs.Graph.{are_same, id, label_of};
-ghost use Rattle.spv_classes.specs.Classes.{size};
+ghost use Rattle.spv_union_find.specs.classes.Classes.{size};
 ghost use Rattle.spv_congruence.specs.Keep.{graph, Fits, IsNode};
 ghost use Rattle.spv_congruence.specs.Rings.{AgreesBehind, comparable_with, first_behind, opposed_to};
 ghost use Rattle.spv_congruence.specs.Rings as rings;

@@ -4,13 +4,13 @@ ghost use Rattle.std.specs.Prelude.{◌≡◌, ◌<◌, ◌≤◌, ◌+◌, suc,
 ghost use Rattle.std.specs.Vec.{vec_capacity};
 ghost use Rattle.spv_term.specs.declared.nodes.Node.{Node};
 ghost use Rattle.spv_term.specs.Arena.{AllBelow};
-ghost use Rattle.spv_signatures.specs.Signatures.{cells_of};
+ghost use Rattle.spv_union_find.specs.signatures.Signatures.{cells_of};
 ghost use Rattle.spv_congruence.specs.Graph.{HasNode, labels};
 ghost use Rattle.spv_congruence.specs.Keep.{IsNode, Fits, Enters, OtherTable, first_for};
 
 use crate::kept::{Kept, node_of};
-use spv_classes::Classes;
 use spv_term::{Node, TermId};
+use spv_union_find::classes::Classes;
 use std::alloc::AllocError;
 
 // Writes the labels of a term's arguments into a list that has memory for them.

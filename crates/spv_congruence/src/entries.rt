@@ -3,14 +3,14 @@
 ghost use Rattle.std.specs.Prelude.{◌≡◌, ◌<◌, ◌≤◌, ◌+◌, suc, drop, length, slice_get, Some};
 ghost use Rattle.spv_logic.specs.declared.conditions.TermId.{TermId};
 ghost use Rattle.spv_term.specs.declared.nodes.Node.{Node};
-ghost use Rattle.spv_signatures.specs.Signatures.{cells_of};
+ghost use Rattle.spv_union_find.specs.signatures.Signatures.{cells_of};
 ghost use Rattle.spv_congruence.specs.Graph.{HasNode, IsUpTo, weight_of};
 ghost use Rattle.spv_congruence.specs.Keep.{graph, Fits, EntersNext, EntersRest};
 
 use crate::facts::Equal;
 use crate::kept::Kept;
-use spv_classes::Cause;
 use spv_term::TermId;
+use spv_union_find::classes::Cause;
 
 // The term at a place.
 pub(crate) fn term_at(terms: &[TermId], place: usize) -> TermId

@@ -1,7 +1,7 @@
 // Explaining why two terms are the same.
 
 ghost use Rattle.std.specs.Prelude.{◌≡◌, ◌≢◌, ◌<◌, ◌≤◌, ◌++◌, [], ◌∷◌, length, nat_eq, IfOk, OnOk, Some, slice_get, take};
-ghost use Rattle.spv_classes.specs.Classes.{IsLatest};
+ghost use Rattle.spv_union_find.specs.classes.Classes.{IsLatest};
 ghost use Rattle.spv_congruence.specs.Graph.{IsGraph, label_of};
 ghost use Rattle.spv_congruence.specs.Keep.{graph, Fits, IsNode};
 ghost use Rattle.spv_congruence.specs.Explained.{AreWorks, Done, Explains, IsCauseLink, IsSplit, IsWork, PlaceWithin};
@@ -9,8 +9,8 @@ ghost use Rattle.spv_congruence.specs.declared.explaining.Work.TheVariants.{Betw
 
 use crate::facts::{Fact, Link};
 use crate::kept::Kept;
-use spv_classes::{Cause, Join};
 use spv_term::TermId;
+use spv_union_find::classes::{Cause, Join};
 use std::alloc::AllocError;
 
 /// What is still to be done.

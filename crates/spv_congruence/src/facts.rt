@@ -1,7 +1,7 @@
 // What is told, and how far a graph was.
 
-use spv_classes::Cause;
 use spv_term::TermId;
+use spv_union_find::classes::Cause;
 
 /// What was told of two terms: that they are equal, or that they are separate.
 #[derive(Clone, Copy, Debug)]

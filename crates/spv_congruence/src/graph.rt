@@ -10,9 +10,9 @@ ghost use Rattle.spv_congruence.specs.Told.{AddsParts, IsExact, IsOf, Joins, Und
 
 use crate::facts::{Fact, Link};
 use crate::kept::Kept;
-use spv_classes::Classes;
-use spv_signatures::Signatures;
 use spv_term::{TermId, Terms};
+use spv_union_find::classes::Classes;
+use spv_union_find::signatures::Signatures;
 use std::alloc::{AllocError, Global};
 use std::marker::Model;
 

@@ -2,14 +2,14 @@
 
 ghost use Rattle.std.specs.Prelude.{◌≡◌, ◌≢◌, ◌<◌, ◌≤◌, ◌++◌, [], ◌∷◌, suc, List, IfOk, OnOk, IfSome, IfNone, length, map};
 ghost use Rattle.spv_logic.specs.declared.conditions.TermId.{TermId};
-ghost use Rattle.spv_classes.specs.Classes.{label, join_of, IsJoin, HasMembers};
+ghost use Rattle.spv_union_find.specs.classes.Classes.{label, join_of, IsJoin, HasMembers};
 ghost use Rattle.spv_congruence.specs.Graph.{label_of};
 ghost use Rattle.spv_congruence.specs.Keep.{Fits, GoesOn, HasUsers, IsNow, uses_at, with_join};
 
 use crate::facts::Equal;
 use crate::kept::{Kept, is_node};
-use spv_classes::{Cause, Join};
 use spv_term::TermId;
+use spv_union_find::classes::{Cause, Join};
 use std::alloc::AllocError;
 
 // Adds the terms that use a term.

@@ -2,15 +2,15 @@
 
 ghost use Rattle.std.specs.Prelude.{◌≡◌, ◌<◌, ◌≤◌, false, IsTrue, length};
 ghost use Rattle.spv_term.specs.declared.nodes.Node.{Node};
-ghost use Rattle.spv_classes.specs.Classes.{AreJoins};
-ghost use Rattle.spv_signatures.specs.Signatures.{cells_of};
+ghost use Rattle.spv_union_find.specs.classes.Classes.{AreJoins};
+ghost use Rattle.spv_union_find.specs.signatures.Signatures.{cells_of};
 ghost use Rattle.spv_congruence.specs.Graph.{HasNode, label_of};
 ghost use Rattle.spv_congruence.specs.Keep.{IsNode};
 
 use crate::facts::{Fact, Level};
-use spv_classes::Classes;
-use spv_signatures::Signatures;
 use spv_term::{Node, TermId};
+use spv_union_find::classes::Classes;
+use spv_union_find::signatures::Signatures;
 use std::marker::Model;
 
 /// The terms by their ids, with all that is known of them.

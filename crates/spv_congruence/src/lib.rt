@@ -16,4 +16,4 @@ mod walking;
 
 pub use facts::{Fact, Level, Link};
 pub use graph::{ClassId, Graph, Mark};
-pub use spv_classes::Cause;
+pub use spv_union_find::classes::Cause;

@@ -6,7 +6,7 @@ ghost use Rattle.spv_congruence.specs.Keep.{graph, Fits, with_fact, equal_of, Is
 
 use crate::facts::{Equal, Fact, Level};
 use crate::kept::Kept;
-use spv_classes::Cause;
+use spv_union_find::classes::Cause;
 use std::alloc::AllocError;
 
 // How far a graph was when it had so many facts.

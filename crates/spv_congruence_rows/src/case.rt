@@ -6,8 +6,8 @@ ghost use Rattle.spv_logic.specs.declared.types.Sort.TheVariants as sort;
 ghost use Rattle.spv_term.specs.Arena.{Arena, sort_at};
 
 use crate::play::{Step, do_steps};
-use spv_list::List;
-use spv_names::Symbol;
+use spv_logic::list::List;
+use spv_logic::names::Symbol;
 use spv_term::{Head, Shapes, Sort, TermFault, TermId, Terms};
 use std::alloc::{AllocError, Global};
 

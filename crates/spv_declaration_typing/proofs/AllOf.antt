@@ -4,8 +4,8 @@ use Rattle.std.proofs.Math.Seq.{drop-cons}
 use Rattle.std.proofs.lemmas.List.{append_assoc, append-nil, drop_all}
 use Rattle.spv_typing.specs.declared.faults.TypeFault.{TypeFault}
 use Rattle.spv_typing.specs.Outcomes.{Outcome, after, all_of}
-use Rattle.spv_scopes.specs.Answers.{Stops}
-use Rattle.spv_type_typing.proofs.Each.{stops_after}
+use Rattle.spv_environments.specs.Answers.{Stops}
+use Rattle.spv_declaration_typing.proofs.type_typing.Each.{stops_after}
 
 -- one more value, put behind those that are done
 one_more : {A : Type 0} (o : Outcome (List A)) (done : List A) (x : A)

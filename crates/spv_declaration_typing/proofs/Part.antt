@@ -3,18 +3,18 @@ use Rattle.std.proofs.Common.{◌≡◌, ℕ, suc, ◌<◌, ◌≤◌, ◌+◌, 
 use Rattle.std.specs.List.{list_any}
 use Rattle.std.proofs.lemmas.List.{append-nil, drop_all}
 use Rattle.std.proofs.Math.Seq.{drop-cons}
-use Rattle.spv_names.specs.declared.names.Symbol.{Symbol}
-use Rattle.spv_syntax.specs.declared.declarations.Typedef.{Typedef}
+use Rattle.spv_logic.specs.declared.names.names.Symbol.{Symbol}
+use Rattle.spv_tree.specs.declared.syntax.declarations.Typedef.{Typedef}
 use Rattle.spv_program.specs.Lists.{found, first_of, same_name}
 use Rattle.spv_typing.specs.declared.faults.TypeFault.{TypeFault}
 use Rattle.spv_typing.specs.Outcomes.{Outcome, after, each}
 use Rattle.spv_typing.specs.Merging.{Built}
 use Rattle.spv_typing.specs.Known.{Known}
 use Rattle.spv_typing.specs.DeclarationWalk as spec
-use Rattle.spv_scopes.specs.Answers.{Stops}
-use Rattle.spv_merging.specs.declared.written.Written.{Written}
-use Rattle.spv_type_typing.proofs.Each.{stops_after}
-use Rattle.spv_type_typing.proofs.NewFields.{found_append}
+use Rattle.spv_environments.specs.Answers.{Stops}
+use Rattle.spv_declaration_typing.specs.declared.pointer_types.written.Written.{Written}
+use Rattle.spv_declaration_typing.proofs.type_typing.Each.{stops_after}
+use Rattle.spv_declaration_typing.proofs.type_typing.NewFields.{found_append}
 use Rattle.spv_declaration_typing.specs.Parts.{part_of, is_in}
 
 abbrev named_so : Symbol → Typedef → Bool

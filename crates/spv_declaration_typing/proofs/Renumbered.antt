@@ -1,11 +1,11 @@
 -- Values under names, changed one after the other.
 use Rattle.std.proofs.Common.{◌≡◌, ℕ, zero, suc, ◌≤◌, ◌+◌, List, [], ◌∷◌, map, length, Some, slice_get, refl, sym, ap, ◌∙◌, arith}
-use Rattle.spv_names.specs.declared.names.Symbol.{Symbol}
+use Rattle.spv_logic.specs.declared.names.names.Symbol.{Symbol}
 use Rattle.spv_logic.specs.declared.types.TypeId.{TypeId}
-use Rattle.spv_named.specs.Entries.{with_value}
+use Rattle.spv_program.specs.ordered_map.Entries.{with_value}
 use Rattle.spv_typing.specs.Known.{Known}
 use Rattle.spv_typing.specs.DeclarationWalk.{with_program, with_types}
-use Rattle.spv_type_typing.proofs.Entries.{pair}
+use Rattle.spv_declaration_typing.proofs.type_typing.Entries.{pair}
 
 module _ {X : Type 0} (f : X → X) where
   abbrev pub changed : Symbol × X → Symbol × X

@@ -2,25 +2,25 @@
 use Rattle.std.proofs.Common.{◌≡◌, ℕ, ◌≤◌, ◌+◌, List, [], ◌∷◌, ◌++◌, map, take, length, Some, None, Result, Ok, Err, slice_get, sym, ap, ◌∙◌, subst}
 use Rattle.std.specs.Result.{IfOk}
 use Rattle.std.proofs.lemmas.List.{append_assoc, append-nil, map-append, take_all}
-use Rattle.spv_names.specs.declared.names.Symbol.{Symbol}
+use Rattle.spv_logic.specs.declared.names.names.Symbol.{Symbol}
 use Rattle.spv_logic.specs.declared.types.TypeId.{TypeId}
-use Rattle.spv_syntax.specs.declared.lists.Several.{Several}
-use Rattle.spv_syntax.specs.declared.names.Name.{Name}
-use Rattle.spv_syntax.specs.declared.declarations.Vars.{Vars}
+use Rattle.spv_tree.specs.declared.syntax.lists.Several.{Several}
+use Rattle.spv_tree.specs.declared.syntax.names.Name.{Name}
+use Rattle.spv_tree.specs.declared.syntax.declarations.Vars.{Vars}
 use Rattle.spv_program.specs.Lists.{found}
 use Rattle.spv_typing.specs.declared.faults.TypeFault.{TypeFault}
 use Rattle.spv_typing.specs.Outcomes.{Outcome, after, each}
 use Rattle.spv_typing.specs.Known.{Known, at_top, is_free}
 use Rattle.spv_typing.specs.TypeWalk.{all_names}
 use Rattle.spv_typing.specs.DeclarationWalk as spec
-use Rattle.spv_scopes.specs.Answers.{Stops}
-use Rattle.spv_scopes.proofs.Free.{no_variable}
-use Rattle.spv_type_typing.specs.Names.{only_names}
-use Rattle.spv_type_typing.specs.Fields.{NoneThere, under}
-use Rattle.spv_type_typing.proofs.Each.{stops_after}
-use Rattle.spv_type_typing.proofs.NewFields.{all_new, none_there, next_missing, take_one}
-use Rattle.spv_settling.specs.declared.settling.NewType.{NewType}
-use Rattle.spv_settling.specs.Types.{settled}
+use Rattle.spv_environments.specs.Answers.{Stops}
+use Rattle.spv_environments.proofs.Free.{no_variable}
+use Rattle.spv_declaration_typing.specs.type_typing.Names.{only_names}
+use Rattle.spv_declaration_typing.specs.type_typing.Fields.{NoneThere, under}
+use Rattle.spv_declaration_typing.proofs.type_typing.Each.{stops_after}
+use Rattle.spv_declaration_typing.proofs.type_typing.NewFields.{all_new, none_there, next_missing, take_one}
+use Rattle.spv_declaration_typing.specs.declared.canonical_types.settling.NewType.{NewType}
+use Rattle.spv_declaration_typing.specs.canonical_types.Types.{settled}
 
 abbrev with_these : Known → List (Symbol × TypeId) → Known
 with_these k more = spec.with_program k (spec.with_variables k.program k.program.forms more)

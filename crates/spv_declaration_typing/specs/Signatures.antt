@@ -1,10 +1,10 @@
 -- The sorts of a declared symbol.
 use Rattle.std.specs.Prelude.{Ok}
-use Rattle.spv_syntax.specs.declared.declarations.SymbolText.{SymbolText}
+use Rattle.spv_tree.specs.declared.syntax.declarations.SymbolText.{SymbolText}
 use Rattle.spv_typing.specs.Outcomes.{Outcome, after, all_of}
 use Rattle.spv_typing.specs.Known.{Known}
 use Rattle.spv_typing.specs.DeclarationWalk.{sort_walk, sorts_in_brackets}
-use Rattle.spv_scopes.specs.declared.known.Signature.{Signature}
+use Rattle.spv_environments.specs.declared.known.Signature.{Signature}
 
 abbrev pub signature_walk : Known → SymbolText → Outcome Signature
 signature_walk k d =

@@ -2,14 +2,14 @@
 
 ghost use Rattle.std.specs.Prelude.{◌≡◌, Ok, IfErr, OnOk};
 ghost use Rattle.spv_typing.specs.DeclarationWalk as spec;
-ghost use Rattle.spv_scopes.specs.Answers.{Stops};
+ghost use Rattle.spv_environments.specs.Answers.{Stops};
 
 use crate::constants::const_part;
 use crate::symbols::symbol_part;
 use crate::types::type_part;
 use crate::variables::var_part;
-use spv_scopes::Known;
-use spv_syntax::Declarations;
+use spv_environments::Known;
+use spv_tree::syntax::Declarations;
 use spv_typing::TypeFault;
 use std::alloc::Global;
 

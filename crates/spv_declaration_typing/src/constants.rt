@@ -5,12 +5,12 @@ ghost use Rattle.spv_typing.specs.Outcomes.{each};
 ghost use Rattle.spv_typing.specs.Known.{at_top};
 ghost use Rattle.spv_typing.specs.TypeWalk as types;
 ghost use Rattle.spv_typing.specs.DeclarationWalk as spec;
-ghost use Rattle.spv_scopes.specs.Answers.{Stops};
+ghost use Rattle.spv_environments.specs.Answers.{Stops};
 
-use spv_named::Named;
-use spv_scopes::{Known, Own, Scope};
-use spv_syntax::{Const, Constant};
-use spv_type_typing::constant;
+use crate::type_typing::constant;
+use spv_environments::{Known, Own, Scope};
+use spv_program::ordered_map::Named;
+use spv_tree::syntax::{Const, Constant};
 use spv_typing::TypeFault;
 use std::alloc::Global;
 
@@ -29,7 +29,7 @@ fn constant_at_top(known: &Known, alloc: Global, tree: &Constant) -> Result<i64,
     constant(&scope, tree)
 }
 
-#[tactic(auto, using(spv_scopes::proofs::Free::no_constant))]
+#[tactic(auto, using(spv_environments::proofs::Free::no_constant))]
 fn const_walk(known: &mut Known, alloc: Global, tree: &Const) -> Result<(), TypeFault>
     ensures ok { OnOk result (spec.const_walk known.old tree.now ≡ Ok known.new) }
     ensures err { IfErr result (λ e. Stops e (spec.const_walk known.old tree.now)) }

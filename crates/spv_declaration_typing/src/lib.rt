@@ -2,8 +2,11 @@
 #![tactic(auto)]
 
 mod all;
+pub mod canonical_types;
 mod constants;
+pub mod pointer_types;
 mod symbols;
+pub mod type_typing;
 mod types;
 pub mod variables;
 

@@ -5,13 +5,13 @@ ghost use Rattle.spv_typing.specs.Outcomes.{each, all_of};
 ghost use Rattle.spv_typing.specs.Known.{at_top, meaning};
 ghost use Rattle.spv_typing.specs.TypeWalk.{all_names};
 ghost use Rattle.spv_typing.specs.DeclarationWalk as spec;
-ghost use Rattle.spv_scopes.specs.Answers.{Stops};
+ghost use Rattle.spv_environments.specs.Answers.{Stops};
 ghost use Rattle.spv_declaration_typing.specs.Signatures.{signature_walk};
 
-use spv_list::List;
+use spv_environments::{Known, Meaning, Signature};
+use spv_logic::list::List;
 use spv_logic::{Sort, TypeId};
-use spv_scopes::{Known, Meaning, Signature};
-use spv_syntax::{Name, NameOrClass, Several, SortName, SymbolText};
+use spv_tree::syntax::{Name, NameOrClass, Several, SortName, SymbolText};
 use spv_typing::TypeFault;
 use std::alloc::{AllocError, Global};
 

@@ -2,24 +2,24 @@
 
 ghost use Rattle.std.specs.Prelude.{◌≡◌, ◌||◌, Ok, IfOk, IfErr, OnOk, map};
 ghost use Rattle.std.specs.List.{list_any};
-ghost use Rattle.spv_names.specs.declared.names.Symbol.{Symbol as SymbolText};
+ghost use Rattle.spv_logic.specs.declared.names.names.Symbol.{Symbol as SymbolText};
 ghost use Rattle.spv_program.specs.Lists.{same_name};
 ghost use Rattle.spv_typing.specs.Outcomes.{each};
 ghost use Rattle.spv_typing.specs.Merging.{renumbered};
 ghost use Rattle.spv_typing.specs.Known.{at_top};
 ghost use Rattle.spv_typing.specs.TypeWalk as types;
 ghost use Rattle.spv_typing.specs.DeclarationWalk as spec;
-ghost use Rattle.spv_scopes.specs.Answers.{Stops};
-ghost use Rattle.spv_merging.specs.Counting.{all_firsts};
-ghost use Rattle.spv_settling.specs.Types.{types_with};
+ghost use Rattle.spv_environments.specs.Answers.{Stops};
+ghost use Rattle.spv_declaration_typing.specs.pointer_types.Counting.{all_firsts};
+ghost use Rattle.spv_declaration_typing.specs.canonical_types.Types.{types_with};
 ghost use Rattle.spv_declaration_typing.specs.Parts.{part_of, is_in};
 
+use crate::pointer_types::{Merged, Renumbering, Written, merge, whole};
+use crate::type_typing::{Targets, denoted};
+use spv_environments::{Known, Own, Scope};
 use spv_logic::TypeId;
-use spv_merging::{Merged, Renumbering, Written, merge, whole};
-use spv_named::Named;
-use spv_scopes::{Known, Own, Scope};
-use spv_syntax::{Name, TypeDenoter, Typedef};
-use spv_type_typing::{Targets, denoted};
+use spv_program::ordered_map::Named;
+use spv_tree::syntax::{Name, TypeDenoter, Typedef};
 use spv_typing::TypeFault;
 use std::alloc::{AllocError, Global};
 
@@ -66,7 +66,7 @@ fn type_at_top(
     denoted(&scope, Targets::Part(names), alloc, new, tree)
 }
 
-#[tactic(auto, using(spv_scopes::proofs::Free::no_type))]
+#[tactic(auto, using(spv_environments::proofs::Free::no_type))]
 fn typedef_walk(
     known: &mut Known,
     names: &Named<u32>,

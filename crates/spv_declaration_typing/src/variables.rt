@@ -5,18 +5,18 @@ ghost use Rattle.spv_typing.specs.Outcomes.{each};
 ghost use Rattle.spv_typing.specs.Known as known_names;
 ghost use Rattle.spv_typing.specs.TypeWalk.{all_names};
 ghost use Rattle.spv_typing.specs.DeclarationWalk as spec;
-ghost use Rattle.spv_scopes.specs.Answers.{Stops};
-ghost use Rattle.spv_type_typing.specs.Names.{only_names};
-ghost use Rattle.spv_type_typing.specs.Fields.{NoneThere, under};
-ghost use Rattle.spv_settling.specs.Types.{settled};
+ghost use Rattle.spv_environments.specs.Answers.{Stops};
+ghost use Rattle.spv_declaration_typing.specs.type_typing.Names.{only_names};
+ghost use Rattle.spv_declaration_typing.specs.type_typing.Fields.{NoneThere, under};
+ghost use Rattle.spv_declaration_typing.specs.canonical_types.Types.{settled};
 
+use crate::canonical_types::{NewType, read_type, settle};
+use crate::type_typing::{Free, new_names};
+use spv_environments::{Known, Own, Scope};
 use spv_logic::TypeId;
-use spv_named::Named;
-use spv_names::Symbol;
-use spv_scopes::{Known, Own, Scope};
-use spv_settling::{NewType, read_type, settle};
-use spv_syntax::{Name, Several, TypeDenoter, Vars};
-use spv_type_typing::{Free, new_names};
+use spv_logic::names::Symbol;
+use spv_program::ordered_map::Named;
+use spv_tree::syntax::{Name, Several, TypeDenoter, Vars};
 use spv_typing::TypeFault;
 use std::alloc::{AllocError, Global};
 

@@ -3,13 +3,13 @@ use Rattle.std.proofs.Common.{◌≡◌, ◌≢◌, ℕ, ◌+◌, ◌<◌, Bool,
 use Rattle.std.proofs.lemmas.Bool.{false≢true}
 use Rattle.std.proofs.lemmas.List.{get_or-set_same, get_or-set_other, length-set}
 use mathlib.Core.Path.{ap₂}
-use Rattle.spv_rational.specs.Rational.{Rational, plus, times, opposite, is_zero}
-use Rattle.spv_rational.proofs.Field.{plus_zero, zero_plus, plus_opposite, zero_times}
-use Rattle.spv_tableaux.specs.declared.side.Side.{Side}
-use Rattle.spv_tableaux.specs.Numbers.{nothing, one, minus_one, inverse, divided}
-use Rattle.spv_tableaux.specs.Solved.{is_basic, Entries, exchanged, solved_for, pivot}
-use Rattle.spv_pivots.proofs.Algebra.{minus_one_is, minus_one_times, opposite_times, opposite_opposite, opposite_nothing, nothing_divided, divided_itself}
-use Rattle.spv_pivots.proofs.Sums.{eq_is, eq_self, eq_flip}
+use Rattle.spv_frac.specs.rational.Rational.{Rational, plus, times, opposite, is_zero}
+use Rattle.spv_frac.proofs.rational.Field.{plus_zero, zero_plus, plus_opposite, zero_times}
+use Rattle.spv_tableau_rules.specs.declared.tableaux.side.Side.{Side}
+use Rattle.spv_tableau_rules.specs.tableaux.Numbers.{nothing, one, minus_one, inverse, divided}
+use Rattle.spv_tableau_rules.specs.tableaux.Solved.{is_basic, Entries, exchanged, solved_for, pivot}
+use Rattle.spv_tableau_rules.proofs.pivots.Algebra.{minus_one_is, minus_one_times, opposite_times, opposite_opposite, opposite_nothing, nothing_divided, divided_itself}
+use Rattle.spv_tableau_rules.proofs.pivots.Sums.{eq_is, eq_self, eq_flip}
 use Rattle.spv_dictionary.specs.declared.spot.Spot.{Spot}
 use Rattle.spv_dictionary.specs.declared.spot.Spot.TheVariants as spot
 use Rattle.spv_dictionary.specs.Cells.{cell}

@@ -3,8 +3,8 @@ use Rattle.std.proofs.Common.{◌≡◌, ℕ, ◌+◌, ◌-◌, ◌<◌, Bool, t
 use Rattle.std.proofs.lemmas.Bool.Decides.{nat_tests}
 use Rattle.std.proofs.lemmas.List.{length-replicate, get_or_append_left, get_or-append-add, length-append}
 use mathlib.Core.Path.{ap₂}
-use Rattle.spv_rational.specs.Rational.{Rational}
-use Rattle.spv_tableaux.specs.Numbers.{nothing}
+use Rattle.spv_frac.specs.rational.Rational.{Rational}
+use Rattle.spv_tableau_rules.specs.tableaux.Numbers.{nothing}
 use Rattle.spv_dictionary.specs.declared.spot.Spot.TheVariants as spot
 use Rattle.spv_dictionary.specs.Dictionary.{Dictionary, IsDictionary, IsSpot, IsColumn, first, spot_of, basic_at, outside_at, slots_to, rows_to}
 use Rattle.spv_dictionary.proofs.Lists.{length_listed, get_listed}

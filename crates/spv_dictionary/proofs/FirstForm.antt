@@ -3,10 +3,10 @@ use Rattle.std.proofs.Common.{◌≡◌, ℕ, ◌+◌, ◌-◌, ◌<◌, Bool, t
 use Rattle.std.proofs.lemmas.Bool.{false≢true}
 use Rattle.std.proofs.lemmas.Bool.Decides.{nat_tests}
 use mathlib.Core.Path.{ap₂}
-use Rattle.spv_rational.specs.Rational.{Rational}
-use Rattle.spv_tableaux.specs.Numbers.{nothing, minus_one}
-use Rattle.spv_tableaux.specs.Rows.{Rows, columns}
-use Rattle.spv_tableaux.specs.Solved.{is_basic, row_places, row_entries}
+use Rattle.spv_frac.specs.rational.Rational.{Rational}
+use Rattle.spv_tableau_rules.specs.tableaux.Numbers.{nothing, minus_one}
+use Rattle.spv_tableau_rules.specs.tableaux.Rows.{Rows, columns}
+use Rattle.spv_tableau_rules.specs.tableaux.Solved.{is_basic, row_places, row_entries}
 use Rattle.spv_dictionary.specs.declared.spot.Spot.TheVariants as spot
 use Rattle.spv_dictionary.specs.Cells.{cell}
 use Rattle.spv_dictionary.specs.Dictionary.{Dictionary, first, spot_of, entry_between, entries, place_of, places}

@@ -1,8 +1,8 @@
 -- An exchange as it is made.
 use Rattle.std.proofs.Common.{◌≡◌, ℕ, ◌<◌, Bool, true, false, List, [], length, nat_eq, slice_index_or, slice_set, refl, sym, ap, ◌∙◌, subst}
 use Rattle.std.proofs.lemmas.List.{get_or-set_same, get_or-set_other, length-set}
-use Rattle.spv_rational.specs.Rational.{Rational, is_zero}
-use Rattle.spv_pivots.proofs.Sums.{eq_is}
+use Rattle.spv_frac.specs.rational.Rational.{Rational, is_zero}
+use Rattle.spv_tableau_rules.proofs.pivots.Sums.{eq_is}
 use Rattle.spv_dictionary.specs.Cells.{cell}
 use Rattle.spv_dictionary.specs.Dictionary.{Dictionary, IsDictionary, basic_at, outside_at, row_at}
 use Rattle.spv_dictionary.specs.Exchanges.{solved_at, mixed_at, exchanged_spots, IsExchanged}

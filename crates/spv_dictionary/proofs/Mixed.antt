@@ -2,12 +2,12 @@
 use Rattle.std.proofs.Common.{◌≡◌, ℕ, ◌+◌, ◌<◌, ◌≤◌, Bool, true, false, List, [], length, nat_eq, slice_index_or, slice_set, Result, Ok, Err, IfErr, refl, sym, ap, ◌∙◌, subst, arith, if◌then◌else◌}
 use Rattle.std.proofs.lemmas.List.{get_or_default, get_or-set_same, get_or-set_other, length-set}
 use mathlib.Core.Path.{ap₂}
-use Rattle.spv_rational.specs.Rational.{Rational, plus, times, opposite, is_zero}
-use Rattle.spv_rational.proofs.Field.{plus_zero, times_zero, zero_times}
-use Rattle.spv_rational.proofs.Signs.{zero_is}
-use Rattle.spv_tableaux.specs.Numbers.{nothing, one, divided}
-use Rattle.spv_tableaux.specs.Operations.{Operation}
-use Rattle.spv_pivots.proofs.Sums.{eq_is}
+use Rattle.spv_frac.specs.rational.Rational.{Rational, plus, times, opposite, is_zero}
+use Rattle.spv_frac.proofs.rational.Field.{plus_zero, times_zero, zero_times}
+use Rattle.spv_frac.proofs.rational.Signs.{zero_is}
+use Rattle.spv_tableau_rules.specs.tableaux.Numbers.{nothing, one, divided}
+use Rattle.spv_tableau_rules.specs.tableaux.Operations.{Operation}
+use Rattle.spv_tableau_rules.proofs.pivots.Sums.{eq_is}
 use Rattle.spv_dictionary.specs.Cells.{cell}
 use Rattle.spv_dictionary.specs.Exchanges.{solved_at, mixed_at}
 use Rattle.spv_dictionary.specs.Mixing.{mixed, can_mix, IsSolved, is_idle, IsRowMixing, IsRowsMixing, CanMixRow, CanMixTo, MixedTo, IsMixedAt, IsMixed, number_row, CanMixRowsTo, CanMixRows, IsMixedRow, AreMixedTo, AreWide}

@@ -1,15 +1,15 @@
 -- What is refused is an operation of the pivot.
 use Rattle.std.proofs.Common.{◌≡◌, ℕ, ◌<◌, Bool, true, false, List, length, nat_eq, refl, sym, ap, ◌∙◌, subst}
 use mathlib.Core.Path.{ap₂}
-use Rattle.spv_rational.specs.Rational.{Rational, times, opposite}
+use Rattle.spv_frac.specs.rational.Rational.{Rational, times, opposite}
 use Rattle.spv_frac.specs.declared.frac.Op.TheVariants.{Add, Mul, Div}
-use Rattle.spv_tableaux.specs.Numbers.{one, minus_one, inverse, divided}
-use Rattle.spv_tableaux.specs.Rows.{Rows, columns}
-use Rattle.spv_tableaux.specs.Solved.{is_basic, Entries, solved_for}
-use Rattle.spv_tableaux.specs.Operations.{Operation, operation, Pivots}
-use Rattle.spv_tableaux.specs.Operations as pivots
-use Rattle.spv_pivots.proofs.Algebra.{minus_one_is, opposite_times, opposite_opposite}
-use Rattle.spv_pivots.proofs.Sums.{eq_is, eq_self}
+use Rattle.spv_tableau_rules.specs.tableaux.Numbers.{one, minus_one, inverse, divided}
+use Rattle.spv_tableau_rules.specs.tableaux.Rows.{Rows, columns}
+use Rattle.spv_tableau_rules.specs.tableaux.Solved.{is_basic, Entries, solved_for}
+use Rattle.spv_tableau_rules.specs.tableaux.Operations.{Operation, operation, Pivots}
+use Rattle.spv_tableau_rules.specs.tableaux.Operations as pivots
+use Rattle.spv_tableau_rules.proofs.pivots.Algebra.{minus_one_is, opposite_times, opposite_opposite}
+use Rattle.spv_tableau_rules.proofs.pivots.Sums.{eq_is, eq_self}
 use Rattle.spv_dictionary.specs.declared.spot.Spot.{Spot}
 use Rattle.spv_dictionary.specs.declared.spot.Spot.TheVariants as spot
 use Rattle.spv_dictionary.specs.Cells.{cell}

@@ -1,7 +1,7 @@
 -- Rows of numbers, by their slots.
 use Rattle.std.specs.Prelude.{ℕ, zero, suc, ◌+◌, List, [], ◌∷◌, ◌++◌, slice_index_or}
-use Rattle.spv_rational.specs.Rational.{Rational}
-use Rattle.spv_tableaux.specs.Numbers.{nothing}
+use Rattle.spv_frac.specs.rational.Rational.{Rational}
+use Rattle.spv_tableau_rules.specs.tableaux.Numbers.{nothing}
 
 -- a row's number at a slot, 0 behind its end
 abbrev pub cell : List Rational → ℕ → Rational

@@ -1,8 +1,8 @@
 -- A solved form as rows of numbers: a row for each column in the basis, a slot for each column outside it.
 use Rattle.std.specs.Prelude.{◌≡◌, ℕ, ◌+◌, ◌<◌, List, [], ◌++◌, length, replicate, nat_eq, slice_index_or, if◌then◌else◌}
-use Rattle.spv_rational.specs.Rational.{Rational}
-use Rattle.spv_tableaux.specs.Numbers.{nothing, minus_one}
-use Rattle.spv_tableaux.specs.Solved.{Place, Basic, Held, Places, Entries}
+use Rattle.spv_frac.specs.rational.Rational.{Rational}
+use Rattle.spv_tableau_rules.specs.tableaux.Numbers.{nothing, minus_one}
+use Rattle.spv_tableau_rules.specs.tableaux.Solved.{Place, Basic, Held, Places, Entries}
 use Rattle.spv_dictionary.specs.declared.spot.Spot.{Spot}
 use Rattle.spv_dictionary.specs.declared.spot.Spot.TheVariants as spot
 use Rattle.spv_dictionary.specs.Cells.{cell, listed, numbers_from}

@@ -1,7 +1,7 @@
 -- The exchange of a row's column with that of a slot, on the numbers of a dictionary.
 use Rattle.std.specs.Prelude.{◌≡◌, ℕ, ◌<◌, false, List, length, nat_eq, slice_set, if◌then◌else◌}
-use Rattle.spv_rational.specs.Rational.{Rational, plus, times, opposite}
-use Rattle.spv_tableaux.specs.Numbers.{one, divided}
+use Rattle.spv_frac.specs.rational.Rational.{Rational, plus, times, opposite}
+use Rattle.spv_tableau_rules.specs.tableaux.Numbers.{one, divided}
 use Rattle.spv_dictionary.specs.declared.spot.Spot.{Spot}
 use Rattle.spv_dictionary.specs.declared.spot.Spot.TheVariants as spot
 use Rattle.spv_dictionary.specs.Cells.{cell}

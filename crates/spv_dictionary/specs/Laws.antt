@@ -1,10 +1,10 @@
 -- What an exchange on the numbers is.
 use Rattle.std.specs.Prelude.{◌≡◌, ℕ, ◌<◌, true, false, List, [], length, slice_index_or}
-use Rattle.spv_rational.specs.Rational.{Rational, is_zero}
-use Rattle.spv_tableaux.specs.declared.side.Side.{Side}
-use Rattle.spv_tableaux.specs.Rows.{Rows, columns}
-use Rattle.spv_tableaux.specs.Solved.{is_basic, exchanged, pivot, row_entries}
-use Rattle.spv_tableaux.specs.Operations.{Operation, Pivots}
+use Rattle.spv_frac.specs.rational.Rational.{Rational, is_zero}
+use Rattle.spv_tableau_rules.specs.declared.tableaux.side.Side.{Side}
+use Rattle.spv_tableau_rules.specs.tableaux.Rows.{Rows, columns}
+use Rattle.spv_tableau_rules.specs.tableaux.Solved.{is_basic, exchanged, pivot, row_entries}
+use Rattle.spv_tableau_rules.specs.tableaux.Operations.{Operation, Pivots}
 use Rattle.spv_dictionary.specs.Cells.{cell}
 use Rattle.spv_dictionary.specs.Dictionary.{Dictionary, IsDictionary, basic_at, outside_at, row_at, entries, places, first}
 use Rattle.spv_dictionary.specs.Exchanges.{IsExchanged}

@@ -1,9 +1,9 @@
 -- The operations of an exchange on the numbers, and whether they fit.
 use Rattle.std.specs.Prelude.{◌≡◌, ℕ, ◌<◌, ◌≤◌, Bool, true, false, ◌&&◌, ◌||◌, not, List, [], length, nat_eq, slice_index_or, if◌then◌else◌}
-use Rattle.spv_rational.specs.Rational.{Rational, plus, times, is_zero}
+use Rattle.spv_frac.specs.rational.Rational.{Rational, plus, times, is_zero}
 use Rattle.spv_frac.specs.declared.frac.Op.TheVariants.{Add, Mul, Div}
-use Rattle.spv_tableaux.specs.Numbers.{one}
-use Rattle.spv_tableaux.specs.Operations.{Operation, operation, fits}
+use Rattle.spv_tableau_rules.specs.tableaux.Numbers.{one}
+use Rattle.spv_tableau_rules.specs.tableaux.Operations.{Operation, operation, fits}
 use Rattle.spv_dictionary.specs.Cells.{cell}
 use Rattle.spv_dictionary.specs.Dictionary.{Dictionary, row_at}
 use Rattle.spv_dictionary.specs.Exchanges.{solved_at, mixed_at}

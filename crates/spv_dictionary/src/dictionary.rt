@@ -2,18 +2,18 @@
 
 ghost use Rattle.std.specs.Prelude.{◌≡◌, ℕ, ◌<◌, ◌+◌, ◌^◌, ◌++◌, [], length, slice_index_or, slice_set, false, IfOk, IfErr, OnOk};
 ghost use Rattle.spv_dictionary.specs.Cells.{cell};
-ghost use Rattle.spv_rational.specs.Rational.{is_zero};
-ghost use Rattle.spv_tableaux.specs.Operations.{fits};
+ghost use Rattle.spv_frac.specs.rational.Rational.{is_zero};
+ghost use Rattle.spv_tableau_rules.specs.tableaux.Operations.{fits};
 ghost use Rattle.spv_dictionary.specs.declared.spot.Spot.TheVariants as at;
 ghost use Rattle.spv_dictionary.specs.Exchanges.{IsExchanged};
 ghost use Rattle.spv_dictionary.specs.Mixing.{IsReady, IsRefused};
 ghost use Rattle.spv_dictionary.specs.Dictionary.{with_solved, IsDictionary, first, spot_of, basic_at, outside_at, row_at, slots_to, rows_to};
 ghost use Rattle.spv_dictionary.specs.Cells.{numbers_from};
 
+use crate::checked_numbers::Refused;
 use crate::mixing;
 use crate::row::Row;
 use crate::spot::Spot;
-use spv_number::Refused;
 use std::alloc::{AllocError, Global};
 use std::marker::Model;
 

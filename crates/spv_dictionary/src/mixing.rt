@@ -2,15 +2,15 @@
 // that all of it fits, and then to keep it.
 
 ghost use Rattle.std.specs.Prelude.{◌≡◌, ℕ, Bool, true, false, ◌<◌, ◌↔◌, length, nat_eq, slice_set, IsOk, IfOk, IfErr, OnOk};
-ghost use Rattle.spv_rational.specs.Rational.{is_zero};
-ghost use Rattle.spv_tableaux.specs.Operations.{fits};
+ghost use Rattle.spv_frac.specs.rational.Rational.{is_zero};
+ghost use Rattle.spv_tableau_rules.specs.tableaux.Operations.{fits};
 ghost use Rattle.spv_dictionary.specs.Cells.{cell};
 ghost use Rattle.spv_dictionary.specs.Exchanges.{solved_at};
 ghost use Rattle.spv_dictionary.specs.Mixing as spec;
 ghost use Rattle.spv_dictionary.specs.Mixing.{can_mix, IsMixing, IsSolving, IsRowMixing, IsSolved, IsMixed, CanMixRow, CanMixRows, AreMixedTo, AreWide, IsMixedAt, IsMixedRow, IsRowsMixing, IsExchanging, number_row, is_idle};
 
+use crate::checked_numbers::{Number, Refused};
 use crate::row::Row;
-use spv_number::{Number, Refused};
 use std::mem;
 
 // A number of the row that is solved for the column of a slot.

@@ -1,10 +1,10 @@
 // Rows of numbers.
 
 ghost use Rattle.std.specs.Prelude.{◌≡◌, ◌<◌, length, replicate, slice_set, IfOk};
-ghost use Rattle.spv_tableaux.specs.Numbers.{nothing};
+ghost use Rattle.spv_tableau_rules.specs.tableaux.Numbers.{nothing};
 ghost use Rattle.spv_dictionary.specs.Cells.{cell};
 
-use spv_number::Number;
+use crate::checked_numbers::Number;
 use std::alloc::{AllocError, Global};
 use std::marker::Model;
 
@@ -16,7 +16,7 @@ pub struct Row {
 
 impl Model for Row {
     ghost use Rattle.std.specs.Prelude.{List};
-    ghost use Rattle.spv_rational.specs.Rational.{Rational};
+    ghost use Rattle.spv_frac.specs.rational.Rational.{Rational};
 
     ghost Value = { List Rational };
 

@@ -1,25 +1,25 @@
 -- What is called, with its arguments read as it wants them, is what the definition makes of the call.
 use Rattle.std.proofs.Math.Path.{fun_ext}
 use Rattle.std.proofs.Common.{◌≡◌, Bool, true, false, cond, ◌+◌, ℕ, suc, List, [], ◌∷◌, length, map, Option, Some, None, Result, Ok, Err, IfOk, refl, sym, ap, subst, ◌∙◌, option_map, nat_eq, slice_get, arith}
-use Rattle.spv_syntax.specs.declared.names.Name.{Name}
+use Rattle.spv_tree.specs.declared.syntax.names.Name.{Name}
 use Rattle.spv_program.specs.Expressions.{Expression, Call}
-use Rattle.spv_typed.specs.declared.programs.Formal.{Formal}
-use Rattle.spv_typed.specs.ProgramViews.{formal_of}
+use Rattle.spv_program.specs.declared.typed.programs.Formal.{Formal}
+use Rattle.spv_program.specs.typed.ProgramViews.{formal_of}
 use Rattle.spv_typing.specs.declared.faults.TypeFault.{TypeFault}
 use Rattle.spv_typing.specs.declared.faults.TypeFault.TheVariants.{Count}
 use Rattle.spv_typing.specs.declared.faults.TypeFault.TheVariants as fault
 use Rattle.spv_typing.specs.FormulaWalk.{arity}
-use Rattle.spv_scopes.specs.Answers.{Stops}
+use Rattle.spv_environments.specs.Answers.{Stops}
 use Rattle.spv_typing.specs.Outcomes.{Outcome, after, where_so, wrong}
 use Rattle.spv_typing.specs.Known as known
 use Rattle.spv_typing.specs.OperatorWalk.{Operand, Argument, operands}
 use Rattle.spv_typing.specs.ExpressionWalk as spec
-use Rattle.spv_scopes.specs.declared.scopes.Meaning.{Meaning}
-use Rattle.spv_scopes.specs.declared.scopes.Meaning.TheVariants as meaning
-use Rattle.spv_scopes.specs.declared.routines.Heading.{Heading}
-use Rattle.spv_names.specs.declared.names.Symbol.{Symbol}
-use Rattle.spv_scopes.specs.Views.{heading_of}
-use Rattle.spv_scopes.specs.Scopes.{meaning_of}
+use Rattle.spv_environments.specs.declared.scopes.Meaning.{Meaning}
+use Rattle.spv_environments.specs.declared.scopes.Meaning.TheVariants as meaning
+use Rattle.spv_environments.specs.declared.routines.Heading.{Heading}
+use Rattle.spv_logic.specs.declared.names.names.Symbol.{Symbol}
+use Rattle.spv_environments.specs.Views.{heading_of}
+use Rattle.spv_environments.specs.Scopes.{meaning_of}
 use Rattle.spv_formula_typing.specs.declared.forms.Way.{Way}
 use Rattle.spv_formula_typing.specs.declared.forms.Way.TheVariants as way
 use Rattle.spv_formula_typing.proofs.Exits.{stops_after}

@@ -6,16 +6,16 @@ use Rattle.spv_program.specs.declared.types.TypeForm.{TypeForm}
 use Rattle.spv_program.specs.Programs.{Formal as FormalSpec}
 use Rattle.spv_program.specs.Types.{sort_of, same_places}
 use Rattle.spv_program.specs.Expressions.{Expression, Designator, Arguments, NilOf, no_arguments}
-use Rattle.spv_typed.specs.declared.programs.Formal.{Formal}
-use Rattle.spv_typed.specs.declared.expressions.Argument.{Argument}
-use Rattle.spv_typed.specs.declared.expressions.Argument.TheVariants as argument
-use Rattle.spv_typed.specs.ExpressionViews.{arguments_of}
-use Rattle.spv_typed.specs.ProgramViews.{formal_of}
+use Rattle.spv_program.specs.declared.typed.programs.Formal.{Formal}
+use Rattle.spv_program.specs.declared.typed.expressions.Argument.{Argument}
+use Rattle.spv_program.specs.declared.typed.expressions.Argument.TheVariants as argument
+use Rattle.spv_program.specs.typed.ExpressionViews.{arguments_of}
+use Rattle.spv_program.specs.typed.ProgramViews.{formal_of}
 use Rattle.spv_typing.specs.declared.faults.TypeFault.{TypeFault}
 use Rattle.spv_typing.specs.Outcomes.{Outcome, after, where_so, wrong}
 use Rattle.spv_typing.specs.OperatorWalk.{settled}
 use Rattle.spv_typing.specs.ExpressionWalk.{Given, AsValue, AsPlace, NoPlace, designator_at, with_place, fitted}
-use Rattle.spv_scopes.specs.Answers.{Stops}
+use Rattle.spv_environments.specs.Answers.{Stops}
 use Rattle.spv_formula_typing.proofs.Exits.{stops_after}
 use Rattle.spv_expression_typing.specs.Applied.{Fitted, Value, fitted_of, in_front, fitted_place, fitted_one}
 

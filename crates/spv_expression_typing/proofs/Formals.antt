@@ -1,8 +1,8 @@
 -- How many parameters and arguments there are.
 use Rattle.std.proofs.Common.{◌≡◌, ℕ, suc, List, [], ◌∷◌, length, map, refl, ap, ◌∙◌}
 use Rattle.spv_program.specs.Expressions.{Expression}
-use Rattle.spv_typed.specs.declared.programs.Formal.{Formal}
-use Rattle.spv_typed.specs.ProgramViews.{formal_of}
+use Rattle.spv_program.specs.declared.typed.programs.Formal.{Formal}
+use Rattle.spv_program.specs.typed.ProgramViews.{formal_of}
 use Rattle.spv_typing.specs.ExpressionWalk.{Reached}
 use Rattle.spv_formula_typing.specs.declared.forms.Given.{Given as GivenText}
 use Rattle.spv_formula_typing.specs.Arguments.{all_given}

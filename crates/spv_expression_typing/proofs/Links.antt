@@ -4,9 +4,9 @@ use Rattle.std.specs.List.{remove}
 use Rattle.std.proofs.lemmas.List.{map-append}
 use Rattle.spv_logic.specs.declared.types.TypeId.{TypeId}
 use Rattle.spv_program.specs.Expressions.{Call, Result, Through, at_index, at_field, at_cell}
-use Rattle.spv_typed.specs.declared.expressions.Selector.{Selector}
-use Rattle.spv_typed.specs.declared.expressions.Selector.TheVariants as selector
-use Rattle.spv_typed.specs.ExpressionViews.{selectors_of}
+use Rattle.spv_program.specs.declared.typed.expressions.Selector.{Selector}
+use Rattle.spv_program.specs.declared.typed.expressions.Selector.TheVariants as selector
+use Rattle.spv_program.specs.typed.ExpressionViews.{selectors_of}
 use Rattle.spv_typing.specs.ExpressionWalk.{Base, AtName, AtResult, OfNumber, OfCall, Link, Reached, chained, designator_at, expression_at, result_at}
 use Rattle.spv_expression_typing.specs.Views.{cell_in, first_cell, link_of, links_of, place_of, value_of}
 

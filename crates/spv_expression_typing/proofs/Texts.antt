@@ -1,8 +1,8 @@
 -- The arguments of a text.
 use Rattle.std.proofs.Common.{◌≡◌, List, [], ◌∷◌, map, Option, Some, refl, sym, ap, ◌∙◌}
-use Rattle.spv_syntax.specs.declared.lists.Several.{Several}
-use Rattle.spv_syntax.specs.Formulas.{Formula}
-use Rattle.spv_syntax.specs.Model.FormulaSizes.{more_formulas_of}
+use Rattle.spv_tree.specs.declared.syntax.lists.Several.{Several}
+use Rattle.spv_tree.specs.syntax.Formulas.{Formula}
+use Rattle.spv_tree.specs.syntax.Model.FormulaSizes.{more_formulas_of}
 use Rattle.spv_program.specs.Expressions.{Expression}
 use Rattle.spv_typing.specs.Known.{Scope}
 use Rattle.spv_typing.specs.OperatorWalk.{Argument, Forms, arguments}

@@ -1,7 +1,7 @@
 -- Names alone, kind by kind.
 use Rattle.std.specs.Prelude.{ℕ, Bool, false, Option, Some, None, Err, is_some, nat_eq, if◌then◌else◌}
-use Rattle.spv_names.specs.declared.names.Symbol.{Symbol}
-use Rattle.spv_syntax.specs.declared.names.Name.{Name}
+use Rattle.spv_logic.specs.declared.names.names.Symbol.{Symbol}
+use Rattle.spv_tree.specs.declared.syntax.names.Name.{Name}
 use Rattle.spv_program.specs.Lists.{same_name}
 use Rattle.spv_typing.specs.declared.faults.TypeFault.{TypeFault}
 use Rattle.spv_typing.specs.declared.faults.TypeFault.TheVariants.{Count}

@@ -2,22 +2,22 @@
 use Rattle.std.specs.Prelude.{ℕ, List, length, map, Option, Some, None, Result, Ok, Err, nat_eq, if◌then◌else◌}
 use Rattle.std.specs.List.{slice_get}
 use Rattle.spv_logic.specs.declared.types.TypeId.{TypeId}
-use Rattle.spv_syntax.specs.declared.names.Name.{Name}
+use Rattle.spv_tree.specs.declared.syntax.names.Name.{Name}
 use Rattle.spv_program.specs.declared.types.TypeForm.{TypeForm}
 use Rattle.spv_program.specs.Types.{sort_of, same_places}
 use Rattle.spv_program.specs.Expressions.{Expression, Designator, Call, Arguments, NilOf, call, no_arguments, by_value, by_place}
-use Rattle.spv_typed.specs.declared.programs.Formal.{Formal}
-use Rattle.spv_typed.specs.declared.expressions.Argument.{Argument as ArgumentText}
-use Rattle.spv_typed.specs.declared.expressions.Argument.TheVariants as argument
+use Rattle.spv_program.specs.declared.typed.programs.Formal.{Formal}
+use Rattle.spv_program.specs.declared.typed.expressions.Argument.{Argument as ArgumentText}
+use Rattle.spv_program.specs.declared.typed.expressions.Argument.TheVariants as argument
 use Rattle.spv_typing.specs.declared.faults.TypeFault.{TypeFault}
 use Rattle.spv_typing.specs.declared.faults.TypeFault.TheVariants.{Count}
 use Rattle.spv_typing.specs.Outcomes.{Outcome, after, where_so, wrong, undeclared}
 use Rattle.spv_typing.specs.Known.{Scope, Heading}
 use Rattle.spv_typing.specs.OperatorWalk.{settled}
 use Rattle.spv_typing.specs.ExpressionWalk as spec
-use Rattle.spv_scopes.specs.declared.scopes.Meaning.{Meaning}
-use Rattle.spv_scopes.specs.declared.scopes.Meaning.TheVariants as meaning
-use Rattle.spv_scopes.specs.Views.{heading_of}
+use Rattle.spv_environments.specs.declared.scopes.Meaning.{Meaning}
+use Rattle.spv_environments.specs.declared.scopes.Meaning.TheVariants as meaning
+use Rattle.spv_environments.specs.Views.{heading_of}
 use Rattle.spv_formula_typing.specs.declared.forms.Way.{Way}
 use Rattle.spv_formula_typing.specs.declared.forms.Way.TheVariants as way
 use Rattle.spv_formula_typing.specs.Arguments.{Given, AsValue, AsPlace, NoPlace, AsField}

@@ -1,9 +1,9 @@
 -- What makes names with selectors seen as plain data: numbers that tell them apart. No contract speaks of it.
 use Rattle.std.specs.Prelude.{zero, suc, pos, ◌≡◌}
 use base.Stored.{Gv, gnum, gcons, num}
-use Rattle.spv_list.specs.Ways.{Way, head, tail, way_ℤ, way_list}
-use Rattle.spv_typed.specs.Model.Codes.{way_type, way_symbol}
-use Rattle.spv_typed.specs.Model.ExpressionCodes.{way_expression, way_call}
+use Rattle.spv_logic.specs.list.Ways.{Way, head, tail, way_ℤ, way_list}
+use Rattle.spv_program.specs.typed.Model.Codes.{way_type, way_symbol}
+use Rattle.spv_program.specs.typed.Model.ExpressionCodes.{way_expression, way_call}
 use Rattle.spv_typing.specs.ExpressionWalk.{Base, AtName, AtResult, OfNumber, OfCall, Link, ByIndex, ByField, ByCell, Reached}
 
 abbrev base_to : Base → Gv

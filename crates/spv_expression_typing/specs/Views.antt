@@ -2,8 +2,8 @@
 use Rattle.std.specs.Prelude.{ℕ, List, [], ◌∷◌, map, Option, Some, None}
 use Rattle.spv_logic.specs.declared.types.TypeId.{TypeId}
 use Rattle.spv_program.specs.Expressions.{Expression, Designator, Numeral, Read}
-use Rattle.spv_typed.specs.declared.expressions.Selector.{Selector}
-use Rattle.spv_typed.specs.declared.expressions.Selector.TheVariants as selector
+use Rattle.spv_program.specs.declared.typed.expressions.Selector.{Selector}
+use Rattle.spv_program.specs.declared.typed.expressions.Selector.TheVariants as selector
 use Rattle.spv_typing.specs.ExpressionWalk as spec
 use Rattle.spv_expression_typing.specs.declared.reached.Base.{Base}
 use Rattle.spv_expression_typing.specs.declared.reached.Base.TheVariants as base

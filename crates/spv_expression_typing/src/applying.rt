@@ -1,8 +1,8 @@
 // Names with arguments.
 
 ghost use Rattle.std.specs.Prelude.{◌≡◌, IfOk, IfErr, Ok};
-ghost use Rattle.spv_scopes.specs.Answers.{Stops};
-ghost use Rattle.spv_scopes.specs.Scopes.{scope_of};
+ghost use Rattle.spv_environments.specs.Answers.{Stops};
+ghost use Rattle.spv_environments.specs.Scopes.{scope_of};
 ghost use Rattle.spv_formula_typing.specs.Arguments.{all_given};
 ghost use Rattle.spv_expression_typing.specs.Applied.{applied_to};
 
@@ -10,10 +10,10 @@ use crate::callee::Callee;
 use crate::fitting::call_with;
 use crate::naming::{function_result, no_call_fault};
 use crate::reached::Reached;
+use spv_environments::Scope;
 use spv_formula_typing::Given;
-use spv_scopes::Scope;
-use spv_syntax::Name;
-use spv_typed::Expression;
+use spv_program::typed::Expression;
+use spv_tree::syntax::Name;
 use spv_typing::TypeFault;
 use std::alloc::Global;
 

@@ -8,17 +8,17 @@ ghost use Rattle.spv_typing.specs.OperatorWalk.{Argument};
 ghost use Rattle.spv_typing.specs.Known.{function};
 ghost use Rattle.spv_typing.specs.FormulaWalk.{arity};
 ghost use Rattle.spv_typing.specs.ExpressionWalk as spec;
-ghost use Rattle.spv_scopes.specs.Answers.{Stops};
-ghost use Rattle.spv_scopes.specs.Scopes.{scope_of};
-ghost use Rattle.spv_scopes.specs.Views.{function_of};
+ghost use Rattle.spv_environments.specs.Answers.{Stops};
+ghost use Rattle.spv_environments.specs.Scopes.{scope_of};
+ghost use Rattle.spv_environments.specs.Views.{function_of};
 ghost use Rattle.spv_formula_typing.specs.Arguments.{given_as};
 ghost use Rattle.spv_expression_typing.specs.Applied.{way_in, formal_way, applied_to, meaning_callee};
 
+use spv_environments::{Function, Heading, Meaning, Scope};
 use spv_formula_typing::Way;
-use spv_names::Symbol;
-use spv_scopes::{Function, Heading, Meaning, Scope};
-use spv_syntax::Name;
-use spv_typed::Formal;
+use spv_logic::names::Symbol;
+use spv_program::typed::Formal;
+use spv_tree::syntax::Name;
 use spv_typing::TypeFault;
 
 /// What a name with arguments calls.

@@ -2,11 +2,11 @@
 
 ghost use Rattle.std.specs.Prelude.{◌≡◌, IfOk, IfErr, Ok, Some};
 ghost use Rattle.spv_typing.specs.ExpressionWalk as spec;
-ghost use Rattle.spv_syntax.specs.StatementViews.{given_of};
+ghost use Rattle.spv_tree.specs.syntax.StatementViews.{given_of};
 ghost use Rattle.spv_typing.specs.StatementWalk.{arguments_of};
-ghost use Rattle.spv_scopes.specs.Answers.{Stops};
-ghost use Rattle.spv_scopes.specs.Scopes.{scope_of};
-ghost use Rattle.spv_scopes.specs.Views.{heading_of};
+ghost use Rattle.spv_environments.specs.Answers.{Stops};
+ghost use Rattle.spv_environments.specs.Scopes.{scope_of};
+ghost use Rattle.spv_environments.specs.Views.{heading_of};
 ghost use Rattle.spv_formula_typing.specs.Arguments.{given_as, all_given};
 ghost use Rattle.spv_expression_typing.specs.Applied.{way_in};
 
@@ -15,11 +15,11 @@ use crate::fitting::call_with;
 use crate::forms::Expressions;
 use crate::naming::no_call_fault;
 use crate::reached::Reached;
+use spv_environments::{Heading, Scope};
 use spv_formula_typing::{Given, arguments};
-use spv_names::Symbol;
-use spv_scopes::{Heading, Scope};
-use spv_syntax::{Formula, Several};
-use spv_typed::{Call, Expression};
+use spv_logic::names::Symbol;
+use spv_program::typed::{Call, Expression};
+use spv_tree::syntax::{Formula, Several};
 use spv_typing::TypeFault;
 use std::alloc::Global;
 

@@ -3,23 +3,23 @@
 ghost use Rattle.std.specs.Prelude.{◌≡◌, IfOk, IfErr, Ok, map};
 ghost use Rattle.spv_program.specs.Types as types;
 ghost use Rattle.spv_program.specs.Expressions.{NilOf};
-ghost use Rattle.spv_typed.specs.ExpressionViews.{arguments_of};
-ghost use Rattle.spv_typed.specs.ProgramViews.{formal_of};
+ghost use Rattle.spv_program.specs.typed.ExpressionViews.{arguments_of};
+ghost use Rattle.spv_program.specs.typed.ProgramViews.{formal_of};
 ghost use Rattle.spv_typing.specs.ExpressionWalk as spec;
-ghost use Rattle.spv_scopes.specs.Answers.{Stops};
-ghost use Rattle.spv_scopes.specs.Views.{heading_of};
+ghost use Rattle.spv_environments.specs.Answers.{Stops};
+ghost use Rattle.spv_environments.specs.Views.{heading_of};
 ghost use Rattle.spv_formula_typing.specs.Operands.{operand_of};
 ghost use Rattle.spv_formula_typing.specs.Arguments.{all_given, given_of};
 ghost use Rattle.spv_expression_typing.specs.Applied.{all_seen, call_with, fitted_of, fitted_one, fitted_place, seen};
 
 use crate::reached::{Reached, boxed, push};
 use crate::settling::settled_expression;
+use spv_environments::{Heading, Known};
 use spv_formula_typing::{Given, Operand};
 use spv_logic::TypeId;
-use spv_names::Symbol;
+use spv_logic::names::Symbol;
 use spv_program::TypeForm;
-use spv_scopes::{Heading, Known};
-use spv_typed::{Argument, Call, Designator, Expression, Formal};
+use spv_program::typed::{Argument, Call, Designator, Expression, Formal};
 use spv_typing::TypeFault;
 use std::alloc::Global;
 

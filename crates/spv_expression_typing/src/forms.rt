@@ -2,8 +2,8 @@
 
 ghost use Rattle.std.specs.Prelude.{◌≡◌, refl, IfOk, IfErr, Ok};
 ghost use Rattle.spv_typing.specs.ExpressionWalk as spec;
-ghost use Rattle.spv_scopes.specs.Answers.{Stops};
-ghost use Rattle.spv_scopes.specs.Scopes.{scope_of};
+ghost use Rattle.spv_environments.specs.Answers.{Stops};
+ghost use Rattle.spv_environments.specs.Scopes.{scope_of};
 ghost use Rattle.spv_formula_typing.specs.Operands.{operand_of};
 
 use crate::applying;
@@ -12,12 +12,12 @@ use crate::naming::{class_fault, name_read, name_written};
 use crate::reached::{Reached, boxed};
 use crate::selecting::{content_at, field_at, indexed_at};
 use crate::settling::settled_expression;
+use spv_environments::Scope;
 use spv_formula_typing::{Forms, Given, Operand, Way, formula};
 use spv_logic::{Sort, TypeId};
+use spv_program::typed::{Expression, ExpressionForm};
 use spv_program::{Arithmetic, Comparison, Connective};
-use spv_scopes::Scope;
-use spv_syntax::{Designator, Name};
-use spv_typed::{Expression, ExpressionForm};
+use spv_tree::syntax::{Designator, Name};
 use spv_typing::TypeFault;
 use std::alloc::{AllocError, Global};
 
@@ -238,7 +238,7 @@ impl<'k, 'o> Forms for Expressions<'k, 'o> {
 pub fn operand(
     scope: &Scope<'_, '_>,
     alloc: Global,
-    tree: &spv_syntax::Formula,
+    tree: &spv_tree::syntax::Formula,
 ) -> Result<Operand<Expression>, TypeFault>
     ensures ok { IfOk result (λ o. spec.operand (scope_of scope.now) tree.now ≡ Ok (operand_of o)) }
     ensures err { IfErr result (λ e. Stops e (spec.operand (scope_of scope.now) tree.now)) }
@@ -251,7 +251,7 @@ pub fn expression_of(
     scope: &Scope<'_, '_>,
     alloc: Global,
     wanted: Sort,
-    tree: &spv_syntax::Formula,
+    tree: &spv_tree::syntax::Formula,
 ) -> Result<Expression, TypeFault>
     ensures ok { IfOk result (λ x. spec.expression_of (scope_of scope.now) wanted tree.now ≡ Ok x) }
     ensures err { IfErr result (λ e. Stops e (spec.expression_of (scope_of scope.now) wanted tree.now)) }

@@ -4,6 +4,7 @@
 mod applying;
 mod callee;
 mod calling;
+pub mod counter_changes;
 mod fitting;
 mod forms;
 mod naming;

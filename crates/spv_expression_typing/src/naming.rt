@@ -3,20 +3,20 @@
 ghost use Rattle.std.specs.Prelude.{◌≡◌, IfOk, IfErr, Ok, Err};
 ghost use Rattle.spv_typing.specs.Known.{meaning};
 ghost use Rattle.spv_typing.specs.ExpressionWalk as spec;
-ghost use Rattle.spv_scopes.specs.Answers.{Stops};
-ghost use Rattle.spv_scopes.specs.Scopes.{scope_of};
-ghost use Rattle.spv_scopes.specs.Views.{heading_of};
+ghost use Rattle.spv_environments.specs.Answers.{Stops};
+ghost use Rattle.spv_environments.specs.Scopes.{scope_of};
+ghost use Rattle.spv_environments.specs.Views.{heading_of};
 ghost use Rattle.spv_formula_typing.specs.Operands.{operand_of};
 ghost use Rattle.spv_expression_typing.specs.Applied.{called_alone, no_call_fault};
 ghost use Rattle.spv_expression_typing.specs.Alone.{is_own, symbol_alone, unknown_alone};
 
 use crate::reached::{Base, Reached};
+use spv_environments::{Heading, Meaning, Scope};
 use spv_formula_typing::Operand;
 use spv_logic::TypeId;
-use spv_names::Symbol;
-use spv_scopes::{Heading, Meaning, Scope};
-use spv_syntax::Name;
-use spv_typed::{Call, Expression};
+use spv_logic::names::Symbol;
+use spv_program::typed::{Call, Expression};
+use spv_tree::syntax::Name;
 use spv_typing::TypeFault;
 use std::alloc::Global;
 

@@ -1,13 +1,13 @@
 // What a name with selectors has come to.
 
 ghost use Rattle.std.specs.Prelude.{◌≡◌, ◌++◌, ◌∷◌, [], IfOk, OnOk, drop};
-ghost use Rattle.spv_typed.specs.ExpressionViews.{expression_of};
+ghost use Rattle.spv_program.specs.typed.ExpressionViews.{expression_of};
 ghost use Rattle.spv_typing.specs.ExpressionWalk as spec;
 ghost use Rattle.spv_expression_typing.specs.Views.{base_of, cell_in, first_cell, link_of, links_of, place_of, value_of};
 
 use spv_logic::TypeId;
-use spv_names::Symbol;
-use spv_typed::{Call, Designator, Expression, ExpressionForm, Selector, Through};
+use spv_logic::names::Symbol;
+use spv_program::typed::{Call, Designator, Expression, ExpressionForm, Selector, Through};
 use std::alloc::{AllocError, Global};
 use std::marker::Model;
 
@@ -33,7 +33,7 @@ pub struct Reached {
 }
 
 impl Model for Reached {
-    ghost use Rattle.spv_list.specs.Ways.{coded_by};
+    ghost use Rattle.spv_logic.specs.list.Ways.{coded_by};
     ghost use Rattle.spv_typing.specs.ExpressionWalk as spec;
     ghost use Rattle.spv_expression_typing.specs.Model.{way_reached};
     ghost use Rattle.spv_expression_typing.specs.Views.{reached_of};

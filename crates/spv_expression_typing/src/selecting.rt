@@ -3,18 +3,18 @@
 ghost use Rattle.std.specs.Prelude.{◌≡◌, IfOk, IfErr, Ok};
 ghost use Rattle.spv_program.specs.Types.{form_at};
 ghost use Rattle.spv_typing.specs.ExpressionWalk as spec;
-ghost use Rattle.spv_scopes.specs.Answers.{Stops};
+ghost use Rattle.spv_environments.specs.Answers.{Stops};
 ghost use Rattle.spv_formula_typing.specs.Operands.{operand_of, operands_of};
 ghost use Rattle.spv_expression_typing.specs.Selected.{content_at, element_at, field_at, indexed_in, is_record};
 
 use crate::reached::{Reached, boxed};
 use crate::settling::settled_expression;
+use spv_environments::Known;
 use spv_formula_typing::Operand;
 use spv_logic::{Sort, TypeId};
 use spv_program::TypeForm;
-use spv_scopes::Known;
-use spv_syntax::Name;
-use spv_typed::{Expression, Selector};
+use spv_program::typed::{Expression, Selector};
+use spv_tree::syntax::Name;
 use spv_typing::TypeFault;
 use std::alloc::Global;
 

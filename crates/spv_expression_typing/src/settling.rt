@@ -4,12 +4,12 @@ ghost use Rattle.std.specs.Prelude.{◌≡◌, IfOk, IfErr, Ok};
 ghost use Rattle.spv_program.specs.Expressions.{NilOf};
 ghost use Rattle.spv_typing.specs.Outcomes.{wrong};
 ghost use Rattle.spv_typing.specs.OperatorWalk as spec;
-ghost use Rattle.spv_scopes.specs.Answers.{Stops};
+ghost use Rattle.spv_environments.specs.Answers.{Stops};
 ghost use Rattle.spv_formula_typing.specs.Operands.{operand_of};
 
 use spv_formula_typing::Operand;
 use spv_logic::Sort;
-use spv_typed::{Expression, ExpressionForm};
+use spv_program::typed::{Expression, ExpressionForm};
 use spv_typing::TypeFault;
 
 /// The expression, where it is of this sort; NIL is one of each pointer sort. Else the fault is told at the line.

@@ -1,11 +1,11 @@
 -- A part of a list is no larger than the list.
 use Rattle.std.proofs.Common.{ℕ, zero, suc, ◌≤◌, ◌<◌, List, [], ◌∷◌, length, get_or, arith}
-use Rattle.spv_syntax.specs.Formulas.{Formula, Selector}
-use Rattle.spv_syntax.specs.Types.{TypeDenoter, Field}
-use Rattle.spv_syntax.specs.Model.TypeSizes.{more_types_of, more_fields_of, type_size, more_types_size, field_size, more_fields_size}
-use Rattle.spv_syntax.specs.Statements.{Statement, Arm}
-use Rattle.spv_syntax.specs.Model.StatementSizes.{more_statements_of, more_arms_of, statement_size, more_statements_size, arm_size, more_arms_size}
-use Rattle.spv_syntax.specs.Model.FormulaSizes.{more_formulas_of, selectors_of, formula_size, more_formulas_size, selectors_size, selector_size}
+use Rattle.spv_tree.specs.syntax.Formulas.{Formula, Selector}
+use Rattle.spv_tree.specs.syntax.Types.{TypeDenoter, Field}
+use Rattle.spv_tree.specs.syntax.Model.TypeSizes.{more_types_of, more_fields_of, type_size, more_types_size, field_size, more_fields_size}
+use Rattle.spv_tree.specs.syntax.Statements.{Statement, Arm}
+use Rattle.spv_tree.specs.syntax.Model.StatementSizes.{more_statements_of, more_arms_of, statement_size, more_statements_size, arm_size, more_arms_size}
+use Rattle.spv_tree.specs.syntax.Model.FormulaSizes.{more_formulas_of, selectors_of, formula_size, more_formulas_size, selectors_size, selector_size}
 
 pub formula_within : (fs : List Formula) (i : ℕ) (d : Formula) → i < length fs → formula_size (get_or fs i d) ≤ more_formulas_size (more_formulas_of fs)
 formula_within [] i d h = absurd (omega arith)

@@ -1,6 +1,6 @@
 -- What a call that adds tokens does, where `spelled` says what they are in front of others.
 use Rattle.std.specs.Prelude.{◌≡◌, List, ◌++◌}
-use Rattle.spv_tokens.specs.declared.token.TokenKind.{TokenKind}
+use Rattle.spv_tree.specs.declared.tokens.token.TokenKind.{TokenKind}
 
 -- it added these and no others
 abbrev pub Adds : (List TokenKind → List TokenKind) → List TokenKind → List TokenKind → Type 0

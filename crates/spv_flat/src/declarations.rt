@@ -1,15 +1,17 @@
 // Declarations.
 
 ghost use Rattle.std.specs.Prelude.{OnOk};
-ghost use Rattle.spv_syntax.specs.Members.{in_kinds};
-ghost use Rattle.spv_syntax.specs.ProgramSpelling.{const_spelling, declarations_spelling, name_or_class_spelling, sort_spelling, sorts_spelling, symbol_spelling, typedef_spelling, vars_spelling};
+ghost use Rattle.spv_tree.specs.syntax.Members.{in_kinds};
+ghost use Rattle.spv_tree.specs.syntax.ProgramSpelling.{const_spelling, declarations_spelling, name_or_class_spelling, sort_spelling, sorts_spelling, symbol_spelling, typedef_spelling, vars_spelling};
 ghost use Rattle.spv_flat.specs.Flat.{Adds};
 
 use crate::spelled::Spelled;
 use crate::types::type_denoter;
 use crate::{lists, out};
-use spv_syntax::{Const, Declarations, NameOrClass, Several, SortName, SymbolText, Typedef, Vars};
-use spv_tokens::{Sign, TokenKind, Word};
+use spv_tree::syntax::{
+    Const, Declarations, NameOrClass, Several, SortName, SymbolText, Typedef, Vars,
+};
+use spv_tree::tokens::{Sign, TokenKind, Word};
 use std::alloc::AllocError;
 
 impl Spelled for Const {

@@ -1,13 +1,13 @@
 // Texts of one formula.
 
-ghost use Rattle.spv_syntax.specs.Members.{in_kinds};
-ghost use Rattle.spv_syntax.specs.RuleSpelling.{formula_text_spelling};
+ghost use Rattle.spv_tree.specs.syntax.Members.{in_kinds};
+ghost use Rattle.spv_tree.specs.syntax.RuleSpelling.{formula_text_spelling};
 
 use crate::formulas::formula;
 use crate::out;
 use crate::spelled::Spelled;
-use spv_syntax::FormulaText;
-use spv_tokens::{Sign, TokenKind, Word};
+use spv_tree::syntax::FormulaText;
+use spv_tree::tokens::{Sign, TokenKind, Word};
 use std::alloc::AllocError;
 
 impl Spelled for FormulaText {

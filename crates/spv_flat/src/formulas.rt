@@ -1,20 +1,20 @@
 // Formulas.
 
 ghost use Rattle.std.specs.Prelude.{OnOk};
-ghost use Rattle.spv_syntax.specs.Members.{in_kinds};
-ghost use Rattle.spv_syntax.specs.FormulaSpelling.{conclusion_spelling, designator_spelling, factor_spelling, formula_spelling, more_formulas_spelling, relation_spelling, selector_spelling, selectors_spelling, simple_spelling, term_spelling};
-ghost use Rattle.spv_syntax.specs.FormulaViews.{conclusion_of};
-ghost use Rattle.spv_syntax.specs.Model.FormulaSizes.{more_formulas_of, selectors_of};
+ghost use Rattle.spv_tree.specs.syntax.Members.{in_kinds};
+ghost use Rattle.spv_tree.specs.syntax.FormulaSpelling.{conclusion_spelling, designator_spelling, factor_spelling, formula_spelling, more_formulas_spelling, relation_spelling, selector_spelling, selectors_spelling, simple_spelling, term_spelling};
+ghost use Rattle.spv_tree.specs.syntax.FormulaViews.{conclusion_of};
+ghost use Rattle.spv_tree.specs.syntax.Model.FormulaSizes.{more_formulas_of, selectors_of};
 ghost use Rattle.spv_flat.specs.Flat.{Adds};
 
 use crate::names::prefix;
 use crate::out;
 use crate::spelled::Spelled;
-use spv_syntax::{
+use spv_tree::syntax::{
     Designator, Factor, FactorForm, Formula, FormulaForm, Relation, Selector, SelectorForm, Simple,
     Term, items,
 };
-use spv_tokens::{Sign, TokenKind, Word};
+use spv_tree::tokens::{Sign, TokenKind, Word};
 use std::alloc::AllocError;
 
 // Adds the tokens of a formula.

@@ -1,15 +1,15 @@
 // Adding the tokens of lists of parts.
 
 ghost use Rattle.std.specs.Prelude.{OnOk};
-ghost use Rattle.spv_tokens.specs.declared.token.TokenKind.TheVariants as kind;
-ghost use Rattle.spv_syntax.specs.Lists as spec;
+ghost use Rattle.spv_tree.specs.declared.tokens.token.TokenKind.TheVariants as kind;
+ghost use Rattle.spv_tree.specs.syntax.Lists as spec;
 ghost use Rattle.spv_flat.specs.Flat.{Adds};
 
 use crate::out;
 use crate::spelled::Spelled;
-use spv_list::List;
-use spv_syntax::Several;
-use spv_tokens::{Sign, TokenKind, Word};
+use spv_logic::list::List;
+use spv_tree::syntax::Several;
+use spv_tree::tokens::{Sign, TokenKind, Word};
 use std::alloc::AllocError;
 
 // Adds the tokens of parts, one after the other.

@@ -1,15 +1,15 @@
 // Names and constants.
 
 ghost use Rattle.std.specs.Prelude.{◌≡◌, OnOk};
-ghost use Rattle.spv_syntax.specs.Members.{in_kinds};
-ghost use Rattle.spv_syntax.specs.FormulaSpelling.{name_spelling, prefix_spelling};
-ghost use Rattle.spv_syntax.specs.TypeSpelling.{constant_spelling, scalar_kind};
+ghost use Rattle.spv_tree.specs.syntax.Members.{in_kinds};
+ghost use Rattle.spv_tree.specs.syntax.FormulaSpelling.{name_spelling, prefix_spelling};
+ghost use Rattle.spv_tree.specs.syntax.TypeSpelling.{constant_spelling, scalar_kind};
 ghost use Rattle.spv_flat.specs.Flat.{Adds};
 
 use crate::out;
 use crate::spelled::Spelled;
-use spv_syntax::{Constant, Name, PlusOrMinus, Scalar};
-use spv_tokens::{Sign, TokenKind};
+use spv_tree::syntax::{Constant, Name, PlusOrMinus, Scalar};
+use spv_tree::tokens::{Sign, TokenKind};
 use std::alloc::AllocError;
 
 impl Spelled for Name {

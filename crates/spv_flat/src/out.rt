@@ -1,12 +1,12 @@
 // Adding tokens one by one.
 
 ghost use Rattle.std.specs.Prelude.{◌≡◌, ◌∷◌, OnOk};
-ghost use Rattle.spv_tokens.specs.declared.token.TokenKind.TheVariants as kind;
-ghost use Rattle.spv_syntax.specs.FormulaSpelling.{adding_kind, comparison_kind, multiplying_kind, truth_kind};
+ghost use Rattle.spv_tree.specs.declared.tokens.token.TokenKind.TheVariants as kind;
+ghost use Rattle.spv_tree.specs.syntax.FormulaSpelling.{adding_kind, comparison_kind, multiplying_kind, truth_kind};
 ghost use Rattle.spv_flat.specs.Flat.{Adds};
 
-use spv_syntax::{Adding, Comparison, Multiplying};
-use spv_tokens::{Sign, TokenKind, Word};
+use spv_tree::syntax::{Adding, Comparison, Multiplying};
+use spv_tree::tokens::{Sign, TokenKind, Word};
 use std::alloc::AllocError;
 
 // Adds a token.

@@ -1,16 +1,16 @@
 // Programs.
 
 ghost use Rattle.std.specs.Prelude.{OnOk};
-ghost use Rattle.spv_syntax.specs.Members.{in_kinds};
-ghost use Rattle.spv_syntax.specs.ProgramSpelling.{files_spelling, program_spelling};
+ghost use Rattle.spv_tree.specs.syntax.Members.{in_kinds};
+ghost use Rattle.spv_tree.specs.syntax.ProgramSpelling.{files_spelling, program_spelling};
 ghost use Rattle.spv_flat.specs.Flat.{Adds};
 
 use crate::routines::{entry, exit};
 use crate::spelled::Spelled;
 use crate::statements::block;
 use crate::{lists, out};
-use spv_syntax::{Name, Program, Several};
-use spv_tokens::{Sign, TokenKind, Word};
+use spv_tree::syntax::{Name, Program, Several};
+use spv_tree::tokens::{Sign, TokenKind, Word};
 use std::alloc::AllocError;
 
 // Adds the tokens of the names behind the name of a program, where they are there.

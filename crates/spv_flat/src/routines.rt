@@ -1,19 +1,19 @@
 // Routines, as a list of where they begin and end.
 
 ghost use Rattle.std.specs.Prelude.{OnOk};
-ghost use Rattle.spv_syntax.specs.Members.{in_kinds};
-ghost use Rattle.spv_syntax.specs.ProgramSpelling.{clauses_spelling, entry_spelling, exit_spelling, global_group_spelling, globals_spelling, group_form_spelling, group_spelling, heading_form_spelling, heading_spelling, initial_spelling, item_spelling, locals_spelling, params_spelling, result_spelling, routine_mark_spelling, start_spelling, var_spelling};
+ghost use Rattle.spv_tree.specs.syntax.Members.{in_kinds};
+ghost use Rattle.spv_tree.specs.syntax.ProgramSpelling.{clauses_spelling, entry_spelling, exit_spelling, global_group_spelling, globals_spelling, group_form_spelling, group_spelling, heading_form_spelling, heading_spelling, initial_spelling, item_spelling, locals_spelling, params_spelling, result_spelling, routine_mark_spelling, start_spelling, var_spelling};
 ghost use Rattle.spv_flat.specs.Flat.{Adds};
 
 use crate::formulas::formula;
 use crate::spelled::Spelled;
 use crate::statements::block;
 use crate::{lists, out};
-use spv_syntax::{
+use spv_tree::syntax::{
     Clauses, Formula, GlobalGroup, Group, GroupForm, Heading, HeadingForm, Item, Locals, Name,
     Params, RoutineMark, Several, Start,
 };
-use spv_tokens::{Sign, TokenKind, Word};
+use spv_tree::tokens::{Sign, TokenKind, Word};
 use std::alloc::AllocError;
 
 // Adds VAR, where it is there.

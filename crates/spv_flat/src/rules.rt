@@ -1,16 +1,16 @@
 // Rule files.
 
 ghost use Rattle.std.specs.Prelude.{OnOk};
-ghost use Rattle.spv_tokens.specs.declared.token.TokenKind.TheVariants as kind;
-ghost use Rattle.spv_syntax.specs.Members.{in_kinds};
-ghost use Rattle.spv_syntax.specs.RuleSpelling.{premise_spelling, rule_form_spelling, rule_spelling, rule_tree_spelling, rule_vars_spelling};
+ghost use Rattle.spv_tree.specs.declared.tokens.token.TokenKind.TheVariants as kind;
+ghost use Rattle.spv_tree.specs.syntax.Members.{in_kinds};
+ghost use Rattle.spv_tree.specs.syntax.RuleSpelling.{premise_spelling, rule_form_spelling, rule_spelling, rule_tree_spelling, rule_vars_spelling};
 ghost use Rattle.spv_flat.specs.Flat.{Adds};
 
 use crate::formulas::formula;
 use crate::spelled::Spelled;
 use crate::{lists, out};
-use spv_syntax::{Formula, Rule, RuleForm, RuleTree, RuleVars};
-use spv_tokens::{Sign, TokenKind, Word};
+use spv_tree::syntax::{Formula, Rule, RuleForm, RuleTree, RuleVars};
+use spv_tree::tokens::{Sign, TokenKind, Word};
 use std::alloc::AllocError;
 
 impl Spelled for RuleVars {

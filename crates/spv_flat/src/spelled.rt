@@ -1,10 +1,10 @@
 // Parts of trees, which have tokens.
 
 ghost use Rattle.std.specs.Prelude.{List, OnOk};
-ghost use Rattle.spv_tokens.specs.declared.token.TokenKind.{TokenKind};
+ghost use Rattle.spv_tree.specs.declared.tokens.token.TokenKind.{TokenKind};
 ghost use Rattle.spv_flat.specs.Flat.{Adds};
 
-use spv_tokens::TokenKind;
+use spv_tree::tokens::TokenKind;
 use std::alloc::AllocError;
 
 // A part of a tree, which has tokens.

@@ -1,18 +1,18 @@
 // Statements.
 
 ghost use Rattle.std.specs.Prelude.{◌≡◌, OnOk};
-ghost use Rattle.spv_syntax.specs.Members.{in_kinds};
-ghost use Rattle.spv_syntax.specs.StatementSpelling.{arguments_spelling, arm_spelling, block_spelling, direction_kind, invariant_spelling, loop_spelling, more_arms_spelling, more_statements_spelling, otherwise_spelling, statement_spelling};
-ghost use Rattle.spv_syntax.specs.Model.StatementSizes.{more_statements_of, more_arms_of};
-ghost use Rattle.spv_syntax.specs.StatementViews.{given_of, otherwise_of};
+ghost use Rattle.spv_tree.specs.syntax.Members.{in_kinds};
+ghost use Rattle.spv_tree.specs.syntax.StatementSpelling.{arguments_spelling, arm_spelling, block_spelling, direction_kind, invariant_spelling, loop_spelling, more_arms_spelling, more_statements_spelling, otherwise_spelling, statement_spelling};
+ghost use Rattle.spv_tree.specs.syntax.Model.StatementSizes.{more_statements_of, more_arms_of};
+ghost use Rattle.spv_tree.specs.syntax.StatementViews.{given_of, otherwise_of};
 ghost use Rattle.spv_flat.specs.Flat.{Adds};
 
 use crate::formulas::{designator, formula};
 use crate::{lists, out};
-use spv_syntax::{
+use spv_tree::syntax::{
     Arm, Block, Direction, Formula, Loop, LoopForm, Several, Statement, StatementForm,
 };
-use spv_tokens::{Sign, TokenKind, Word};
+use spv_tree::tokens::{Sign, TokenKind, Word};
 use std::alloc::AllocError;
 
 // Adds the tokens of arguments, with their brackets, where there are any.

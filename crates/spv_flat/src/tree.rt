@@ -1,15 +1,15 @@
 // The tokens of a whole text.
 
 ghost use Rattle.std.specs.Prelude.{◌≡◌, ◌++◌, List, [], OnOk, OnErr};
-ghost use Rattle.spv_tokens.specs.declared.token.TokenKind.{TokenKind};
-ghost use Rattle.spv_syntax.specs.Members.{in_kinds};
-ghost use Rattle.spv_syntax.specs.ProgramSpelling.{program_spelling};
-ghost use Rattle.spv_syntax.specs.RuleSpelling.{formula_text_spelling, rule_tree_spelling};
+ghost use Rattle.spv_tree.specs.declared.tokens.token.TokenKind.{TokenKind};
+ghost use Rattle.spv_tree.specs.syntax.Members.{in_kinds};
+ghost use Rattle.spv_tree.specs.syntax.ProgramSpelling.{program_spelling};
+ghost use Rattle.spv_tree.specs.syntax.RuleSpelling.{formula_text_spelling, rule_tree_spelling};
 ghost use Rattle.spv_flat.specs.Flat.{Adds};
 
 use crate::spelled::Spelled;
-use spv_syntax::{FormulaText, Program, RuleTree};
-use spv_tokens::TokenKind;
+use spv_tree::syntax::{FormulaText, Program, RuleTree};
+use spv_tree::tokens::TokenKind;
 use std::alloc::AllocError;
 
 /// The tree of a whole text: of a program, a rule file or a formula text.

@@ -1,15 +1,15 @@
 // Types.
 
 ghost use Rattle.std.specs.Prelude.{OnOk};
-ghost use Rattle.spv_syntax.specs.Members.{in_kinds};
-ghost use Rattle.spv_syntax.specs.TypeSpelling.{field_spelling, more_fields_spelling, more_types_spelling, type_spelling};
-ghost use Rattle.spv_syntax.specs.Model.TypeSizes.{more_types_of, more_fields_of};
+ghost use Rattle.spv_tree.specs.syntax.Members.{in_kinds};
+ghost use Rattle.spv_tree.specs.syntax.TypeSpelling.{field_spelling, more_fields_spelling, more_types_spelling, type_spelling};
+ghost use Rattle.spv_tree.specs.syntax.Model.TypeSizes.{more_types_of, more_fields_of};
 ghost use Rattle.spv_flat.specs.Flat.{Adds};
 
 use crate::spelled::Spelled;
 use crate::{lists, out};
-use spv_syntax::{Field, TypeDenoter, TypeForm};
-use spv_tokens::{Sign, TokenKind, Word};
+use spv_tree::syntax::{Field, TypeDenoter, TypeForm};
+use spv_tree::tokens::{Sign, TokenKind, Word};
 use std::alloc::AllocError;
 
 // Adds the tokens of a type.

@@ -8,18 +8,18 @@ use Rattle.spv_term.proofs.ArenaLemmas.{Extends-trans}
 use Rattle.spv_program.specs.Statements.{Statement}
 use Rattle.spv_program.specs.Programs.{Program}
 use Rattle.spv_program.specs.Supplies.{Supply}
-use Rattle.spv_supply.specs.Numbers.{AreThere}
+use Rattle.spv_assign.specs.supply.Numbers.{AreThere}
 use Rattle.spv_assign.specs.Conditions.{AreIn}
-use Rattle.spv_typed.specs.StatementViews.{block_of}
+use Rattle.spv_program.specs.typed.StatementViews.{block_of}
 use Rattle.spv_meaning.specs.Before.{Made, before}
-use Rattle.spv_events.specs.declared.faults.GenFault.{GenFault}
-use Rattle.spv_events.specs.Events.{Walked, Stops}
-use Rattle.spv_events.proofs.Walks.{nothing_walked}
+use Rattle.spv_assign.specs.declared.creation_trace.faults.GenFault.{GenFault}
+use Rattle.spv_assign.specs.creation_trace.Events.{Walked, Stops}
+use Rattle.spv_assign.proofs.creation_trace.Walks.{nothing_walked}
 use Rattle.spv_flow_parts.specs.declared.bodies.Body.{Body}
 use Rattle.spv_flow_parts.specs.Walks.{IsMade, Listed, made_of}
 use Rattle.spv_flow_parts.proofs.Steps.{went, stopped_at, comes_not}
-use Rattle.spv_flow_leaves.specs.Parts.{IsTaken, Making, Taking}
-use Rattle.spv_flow_rules.specs.Events.{events_by}
+use Rattle.spv_flow_parts.specs.leaves.Parts.{IsTaken, Making, Taking}
+use Rattle.spv_flow.specs.statement_rules.Events.{events_by}
 use Rattle.spv_flow.specs.Walking.{MayWalk, WalksBy}
 use Rattle.spv_flow.proofs.Growing.{may_walk_on, walks_behind, made_is}
 

@@ -15,30 +15,30 @@ use Rattle.spv_program.specs.Programs.{Program, routine_in}
 use Rattle.spv_program.specs.Supplies.{Supply}
 use Rattle.spv_program.specs.ExpressionTypes.{expression_sort}
 use Rattle.spv_program.specs.ExpressionTerms.{Valued, valued}
-use Rattle.spv_supply.specs.Numbers.{AreThere}
+use Rattle.spv_assign.specs.supply.Numbers.{AreThere}
 use Rattle.spv_assign.specs.Conditions.{conditions_of, AreIn}
 use Rattle.spv_assign.proofs.Growing.{AreIn-Extends, conditions_of-Extends}
-use Rattle.spv_typed.specs.declared.statements.Arm.{Arm}
-use Rattle.spv_typed.specs.StatementViews.{arms_of}
+use Rattle.spv_program.specs.declared.typed.statements.Arm.{Arm}
+use Rattle.spv_program.specs.typed.StatementViews.{arms_of}
 use Rattle.spv_meaning.specs.Before.{Made, before, before_arms, before_calls, assuming, all_assuming, is_label}
-use Rattle.spv_events.specs.declared.faults.GenFault.{GenFault}
-use Rattle.spv_events.specs.declared.faults.GenFault.TheVariants as fault
-use Rattle.spv_events.specs.Events.{Event, Walked, Stops}
-use Rattle.spv_events.specs.StatementEvents.{in_order}
-use Rattle.spv_events.proofs.Walks.{nothing_walked}
+use Rattle.spv_assign.specs.declared.creation_trace.faults.GenFault.{GenFault}
+use Rattle.spv_assign.specs.declared.creation_trace.faults.GenFault.TheVariants as fault
+use Rattle.spv_assign.specs.creation_trace.Events.{Event, Walked, Stops}
+use Rattle.spv_assign.specs.creation_trace.StatementEvents.{in_order}
+use Rattle.spv_assign.proofs.creation_trace.Walks.{nothing_walked}
 use Rattle.spv_flow_parts.specs.declared.bodies.Body.{Body}
 use Rattle.spv_flow_parts.specs.Walks.{Listed, Comes, ComesTo, made_of}
 use Rattle.spv_flow_parts.proofs.Steps.{append_nil, in_order_both, went, went_on, exit, stopped_among, comes_not, comes_never, comes_on, comes_last, comes_as, Stands-Extends}
 use Rattle.spv_flow_parts.proofs.Conditions.{long_conditions}
-use Rattle.spv_flow_leaves.specs.declared.valued.Valued as code
-use Rattle.spv_flow_leaves.specs.Parts.{IsTaken, Making, Taking}
-use Rattle.spv_flow_leaves.specs.Values.{MakesValue, call_events}
-use Rattle.spv_flow_leaves.proofs.Chains.{made_with, behind_made}
-use Rattle.spv_flow_rules.specs.Rules as rule
-use Rattle.spv_flow_rules.specs.Events.{arm_events_by, events_by}
-use Rattle.spv_flow_rules.specs.Rules.{arm_made, IsTestOf, IsValueOf}
-use Rattle.spv_flow_rules.proofs.WayLemmas.{IsValueOf-Extends, PutsInFront}
-use Rattle.spv_flow_rules.proofs.LoopBegins.{sort_of_test, value_made}
+use Rattle.spv_flow_parts.specs.declared.leaves.valued.Valued as code
+use Rattle.spv_flow_parts.specs.leaves.Parts.{IsTaken, Making, Taking}
+use Rattle.spv_flow_parts.specs.leaves.Values.{MakesValue, call_events}
+use Rattle.spv_flow_parts.proofs.leaves.Chains.{made_with, behind_made}
+use Rattle.spv_flow.specs.statement_rules.Rules as rule
+use Rattle.spv_flow.specs.statement_rules.Events.{arm_events_by, events_by}
+use Rattle.spv_flow.specs.statement_rules.Rules.{arm_made, IsTestOf, IsValueOf}
+use Rattle.spv_flow.proofs.statement_rules.WayLemmas.{IsValueOf-Extends, PutsInFront}
+use Rattle.spv_flow.proofs.statement_rules.LoopBegins.{sort_of_test, value_made}
 use Rattle.spv_flow.specs.Walking.{MayWalk, WalksBy, AreTakenArms, MayWalkArms, WalksArms, one_arm_made, one_arm_events}
 use Rattle.spv_flow.proofs.Right.{case_value, case_arms}
 use Rattle.spv_flow.proofs.Growing.{within_then, walks_as, walks_behind, behind_given}

@@ -13,26 +13,26 @@ use Rattle.spv_program.specs.Programs.{Program, routine_in}
 use Rattle.spv_program.specs.Supplies.{Supply}
 use Rattle.spv_program.specs.Terms.{alone}
 use Rattle.spv_program.specs.ExpressionTerms.{Valued, valued}
-use Rattle.spv_supply.specs.Numbers.{AreThere}
+use Rattle.spv_assign.specs.supply.Numbers.{AreThere}
 use Rattle.spv_assign.specs.Conditions.{conditions_of, AreIn, all_terms_in}
 use Rattle.spv_assign.proofs.Growing.{conditions_of-Extends}
 use Rattle.spv_meaning.specs.Before.{Made, Renamed, before, before_calls, annotation_term, wanted_with, next_term}
-use Rattle.spv_events.specs.declared.faults.GenFault.{GenFault}
-use Rattle.spv_events.specs.Events.{Event}
-use Rattle.spv_events.specs.StatementEvents.{one_if_there, several, in_order, loop_names}
-use Rattle.spv_events.proofs.Walks.{nothing_walked}
+use Rattle.spv_assign.specs.declared.creation_trace.faults.GenFault.{GenFault}
+use Rattle.spv_assign.specs.creation_trace.Events.{Event}
+use Rattle.spv_assign.specs.creation_trace.StatementEvents.{one_if_there, several, in_order, loop_names}
+use Rattle.spv_assign.proofs.creation_trace.Walks.{nothing_walked}
 use Rattle.spv_flow_parts.specs.declared.bodies.Body.{Body}
 use Rattle.spv_flow_parts.specs.Standing.{AreNotes, Stands}
 use Rattle.spv_flow_parts.specs.Walks.{Listed, Comes, made_of}
 use Rattle.spv_flow_parts.proofs.Steps.{went, exit, stopped_among, comes_not, comes_on, comes_as, Stands-Extends}
-use Rattle.spv_flow_counting.specs.Counting.{number_head, counter_terms, ended_made, ended_events}
+use Rattle.spv_flow_parts.specs.for_loops.Counting.{number_head, counter_terms, ended_made, ended_events}
 use Rattle.spv_logic.specs.declared.types.Sort.TheVariants as sort
-use Rattle.spv_flow_leaves.specs.Parts.{IsTaken, Making, Taking}
-use Rattle.spv_flow_leaves.proofs.Chains.{made_with, same_made}
-use Rattle.spv_flow_rules.specs.declared.counting.BegunFor.{BegunFor}
-use Rattle.spv_flow_rules.specs.Events.{end_call_events, events_by}
-use Rattle.spv_flow_rules.specs.Rules.{IsCounted, IsValueOf, AreForTerms, MayEndFor, BeginsFor, EndsFor, next_wanted, for_begin, for_made, for_end}
-use Rattle.spv_flow_rules.proofs.ForLemmas.{AreForTerms-Extends, for_terms_end}
+use Rattle.spv_flow_parts.specs.leaves.Parts.{IsTaken, Making, Taking}
+use Rattle.spv_flow_parts.proofs.leaves.Chains.{made_with, same_made}
+use Rattle.spv_flow.specs.declared.statement_rules.counting.BegunFor.{BegunFor}
+use Rattle.spv_flow.specs.statement_rules.Events.{end_call_events, events_by}
+use Rattle.spv_flow.specs.statement_rules.Rules.{IsCounted, IsValueOf, AreForTerms, MayEndFor, BeginsFor, EndsFor, next_wanted, for_begin, for_made, for_end}
+use Rattle.spv_flow.proofs.statement_rules.ForLemmas.{AreForTerms-Extends, for_terms_end}
 use Rattle.spv_flow.specs.Walking.{MayWalk, WalksBy}
 use Rattle.spv_flow.proofs.Right.{for_notes, for_counted, for_variable, for_inside}
 use Rattle.spv_flow.proofs.Growing.{may_walk_on, within_then, walks_as, walks_behind}

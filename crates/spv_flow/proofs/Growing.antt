@@ -6,15 +6,15 @@ use Rattle.spv_program.specs.Statements.{Statement}
 use Rattle.spv_program.specs.Programs.{Program}
 use Rattle.spv_program.specs.Supplies.{Supply}
 use Rattle.spv_logic.specs.declared.conditions.RoutineId.{RoutineId}
-use Rattle.spv_supply.specs.Numbers.{AreThere}
+use Rattle.spv_assign.specs.supply.Numbers.{AreThere}
 use Rattle.spv_assign.specs.Conditions.{AreIn}
 use Rattle.spv_assign.proofs.Growing.{AreIn-Extends}
 use Rattle.spv_meaning.specs.Before.{Made}
 use Rattle.spv_flow_parts.specs.declared.bodies.Body.{Body}
 use Rattle.spv_flow_parts.specs.Walks.{IsMade, Listed, made_of}
 use Rattle.spv_flow_parts.proofs.Steps.{Stands-Extends}
-use Rattle.spv_flow_leaves.specs.Parts.{IsTaken, Making, Taking}
-use Rattle.spv_flow_leaves.proofs.Chains.{behind_made}
+use Rattle.spv_flow_parts.specs.leaves.Parts.{IsTaken, Making, Taking}
+use Rattle.spv_flow_parts.proofs.leaves.Chains.{behind_made}
 use Rattle.spv_flow.specs.Walking.{MayWalk, WalksBy}
 
 module _ (taking : Taking) (p : Program) (body : Body) {a : Arena} {n : Supply} {whole : Statement} {items : List Condition} (h : MayWalk taking p body a n whole items) where

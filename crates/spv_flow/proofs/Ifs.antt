@@ -14,22 +14,22 @@ use Rattle.spv_program.specs.ExpressionTypes.{expression_sort}
 use Rattle.spv_program.specs.ExpressionTerms.{Valued, valued}
 use Rattle.spv_assign.specs.Conditions.{conditions_of, AreIn}
 use Rattle.spv_meaning.specs.Before.{Made, before}
-use Rattle.spv_events.specs.declared.faults.GenFault.{GenFault}
-use Rattle.spv_events.specs.declared.faults.GenFault.TheVariants as fault
-use Rattle.spv_events.specs.Events.{Event, Walked}
-use Rattle.spv_events.specs.StatementEvents.{in_order}
-use Rattle.spv_events.proofs.Walks.{nothing_walked}
+use Rattle.spv_assign.specs.declared.creation_trace.faults.GenFault.{GenFault}
+use Rattle.spv_assign.specs.declared.creation_trace.faults.GenFault.TheVariants as fault
+use Rattle.spv_assign.specs.creation_trace.Events.{Event, Walked}
+use Rattle.spv_assign.specs.creation_trace.StatementEvents.{in_order}
+use Rattle.spv_assign.proofs.creation_trace.Walks.{nothing_walked}
 use Rattle.spv_flow_parts.specs.declared.bodies.Body.{Body}
 use Rattle.spv_flow_parts.specs.Walks.{AreThese, Listed, ComesTo, made_of}
 use Rattle.spv_flow_parts.proofs.Steps.{went, exit, comes_never, comes_on, comes_as, AreThese-Extends}
-use Rattle.spv_flow_leaves.specs.declared.valued.Valued as code
-use Rattle.spv_flow_leaves.specs.Parts.{Making, Taking}
-use Rattle.spv_flow_leaves.specs.Values.{MakesValue}
-use Rattle.spv_flow_leaves.proofs.Chains.{made_with}
-use Rattle.spv_flow_rules.specs.Events.{events_by}
-use Rattle.spv_flow_rules.specs.Rules.{IsTestOf, IsValueOf, tested_made, tested_events}
-use Rattle.spv_flow_rules.proofs.WayLemmas.{IsValueOf-Extends}
-use Rattle.spv_flow_rules.proofs.LoopBegins.{sort_of_test, value_made}
+use Rattle.spv_flow_parts.specs.declared.leaves.valued.Valued as code
+use Rattle.spv_flow_parts.specs.leaves.Parts.{Making, Taking}
+use Rattle.spv_flow_parts.specs.leaves.Values.{MakesValue}
+use Rattle.spv_flow_parts.proofs.leaves.Chains.{made_with}
+use Rattle.spv_flow.specs.statement_rules.Events.{events_by}
+use Rattle.spv_flow.specs.statement_rules.Rules.{IsTestOf, IsValueOf, tested_made, tested_events}
+use Rattle.spv_flow.proofs.statement_rules.WayLemmas.{IsValueOf-Extends}
+use Rattle.spv_flow.proofs.statement_rules.LoopBegins.{sort_of_test, value_made}
 use Rattle.spv_flow.specs.Walking.{MayWalk, WalksBy}
 use Rattle.spv_flow.proofs.Right.{if_test, if_first, if_second}
 use Rattle.spv_flow.proofs.Growing.{may_walk_on, within_then, walks_behind, behind_given}

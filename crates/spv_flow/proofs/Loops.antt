@@ -12,26 +12,26 @@ use Rattle.spv_program.specs.Statements.{Statement, While, Repeat}
 use Rattle.spv_program.specs.Programs.{Program, routine_in}
 use Rattle.spv_program.specs.Supplies.{Supply}
 use Rattle.spv_program.specs.ExpressionTerms.{Valued, valued}
-use Rattle.spv_supply.specs.Numbers.{AreThere}
+use Rattle.spv_assign.specs.supply.Numbers.{AreThere}
 use Rattle.spv_assign.specs.Conditions.{conditions_of, AreIn}
 use Rattle.spv_assign.proofs.Growing.{conditions_of-Extends}
 use Rattle.spv_meaning.specs.Before.{Made, Renamed, before, before_calls, negated, annotation_term, wanted_if_there}
-use Rattle.spv_events.specs.declared.faults.GenFault.{GenFault}
-use Rattle.spv_events.specs.Events.{Event}
-use Rattle.spv_events.specs.StatementEvents.{one, one_if_there, counted, in_order, loop_names, loop_events}
-use Rattle.spv_events.proofs.Walks.{nothing_walked}
+use Rattle.spv_assign.specs.declared.creation_trace.faults.GenFault.{GenFault}
+use Rattle.spv_assign.specs.creation_trace.Events.{Event}
+use Rattle.spv_assign.specs.creation_trace.StatementEvents.{one, one_if_there, counted, in_order, loop_names, loop_events}
+use Rattle.spv_assign.proofs.creation_trace.Walks.{nothing_walked}
 use Rattle.spv_flow_parts.specs.declared.bodies.Body.{Body}
 use Rattle.spv_flow_parts.specs.Standing.{Stands}
 use Rattle.spv_flow_parts.specs.Walks.{IsNoted, Listed, Comes, made_of, loop_made}
 use Rattle.spv_flow_parts.proofs.Steps.{went, exit, stopped_among, comes_not, comes_on, comes_last, comes_as, Stands-Extends}
 use Rattle.spv_flow_parts.proofs.LoopLemmas.{IsNoted-Extends}
-use Rattle.spv_flow_leaves.specs.Parts.{IsTaken, Making, Taking}
-use Rattle.spv_flow_leaves.specs.Values.{call_events}
-use Rattle.spv_flow_leaves.proofs.Chains.{made_with, same_made}
-use Rattle.spv_flow_rules.specs.declared.loops.Begun.{Begun}
-use Rattle.spv_flow_rules.specs.Events.{events_by}
-use Rattle.spv_flow_rules.specs.Rules.{IsTested, IsValueOf, HasValue, AreLoopTerms, Begins, tested_made, while_begin, while_end, repeat_uses, repeat_begin}
-use Rattle.spv_flow_rules.proofs.LoopBegins.{AreLoopTerms-Extends}
+use Rattle.spv_flow_parts.specs.leaves.Parts.{IsTaken, Making, Taking}
+use Rattle.spv_flow_parts.specs.leaves.Values.{call_events}
+use Rattle.spv_flow_parts.proofs.leaves.Chains.{made_with, same_made}
+use Rattle.spv_flow.specs.declared.statement_rules.loops.Begun.{Begun}
+use Rattle.spv_flow.specs.statement_rules.Events.{events_by}
+use Rattle.spv_flow.specs.statement_rules.Rules.{IsTested, IsValueOf, HasValue, AreLoopTerms, Begins, tested_made, while_begin, while_end, repeat_uses, repeat_begin}
+use Rattle.spv_flow.proofs.statement_rules.LoopBegins.{AreLoopTerms-Extends}
 use Rattle.spv_logic.specs.declared.types.Sort.TheVariants as sort
 use Rattle.spv_flow.specs.Walking.{MayWalk, WalksBy}
 use Rattle.spv_flow.proofs.Right.{while_tested, while_inside, repeat_tested, repeat_inside}

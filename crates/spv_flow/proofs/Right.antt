@@ -2,7 +2,7 @@
 use Rattle.std.proofs.Common.{◌≡◌, ℕ, zero, suc, ◌<◌, ◌&&◌, true, List, [], ◌∷◌, length, get_or, Option, Some, refl, ap, arith}
 use Rattle.std.specs.Ordering.{int_eq}
 use Rattle.std.specs.Cmp.Derive.{both_true}
-use Rattle.spv_list.proofs.Tests.{left_true, right_true}
+use Rattle.spv_logic.proofs.list.Tests.{left_true, right_true}
 use Rattle.spv_logic.specs.declared.conditions.RoutineId.{RoutineId}
 use Rattle.spv_logic.specs.declared.types.Sort.{Sort}
 use Rattle.spv_logic.specs.declared.types.Sort.TheVariants as sort
@@ -19,12 +19,12 @@ use Rattle.spv_program.specs.FormulaTypes.{is_sort, annotation_ok}
 use Rattle.spv_program.specs.ExpressionTypes.{expression_sort, sort_of_type}
 use Rattle.spv_program.specs.Typing.{statement_ok, arms_ok, labels_in, may_count, counting_ok}
 use Rattle.spv_program.proofs.SortFacts.{is_sort-true}
-use Rattle.spv_typed.specs.declared.statements.Arm.{Arm}
-use Rattle.spv_typed.specs.StatementViews.{arms_of, block_of}
-use Rattle.spv_statements.specs.Parts.{Passing, parts_pass, arms_pass}
-use Rattle.spv_flow_counting.specs.Counting.{number_head}
-use Rattle.spv_flow_leaves.specs.Parts.{IsTaken, Taking, passing}
-use Rattle.spv_flow_rules.specs.Rules.{IsTestOf, IsTested, IsCounted}
+use Rattle.spv_program.specs.declared.typed.statements.Arm.{Arm}
+use Rattle.spv_program.specs.typed.StatementViews.{arms_of, block_of}
+use Rattle.spv_rule_soundness.specs.statements.Parts.{Passing, parts_pass, arms_pass}
+use Rattle.spv_flow_parts.specs.for_loops.Counting.{number_head}
+use Rattle.spv_flow_parts.specs.leaves.Parts.{IsTaken, Taking, passing}
+use Rattle.spv_flow.specs.statement_rules.Rules.{IsTestOf, IsTested, IsCounted}
 use Rattle.spv_flow_parts.specs.declared.bodies.Body.{Body}
 use Rattle.spv_flow_parts.specs.Standing.{AreNotes}
 use Rattle.spv_flow.specs.Walking.{AreTakenArms}

@@ -7,15 +7,15 @@ use Rattle.spv_program.specs.Statements.{Statement}
 use Rattle.spv_meaning.specs.Levels.{Here}
 use Rattle.spv_meaning.specs.Walks.{run}
 use Rattle.spv_meaning.proofs.Assigning.{in_main}
-use Rattle.spv_evaluation.proofs.Settings.{forms_right}
-use Rattle.spv_statements.specs.Truth.{IsEntry}
-use Rattle.spv_statements.specs.Runs.{IsRight}
-use Rattle.spv_statements.specs.Parts.{parts_pass}
-use Rattle.spv_statements.specs.Laws.{PartsAreRight}
-use Rattle.spv_statements.proofs.Induction.{right_level}
-use Rattle.spv_control.proofs.Parts.{main_entry, main_parts, parts_right}
-use Rattle.spv_flow_leaves.specs.Parts.{Taking, passing}
-use Rattle.spv_flow_leaves.specs.Laws.{CountersAreRight, IsMainBlock, LeavesAreRight, TestsAreRight}
+use Rattle.spv_rule_soundness.proofs.evaluation.Settings.{forms_right}
+use Rattle.spv_rule_soundness.specs.statements.Truth.{IsEntry}
+use Rattle.spv_rule_soundness.specs.statements.Runs.{IsRight}
+use Rattle.spv_rule_soundness.specs.statements.Parts.{parts_pass}
+use Rattle.spv_rule_soundness.specs.statements.Laws.{PartsAreRight}
+use Rattle.spv_rule_soundness.proofs.statements.Induction.{right_level}
+use Rattle.spv_rule_soundness.proofs.control.Parts.{main_entry, main_parts, parts_right}
+use Rattle.spv_flow_parts.specs.leaves.Parts.{Taking, passing}
+use Rattle.spv_flow_parts.specs.leaves.Laws.{CountersAreRight, IsMainBlock, LeavesAreRight, TestsAreRight}
 
 -- leaves, tests and counters together
 module _ (p : Program) (world : Meaning) (here : Here) (taking : Taking) (leaves : LeavesAreRight p world here taking) (tests : TestsAreRight p world here taking)

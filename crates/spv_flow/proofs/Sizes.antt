@@ -1,9 +1,9 @@
 -- Statements are larger than what is inside of them.
 use Rattle.std.proofs.Common.{◌<◌, ℕ, zero, suc, List, [], ◌∷◌, length, get_or, arith}
 use Rattle.spv_program.specs.Statements.{Statement}
-use Rattle.spv_typed.specs.declared.statements.Arm.{Arm}
-use Rattle.spv_typed.specs.StatementViews.{arms_of, block_of}
-use Rattle.spv_typed.specs.Model.StatementSizes.{arms_size, statement_size}
+use Rattle.spv_program.specs.declared.typed.statements.Arm.{Arm}
+use Rattle.spv_program.specs.typed.StatementViews.{arms_of, block_of}
+use Rattle.spv_program.specs.typed.Model.StatementSizes.{arms_size, statement_size}
 
 pub statement_within : (ss : List Statement) (i : ℕ) (d : Statement) → i < length ss → statement_size (get_or ss i d) < statement_size (block_of ss)
 statement_within [] i d h = absurd (omega arith)

@@ -1,1 +1,2 @@
+pub mod statement_rules
 pub mod Walking

@@ -11,17 +11,17 @@ use Rattle.spv_program.specs.Statements.{Statement, Arms}
 use Rattle.spv_program.specs.Programs.{Program, routine_in}
 use Rattle.spv_program.specs.Supplies.{Supply}
 use Rattle.spv_program.specs.Typing.{arms_ok}
-use Rattle.spv_supply.specs.Numbers.{AreThere}
+use Rattle.spv_assign.specs.supply.Numbers.{AreThere}
 use Rattle.spv_assign.specs.Conditions.{AreIn}
-use Rattle.spv_statements.specs.Parts.{arms_pass}
+use Rattle.spv_rule_soundness.specs.statements.Parts.{arms_pass}
 use Rattle.spv_meaning.specs.Before.{Made, before, before_arms}
-use Rattle.spv_events.specs.Events.{Event}
+use Rattle.spv_assign.specs.creation_trace.Events.{Event}
 use Rattle.spv_flow_parts.specs.declared.bodies.Body.{Body}
 use Rattle.spv_flow_parts.specs.Standing.{Stands}
 use Rattle.spv_flow_parts.specs.Walks.{Listed, Comes}
-use Rattle.spv_flow_leaves.specs.Parts.{IsTaken, Making, Taking, passing}
-use Rattle.spv_flow_rules.specs.Events.{arm_events_by, events_by}
-use Rattle.spv_flow_rules.specs.Rules as rule
+use Rattle.spv_flow_parts.specs.leaves.Parts.{IsTaken, Making, Taking, passing}
+use Rattle.spv_flow.specs.statement_rules.Events.{arm_events_by, events_by}
+use Rattle.spv_flow.specs.statement_rules.Rules as rule
 
 -- the conditions before a statement, made by its events
 abbrev pub WalksBy : Listed → Making → Program → Option RoutineId → Statement → Made → Arena → Arena → Supply → Type 0

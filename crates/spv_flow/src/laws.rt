@@ -7,14 +7,14 @@ ghost use Rattle.spv_program.specs.Programs.{Program, shapes};
 ghost use Rattle.spv_program.specs.Statements.{Statement};
 ghost use Rattle.spv_meaning.specs.Levels.{Here};
 ghost use Rattle.spv_meaning.specs.Walks.{run};
-ghost use Rattle.spv_statements.specs.Truth.{IsEntry};
-ghost use Rattle.spv_statements.specs.Runs.{IsRight};
-ghost use Rattle.spv_statements.specs.Parts.{parts_pass};
-ghost use Rattle.spv_control.specs.Laws.{TrueConditionsGiveCorrectIn};
-ghost use Rattle.spv_flow_leaves.specs.Parts.{Taking, passing};
-ghost use Rattle.spv_flow_leaves.specs.Laws.{CountersAreRight, IsMainBlock};
+ghost use Rattle.spv_rule_soundness.specs.statements.Truth.{IsEntry};
+ghost use Rattle.spv_rule_soundness.specs.statements.Runs.{IsRight};
+ghost use Rattle.spv_rule_soundness.specs.statements.Parts.{parts_pass};
+ghost use Rattle.spv_rule_soundness.specs.control.Laws.{TrueConditionsGiveCorrectIn};
+ghost use Rattle.spv_flow_parts.specs.leaves.Parts.{Taking, passing};
+ghost use Rattle.spv_flow_parts.specs.leaves.Laws.{CountersAreRight, IsMainBlock};
 
-use spv_flow_leaves::Leaves;
+use spv_flow_parts::leaves::Leaves;
 
 /// The conditions that `before` makes with these leaves are those of rules that are right in every world, with any number of
 /// turns, wherever the leaves' own rules are and FORs count as they should: a statement that starts where its conditions are

@@ -2,6 +2,7 @@
 #![tactic(auto)]
 
 mod laws;
+pub mod statement_rules;
 mod walk;
 
 pub use laws::law_before;

@@ -4,28 +4,30 @@ ghost use Rattle.std.specs.Prelude.{◌≡◌, [], ◌∷◌, length, option_map
 ghost use Rattle.spv_term.specs.Arena.{tree};
 ghost use Rattle.spv_program.specs.Statements as plain;
 ghost use Rattle.spv_program.specs.Statements.{If, Case, While, Repeat, For};
-ghost use Rattle.spv_typed.specs.FormulaViews.{annotation_of};
-ghost use Rattle.spv_typed.specs.StatementViews.{arms_of, block_of, counting_of};
-ghost use Rattle.spv_supply.specs.Numbers.{AreThere, supply_of};
+ghost use Rattle.spv_program.specs.typed.FormulaViews.{annotation_of};
+ghost use Rattle.spv_program.specs.typed.StatementViews.{arms_of, block_of, counting_of};
+ghost use Rattle.spv_assign.specs.supply.Numbers.{AreThere, supply_of};
 ghost use Rattle.spv_assign.specs.Conditions.{AreIn, conditions_of};
 ghost use Rattle.spv_meaning.specs.Before as meaning;
-ghost use Rattle.spv_events.specs.StatementEvents.{in_order};
+ghost use Rattle.spv_assign.specs.creation_trace.StatementEvents.{in_order};
 ghost use Rattle.spv_flow_parts.specs.Standing.{Stands};
 ghost use Rattle.spv_flow_parts.specs.Walks.{Comes, made_of};
-ghost use Rattle.spv_flow_leaves.specs.Parts.{IsTaken};
-ghost use Rattle.spv_flow_rules.specs.Events.{events_by};
+ghost use Rattle.spv_flow_parts.specs.leaves.Parts.{IsTaken};
+ghost use Rattle.spv_flow.specs.statement_rules.Events.{events_by};
 ghost use Rattle.spv_flow.specs.Walking.{MayWalk, MayWalkArms, WalksArms, WalksBy, one_arm_events, one_arm_made};
 
-use spv_events::GenFault;
-use spv_flow_leaves::{Leaves, before_assert};
-use spv_flow_parts::{Body, copied};
-use spv_flow_rules::{
+use crate::statement_rules::{
     Begun, BegunFor, begin_for, begin_repeat, begin_while, end_for, end_repeat, end_while,
     tested_ways, with_arm,
 };
-use spv_supply::Supply;
+use spv_assign::creation_trace::GenFault;
+use spv_assign::supply::Supply;
+use spv_flow_parts::leaves::{Leaves, before_assert};
+use spv_flow_parts::{Body, copied};
+use spv_program::typed::{
+    Annotation, Arm, Counting, Expression, Program, Statement, StatementForm,
+};
 use spv_term::{Condition, TermId, Terms};
-use spv_typed::{Annotation, Arm, Counting, Expression, Program, Statement, StatementForm};
 
 #[cycle(statements)]
 fn statement<L: Leaves>(

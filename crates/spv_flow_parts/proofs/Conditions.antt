@@ -12,12 +12,12 @@ use Rattle.spv_term.proofs.ArenaLemmas.{Extends-refl}
 use Rattle.spv_program.specs.Formulas.{Annotation}
 use Rattle.spv_program.specs.Programs.{Program, routine_in}
 use Rattle.spv_program.specs.Terms.{body_term}
-use Rattle.spv_supply.proofs.FreshLemmas.{AreThere-Extends}
+use Rattle.spv_assign.proofs.supply.FreshLemmas.{AreThere-Extends}
 use Rattle.spv_assign.specs.Conditions.{condition_of, conditions_of, pairs_of, AreIn, all_terms_in, with_given, Assumes}
 use Rattle.spv_meaning.specs.Before.{all_assuming, assuming_if_there, replaced, wanted_if_there}
-use Rattle.spv_events.specs.Events.{Answers}
-use Rattle.spv_events.specs.StatementEvents.{counted, several}
-use Rattle.spv_flow_steps.specs.Makes.{IsTerm}
+use Rattle.spv_assign.specs.creation_trace.Events.{Answers}
+use Rattle.spv_assign.specs.creation_trace.StatementEvents.{counted, several}
+use Rattle.spv_assign.specs.limited_steps.Makes.{IsTerm}
 use Rattle.spv_flow_parts.specs.Walks.{AreThese, IsMade, IsThere, wanted_item, Listed, ComesTo}
 
 pub conditions_both : (a : Arena) (xs ys : List Condition) → conditions_of a (xs ++ ys) ≡ conditions_of a xs ++ conditions_of a ys

@@ -17,10 +17,10 @@ use Rattle.spv_program.specs.Terms.{body_term}
 use Rattle.spv_assign.specs.Conditions.{conditions_of, pairs_of, AreIn, all_terms_in}
 use Rattle.spv_assign.proofs.Growing.{conditions_of-Extends}
 use Rattle.spv_meaning.specs.Before.{Renamed, replaced, assuming, assuming_if_there, annotation_term, wanted_if_there}
-use Rattle.spv_events.specs.declared.faults.GenFault.{GenFault}
-use Rattle.spv_events.specs.Events.{Walked, Stops, Answers}
-use Rattle.spv_events.specs.StatementEvents.{counted, several, in_order, pair_terms, replacing_events, loop_events}
-use Rattle.spv_events.proofs.Walks.{nothing_walked}
+use Rattle.spv_assign.specs.declared.creation_trace.faults.GenFault.{GenFault}
+use Rattle.spv_assign.specs.creation_trace.Events.{Walked, Stops, Answers}
+use Rattle.spv_assign.specs.creation_trace.StatementEvents.{counted, several, in_order, pair_terms, replacing_events, loop_events}
+use Rattle.spv_assign.proofs.creation_trace.Walks.{nothing_walked}
 use Rattle.spv_flow_parts.specs.Walks.{AreThese, AreRenamed, IsMade, IsNoted, IsThere, Listed, Comes, ComesTo, loop_made, renamed_made}
 use Rattle.spv_flow_parts.proofs.Steps.{went, exit, comes_last, comes_as, IsTerm-Extends}
 use Rattle.spv_flow_parts.proofs.Conditions.{joined_comes, long_conditions}

@@ -9,18 +9,18 @@ use Rattle.spv_logic.specs.Sorts.{head_in_range}
 use Rattle.spv_logic.specs.Substitution.{is_variable}
 use Rattle.spv_term.specs.Arena.{Arena, Extends}
 use Rattle.spv_term.proofs.ArenaLemmas.{Extends-refl, Extends-trans, tree-Extends, sort_at-Extends, length-Extends}
-use Rattle.spv_substitution.specs.Images.{IsPair, ArePairs, head_at, head_of}
+use Rattle.spv_term.specs.substitution.Images.{IsPair, ArePairs, head_at, head_of}
 use Rattle.spv_program.specs.Supplies.{Supply, fresh_like}
 use Rattle.spv_program.specs.Terms.{alone}
-use Rattle.spv_supply.specs.Numbers.{Taken, AreThere, supply_of}
+use Rattle.spv_assign.specs.supply.Numbers.{Taken, AreThere, supply_of}
 use Rattle.spv_assign.specs.Conditions.{pairs_of}
 use Rattle.spv_meaning.specs.Before.{renamed}
-use Rattle.spv_events.specs.declared.faults.GenFault.{GenFault}
-use Rattle.spv_events.specs.Events.{Walked, Stops}
-use Rattle.spv_events.specs.StatementEvents.{several, pair_terms}
-use Rattle.spv_events.proofs.Walks.{adds_nothing, part_first, walked_behind, stopped_behind}
-use Rattle.spv_events.proofs.Covering.{AreCovered, covered_stops, same_walk}
-use Rattle.spv_flow_steps.specs.Makes.{IsFreshPair}
+use Rattle.spv_assign.specs.declared.creation_trace.faults.GenFault.{GenFault}
+use Rattle.spv_assign.specs.creation_trace.Events.{Walked, Stops}
+use Rattle.spv_assign.specs.creation_trace.StatementEvents.{several, pair_terms}
+use Rattle.spv_assign.proofs.creation_trace.Walks.{adds_nothing, part_first, walked_behind, stopped_behind}
+use Rattle.spv_assign.proofs.creation_trace.Covering.{AreCovered, covered_stops, same_walk}
+use Rattle.spv_assign.specs.limited_steps.Makes.{IsFreshPair}
 use Rattle.spv_flow_parts.specs.Standing.{AllRenamed}
 use Rattle.spv_flow_parts.specs.Walks.{AreRenamed}
 use Rattle.spv_flow_parts.proofs.Steps.{append_nil}

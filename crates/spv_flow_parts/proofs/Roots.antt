@@ -2,8 +2,8 @@
 use Rattle.std.proofs.Common.{◌≡◌, Bool, true, false, cond, ◌&&◌, nat_eq, length, List, [], ◌∷◌, ◌++◌, map, filter, refl, sym, subst, Option, Some, None, if◌then◌else◌}
 use Rattle.std.specs.List.{list_all, list_any}
 use Rattle.std.specs.Cmp.Derive.{both_true}
-use Rattle.spv_list.proofs.Tests.{left_true, right_true}
-use Rattle.spv_names.specs.declared.names.Symbol.{Symbol}
+use Rattle.spv_logic.proofs.list.Tests.{left_true, right_true}
+use Rattle.spv_logic.specs.declared.names.names.Symbol.{Symbol}
 use Rattle.spv_logic.specs.declared.types.TypeId.{TypeId}
 use Rattle.spv_logic.specs.declared.types.Shape.{Shape}
 use Rattle.spv_logic.specs.declared.operators.Head.{Head}
@@ -19,8 +19,8 @@ use Rattle.spv_program.specs.Scopes.{result_name, own_names_in}
 use Rattle.spv_program.specs.Uses.{Root, Own, Shared, same_root}
 use Rattle.spv_program.specs.Changes.{changed_roots, changed_heads, types_once, all_roots}
 use Rattle.spv_program.specs.Typing.{types_exist, result_ok, declarations_ok}
-use Rattle.spv_makeable_terms.specs.Laws.{heading_ok_in}
-use Rattle.spv_makeable_terms.proofs.Ranges.{shape_there, sort_there}
+use Rattle.spv_expression_terms.specs.makeable_terms.Laws.{heading_ok_in}
+use Rattle.spv_expression_terms.proofs.makeable_terms.Ranges.{shape_there, sort_there}
 use Rattle.spv_flow_parts.specs.declared.bodies.Body.{Body}
 use Rattle.spv_flow_parts.specs.Standing.{Stands, AllRenamed}
 

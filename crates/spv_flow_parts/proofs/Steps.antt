@@ -12,13 +12,13 @@ use Rattle.spv_program.specs.Supplies.{Supply}
 use Rattle.spv_assign.specs.Conditions.{AreIn}
 use Rattle.spv_assign.proofs.Growing.{AreIn-Extends, conditions_of-Extends}
 use Rattle.spv_meaning.specs.Before.{Made}
-use Rattle.spv_events.specs.declared.faults.GenFault.{GenFault}
-use Rattle.spv_events.specs.declared.faults.GenFault.TheVariants as fault
-use Rattle.spv_events.specs.Events.{Event, Walked, Stops, Answers}
-use Rattle.spv_events.specs.StatementEvents.{in_order}
-use Rattle.spv_events.proofs.Walks.{walked_behind, stopped_first, stopped_behind, answered_behind}
-use Rattle.spv_flow_steps.specs.Makes.{IsTerm}
-use Rattle.spv_flow_steps.proofs.Limits.{same_stop}
+use Rattle.spv_assign.specs.declared.creation_trace.faults.GenFault.{GenFault}
+use Rattle.spv_assign.specs.declared.creation_trace.faults.GenFault.TheVariants as fault
+use Rattle.spv_assign.specs.creation_trace.Events.{Event, Walked, Stops, Answers}
+use Rattle.spv_assign.specs.creation_trace.StatementEvents.{in_order}
+use Rattle.spv_assign.proofs.creation_trace.Walks.{walked_behind, stopped_first, stopped_behind, answered_behind}
+use Rattle.spv_assign.specs.limited_steps.Makes.{IsTerm}
+use Rattle.spv_assign.proofs.limited_steps.Limits.{same_stop}
 use Rattle.spv_flow_parts.specs.declared.bodies.Body.{Body}
 use Rattle.spv_flow_parts.specs.Standing.{Stands}
 use Rattle.spv_flow_parts.specs.Walks.{AreThese, IsMade, Listed, Comes, made_of}

@@ -11,7 +11,7 @@ use Rattle.spv_logic.specs.Sorts.{term_sort}
 use Rattle.spv_term.specs.declared.nodes.TermFault.{TermFault}
 use Rattle.spv_term.specs.declared.nodes.TermFault.TheVariants.{Size}
 use Rattle.spv_term.specs.Arena.{Arena, Extends, tree, sort_at}
-use Rattle.spv_substitution.specs.Parts.{AddsParts, LacksPart}
+use Rattle.spv_term.specs.substitution.Parts.{AddsParts, LacksPart}
 use Rattle.spv_program.specs.Expressions.{Expression, Designator, Call, designator, no_selectors, at_index, at_field, at_cell}
 use Rattle.spv_program.specs.Formulas.{Annotation}
 use Rattle.spv_program.specs.Programs.{Program, shapes, routine_in}
@@ -25,21 +25,21 @@ use Rattle.spv_program.specs.Uses.{expression_calls}
 use Rattle.spv_program.specs.ExpressionTerms.{valued, placed}
 use Rattle.spv_program.proofs.SortFacts.{is_sort-true}
 use Rattle.spv_program.proofs.ExpressionSorting.{value_sorted, place_sorted as place_has_sort}
-use Rattle.spv_term_walk.specs.ExpressionTerms.{has_no_calls, place_has_no_calls, expression_term, place_term}
-use Rattle.spv_term_walk.specs.Makeable.{IsWellSorted}
-use Rattle.spv_term_walk.specs.Laws.{variable_head}
-use Rattle.spv_term_walk.proofs.Listed.{makes_none}
-use Rattle.spv_term_walk.proofs.Values.{value_is, place_is, terms_are_present}
-use Rattle.spv_term_walk.proofs.Tables.{tables_give_formulas, tables_give_expressions, tables_give_places}
-use Rattle.spv_makeable_terms.specs.Laws.{IsSorted}
-use Rattle.spv_makeable_terms.proofs.Scopes.{body_sorts}
-use Rattle.spv_makeable_terms.proofs.Sorting.{formula_sorted, expression_sorted, place_sorted}
-use Rattle.spv_control.specs.Blocks.{none, is_whole, calls_nothing}
-use Rattle.spv_events.specs.declared.faults.GenFault.{GenFault}
-use Rattle.spv_events.specs.Events.{Answers}
-use Rattle.spv_events.specs.StatementEvents.{several}
-use Rattle.spv_flow_steps.specs.Makes.{IsTerm, Makes}
-use Rattle.spv_flow_steps.proofs.Renamings.{ok_at}
+use Rattle.spv_expression_terms.specs.term_walk.ExpressionTerms.{has_no_calls, place_has_no_calls, expression_term, place_term}
+use Rattle.spv_expression_terms.specs.term_walk.Makeable.{IsWellSorted}
+use Rattle.spv_expression_terms.specs.term_walk.Laws.{variable_head}
+use Rattle.spv_expression_terms.proofs.term_walk.Listed.{makes_none}
+use Rattle.spv_expression_terms.proofs.term_walk.Values.{value_is, place_is, terms_are_present}
+use Rattle.spv_expression_terms.proofs.term_walk.Tables.{tables_give_formulas, tables_give_expressions, tables_give_places}
+use Rattle.spv_expression_terms.specs.makeable_terms.Laws.{IsSorted}
+use Rattle.spv_expression_terms.proofs.makeable_terms.Scopes.{body_sorts}
+use Rattle.spv_expression_terms.proofs.makeable_terms.Sorting.{formula_sorted, expression_sorted, place_sorted}
+use Rattle.spv_rule_soundness.specs.control.Blocks.{none, is_whole, calls_nothing}
+use Rattle.spv_assign.specs.declared.creation_trace.faults.GenFault.{GenFault}
+use Rattle.spv_assign.specs.creation_trace.Events.{Answers}
+use Rattle.spv_assign.specs.creation_trace.StatementEvents.{several}
+use Rattle.spv_assign.specs.limited_steps.Makes.{IsTerm, Makes}
+use Rattle.spv_assign.proofs.limited_steps.Renamings.{ok_at}
 use Rattle.spv_flow_parts.specs.declared.bodies.Body.{Body}
 use Rattle.spv_flow_parts.specs.Standing.{Stands, IsValue, IsVariable, AreNotes, value_of, variable_of}
 use Rattle.spv_flow_parts.specs.Walks.{MakesTerm}

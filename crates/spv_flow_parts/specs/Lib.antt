@@ -1,2 +1,4 @@
 pub mod Standing
 pub mod Walks
+pub mod for_loops
+pub mod leaves

@@ -17,11 +17,11 @@ use Rattle.spv_program.specs.Changes.{all_roots}
 use Rattle.spv_program.specs.ExpressionTypes.{expression_sort, designator_type}
 use Rattle.spv_program.specs.FormulaTypes.{annotation_ok}
 use Rattle.spv_program.specs.Typing.{declarations_ok}
-use Rattle.spv_term_walk.specs.ExpressionTerms.{expression_term, place_term}
-use Rattle.spv_term_walk.specs.Laws.{HasNamesOf, variable_scope, variable_head}
-use Rattle.spv_makeable_terms.specs.Laws.{heading_ok_in}
-use Rattle.spv_changed.specs.Roots.{rows_of}
-use Rattle.spv_control.specs.Blocks.{is_whole, calls_nothing}
+use Rattle.spv_expression_terms.specs.term_walk.ExpressionTerms.{expression_term, place_term}
+use Rattle.spv_expression_terms.specs.term_walk.Laws.{HasNamesOf, variable_scope, variable_head}
+use Rattle.spv_expression_terms.specs.makeable_terms.Laws.{heading_ok_in}
+use Rattle.spv_effects.specs.mod_sets.Roots.{rows_of}
+use Rattle.spv_rule_soundness.specs.control.Blocks.{is_whole, calls_nothing}
 use Rattle.spv_flow_parts.specs.declared.bodies.Body.{Body}
 
 -- the tables are those of a routine's body, or of the main block

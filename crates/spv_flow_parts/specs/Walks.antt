@@ -9,18 +9,18 @@ use Rattle.spv_logic.specs.Terms.{Term}
 use Rattle.spv_logic.specs.Conditions as logic
 use Rattle.spv_term.specs.declared.nodes.Condition.{Condition}
 use Rattle.spv_term.specs.Arena.{Arena, Extends}
-use Rattle.spv_substitution.specs.Images.{ArePairs}
+use Rattle.spv_term.specs.substitution.Images.{ArePairs}
 use Rattle.spv_program.specs.Formulas.{Annotation}
 use Rattle.spv_program.specs.Programs.{Program, routine_in}
 use Rattle.spv_program.specs.Supplies.{Supply}
 use Rattle.spv_program.specs.Terms.{body_term}
-use Rattle.spv_supply.specs.Numbers.{AreThere}
+use Rattle.spv_assign.specs.supply.Numbers.{AreThere}
 use Rattle.spv_assign.specs.Conditions.{conditions_of, pairs_of, AreIn}
 use Rattle.spv_meaning.specs.Before.{Made, Renamed, annotation_term, replaced, assuming_if_there, wanted_if_there}
-use Rattle.spv_events.specs.declared.faults.GenFault.{GenFault}
-use Rattle.spv_events.specs.Events.{Event, Answers}
-use Rattle.spv_events.specs.StatementEvents.{one}
-use Rattle.spv_flow_steps.specs.Makes.{IsTerm}
+use Rattle.spv_assign.specs.declared.creation_trace.faults.GenFault.{GenFault}
+use Rattle.spv_assign.specs.creation_trace.Events.{Event, Answers}
+use Rattle.spv_assign.specs.creation_trace.StatementEvents.{one}
+use Rattle.spv_assign.specs.limited_steps.Makes.{IsTerm}
 
 -- ---- terms
 

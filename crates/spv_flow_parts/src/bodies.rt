@@ -1,8 +1,8 @@
 // What is looked up for a body.
 
-use spv_changed::AllRoots;
+use spv_effects::mod_sets::AllRoots;
 use spv_logic::{RoutineId, Sort};
-use spv_named::Named;
+use spv_program::ordered_map::Named;
 use std::alloc::Global;
 
 /// What is looked up for the statements of a routine's body, or of the main block.

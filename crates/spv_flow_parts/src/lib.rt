@@ -3,7 +3,9 @@
 #![tactic(auto)]
 
 mod bodies;
+pub mod for_loops;
 mod laws;
+pub mod leaves;
 mod lists;
 mod loops;
 mod notes;

@@ -6,14 +6,14 @@ ghost use Rattle.spv_logic.specs.Conditions as logic;
 ghost use Rattle.spv_term.specs.Arena.{Arena, tree};
 ghost use Rattle.spv_assign.specs.Conditions.{AreIn, Assumes, conditions_of, with_given};
 ghost use Rattle.spv_meaning.specs.Before.{all_assuming, assuming_if_there};
-ghost use Rattle.spv_events.specs.declared.faults.GenFault.TheVariants.{Memory};
-ghost use Rattle.spv_events.specs.StatementEvents.{counted};
-ghost use Rattle.spv_flow_steps.specs.Makes.{IsTerm};
+ghost use Rattle.spv_assign.specs.declared.creation_trace.faults.GenFault.TheVariants.{Memory};
+ghost use Rattle.spv_assign.specs.creation_trace.StatementEvents.{counted};
+ghost use Rattle.spv_assign.specs.limited_steps.Makes.{IsTerm};
 ghost use Rattle.spv_flow_parts.specs.Walks.{AreThese, ComesTo, IsThere};
 
-use spv_events::GenFault;
-use spv_flow_steps::{assumed, joined};
-use spv_list::List;
+use spv_assign::creation_trace::GenFault;
+use spv_assign::limited_steps::{assumed, joined};
+use spv_logic::list::List;
 use spv_term::{Condition, TermId};
 use std::alloc::{AllocError, Global};
 

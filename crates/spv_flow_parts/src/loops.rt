@@ -2,12 +2,12 @@
 
 ghost use Rattle.std.specs.Prelude.{option_map};
 ghost use Rattle.spv_term.specs.Arena.{tree};
-ghost use Rattle.spv_typed.specs.FormulaViews.{annotation_of};
-ghost use Rattle.spv_supply.specs.Numbers.{AreThere, supply_of};
+ghost use Rattle.spv_program.specs.typed.FormulaViews.{annotation_of};
+ghost use Rattle.spv_assign.specs.supply.Numbers.{AreThere, supply_of};
 ghost use Rattle.spv_assign.specs.Conditions.{AreIn, conditions_of};
 ghost use Rattle.spv_meaning.specs.Before as before;
 ghost use Rattle.spv_meaning.specs.Before.{assuming_if_there};
-ghost use Rattle.spv_events.specs.StatementEvents.{loop_events, replacing_events};
+ghost use Rattle.spv_assign.specs.creation_trace.StatementEvents.{loop_events, replacing_events};
 ghost use Rattle.spv_flow_parts.specs.Standing.{AllRenamed};
 ghost use Rattle.spv_flow_parts.specs.Walks.{Comes, IsNoted, IsThere, loop_made, renamed_made};
 
@@ -15,12 +15,12 @@ use crate::bodies::Body;
 use crate::lists::known;
 use crate::notes::wanted_note;
 use crate::renaming::{renamed, replaced_in};
-use spv_events::GenFault;
-use spv_flow_steps::joined;
+use spv_assign::creation_trace::GenFault;
+use spv_assign::limited_steps::joined;
+use spv_assign::supply::Supply;
 use spv_logic::{Head, Kind};
-use spv_supply::Supply;
+use spv_program::typed::{Annotation, Program};
 use spv_term::{Condition, TermId, Terms};
-use spv_typed::{Annotation, Program};
 use std::alloc::Global;
 
 // Conditions under what is known, with what a loop changes renamed.

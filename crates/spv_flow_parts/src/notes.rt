@@ -5,22 +5,22 @@ ghost use Rattle.spv_term.specs.Arena.{Arena, Extends};
 ghost use Rattle.spv_program.specs.Programs as plain;
 ghost use Rattle.spv_program.specs.Programs.{routine_in};
 ghost use Rattle.spv_program.specs.Terms.{body_term};
-ghost use Rattle.spv_typed.specs.FormulaViews.{annotation_of};
+ghost use Rattle.spv_program.specs.typed.FormulaViews.{annotation_of};
 ghost use Rattle.spv_meaning.specs.Before.{annotation_term, wanted_if_there};
-ghost use Rattle.spv_events.specs.declared.faults.GenFault.TheVariants.{Memory};
-ghost use Rattle.spv_events.specs.Events.{Answers};
-ghost use Rattle.spv_events.specs.StatementEvents.{one_if_there};
+ghost use Rattle.spv_assign.specs.declared.creation_trace.faults.GenFault.TheVariants.{Memory};
+ghost use Rattle.spv_assign.specs.creation_trace.Events.{Answers};
+ghost use Rattle.spv_assign.specs.creation_trace.StatementEvents.{one_if_there};
 ghost use Rattle.spv_flow_parts.specs.Standing.{AreNotes, Stands};
 ghost use Rattle.spv_flow_parts.specs.Walks.{AreThese, IsNoted, MakesTerm, wanted_item};
 
 use crate::bodies::Body;
-use spv_events::GenFault;
-use spv_flow_steps::limited;
-use spv_list::List;
+use spv_assign::creation_trace::GenFault;
+use spv_assign::limited_steps::limited;
+use spv_expression_terms::term_walk::formula_term;
+use spv_logic::list::List;
 use spv_logic::{Kind, Origin, RoutineId};
+use spv_program::typed::{Annotation, Program};
 use spv_term::{Condition, TermId, Terms};
-use spv_term_walk::formula_term;
-use spv_typed::{Annotation, Program};
 use std::alloc::{AllocError, Global};
 
 /// The term of an annotation of a body.

@@ -2,20 +2,20 @@
 
 ghost use Rattle.std.specs.Prelude.{◌≡◌, ◌++◌, [], ◌∷◌, IfOk, OnOk};
 ghost use Rattle.spv_term.specs.Arena.{Extends};
-ghost use Rattle.spv_substitution.specs.Images.{ArePairs};
-ghost use Rattle.spv_supply.specs.Numbers.{AreThere, supply_of};
+ghost use Rattle.spv_term.specs.substitution.Images.{ArePairs};
+ghost use Rattle.spv_assign.specs.supply.Numbers.{AreThere, supply_of};
 ghost use Rattle.spv_assign.specs.Conditions.{AreIn, all_terms_in, conditions_of, pairs_of};
 ghost use Rattle.spv_meaning.specs.Before as before;
-ghost use Rattle.spv_events.specs.Events.{Answers};
-ghost use Rattle.spv_events.specs.StatementEvents.{pair_terms, several};
+ghost use Rattle.spv_assign.specs.creation_trace.Events.{Answers};
+ghost use Rattle.spv_assign.specs.creation_trace.StatementEvents.{pair_terms, several};
 ghost use Rattle.spv_flow_parts.specs.Standing.{AllRenamed};
 ghost use Rattle.spv_flow_parts.specs.Walks.{AreRenamed, ComesTo};
 
 use crate::lists::copied;
-use spv_events::GenFault;
-use spv_flow_steps::{fresh_pair, replaced};
+use spv_assign::creation_trace::GenFault;
+use spv_assign::limited_steps::{fresh_pair, replaced};
+use spv_assign::supply::Supply;
 use spv_logic::Head;
-use spv_supply::Supply;
 use spv_term::{Condition, TermId, Terms};
 use std::alloc::{AllocError, Global};
 

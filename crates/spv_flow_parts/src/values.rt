@@ -8,11 +8,11 @@ ghost use Rattle.spv_flow_parts.specs.Standing.{IsValue, IsVariable, Stands, val
 ghost use Rattle.spv_flow_parts.specs.Walks.{MakesTerm};
 
 use crate::bodies::Body;
-use spv_events::GenFault;
-use spv_flow_steps::limited;
+use spv_assign::creation_trace::GenFault;
+use spv_assign::limited_steps::limited;
+use spv_expression_terms::term_walk::{expression_term, place_term};
+use spv_program::typed::{Designator, Expression, Program};
 use spv_term::{TermId, Terms};
-use spv_term_walk::{expression_term, place_term};
-use spv_typed::{Designator, Expression, Program};
 
 /// The term of an expression that calls nothing.
 pub fn value(

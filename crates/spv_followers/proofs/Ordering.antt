@@ -12,12 +12,12 @@ use Rattle.spv_term.specs.Arena.{Arena, IsArena, tree}
 use Rattle.spv_term.proofs.ArenaLemmas.{HasOneId-arena}
 use Rattle.spv_term.proofs.NodeLemmas.{id_from}
 use Rattle.spv_atoms.specs.Order.{same_id}
-use Rattle.spv_proof.specs.Sums.{negated}
-use Rattle.spv_proof.specs.Evaluation.{sides}
+use Rattle.spv_proof_rules.specs.Sums.{negated}
+use Rattle.spv_proof_rules.specs.Evaluation.{sides}
 use Rattle.spv_proof_steps.specs.Candidates.{lower, pair_of, PairIn}
-use Rattle.spv_course.specs.declared.entries.Part.{Part}
-use Rattle.spv_course.specs.declared.entries.Part.TheVariants.{True, False, Below, Above}
-use Rattle.spv_cores.specs.Cores.{denials, is_even, IsCore}
+use Rattle.spv_derivations.specs.declared.derivation.entries.Part.{Part}
+use Rattle.spv_derivations.specs.declared.derivation.entries.Part.TheVariants.{True, False, Below, Above}
+use Rattle.spv_assignments.specs.polarity.Cores.{denials, is_even, IsCore}
 use Rattle.spv_followers.specs.declared.orders.Pair.{Pair}
 use Rattle.spv_followers.specs.Followers.{beside, Stands, Puts, PutsAt, Adds, IsNegation, IsEquation, pair, same_pair, order_of, PutsOrder, IsOrder, AreOrders, HaveLists}
 use Rattle.spv_followers.proofs.Listing.{same_itself, none_some, at_many, at_keeps, at_there, at_only, adds_nothing, adds_one, says_same}

@@ -6,9 +6,9 @@ use Rattle.spv_logic.specs.Terms.{Term}
 use Rattle.spv_logic.specs.Formulas.{equation, below}
 use Rattle.spv_term.specs.Arena.{Arena, tree}
 use Rattle.spv_atoms.specs.Order.{same_id}
-use Rattle.spv_course.specs.declared.entries.Part.{Part}
-use Rattle.spv_course.specs.declared.entries.Part.TheVariants.{Below, Above}
-use Rattle.spv_cores.specs.Cores.{IsCore}
+use Rattle.spv_derivations.specs.declared.derivation.entries.Part.{Part}
+use Rattle.spv_derivations.specs.declared.derivation.entries.Part.TheVariants.{Below, Above}
+use Rattle.spv_assignments.specs.polarity.Cores.{IsCore}
 use Rattle.spv_followers.specs.declared.orders.Pair.{Pair}
 
 -- what contracts see: beside each term the questions that have a value by it

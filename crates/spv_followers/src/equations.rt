@@ -6,7 +6,7 @@ ghost use Rattle.spv_followers.specs.Followers.{pair, order_of, Puts, PutsAt, Ad
 
 use crate::lists::empty_lists;
 use crate::orders::{Orders, find_orders};
-use spv_course::Part;
+use spv_derivations::derivation::Part;
 use spv_proof_steps::candidates::sides;
 use spv_term::{TermId, Terms};
 use std::alloc::{AllocError, Global};

@@ -6,7 +6,7 @@ ghost use Rattle.spv_followers.specs.Followers.{beside, AreFollowers};
 
 use crate::equations::find_equations;
 use crate::negations::find_negations;
-use spv_course::Part;
+use spv_derivations::derivation::Part;
 use spv_term::{TermId, Terms};
 use std::alloc::{AllocError, Global};
 use std::marker::Model;

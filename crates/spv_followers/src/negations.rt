@@ -5,7 +5,7 @@ ghost use Rattle.spv_term.specs.Arena.{AllBelow};
 ghost use Rattle.spv_followers.specs.Followers.{Puts, Adds, AreBeside, IsQuestion, IsNegation};
 
 use crate::lists::empty_lists;
-use spv_cores::core;
+use spv_assignments::polarity::core;
 use spv_term::{TermId, Terms};
 use std::alloc::{AllocError, Global};
 

@@ -1,17 +1,17 @@
 -- The lists in formulas, and what may follow in them.
 use Rattle.std.proofs.Common.{true, false, ◌≡◌, ℕ, zero, suc, List, [], ◌∷◌, refl, sym, ap, ◌∙◌, ◌-◌, arith}
 use Rattle.std.specs.Prelude.{Option, Some, None}
-use Rattle.spv_tokens.specs.declared.token.Token.{Token}
-use Rattle.spv_tokens.specs.declared.token.TokenKind.{TokenKind}
-use Rattle.spv_tokens.specs.declared.token.TokenKind.TheVariants as kind
-use Rattle.spv_tokens.specs.declared.token.Sign.TheVariants as sign
-use Rattle.spv_syntax.specs.declared.operators.Adding.{Adding}
-use Rattle.spv_syntax.specs.declared.operators.Multiplying.{Multiplying}
-use Rattle.spv_syntax.specs.Formulas.{Formula, Term, Factor, Selector, no_more_terms, more_terms, no_more_factors, more_factors, no_more_formulas, more_formulas, no_selectors, selectors}
-use Rattle.spv_syntax.specs.Model.FormulaSizes.{more_terms_of, more_factors_of, more_formulas_of, selectors_of}
-use Rattle.spv_reading.specs.Readers.{Stop, Outcome, Read, Halted, Reader, after, and_then, operated}
-use Rattle.spv_reading.specs.FormulaReaders.{selector_by, read_inner, read_factor, read_formula}
-use Rattle.spv_front.specs.Lists.{put}
+use Rattle.spv_tree.specs.declared.tokens.token.Token.{Token}
+use Rattle.spv_tree.specs.declared.tokens.token.TokenKind.{TokenKind}
+use Rattle.spv_tree.specs.declared.tokens.token.TokenKind.TheVariants as kind
+use Rattle.spv_tree.specs.declared.tokens.token.Sign.TheVariants as sign
+use Rattle.spv_tree.specs.declared.syntax.operators.Adding.{Adding}
+use Rattle.spv_tree.specs.declared.syntax.operators.Multiplying.{Multiplying}
+use Rattle.spv_tree.specs.syntax.Formulas.{Formula, Term, Factor, Selector, no_more_terms, more_terms, no_more_factors, more_factors, no_more_formulas, more_formulas, no_selectors, selectors}
+use Rattle.spv_tree.specs.syntax.Model.FormulaSizes.{more_terms_of, more_factors_of, more_formulas_of, selectors_of}
+use Rattle.spv_grammar.specs.reading.Readers.{Stop, Outcome, Read, Halted, Reader, after, and_then, operated}
+use Rattle.spv_grammar.specs.reading.FormulaReaders.{selector_by, read_inner, read_factor, read_formula}
+use Rattle.spv_formula_parser.specs.primitives.Lists.{put}
 use Rattle.spv_formula_parser.specs.Factors.{begins_selector, selector_on, factor_at}
 
 -- ---- the lists of the code

@@ -1,12 +1,12 @@
 -- Selectors and factors, as their readers take them apart.
 use Rattle.std.specs.Prelude.{ℕ, zero, suc, Bool, true, false, Option, Some}
-use Rattle.spv_tokens.specs.declared.token.TokenKind.{TokenKind}
-use Rattle.spv_tokens.specs.declared.token.TokenKind.TheVariants as kind
-use Rattle.spv_tokens.specs.declared.token.Sign.TheVariants as sign
-use Rattle.spv_syntax.specs.Formulas.{Formula, Factor, class, negation, Selector, content}
-use Rattle.spv_syntax.specs.Steps.{first_line}
-use Rattle.spv_reading.specs.Readers.{front, after, Read, Reader, misfit, nothing, and_then, name}
-use Rattle.spv_reading.specs.FormulaReaders.{read_field, read_index, factor_by, read_inner, read_factor}
+use Rattle.spv_tree.specs.declared.tokens.token.TokenKind.{TokenKind}
+use Rattle.spv_tree.specs.declared.tokens.token.TokenKind.TheVariants as kind
+use Rattle.spv_tree.specs.declared.tokens.token.Sign.TheVariants as sign
+use Rattle.spv_tree.specs.syntax.Formulas.{Formula, Factor, class, negation, Selector, content}
+use Rattle.spv_tree.specs.syntax.Steps.{first_line}
+use Rattle.spv_grammar.specs.reading.Readers.{front, after, Read, Reader, misfit, nothing, and_then, name}
+use Rattle.spv_grammar.specs.reading.FormulaReaders.{read_field, read_index, factor_by, read_inner, read_factor}
 
 -- whether a selector begins with the token
 abbrev pub begins_selector : Option TokenKind → Bool

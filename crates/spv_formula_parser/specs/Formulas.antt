@@ -1,14 +1,14 @@
 -- What is read behind a part of a formula that was read before.
 use Rattle.std.specs.Prelude.{ℕ, Bool, true, false, Option, Some, None}
-use Rattle.spv_tokens.specs.declared.token.TokenKind.{TokenKind}
-use Rattle.spv_tokens.specs.declared.token.TokenKind.TheVariants as kind
-use Rattle.spv_tokens.specs.declared.token.Word.TheVariants as word
-use Rattle.spv_tokens.specs.declared.token.Sign.TheVariants as sign
-use Rattle.spv_syntax.specs.declared.operators.PlusOrMinus.{PlusOrMinus}
-use Rattle.spv_syntax.specs.Formulas.{Formula, formula, Relation, relation, Simple, simple, Term, term, Factor}
-use Rattle.spv_syntax.specs.Steps.{first_line}
-use Rattle.spv_reading.specs.Readers.{front, Read, Reader, and_then}
-use Rattle.spv_reading.specs.FormulaReaders.{comparison_of, read_more_factors, read_more_terms, right_side_by, read_conclusion}
+use Rattle.spv_tree.specs.declared.tokens.token.TokenKind.{TokenKind}
+use Rattle.spv_tree.specs.declared.tokens.token.TokenKind.TheVariants as kind
+use Rattle.spv_tree.specs.declared.tokens.token.Word.TheVariants as word
+use Rattle.spv_tree.specs.declared.tokens.token.Sign.TheVariants as sign
+use Rattle.spv_tree.specs.declared.syntax.operators.PlusOrMinus.{PlusOrMinus}
+use Rattle.spv_tree.specs.syntax.Formulas.{Formula, formula, Relation, relation, Simple, simple, Term, term, Factor}
+use Rattle.spv_tree.specs.syntax.Steps.{first_line}
+use Rattle.spv_grammar.specs.reading.Readers.{front, Read, Reader, and_then}
+use Rattle.spv_grammar.specs.reading.FormulaReaders.{comparison_of, read_more_factors, read_more_terms, right_side_by, read_conclusion}
 
 module _ (factor : Reader Factor) where
   -- {("*" | DIV | MOD | AND) factor}, behind the factor

@@ -1,2 +1,3 @@
+pub mod primitives
 pub mod Factors
 pub mod Formulas

@@ -1,25 +1,25 @@
 // Factors and designators.
 
 ghost use Rattle.std.specs.Prelude.{◌≡◌, Some, None, IfOk, IsErrAnd};
-ghost use Rattle.spv_syntax.specs.Formulas as plain;
-ghost use Rattle.spv_syntax.specs.Lines.{factor_line};
-ghost use Rattle.spv_syntax.specs.Steps.{first_line};
-ghost use Rattle.spv_syntax.specs.Model.FormulaSizes.{more_formulas_of, selectors_of};
-ghost use Rattle.spv_reading.specs.FormulaReaders.{read_inner, read_factor, read_field, read_more_formulas, read_index, read_selectors, read_application, read_place, read_named, read_bracketed, read_designator};
-ghost use Rattle.spv_reading.specs.Readers as reader;
-ghost use Rattle.spv_reading.specs.Readers.{Stop, Read, Halted};
-ghost use Rattle.spv_front.specs.Faults.{IsStop};
+ghost use Rattle.spv_tree.specs.syntax.Formulas as plain;
+ghost use Rattle.spv_tree.specs.syntax.Lines.{factor_line};
+ghost use Rattle.spv_tree.specs.syntax.Steps.{first_line};
+ghost use Rattle.spv_tree.specs.syntax.Model.FormulaSizes.{more_formulas_of, selectors_of};
+ghost use Rattle.spv_grammar.specs.reading.FormulaReaders.{read_inner, read_factor, read_field, read_more_formulas, read_index, read_selectors, read_application, read_place, read_named, read_bracketed, read_designator};
+ghost use Rattle.spv_grammar.specs.reading.Readers as reader;
+ghost use Rattle.spv_grammar.specs.reading.Readers.{Stop, Read, Halted};
+ghost use Rattle.spv_formula_parser.specs.primitives.Faults.{IsStop};
 ghost use Rattle.spv_formula_parser.specs.Factors.{read_selector, read_class, read_negation, factor_at};
 ghost use Rattle.spv_formula_parser.specs.Factors as spec;
 
 use crate::formulas::inner;
-use spv_front::fault::{Fault, out_of_levels, unexpected};
-use spv_front::front::{after, first_line, front, is_sign, name, past_sign};
-use spv_front::lists::push;
-use spv_syntax::{
+use crate::primitives::fault::{Fault, out_of_levels, unexpected};
+use crate::primitives::front::{after, first_line, front, is_sign, name, past_sign};
+use crate::primitives::lists::push;
+use spv_tree::syntax::{
     Application, Designator, Factor, FactorForm, Formula, Name, Selector, SelectorForm, in_box,
 };
-use spv_tokens::{Sign, Token, TokenKind, Word};
+use spv_tree::tokens::{Sign, Token, TokenKind, Word};
 use std::alloc::{AllocError, Global};
 
 // {"," formula}, by a loop

@@ -1,28 +1,28 @@
 // Formulas.
 
 ghost use Rattle.std.specs.Prelude.{◌≡◌, Some, None, IfOk, IsErrAnd};
-ghost use Rattle.spv_syntax.specs.FormulaViews.{conclusion_of, right_side_of};
-ghost use Rattle.spv_syntax.specs.Formulas as plain;
-ghost use Rattle.spv_syntax.specs.Lines.{factor_line, relation_line, simple_line, term_line};
-ghost use Rattle.spv_syntax.specs.Steps.{first_line};
-ghost use Rattle.spv_syntax.specs.Model.FormulaSizes.{more_terms_of, more_factors_of};
-ghost use Rattle.spv_reading.specs.Readers as reader;
-ghost use Rattle.spv_reading.specs.FormulaReaders.{comparison_of, adding_of, multiplying_of, read_inner, read_factor, read_more_factors, read_term, read_more_terms, read_sum, read_simple, right_side_by, read_relation, read_conclusion, read_formula};
-ghost use Rattle.spv_reading.specs.Readers.{Stop, Read, Halted};
-ghost use Rattle.spv_front.specs.Faults.{IsStop};
+ghost use Rattle.spv_tree.specs.syntax.FormulaViews.{conclusion_of, right_side_of};
+ghost use Rattle.spv_tree.specs.syntax.Formulas as plain;
+ghost use Rattle.spv_tree.specs.syntax.Lines.{factor_line, relation_line, simple_line, term_line};
+ghost use Rattle.spv_tree.specs.syntax.Steps.{first_line};
+ghost use Rattle.spv_tree.specs.syntax.Model.FormulaSizes.{more_terms_of, more_factors_of};
+ghost use Rattle.spv_grammar.specs.reading.Readers as reader;
+ghost use Rattle.spv_grammar.specs.reading.FormulaReaders.{comparison_of, adding_of, multiplying_of, read_inner, read_factor, read_more_factors, read_term, read_more_terms, read_sum, read_simple, right_side_by, read_relation, read_conclusion, read_formula};
+ghost use Rattle.spv_grammar.specs.reading.Readers.{Stop, Read, Halted};
+ghost use Rattle.spv_formula_parser.specs.primitives.Faults.{IsStop};
 ghost use Rattle.spv_formula_parser.specs.Formulas as spec;
 ghost use Rattle.spv_formula_parser.specs.Formulas.{from_factor};
 
 use crate::factors::factor;
-use spv_front::constants::prefix;
-use spv_front::fault::{Fault, out_of_levels};
-use spv_front::front::{after, first_line, front, is_sign};
-use spv_front::lists::push;
-use spv_syntax::{
+use crate::primitives::constants::prefix;
+use crate::primitives::fault::{Fault, out_of_levels};
+use crate::primitives::front::{after, first_line, front, is_sign};
+use crate::primitives::lists::push;
+use spv_tree::syntax::{
     Adding, Comparison, Factor, Formula, FormulaForm, Implication, Multiplying, PlusOrMinus,
     Relation, Simple, Term,
 };
-use spv_tokens::{Sign, Token, TokenKind, Word};
+use spv_tree::tokens::{Sign, Token, TokenKind, Word};
 use std::alloc::{AllocError, Global};
 
 // The operator of a relation at the front, where there is one.

@@ -3,3 +3,4 @@
 
 pub mod factors;
 pub mod formulas;
+pub mod primitives;

@@ -3,7 +3,7 @@ use Rattle.std.proofs.Common.{ap}
 use Rattle.spv_typing.specs.declared.faults.TypeFault.{TypeFault}
 use Rattle.spv_typing.specs.declared.faults.TypeFault.TheVariants.{Undeclared, DeclaredTwice, LabelTwice, WrongType, Count, Nested, ProcParameter, ControlChanged, Memory}
 use Rattle.spv_typing.specs.Outcomes.{Outcome, after}
-use Rattle.spv_scopes.specs.Answers.{Stops}
+use Rattle.spv_environments.specs.Answers.{Stops}
 
 pub stops_after : {A B : Type 0} (e : TypeFault) (o : Outcome A) (next : A → Outcome B) → Stops e o → Stops e (after o next)
 stops_after Memory o next h = tt

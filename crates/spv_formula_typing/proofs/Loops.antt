@@ -2,12 +2,12 @@
 use Rattle.std.proofs.Common.{◌≡◌, ℕ, suc, ◌+◌, ◌<◌, ◌≤◌, List, [], ◌∷◌, ◌++◌, length, drop, get_or, Ok, Err, refl, sym, ap, ◌∙◌, subst, arith}
 use Rattle.std.proofs.Math.Seq.{drop-cons}
 use Rattle.std.proofs.lemmas.List.{append_assoc, append-nil, drop_all, map-append}
-use Rattle.spv_syntax.specs.Formulas.{Formula}
-use Rattle.spv_syntax.specs.Model.FormulaSizes.{more_formulas_of}
+use Rattle.spv_tree.specs.syntax.Formulas.{Formula}
+use Rattle.spv_tree.specs.syntax.Model.FormulaSizes.{more_formulas_of}
 use Rattle.spv_typing.specs.declared.faults.TypeFault.{TypeFault}
 use Rattle.spv_typing.specs.Outcomes.{Outcome, after}
 use Rattle.spv_typing.specs.OperatorWalk.{Operand, Forms, operands, arguments, formula_walk, formula_line}
-use Rattle.spv_scopes.specs.Answers.{Stops}
+use Rattle.spv_environments.specs.Answers.{Stops}
 use Rattle.spv_formula_typing.specs.declared.forms.Way.{Way}
 use Rattle.spv_formula_typing.specs.declared.forms.Operand.{Operand as OperandText}
 use Rattle.spv_formula_typing.specs.declared.forms.Given.{Given as GivenText}

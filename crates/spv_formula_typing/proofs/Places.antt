@@ -1,13 +1,13 @@
 -- Arguments that are places.
 use Rattle.std.proofs.Common.{◌≡◌, ℕ, ◌≤◌, List, [], ◌∷◌, length, arith, Some, None, Ok, refl, ap, ◌∙◌, option_map}
-use Rattle.spv_syntax.specs.Formulas.{Formula, Relation, Simple, Term, Factor, Designator, formula, no_conclusion, implies, relation, no_right_side, compared, simple, no_more_terms, more_terms, term, no_more_factors, more_factors, number, truth, nil, class, place, application, bracketed, negation}
+use Rattle.spv_tree.specs.syntax.Formulas.{Formula, Relation, Simple, Term, Factor, Designator, formula, no_conclusion, implies, relation, no_right_side, compared, simple, no_more_terms, more_terms, term, no_more_factors, more_factors, number, truth, nil, class, place, application, bracketed, negation}
 use Rattle.spv_typing.specs.Outcomes.{after}
-use Rattle.spv_syntax.specs.Formulas.{Selector}
-use Rattle.spv_syntax.specs.declared.names.Name.{Name}
-use Rattle.spv_syntax.specs.declared.operators.Adding.{Adding}
-use Rattle.spv_syntax.specs.declared.operators.Multiplying.{Multiplying}
-use Rattle.spv_syntax.specs.Formulas.{designator}
-use Rattle.spv_syntax.specs.Model.FormulaSizes.{more_terms_of, more_factors_of, selectors_of}
+use Rattle.spv_tree.specs.syntax.Formulas.{Selector}
+use Rattle.spv_tree.specs.declared.syntax.names.Name.{Name}
+use Rattle.spv_tree.specs.declared.syntax.operators.Adding.{Adding}
+use Rattle.spv_tree.specs.declared.syntax.operators.Multiplying.{Multiplying}
+use Rattle.spv_tree.specs.syntax.Formulas.{designator}
+use Rattle.spv_tree.specs.syntax.Model.FormulaSizes.{more_terms_of, more_factors_of, selectors_of}
 use Rattle.spv_formula_typing.specs.Operands.{numeral_alone}
 use Rattle.spv_typing.specs.OperatorWalk.{Forms, bare, designator_alone, relation_alone, simple_alone, term_alone, factor_alone, formula_walk, designator_walk, written_place, relation_place, simple_place, term_place, factor_place}
 use Rattle.spv_formula_typing.specs.declared.forms.Way.TheVariants.{Place}

@@ -1,8 +1,8 @@
 -- A part of a list is no larger than the list, and a designator alone is smaller than its formula.
 use Rattle.std.proofs.Common.{◌≡◌, ℕ, zero, suc, ◌≤◌, ◌<◌, List, [], ◌∷◌, length, get_or, Some, None, arith}
-use Rattle.spv_syntax.specs.Formulas.{Formula, Selector, Relation, Simple, Term, Factor, Designator, formula, no_conclusion, implies, relation, no_right_side, compared, simple, no_more_terms, more_terms, term, no_more_factors, more_factors, number, truth, nil, class, place, application, bracketed, negation}
-use Rattle.spv_syntax.specs.Model.FormulaSizes.{more_factors_of, more_factors_size, more_formulas_of, selectors_of, formula_size, relation_size, simple_size, term_size, factor_size, designator_size, more_formulas_size, selectors_size, selector_size}
-use Rattle.spv_syntax.specs.declared.operators.Multiplying.{Multiplying}
+use Rattle.spv_tree.specs.syntax.Formulas.{Formula, Selector, Relation, Simple, Term, Factor, Designator, formula, no_conclusion, implies, relation, no_right_side, compared, simple, no_more_terms, more_terms, term, no_more_factors, more_factors, number, truth, nil, class, place, application, bracketed, negation}
+use Rattle.spv_tree.specs.syntax.Model.FormulaSizes.{more_factors_of, more_factors_size, more_formulas_of, selectors_of, formula_size, relation_size, simple_size, term_size, factor_size, designator_size, more_formulas_size, selectors_size, selector_size}
+use Rattle.spv_tree.specs.declared.syntax.operators.Multiplying.{Multiplying}
 use Rattle.spv_typing.specs.OperatorWalk.{designator_alone, relation_alone, simple_alone, term_alone, factor_alone}
 
 pub formula_within : (fs : List Formula) (i : ℕ) (d : Formula) → i < length fs → formula_size (get_or fs i d) ≤ more_formulas_size (more_formulas_of fs)

@@ -1,9 +1,9 @@
 -- Arguments as what is called wants them read.
 use Rattle.std.specs.Prelude.{ℕ, suc, List, [], ◌∷◌, map, Option, Some, None, Ok}
-use Rattle.spv_syntax.specs.declared.names.Name.{Name}
+use Rattle.spv_tree.specs.declared.syntax.names.Name.{Name}
 use Rattle.spv_typing.specs.Outcomes.{Outcome, after}
-use Rattle.spv_syntax.specs.Formulas.{Formula}
-use Rattle.spv_syntax.specs.Model.FormulaSizes.{more_formulas_of}
+use Rattle.spv_tree.specs.syntax.Formulas.{Formula}
+use Rattle.spv_tree.specs.syntax.Model.FormulaSizes.{more_formulas_of}
 use Rattle.spv_typing.specs.OperatorWalk.{Operand, Argument, Forms, argument, arguments, formula_walk, written_place}
 use Rattle.spv_formula_typing.specs.declared.forms.Way.{Way}
 use Rattle.spv_formula_typing.specs.declared.forms.Way.TheVariants as way

@@ -1,6 +1,6 @@
 -- What the code's operands are in the definition of the walk.
 use Rattle.std.specs.Prelude.{ℕ, ℤ, pos, List, map, Ok, Option, Some, None}
-use Rattle.spv_syntax.specs.Formulas.{Term, Factor, term, number, no_more_factors, more_factors}
+use Rattle.spv_tree.specs.syntax.Formulas.{Term, Factor, term, number, no_more_factors, more_factors}
 use Rattle.spv_logic.specs.declared.types.Sort.TheVariants as sort
 use Rattle.spv_typing.specs.Outcomes.{Outcome, after, wrong}
 use Rattle.spv_typing.specs.OperatorWalk as spec

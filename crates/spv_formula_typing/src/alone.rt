@@ -4,7 +4,7 @@ ghost use Rattle.std.specs.Prelude.{◌≡◌, IfNone, IfSome, None, Some, optio
 ghost use Rattle.spv_typing.specs.OperatorWalk as spec;
 ghost use Rattle.spv_formula_typing.specs.Operands.{numeral_alone, numeral_of};
 
-use spv_syntax::{
+use spv_tree::syntax::{
     Designator, Factor, FactorForm, Formula, FormulaForm, Name, Relation, Simple, Term,
 };
 

@@ -1,16 +1,16 @@
 // What the forms of a text become.
 
 ghost use Rattle.std.specs.Prelude.{◌≡◌, ℕ, List, IfOk, IfErr, Ok};
-ghost use Rattle.spv_syntax.specs.declared.names.Name.{Name as NameText};
+ghost use Rattle.spv_tree.specs.declared.syntax.names.Name.{Name as NameText};
 ghost use Rattle.spv_typing.specs.Outcomes.{Outcome, after};
 ghost use Rattle.spv_typing.specs.OperatorWalk as spec;
-ghost use Rattle.spv_scopes.specs.Answers.{Stops};
+ghost use Rattle.spv_environments.specs.Answers.{Stops};
 ghost use Rattle.spv_formula_typing.specs.Operands.{operand_of, operands_of};
 ghost use Rattle.spv_formula_typing.specs.Arguments as arguments;
 
 use spv_logic::{Sort, TypeId};
 use spv_program::{Arithmetic, Comparison, Connective};
-use spv_syntax::Name;
+use spv_tree::syntax::Name;
 use spv_typing::TypeFault;
 use std::alloc::{AllocError, Global};
 

@@ -4,13 +4,13 @@ ghost use Rattle.std.specs.Prelude.{◌≡◌, Ok, IfOk, IfErr};
 ghost use Rattle.spv_logic.specs.declared.types.Sort.TheVariants as sort;
 ghost use Rattle.spv_typing.specs.Outcomes.{wrong};
 ghost use Rattle.spv_typing.specs.OperatorWalk as spec;
-ghost use Rattle.spv_scopes.specs.Answers.{Stops};
+ghost use Rattle.spv_environments.specs.Answers.{Stops};
 ghost use Rattle.spv_formula_typing.specs.Operands.{operand_of, negative_operand, positive_operand};
 
 use crate::forms::{Forms, Operand};
 use spv_logic::Sort;
 use spv_program::{Arithmetic, Comparison, Connective};
-use spv_syntax::{Adding, Multiplying};
+use spv_tree::syntax::{Adding, Multiplying};
 use spv_typing::TypeFault;
 use std::alloc::Global;
 
@@ -210,7 +210,7 @@ pub(crate) fn related<F: Forms>(
     forms: &F,
     alloc: Global,
     line: u32,
-    o: spv_syntax::Comparison,
+    o: spv_tree::syntax::Comparison,
     a: Operand<F::Formed>,
     b: Operand<F::Formed>,
 ) -> Result<Operand<F::Formed>, TypeFault>
@@ -218,12 +218,40 @@ pub(crate) fn related<F: Forms>(
     ensures err { IfErr result (λ e. Stops e (spec.related (F.forms forms.now) line o (operand_of a) (operand_of b))) }
 {
     match o {
-        spv_syntax::Comparison::Equal => alike(forms, alloc, line, Comparison::Equal, a, b),
-        spv_syntax::Comparison::NotEqual => alike(forms, alloc, line, Comparison::NotEqual, a, b),
-        spv_syntax::Comparison::Less => ordered(forms, alloc, line, Comparison::Less, a, b),
-        spv_syntax::Comparison::AtMost => ordered(forms, alloc, line, Comparison::AtMost, a, b),
-        spv_syntax::Comparison::Greater => ordered(forms, alloc, line, Comparison::Greater, a, b),
-        spv_syntax::Comparison::AtLeast => ordered(forms, alloc, line, Comparison::AtLeast, a, b),
+        spv_tree::syntax::Comparison::Equal => alike(forms, alloc, line, Comparison::Equal, a, b),
+        spv_tree::syntax::Comparison::NotEqual => alike(
+            forms,
+            alloc,
+            line,
+            Comparison::NotEqual,
+            a,
+            b,
+        ),
+        spv_tree::syntax::Comparison::Less => ordered(forms, alloc, line, Comparison::Less, a, b),
+        spv_tree::syntax::Comparison::AtMost => ordered(
+            forms,
+            alloc,
+            line,
+            Comparison::AtMost,
+            a,
+            b,
+        ),
+        spv_tree::syntax::Comparison::Greater => ordered(
+            forms,
+            alloc,
+            line,
+            Comparison::Greater,
+            a,
+            b,
+        ),
+        spv_tree::syntax::Comparison::AtLeast => ordered(
+            forms,
+            alloc,
+            line,
+            Comparison::AtLeast,
+            a,
+            b,
+        ),
     }
 }
 

@@ -1,12 +1,12 @@
 // The walk over a formula, in the order of the text, operands before their operator.
 
 ghost use Rattle.std.specs.Prelude.{◌≡◌, [], ◌∷◌, ◌++◌, IfOk, IfErr, OnOk, Ok};
-ghost use Rattle.spv_syntax.specs.Formulas as plain;
-ghost use Rattle.spv_syntax.specs.FormulaViews.{conclusion_of};
-ghost use Rattle.spv_syntax.specs.Lines.{relation_line};
-ghost use Rattle.spv_syntax.specs.Model.FormulaSizes.{more_formulas_of, selectors_of};
+ghost use Rattle.spv_tree.specs.syntax.Formulas as plain;
+ghost use Rattle.spv_tree.specs.syntax.FormulaViews.{conclusion_of};
+ghost use Rattle.spv_tree.specs.syntax.Lines.{relation_line};
+ghost use Rattle.spv_tree.specs.syntax.Model.FormulaSizes.{more_formulas_of, selectors_of};
 ghost use Rattle.spv_typing.specs.OperatorWalk as spec;
-ghost use Rattle.spv_scopes.specs.Answers.{Stops};
+ghost use Rattle.spv_environments.specs.Answers.{Stops};
 ghost use Rattle.spv_formula_typing.specs.Operands.{operand_of, operands_of};
 ghost use Rattle.spv_formula_typing.specs.Arguments.{given_of, given_one, given_as, all_given, argument_of, arguments_of};
 ghost use Rattle.spv_formula_typing.specs.declared.forms.Way.TheVariants.{Place};
@@ -15,7 +15,7 @@ use crate::alone::{designator_alone, name_alone, number_alone};
 use crate::forms::{Forms, Given, Operand, Way};
 use crate::operators::{conclusion, negative, opposite, positive, product, related, total};
 use spv_logic::Sort;
-use spv_syntax::{
+use spv_tree::syntax::{
     Designator, Factor, FactorForm, Formula, FormulaForm, Name, PlusOrMinus, Relation, Selector,
     SelectorForm, Simple, Term, items,
 };

@@ -1,1 +1,2 @@
+pub mod rational
 pub mod Range

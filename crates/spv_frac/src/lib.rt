@@ -4,6 +4,7 @@
 mod frac;
 mod law;
 mod number;
+pub mod rational;
 
 pub use frac::{Frac, Op, TooWide};
 pub use law::{law_add, law_cmp, law_frac, law_mul, law_value};

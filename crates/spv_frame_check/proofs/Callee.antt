@@ -1,7 +1,7 @@
 -- The lists of all routines at hand.
 use Rattle.std.proofs.Common.{◌≡◌, ℕ, zero, suc, Bool, true, false, ◌&&◌, ◌||◌, cond, List, [], ◌∷◌, map, Option, Some, None, option_map, refl, sym, ap, subst, ◌∙◌}
 use Rattle.std.specs.List.{list_any}
-use Rattle.spv_names.specs.declared.names.Symbol.{Symbol}
+use Rattle.spv_logic.specs.declared.names.names.Symbol.{Symbol}
 use Rattle.spv_logic.specs.declared.conditions.RoutineId.{RoutineId}
 use Rattle.spv_program.specs.declared.types.Item.{Item}
 use Rattle.spv_program.specs.Lists.{item_at, first_of}
@@ -9,10 +9,10 @@ use Rattle.spv_program.specs.Expressions.{Call, Arguments, call}
 use Rattle.spv_program.specs.Programs.{GlobalItem, Routine, Program, routine_at}
 use Rattle.spv_program.specs.Uses.{Root, Own, Shared, same_item}
 use Rattle.spv_program.specs.Frames.{lists, is_item_of, place_roots, globals_of}
-use Rattle.spv_frame_walk.specs.declared.faults.FrameFault.TheVariants.{GlobalMissing}
-use Rattle.spv_frame_walk.specs.FrameWalk.{anything, events_fault, main_fault, missing_item, twice, listed, meeting_fault, call_fault, alias}
-use Rattle.spv_frame_walk.specs.Events.{Event, statement_events}
-use Rattle.spv_frame_events.specs.Names.{named}
+use Rattle.spv_effects.specs.declared.frame_walk.faults.FrameFault.TheVariants.{GlobalMissing}
+use Rattle.spv_effects.specs.frame_walk.FrameWalk.{anything, events_fault, main_fault, missing_item, twice, listed, meeting_fault, call_fault, alias}
+use Rattle.spv_effects.specs.frame_walk.Events.{Event, statement_events}
+use Rattle.spv_effects.specs.frame_events.Names.{named}
 use Rattle.spv_program.specs.Statements.{Statement}
 use Rattle.spv_frame_check.specs.Tables.{tables_of, has_item, has_root_in, listed_in, meeting_in}
 

@@ -6,8 +6,8 @@ use Rattle.spv_program.specs.declared.types.Item.{Item}
 use Rattle.spv_program.specs.declared.types.Item.TheVariants.{Variable, Class}
 use Rattle.spv_program.specs.Uses.{Root, Own, Shared, same_item}
 use Rattle.spv_program.specs.Frames.{items_once}
-use Rattle.spv_frame_events.specs.declared.events.Event.{Event}
-use Rattle.spv_frame_events.specs.EventViews.{event_of, events_of}
+use Rattle.spv_effects.specs.declared.frame_events.events.Event.{Event}
+use Rattle.spv_effects.specs.frame_events.EventViews.{event_of, events_of}
 use Rattle.spv_frame_check.specs.declared.effects.Once.{Once}
 use Rattle.spv_frame_check.specs.Effects.{items_by, with_roots, Takes, Follows, kept}
 use Rattle.spv_frame_check.specs.Sets.{no_items, holds}

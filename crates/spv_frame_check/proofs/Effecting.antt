@@ -3,8 +3,8 @@ use Rattle.std.proofs.Common.{◌≡◌, Bool, true, false, List, [], ◌++◌, 
 use Rattle.spv_program.specs.Programs.{Routine}
 use Rattle.spv_program.specs.Uses.{Use}
 use Rattle.spv_program.specs.Frames.{Effects, items_once, effects_of, routine_uses}
-use Rattle.spv_frame_walk.specs.Events.{Event, clause_events, body_events}
-use Rattle.spv_frame_laws.proofs.Parts.{parts_of_routine}
+use Rattle.spv_effects.specs.frame_walk.Events.{Event, clause_events, body_events}
+use Rattle.spv_effects.proofs.frame_laws.Parts.{parts_of_routine}
 use Rattle.spv_frame_check.specs.Effects.{kept, wanted}
 
 items_are : (writes : Bool) (r : Routine) (es : List Event) → es ≡ clause_events r ++ body_events r

@@ -5,7 +5,7 @@ use Rattle.std.proofs.lemmas.List.{map-append}
 use Rattle.spv_program.specs.declared.types.Item.TheVariants.{Variable, Class}
 use Rattle.spv_program.specs.Uses as plain
 use Rattle.spv_program.specs.Uses.{Own, Shared, same_root}
-use Rattle.spv_frame_walk.specs.FrameWalk.{twice}
+use Rattle.spv_effects.specs.frame_walk.FrameWalk.{twice}
 use Rattle.spv_frame_check.specs.declared.aliases.Root.{Root}
 use Rattle.spv_frame_check.specs.declared.aliases.RootSet.{RootSet}
 use Rattle.spv_frame_check.specs.Sets.{no_items}

@@ -1,7 +1,7 @@
 -- What sets have.
 use Rattle.std.proofs.Common.{◌≡◌, ℕ, Bool, true, false, ◌&&◌, ◌||◌, cond, nat_eq, List, [], ◌∷◌, ◌++◌, refl, sym, ap, ◌∙◌, eqb-true}
 use Rattle.std.specs.List.{list_any}
-use Rattle.spv_names.specs.declared.names.Symbol.{Symbol}
+use Rattle.spv_logic.specs.declared.names.names.Symbol.{Symbol}
 use Rattle.spv_logic.specs.declared.types.TypeId.{TypeId}
 use Rattle.spv_program.specs.declared.types.Item.{Item}
 use Rattle.spv_program.specs.declared.types.Item.TheVariants.{Variable, Class}
@@ -9,7 +9,7 @@ use Rattle.spv_program.specs.Lists.{same_name}
 use Rattle.spv_program.specs.Programs.{GlobalItem}
 use Rattle.spv_program.specs.Uses.{Root, Own, Shared, same_item, same_root}
 use Rattle.spv_program.specs.Frames.{lists}
-use Rattle.spv_frame_events.specs.Names.{named, with_name}
+use Rattle.spv_effects.specs.frame_events.Names.{named, with_name}
 use Rattle.spv_frame_check.specs.declared.aliases.RootSet.{RootSet}
 use Rattle.spv_frame_check.specs.declared.allowed.Allowed.TheVariants.{Listed}
 use Rattle.spv_frame_check.specs.Sets.{ItemSets, no_items, holds, with_item, with_names, with_globals, with_var_groups}

@@ -1,14 +1,14 @@
 -- The names that a routine has of its own.
 use Rattle.std.proofs.Common.{◌≡◌, Bool, true, false, ◌||◌, cond, List, [], ◌∷◌, ◌++◌, map, Some, is_some, refl, sym, ap, ◌∙◌}
 use Rattle.std.specs.List.{list_any}
-use Rattle.spv_names.specs.declared.names.Symbol.{Symbol}
+use Rattle.spv_logic.specs.declared.names.names.Symbol.{Symbol}
 use Rattle.spv_logic.specs.declared.types.TypeId.{TypeId}
 use Rattle.spv_program.specs.Lists.{same_name, found}
 use Rattle.spv_program.specs.Programs.{Formal, Routine}
 use Rattle.spv_program.specs.Scopes.{is_own, result_name}
 use Rattle.spv_program.specs.Frames.{is_formal, is_initial}
-use Rattle.spv_frame_walk.specs.Events.{own_at_exit, own_in_body}
-use Rattle.spv_frame_events.specs.Names.{named}
+use Rattle.spv_effects.specs.frame_walk.Events.{own_at_exit, own_in_body}
+use Rattle.spv_effects.specs.frame_events.Names.{named}
 use Rattle.spv_frame_check.specs.Sets.{with_names}
 use Rattle.spv_frame_check.specs.Owned.{formal_names, initial_names, typed_names}
 use Rattle.spv_frame_check.proofs.Logic.{or_grouped, any_both}

@@ -2,7 +2,7 @@
 use Rattle.std.specs.Prelude.{◌≡◌, Bool, not, ◌||◌, List, [], ◌∷◌, ◌++◌, map, filter, if◌then◌else◌}
 use Rattle.spv_program.specs.declared.types.Item.{Item}
 use Rattle.spv_program.specs.Uses.{Root, Own, Shared, same_item}
-use Rattle.spv_frame_walk.specs.Events.{Event, uses_in}
+use Rattle.spv_effects.specs.frame_walk.Events.{Event, uses_in}
 use Rattle.spv_frame_check.specs.declared.effects.Once.{Once}
 use Rattle.spv_frame_check.specs.Sets.{holds}
 

@@ -2,7 +2,7 @@
 use Rattle.std.specs.Prelude.{Bool, ◌||◌, List, [], ◌∷◌, map, Option, Some, if◌then◌else◌}
 use Rattle.std.specs.List.{list_any}
 use Rattle.spv_program.specs.Uses as plain
-use Rattle.spv_frame_events.specs.Names.{named, with_name}
+use Rattle.spv_effects.specs.frame_events.Names.{named, with_name}
 use Rattle.spv_frame_check.specs.declared.aliases.Root.{Root}
 use Rattle.spv_frame_check.specs.declared.aliases.Root.TheVariants as root
 use Rattle.spv_frame_check.specs.declared.aliases.RootSet.{RootSet}

@@ -1,13 +1,13 @@
 -- Sets of items as lists, and what they allow.
 use Rattle.std.specs.Prelude.{Bool, List, [], ◌∷◌, ◌++◌, if◌then◌else◌}
 use Rattle.std.specs.List.{list_any}
-use Rattle.spv_names.specs.declared.names.Symbol.{Symbol}
+use Rattle.spv_logic.specs.declared.names.names.Symbol.{Symbol}
 use Rattle.spv_logic.specs.declared.types.TypeId.{TypeId}
 use Rattle.spv_program.specs.declared.types.Item.{Item}
 use Rattle.spv_program.specs.declared.types.Item.TheVariants.{Variable, Class}
 use Rattle.spv_program.specs.Types.{same_type}
 use Rattle.spv_program.specs.Programs.{GlobalItem}
-use Rattle.spv_frame_events.specs.Names.{named, with_name}
+use Rattle.spv_effects.specs.frame_events.Names.{named, with_name}
 
 pub record ItemSets : Type 0 where
   pub names : List Symbol

@@ -3,9 +3,9 @@
 ghost use Rattle.std.specs.Prelude.{◌≡◌, ◌++◌, ◌∷◌, [], IfOk, OnOk, Some, map, option_map, if◌then◌else◌};
 ghost use Rattle.spv_program.specs.Frames.{place_roots, root_behind, root_of};
 ghost use Rattle.spv_program.specs.Uses.{name_root};
-ghost use Rattle.spv_typed.specs.ExpressionViews.{argument_before, arguments_of, selector_before, selectors_of};
-ghost use Rattle.spv_frame_walk.specs.FrameWalk.{alias, root_item, twice};
-ghost use Rattle.spv_frame_events.specs.Names.{named};
+ghost use Rattle.spv_program.specs.typed.ExpressionViews.{argument_before, arguments_of, selector_before, selectors_of};
+ghost use Rattle.spv_effects.specs.frame_walk.FrameWalk.{alias, root_item, twice};
+ghost use Rattle.spv_effects.specs.frame_events.Names.{named};
 ghost use Rattle.spv_program.specs.Expressions.{no_arguments, no_selectors};
 ghost use Rattle.spv_frame_check.specs.Sets.{no_items};
 ghost use Rattle.spv_frame_check.specs.Allowed.{allows};
@@ -15,12 +15,12 @@ ghost use Rattle.spv_frame_check.specs.Roots.{has_root, plain_root, plain_roots,
 use crate::allowed::Allowed;
 use crate::callees::in_list_of;
 use crate::items::ItemSet;
-use spv_frame_events::NameSet;
-use spv_frame_walk::FrameFault;
+use spv_effects::frame_events::NameSet;
+use spv_effects::frame_walk::FrameFault;
 use spv_logic::RoutineId;
-use spv_names::Symbol;
+use spv_logic::names::Symbol;
 use spv_program::Item;
-use spv_typed::{Argument, Call, Designator, Selector};
+use spv_program::typed::{Argument, Call, Designator, Selector};
 use std::alloc::{AllocError, Global};
 
 /// What a VAR argument is a part of.

@@ -2,14 +2,14 @@
 
 ghost use Rattle.std.specs.Prelude.{◌≡◌, IfOk, OnOk, map, if◌then◌else◌};
 ghost use Rattle.spv_program.specs.Frames.{lists};
-ghost use Rattle.spv_typed.specs.ProgramViews.{global_of};
-ghost use Rattle.spv_frame_walk.specs.FrameWalk.{missing_item};
+ghost use Rattle.spv_program.specs.typed.ProgramViews.{global_of};
+ghost use Rattle.spv_effects.specs.frame_walk.FrameWalk.{missing_item};
 ghost use Rattle.spv_frame_check.specs.Allowed.{allows};
 ghost use Rattle.spv_frame_check.specs.Sets.{with_globals, with_item, with_var_groups};
 
 use crate::items::ItemSet;
 use spv_program::Item;
-use spv_typed::GlobalItem;
+use spv_program::typed::GlobalItem;
 use std::alloc::{AllocError, Global};
 
 /// What a routine may use: the main block everything, another one the items of its list, and those of its VAR groups also

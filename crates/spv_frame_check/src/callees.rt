@@ -5,8 +5,8 @@ ghost use Rattle.std.specs.List.{list_any};
 ghost use Rattle.spv_program.specs.Frames.{globals_of};
 ghost use Rattle.spv_program.specs.Lists.{item_at};
 ghost use Rattle.spv_program.specs.Programs.{routine_at};
-ghost use Rattle.spv_typed.specs.ProgramViews.{global_of, routine_of};
-ghost use Rattle.spv_frame_walk.specs.FrameWalk.{missing_item};
+ghost use Rattle.spv_program.specs.typed.ProgramViews.{global_of, routine_of};
+ghost use Rattle.spv_effects.specs.frame_walk.FrameWalk.{missing_item};
 ghost use Rattle.spv_frame_check.specs.Allowed.{allows};
 ghost use Rattle.spv_frame_check.specs.Tables.{IsCovered, has_item, same_routine, tables_of, with_routine};
 
@@ -14,7 +14,7 @@ use crate::allowed::{Allowed, allowed_by, missing_item};
 use indexmap::IndexSet;
 use spv_logic::RoutineId;
 use spv_program::Item;
-use spv_typed::{GlobalItem, Program, Routine};
+use spv_program::typed::{GlobalItem, Program, Routine};
 use std::alloc::{AllocError, Global};
 use std::marker::Model;
 

@@ -1,18 +1,18 @@
 // Uses and calls against the rules.
 
 ghost use Rattle.std.specs.Prelude.{◌≡◌, IfOk, OnOk, map};
-ghost use Rattle.spv_frame_walk.specs.FrameWalk.{call_fault, event_fault, events_fault};
-ghost use Rattle.spv_frame_events.specs.EventViews.{event_of, events_of};
-ghost use Rattle.spv_frame_events.specs.Names.{named};
+ghost use Rattle.spv_effects.specs.frame_walk.FrameWalk.{call_fault, event_fault, events_fault};
+ghost use Rattle.spv_effects.specs.frame_events.EventViews.{event_of, events_of};
+ghost use Rattle.spv_effects.specs.frame_events.Names.{named};
 ghost use Rattle.spv_frame_check.specs.Allowed.{allows};
 ghost use Rattle.spv_frame_check.specs.Tables.{IsCovered, tables_of};
 
 use crate::aliases::meeting_fault;
 use crate::allowed::Allowed;
 use crate::callees::{CalleeSet, missing_at};
-use spv_frame_events::{Event, NameSet};
-use spv_frame_walk::FrameFault;
-use spv_typed::{Call, Program};
+use spv_effects::frame_events::{Event, NameSet};
+use spv_effects::frame_walk::FrameFault;
+use spv_program::typed::{Call, Program};
 use std::alloc::{AllocError, Global};
 
 fn call_fault(

@@ -3,13 +3,13 @@
 ghost use Rattle.std.specs.Prelude.{◌≡◌, [], IfOk, OnOk, true, false};
 ghost use Rattle.spv_program.specs.Frames.{items_once};
 ghost use Rattle.spv_program.specs.Uses.{Shared};
-ghost use Rattle.spv_frame_events.specs.EventViews.{event_of, events_of};
+ghost use Rattle.spv_effects.specs.frame_events.EventViews.{event_of, events_of};
 ghost use Rattle.spv_frame_check.specs.Effects.{Follows, Takes, kept, wanted};
 ghost use Rattle.spv_frame_check.specs.Sets.{no_items};
 
 use crate::items::ItemSet;
-use spv_frame_events::Event;
-use spv_list::List;
+use spv_effects::frame_events::Event;
+use spv_logic::list::List;
 use spv_program::Item;
 use std::alloc::{AllocError, Global};
 use std::marker::Model;

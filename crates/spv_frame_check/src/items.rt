@@ -6,7 +6,7 @@ ghost use Rattle.spv_frame_check.specs.Sets.{holds, with_item, with_type};
 ghost use Rattle.spv_program.specs.Types.{same_type};
 
 use indexmap::IndexSet;
-use spv_frame_events::NameSet;
+use spv_effects::frame_events::NameSet;
 use spv_logic::TypeId;
 use spv_program::Item;
 use std::alloc::{AllocError, Global};

@@ -3,17 +3,17 @@
 ghost use Rattle.std.specs.Prelude.{◌≡◌, ◌++◌, IfOk, OnOk, Some, map};
 ghost use Rattle.spv_program.specs.Frames.{is_formal};
 ghost use Rattle.spv_program.specs.Scopes.{is_own, result_name};
-ghost use Rattle.spv_typed.specs.ProgramViews.{formal_of, routine_of};
-ghost use Rattle.spv_frame_walk.specs.Events.{own_at_exit, own_in_body};
-ghost use Rattle.spv_frame_events.specs.Names.{named};
+ghost use Rattle.spv_program.specs.typed.ProgramViews.{formal_of, routine_of};
+ghost use Rattle.spv_effects.specs.frame_walk.Events.{own_at_exit, own_in_body};
+ghost use Rattle.spv_effects.specs.frame_events.Names.{named};
 ghost use Rattle.spv_frame_check.specs.Sets.{with_names};
 ghost use Rattle.spv_frame_check.specs.Owned.{formal_names, initial_names, typed_names};
 
-use spv_frame_events::NameSet;
+use spv_effects::frame_events::NameSet;
 use spv_logic::TypeId;
-use spv_names::Symbol;
+use spv_logic::names::Symbol;
 use spv_program::Item;
-use spv_typed::{Formal, Routine};
+use spv_program::typed::{Formal, Routine};
 use std::alloc::{AllocError, Global};
 
 fn add_formals(set: &mut NameSet, formals: &[Formal]) -> Result<(), AllocError>

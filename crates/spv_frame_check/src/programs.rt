@@ -2,8 +2,8 @@
 
 ghost use Rattle.std.specs.Prelude.{◌≡◌, IfOk, IfErr, None, map};
 ghost use Rattle.spv_program.specs.Frames as plain;
-ghost use Rattle.spv_typed.specs.ProgramViews.{routine_of};
-ghost use Rattle.spv_frame_walk.specs.FrameWalk.{frame_fault, main_fault, routines_fault};
+ghost use Rattle.spv_program.specs.typed.ProgramViews.{routine_of};
+ghost use Rattle.spv_effects.specs.frame_walk.FrameWalk.{frame_fault, main_fault, routines_fault};
 ghost use Rattle.spv_frame_check.specs.Allowed.{allows};
 ghost use Rattle.spv_frame_check.specs.Answers.{Stops};
 ghost use Rattle.spv_frame_check.specs.Tables.{tables_of};
@@ -13,10 +13,10 @@ use crate::callees::tables;
 use crate::calls::events_fault;
 use crate::effects::Effects;
 use crate::routines::{earliest, routine_effects, routine_fault};
-use spv_frame_events::{NameSet, gather_statement};
-use spv_frame_walk::FrameFault;
-use spv_list::List;
-use spv_typed::{Program, Routine};
+use spv_effects::frame_events::{NameSet, gather_statement};
+use spv_effects::frame_walk::FrameFault;
+use spv_logic::list::List;
+use spv_program::typed::{Program, Routine};
 use std::alloc::{AllocError, Global};
 
 // The first fault in these routines.

@@ -3,11 +3,11 @@
 ghost use Rattle.std.specs.Prelude.{◌≡◌, ◌++◌, IfOk, OnOk, map};
 ghost use Rattle.spv_program.specs.Lists.{first_of};
 ghost use Rattle.spv_program.specs.Frames.{effects_of};
-ghost use Rattle.spv_typed.specs.ProgramViews.{formal_of, global_of, routine_of};
-ghost use Rattle.spv_frame_walk.specs.Events.{body_events, clause_events};
-ghost use Rattle.spv_frame_walk.specs.FrameWalk.{earliest, events_fault, heading_fault, line_of, routine_fault, var_group, var_parameter};
-ghost use Rattle.spv_frame_events.specs.EventViews.{events_of};
-ghost use Rattle.spv_frame_events.specs.Names.{named};
+ghost use Rattle.spv_program.specs.typed.ProgramViews.{formal_of, global_of, routine_of};
+ghost use Rattle.spv_effects.specs.frame_walk.Events.{body_events, clause_events};
+ghost use Rattle.spv_effects.specs.frame_walk.FrameWalk.{earliest, events_fault, heading_fault, line_of, routine_fault, var_group, var_parameter};
+ghost use Rattle.spv_effects.specs.frame_events.EventViews.{events_of};
+ghost use Rattle.spv_effects.specs.frame_events.Names.{named};
 ghost use Rattle.spv_frame_check.specs.Allowed.{allows};
 ghost use Rattle.spv_frame_check.specs.Tables.{tables_of};
 
@@ -15,9 +15,9 @@ use crate::allowed::{Allowed, allowed_by};
 use crate::calls::events_fault;
 use crate::effects::{Effects, effects_in};
 use crate::owned::{body_names, entry_names, exit_names, own_names};
-use spv_frame_events::{Event, NameSet, gather_annotation, gather_statement};
-use spv_frame_walk::FrameFault;
-use spv_typed::{Formal, GlobalItem, Program, Routine};
+use spv_effects::frame_events::{Event, NameSet, gather_annotation, gather_statement};
+use spv_effects::frame_walk::FrameFault;
+use spv_program::typed::{Formal, GlobalItem, Program, Routine};
 use std::alloc::{AllocError, Global};
 
 // The line of the first VAR group among the parameters.

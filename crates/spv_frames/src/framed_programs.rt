@@ -5,7 +5,7 @@ ghost use Rattle.spv_program.specs.Frames as plain;
 ghost use Rattle.spv_program.specs.Typing.{well_typed};
 
 use spv_frame_check::Effects;
-use spv_list::List;
+use spv_logic::list::List;
 use spv_types::Typed;
 use std::marker::Model;
 
@@ -23,9 +23,9 @@ impl Model for Framed {
     ghost Value = { Framed };
 
     ghost use Rattle.std.specs.Coded.{codes};
-    ghost use Rattle.spv_list.specs.Ways.{coded_by};
-    ghost use Rattle.spv_typed.specs.Model.FormulaCodes.{way_formula};
-    ghost use Rattle.spv_typed.specs.Model.StatementCodes.{way_statement};
+    ghost use Rattle.spv_logic.specs.list.Ways.{coded_by};
+    ghost use Rattle.spv_program.specs.typed.Model.FormulaCodes.{way_formula};
+    ghost use Rattle.spv_program.specs.typed.Model.StatementCodes.{way_statement};
 
     ghost coded = { Prim.hlevel (codes, coded_by way_formula, coded_by way_statement) };
 

@@ -1,12 +1,12 @@
 // Programs against the rules of frames.
 
 ghost use Rattle.std.specs.Prelude.{◌≡◌, IfOk, IfErr, None};
-ghost use Rattle.spv_frame_walk.specs.FrameWalk.{frame_fault};
+ghost use Rattle.spv_effects.specs.frame_walk.FrameWalk.{frame_fault};
 ghost use Rattle.spv_frame_check.specs.Answers.{Stops};
 
 use crate::framed_programs::Framed;
+use spv_effects::frame_walk::FrameFault;
 use spv_frame_check::checked;
-use spv_frame_walk::FrameFault;
 use spv_types::Typed;
 use std::alloc::Global;
 

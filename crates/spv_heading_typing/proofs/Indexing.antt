@@ -4,7 +4,7 @@ use Rattle.std.proofs.lemmas.Bool.{false≢true, eqb-true}
 use Rattle.std.proofs.lemmas.List.{map-append}
 use Rattle.std.proofs.lemmas.List.Folds.{list_any-append}
 use Rattle.std.specs.List.{list_any}
-use Rattle.spv_names.specs.declared.names.Symbol.{Symbol}
+use Rattle.spv_logic.specs.declared.names.names.Symbol.{Symbol}
 use Rattle.spv_logic.specs.declared.types.TypeId.{TypeId}
 use Rattle.spv_program.specs.declared.types.Item.{Item}
 use Rattle.spv_program.specs.declared.types.Item.TheVariants.{Variable, Class}
@@ -12,8 +12,8 @@ use Rattle.spv_program.specs.Lists.{found, first_of, same_name}
 use Rattle.spv_program.specs.Uses.{same_item}
 use Rattle.spv_program.specs.Frames.{lists}
 use Rattle.spv_program.specs.Programs.{GlobalItem}
-use Rattle.spv_typed.specs.declared.programs.GlobalItem.{GlobalItem as GlobalText}
-use Rattle.spv_typed.specs.ProgramViews.{global_of}
+use Rattle.spv_program.specs.declared.typed.programs.GlobalItem.{GlobalItem as GlobalText}
+use Rattle.spv_program.specs.typed.ProgramViews.{global_of}
 use Rattle.spv_heading_typing.specs.Shared.{looked_up, says_true, Indexed}
 
 pub nothing_indexed : Indexed [] [] []

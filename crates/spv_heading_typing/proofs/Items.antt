@@ -2,13 +2,13 @@
 use Rattle.std.proofs.Common.{◌≡◌, ℕ, Bool, true, false, ◌&&◌, ◌||◌, List, [], ◌∷◌, ◌++◌, Option, Some, None, Ok, is_some, refl, subst, sym, ap, ◌∙◌}
 use Rattle.std.proofs.lemmas.List.{map-append}
 use Rattle.std.proofs.lemmas.List.Folds.{list_any-append}
-use Rattle.spv_list.proofs.Tests.{both_false}
+use Rattle.spv_logic.proofs.list.Tests.{both_false}
 use Rattle.spv_heading_typing.specs.declared.starts.Starts.{Starts}
 use Rattle.std.specs.List.{list_any}
-use Rattle.spv_names.specs.declared.names.Symbol.{Symbol}
+use Rattle.spv_logic.specs.declared.names.names.Symbol.{Symbol}
 use Rattle.spv_logic.specs.declared.types.Sort.{Sort}
 use Rattle.spv_logic.specs.declared.types.Sort.TheVariants as sort
-use Rattle.spv_syntax.specs.declared.declarations.NameOrClass.TheVariants as written
+use Rattle.spv_tree.specs.declared.syntax.declarations.NameOrClass.TheVariants as written
 use Rattle.spv_program.specs.Lists.{found, same_name}
 use Rattle.spv_program.specs.Types.{sort_of}
 use Rattle.spv_program.specs.Programs.{GlobalItem}
@@ -16,22 +16,22 @@ use Rattle.spv_program.specs.Frames.{lists}
 use Rattle.spv_typing.specs.Outcomes.{Outcome, after}
 use Rattle.spv_typing.specs.DeclarationWalk.{class_named}
 use Rattle.spv_formula_typing.proofs.Exits.{stops_after}
-use Rattle.spv_scopes.specs.declared.scopes.Own.{Own}
-use Rattle.spv_scopes.specs.Scopes.{own_of}
+use Rattle.spv_environments.specs.declared.scopes.Own.{Own}
+use Rattle.spv_environments.specs.Scopes.{own_of}
 use Rattle.spv_heading_typing.specs.declared.parameters.Parameters.{Parameters}
 use Rattle.spv_heading_typing.specs.Names.{has}
 use Rattle.spv_heading_typing.specs.Parameters.{IsPlaces, parameters_of}
 use Rattle.spv_heading_typing.specs.Starts.{initial_in, initial_walk, AreApart}
 use Rattle.spv_heading_typing.specs.Clauses.{annotations_in, clauses_in}
-use Rattle.spv_syntax.specs.declared.routines.Clauses.{Clauses as ClausesText}
+use Rattle.spv_tree.specs.declared.syntax.routines.Clauses.{Clauses as ClausesText}
 use Rattle.spv_logic.specs.declared.types.TypeId.{TypeId}
-use Rattle.spv_syntax.specs.declared.names.Name.{Name}
+use Rattle.spv_tree.specs.declared.syntax.names.Name.{Name}
 use Rattle.spv_program.specs.declared.types.Item.TheVariants.{Variable, Class}
 use Rattle.spv_typing.specs.declared.faults.TypeFault.{TypeFault}
 use Rattle.spv_typing.specs.Known.{Known, Meaning, OfPlace, meaning, named, program_names}
 use Rattle.spv_typing.specs.RoutineWalk.{variable_named}
 use Rattle.spv_typing.specs.RoutineWalk as spec
-use Rattle.spv_scopes.specs.Answers.{Stops}
+use Rattle.spv_environments.specs.Answers.{Stops}
 
 pub variable_shared : (line : ℕ) (x : Name) (m n : Option Meaning) (t : TypeId) → n ≡ m → n ≡ Some (OfPlace t) → variable_named line x m ≡ Ok (Variable x.symbol)
 variable_shared line x m n t same is = ap (variable_named line x) (sym same) ∙ ap (variable_named line x) is

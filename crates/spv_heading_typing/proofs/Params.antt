@@ -4,28 +4,28 @@ use Rattle.std.proofs.lemmas.Bool.{false≢true, true≢false}
 use Rattle.std.proofs.lemmas.List.{map-append, append-nil}
 use Rattle.std.proofs.lemmas.List.Folds.{list_any-append}
 use Rattle.std.specs.List.{list_any}
-use Rattle.spv_names.specs.declared.names.Symbol.{Symbol}
+use Rattle.spv_logic.specs.declared.names.names.Symbol.{Symbol}
 use Rattle.spv_logic.specs.declared.types.TypeId.{TypeId}
-use Rattle.spv_list.proofs.Tests.{left_true, right_true, left_false, right_false, both_false}
-use Rattle.spv_named.specs.Entries.{under}
-use Rattle.spv_syntax.specs.declared.names.Name.{Name}
-use Rattle.spv_syntax.specs.declared.lists.Several.{Several}
-use Rattle.spv_syntax.specs.declared.routines.Group.{Group}
-use Rattle.spv_syntax.specs.declared.routines.GroupForm.{GroupForm}
-use Rattle.spv_syntax.specs.declared.routines.GroupForm.TheVariants.{Variables}
+use Rattle.spv_logic.proofs.list.Tests.{left_true, right_true, left_false, right_false, both_false}
+use Rattle.spv_program.specs.ordered_map.Entries.{under}
+use Rattle.spv_tree.specs.declared.syntax.names.Name.{Name}
+use Rattle.spv_tree.specs.declared.syntax.lists.Several.{Several}
+use Rattle.spv_tree.specs.declared.syntax.routines.Group.{Group}
+use Rattle.spv_tree.specs.declared.syntax.routines.GroupForm.{GroupForm}
+use Rattle.spv_tree.specs.declared.syntax.routines.GroupForm.TheVariants.{Variables}
 use Rattle.spv_program.specs.Lists.{found, first_of, same_name}
 use Rattle.spv_program.specs.Programs.{GlobalItem}
-use Rattle.spv_typed.specs.ProgramViews.{formal_of}
+use Rattle.spv_program.specs.typed.ProgramViews.{formal_of}
 use Rattle.spv_typing.specs.Known as known
 use Rattle.spv_typing.specs.declared.faults.TypeFault.{TypeFault}
 use Rattle.spv_typing.specs.Outcomes.{Outcome, after, where_so, each, twice}
 use Rattle.spv_typing.specs.DeclarationWalk.{new_name}
 use Rattle.spv_typing.specs.RoutineWalk as spec
-use Rattle.spv_scopes.specs.declared.scopes.Own.{Own}
-use Rattle.spv_scopes.specs.declared.scopes.Own.TheVariants.{Place}
-use Rattle.spv_scopes.specs.Answers.{Stops}
-use Rattle.spv_scopes.specs.Scopes.{own_of}
-use Rattle.spv_scopes.proofs.Meanings.{found_first}
+use Rattle.spv_environments.specs.declared.scopes.Own.{Own}
+use Rattle.spv_environments.specs.declared.scopes.Own.TheVariants.{Place}
+use Rattle.spv_environments.specs.Answers.{Stops}
+use Rattle.spv_environments.specs.Scopes.{own_of}
+use Rattle.spv_environments.proofs.Meanings.{found_first}
 use Rattle.spv_heading_typing.specs.declared.parameters.Parameters.{Parameters}
 use Rattle.spv_heading_typing.specs.Names.{symbols_of, has, free_by}
 use Rattle.spv_heading_typing.specs.Parameters.{parameters_of, formals_named, group_of, IsPlaces, variables_walk}

@@ -1,14 +1,14 @@
 -- Clauses behind a heading's parameters and result.
 use Rattle.std.proofs.Common.{◌≡◌, List, ◌++◌, Option, None, Ok, Err, refl, sym, ap, subst, ◌∙◌}
 use Rattle.spv_logic.specs.declared.types.TypeId.{TypeId}
-use Rattle.spv_syntax.specs.declared.routines.Clauses.{Clauses as ClausesText}
-use Rattle.spv_typed.specs.declared.programs.Formal.{Formal as FormalText}
+use Rattle.spv_tree.specs.declared.syntax.routines.Clauses.{Clauses as ClausesText}
+use Rattle.spv_program.specs.declared.typed.programs.Formal.{Formal as FormalText}
 use Rattle.spv_typing.specs.declared.faults.TypeFault.{TypeFault}
 use Rattle.spv_typing.specs.Known.{Known}
 use Rattle.spv_typing.specs.Outcomes.{Outcome, after, if_there}
 use Rattle.spv_typing.specs.FormulaWalk.{annotation}
 use Rattle.spv_typing.specs.RoutineWalk as spec
-use Rattle.spv_scopes.specs.Answers.{Stops}
+use Rattle.spv_environments.specs.Answers.{Stops}
 use Rattle.spv_formula_typing.proofs.Exits.{stops_after}
 use Rattle.spv_heading_typing.specs.declared.parameters.Parameters.{Parameters}
 use Rattle.spv_heading_typing.specs.declared.headings.Title.{Title}

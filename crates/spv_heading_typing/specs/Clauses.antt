@@ -1,18 +1,18 @@
 -- The clauses of a heading in the definition of the walk.
 use Rattle.std.specs.Prelude.{Option, List, ◌++◌, None, Ok, option_map}
-use Rattle.spv_names.specs.declared.names.Symbol.{Symbol}
+use Rattle.spv_logic.specs.declared.names.names.Symbol.{Symbol}
 use Rattle.spv_logic.specs.declared.types.TypeId.{TypeId}
-use Rattle.spv_syntax.specs.Formulas.{Formula}
-use Rattle.spv_syntax.specs.declared.routines.Clauses.{Clauses as ClausesText}
+use Rattle.spv_tree.specs.syntax.Formulas.{Formula}
+use Rattle.spv_tree.specs.declared.syntax.routines.Clauses.{Clauses as ClausesText}
 use Rattle.spv_program.specs.declared.types.Item.{Item}
 use Rattle.spv_program.specs.Formulas.{Annotation}
 use Rattle.spv_program.specs.Programs.{GlobalItem}
-use Rattle.spv_typed.specs.FormulaViews.{annotation_of}
+use Rattle.spv_program.specs.typed.FormulaViews.{annotation_of}
 use Rattle.spv_typing.specs.Known.{Known, Names, named}
 use Rattle.spv_typing.specs.Outcomes.{Outcome, after, if_there}
 use Rattle.spv_typing.specs.FormulaWalk.{annotation}
 use Rattle.spv_typing.specs.RoutineWalk as spec
-use Rattle.spv_scopes.specs.Scopes.{own_of}
+use Rattle.spv_environments.specs.Scopes.{own_of}
 use Rattle.spv_heading_typing.specs.declared.parameters.Parameters.{Parameters}
 use Rattle.spv_heading_typing.specs.declared.clauses.Clauses.{Clauses}
 use Rattle.spv_heading_typing.specs.Parameters.{parameters_of}

@@ -1,18 +1,18 @@
 -- Headings in the definition of the walk.
 use Rattle.std.specs.Prelude.{◌≡◌, List, [], map, Option, Some, None}
-use Rattle.spv_names.specs.declared.names.Symbol.{Symbol}
+use Rattle.spv_logic.specs.declared.names.names.Symbol.{Symbol}
 use Rattle.spv_logic.specs.declared.types.TypeId.{TypeId}
-use Rattle.spv_syntax.specs.declared.names.Name.{Name}
-use Rattle.spv_syntax.specs.declared.routines.Params.{Params}
-use Rattle.spv_syntax.specs.declared.routines.Clauses.{Clauses as ClausesText}
+use Rattle.spv_tree.specs.declared.syntax.names.Name.{Name}
+use Rattle.spv_tree.specs.declared.syntax.routines.Params.{Params}
+use Rattle.spv_tree.specs.declared.syntax.routines.Clauses.{Clauses as ClausesText}
 use Rattle.spv_program.specs.Programs.{Formal}
-use Rattle.spv_typed.specs.declared.programs.Formal.{Formal as FormalText}
-use Rattle.spv_typed.specs.ProgramViews.{formal_of, global_of}
+use Rattle.spv_program.specs.declared.typed.programs.Formal.{Formal as FormalText}
+use Rattle.spv_program.specs.typed.ProgramViews.{formal_of, global_of}
 use Rattle.spv_typing.specs.Known.{Heading, Known, named}
 use Rattle.spv_typing.specs.Outcomes.{Outcome, after}
 use Rattle.spv_typing.specs.RoutineWalk as spec
-use Rattle.spv_scopes.specs.Views.{specified_of}
-use Rattle.spv_scopes.specs.Scopes.{own_of}
+use Rattle.spv_environments.specs.Views.{specified_of}
+use Rattle.spv_environments.specs.Scopes.{own_of}
 use Rattle.spv_heading_typing.specs.declared.headings.Headed.{Headed}
 use Rattle.spv_heading_typing.specs.declared.headings.Title.{Title}
 use Rattle.spv_heading_typing.specs.Names.{has}

@@ -1,9 +1,9 @@
 -- Which names a routine may take.
 use Rattle.std.specs.Prelude.{Bool, ◌&&◌, ◌||◌, not, List, map, is_some}
-use Rattle.spv_names.specs.declared.names.Symbol.{Symbol}
+use Rattle.spv_logic.specs.declared.names.names.Symbol.{Symbol}
 use Rattle.spv_program.specs.Lists.{same_name, found}
 use Rattle.spv_typing.specs.Known.{KnownNames, is_fixed}
-use Rattle.spv_scopes.specs.declared.scopes.Own.{Own}
+use Rattle.spv_environments.specs.declared.scopes.Own.{Own}
 use Rattle.spv_heading_typing.specs.declared.names.RoutineNames.{RoutineNames}
 
 -- the names in a table

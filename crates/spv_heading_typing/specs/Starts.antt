@@ -1,18 +1,18 @@
 -- What the code's INITIAL names are in the definition of the walk.
 use Rattle.std.specs.List.{list_any}
 use Rattle.std.specs.Prelude.{◌≡◌, ℕ, false, List, [], ◌∷◌, ◌++◌, Option, None, Ok}
-use Rattle.spv_names.specs.declared.names.Symbol.{Symbol}
+use Rattle.spv_logic.specs.declared.names.names.Symbol.{Symbol}
 use Rattle.spv_logic.specs.declared.types.Sort.{Sort}
-use Rattle.spv_syntax.specs.declared.declarations.NameOrClass.{NameOrClass}
-use Rattle.spv_syntax.specs.declared.lists.Several.{Several}
-use Rattle.spv_syntax.specs.declared.routines.Start.{Start}
+use Rattle.spv_tree.specs.declared.syntax.declarations.NameOrClass.{NameOrClass}
+use Rattle.spv_tree.specs.declared.syntax.lists.Several.{Several}
+use Rattle.spv_tree.specs.declared.syntax.routines.Start.{Start}
 use Rattle.spv_program.specs.declared.types.Item.{Item}
 use Rattle.spv_program.specs.Programs.{GlobalItem}
 use Rattle.spv_typing.specs.Known as known
 use Rattle.spv_typing.specs.Outcomes.{Outcome, after}
 use Rattle.spv_typing.specs.RoutineWalk as spec
-use Rattle.spv_scopes.specs.declared.scopes.Own.{Own}
-use Rattle.spv_scopes.specs.Scopes.{own_of}
+use Rattle.spv_environments.specs.declared.scopes.Own.{Own}
+use Rattle.spv_environments.specs.Scopes.{own_of}
 use Rattle.spv_heading_typing.specs.declared.parameters.Parameters.{Parameters}
 use Rattle.spv_heading_typing.specs.declared.starts.Starts.{Starts}
 use Rattle.spv_heading_typing.specs.Names.{has}

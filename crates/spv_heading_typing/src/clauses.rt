@@ -1,11 +1,11 @@
 // The clauses of a heading.
 
 ghost use Rattle.std.specs.Prelude.{◌≡◌, ◌++◌, IfOk, IfErr, Ok, option_map};
-ghost use Rattle.spv_typed.specs.FormulaViews.{annotation_of};
+ghost use Rattle.spv_program.specs.typed.FormulaViews.{annotation_of};
 ghost use Rattle.spv_typing.specs.Outcomes.{if_there};
 ghost use Rattle.spv_typing.specs.FormulaWalk.{annotation as annotation_walk};
-ghost use Rattle.spv_scopes.specs.Answers.{Stops};
-ghost use Rattle.spv_scopes.specs.Scopes.{scope_of};
+ghost use Rattle.spv_environments.specs.Answers.{Stops};
+ghost use Rattle.spv_environments.specs.Scopes.{scope_of};
 ghost use Rattle.spv_heading_typing.specs.Parameters.{IsPlaces};
 ghost use Rattle.spv_heading_typing.specs.Starts.{starts_of, AreApart};
 ghost use Rattle.spv_heading_typing.specs.Clauses.{clauses_of, clauses_in, entry_in, exit_in, annotations_in};
@@ -15,14 +15,14 @@ use crate::parameters::Parameters;
 use crate::shared::Shared;
 use crate::starts::{Starts, all_starts};
 use spv_annotation_typing::annotation;
-use spv_list::List;
+use spv_environments::{Known, Own, Scope};
 use spv_logic::TypeId;
-use spv_named::Named;
-use spv_names::Symbol;
+use spv_logic::list::List;
+use spv_logic::names::Symbol;
 use spv_program::Item;
-use spv_scopes::{Known, Own, Scope};
-use spv_syntax::Formula;
-use spv_typed::Annotation;
+use spv_program::ordered_map::Named;
+use spv_program::typed::Annotation;
+use spv_tree::syntax::Formula;
 use spv_typing::TypeFault;
 use std::alloc::{AllocError, Global};
 
@@ -112,7 +112,7 @@ fn annotations(
     parameters: &Parameters,
     of: Option<TypeId>,
     starts: &Starts,
-    tree: &spv_syntax::Clauses,
+    tree: &spv_tree::syntax::Clauses,
 ) -> Result<(Option<Annotation>, Option<Annotation>), TypeFault>
     ensures ok { IfOk result (λ p. annotations_in known.now routine parameters.now of (starts_of starts.now) tree.now ≡ Ok (option_map annotation_of p.0, option_map annotation_of p.1)) }
     ensures err { IfErr result (λ e. Stops e (annotations_in known.now routine parameters.now of (starts_of starts.now) tree.now)) }
@@ -142,7 +142,7 @@ pub(crate) fn all_clauses(
     routine: Symbol,
     parameters: &Parameters,
     of: Option<TypeId>,
-    tree: &spv_syntax::Clauses,
+    tree: &spv_tree::syntax::Clauses,
 ) -> Result<Clauses, TypeFault>
     requires { IsPlaces parameters.now }
     ensures ok { IfOk result (λ c. clauses_in known.now routine parameters.now of tree.now ≡ Ok (clauses_of c)) }

@@ -7,14 +7,14 @@ ghost use Rattle.spv_typing.specs.Known as spec;
 ghost use Rattle.spv_typing.specs.TypeWalk as types;
 ghost use Rattle.spv_typing.specs.DeclarationWalk.{class_named};
 ghost use Rattle.spv_typing.specs.RoutineWalk.{variable_named};
-ghost use Rattle.spv_scopes.specs.Answers.{Stops};
-ghost use Rattle.spv_scopes.specs.Scopes.{meaning_of, scope_of};
+ghost use Rattle.spv_environments.specs.Answers.{Stops};
+ghost use Rattle.spv_environments.specs.Scopes.{meaning_of, scope_of};
 ghost use Rattle.std.specs.Prelude.{option_map};
 
+use spv_environments::{Known, Meaning, Scope};
 use spv_logic::TypeId;
 use spv_program::TypeForm;
-use spv_scopes::{Known, Meaning, Scope};
-use spv_syntax::Name;
+use spv_tree::syntax::Name;
 use spv_typing::TypeFault;
 
 // The type of a name, where it stands for one.

@@ -3,16 +3,16 @@
 ghost use Rattle.std.specs.Prelude.{◌≡◌, IfOk, IfErr, Ok, Some};
 ghost use Rattle.spv_typing.specs.Known.{named};
 ghost use Rattle.spv_typing.specs.RoutineWalk as spec;
-ghost use Rattle.spv_scopes.specs.Answers.{Stops};
-ghost use Rattle.spv_scopes.specs.Scopes.{own_of};
+ghost use Rattle.spv_environments.specs.Answers.{Stops};
+ghost use Rattle.spv_environments.specs.Scopes.{own_of};
 
 use crate::finding::{class_item, variable_item};
 use crate::shared::Shared;
-use spv_named::Named;
+use spv_environments::{Known, Own};
 use spv_program::Item;
-use spv_scopes::{Known, Own};
-use spv_syntax::{GlobalGroup, Name, NameOrClass, Several};
-use spv_typed::GlobalItem;
+use spv_program::ordered_map::Named;
+use spv_program::typed::GlobalItem;
+use spv_tree::syntax::{GlobalGroup, Name, NameOrClass, Several};
 use spv_typing::TypeFault;
 use std::alloc::Global;
 
@@ -59,7 +59,7 @@ fn with_item(
     is_var: bool,
     line: u32,
     shared: Shared,
-    tree: &spv_syntax::Item,
+    tree: &spv_tree::syntax::Item,
 ) -> Result<Shared, TypeFault>
     ensures ok { IfOk result (λ s. spec.item_walk known.now (named own_of own.now) is_var line shared tree.now ≡ Ok s) }
     ensures err { IfErr result (λ e. Stops e (spec.item_walk known.now (named own_of own.now) is_var line shared tree.now)) }

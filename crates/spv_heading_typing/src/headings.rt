@@ -1,11 +1,11 @@
 // Headings with their clauses.
 
 ghost use Rattle.std.specs.Prelude.{◌≡◌, [], true, None, map, IfOk, IfErr, Ok, OnOk};
-ghost use Rattle.spv_typed.specs.ProgramViews.{formal_of};
+ghost use Rattle.spv_program.specs.typed.ProgramViews.{formal_of};
 ghost use Rattle.spv_typing.specs.Known.{is_free, named};
 ghost use Rattle.spv_typing.specs.RoutineWalk as spec;
-ghost use Rattle.spv_scopes.specs.Answers.{Stops};
-ghost use Rattle.spv_scopes.specs.Scopes.{own_of};
+ghost use Rattle.spv_environments.specs.Answers.{Stops};
+ghost use Rattle.spv_environments.specs.Scopes.{own_of};
 ghost use Rattle.spv_heading_typing.specs.Parameters.{IsPlaces, parameters_of};
 ghost use Rattle.spv_heading_typing.specs.Headings.{announced, headed_of, headed_with, IsListed, parameters_walk, rest_walk, procedure_walk, function_walk};
 ghost use Rattle.spv_heading_typing.specs.Clauses.{clauses_of};
@@ -13,13 +13,13 @@ ghost use Rattle.spv_heading_typing.specs.Clauses.{clauses_of};
 use crate::clauses::{Clauses, all_clauses};
 use crate::finding::may_be_result;
 use crate::parameters::{Parameters, all_parameters, type_in};
-use spv_list::List;
+use spv_environments::{Formals, Heading, Known, Own, Specified};
+use spv_logic::list::List;
+use spv_logic::names::Symbol;
 use spv_logic::{RoutineId, TypeId};
-use spv_named::Named;
-use spv_names::Symbol;
-use spv_scopes::{Formals, Heading, Known, Own, Specified};
-use spv_syntax::{HeadingForm, Name, Params};
-use spv_typed::Formal;
+use spv_program::ordered_map::Named;
+use spv_program::typed::Formal;
+use spv_tree::syntax::{HeadingForm, Name, Params};
 use spv_typing::TypeFault;
 use std::alloc::{AllocError, Global};
 
@@ -110,7 +110,7 @@ fn with_clauses(
     title: Title,
     parameters: Parameters,
     of: Option<TypeId>,
-    tree: &spv_syntax::Clauses,
+    tree: &spv_tree::syntax::Clauses,
 ) -> Result<Headed, TypeFault>
     requires free { is_free known.old title.name ≡ true }
     requires places { IsPlaces parameters }
@@ -173,7 +173,7 @@ fn procedure(
     alloc: Global,
     title: Title,
     params: &Option<Params>,
-    tree: &spv_syntax::Clauses,
+    tree: &spv_tree::syntax::Clauses,
 ) -> Result<Headed, TypeFault>
     requires { is_free known.old title.name ≡ true }
     ensures ok { IfOk result (λ h. procedure_walk known.old title params.now tree.now ≡ Ok (headed_of title.name h)) }
@@ -192,7 +192,7 @@ fn function(
     title: Title,
     params: &Option<Params>,
     of: Option<Name>,
-    tree: &spv_syntax::Clauses,
+    tree: &spv_tree::syntax::Clauses,
 ) -> Result<Headed, TypeFault>
     requires { is_free known.old title.name ≡ true }
     ensures ok { IfOk result (λ h. function_walk known.old title params.now of tree.now ≡ Ok (headed_of title.name h)) }
@@ -212,8 +212,8 @@ pub fn heading(
     known: &mut Known,
     alloc: Global,
     number: RoutineId,
-    tree: &spv_syntax::Heading,
-    clauses: &spv_syntax::Clauses,
+    tree: &spv_tree::syntax::Heading,
+    clauses: &spv_tree::syntax::Clauses,
 ) -> Result<Headed, TypeFault>
     requires { is_free known.old (spec.heading_name tree.now.form).symbol ≡ true }
     ensures ok { IfOk result (λ h. spec.form_walk known.old number tree.now.line clauses.now tree.now.form ≡ Ok (headed_of (spec.heading_name tree.now.form).symbol h)) }

@@ -1,9 +1,9 @@
 // Which names a routine may take.
 
-use spv_named::Named;
-use spv_names::Symbol;
-use spv_scopes::{Known, Own};
-use spv_type_typing::Free;
+use spv_declaration_typing::type_typing::Free;
+use spv_environments::{Known, Own};
+use spv_logic::names::Symbol;
+use spv_program::ordered_map::Named;
 
 /// What decides whether a routine may take a further name.
 #[derive(Clone, Copy)]

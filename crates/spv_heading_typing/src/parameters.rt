@@ -3,20 +3,20 @@
 ghost use Rattle.std.specs.Prelude.{◌≡◌, ◌++◌, false, map, IfOk, IfErr, Ok, OnOk, Some};
 ghost use Rattle.std.specs.List.{list_any};
 ghost use Rattle.spv_typing.specs.RoutineWalk as spec;
-ghost use Rattle.spv_scopes.specs.Answers.{Stops};
+ghost use Rattle.spv_environments.specs.Answers.{Stops};
 ghost use Rattle.spv_heading_typing.specs.Names.{symbols_of, has};
 ghost use Rattle.spv_heading_typing.specs.Parameters.{IsPlaces, parameters_of, formals_named, group_of, names_walk, type_walk, variables_walk};
 
 use crate::finding::type_named;
 use crate::names::RoutineNames;
-use spv_list::List;
+use spv_declaration_typing::type_typing::new_names;
+use spv_environments::{Known, Own, Scope};
 use spv_logic::TypeId;
-use spv_named::Named;
-use spv_names::Symbol;
-use spv_scopes::{Known, Own, Scope};
-use spv_syntax::{Group, GroupForm, Name, Params, Several};
-use spv_type_typing::new_names;
-use spv_typed::Formal;
+use spv_logic::list::List;
+use spv_logic::names::Symbol;
+use spv_program::ordered_map::Named;
+use spv_program::typed::Formal;
+use spv_tree::syntax::{Group, GroupForm, Name, Params, Several};
 use spv_typing::TypeFault;
 use std::alloc::{AllocError, Global};
 

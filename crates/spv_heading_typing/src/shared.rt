@@ -2,20 +2,20 @@
 
 ghost use Rattle.std.specs.Prelude.{◌≡◌, [], ◌∷◌, ◌++◌, true, false, map, IfOk};
 ghost use Rattle.std.specs.List.{list_any};
-ghost use Rattle.spv_names.specs.declared.names.Symbol.{Symbol as SymbolText};
+ghost use Rattle.spv_logic.specs.declared.names.names.Symbol.{Symbol as SymbolText};
 ghost use Rattle.spv_program.specs.declared.types.Item.TheVariants.{Variable, Class};
 ghost use Rattle.spv_program.specs.Uses.{same_item};
 ghost use Rattle.spv_program.specs.Frames.{lists};
-ghost use Rattle.spv_typed.specs.ProgramViews.{global_of};
+ghost use Rattle.spv_program.specs.typed.ProgramViews.{global_of};
 ghost use Rattle.spv_typing.specs.RoutineWalk.{is_listed};
 ghost use Rattle.spv_heading_typing.specs.Names.{has};
 
-use spv_list::List;
 use spv_logic::TypeId;
-use spv_named::Named;
-use spv_names::Symbol;
+use spv_logic::list::List;
+use spv_logic::names::Symbol;
 use spv_program::Item;
-use spv_typed::GlobalItem;
+use spv_program::ordered_map::Named;
+use spv_program::typed::GlobalItem;
 use std::alloc::{AllocError, Global};
 use std::marker::Model;
 
@@ -30,7 +30,7 @@ pub struct Shared {
 impl Model for Shared {
     ghost use Rattle.std.specs.Prelude.{List, map};
     ghost use Rattle.spv_program.specs.Programs.{GlobalItem as Plain};
-    ghost use Rattle.spv_typed.specs.ProgramViews.{global_of};
+    ghost use Rattle.spv_program.specs.typed.ProgramViews.{global_of};
     ghost use Rattle.spv_heading_typing.specs.Shared.{Indexed};
 
     ghost Value = { List Plain };

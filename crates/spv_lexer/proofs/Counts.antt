@@ -1,6 +1,6 @@
 -- A text has no more tokens than bytes.
 use Rattle.std.proofs.Common.{◌≡◌, ◌≤◌, ℕ, zero, suc, List, [], ◌∷◌, length, drop, Ok, Err, Result, IfOk, refl, ap, ◌∙◌, arith}
-use Rattle.spv_tokens.specs.declared.token.Token.{Token}
+use Rattle.spv_tree.specs.declared.tokens.token.Token.{Token}
 use Rattle.spv_lexer.specs.Front.{Front, nothing, gap, token, fault, front}
 use Rattle.spv_lexer.specs.Reading.{Spelled, Reading, by_front, pieces, reading_from, reading, line_after}
 use Rattle.spv_lexer.specs.Tokens.{numbered, with_name}

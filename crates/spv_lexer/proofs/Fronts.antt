@@ -9,11 +9,11 @@ use Rattle.std.specs.Map.{lookup}
 use Rattle.std.specs.Str.{bytes_eq}
 use Rattle.std.proofs.lemmas.Bool.{eqb-true}
 use Rattle.std.proofs.lemmas.Bool.Decides.{nat_tests}
-use Rattle.spv_tokens.specs.declared.token.Sign.{Sign}
+use Rattle.spv_tree.specs.declared.tokens.token.Sign.{Sign}
 use Rattle.spv_lexer.specs.Spelling.{number, sign, long_signs, short_signs}
 use Rattle.spv_lexer.specs.Front.{token, fault, numeral_too_large, bad_byte, Front, gap, is_blank, through, letters, comment, longest_sign, front, decimal, numeral}
 use Rattle.std.specs.Char.{is_ascii_alphabetic, is_ascii_alphanumeric, is_ascii_digit, to_ascii_uppercase}
-use Rattle.spv_names.specs.Names.{folded}
+use Rattle.spv_logic.specs.names.Names.{folded}
 use Rattle.spv_lexer.proofs.LookUps.{lookup-none_of_length}
 
 -- one more in front

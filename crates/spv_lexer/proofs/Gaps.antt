@@ -8,7 +8,7 @@ use Rattle.std.specs.Str.{bytes_eq}
 use Rattle.std.proofs.lemmas.Bool.{eqb-true}
 use Rattle.std.proofs.lemmas.List.{append_assoc, drop-append-le, length-drop}
 use Rattle.std.proofs.Math.Seq.{drop-append_seam}
-use Rattle.spv_tokens.specs.declared.token.Sign.{Sign}
+use Rattle.spv_tree.specs.declared.tokens.token.Sign.{Sign}
 use Rattle.spv_lexer.specs.Spelling.{Spelling, number, sign, long_signs, short_signs}
 use Rattle.spv_lexer.specs.Front.{Front, nothing, gap, token, fault, is_blank, through, comment, letters, numeral, decimal, longest_sign, front, open_comment, numeral_too_large, bad_byte}
 use Rattle.spv_lexer.specs.Reading.{line_after, reading_from, kinds, IsGap, HasTokens}

@@ -9,7 +9,7 @@ use Rattle.std.proofs.lemmas.Bool.{eqb-true}
 use Rattle.std.proofs.lemmas.List.Folds.{length-prefix_len}
 use Rattle.std.proofs.lemmas.List.Sums.{sum_by-cons}
 use Rattle.std.proofs.lemmas.Slice.Eq.{bytes_eq-Decides}
-use Rattle.spv_tokens.specs.declared.token.Sign.{Sign}
+use Rattle.spv_tree.specs.declared.tokens.token.Sign.{Sign}
 use Rattle.spv_lexer.specs.Spelling.{Spelling, number, sign, long_signs, short_signs}
 use Rattle.spv_lexer.specs.Front.{Front, nothing, gap, token, fault, is_blank, through, comment, letters, numeral, decimal, longest_sign, front, open_comment, numeral_too_large, bad_byte}
 use Rattle.spv_lexer.specs.declared.lexer.Piece.{Piece}

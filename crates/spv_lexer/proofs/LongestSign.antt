@@ -8,9 +8,9 @@ use Rattle.std.specs.Str.{bytes_eq}
 use Rattle.std.proofs.lemmas.Bool.{eqb-true}
 use Rattle.std.proofs.lemmas.List.Elements.{All-cons, All-append, Contains-append_left, Contains-append_right}
 use Rattle.std.proofs.lemmas.Slice.Eq.{bytes_eq-Decides}
-use Rattle.spv_names.specs.Names.{folded}
-use Rattle.spv_tokens.specs.declared.token.Sign.{Sign}
-use Rattle.spv_tokens.specs.declared.token.Word.{Word}
+use Rattle.spv_logic.specs.names.Names.{folded}
+use Rattle.spv_tree.specs.declared.tokens.token.Sign.{Sign}
+use Rattle.spv_tree.specs.declared.tokens.token.Word.{Word}
 use Rattle.spv_lexer.specs.Spelling.{word, name, number, sign, words, long_signs, short_signs}
 use Rattle.spv_lexer.specs.Front.{Front, gap, token, fault, is_blank, through, comment, letters, numeral, decimal, longest_sign, front, open_comment, numeral_too_large, bad_byte}
 use Rattle.spv_lexer.proofs.Joins.{both}

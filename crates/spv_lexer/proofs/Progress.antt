@@ -3,7 +3,7 @@ use Rattle.std.proofs.Common.{◌≡◌, ◌<◌, ◌≤◌, ◌+◌, ◌-◌, �
 use Rattle.std.proofs.lemmas.List.{take_rest, length-append, length-drop, length-take, append_assoc, append-nil}
 use Rattle.std.proofs.Math.Seq.{take-append_seam}
 use Rattle.std.proofs.lemmas.List.Sums.{count_by-le-length, fold-append}
-use Rattle.spv_tokens.specs.declared.token.Token.{Token}
+use Rattle.spv_tree.specs.declared.tokens.token.Token.{Token}
 use Rattle.spv_lexer.specs.Spelling.{Spelling, word, name, number, sign}
 use Rattle.spv_lexer.specs.Front.{Fault, Front, nothing, gap, token, fault, front, bad_byte, open_comment, numeral_too_large}
 use Rattle.spv_lexer.specs.Reading.{Spelled, Reading, empty_reading, with_token, line_after, reading_from, reading}

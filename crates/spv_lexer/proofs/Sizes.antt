@@ -9,7 +9,7 @@ use Rattle.std.proofs.lemmas.List.{length-drop, length-take}
 use Rattle.std.proofs.lemmas.List.Folds.{length-prefix_len}
 use Rattle.std.proofs.lemmas.List.Sums.{prefix_len-le-length}
 use Rattle.std.specs.Cmp.Lexicographic.{as_long}
-use Rattle.spv_tokens.specs.declared.token.Sign.{Sign}
+use Rattle.spv_tree.specs.declared.tokens.token.Sign.{Sign}
 use Rattle.std.specs.Int.{is_in_range}
 use Rattle.spv_lexer.proofs.Fronts.{no_long_sign}
 use Rattle.spv_lexer.specs.Spelling.{number, sign, long_signs, short_signs}

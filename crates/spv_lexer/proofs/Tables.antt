@@ -4,10 +4,10 @@ use Rattle.std.specs.List.{list_any}
 use Rattle.std.specs.Str.{bytes_eq}
 use Rattle.std.proofs.lemmas.List.{append_assoc, append-nil, length-append}
 use Rattle.std.proofs.lemmas.List.Elements.{All-cons}
-use Rattle.spv_tokens.specs.declared.token.Token.{Token}
+use Rattle.spv_tree.specs.declared.tokens.token.Token.{Token}
 use Rattle.std.proofs.lemmas.Option.{slice_get_within}
-use Rattle.spv_names.specs.Names.{place_of, with_text}
-use Rattle.spv_names.proofs.NameTable.{stands}
+use Rattle.spv_logic.specs.names.Names.{place_of, with_text}
+use Rattle.spv_logic.proofs.names.NameTable.{stands}
 use Rattle.spv_lexer.specs.Spelling.{Spelling, word, name, number, sign}
 use Rattle.spv_lexer.specs.Reading.{Spelled}
 use Rattle.spv_lexer.specs.Tokens.{with_name, kind_of, names_after, numbered, IsInTable}

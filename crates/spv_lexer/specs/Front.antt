@@ -5,7 +5,7 @@ use Rattle.std.specs.List.{starts_with}
 use Rattle.std.specs.Map.{lookup}
 use Rattle.std.specs.Option.{option_map, option_map_or}
 use Rattle.std.specs.Str.{bytes_eq}
-use Rattle.spv_names.specs.Names.{folded}
+use Rattle.spv_logic.specs.names.Names.{folded}
 use Rattle.spv_lexer.specs.Spelling.{Spelling, number, sign, word_or_name, long_signs, short_signs}
 
 -- why a text is refused at its front

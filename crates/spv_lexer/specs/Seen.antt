@@ -2,9 +2,9 @@
 use Rattle.std.specs.Prelude.{◌≡◌, ℕ, ◌==◌, List, [], ◌∷◌, Option, Some, None, codes, count_by, if◌then◌else◌, nat_eq, take, take_while, ⊤}
 use Rattle.std.specs.Char.{is_ascii_alphanumeric, is_ascii_digit}
 use Rattle.std.specs.List.{starts_with}
-use Rattle.spv_tokens.specs.declared.token.Sign.TheVariants.{OpenParenthesis}
-use Rattle.spv_tokens.specs.declared.token.Token.{Token}
-use Rattle.spv_tokens.specs.declared.token.TokenKind.{TokenKind}
+use Rattle.spv_tree.specs.declared.tokens.token.Sign.TheVariants.{OpenParenthesis}
+use Rattle.spv_tree.specs.declared.tokens.token.Token.{Token}
+use Rattle.spv_tree.specs.declared.tokens.token.TokenKind.{TokenKind}
 use Rattle.spv_lexer.specs.Spelling.{sign}
 use Rattle.spv_lexer.specs.Front.{Front, gap, token, fault, nothing, comment, letters, numeral, bad_byte, open_comment, numeral_too_large}
 use Rattle.spv_lexer.specs.Tokens.{kind_of, with_name}

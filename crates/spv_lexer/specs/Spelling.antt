@@ -2,10 +2,10 @@
 use Rattle.std.specs.Prelude.{ℕ, List, [], ◌∷◌, codes, option_map, unwrap_or}
 use Rattle.std.specs.Map.{lookup}
 use Rattle.std.specs.Str.{bytes_eq}
-use Rattle.spv_tokens.specs.declared.token.Word.{Word}
-use Rattle.spv_tokens.specs.declared.token.Word.TheVariants.{And, Array, Assert, Begin, By, Case, Const, Declare, Div, Do, Downto, Else, End, Entry, Exit, False, For, Forward, From, Function, Global, If, Infer, Initial, Invariant, Mod, New, Nil, Not, Of, Or, Procedure, Program, Record, Repeat, Replace, Then, To, True, «Type», Until, Var, Where, While, Packed, Set, File, With, In, Goto, Label}
-use Rattle.spv_tokens.specs.declared.token.Sign.{Sign}
-use Rattle.spv_tokens.specs.declared.token.Sign.TheVariants.{Plus, Minus, Star, Equal, NotEqual, Less, AtMost, Greater, AtLeast, OpenParenthesis, CloseParenthesis, OpenBracket, CloseBracket, Comma, Semicolon, Colon, Becomes, Period, Range, Caret, Hash, Arrow}
+use Rattle.spv_tree.specs.declared.tokens.token.Word.{Word}
+use Rattle.spv_tree.specs.declared.tokens.token.Word.TheVariants.{And, Array, Assert, Begin, By, Case, Const, Declare, Div, Do, Downto, Else, End, Entry, Exit, False, For, Forward, From, Function, Global, If, Infer, Initial, Invariant, Mod, New, Nil, Not, Of, Or, Procedure, Program, Record, Repeat, Replace, Then, To, True, «Type», Until, Var, Where, While, Packed, Set, File, With, In, Goto, Label}
+use Rattle.spv_tree.specs.declared.tokens.token.Sign.{Sign}
+use Rattle.spv_tree.specs.declared.tokens.token.Sign.TheVariants.{Plus, Minus, Star, Equal, NotEqual, Less, AtMost, Greater, AtLeast, OpenParenthesis, CloseParenthesis, OpenBracket, CloseBracket, Comma, Semicolon, Colon, Becomes, Period, Range, Caret, Hash, Arrow}
 
 -- what a token is, with the text of a name in place of its number
 pub data Spelling : Type 0 where

@@ -1,9 +1,9 @@
 -- The tokens of a text, with the names in a table.
 use Rattle.std.specs.Prelude.{◌≡◌, ℕ, ◌<◌, List, [], ◌∷◌, Some, length, fold, ⊤}
-use Rattle.spv_names.specs.Names.{place_of, with_text}
-use Rattle.spv_tokens.specs.declared.token.Token.{Token}
-use Rattle.spv_tokens.specs.declared.token.TokenKind.{TokenKind}
-use Rattle.spv_tokens.specs.declared.token.TokenKind.TheVariants.{Word, Name, Number, Sign}
+use Rattle.spv_logic.specs.names.Names.{place_of, with_text}
+use Rattle.spv_tree.specs.declared.tokens.token.Token.{Token}
+use Rattle.spv_tree.specs.declared.tokens.token.TokenKind.{TokenKind}
+use Rattle.spv_tree.specs.declared.tokens.token.TokenKind.TheVariants.{Word, Name, Number, Sign}
 use Rattle.spv_lexer.specs.Spelling.{Spelling, word, name, number, sign}
 use Rattle.spv_lexer.specs.Front.{bad_byte, open_comment, numeral_too_large}
 use Rattle.spv_lexer.specs.Reading.{Spelled, reading}

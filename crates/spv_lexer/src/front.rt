@@ -9,7 +9,7 @@ ghost use Rattle.spv_lexer.specs.Front.{through as bytes_through, comment as com
 ghost use Rattle.spv_lexer.specs.Seen.{front_seen, parenthesis_or_comment, EndsLines};
 
 use crate::signs::long_sign;
-use spv_tokens::{Numeral, Sign};
+use spv_tree::tokens::{Numeral, Sign};
 
 /// What stands at the front of a text. A length is a number of bytes.
 #[derive(Clone, Copy)]

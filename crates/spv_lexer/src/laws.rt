@@ -1,7 +1,7 @@
 //! What follows from the definition of the tokens of a text.
 ghost use Rattle.std.specs.Prelude.{◌≡◌, ◌≤◌, ◌++◌, ℕ, List, All, Contains, IsTrue, length, nat_eq, take};
 ghost use Rattle.std.specs.List.{starts_with};
-ghost use Rattle.spv_tokens.specs.declared.token.Sign.{Sign};
+ghost use Rattle.spv_tree.specs.declared.tokens.token.Sign.{Sign};
 ghost use Rattle.spv_lexer.specs.Spelling.{long_signs, short_signs, sign};
 ghost use Rattle.spv_lexer.specs.Front.{front, token};
 ghost use Rattle.spv_lexer.specs.Reading.{by_front, kinds, reading_from, IsGap, HasTokens};

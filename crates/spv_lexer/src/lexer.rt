@@ -1,6 +1,6 @@
 //! The walk over a text, piece by piece.
 ghost use Rattle.std.specs.Prelude.{◌≡◌, ◌≤◌, ◌<◌, ◌==◌, ◌++◌, ◌↔◌, ℕ, List, All, None, Some, IfOk, IfErr, OnOk, OnErr, length, take, count_by};
-ghost use Rattle.spv_names.specs.Names.{IsFolded, folded};
+ghost use Rattle.spv_logic.specs.names.Names.{IsFolded, folded};
 ghost use Rattle.spv_lexer.specs.Spelling.{word_or_name};
 ghost use Rattle.spv_lexer.specs.Front.{front as front_of};
 ghost use Rattle.spv_lexer.specs.Reading.{reading, HasTokens};
@@ -10,8 +10,8 @@ ghost use Rattle.spv_lexer.specs.Seen.{IsPieceOf, IsRefusalOf, tokens_of};
 use crate::LexFault;
 use crate::front::{Front, decimal, digits, letters, read_front};
 use crate::words::word_of;
-use spv_names::Names;
-use spv_tokens::{Token, TokenKind};
+use spv_logic::names::Names;
+use spv_tree::tokens::{Token, TokenKind};
 use std::alloc::{AllocError, Global};
 
 /// A piece of a text: a token or a gap between tokens, with its length in bytes and how many lines end in it.

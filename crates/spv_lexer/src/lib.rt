@@ -1,6 +1,8 @@
 //! The tokens of a text.
 #![tactic(auto)]
 
+pub mod token_laws;
+
 ghost use Rattle.std.specs.Prelude.{◌≡◌};
 ghost use Rattle.spv_lexer.specs.declared.LexFault.TheVariants.{Memory};
 

@@ -4,7 +4,7 @@ ghost use Rattle.std.specs.Map.{lookup};
 ghost use Rattle.std.specs.Str.{bytes_eq};
 ghost use Rattle.spv_lexer.specs.Spelling.{long_signs};
 
-use spv_tokens::Sign;
+use spv_tree::tokens::Sign;
 
 /// The sign of these two bytes, if there is one.
 fn sign_of_two(first: u8, second: u8) -> Option<Sign>

@@ -4,7 +4,7 @@ ghost use Rattle.std.specs.Map.{lookup};
 ghost use Rattle.std.specs.Str.{bytes_eq};
 ghost use Rattle.spv_lexer.specs.Spelling.{words};
 
-use spv_tokens::Word;
+use spv_tree::tokens::Word;
 
 /// A word, and how it is spelled in upper case.
 type Entry = (&'static [u8], Word);

@@ -1,10 +1,10 @@
 -- Texts that are added one after the other.
 use Rattle.std.proofs.Common.{◌≡◌, ℕ, zero, suc, ◌<◌, ◌≤◌, ◌+◌, List, [], ◌∷◌, ◌++◌, length, take, get_or, Option, refl, sym, ap, ◌∙◌, append_assoc, append-nil, arith}
-use Rattle.spv_names.specs.declared.names.Symbol.{Symbol}
+use Rattle.spv_logic.specs.declared.names.names.Symbol.{Symbol}
 use Rattle.spv_term.specs.declared.nodes.Condition.{Condition}
 use Rattle.spv_term.specs.Arena.{Arena}
-use Rattle.spv_decided.specs.declared.verdicts.Decided.{Decided}
-use Rattle.spv_decided.specs.Views.{VerdictIn}
+use Rattle.spv_verdicts.specs.declared.answers.verdicts.Decided.{Decided}
+use Rattle.spv_verdicts.specs.answers.Views.{VerdictIn}
 use Rattle.spv_assign.specs.Conditions.{AreIn, IsIn, condition_of, conditions_of}
 use Rattle.spv_listing.specs.Page.{claim_lines, claims, condition_lines, blocks, AreDecided}
 

@@ -3,7 +3,7 @@ use Rattle.std.proofs.Common.{◌≡◌, List, [], ◌∷◌, sym, ◌∙◌, su
 use Rattle.spv_term.specs.declared.nodes.Condition.{Condition}
 use Rattle.spv_term.specs.Arena.{Arena}
 use Rattle.spv_verdicts.specs.Verdicts.{Limits}
-use Rattle.spv_decided.specs.declared.verdicts.Decided.{Decided}
+use Rattle.spv_verdicts.specs.declared.answers.verdicts.Decided.{Decided}
 use Rattle.spv_reports.specs.declared.mode.Mode.{Mode}
 use Rattle.spv_reports.specs.declared.mode.Mode.TheVariants.{Verify}
 use Rattle.spv_reports.specs.Reports.{Findings, AreVerdicts, AreVerdictsIn, IsReport}

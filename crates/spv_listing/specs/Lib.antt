@@ -1,1 +1,3 @@
+pub mod printed
+pub mod verdict_pages
 pub mod Page

@@ -1,7 +1,7 @@
 -- The page of a report.
 use Rattle.std.specs.Prelude.{ℕ, suc, Option, List, [], ◌∷◌, ◌++◌, false, length, codes, decimal}
 use Rattle.std.specs.List.{flat_map}
-use Rattle.spv_names.specs.declared.names.Symbol.{Symbol}
+use Rattle.spv_logic.specs.declared.names.names.Symbol.{Symbol}
 use Rattle.spv_logic.specs.declared.conditions.Kind.{Kind}
 use Rattle.spv_logic.specs.declared.conditions.Kind.TheVariants as kind
 use Rattle.spv_logic.specs.declared.conditions.Origin.{Origin}
@@ -10,14 +10,14 @@ use Rattle.spv_logic.specs.Conditions.{Condition}
 use Rattle.spv_term.specs.declared.nodes.Condition.{Condition as IdCondition}
 use Rattle.spv_term.specs.Arena.{Arena}
 use Rattle.spv_assign.specs.Conditions.{conditions_of}
-use Rattle.spv_decided.specs.declared.verdicts.Decided.{Decided}
-use Rattle.spv_decided.specs.Views.{VerdictIn}
+use Rattle.spv_verdicts.specs.declared.answers.verdicts.Decided.{Decided}
+use Rattle.spv_verdicts.specs.answers.Views.{VerdictIn}
 use Rattle.spv_reports.specs.declared.mode.Mode.{Mode}
 use Rattle.spv_reports.specs.declared.mode.Mode.TheVariants.{Verify, Conditions}
 use Rattle.spv_reports.specs.Reports.{Findings}
-use Rattle.spv_printed.specs.Printed.{line, term_text}
-use Rattle.spv_verdict_pages.specs.VerdictLines.{decided_lines}
-use Rattle.spv_verdict_pages.specs.Totals.{total_lines}
+use Rattle.spv_listing.specs.printed.Printed.{line, term_text}
+use Rattle.spv_listing.specs.verdict_pages.VerdictLines.{decided_lines}
+use Rattle.spv_listing.specs.verdict_pages.Totals.{total_lines}
 
 abbrev pub kind_word : Kind → List ℕ
 kind_word kind.Exit = codes "EXIT"

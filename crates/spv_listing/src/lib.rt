@@ -2,6 +2,8 @@
 #![tactic(auto)]
 
 mod listing;
+pub mod printed;
+pub mod verdict_pages;
 
+pub use crate::printed::{push_head, push_term};
 pub use listing::{page, push_claim};
-pub use spv_printed::{push_head, push_term};

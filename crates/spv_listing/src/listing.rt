@@ -3,18 +3,18 @@
 ghost use Rattle.std.specs.Prelude.{◌≡◌, ◌<◌, ◌++◌, map, length, IfOk, OnOk};
 ghost use Rattle.std.specs.List.{flat_map};
 ghost use Rattle.spv_assign.specs.Conditions.{AreIn, IsIn, condition_of, conditions_of};
-ghost use Rattle.spv_decided.specs.Views.{VerdictIn};
-ghost use Rattle.spv_printed.specs.Printed.{line};
+ghost use Rattle.spv_verdicts.specs.answers.Views.{VerdictIn};
+ghost use Rattle.spv_listing.specs.printed.Printed.{line};
 ghost use Rattle.spv_listing.specs.Page as spec;
 ghost use Rattle.spv_listing.specs.Page.{heading, given_line, goal_line, claim_lines, condition_lines, blocks, claims, count, AreDecided};
 ghost use Rattle.spv_term.specs.Arena.{AllBelow, tree};
 
-use spv_decided::Decided;
-use spv_names::{Names, Symbol};
-use spv_printed::{push_decimal, push_term};
+use crate::printed::{push_decimal, push_term};
+use crate::verdict_pages::{push_totals, push_verdict};
+use spv_logic::names::{Names, Symbol};
 use spv_reports::{Mode, Report};
 use spv_term::{Condition, Kind, Origin, TermId, Terms};
-use spv_verdict_pages::{push_totals, push_verdict};
+use spv_verdicts::answers::Decided;
 use std::alloc::{AllocError, Global};
 
 /// The page of a report: a heading, each condition with its hypotheses and its goal, in the mode `Verify` with its verdict, and the

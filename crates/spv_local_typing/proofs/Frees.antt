@@ -1,19 +1,19 @@
 -- Which names a routine may take, and what it has with them.
 use Rattle.std.proofs.Common.{◌≡◌, ℤ, ℕ, Bool, ◌&&◌, ◌||◌, not, List, [], ◌∷◌, ◌++◌, map, refl, sym, ap, subst, ◌∙◌}
 use Rattle.std.proofs.lemmas.List.{map-append}
-use Rattle.spv_names.specs.declared.names.Symbol.{Symbol}
+use Rattle.spv_logic.specs.declared.names.names.Symbol.{Symbol}
 use Rattle.spv_logic.specs.declared.types.TypeId.{TypeId}
-use Rattle.spv_named.specs.Entries.{under}
-use Rattle.spv_syntax.specs.declared.names.Name.{Name}
+use Rattle.spv_program.specs.ordered_map.Entries.{under}
+use Rattle.spv_tree.specs.declared.syntax.names.Name.{Name}
 use Rattle.spv_program.specs.Lists.{same_name}
 use Rattle.spv_typing.specs.declared.faults.TypeFault.{TypeFault}
 use Rattle.spv_typing.specs.Known.{KnownNames, is_fixed, Names, OfPlace, named, Known}
 use Rattle.spv_typing.specs.Outcomes.{Outcome, each}
 use Rattle.spv_typing.specs.DeclarationWalk.{new_name}
-use Rattle.spv_scopes.specs.Answers.{Stops}
-use Rattle.spv_scopes.specs.declared.scopes.Own.{Own}
-use Rattle.spv_scopes.specs.declared.scopes.Own.TheVariants.{Constant, Place}
-use Rattle.spv_scopes.specs.Scopes.{own_of}
+use Rattle.spv_environments.specs.Answers.{Stops}
+use Rattle.spv_environments.specs.declared.scopes.Own.{Own}
+use Rattle.spv_environments.specs.declared.scopes.Own.TheVariants.{Constant, Place}
+use Rattle.spv_environments.specs.Scopes.{own_of}
 use Rattle.spv_heading_typing.specs.Names.{has, free_by}
 use Rattle.spv_heading_typing.proofs.Params.{named_alone}
 use Rattle.spv_local_typing.specs.declared.places.Local.{Local}

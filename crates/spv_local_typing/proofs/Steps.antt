@@ -1,9 +1,9 @@
 -- Local declarations of a heading.
 use Rattle.std.proofs.Common.{◌≡◌, ℤ, Bool, true, false, ◌&&◌, ◌||◌, not, List, [], None, Ok, refl, sym, ap, subst, ◌∙◌}
-use Rattle.spv_names.specs.declared.names.Symbol.{Symbol}
-use Rattle.spv_syntax.specs.declared.declarations.Const.{Const}
-use Rattle.spv_syntax.specs.declared.declarations.Vars.{Vars}
-use Rattle.spv_syntax.specs.declared.routines.Locals.{Locals}
+use Rattle.spv_logic.specs.declared.names.names.Symbol.{Symbol}
+use Rattle.spv_tree.specs.declared.syntax.declarations.Const.{Const}
+use Rattle.spv_tree.specs.declared.syntax.declarations.Vars.{Vars}
+use Rattle.spv_tree.specs.declared.syntax.routines.Locals.{Locals}
 use Rattle.spv_program.specs.Lists.{same_name}
 use Rattle.spv_typing.specs.declared.faults.TypeFault.{TypeFault}
 use Rattle.spv_typing.specs.Known.{KnownNames, is_fixed, Names, is_named, named, Known}
@@ -13,9 +13,9 @@ use Rattle.spv_logic.specs.declared.types.TypeId.{TypeId}
 use Rattle.spv_typing.specs.DeclarationWalk.{NewType, with_program, with_types, new_name, type_walk}
 use Rattle.spv_typing.specs.RoutineWalk.{is_free_in, is_listed, in_routine, Headed, local_const, local_vars, locals_walk}
 use Rattle.spv_typing.specs.RoutineWalk as spec
-use Rattle.spv_scopes.specs.Answers.{Stops}
-use Rattle.spv_scopes.specs.declared.scopes.Own.{Own}
-use Rattle.spv_scopes.specs.Scopes.{own_of}
+use Rattle.spv_environments.specs.Answers.{Stops}
+use Rattle.spv_environments.specs.declared.scopes.Own.{Own}
+use Rattle.spv_environments.specs.Scopes.{own_of}
 use Rattle.spv_local_typing.specs.declared.places.Local.{Local}
 use Rattle.spv_local_typing.specs.Locals.{free_among, local_of, with_constant, with_variables, const_by, vars_by, locals_by, IsHeaded}
 

@@ -1,10 +1,10 @@
 -- Local declarations, over the names that a routine has.
 use Rattle.std.specs.Prelude.{◌≡◌, ℤ, Bool, ◌&&◌, ◌||◌, not, List, [], ◌∷◌, ◌++◌, map, None, Ok}
-use Rattle.spv_names.specs.declared.names.Symbol.{Symbol}
+use Rattle.spv_logic.specs.declared.names.names.Symbol.{Symbol}
 use Rattle.spv_logic.specs.declared.types.TypeId.{TypeId}
-use Rattle.spv_syntax.specs.declared.declarations.Const.{Const}
-use Rattle.spv_syntax.specs.declared.declarations.Vars.{Vars}
-use Rattle.spv_syntax.specs.declared.routines.Locals.{Locals}
+use Rattle.spv_tree.specs.declared.syntax.declarations.Const.{Const}
+use Rattle.spv_tree.specs.declared.syntax.declarations.Vars.{Vars}
+use Rattle.spv_tree.specs.declared.syntax.routines.Locals.{Locals}
 use Rattle.spv_program.specs.Lists.{same_name}
 use Rattle.spv_typing.specs.Known.{KnownNames, is_fixed, Names, OfConstant, OfPlace, Known, is_named, named}
 use Rattle.spv_typing.specs.Outcomes.{Outcome, after, where_so, each, twice}
@@ -12,8 +12,8 @@ use Rattle.spv_typing.specs.TypeWalk.{all_names, constant}
 use Rattle.spv_typing.specs.DeclarationWalk.{with_program, with_types, new_name, type_walk}
 use Rattle.spv_typing.specs.RoutineWalk.{in_routine, is_listed, Headed}
 use Rattle.spv_typing.specs.RoutineWalk as spec
-use Rattle.spv_scopes.specs.declared.scopes.Own.{Own}
-use Rattle.spv_scopes.specs.Scopes.{own_of}
+use Rattle.spv_environments.specs.declared.scopes.Own.{Own}
+use Rattle.spv_environments.specs.Scopes.{own_of}
 use Rattle.spv_heading_typing.specs.Names.{has}
 use Rattle.spv_local_typing.specs.declared.places.Local.{Local}
 

@@ -3,18 +3,18 @@
 ghost use Rattle.std.specs.Prelude.{◌≡◌, IfOk, IfErr, Ok};
 ghost use Rattle.spv_typing.specs.Outcomes.{each};
 ghost use Rattle.spv_typing.specs.RoutineWalk as spec;
-ghost use Rattle.spv_scopes.specs.Answers.{Stops};
+ghost use Rattle.spv_environments.specs.Answers.{Stops};
 ghost use Rattle.spv_local_typing.specs.Locals.{const_by, vars_by, locals_by, local_of, no_locals, IsHeaded};
 
 use crate::places::{
     Local, constant_in, is_free, new_locals, put_constant, put_variables, type_in,
 };
-use spv_list::List;
-use spv_named::Named;
-use spv_names::Symbol;
-use spv_scopes::{Known, Own};
-use spv_settling::settle;
-use spv_syntax::{Const, Locals, Vars};
+use spv_declaration_typing::canonical_types::settle;
+use spv_environments::{Known, Own};
+use spv_logic::list::List;
+use spv_logic::names::Symbol;
+use spv_program::ordered_map::Named;
+use spv_tree::syntax::{Const, Locals, Vars};
 use spv_typing::TypeFault;
 use std::alloc::Global;
 

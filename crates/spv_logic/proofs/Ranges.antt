@@ -9,7 +9,7 @@ use Rattle.spv_logic.specs.declared.types.Shape.{Shape}
 use Rattle.spv_logic.specs.declared.types.Shape.TheVariants as shape
 use Rattle.spv_logic.specs.Shapes.{shape_at, sort_of_shape, sort_of_type, element_of_shape, fields_of_shape, element_sort, fields_of, content_sort, field_sort, field_sort_of, may_be_part, shape_ok}
 use Rattle.spv_logic.specs.Sorts.{sort_in_range}
-use Rattle.spv_list.proofs.Tests.{left_true, right_true}
+use Rattle.spv_logic.proofs.list.Tests.{left_true, right_true}
 
 pub part_in_range : (shapes : List Shape) (s : Sort) → may_be_part shapes s ≡ true → sort_in_range shapes s ≡ true
 part_in_range shapes sort.Int h = refl

@@ -5,7 +5,7 @@ use Rattle.spv_logic.specs.declared.operators.Head.TheVariants.{Var, ClassVar, S
 use Rattle.spv_logic.specs.Values.{Value}
 use Rattle.spv_logic.specs.Terms.{Term, Terms, term, no_terms, terms, worth, eval, eval_all, heads_pass, all_heads_pass}
 use Rattle.std.specs.Cmp.Derive.{both_true}
-use Rattle.spv_list.proofs.Tests.{left_true, right_true}
+use Rattle.spv_logic.proofs.list.Tests.{left_true, right_true}
 use Rattle.spv_logic.specs.Conditions.{Meaning, Valuation}
 use Rattle.spv_logic.specs.Substitution.{Replacement, is_variable, replacement_at, replaced, substitute, substitute_all, value_under, under}
 

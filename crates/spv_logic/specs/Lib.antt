@@ -1,3 +1,5 @@
+pub mod names
+pub mod list
 pub mod Values
 pub mod Terms
 pub mod Formulas

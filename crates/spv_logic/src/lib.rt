@@ -6,6 +6,8 @@
 
 pub mod conditions;
 pub mod laws;
+pub mod list;
+pub mod names;
 pub mod operators;
 pub mod types;
 pub mod worlds;

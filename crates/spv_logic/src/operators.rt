@@ -1,7 +1,7 @@
 // What stands at the head of a term.
 
+use crate::names::Symbol;
 use crate::types::{Sort, TypeId};
-use spv_names::Symbol;
 
 /// The head of a term: a variable, a numeral, a declared symbol or a built-in operator.
 #[derive(Clone, Copy, PartialEq, Eq, PartialOrd, Ord, Hash, Debug)]

@@ -1,7 +1,7 @@
 // The sorts of terms, and what the program's types look like.
 
-use spv_list::List;
-use spv_names::Symbol;
+use crate::list::List;
+use crate::names::Symbol;
 
 /// A type of the program: its place in the list of shapes, from 0.
 #[derive(Clone, Copy, PartialEq, Eq, PartialOrd, Ord, Hash, Debug)]

@@ -4,7 +4,7 @@ use Rattle.std.specs.List.{list_any}
 use Rattle.std.specs.Cmp.Derive.{both_true}
 use Rattle.std.proofs.lemmas.Bool.{false≢true}
 use Rattle.std.proofs.lemmas.List.Folds.{list_any-append}
-use Rattle.spv_list.proofs.Tests.{left_true, right_true, left_false, right_false, both_false}
+use Rattle.spv_logic.proofs.list.Tests.{left_true, right_true, left_false, right_false, both_false}
 use Rattle.spv_program.specs.Lists.{all_differ}
 
 pub not_true : (b : Bool) → not b ≡ true → b ≡ false

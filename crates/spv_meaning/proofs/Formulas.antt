@@ -1,6 +1,6 @@
 -- What a formula is worth depends on what its names and classes are alone.
 use Rattle.std.proofs.Common.{◌≡◌, Bool, true, false, cond, ◌&&◌, List, [], ◌∷◌, pos, refl, ap, ◌∙◌, Option, Some, None}
-use Rattle.spv_names.specs.declared.names.Symbol.{Symbol}
+use Rattle.spv_logic.specs.declared.names.names.Symbol.{Symbol}
 use Rattle.spv_logic.specs.declared.types.TypeId.{TypeId}
 use Rattle.spv_logic.specs.declared.types.Sort.{Sort}
 use Rattle.spv_logic.specs.declared.types.Sort.TheVariants as sort
@@ -11,7 +11,7 @@ use Rattle.spv_logic.specs.Shapes.{element_sort, fields_of, field_sort_of}
 use Rattle.spv_logic.specs.Sorts.{takes_declared, declared, result_sort}
 use Rattle.spv_logic.specs.Conditions.{Meaning, Valuation}
 use Rattle.spv_logic.specs.Substitution.{is_variable}
-use Rattle.spv_list.proofs.Tests.{left_true, right_true}
+use Rattle.spv_logic.proofs.list.Tests.{left_true, right_true}
 use Rattle.spv_logic.proofs.Substitution.{worth-same}
 use Rattle.spv_program.specs.declared.operators.Arithmetic.{Arithmetic}
 use Rattle.spv_program.specs.declared.operators.Arithmetic.TheVariants as arithmetic

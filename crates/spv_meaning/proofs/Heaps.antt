@@ -8,7 +8,7 @@ use Rattle.spv_logic.specs.declared.types.Sort.TheVariants as sort
 use Rattle.spv_logic.specs.Values.{Value, with_cell}
 use Rattle.spv_logic.specs.Shapes.{shapes_ok, sort_of_type}
 use Rattle.spv_logic.specs.Fits.{fits}
-use Rattle.spv_list.proofs.Tests.{left_true, right_true}
+use Rattle.spv_logic.proofs.list.Tests.{left_true, right_true}
 use Rattle.spv_logic.proofs.Defaults.{default_fits}
 use Rattle.spv_logic.proofs.Sorting.{class_put, with_cell-after}
 use Rattle.spv_program.specs.Types.{sort_of}

@@ -1,11 +1,11 @@
 -- The main block has a start.
 use Rattle.std.proofs.Common.{◌≡◌, Bool, true, false, cond, List, [], ◌∷◌, map, refl, sym, ap, ◌∙◌, Some, None}
 use Rattle.std.specs.List.{list_all}
-use Rattle.spv_names.specs.declared.names.Symbol.{Symbol}
+use Rattle.spv_logic.specs.declared.names.names.Symbol.{Symbol}
 use Rattle.spv_logic.specs.declared.types.TypeId.{TypeId}
 use Rattle.spv_logic.specs.Shapes.{shapes_ok}
 use Rattle.spv_logic.specs.Fits.{default_of}
-use Rattle.spv_list.proofs.Tests.{left_true, right_true}
+use Rattle.spv_logic.proofs.list.Tests.{left_true, right_true}
 use Rattle.spv_logic.proofs.Defaults.{default_fits}
 use Rattle.spv_program.specs.Lists.{same_name, found}
 use Rattle.spv_program.specs.Types.{sort_of, form_ok, forms_ok}

@@ -3,7 +3,7 @@ use Rattle.std.specs.Prelude.{Bool, true, false, ◌&&◌, ◌||◌, not, List, 
 use Rattle.std.specs.Option.{unwrap_or}
 use Rattle.std.specs.Int.RustNames.{int_lt, int_div, int_rem}
 use Rattle.std.specs.Ordering.{int_eq}
-use Rattle.spv_names.specs.declared.names.Symbol.{Symbol}
+use Rattle.spv_logic.specs.declared.names.names.Symbol.{Symbol}
 use Rattle.spv_logic.specs.declared.types.TypeId.{TypeId}
 use Rattle.spv_logic.specs.Values.{Value, Number, Truth, Pointer, number_of, truth_of, pointer_of, value_eq}
 use Rattle.spv_program.specs.declared.operators.Arithmetic.{Arithmetic}

@@ -6,7 +6,7 @@ use Rattle.spv_program.specs.Scopes.{result_name}
 use Rattle.spv_program.specs.Typing.{well_typed}
 use Rattle.spv_logic.specs.Values.{Value}
 use Rattle.spv_program.specs.Statements.{Statement}
-use Rattle.spv_names.specs.declared.names.Symbol.{Symbol}
+use Rattle.spv_logic.specs.declared.names.names.Symbol.{Symbol}
 use Rattle.spv_logic.specs.declared.types.TypeId.{TypeId}
 use Rattle.spv_logic.specs.declared.conditions.RoutineId.{RoutineId}
 use Rattle.spv_logic.specs.declared.operators.Head.{Head}

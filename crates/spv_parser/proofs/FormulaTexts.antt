@@ -1,15 +1,15 @@
 -- What comes of a formula and the period behind it.
 use Rattle.std.proofs.Common.{◌≡◌, ℕ, ◌+◌, ◌≤◌, List, [], ◌∷◌, Some, length, refl, sym, ap, ◌∙◌, arith}
-use Rattle.spv_tokens.specs.declared.token.Token.{Token}
-use Rattle.spv_syntax.specs.Formulas.{Formula}
-use Rattle.spv_reading.specs.Readers.{Stop, wrong, deep, Read, Halted}
-use Rattle.spv_reading.specs.FormulaReaders.{read_formula}
-use Rattle.spv_reading.specs.RuleReaders.{before_period}
-use Rattle.spv_reading.proofs.Fronts.{some_is}
-use Rattle.spv_front.specs.declared.fault.Fault.{Fault}
-use Rattle.spv_front.specs.declared.fault.Fault.TheVariants.{Syntax, Deep}
-use Rattle.spv_front.specs.Faults.{stop_of, IsStop}
-use Rattle.spv_expected.specs.FormulaTexts.{surplus, before_last, up_to_period, asserted_by, whole_asserted}
+use Rattle.spv_tree.specs.declared.tokens.token.Token.{Token}
+use Rattle.spv_tree.specs.syntax.Formulas.{Formula}
+use Rattle.spv_grammar.specs.reading.Readers.{Stop, wrong, deep, Read, Halted}
+use Rattle.spv_grammar.specs.reading.FormulaReaders.{read_formula}
+use Rattle.spv_grammar.specs.reading.RuleReaders.{before_period}
+use Rattle.spv_grammar.proofs.reading.Fronts.{some_is}
+use Rattle.spv_formula_parser.specs.declared.primitives.fault.Fault.{Fault}
+use Rattle.spv_formula_parser.specs.declared.primitives.fault.Fault.TheVariants.{Syntax, Deep}
+use Rattle.spv_formula_parser.specs.primitives.Faults.{stop_of, IsStop}
+use Rattle.spv_grammar.specs.expected_tokens.FormulaTexts.{surplus, before_last, up_to_period, asserted_by, whole_asserted}
 use Rattle.spv_parser.specs.Stopped.{IsOneMore}
 
 -- ---- one more

@@ -1,14 +1,14 @@
 -- The turns of the loop over where routines begin and end.
 use Rattle.std.proofs.Common.{true, false, ◌≡◌, ◌≤◌, ◌<◌, ℕ, zero, suc, ◌+◌, ◌-◌, arith, List, [], ◌∷◌, ◌++◌, refl, sym, ap, ◌∙◌, subst, append_assoc, append-nil}
-use Rattle.spv_tokens.specs.declared.token.Token.{Token}
-use Rattle.spv_tokens.specs.declared.token.TokenKind.TheVariants as kind
-use Rattle.spv_tokens.specs.declared.token.Sign.TheVariants as sign
-use Rattle.spv_syntax.specs.Statements.{Block}
-use Rattle.spv_syntax.specs.declared.routines.RoutineMark.{RoutineMark}
-use Rattle.spv_syntax.specs.declared.routines.RoutineMark.TheVariants.{Announced, Begins, Ends}
-use Rattle.spv_reading.specs.Readers.{Stop, Outcome, Read, Halted, front, and_then, ended}
-use Rattle.spv_reading.specs.StatementReaders.{read_block}
-use Rattle.spv_reading.specs.RoutineReaders.{begins_heading, begun_behind, read_mark, marks_by, marks}
+use Rattle.spv_tree.specs.declared.tokens.token.Token.{Token}
+use Rattle.spv_tree.specs.declared.tokens.token.TokenKind.TheVariants as kind
+use Rattle.spv_tree.specs.declared.tokens.token.Sign.TheVariants as sign
+use Rattle.spv_tree.specs.syntax.Statements.{Block}
+use Rattle.spv_tree.specs.declared.syntax.routines.RoutineMark.{RoutineMark}
+use Rattle.spv_tree.specs.declared.syntax.routines.RoutineMark.TheVariants.{Announced, Begins, Ends}
+use Rattle.spv_grammar.specs.reading.Readers.{Stop, Outcome, Read, Halted, front, and_then, ended}
+use Rattle.spv_grammar.specs.reading.StatementReaders.{read_block}
+use Rattle.spv_grammar.specs.reading.RoutineReaders.{begins_heading, begun_behind, read_mark, marks_by, marks}
 use Rattle.spv_parser.specs.Marks.{MarksSoFar}
 
 -- what is read behind these marks

@@ -1,21 +1,21 @@
 -- A program up to its main block.
 use Rattle.std.proofs.Common.{true, ◌≡◌, ℕ, List, ap, ◌∙◌, rules}
 use Rattle.std.specs.Prelude.{Option}
-use Rattle.spv_tokens.specs.declared.token.Token.{Token}
-use Rattle.spv_tokens.specs.declared.token.TokenKind.TheVariants as kind
-use Rattle.spv_tokens.specs.declared.token.Word.TheVariants as word
-use Rattle.spv_tokens.specs.declared.token.Sign.TheVariants as sign
-use Rattle.spv_syntax.specs.declared.lists.Several.{Several}
-use Rattle.spv_syntax.specs.declared.names.Name.{Name}
-use Rattle.spv_syntax.specs.declared.declarations.Declarations.{Declarations}
-use Rattle.spv_syntax.specs.declared.routines.RoutineMark.{RoutineMark}
-use Rattle.spv_syntax.specs.declared.programs.Program.{Program}
-use Rattle.spv_syntax.specs.Formulas.{Formula}
-use Rattle.spv_syntax.specs.Steps.{first_line}
-use Rattle.spv_reading.specs.Readers.{Stop, Outcome, Read, Halted, front, after, is, and_then, name, ended}
-use Rattle.spv_reading.specs.StatementReaders.{read_block}
-use Rattle.spv_reading.specs.DeclarationReaders.{read_declarations}
-use Rattle.spv_reading.specs.RoutineReaders.{read_files, read_routines, read_condition, read_program}
+use Rattle.spv_tree.specs.declared.tokens.token.Token.{Token}
+use Rattle.spv_tree.specs.declared.tokens.token.TokenKind.TheVariants as kind
+use Rattle.spv_tree.specs.declared.tokens.token.Word.TheVariants as word
+use Rattle.spv_tree.specs.declared.tokens.token.Sign.TheVariants as sign
+use Rattle.spv_tree.specs.declared.syntax.lists.Several.{Several}
+use Rattle.spv_tree.specs.declared.syntax.names.Name.{Name}
+use Rattle.spv_tree.specs.declared.syntax.declarations.Declarations.{Declarations}
+use Rattle.spv_tree.specs.declared.syntax.routines.RoutineMark.{RoutineMark}
+use Rattle.spv_tree.specs.declared.syntax.programs.Program.{Program}
+use Rattle.spv_tree.specs.syntax.Formulas.{Formula}
+use Rattle.spv_tree.specs.syntax.Steps.{first_line}
+use Rattle.spv_grammar.specs.reading.Readers.{Stop, Outcome, Read, Halted, front, after, is, and_then, name, ended}
+use Rattle.spv_grammar.specs.reading.StatementReaders.{read_block}
+use Rattle.spv_grammar.specs.reading.DeclarationReaders.{read_declarations}
+use Rattle.spv_grammar.specs.reading.RoutineReaders.{read_files, read_routines, read_condition, read_program}
 
 -- where a part is not read, nothing is that begins with it
 pub none_behind : {A B : Type 0} {s : Stop} {o : Outcome A} (next : A → List Token → Outcome B) → o ≡ Halted s → and_then o next ≡ Halted s

@@ -1,19 +1,19 @@
 -- A whole text: what is read to its end, and what no tree reads.
 use Rattle.std.proofs.Common.{◌≡◌, ℕ, ◌≤◌, ◌<◌, List, [], ◌∷◌, length, refl, sym, ap, ◌∙◌, subst, arith}
 use Rattle.std.specs.Prelude.{Some, None}
-use Rattle.spv_tokens.specs.declared.token.Token.{Token}
-use Rattle.spv_begins.specs.Lines.{line_where}
-use Rattle.spv_begins.specs.Begins.{GoesWrongAt}
-use Rattle.spv_reading.specs.Readers.{Stop, wrong, Outcome, Read, Halted, Reader}
-use Rattle.spv_reading.specs.RoutineReaders.{read_whole}
-use Rattle.spv_reading.specs.Laws.{ReadIsTree}
-use Rattle.spv_level.specs.Laws.{LowIsRead}
-use Rattle.spv_expected.specs.Laws.{ReadTheSame}
-use Rattle.spv_front.specs.declared.fault.Fault.{Fault}
-use Rattle.spv_front.specs.declared.fault.Fault.TheVariants as fault
+use Rattle.spv_tree.specs.declared.tokens.token.Token.{Token}
+use Rattle.spv_grammar.specs.first_sets.Lines.{line_where}
+use Rattle.spv_grammar.specs.first_sets.Begins.{GoesWrongAt}
+use Rattle.spv_grammar.specs.reading.Readers.{Stop, wrong, Outcome, Read, Halted, Reader}
+use Rattle.spv_grammar.specs.reading.RoutineReaders.{read_whole}
+use Rattle.spv_grammar.specs.reading.Laws.{ReadIsTree}
+use Rattle.spv_grammar.specs.nesting.Laws.{LowIsRead}
+use Rattle.spv_grammar.specs.expected_tokens.Laws.{ReadTheSame}
+use Rattle.spv_formula_parser.specs.declared.primitives.fault.Fault.{Fault}
+use Rattle.spv_formula_parser.specs.declared.primitives.fault.Fault.TheVariants as fault
 use Rattle.spv_parser.specs.declared.refused.SyntaxFault.{SyntaxFault}
 use Rattle.spv_parser.specs.declared.refused.SyntaxFault.TheVariants.{Profile, TooDeep, Syntax, Memory}
-use Rattle.spv_front.specs.Faults.{IsStop}
+use Rattle.spv_formula_parser.specs.primitives.Faults.{IsStop}
 use Rattle.spv_parser.specs.Causes.{IsAllowed, IsRefusalOf, HasTreeCause}
 
 nothing_left : {A : Type 0} (x : A) (rest : List Token) → length rest < 1 → read_whole (Read (x, rest)) ≡ Some x

@@ -1,12 +1,12 @@
 -- When tokens are refused, and why.
 use Rattle.std.specs.Prelude.{◌≡◌, List, Some, None}
-use Rattle.spv_tokens.specs.declared.token.Token.{Token}
-use Rattle.spv_level.specs.LeftOut.{left_out}
-use Rattle.spv_level.specs.Level.{too_deep}
-use Rattle.spv_begins.specs.Lines.{line_where}
-use Rattle.spv_begins.specs.Begins.{GoesWrongAt}
-use Rattle.spv_front.specs.declared.fault.Fault.{Fault}
-use Rattle.spv_front.specs.declared.fault.Fault.TheVariants as fault
+use Rattle.spv_tree.specs.declared.tokens.token.Token.{Token}
+use Rattle.spv_grammar.specs.nesting.LeftOut.{left_out}
+use Rattle.spv_grammar.specs.nesting.Level.{too_deep}
+use Rattle.spv_grammar.specs.first_sets.Lines.{line_where}
+use Rattle.spv_grammar.specs.first_sets.Begins.{GoesWrongAt}
+use Rattle.spv_formula_parser.specs.declared.primitives.fault.Fault.{Fault}
+use Rattle.spv_formula_parser.specs.declared.primitives.fault.Fault.TheVariants as fault
 use Rattle.spv_parser.specs.declared.refused.SyntaxFault.{SyntaxFault}
 use Rattle.spv_parser.specs.declared.refused.SyntaxFault.TheVariants.{Profile, TooDeep, Syntax, Memory}
 

@@ -1,3 +1,4 @@
 pub mod Causes
 pub mod Marks
 pub mod Stopped
+pub mod language

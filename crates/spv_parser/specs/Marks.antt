@@ -1,9 +1,9 @@
 -- What a loop over where routines begin and end has read.
 use Rattle.std.specs.Prelude.{◌≡◌, ◌≤◌, ℕ, ◌-◌, List, ◌++◌}
-use Rattle.spv_tokens.specs.declared.token.Token.{Token}
-use Rattle.spv_syntax.specs.declared.routines.RoutineMark.{RoutineMark}
-use Rattle.spv_reading.specs.Readers.{Outcome, Read, and_then}
-use Rattle.spv_reading.specs.RoutineReaders.{marks}
+use Rattle.spv_tree.specs.declared.tokens.token.Token.{Token}
+use Rattle.spv_tree.specs.declared.syntax.routines.RoutineMark.{RoutineMark}
+use Rattle.spv_grammar.specs.reading.Readers.{Outcome, Read, and_then}
+use Rattle.spv_grammar.specs.reading.RoutineReaders.{marks}
 
 -- all that is read is these marks and those that are still to come at the front of the rest, in as many turns as are left, where
 -- this many routines have begun and not ended

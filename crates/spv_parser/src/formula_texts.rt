@@ -1,20 +1,22 @@
 // Formula texts.
 
 ghost use Rattle.std.specs.Prelude.{◌≡◌, List, [], Some, None, IfOk, IsErrAnd, IfSome, IsNone, length};
-ghost use Rattle.spv_reading.specs.RuleReaders as spec;
-ghost use Rattle.spv_reading.specs.FormulaReaders.{read_formula};
-ghost use Rattle.spv_reading.specs.Readers.{Stop, Read, Halted};
-ghost use Rattle.spv_expected.specs.FormulaTexts as whole;
-ghost use Rattle.spv_expected.specs.FormulaTexts.{without_period, whole_asserted, whole_formula_text};
-ghost use Rattle.spv_front.specs.Faults.{IsStop};
+ghost use Rattle.spv_grammar.specs.reading.RuleReaders as spec;
+ghost use Rattle.spv_grammar.specs.reading.FormulaReaders.{read_formula};
+ghost use Rattle.spv_grammar.specs.reading.Readers.{Stop, Read, Halted};
+ghost use Rattle.spv_grammar.specs.expected_tokens.FormulaTexts as whole;
+ghost use Rattle.spv_grammar.specs.expected_tokens.FormulaTexts.{without_period, whole_asserted, whole_formula_text};
+ghost use Rattle.spv_formula_parser.specs.primitives.Faults.{IsStop};
 ghost use Rattle.spv_parser.specs.Stopped.{IsOneMore};
 
 use spv_formula_parser::formulas::formula;
-use spv_front::fault::Fault;
-use spv_front::front::{after, first_line, is_sign, name, past_sign, past_word};
-use spv_syntax::{Formula, FormulaText};
-use spv_tokens::{Sign, Token, TokenKind, Word};
-use spv_type_parser::declarations::declarations;
+use spv_formula_parser::primitives::fault::Fault;
+use spv_formula_parser::primitives::front::{
+    after, first_line, is_sign, name, past_sign, past_word,
+};
+use spv_routine_parser::type_parser::declarations::declarations;
+use spv_tree::syntax::{Formula, FormulaText};
+use spv_tree::tokens::{Sign, Token, TokenKind, Word};
 use std::alloc::Global;
 
 // The tokens before the last one, where that is a period.

@@ -1,9 +1,9 @@
 // Lines of tokens.
 
 ghost use Rattle.std.specs.Prelude.{◌≡◌};
-ghost use Rattle.spv_begins.specs.Lines as lines;
+ghost use Rattle.spv_grammar.specs.first_sets.Lines as lines;
 
-use spv_tokens::Token;
+use spv_tree::tokens::Token;
 
 // The line of the last token, or 1.
 fn last_line(tokens: &[Token]) -> u32

@@ -1,21 +1,23 @@
 // The tree of a whole text.
 
 ghost use Rattle.std.specs.Prelude.{◌≤◌, OnOk, IfOk, IfErr};
-ghost use Rattle.spv_syntax.specs.Reads.{Reads, ReadsRules, ReadsFormulaText};
-ghost use Rattle.spv_front.specs.declared.fault.Fault.TheVariants.{Syntax};
+ghost use Rattle.spv_tree.specs.syntax.Reads.{Reads, ReadsRules, ReadsFormulaText};
+ghost use Rattle.spv_formula_parser.specs.declared.primitives.fault.Fault.TheVariants.{Syntax};
 ghost use Rattle.spv_parser.specs.Causes.{IsAllowed, HasTreeCause, IsForbidden, IsRefusalOf};
 
 use crate::formula_texts::formula_text;
 use crate::lines::line_where;
 use crate::programs::program_at;
 use crate::refused::SyntaxFault;
-use spv_expected::{law_formula_text_stops, law_program_stops, law_rule_stops};
-use spv_front::fault::Fault;
-use spv_level::{law_enough, law_enough_formula_text, law_enough_rules, left_out, too_deep};
-use spv_reading::laws::{law_formula_texts, law_programs, law_rules};
-use spv_rule_parser::rules::rule_file;
-use spv_syntax::{FormulaText, Program, RuleTree};
-use spv_tokens::Token;
+use crate::rule_parser::rules::rule_file;
+use spv_formula_parser::primitives::fault::Fault;
+use spv_grammar::expected_tokens::{law_formula_text_stops, law_program_stops, law_rule_stops};
+use spv_grammar::nesting::{
+    law_enough, law_enough_formula_text, law_enough_rules, left_out, too_deep,
+};
+use spv_grammar::reading::laws::{law_formula_texts, law_programs, law_rules};
+use spv_tree::syntax::{FormulaText, Program, RuleTree};
+use spv_tree::tokens::Token;
 use std::alloc::Global;
 
 // As many levels as no text exceeds that is not too deep.

@@ -1,19 +1,21 @@
 // Programs.
 
 ghost use Rattle.std.specs.Prelude.{◌≡◌, Some, None, IfOk, IsErrAnd};
-ghost use Rattle.spv_reading.specs.RoutineReaders.{read_files, read_program};
-ghost use Rattle.spv_reading.specs.Readers.{Stop, Read, Halted};
-ghost use Rattle.spv_front.specs.Faults.{IsStop};
+ghost use Rattle.spv_grammar.specs.reading.RoutineReaders.{read_files, read_program};
+ghost use Rattle.spv_grammar.specs.reading.Readers.{Stop, Read, Halted};
+ghost use Rattle.spv_formula_parser.specs.primitives.Faults.{IsStop};
 
 use crate::routine_marks::{ended_block, routines};
-use spv_front::fault::Fault;
-use spv_front::front::{after, first_line, is_sign, name, past_sign, past_word};
-use spv_list::List;
+use spv_formula_parser::primitives::fault::Fault;
+use spv_formula_parser::primitives::front::{
+    after, first_line, is_sign, name, past_sign, past_word,
+};
+use spv_logic::list::List;
 use spv_routine_parser::routines::condition;
-use spv_syntax::{Name, Program, Several};
-use spv_tokens::{Sign, Token, Word};
-use spv_type_parser::declarations::declarations;
-use spv_type_parser::types::names;
+use spv_routine_parser::type_parser::declarations::declarations;
+use spv_routine_parser::type_parser::types::names;
+use spv_tree::syntax::{Name, Program, Several};
+use spv_tree::tokens::{Sign, Token, Word};
 use std::alloc::Global;
 
 // ["(" names ")"]

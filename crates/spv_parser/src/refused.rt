@@ -3,7 +3,7 @@
 ghost use Rattle.std.specs.Prelude.{◌≡◌};
 ghost use Rattle.spv_parser.specs.declared.refused.SyntaxFault.TheVariants.{Memory};
 
-use spv_tokens::Word;
+use spv_tree::tokens::Word;
 use std::alloc::AllocError;
 use thiserror::Error;
 

@@ -1,18 +1,18 @@
 // Routines, as a list of where they begin and end. A text may have any number of them inside one another.
 
 ghost use Rattle.std.specs.Prelude.{◌≡◌, ◌<◌, ◌-◌, ◌^◌, Some, None, IfOk, IsErrAnd};
-ghost use Rattle.spv_tokens.specs.declared.token.TokenKind.TheVariants as kind;
-ghost use Rattle.spv_reading.specs.Readers.{Stop, Read, Halted, ended};
-ghost use Rattle.spv_reading.specs.StatementReaders.{read_block};
-ghost use Rattle.spv_reading.specs.RoutineReaders as routine;
-ghost use Rattle.spv_front.specs.Faults.{IsStop};
+ghost use Rattle.spv_tree.specs.declared.tokens.token.TokenKind.TheVariants as kind;
+ghost use Rattle.spv_grammar.specs.reading.Readers.{Stop, Read, Halted, ended};
+ghost use Rattle.spv_grammar.specs.reading.StatementReaders.{read_block};
+ghost use Rattle.spv_grammar.specs.reading.RoutineReaders as routine;
+ghost use Rattle.spv_formula_parser.specs.primitives.Faults.{IsStop};
 
-use spv_front::fault::{Fault, unexpected};
-use spv_front::front::past_sign;
+use spv_formula_parser::primitives::fault::{Fault, unexpected};
+use spv_formula_parser::primitives::front::past_sign;
 use spv_routine_parser::routines::{begins_heading, mark};
 use spv_statement_parser::statements::block;
-use spv_syntax::{Block, RoutineMark};
-use spv_tokens::{Sign, Token};
+use spv_tree::syntax::{Block, RoutineMark};
+use spv_tree::tokens::{Sign, Token};
 use std::alloc::Global;
 
 // block, and the sign that ends it

@@ -1,7 +1,7 @@
 // The messages of refusals, and of what else leaves a text without a report.
 
-use spv_list::List;
-use spv_refusals::{Refusal, VerifyFault};
+use spv_logic::list::List;
+use spv_verify::refused::{Refusal, VerifyFault};
 use std::alloc::{AllocError, Global};
 
 // Adds the message of a refusal.

@@ -1,6 +1,6 @@
 // The table of names.
 
-use spv_names::{Names, Symbol};
+use spv_logic::names::{Names, Symbol};
 use std::alloc::{AllocError, Global};
 
 // Adds a number, where there is one.

@@ -4,9 +4,9 @@ ghost use Rattle.std.specs.Prelude.{◌≡◌, ◌<◌, ◌∷◌, [], length, I
 ghost use Rattle.spv_logic.specs.declared.types.Sort.TheVariants as sort;
 ghost use Rattle.spv_logic.specs.declared.types.Shape.TheVariants as shape;
 
-use spv_list::List;
 use spv_listing::{push_claim, push_head, push_term};
-use spv_names::{Names, Symbol};
+use spv_logic::list::List;
+use spv_logic::names::{Names, Symbol};
 use spv_term::{
     Condition, Decl, Field, Head, Kind, Origin, Shape, Shapes, Sort, TermFault, TermId, Terms,
     TypeId,

@@ -1,8 +1,8 @@
 // The tokens of a text.
 
 use spv_lexer::{LexFault, tokens};
-use spv_names::Names;
-use spv_tokens::{Token, TokenKind};
+use spv_logic::names::Names;
+use spv_tree::tokens::{Token, TokenKind};
 use std::alloc::{AllocError, Global};
 
 // Adds the kind of a token, and its line.

@@ -3,8 +3,8 @@ use Rattle.spv_meaning.proofs.RightFrames.{names_append}
 use Rattle.spv_meaning.specs.FrameTypes.{FrameType, IsIn, formal_slot, frame_of, in_routine, names_right, own_slot, place_sort}
 use Rattle.std.proofs.Common.{◌≡◌, true, false, List, ◌∷◌, ◌++◌, map, ap, ◌∙◌, Option, Some, ℤ, option_map}
 use Rattle.std.specs.List.{list_all, list_any}
-use Rattle.spv_list.proofs.Tests.{left_true, right_true}
-use Rattle.spv_names.specs.declared.names.Symbol.{Symbol}
+use Rattle.spv_logic.proofs.list.Tests.{left_true, right_true}
+use Rattle.spv_logic.specs.declared.names.names.Symbol.{Symbol}
 use Rattle.spv_logic.specs.declared.types.TypeId.{TypeId}
 use Rattle.spv_logic.specs.declared.types.Sort.{Sort}
 use Rattle.spv_logic.specs.declared.types.Sort.TheVariants as sort

@@ -3,7 +3,7 @@ use Rattle.spv_preservation.specs.Right.{HasValues}
 use Rattle.spv_meaning.specs.FrameTypes.{FrameType, IsIn, in_main, in_routine}
 use Rattle.spv_meaning.specs.Starts.{IsStart, IsRight}
 use Rattle.std.proofs.Common.{◌≡◌, ℕ, zero, suc, true, List, ap, subst, ◌∙◌, Option, Some, None}
-use Rattle.spv_list.proofs.Tests.{right_true}
+use Rattle.spv_logic.proofs.list.Tests.{right_true}
 use Rattle.std.specs.List.{list_all}
 use Rattle.spv_logic.specs.declared.conditions.RoutineId.{RoutineId}
 use Rattle.spv_logic.specs.Values.{Value}

@@ -5,7 +5,7 @@ use Rattle.std.proofs.Common.{◌≡◌, ℕ, suc, Bool, true, false, cond, List
 use Rattle.std.specs.Option.{option_and_then}
 use Rattle.std.proofs.lemmas.Bool.{false≢true}
 use Rattle.std.proofs.lemmas.Bool.Decides.{nat_tests}
-use Rattle.spv_names.specs.declared.names.Symbol.{Symbol}
+use Rattle.spv_logic.specs.declared.names.names.Symbol.{Symbol}
 use Rattle.spv_logic.specs.declared.types.TypeId.{TypeId}
 use Rattle.spv_logic.specs.declared.types.Sort.{Sort}
 use Rattle.spv_logic.specs.declared.types.Shape.{Shape}
@@ -17,7 +17,7 @@ use Rattle.spv_program.proofs.SortFacts.{nothing_there, some_is, Behind, behind}
 use Rattle.spv_program.proofs.ExpressionSorting.{same_types}
 use Rattle.spv_meaning.specs.Places.{Root, PathStep, Place, HeapRow, State, ProgramVariable, OwnValue, CellOf, whole, row_of, part_at, look, value_or_zero}
 use Rattle.spv_meaning.specs.Evaluation.{is_cell_of}
-use Rattle.spv_facts.proofs.Parts.{step_there}
+use Rattle.spv_preservation.proofs.facts.Parts.{step_there}
 use Rattle.spv_preservation.proofs.Roots.{place_there}
 
 -- ---- what a place holds

@@ -5,8 +5,8 @@ use Rattle.std.specs.Option.{option_and_then}
 use Rattle.std.specs.List.{list_all, list_any}
 use Rattle.std.specs.Cmp.Derive.{both_true}
 use Rattle.std.proofs.lemmas.Bool.{false≢true}
-use Rattle.spv_list.proofs.Tests.{left_true, right_true}
-use Rattle.spv_names.specs.declared.names.Symbol.{Symbol}
+use Rattle.spv_logic.proofs.list.Tests.{left_true, right_true}
+use Rattle.spv_logic.specs.declared.names.names.Symbol.{Symbol}
 use Rattle.spv_logic.specs.declared.types.TypeId.{TypeId}
 use Rattle.spv_logic.specs.declared.types.Sort.{Sort}
 use Rattle.spv_logic.specs.Values.{Value}
@@ -18,7 +18,7 @@ use Rattle.spv_program.proofs.SortFacts.{nothing_there, some_is, behind}
 use Rattle.spv_meaning.specs.Places.{Root, Place, Binding, Frame, HeapRow, State, ProgramVariable, OwnValue, CellOf, Holding, row_of, root_value, with_frame_value, with_content, with_root, put, value_or_zero, with_part}
 use Rattle.spv_meaning.specs.Starts.{row_ok, is_of_type, IsRight}
 use Rattle.spv_meaning.proofs.Maps.{same_names, found-changed-same, found-changed-other}
-use Rattle.spv_facts.proofs.Parts.{with_fits}
+use Rattle.spv_preservation.proofs.facts.Parts.{with_fits}
 use Rattle.spv_preservation.specs.Right.{Grows, Leaves}
 use Rattle.spv_preservation.proofs.Roots.{FirstFrame, first_frame, frames_from, root_there}
 use Rattle.spv_preservation.proofs.Growing.{grows_not, frames_grow}

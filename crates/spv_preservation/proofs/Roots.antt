@@ -5,8 +5,8 @@ use Rattle.std.specs.Option.{option_and_then}
 use Rattle.std.specs.List.{list_all}
 use Rattle.std.specs.Cmp.Derive.{both_true}
 use Rattle.std.proofs.lemmas.Bool.{false≢true}
-use Rattle.spv_list.proofs.Tests.{left_true, right_true}
-use Rattle.spv_names.specs.declared.names.Symbol.{Symbol}
+use Rattle.spv_logic.proofs.list.Tests.{left_true, right_true}
+use Rattle.spv_logic.specs.declared.names.names.Symbol.{Symbol}
 use Rattle.spv_logic.specs.declared.types.TypeId.{TypeId}
 use Rattle.spv_logic.specs.declared.types.Sort.{Sort}
 use Rattle.spv_logic.specs.Values.{Value}
@@ -18,7 +18,7 @@ use Rattle.spv_program.proofs.SortFacts.{nothing_there, some_is, Behind, behind}
 use Rattle.spv_meaning.specs.Places.{Root, Place, Binding, Frame, HeapRow, State, ProgramVariable, OwnValue, CellOf, Holding, Referring, held, own_value, content_of, row_of, frame_at, root_value, value_or_zero}
 use Rattle.spv_meaning.specs.Starts.{row_ok, heap_ok, is_of_type, IsRight}
 use Rattle.spv_meaning.proofs.Maps.{same_names}
-use Rattle.spv_facts.specs.Places.{IsPlace}
+use Rattle.spv_preservation.specs.facts.Places.{IsPlace}
 
 -- ---- tests that are passed
 

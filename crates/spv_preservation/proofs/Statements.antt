@@ -7,7 +7,7 @@ use Rattle.std.specs.Ordering.{int_eq}
 use Rattle.std.specs.Cmp.Derive.{both_true}
 use Rattle.std.proofs.lemmas.Bool.{false≢true}
 use Rattle.std.proofs.lemmas.Bool.Decides.{nat_tests}
-use Rattle.spv_list.proofs.Tests.{left_true, right_true, both_false}
+use Rattle.spv_logic.proofs.list.Tests.{left_true, right_true, both_false}
 use Rattle.spv_logic.specs.declared.types.TypeId.{TypeId}
 use Rattle.spv_logic.specs.declared.types.Sort.{Sort}
 use Rattle.spv_logic.specs.declared.types.Sort.TheVariants as sort

@@ -1,2 +1,3 @@
+pub mod facts
 pub mod Right
 pub mod Laws

@@ -1,6 +1,6 @@
 -- The term of a well typed formula is well sorted.
 use Rattle.std.proofs.Common.{◌≡◌, Bool, true, false, cond, ◌&&◌, List, [], ◌∷◌, pos, refl, ap, ◌∙◌, Option, Some, None}
-use Rattle.spv_names.specs.declared.names.Symbol.{Symbol}
+use Rattle.spv_logic.specs.declared.names.names.Symbol.{Symbol}
 use Rattle.spv_logic.specs.declared.types.TypeId.{TypeId}
 use Rattle.spv_logic.specs.declared.types.Sort.{Sort}
 use Rattle.spv_logic.specs.declared.types.Sort.TheVariants as sort
@@ -12,7 +12,7 @@ use Rattle.spv_logic.specs.Shapes.{element_sort, fields_of, field_sort_of, sort_
 use Rattle.spv_logic.specs.Sorts.{with_sort, with_sorts, sort_before, takes, takes_declared, declared, result_sort, term_sort, term_sorts}
 use Rattle.spv_logic.proofs.Equality.{sort_eq-true, sort_eq-refl}
 use Rattle.std.specs.Cmp.Derive.{both_true}
-use Rattle.spv_list.proofs.Tests.{left_true, right_true}
+use Rattle.spv_logic.proofs.list.Tests.{left_true, right_true}
 use Rattle.spv_program.specs.Types.{sort_of, type_exists}
 use Rattle.spv_program.specs.Formulas.{Formula, Formulas, Numeral, Boolean, NilOf, Named, ClassOf, Element, FieldOf, Content, Applied, Known, Negative, Calculated, Compared, Negated, Joined, Implied, no_formulas, formulas}
 use Rattle.spv_program.specs.Lists.{found}

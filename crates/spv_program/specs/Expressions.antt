@@ -1,7 +1,7 @@
 -- Expressions of a program's own text, with each name resolved: a constant is its number, and the types that
 -- selectors work on are told.
 use Rattle.std.specs.Prelude.{ℕ, Bool, ℤ}
-use Rattle.spv_names.specs.declared.names.Symbol.{Symbol}
+use Rattle.spv_logic.specs.declared.names.names.Symbol.{Symbol}
 use Rattle.spv_logic.specs.declared.types.TypeId.{TypeId}
 use Rattle.spv_logic.specs.declared.conditions.RoutineId.{RoutineId}
 use Rattle.spv_program.specs.declared.operators.Arithmetic.{Arithmetic}

@@ -1,6 +1,6 @@
 -- Formulas of annotations and rules, with each name resolved.
 use Rattle.std.specs.Prelude.{ℕ, Bool, ℤ}
-use Rattle.spv_names.specs.declared.names.Symbol.{Symbol}
+use Rattle.spv_logic.specs.declared.names.names.Symbol.{Symbol}
 use Rattle.spv_logic.specs.declared.types.TypeId.{TypeId}
 use Rattle.spv_program.specs.declared.operators.Arithmetic.{Arithmetic}
 use Rattle.spv_program.specs.declared.operators.BuiltIn.{BuiltIn}

@@ -17,3 +17,5 @@ pub mod Places
 pub mod Calls
 pub mod ExpressionTerms
 pub mod Laws
+pub mod typed
+pub mod ordered_map

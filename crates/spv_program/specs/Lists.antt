@@ -1,7 +1,7 @@
 -- Lists of what stands under names.
 use Rattle.std.specs.Prelude.{ℕ, zero, suc, Bool, true, ◌&&◌, not, List, [], ◌∷◌, Option, Some, None, nat_eq, if◌then◌else◌}
 use Rattle.std.specs.List.{list_any}
-use Rattle.spv_names.specs.declared.names.Symbol.{Symbol}
+use Rattle.spv_logic.specs.declared.names.names.Symbol.{Symbol}
 
 abbrev pub same_name : Symbol → Symbol → Bool
 same_name x y = nat_eq x.0 y.0

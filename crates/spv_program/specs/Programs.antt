@@ -1,7 +1,7 @@
 -- Routines and programs.
 use Rattle.std.specs.Prelude.{ℕ, Bool, List, Option}
 use Rattle.std.specs.Option.{option_and_then}
-use Rattle.spv_names.specs.declared.names.Symbol.{Symbol}
+use Rattle.spv_logic.specs.declared.names.names.Symbol.{Symbol}
 use Rattle.spv_logic.specs.declared.types.TypeId.{TypeId}
 use Rattle.spv_logic.specs.declared.types.Decl.{Decl}
 use Rattle.spv_logic.specs.declared.types.Shape.{Shape}

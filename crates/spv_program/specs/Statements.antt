@@ -1,6 +1,6 @@
 -- Statements; the number in front is the line of a statement's first token, where no part of it has that.
 use Rattle.std.specs.Prelude.{ℕ, List, Option, ℤ}
-use Rattle.spv_names.specs.declared.names.Symbol.{Symbol}
+use Rattle.spv_logic.specs.declared.names.names.Symbol.{Symbol}
 use Rattle.spv_logic.specs.declared.types.TypeId.{TypeId}
 use Rattle.spv_program.specs.declared.operators.Direction.{Direction}
 use Rattle.spv_program.specs.Expressions.{Expression, Designator, Call}

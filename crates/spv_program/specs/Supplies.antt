@@ -1,6 +1,6 @@
 -- Fresh variables: each has a name and a number that no earlier one of that name has.
 use Rattle.std.specs.Prelude.{ℕ, suc, if◌then◌else◌}
-use Rattle.spv_names.specs.declared.names.Symbol.{Symbol}
+use Rattle.spv_logic.specs.declared.names.names.Symbol.{Symbol}
 use Rattle.spv_logic.specs.declared.types.TypeId.{TypeId}
 use Rattle.spv_logic.specs.declared.types.Sort.{Sort}
 use Rattle.spv_logic.specs.declared.operators.Head.{Head}

@@ -1,6 +1,6 @@
 -- Terms by their parts, and the terms of formulas.
 use Rattle.std.specs.Prelude.{Bool, true, false, ℤ, pos, Option}
-use Rattle.spv_names.specs.declared.names.Symbol.{Symbol}
+use Rattle.spv_logic.specs.declared.names.names.Symbol.{Symbol}
 use Rattle.spv_logic.specs.declared.types.Sort.{Sort}
 use Rattle.spv_logic.specs.declared.operators.Head.{Head}
 use Rattle.spv_logic.specs.declared.operators.Head.TheVariants as head

@@ -1,6 +1,6 @@
 -- What statements and formulas read and write, in the order of the text.
 use Rattle.std.specs.Prelude.{ℕ, Bool, true, false, ◌&&◌, not, List, [], ◌∷◌, ◌++◌, Option, Some, None, if◌then◌else◌}
-use Rattle.spv_names.specs.declared.names.Symbol.{Symbol}
+use Rattle.spv_logic.specs.declared.names.names.Symbol.{Symbol}
 use Rattle.spv_program.specs.declared.types.Item.{Item}
 use Rattle.spv_program.specs.declared.types.Item.TheVariants.{Variable, Class}
 use Rattle.spv_program.specs.Lists.{same_name}

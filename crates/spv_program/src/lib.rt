@@ -7,6 +7,8 @@
 
 pub mod laws;
 pub mod operators;
+pub mod ordered_map;
+pub mod typed;
 pub mod types;
 
 pub use operators::{Arithmetic, BuiltIn, Comparison, Connective, Direction};

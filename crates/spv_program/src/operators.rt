@@ -1,6 +1,6 @@
 // The operators of expressions and formulas.
 
-use spv_names::Symbol;
+use spv_logic::names::Symbol;
 
 /// An operator that makes a number of two numbers.
 #[derive(Clone, Copy, PartialEq, Eq, Debug)]

@@ -1,8 +1,8 @@
 // Types as a program declares them, and what a routine may share with the program.
 
-use spv_list::List;
 use spv_logic::TypeId;
-use spv_names::Symbol;
+use spv_logic::list::List;
+use spv_logic::names::Symbol;
 
 /// A field of a record type: its name and its type.
 #[derive(Clone, Copy, Debug)]

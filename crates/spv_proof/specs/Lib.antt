@@ -1,9 +1,2 @@
-pub mod Sums
-pub mod Evaluation
-pub mod Effects
-pub mod Accepted
-pub mod Stops
-pub mod Outcomes
-pub mod Stand
-pub mod Laws
-pub mod Examples
+pub mod sums
+pub mod checker

@@ -1,6 +1,6 @@
-//! Which proofs of conditions are accepted, that what they prove is true, and the checker.
+//! `sums`: Sums of multiples of facts, as the checker of proofs makes them: each number in its turn, up to the first that does not fit.
+//! `checker`: The checker of proofs: whether a proof of a condition is accepted, or what stops the check first.
 #![tactic(auto)]
 
-mod laws;
-
-pub use laws::{law_check, law_examples, law_outcome};
+pub mod checker;
+pub mod sums;

@@ -3,7 +3,7 @@ use Rattle.std.proofs.Common.{◌≡◌, ℕ, zero, suc, ◌<◌, ◌+◌, Bool,
 use Rattle.std.specs.Option.{option_map}
 use Rattle.std.proofs.lemmas.Bool.{false≢true}
 use Rattle.std.proofs.lemmas.Option.{slice_get-map}
-use Rattle.spv_list.proofs.Tests.{left_true, right_true}
+use Rattle.spv_logic.proofs.list.Tests.{left_true, right_true}
 use Rattle.spv_logic.specs.declared.conditions.TermId.{TermId}
 use Rattle.spv_logic.specs.declared.operators.Head.{Head}
 use Rattle.spv_logic.specs.declared.operators.Head.TheVariants as head
@@ -14,7 +14,7 @@ use Rattle.spv_logic.proofs.Equality.{term_eq-true, head_eq-true}
 use Rattle.spv_term.specs.declared.nodes.Node.{Node}
 use Rattle.spv_term.specs.Arena.{Arena, IsArena, AllBelow, tree, trees, sort_at, sorts_at}
 use Rattle.spv_term.proofs.ArenaLemmas.{node_of, tree-node, sort-node, args_in_range, same_id}
-use Rattle.spv_proof.specs.Effects as spec
+use Rattle.spv_proof_rules.specs.Effects as spec
 use Rattle.spv_proof_steps.proofs.Looks.{equation_node}
 use Rattle.spv_proof_steps.proofs.StepLemmas.{AllBelow-at}
 

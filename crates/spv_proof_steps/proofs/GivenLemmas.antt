@@ -13,8 +13,8 @@ use Rattle.spv_term.specs.Arena.{Arena, IsArena, tree}
 use Rattle.spv_atoms.specs.Order.{same_id}
 use Rattle.spv_atoms.specs.Tables.{assigned, or_else}
 use Rattle.spv_atoms.proofs.Walks.{term_eq-ids}
-use Rattle.spv_proof.specs.Sums.{negated}
-use Rattle.spv_proof.specs.Evaluation.{given_by, given_negated}
+use Rattle.spv_proof_rules.specs.Sums.{negated}
+use Rattle.spv_proof_rules.specs.Evaluation.{given_by, given_negated}
 use Rattle.spv_proof_steps.specs.declared.candidates.Candidate.TheVariants.{Known}
 use Rattle.spv_proof_steps.specs.declared.known.Order.{Order}
 use Rattle.spv_proof_steps.specs.Candidates.{lower}

@@ -13,8 +13,8 @@ use Rattle.spv_logic.proofs.Equality.{term_eq-true, term_eq-refl}
 use Rattle.spv_term.specs.declared.nodes.Node.{Node}
 use Rattle.spv_term.specs.Arena.{Arena, IsArena, AllBelow, tree, trees, sort_at, sorts_at}
 use Rattle.spv_term.proofs.ArenaLemmas.{tree-node, sort-node, args_in_range, same_id}
-use Rattle.spv_proof.specs.Sums.{negated}
-use Rattle.spv_proof.specs.Evaluation.{sides}
+use Rattle.spv_proof_rules.specs.Sums.{negated}
+use Rattle.spv_proof_rules.specs.Evaluation.{sides}
 use Rattle.spv_proof_steps.specs.Candidates.{lower}
 
 one_sorted : (f : TermId → Sort) (ts : List TermId) (s : Sort) → s ∷ [] ≡ map f ts → (u : TermId) × (ts ≡ u ∷ [])

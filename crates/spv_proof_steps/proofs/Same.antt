@@ -5,8 +5,8 @@ use Rattle.spv_logic.specs.declared.operators.Head.TheVariants.{Not, Eq, Lt}
 use Rattle.spv_logic.specs.Terms.{Term, term, no_terms, terms, term_eq}
 use Rattle.spv_logic.specs.Formulas.{negation, equation, below}
 use Rattle.spv_logic.proofs.Equality.{term_eq-true, term_eq-refl}
-use Rattle.spv_proof.specs.Sums.{negated}
-use Rattle.spv_proof.specs.Evaluation.{sides}
+use Rattle.spv_proof_rules.specs.Sums.{negated}
+use Rattle.spv_proof_rules.specs.Evaluation.{sides}
 use Rattle.spv_proof_steps.specs.Candidates.{lower}
 use Rattle.spv_proof_steps.proofs.Looks.{term_eq-ids}
 

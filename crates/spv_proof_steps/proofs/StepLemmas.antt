@@ -18,7 +18,7 @@ use Rattle.spv_logic.proofs.Sorting.{taken}
 use Rattle.spv_term.specs.declared.nodes.Node.{Node}
 use Rattle.spv_term.specs.Arena.{Arena, IsArena, AllBelow, tree, trees, sort_at, sorts_at}
 use Rattle.spv_term.proofs.ArenaLemmas.{tree-node, sort-node}
-use Rattle.spv_proof.specs.Effects as spec
+use Rattle.spv_proof_rules.specs.Effects as spec
 use Rattle.spv_proof_steps.specs.Candidates.{AllFormulas}
 
 -- ---- facts by their numbers

@@ -12,12 +12,12 @@ use Rattle.spv_proof_steps.specs.declared.candidates.Candidate.{Candidate}
 use Rattle.spv_proof_steps.specs.declared.candidates.Candidate.TheVariants.{Equation}
 use Rattle.spv_logic.specs.Formulas as formulas
 use Rattle.spv_atoms.specs.Tables as tables
-use Rattle.spv_proof.specs.Evaluation as spec
+use Rattle.spv_proof_rules.specs.Evaluation as spec
 use Rattle.spv_atoms.specs.Atoms.{has_sort}
 use Rattle.spv_atoms.specs.Valued.{AllAmong, AllValued, IsInside, IsLayered}
 use Rattle.spv_atoms.specs.Order.{same_id}
 use Rattle.spv_atoms.proofs.Values.{inside_of}
-use Rattle.spv_names.proofs.NameTable.{list_any-map}
+use Rattle.spv_logic.proofs.names.NameTable.{list_any-map}
 use Rattle.spv_proof_steps.specs.Candidates.{formula_of}
 use Rattle.spv_proof_steps.specs.Valued.{truth_in, given_in, computed_in, clash_in, AllInside}
 

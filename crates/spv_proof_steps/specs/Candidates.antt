@@ -6,7 +6,7 @@ use Rattle.spv_logic.specs.declared.operators.Head.TheVariants.{Lt}
 use Rattle.spv_logic.specs.Terms.{Term, term}
 use Rattle.spv_logic.specs.Formulas.{negation, equation}
 use Rattle.spv_term.specs.Arena.{Arena, tree, sort_at}
-use Rattle.spv_proof.specs.Sums.{pair}
+use Rattle.spv_proof_rules.specs.Sums.{pair}
 use Rattle.spv_proof_steps.specs.declared.candidates.Candidate.{Candidate}
 use Rattle.spv_proof_steps.specs.declared.candidates.Candidate.TheVariants.{Known, Negation, Equation}
 

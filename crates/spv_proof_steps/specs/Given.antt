@@ -9,7 +9,7 @@ use Rattle.spv_logic.specs.Formulas.{below}
 use Rattle.spv_term.specs.Arena.{Arena, tree}
 use Rattle.spv_atoms.specs.Order.{same_id}
 use Rattle.spv_atoms.specs.Tables.{assigned, or_else}
-use Rattle.spv_proof.specs.Evaluation.{given_by, cites}
+use Rattle.spv_proof_rules.specs.Evaluation.{given_by, cites}
 use Rattle.spv_proof_steps.specs.declared.known.Order.{Order}
 use Rattle.spv_proof_steps.specs.declared.known.Known.{Known}
 

@@ -6,8 +6,8 @@ use Rattle.spv_logic.specs.Terms.{Term}
 use Rattle.spv_logic.specs.Formulas.{negation, equation, below}
 use Rattle.spv_logic.specs.Conditions.{Sequent}
 use Rattle.spv_term.specs.Arena.{Arena, tree, sort_at}
-use Rattle.spv_proof.specs.Effects.{Question}
-use Rattle.spv_proof.specs.Effects as spec
+use Rattle.spv_proof_rules.specs.Effects.{Question}
+use Rattle.spv_proof_rules.specs.Effects as spec
 use Rattle.spv_proof_steps.specs.declared.facts.Fact.{Fact}
 use Rattle.spv_proof_steps.specs.declared.facts.Fact.TheVariants.{Known, Negation, Equation, Below, AtMost}
 use Rattle.spv_proof_steps.specs.declared.facts.Effect.{Effect}

@@ -7,7 +7,7 @@ use Rattle.spv_proof_steps.specs.declared.candidates.Candidate.{Candidate}
 use Rattle.spv_atoms.specs.Tables.{computed}
 use Rattle.spv_atoms.specs.Valued.{IsInside}
 use Rattle.spv_atoms.specs.Atoms.{is_truth}
-use Rattle.spv_proof.specs.Evaluation.{given_to, clashes}
+use Rattle.spv_proof_rules.specs.Evaluation.{given_to, clashes}
 use Rattle.spv_proof_steps.specs.Candidates.{formula_of}
 
 -- whether a term is of sort Bool

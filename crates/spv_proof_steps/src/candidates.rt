@@ -5,8 +5,8 @@ ghost use Rattle.std.specs.Option.{option_map, ForSome};
 ghost use Rattle.spv_logic.specs.Terms.{term_eq};
 ghost use Rattle.spv_term.specs.Arena.{tree, sort_at, IsArena};
 ghost use Rattle.spv_logic.specs.Formulas as formulas;
-ghost use Rattle.spv_proof.specs.Sums as sums;
-ghost use Rattle.spv_proof.specs.Evaluation as spec;
+ghost use Rattle.spv_proof_rules.specs.Sums as sums;
+ghost use Rattle.spv_proof_rules.specs.Evaluation as spec;
 ghost use Rattle.spv_proof_steps.specs.Candidates as candidates;
 ghost use Rattle.spv_proof_steps.specs.Candidates.{formula_of, pair_of, MayStand, PairIn};
 

@@ -4,7 +4,7 @@ ghost use Rattle.std.specs.Prelude.{◌≡◌, ◌<◌, map, length, IsTrue};
 ghost use Rattle.spv_logic.specs.Formulas as formulas;
 ghost use Rattle.spv_logic.specs.Terms.{head_eq};
 ghost use Rattle.spv_term.specs.Arena.{AllBelow, tree, trees, sort_at, IsArena};
-ghost use Rattle.spv_proof.specs.Effects as spec;
+ghost use Rattle.spv_proof_rules.specs.Effects as spec;
 ghost use Rattle.spv_proof_steps.specs.Steps.{effect_of, MayAdd};
 
 use crate::candidates::is_equation;

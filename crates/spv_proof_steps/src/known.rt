@@ -8,7 +8,7 @@ ghost use Rattle.indexmap.specs.IndexSet.{insert_key};
 ghost use Rattle.spv_logic.specs.declared.conditions.TermId.{TermId};
 ghost use Rattle.spv_term.specs.Arena.{AllBelow, tree, IsArena};
 ghost use Rattle.spv_atoms.specs.Order.{same_id};
-ghost use Rattle.spv_proof.specs.Evaluation as spec;
+ghost use Rattle.spv_proof_rules.specs.Evaluation as spec;
 ghost use Rattle.spv_proof_steps.specs.Given.{same_pair, with_value, AddsValues, AddsOrder, GivesValues, GivesOrders, IsKnown};
 
 use crate::candidates::{lower, negated};

@@ -8,7 +8,7 @@ ghost use Rattle.spv_logic.specs.Terms.{Term};
 ghost use Rattle.spv_term.specs.Arena.{AllBelow, tree, IsArena};
 ghost use Rattle.spv_atoms.specs.Tables as tables;
 ghost use Rattle.spv_atoms.specs.Valued.{AreGiven, AreValued, AllValued, IsInside};
-ghost use Rattle.spv_proof.specs.Evaluation as spec;
+ghost use Rattle.spv_proof_rules.specs.Evaluation as spec;
 ghost use Rattle.spv_proof_steps.specs.declared.candidates.Candidate.TheVariants.{Equation};
 ghost use Rattle.spv_proof_steps.specs.Candidates.{formula_of, IsBool, MayStand};
 ghost use Rattle.spv_proof_steps.specs.Given.{IsKnown, GivesOrders};

@@ -7,13 +7,13 @@ use Rattle.spv_logic.specs.declared.types.Decl.{Decl}
 use Rattle.spv_logic.specs.Conditions.{Meaning, Sequent, TrueIn}
 use Rattle.spv_term.specs.declared.nodes.Condition.{Condition}
 use Rattle.spv_term.specs.Arena.{Arena, sequent}
-use Rattle.spv_proof.specs.Stand.{question}
-use Rattle.spv_proof.proofs.Soundness.{accepted_true}
+use Rattle.spv_proof_rules.specs.Stand.{question}
+use Rattle.spv_proof_rules.proofs.Soundness.{accepted_true}
 use Rattle.spv_verdicts.specs.Verdicts.{Limits, IsRight}
-use Rattle.spv_decided.specs.declared.verdicts.Decided.{Decided}
-use Rattle.spv_decided.specs.declared.verdicts.Verdict.{Verdict}
-use Rattle.spv_decided.specs.declared.verdicts.Verdict.TheVariants.{Proved, Unproved, GaveUp}
-use Rattle.spv_decided.specs.Views.{IsDecided, verdict_in}
+use Rattle.spv_verdicts.specs.declared.answers.verdicts.Decided.{Decided}
+use Rattle.spv_verdicts.specs.declared.answers.verdicts.Verdict.{Verdict}
+use Rattle.spv_verdicts.specs.declared.answers.verdicts.Verdict.TheVariants.{Proved, Unproved, GaveUp}
+use Rattle.spv_verdicts.specs.answers.Views.{IsDecided, verdict_in}
 use Rattle.spv_reports.specs.Reports.{is_proved}
 
 -- the copy that was decided claims the same, over the same types and symbols

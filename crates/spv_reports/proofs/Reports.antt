@@ -1,7 +1,7 @@
 -- A report whose verdicts are all Proved makes its program correct.
 use Rattle.std.proofs.Common.{◌≡◌, true, List, [], ◌∷◌, subst}
 use Rattle.std.proofs.lemmas.Bool.{false≢true}
-use Rattle.spv_list.proofs.Tests.{left_true, right_true}
+use Rattle.spv_logic.proofs.list.Tests.{left_true, right_true}
 use Rattle.spv_logic.specs.Shapes.{shapes_ok}
 use Rattle.spv_logic.specs.declared.types.Shape.{Shape}
 use Rattle.spv_logic.specs.declared.types.Decl.{Decl}
@@ -10,10 +10,10 @@ use Rattle.spv_term.specs.declared.nodes.Condition.{Condition}
 use Rattle.spv_term.specs.Arena.{Arena}
 use Rattle.spv_program.specs.Programs.{shapes}
 use Rattle.spv_meaning.specs.ProgramConditions.{AllTrueIn}
-use Rattle.spv_control.proofs.Programs.{control_correct}
+use Rattle.spv_rule_soundness.proofs.control.Programs.{control_correct}
 use Rattle.spv_assign.specs.Conditions.{conditions_of}
 use Rattle.spv_verdicts.specs.Verdicts.{Limits}
-use Rattle.spv_decided.specs.declared.verdicts.Decided.{Decided}
+use Rattle.spv_verdicts.specs.declared.answers.verdicts.Decided.{Decided}
 use Rattle.spv_reports.specs.declared.mode.Mode.{Mode}
 use Rattle.spv_reports.specs.declared.mode.Mode.TheVariants.{Verify, Conditions}
 use Rattle.spv_reports.specs.Reports.{Findings, IsReportOn, AreVerdicts, AreVerdictsIn, has_verdicts, is_proved, all_proved, ProvedIsCorrectIn}

@@ -1,1 +1,2 @@
+pub mod supported
 pub mod Reports

@@ -1,27 +1,27 @@
 -- Reports, and what each keeps.
 use Rattle.std.specs.Prelude.{◌≡◌, ⊤, ℕ, Bool, true, false, not, List, [], ◌∷◌, Option, None, IsTrue}
 use Rattle.std.specs.List.{list_all}
-use Rattle.spv_names.specs.declared.names.Symbol.{Symbol}
+use Rattle.spv_logic.specs.declared.names.names.Symbol.{Symbol}
 use Rattle.spv_logic.specs.Conditions.{Meaning}
 use Rattle.spv_term.specs.declared.nodes.Condition.{Condition}
 use Rattle.spv_term.specs.Arena.{Arena, IsArena}
 use Rattle.spv_program.specs.Typing.{well_typed}
-use Rattle.spv_frame_walk.specs.FrameWalk.{frame_fault}
+use Rattle.spv_effects.specs.frame_walk.FrameWalk.{frame_fault}
 use Rattle.spv_program.specs.Programs.{Program, shapes}
 use Rattle.spv_meaning.specs.ProgramConditions as program
 use Rattle.spv_meaning.specs.Correct.{Correct}
-use Rattle.spv_control.specs.Blocks.{only_control}
+use Rattle.spv_rule_soundness.specs.control.Blocks.{only_control}
 use Rattle.spv_assign.specs.Conditions.{conditions_of, AreIn}
-use Rattle.spv_events.specs.declared.faults.GenFault.{GenFault}
-use Rattle.spv_events.specs.declared.faults.GenFault.TheVariants as limit
-use Rattle.spv_events.specs.Events.{Walked}
+use Rattle.spv_assign.specs.declared.creation_trace.faults.GenFault.{GenFault}
+use Rattle.spv_assign.specs.declared.creation_trace.faults.GenFault.TheVariants as limit
+use Rattle.spv_assign.specs.creation_trace.Events.{Walked}
 use Rattle.spv_conditions.specs.Making.{main_events, empty_arena, MeetsLimit, IsWithinLimits}
 use Rattle.spv_verdicts.specs.Verdicts.{Limits}
-use Rattle.spv_decided.specs.declared.verdicts.Decided.{Decided}
-use Rattle.spv_decided.specs.declared.verdicts.Verdict.{Verdict}
-use Rattle.spv_decided.specs.declared.verdicts.Verdict.TheVariants.{Proved, Unproved, GaveUp}
-use Rattle.spv_decided.specs.Views.{IsDecided}
-use Rattle.spv_taken.specs.Taken.{is_taken}
+use Rattle.spv_verdicts.specs.declared.answers.verdicts.Decided.{Decided}
+use Rattle.spv_verdicts.specs.declared.answers.verdicts.Verdict.{Verdict}
+use Rattle.spv_verdicts.specs.declared.answers.verdicts.Verdict.TheVariants.{Proved, Unproved, GaveUp}
+use Rattle.spv_verdicts.specs.answers.Views.{IsDecided}
+use Rattle.spv_reports.specs.supported.Taken.{is_taken}
 use Rattle.spv_reports.specs.declared.mode.Mode.{Mode}
 use Rattle.spv_reports.specs.declared.mode.Mode.TheVariants.{Verify, Conditions}
 use Rattle.spv_reports.specs.declared.fault.ReportFault.{ReportFault}

@@ -1,10 +1,10 @@
 // Why there is no report of a program.
 
 ghost use Rattle.std.specs.Prelude.{◌≡◌};
-ghost use Rattle.spv_events.specs.declared.faults.GenFault.TheVariants.{Memory};
+ghost use Rattle.spv_assign.specs.declared.creation_trace.faults.GenFault.TheVariants.{Memory};
 ghost use Rattle.spv_reports.specs.declared.fault.ReportFault.TheVariants.{Stopped};
 
-use spv_events::GenFault;
+use spv_assign::creation_trace::GenFault;
 use std::alloc::AllocError;
 use thiserror::Error;
 

@@ -5,11 +5,12 @@ mod fault;
 mod limits;
 mod mode;
 mod report;
+pub mod supported;
 mod verdicts;
 
 pub use fault::ReportFault;
 pub use limits::default_limits;
 pub use mode::Mode;
 pub use report::{Report, law_report};
-pub use spv_decided::{Decided, Limit, Limits, Unproved, Verdict, Wide};
+pub use spv_verdicts::answers::{Decided, Limit, Limits, Unproved, Verdict, Wide};
 pub use verdicts::{all_proved, is_proved, is_unproved, none_unproved};

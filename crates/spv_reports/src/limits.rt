@@ -3,7 +3,7 @@
 ghost use Rattle.std.specs.Prelude.{◌≡◌};
 ghost use Rattle.spv_reports.specs.Reports as spec;
 
-use spv_decided::Limits;
+use spv_verdicts::answers::Limits;
 
 /// The limits of a search where none are given: 20000 splits, and 5000 steps in each check of the tableau.
 pub fn default_limits() -> Limits

@@ -1,6 +1,6 @@
 // What a report is for.
 
-use spv_decided::Limits;
+use spv_verdicts::answers::Limits;
 
 /// What a report is for.
 #[derive(Debug, Drop)]

@@ -5,10 +5,10 @@ ghost use Rattle.spv_logic.specs.Conditions.{Meaning};
 ghost use Rattle.spv_reports.specs.Reports.{findings, IsReport, ProvedIsCorrectIn};
 
 use crate::mode::Mode;
-use spv_decided::Decided;
-use spv_list::List;
-use spv_names::{Names, Symbol};
+use spv_logic::list::List;
+use spv_logic::names::{Names, Symbol};
 use spv_term::{Condition, Terms, World};
+use spv_verdicts::answers::Decided;
 use std::marker::Model;
 
 /// What was found out about a program: its verification conditions, and where verdicts were wanted what was decided of each. That there

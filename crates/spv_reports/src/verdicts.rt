@@ -3,7 +3,7 @@
 ghost use Rattle.std.specs.Prelude.{◌≡◌};
 ghost use Rattle.spv_reports.specs.Reports as spec;
 
-use spv_decided::{Decided, Verdict};
+use spv_verdicts::answers::{Decided, Verdict};
 
 /// Whether a verdict is Proved.
 pub fn is_proved(verdict: &Verdict) -> bool

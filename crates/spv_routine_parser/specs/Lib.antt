@@ -1,1 +1,2 @@
+pub mod type_parser
 pub mod RoutineParts

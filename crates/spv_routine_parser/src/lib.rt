@@ -2,3 +2,4 @@
 #![tactic(auto)]
 
 pub mod routines;
+pub mod type_parser;

@@ -1,26 +1,28 @@
 // Routines: headings, clauses, and where routines begin.
 
 ghost use Rattle.std.specs.Prelude.{◌≡◌, Some, None, IfOk, IsErrAnd};
-ghost use Rattle.spv_tokens.specs.declared.token.TokenKind.TheVariants as kind;
-ghost use Rattle.spv_tokens.specs.declared.token.Word.TheVariants as word;
-ghost use Rattle.spv_tokens.specs.declared.token.Sign.TheVariants as sign;
-ghost use Rattle.spv_reading.specs.Readers as reader;
-ghost use Rattle.spv_reading.specs.RoutineReaders as routine;
-ghost use Rattle.spv_reading.specs.Readers.{Stop, Read, Halted};
-ghost use Rattle.spv_front.specs.Faults.{IsStop};
+ghost use Rattle.spv_tree.specs.declared.tokens.token.TokenKind.TheVariants as kind;
+ghost use Rattle.spv_tree.specs.declared.tokens.token.Word.TheVariants as word;
+ghost use Rattle.spv_tree.specs.declared.tokens.token.Sign.TheVariants as sign;
+ghost use Rattle.spv_grammar.specs.reading.Readers as reader;
+ghost use Rattle.spv_grammar.specs.reading.RoutineReaders as routine;
+ghost use Rattle.spv_grammar.specs.reading.Readers.{Stop, Read, Halted};
+ghost use Rattle.spv_formula_parser.specs.primitives.Faults.{IsStop};
 ghost use Rattle.spv_routine_parser.specs.RoutineParts.{read_initial};
 
+use crate::type_parser::declarations::{DeclarationReader, name_or_class};
+use crate::type_parser::types::names;
 use spv_formula_parser::formulas::formula;
-use spv_front::fault::{Fault, unexpected};
-use spv_front::front::{after, first_line, front, is_sign, is_word, name, past_sign};
-use spv_front::lists::{PartReader, headed, several};
-use spv_syntax::{
+use spv_formula_parser::primitives::fault::{Fault, unexpected};
+use spv_formula_parser::primitives::front::{
+    after, first_line, front, is_sign, is_word, name, past_sign,
+};
+use spv_formula_parser::primitives::lists::{PartReader, headed, several};
+use spv_tree::syntax::{
     Clauses, Const, Formula, GlobalGroup, Group, GroupForm, Heading, HeadingForm, Item, Locals,
     Name, Params, RoutineMark, Several, Start, Vars,
 };
-use spv_tokens::{Sign, Token, TokenKind, Word};
-use spv_type_parser::declarations::{DeclarationReader, name_or_class};
-use spv_type_parser::types::names;
+use spv_tree::tokens::{Sign, Token, TokenKind, Word};
 use std::alloc::Global;
 
 // ":" name

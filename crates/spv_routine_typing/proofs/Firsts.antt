@@ -1,18 +1,18 @@
 -- First headings, and what comes behind them.
 use Rattle.std.proofs.Common.{◌≡◌, true, false, List, [], ◌∷◌, ◌++◌, None, Ok, Err, sym, ap, subst, ◌∙◌}
-use Rattle.spv_list.proofs.Tests.{left_true}
-use Rattle.spv_names.specs.declared.names.Symbol.{Symbol}
-use Rattle.spv_syntax.specs.declared.routines.Heading.{Heading as HeadingText}
-use Rattle.spv_syntax.specs.declared.routines.Clauses.{Clauses}
-use Rattle.spv_syntax.specs.declared.routines.Locals.{Locals}
+use Rattle.spv_logic.proofs.list.Tests.{left_true}
+use Rattle.spv_logic.specs.declared.names.names.Symbol.{Symbol}
+use Rattle.spv_tree.specs.declared.syntax.routines.Heading.{Heading as HeadingText}
+use Rattle.spv_tree.specs.declared.syntax.routines.Clauses.{Clauses}
+use Rattle.spv_tree.specs.declared.syntax.routines.Locals.{Locals}
 use Rattle.spv_typing.specs.declared.faults.TypeFault.{TypeFault}
 use Rattle.spv_typing.specs.Outcomes.{Outcome, after, where_so, twice}
 use Rattle.spv_typing.specs.Known as known
 use Rattle.spv_typing.specs.RoutineWalk.{Headed, heading_name, form_walk, with_heading}
 use Rattle.spv_typing.specs.ProgramWalk.{Progress, announce, begin_first, begun_of, first_heading, number_of, with_awaited}
-use Rattle.spv_scopes.specs.declared.routines.Heading.{Heading}
-use Rattle.spv_scopes.specs.Answers.{Stops}
-use Rattle.spv_scopes.specs.Views.{heading_of}
+use Rattle.spv_environments.specs.declared.routines.Heading.{Heading}
+use Rattle.spv_environments.specs.Answers.{Stops}
+use Rattle.spv_environments.specs.Views.{heading_of}
 
 pub free_alone : (k : known.Known) (x : Symbol) → known.is_free_for_call k x ≡ true → known.is_free k x ≡ true
 free_alone k x h = left_true (known.is_free k x) _ h

@@ -1,15 +1,15 @@
 -- The names of a routine whose heading came before its body.
 use Rattle.std.proofs.Common.{◌≡◌, List, [], ◌∷◌, ◌++◌, map, None, refl, ap, ◌∙◌}
 use Rattle.std.proofs.lemmas.List.{map-append, append_assoc}
-use Rattle.spv_names.specs.declared.names.Symbol.{Symbol}
+use Rattle.spv_logic.specs.declared.names.names.Symbol.{Symbol}
 use Rattle.spv_program.specs.declared.types.Item.{Item}
-use Rattle.spv_typed.specs.declared.programs.Formal.{Formal}
-use Rattle.spv_typed.specs.ProgramViews.{formal_of}
+use Rattle.spv_program.specs.declared.typed.programs.Formal.{Formal}
+use Rattle.spv_program.specs.typed.ProgramViews.{formal_of}
 use Rattle.spv_typing.specs.Known.{Known, Names, OfPlace, OfStart, named}
 use Rattle.spv_typing.specs.RoutineWalk.{in_routine, item_sort}
-use Rattle.spv_scopes.specs.declared.scopes.Own.{Own}
-use Rattle.spv_scopes.specs.declared.routines.Specified.{Specified}
-use Rattle.spv_scopes.specs.Scopes.{own_of}
+use Rattle.spv_environments.specs.declared.scopes.Own.{Own}
+use Rattle.spv_environments.specs.declared.routines.Specified.{Specified}
+use Rattle.spv_environments.specs.Scopes.{own_of}
 use Rattle.spv_routine_typing.specs.Again.{own_of_formal, own_of_start, names_again}
 
 named_parameters : (formals : List Formal) → named own_of (map own_of_formal formals) ≡ map (λ f. (f.name, OfPlace f.of)) (map formal_of formals)

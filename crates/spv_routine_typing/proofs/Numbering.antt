@@ -2,15 +2,15 @@
 use Rattle.std.proofs.Common.{◌≡◌, ◌<◌, ◌+◌, ℕ, suc, Bool, true, false, cond, List, [], ◌∷◌, ◌++◌, length, Option, Some, None, is_some, option_map, refl, sym, ap, subst, ◌∙◌, arith}
 use Rattle.std.proofs.lemmas.Bool.{eqb-true}
 use Rattle.std.proofs.lemmas.List.{append_assoc}
-use Rattle.spv_names.specs.declared.names.Symbol.{Symbol}
-use Rattle.spv_syntax.specs.declared.routines.Heading.{Heading}
-use Rattle.spv_syntax.specs.declared.routines.Clauses.{Clauses}
-use Rattle.spv_syntax.specs.declared.routines.Locals.{Locals}
-use Rattle.spv_syntax.specs.declared.routines.RoutineMark.{RoutineMark}
-use Rattle.spv_syntax.specs.declared.routines.RoutineMark.TheVariants.{Announced, Begins, Ends}
-use Rattle.spv_syntax.specs.Statements as tree
+use Rattle.spv_logic.specs.declared.names.names.Symbol.{Symbol}
+use Rattle.spv_tree.specs.declared.syntax.routines.Heading.{Heading}
+use Rattle.spv_tree.specs.declared.syntax.routines.Clauses.{Clauses}
+use Rattle.spv_tree.specs.declared.syntax.routines.Locals.{Locals}
+use Rattle.spv_tree.specs.declared.syntax.routines.RoutineMark.{RoutineMark}
+use Rattle.spv_tree.specs.declared.syntax.routines.RoutineMark.TheVariants.{Announced, Begins, Ends}
+use Rattle.spv_tree.specs.syntax.Statements as tree
 use Rattle.spv_program.specs.Lists.{same_name, found, first_of}
-use Rattle.spv_named.proofs.Lookups.{nat_eq_turned}
+use Rattle.spv_program.proofs.ordered_map.Lookups.{nat_eq_turned}
 use Rattle.spv_typing.specs.Merging.{first_where}
 use Rattle.spv_typing.specs.RoutineWalk.{heading_name}
 use Rattle.spv_typing.specs.ProgramWalk.{names_of_bodies}

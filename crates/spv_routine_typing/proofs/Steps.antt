@@ -1,19 +1,19 @@
 -- Steps along a row of routines.
 use Rattle.std.proofs.Common.{◌≡◌, true, false, List, Option, Some, None, Ok, Err, is_some, refl, sym, ap, subst, ◌∙◌}
 use Rattle.std.proofs.lemmas.Bool.{false≢true, true≢false}
-use Rattle.spv_names.specs.declared.names.Symbol.{Symbol}
-use Rattle.spv_syntax.specs.declared.routines.Heading.{Heading}
-use Rattle.spv_syntax.specs.declared.routines.Clauses.{Clauses}
-use Rattle.spv_syntax.specs.declared.routines.Locals.{Locals}
+use Rattle.spv_logic.specs.declared.names.names.Symbol.{Symbol}
+use Rattle.spv_tree.specs.declared.syntax.routines.Heading.{Heading}
+use Rattle.spv_tree.specs.declared.syntax.routines.Clauses.{Clauses}
+use Rattle.spv_tree.specs.declared.syntax.routines.Locals.{Locals}
 use Rattle.spv_typing.specs.declared.faults.TypeFault.{TypeFault}
 use Rattle.spv_typing.specs.declared.faults.TypeFault.TheVariants.{Memory}
 use Rattle.spv_typing.specs.Outcomes.{Outcome, after}
 use Rattle.spv_typing.specs.Known.{Known, Specified}
 use Rattle.spv_typing.specs.RoutineWalk.{Headed, Local, locals_walk}
-use Rattle.spv_syntax.specs.declared.routines.RoutineMark.TheVariants.{Announced, Begins}
+use Rattle.spv_tree.specs.declared.syntax.routines.RoutineMark.TheVariants.{Announced, Begins}
 use Rattle.spv_typing.specs.RoutineWalk.{heading_name}
 use Rattle.spv_typing.specs.ProgramWalk.{Progress, announce, awaited_of, begin, begun_of, mark_walk, twice_at}
-use Rattle.spv_scopes.specs.Answers.{Stops}
+use Rattle.spv_environments.specs.Answers.{Stops}
 use Rattle.spv_routine_typing.specs.declared.begun.Begun.{Begun}
 use Rattle.spv_routine_typing.specs.Row.{progress_at}
 

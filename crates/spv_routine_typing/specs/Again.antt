@@ -1,20 +1,20 @@
 -- Routines whose headings came before their bodies.
 use Rattle.std.specs.Prelude.{◌&&◌, List, ◌++◌, map, None}
-use Rattle.spv_names.specs.declared.names.Symbol.{Symbol}
-use Rattle.spv_syntax.specs.declared.routines.Heading.{Heading as HeadingText}
-use Rattle.spv_syntax.specs.declared.routines.Clauses.{Clauses}
-use Rattle.spv_syntax.specs.declared.routines.Locals.{Locals}
+use Rattle.spv_logic.specs.declared.names.names.Symbol.{Symbol}
+use Rattle.spv_tree.specs.declared.syntax.routines.Heading.{Heading as HeadingText}
+use Rattle.spv_tree.specs.declared.syntax.routines.Clauses.{Clauses}
+use Rattle.spv_tree.specs.declared.syntax.routines.Locals.{Locals}
 use Rattle.spv_program.specs.declared.types.Item.{Item}
-use Rattle.spv_typed.specs.declared.programs.Formal.{Formal}
-use Rattle.spv_typed.specs.ProgramViews.{formal_of}
+use Rattle.spv_program.specs.declared.typed.programs.Formal.{Formal}
+use Rattle.spv_program.specs.typed.ProgramViews.{formal_of}
 use Rattle.spv_typing.specs.Outcomes.{Outcome, where_so}
 use Rattle.spv_typing.specs.Known as known
 use Rattle.spv_typing.specs.RoutineWalk as spec
 use Rattle.spv_typing.specs.ProgramWalk as walk
-use Rattle.spv_scopes.specs.declared.scopes.Own.{Own}
-use Rattle.spv_scopes.specs.declared.scopes.Own.TheVariants as own
-use Rattle.spv_scopes.specs.Scopes.{own_of}
-use Rattle.spv_scopes.specs.declared.routines.Specified.{Specified}
+use Rattle.spv_environments.specs.declared.scopes.Own.{Own}
+use Rattle.spv_environments.specs.declared.scopes.Own.TheVariants as own
+use Rattle.spv_environments.specs.Scopes.{own_of}
+use Rattle.spv_environments.specs.declared.routines.Specified.{Specified}
 
 -- what a parameter stands for in its routine
 abbrev pub own_of_formal : Formal → Symbol × Own

@@ -1,17 +1,17 @@
 -- What the code's steps along a row of routines are in the definition of the walk.
 use Rattle.std.specs.Prelude.{List, [], Option, None, Ok, option_map}
-use Rattle.spv_names.specs.declared.names.Symbol.{Symbol}
-use Rattle.spv_syntax.specs.declared.routines.RoutineMark.{RoutineMark}
+use Rattle.spv_logic.specs.declared.names.names.Symbol.{Symbol}
+use Rattle.spv_tree.specs.declared.syntax.routines.RoutineMark.{RoutineMark}
 use Rattle.spv_typing.specs.Outcomes.{Outcome, after, each}
 use Rattle.spv_typing.specs.Known.{Known, named}
 use Rattle.spv_typing.specs.RoutineWalk as spec
 use Rattle.spv_typing.specs.ProgramWalk as walk
 use Rattle.spv_typing.specs.StatementWalk.{Setting}
-use Rattle.spv_scopes.specs.declared.scopes.Own.{Own}
-use Rattle.spv_scopes.specs.declared.routines.Heading.{Heading}
-use Rattle.spv_scopes.specs.declared.routines.Specified.{Specified}
-use Rattle.spv_scopes.specs.Scopes.{own_of}
-use Rattle.spv_scopes.specs.Views.{heading_of, specified_of}
+use Rattle.spv_environments.specs.declared.scopes.Own.{Own}
+use Rattle.spv_environments.specs.declared.routines.Heading.{Heading}
+use Rattle.spv_environments.specs.declared.routines.Specified.{Specified}
+use Rattle.spv_environments.specs.Scopes.{own_of}
+use Rattle.spv_environments.specs.Views.{heading_of, specified_of}
 use Rattle.spv_local_typing.specs.Locals.{local_of}
 use Rattle.spv_routine_typing.specs.declared.begun.Begun.{Begun}
 

@@ -6,17 +6,17 @@ ghost use Rattle.spv_typing.specs.Known.{named};
 ghost use Rattle.spv_typing.specs.RoutineWalk as spec;
 ghost use Rattle.spv_typing.specs.Known as known;
 ghost use Rattle.spv_typing.specs.ProgramWalk as walk;
-ghost use Rattle.spv_scopes.specs.Scopes.{own_of, scope_of};
+ghost use Rattle.spv_environments.specs.Scopes.{own_of, scope_of};
 ghost use Rattle.spv_routine_typing.specs.Again.{own_of_formal, own_of_start, names_again};
 
-use spv_list::List;
+use spv_environments::{Known, Meaning, Own, Scope, Specified};
 use spv_logic::Sort;
-use spv_named::Named;
-use spv_names::Symbol;
+use spv_logic::list::List;
+use spv_logic::names::Symbol;
 use spv_program::Item;
-use spv_scopes::{Known, Meaning, Own, Scope, Specified};
-use spv_syntax::{Clauses, HeadingForm};
-use spv_typed::Formal;
+use spv_program::ordered_map::Named;
+use spv_program::typed::Formal;
+use spv_tree::syntax::{Clauses, HeadingForm};
 use spv_typing::TypeFault;
 use std::alloc::Global;
 

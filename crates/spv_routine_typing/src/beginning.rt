@@ -1,13 +1,13 @@
 // Routines that are announced, and bodies that begin.
 
 ghost use Rattle.std.specs.Prelude.{◌≡◌, true, None, Some, IfOk, IfErr, Ok, OnOk, map};
-ghost use Rattle.spv_names.specs.declared.names.Symbol.{Symbol as Plain};
-ghost use Rattle.spv_typed.specs.ProgramViews.{global_of};
+ghost use Rattle.spv_logic.specs.declared.names.names.Symbol.{Symbol as Plain};
+ghost use Rattle.spv_program.specs.typed.ProgramViews.{global_of};
 ghost use Rattle.spv_typing.specs.Known.{is_free};
 ghost use Rattle.spv_typing.specs.RoutineWalk as spec;
 ghost use Rattle.spv_typing.specs.ProgramWalk as walk;
-ghost use Rattle.spv_scopes.specs.Answers.{Stops};
-ghost use Rattle.spv_scopes.specs.Views.{specified_of};
+ghost use Rattle.spv_environments.specs.Answers.{Stops};
+ghost use Rattle.spv_environments.specs.Views.{specified_of};
 ghost use Rattle.spv_heading_typing.specs.Names.{has};
 ghost use Rattle.spv_heading_typing.specs.Headings.{headed_of, IsListed};
 ghost use Rattle.spv_routine_typing.specs.Again.{begin_again};
@@ -17,12 +17,12 @@ use crate::again::{heading_names, is_bare, is_bare_form};
 use crate::begun::Begun;
 use crate::listed::listed;
 use crate::numbers::{Bodies, heading_name};
+use spv_environments::{Known, Own, Specified};
 use spv_heading_typing::{Headed, heading};
 use spv_local_typing::locals;
-use spv_named::Named;
-use spv_names::Symbol;
-use spv_scopes::{Known, Own, Specified};
-use spv_syntax::{Clauses, Heading, Locals};
+use spv_logic::names::Symbol;
+use spv_program::ordered_map::Named;
+use spv_tree::syntax::{Clauses, Heading, Locals};
 use spv_typing::TypeFault;
 use std::alloc::Global;
 

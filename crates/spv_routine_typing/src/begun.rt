@@ -1,8 +1,8 @@
 // Routines whose bodies have begun.
 
+use spv_environments::Specified;
 use spv_local_typing::Local;
-use spv_names::Symbol;
-use spv_scopes::Specified;
+use spv_logic::names::Symbol;
 
 /// A routine whose body has begun and has not ended.
 #[derive(Drop)]

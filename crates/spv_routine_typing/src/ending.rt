@@ -1,23 +1,23 @@
 // Bodies that end.
 
 ghost use Rattle.std.specs.Prelude.{◌≡◌, Some, IfOk, IfErr, Ok, OnOk};
-ghost use Rattle.spv_typed.specs.ProgramViews.{routine_of};
+ghost use Rattle.spv_program.specs.typed.ProgramViews.{routine_of};
 ghost use Rattle.spv_typing.specs.RoutineWalk.{with_body};
 ghost use Rattle.spv_typing.specs.StatementWalk.{block_walk};
 ghost use Rattle.spv_typing.specs.ProgramWalk as walk;
-ghost use Rattle.spv_scopes.specs.Answers.{Stops};
-ghost use Rattle.spv_scopes.specs.Views.{specified_of};
+ghost use Rattle.spv_environments.specs.Answers.{Stops};
+ghost use Rattle.spv_environments.specs.Views.{specified_of};
 ghost use Rattle.spv_routine_typing.specs.Row.{begun_in, outside_at, setting_in};
 
 use crate::begun::Begun;
-use spv_list::List;
+use spv_environments::{Heading, Known, Own, Scope, Specified};
 use spv_logic::TypeId;
-use spv_named::Named;
-use spv_names::Symbol;
-use spv_scopes::{Heading, Known, Own, Scope, Specified};
+use spv_logic::list::List;
+use spv_logic::names::Symbol;
+use spv_program::ordered_map::Named;
+use spv_program::typed::{Routine, Statement};
 use spv_statement_typing::{Setting, block};
-use spv_syntax::Block;
-use spv_typed::{Routine, Statement};
+use spv_tree::syntax::Block;
 use spv_typing::TypeFault;
 use std::alloc::Global;
 

@@ -1,17 +1,17 @@
 // The variables of a GLOBAL list as a table.
 
 ghost use Rattle.std.specs.Prelude.{◌≡◌, ◌||◌, map, IfOk};
-ghost use Rattle.spv_names.specs.declared.names.Symbol.{Symbol as Plain};
+ghost use Rattle.spv_logic.specs.declared.names.names.Symbol.{Symbol as Plain};
 ghost use Rattle.spv_program.specs.declared.types.Item.TheVariants.{Variable};
 ghost use Rattle.spv_program.specs.Uses.{same_item};
-ghost use Rattle.spv_typed.specs.ProgramViews.{global_of};
+ghost use Rattle.spv_program.specs.typed.ProgramViews.{global_of};
 ghost use Rattle.spv_typing.specs.RoutineWalk.{is_listed};
 ghost use Rattle.spv_heading_typing.specs.Names.{has};
 
-use spv_list::List;
-use spv_named::Named;
+use spv_logic::list::List;
 use spv_program::Item;
-use spv_typed::GlobalItem;
+use spv_program::ordered_map::Named;
+use spv_program::typed::GlobalItem;
 use std::alloc::{AllocError, Global};
 
 // One item more.

@@ -2,16 +2,16 @@
 
 ghost use Rattle.std.specs.Prelude.{◌≡◌, [], ◌∷◌, ◌++◌, IfErr, IfOk};
 ghost use Rattle.spv_typing.specs.declared.faults.TypeFault.TheVariants.{Memory};
-ghost use Rattle.spv_syntax.specs.declared.routines.RoutineMark.{RoutineMark as Mark};
+ghost use Rattle.spv_tree.specs.declared.syntax.routines.RoutineMark.{RoutineMark as Mark};
 ghost use Rattle.spv_typing.specs.RoutineWalk as routine;
 ghost use Rattle.spv_typing.specs.ProgramWalk as spec;
 ghost use Rattle.spv_routine_typing.specs.Numbers.{with_number};
 
-use spv_list::List;
 use spv_logic::RoutineId;
-use spv_named::Named;
-use spv_names::Symbol;
-use spv_syntax::{HeadingForm, Name, RoutineMark};
+use spv_logic::list::List;
+use spv_logic::names::Symbol;
+use spv_program::ordered_map::Named;
+use spv_tree::syntax::{HeadingForm, Name, RoutineMark};
 use spv_typing::TypeFault;
 use std::alloc::{AllocError, Global};
 use std::marker::Model;
@@ -25,7 +25,7 @@ pub struct Bodies {
 
 impl Model for Bodies {
     ghost use Rattle.std.specs.Prelude.{List};
-    ghost use Rattle.spv_names.specs.declared.names.Symbol.{Symbol as Plain};
+    ghost use Rattle.spv_logic.specs.declared.names.names.Symbol.{Symbol as Plain};
     ghost use Rattle.spv_routine_typing.specs.Numbers.{IsNumbered};
 
     ghost Value = { List Plain };

@@ -1,20 +1,20 @@
 // The walk along a row of routines.
 
 ghost use Rattle.std.specs.Prelude.{◌≡◌, None, Some, IfOk, IfErr, Ok, OnOk, option_map};
-ghost use Rattle.spv_syntax.specs.declared.routines.RoutineMark.TheVariants.{Announced, Begins, Ends};
+ghost use Rattle.spv_tree.specs.declared.syntax.routines.RoutineMark.TheVariants.{Announced, Begins, Ends};
 ghost use Rattle.spv_typing.specs.Known.{Known as KnownText};
 ghost use Rattle.spv_typing.specs.Outcomes.{Outcome};
 ghost use Rattle.spv_typing.specs.RoutineWalk as spec;
 ghost use Rattle.spv_typing.specs.ProgramWalk as walk;
-ghost use Rattle.spv_scopes.specs.Answers.{Stops};
+ghost use Rattle.spv_environments.specs.Answers.{Stops};
 ghost use Rattle.spv_routine_typing.specs.Row.{along_walk, begun_in, outside_at, progress_at};
 
 use crate::beginning::{announce_first, begin_announced, begin_first};
 use crate::begun::Begun;
 use crate::ending::end_body;
 use crate::numbers::{Bodies, heading_name};
-use spv_scopes::Known;
-use spv_syntax::{Block, Clauses, Heading, Locals, RoutineMark};
+use spv_environments::Known;
+use spv_tree::syntax::{Block, Clauses, Heading, Locals, RoutineMark};
 use spv_typing::TypeFault;
 use std::alloc::Global;
 

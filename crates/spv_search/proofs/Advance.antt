@@ -12,21 +12,21 @@ use Rattle.spv_term.proofs.TreeLemmas.{AllBelow-at}
 use Rattle.spv_term.proofs.ArenaLemmas.{HasOneId-arena}
 use Rattle.spv_atoms.proofs.Members.{or_left}
 use Rattle.spv_congruence.specs.Keep.{IsNode}
-use Rattle.spv_proof.specs.Stand.{question}
+use Rattle.spv_proof_rules.specs.Stand.{question}
 use Rattle.spv_verdicts.specs.Verdicts.{Limits}
-use Rattle.spv_course.specs.Course.{literal, PartFits}
-use Rattle.spv_leaf_tables.specs.Subterms.{is_among}
-use Rattle.spv_split_trees.specs.Paths.{atoms}
+use Rattle.spv_derivations.specs.derivation.Derivation.{literal, PartFits}
+use Rattle.spv_models.specs.leaf_models.Subterms.{is_among}
+use Rattle.spv_models.specs.split_trees.Paths.{atoms}
 use Rattle.spv_share.specs.Both.{Stays}
-use Rattle.spv_branches.specs.declared.cases.Case.{Case}
-use Rattle.spv_branches.specs.Growth.{Growth, atom_in, case_in, CaseIn, CasesIn, branch_of, next}
-use Rattle.spv_branches.proofs.Telling.{last-in}
-use Rattle.spv_told_states.proofs.Saying.{from_found}
-use Rattle.spv_told_facts.specs.declared.ending.End.{End}
-use Rattle.spv_told_paths.specs.declared.path.Ground.{Ground}
-use Rattle.spv_told_paths.specs.declared.path.ToldPath.{ToldPath}
-use Rattle.spv_told_paths.specs.declared.marks.PathMark.{PathMark}
-use Rattle.spv_told_paths.specs.Paths.{GoesOn, HasMark, IsEarlier, IsMark, IsSplitAtom, IsToldOrEnded, IsToldPath, WasToldWith}
+use Rattle.spv_search.specs.declared.branches.cases.Case.{Case}
+use Rattle.spv_search.specs.branches.Growth.{Growth, atom_in, case_in, CaseIn, CasesIn, branch_of, next}
+use Rattle.spv_search.proofs.branches.Telling.{last-in}
+use Rattle.spv_trail.proofs.trail_states.RowConstraint.{from_found}
+use Rattle.spv_trail.specs.declared.propagation.ending.End.{End}
+use Rattle.spv_trail.specs.declared.backtracking.path.Ground.{Ground}
+use Rattle.spv_trail.specs.declared.backtracking.path.BranchTrail.{BranchTrail}
+use Rattle.spv_trail.specs.declared.backtracking.marks.TrailMark.{TrailMark}
+use Rattle.spv_trail.specs.backtracking.Paths.{GoesOn, HasMark, IsEarlier, IsMark, IsSplitAtom, IsToldOrEnded, IsBranchTrail, WasToldWith}
 use Rattle.spv_search.specs.Searching.{formulas_in, HasLast, IsArrived, IsRunning}
 use Rattle.spv_search.proofs.Branching.{next_was_split, split_case}
 use Rattle.spv_search.proofs.Lists.{take_all}
@@ -63,22 +63,22 @@ last_at cs l seen d e =
 
 -- ---- going back
 
-module _ (a : Arena) (c : Condition) (ids : List TermId) (g : Ground) (limits : Limits) (p now : ToldPath) (s : Growth) (ms : List PathMark) (h : IsRunning a c ids g limits p s ms) (comes : s.is_left ≡ true)
-    (place : ℕ) (m : PathMark) (last : place + 1 ≡ length s.cases) (at : slice_get ms place ≡ Some m) where
+module _ (a : Arena) (c : Condition) (ids : List TermId) (g : Ground) (limits : Limits) (p now : BranchTrail) (s : Growth) (ms : List TrailMark) (h : IsRunning a c ids g limits p s ms) (comes : s.is_left ≡ true)
+    (place : ℕ) (m : TrailMark) (last : place + 1 ≡ length s.cases) (at : slice_get ms place ≡ Some m) where
   the_mark : IsMark a c (formulas_in a (take place s.cases)) p m
   the_mark = (h.marks comes).each place m (omega (arith, last)) at
 
   pub has_mark : HasMark a c p m
   has_mark = record { cases = formulas_in a (take place s.cases); mark = the_mark }
 
-  pub before : ((cases : List Term) → IsMark a c cases p m → IsToldPath a c cases now) → Stays p.both now.both → ((cases : List Term) (n : PathMark) → IsMark a c cases p n → IsEarlier n m → IsMark a c cases now n)
+  pub before : ((cases : List Term) → IsMark a c cases p m → IsBranchTrail a c cases now) → Stays p.both now.both → ((cases : List Term) (n : TrailMark) → IsMark a c cases p n → IsEarlier n m → IsMark a c cases now n)
       → IsBefore a c ids g limits now s ms
   before told stays marks = record {
     set_up = set_stays a c ids g limits p.both now.both stays h.set_up;
     within = h.within;
     comes = comes;
     cases_are = h.comes comes;
-    path = subst (λ (cs : List Case). IsToldPath a c (formulas_in a cs) now) (front_is s.cases (h.comes comes) place last) (told (formulas_in a (take place s.cases)) the_mark);
+    path = subst (λ (cs : List Case). IsBranchTrail a c (formulas_in a cs) now) (front_is s.cases (h.comes comes) place last) (told (formulas_in a (take place s.cases)) the_mark);
     marks = record {
       many = (h.marks comes).many;
       each = λ i n below there. marks (formulas_in a (take i s.cases)) n ((h.marks comes).each i n below there) ((h.marks comes).rising i place n m (omega (arith, last, below)) (omega (arith, last)) there at);
@@ -95,7 +95,7 @@ last_above at cs l =
     ∙ (ap (λ (ts : List Term). is_among ts (at l.last.atom)) (reverse-append (map (atom_in at) l.front) (at l.last.atom ∷ []))
     ∙ or_left (term_eq (at l.last.atom) (at l.last.atom)) (is_among (reverse (map (atom_in at) l.front)) (at l.last.atom)) (term_eq-refl (at l.last.atom)))
 
-module _ (a : Arena) (ok : IsArena a) (c : Condition) (ids : List TermId) (g : Ground) (limits : Limits) (p : ToldPath) (s : Growth) (ms : List PathMark) (h : IsBefore a c ids g limits p s ms) where
+module _ (a : Arena) (ok : IsArena a) (c : Condition) (ids : List TermId) (g : Ground) (limits : Limits) (p : BranchTrail) (s : Growth) (ms : List TrailMark) (h : IsBefore a c ids g limits p s ms) where
   abbrev pub last_case : Case
   last_case = h.cases_are.last
 
@@ -135,8 +135,8 @@ module _ (a : Arena) (ok : IsArena a) (c : Condition) (ids : List TermId) (g : G
     pub fits_at : PartFits a x.atom x.part
     fits_at = subst (λ (y : Case). PartFits a y.atom y.part) (sym same) last_fits.fits
 
-    pub arrived : (now : ToldPath) (why : ℕ) (o : Option End) → why ≡ length s.cases → GoesOn a p now
-        → ((cases : List Term) → IsToldPath a c cases p → why ≡ length cases + 1 → IsToldOrEnded a c (cases ++ literal (tree a x.atom) x.part ∷ []) now o) → IsArrived a c ids g limits now s ms o
+    pub arrived : (now : BranchTrail) (why : ℕ) (o : Option End) → why ≡ length s.cases → GoesOn a p now
+        → ((cases : List Term) → IsBranchTrail a c cases p → why ≡ length cases + 1 → IsToldOrEnded a c (cases ++ literal (tree a x.atom) x.part ∷ []) now o) → IsArrived a c ids g limits now s ms o
     arrived now why o e goes told = record {
       set_up = set_stays a c ids g limits p.both now.both goes.both.stays h.set_up;
       within = h.within;

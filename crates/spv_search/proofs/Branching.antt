@@ -7,14 +7,14 @@ use Rattle.spv_logic.specs.declared.conditions.TermId.{TermId}
 use Rattle.spv_logic.specs.Terms.{Term, term_eq}
 use Rattle.spv_logic.proofs.Equality.{term_eq-true, term_eq-refl}
 use Rattle.spv_atoms.proofs.Members.{or_cases, or_left, or_right, has-left, has-last}
-use Rattle.spv_proof.specs.Effects.{Question}
-use Rattle.spv_proof.specs.Accepted.{cases_of}
-use Rattle.spv_leaf_tables.specs.Subterms.{is_among}
-use Rattle.spv_split_trees.specs.Paths.{atoms}
-use Rattle.spv_decided.specs.declared.growing.Grown.{Grown}
-use Rattle.spv_decided.specs.declared.growing.Grown.TheVariants as grown
-use Rattle.spv_branches.specs.Branches.{Branch, root, part_of, left_by, MayTake, Comes}
-use Rattle.spv_branches.specs.Growth.{Growth, IsGrowing, GoesBack, all_if, case_in, left, next, others}
+use Rattle.spv_proof_rules.specs.Effects.{Question}
+use Rattle.spv_proof_rules.specs.Accepted.{cases_of}
+use Rattle.spv_models.specs.leaf_models.Subterms.{is_among}
+use Rattle.spv_models.specs.split_trees.Paths.{atoms}
+use Rattle.spv_verdicts.specs.declared.answers.growing.Grown.{Grown}
+use Rattle.spv_verdicts.specs.declared.answers.growing.Grown.TheVariants as grown
+use Rattle.spv_search.specs.branches.Branches.{Branch, root, part_of, left_by, MayTake, Comes}
+use Rattle.spv_search.specs.branches.Growth.{Growth, IsGrowing, GoesBack, all_if, case_in, left, next, others}
 use Rattle.spv_search.specs.Searching.{KeepsFewer}
 
 -- ---- what each node keeps

@@ -12,23 +12,23 @@ use Rattle.spv_term.specs.Arena.{Arena, tree}
 use Rattle.spv_atoms.specs.Atoms.{only_if}
 use Rattle.spv_atoms.specs.Order.{passing}
 use Rattle.spv_atoms.proofs.Members.{passing-append}
-use Rattle.spv_proof.specs.Stand.{question}
+use Rattle.spv_proof_rules.specs.Stand.{question}
 use Rattle.spv_table.specs.declared.table.Table.{Table}
-use Rattle.spv_leaf_tables.specs.Subterms.{is_listed, subterms}
-use Rattle.spv_leaf_tables.specs.Tables.{formulas_of}
-use Rattle.spv_decided.specs.declared.verdicts.Verdict.TheVariants as verdict
-use Rattle.spv_decided.specs.Views.{pairs_in}
-use Rattle.spv_known.specs.declared.facts.Known.{Known}
+use Rattle.spv_models.specs.leaf_models.Subterms.{is_listed, subterms}
+use Rattle.spv_models.specs.leaf_models.Tables.{formulas_of}
+use Rattle.spv_verdicts.specs.declared.answers.verdicts.Verdict.TheVariants as verdict
+use Rattle.spv_verdicts.specs.answers.Views.{pairs_in}
+use Rattle.spv_assignments.specs.declared.partial_assignment.facts.Known.{Known}
 use Rattle.spv_share.specs.declared.both.Both.{Both}
-use Rattle.spv_full_tables.specs.Numbers.{number_of, with_value_if, id_at, flag_at, place_at, listed_to, IsFullTable}
-use Rattle.spv_full_states.specs.States.{AreListed}
-use Rattle.spv_guide.specs.Guiding.{IsAdvice, MayBeSplit}
-use Rattle.spv_guide.specs.declared.guide.Advice.{Advice}
-use Rattle.spv_guide.specs.declared.guide.Advice.TheVariants as advice
-use Rattle.spv_tried_tables.specs.Trying.{IsTried, ListsSubterms}
-use Rattle.spv_tried_tables.specs.declared.trying.Tried.{Tried}
-use Rattle.spv_tried_tables.specs.declared.trying.Tried.TheVariants as tried
-use Rattle.spv_told_paths.specs.declared.path.ToldPath.{ToldPath}
+use Rattle.spv_branch_theory.specs.model_construction.Numbers.{number_of, with_value_if, id_at, flag_at, place_at, listed_to, IsFullTable}
+use Rattle.spv_branch_theory.specs.saturation.States.{AreListed}
+use Rattle.spv_decisions.specs.heuristic.Guiding.{IsAdvice, MayBeSplit}
+use Rattle.spv_decisions.specs.declared.heuristic.heuristic.Advice.{Advice}
+use Rattle.spv_decisions.specs.declared.heuristic.heuristic.Advice.TheVariants as advice
+use Rattle.spv_verdicts.specs.candidate_models.Trying.{IsTried, ListsSubterms}
+use Rattle.spv_verdicts.specs.declared.candidate_models.trying.Tried.{Tried}
+use Rattle.spv_verdicts.specs.declared.candidate_models.trying.Tried.TheVariants as tried
+use Rattle.spv_trail.specs.declared.backtracking.path.BranchTrail.{BranchTrail}
 use Rattle.spv_search.specs.declared.consulting.Next.{Next}
 use Rattle.spv_search.specs.Finding.{IsFoundAlways, IsNext, IsTableFor, MayBeSplitIf}
 use Rattle.spv_search.proofs.Tables.{table_in, flags_many}
@@ -87,14 +87,14 @@ if_table a c b ids flags (Err e) listed full = tt
 
 -- ---- atoms that are found
 
-pub may_if : (a : Arena) (ids : List TermId) (p : ToldPath) (values : List (Option Bool)) (ks : List Known) (o : Option TermId) → values ≡ p.lists.all.items → ks ≡ p.known.items → IfSome o (MayBeSplit a ids values ks) → MayBeSplitIf a ids p o
+pub may_if : (a : Arena) (ids : List TermId) (p : BranchTrail) (values : List (Option Bool)) (ks : List Known) (o : Option TermId) → values ≡ p.lists.all.items → ks ≡ p.known.items → IfSome o (MayBeSplit a ids values ks) → MayBeSplitIf a ids p o
 may_if a ids p values ks None e f h = tt
 may_if a ids p values ks (Some t) e f h = subst (λ (ls : List Known). MayBeSplit a ids p.lists.all.items ls t) f (subst (λ (vs : List (Option Bool)). MayBeSplit a ids vs ks t) e h)
 
-pub may_found : (a : Arena) (ids : List TermId) (p : ToldPath) (o : Option TermId) (t : TermId) → o ≡ Some t → MayBeSplitIf a ids p o → MayBeSplit a ids p.lists.all.items p.known.items t
+pub may_found : (a : Arena) (ids : List TermId) (p : BranchTrail) (o : Option TermId) (t : TermId) → o ≡ Some t → MayBeSplitIf a ids p o → MayBeSplit a ids p.lists.all.items p.known.items t
 may_found a ids p o t e h = subst (MayBeSplitIf a ids p) e h
 
-pub may_advised : (a : Arena) (ids : List TermId) (p : ToldPath) (values : List (Option Bool)) (ks : List Known) (x : Advice) (t : TermId) → values ≡ p.lists.all.items → ks ≡ p.known.items → x ≡ advice.Split t → IsAdvice a ids values ks x
+pub may_advised : (a : Arena) (ids : List TermId) (p : BranchTrail) (values : List (Option Bool)) (ks : List Known) (x : Advice) (t : TermId) → values ≡ p.lists.all.items → ks ≡ p.known.items → x ≡ advice.Split t → IsAdvice a ids values ks x
     → MayBeSplit a ids p.lists.all.items p.known.items t
 may_advised a ids p values ks x t e f is h =
     subst (λ (ls : List Known). MayBeSplit a ids p.lists.all.items ls t) f (subst (λ (vs : List (Option Bool)). MayBeSplit a ids vs ks t) e (subst (IsAdvice a ids values ks) is h))
@@ -109,5 +109,5 @@ found_by_trial a c table branch h = λ limits. record { terms_in = h.1; right = 
 
 -- ---- what comes next
 
-pub next_as : (a : Arena) (c : Condition) (ids : List TermId) (p : ToldPath) (x y : Next) → x ≡ y → IsNext a c ids p x → IsNext a c ids p y
+pub next_as : (a : Arena) (c : Condition) (ids : List TermId) (p : BranchTrail) (x y : Next) → x ≡ y → IsNext a c ids p x → IsNext a c ids p y
 next_as a c ids p x y e h = subst (IsNext a c ids p) e h

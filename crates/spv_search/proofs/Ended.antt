@@ -6,21 +6,21 @@ use Rattle.spv_atoms.specs.declared.proofs.Step.{Step}
 use Rattle.spv_atoms.specs.declared.proofs.Step.TheVariants.{Contra}
 use Rattle.spv_term.specs.declared.nodes.Condition.{Condition}
 use Rattle.spv_term.specs.Arena.{Arena, tree, sequent}
-use Rattle.spv_proof.specs.Effects.{Question}
-use Rattle.spv_proof.specs.Accepted.{Closed, walk}
-use Rattle.spv_proof.specs.Stand.{question, StepsIn}
+use Rattle.spv_proof_rules.specs.Effects.{Question}
+use Rattle.spv_proof_rules.specs.Accepted.{Closed, walk}
+use Rattle.spv_proof_rules.specs.Stand.{question, StepsIn}
 use Rattle.spv_verdicts.specs.Verdicts.{Limits}
-use Rattle.spv_course.specs.declared.entries.Entry.{Entry}
-use Rattle.spv_decided.specs.declared.growing.Grown.TheVariants as grown
+use Rattle.spv_derivations.specs.declared.derivation.entries.Entry.{Entry}
+use Rattle.spv_verdicts.specs.declared.answers.growing.Grown.TheVariants as grown
 use Rattle.spv_share.specs.declared.both.Both.{Both}
 use Rattle.spv_share.specs.Both.{told}
 use Rattle.spv_share.specs.States.{Closes}
-use Rattle.spv_branches.specs.Growth.{Growth, IsIn, Takes, case_in}
-use Rattle.spv_paths.specs.Paths.{fact_in, facts_from, facts_in, IsPath}
-use Rattle.spv_told_states.specs.Told.{IsStored}
-use Rattle.spv_known.specs.declared.facts.Known.{Known}
-use Rattle.spv_told_facts.specs.declared.ending.End.{End}
-use Rattle.spv_told_facts.specs.Learning.{EndsBy}
+use Rattle.spv_search.specs.branches.Growth.{Growth, IsIn, Takes, case_in}
+use Rattle.spv_derivations.specs.branches.Paths.{fact_in, facts_from, facts_in, IsPath}
+use Rattle.spv_trail.specs.trail_states.Told.{IsStored}
+use Rattle.spv_assignments.specs.declared.partial_assignment.facts.Known.{Known}
+use Rattle.spv_trail.specs.declared.propagation.ending.End.{End}
+use Rattle.spv_trail.specs.propagation.Learning.{EndsBy}
 use Rattle.spv_search.specs.Searching.{formulas_in, HasTaken, IsWithin}
 use Rattle.spv_search.proofs.Taking.{taken_closed}
 

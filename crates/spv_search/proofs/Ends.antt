@@ -5,23 +5,23 @@ use Rattle.spv_logic.specs.declared.conditions.TermId.{TermId}
 use Rattle.spv_term.specs.declared.nodes.Condition.{Condition}
 use Rattle.spv_term.specs.Arena.{Arena, tree}
 use Rattle.spv_atoms.specs.declared.proofs.ProofNode.{ProofNode}
-use Rattle.spv_proof.specs.Stand.{question}
+use Rattle.spv_proof_rules.specs.Stand.{question}
 use Rattle.spv_verdicts.specs.Verdicts.{Limits}
-use Rattle.spv_leaf_tables.specs.Laws.{AreFormulas}
-use Rattle.spv_leaf_tables.specs.Tables.{formulas_of}
-use Rattle.spv_split_trees.specs.Kept.{IsKept}
-use Rattle.spv_decided.specs.declared.trees.SplitNode.{SplitNode}
-use Rattle.spv_decided.specs.declared.verdicts.Verdict.TheVariants as verdict
-use Rattle.spv_decided.specs.declared.verdicts.Limit.TheVariants as limit
-use Rattle.spv_decided.specs.Nodes.{tree_at}
-use Rattle.spv_branches.specs.declared.finishing.Finished.TheVariants as finished
-use Rattle.spv_branches.specs.Ends.{FinishedIn, IsFinished}
-use Rattle.spv_branches.specs.Growth.{Growth, IsGrowing, IsIn, start}
-use Rattle.spv_told_facts.specs.declared.ending.End.{End}
-use Rattle.spv_told_paths.specs.declared.path.Ground.{Ground}
-use Rattle.spv_told_paths.specs.declared.path.ToldPath.{ToldPath}
-use Rattle.spv_told_paths.specs.declared.marks.PathMark.{PathMark}
-use Rattle.spv_told_paths.specs.Paths.{IsToldOrEnded}
+use Rattle.spv_models.specs.leaf_models.Laws.{AreFormulas}
+use Rattle.spv_models.specs.leaf_models.Tables.{formulas_of}
+use Rattle.spv_models.specs.split_trees.Kept.{IsKept}
+use Rattle.spv_verdicts.specs.declared.answers.trees.SplitNode.{SplitNode}
+use Rattle.spv_verdicts.specs.declared.answers.verdicts.Verdict.TheVariants as verdict
+use Rattle.spv_verdicts.specs.declared.answers.verdicts.Limit.TheVariants as limit
+use Rattle.spv_verdicts.specs.answers.Nodes.{tree_at}
+use Rattle.spv_search.specs.declared.branches.finishing.Finished.TheVariants as finished
+use Rattle.spv_search.specs.branches.Ends.{FinishedIn, IsFinished}
+use Rattle.spv_search.specs.branches.Growth.{Growth, IsGrowing, IsIn, start}
+use Rattle.spv_trail.specs.declared.propagation.ending.End.{End}
+use Rattle.spv_trail.specs.declared.backtracking.path.Ground.{Ground}
+use Rattle.spv_trail.specs.declared.backtracking.path.BranchTrail.{BranchTrail}
+use Rattle.spv_trail.specs.declared.backtracking.marks.TrailMark.{TrailMark}
+use Rattle.spv_trail.specs.backtracking.Paths.{IsToldOrEnded}
 use Rattle.spv_search.specs.Searching.{IsArrived, IsSetUp, IsWithin}
 use Rattle.spv_search.specs.Finding.{IsFound}
 
@@ -39,7 +39,7 @@ module _ (a : Arena) (c : Condition) (limits : Limits) (s : Growth) (w : IsWithi
 
 -- ---- the first branch
 
-pub starts : (a : Arena) (c : Condition) (ids : List TermId) (g : Ground) (limits : Limits) (p : ToldPath) (s : Growth) (ms : List PathMark) (o : Option End) → s ≡ start → IsGrowing (question a c) s → IsIn a s → ms ≡ []
+pub starts : (a : Arena) (c : Condition) (ids : List TermId) (g : Ground) (limits : Limits) (p : BranchTrail) (s : Growth) (ms : List TrailMark) (o : Option End) → s ≡ start → IsGrowing (question a c) s → IsIn a s → ms ≡ []
     → IsSetUp a c ids g limits p.both → IsToldOrEnded a c [] p o → IsArrived a c ids g limits p s ms o
 starts a c ids g limits p s ms o same grows there none set told =
     subst (λ (x : Growth). IsArrived a c ids g limits p x ms o) (sym same)

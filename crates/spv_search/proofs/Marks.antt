@@ -5,17 +5,17 @@ use Rattle.std.proofs.lemmas.List.{length-take-le, length_push}
 use Rattle.spv_logic.specs.Terms.{Term}
 use Rattle.spv_term.specs.declared.nodes.Condition.{Condition}
 use Rattle.spv_term.specs.Arena.{Arena}
-use Rattle.spv_branches.specs.declared.cases.Case.{Case}
-use Rattle.spv_told_paths.specs.declared.path.ToldPath.{ToldPath}
-use Rattle.spv_told_paths.specs.declared.marks.PathMark.{PathMark}
-use Rattle.spv_told_paths.specs.Paths.{IsEarlier, IsMark}
+use Rattle.spv_search.specs.declared.branches.cases.Case.{Case}
+use Rattle.spv_trail.specs.declared.backtracking.path.BranchTrail.{BranchTrail}
+use Rattle.spv_trail.specs.declared.backtracking.marks.TrailMark.{TrailMark}
+use Rattle.spv_trail.specs.backtracking.Paths.{IsEarlier, IsMark}
 use Rattle.spv_search.specs.Searching.{formulas_in, AreMarks, KeepsFewer}
 use Rattle.spv_search.proofs.Lists.{push_cases, take_at, take_all, take_front}
 
 -- ---- going back
 
 -- the branch that comes then has its marks
-pub marks_back : (a : Arena) (c : Condition) (p : ToldPath) (ms : List PathMark) (count : ℕ) (old new : List Case) → KeepsFewer count old new → AreMarks a c p ms old count → AreMarks a c p ms new (length new)
+pub marks_back : (a : Arena) (c : Condition) (p : BranchTrail) (ms : List TrailMark) (count : ℕ) (old new : List Case) → KeepsFewer count old new → AreMarks a c p ms old count → AreMarks a c p ms new (length new)
 marks_back a c p ms count old new k h = record {
   many = let l = long in let f = k.fewer in let m = h.many in omega (arith, l, f, m);
   each = λ i m below at. subst (λ (cs : List Case). IsMark a c (formulas_in a cs) p m) (sym (front i (few i below))) (h.each i m (under i below) at);
@@ -36,27 +36,27 @@ marks_back a c p ms count old new k h = record {
 
 -- ---- one mark more
 
-module _ (a : Arena) (c : Condition) (p : ToldPath) (ms more : List PathMark) (cs : List Case) (count : ℕ) (m : PathMark) (many : count ≡ length cs) (more_is : more ≡ take count ms ++ m ∷ [])
-    (mark : IsMark a c (formulas_in a cs) p m) (last : (cases : List Term) (n : PathMark) → IsMark a c cases p n → IsEarlier n m) (h : AreMarks a c p ms cs count) where
+module _ (a : Arena) (c : Condition) (p : BranchTrail) (ms more : List TrailMark) (cs : List Case) (count : ℕ) (m : TrailMark) (many : count ≡ length cs) (more_is : more ≡ take count ms ++ m ∷ [])
+    (mark : IsMark a c (formulas_in a cs) p m) (last : (cases : List Term) (n : TrailMark) → IsMark a c cases p n → IsEarlier n m) (h : AreMarks a c p ms cs count) where
   cut : length (take count ms) ≡ count
   cut = length-take-le count ms h.many
 
-  place : (i : ℕ) (n : PathMark) → slice_get more i ≡ Some n → ((i < length (take count ms)) × (slice_get (take count ms) i ≡ Some n)) ⊎ ((i ≡ length (take count ms)) × (m ≡ n))
-  place i n at = push_cases (take count ms) m n i (subst (λ (xs : List PathMark). slice_get xs i ≡ Some n) more_is at)
+  place : (i : ℕ) (n : TrailMark) → slice_get more i ≡ Some n → ((i < length (take count ms)) × (slice_get (take count ms) i ≡ Some n)) ⊎ ((i ≡ length (take count ms)) × (m ≡ n))
+  place i n at = push_cases (take count ms) m n i (subst (λ (xs : List TrailMark). slice_get xs i ≡ Some n) more_is at)
 
   below : (i : ℕ) → i < length (take count ms) → i < count
   below i l = let k = cut in omega (arith, k, l)
 
-  each_one : (i : ℕ) (n : PathMark) → slice_get more i ≡ Some n → IsMark a c (formulas_in a (take i cs)) p n
+  each_one : (i : ℕ) (n : TrailMark) → slice_get more i ≡ Some n → IsMark a c (formulas_in a (take i cs)) p n
   each_one i n at = by_place (place i n at)
     where
       by_place : ((i < length (take count ms)) × (slice_get (take count ms) i ≡ Some n)) ⊎ ((i ≡ length (take count ms)) × (m ≡ n)) → IsMark a c (formulas_in a (take i cs)) p n
       by_place (inl k) = h.each i n (below i k.0) (take_at count ms n i k.1)
       by_place (inr k) =
-          subst (λ (o : PathMark). IsMark a c (formulas_in a (take i cs)) p o) k.1
+          subst (λ (o : TrailMark). IsMark a c (formulas_in a (take i cs)) p o) k.1
           (subst (λ (xs : List Case). IsMark a c (formulas_in a xs) p m) (sym (ap (λ (j : ℕ). take j cs) (k.0 ∙ (cut ∙ many)) ∙ take_all cs)) mark)
 
-  later : (i j : ℕ) (n o : PathMark) → i ≤ j → slice_get more i ≡ Some n → slice_get more j ≡ Some o → IsEarlier n o
+  later : (i j : ℕ) (n o : TrailMark) → i ≤ j → slice_get more i ≡ Some n → slice_get more j ≡ Some o → IsEarlier n o
   later i j n o le at behind = by_place (place j o behind)
     where
       both_before : (j < length (take count ms)) × (slice_get (take count ms) j ≡ Some o) → ((i < length (take count ms)) × (slice_get (take count ms) i ≡ Some n)) ⊎ ((i ≡ length (take count ms)) × (m ≡ n)) → IsEarlier n o
@@ -65,7 +65,7 @@ module _ (a : Arena) (c : Condition) (p : ToldPath) (ms more : List PathMark) (c
 
       by_place : ((j < length (take count ms)) × (slice_get (take count ms) j ≡ Some o)) ⊎ ((j ≡ length (take count ms)) × (m ≡ o)) → IsEarlier n o
       by_place (inl k) = both_before k (place i n at)
-      by_place (inr k) = subst (λ (x : PathMark). IsEarlier n x) k.1 (last (formulas_in a (take i cs)) n (each_one i n at))
+      by_place (inr k) = subst (λ (x : TrailMark). IsEarlier n x) k.1 (last (formulas_in a (take i cs)) n (each_one i n at))
 
   pub marks_pushed : AreMarks a c p more cs (count + 1)
   marks_pushed = record {

@@ -4,7 +4,7 @@ use mathlib.Core.Path.{ap₂}
 use Rattle.std.specs.Prelude.{is_some, slice_get}
 use Rattle.std.specs.List.{list_any}
 use Rattle.std.proofs.lemmas.Bool.{false≢true}
-use Rattle.spv_list.proofs.Tests.{left_true, right_true}
+use Rattle.spv_logic.proofs.list.Tests.{left_true, right_true}
 use Rattle.spv_logic.specs.declared.conditions.TermId.{TermId}
 use Rattle.spv_logic.specs.Terms.{Term, term_eq}
 use Rattle.spv_logic.specs.Formulas.{negation, equation, below}
@@ -18,34 +18,34 @@ use Rattle.spv_term.proofs.TreeLemmas.{AllBelow-at}
 use Rattle.spv_atoms.specs.Atoms.{is_number}
 use Rattle.spv_atoms.specs.Tables.{not_of}
 use Rattle.spv_atoms.proofs.Members.{or_cases}
-use Rattle.spv_proof.specs.Evaluation.{sides, cites}
-use Rattle.spv_proof.specs.Accepted.{cases_of, cases_by_sides, two_cases, three_cases}
-use Rattle.spv_proof.specs.Stand.{question}
+use Rattle.spv_proof_rules.specs.Evaluation.{sides, cites}
+use Rattle.spv_proof_rules.specs.Accepted.{cases_of, cases_by_sides, two_cases, three_cases}
+use Rattle.spv_proof_rules.specs.Stand.{question}
 use Rattle.spv_verdicts.specs.Verdicts.{Limits}
-use Rattle.spv_course.specs.Course.{are_numbers}
-use Rattle.spv_leaf_tables.specs.Subterms.{is_among}
-use Rattle.spv_split_trees.specs.Paths.{atoms, facts, IsLive}
-use Rattle.spv_split_trees.specs.Shown.{IsFinished}
+use Rattle.spv_derivations.specs.derivation.Derivation.{are_numbers}
+use Rattle.spv_models.specs.leaf_models.Subterms.{is_among}
+use Rattle.spv_models.specs.split_trees.Paths.{atoms, facts, IsLive}
+use Rattle.spv_models.specs.split_trees.Shown.{IsFinished}
 use Rattle.spv_share.specs.Both.{told}
-use Rattle.spv_branches.specs.Branches.{HasCases}
-use Rattle.spv_branches.specs.Growth.{Growth, next}
-use Rattle.spv_truths.specs.Passes.{at, StandsAt}
-use Rattle.spv_known.specs.declared.facts.Known.{Known}
-use Rattle.spv_known.specs.Facts.{fact_of, facts_of}
-use Rattle.spv_known.specs.Values.{AreLiterals}
-use Rattle.spv_known.proofs.Told.{facts_are_true}
-use Rattle.spv_known_facts.specs.Facts.{AreThere}
-use Rattle.spv_known_facts.specs.Orders.{crosses, orders, has_order}
-use Rattle.spv_choosing.specs.Choosing as choosing
-use Rattle.spv_choosing.specs.Choosing.{is_comparison, lacks_order, HaveValues, HaveOrders}
-use Rattle.spv_guide.specs.Guiding.{MayBeSplit}
-use Rattle.spv_told_states.specs.Told.{values_of, said_on}
-use Rattle.spv_told_states.specs.Laws.{IsAtRest}
-use Rattle.spv_told_states.proofs.Saying.{from_found, found_from, compared, IsCompared}
-use Rattle.spv_told_states.proofs.Resting.{rest_is_open, rest_is_live, full_rest}
-use Rattle.spv_told_paths.specs.declared.path.Ground.{Ground}
-use Rattle.spv_told_paths.specs.declared.path.ToldPath.{ToldPath}
-use Rattle.spv_told_paths.specs.declared.marks.PathMark.{PathMark}
+use Rattle.spv_search.specs.branches.Branches.{HasCases}
+use Rattle.spv_search.specs.branches.Growth.{Growth, next}
+use Rattle.spv_assignments.specs.kleene.Passes.{at, StandsAt}
+use Rattle.spv_assignments.specs.declared.partial_assignment.facts.Known.{Known}
+use Rattle.spv_assignments.specs.partial_assignment.Facts.{fact_of, facts_of}
+use Rattle.spv_assignments.specs.partial_assignment.Values.{AreLiterals}
+use Rattle.spv_assignments.proofs.partial_assignment.Told.{facts_are_true}
+use Rattle.spv_decisions.specs.literal_lookup.Facts.{AreThere}
+use Rattle.spv_decisions.specs.literal_lookup.Orders.{crosses, orders, has_order}
+use Rattle.spv_decisions.specs.decision.Choosing as choosing
+use Rattle.spv_decisions.specs.decision.Choosing.{is_comparison, lacks_order, HaveValues, HaveOrders}
+use Rattle.spv_decisions.specs.heuristic.Guiding.{MayBeSplit}
+use Rattle.spv_trail.specs.trail_states.Told.{values_of, said_on}
+use Rattle.spv_trail.specs.trail_states.Laws.{IsAtRest}
+use Rattle.spv_trail.proofs.trail_states.RowConstraint.{from_found, found_from, compared, IsCompared}
+use Rattle.spv_trail.proofs.trail_states.Resting.{rest_is_open, rest_is_live, full_rest}
+use Rattle.spv_trail.specs.declared.backtracking.path.Ground.{Ground}
+use Rattle.spv_trail.specs.declared.backtracking.path.BranchTrail.{BranchTrail}
+use Rattle.spv_trail.specs.declared.backtracking.marks.TrailMark.{TrailMark}
 use Rattle.spv_search.specs.Searching.{formulas_in}
 use Rattle.spv_search.specs.Finding.{HasOpenState, HasFullState, IsResting}
 use Rattle.spv_search.proofs.Branching.{HasCase, WasSplit, next_was_split, split_case}
@@ -177,9 +177,9 @@ module _ (a : Arena) (c : Condition) (ks : List Known) (fs : List Term) (fin : I
 
 -- ---- a path at rest
 
-pub at_rest : (a : Arena) (c : Condition) (ids : List TermId) (g : Ground) (limits : Limits) (p : ToldPath) (s : Growth) (ms : List PathMark) → IsArena a → IsExact p.both.trail.graph
+pub at_rest : (a : Arena) (c : Condition) (ids : List TermId) (g : Ground) (limits : Limits) (p : BranchTrail) (s : Growth) (ms : List TrailMark) → IsArena a → IsExact p.both.trail.graph
     → AreTerms p.both.trail.graph.nodes p.both.trail.graph.added → IsTableau p.both.standing.tableau → IsResting a c ids g limits p s ms
-    → IsAtRest a c p.both ids g.questions.items p.course p.known.items (formulas_in a s.cases)
+    → IsAtRest a c p.both ids g.questions.items p.derivation p.known.items (formulas_in a s.cases)
 at_rest a c ids g limits p s ms ok exact terms_are tableau h = record {
   ok = ok;
   formulas = h.quiet.arrived.set_up.asked.ground.formulas;
@@ -194,13 +194,13 @@ at_rest a c ids g limits p s ms ok exact terms_are tableau h = record {
   still = h.quiet.still;
 }
 
-module _ (a : Arena) (c : Condition) (ids : List TermId) (g : Ground) (limits : Limits) (p : ToldPath) (s : Growth) (ms : List PathMark) (h : IsResting a c ids g limits p s ms)
-    (r : IsAtRest a c p.both ids g.questions.items p.course p.known.items (formulas_in a s.cases)) where
+module _ (a : Arena) (c : Condition) (ids : List TermId) (g : Ground) (limits : Limits) (p : BranchTrail) (s : Growth) (ms : List TrailMark) (h : IsResting a c ids g limits p s ms)
+    (r : IsAtRest a c p.both ids g.questions.items p.derivation p.known.items (formulas_in a s.cases)) where
   pub rest_live : IsLive (question a c) (facts (question a c) (formulas_in a s.cases))
-  rest_live = rest_is_live a c p.both ids g.questions.items p.course p.known.items (formulas_in a s.cases) r
+  rest_live = rest_is_live a c p.both ids g.questions.items p.derivation p.known.items (formulas_in a s.cases) r
 
   finished : IsFinished (question a c) (facts (question a c) (said_on a p.known.items (told p.both))) (values_of a p.known.items)
-  finished = (rest_is_open a c p.both ids g.questions.items p.course p.known.items (formulas_in a s.cases) r).finished
+  finished = (rest_is_open a c p.both ids g.questions.items p.derivation p.known.items (formulas_in a s.cases) r).finished
 
   atom_among : (t : TermId) → StandsAt ids t → is_among (atoms (question a c)) (tree a t) ≡ true
   atom_among t k = ap (λ (ts : List Term). is_among ts (tree a t)) (sym r.opened.atoms_are) ∙ found_from (tree a) ids k.place t k.is
@@ -225,7 +225,7 @@ module _ (a : Arena) (c : Condition) (ids : List TermId) (g : Ground) (limits : 
   rest_opened = record {
     facts = said_on a p.known.items (told p.both);
     value = values_of a p.known.items;
-    state = rest_is_open a c p.both ids g.questions.items p.course p.known.items (formulas_in a s.cases) r;
+    state = rest_is_open a c p.both ids g.questions.items p.derivation p.known.items (formulas_in a s.cases) r;
   }
 
   pub rest_there : AreThere a p.known.items
@@ -236,5 +236,5 @@ module _ (a : Arena) (c : Condition) (ids : List TermId) (g : Ground) (limits : 
     facts = said_on a p.known.items (told p.both);
     value = values_of a p.known.items;
     state =
-        full_rest a c p.both ids g.questions.items p.course p.known.items (formulas_in a s.cases) r p.lists.direct.items p.lists.cores.items p.lists.all.items h.quiet.arrived.path.lists full;
+        full_rest a c p.both ids g.questions.items p.derivation p.known.items (formulas_in a s.cases) r p.lists.direct.items p.lists.cores.items p.lists.all.items h.quiet.arrived.path.lists full;
   }

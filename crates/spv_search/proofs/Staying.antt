@@ -5,25 +5,25 @@ use Rattle.spv_logic.specs.Terms.{Term}
 use Rattle.spv_term.specs.declared.nodes.Condition.{Condition}
 use Rattle.spv_term.specs.declared.nodes.Node.{Node}
 use Rattle.spv_term.specs.Arena.{Arena, tree}
-use Rattle.spv_course.specs.declared.entries.Entry.{Entry}
-use Rattle.spv_course.specs.Literals.{Literal}
+use Rattle.spv_derivations.specs.declared.derivation.entries.Entry.{Entry}
+use Rattle.spv_derivations.specs.derivation.Literals.{Literal}
 use Rattle.spv_verdicts.specs.Verdicts.{Limits}
 use Rattle.spv_share.specs.declared.both.Both.{Both}
 use Rattle.spv_share.specs.declared.relations.Related.{Related}
 use Rattle.spv_share.specs.Both.{IsBoth, IsLevel, Stays, told}
 use Rattle.spv_share.specs.Relations.{AreListed, AreNodes, AreParts, AreRelationsAmong}
-use Rattle.spv_branches.specs.declared.cases.Case.{Case}
-use Rattle.spv_known.specs.declared.facts.Known.{Known}
-use Rattle.spv_known.specs.declared.lists.Listed.{Listed}
-use Rattle.spv_known.specs.Facts.{facts_of}
-use Rattle.spv_known.specs.Following as following
-use Rattle.spv_known.specs.Following.{IsStill}
-use Rattle.spv_told_states.specs.Told.{IsSettled}
-use Rattle.spv_told_paths.specs.declared.path.Ground.{Ground}
-use Rattle.spv_told_paths.specs.declared.path.ToldPath.{ToldPath}
-use Rattle.spv_told_paths.specs.declared.marks.PathMark.{PathMark}
-use Rattle.spv_told_paths.specs.Paths.{GoesOn, IsToldPath}
-use Rattle.spv_told_paths.proofs.Marking.{marks_stay}
+use Rattle.spv_search.specs.declared.branches.cases.Case.{Case}
+use Rattle.spv_assignments.specs.declared.partial_assignment.facts.Known.{Known}
+use Rattle.spv_assignments.specs.declared.partial_assignment.lists.Listed.{Listed}
+use Rattle.spv_assignments.specs.partial_assignment.Facts.{facts_of}
+use Rattle.spv_assignments.specs.partial_assignment.Following as following
+use Rattle.spv_assignments.specs.partial_assignment.Following.{IsStill}
+use Rattle.spv_trail.specs.trail_states.Told.{IsSettled}
+use Rattle.spv_trail.specs.declared.backtracking.path.Ground.{Ground}
+use Rattle.spv_trail.specs.declared.backtracking.path.BranchTrail.{BranchTrail}
+use Rattle.spv_trail.specs.declared.backtracking.marks.TrailMark.{TrailMark}
+use Rattle.spv_trail.specs.backtracking.Paths.{GoesOn, IsBranchTrail}
+use Rattle.spv_trail.proofs.backtracking.Marking.{marks_stay}
 use Rattle.spv_search.specs.Searching.{IsSetUp, AreMarks}
 use Rattle.spv_search.specs.Finding.{HasStated}
 use Rattle.spv_search.proofs.Lists.{append_none}
@@ -52,9 +52,9 @@ set_stays a c ids g limits old new s h = record {
 
 -- ---- both sides exchanged what they were told
 
-pub goes_stated : (a : Arena) (old new : ToldPath) → HasStated a old new → GoesOn a old new
+pub goes_stated : (a : Arena) (old new : BranchTrail) → HasStated a old new → GoesOn a old new
 goes_stated a old new h = record {
-  course = record { more = []; is = h.course_is ∙ sym (append_none old.course) };
+  derivation = record { more = []; is = h.course_is ∙ sym (append_none old.derivation) };
   known = record { more = []; is = h.known_is ∙ sym (append_none old.known.items) };
   both = record {
     longer = record { more = []; is = h.told_is ∙ sym (append_none (told old.both)) };
@@ -63,26 +63,26 @@ goes_stated a old new h = record {
   };
 }
 
-pub told_stated : (a : Arena) (c : Condition) (cases : List Term) (old new : ToldPath) → HasStated a old new → IsToldPath a c cases old → IsToldPath a c cases new
+pub told_stated : (a : Arena) (c : Condition) (cases : List Term) (old new : BranchTrail) → HasStated a old new → IsBranchTrail a c cases old → IsBranchTrail a c cases new
 told_stated a c cases old new h t = record {
   settled =
       subst (λ (es : List Entry). IsSettled a c es new.known.items (told new.both) cases) (sym h.course_is)
-      (subst (λ (ks : List Known). IsSettled a c old.course ks (told new.both) cases) (sym h.known_is)
-      (subst (λ (ls : List Literal). IsSettled a c old.course old.known.items ls cases) (sym h.told_is) t.settled));
+      (subst (λ (ks : List Known). IsSettled a c old.derivation ks (told new.both) cases) (sym h.known_is)
+      (subst (λ (ls : List Literal). IsSettled a c old.derivation old.known.items ls cases) (sym h.told_is) t.settled));
   both = h.both;
   lists =
       subst (λ (ks : List Known). following.AreListed a (facts_of a ks) new.lists.direct.items new.lists.cores.items new.lists.all.items) (sym h.known_is)
       (subst (λ (l : Listed). following.AreListed a (facts_of a old.known.items) l.direct.items l.cores.items l.all.items) (sym h.lists_are) t.lists);
 }
 
-pub still_stated : (a : Arena) (g : Ground) (old new : ToldPath) → HasStated a old new → IsStill a (facts_of a old.known.items) g.questions.items → IsStill a (facts_of a new.known.items) g.questions.items
+pub still_stated : (a : Arena) (g : Ground) (old new : BranchTrail) → HasStated a old new → IsStill a (facts_of a old.known.items) g.questions.items → IsStill a (facts_of a new.known.items) g.questions.items
 still_stated a g old new h s = subst (λ (ks : List Known). IsStill a (facts_of a ks) g.questions.items) (sym h.known_is) s
 
 -- ---- a path that is as it was
 
-pub goes_same : (a : Arena) (old new : ToldPath) → new.course ≡ old.course → new.known.items ≡ old.known.items → new.both ≡ old.both → GoesOn a old new
+pub goes_same : (a : Arena) (old new : BranchTrail) → new.derivation ≡ old.derivation → new.known.items ≡ old.known.items → new.both ≡ old.both → GoesOn a old new
 goes_same a old new e f h = record {
-  course = record { more = []; is = e ∙ sym (append_none old.course) };
+  derivation = record { more = []; is = e ∙ sym (append_none old.derivation) };
   known = record { more = []; is = f ∙ sym (append_none old.known.items) };
   both = record {
     longer = record { more = []; is = ap told h ∙ sym (append_none (told old.both)) };
@@ -101,7 +101,7 @@ goes_same a old new e f h = record {
 
 -- ---- marks
 
-pub marks_on : (a : Arena) (c : Condition) (old new : ToldPath) (ms : List PathMark) (cs : List Case) (count : ℕ) → GoesOn a old new → IsBoth a old.both → AreMarks a c old ms cs count → AreMarks a c new ms cs count
+pub marks_on : (a : Arena) (c : Condition) (old new : BranchTrail) (ms : List TrailMark) (cs : List Case) (count : ℕ) → GoesOn a old new → IsBoth a old.both → AreMarks a c old ms cs count → AreMarks a c new ms cs count
 marks_on a c old new ms cs count goes both h = record {
   many = h.many;
   each = λ i m below at. marks_stay a c old new goes both _ m (h.each i m below at);

@@ -3,20 +3,20 @@ use Rattle.std.proofs.Common.{◌≡◌, ◌⊎◌, Bool, true, false, List, sym
 use Rattle.spv_logic.specs.Terms.{Term}
 use Rattle.spv_term.specs.declared.nodes.Condition.{Condition}
 use Rattle.spv_term.specs.Arena.{Arena}
-use Rattle.spv_proof.specs.Stand.{question}
+use Rattle.spv_proof_rules.specs.Stand.{question}
 use Rattle.spv_simplex.specs.Evidence.{EvidenceValue}
 use Rattle.spv_verdicts.specs.Verdicts.{Limits, HasWidePivot, HasAllPivots}
-use Rattle.spv_decided.specs.declared.verdicts.Verdict.TheVariants as verdict
-use Rattle.spv_decided.specs.declared.verdicts.Limit.TheVariants as limit
-use Rattle.spv_decided.specs.declared.verdicts.Wide.TheVariants as wide
+use Rattle.spv_verdicts.specs.declared.answers.verdicts.Verdict.TheVariants as verdict
+use Rattle.spv_verdicts.specs.declared.answers.verdicts.Limit.TheVariants as limit
+use Rattle.spv_verdicts.specs.declared.answers.verdicts.Wide.TheVariants as wide
 use Rattle.spv_share.specs.declared.both.Both.{Both}
 use Rattle.spv_share.specs.Relations.{AreRelationsAmong}
 use Rattle.spv_share.specs.Both.{IsBoth}
 use Rattle.spv_share.specs.States.{IsLimit}
-use Rattle.spv_evidence.specs.Laws.{IsStoppedFor}
-use Rattle.spv_evidence.proofs.Evidence.{wide_reached, pivots_reached}
+use Rattle.spv_branch_theory.specs.evidence.Laws.{IsStoppedFor}
+use Rattle.spv_branch_theory.proofs.evidence.Evidence.{wide_reached, pivots_reached}
 use Rattle.spv_logic.specs.declared.conditions.TermId.{TermId}
-use Rattle.spv_told_paths.specs.declared.path.Ground.{Ground}
+use Rattle.spv_trail.specs.declared.backtracking.path.Ground.{Ground}
 use Rattle.spv_search.specs.Searching.{IsSetUp}
 use Rattle.spv_simplex.specs.declared.checked.Checked.{Checked}
 use Rattle.spv_simplex.specs.declared.checked.Checked.TheVariants.{Wide, Pivots}

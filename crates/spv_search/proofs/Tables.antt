@@ -11,17 +11,17 @@ use Rattle.spv_term.proofs.TreeLemmas.{AllBelow-at}
 use Rattle.spv_table.specs.declared.operations.WideValue.{WideValue}
 use Rattle.spv_table.specs.declared.table.Table.{Table}
 use Rattle.spv_table.specs.Kept.{PairsIn, listed_over}
-use Rattle.spv_leaf_tables.specs.Subterms.{is_listed}
-use Rattle.spv_decided.specs.declared.verdicts.Verdict.TheVariants as verdict
-use Rattle.spv_decided.specs.declared.verdicts.Limit.TheVariants as limit
-use Rattle.spv_decided.specs.declared.verdicts.Wide.TheVariants as wide
-use Rattle.spv_decided.specs.Views.{CasesIn}
+use Rattle.spv_models.specs.leaf_models.Subterms.{is_listed}
+use Rattle.spv_verdicts.specs.declared.answers.verdicts.Verdict.TheVariants as verdict
+use Rattle.spv_verdicts.specs.declared.answers.verdicts.Limit.TheVariants as limit
+use Rattle.spv_verdicts.specs.declared.answers.verdicts.Wide.TheVariants as wide
+use Rattle.spv_verdicts.specs.answers.Views.{CasesIn}
 use Rattle.spv_share.specs.declared.both.Both.{Both}
-use Rattle.spv_full_tables.specs.Numbers.{number_of, with_value_if, id_at, flag_at, place_at, listed_to, IsFullTable}
-use Rattle.spv_surviving.specs.Surviving.{IsNotShown, ShowsFalse, IsFaultFor}
-use Rattle.spv_surviving.specs.declared.faults.SurvivingFault.TheVariants.{Wide}
-use Rattle.spv_full_states.specs.States.{AreListed, IsTableOf}
-use Rattle.spv_full_states.specs.Laws.{NeverNotShown, ShownIsUnproved, WideIsReached}
+use Rattle.spv_branch_theory.specs.model_construction.Numbers.{number_of, with_value_if, id_at, flag_at, place_at, listed_to, IsFullTable}
+use Rattle.spv_verdicts.specs.model_check.Surviving.{IsNotShown, ShowsFalse, IsFaultFor}
+use Rattle.spv_verdicts.specs.declared.model_check.faults.SurvivingFault.TheVariants.{Wide}
+use Rattle.spv_branch_theory.specs.saturation.States.{AreListed, IsTableOf}
+use Rattle.spv_branch_theory.specs.saturation.Laws.{NeverNotShown, ShownIsUnproved, WideIsReached}
 use Rattle.spv_search.specs.Finding.{HasFullState, IsFoundAlways}
 
 -- ---- terms that are there

@@ -4,15 +4,15 @@ use Rattle.spv_logic.specs.declared.conditions.TermId.{TermId}
 use Rattle.spv_atoms.specs.declared.proofs.Step.{Step}
 use Rattle.spv_term.specs.declared.nodes.Condition.{Condition}
 use Rattle.spv_term.specs.Arena.{Arena, tree}
-use Rattle.spv_proof.specs.Accepted.{Closed, walk}
-use Rattle.spv_proof.specs.Stand.{question}
+use Rattle.spv_proof_rules.specs.Accepted.{Closed, walk}
+use Rattle.spv_proof_rules.specs.Stand.{question}
 use Rattle.spv_verdicts.specs.Verdicts.{Limits}
-use Rattle.spv_split_trees.specs.Paths.{facts, IsLive}
-use Rattle.spv_decided.specs.declared.growing.Grown.{Grown}
-use Rattle.spv_decided.specs.declared.growing.Grown.TheVariants as grown
-use Rattle.spv_branches.specs.Branches.{HasCases, MayTake}
-use Rattle.spv_branches.specs.Counts.{is_open, splits_of}
-use Rattle.spv_branches.specs.Growth.{Growth, GoesBack, IsIn, next, Takes}
+use Rattle.spv_models.specs.split_trees.Paths.{facts, IsLive}
+use Rattle.spv_verdicts.specs.declared.answers.growing.Grown.{Grown}
+use Rattle.spv_verdicts.specs.declared.answers.growing.Grown.TheVariants as grown
+use Rattle.spv_search.specs.branches.Branches.{HasCases, MayTake}
+use Rattle.spv_search.specs.branches.Counts.{is_open, splits_of}
+use Rattle.spv_search.specs.branches.Growth.{Growth, GoesBack, IsIn, next, Takes}
 use Rattle.spv_search.specs.Searching.{formulas_in, HasTaken, IsWithin, KeepsFewer}
 use Rattle.spv_search.proofs.Branching.{fewer_kept}
 

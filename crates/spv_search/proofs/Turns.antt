@@ -4,28 +4,28 @@ use Rattle.spv_logic.specs.declared.conditions.TermId.{TermId}
 use Rattle.spv_term.specs.declared.nodes.Condition.{Condition}
 use Rattle.spv_term.specs.Arena.{Arena, tree}
 use Rattle.spv_atoms.specs.declared.proofs.Step.{Step}
-use Rattle.spv_proof.specs.Accepted.{Closed, walk, cases_of}
-use Rattle.spv_proof.specs.Stand.{question, StepsIn}
+use Rattle.spv_proof_rules.specs.Accepted.{Closed, walk, cases_of}
+use Rattle.spv_proof_rules.specs.Stand.{question, StepsIn}
 use Rattle.spv_verdicts.specs.Verdicts.{Limits}
-use Rattle.spv_decided.specs.declared.growing.Grown.TheVariants as grown
+use Rattle.spv_verdicts.specs.declared.answers.growing.Grown.TheVariants as grown
 use Rattle.spv_share.specs.declared.both.Both.{Both}
 use Rattle.spv_share.specs.declared.stating.Shared.{Shared}
 use Rattle.spv_share.specs.States.{Closes, IsAnswer, IsLimit, IsOpen}
-use Rattle.spv_branches.specs.declared.cases.Case.{Case}
-use Rattle.spv_branches.specs.Growth.{Growth, IsIn, Takes}
-use Rattle.spv_evidence.specs.Laws.{IsStoppedFor}
-use Rattle.spv_paths.specs.Paths.{facts_in, IsPath}
-use Rattle.spv_known.specs.declared.facts.Known.{Known}
-use Rattle.spv_known_facts.specs.Facts.{AreThere}
-use Rattle.spv_choosing.specs.declared.choosing.Choice.{Choice}
-use Rattle.spv_choosing.specs.Choosing.{IsChoice, IsSplit}
-use Rattle.spv_guide.specs.Guiding.{MayBeSplit}
-use Rattle.spv_told_states.specs.Laws.{IsAtRest}
-use Rattle.spv_told_facts.specs.declared.ending.End.{End}
-use Rattle.spv_told_paths.specs.declared.path.Ground.{Ground}
-use Rattle.spv_told_paths.specs.declared.path.ToldPath.{ToldPath}
-use Rattle.spv_told_paths.specs.declared.marks.PathMark.{PathMark}
-use Rattle.spv_told_paths.specs.Paths.{GoesOn, IsEnded, IsGrownOrEnded, IsToldPath, WasTold}
+use Rattle.spv_search.specs.declared.branches.cases.Case.{Case}
+use Rattle.spv_search.specs.branches.Growth.{Growth, IsIn, Takes}
+use Rattle.spv_branch_theory.specs.evidence.Laws.{IsStoppedFor}
+use Rattle.spv_derivations.specs.branches.Paths.{facts_in, IsPath}
+use Rattle.spv_assignments.specs.declared.partial_assignment.facts.Known.{Known}
+use Rattle.spv_decisions.specs.literal_lookup.Facts.{AreThere}
+use Rattle.spv_decisions.specs.declared.decision.choosing.Choice.{Choice}
+use Rattle.spv_decisions.specs.decision.Choosing.{IsChoice, IsSplit}
+use Rattle.spv_decisions.specs.heuristic.Guiding.{MayBeSplit}
+use Rattle.spv_trail.specs.trail_states.Laws.{IsAtRest}
+use Rattle.spv_trail.specs.declared.propagation.ending.End.{End}
+use Rattle.spv_trail.specs.declared.backtracking.path.Ground.{Ground}
+use Rattle.spv_trail.specs.declared.backtracking.path.BranchTrail.{BranchTrail}
+use Rattle.spv_trail.specs.declared.backtracking.marks.TrailMark.{TrailMark}
+use Rattle.spv_trail.specs.backtracking.Paths.{GoesOn, IsEnded, IsGrownOrEnded, IsBranchTrail, WasTold}
 use Rattle.spv_search.specs.Searching.{AreMarks, formulas_in, HasTaken, IsArrived}
 use Rattle.spv_search.specs.Finding.{HasStated, IsQuiet, IsResting, IsVisited}
 use Rattle.spv_search.proofs.Ended.{shared_closes}
@@ -36,15 +36,15 @@ use Rattle.spv_search.proofs.Visiting.{visited, visited_same, arrived_on, quiet_
 
 -- ---- a node that stays open, or splits
 
-module _ (a : Arena) (c : Condition) (ids : List TermId) (g : Ground) (limits : Limits) (p : ToldPath) (s : Growth) (ms : List PathMark) (h : IsResting a c ids g limits p s ms)
-    (r : IsAtRest a c p.both ids g.questions.items p.course p.known.items (formulas_in a s.cases)) (new : Growth) where
+module _ (a : Arena) (c : Condition) (ids : List TermId) (g : Ground) (limits : Limits) (p : BranchTrail) (s : Growth) (ms : List TrailMark) (h : IsResting a c ids g limits p s ms)
+    (r : IsAtRest a c p.both ids g.questions.items p.derivation p.known.items (formulas_in a s.cases)) (new : Growth) where
   pub open_visited : (IsIn a s → IsIn a new) → Takes (question a c) s new grown.Open → limits.splits ≤ s.splits → IsVisited a c ids g limits p s new ms None
   open_visited within takes spent =
       visited a c ids g limits p s new ms (length s.cases) h.quiet.arrived.set_up h.quiet.arrived.path.both h.quiet.arrived.marks
       (taken_open a c limits s new h.quiet.arrived.comes h.quiet.arrived.within (within h.quiet.arrived.within.terms_in) takes (rest_live a c ids g limits p s ms h r) spent)
 
-  pub split_visited : (more : List PathMark) (count : ℕ) (t : TermId) → count ≡ length s.cases
-      → ((cs : List Case) → count ≡ length cs → IsToldPath a c (formulas_in a cs) p → AreMarks a c p ms cs count → AreMarks a c p more cs (count + 1))
+  pub split_visited : (more : List TrailMark) (count : ℕ) (t : TermId) → count ≡ length s.cases
+      → ((cs : List Case) → count ≡ length cs → IsBranchTrail a c (formulas_in a cs) p → AreMarks a c p ms cs count → AreMarks a c p more cs (count + 1))
       → (IsIn a s → IsIn a new) → Takes (question a c) s new (grown.Split t (length (cases_of (question a c) (tree a t)))) → MayBeSplit a ids p.lists.all.items p.known.items t → s.splits < limits.splits
       → IsVisited a c ids g limits p s new more None
   split_visited more count t many pushed within takes choice some_left =
@@ -53,7 +53,7 @@ module _ (a : Arena) (c : Condition) (ids : List TermId) (g : Ground) (limits : 
       (taken_split a c limits s new h.quiet.arrived.comes h.quiet.arrived.within (within h.quiet.arrived.within.terms_in) t (length (cases_of (question a c) (tree a t))) takes (rest_splits a c ids g limits p s ms h r t choice) some_left)
 
 -- how many marks there are at least
-pub marks_many : (a : Arena) (c : Condition) (ids : List TermId) (g : Ground) (limits : Limits) (p : ToldPath) (s : Growth) (ms : List PathMark) (count : ℕ) → IsResting a c ids g limits p s ms → count ≡ length s.cases → count ≤ length ms
+pub marks_many : (a : Arena) (c : Condition) (ids : List TermId) (g : Ground) (limits : Limits) (p : BranchTrail) (s : Growth) (ms : List TrailMark) (count : ℕ) → IsResting a c ids g limits p s ms → count ≡ length s.cases → count ≤ length ms
 marks_many a c ids g limits p s ms count h many = subst (λ (n : ℕ). n ≤ length ms) (sym many) h.quiet.arrived.marks.many
 
 -- ---- what is chosen
@@ -75,24 +75,24 @@ chosen_may a ids values ks t (there, inr e) = (there, inr e.1)
 pub answered : (a : Arena) (b : Both) (count : ℕ) (x y : Shared) → x ≡ y → IsAnswer a b count x → IsAnswer a b count y
 answered a b count x y e h = subst (IsAnswer a b count) e h
 
-module _ (a : Arena) (c : Condition) (ids : List TermId) (g : Ground) (limits : Limits) (p now : ToldPath) (s : Growth) (ms : List PathMark) (h : IsQuiet a c ids g limits p s ms) (stated : HasStated a p now) where
+module _ (a : Arena) (c : Condition) (ids : List TermId) (g : Ground) (limits : Limits) (p now : BranchTrail) (s : Growth) (ms : List TrailMark) (h : IsQuiet a c ids g limits p s ms) (stated : HasStated a p now) where
   now_quiet : IsQuiet a c ids g limits now s ms
   now_quiet = quiet_stated a c ids g limits p now s ms stated h
 
   pub now_rests : IsOpen now.both → IsResting a c ids g limits now s ms
   now_rests is = record { quiet = now_quiet; agree = is }
 
-  pub now_path : IsPath (question a c) (formulas_in a s.cases) now.course
+  pub now_path : IsPath (question a c) (formulas_in a s.cases) now.derivation
   now_path = now_quiet.arrived.path.settled.path
 
-  pub now_closes : (steps : List Step) → Closes a now.both (length p.course) steps → walk (question a c) (facts_in (question a c) now.course) steps ≡ Closed
-  now_closes steps closes = shared_closes a c now.both now.course now.known.items (length p.course) steps (sym (ap length stated.course_is)) now_quiet.arrived.path.settled.stored closes
+  pub now_closes : (steps : List Step) → Closes a now.both (length p.derivation) steps → walk (question a c) (facts_in (question a c) now.derivation) steps ≡ Closed
+  now_closes steps closes = shared_closes a c now.both now.derivation now.known.items (length p.derivation) steps (sym (ap length stated.course_is)) now_quiet.arrived.path.settled.stored closes
 
-  pub now_within : (steps : List Step) → Closes a now.both (length p.course) steps → StepsIn a steps
+  pub now_within : (steps : List Step) → Closes a now.both (length p.derivation) steps → StepsIn a steps
   now_within steps closes = closes.within
 
-  pub now_visited : (after : ToldPath) (new : Growth) → after.course ≡ now.course → after.known.items ≡ now.known.items → after.both ≡ now.both → HasTaken a c limits (length s.cases) s new → IsVisited a c ids g limits after s new ms None
-  now_visited after new course known same taken = visited_same a c ids g limits now after s new ms None course known same stated.both now_quiet.arrived taken
+  pub now_visited : (after : BranchTrail) (new : Growth) → after.derivation ≡ now.derivation → after.known.items ≡ now.known.items → after.both ≡ now.both → HasTaken a c limits (length s.cases) s new → IsVisited a c ids g limits after s new ms None
+  now_visited after new derivation known same taken = visited_same a c ids g limits now after s new ms None derivation known same stated.both now_quiet.arrived taken
 
   pub now_stopped : IsLimit now.both → IsStoppedFor a c now.both
   now_stopped halt = stopped_for a c ids g limits now.both now_quiet.arrived.set_up stated.both halt
@@ -102,19 +102,19 @@ module _ (a : Arena) (c : Condition) (ids : List TermId) (g : Ground) (limits : 
 
 -- ---- a path that was grown
 
-pub was_told : (a : Arena) (c : Condition) (ids : List TermId) (g : Ground) (limits : Limits) (p : ToldPath) (s : Growth) (ms : List PathMark) → IsArrived a c ids g limits p s ms None → WasTold a c p
+pub was_told : (a : Arena) (c : Condition) (ids : List TermId) (g : Ground) (limits : Limits) (p : BranchTrail) (s : Growth) (ms : List TrailMark) → IsArrived a c ids g limits p s ms None → WasTold a c p
 was_told a c ids g limits p s ms h = record { cases = formulas_in a s.cases; path_told = h.path }
 
-pub ended_visited : (a : Arena) (c : Condition) (ids : List TermId) (g : Ground) (limits : Limits) (p now after : ToldPath) (s new : Growth) (ms : List PathMark) (e : End) → IsArrived a c ids g limits p s ms None → GoesOn a p now
-    → IsEnded a c (formulas_in a s.cases) now e → after.course ≡ now.course → after.known.items ≡ now.known.items → after.both ≡ now.both → HasTaken a c limits (length s.cases) s new → IsVisited a c ids g limits after s new ms None
-ended_visited a c ids g limits p now after s new ms e h goes ended course known same taken =
-    visited_same a c ids g limits now after s new ms (Some e) course known same ended.both (arrived_on a c ids g limits p now s ms e goes h ended) taken
+pub ended_visited : (a : Arena) (c : Condition) (ids : List TermId) (g : Ground) (limits : Limits) (p now after : BranchTrail) (s new : Growth) (ms : List TrailMark) (e : End) → IsArrived a c ids g limits p s ms None → GoesOn a p now
+    → IsEnded a c (formulas_in a s.cases) now e → after.derivation ≡ now.derivation → after.known.items ≡ now.known.items → after.both ≡ now.both → HasTaken a c limits (length s.cases) s new → IsVisited a c ids g limits after s new ms None
+ended_visited a c ids g limits p now after s new ms e h goes ended derivation known same taken =
+    visited_same a c ids g limits now after s new ms (Some e) derivation known same ended.both (arrived_on a c ids g limits p now s ms e goes h ended) taken
 
 -- ---- a path that is told or ends
 
-pub arrived_as : (a : Arena) (c : Condition) (ids : List TermId) (g : Ground) (limits : Limits) (p : ToldPath) (s : Growth) (ms : List PathMark) (o x : Option End) → o ≡ x → IsArrived a c ids g limits p s ms o → IsArrived a c ids g limits p s ms x
+pub arrived_as : (a : Arena) (c : Condition) (ids : List TermId) (g : Ground) (limits : Limits) (p : BranchTrail) (s : Growth) (ms : List TrailMark) (o x : Option End) → o ≡ x → IsArrived a c ids g limits p s ms o → IsArrived a c ids g limits p s ms x
 arrived_as a c ids g limits p s ms o x e h = subst (λ (y : Option End). IsArrived a c ids g limits p s ms y) e h
 
 -- the path with the cases of the branch that comes next, after what followed was added
-pub grown_as : (a : Arena) (c : Condition) (g : Ground) (s : Growth) (now : ToldPath) (o x : Option End) → o ≡ x → IsGrownOrEnded a c g.questions.items (formulas_in a s.cases) now o → IsGrownOrEnded a c g.questions.items (formulas_in a s.cases) now x
+pub grown_as : (a : Arena) (c : Condition) (g : Ground) (s : Growth) (now : BranchTrail) (o x : Option End) → o ≡ x → IsGrownOrEnded a c g.questions.items (formulas_in a s.cases) now o → IsGrownOrEnded a c g.questions.items (formulas_in a s.cases) now x
 grown_as a c g s now o x e h = subst (λ (y : Option End). IsGrownOrEnded a c g.questions.items (formulas_in a s.cases) now y) e h

@@ -4,31 +4,31 @@ use Rattle.spv_logic.specs.declared.conditions.TermId.{TermId}
 use Rattle.spv_logic.specs.Terms.{Term}
 use Rattle.spv_term.specs.declared.nodes.Condition.{Condition}
 use Rattle.spv_term.specs.Arena.{Arena}
-use Rattle.spv_proof.specs.Stand.{question}
+use Rattle.spv_proof_rules.specs.Stand.{question}
 use Rattle.spv_simplex.specs.declared.checked.Checked.{Checked}
 use Rattle.spv_simplex.specs.declared.checked.Checked.TheVariants.{Wide, Pivots}
 use Rattle.spv_simplex.specs.Evidence.{EvidenceValue}
 use Rattle.spv_verdicts.specs.Verdicts.{Limits, IsRight}
-use Rattle.spv_decided.specs.declared.verdicts.Verdict.{Verdict}
-use Rattle.spv_decided.specs.declared.verdicts.Verdict.TheVariants as verdict
-use Rattle.spv_decided.specs.Views.{VerdictIn, verdict_in}
+use Rattle.spv_verdicts.specs.declared.answers.verdicts.Verdict.{Verdict}
+use Rattle.spv_verdicts.specs.declared.answers.verdicts.Verdict.TheVariants as verdict
+use Rattle.spv_verdicts.specs.answers.Views.{VerdictIn, verdict_in}
 use Rattle.spv_share.specs.declared.both.Both.{Both}
 use Rattle.spv_share.specs.Both.{IsBoth, KeepsLevels, Stays, told}
 use Rattle.spv_share.specs.States.{IsOpen}
-use Rattle.spv_branches.specs.Growth.{Growth}
-use Rattle.spv_known.specs.Facts.{facts_of}
-use Rattle.spv_known.specs.Following.{IsStill}
-use Rattle.spv_full_states.specs.States.{IsFullState}
-use Rattle.spv_live_states.specs.Laws.{IsOpenState}
-use Rattle.spv_guide.specs.Guiding.{MayBeSplit}
+use Rattle.spv_search.specs.branches.Growth.{Growth}
+use Rattle.spv_assignments.specs.partial_assignment.Facts.{facts_of}
+use Rattle.spv_assignments.specs.partial_assignment.Following.{IsStill}
+use Rattle.spv_branch_theory.specs.saturation.States.{IsFullState}
+use Rattle.spv_branch_theory.specs.consistency.Laws.{IsOpenState}
+use Rattle.spv_decisions.specs.heuristic.Guiding.{MayBeSplit}
 use Rattle.spv_table.specs.declared.table.Table.{Table}
 use Rattle.spv_table.specs.Kept.{PairsIn}
-use Rattle.spv_tried_tables.specs.Trying.{ListsSubterms}
+use Rattle.spv_verdicts.specs.candidate_models.Trying.{ListsSubterms}
 use Rattle.spv_search.specs.declared.consulting.Next.{Next}
 use Rattle.spv_search.specs.declared.consulting.Next.TheVariants as next
-use Rattle.spv_told_paths.specs.declared.path.Ground.{Ground}
-use Rattle.spv_told_paths.specs.declared.path.ToldPath.{ToldPath}
-use Rattle.spv_told_paths.specs.declared.marks.PathMark.{PathMark}
+use Rattle.spv_trail.specs.declared.backtracking.path.Ground.{Ground}
+use Rattle.spv_trail.specs.declared.backtracking.path.BranchTrail.{BranchTrail}
+use Rattle.spv_trail.specs.declared.backtracking.marks.TrailMark.{TrailMark}
 use Rattle.spv_search.specs.Searching.{IsArrived, IsRunning, room_left}
 
 -- ---- verdicts
@@ -45,25 +45,25 @@ IsFoundAlways a c v = (limits : Limits) → IsFound a c limits v
 -- ---- one branch
 
 -- a verdict was found at the branch that came next, or a node took it
-abbrev pub IsVisited : Arena → Condition → List TermId → Ground → Limits → ToldPath → Growth → Growth → List PathMark → Option Verdict → Type 0
+abbrev pub IsVisited : Arena → Condition → List TermId → Ground → Limits → BranchTrail → Growth → Growth → List TrailMark → Option Verdict → Type 0
 IsVisited a c ids g limits p old new ms None = IsRunning a c ids g limits p new ms × (room_left a c new < room_left a c old)
 IsVisited a c ids g limits p old new ms (Some v) = IsFound a c limits v
 
 -- ---- on the way
 
 -- the path with the cases of the branch that comes next is told, and evaluations add nothing
-pub record IsQuiet (a : Arena) (c : Condition) (ids : List TermId) (g : Ground) (limits : Limits) (p : ToldPath) (s : Growth) (ms : List PathMark) : Type 0 where
+pub record IsQuiet (a : Arena) (c : Condition) (ids : List TermId) (g : Ground) (limits : Limits) (p : BranchTrail) (s : Growth) (ms : List TrailMark) : Type 0 where
   pub arrived : IsArrived a c ids g limits p s ms None
   pub still : IsStill a (facts_of a p.known.items) g.questions.items
 
 -- and both sides are open
-pub record IsResting (a : Arena) (c : Condition) (ids : List TermId) (g : Ground) (limits : Limits) (p : ToldPath) (s : Growth) (ms : List PathMark) : Type 0 where
+pub record IsResting (a : Arena) (c : Condition) (ids : List TermId) (g : Ground) (limits : Limits) (p : BranchTrail) (s : Growth) (ms : List TrailMark) : Type 0 where
   pub quiet : IsQuiet a c ids g limits p s ms
   pub agree : IsOpen p.both
 
 -- both sides exchanged what they were told, and all else is as it was
-pub record HasStated (a : Arena) (old new : ToldPath) : Type 0 where
-  pub course_is : new.course ≡ old.course
+pub record HasStated (a : Arena) (old new : BranchTrail) : Type 0 where
+  pub course_is : new.derivation ≡ old.derivation
   pub known_is : new.known.items ≡ old.known.items
   pub lists_are : new.lists ≡ old.lists
   pub both : IsBoth a new.both
@@ -99,13 +99,13 @@ pub record IsStoppedBy (b : Both) (is_wide : Bool) (evidence : EvidenceValue) : 
   pub evidence_is : evidence ≡ b.standing.tableau.evidence
 
 -- what a search does with a path at rest: a table of its both sides falsifies the condition, or this atom may be split on; or nothing is said
-abbrev pub IsNext : Arena → Condition → List TermId → ToldPath → Next → Type 0
+abbrev pub IsNext : Arena → Condition → List TermId → BranchTrail → Next → Type 0
 IsNext a c ids p (next.Found u) = IsFoundAlways a c (verdict.Unproved u)
 IsNext a c ids p (next.Split t) = MayBeSplit a ids p.lists.all.items p.known.items t
 IsNext a c ids p next.Nothing = ⊤
 
 -- the same, where an atom was found or not
-abbrev pub MayBeSplitIf : Arena → List TermId → ToldPath → Option TermId → Type 0
+abbrev pub MayBeSplitIf : Arena → List TermId → BranchTrail → Option TermId → Type 0
 MayBeSplitIf a ids p None = ⊤
 MayBeSplitIf a ids p (Some t) = MayBeSplit a ids p.lists.all.items p.known.items t
 

@@ -4,19 +4,19 @@ use Rattle.spv_logic.specs.declared.conditions.TermId.{TermId}
 use Rattle.spv_logic.specs.Terms.{Term}
 use Rattle.spv_term.specs.declared.nodes.Condition.{Condition}
 use Rattle.spv_term.specs.Arena.{Arena, tree}
-use Rattle.spv_proof.specs.Stand.{question}
+use Rattle.spv_proof_rules.specs.Stand.{question}
 use Rattle.spv_verdicts.specs.Verdicts.{Limits}
 use Rattle.spv_share.specs.declared.both.Both.{Both}
 use Rattle.spv_share.specs.Both.{IsBoth}
-use Rattle.spv_branches.specs.declared.cases.Case.{Case}
-use Rattle.spv_branches.specs.Counts.{room}
-use Rattle.spv_branches.specs.Growth.{Growth, IsGrowing, IsIn, case_in, left}
-use Rattle.spv_told_states.specs.Laws.{IsOpenedFor}
-use Rattle.spv_told_facts.specs.declared.ending.End.{End}
-use Rattle.spv_told_paths.specs.declared.path.Ground.{Ground}
-use Rattle.spv_told_paths.specs.declared.path.ToldPath.{ToldPath}
-use Rattle.spv_told_paths.specs.declared.marks.PathMark.{PathMark}
-use Rattle.spv_told_paths.specs.Paths.{IsAskedOf, IsEarlier, IsMark, IsToldOrEnded}
+use Rattle.spv_search.specs.declared.branches.cases.Case.{Case}
+use Rattle.spv_search.specs.branches.Counts.{room}
+use Rattle.spv_search.specs.branches.Growth.{Growth, IsGrowing, IsIn, case_in, left}
+use Rattle.spv_trail.specs.trail_states.Laws.{IsOpenedFor}
+use Rattle.spv_trail.specs.declared.propagation.ending.End.{End}
+use Rattle.spv_trail.specs.declared.backtracking.path.Ground.{Ground}
+use Rattle.spv_trail.specs.declared.backtracking.path.BranchTrail.{BranchTrail}
+use Rattle.spv_trail.specs.declared.backtracking.marks.TrailMark.{TrailMark}
+use Rattle.spv_trail.specs.backtracking.Paths.{IsAskedOf, IsEarlier, IsMark, IsToldOrEnded}
 
 -- ---- what does not change
 
@@ -49,10 +49,10 @@ pub record KeepsFewer (count : ℕ) (old new : List Case) : Type 0 where
 -- ---- marks
 
 -- the first so many marks are those of the path with none of these cases, with the first one, and so on
-pub record AreMarks (a : Arena) (c : Condition) (p : ToldPath) (ms : List PathMark) (cs : List Case) (count : ℕ) : Type 0 where
+pub record AreMarks (a : Arena) (c : Condition) (p : BranchTrail) (ms : List TrailMark) (cs : List Case) (count : ℕ) : Type 0 where
   pub many : count ≤ length ms
-  pub each : (i : ℕ) (m : PathMark) → i < count → slice_get ms i ≡ Some m → IsMark a c (formulas_in a (take i cs)) p m
-  pub rising : (i j : ℕ) (m n : PathMark) → i ≤ j → j < count → slice_get ms i ≡ Some m → slice_get ms j ≡ Some n → IsEarlier m n
+  pub each : (i : ℕ) (m : TrailMark) → i < count → slice_get ms i ≡ Some m → IsMark a c (formulas_in a (take i cs)) p m
+  pub rising : (i j : ℕ) (m n : TrailMark) → i ≤ j → j < count → slice_get ms i ≡ Some m → slice_get ms j ≡ Some n → IsEarlier m n
 
 -- ---- the tree
 
@@ -76,7 +76,7 @@ pub record HasTaken (a : Arena) (c : Condition) (limits : Limits) (count : ℕ) 
 -- ---- the search
 
 -- a node has taken a branch: where another one comes next, the path was marked at each number of its cases but the last one
-pub record IsRunning (a : Arena) (c : Condition) (ids : List TermId) (g : Ground) (limits : Limits) (p : ToldPath) (s : Growth) (ms : List PathMark) : Type 0 where
+pub record IsRunning (a : Arena) (c : Condition) (ids : List TermId) (g : Ground) (limits : Limits) (p : BranchTrail) (s : Growth) (ms : List TrailMark) : Type 0 where
   pub set_up : IsSetUp a c ids g limits p.both
   pub both : IsBoth a p.both
   pub within : IsWithin a c limits s
@@ -84,7 +84,7 @@ pub record IsRunning (a : Arena) (c : Condition) (ids : List TermId) (g : Ground
   pub marks : s.is_left ≡ true → AreMarks a c p ms s.cases (length s.cases)
 
 -- the path with the cases of the branch that comes next is told, or these facts end it
-pub record IsArrived (a : Arena) (c : Condition) (ids : List TermId) (g : Ground) (limits : Limits) (p : ToldPath) (s : Growth) (ms : List PathMark) (o : Option End) : Type 0 where
+pub record IsArrived (a : Arena) (c : Condition) (ids : List TermId) (g : Ground) (limits : Limits) (p : BranchTrail) (s : Growth) (ms : List TrailMark) (o : Option End) : Type 0 where
   pub set_up : IsSetUp a c ids g limits p.both
   pub within : IsWithin a c limits s
   pub comes : s.is_left ≡ true

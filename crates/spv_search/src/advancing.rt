@@ -4,11 +4,11 @@ ghost use Rattle.std.specs.Prelude.{◌≡◌, true, IfOk, OnOk};
 ghost use Rattle.spv_search.specs.Searching.{IsArrived, IsRunning};
 ghost use Rattle.spv_search.specs.Walking.{IsBefore};
 
-use spv_branches::Branches;
-use spv_decided::Limits;
+use crate::branches::Branches;
 use spv_term::{Condition, TermId, Terms};
-use spv_told_facts::End;
-use spv_told_paths::{Ground, PathMark, ToldPath};
+use spv_trail::backtracking::{BranchTrail, Ground, TrailMark};
+use spv_trail::propagation::End;
+use spv_verdicts::answers::Limits;
 use std::alloc::{AllocError, Global};
 
 // The path goes back to the mark before the last case of the branch that comes next.
@@ -19,9 +19,9 @@ fn go_back(
     atoms: &[TermId],
     ground: &Ground,
     limits: &Limits,
-    path: &mut ToldPath,
+    path: &mut BranchTrail,
     branches: &Branches,
-    marks: &[PathMark],
+    marks: &[TrailMark],
 ) -> Result<(), AllocError>
     requires running { IsRunning terms.now condition.now atoms.now ground.now limits.now path.old branches.now marks.now }
     requires comes { branches.now.is_left ≡ true }
@@ -42,9 +42,9 @@ fn tell_last(
     atoms: &[TermId],
     ground: &Ground,
     limits: &Limits,
-    path: &mut ToldPath,
+    path: &mut BranchTrail,
     branches: &Branches,
-    marks: &[PathMark],
+    marks: &[TrailMark],
 ) -> Result<Option<End>, AllocError>
     requires { IsBefore terms.now condition.now atoms.now ground.now limits.now path.old branches.now marks.now }
     ensures { IfOk result (IsArrived terms.now condition.now atoms.now ground.now limits.now path.new branches.now marks.now) }
@@ -78,9 +78,9 @@ pub(crate) fn advance(
     atoms: &[TermId],
     ground: &Ground,
     limits: &Limits,
-    path: &mut ToldPath,
+    path: &mut BranchTrail,
     branches: &Branches,
-    marks: &[PathMark],
+    marks: &[TrailMark],
 ) -> Result<Option<End>, AllocError>
     requires running { IsRunning terms.now condition.now atoms.now ground.now limits.now path.old branches.now marks.now }
     requires comes { branches.now.is_left ≡ true }

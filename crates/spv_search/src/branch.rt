@@ -2,41 +2,41 @@
 
 ghost use Rattle.std.specs.Prelude.{◌≡◌, ◌<◌, ◌≤◌, ◌+◌, List, length, Some, None, IfOk, OnOk};
 ghost use Rattle.spv_term.specs.Arena.{AllBelow};
-ghost use Rattle.spv_branches.specs.declared.cases.Case.{Case};
-ghost use Rattle.spv_guide.specs.Guiding.{IsGuide, MayBeSplit};
-ghost use Rattle.spv_full_states.specs.States.{AreListed};
+ghost use Rattle.spv_search.specs.declared.branches.cases.Case.{Case};
+ghost use Rattle.spv_decisions.specs.heuristic.Guiding.{IsHeuristic, MayBeSplit};
+ghost use Rattle.spv_branch_theory.specs.saturation.States.{AreListed};
 ghost use Rattle.spv_share.specs.Both.{IsBoth};
-ghost use Rattle.spv_told_paths.specs.Paths.{IsToldPath};
+ghost use Rattle.spv_trail.specs.backtracking.Paths.{IsBranchTrail};
 ghost use Rattle.spv_search.specs.Searching.{AreMarks, formulas_in, IsArrived};
 ghost use Rattle.spv_search.specs.Finding.{IsQuiet, IsResting, IsVisited};
 
+use crate::branches::Branches;
 use crate::closing::{close, close_by, count_of};
 use crate::consulting::{Next, consult};
 use crate::resting::law_rest;
 use crate::stating::state;
 use crate::stopping::give_up;
 use crate::surveying::survey;
-use spv_branches::Branches;
-use spv_choosing::{Choice, choose};
-use spv_decided::{Limits, Verdict};
-use spv_guide::Guide;
+use spv_decisions::decision::{Choice, choose};
+use spv_decisions::heuristic::Heuristic;
 use spv_share::Shared;
 use spv_term::{Condition, TermId, Terms};
-use spv_told_facts::End;
-use spv_told_paths::{Ground, PathMark, ToldPath};
+use spv_trail::backtracking::{BranchTrail, Ground, TrailMark};
+use spv_trail::propagation::End;
+use spv_verdicts::answers::{Limits, Verdict};
 use std::alloc::{AllocError, Global};
 
 // The marks of the first cases, so many, with one of the path as it is behind them.
 fn push_mark(
     terms: &Terms,
     condition: &Condition,
-    path: &ToldPath,
-    marks: &mut Vec<PathMark>,
+    path: &BranchTrail,
+    marks: &mut Vec<TrailMark>,
     count: usize,
 ) -> Result<(), AllocError>
     requires both { IsBoth terms.now path.now.both }
     requires count { count ≤ length marks.old.items }
-    ensures { OnOk result ((cs : List Case) → count ≡ length cs → IsToldPath terms.now condition.now (formulas_in terms.now cs) path.now
+    ensures { OnOk result ((cs : List Case) → count ≡ length cs → IsBranchTrail terms.now condition.now (formulas_in terms.now cs) path.now
         → AreMarks terms.now condition.now path.now marks.old.items cs count → AreMarks terms.now condition.now path.now marks.new.items cs (count + 1)) }
 {
     marks.truncate(count);
@@ -51,9 +51,9 @@ fn split(
     atoms: &[TermId],
     ground: &Ground,
     limits: &Limits,
-    path: &ToldPath,
+    path: &BranchTrail,
     branches: &mut Branches,
-    marks: &mut Vec<PathMark>,
+    marks: &mut Vec<TrailMark>,
     t: TermId,
 ) -> Result<(), AllocError>
     requires resting { IsResting terms.now condition.now atoms.now ground.now limits.now path.now branches.old marks.old.items }
@@ -82,9 +82,9 @@ fn go_on(
     atoms: &[TermId],
     ground: &Ground,
     limits: &Limits,
-    path: &ToldPath,
+    path: &BranchTrail,
     branches: &mut Branches,
-    marks: &mut Vec<PathMark>,
+    marks: &mut Vec<TrailMark>,
 ) -> Result<Option<Verdict>, AllocError>
     requires given { AllBelow (length terms.now.nodes) condition.now.given }
     requires goal { condition.now.goal.0 < length terms.now.nodes }
@@ -122,21 +122,21 @@ fn rest(
     atoms: &[TermId],
     ground: &Ground,
     limits: &Limits,
-    guide: &Guide,
-    path: &ToldPath,
+    heuristic: &Heuristic,
+    path: &BranchTrail,
     branches: &mut Branches,
-    marks: &mut Vec<PathMark>,
+    marks: &mut Vec<TrailMark>,
 ) -> Result<Option<Verdict>, AllocError>
     requires given { AllBelow (length terms.now.nodes) condition.now.given }
     requires goal { condition.now.goal.0 < length terms.now.nodes }
     requires listed { AreListed terms.now condition.now subterms.now listed.now }
-    requires guide { IsGuide terms.now guide.now }
+    requires heuristic { IsHeuristic terms.now heuristic.now }
     requires resting { IsResting terms.now condition.now atoms.now ground.now limits.now path.now branches.old marks.old.items }
     ensures { IfOk result (IsVisited terms.now condition.now atoms.now ground.now limits.now path.now branches.old branches.new marks.new.items) }
 {
     law_rest(terms, path);
     let next = consult(
-        alloc, terms, condition, subterms, listed, atoms, guide, path,
+        alloc, terms, condition, subterms, listed, atoms, heuristic, path,
     )?;
     match next {
         Next::Found(unproved) => Ok(Some(Verdict::Unproved(unproved))),
@@ -162,15 +162,15 @@ fn ask(
     atoms: &[TermId],
     ground: &Ground,
     limits: &Limits,
-    guide: &Guide,
-    path: &mut ToldPath,
+    heuristic: &Heuristic,
+    path: &mut BranchTrail,
     branches: &mut Branches,
-    marks: &mut Vec<PathMark>,
+    marks: &mut Vec<TrailMark>,
 ) -> Result<Option<Verdict>, AllocError>
     requires given { AllBelow (length terms.now.nodes) condition.now.given }
     requires goal { condition.now.goal.0 < length terms.now.nodes }
     requires listed { AreListed terms.now condition.now subterms.now listed.now }
-    requires guide { IsGuide terms.now guide.now }
+    requires heuristic { IsHeuristic terms.now heuristic.now }
     requires quiet { IsQuiet terms.now condition.now atoms.now ground.now limits.now path.old branches.old marks.old.items }
     ensures { IfOk result (IsVisited terms.now condition.now atoms.now ground.now limits.now path.new branches.old branches.new marks.new.items) }
 {
@@ -178,7 +178,7 @@ fn ask(
     let shared = state(alloc, terms, path)?;
     match shared {
         Shared::Open => rest(
-            alloc, terms, condition, subterms, listed, atoms, ground, limits, guide, path,
+            alloc, terms, condition, subterms, listed, atoms, ground, limits, heuristic, path,
             branches, marks,
         ),
         Shared::Closed(steps) => {
@@ -186,7 +186,7 @@ fn ask(
                 alloc,
                 terms,
                 condition,
-                &mut path.course,
+                &mut path.derivation,
                 branches,
                 steps,
                 count,
@@ -210,26 +210,26 @@ fn grow(
     atoms: &[TermId],
     ground: &Ground,
     limits: &Limits,
-    guide: &Guide,
-    path: &mut ToldPath,
+    heuristic: &Heuristic,
+    path: &mut BranchTrail,
     branches: &mut Branches,
-    marks: &mut Vec<PathMark>,
+    marks: &mut Vec<TrailMark>,
 ) -> Result<Option<Verdict>, AllocError>
     requires given { AllBelow (length terms.now.nodes) condition.now.given }
     requires goal { condition.now.goal.0 < length terms.now.nodes }
     requires listed { AreListed terms.now condition.now subterms.now listed.now }
-    requires guide { IsGuide terms.now guide.now }
+    requires heuristic { IsHeuristic terms.now heuristic.now }
     requires arrived { IsArrived terms.now condition.now atoms.now ground.now limits.now path.old branches.old marks.old.items None }
     ensures { IfOk result (IsVisited terms.now condition.now atoms.now ground.now limits.now path.new branches.old branches.new marks.new.items) }
 {
     let ended = path.grow(alloc, terms, condition, ground)?;
     match ended {
         Some(end) => {
-            close_by(alloc, terms, condition, &mut path.course, branches, end)?;
+            close_by(alloc, terms, condition, &mut path.derivation, branches, end)?;
             Ok(None)
         }
         None => ask(
-            alloc, terms, condition, subterms, listed, atoms, ground, limits, guide, path,
+            alloc, terms, condition, subterms, listed, atoms, ground, limits, heuristic, path,
             branches, marks,
         ),
     }
@@ -248,26 +248,26 @@ pub(crate) fn take_branch(
     atoms: &[TermId],
     ground: &Ground,
     limits: &Limits,
-    guide: &Guide,
-    path: &mut ToldPath,
+    heuristic: &Heuristic,
+    path: &mut BranchTrail,
     branches: &mut Branches,
-    marks: &mut Vec<PathMark>,
+    marks: &mut Vec<TrailMark>,
     end: Option<End>,
 ) -> Result<Option<Verdict>, AllocError>
     requires given { AllBelow (length terms.now.nodes) condition.now.given }
     requires goal { condition.now.goal.0 < length terms.now.nodes }
     requires listed { AreListed terms.now condition.now subterms.now listed.now }
-    requires guide { IsGuide terms.now guide.now }
+    requires heuristic { IsHeuristic terms.now heuristic.now }
     requires arrived { IsArrived terms.now condition.now atoms.now ground.now limits.now path.old branches.old marks.old.items end }
     ensures { IfOk result (IsVisited terms.now condition.now atoms.now ground.now limits.now path.new branches.old branches.new marks.new.items) }
 {
     match end {
         Some(end) => {
-            close_by(alloc, terms, condition, &mut path.course, branches, end)?;
+            close_by(alloc, terms, condition, &mut path.derivation, branches, end)?;
             Ok(None)
         }
         None => grow(
-            alloc, terms, condition, subterms, listed, atoms, ground, limits, guide, path,
+            alloc, terms, condition, subterms, listed, atoms, ground, limits, heuristic, path,
             branches, marks,
         ),
     }

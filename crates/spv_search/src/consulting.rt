@@ -3,21 +3,21 @@
 ghost use Rattle.std.specs.Prelude.{◌<◌, length, IfOk};
 ghost use Rattle.spv_term.specs.Arena.{AllBelow};
 ghost use Rattle.spv_table.specs.Kept.{PairsIn};
-ghost use Rattle.spv_known_facts.specs.Facts.{AreThere};
-ghost use Rattle.spv_full_states.specs.States.{AreListed};
-ghost use Rattle.spv_guide.specs.Guiding.{IsGuide};
-ghost use Rattle.spv_tried_tables.specs.Trying.{IsTried, ListsSubterms};
+ghost use Rattle.spv_decisions.specs.literal_lookup.Facts.{AreThere};
+ghost use Rattle.spv_branch_theory.specs.saturation.States.{AreListed};
+ghost use Rattle.spv_decisions.specs.heuristic.Guiding.{IsHeuristic};
+ghost use Rattle.spv_verdicts.specs.candidate_models.Trying.{IsTried, ListsSubterms};
 ghost use Rattle.spv_search.specs.Finding.{HasOpenState, IsNext, IsTableFor, MayBeSplitIf};
 
-use spv_decided::Unproved;
-use spv_full_states::law_full_state;
-use spv_full_tables::full_table;
-use spv_guide::{Advice, Guide, apart_by, shown_false};
+use spv_branch_theory::model_construction::full_table;
+use spv_branch_theory::saturation::law_full_state;
+use spv_decisions::heuristic::{Advice, Heuristic, apart_by, shown_false};
 use spv_share::Both;
 use spv_table::Table;
 use spv_term::{Condition, TermId, Terms};
-use spv_told_paths::ToldPath;
-use spv_tried_tables::{Tried, try_table};
+use spv_trail::backtracking::BranchTrail;
+use spv_verdicts::answers::Unproved;
+use spv_verdicts::candidate_models::{Tried, try_table};
 use std::alloc::{AllocError, Global};
 
 /// What a search does next with a path at rest.
@@ -50,7 +50,7 @@ fn table_of(
 }
 
 // To split on an atom, if one was found.
-fn split_on(terms: &Terms, atoms: &[TermId], path: &ToldPath, found: Option<TermId>) -> Next
+fn split_on(terms: &Terms, atoms: &[TermId], path: &BranchTrail, found: Option<TermId>) -> Next
     requires { MayBeSplitIf terms.now atoms.now path.now found }
     ensures { (c : Condition) → IsNext terms.now c atoms.now path.now result }
 {
@@ -68,7 +68,7 @@ fn mend(
     alloc: Global,
     terms: &Terms,
     atoms: &[TermId],
-    path: &ToldPath,
+    path: &BranchTrail,
     table: &Table,
 ) -> Result<Next, AllocError>
     requires atoms { AllBelow (length terms.now.nodes) atoms.now }
@@ -83,7 +83,7 @@ fn mend(
 }
 
 // To split on an equation of two arguments of these terms.
-fn mend_apart(terms: &Terms, atoms: &[TermId], path: &ToldPath, t: TermId, u: TermId) -> Next
+fn mend_apart(terms: &Terms, atoms: &[TermId], path: &BranchTrail, t: TermId, u: TermId) -> Next
     requires atoms { AllBelow (length terms.now.nodes) atoms.now }
     requires known { AreThere terms.now path.now.known.items }
     requires t { t.0 < length terms.now.nodes }
@@ -104,7 +104,7 @@ fn probe(
     subterms: &[TermId],
     listed: &[bool],
     atoms: &[TermId],
-    path: &ToldPath,
+    path: &BranchTrail,
 ) -> Result<Next, AllocError>
     requires given { AllBelow (length terms.now.nodes) condition.now.given }
     requires goal { condition.now.goal.0 < length terms.now.nodes }
@@ -131,13 +131,13 @@ pub(crate) fn consult(
     subterms: &[TermId],
     listed: &[bool],
     atoms: &[TermId],
-    guide: &Guide,
-    path: &ToldPath,
+    heuristic: &Heuristic,
+    path: &BranchTrail,
 ) -> Result<Next, AllocError>
     requires given { AllBelow (length terms.now.nodes) condition.now.given }
     requires goal { condition.now.goal.0 < length terms.now.nodes }
     requires listed { AreListed terms.now condition.now subterms.now listed.now }
-    requires guide { IsGuide terms.now guide.now }
+    requires heuristic { IsHeuristic terms.now heuristic.now }
     requires atoms { AllBelow (length terms.now.nodes) atoms.now }
     requires known { AreThere terms.now path.now.known.items }
     requires state { HasOpenState terms.now condition.now path.now.both }
@@ -145,7 +145,7 @@ pub(crate) fn consult(
 {
     let values = path.lists.all.as_slice();
     let known = path.known.as_slice();
-    let advice = guide.advise(alloc, terms, atoms, values, known)?;
+    let advice = heuristic.advise(alloc, terms, atoms, values, known)?;
     match advice {
         Advice::Split(t) => Ok(Next::Split(t)),
         Advice::Decided => probe(alloc, terms, condition, subterms, listed, atoms, path),

@@ -2,24 +2,24 @@
 
 ghost use Rattle.std.specs.Prelude.{◌≡◌, ◌<◌, [], false, length, IfOk};
 ghost use Rattle.spv_term.specs.Arena.{AllBelow};
-ghost use Rattle.spv_full_states.specs.States.{AreListed};
-ghost use Rattle.spv_guide.specs.Guiding.{IsGuide};
-ghost use Rattle.spv_leaf_tables.specs.Laws.{AreFormulas};
-ghost use Rattle.spv_leaf_tables.specs.Tables.{formulas_of};
-ghost use Rattle.spv_proof.specs.Stand.{question};
+ghost use Rattle.spv_branch_theory.specs.saturation.States.{AreListed};
+ghost use Rattle.spv_decisions.specs.heuristic.Guiding.{IsHeuristic};
+ghost use Rattle.spv_models.specs.leaf_models.Laws.{AreFormulas};
+ghost use Rattle.spv_models.specs.leaf_models.Tables.{formulas_of};
+ghost use Rattle.spv_proof_rules.specs.Stand.{question};
 ghost use Rattle.spv_share.specs.Both.{IsBoth, told};
-ghost use Rattle.spv_told_paths.specs.Paths.{IsToldOrEnded};
+ghost use Rattle.spv_trail.specs.backtracking.Paths.{IsToldOrEnded};
 ghost use Rattle.spv_search.specs.Searching.{IsSetUp, IsWithin};
 ghost use Rattle.spv_search.specs.Finding.{IsFound};
 
+use crate::branches::{Branches, Finished};
 use crate::walking::run;
-use spv_branches::{Branches, Finished};
-use spv_decided::{Limit, Limits, Verdict};
-use spv_guide::Guide;
+use spv_decisions::heuristic::Heuristic;
 use spv_share::Both;
 use spv_term::{Condition, TermId, Terms};
-use spv_told_facts::End;
-use spv_told_paths::{Ground, ToldPath};
+use spv_trail::backtracking::{BranchTrail, Ground};
+use spv_trail::propagation::End;
+use spv_verdicts::answers::{Limit, Limits, Verdict};
 use std::alloc::{AllocError, Global};
 
 // The verdict where no branch is left: proved, or that the splits are spent.
@@ -55,14 +55,14 @@ fn explore(
     atoms: &[TermId],
     ground: &Ground,
     limits: &Limits,
-    guide: &Guide,
-    path: &mut ToldPath,
+    heuristic: &Heuristic,
+    path: &mut BranchTrail,
     end: Option<End>,
 ) -> Result<Verdict, AllocError>
     requires given { AllBelow (length terms.now.nodes) condition.now.given }
     requires goal { condition.now.goal.0 < length terms.now.nodes }
     requires listed { AreListed terms.now condition.now subterms.now listed.now }
-    requires guide { IsGuide terms.now guide.now }
+    requires heuristic { IsHeuristic terms.now heuristic.now }
     requires set_up { IsSetUp terms.now condition.now atoms.now ground.now limits.now path.old.both }
     requires told { IsToldOrEnded terms.now condition.now [] path.old end }
     ensures { IfOk result (IsFound terms.now condition.now limits.now) }
@@ -78,7 +78,7 @@ fn explore(
         atoms,
         ground,
         limits,
-        guide,
+        heuristic,
         path,
         &mut branches,
         &mut marks,
@@ -112,9 +112,10 @@ pub fn search(
     requires untold { told both ≡ [] }
     ensures { IfOk result (IsFound terms.now condition.now limits.now) }
 {
-    let guide = Guide::new(alloc, terms, condition, atoms)?;
-    let (mut path, end) = ToldPath::begin(alloc, terms, condition, ground, both)?;
+    let heuristic = Heuristic::new(alloc, terms, condition, atoms)?;
+    let (mut path, end) = BranchTrail::begin(alloc, terms, condition, ground, both)?;
     explore(
-        alloc, terms, condition, subterms, listed, atoms, ground, limits, &guide, &mut path, end,
+        alloc, terms, condition, subterms, listed, atoms, ground, limits, &heuristic, &mut path,
+        end,
     )
 }

@@ -4,8 +4,10 @@
 
 mod advancing;
 mod branch;
+pub mod branches;
 mod closing;
 mod consulting;
+pub mod deciding;
 mod exploring;
 mod resting;
 mod stating;

@@ -4,13 +4,13 @@ ghost use Rattle.std.specs.Prelude.{◌≡◌, IfOk};
 ghost use Rattle.spv_term.specs.declared.nodes.Condition.{Condition};
 ghost use Rattle.spv_term.specs.Arena.{Arena};
 ghost use Rattle.spv_verdicts.specs.Verdicts.{Limits};
-ghost use Rattle.spv_evidence.specs.Laws.{IsStoppedFor};
+ghost use Rattle.spv_branch_theory.specs.evidence.Laws.{IsStoppedFor};
 ghost use Rattle.spv_share.specs.States.{IsLimit};
 ghost use Rattle.spv_search.specs.Finding.{is_too_wide, IsFound, IsStoppedBy};
 
-use spv_decided::{Limit, Verdict, Wide};
 use spv_share::Both;
 use spv_simplex::{Checked, Evidence};
+use spv_verdicts::answers::{Limit, Verdict, Wide};
 use std::alloc::{AllocError, Global};
 
 // Whether a check met a number that is too wide.

@@ -2,17 +2,17 @@
 
 ghost use Rattle.std.specs.Prelude.{◌≡◌, ◌<◌, length, IfOk, IfSome, IfNone};
 ghost use Rattle.spv_term.specs.Arena.{AllBelow};
-ghost use Rattle.spv_full_states.specs.States.{AreListed};
-ghost use Rattle.spv_full_tables.specs.Numbers.{IsFullTable};
+ghost use Rattle.spv_branch_theory.specs.saturation.States.{AreListed};
+ghost use Rattle.spv_branch_theory.specs.model_construction.Numbers.{IsFullTable};
 ghost use Rattle.spv_search.specs.Finding.{HasFullState, IsFoundAlways};
 
-use spv_decided::{Limit, Unproved, Verdict, Wide};
-use spv_full_states::{law_full_state, law_wide_value};
-use spv_full_tables::full_table;
+use spv_branch_theory::model_construction::full_table;
+use spv_branch_theory::saturation::{law_full_state, law_wide_value};
 use spv_share::Both;
-use spv_surviving::{SurvivingFault, surviving};
 use spv_table::Table;
 use spv_term::{Condition, TermId, Terms};
+use spv_verdicts::answers::{Limit, Unproved, Verdict, Wide};
+use spv_verdicts::model_check::{SurvivingFault, surviving};
 use std::alloc::{AllocError, Global};
 
 // What the table of a full path shows: the condition is unproved, or an operation is too wide.

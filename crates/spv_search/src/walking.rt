@@ -2,20 +2,20 @@
 
 ghost use Rattle.std.specs.Prelude.{◌≡◌, ◌<◌, true, length, IfOk};
 ghost use Rattle.spv_term.specs.Arena.{AllBelow};
-ghost use Rattle.spv_full_states.specs.States.{AreListed};
-ghost use Rattle.spv_guide.specs.Guiding.{IsGuide};
+ghost use Rattle.spv_branch_theory.specs.saturation.States.{AreListed};
+ghost use Rattle.spv_decisions.specs.heuristic.Guiding.{IsHeuristic};
 ghost use Rattle.spv_search.specs.Searching.{IsArrived, IsRunning};
 ghost use Rattle.spv_search.specs.Finding.{IsVisited};
 ghost use Rattle.spv_search.specs.Walking.{IsWalked};
 
 use crate::advancing::advance;
 use crate::branch::take_branch;
-use spv_branches::Branches;
-use spv_decided::{Limits, Verdict};
-use spv_guide::Guide;
+use crate::branches::Branches;
+use spv_decisions::heuristic::Heuristic;
 use spv_term::{Condition, TermId, Terms};
-use spv_told_facts::End;
-use spv_told_paths::{Ground, PathMark, ToldPath};
+use spv_trail::backtracking::{BranchTrail, Ground, TrailMark};
+use spv_trail::propagation::End;
+use spv_verdicts::answers::{Limits, Verdict};
 use std::alloc::{AllocError, Global};
 
 // The branch that comes next is gone to, and taken.
@@ -28,15 +28,15 @@ fn turn(
     atoms: &[TermId],
     ground: &Ground,
     limits: &Limits,
-    guide: &Guide,
-    path: &mut ToldPath,
+    heuristic: &Heuristic,
+    path: &mut BranchTrail,
     branches: &mut Branches,
-    marks: &mut Vec<PathMark>,
+    marks: &mut Vec<TrailMark>,
 ) -> Result<Option<Verdict>, AllocError>
     requires given { AllBelow (length terms.now.nodes) condition.now.given }
     requires goal { condition.now.goal.0 < length terms.now.nodes }
     requires listed { AreListed terms.now condition.now subterms.now listed.now }
-    requires guide { IsGuide terms.now guide.now }
+    requires heuristic { IsHeuristic terms.now heuristic.now }
     requires running { IsRunning terms.now condition.now atoms.now ground.now limits.now path.old branches.old marks.old.items }
     requires comes { branches.old.is_left ≡ true }
     ensures { IfOk result (IsVisited terms.now condition.now atoms.now ground.now limits.now path.new branches.old branches.new marks.new.items) }
@@ -53,8 +53,8 @@ fn turn(
         marks.as_slice(),
     )?;
     take_branch(
-        alloc, terms, condition, subterms, listed, atoms, ground, limits, guide, path, branches,
-        marks, end,
+        alloc, terms, condition, subterms, listed, atoms, ground, limits, heuristic, path,
+        branches, marks, end,
     )
 }
 
@@ -68,21 +68,21 @@ fn walk(
     atoms: &[TermId],
     ground: &Ground,
     limits: &Limits,
-    guide: &Guide,
-    path: &mut ToldPath,
+    heuristic: &Heuristic,
+    path: &mut BranchTrail,
     branches: &mut Branches,
-    marks: &mut Vec<PathMark>,
+    marks: &mut Vec<TrailMark>,
 ) -> Result<Option<Verdict>, AllocError>
     requires given { AllBelow (length terms.now.nodes) condition.now.given }
     requires goal { condition.now.goal.0 < length terms.now.nodes }
     requires listed { AreListed terms.now condition.now subterms.now listed.now }
-    requires guide { IsGuide terms.now guide.now }
+    requires heuristic { IsHeuristic terms.now heuristic.now }
     requires running { IsRunning terms.now condition.now atoms.now ground.now limits.now path.old branches.old marks.old.items }
     ensures { IfOk result (IsWalked terms.now condition.now limits.now branches.new) }
 {
     while branches.is_left() {
         let found = turn(
-            alloc, terms, condition, subterms, listed, atoms, ground, limits, guide, path,
+            alloc, terms, condition, subterms, listed, atoms, ground, limits, heuristic, path,
             branches, marks,
         )?;
         if let Some(verdict) = found {
@@ -102,27 +102,27 @@ pub(crate) fn run(
     atoms: &[TermId],
     ground: &Ground,
     limits: &Limits,
-    guide: &Guide,
-    path: &mut ToldPath,
+    heuristic: &Heuristic,
+    path: &mut BranchTrail,
     branches: &mut Branches,
-    marks: &mut Vec<PathMark>,
+    marks: &mut Vec<TrailMark>,
     end: Option<End>,
 ) -> Result<Option<Verdict>, AllocError>
     requires given { AllBelow (length terms.now.nodes) condition.now.given }
     requires goal { condition.now.goal.0 < length terms.now.nodes }
     requires listed { AreListed terms.now condition.now subterms.now listed.now }
-    requires guide { IsGuide terms.now guide.now }
+    requires heuristic { IsHeuristic terms.now heuristic.now }
     requires arrived { IsArrived terms.now condition.now atoms.now ground.now limits.now path.old branches.old marks.old.items end }
     ensures { IfOk result (IsWalked terms.now condition.now limits.now branches.new) }
 {
     let found = take_branch(
-        alloc, terms, condition, subterms, listed, atoms, ground, limits, guide, path, branches,
-        marks, end,
+        alloc, terms, condition, subterms, listed, atoms, ground, limits, heuristic, path,
+        branches, marks, end,
     )?;
     match found {
         Some(verdict) => Ok(Some(verdict)),
         None => walk(
-            alloc, terms, condition, subterms, listed, atoms, ground, limits, guide, path,
+            alloc, terms, condition, subterms, listed, atoms, ground, limits, heuristic, path,
             branches, marks,
         ),
     }

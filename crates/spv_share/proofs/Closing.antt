@@ -9,15 +9,15 @@ use Rattle.spv_logic.specs.declared.operators.Head.TheVariants.{Eq}
 use Rattle.spv_logic.specs.Terms.{Term, Terms}
 use Rattle.spv_term.specs.Arena.{Arena, IsArena, tree}
 use Rattle.spv_term.proofs.ListLemmas.{slice_get-append_left}
-use Rattle.spv_joined.specs.Joined.{AllJoined, congruent, IsAmong, itself, Joined, more, none, through, told, turned}
-use Rattle.spv_joined.specs.Joined as joined
+use Rattle.spv_term.specs.closure.Joined.{AllJoined, congruent, IsAmong, itself, Joined, more, none, through, told, turned}
+use Rattle.spv_term.specs.closure.Joined as joined
 use Rattle.spv_congruence.specs.declared.facts.Fact.{Fact}
 use Rattle.spv_congruence.specs.Graph.{are_same, Graph, IsFact}
 use Rattle.spv_congruence.specs.Keep.{IsNode}
 use Rattle.spv_congruence.specs.Told.{IsAdded, IsExact, IsOf, IsTold}
 use Rattle.spv_congruence.specs.Told as graph
-use Rattle.spv_pivots.proofs.Tests.{and_left, and_right}
-use Rattle.spv_share_graph.specs.Telling.{Tie, tie_of, ties, value_tie}
+use Rattle.spv_tableau_rules.proofs.pivots.Tests.{and_left, and_right}
+use Rattle.spv_explanations.specs.congruence_side.Telling.{Tie, tie_of, ties, value_tie}
 use Rattle.spv_share.specs.declared.relations.Related.{Related}
 use Rattle.spv_share.specs.States.{count_open, is_equality}
 

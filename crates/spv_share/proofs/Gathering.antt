@@ -17,12 +17,12 @@ use Rattle.spv_congruence.specs.Told.{argument, IsPart, whole}
 use Rattle.spv_atoms.specs.Atoms.{only_if}
 use Rattle.spv_atoms.specs.Order.{passing}
 use Rattle.spv_atoms.proofs.Members.{passing-append}
-use Rattle.spv_proof.specs.Sums.{pair}
-use Rattle.spv_bounds.specs.Pairs.{IsPair}
-use Rattle.spv_sums.specs.Readings.{number_in}
-use Rattle.spv_readings.specs.Relations.{if_numbers, in_front, number_sides, relations}
-use Rattle.spv_share_graph.specs.declared.trail.Trail.{Trail}
-use Rattle.spv_share_graph.specs.Holding.{AddsTerm, Holds}
+use Rattle.spv_proof_rules.specs.Sums.{pair}
+use Rattle.spv_arithmetic_side.specs.bounds.Pairs.{IsPair}
+use Rattle.spv_proof.specs.sums.Readings.{number_in}
+use Rattle.spv_tableau_rules.specs.constraints.Relations.{if_numbers, in_front, number_sides, relations}
+use Rattle.spv_explanations.specs.declared.congruence_side.trail.Trail.{Trail}
+use Rattle.spv_explanations.specs.congruence_side.Holding.{AddsTerm, Holds}
 use Rattle.spv_share.specs.declared.relations.Related.{Related}
 use Rattle.spv_share.specs.Relations.{AreNodes, AreParts, AreRelations, head_under, AreListed, IsGathered, IsListed, IsPartOf, IsRelation, is_relation, related, sides_in}
 use Rattle.spv_share.proofs.Sound.{relations_more}
@@ -171,7 +171,7 @@ pub gathered_other : (a : Arena) (old new : Trail) (ts : List TermId) (t : TermI
     → number_sides (number_in a) (tree a t) ≡ None → IsGathered a new (ts ++ t ∷ []) rels
 gathered_other a old new ts t rels h holds adds node none = record {
   holds = holds;
-  course = adds.course ∙ h.course;
+  derivation = adds.derivation ∙ h.derivation;
   untold = adds.told ∙ h.untold;
   parts = parts_atom a old new ts t h.parts adds;
   nodes = nodes_push new.graph.nodes ts t (record { each = λ i u at. adds.nodes u (h.nodes.each i u at) }) node;
@@ -235,7 +235,7 @@ pub gathered_relation : (a : Arena) → IsArena a → (old first second new : Tr
     → IsGathered a new (ts ++ t ∷ []) new_rels
 gathered_relation a ok old first second new ts t l r old_rels new_rels inside h grows_one grows_two grows_three holds node left right left_in right_in sides pushed = record {
   holds = holds;
-  course = grows_three.course ∙ (grows_two.course ∙ (grows_one.course ∙ h.course));
+  derivation = grows_three.derivation ∙ (grows_two.derivation ∙ (grows_one.derivation ∙ h.derivation));
   untold = grows_three.told ∙ (grows_two.told ∙ (grows_one.told ∙ h.untold));
   parts =
       let are = sides_parts a ok t l r (head_of (tree a t)) inside left_in right_in (sides_are (number_in a) (tree a t) (tree a l) (tree a r) sides) in
@@ -284,10 +284,10 @@ ids ts = ts
 abbrev rels_of : List Related → List Related
 rels_of rs = rs
 
-pub gathered_none : (a : Arena) (tr : Trail) → Holds a tr → tr.course ≡ [] → tr.graph.told ≡ [] → AreParts a tr.graph.nodes (tr.truth ∷ tr.falsity ∷ []) → IsGathered a tr [] []
-gathered_none a tr h course untold parts = record {
+pub gathered_none : (a : Arena) (tr : Trail) → Holds a tr → tr.derivation ≡ [] → tr.graph.told ≡ [] → AreParts a tr.graph.nodes (tr.truth ∷ tr.falsity ∷ []) → IsGathered a tr [] []
+gathered_none a tr h derivation untold parts = record {
   holds = h;
-  course = course;
+  derivation = derivation;
   untold = untold;
   parts = parts;
   nodes = record { each = λ i t at. absurd (nothing i t at) };
@@ -308,9 +308,9 @@ pair_here a sides None p h e = absurd (cc)
 pair_here a sides (Some q) p h e = subst (IsPair a sides) (same_Some q p e) h
 
 -- the first of no atoms
-pub gathered_start : (a : Arena) (tr : Trail) (atoms : List TermId) (rels : List Related) → rels ≡ [] → Holds a tr → tr.course ≡ [] → tr.graph.told ≡ [] → AreParts a tr.graph.nodes (tr.truth ∷ tr.falsity ∷ []) → IsGathered a tr (take 0 atoms) rels
-gathered_start a tr atoms rels none h course untold parts =
-    subst (λ (ts : List TermId). IsGathered a tr ts rels) (sym (take_none atoms)) (subst (λ (rs : List Related). IsGathered a tr [] rs) (sym none) (gathered_none a tr h course untold parts))
+pub gathered_start : (a : Arena) (tr : Trail) (atoms : List TermId) (rels : List Related) → rels ≡ [] → Holds a tr → tr.derivation ≡ [] → tr.graph.told ≡ [] → AreParts a tr.graph.nodes (tr.truth ∷ tr.falsity ∷ []) → IsGathered a tr (take 0 atoms) rels
+gathered_start a tr atoms rels none h derivation untold parts =
+    subst (λ (ts : List TermId). IsGathered a tr ts rels) (sym (take_none atoms)) (subst (λ (rs : List Related). IsGathered a tr [] rs) (sym none) (gathered_none a tr h derivation untold parts))
   where
     take_none : (xs : List TermId) → take 0 xs ≡ []
     take_none [] = refl

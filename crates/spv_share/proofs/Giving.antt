@@ -2,12 +2,12 @@
 use Rattle.std.proofs.Common.{◌≡◌, ℕ, ◌<◌, true, List, length, sym, ap, ◌∙◌, subst, Some, get_or}
 use Rattle.std.proofs.lemmas.Option.{slice_get-get_or}
 use Rattle.std.specs.Prelude.{slice_get}
-use Rattle.spv_pivots.proofs.Sums.{eq_is}
-use Rattle.spv_pivots.proofs.Tests.{and_left, and_right}
+use Rattle.spv_tableau_rules.proofs.pivots.Sums.{eq_is}
+use Rattle.spv_tableau_rules.proofs.pivots.Tests.{and_left, and_right}
 use Rattle.spv_term.specs.Arena.{Arena}
 use Rattle.spv_congruence.specs.Graph.{are_same, label_of}
 use Rattle.spv_congruence.specs.Keep.{IsNode}
-use Rattle.spv_reasons.specs.Reasons.{AreSame}
+use Rattle.spv_explanations.specs.equalities.Reasons.{AreSame}
 use Rattle.spv_share.specs.declared.relations.Related.{Related}
 use Rattle.spv_share.specs.declared.both.Both.{Both}
 use Rattle.spv_share.specs.Both.{IsSound}

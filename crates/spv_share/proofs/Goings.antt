@@ -6,21 +6,21 @@ use Rattle.spv_term.specs.Arena.{Arena, IsArena}
 use Rattle.spv_congruence.specs.Graph.{are_same, Graph}
 use Rattle.spv_congruence.specs.Told.{IsExact}
 use Rattle.spv_simplex.specs.Checks.{HoldsAsserted}
-use Rattle.spv_share_graph.specs.Telling.{ties, value_tie}
-use Rattle.spv_tableaux.specs.Bounds.{Bound}
-use Rattle.spv_course.specs.Literals.{literals}
-use Rattle.spv_share_graph.specs.declared.trail.Trail.{Trail}
-use Rattle.spv_share_graph.specs.Holding.{Grows, Holds}
-use Rattle.spv_share_graph.proofs.Trails.{grows_then, grows_same}
-use Rattle.spv_share_rows.specs.declared.standing.Standing.{Standing}
-use Rattle.spv_share_rows.specs.Standing.{AddsSome, IsBack, IsStanding, readings, Sourced}
-use Rattle.spv_share_rows.proofs.Adding.{adds_none, adds_then}
-use Rattle.spv_share_rows.proofs.Trying.{back_adds, back_sourced}
+use Rattle.spv_explanations.specs.congruence_side.Telling.{ties, value_tie}
+use Rattle.spv_tableau_rules.specs.tableaux.Bounds.{Bound}
+use Rattle.spv_derivations.specs.derivation.Literals.{literals}
+use Rattle.spv_explanations.specs.declared.congruence_side.trail.Trail.{Trail}
+use Rattle.spv_explanations.specs.congruence_side.Holding.{Grows, Holds}
+use Rattle.spv_explanations.proofs.congruence_side.Trails.{grows_then, grows_same}
+use Rattle.spv_arithmetic_side.specs.declared.constraint_rows.standing.Standing.{Standing}
+use Rattle.spv_arithmetic_side.specs.constraint_rows.Standing.{AddsSome, IsBack, IsStanding, readings, Sourced}
+use Rattle.spv_arithmetic_side.proofs.constraint_rows.Adding.{adds_none, adds_then}
+use Rattle.spv_arithmetic_side.proofs.constraint_rows.Trying.{back_adds, back_sourced}
 use Rattle.spv_share.specs.declared.both.Both.{Both}
 use Rattle.spv_share.specs.declared.relations.Related.{Related}
 use Rattle.spv_share.specs.Relations.{AreSaid, sayable}
 use Rattle.spv_share.proofs.Noted.{noted_as, noted_more}
-use Rattle.spv_share.proofs.Saying.{said_as}
+use Rattle.spv_share.proofs.RowConstraint.{said_as}
 use Rattle.spv_share.specs.Both.{AreReasoned, IsBoth, IsSound, KeepsLevels, Stays, told}
 use Rattle.spv_share.specs.States.{GoesOn, is_equality, is_open, IsStill}
 use Rattle.spv_share.proofs.Closing.{open_head, same_on, was_open}
@@ -83,7 +83,7 @@ goes_then a old mid new g h = record {
 pub open_as : (old new : Both) (r : Related) → new.trail.graph ≡ old.trail.graph → is_open new r ≡ true → is_open old r ≡ true
 open_as old new r graph e = ap (λ (g : Graph). is_equality r.head && not (are_same g r.left r.right)) (sym graph) ∙ e
 
-pub goes_trail : (a : Arena) (old : Both) (tr : Trail) → IsSound a old → Holds a tr → Grows old.trail tr → literals tr.course ≡ literals old.trail.course → tr.graph ≡ old.trail.graph → GoesOn a old (record old { trail = tr })
+pub goes_trail : (a : Arena) (old : Both) (tr : Trail) → IsSound a old → Holds a tr → Grows old.trail tr → literals tr.derivation ≡ literals old.trail.derivation → tr.graph ≡ old.trail.graph → GoesOn a old (record old { trail = tr })
 goes_trail a old tr h holds grows same graph = record {
   sound = sound_trail a old tr h holds grows;
   trail = grows;
@@ -91,13 +91,13 @@ goes_trail a old tr h holds grows same graph = record {
   told_same = same;
   relations = refl;
   claims = refl;
-  reasons = λ k. reasons_as a old.relations.items (told old) (literals tr.course) old.trail.graph.told tr.graph.told same (ap (λ (g : Graph). g.told) graph) k;
+  reasons = λ k. reasons_as a old.relations.items (told old) (literals tr.derivation) old.trail.graph.told tr.graph.told same (ap (λ (g : Graph). g.told) graph) k;
   closes = λ row r at e. open_as old (record old { trail = tr }) r graph e;
 }
 
 -- the graph was told an equality of the relations
 pub goes_joined : {T E : Type 0} (a : Arena) → IsArena a → (old : Both) (tr : Trail) (row : ℕ) (r : Related) (result : Result T E) → IsSound a old → slice_get old.relations.items row ≡ Some r → is_open old r ≡ true → Holds a tr → Grows old.trail tr
-    → literals tr.course ≡ literals old.trail.course → OnOk result (ties tr.graph.told ≡ ties old.trail.graph.told ++ value_tie r.left r.right ∷ []) → OnErr result (tr.graph ≡ old.trail.graph) → IsExact old.trail.graph → IsExact tr.graph
+    → literals tr.derivation ≡ literals old.trail.derivation → OnOk result (ties tr.graph.told ≡ ties old.trail.graph.told ++ value_tie r.left r.right ∷ []) → OnErr result (tr.graph ≡ old.trail.graph) → IsExact old.trail.graph → IsExact tr.graph
     → GoesOn a old (record old { trail = tr })
 goes_joined a ok old tr row r (Err x) h at unjoined holds grows same joined graph exact exact_now = goes_trail a old tr h holds grows same graph
 goes_joined a ok old tr row r (Ok x) h at unjoined holds grows same joined graph exact exact_now = record {
@@ -108,7 +108,7 @@ goes_joined a ok old tr row r (Ok x) h at unjoined holds grows same joined graph
   relations = refl;
   claims = refl;
   reasons = λ k.
-      subst (λ ts. AreReasoned a old.relations.items (literals tr.course) ts) (sym joined)
+      subst (λ ts. AreReasoned a old.relations.items (literals tr.derivation) ts) (sym joined)
       (subst (λ ls. AreReasoned a old.relations.items ls (ties old.trail.graph.told ++ value_tie r.left r.right ∷ [])) (sym same)
       (reasons_joined a old.relations.items (told old) (ties old.trail.graph.told) row r at (open_head old.trail.graph r unjoined) k));
   closes = λ i q there e.
@@ -118,7 +118,7 @@ goes_joined a ok old tr row r (Ok x) h at unjoined holds grows same joined graph
       (grows.nodes q.left rel.left) (grows.nodes q.right rel.right) s) e;
 }
 
-pub goes_standing : (a : Arena) (old : Both) (st : Standing) → IsSound a old → IsStanding st → AddsSome old.standing st → Sourced a (readings a old.trail.course) st st.tableau.bounds
+pub goes_standing : (a : Arena) (old : Both) (st : Standing) → IsSound a old → IsStanding st → AddsSome old.standing st → Sourced a (readings a old.trail.derivation) st st.tableau.bounds
     → HoldsAsserted (sayable old.relations.items old.standing.tableau.forms) st.tableau → AreSaid old.relations.items st.tableau.forms st.tableau.bounds → GoesOn a old (record old { standing = st })
 goes_standing a old st h stands adds sourced asserted said = record {
   sound = sound_standing a old st h stands adds.adds.forms sourced asserted said;
@@ -138,12 +138,12 @@ goes_given a old tr new g sound adds trail relations claims = record {
   sound = sound;
   trail = subst (λ (x : Trail). Grows old.trail x) (sym trail) g.trail;
   standing = adds;
-  told_same = ap (λ (x : Trail). literals x.course) trail ∙ g.told_same;
+  told_same = ap (λ (x : Trail). literals x.derivation) trail ∙ g.told_same;
   relations = ap (λ v. v.items) relations;
   claims = ap (λ v. v.items) claims;
   reasons = λ k.
       subst (λ v. AreReasoned a v.items (told new) (ties new.trail.graph.told)) (sym relations)
-      (subst (λ (x : Trail). AreReasoned a old.relations.items (literals x.course) (ties x.graph.told)) (sym trail) (g.reasons k));
+      (subst (λ (x : Trail). AreReasoned a old.relations.items (literals x.derivation) (ties x.graph.told)) (sym trail) (g.reasons k));
   closes = λ row r at e. g.closes row r at (ap (λ (x : Trail). is_equality r.head && not (are_same x.graph r.left r.right)) (sym trail) ∙ e);
 }
 
@@ -157,15 +157,15 @@ goes_as a old mid new e g = subst (λ (b : Both). GoesOn a b new) e g
 -- as many bounds, and the same
 pub goes_back : (a : Arena) (old : Both) (st : Standing) → IsSound a old → IsStanding st → IsBack old.standing st → HoldsAsserted (sayable old.relations.items old.standing.tableau.forms) st.tableau → GoesOn a old (record old { standing = st })
 goes_back a old st h stands back asserted =
-    goes_standing a old st h stands (adds_back old.standing st back) (back_sourced a (readings a old.trail.course) old.standing st back h.sourced) asserted
+    goes_standing a old st h stands (adds_back old.standing st back) (back_sourced a (readings a old.trail.derivation) old.standing st back h.sourced) asserted
     (said_as old.relations.items old.relations.items old.standing.tableau.forms st.tableau.forms old.standing.tableau.bounds st.tableau.bounds refl back.forms back.bounds h.said)
 
 pub goes_both : (a : Arena) (old new : Both) → IsBoth a old → GoesOn a old new → IsBoth a new
 goes_both a old new h g = record {
   sound = g.sound;
   claims =
-      noted_as a old.relations.items new.relations.items new.trail.course new.trail.course old.claims.items new.claims.items g.relations refl g.claims
-      (noted_more a old.relations.items old.trail.course g.trail.entries new.trail.course old.claims.items g.trail.course g.told_same h.claims);
+      noted_as a old.relations.items new.relations.items new.trail.derivation new.trail.derivation old.claims.items new.claims.items g.relations refl g.claims
+      (noted_more a old.relations.items old.trail.derivation g.trail.entries new.trail.derivation old.claims.items g.trail.derivation g.told_same h.claims);
   tied =
       tied_grows a old.trail.truth old.trail.falsity new.trail.truth new.trail.falsity (told old) (told new) old.trail.graph.told new.trail.graph.told g.trail.facts g.trail.truth g.trail.falsity g.told_same g.trail.told
       h.tied;

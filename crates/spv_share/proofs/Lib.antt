@@ -9,7 +9,7 @@ pub mod Goings
 pub mod Rowed
 pub mod Allowed
 pub mod Points
-pub mod Saying
+pub mod RowConstraint
 pub mod Seeking
 pub mod Gathering
 pub mod Settling

@@ -1,4 +1,4 @@
--- What is noted of literals, as a course goes on.
+-- What is noted of literals, as a derivation goes on.
 use Rattle.std.proofs.Common.{◌≡◌, ℕ, ◌+◌, ◌<◌, List, [], ◌∷◌, ◌++◌, length, refl, sym, ap, ◌∙◌, subst, Some, inl, inr, arith}
 use Rattle.std.specs.Prelude.{slice_get}
 use Rattle.std.proofs.lemmas.Bool.{cases_lt}
@@ -6,10 +6,10 @@ use Rattle.std.proofs.lemmas.List.{length_push}
 use Rattle.std.proofs.lemmas.Option.{slice_get_within, same_Some}
 use Rattle.spv_term.specs.Arena.{Arena, tree}
 use Rattle.spv_term.proofs.ListLemmas.{slice_get-append_left, slice_get_push}
-use Rattle.spv_course.specs.declared.entries.Entry.{Entry}
-use Rattle.spv_course.specs.Course.{fact_at, literal}
-use Rattle.spv_course.specs.Literals.{Literal, literals}
-use Rattle.spv_course.proofs.Growth.{fact_at-more}
+use Rattle.spv_derivations.specs.declared.derivation.entries.Entry.{Entry}
+use Rattle.spv_derivations.specs.derivation.Derivation.{fact_at, literal}
+use Rattle.spv_derivations.specs.derivation.Literals.{Literal, literals}
+use Rattle.spv_derivations.proofs.derivation.Growth.{fact_at-more}
 use Rattle.spv_share.specs.declared.relations.Noted.{Noted}
 use Rattle.spv_share.specs.declared.relations.Related.{Related}
 use Rattle.spv_share.specs.Both.{AreNoted, IsNoted}

@@ -1,26 +1,26 @@
 -- Both sides as they are opened.
 use Rattle.std.proofs.Common.{ap, ◌≡◌, List, [], map, sym, subst}
-use Rattle.spv_course.specs.Literals.{literals}
+use Rattle.spv_derivations.specs.derivation.Literals.{literals}
 use Rattle.spv_logic.specs.declared.conditions.TermId.{TermId}
 use Rattle.spv_logic.specs.Terms.{Term}
 use Rattle.spv_term.specs.Arena.{Arena, tree}
 use Rattle.spv_atoms.specs.Linear.{IdForm}
-use Rattle.spv_tableaux.specs.Bounds.{Bound}
-use Rattle.spv_sums.specs.Readings.{number_in}
-use Rattle.spv_readings.specs.Relations.{AreIn, AreRowsOf, relations}
-use Rattle.spv_readings.proofs.Placing.{rows_in}
-use Rattle.spv_readings.proofs.Sourcing.{none_sourced}
-use Rattle.spv_row_reasons.specs.Refuted.{AreOneAndZero}
-use Rattle.spv_bounds.specs.Sources.{sources_in}
-use Rattle.spv_share_rows.specs.Standing.{IsStanding, readings, Sourced}
+use Rattle.spv_tableau_rules.specs.tableaux.Bounds.{Bound}
+use Rattle.spv_proof.specs.sums.Readings.{number_in}
+use Rattle.spv_tableau_rules.specs.constraints.Relations.{AreIn, AreRowsOf, relations}
+use Rattle.spv_tableau_rules.proofs.constraints.Placing.{rows_in}
+use Rattle.spv_tableau_rules.proofs.constraints.Sourcing.{none_sourced}
+use Rattle.spv_arithmetic_side.specs.farkas.Refuted.{AreOneAndZero}
+use Rattle.spv_arithmetic_side.specs.bounds.Sources.{sources_in}
+use Rattle.spv_arithmetic_side.specs.constraint_rows.Standing.{IsStanding, readings, Sourced}
 use Rattle.spv_share.specs.declared.both.Both.{Both}
 use Rattle.spv_share.specs.declared.both.Ends.{Ends}
 use Rattle.spv_share.specs.Relations.{IsGathered, sayable}
 use Rattle.spv_share.proofs.Noted.{noted_none}
-use Rattle.spv_share.proofs.Saying.{said_none}
+use Rattle.spv_share.proofs.RowConstraint.{said_none}
 use Rattle.spv_simplex.specs.Checks.{HoldsAsserted}
 use Rattle.spv_congruence.specs.declared.facts.Fact.{Fact}
-use Rattle.spv_share_graph.specs.Telling.{ties}
+use Rattle.spv_explanations.specs.congruence_side.Telling.{ties}
 use Rattle.spv_share.proofs.Reasons.{reasons_none}
 use Rattle.spv_share.proofs.Ties.{tied_none}
 use Rattle.spv_share.specs.Both.{AreEnds, AreReasoned, IsBoth, told}
@@ -38,7 +38,7 @@ both_opens a atoms ends forms b known rows g stands forms_are none claims one ze
           let Q : List IdForm → Type 0 = λ fs. AreRowsOf a (relations (number_in a) (map (tree a) atoms)) fs in
           subst P (sym g.among) (subst Q (sym forms_are) rows);
     };
-    sourced = let P : List Bound → Type 0 = λ bs. Sourced a (readings a b.trail.course) b.standing bs in subst P (sym none) (none_sourced a (readings a b.trail.course) b.standing.tableau.forms (sources_in b.standing.sources.items));
+    sourced = let P : List Bound → Type 0 = λ bs. Sourced a (readings a b.trail.derivation) b.standing bs in subst P (sym none) (none_sourced a (readings a b.trail.derivation) b.standing.tableau.forms (sources_in b.standing.sources.items));
     inside = let P : List IdForm → Type 0 = λ fs. AreIn a fs in subst P (sym forms_are) (rows_in a (relations (number_in a) (map (tree a) atoms)) forms rows);
     numbers =
         let P : TermId → Type 0 = λ t. AreOneAndZero a t b.zero in
@@ -47,7 +47,7 @@ both_opens a atoms ends forms b known rows g stands forms_are none claims one ze
     asserted = asserted (sayable b.relations.items b.standing.tableau.forms);
     said = said_none b.relations.items b.standing.tableau.forms b.standing.tableau.bounds none;
   };
-  claims = noted_none a b.relations.items b.trail.course b.claims.items g.course claims;
-  tied = tied_none a b.trail.truth b.trail.falsity (told b) (ties b.trail.graph.told) (ap literals g.course);
+  claims = noted_none a b.relations.items b.trail.derivation b.claims.items g.derivation claims;
+  tied = tied_none a b.trail.truth b.trail.falsity (told b) (ties b.trail.graph.told) (ap literals g.derivation);
   reasons = subst (λ (xs : List Fact). AreReasoned a b.relations.items (told b) (ties xs)) (sym g.untold) (reasons_none a b.relations.items (told b));
 }

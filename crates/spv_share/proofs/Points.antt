@@ -2,17 +2,17 @@
 use Rattle.std.proofs.Common.{ℕ, ◌<◌, List, ◌++◌, length, sym, ap, ◌∙◌, subst, inl, inr}
 use Rattle.std.specs.Prelude.{slice_get}
 use Rattle.spv_atoms.specs.Linear.{IdForm}
-use Rattle.spv_tableaux.specs.Rows.{column_of, IsSolution}
-use Rattle.spv_tableaux.specs.Bounds.{Bound, bound_on, breaks, limits, Meets}
-use Rattle.spv_tableaux.specs.Forms.{rows_of}
-use Rattle.spv_readings.specs.declared.saying.Saying.{Saying}
-use Rattle.spv_readings.specs.declared.saying.Saying.TheVariants.{Above, Below}
+use Rattle.spv_tableau_rules.specs.tableaux.Rows.{column_of, IsSolution}
+use Rattle.spv_tableau_rules.specs.tableaux.Bounds.{Bound, bound_on, breaks, limits, Meets}
+use Rattle.spv_tableau_rules.specs.tableaux.Forms.{rows_of}
+use Rattle.spv_tableau_rules.specs.declared.constraints.saying.RowConstraint.{RowConstraint}
+use Rattle.spv_tableau_rules.specs.declared.constraints.saying.RowConstraint.TheVariants.{Above, Below}
 use Rattle.spv_simplex.specs.State.{IsTableau, kept_point}
 use Rattle.spv_simplex.specs.Checks.{IsFeasible}
-use Rattle.spv_share_rows.specs.declared.standing.Standing.{Standing}
-use Rattle.spv_share_rows.specs.Standing.{IsBack, IsMet, Stands}
-use Rattle.spv_share_rows.specs.Forcing.{HasPoint}
-use Rattle.spv_share_rows.proofs.Meeting.{met_point, stands_point}
+use Rattle.spv_arithmetic_side.specs.declared.constraint_rows.standing.Standing.{Standing}
+use Rattle.spv_arithmetic_side.specs.constraint_rows.Standing.{IsBack, IsMet, Stands}
+use Rattle.spv_arithmetic_side.specs.constraint_rows.Forcing.{HasPoint}
+use Rattle.spv_arithmetic_side.proofs.constraint_rows.Meeting.{met_point, stands_point}
 use Rattle.spv_share.specs.States.{HasOrder, IsApart, by_point, by_bounds}
 
 pub split_above : (b : Standing) (row : ℕ) → IsTableau b.tableau → IsFeasible b.tableau → IsMet b row Above → IsApart b row
@@ -23,12 +23,12 @@ split_below b row kept met at_point = by_point (inr (met_point b row Below kept 
 
 -- ---- where rows and bounds are the same
 
-pub stands_back : (old new : Standing) (row : ℕ) (x : Saying) → IsBack old new → Stands old row x → Stands new row x
+pub stands_back : (old new : Standing) (row : ℕ) (x : RowConstraint) → IsBack old new → Stands old row x → Stands new row x
 stands_back old new row x back h = record {
   each = λ f at j bound there. ap (λ bs. bound_on bs row bound.side) back.bounds ∙ h.each f (ap (λ fs. slice_get fs row) (sym back.forms) ∙ at) j bound there;
 }
 
-pub point_back : (old new : Standing) (row : ℕ) (x : Saying) → IsBack old new → HasPoint old row x → HasPoint new row x
+pub point_back : (old new : Standing) (row : ℕ) (x : RowConstraint) → IsBack old new → HasPoint old row x → HasPoint new row x
 point_back old new row x back h = record {
   point = h.point;
   solution = subst (λ (fs : List IdForm). IsSolution (rows_of fs) h.point) (sym back.forms) h.solution;

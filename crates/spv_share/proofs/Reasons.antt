@@ -8,12 +8,12 @@ use Rattle.spv_logic.specs.declared.operators.Head.TheVariants.{Eq}
 use Rattle.spv_term.specs.Arena.{Arena, tree}
 use Rattle.spv_term.proofs.ListLemmas.{slice_get-append_left, slice_get_push}
 use Rattle.spv_congruence.specs.declared.facts.Fact.{Fact}
-use Rattle.spv_course.specs.declared.entries.Part.{Part}
-use Rattle.spv_course.specs.declared.entries.Part.TheVariants.{True, False, Below, Above}
-use Rattle.spv_course.specs.Derived.{is_truth, IsFalseTerm, IsTrueTerm}
-use Rattle.spv_course.specs.Literals.{Literal}
-use Rattle.spv_course.specs.Sides.{Pair}
-use Rattle.spv_share_graph.specs.Telling.{equation_sides, literal_ties, sides_tie, Tie, ties, value_tie}
+use Rattle.spv_derivations.specs.declared.derivation.entries.Part.{Part}
+use Rattle.spv_derivations.specs.declared.derivation.entries.Part.TheVariants.{True, False, Below, Above}
+use Rattle.spv_derivations.specs.derivation.Derived.{is_truth, IsFalseTerm, IsTrueTerm}
+use Rattle.spv_derivations.specs.derivation.Literals.{Literal}
+use Rattle.spv_derivations.specs.derivation.Sides.{Pair}
+use Rattle.spv_explanations.specs.congruence_side.Telling.{equation_sides, literal_ties, sides_tie, Tie, ties, value_tie}
 use Rattle.spv_share.specs.declared.relations.Related.{Related}
 use Rattle.spv_share.specs.Both.{AreReasoned, IsReason, of_literal, of_relation, of_truths}
 

@@ -4,15 +4,15 @@ use Rattle.spv_logic.specs.Conditions.{Sequent}
 use Rattle.spv_logic.specs.Terms.{Term}
 use Rattle.spv_term.specs.Arena.{Arena}
 use Rattle.spv_atoms.specs.declared.proofs.Step.{Step}
-use Rattle.spv_proof.specs.Accepted as accepted
-use Rattle.spv_proof.specs.Accepted.{walk}
-use Rattle.spv_proof.specs.Stand.{StepsIn}
-use Rattle.spv_course.specs.Course.{asked, IsCourse}
-use Rattle.spv_course.specs.Steps.{AreTold, closing_steps_of, IsEnd}
-use Rattle.spv_course.proofs.Literals.{are_told}
-use Rattle.spv_paths.proofs.Within.{course_closes_in}
-use Rattle.spv_share_graph.specs.Holding.{HasNoClash}
-use Rattle.spv_share_rows.specs.declared.standing.Standing.{Standing}
+use Rattle.spv_proof_rules.specs.Accepted as accepted
+use Rattle.spv_proof_rules.specs.Accepted.{walk}
+use Rattle.spv_proof_rules.specs.Stand.{StepsIn}
+use Rattle.spv_derivations.specs.derivation.Derivation.{asked, IsDerivation}
+use Rattle.spv_derivations.specs.derivation.Steps.{AreTold, closing_steps_of, IsEnd}
+use Rattle.spv_derivations.proofs.derivation.Literals.{are_told}
+use Rattle.spv_derivations.proofs.branches.Within.{course_closes_in}
+use Rattle.spv_explanations.specs.congruence_side.Holding.{HasNoClash}
+use Rattle.spv_arithmetic_side.specs.declared.constraint_rows.standing.Standing.{Standing}
 use Rattle.spv_share.specs.declared.both.Both.{Both}
 use Rattle.spv_share.specs.declared.ending.Outcome.{Outcome}
 use Rattle.spv_share.specs.declared.ending.Outcome.TheVariants as outcome
@@ -48,13 +48,13 @@ if_none b (Some x) h e = absurd (cc)
 
 -- steps that close the path
 pub closed_by : (a : Arena) (b : Both) (count : ℕ) (steps : List Step) (o : Outcome) (first : ℕ) (second : Option ℕ) → IsBoth a b → IsOutcome a b o → o ≡ outcome.Ended first second
-    → ((a : Arena) (c : Sequent) (known : List Term) → length known ≡ count → IsCourse a b.trail.course → AreTold a known b.trail.course → IsEnd a b.trail.course first second → walk (asked a c) known steps ≡ accepted.Closed)
-    → steps ≡ closing_steps_of count b.trail.course first second → Closes a b count steps
+    → ((a : Arena) (c : Sequent) (known : List Term) → length known ≡ count → IsDerivation a b.trail.derivation → AreTold a known b.trail.derivation → IsEnd a b.trail.derivation first second → walk (asked a c) known steps ≡ accepted.Closed)
+    → steps ≡ closing_steps_of count b.trail.derivation first second → Closes a b count steps
 closed_by a b count steps o first second h k e closes exact = record {
   ends = λ c known many are.
       let P : Outcome → Type 0 = λ x. IsOutcome a b x in
-      closes a c known many h.sound.trail.course (are_told a known b.trail.course are) (subst P e k);
-  within = subst (StepsIn a) (sym exact) (course_closes_in a b.trail.course count first second h.sound.trail.course);
+      closes a c known many h.sound.trail.derivation (are_told a known b.trail.derivation are) (subst P e k);
+  within = subst (StepsIn a) (sym exact) (course_closes_in a b.trail.derivation count first second h.sound.trail.derivation);
 }
 
 -- ---- a round without an outcome

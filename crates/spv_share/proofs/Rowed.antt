@@ -3,7 +3,7 @@ use Rattle.std.proofs.Common.{◌≡◌, ℕ, zero, suc, ◌<◌, Bool, true, fa
 use Rattle.std.specs.Prelude.{slice_get}
 use Rattle.std.proofs.lemmas.List.{length-map}
 use Rattle.std.proofs.lemmas.Option.{slice_get_within, same_Some}
-use Rattle.spv_pivots.proofs.Sums.{eq_is}
+use Rattle.spv_tableau_rules.proofs.pivots.Sums.{eq_is}
 use Rattle.spv_logic.specs.declared.conditions.TermId.{TermId}
 use Rattle.spv_logic.specs.declared.operators.Head.{Head}
 use Rattle.spv_logic.specs.declared.operators.Head.TheVariants.{Eq}
@@ -13,21 +13,21 @@ use Rattle.spv_term.specs.declared.nodes.Node.{Node}
 use Rattle.spv_term.specs.Arena.{Arena, tree}
 use Rattle.spv_congruence.specs.Graph.{id}
 use Rattle.spv_atoms.specs.Linear.{IdForm}
-use Rattle.spv_course.specs.declared.entries.Part.{Part}
-use Rattle.spv_course.specs.declared.entries.Part.TheVariants as part
-use Rattle.spv_course.specs.Course.{fact_at, literal}
-use Rattle.spv_readings.specs.declared.saying.Saying.{Saying}
-use Rattle.spv_readings.specs.declared.saying.Saying.TheVariants.{Equal}
-use Rattle.spv_readings.specs.Relations.{AreRowsOf, IsRowOf}
-use Rattle.spv_row_reasons.specs.Told.{told_of}
-use Rattle.spv_row_reasons.specs.Told as told
-use Rattle.spv_row_reasons.proofs.Readings.{told_is_sourced}
-use Rattle.spv_share_rows.specs.Standing.{HasSaid, readings, SaidBy}
+use Rattle.spv_derivations.specs.declared.derivation.entries.Part.{Part}
+use Rattle.spv_derivations.specs.declared.derivation.entries.Part.TheVariants as part
+use Rattle.spv_derivations.specs.derivation.Derivation.{fact_at, literal}
+use Rattle.spv_tableau_rules.specs.declared.constraints.saying.RowConstraint.{RowConstraint}
+use Rattle.spv_tableau_rules.specs.declared.constraints.saying.RowConstraint.TheVariants.{Equal}
+use Rattle.spv_tableau_rules.specs.constraints.Relations.{AreRowsOf, IsRowOf}
+use Rattle.spv_arithmetic_side.specs.farkas.Told.{told_of}
+use Rattle.spv_arithmetic_side.specs.farkas.Told as told
+use Rattle.spv_arithmetic_side.proofs.farkas.Readings.{told_is_sourced}
+use Rattle.spv_arithmetic_side.specs.constraint_rows.Standing.{HasSaid, readings, SaidBy}
 use Rattle.spv_share.specs.declared.relations.Related.{Related}
 use Rattle.spv_share.specs.declared.relations.Claim.{Claim}
 use Rattle.spv_share.specs.declared.both.Both.{Both}
 use Rattle.spv_share.specs.Relations.{AreRelated, claim, find, may_say, said, sayable, sides_in}
-use Rattle.spv_share.proofs.Saying.{told_may}
+use Rattle.spv_share.proofs.RowConstraint.{told_may}
 use Rattle.spv_share.proofs.Sayable.{said_among}
 use Rattle.spv_share.specs.Both.{IsClaimed, IsSound}
 use Rattle.spv_share.specs.States.{is_equality}
@@ -80,7 +80,7 @@ find_there (q ∷ rels) t r e = by_case (find_there rels t r) (nat_eq q.atom.0 t
     by_case rest false f e = let found = rest e in record { place = suc found.place; there = found.there; is = found.is }
 
 -- a claim is what is told of the relation
-abbrev claim_as : ℕ → Saying → Claim
+abbrev claim_as : ℕ → RowConstraint → Claim
 claim_as row x = record { row = row; saying = x }
 
 pub record IsClaimOf (r : Related) (p : Part) (c : Claim) : Type 0 where
@@ -90,7 +90,7 @@ pub record IsClaimOf (r : Related) (p : Part) (c : Claim) : Type 0 where
 claim_is : (r : Related) (p : Part) (c : Claim) → claim (Some r) p ≡ Some c → IsClaimOf r p c
 claim_is r p c e = by_case (told.told r.head p) refl e
   where
-    by_case : (o : Option Saying) → told.told r.head p ≡ o → said r.row o ≡ Some c → IsClaimOf r p c
+    by_case : (o : Option RowConstraint) → told.told r.head p ≡ o → said r.row o ≡ Some c → IsClaimOf r p c
     by_case None f e = absurd (cc)
     by_case (Some x) f e =
         let same : claim_as r.row x ≡ c = same_Some (claim_as r.row x) c e in
@@ -98,25 +98,25 @@ claim_is r p c e = by_case (told.told r.head p) refl e
 
 module _ (a : Arena) (b : Both) (h : IsSound a b) where
   -- what a fact says of the row of its relation
-  said_at : (i : ℕ) (r : Related) (p : Part) (x : Saying) (k : ℕ) → slice_get b.relations.items i ≡ Some r → told.told r.head p ≡ Some x → fact_at a b.trail.course k ≡ Some (literal (tree a r.atom) p)
-      → SaidBy a (readings a b.trail.course) b.standing i x k
+  said_at : (i : ℕ) (r : Related) (p : Part) (x : RowConstraint) (k : ℕ) → slice_get b.relations.items i ≡ Some r → told.told r.head p ≡ Some x → fact_at a b.trail.derivation k ≡ Some (literal (tree a r.atom) p)
+      → SaidBy a (readings a b.trail.derivation) b.standing i x k
   said_at i r p x k at says fact = λ f form side value bound.
-      told_is_sourced a b.trail.course (tree a r.atom) (tree a r.left) (tree a r.right) p x (h.related.are.each i r at).sides (ap (λ t. told_of t p) (h.related.are.each i r at).is ∙ says) k fact i f
+      told_is_sourced a b.trail.derivation (tree a r.atom) (tree a r.left) (tree a r.right) p x (h.related.are.each i r at).sides (ap (λ t. told_of t p) (h.related.are.each i r at).is ∙ says) k fact i f
       (row_at a b.relations.items b.standing.tableau.forms h.related.rows i r f at form) side value bound
 
-  pub claimed_at : (i : ℕ) (r : Related) (p : Part) (c : Claim) (k : ℕ) → slice_get b.relations.items i ≡ Some r → IsClaimOf r p c → fact_at a b.trail.course k ≡ Some (literal (tree a r.atom) p)
+  pub claimed_at : (i : ℕ) (r : Related) (p : Part) (c : Claim) (k : ℕ) → slice_get b.relations.items i ≡ Some r → IsClaimOf r p c → fact_at a b.trail.derivation k ≡ Some (literal (tree a r.atom) p)
       → IsClaimed a b c k
   claimed_at i r p c k at is fact =
       let row_is : c.row ≡ i = is.row ∙ h.related.are.placed i r at in
       record {
         row_in = subst (λ (n : ℕ). n < length b.standing.tableau.forms) (sym row_is) (row_inside a b.trail.graph.nodes b.relations.items b.standing.tableau.forms h.related i r at);
-        said = subst (λ (n : ℕ). SaidBy a (readings a b.trail.course) b.standing n c.saying k) (sym row_is) (said_at i r p c.saying k at is.saying fact);
+        said = subst (λ (n : ℕ). SaidBy a (readings a b.trail.derivation) b.standing n c.saying k) (sym row_is) (said_at i r p c.saying k at is.saying fact);
         among = subst (λ (n : ℕ). HasSaid (sayable b.relations.items b.standing.tableau.forms) b.standing n c.saying) (sym row_is) (said_among b.relations.items b.standing i r p c.saying at is.saying);
         may = λ q there. subst (λ (x : Related). may_say c.saying x.head ≡ true) (same_Some r q (sym at ∙ (ap (slice_get b.relations.items) (sym row_is) ∙ there))) (told_may r.head p c.saying is.saying);
       }
 
   -- a literal that is a fact, and what is claimed by it
-  pub literal_claimed : (t : TermId) (p : Part) (c : Claim) (k : ℕ) → claim (find b.relations.items t) p ≡ Some c → fact_at a b.trail.course k ≡ Some (literal (tree a t) p) → IsClaimed a b c k
+  pub literal_claimed : (t : TermId) (p : Part) (c : Claim) (k : ℕ) → claim (find b.relations.items t) p ≡ Some c → fact_at a b.trail.derivation k ≡ Some (literal (tree a t) p) → IsClaimed a b c k
   literal_claimed t p c k e fact = by_found (find b.relations.items t) refl e
     where
       by_found : (o : Option Related) → find b.relations.items t ≡ o → claim o p ≡ Some c → IsClaimed a b c k
@@ -126,7 +126,7 @@ module _ (a : Arena) (b : Both) (h : IsSound a b) where
           claimed_at among.place r p c k among.there (claim_is r p c e) (fact ∙ ap (λ x. Some (literal (tree a x) p)) (sym among.is))
 
   -- an equality that is a fact
-  pub equality_claimed : (r : Related) (k : ℕ) → slice_get b.relations.items r.row ≡ Some r → is_equality r.head ≡ true → fact_at a b.trail.course k ≡ Some (equation (tree a r.left) (tree a r.right))
+  pub equality_claimed : (r : Related) (k : ℕ) → slice_get b.relations.items r.row ≡ Some r → is_equality r.head ≡ true → fact_at a b.trail.derivation k ≡ Some (equation (tree a r.left) (tree a r.right))
       → IsClaimed a b (record { row = r.row; saying = Equal }) k
   equality_claimed r k at equal fact =
       let head : r.head ≡ Eq = equality_head r.head equal in

@@ -2,9 +2,9 @@
 use Rattle.std.proofs.Common.{◌≡◌, ℕ, zero, suc, ◌+◌, ◌<◌, Bool, true, false, cond, ◌&&◌, List, [], ◌∷◌, length, refl, sym, ap, ◌∙◌, subst, Some, None, arith, inl, inr, replicate, nat_eq, get_or}
 use Rattle.std.specs.Prelude.{slice_get, slice_set, ◌⊎◌}
 use Rattle.std.proofs.lemmas.List.{length-replicate, length-set}
-use Rattle.spv_classes.proofs.Lists.{nat_same}
+use Rattle.spv_union_find.proofs.classes.Lists.{nat_same}
 use Rattle.spv_congruence.proofs.AddLemmas.{set_other}
-use Rattle.spv_pivots.proofs.Sums.{eq_is}
+use Rattle.spv_tableau_rules.proofs.pivots.Sums.{eq_is}
 use Rattle.std.proofs.lemmas.Bool.{false≢true, cases_lt}
 use Rattle.std.proofs.lemmas.Option.{same_Some}
 use Rattle.spv_whole.specs.Fraction.{Fraction}
@@ -13,20 +13,20 @@ use Rattle.spv_logic.specs.declared.operators.Head.TheVariants.{Eq, Lt, Le}
 use Rattle.spv_logic.specs.Terms.{Term, term, no_terms, terms}
 use Rattle.spv_term.specs.Arena.{Arena, IsArena, tree}
 use Rattle.spv_atoms.specs.declared.proofs.Relation.TheVariants as relation
-use Rattle.spv_pivots.proofs.Tests.{and_left, and_right}
-use Rattle.spv_proof.specs.Sums.{refutes}
-use Rattle.spv_course.specs.Course.{facts}
-use Rattle.spv_course.specs.Derived.{is_number, IsSum}
-use Rattle.spv_readings.specs.declared.saying.Saying.{Saying}
-use Rattle.spv_readings.specs.declared.saying.Saying.TheVariants.{Above, Below}
-use Rattle.spv_readings.specs.Relations.{number_sides}
-use Rattle.spv_row_reasons.proofs.Readings.{above_is_sourced, below_is_sourced}
-use Rattle.spv_share_rows.specs.declared.standing.Standing.{Standing}
-use Rattle.spv_share_rows.specs.Standing.{HasSaid, IsBack}
-use Rattle.spv_share_rows.specs.declared.forcing.Tried.{Tried}
-use Rattle.spv_share_rows.specs.declared.forcing.Tried.TheVariants.{Met, Refuted}
-use Rattle.spv_share_rows.specs.declared.forcing.Tried.TheVariants as tried
-use Rattle.spv_share_rows.specs.Forcing.{HasPoint, IsTried, Refutes}
+use Rattle.spv_tableau_rules.proofs.pivots.Tests.{and_left, and_right}
+use Rattle.spv_proof_rules.specs.Sums.{refutes}
+use Rattle.spv_derivations.specs.derivation.Derivation.{facts}
+use Rattle.spv_derivations.specs.derivation.Derived.{is_number, IsSum}
+use Rattle.spv_tableau_rules.specs.declared.constraints.saying.RowConstraint.{RowConstraint}
+use Rattle.spv_tableau_rules.specs.declared.constraints.saying.RowConstraint.TheVariants.{Above, Below}
+use Rattle.spv_tableau_rules.specs.constraints.Relations.{number_sides}
+use Rattle.spv_arithmetic_side.proofs.farkas.Readings.{above_is_sourced, below_is_sourced}
+use Rattle.spv_arithmetic_side.specs.declared.constraint_rows.standing.Standing.{Standing}
+use Rattle.spv_arithmetic_side.specs.constraint_rows.Standing.{HasSaid, IsBack}
+use Rattle.spv_arithmetic_side.specs.declared.constraint_rows.forcing.Tried.{Tried}
+use Rattle.spv_arithmetic_side.specs.declared.constraint_rows.forcing.Tried.TheVariants.{Met, Refuted}
+use Rattle.spv_arithmetic_side.specs.declared.constraint_rows.forcing.Tried.TheVariants as tried
+use Rattle.spv_arithmetic_side.specs.constraint_rows.Forcing.{HasPoint, IsTried, Refutes}
 use Rattle.spv_share.specs.declared.relations.Related.{Related}
 use Rattle.spv_share.specs.declared.both.Both.{Both}
 use Rattle.spv_share.specs.declared.searching.Sought.{Sought}
@@ -35,7 +35,7 @@ use Rattle.spv_share.specs.Relations.{IsRelation}
 use Rattle.spv_share.specs.Both.{IsSound}
 use Rattle.spv_share.specs.States.{after_joined, AreApart, AreSifted, by_point, GoesOn, HasClosed, IsApart, IsFound, IsLimit, IsSought, IsStill, is_open}
 use Rattle.spv_share.specs.Relations.{sayable}
-use Rattle.spv_share_rows.specs.Forcing.{HasEvidence, IsStopped}
+use Rattle.spv_arithmetic_side.specs.constraint_rows.Forcing.{HasEvidence, IsStopped}
 use Rattle.spv_simplex.specs.declared.checked.Checked.{Checked}
 use Rattle.spv_atoms.specs.Linear.{IdForm}
 use Rattle.spv_share.proofs.Giving.{at_place}
@@ -44,23 +44,23 @@ use Rattle.spv_share.proofs.Goings.{open_as, still_itself, still_then}
 use Rattle.spv_share.proofs.Points.{apart_back, point_back}
 use Rattle.spv_share.proofs.Closing.{open_head}
 use Rattle.spv_share.proofs.Sayable.{order_among}
-use Rattle.spv_course.specs.declared.entries.Part.{Part}
-use Rattle.spv_row_reasons.specs.Told.{told}
+use Rattle.spv_derivations.specs.declared.derivation.entries.Part.{Part}
+use Rattle.spv_arithmetic_side.specs.farkas.Told.{told}
 
 -- ---- what is refuted
 
 module _ (a : Arena) (ok : IsArena a) (b : Both) (h : IsSound a b) (r : Related) (at : slice_get b.relations.items r.row ≡ Some r) where
-  pub refuted_above : (ms : List (Fraction × ℕ)) → Refutes b.standing r.row Above ms → refutes (is_number a) (facts a b.trail.course) (tree a r.left) (tree a r.right) ms ≡ true
+  pub refuted_above : (ms : List (Fraction × ℕ)) → Refutes b.standing r.row Above ms → refutes (is_number a) (facts a b.trail.derivation) (tree a r.left) (tree a r.right) ms ≡ true
   refuted_above ms k =
-      k.shown a b.trail.course (tree a r.left) (tree a r.right) ok h.inside h.sourced
+      k.shown a b.trail.derivation (tree a r.left) (tree a r.right) ok h.inside h.sourced
       (λ f form side value bound.
-      above_is_sourced (is_number a) a (facts a b.trail.course) (tree a r.left) (tree a r.right) r.row f (row_at a b.relations.items b.standing.tableau.forms h.related.rows r.row r f at form) side value bound)
+      above_is_sourced (is_number a) a (facts a b.trail.derivation) (tree a r.left) (tree a r.right) r.row f (row_at a b.relations.items b.standing.tableau.forms h.related.rows r.row r f at form) side value bound)
 
-  pub refuted_below : (ms : List (Fraction × ℕ)) → Refutes b.standing r.row Below ms → refutes (is_number a) (facts a b.trail.course) (tree a r.right) (tree a r.left) ms ≡ true
+  pub refuted_below : (ms : List (Fraction × ℕ)) → Refutes b.standing r.row Below ms → refutes (is_number a) (facts a b.trail.derivation) (tree a r.right) (tree a r.left) ms ≡ true
   refuted_below ms k =
-      k.shown a b.trail.course (tree a r.right) (tree a r.left) ok h.inside h.sourced
+      k.shown a b.trail.derivation (tree a r.right) (tree a r.left) ok h.inside h.sourced
       (λ f form side value bound.
-      below_is_sourced (is_number a) a (facts a b.trail.course) (tree a r.left) (tree a r.right) r.row f (row_at a b.relations.items b.standing.tableau.forms h.related.rows r.row r f at form) side value bound)
+      below_is_sourced (is_number a) a (facts a b.trail.derivation) (tree a r.left) (tree a r.right) r.row f (row_at a b.relations.items b.standing.tableau.forms h.related.rows r.row r f at form) side value bound)
 
 abbrev two : Term → Term → Term × Term
 two x y = (x, y)
@@ -80,8 +80,8 @@ numbers_are test q x y st e = by_head q e
     by_head q g = absurd (cc)
 
 pub is_sum : (a : Arena) (b : Both) → IsSound a b → (r : Related) → slice_get b.relations.items r.row ≡ Some r → (first second : List (Fraction × ℕ))
-    → refutes (is_number a) (facts a b.trail.course) (tree a r.left) (tree a r.right) first ≡ true → refutes (is_number a) (facts a b.trail.course) (tree a r.right) (tree a r.left) second ≡ true
-    → IsSum a b.trail.course (relation.Equal r.left r.right) first second
+    → refutes (is_number a) (facts a b.trail.derivation) (tree a r.left) (tree a r.right) first ≡ true → refutes (is_number a) (facts a b.trail.derivation) (tree a r.right) (tree a r.left) second ≡ true
+    → IsSum a b.trail.derivation (relation.Equal r.left r.right) first second
 is_sum a b h r at first second f g =
     let rel : IsRelation a b.trail.graph.nodes r = h.related.are.each r.row r at in
     let both : (is_number a (tree a r.left) && is_number a (tree a r.right)) ≡ true =
@@ -193,12 +193,12 @@ sought_none b = (still_itself b, record { each = λ row r below at e. absurd (no
 
 -- ---- one place
 
-pub tried_point : (b : Standing) (row : ℕ) (x : Saying) (t : Tried) → IsTried b row x t → t ≡ Met → HasPoint b row x
+pub tried_point : (b : Standing) (row : ℕ) (x : RowConstraint) (t : Tried) → IsTried b row x t → t ≡ Met → HasPoint b row x
 tried_point b row x Met h e = h
 tried_point b row x (Refuted ms) h e = absurd (cc)
 tried_point b row x tried.Stopped h e = absurd (cc)
 
-pub tried_refuted : (b : Standing) (row : ℕ) (x : Saying) (t : Tried) (ms : List (Fraction × ℕ)) → IsTried b row x t → t ≡ Refuted ms → Refutes b row x ms
+pub tried_refuted : (b : Standing) (row : ℕ) (x : RowConstraint) (t : Tried) (ms : List (Fraction × ℕ)) → IsTried b row x t → t ≡ Refuted ms → Refutes b row x ms
 tried_refuted b row x t ms h e = let P : Tried → Type 0 = λ k. IsTried b row x k in subst P e h
 
 pub found_not_open : (b : Both) (place : ℕ) (q : Related) (res : Bool) → slice_get b.relations.items place ≡ Some q → res ≡ is_open b q → res ≡ false → (r : Related) → slice_get b.relations.items place ≡ Some r → IsFound b b r Apart
@@ -285,6 +285,6 @@ pub answered_as : (st : Standing) (checked other : Checked) → st.tableau.answe
 answered_as st checked other e f = e ∙ ap Some f
 
 -- an order of an open equality is among what may be said
-pub order_said : (a : Arena) (b : Both) → IsSound a b → (r : Related) → slice_get b.relations.items r.row ≡ Some r → is_open b r ≡ true → (p : Part) (x : Saying) → told Eq p ≡ Some x
+pub order_said : (a : Arena) (b : Both) → IsSound a b → (r : Related) → slice_get b.relations.items r.row ≡ Some r → is_open b r ≡ true → (p : Part) (x : RowConstraint) → told Eq p ≡ Some x
     → HasSaid (sayable b.relations.items b.standing.tableau.forms) b.standing r.row x
 order_said a b h r at unjoined p x e = order_among b.relations.items b.standing r.row r p x at (open_head b.trail.graph r unjoined) e

@@ -4,16 +4,16 @@ use Rattle.std.specs.Prelude.{slice_get}
 use Rattle.std.proofs.lemmas.Bool.{cases_lt, false≢true}
 use Rattle.std.proofs.lemmas.Option.{slice_get_within, same_Some}
 use Rattle.spv_term.specs.Arena.{Arena}
-use Rattle.spv_tableaux.specs.Bounds.{bound_on}
+use Rattle.spv_tableau_rules.specs.tableaux.Bounds.{bound_on}
 use Rattle.spv_congruence.specs.Graph.{are_same, Graph}
-use Rattle.spv_course.specs.Literals.{Literal}
-use Rattle.spv_readings.specs.declared.saying.Saying.{Saying}
-use Rattle.spv_readings.specs.declared.saying.Saying.TheVariants.{Equal}
-use Rattle.spv_readings.proofs.Sourcing.{bound_stays}
+use Rattle.spv_derivations.specs.derivation.Literals.{Literal}
+use Rattle.spv_tableau_rules.specs.declared.constraints.saying.RowConstraint.{RowConstraint}
+use Rattle.spv_tableau_rules.specs.declared.constraints.saying.RowConstraint.TheVariants.{Equal}
+use Rattle.spv_tableau_rules.proofs.constraints.Sourcing.{bound_stays}
 use Rattle.spv_simplex.specs.State.{IsTableau}
-use Rattle.spv_share_graph.specs.Holding.{HasNoClash}
-use Rattle.spv_share_rows.specs.declared.standing.Standing.{Standing}
-use Rattle.spv_share_rows.specs.Standing.{AddsSome, Stands}
+use Rattle.spv_explanations.specs.congruence_side.Holding.{HasNoClash}
+use Rattle.spv_arithmetic_side.specs.declared.constraint_rows.standing.Standing.{Standing}
+use Rattle.spv_arithmetic_side.specs.constraint_rows.Standing.{AddsSome, Stands}
 use Rattle.spv_share.specs.declared.relations.Related.{Related}
 use Rattle.spv_share.specs.declared.relations.Claim.{Claim}
 use Rattle.spv_share.specs.declared.relations.Noted.{Noted}
@@ -32,7 +32,7 @@ literal_at (l ∷ ls) (suc i) h = literal_at ls i (omega arith)
 
 -- ---- what stands goes on to stand
 
-stands_on : (old new : Standing) (row : ℕ) (x : Saying) → AddsSome old new → Stands old row x → Stands new row x
+stands_on : (old new : Standing) (row : ℕ) (x : RowConstraint) → AddsSome old new → Stands old row x → Stands new row x
 stands_on old new row x adds h = record {
   each = λ f at j bound there.
       ap (λ bs. bound_on bs row bound.side) adds.adds.bounds

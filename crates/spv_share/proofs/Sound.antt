@@ -5,21 +5,21 @@ use Rattle.spv_logic.specs.declared.conditions.TermId.{TermId}
 use Rattle.spv_term.specs.declared.nodes.Node.{Node}
 use Rattle.spv_term.specs.Arena.{Arena}
 use Rattle.spv_atoms.specs.Linear.{IdForm}
-use Rattle.spv_tableaux.specs.Bounds.{Bound}
+use Rattle.spv_tableau_rules.specs.tableaux.Bounds.{Bound}
 use Rattle.spv_congruence.specs.declared.facts.Fact.{Fact}
 use Rattle.spv_congruence.specs.Keep.{IsNode}
-use Rattle.spv_course.specs.declared.entries.Entry.{Entry}
-use Rattle.spv_course.specs.Literals.{literals}
-use Rattle.spv_readings.specs.Relations.{AreIn, AreRowsOf}
-use Rattle.spv_row_reasons.specs.Refuted.{AreOneAndZero}
-use Rattle.spv_row_reasons.proofs.Readings.{sourced_stays}
-use Rattle.spv_bounds.specs.Sources.{sources_in}
-use Rattle.spv_share_graph.specs.declared.trail.Trail.{Trail}
-use Rattle.spv_share_graph.specs.Holding.{Backs, Grows, Holds, WasSoFar}
-use Rattle.spv_share_graph.specs.Telling.{ties}
+use Rattle.spv_derivations.specs.declared.derivation.entries.Entry.{Entry}
+use Rattle.spv_derivations.specs.derivation.Literals.{literals}
+use Rattle.spv_tableau_rules.specs.constraints.Relations.{AreIn, AreRowsOf}
+use Rattle.spv_arithmetic_side.specs.farkas.Refuted.{AreOneAndZero}
+use Rattle.spv_arithmetic_side.proofs.farkas.Readings.{sourced_stays}
+use Rattle.spv_arithmetic_side.specs.bounds.Sources.{sources_in}
+use Rattle.spv_explanations.specs.declared.congruence_side.trail.Trail.{Trail}
+use Rattle.spv_explanations.specs.congruence_side.Holding.{Backs, Grows, Holds, WasSoFar}
+use Rattle.spv_explanations.specs.congruence_side.Telling.{ties}
 use Rattle.spv_simplex.specs.Checks.{HoldsAsserted}
-use Rattle.spv_share_rows.specs.declared.standing.Standing.{Standing}
-use Rattle.spv_share_rows.specs.Standing.{AddsSome, IsStanding, readings, Sourced}
+use Rattle.spv_arithmetic_side.specs.declared.constraint_rows.standing.Standing.{Standing}
+use Rattle.spv_arithmetic_side.specs.constraint_rows.Standing.{AddsSome, IsStanding, readings, Sourced}
 use Rattle.spv_share.specs.declared.relations.Related.{Related}
 use Rattle.spv_share.specs.declared.relations.Noted.{Noted}
 use Rattle.spv_share.specs.declared.both.Both.{Both}
@@ -27,7 +27,7 @@ use Rattle.spv_share.specs.declared.both.Level.{Level}
 use Rattle.spv_share.specs.Relations.{AreRelations, AreSaid, IsRelation, sayable, sides_in}
 use Rattle.spv_share.proofs.Noted.{noted_as}
 use Rattle.spv_share.proofs.Ties.{tied_same}
-use Rattle.spv_share.proofs.Saying.{said_as}
+use Rattle.spv_share.proofs.RowConstraint.{said_as}
 use Rattle.spv_share.specs.Both.{AreReasoned, IsLevel, IsSound}
 
 -- ---- relations where terms were added
@@ -49,7 +49,7 @@ relations_more a old new rels more h = record {
   placed = h.placed;
 }
 
--- ---- bounds where the course goes on
+-- ---- bounds where the derivation goes on
 
 pub sourced_on : (a : Arena) (old more new : List Entry) (st : Standing) (bounds : List Bound) → new ≡ old ++ more → Sourced a (readings a old) st bounds → Sourced a (readings a new) st bounds
 sourced_on a old more new st bounds e h =
@@ -63,14 +63,14 @@ sound_trail a old tr h holds grows = record {
   trail = holds;
   standing = h.standing;
   related = record { are = relations_more a old.trail.graph.nodes tr.graph.nodes old.relations.items grows.nodes h.related.are; rows = h.related.rows };
-  sourced = sourced_on a old.trail.course grows.entries tr.course old.standing old.standing.tableau.bounds grows.course h.sourced;
+  sourced = sourced_on a old.trail.derivation grows.entries tr.derivation old.standing old.standing.tableau.bounds grows.derivation h.sourced;
   inside = h.inside;
   numbers = h.numbers;
   asserted = h.asserted;
   said = h.said;
 }
 
-pub sound_standing : (a : Arena) (old : Both) (st : Standing) → IsSound a old → IsStanding st → st.tableau.forms ≡ old.standing.tableau.forms → Sourced a (readings a old.trail.course) st st.tableau.bounds
+pub sound_standing : (a : Arena) (old : Both) (st : Standing) → IsSound a old → IsStanding st → st.tableau.forms ≡ old.standing.tableau.forms → Sourced a (readings a old.trail.derivation) st st.tableau.bounds
     → HoldsAsserted (sayable old.relations.items old.standing.tableau.forms) st.tableau → AreSaid old.relations.items st.tableau.forms st.tableau.bounds → IsSound a (record old { standing = st })
 sound_standing a old st h stands forms sourced asserted said = record {
   trail = h.trail;
@@ -92,8 +92,8 @@ sound_as a old new h trail standing relations one zero = record {
     rows = subst (λ (s : Standing). AreRowsOf a (map (sides_in a) new.relations.items) s.tableau.forms) (sym standing)
         (subst (λ (rs : List Related). AreRowsOf a (map (sides_in a) rs) old.standing.tableau.forms) (sym (ap (λ v. v.items) relations)) h.related.rows);
   };
-  sourced = subst (λ (t : Trail). Sourced a (readings a t.course) new.standing new.standing.tableau.bounds) (sym trail)
-      (subst (λ (s : Standing). Sourced a (readings a old.trail.course) s s.tableau.bounds) (sym standing) h.sourced);
+  sourced = subst (λ (t : Trail). Sourced a (readings a t.derivation) new.standing new.standing.tableau.bounds) (sym trail)
+      (subst (λ (s : Standing). Sourced a (readings a old.trail.derivation) s s.tableau.bounds) (sym standing) h.sourced);
   inside = subst (λ (s : Standing). AreIn a s.tableau.forms) (sym standing) h.inside;
   numbers = subst (λ (t : TermId). AreOneAndZero a t new.zero) (sym one) (subst (λ (t : TermId). AreOneAndZero a old.one t) (sym zero) h.numbers);
   asserted = subst (λ (s : Standing). HoldsAsserted (sayable new.relations.items s.tableau.forms) s.tableau) (sym standing)
@@ -121,12 +121,12 @@ within old more new n e h = let l : length new ≡ length old + length more = ap
 
 pub was_so_far : (a : Arena) (old new : Trail) (entries facts : ℕ) → Grows old new → WasSoFar a old entries facts → WasSoFar a new entries facts
 was_so_far a old new entries facts g h = record {
-  entries_in = within old.course g.entries new.course entries g.course h.entries_in;
+  entries_in = within old.derivation g.entries new.derivation entries g.derivation h.entries_in;
   facts_in = within old.graph.told g.facts new.graph.told facts g.told h.facts_in;
   backs =
-      let first : take entries new.course ≡ take entries old.course = take_first old.course g.entries new.course entries g.course h.entries_in in
+      let first : take entries new.derivation ≡ take entries old.derivation = take_first old.derivation g.entries new.derivation entries g.derivation h.entries_in in
       let told : take facts new.graph.told ≡ take facts old.graph.told = take_first old.graph.told g.facts new.graph.told facts g.told h.facts_in in
-      subst (λ (es : List Entry). Backs a es (take facts new.graph.told)) (sym first) (subst (λ (xs : List Fact). Backs a (take entries old.course) xs) (sym told) h.backs);
+      subst (λ (es : List Entry). Backs a es (take facts new.graph.told)) (sym first) (subst (λ (xs : List Fact). Backs a (take entries old.derivation) xs) (sym told) h.backs);
 }
 
 pub level_stays : (a : Arena) (old new : Both) (l : Level) → GoesBehind old new → IsLevel a old l → IsLevel a new l
@@ -136,28 +136,28 @@ level_stays a old new l g h = record {
   bounds_in = within old.standing.tableau.bounds g.standing.more new.standing.tableau.bounds l.bounds g.standing.adds.bounds h.bounds_in;
   sourced =
       subst (λ (es : List Entry). Sourced a (readings a es) new.standing (take l.bounds new.standing.tableau.bounds)) (sym first)
-      (subst (λ (bs : List Bound). Sourced a (readings a (take l.trail.entries old.trail.course)) new.standing bs) (sym bounds)
-      (g.standing.adds.first a (readings a (take l.trail.entries old.trail.course)) l.bounds h.bounds_in h.sourced));
+      (subst (λ (bs : List Bound). Sourced a (readings a (take l.trail.entries old.trail.derivation)) new.standing bs) (sym bounds)
+      (g.standing.adds.first a (readings a (take l.trail.entries old.trail.derivation)) l.bounds h.bounds_in h.sourced));
   said =
       said_as old.relations.items new.relations.items old.standing.tableau.forms new.standing.tableau.forms (take l.bounds old.standing.tableau.bounds) (take l.bounds new.standing.tableau.bounds) g.relations g.standing.adds.forms bounds h.said;
   claims_in = within old.claims.items g.more new.claims.items l.claims g.claims h.claims_in;
   claims =
-      noted_as a old.relations.items new.relations.items (take l.trail.entries old.trail.course) (take l.trail.entries new.trail.course) (take l.claims old.claims.items) (take l.claims new.claims.items) g.relations first
+      noted_as a old.relations.items new.relations.items (take l.trail.entries old.trail.derivation) (take l.trail.entries new.trail.derivation) (take l.claims old.claims.items) (take l.claims new.claims.items) g.relations first
       (take_first old.claims.items g.more new.claims.items l.claims g.claims h.claims_in) h.claims;
   tied =
-      tied_same a old.trail.truth old.trail.falsity new.trail.truth new.trail.falsity (literals (take l.trail.entries old.trail.course)) (literals (take l.trail.entries new.trail.course)) (take l.trail.facts old.trail.graph.told)
+      tied_same a old.trail.truth old.trail.falsity new.trail.truth new.trail.falsity (literals (take l.trail.entries old.trail.derivation)) (literals (take l.trail.entries new.trail.derivation)) (take l.trail.facts old.trail.graph.told)
       (take l.trail.facts new.trail.graph.told) g.trail.truth g.trail.falsity (ap literals first) facts h.tied;
   reasons =
-      subst (λ (rs : List Related). AreReasoned a rs (literals (take l.trail.entries new.trail.course)) (ties (take l.trail.facts new.trail.graph.told))) (sym g.relations)
+      subst (λ (rs : List Related). AreReasoned a rs (literals (take l.trail.entries new.trail.derivation)) (ties (take l.trail.facts new.trail.graph.told))) (sym g.relations)
       (subst (λ (es : List Entry). AreReasoned a old.relations.items (literals es) (ties (take l.trail.facts new.trail.graph.told))) (sym first)
-      (subst (λ (xs : List Fact). AreReasoned a old.relations.items (literals (take l.trail.entries old.trail.course)) (ties xs)) (sym facts) h.reasons));
+      (subst (λ (xs : List Fact). AreReasoned a old.relations.items (literals (take l.trail.entries old.trail.derivation)) (ties xs)) (sym facts) h.reasons));
 }
   where
     facts : take l.trail.facts new.trail.graph.told ≡ take l.trail.facts old.trail.graph.told
     facts = take_first old.trail.graph.told g.trail.facts new.trail.graph.told l.trail.facts g.trail.told h.trail.facts_in
 
-    first : take l.trail.entries new.trail.course ≡ take l.trail.entries old.trail.course
-    first = take_first old.trail.course g.trail.entries new.trail.course l.trail.entries g.trail.course h.trail.entries_in
+    first : take l.trail.entries new.trail.derivation ≡ take l.trail.entries old.trail.derivation
+    first = take_first old.trail.derivation g.trail.entries new.trail.derivation l.trail.entries g.trail.derivation h.trail.entries_in
 
     bounds : take l.bounds new.standing.tableau.bounds ≡ take l.bounds old.standing.tableau.bounds
     bounds = take_first old.standing.tableau.bounds g.standing.more new.standing.tableau.bounds l.bounds g.standing.adds.bounds h.bounds_in

@@ -6,9 +6,9 @@ use Rattle.spv_logic.specs.declared.conditions.TermId.{TermId}
 use Rattle.spv_term.specs.Arena.{Arena}
 use Rattle.spv_term.proofs.ListLemmas.{slice_get-append_left}
 use Rattle.spv_congruence.specs.declared.facts.Fact.{Fact}
-use Rattle.spv_course.specs.declared.entries.Entry.{Entry}
-use Rattle.spv_course.specs.Literals.{Literal, literals}
-use Rattle.spv_share_graph.specs.Telling.{literal_ties, Tie, tie_of, ties}
+use Rattle.spv_derivations.specs.declared.derivation.entries.Entry.{Entry}
+use Rattle.spv_derivations.specs.derivation.Literals.{Literal, literals}
+use Rattle.spv_explanations.specs.congruence_side.Telling.{literal_ties, Tie, tie_of, ties}
 use Rattle.spv_share.specs.declared.relations.Noted.{Noted}
 use Rattle.spv_share.specs.declared.relations.Related.{Related}
 use Rattle.spv_share.specs.Both.{AreNoted, AreTied, IsTie}

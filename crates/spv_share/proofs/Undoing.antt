@@ -7,30 +7,30 @@ use Rattle.spv_logic.specs.declared.conditions.TermId.{TermId}
 use Rattle.spv_term.specs.declared.nodes.Node.{Node}
 use Rattle.spv_term.specs.Arena.{Arena}
 use Rattle.spv_term.proofs.ListLemmas.{slice_get-append_left}
-use Rattle.spv_tableaux.specs.Bounds.{Bound}
+use Rattle.spv_tableau_rules.specs.tableaux.Bounds.{Bound}
 use Rattle.spv_congruence.specs.declared.facts.Fact.{Fact}
 use Rattle.spv_congruence.specs.Keep.{IsNode}
 use Rattle.spv_congruence.specs.Told.{Undone}
-use Rattle.spv_course.specs.declared.entries.Entry.{Entry}
-use Rattle.spv_course.specs.Course.{IsCourse}
-use Rattle.spv_course.specs.Derived.{IsTrueTerm, IsFalseTerm}
-use Rattle.spv_course.specs.Literals.{literals}
-use Rattle.spv_course.proofs.Growth.{course-take}
-use Rattle.spv_course.proofs.Literals.{literals-take}
+use Rattle.spv_derivations.specs.declared.derivation.entries.Entry.{Entry}
+use Rattle.spv_derivations.specs.derivation.Derivation.{IsDerivation}
+use Rattle.spv_derivations.specs.derivation.Derived.{IsTrueTerm, IsFalseTerm}
+use Rattle.spv_derivations.specs.derivation.Literals.{literals}
+use Rattle.spv_derivations.proofs.derivation.Growth.{derivation-take}
+use Rattle.spv_derivations.proofs.derivation.Literals.{literals-take}
 use Rattle.spv_atoms.specs.Linear.{IdForm}
-use Rattle.spv_readings.specs.Relations.{AreIn, AreRowsOf}
-use Rattle.spv_row_reasons.specs.Refuted.{AreOneAndZero}
-use Rattle.spv_readings.specs.Sources.{AreSourced}
-use Rattle.spv_bounds.specs.declared.sources.RowSources.{RowSources}
-use Rattle.spv_bounds.specs.Sources.{sources_in}
+use Rattle.spv_tableau_rules.specs.constraints.Relations.{AreIn, AreRowsOf}
+use Rattle.spv_arithmetic_side.specs.farkas.Refuted.{AreOneAndZero}
+use Rattle.spv_tableau_rules.specs.constraints.Sources.{AreSourced}
+use Rattle.spv_arithmetic_side.specs.declared.bounds.sources.RowSources.{RowSources}
+use Rattle.spv_arithmetic_side.specs.bounds.Sources.{sources_in}
 use Rattle.spv_simplex.specs.State.{State, with_first}
 use Rattle.spv_simplex.specs.Checks.{HoldsAsserted}
 use Rattle.spv_simplex.proofs.Held.{undoes_none}
-use Rattle.spv_share_graph.specs.Telling.{ties}
-use Rattle.spv_share_graph.specs.declared.trail.Trail.{Trail}
-use Rattle.spv_share_graph.specs.Holding.{Backs, Holds, WasSoFar}
-use Rattle.spv_share_rows.specs.declared.standing.Standing.{Standing}
-use Rattle.spv_share_rows.specs.Standing.{IsStanding, readings, Sourced}
+use Rattle.spv_explanations.specs.congruence_side.Telling.{ties}
+use Rattle.spv_explanations.specs.declared.congruence_side.trail.Trail.{Trail}
+use Rattle.spv_explanations.specs.congruence_side.Holding.{Backs, Holds, WasSoFar}
+use Rattle.spv_arithmetic_side.specs.declared.constraint_rows.standing.Standing.{Standing}
+use Rattle.spv_arithmetic_side.specs.constraint_rows.Standing.{IsStanding, readings, Sourced}
 use Rattle.spv_share.specs.declared.relations.Noted.{Noted}
 use Rattle.spv_share.specs.declared.relations.Related.{Related}
 use Rattle.spv_share.specs.declared.both.Both.{Both}
@@ -38,7 +38,7 @@ use Rattle.spv_share.specs.declared.both.Level.{Level}
 use Rattle.spv_share.specs.Relations.{AreRelations, sayable, sides_in}
 use Rattle.spv_share.proofs.Noted.{noted_as}
 use Rattle.spv_share.proofs.Ties.{tied_same}
-use Rattle.spv_share.proofs.Saying.{said_as}
+use Rattle.spv_share.proofs.RowConstraint.{said_as}
 use Rattle.spv_share.specs.Both.{AreReasoned, IsBoth, IsLevel, IsNoLater, IsSound, Stays, told}
 use Rattle.spv_share.proofs.Sound.{relations_more}
 
@@ -67,13 +67,13 @@ shorter xs n m h k = let e : length (take m xs) ≡ m = length-take-le m xs k in
 node_as : (old new : List (Option Node)) (t : TermId) → new ≡ old → IsNode old t → IsNode new t
 node_as old new t e h = (h.0, ap (λ ns. slice_get ns t.0) e ∙ h.1)
 
-pub undone_holds : (a : Arena) (old new : Trail) (entries facts : ℕ) → Holds a old → WasSoFar a old entries facts → new.course ≡ take entries old.course → Undone old.graph facts new.graph
+pub undone_holds : (a : Arena) (old new : Trail) (entries facts : ℕ) → Holds a old → WasSoFar a old entries facts → new.derivation ≡ take entries old.derivation → Undone old.graph facts new.graph
     → new.facts.items ≡ take facts old.facts.items → new.truth ≡ old.truth → new.falsity ≡ old.falsity → Holds a new
-undone_holds a old new entries facts h w course u kept truth falsity = record {
+undone_holds a old new entries facts h w derivation u kept truth falsity = record {
   of = record { node = λ t n at. h.of.node t n (ap (λ ns. slice_get ns t.0) (sym u.nodes) ∙ at) };
-  course = subst (IsCourse a) (sym course) (course-take a old.course entries h.course);
+  derivation = subst (IsDerivation a) (sym derivation) (derivation-take a old.derivation entries h.derivation);
   kept = kept ∙ (ap (take facts) h.kept ∙ sym u.told);
-  backs = subst (λ (es : List Entry). Backs a es new.graph.told) (sym course) (subst (λ (xs : List Fact). Backs a (take entries old.course) xs) (sym u.told) w.backs);
+  backs = subst (λ (es : List Entry). Backs a es new.graph.told) (sym derivation) (subst (λ (xs : List Fact). Backs a (take entries old.derivation) xs) (sym u.told) w.backs);
   ends = record { each = ends };
   truth = subst (IsTrueTerm a) (sym truth) h.truth;
   falsity = subst (IsFalseTerm a) (sym falsity) h.falsity;
@@ -90,7 +90,7 @@ undone_holds a old new entries facts h w course u kept truth falsity = record {
 
 -- what going back leaves
 pub record GoesBack (old new : Both) (l : Level) : Type 0 where
-  pub course : new.trail.course ≡ take l.trail.entries old.trail.course
+  pub derivation : new.trail.derivation ≡ take l.trail.entries old.trail.derivation
   pub graph : Undone old.trail.graph l.trail.facts new.trail.graph
   pub facts : new.trail.facts.items ≡ take l.trail.facts old.trail.facts.items
   pub truth : new.trail.truth ≡ old.trail.truth
@@ -106,11 +106,11 @@ pub record GoesBack (old new : Both) (l : Level) : Type 0 where
 abbrev VecOf : Type 0 → Type 0
 VecOf A = Vec A Global
 
-pub went_back : (old : Both) (l : Level) (tr : Trail) (st : Standing) (cs : VecOf Noted) → tr.course ≡ take l.trail.entries old.trail.course → Undone old.trail.graph l.trail.facts tr.graph
+pub went_back : (old : Both) (l : Level) (tr : Trail) (st : Standing) (cs : VecOf Noted) → tr.derivation ≡ take l.trail.entries old.trail.derivation → Undone old.trail.graph l.trail.facts tr.graph
     → tr.facts.items ≡ take l.trail.facts old.trail.facts.items → tr.truth ≡ old.trail.truth → tr.falsity ≡ old.trail.falsity → IsStanding st → st.tableau ≡ with_first old.standing.tableau l.bounds
     → st.sources ≡ old.standing.sources → cs.items ≡ take l.claims old.claims.items → GoesBack old (record old { trail = tr; standing = st; claims = cs }) l
-went_back old l tr st cs course graph facts truth falsity stands tableau sources claims = record {
-  course = course;
+went_back old l tr st cs derivation graph facts truth falsity stands tableau sources claims = record {
+  derivation = derivation;
   graph = graph;
   facts = facts;
   truth = truth;
@@ -140,7 +140,7 @@ module _ (a : Arena) (old new : Both) (l : Level) (g : GoesBack old new l) where
 
   pub back_sound : IsSound a old → IsLevel a old l → IsSound a new
   back_sound h k = record {
-    trail = undone_holds a old.trail new.trail l.trail.entries l.trail.facts h.trail k.trail g.course g.graph g.facts g.truth g.falsity;
+    trail = undone_holds a old.trail new.trail l.trail.entries l.trail.facts h.trail k.trail g.derivation g.graph g.facts g.truth g.falsity;
     standing = g.stands;
     related = record {
       are =
@@ -152,9 +152,9 @@ module _ (a : Arena) (old new : Both) (l : Level) (g : GoesBack old new l) where
           subst P (sym g.relations) (subst Q (sym forms_same) h.related.rows);
     };
     sourced =
-        let P : List Bound → Type 0 = λ bs. Sourced a (readings a new.trail.course) new.standing bs in
+        let P : List Bound → Type 0 = λ bs. Sourced a (readings a new.trail.derivation) new.standing bs in
         let Q : List Entry → Type 0 = λ es. Sourced a (readings a es) new.standing (take l.bounds old.standing.tableau.bounds) in
-        subst P (sym bounds_are) (subst Q (sym g.course) (sourced_back (take l.trail.entries old.trail.course) (take l.bounds old.standing.tableau.bounds) k.sourced));
+        subst P (sym bounds_are) (subst Q (sym g.derivation) (sourced_back (take l.trail.entries old.trail.derivation) (take l.bounds old.standing.tableau.bounds) k.sourced));
     inside = let P : List IdForm → Type 0 = λ fs. AreIn a fs in subst P (sym forms_same) h.inside;
     numbers =
         let P : TermId → Type 0 = λ t. AreOneAndZero a t new.zero in
@@ -182,58 +182,58 @@ module _ (a : Arena) (old new : Both) (l : Level) (g : GoesBack old new l) where
   back_both h k = record {
     sound = back_sound h k;
     claims =
-        noted_as a old.relations.items new.relations.items (take l.trail.entries old.trail.course) new.trail.course (take l.claims old.claims.items) new.claims.items g.relations g.course g.claims k.claims;
+        noted_as a old.relations.items new.relations.items (take l.trail.entries old.trail.derivation) new.trail.derivation (take l.claims old.claims.items) new.claims.items g.relations g.derivation g.claims k.claims;
     tied =
-        tied_same a old.trail.truth old.trail.falsity new.trail.truth new.trail.falsity (literals (take l.trail.entries old.trail.course)) (told new) (take l.trail.facts old.trail.graph.told) new.trail.graph.told g.truth g.falsity
-        (ap literals g.course) g.graph.told k.tied;
+        tied_same a old.trail.truth old.trail.falsity new.trail.truth new.trail.falsity (literals (take l.trail.entries old.trail.derivation)) (told new) (take l.trail.facts old.trail.graph.told) new.trail.graph.told g.truth g.falsity
+        (ap literals g.derivation) g.graph.told k.tied;
     reasons =
         subst (λ (rs : List Related). AreReasoned a rs (told new) (ties new.trail.graph.told)) (sym g.relations)
-        (subst (λ (es : List Entry). AreReasoned a old.relations.items (literals es) (ties new.trail.graph.told)) (sym g.course)
-        (subst (λ (xs : List Fact). AreReasoned a old.relations.items (literals (take l.trail.entries old.trail.course)) (ties xs)) (sym g.graph.told) k.reasons));
+        (subst (λ (es : List Entry). AreReasoned a old.relations.items (literals es) (ties new.trail.graph.told)) (sym g.derivation)
+        (subst (λ (xs : List Fact). AreReasoned a old.relations.items (literals (take l.trail.entries old.trail.derivation)) (ties xs)) (sym g.graph.told) k.reasons));
   }
 
   -- so many literals were told
-  count_is : IsLevel a old l → length (literals (take l.trail.entries old.trail.course)) ≡ l.claims
+  count_is : IsLevel a old l → length (literals (take l.trail.entries old.trail.derivation)) ≡ l.claims
   count_is k = sym k.claims.many ∙ length-take-le l.claims old.claims.items k.claims_in
 
   pub back_told : IsLevel a old l → told new ≡ take l.claims (told old)
   back_told k =
-      ap literals g.course
-      ∙ (literals-take old.trail.course l.trail.entries ∙ ap (λ n. take n (literals old.trail.course)) (count_is k))
+      ap literals g.derivation
+      ∙ (literals-take old.trail.derivation l.trail.entries ∙ ap (λ n. take n (literals old.trail.derivation)) (count_is k))
 
   -- a level that is no later is one still
   pub back_level : IsLevel a old l → (m : Level) → IsLevel a old m → IsNoLater m l → IsLevel a new m
   back_level k m h e = record {
     trail = record {
-      entries_in = subst (λ (es : List Entry). m.trail.entries ≤ length es) (sym g.course) (shorter old.trail.course m.trail.entries l.trail.entries e.entries k.trail.entries_in);
+      entries_in = subst (λ (es : List Entry). m.trail.entries ≤ length es) (sym g.derivation) (shorter old.trail.derivation m.trail.entries l.trail.entries e.entries k.trail.entries_in);
       facts_in = subst (λ (xs : List Fact). m.trail.facts ≤ length xs) (sym g.graph.told) (shorter old.trail.graph.told m.trail.facts l.trail.facts e.facts k.trail.facts_in);
       backs =
           subst (λ (es : List Entry). Backs a es (take m.trail.facts new.trail.graph.told)) (sym first)
-          (subst (λ (xs : List Fact). Backs a (take m.trail.entries old.trail.course) xs) (sym facts) h.trail.backs);
+          (subst (λ (xs : List Fact). Backs a (take m.trail.entries old.trail.derivation) xs) (sym facts) h.trail.backs);
     };
     mark = h.mark;
     bounds_in = subst (λ (bs : List Bound). m.bounds ≤ length bs) (sym bounds_are) (shorter old.standing.tableau.bounds m.bounds l.bounds e.bounds k.bounds_in);
     sourced =
         subst (λ (es : List Entry). Sourced a (readings a es) new.standing (take m.bounds new.standing.tableau.bounds)) (sym first)
-        (subst (λ (bs : List Bound). Sourced a (readings a (take m.trail.entries old.trail.course)) new.standing bs) (sym bounds)
-        (sourced_back (take m.trail.entries old.trail.course) (take m.bounds old.standing.tableau.bounds) h.sourced));
+        (subst (λ (bs : List Bound). Sourced a (readings a (take m.trail.entries old.trail.derivation)) new.standing bs) (sym bounds)
+        (sourced_back (take m.trail.entries old.trail.derivation) (take m.bounds old.standing.tableau.bounds) h.sourced));
     said =
         said_as old.relations.items new.relations.items old.standing.tableau.forms new.standing.tableau.forms (take m.bounds old.standing.tableau.bounds) (take m.bounds new.standing.tableau.bounds) g.relations forms_same bounds h.said;
     claims_in = subst (λ (ns : List Noted). m.claims ≤ length ns) (sym g.claims) (shorter old.claims.items m.claims l.claims e.claims k.claims_in);
     claims =
-        noted_as a old.relations.items new.relations.items (take m.trail.entries old.trail.course) (take m.trail.entries new.trail.course) (take m.claims old.claims.items) (take m.claims new.claims.items) g.relations first
+        noted_as a old.relations.items new.relations.items (take m.trail.entries old.trail.derivation) (take m.trail.entries new.trail.derivation) (take m.claims old.claims.items) (take m.claims new.claims.items) g.relations first
         (ap (take m.claims) g.claims ∙ take-take m.claims l.claims old.claims.items e.claims) h.claims;
     tied =
-        tied_same a old.trail.truth old.trail.falsity new.trail.truth new.trail.falsity (literals (take m.trail.entries old.trail.course)) (literals (take m.trail.entries new.trail.course)) (take m.trail.facts old.trail.graph.told)
+        tied_same a old.trail.truth old.trail.falsity new.trail.truth new.trail.falsity (literals (take m.trail.entries old.trail.derivation)) (literals (take m.trail.entries new.trail.derivation)) (take m.trail.facts old.trail.graph.told)
         (take m.trail.facts new.trail.graph.told) g.truth g.falsity (ap literals first) facts h.tied;
     reasons =
-        subst (λ (rs : List Related). AreReasoned a rs (literals (take m.trail.entries new.trail.course)) (ties (take m.trail.facts new.trail.graph.told))) (sym g.relations)
+        subst (λ (rs : List Related). AreReasoned a rs (literals (take m.trail.entries new.trail.derivation)) (ties (take m.trail.facts new.trail.graph.told))) (sym g.relations)
         (subst (λ (es : List Entry). AreReasoned a old.relations.items (literals es) (ties (take m.trail.facts new.trail.graph.told))) (sym first)
-        (subst (λ (xs : List Fact). AreReasoned a old.relations.items (literals (take m.trail.entries old.trail.course)) (ties xs)) (sym facts) h.reasons));
+        (subst (λ (xs : List Fact). AreReasoned a old.relations.items (literals (take m.trail.entries old.trail.derivation)) (ties xs)) (sym facts) h.reasons));
   }
     where
-      first : take m.trail.entries new.trail.course ≡ take m.trail.entries old.trail.course
-      first = ap (take m.trail.entries) g.course ∙ take-take m.trail.entries l.trail.entries old.trail.course e.entries
+      first : take m.trail.entries new.trail.derivation ≡ take m.trail.entries old.trail.derivation
+      first = ap (take m.trail.entries) g.derivation ∙ take-take m.trail.entries l.trail.entries old.trail.derivation e.entries
 
       facts : take m.trail.facts new.trail.graph.told ≡ take m.trail.facts old.trail.graph.told
       facts = ap (take m.trail.facts) g.graph.told ∙ take-take m.trail.facts l.trail.facts old.trail.graph.told e.facts
@@ -250,37 +250,37 @@ take_whole (x ∷ xs) = ap (λ ys. x ∷ ys) (take_whole xs)
 same_length : (n m : ℕ) → n ≡ m → n ≤ m
 same_length n m e = omega arith
 
-pub level_now : (a : Arena) (b : Both) (l : Level) → IsBoth a b → l.trail.entries ≡ length b.trail.course → l.trail.facts ≡ length b.trail.facts.items → l.trail.mark ≡ length b.trail.graph.told
+pub level_now : (a : Arena) (b : Both) (l : Level) → IsBoth a b → l.trail.entries ≡ length b.trail.derivation → l.trail.facts ≡ length b.trail.facts.items → l.trail.mark ≡ length b.trail.graph.told
     → l.bounds ≡ length b.standing.tableau.bounds → l.claims ≡ length b.claims.items → IsLevel a b l
 level_now a b l h entries facts mark bounds claims = record {
   trail = record {
-    entries_in = same_length l.trail.entries (length b.trail.course) entries;
+    entries_in = same_length l.trail.entries (length b.trail.derivation) entries;
     facts_in = same_length l.trail.facts (length b.trail.graph.told) facts_are;
     backs =
-        subst (λ (es : List Entry). Backs a es (take l.trail.facts b.trail.graph.told)) (sym course)
-        (subst (λ (xs : List Fact). Backs a b.trail.course xs) (sym (ap (λ n. take n b.trail.graph.told) facts_are ∙ take_whole b.trail.graph.told)) h.sound.trail.backs);
+        subst (λ (es : List Entry). Backs a es (take l.trail.facts b.trail.graph.told)) (sym derivation)
+        (subst (λ (xs : List Fact). Backs a b.trail.derivation xs) (sym (ap (λ n. take n b.trail.graph.told) facts_are ∙ take_whole b.trail.graph.told)) h.sound.trail.backs);
   };
   mark = mark ∙ sym facts_are;
   bounds_in = same_length l.bounds (length b.standing.tableau.bounds) bounds;
   sourced =
-      subst (λ (es : List Entry). Sourced a (readings a es) b.standing (take l.bounds b.standing.tableau.bounds)) (sym course)
-      (subst (λ (bs : List Bound). Sourced a (readings a b.trail.course) b.standing bs) (sym (ap (λ n. take n b.standing.tableau.bounds) bounds ∙ take_whole b.standing.tableau.bounds)) h.sound.sourced);
+      subst (λ (es : List Entry). Sourced a (readings a es) b.standing (take l.bounds b.standing.tableau.bounds)) (sym derivation)
+      (subst (λ (bs : List Bound). Sourced a (readings a b.trail.derivation) b.standing bs) (sym (ap (λ n. take n b.standing.tableau.bounds) bounds ∙ take_whole b.standing.tableau.bounds)) h.sound.sourced);
   said =
       said_as b.relations.items b.relations.items b.standing.tableau.forms b.standing.tableau.forms b.standing.tableau.bounds (take l.bounds b.standing.tableau.bounds) refl refl
       (ap (λ n. take n b.standing.tableau.bounds) bounds ∙ take_whole b.standing.tableau.bounds) h.sound.said;
   claims_in = same_length l.claims (length b.claims.items) claims;
   claims =
-      noted_as a b.relations.items b.relations.items b.trail.course (take l.trail.entries b.trail.course) b.claims.items (take l.claims b.claims.items) refl course (ap (λ n. take n b.claims.items) claims ∙ take_whole b.claims.items) h.claims;
+      noted_as a b.relations.items b.relations.items b.trail.derivation (take l.trail.entries b.trail.derivation) b.claims.items (take l.claims b.claims.items) refl derivation (ap (λ n. take n b.claims.items) claims ∙ take_whole b.claims.items) h.claims;
   tied =
-      tied_same a b.trail.truth b.trail.falsity b.trail.truth b.trail.falsity (told b) (literals (take l.trail.entries b.trail.course)) b.trail.graph.told (take l.trail.facts b.trail.graph.told) refl refl (ap literals course)
+      tied_same a b.trail.truth b.trail.falsity b.trail.truth b.trail.falsity (told b) (literals (take l.trail.entries b.trail.derivation)) b.trail.graph.told (take l.trail.facts b.trail.graph.told) refl refl (ap literals derivation)
       (ap (λ n. take n b.trail.graph.told) facts_are ∙ take_whole b.trail.graph.told) h.tied;
   reasons =
-      subst (λ (es : List Entry). AreReasoned a b.relations.items (literals es) (ties (take l.trail.facts b.trail.graph.told))) (sym course)
+      subst (λ (es : List Entry). AreReasoned a b.relations.items (literals es) (ties (take l.trail.facts b.trail.graph.told))) (sym derivation)
       (subst (λ (xs : List Fact). AreReasoned a b.relations.items (told b) (ties xs)) (sym (ap (λ n. take n b.trail.graph.told) facts_are ∙ take_whole b.trail.graph.told)) h.reasons);
 }
   where
-    course : take l.trail.entries b.trail.course ≡ b.trail.course
-    course = ap (λ n. take n b.trail.course) entries ∙ take_whole b.trail.course
+    derivation : take l.trail.entries b.trail.derivation ≡ b.trail.derivation
+    derivation = ap (λ n. take n b.trail.derivation) entries ∙ take_whole b.trail.derivation
 
     facts_are : l.trail.facts ≡ length b.trail.graph.told
     facts_are = facts ∙ ap (λ (xs : List Fact). length xs) h.sound.trail.kept
@@ -288,7 +288,7 @@ level_now a b l h entries facts mark bounds claims = record {
 pub claims_count : (a : Arena) (b : Both) → IsBoth a b → length b.claims.items ≡ length (told b)
 claims_count a b h = h.claims.many
 
-pub last_level : (a : Arena) (b : Both) (l m : Level) → l.trail.entries ≡ length b.trail.course → l.trail.facts ≡ length b.trail.graph.told
+pub last_level : (a : Arena) (b : Both) (l m : Level) → l.trail.entries ≡ length b.trail.derivation → l.trail.facts ≡ length b.trail.graph.told
     → l.bounds ≡ length b.standing.tableau.bounds → l.claims ≡ length b.claims.items → IsLevel a b m → IsNoLater m l
 last_level a b l m entries facts bounds claims h = record {
   entries = subst (λ (n : ℕ). m.trail.entries ≤ n) (sym entries) h.trail.entries_in;

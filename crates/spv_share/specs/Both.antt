@@ -4,17 +4,17 @@ use Rattle.spv_logic.specs.declared.conditions.TermId.{TermId}
 use Rattle.spv_logic.specs.declared.operators.Head.TheVariants.{Eq}
 use Rattle.spv_term.specs.Arena.{Arena, tree}
 use Rattle.spv_simplex.specs.Checks.{HoldsAsserted}
-use Rattle.spv_course.specs.Literals.{Literal, literals}
-use Rattle.spv_course.specs.declared.entries.Part.TheVariants.{True}
-use Rattle.spv_course.specs.declared.entries.Entry.{Entry}
-use Rattle.spv_course.specs.Course.{fact_at, literal}
-use Rattle.spv_course.specs.Derived.{is_truth, IsTrueTerm, IsFalseTerm}
-use Rattle.spv_course.specs.Sides.{Pair}
-use Rattle.spv_readings.specs.Relations.{AreIn}
-use Rattle.spv_row_reasons.specs.Refuted.{AreOneAndZero}
-use Rattle.spv_share_graph.specs.Holding.{Holds, WasSoFar}
-use Rattle.spv_share_graph.specs.Telling.{equation_sides, literal_ties, Tie, ties}
-use Rattle.spv_share_rows.specs.Standing.{HasSaid, IsStanding, readings, SaidBy, Sourced}
+use Rattle.spv_derivations.specs.derivation.Literals.{Literal, literals}
+use Rattle.spv_derivations.specs.declared.derivation.entries.Part.TheVariants.{True}
+use Rattle.spv_derivations.specs.declared.derivation.entries.Entry.{Entry}
+use Rattle.spv_derivations.specs.derivation.Derivation.{fact_at, literal}
+use Rattle.spv_derivations.specs.derivation.Derived.{is_truth, IsTrueTerm, IsFalseTerm}
+use Rattle.spv_derivations.specs.derivation.Sides.{Pair}
+use Rattle.spv_tableau_rules.specs.constraints.Relations.{AreIn}
+use Rattle.spv_arithmetic_side.specs.farkas.Refuted.{AreOneAndZero}
+use Rattle.spv_explanations.specs.congruence_side.Holding.{Holds, WasSoFar}
+use Rattle.spv_explanations.specs.congruence_side.Telling.{equation_sides, literal_ties, Tie, ties}
+use Rattle.spv_arithmetic_side.specs.constraint_rows.Standing.{HasSaid, IsStanding, readings, SaidBy, Sourced}
 use Rattle.spv_share.specs.declared.relations.Claim.{Claim}
 use Rattle.spv_share.specs.declared.relations.Noted.{Noted}
 use Rattle.spv_share.specs.declared.relations.Related.{Related}
@@ -31,7 +31,7 @@ pub record AreEnds (a : Arena) (e : Ends) : Type 0 where
 
 -- the literals that were told, in order
 abbrev pub told : Both → List Literal
-told b = literals b.trail.course
+told b = literals b.trail.derivation
 
 -- ---- equalities that the graph was told
 
@@ -56,7 +56,7 @@ pub record IsTie (ts : List Tie) (x : Tie) : Type 0 where
 pub record AreTied (a : Arena) (truth falsity : TermId) (told : List Literal) (ts : List Tie) : Type 0 where
   pub each : (place : ℕ) (l : Literal) (i : ℕ) (x : Tie) → slice_get told place ≡ Some l → slice_get (literal_ties a truth falsity l.atom l.part) i ≡ Some x → IsTie ts x
 
--- ---- literals beside the course
+-- ---- literals beside the derivation
 
 -- what a literal says of a row, and the number of its fact
 pub record IsNoted (a : Arena) (rels : List Related) (es : List Entry) (l : Literal) (n : Noted) : Type 0 where
@@ -71,12 +71,12 @@ pub record AreNoted (a : Arena) (rels : List Related) (es : List Entry) (ns : Li
 
 -- ---- both sides
 
--- both sides stand on the facts of one course; all bounds that were ever asserted are those of literals of the relations
+-- both sides stand on the facts of one derivation; all bounds that were ever asserted are those of literals of the relations
 pub record IsSound (a : Arena) (b : Both) : Type 0 where
   pub trail : Holds a b.trail
   pub standing : IsStanding b.standing
   pub related : AreRelated a b.trail.graph.nodes b.relations.items b.standing.tableau.forms
-  pub sourced : Sourced a (readings a b.trail.course) b.standing b.standing.tableau.bounds
+  pub sourced : Sourced a (readings a b.trail.derivation) b.standing b.standing.tableau.bounds
   pub inside : AreIn a b.standing.tableau.forms
   pub numbers : AreOneAndZero a b.one b.zero
   pub asserted : HoldsAsserted (sayable b.relations.items b.standing.tableau.forms) b.standing.tableau
@@ -86,7 +86,7 @@ pub record IsSound (a : Arena) (b : Both) : Type 0 where
 -- and it is noted what each literal says of its row; the graph was told all that literals tell it, and no other equality than by literals, or of relations
 pub record IsBoth (a : Arena) (b : Both) : Type 0 where
   pub sound : IsSound a b
-  pub claims : AreNoted a b.relations.items b.trail.course b.claims.items
+  pub claims : AreNoted a b.relations.items b.trail.derivation b.claims.items
   pub tied : AreTied a b.trail.truth b.trail.falsity (told b) (ties b.trail.graph.told)
   pub reasons : AreReasoned a b.relations.items (told b) (ties b.trail.graph.told)
 
@@ -107,12 +107,12 @@ pub record IsLevel (a : Arena) (b : Both) (l : Level) : Type 0 where
   pub trail : WasSoFar a b.trail l.trail.entries l.trail.facts
   pub mark : l.trail.mark ≡ l.trail.facts
   pub bounds_in : l.bounds ≤ length b.standing.tableau.bounds
-  pub sourced : Sourced a (readings a (take l.trail.entries b.trail.course)) b.standing (take l.bounds b.standing.tableau.bounds)
+  pub sourced : Sourced a (readings a (take l.trail.entries b.trail.derivation)) b.standing (take l.bounds b.standing.tableau.bounds)
   pub said : AreSaid b.relations.items b.standing.tableau.forms (take l.bounds b.standing.tableau.bounds)
   pub claims_in : l.claims ≤ length b.claims.items
-  pub claims : AreNoted a b.relations.items (take l.trail.entries b.trail.course) (take l.claims b.claims.items)
-  pub tied : AreTied a b.trail.truth b.trail.falsity (literals (take l.trail.entries b.trail.course)) (ties (take l.trail.facts b.trail.graph.told))
-  pub reasons : AreReasoned a b.relations.items (literals (take l.trail.entries b.trail.course)) (ties (take l.trail.facts b.trail.graph.told))
+  pub claims : AreNoted a b.relations.items (take l.trail.entries b.trail.derivation) (take l.claims b.claims.items)
+  pub tied : AreTied a b.trail.truth b.trail.falsity (literals (take l.trail.entries b.trail.derivation)) (ties (take l.trail.facts b.trail.graph.told))
+  pub reasons : AreReasoned a b.relations.items (literals (take l.trail.entries b.trail.derivation)) (ties (take l.trail.facts b.trail.graph.told))
 
 -- a level that is no later than another one
 pub record IsNoLater (l m : Level) : Type 0 where
@@ -130,6 +130,6 @@ KeepsLevels a old new = (l : Level) → IsLevel a old l → IsLevel a new l
 -- what a fact says of a row that is there
 pub record IsClaimed (a : Arena) (b : Both) (c : Claim) (fact : ℕ) : Type 0 where
   pub row_in : c.row < length b.standing.tableau.forms
-  pub said : SaidBy a (readings a b.trail.course) b.standing c.row c.saying fact
+  pub said : SaidBy a (readings a b.trail.derivation) b.standing c.row c.saying fact
   pub among : HasSaid (sayable b.relations.items b.standing.tableau.forms) b.standing c.row c.saying
   pub may : (r : Related) → slice_get b.relations.items c.row ≡ Some r → may_say c.saying r.head ≡ true

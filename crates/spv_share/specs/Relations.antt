@@ -8,22 +8,22 @@ use Rattle.spv_term.specs.declared.nodes.Node.{Node}
 use Rattle.spv_term.specs.Arena.{Arena, tree}
 use Rattle.spv_congruence.specs.Keep.{IsNode}
 use Rattle.spv_congruence.specs.Told.{IsPart}
-use Rattle.spv_tableaux.specs.Bounds.{Bound}
+use Rattle.spv_tableau_rules.specs.tableaux.Bounds.{Bound}
 use Rattle.spv_atoms.specs.Linear.{IdForm}
 use Rattle.spv_atoms.specs.Order.{passing}
-use Rattle.spv_course.specs.declared.entries.Part.{Part}
-use Rattle.spv_course.specs.declared.entries.Part.TheVariants as part
-use Rattle.spv_course.specs.Literals.{Literal}
-use Rattle.spv_sums.specs.Readings.{number_in}
-use Rattle.spv_readings.specs.declared.saying.Saying.{Saying}
-use Rattle.spv_readings.specs.declared.saying.Saying.TheVariants.{Equal, Below, AtMost, Above, AtLeast, Differs}
-use Rattle.spv_readings.specs.Sayings.{bounds_of}
-use Rattle.spv_readings.specs.Relations as relations
-use Rattle.spv_readings.specs.Relations.{number_sides, AreRowsOf}
-use Rattle.spv_row_reasons.specs.Told.{told}
-use Rattle.spv_share_rows.specs.Said.{Says}
-use Rattle.spv_share_graph.specs.declared.trail.Trail.{Trail}
-use Rattle.spv_share_graph.specs.Holding.{Holds}
+use Rattle.spv_derivations.specs.declared.derivation.entries.Part.{Part}
+use Rattle.spv_derivations.specs.declared.derivation.entries.Part.TheVariants as part
+use Rattle.spv_derivations.specs.derivation.Literals.{Literal}
+use Rattle.spv_proof.specs.sums.Readings.{number_in}
+use Rattle.spv_tableau_rules.specs.declared.constraints.saying.RowConstraint.{RowConstraint}
+use Rattle.spv_tableau_rules.specs.declared.constraints.saying.RowConstraint.TheVariants.{Equal, Below, AtMost, Above, AtLeast, Differs}
+use Rattle.spv_tableau_rules.specs.constraints.Sayings.{bounds_of}
+use Rattle.spv_tableau_rules.specs.constraints.Relations as relations
+use Rattle.spv_tableau_rules.specs.constraints.Relations.{number_sides, AreRowsOf}
+use Rattle.spv_arithmetic_side.specs.farkas.Told.{told}
+use Rattle.spv_arithmetic_side.specs.constraint_rows.Said.{Says}
+use Rattle.spv_explanations.specs.declared.congruence_side.trail.Trail.{Trail}
+use Rattle.spv_explanations.specs.congruence_side.Holding.{Holds}
 use Rattle.spv_share.specs.declared.relations.Related.{Related}
 use Rattle.spv_share.specs.declared.relations.Claim.{Claim}
 
@@ -95,7 +95,7 @@ abbrev pub find : List Related → TermId → Option Related
 find [] t = None
 find (r ∷ rels) t = if nat_eq r.atom.0 t.0 then Some r else find rels t
 
-abbrev pub said : ℕ → Option Saying → Option Claim
+abbrev pub said : ℕ → Option RowConstraint → Option Claim
 said row None = None
 said row (Some x) = Some (record { row = row; saying = x })
 
@@ -109,7 +109,7 @@ claim_of rels l = claim (find rels l.atom) l.part
 
 -- ---- what may be said of rows
 
-abbrev pub bounds_if : ℕ → ℤ → Option Saying → List Bound
+abbrev pub bounds_if : ℕ → ℤ → Option RowConstraint → List Bound
 bounds_if row constant None = []
 bounds_if row constant (Some x) = bounds_of row constant x
 
@@ -131,7 +131,7 @@ sayable rels forms = bounds_from 0 rels forms
 -- ---- what rows say
 
 -- what may be said of the row of a relation with this head: nothing; and what its literals say of it
-abbrev pub may_say : Saying → Head → Bool
+abbrev pub may_say : RowConstraint → Head → Bool
 may_say Differs h = true
 may_say Equal Eq = true
 may_say Below Eq = true
@@ -144,7 +144,7 @@ may_say _ _ = false
 
 -- a row says one such thing: exactly its bounds stand there
 pub record IsSaid (bounds : List Bound) (row : ℕ) (h : Head) (constant : ℤ) : Type 0 where
-  pub saying : Saying
+  pub saying : RowConstraint
   pub may : may_say saying h ≡ true
   pub says : Says bounds row constant saying
 
@@ -164,7 +164,7 @@ related a t l r row = record { atom = t; head = head_under (slice_get a.nodes t.
 -- the relations among the atoms so far, which were added to a trail that was told nothing
 pub record IsGathered (a : Arena) (tr : Trail) (ts : List TermId) (rels : List Related) : Type 0 where
   pub holds : Holds a tr
-  pub course : tr.course ≡ []
+  pub derivation : tr.derivation ≡ []
   pub untold : tr.graph.told ≡ []
   pub parts : AreParts a tr.graph.nodes (tr.truth ∷ tr.falsity ∷ ts)
   pub nodes : AreNodes tr.graph.nodes ts

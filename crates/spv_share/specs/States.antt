@@ -6,21 +6,21 @@ use Rattle.spv_logic.specs.Conditions.{Sequent}
 use Rattle.spv_logic.specs.Terms.{Term}
 use Rattle.spv_term.specs.Arena.{Arena}
 use Rattle.spv_atoms.specs.declared.proofs.Step.{Step}
-use Rattle.spv_proof.specs.Accepted as accepted
-use Rattle.spv_proof.specs.Accepted.{walk}
-use Rattle.spv_proof.specs.Stand.{StepsIn}
+use Rattle.spv_proof_rules.specs.Accepted as accepted
+use Rattle.spv_proof_rules.specs.Accepted.{walk}
+use Rattle.spv_proof_rules.specs.Stand.{StepsIn}
 use Rattle.spv_congruence.specs.Graph.{are_same, Graph}
-use Rattle.spv_course.specs.Course.{asked}
-use Rattle.spv_course.specs.Literals.{AreKnown}
-use Rattle.spv_course.specs.Steps.{IsEnd}
-use Rattle.spv_readings.specs.declared.saying.Saying.TheVariants.{Equal, Below, Above}
+use Rattle.spv_derivations.specs.derivation.Derivation.{asked}
+use Rattle.spv_derivations.specs.derivation.Literals.{AreKnown}
+use Rattle.spv_derivations.specs.derivation.Steps.{IsEnd}
+use Rattle.spv_tableau_rules.specs.declared.constraints.saying.RowConstraint.TheVariants.{Equal, Below, Above}
 use Rattle.spv_simplex.specs.declared.checked.Checked.TheVariants.{Feasible}
 use Rattle.spv_simplex.specs.Checks.{IsFeasible}
-use Rattle.spv_share_graph.specs.Holding.{HasNoClash, Grows}
-use Rattle.spv_share_graph.specs.Telling.{ties}
-use Rattle.spv_share_rows.specs.declared.standing.Standing.{Standing}
-use Rattle.spv_share_rows.specs.Standing.{AddsSome, IsBack, Stands}
-use Rattle.spv_share_rows.specs.Forcing.{HasEvidence, HasPoint, IsStopped}
+use Rattle.spv_explanations.specs.congruence_side.Holding.{HasNoClash, Grows}
+use Rattle.spv_explanations.specs.congruence_side.Telling.{ties}
+use Rattle.spv_arithmetic_side.specs.declared.constraint_rows.standing.Standing.{Standing}
+use Rattle.spv_arithmetic_side.specs.constraint_rows.Standing.{AddsSome, IsBack, Stands}
+use Rattle.spv_arithmetic_side.specs.constraint_rows.Forcing.{HasEvidence, HasPoint, IsStopped}
 use Rattle.spv_share.specs.Relations.{sayable}
 use Rattle.spv_share.specs.declared.relations.Related.{Related}
 use Rattle.spv_share.specs.declared.relations.Claim.{Claim}
@@ -146,7 +146,7 @@ pub record IsStill (old new : Both) : Type 0 where
 
 -- what came of a round
 abbrev pub IsOutcome : Arena → Both → Outcome → Type 0
-IsOutcome a b (outcome.Ended first second) = IsEnd a b.trail.course first second
+IsOutcome a b (outcome.Ended first second) = IsEnd a b.trail.derivation first second
 IsOutcome a b outcome.Open = IsOpen b
 IsOutcome a b outcome.Stopped = IsLimit b
 

@@ -6,8 +6,8 @@ ghost use Rattle.spv_congruence.specs.Told.{Undone};
 ghost use Rattle.spv_share.specs.Both.{IsBoth, IsLevel, IsNoLater, IsSound, Stays, told};
 
 use crate::relations::{Noted, Related};
-use spv_share_graph::Trail;
-use spv_share_rows::Standing;
+use spv_arithmetic_side::constraint_rows::Standing;
+use spv_explanations::congruence_side::Trail;
 use spv_simplex::Mark;
 use spv_term::{TermId, Terms};
 
@@ -45,7 +45,7 @@ pub struct Both {
 #[derive(Debug, Drop)]
 pub struct Level {
     /// How far the trail was.
-    pub trail: spv_share_graph::Level,
+    pub trail: spv_explanations::congruence_side::Level,
     /// How many bounds stood.
     pub bounds: Mark,
     /// How many literals were told.

@@ -3,14 +3,14 @@
 ghost use Rattle.std.specs.Prelude.{◌≡◌, Some, IfOk, IfSome, IfNone};
 ghost use Rattle.spv_simplex.specs.declared.checked.Checked.TheVariants as checked;
 ghost use Rattle.spv_simplex.specs.Checks.{IsInfeasible};
-ghost use Rattle.spv_share_rows.specs.Said.{IsOpposed};
+ghost use Rattle.spv_arithmetic_side.specs.constraint_rows.Said.{IsOpposed};
 ghost use Rattle.spv_share.specs.Both.{IsClaimed, IsSound};
 ghost use Rattle.spv_share.specs.States.{GoesOn, IsAtPoint, IsOutcome, IsStill};
 
 use crate::both::Both;
 use crate::relations::Claim;
-use spv_row_reasons::law_refuted;
-use spv_share_rows::end_opposed;
+use spv_arithmetic_side::constraint_rows::end_opposed;
+use spv_arithmetic_side::farkas::law_refuted;
 use spv_simplex::Checked;
 use spv_term::Terms;
 use std::alloc::{AllocError, Global};
@@ -40,7 +40,7 @@ impl Both {
         terms.law_arena();
         let number = self
             .standing
-            .end(alloc, &mut self.trail.course, self.one, self.zero)?;
+            .end(alloc, &mut self.trail.derivation, self.one, self.zero)?;
         Ok(Outcome::Ended(number, None))
     }
 
@@ -82,7 +82,7 @@ impl Both {
         law_refuted();
         terms.law_arena();
         let from = self.standing.opposed(claim.row, claim.saying, fact);
-        let number = end_opposed(alloc, &mut self.trail.course, self.one, self.zero, from)?;
+        let number = end_opposed(alloc, &mut self.trail.derivation, self.one, self.zero, from)?;
         Ok(Outcome::Ended(number, None))
     }
 }

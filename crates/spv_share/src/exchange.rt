@@ -1,9 +1,9 @@
 // What the graph tells the tableau.
 
 ghost use Rattle.std.specs.Prelude.{◌≡◌, ◌<◌, length, IfNone, IfOk, IfSome, Some, slice_get, true};
-ghost use Rattle.spv_readings.specs.declared.saying.Saying.TheVariants.{Equal};
+ghost use Rattle.spv_tableau_rules.specs.declared.constraints.saying.RowConstraint.TheVariants.{Equal};
 ghost use Rattle.spv_congruence.specs.Keep.{IsNode};
-ghost use Rattle.spv_share_rows.specs.Standing.{Stands};
+ghost use Rattle.spv_arithmetic_side.specs.constraint_rows.Standing.{Stands};
 ghost use Rattle.spv_share.specs.declared.relations.Claim.{Claim};
 ghost use Rattle.spv_share.specs.declared.relations.Noted.{Noted};
 ghost use Rattle.spv_share.specs.declared.relations.Related.{Related};
@@ -14,8 +14,8 @@ ghost use Rattle.spv_share.specs.States.{ClaimsStand, GoesOn, IsOutcome, JoinedS
 use crate::both::Both;
 use crate::ending::Outcome;
 use crate::relations::{Claim, Related};
-use spv_readings::Saying;
-use spv_row_reasons::law_told;
+use spv_arithmetic_side::farkas::law_told;
+use spv_tableau_rules::constraints::RowConstraint;
 use spv_term::{Head, Terms};
 use std::alloc::{AllocError, Global};
 
@@ -131,7 +131,7 @@ impl Both {
             .equation(alloc, terms, related.left, related.right)?;
         let claim = Claim {
             row: related.row,
-            saying: Saying::Equal,
+            saying: RowConstraint::Equal,
         };
         self.give_claim(alloc, terms, claim, number)
     }
@@ -154,7 +154,7 @@ impl Both {
         if !self.is_joined(related) {
             return Ok(None);
         }
-        if self.standing.stands(related.row, Saying::Equal) {
+        if self.standing.stands(related.row, RowConstraint::Equal) {
             return Ok(None);
         }
         self.give(alloc, terms, related)

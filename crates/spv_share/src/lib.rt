@@ -3,6 +3,7 @@
 #![tactic(auto)]
 
 mod both;
+pub mod combination_laws;
 mod ending;
 mod exchange;
 mod opening;

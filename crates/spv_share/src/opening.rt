@@ -2,15 +2,15 @@
 
 ghost use Rattle.std.specs.Prelude.{◌≡◌, ◌<◌, ◌≤◌, [], ◌∷◌, map, length, IfOk, IfErr};
 ghost use Rattle.spv_term.specs.Arena.{AllBelow, IsArena, tree};
-ghost use Rattle.spv_atom_rows.specs.Rows.{IsWideAmong};
+ghost use Rattle.spv_arithmetic_side.specs.slack_rows.Rows.{IsWideAmong};
 ghost use Rattle.spv_share.specs.Relations.{AreAmong, AreListed, AreNodes, AreParts, AreRelationsAmong};
 ghost use Rattle.spv_share.specs.Both.{AreEnds, IsBoth, told};
 
 use crate::both::{Both, Ends};
 use crate::relations::gather;
-use spv_atom_rows::{RowFault, relation_rows};
-use spv_share_graph::Trail;
-use spv_share_rows::Standing;
+use spv_arithmetic_side::constraint_rows::Standing;
+use spv_arithmetic_side::slack_rows::{RowFault, relation_rows};
+use spv_explanations::congruence_side::Trail;
 use spv_term::{TermId, Terms};
 use std::alloc::Global;
 

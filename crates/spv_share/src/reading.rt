@@ -2,13 +2,13 @@
 
 ghost use Rattle.std.specs.Prelude.{◌≡◌, Some, IsTrue};
 ghost use Rattle.std.specs.List.{list_any};
-ghost use Rattle.spv_rational.specs.Rational.{number};
+ghost use Rattle.spv_frac.specs.rational.Rational.{number};
 ghost use Rattle.spv_atoms.specs.Order.{same_id};
-ghost use Rattle.spv_tableaux.specs.Forms.{part_ids};
+ghost use Rattle.spv_tableau_rules.specs.tableaux.Forms.{part_ids};
 ghost use Rattle.spv_congruence.specs.Graph.{label_of};
 ghost use Rattle.spv_congruence.specs.Keep.{IsNode};
 ghost use Rattle.spv_simplex.specs.State.{value_of};
-ghost use Rattle.spv_share_rows.specs.Forcing.{IsStopped};
+ghost use Rattle.spv_arithmetic_side.specs.constraint_rows.Forcing.{IsStopped};
 ghost use Rattle.spv_share.specs.States.{IsOpen};
 
 use crate::both::Both;

@@ -3,15 +3,15 @@
 ghost use Rattle.std.specs.Prelude.{◌≡◌, ◌<◌, ◌++◌, ◌∷◌, [], List, length, IfOk, OnOk, Some};
 ghost use Rattle.spv_logic.specs.declared.conditions.TermId.{TermId};
 ghost use Rattle.spv_term.specs.Arena.{AllBelow, IsArena};
-ghost use Rattle.spv_share_graph.specs.Holding.{Holds};
+ghost use Rattle.spv_explanations.specs.congruence_side.Holding.{Holds};
 ghost use Rattle.spv_share.specs.Relations as spec;
 ghost use Rattle.spv_share.specs.Relations.{AreParts, IsGathered};
 
-use spv_bounds::number_sides;
-use spv_course::Part;
-use spv_readings::Saying;
-use spv_row_reasons::told;
-use spv_share_graph::Trail;
+use spv_arithmetic_side::bounds::number_sides;
+use spv_arithmetic_side::farkas::told;
+use spv_derivations::derivation::Part;
+use spv_explanations::congruence_side::Trail;
+use spv_tableau_rules::constraints::RowConstraint;
 use spv_term::{Head, TermId, Terms};
 use std::alloc::{AllocError, Global};
 
@@ -36,7 +36,7 @@ pub struct Claim {
     /// The place of the row.
     pub row: u32,
     /// What is said.
-    pub saying: Saying,
+    pub saying: RowConstraint,
 }
 
 /// What is noted of a literal that was told.
@@ -146,7 +146,7 @@ pub(crate) fn gather(
 ) -> Result<Vec<Related>, AllocError>
     requires below { AllBelow (length terms.now.nodes) atoms.now }
     requires holds { Holds terms.now trail.old }
-    requires empty { trail.old.course ≡ [] }
+    requires empty { trail.old.derivation ≡ [] }
     requires untold { trail.old.graph.told ≡ [] }
     requires parts { AreParts terms.now trail.old.graph.nodes (trail.old.truth ∷ trail.old.falsity ∷ []) }
     ensures gathered { IfOk result (λ v. IsGathered terms.now trail.new atoms.now v.items) }

@@ -2,12 +2,12 @@
 
 ghost use Rattle.std.specs.Prelude.{◌≡◌, ◌<◌, ◌+◌, length, true, false, Some, slice_get, IfOk, OnOk, IsTrue};
 ghost use Rattle.spv_term.specs.Arena.{IsArena, tree};
-ghost use Rattle.spv_proof.specs.Sums.{refutes};
-ghost use Rattle.spv_course.specs.Course.{facts};
-ghost use Rattle.spv_course.specs.Derived.{is_number};
+ghost use Rattle.spv_proof_rules.specs.Sums.{refutes};
+ghost use Rattle.spv_derivations.specs.derivation.Derivation.{facts};
+ghost use Rattle.spv_derivations.specs.derivation.Derived.{is_number};
 ghost use Rattle.spv_simplex.specs.State.{IsTableau};
 ghost use Rattle.spv_simplex.specs.Checks.{IsFeasible};
-ghost use Rattle.spv_share_rows.specs.Standing.{IsStanding};
+ghost use Rattle.spv_arithmetic_side.specs.constraint_rows.Standing.{IsStanding};
 ghost use Rattle.spv_share.specs.declared.relations.Related.{Related};
 ghost use Rattle.spv_share.specs.declared.both.Both.{Both};
 ghost use Rattle.spv_share.specs.Both.{IsSound};
@@ -16,10 +16,10 @@ ghost use Rattle.spv_share.specs.States.{AreSifted, GoesOn, IsApart, IsFound, Is
 
 use crate::both::Both;
 use crate::relations::Related;
+use spv_arithmetic_side::constraint_rows::Tried;
 use spv_frac::Frac;
-use spv_list::List;
-use spv_readings::Saying;
-use spv_share_rows::Tried;
+use spv_logic::list::List;
+use spv_tableau_rules::constraints::RowConstraint;
 use spv_term::Terms;
 use std::alloc::{AllocError, Global};
 
@@ -41,8 +41,8 @@ impl Both {
         requires row { related.row < length self.now.standing.tableau.forms }
         ensures { IsTrue result → IsApart self.now.standing related.row }
     {
-        self.standing.stands(related.row, Saying::Above)
-            || self.standing.stands(related.row, Saying::Below)
+        self.standing.stands(related.row, RowConstraint::Above)
+            || self.standing.stands(related.row, RowConstraint::Below)
     }
 
     // Whether the kept point has the sides of an equality at a distance of 1 or more.
@@ -53,8 +53,8 @@ impl Both {
         requires point { IsFeasible self.now.standing.tableau }
         ensures { IsTrue result → IsApart self.now.standing related.row }
     {
-        self.standing.is_met(related.row, Saying::Above)
-            || self.standing.is_met(related.row, Saying::Below)
+        self.standing.is_met(related.row, RowConstraint::Above)
+            || self.standing.is_met(related.row, RowConstraint::Below)
     }
 
     // Whether bounds or the kept point keep the sides of an equality apart.
@@ -137,8 +137,8 @@ impl Both {
         requires sound { IsSound terms.now self.old }
         requires there { slice_get self.old.relations.items related.row ≡ Some related }
         requires unjoined { spec.is_open self.old related ≡ true }
-        requires first { refutes (is_number terms.now) (facts terms.now self.old.trail.course) (tree terms.now related.left) (tree terms.now related.right) first ≡ true }
-        requires second { refutes (is_number terms.now) (facts terms.now self.old.trail.course) (tree terms.now related.right) (tree terms.now related.left) second ≡ true }
+        requires first { refutes (is_number terms.now) (facts terms.now self.old.trail.derivation) (tree terms.now related.left) (tree terms.now related.right) first ≡ true }
+        requires second { refutes (is_number terms.now) (facts terms.now self.old.trail.derivation) (tree terms.now related.right) (tree terms.now related.left) second ≡ true }
         ensures goes { GoesOn terms.now self.old self.new }
         ensures standing { self.new.standing ≡ self.old.standing }
         ensures closed { OnOk result (spec.is_open self.new related ≡ false) }
@@ -164,14 +164,16 @@ impl Both {
         requires sound { IsSound terms.now self.old }
         requires there { slice_get self.old.relations.items related.row ≡ Some related }
         requires unjoined { spec.is_open self.old related ≡ true }
-        requires first { refutes (is_number terms.now) (facts terms.now self.old.trail.course) (tree terms.now related.left) (tree terms.now related.right) first ≡ true }
+        requires first { refutes (is_number terms.now) (facts terms.now self.old.trail.derivation) (tree terms.now related.left) (tree terms.now related.right) first ≡ true }
         requires sifted { AreSifted self.old waits.old.items }
         ensures goes { GoesOn terms.now self.old self.new }
         ensures found { IfOk result (λ s. IsFound self.old self.new related s) }
         ensures sifted { IfOk result (λ s. AreSifted self.new waits.new.items) }
     {
         terms.law_arena();
-        let tried = self.standing.try_saying(alloc, related.row, Saying::Below)?;
+        let tried = self
+            .standing
+            .try_saying(alloc, related.row, RowConstraint::Below)?;
         match tried {
             Tried::Met => {
                 self.sift(terms, waits);
@@ -202,7 +204,9 @@ impl Both {
         ensures sifted { IfOk result (λ s. AreSifted self.new waits.new.items) }
     {
         terms.law_arena();
-        let tried = self.standing.try_saying(alloc, related.row, Saying::Above)?;
+        let tried = self
+            .standing
+            .try_saying(alloc, related.row, RowConstraint::Above)?;
         match tried {
             Tried::Met => {
                 self.sift(terms, waits);

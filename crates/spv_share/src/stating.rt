@@ -2,7 +2,7 @@
 
 ghost use Rattle.std.specs.Prelude.{◌≡◌, length, IfOk, IfNone, IfSome};
 ghost use Rattle.spv_simplex.specs.Checks.{IsFeasible};
-ghost use Rattle.spv_share_graph.specs.Holding.{HasNoClash};
+ghost use Rattle.spv_explanations.specs.congruence_side.Holding.{HasNoClash};
 ghost use Rattle.spv_share.specs.Both.{IsBoth, IsSound, KeepsLevels, Stays, told};
 ghost use Rattle.spv_share.specs.States.{AllStands, AreApart, GoesOn, HasClosed, IsAnswer, IsAtPoint, IsOutcome};
 
@@ -146,7 +146,7 @@ impl Both {
             Outcome::Stopped => Ok(Shared::Limit),
             Outcome::Ended(first, second) => Ok(Shared::Closed(
                 self.trail
-                    .course
+                    .derivation
                     .closing_steps(alloc, facts, first, second)?,
             )),
         }

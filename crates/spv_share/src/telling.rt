@@ -2,18 +2,18 @@
 
 ghost use Rattle.std.specs.Prelude.{◌≡◌, ◌++◌, ◌∷◌, [], false, IfSome, IsTrue, OnErr, OnOk};
 ghost use Rattle.spv_term.specs.Arena.{tree};
-ghost use Rattle.spv_course.specs.Course.{fact_at, literal};
-ghost use Rattle.spv_share_graph.specs.Holding.{Grows, MayTell};
-ghost use Rattle.spv_share_graph.specs.Telling.{literal_ties, ties};
-ghost use Rattle.spv_share_rows.specs.Said.{IsOpposed};
-ghost use Rattle.spv_share_rows.specs.Standing.{AddsSome, Stands};
+ghost use Rattle.spv_derivations.specs.derivation.Derivation.{fact_at, literal};
+ghost use Rattle.spv_explanations.specs.congruence_side.Holding.{Grows, MayTell};
+ghost use Rattle.spv_explanations.specs.congruence_side.Telling.{literal_ties, ties};
+ghost use Rattle.spv_arithmetic_side.specs.constraint_rows.Said.{IsOpposed};
+ghost use Rattle.spv_arithmetic_side.specs.constraint_rows.Standing.{AddsSome, Stands};
 ghost use Rattle.spv_share.specs.Relations.{claim, find};
 ghost use Rattle.spv_share.specs.Both.{IsBoth, IsClaimed, IsSound, KeepsLevels, Stays, told};
 
 use crate::both::Both;
 use crate::relations::{Claim, Noted, claim_of};
-use spv_course::Part;
-use spv_row_reasons::law_told;
+use spv_arithmetic_side::farkas::law_told;
+use spv_derivations::derivation::Part;
 use spv_term::{TermId, Terms};
 use std::alloc::AllocError;
 

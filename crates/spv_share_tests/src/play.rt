@@ -3,19 +3,19 @@
 ghost use Rattle.std.specs.Prelude.{◌≡◌, ◌<◌, ◌≤◌, List, length, slice_get, IfOk, OnOk, IsTrue};
 ghost use Rattle.spv_logic.specs.declared.conditions.TermId.{TermId};
 ghost use Rattle.spv_term.specs.Arena.{AllBelow, Extends, IsArena};
-ghost use Rattle.spv_course.specs.Course.{IsComparison, PartFits};
-ghost use Rattle.spv_course.specs.Derived.{IsFalseTerm, IsTrueTerm};
-ghost use Rattle.spv_row_reasons.specs.Refuted.{AreOneAndZero};
-ghost use Rattle.spv_share_graph.specs.Holding.{MayTell};
+ghost use Rattle.spv_derivations.specs.derivation.Derivation.{IsComparison, PartFits};
+ghost use Rattle.spv_derivations.specs.derivation.Derived.{IsFalseTerm, IsTrueTerm};
+ghost use Rattle.spv_arithmetic_side.specs.farkas.Refuted.{AreOneAndZero};
+ghost use Rattle.spv_explanations.specs.congruence_side.Holding.{MayTell};
 ghost use Rattle.spv_share.specs.Both.{AreEnds};
 ghost use Rattle.spv_share_tests.specs.Plays.{IsReady};
 
 use crate::shown;
-use spv_atom_rows::RowFault;
-use spv_course::Part;
+use spv_arithmetic_side::slack_rows::RowFault;
+use spv_derivations::derivation::Part;
+use spv_proof::sums::is_number;
 use spv_proof_steps::{is_truth, sides};
 use spv_share::{Both, Ends, Level};
-use spv_sums::is_number;
 use spv_term::{Head, TermFault, TermId, Terms};
 use std::alloc::{AllocError, Global};
 

@@ -3,10 +3,10 @@ use Rattle.std.proofs.Common.{◌≡◌, ℕ, ◌<◌, Bool, true, false, not, L
 use Rattle.std.specs.Bool.{IsTrue}
 use Rattle.std.proofs.lemmas.Bool.{false≢true}
 use Rattle.spv_logic.specs.declared.conditions.TermId.{TermId}
-use Rattle.spv_rational.specs.Rational.{Rational}
-use Rattle.spv_tableaux.specs.declared.side.Side.{Side}
-use Rattle.spv_tableaux.specs.Bounds.{Bound, bound_on, other_side}
-use Rattle.spv_steps.specs.Trail.{Trail, IsFree, bound_of}
+use Rattle.spv_frac.specs.rational.Rational.{Rational}
+use Rattle.spv_tableau_rules.specs.declared.tableaux.side.Side.{Side}
+use Rattle.spv_tableau_rules.specs.tableaux.Bounds.{Bound, bound_on, other_side}
+use Rattle.spv_dictionary.specs.pivoting.Trail.{Trail, IsFree, bound_of}
 use Rattle.spv_simplex.specs.State.{State, IsKept, clashes, LeavesValue, IsUncomparable, MayAssert}
 
 module _ (s : State) (t : Trail) (bounds : s.bounds ≡ t.bounds) (room : s.trail ≡ t.most) (rows : t.rows ≡ length s.forms) (row : ℕ) (side : Side) (value : Rational) where

@@ -5,21 +5,21 @@ use Rattle.std.proofs.lemmas.Bool.{false≢true}
 use Rattle.std.proofs.lemmas.List.{length-replicate, take-append-le}
 use Rattle.std.proofs.lemmas.Grind.{common_steps}
 use Rattle.spv_logic.specs.declared.conditions.TermId.{TermId}
-use Rattle.spv_rational.specs.Rational.{Rational, times}
-use Rattle.spv_rational.proofs.Field.{times_zero}
+use Rattle.spv_frac.specs.rational.Rational.{Rational, times}
+use Rattle.spv_frac.proofs.rational.Field.{times_zero}
 use Rattle.spv_atoms.specs.Linear.{IdForm}
-use Rattle.spv_tableaux.specs.declared.side.Side.{Side}
-use Rattle.spv_tableaux.specs.declared.side.Side.TheVariants.{Lower, Upper}
-use Rattle.spv_tableaux.specs.Numbers.{nothing, is_less}
-use Rattle.spv_tableaux.specs.Rows.{columns, Point}
-use Rattle.spv_tableaux.specs.Bounds.{Bound, same_side, other_side, bound_on, is_none}
-use Rattle.spv_tableaux.specs.Solved.{is_basic, row_places, row_entries, IsSolved}
-use Rattle.spv_tableaux.specs.Forms.{rows_of, part_ids}
-use Rattle.spv_tableaux.specs.Contradictions.{Multiple}
-use Rattle.spv_pivots.proofs.Sums.{sum_nothing, eq_is}
-use Rattle.spv_pivots.proofs.Starting.{rows_are_solved}
-use Rattle.spv_pivots.proofs.Stepping.{basis_alone, entries_alone}
-use Rattle.spv_pivots.proofs.Tests.{and_left, and_right, and_both}
+use Rattle.spv_tableau_rules.specs.declared.tableaux.side.Side.{Side}
+use Rattle.spv_tableau_rules.specs.declared.tableaux.side.Side.TheVariants.{Lower, Upper}
+use Rattle.spv_tableau_rules.specs.tableaux.Numbers.{nothing, is_less}
+use Rattle.spv_tableau_rules.specs.tableaux.Rows.{columns, Point}
+use Rattle.spv_tableau_rules.specs.tableaux.Bounds.{Bound, same_side, other_side, bound_on, is_none}
+use Rattle.spv_tableau_rules.specs.tableaux.Solved.{is_basic, row_places, row_entries, IsSolved}
+use Rattle.spv_tableau_rules.specs.tableaux.Forms.{rows_of, part_ids}
+use Rattle.spv_tableau_rules.specs.tableaux.Contradictions.{Multiple}
+use Rattle.spv_tableau_rules.proofs.pivots.Sums.{sum_nothing, eq_is}
+use Rattle.spv_tableau_rules.proofs.pivots.Starting.{rows_are_solved}
+use Rattle.spv_tableau_rules.proofs.pivots.Stepping.{basis_alone, entries_alone}
+use Rattle.spv_tableau_rules.proofs.pivots.Tests.{and_left, and_right, and_both}
 use Rattle.spv_dictionary.specs.Cells.{cell}
 use Rattle.spv_dictionary.specs.Dictionary.{Dictionary, entries, places, first}
 use Rattle.spv_dictionary.proofs.First.{spot_total}
@@ -27,11 +27,11 @@ use Rattle.spv_dictionary.proofs.Lists.{length_listed}
 use Rattle.spv_dictionary.proofs.FirstForm.{first_basis, is_first_form}
 use Rattle.spv_simplex.specs.Cells.{AreRowsTo}
 use Rattle.spv_simplex.specs.Evidence.{EvidenceValue, no_evidence}
-use Rattle.spv_steps.specs.Choosing.{are_met}
+use Rattle.spv_dictionary.specs.pivoting.Choosing.{are_met}
 use Rattle.spv_simplex.specs.declared.evidence.Room.{Room}
 use Rattle.spv_simplex.specs.State.{State, IsKept, IsOpened, MayAssert, clashes, rows_in, kept_point, room_in}
-use Rattle.spv_steps.specs.Trail.{Trail, KeepsApart, bound_of, more, first_of}
-use Rattle.spv_steps.proofs.Bounding.{is_on, found_other, found_here}
+use Rattle.spv_dictionary.specs.pivoting.Trail.{Trail, KeepsApart, bound_of, more, first_of}
+use Rattle.spv_dictionary.proofs.pivoting.Bounding.{is_on, found_other, found_here}
 
 -- ---- other bounds
 

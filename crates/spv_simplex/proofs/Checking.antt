@@ -5,36 +5,36 @@ use Rattle.std.proofs.lemmas.List.{take_all}
 use Rattle.std.proofs.lemmas.Option.{slice_get_within}
 use mathlib.Core.Path.{ap₂}
 use Rattle.spv_logic.specs.declared.conditions.TermId.{TermId}
-use Rattle.spv_rational.specs.Rational.{Rational}
-use Rattle.spv_tableaux.specs.declared.side.Side.{Side}
-use Rattle.spv_tableaux.specs.Rows.{columns, Rows, column_of, Point}
-use Rattle.spv_tableaux.specs.Bounds.{Bound, Limits, limits, breaks, is_out, Meets}
-use Rattle.spv_tableaux.specs.Solved.{Basic, Held, is_basic, basis_of}
-use Rattle.spv_tableaux.specs.Walks.{Start, held_at, IsWide, IsUnfinished, IsBoundOf}
-use Rattle.spv_tableaux.specs.Contradictions.{Multiple, IsContradiction}
-use Rattle.spv_pivots.proofs.Algebra.{false_of}
-use Rattle.spv_pivots.proofs.Sums.{eq_is}
-use Rattle.spv_pivots.proofs.Tests.{and_left, and_right, not_true}
+use Rattle.spv_frac.specs.rational.Rational.{Rational}
+use Rattle.spv_tableau_rules.specs.declared.tableaux.side.Side.{Side}
+use Rattle.spv_tableau_rules.specs.tableaux.Rows.{columns, Rows, column_of, Point}
+use Rattle.spv_tableau_rules.specs.tableaux.Bounds.{Bound, Limits, limits, breaks, is_out, Meets}
+use Rattle.spv_tableau_rules.specs.tableaux.Solved.{Basic, Held, is_basic, basis_of}
+use Rattle.spv_tableau_rules.specs.tableaux.Walks.{Start, held_at, IsWide, IsUnfinished, IsBoundOf}
+use Rattle.spv_tableau_rules.specs.tableaux.Contradictions.{Multiple, IsContradiction}
+use Rattle.spv_tableau_rules.proofs.pivots.Algebra.{false_of}
+use Rattle.spv_tableau_rules.proofs.pivots.Sums.{eq_is}
+use Rattle.spv_tableau_rules.proofs.pivots.Tests.{and_left, and_right, not_true}
 use Rattle.spv_dictionary.specs.declared.spot.Spot.{Spot}
 use Rattle.spv_dictionary.specs.declared.spot.Spot.TheVariants as spot
 use Rattle.spv_dictionary.specs.Dictionary.{Dictionary, IsDictionary, IsSpot, spot_of, place_of, places, with_solved}
-use Rattle.spv_shifts.specs.Shifts.{value_in}
-use Rattle.spv_steps.specs.Choosing.{limits_of, is_broken, are_met}
-use Rattle.spv_steps.specs.Trail.{Trail}
-use Rattle.spv_steps.proofs.Choices.{is_in, is_rows, limit_here, out_breaks}
-use Rattle.spv_walks.specs.Course.{ArePlaced, Goes, begins, steps}
-use Rattle.spv_walks.specs.Arrivals.{SetsOut, IsUnderway, Stands, in_basis_after}
-use Rattle.spv_walks.specs.Arrivals as arrivals
-use Rattle.spv_walks.proofs.Bases.{underway_basis}
-use Rattle.spv_walks.proofs.Placing.{basis_is, placing_is_wide}
-use Rattle.spv_walks.proofs.Walking.{placed_stands, underway_stands, none_leaves_meets}
-use Rattle.spv_walks.proofs.Arriving.{goes_underway, step_is_wide, stuck_is_contradiction, step_is_unfinished}
+use Rattle.spv_dictionary.specs.updates.Shifts.{value_in}
+use Rattle.spv_dictionary.specs.pivoting.Choosing.{limits_of, is_broken, are_met}
+use Rattle.spv_dictionary.specs.pivoting.Trail.{Trail}
+use Rattle.spv_dictionary.proofs.pivoting.Choices.{is_in, is_rows, limit_here, out_breaks}
+use Rattle.spv_simplex.specs.pivot_runs.Derivation.{ArePlaced, Goes, begins, steps}
+use Rattle.spv_simplex.specs.pivot_runs.Arrivals.{SetsOut, IsUnderway, Stands, in_basis_after}
+use Rattle.spv_simplex.specs.pivot_runs.Arrivals as arrivals
+use Rattle.spv_simplex.proofs.pivot_runs.Bases.{underway_basis}
+use Rattle.spv_simplex.proofs.pivot_runs.Placing.{basis_is, placing_is_wide}
+use Rattle.spv_simplex.proofs.pivot_runs.Walking.{placed_stands, underway_stands, none_leaves_meets}
+use Rattle.spv_simplex.proofs.pivot_runs.Arriving.{goes_underway, step_is_wide, stuck_is_contradiction, step_is_unfinished}
 use Rattle.spv_simplex.specs.declared.checked.Checked.{Checked}
 use Rattle.spv_simplex.specs.declared.checked.Checked.TheVariants.{Feasible}
 use Rattle.spv_simplex.specs.Evidence.{EvidenceValue, holding, start_of, begun}
 use Rattle.spv_simplex.specs.Searching.{Stops, met, stuck, wide, full, Arrives, Ends, placing, arriving}
 use Rattle.spv_atoms.specs.Linear.{IdForm}
-use Rattle.spv_tableaux.specs.Forms.{rows_of}
+use Rattle.spv_tableau_rules.specs.tableaux.Forms.{rows_of}
 use Rattle.spv_simplex.specs.State.{State, IsTableau, IsKept, rows_in, kept_point}
 use Rattle.spv_simplex.specs.Checks as checks
 use Rattle.spv_simplex.specs.Checks.{BeginsWith, Means, IsChecked, IsAmong, HoldsAsserted}

@@ -6,14 +6,14 @@ use Rattle.std.proofs.lemmas.Grind.{common_steps}
 use Rattle.std.proofs.lemmas.Option.{slice_get_within, slice_get_past}
 use Rattle.std.proofs.lemmas.List.{length-append}
 use Rattle.spv_term.proofs.ListLemmas.{slice_get-append_left, slice_get_push, slice_get-take}
-use Rattle.spv_rational.specs.Rational.{Rational}
+use Rattle.spv_frac.specs.rational.Rational.{Rational}
 use Rattle.spv_atoms.specs.Linear.{IdForm}
-use Rattle.spv_tableaux.specs.Rows.{Rows, column_of}
-use Rattle.spv_tableaux.specs.Bounds.{Bound}
-use Rattle.spv_tableaux.specs.Solved.{is_basic, row_places}
-use Rattle.spv_tableaux.specs.Forms.{rows_of}
-use Rattle.spv_tableaux.specs.Walks.{IsBoundOf}
-use Rattle.spv_pivots.proofs.Starting.{above_is}
+use Rattle.spv_tableau_rules.specs.tableaux.Rows.{Rows, column_of}
+use Rattle.spv_tableau_rules.specs.tableaux.Bounds.{Bound}
+use Rattle.spv_tableau_rules.specs.tableaux.Solved.{is_basic, row_places}
+use Rattle.spv_tableau_rules.specs.tableaux.Forms.{rows_of}
+use Rattle.spv_tableau_rules.specs.tableaux.Walks.{IsBoundOf}
+use Rattle.spv_tableau_rules.proofs.pivots.Starting.{above_is}
 use Rattle.spv_dictionary.specs.Dictionary.{places}
 use Rattle.spv_simplex.specs.State.{rows_in, kept_point}
 use Rattle.spv_simplex.specs.Checks.{IsAmong}

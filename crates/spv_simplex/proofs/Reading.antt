@@ -6,14 +6,14 @@ use Rattle.std.proofs.lemmas.List.{take_all, get_or_default}
 use Rattle.std.proofs.lemmas.List.Quantifiers.{position-Some}
 use Rattle.spv_logic.specs.declared.conditions.TermId.{TermId}
 use Rattle.spv_whole.specs.Fraction.{Fraction}
-use Rattle.spv_rational.specs.Rational.{Rational, number}
-use Rattle.spv_rational.proofs.Field.{same, number_is}
+use Rattle.spv_frac.specs.rational.Rational.{Rational, number}
+use Rattle.spv_frac.proofs.rational.Field.{same, number_is}
 use Rattle.spv_atoms.specs.Order.{same_id}
 use Rattle.spv_atoms.proofs.Places.{place_there}
-use Rattle.spv_tableaux.specs.Numbers.{nothing}
-use Rattle.spv_tableaux.specs.Rows.{column_of}
+use Rattle.spv_tableau_rules.specs.tableaux.Numbers.{nothing}
+use Rattle.spv_tableau_rules.specs.tableaux.Rows.{column_of}
 use Rattle.spv_simplex.specs.State.{State, IsKept, kept_point, rows_in, value_from, value_of}
-use Rattle.spv_steps.specs.Trail.{Trail}
+use Rattle.spv_dictionary.specs.pivoting.Trail.{Trail}
 
 pub is_there : (t : TermId) (ids : List TermId) (o : Option ℕ) → list_any (same_id t) ids ≡ true → o ≡ position (same_id t) ids → IsSome o
 is_there t ids o h at = place_there t ids (length ids) o (ap (list_any (same_id t)) (take_all (length ids) ids (omega arith)) ∙ h) at

@@ -3,24 +3,24 @@ use Rattle.std.proofs.Common.{◌≡◌, ℕ, zero, suc, ◌+◌, ◌-◌, ◌<�
 use Rattle.std.proofs.lemmas.List.{length-set, length-append}
 use Rattle.std.proofs.lemmas.Option.{slice_get_within}
 use mathlib.Core.Path.{ap₂}
-use Rattle.spv_rational.specs.Rational.{Rational}
+use Rattle.spv_frac.specs.rational.Rational.{Rational}
 use Rattle.spv_frac.specs.declared.frac.Op.TheVariants.{Cmp}
-use Rattle.spv_tableaux.specs.declared.side.Side.TheVariants.{Lower, Upper}
-use Rattle.spv_tableaux.specs.Rows.{Point}
-use Rattle.spv_tableaux.specs.Bounds.{Limits}
-use Rattle.spv_tableaux.specs.Operations.{Operation, operation, fits, Compares, comparing}
-use Rattle.spv_tableaux.specs.Contradictions.{Multiple}
+use Rattle.spv_tableau_rules.specs.declared.tableaux.side.Side.TheVariants.{Lower, Upper}
+use Rattle.spv_tableau_rules.specs.tableaux.Rows.{Point}
+use Rattle.spv_tableau_rules.specs.tableaux.Bounds.{Limits}
+use Rattle.spv_tableau_rules.specs.tableaux.Operations.{Operation, operation, fits, Compares, comparing}
+use Rattle.spv_tableau_rules.specs.tableaux.Contradictions.{Multiple}
 use Rattle.spv_dictionary.specs.declared.spot.Spot.TheVariants as spot
 use Rattle.spv_dictionary.specs.Exchanges.{IsExchanged}
 use Rattle.spv_dictionary.specs.Dictionary.{Dictionary, IsDictionary, IsSpot, basic_at, outside_at, with_solved}
-use Rattle.spv_shifts.specs.Shifts.{value_in}
-use Rattle.spv_steps.specs.declared.choosing.Chosen.{Chosen}
-use Rattle.spv_steps.specs.declared.entering.Entry.{Entry}
-use Rattle.spv_steps.specs.Choosing.{IsComparing, with_lower, with_upper}
-use Rattle.spv_steps.specs.Finding.{IsChosen}
-use Rattle.spv_steps.specs.Stepping.{IsMade}
-use Rattle.spv_walks.specs.Course as course
-use Rattle.spv_walks.specs.Course.{IsPlaced, IsPlacing, ArePlaced, Goes, IsNextOn}
+use Rattle.spv_dictionary.specs.updates.Shifts.{value_in}
+use Rattle.spv_dictionary.specs.declared.pivoting.choosing.Chosen.{Chosen}
+use Rattle.spv_dictionary.specs.declared.pivoting.entering.Entry.{Entry}
+use Rattle.spv_dictionary.specs.pivoting.Choosing.{IsComparing, with_lower, with_upper}
+use Rattle.spv_dictionary.specs.pivoting.Finding.{IsChosen}
+use Rattle.spv_dictionary.specs.pivoting.Stepping.{IsMade}
+use Rattle.spv_simplex.specs.pivot_runs.Derivation as derivation
+use Rattle.spv_simplex.specs.pivot_runs.Derivation.{IsPlaced, IsPlacing, ArePlaced, Goes, IsNextOn}
 use Rattle.spv_simplex.specs.declared.checked.Checked.{Checked}
 use Rattle.spv_simplex.specs.declared.checked.Checked.TheVariants.{Wide}
 use Rattle.spv_simplex.specs.Evidence.{EvidenceValue, exchange_of, with_step, with_operation}
@@ -75,7 +75,7 @@ pub goes_on : (limits : Limits) (d : Dictionary) (values : List Rational) (e : E
     → Goes limits d values e.steps here now → IsTurn limits here now e new after evidence → Goes limits d values evidence.steps new after
 goes_on limits d values e here now new after evidence g t =
     subst (λ (x : EvidenceValue). Goes limits d values x.steps new after) (sym t.evidence_is)
-    (course.steps e.steps here now t.chosen t.entry new after g t.gone)
+    (derivation.steps e.steps here now t.chosen t.entry new after g t.gone)
 
 -- what is left of a dictionary after a step
 pub record StaysFit (d new : Dictionary) (values after : List Rational) (e evidence : EvidenceValue) : Type 0 where

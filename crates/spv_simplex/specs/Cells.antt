@@ -1,9 +1,9 @@
 -- The rows of forms as rows of numbers.
 use Rattle.std.specs.Prelude.{◌≡◌, ℕ, ◌<◌, List, [], length, Some, slice_get, slice_index_or}
 use Rattle.spv_logic.specs.declared.conditions.TermId.{TermId}
-use Rattle.spv_rational.specs.Rational.{Rational}
+use Rattle.spv_frac.specs.rational.Rational.{Rational}
 use Rattle.spv_atoms.specs.Linear.{IdForm}
-use Rattle.spv_tableaux.specs.Forms.{coefficient_in}
+use Rattle.spv_tableau_rules.specs.tableaux.Forms.{coefficient_in}
 use Rattle.spv_dictionary.specs.Cells.{cell}
 
 -- a row has the coefficients of a form, up to a place

@@ -1,13 +1,13 @@
 -- What a check promises.
 use Rattle.std.specs.Prelude.{◌≡◌, ℕ, ◌<◌, false, List, Some, slice_get}
-use Rattle.spv_tableaux.specs.declared.side.Side.{Side}
-use Rattle.spv_tableaux.specs.Rows.{columns}
-use Rattle.spv_tableaux.specs.Bounds.{Bound, limits, Meets}
-use Rattle.spv_tableaux.specs.Solved.{is_basic, basis_of}
-use Rattle.spv_tableaux.specs.Walks.{Start, held_at, IsWide, IsUnfinished, HoldsBounds}
-use Rattle.spv_tableaux.specs.Contradictions.{IsContradiction}
+use Rattle.spv_tableau_rules.specs.declared.tableaux.side.Side.{Side}
+use Rattle.spv_tableau_rules.specs.tableaux.Rows.{columns}
+use Rattle.spv_tableau_rules.specs.tableaux.Bounds.{Bound, limits, Meets}
+use Rattle.spv_tableau_rules.specs.tableaux.Solved.{is_basic, basis_of}
+use Rattle.spv_tableau_rules.specs.tableaux.Walks.{Start, held_at, IsWide, IsUnfinished, HoldsBounds}
+use Rattle.spv_tableau_rules.specs.tableaux.Contradictions.{IsContradiction}
 use Rattle.spv_dictionary.specs.Dictionary.{places}
-use Rattle.spv_walks.specs.Arrivals.{in_basis_after}
+use Rattle.spv_simplex.specs.pivot_runs.Arrivals.{in_basis_after}
 use Rattle.spv_simplex.specs.declared.checked.Checked.{Checked}
 use Rattle.spv_simplex.specs.declared.checked.Checked.TheVariants as checked
 use Rattle.spv_simplex.specs.Evidence.{no_operation}

@@ -1,14 +1,14 @@
 -- The evidence for an answer, as contracts see it.
 use Rattle.std.specs.Prelude.{ℕ, List, [], ◌∷◌, ◌++◌, map, pos}
 use Rattle.spv_whole.specs.Fraction.{Fraction}
-use Rattle.spv_rational.specs.Rational.{Rational, number}
+use Rattle.spv_frac.specs.rational.Rational.{Rational, number}
 use Rattle.spv_frac.specs.declared.frac.Op.TheVariants.{Cmp}
-use Rattle.spv_tableaux.specs.declared.side.Side.{Side}
-use Rattle.spv_tableaux.specs.Bounds.{Bound}
-use Rattle.spv_tableaux.specs.Operations.{Operation, operation}
-use Rattle.spv_tableaux.specs.Walks.{Exchange, Start}
+use Rattle.spv_tableau_rules.specs.declared.tableaux.side.Side.{Side}
+use Rattle.spv_tableau_rules.specs.tableaux.Bounds.{Bound}
+use Rattle.spv_tableau_rules.specs.tableaux.Operations.{Operation, operation}
+use Rattle.spv_tableau_rules.specs.tableaux.Walks.{Exchange, Start}
 use Rattle.spv_dictionary.specs.Dictionary.{Dictionary}
-use Rattle.spv_shifts.specs.Shifts.{value_in}
+use Rattle.spv_dictionary.specs.updates.Shifts.{value_in}
 use Rattle.spv_simplex.specs.declared.evidence.Room.{Room}
 
 pub record EvidenceValue : Type 0 where

@@ -1,7 +1,7 @@
 -- What is known of the bounds that were ever asserted.
 use Rattle.std.specs.Prelude.{ℕ, List, [], ◌∷◌, ◌++◌}
 use Rattle.spv_atoms.specs.Linear.{IdForm}
-use Rattle.spv_tableaux.specs.Bounds.{Bound}
+use Rattle.spv_tableau_rules.specs.tableaux.Bounds.{Bound}
 use Rattle.spv_simplex.specs.State.{State, IsOpened, with_bound, with_first}
 use Rattle.spv_simplex.specs.Checks.{HoldsAsserted}
 

@@ -1,3 +1,4 @@
+pub mod pivot_runs
 pub mod State
 pub mod Cells
 pub mod Evidence

@@ -1,18 +1,18 @@
 -- What a check finds, on the numbers.
 use Rattle.std.specs.Prelude.{◌≡◌, ℕ, ◌<◌, true, false, List, length}
-use Rattle.spv_rational.specs.Rational.{Rational}
-use Rattle.spv_tableaux.specs.Bounds.{Limits}
-use Rattle.spv_tableaux.specs.Steps.{none_to, may_leave}
-use Rattle.spv_tableaux.specs.Operations.{Operation, fits}
-use Rattle.spv_tableaux.specs.Contradictions.{Multiple}
+use Rattle.spv_frac.specs.rational.Rational.{Rational}
+use Rattle.spv_tableau_rules.specs.tableaux.Bounds.{Limits}
+use Rattle.spv_tableau_rules.specs.tableaux.Steps.{none_to, may_leave}
+use Rattle.spv_tableau_rules.specs.tableaux.Operations.{Operation, fits}
+use Rattle.spv_tableau_rules.specs.tableaux.Contradictions.{Multiple}
 use Rattle.spv_dictionary.specs.Dictionary.{Dictionary, basic_at, places, with_solved}
-use Rattle.spv_shifts.specs.Shifts.{value_in}
-use Rattle.spv_steps.specs.declared.choosing.Chosen.{Chosen}
-use Rattle.spv_steps.specs.declared.entering.Entry.{Entry}
-use Rattle.spv_steps.specs.Combining.{multiples_in}
-use Rattle.spv_steps.specs.Finding.{IsStuckOn, IsChosen}
-use Rattle.spv_walks.specs.Along.{IsGone}
-use Rattle.spv_walks.specs.Course.{IsPlacing, ArePlaced, Goes, IsNextOn}
+use Rattle.spv_dictionary.specs.updates.Shifts.{value_in}
+use Rattle.spv_dictionary.specs.declared.pivoting.choosing.Chosen.{Chosen}
+use Rattle.spv_dictionary.specs.declared.pivoting.entering.Entry.{Entry}
+use Rattle.spv_dictionary.specs.pivoting.Combining.{multiples_in}
+use Rattle.spv_dictionary.specs.pivoting.Finding.{IsStuckOn, IsChosen}
+use Rattle.spv_simplex.specs.pivot_runs.Along.{IsGone}
+use Rattle.spv_simplex.specs.pivot_runs.Derivation.{IsPlacing, ArePlaced, Goes, IsNextOn}
 use Rattle.spv_simplex.specs.declared.checked.Checked.{Checked}
 use Rattle.spv_simplex.specs.declared.checked.Checked.TheVariants.{Feasible, Infeasible, Wide, Pivots}
 use Rattle.spv_simplex.specs.Evidence.{EvidenceValue, exchange_of, no_operation, with_step, with_operation}

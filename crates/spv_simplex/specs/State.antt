@@ -2,25 +2,25 @@
 use Rattle.std.specs.Prelude.{◌≡◌, ℕ, ◌<◌, ◌≤◌, ◌^◌, Bool, true, false, List, [], ◌∷◌, ◌++◌, take, length, Option, Some, None, slice_index_or}
 use Rattle.std.specs.List.{position}
 use Rattle.spv_logic.specs.declared.conditions.TermId.{TermId}
-use Rattle.spv_rational.specs.Rational.{Rational}
+use Rattle.spv_frac.specs.rational.Rational.{Rational}
 use Rattle.spv_atoms.specs.Order.{same_id}
 use Rattle.spv_atoms.specs.Linear.{IdForm}
-use Rattle.spv_tableaux.specs.declared.side.Side.{Side}
-use Rattle.spv_tableaux.specs.declared.side.Side.TheVariants.{Lower, Upper}
-use Rattle.spv_tableaux.specs.Numbers.{nothing, is_less}
-use Rattle.spv_tableaux.specs.Rows.{Rows, columns, Point, IsSolution}
-use Rattle.spv_tableaux.specs.Bounds.{Bound, bound_on, other_side, AreBounds}
-use Rattle.spv_tableaux.specs.Solved.{is_basic, row_places, IsSolved}
-use Rattle.spv_tableaux.specs.Forms.{rows_of, part_ids}
+use Rattle.spv_tableau_rules.specs.declared.tableaux.side.Side.{Side}
+use Rattle.spv_tableau_rules.specs.declared.tableaux.side.Side.TheVariants.{Lower, Upper}
+use Rattle.spv_tableau_rules.specs.tableaux.Numbers.{nothing, is_less}
+use Rattle.spv_tableau_rules.specs.tableaux.Rows.{Rows, columns, Point, IsSolution}
+use Rattle.spv_tableau_rules.specs.tableaux.Bounds.{Bound, bound_on, other_side, AreBounds}
+use Rattle.spv_tableau_rules.specs.tableaux.Solved.{is_basic, row_places, IsSolved}
+use Rattle.spv_tableau_rules.specs.tableaux.Forms.{rows_of, part_ids}
 use Rattle.spv_frac.specs.declared.frac.Op.TheVariants.{Cmp}
-use Rattle.spv_tableaux.specs.Operations.{Operation, operation, fits}
-use Rattle.spv_tableaux.specs.Contradictions.{Multiple}
+use Rattle.spv_tableau_rules.specs.tableaux.Operations.{Operation, operation, fits}
+use Rattle.spv_tableau_rules.specs.tableaux.Contradictions.{Multiple}
 use Rattle.spv_dictionary.specs.Dictionary.{Dictionary, entries, places}
 use Rattle.spv_simplex.specs.declared.checked.Checked.{Checked}
-use Rattle.spv_steps.specs.Choosing.{are_met}
+use Rattle.spv_dictionary.specs.pivoting.Choosing.{are_met}
 use Rattle.spv_simplex.specs.declared.evidence.Room.{Room}
 use Rattle.spv_simplex.specs.Evidence.{EvidenceValue}
-use Rattle.spv_steps.specs.Trail.{Trail}
+use Rattle.spv_dictionary.specs.pivoting.Trail.{Trail}
 
 pub record State : Type 0 where
   -- the forms whose rows these are

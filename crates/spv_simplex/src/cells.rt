@@ -1,13 +1,13 @@
 // The rows of forms as rows of numbers.
 
 ghost use Rattle.std.specs.Prelude.{◌≡◌, ◌<◌, length, Some, slice_get, IfOk};
-ghost use Rattle.spv_tableaux.specs.Forms.{coefficient_in};
+ghost use Rattle.spv_tableau_rules.specs.tableaux.Forms.{coefficient_in};
 ghost use Rattle.spv_simplex.specs.Cells.{IsRowTo, AreRowsTo};
 
 use crate::forms::{Parts, coefficient};
 use spv_atoms::Linear;
 use spv_dictionary::Row;
-use spv_number::Number;
+use spv_dictionary::checked_numbers::Number;
 use std::alloc::{AllocError, Global};
 
 // What a form multiplies a part by.

@@ -1,15 +1,15 @@
 // The evidence for an answer that comes of a limit.
 
 ghost use Rattle.std.specs.Prelude.{◌≡◌, ◌<◌, ◌≤◌, ◌^◌, ◌++◌, ◌∷◌, [], length, map, take, true, false, vec_capacity, IfOk, IsTrue};
-ghost use Rattle.spv_rational.specs.Rational.{number};
-ghost use Rattle.spv_shifts.specs.Shifts.{value_in};
+ghost use Rattle.spv_frac.specs.rational.Rational.{number};
+ghost use Rattle.spv_dictionary.specs.updates.Shifts.{value_in};
 ghost use Rattle.spv_simplex.specs.Evidence.{no_evidence, bound_in, held_in, exchange_in, exchange_of, holding, begun, with_step, with_operation};
 
 use spv_dictionary::Dictionary;
+use spv_dictionary::checked_numbers::{Number, Refused};
+use spv_dictionary::pivoting::{Standing, Trail};
 use spv_frac::{Frac, Op};
-use spv_number::{Number, Refused};
-use spv_steps::{Standing, Trail};
-use spv_tableaux::Side;
+use spv_tableau_rules::tableaux::Side;
 use std::alloc::{AllocError, Global};
 use std::marker::Model;
 
@@ -39,7 +39,7 @@ pub struct Evidence {
 
 impl Model for Evidence {
     ghost use Rattle.std.specs.Prelude.{map, length, ◌≤◌, vec_capacity};
-    ghost use Rattle.spv_rational.specs.Rational.{number};
+    ghost use Rattle.spv_frac.specs.rational.Rational.{number};
     ghost use Rattle.spv_simplex.specs.Evidence.{EvidenceValue, bound_in, held_in, exchange_in};
 
     ghost Value = { EvidenceValue };

@@ -2,12 +2,12 @@
 
 ghost use Rattle.std.specs.Prelude.{◌≡◌, ℕ, ◌+◌, ◌<◌, ◌^◌, ◌↔◌, [], length, slice_get, slice_index_or, Some, IfOk, OnOk, IsTrue, drop};
 ghost use Rattle.std.specs.List.{position, list_any};
-ghost use Rattle.spv_rational.specs.Rational.{whole};
+ghost use Rattle.spv_frac.specs.rational.Rational.{whole};
 ghost use Rattle.spv_frac.specs.Range.{fits};
 ghost use Rattle.spv_atoms.specs.Order.{same_id, with_id};
 ghost use Rattle.spv_atoms.specs.Linear.{IdForm, IsIdForm, coefficient_at};
-ghost use Rattle.spv_tableaux.specs.Rows.{columns};
-ghost use Rattle.spv_tableaux.specs.Forms.{with_parts, with_forms, part_ids, rows_of};
+ghost use Rattle.spv_tableau_rules.specs.tableaux.Rows.{columns};
+ghost use Rattle.spv_tableau_rules.specs.tableaux.Forms.{with_parts, with_forms, part_ids, rows_of};
 
 use indexmap::IndexSet;
 use spv_atoms::Linear;

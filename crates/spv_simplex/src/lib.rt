@@ -7,6 +7,7 @@ mod checked;
 mod evidence;
 mod forms;
 mod laws;
+pub mod pivot_runs;
 mod searching;
 mod tableau;
 
@@ -14,5 +15,5 @@ pub use checked::Checked;
 pub use evidence::Evidence;
 pub use forms::can_open;
 pub use laws::law_asserted;
-pub use spv_tableaux::Side;
+pub use spv_tableau_rules::tableaux::Side;
 pub use tableau::{Mark, Tableau};

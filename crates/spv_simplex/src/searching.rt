@@ -1,23 +1,25 @@
 // The search of a point that meets all bounds.
 
 ghost use Rattle.std.specs.Prelude.{◌≡◌, ◌<◌, ◌≤◌, ◌+◌, ◌^◌, [], false, length, map, vec_capacity, IfOk, IfErr, IfSome, IfNone, OnOk, OnErr};
-ghost use Rattle.spv_tableaux.specs.Operations.{fits, Compares};
+ghost use Rattle.spv_tableau_rules.specs.tableaux.Operations.{fits, Compares};
 ghost use Rattle.spv_dictionary.specs.Dictionary.{outside_at};
-ghost use Rattle.spv_shifts.specs.Shifts.{value_in};
-ghost use Rattle.spv_steps.specs.Choosing.{limits_of, out_side};
-ghost use Rattle.spv_steps.specs.Combining.{multiple_in};
-ghost use Rattle.spv_steps.specs.Finding.{IsChosen};
-ghost use Rattle.spv_walks.specs.Course.{IsPlaced, IsPlacing, ArePlaced};
+ghost use Rattle.spv_dictionary.specs.updates.Shifts.{value_in};
+ghost use Rattle.spv_dictionary.specs.pivoting.Choosing.{limits_of, out_side};
+ghost use Rattle.spv_dictionary.specs.pivoting.Combining.{multiple_in};
+ghost use Rattle.spv_dictionary.specs.pivoting.Finding.{IsChosen};
+ghost use Rattle.spv_simplex.specs.pivot_runs.Derivation.{IsPlaced, IsPlacing, ArePlaced};
 ghost use Rattle.spv_simplex.specs.Evidence.{no_operation, begun};
 ghost use Rattle.spv_simplex.specs.Searching.{IsTurn, HasStopped, Arrives, Ends, PlacingEnds};
 
 use crate::checked::Checked;
 use crate::evidence::Evidence;
 use spv_dictionary::Dictionary;
+use spv_dictionary::checked_numbers::{Number, Refused};
+use spv_dictionary::pivoting::{
+    Chosen, Entry, Found, Trail, broken, combine, find, limit, move_to, step,
+};
 use spv_frac::Frac;
-use spv_number::{Number, Refused};
-use spv_steps::{Chosen, Entry, Found, Trail, broken, combine, find, limit, move_to, step};
-use spv_tableaux::Side;
+use spv_tableau_rules::tableaux::Side;
 
 // The side of its bounds that the column of a slot breaks.
 fn slot_side(

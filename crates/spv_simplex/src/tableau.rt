@@ -3,18 +3,18 @@
 ghost use Rattle.std.specs.Prelude.{◌≡◌, ◌<◌, ◌≤◌, ◌^◌, List, ◌⊎◌, length, map, Some, IfOk, IfErr, IsTrue, ◌↔◌, false};
 ghost use Rattle.std.specs.List.{list_any};
 ghost use Rattle.std.specs.Option.{option_map};
-ghost use Rattle.spv_rational.specs.Rational.{number};
+ghost use Rattle.spv_frac.specs.rational.Rational.{number};
 ghost use Rattle.spv_atoms.specs.Order.{same_id};
-ghost use Rattle.spv_tableaux.specs.Bounds.{Bound, bound_on, other_side};
-ghost use Rattle.spv_tableaux.specs.Operations.{fits};
-ghost use Rattle.spv_tableaux.specs.Rows.{column_of, columns};
-ghost use Rattle.spv_tableaux.specs.Forms.{rows_of, part_ids};
+ghost use Rattle.spv_tableau_rules.specs.tableaux.Bounds.{Bound, bound_on, other_side};
+ghost use Rattle.spv_tableau_rules.specs.tableaux.Operations.{fits};
+ghost use Rattle.spv_tableau_rules.specs.tableaux.Rows.{column_of, columns};
+ghost use Rattle.spv_tableau_rules.specs.tableaux.Forms.{rows_of, part_ids};
 ghost use Rattle.spv_simplex.specs.declared.checked.Checked.TheVariants as checked;
 ghost use Rattle.spv_simplex.specs.State.{IsTableau, IsOpened, LeavesValue, compared, IsUncomparable, MayAssert, kept_point, rows_in, with_bound, with_first, value_of};
 ghost use Rattle.spv_simplex.specs.State as spec;
 ghost use Rattle.spv_simplex.specs.Checks.{IsChecked, HoldsAsserted};
-ghost use Rattle.spv_steps.specs.Trail.{bound_of};
-ghost use Rattle.spv_steps.specs.Combining.{multiple_in};
+ghost use Rattle.spv_dictionary.specs.pivoting.Trail.{bound_of};
+ghost use Rattle.spv_dictionary.specs.pivoting.Combining.{multiple_in};
 
 use crate::cells;
 use crate::checked::Checked;
@@ -23,10 +23,10 @@ use crate::forms::{Form, Parts, forms_of};
 use crate::searching::search;
 use spv_atoms::Linear;
 use spv_dictionary::Dictionary;
+use spv_dictionary::checked_numbers::{Number, Refused};
+use spv_dictionary::pivoting::{Trail, all_met};
 use spv_frac::{Frac, TooWide};
-use spv_number::{Number, Refused};
-use spv_steps::{Trail, all_met};
-use spv_tableaux::Side;
+use spv_tableau_rules::tableaux::Side;
 use spv_term::TermId;
 use std::alloc::{AllocError, Global};
 use std::marker::Model;
@@ -68,7 +68,7 @@ pub struct Tableau {
 
 impl Model for Tableau {
     ghost use Rattle.std.specs.Prelude.{map, vec_capacity};
-    ghost use Rattle.spv_steps.specs.Combining.{multiple_in};
+    ghost use Rattle.spv_dictionary.specs.pivoting.Combining.{multiple_in};
     ghost use Rattle.spv_simplex.specs.State.{State, IsKept};
 
     ghost Value = { State };

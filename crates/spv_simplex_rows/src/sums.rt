@@ -5,8 +5,8 @@ ghost use Rattle.spv_logic.specs.declared.types.Sort.TheVariants as sort;
 ghost use Rattle.spv_term.specs.Arena.{sort_at, Extends};
 
 use spv_atoms::{Linear, linear};
-use spv_list::List;
-use spv_names::Symbol;
+use spv_logic::list::List;
+use spv_logic::names::Symbol;
 use spv_term::{Head, Shapes, Sort, TermFault, TermId, Terms};
 use std::alloc::{AllocError, Global};
 

@@ -1,14 +1,14 @@
 -- What begins with a name and is no assignment.
 use Rattle.std.proofs.Common.{false, if◌then◌else◌, ◌≡◌, ◌≤◌, List, [], ◌∷◌, sym, ap, arith, length}
-use Rattle.spv_tokens.specs.declared.token.Token.{Token}
-use Rattle.spv_tokens.specs.declared.token.TokenKind.TheVariants as kind
-use Rattle.spv_tokens.specs.declared.token.Sign.TheVariants as sign
-use Rattle.spv_syntax.specs.declared.names.Name.{Name}
-use Rattle.spv_syntax.specs.Formulas.{Formula, designator, Selector}
-use Rattle.spv_syntax.specs.Model.FormulaSizes.{selectors_of}
-use Rattle.spv_syntax.specs.Statements.{assignment}
-use Rattle.spv_reading.specs.Readers.{Read, Reader, misfit, front, after, is, and_then}
-use Rattle.spv_reading.specs.StatementReaders.{read_plain_call, read_becomes}
+use Rattle.spv_tree.specs.declared.tokens.token.Token.{Token}
+use Rattle.spv_tree.specs.declared.tokens.token.TokenKind.TheVariants as kind
+use Rattle.spv_tree.specs.declared.tokens.token.Sign.TheVariants as sign
+use Rattle.spv_tree.specs.declared.syntax.names.Name.{Name}
+use Rattle.spv_tree.specs.syntax.Formulas.{Formula, designator, Selector}
+use Rattle.spv_tree.specs.syntax.Model.FormulaSizes.{selectors_of}
+use Rattle.spv_tree.specs.syntax.Statements.{assignment}
+use Rattle.spv_grammar.specs.reading.Readers.{Read, Reader, misfit, front, after, is, and_then}
+use Rattle.spv_grammar.specs.reading.StatementReaders.{read_plain_call, read_becomes}
 
 -- a name with selectors is no call
 pub no_call : (read inner : Reader Formula) (x : Name) (ss : List Selector) (tokens : List Token) → 1 ≤ length ss → false ≡ is (kind.Sign sign.Becomes) (front tokens) → read_becomes read inner x (selectors_of ss) tokens ≡ misfit tokens

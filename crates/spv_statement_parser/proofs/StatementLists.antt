@@ -1,10 +1,10 @@
 -- The lists in statements.
 use Rattle.std.proofs.Common.{◌≡◌, ℕ, zero, suc, ◌-◌, List, [], ◌∷◌, refl, sym, ap, arith}
-use Rattle.spv_tokens.specs.declared.token.Token.{Token}
-use Rattle.spv_syntax.specs.Statements.{Statement, Arm, no_more_statements, more_statements, no_more_arms, more_arms}
-use Rattle.spv_syntax.specs.Model.StatementSizes.{more_statements_of, more_arms_of}
-use Rattle.spv_reading.specs.StatementReaders.{read_lower, read_statement}
-use Rattle.spv_front.specs.Lists.{put}
+use Rattle.spv_tree.specs.declared.tokens.token.Token.{Token}
+use Rattle.spv_tree.specs.syntax.Statements.{Statement, Arm, no_more_statements, more_statements, no_more_arms, more_arms}
+use Rattle.spv_tree.specs.syntax.Model.StatementSizes.{more_statements_of, more_arms_of}
+use Rattle.spv_grammar.specs.reading.StatementReaders.{read_lower, read_statement}
+use Rattle.spv_formula_parser.specs.primitives.Lists.{put}
 
 pub put-more_statements : (ss : List Statement) → put more_statements ss no_more_statements ≡ more_statements_of ss
 put-more_statements [] = refl

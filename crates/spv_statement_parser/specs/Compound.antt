@@ -1,11 +1,11 @@
 -- Statements behind their first word.
 use Rattle.std.specs.Prelude.{ℕ, Some}
-use Rattle.spv_syntax.specs.declared.names.Name.{Name}
-use Rattle.spv_syntax.specs.Formulas.{designator, Selectors}
-use Rattle.spv_syntax.specs.Statements.{Statement, assignment, compound, assertion}
-use Rattle.spv_reading.specs.Readers.{Read, Reader, and_then}
-use Rattle.spv_reading.specs.FormulaReaders.{read_formula}
-use Rattle.spv_reading.specs.StatementReaders.{read_block_behind, read_repetition, read_lower}
+use Rattle.spv_tree.specs.declared.syntax.names.Name.{Name}
+use Rattle.spv_tree.specs.syntax.Formulas.{designator, Selectors}
+use Rattle.spv_tree.specs.syntax.Statements.{Statement, assignment, compound, assertion}
+use Rattle.spv_grammar.specs.reading.Readers.{Read, Reader, and_then}
+use Rattle.spv_grammar.specs.reading.FormulaReaders.{read_formula}
+use Rattle.spv_grammar.specs.reading.StatementReaders.{read_block_behind, read_repetition, read_lower}
 
 -- formula, behind a name, its selectors and the sign
 abbrev pub read_assigned : ℕ → Name → Selectors → Reader Statement

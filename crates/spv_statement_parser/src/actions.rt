@@ -1,22 +1,22 @@
 // Assignments, calls and NEW.
 
 ghost use Rattle.std.specs.Prelude.{◌≡◌, Some, None, IfOk, IsErrAnd};
-ghost use Rattle.spv_syntax.specs.Model.FormulaSizes.{selectors_of};
-ghost use Rattle.spv_tokens.specs.declared.token.TokenKind.TheVariants as kind;
-ghost use Rattle.spv_tokens.specs.declared.token.Sign.TheVariants as sign;
-ghost use Rattle.spv_reading.specs.Readers.{Stop, Read, Halted, several_of};
-ghost use Rattle.spv_reading.specs.FormulaReaders.{read_designator, read_inner, read_formula};
-ghost use Rattle.spv_reading.specs.StatementReaders.{read_call, read_creation, read_becomes, read_action};
-ghost use Rattle.spv_front.specs.Faults.{IsStop};
+ghost use Rattle.spv_tree.specs.syntax.Model.FormulaSizes.{selectors_of};
+ghost use Rattle.spv_tree.specs.declared.tokens.token.TokenKind.TheVariants as kind;
+ghost use Rattle.spv_tree.specs.declared.tokens.token.Sign.TheVariants as sign;
+ghost use Rattle.spv_grammar.specs.reading.Readers.{Stop, Read, Halted, several_of};
+ghost use Rattle.spv_grammar.specs.reading.FormulaReaders.{read_designator, read_inner, read_formula};
+ghost use Rattle.spv_grammar.specs.reading.StatementReaders.{read_call, read_creation, read_becomes, read_action};
+ghost use Rattle.spv_formula_parser.specs.primitives.Faults.{IsStop};
 ghost use Rattle.spv_statement_parser.specs.Compound.{read_assigned};
 
 use spv_formula_parser::factors::{designator, selectors};
 use spv_formula_parser::formulas::{formula, inner};
-use spv_front::fault::{Fault, unexpected};
-use spv_front::front::{after, is_sign, past_sign};
-use spv_front::lists::{PartReader, several};
-use spv_syntax::{Designator, Formula, Name, Selector, Several, Statement, StatementForm};
-use spv_tokens::{Sign, Token};
+use spv_formula_parser::primitives::fault::{Fault, unexpected};
+use spv_formula_parser::primitives::front::{after, is_sign, past_sign};
+use spv_formula_parser::primitives::lists::{PartReader, several};
+use spv_tree::syntax::{Designator, Formula, Name, Selector, Several, Statement, StatementForm};
+use spv_tree::tokens::{Sign, Token};
 use std::alloc::Global;
 
 // Reads arguments.

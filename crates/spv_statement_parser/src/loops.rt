@@ -1,18 +1,18 @@
 // Loops.
 
 ghost use Rattle.std.specs.Prelude.{◌≡◌, Some, None, IfOk, IsErrAnd};
-ghost use Rattle.spv_reading.specs.Readers as reader;
-ghost use Rattle.spv_reading.specs.FormulaReaders.{read_formula};
-ghost use Rattle.spv_reading.specs.StatementReaders.{direction_of, read_to, read_while, read_repeat, read_for, loop_by, read_repetition, read_lower};
-ghost use Rattle.spv_reading.specs.Readers.{Stop, Read, Halted};
-ghost use Rattle.spv_front.specs.Faults.{IsStop};
+ghost use Rattle.spv_grammar.specs.reading.Readers as reader;
+ghost use Rattle.spv_grammar.specs.reading.FormulaReaders.{read_formula};
+ghost use Rattle.spv_grammar.specs.reading.StatementReaders.{direction_of, read_to, read_while, read_repeat, read_for, loop_by, read_repetition, read_lower};
+ghost use Rattle.spv_grammar.specs.reading.Readers.{Stop, Read, Halted};
+ghost use Rattle.spv_formula_parser.specs.primitives.Faults.{IsStop};
 
 use crate::statements::{boxed, more_statements};
 use spv_formula_parser::formulas::formula;
-use spv_front::fault::{Fault, unexpected};
-use spv_front::front::{after, first_line, front, name, past_sign, past_word};
-use spv_syntax::{Direction, Formula, Loop, LoopForm, Name, Statement, StatementForm};
-use spv_tokens::{Sign, Token, TokenKind, Word};
+use spv_formula_parser::primitives::fault::{Fault, unexpected};
+use spv_formula_parser::primitives::front::{after, first_line, front, name, past_sign, past_word};
+use spv_tree::syntax::{Direction, Formula, Loop, LoopForm, Name, Statement, StatementForm};
+use spv_tree::tokens::{Sign, Token, TokenKind, Word};
 use std::alloc::Global;
 
 // TO or DOWNTO at the front, where it is there.

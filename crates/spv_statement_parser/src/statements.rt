@@ -1,23 +1,25 @@
 // Statements.
 
 ghost use Rattle.std.specs.Prelude.{◌≡◌, Some, None, IfOk, IsErrAnd};
-ghost use Rattle.spv_syntax.specs.Model.StatementSizes.{more_statements_of, more_arms_of};
-ghost use Rattle.spv_syntax.specs.StatementViews.{otherwise_of};
-ghost use Rattle.spv_reading.specs.FormulaReaders.{read_formula};
-ghost use Rattle.spv_reading.specs.StatementReaders.{read_more_statements, read_block_behind, read_arm, read_more_arms, read_otherwise, read_conditional, read_selection, read_lower, read_statement, read_block};
-ghost use Rattle.spv_reading.specs.Readers.{Stop, Read, Halted};
-ghost use Rattle.spv_front.specs.Faults.{IsStop};
+ghost use Rattle.spv_tree.specs.syntax.Model.StatementSizes.{more_statements_of, more_arms_of};
+ghost use Rattle.spv_tree.specs.syntax.StatementViews.{otherwise_of};
+ghost use Rattle.spv_grammar.specs.reading.FormulaReaders.{read_formula};
+ghost use Rattle.spv_grammar.specs.reading.StatementReaders.{read_more_statements, read_block_behind, read_arm, read_more_arms, read_otherwise, read_conditional, read_selection, read_lower, read_statement, read_block};
+ghost use Rattle.spv_grammar.specs.reading.Readers.{Stop, Read, Halted};
+ghost use Rattle.spv_formula_parser.specs.primitives.Faults.{IsStop};
 ghost use Rattle.spv_statement_parser.specs.Compound.{read_compound, read_with_invariant, read_assertion};
 
 use crate::actions::{action, creation};
 use crate::loops::repetition;
 use spv_formula_parser::formulas::formula;
-use spv_front::constants::{begins_constant, constants};
-use spv_front::fault::{Fault, out_of_levels};
-use spv_front::front::{after, first_line, front, is_sign, is_word, past_sign, past_word};
-use spv_front::lists::push;
-use spv_syntax::{Arm, Block, Name, Statement, StatementForm};
-use spv_tokens::{Sign, Token, TokenKind, Word};
+use spv_formula_parser::primitives::constants::{begins_constant, constants};
+use spv_formula_parser::primitives::fault::{Fault, out_of_levels};
+use spv_formula_parser::primitives::front::{
+    after, first_line, front, is_sign, is_word, past_sign, past_word,
+};
+use spv_formula_parser::primitives::lists::push;
+use spv_tree::syntax::{Arm, Block, Name, Statement, StatementForm};
+use spv_tree::tokens::{Sign, Token, TokenKind, Word};
 use std::alloc::Global;
 
 // {";" statement}

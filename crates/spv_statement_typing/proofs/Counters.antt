@@ -1,10 +1,10 @@
 -- A variable that counts already.
 use Rattle.std.proofs.Common.{◌≡◌, ℕ, Bool, true, false, cond, Option, Some, None, Ok, Err, sym, ap, ◌∙◌}
-use Rattle.spv_names.specs.declared.names.Symbol.{Symbol}
-use Rattle.spv_syntax.specs.declared.names.Name.{Name}
+use Rattle.spv_logic.specs.declared.names.names.Symbol.{Symbol}
+use Rattle.spv_tree.specs.declared.syntax.names.Name.{Name}
 use Rattle.spv_typing.specs.declared.faults.TypeFault.TheVariants.{ControlChanged}
-use Rattle.spv_syntax.specs.declared.operators.Direction.{Direction as DirectionSign}
-use Rattle.spv_syntax.specs.Formulas.{Formula}
+use Rattle.spv_tree.specs.declared.syntax.operators.Direction.{Direction as DirectionSign}
+use Rattle.spv_tree.specs.syntax.Formulas.{Formula}
 use Rattle.spv_program.specs.declared.operators.Direction.{Direction}
 use Rattle.spv_program.specs.Expressions.{Expression}
 use Rattle.spv_typing.specs.Known.{meaning}
@@ -12,8 +12,8 @@ use Rattle.spv_typing.specs.Outcomes.{after}
 use Rattle.spv_typing.specs.OperatorWalk.{Operand, formula_line}
 use Rattle.spv_typing.specs.ExpressionWalk.{operand}
 use Rattle.spv_typing.specs.StatementWalk.{Setting, own_in, unless_counted, is_declared, direction_of, counting}
-use Rattle.spv_counted_changes.specs.Counted.{is_counted}
-use Rattle.spv_counted_changes.proofs.Same.{name_counted}
+use Rattle.spv_expression_typing.specs.counter_changes.Counted.{is_counted}
+use Rattle.spv_expression_typing.proofs.counter_changes.Same.{name_counted}
 use Rattle.spv_statement_typing.specs.Parts.{uncounted, head_settled}
 
 module _ (at : Setting) (line : ℕ) (w : Name) where

@@ -6,7 +6,7 @@ use Rattle.spv_typing.specs.Outcomes.{wrong}
 use Rattle.spv_typing.specs.OperatorWalk.{Argument}
 use Rattle.spv_typing.specs.ExpressionWalk.{Reached, no_call}
 use Rattle.spv_typing.specs.StatementWalk.{no_procedure}
-use Rattle.spv_scopes.specs.Answers.{Stops}
+use Rattle.spv_environments.specs.Answers.{Stops}
 use Rattle.spv_formula_typing.proofs.Exits.{stops_after}
 
 pub no_procedure_stops : (e : TypeFault) (line : ℕ) (count : Option ℕ) (given : List (Argument Expression Reached)) → Stops e (no_call line count given) → Stops e (no_procedure line count given)

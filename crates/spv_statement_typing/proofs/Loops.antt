@@ -8,22 +8,22 @@ use Rattle.spv_program.specs.Expressions.{Expression}
 use Rattle.spv_program.specs.Statements.{Statement, Arms, Sequence, Empty, If, Case, Repeat, no_arms, arm}
 use Rattle.std.specs.declared.boxed.Box.{Box}
 use Rattle.std.specs.Global.{Global, Vec}
-use Rattle.spv_syntax.specs.declared.statements.LoopForm.{LoopForm}
-use Rattle.spv_syntax.specs.declared.statements.LoopForm.TheVariants.{Repeat as RepeatForm}
-use Rattle.spv_syntax.specs.StatementViews.{loop_of}
+use Rattle.spv_tree.specs.declared.syntax.statements.LoopForm.{LoopForm}
+use Rattle.spv_tree.specs.declared.syntax.statements.LoopForm.TheVariants.{Repeat as RepeatForm}
+use Rattle.spv_tree.specs.syntax.StatementViews.{loop_of}
 use Rattle.spv_program.specs.Formulas.{Annotation}
-use Rattle.spv_syntax.specs.Formulas.{Formula}
-use Rattle.spv_syntax.specs.Statements as tree
-use Rattle.spv_syntax.specs.declared.lists.Several.{Several}
-use Rattle.spv_syntax.specs.declared.names.Constant.{Constant}
-use Rattle.spv_syntax.specs.Model.StatementSizes.{more_statements_of, more_arms_of, statement_size, more_statements_size, arm_size, more_arms_size}
-use Rattle.spv_typed.specs.declared.statements.Arm.{Arm}
-use Rattle.spv_typed.specs.StatementViews.{block_of, arms_of}
+use Rattle.spv_tree.specs.syntax.Formulas.{Formula}
+use Rattle.spv_tree.specs.syntax.Statements as tree
+use Rattle.spv_tree.specs.declared.syntax.lists.Several.{Several}
+use Rattle.spv_tree.specs.declared.syntax.names.Constant.{Constant}
+use Rattle.spv_tree.specs.syntax.Model.StatementSizes.{more_statements_of, more_arms_of, statement_size, more_statements_size, arm_size, more_arms_size}
+use Rattle.spv_program.specs.declared.typed.statements.Arm.{Arm}
+use Rattle.spv_program.specs.typed.StatementViews.{block_of, arms_of}
 use Rattle.spv_typing.specs.declared.faults.TypeFault.{TypeFault}
 use Rattle.spv_typing.specs.Outcomes.{Outcome, after, each}
 use Rattle.spv_typing.specs.ExpressionWalk.{expression_of}
 use Rattle.spv_typing.specs.StatementWalk.{Setting, ArmsSoFar, counting_kept, statement_walk, more_statements_walk, arm_walk, more_arms_walk, loop_walk, test_of, new_labels, one_more, dropped}
-use Rattle.spv_scopes.specs.Answers.{Stops}
+use Rattle.spv_environments.specs.Answers.{Stops}
 use Rattle.spv_formula_typing.proofs.Exits.{stops_after}
 use Rattle.spv_statement_typing.specs.Chains.{chain_walk, in_front, so_far, arms_walk, repeat_walk}
 use Rattle.spv_statement_typing.specs.Parts.{tested}

@@ -1,7 +1,7 @@
 -- Calls of routines as statements.
 use Rattle.std.specs.Prelude.{ℕ, Option}
-use Rattle.spv_syntax.specs.declared.lists.Several.{Several}
-use Rattle.spv_syntax.specs.Formulas.{Formula}
+use Rattle.spv_tree.specs.declared.syntax.lists.Several.{Several}
+use Rattle.spv_tree.specs.syntax.Formulas.{Formula}
 use Rattle.spv_program.specs.Statements.{Statement}
 use Rattle.spv_typing.specs.Outcomes.{Outcome, after}
 use Rattle.spv_typing.specs.Known.{Heading}

@@ -2,10 +2,10 @@
 use Rattle.std.specs.Prelude.{ℕ, ℤ, List, [], ◌∷◌, Option, Ok}
 use Rattle.spv_program.specs.Statements.{Counting, Statement, Arms, Sequence, While, Repeat, For, no_arms, arm}
 use Rattle.spv_program.specs.Formulas.{Annotation}
-use Rattle.spv_syntax.specs.Formulas.{Formula}
-use Rattle.spv_syntax.specs.Statements as tree
-use Rattle.spv_syntax.specs.Model.StatementSizes.{more_statements_of, more_arms_of}
-use Rattle.spv_typed.specs.declared.statements.Arm.{Arm}
+use Rattle.spv_tree.specs.syntax.Formulas.{Formula}
+use Rattle.spv_tree.specs.syntax.Statements as tree
+use Rattle.spv_tree.specs.syntax.Model.StatementSizes.{more_statements_of, more_arms_of}
+use Rattle.spv_program.specs.declared.typed.statements.Arm.{Arm}
 use Rattle.spv_typing.specs.Outcomes.{Outcome, after}
 use Rattle.spv_typing.specs.StatementWalk.{Setting, ArmsSoFar, inside_for, test_of, statement_walk, more_statements_walk, arm_walk, more_arms_walk}
 

@@ -3,12 +3,12 @@ use Rattle.std.specs.Prelude.{ℕ, Option, None}
 use Rattle.spv_logic.specs.declared.types.TypeId.{TypeId}
 use Rattle.spv_logic.specs.declared.types.Sort.{Sort}
 use Rattle.spv_logic.specs.declared.types.Sort.TheVariants as sort
-use Rattle.spv_names.specs.declared.names.Symbol.{Symbol}
+use Rattle.spv_logic.specs.declared.names.names.Symbol.{Symbol}
 use Rattle.spv_program.specs.declared.operators.Direction.{Direction}
 use Rattle.spv_program.specs.Expressions.{Expression, Designator, NilOf}
 use Rattle.spv_program.specs.Statements.{Counting, Statement, Assign, New, If, For, Empty}
-use Rattle.spv_syntax.specs.declared.names.Name.{Name}
-use Rattle.spv_syntax.specs.Formulas as formulas
+use Rattle.spv_tree.specs.declared.syntax.names.Name.{Name}
+use Rattle.spv_tree.specs.syntax.Formulas as formulas
 use Rattle.spv_typing.specs.Outcomes.{Outcome, after, wrong}
 use Rattle.spv_typing.specs.Known.{meaning}
 use Rattle.spv_typing.specs.OperatorWalk.{Operand, settled}

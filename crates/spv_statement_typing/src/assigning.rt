@@ -3,23 +3,23 @@
 ghost use Rattle.std.specs.Prelude.{◌≡◌, IfOk, IfErr, Ok};
 ghost use Rattle.spv_program.specs.Statements as plain;
 ghost use Rattle.spv_typing.specs.StatementWalk as spec;
-ghost use Rattle.spv_scopes.specs.Answers.{Stops};
+ghost use Rattle.spv_environments.specs.Answers.{Stops};
 ghost use Rattle.spv_statement_typing.specs.Parts.{assigned_to, created_at};
 ghost use Rattle.spv_statement_typing.specs.Settings.{setting_of};
 
 use crate::setting::{Setting, in_box, kept};
-use spv_counted_changes::{changed_by_assignment, changed_by_creation};
+use spv_expression_typing::counter_changes::{changed_by_assignment, changed_by_creation};
 use spv_expression_typing::{Reached, operand, settled_expression, written};
 use spv_logic::TypeId;
-use spv_syntax::{Designator, Formula};
-use spv_typed::{Expression, Statement, StatementForm};
+use spv_program::typed::{Expression, Statement, StatementForm};
+use spv_tree::syntax::{Designator, Formula};
 use spv_typing::TypeFault;
 use std::alloc::{AllocError, Global};
 
 // An assignment of these sides.
 fn assigning(
     alloc: Global,
-    place: spv_typed::Designator,
+    place: spv_program::typed::Designator,
     value: Expression,
 ) -> Result<Statement, AllocError>
     ensures { IfOk result (λ s. s ≡ plain.Assign place value) }
@@ -35,7 +35,7 @@ fn assigning(
 fn creating(
     alloc: Global,
     line: u32,
-    place: spv_typed::Designator,
+    place: spv_program::typed::Designator,
     of: TypeId,
 ) -> Result<Statement, AllocError>
     ensures { IfOk result (λ s. s ≡ plain.New line place of) }
@@ -51,7 +51,7 @@ fn assigned(
     setting: &Setting<'_, '_, '_, '_>,
     alloc: Global,
     line: u32,
-    place: Option<spv_typed::Designator>,
+    place: Option<spv_program::typed::Designator>,
     value: Expression,
 ) -> Result<Statement, TypeFault>
     ensures ok { IfOk result (λ s. assigned_to (setting_of setting.now) line place value ≡ Ok s) }

@@ -1,21 +1,21 @@
 // Calls that are statements.
 
 ghost use Rattle.std.specs.Prelude.{◌≡◌, IfOk, IfErr, Ok};
-ghost use Rattle.spv_syntax.specs.StatementViews.{given_of};
+ghost use Rattle.spv_tree.specs.syntax.StatementViews.{given_of};
 ghost use Rattle.spv_typing.specs.Known.{meaning};
 ghost use Rattle.spv_typing.specs.StatementWalk as spec;
-ghost use Rattle.spv_scopes.specs.Answers.{Stops};
-ghost use Rattle.spv_scopes.specs.Views.{heading_of};
+ghost use Rattle.spv_environments.specs.Answers.{Stops};
+ghost use Rattle.spv_environments.specs.Views.{heading_of};
 ghost use Rattle.spv_statement_typing.specs.Calls.{routine_called};
 ghost use Rattle.spv_statement_typing.specs.Settings.{setting_of};
 
 use crate::setting::{Setting, kept};
-use spv_counted_changes::changed_by_call;
+use spv_environments::{Heading, Meaning};
+use spv_expression_typing::counter_changes::changed_by_call;
 use spv_expression_typing::{arity, call, no_call};
-use spv_names::Symbol;
-use spv_scopes::{Heading, Meaning};
-use spv_syntax::{Formula, Name, Several};
-use spv_typed::{Call, Statement, StatementForm};
+use spv_logic::names::Symbol;
+use spv_program::typed::{Call, Statement, StatementForm};
+use spv_tree::syntax::{Formula, Name, Several};
 use spv_typing::TypeFault;
 use std::alloc::Global;
 

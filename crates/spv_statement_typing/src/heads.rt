@@ -2,26 +2,28 @@
 
 ghost use Rattle.std.specs.Prelude.{◌≡◌, IfOk, IfErr, Ok};
 ghost use Rattle.spv_program.specs.Types.{sort_of};
-ghost use Rattle.spv_typed.specs.StatementViews.{counting_of};
+ghost use Rattle.spv_program.specs.typed.StatementViews.{counting_of};
 ghost use Rattle.spv_typing.specs.Known.{meaning};
 ghost use Rattle.spv_typing.specs.StatementWalk as spec;
-ghost use Rattle.spv_scopes.specs.Answers.{Stops};
-ghost use Rattle.spv_scopes.specs.Scopes.{scope_of};
+ghost use Rattle.spv_environments.specs.Answers.{Stops};
+ghost use Rattle.spv_environments.specs.Scopes.{scope_of};
 ghost use Rattle.spv_formula_typing.specs.Operands.{operand_of};
 ghost use Rattle.spv_statement_typing.specs.Counters.{is_counter};
 ghost use Rattle.spv_statement_typing.specs.Parts.{head_kept, head_settled, tested, uncounted};
 ghost use Rattle.spv_statement_typing.specs.Settings.{setting_of};
 
 use crate::setting::{Setting, in_box, kept};
-use spv_counted_changes::{changed_by_head, changed_by_test, is_counted, is_own};
+use spv_environments::{Meaning, Scope};
+use spv_expression_typing::counter_changes::{
+    changed_by_head, changed_by_test, is_counted, is_own,
+};
 use spv_expression_typing::{expression_of, operand, settled_expression};
 use spv_formula_typing::Operand;
+use spv_logic::names::Symbol;
 use spv_logic::{Sort, TypeId};
-use spv_names::Symbol;
 use spv_program::Direction;
-use spv_scopes::{Meaning, Scope};
-use spv_syntax::{Formula, Name};
-use spv_typed::{Counting, Expression};
+use spv_program::typed::{Counting, Expression};
+use spv_tree::syntax::{Formula, Name};
 use spv_typing::TypeFault;
 use std::alloc::{AllocError, Global};
 
@@ -42,12 +44,12 @@ pub(crate) fn tested(
     Ok(in_box(alloc, made)?)
 }
 
-fn direction_of(sign: spv_syntax::Direction) -> Direction
+fn direction_of(sign: spv_tree::syntax::Direction) -> Direction
     ensures { result ≡ spec.direction_of sign }
 {
     match sign {
-        spv_syntax::Direction::Up => Direction::Up,
-        spv_syntax::Direction::Down => Direction::Down,
+        spv_tree::syntax::Direction::Up => Direction::Up,
+        spv_tree::syntax::Direction::Down => Direction::Down,
     }
 }
 
@@ -190,7 +192,7 @@ pub(crate) fn counting(
     line: u32,
     x: Name,
     from: &Formula,
-    towards: spv_syntax::Direction,
+    towards: spv_tree::syntax::Direction,
     to: &Formula,
 ) -> Result<Box<Counting>, TypeFault>
     ensures ok { IfOk result (λ c. spec.counting (setting_of setting.now) line x from.now towards to.now ≡ Ok (counting_of c.value)) }

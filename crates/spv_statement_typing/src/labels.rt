@@ -4,13 +4,13 @@ ghost use Rattle.std.specs.Prelude.{◌≡◌, ◌++◌, ◌∷◌, [], IfOk, If
 ghost use Rattle.std.specs.List.{list_any};
 ghost use Rattle.std.specs.Ordering.{int_eq};
 ghost use Rattle.spv_typing.specs.StatementWalk as spec;
-ghost use Rattle.spv_scopes.specs.Answers.{Stops};
-ghost use Rattle.spv_scopes.specs.Scopes.{scope_of};
+ghost use Rattle.spv_environments.specs.Answers.{Stops};
+ghost use Rattle.spv_environments.specs.Scopes.{scope_of};
 
-use spv_list::List;
-use spv_scopes::Scope;
-use spv_syntax::{Constant, Several};
-use spv_type_typing::constant;
+use spv_declaration_typing::type_typing::constant;
+use spv_environments::Scope;
+use spv_logic::list::List;
+use spv_tree::syntax::{Constant, Several};
 use spv_typing::TypeFault;
 use std::alloc::{AllocError, Global};
 use std::collections::BTreeSet;

@@ -2,10 +2,10 @@
 
 ghost use Rattle.std.specs.Prelude.{◌≡◌, IfOk, IfErr, Ok};
 ghost use Rattle.spv_typing.specs.StatementWalk.{unless_counted};
-ghost use Rattle.spv_scopes.specs.Answers.{Stops};
+ghost use Rattle.spv_environments.specs.Answers.{Stops};
 
-use spv_names::Symbol;
-use spv_scopes::Scope;
+use spv_environments::Scope;
+use spv_logic::names::Symbol;
 use spv_typing::TypeFault;
 use std::alloc::{AllocError, Global};
 

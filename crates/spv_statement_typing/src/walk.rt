@@ -2,16 +2,16 @@
 
 ghost use Rattle.std.specs.Prelude.{◌≡◌, ◌++◌, ◌∷◌, [], IfOk, IfErr, OnOk, Ok, List, ℕ, option_map};
 ghost use Rattle.spv_program.specs.Statements.{Assert, Empty};
-ghost use Rattle.spv_syntax.specs.StatementViews.{otherwise_of};
-ghost use Rattle.spv_syntax.specs.Model.StatementSizes.{more_arms_of, more_statements_of};
-ghost use Rattle.spv_syntax.specs.Statements as tree;
-ghost use Rattle.spv_typed.specs.FormulaViews.{annotation_of};
-ghost use Rattle.spv_typed.specs.StatementViews.{arms_of, block_of, counting_of};
-ghost use Rattle.spv_typed.specs.declared.statements.Arm.{Arm as ArmText};
+ghost use Rattle.spv_tree.specs.syntax.StatementViews.{otherwise_of};
+ghost use Rattle.spv_tree.specs.syntax.Model.StatementSizes.{more_arms_of, more_statements_of};
+ghost use Rattle.spv_tree.specs.syntax.Statements as tree;
+ghost use Rattle.spv_program.specs.typed.FormulaViews.{annotation_of};
+ghost use Rattle.spv_program.specs.typed.StatementViews.{arms_of, block_of, counting_of};
+ghost use Rattle.spv_program.specs.declared.typed.statements.Arm.{Arm as ArmText};
 ghost use Rattle.spv_typing.specs.FormulaWalk.{annotation};
 ghost use Rattle.spv_typing.specs.Outcomes.{after, if_there};
 ghost use Rattle.spv_typing.specs.StatementWalk as spec;
-ghost use Rattle.spv_scopes.specs.Answers.{Stops};
+ghost use Rattle.spv_environments.specs.Answers.{Stops};
 ghost use Rattle.spv_statement_typing.specs.Chains.{arms_walk, chain_walk, for_walk, repeat_walk, so_far, while_walk};
 ghost use Rattle.spv_statement_typing.specs.Settings.{setting_of};
 
@@ -22,11 +22,11 @@ use crate::labels::{LabelSet, arm_labels};
 use crate::setting::{Setting, in_box};
 use spv_annotation_typing::annotation;
 use spv_logic::Sort;
-use spv_names::Symbol;
-use spv_syntax::{
+use spv_logic::names::Symbol;
+use spv_program::typed::Annotation;
+use spv_tree::syntax::{
     Arm, Block, Constant, Formula, Loop, LoopForm, Name, Several, Statement, StatementForm,
 };
-use spv_typed::Annotation;
 use spv_typing::TypeFault;
 use std::alloc::{AllocError, Global};
 
@@ -38,11 +38,11 @@ fn push<T: Drop>(items: &mut Vec<T>, item: T) -> Result<(), AllocError>
 }
 
 // The empty statement.
-fn nothing(alloc: Global) -> spv_typed::Statement
+fn nothing(alloc: Global) -> spv_program::typed::Statement
     ensures { result ≡ Empty }
 {
-    spv_typed::Statement {
-        form: spv_typed::StatementForm::Block(Vec::new(alloc)),
+    spv_program::typed::Statement {
+        form: spv_program::typed::StatementForm::Block(Vec::new(alloc)),
     }
 }
 
@@ -68,14 +68,14 @@ fn assertion(
     setting: &Setting<'_, '_, '_, '_>,
     alloc: Global,
     tree: &Formula,
-) -> Result<spv_typed::Statement, TypeFault>
+) -> Result<spv_program::typed::Statement, TypeFault>
     ensures ok { IfOk result (λ s. after (annotation (setting_of setting.now).noted tree.now) (λ a. Ok (Assert a)) ≡ Ok s) }
     ensures err { IfErr result (λ e. Stops e (after (annotation (setting_of setting.now).noted tree.now) (λ a. Ok (Assert a)))) }
 {
     let noted = annotation(&setting.noted, alloc, tree)?;
     let noted = in_box(alloc, noted)?;
-    Ok(spv_typed::Statement {
-        form: spv_typed::StatementForm::Assert(noted),
+    Ok(spv_program::typed::Statement {
+        form: spv_program::typed::StatementForm::Assert(noted),
     })
 }
 
@@ -85,7 +85,7 @@ pub fn statement(
     setting: &Setting<'_, '_, '_, '_>,
     alloc: Global,
     tree: &Statement,
-) -> Result<spv_typed::Statement, TypeFault>
+) -> Result<spv_program::typed::Statement, TypeFault>
     ensures ok { IfOk result (λ s. spec.statement_walk (setting_of setting.now) tree.now ≡ Ok s) }
     ensures err { IfErr result (λ e. Stops e (spec.statement_walk (setting_of setting.now) tree.now)) }
 {
@@ -116,7 +116,7 @@ fn boxed(
     setting: &Setting<'_, '_, '_, '_>,
     alloc: Global,
     tree: &Statement,
-) -> Result<Box<spv_typed::Statement>, TypeFault>
+) -> Result<Box<spv_program::typed::Statement>, TypeFault>
     ensures ok { IfOk result (λ s. spec.statement_walk (setting_of setting.now) tree.now ≡ Ok s.value) }
     ensures err { IfErr result (λ e. Stops e (spec.statement_walk (setting_of setting.now) tree.now)) }
 {
@@ -130,13 +130,13 @@ pub fn block(
     setting: &Setting<'_, '_, '_, '_>,
     alloc: Global,
     tree: &Block,
-) -> Result<spv_typed::Statement, TypeFault>
+) -> Result<spv_program::typed::Statement, TypeFault>
     ensures ok { IfOk result (λ s. spec.block_walk (setting_of setting.now) tree.now ≡ Ok s) }
     ensures err { IfErr result (λ e. Stops e (spec.block_walk (setting_of setting.now) tree.now)) }
 {
     let made = statements(setting, alloc, &tree.first, tree.more.as_slice())?;
-    Ok(spv_typed::Statement {
-        form: spv_typed::StatementForm::Block(made),
+    Ok(spv_program::typed::Statement {
+        form: spv_program::typed::StatementForm::Block(made),
     })
 }
 
@@ -147,7 +147,7 @@ fn statements(
     alloc: Global,
     first: &Statement,
     more: &[Statement],
-) -> Result<Vec<spv_typed::Statement>, TypeFault>
+) -> Result<Vec<spv_program::typed::Statement>, TypeFault>
     ensures ok { IfOk result (λ ss. chain_walk (setting_of setting.now) first.now more.now ≡ Ok (block_of ss.items)) }
     ensures err { IfErr result (λ e. Stops e (chain_walk (setting_of setting.now) first.now more.now)) }
 {
@@ -167,7 +167,7 @@ fn otherwise(
     setting: &Setting<'_, '_, '_, '_>,
     alloc: Global,
     tree: &Option<Box<Statement>>,
-) -> Result<Box<spv_typed::Statement>, TypeFault>
+) -> Result<Box<spv_program::typed::Statement>, TypeFault>
     ensures ok { IfOk result (λ s. spec.otherwise_walk (setting_of setting.now) (otherwise_of tree.now) ≡ Ok s.value) }
     ensures err { IfErr result (λ e. Stops e (spec.otherwise_walk (setting_of setting.now) (otherwise_of tree.now))) }
 {
@@ -185,15 +185,15 @@ fn conditional(
     test: &Formula,
     first: &Statement,
     other: &Option<Box<Statement>>,
-) -> Result<spv_typed::Statement, TypeFault>
+) -> Result<spv_program::typed::Statement, TypeFault>
     ensures ok { IfOk result (λ s. spec.statement_walk (setting_of setting.now) (tree.conditional line test.now first.now (otherwise_of other.now)) ≡ Ok s) }
     ensures err { IfErr result (λ e. Stops e (spec.statement_walk (setting_of setting.now) (tree.conditional line test.now first.now (otherwise_of other.now)))) }
 {
     let value = tested(setting, alloc, line, Sort::Bool, test)?;
     let one = boxed(setting, alloc, first)?;
     let two = otherwise(setting, alloc, other)?;
-    Ok(spv_typed::Statement {
-        form: spv_typed::StatementForm::If(line, value, one, two),
+    Ok(spv_program::typed::Statement {
+        form: spv_program::typed::StatementForm::If(line, value, one, two),
     })
 }
 
@@ -205,14 +205,14 @@ fn selection(
     about: &Formula,
     first: &Arm,
     more: &[Arm],
-) -> Result<spv_typed::Statement, TypeFault>
+) -> Result<spv_program::typed::Statement, TypeFault>
     ensures ok { IfOk result (λ s. spec.statement_walk (setting_of setting.now) (tree.selection line about.now first.now (more_arms_of more.now)) ≡ Ok s) }
     ensures err { IfErr result (λ e. Stops e (spec.statement_walk (setting_of setting.now) (tree.selection line about.now first.now (more_arms_of more.now)))) }
 {
     let value = tested(setting, alloc, line, Sort::Int, about)?;
     let made = boxed_arms(setting, alloc, first, more)?;
-    Ok(spv_typed::Statement {
-        form: spv_typed::StatementForm::Case(line, value, made),
+    Ok(spv_program::typed::Statement {
+        form: spv_program::typed::StatementForm::Case(line, value, made),
     })
 }
 
@@ -223,7 +223,7 @@ fn arms(
     alloc: Global,
     first: &Arm,
     more: &[Arm],
-) -> Result<Vec<spv_typed::Arm>, TypeFault>
+) -> Result<Vec<spv_program::typed::Arm>, TypeFault>
     ensures ok { IfOk result (λ xs. arms_walk (setting_of setting.now) first.now more.now ≡ Ok (arms_of xs.items)) }
     ensures err { IfErr result (λ e. Stops e (arms_walk (setting_of setting.now) first.now more.now)) }
 {
@@ -243,7 +243,7 @@ fn boxed_arms(
     alloc: Global,
     first: &Arm,
     more: &[Arm],
-) -> Result<Box<Vec<spv_typed::Arm>>, TypeFault>
+) -> Result<Box<Vec<spv_program::typed::Arm>>, TypeFault>
     ensures ok { IfOk result (λ xs. arms_walk (setting_of setting.now) first.now more.now ≡ Ok (arms_of xs.value.items)) }
     ensures err { IfErr result (λ e. Stops e (arms_walk (setting_of setting.now) first.now more.now)) }
 {
@@ -257,7 +257,7 @@ fn add_arm(
     setting: &Setting<'_, '_, '_, '_>,
     alloc: Global,
     seen: &mut LabelSet,
-    made: &mut Vec<spv_typed::Arm>,
+    made: &mut Vec<spv_program::typed::Arm>,
     tree: &Arm,
 ) -> Result<(), TypeFault>
     ensures ok { IfOk result (λ u. spec.arm_walk (setting_of setting.now) (so_far seen.old made.old.items) tree.now ≡ Ok (so_far seen.new made.new.items)) }
@@ -280,7 +280,7 @@ fn arm(
     seen: &mut LabelSet,
     constants: &Several<Constant>,
     body: &Statement,
-) -> Result<spv_typed::Arm, TypeFault>
+) -> Result<spv_program::typed::Arm, TypeFault>
     ensures ok { IfOk result (λ a. (line : ℕ) (made : List ArmText) →
         spec.arm_walk (setting_of setting.now) (so_far seen.old made) (tree.arm line constants.now body.now) ≡ Ok (so_far seen.new (made ++ a ∷ []))) }
     ensures err { IfErr result (λ e. (line : ℕ) (made : List ArmText) →
@@ -288,7 +288,7 @@ fn arm(
 {
     let own = arm_labels(&setting.inside, alloc, seen, constants)?;
     let made = boxed(setting, alloc, body)?;
-    Ok(spv_typed::Arm {
+    Ok(spv_program::typed::Arm {
         labels: own,
         body: made,
     })
@@ -302,7 +302,7 @@ fn repetition(
     line: u32,
     noted: &Option<Formula>,
     inside: &Loop,
-) -> Result<spv_typed::Statement, TypeFault>
+) -> Result<spv_program::typed::Statement, TypeFault>
     ensures ok { IfOk result (λ s. spec.statement_walk (setting_of setting.now) (tree.repetition line noted.now inside.now) ≡ Ok s) }
     ensures err { IfErr result (λ e. Stops e (spec.statement_walk (setting_of setting.now) (tree.repetition line noted.now inside.now))) }
 {
@@ -318,7 +318,7 @@ fn repeated(
     line: u32,
     noted: Box<Option<Annotation>>,
     inside: &Loop,
-) -> Result<spv_typed::Statement, TypeFault>
+) -> Result<spv_program::typed::Statement, TypeFault>
     ensures ok { IfOk result (λ s. spec.loop_walk (setting_of setting.now) line (option_map annotation_of noted.value) inside.now ≡ Ok s) }
     ensures err { IfErr result (λ e. Stops e (spec.loop_walk (setting_of setting.now) line (option_map annotation_of noted.value) inside.now)) }
 {
@@ -342,14 +342,14 @@ fn while_loop(
     noted: Box<Option<Annotation>>,
     test: &Formula,
     body: &Statement,
-) -> Result<spv_typed::Statement, TypeFault>
+) -> Result<spv_program::typed::Statement, TypeFault>
     ensures ok { IfOk result (λ s. while_walk (setting_of setting.now) line (option_map annotation_of noted.value) test.now body.now ≡ Ok s) }
     ensures err { IfErr result (λ e. Stops e (while_walk (setting_of setting.now) line (option_map annotation_of noted.value) test.now body.now)) }
 {
     let value = tested(setting, alloc, line, Sort::Bool, test)?;
     let made = boxed(setting, alloc, body)?;
-    Ok(spv_typed::Statement {
-        form: spv_typed::StatementForm::While(line, noted, value, made),
+    Ok(spv_program::typed::Statement {
+        form: spv_program::typed::StatementForm::While(line, noted, value, made),
     })
 }
 
@@ -362,14 +362,14 @@ fn repeat_loop(
     first: &Statement,
     more: &[Statement],
     test: &Formula,
-) -> Result<spv_typed::Statement, TypeFault>
+) -> Result<spv_program::typed::Statement, TypeFault>
     ensures ok { IfOk result (λ s. repeat_walk (setting_of setting.now) line (option_map annotation_of noted.value) first.now more.now test.now ≡ Ok s) }
     ensures err { IfErr result (λ e. Stops e (repeat_walk (setting_of setting.now) line (option_map annotation_of noted.value) first.now more.now test.now)) }
 {
     let made = boxed_statements(setting, alloc, first, more)?;
     let value = tested(setting, alloc, line, Sort::Bool, test)?;
-    Ok(spv_typed::Statement {
-        form: spv_typed::StatementForm::Repeat(line, noted, made, value),
+    Ok(spv_program::typed::Statement {
+        form: spv_program::typed::StatementForm::Repeat(line, noted, made, value),
     })
 }
 
@@ -380,13 +380,13 @@ fn boxed_statements(
     alloc: Global,
     first: &Statement,
     more: &[Statement],
-) -> Result<Box<spv_typed::Statement>, TypeFault>
+) -> Result<Box<spv_program::typed::Statement>, TypeFault>
     ensures ok { IfOk result (λ s. chain_walk (setting_of setting.now) first.now more.now ≡ Ok s.value) }
     ensures err { IfErr result (λ e. Stops e (chain_walk (setting_of setting.now) first.now more.now)) }
 {
     let made = statements(setting, alloc, first, more)?;
-    let whole = spv_typed::Statement {
-        form: spv_typed::StatementForm::Block(made),
+    let whole = spv_program::typed::Statement {
+        form: spv_program::typed::StatementForm::Block(made),
     };
     Ok(in_box(alloc, whole)?)
 }
@@ -408,9 +408,9 @@ fn for_loop(
     alloc: Global,
     line: u32,
     noted: Box<Option<Annotation>>,
-    head: Box<spv_typed::Counting>,
+    head: Box<spv_program::typed::Counting>,
     body: &Statement,
-) -> Result<spv_typed::Statement, TypeFault>
+) -> Result<spv_program::typed::Statement, TypeFault>
     ensures ok { IfOk result (λ s. for_walk (setting_of setting.now) line (option_map annotation_of noted.value) (counting_of head.value) body.now ≡ Ok s) }
     ensures err { IfErr result (λ e. Stops e (for_walk (setting_of setting.now) line (option_map annotation_of noted.value) (counting_of head.value) body.now)) }
 {
@@ -421,7 +421,7 @@ fn for_loop(
         counted: counted.as_slice(),
     };
     let made = boxed(&within, alloc, body)?;
-    Ok(spv_typed::Statement {
-        form: spv_typed::StatementForm::For(line, noted, head, made),
+    Ok(spv_program::typed::Statement {
+        form: spv_program::typed::StatementForm::For(line, noted, head, made),
     })
 }

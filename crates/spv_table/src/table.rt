@@ -9,7 +9,7 @@ ghost use Rattle.spv_table.specs.Faults.{IsValueFault, IsHoldsFault};
 use crate::kept::value_of;
 use crate::operations::{WideValue, is_true};
 use spv_frac::Frac;
-use spv_list::List;
+use spv_logic::list::List;
 use spv_term::{TermId, Terms};
 use std::alloc::{AllocError, Global};
 use thiserror::Error;

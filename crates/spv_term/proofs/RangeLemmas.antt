@@ -15,7 +15,7 @@ use Rattle.spv_logic.specs.declared.operators.Head.TheVariants as head
 use Rattle.spv_logic.specs.Terms.{Term, Terms, term, no_terms, terms}
 use Rattle.spv_logic.specs.Shapes.{shape_at, sort_of_shape, sort_of_type, element_of_shape, fields_of_shape, element_sort, fields_of, content_sort, field_sort, field_sort_of, may_be_part, shape_ok, pointer_sort}
 use Rattle.spv_logic.specs.Sorts.{declared, takes, takes_declared, with_sort, first_sort, membership, class_change, result_sort, sort_in_range, head_in_range}
-use Rattle.spv_list.proofs.Tests.{left_true, right_true}
+use Rattle.spv_logic.proofs.list.Tests.{left_true, right_true}
 use Rattle.spv_logic.proofs.Ranges.{element_in_range, record_field_in_range, content_in_range}
 use Rattle.spv_term.specs.declared.nodes.Node.{Node}
 use Rattle.spv_term.specs.Arena.{Arena, IsArena, AllBelow, decls_in_range, tree, trees, sort_at, sorts_at}

@@ -4,12 +4,12 @@ use Rattle.std.specs.BTreeMap.{BTreeMap, get, Updates}
 use Rattle.std.specs.Map.{lookup}
 use Rattle.std.specs.Ordering.{is_eq}
 use Rattle.std.proofs.lemmas.Bool.{false≢true, eqb-true}
-use Rattle.spv_list.proofs.Tests.{left_true, right_true}
+use Rattle.spv_logic.proofs.list.Tests.{left_true, right_true}
 use denote.Struct.Field.{Field}
 use denote.Struct.Values.{Values}
 use denote.Enum.Declared.{Choice, intoss}
 use denote.Enum.Compared.{Each, by}
-use Rattle.spv_names.specs.declared.names.Symbol.{Symbol}
+use Rattle.spv_logic.specs.declared.names.names.Symbol.{Symbol}
 use Rattle.spv_logic.specs.declared.types.TypeId.{TypeId}
 use Rattle.spv_logic.specs.declared.types.Sort.{Sort}
 use Rattle.spv_logic.specs.declared.operators.Head.{Head}
@@ -23,7 +23,7 @@ use Rattle.spv_term.specs.contracts.nodes.NodePartialEq.TheImpl as of_nodes
 use Rattle.spv_term.specs.contracts.nodes.NodeEq.TheImpl.Laws as node_laws
 use Rattle.spv_term.specs.contracts.nodes.NodeOrd.TheImpl as in_order
 use Rattle.spv_term.specs.contracts.nodes.NodeOrd.TheImpl.Laws as order_laws
-use Rattle.spv_names.proofs.Places.{position-push}
+use Rattle.spv_logic.proofs.names.Places.{position-push}
 use Rattle.spv_term.specs.Arena.{node_eq, number_of, ArePlaces, has_node, place_of}
 use Rattle.spv_term.proofs.NodeLemmas.{ids_eq-true, node_eq-true, node_eq-refl, node_eq-unique, found_there, found_absent}
 

@@ -10,7 +10,7 @@ use Rattle.spv_logic.specs.declared.types.Field.{Field}
 use Rattle.spv_logic.specs.declared.types.Decl.{Decl}
 use Rattle.spv_logic.specs.declared.types.Sort.TheVariants as sort
 use Rattle.spv_logic.specs.declared.operators.Head.TheVariants as head
-use Rattle.spv_names.specs.declared.names.Symbol.{Symbol}
+use Rattle.spv_logic.specs.declared.names.names.Symbol.{Symbol}
 use Rattle.spv_logic.specs.Shapes.{shape_at, field_sort, field_sort_of, fields_of, element_sort, content_sort, pointer_sort}
 use Rattle.spv_logic.specs.Sorts.{declared, takes, takes_declared, sorts_eq, with_sort, first_sort, class_change, result_sort}
 

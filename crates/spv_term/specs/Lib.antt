@@ -1,2 +1,4 @@
 pub mod Arena
 pub mod Laws
+pub mod substitution
+pub mod closure

@@ -4,10 +4,12 @@
 //! which sort each node stands for.
 #![tactic(auto)]
 
+pub mod closure;
 mod laws;
 mod lists;
 mod nodes;
 mod sorts;
+pub mod substitution;
 mod terms;
 
 pub use laws::{law_grows, law_make, law_one_id, law_sorted, law_types, law_worth};

@@ -1,7 +1,7 @@
 //! Nodes, conditions, and why no node could be made.
 
 use crate::lists::Arguments;
-use spv_list::List;
+use spv_logic::list::List;
 use spv_logic::{Head, Origin, TermId};
 use std::alloc::AllocError;
 use thiserror::Error;

@@ -7,8 +7,8 @@ ghost use Rattle.spv_logic.specs.declared.types.Shape.TheVariants as shape;
 ghost use Rattle.spv_logic.specs.Shapes as type_spec;
 ghost use Rattle.spv_logic.specs.Sorts as spec;
 
+use spv_logic::names::Symbol;
 use spv_logic::{Decl, Field, Head, Shape, Sort, TypeId};
-use spv_names::Symbol;
 
 // The shape of a type, if it is there.
 fn shape_at(shapes: &[Shape], t: TypeId) -> Option<&Shape>

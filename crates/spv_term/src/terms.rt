@@ -9,7 +9,7 @@ ghost use Rattle.spv_term.specs.Arena.{node, node_eq, number_of, has_node, with_
 use crate::lists::{Arguments, Shapes};
 use crate::nodes::{Node, TermFault};
 use crate::sorts::result_sort;
-use spv_list::List;
+use spv_logic::list::List;
 use spv_logic::{Decl, Head, Sort, TermId};
 use std::alloc::{AllocError, Global};
 use std::collections::BTreeMap;

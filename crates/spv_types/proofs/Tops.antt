@@ -1,15 +1,15 @@
 -- What is seen from outside all routines.
 use Rattle.std.proofs.Common.{◌≡◌, List, [], ◌++◌, None, Ok, IfOk, IfErr, Result, subst}
-use Rattle.spv_names.specs.declared.names.Symbol.{Symbol}
-use Rattle.spv_syntax.specs.Formulas.{Formula}
-use Rattle.spv_typed.specs.declared.formulas.Annotation.{Annotation as AnnotationText}
-use Rattle.spv_typed.specs.FormulaViews.{annotation_of}
+use Rattle.spv_logic.specs.declared.names.names.Symbol.{Symbol}
+use Rattle.spv_tree.specs.syntax.Formulas.{Formula}
+use Rattle.spv_program.specs.declared.typed.formulas.Annotation.{Annotation as AnnotationText}
+use Rattle.spv_program.specs.typed.FormulaViews.{annotation_of}
 use Rattle.spv_typing.specs.declared.faults.TypeFault.{TypeFault}
 use Rattle.spv_typing.specs.FormulaWalk.{annotation}
 use Rattle.spv_typing.specs.Known.{Known, Scope, at_top, named}
-use Rattle.spv_scopes.specs.declared.scopes.Own.{Own}
-use Rattle.spv_scopes.specs.Answers.{Stops}
-use Rattle.spv_scopes.specs.Scopes.{own_of, result_of}
+use Rattle.spv_environments.specs.declared.scopes.Own.{Own}
+use Rattle.spv_environments.specs.Answers.{Stops}
+use Rattle.spv_environments.specs.Scopes.{own_of, result_of}
 
 abbrev pub scope_with : Known → List (Symbol × Own) → Scope
 scope_with k own = record { known = k; own = named own_of own ++ (result_of None ++ named own_of own); routine = None }

@@ -1,7 +1,7 @@
 -- The parts of a text make the whole.
 use Rattle.std.proofs.Common.{◌≡◌, List, Option, None, Ok, Err, refl, sym, ap, ◌∙◌, subst}
-use Rattle.spv_syntax.specs.declared.programs.Program.{Program as ProgramText}
-use Rattle.spv_syntax.specs.declared.formula_texts.FormulaText.{FormulaText}
+use Rattle.spv_tree.specs.declared.syntax.programs.Program.{Program as ProgramText}
+use Rattle.spv_tree.specs.declared.syntax.formula_texts.FormulaText.{FormulaText}
 use Rattle.spv_program.specs.Formulas.{Annotation}
 use Rattle.spv_program.specs.Statements.{Assert}
 use Rattle.spv_program.specs.Programs.{Main, Program}
@@ -14,13 +14,13 @@ use Rattle.spv_typing.specs.FormulaWalk.{annotation}
 use Rattle.spv_typing.specs.StatementWalk.{block_walk}
 use Rattle.spv_typing.specs.ProgramWalk.{known_at_first, routines_walk, main_setting, none_awaited, titles_of, with_main, program_walk, formula_text_walk}
 use Rattle.std.specs.Prelude.{IsTrue}
-use Rattle.spv_list.proofs.Tests.{left_true}
-use Rattle.spv_syntax.specs.Reads.{well_formed, routines_ok, block_ok}
+use Rattle.spv_logic.proofs.list.Tests.{left_true}
+use Rattle.spv_tree.specs.syntax.Reads.{well_formed, routines_ok, block_ok}
 use Rattle.spv_program.specs.Typing.{well_typed}
-use Rattle.spv_well_typed_programs.specs.Programs.{ProgramsAreWellTyped}
-use Rattle.spv_names.specs.declared.names.Symbol.{Symbol}
-use Rattle.spv_scopes.specs.Answers.{Stops}
-use Rattle.spv_scopes.specs.Ended.{ended as with_titles}
+use Rattle.spv_type_soundness.specs.well_typed_programs.Programs.{ProgramsAreWellTyped}
+use Rattle.spv_logic.specs.declared.names.names.Symbol.{Symbol}
+use Rattle.spv_environments.specs.Answers.{Stops}
+use Rattle.spv_environments.specs.Ended.{ended as with_titles}
 use Rattle.spv_types.specs.Walks.{main_walk, Parts, parts_walk, formula_parts_walk}
 
 -- ---- a fault of a step is that of the whole

@@ -1,6 +1,6 @@
 -- Titles of types, one name after the other.
 use Rattle.std.specs.Prelude.{ℕ, List, Option, Some, None, replicate, slice_set}
-use Rattle.spv_names.specs.declared.names.Symbol.{Symbol}
+use Rattle.spv_logic.specs.declared.names.names.Symbol.{Symbol}
 use Rattle.spv_logic.specs.declared.types.TypeId.{TypeId}
 
 abbrev pub no_titles : ℕ → List (Option Symbol)

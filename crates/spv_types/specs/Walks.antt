@@ -1,7 +1,7 @@
 -- The walk over the parts of a text, one behind the other.
 use Rattle.std.specs.Prelude.{None, Ok}
-use Rattle.spv_syntax.specs.declared.programs.Program.{Program as ProgramText}
-use Rattle.spv_syntax.specs.declared.formula_texts.FormulaText.{FormulaText}
+use Rattle.spv_tree.specs.declared.syntax.programs.Program.{Program as ProgramText}
+use Rattle.spv_tree.specs.declared.syntax.formula_texts.FormulaText.{FormulaText}
 use Rattle.spv_program.specs.Statements.{Assert}
 use Rattle.spv_program.specs.Programs.{Main}
 use Rattle.spv_typing.specs.DeclarationWalk.{declarations_walk}

@@ -1,22 +1,22 @@
 // ENTRY, EXIT and the main block.
 
 ghost use Rattle.std.specs.Prelude.{◌≡◌, IfErr, IfOk, Ok, option_map};
-ghost use Rattle.spv_typed.specs.FormulaViews.{annotation_of};
-ghost use Rattle.spv_typed.specs.ProgramViews.{main_of};
+ghost use Rattle.spv_program.specs.typed.FormulaViews.{annotation_of};
+ghost use Rattle.spv_program.specs.typed.ProgramViews.{main_of};
 ghost use Rattle.spv_typing.specs.FormulaWalk as formula;
 ghost use Rattle.spv_typing.specs.Known.{at_top};
 ghost use Rattle.spv_typing.specs.Outcomes.{if_there};
 ghost use Rattle.spv_typing.specs.ProgramWalk.{main_setting};
 ghost use Rattle.spv_typing.specs.StatementWalk.{block_walk};
-ghost use Rattle.spv_scopes.specs.Answers.{Stops};
+ghost use Rattle.spv_environments.specs.Answers.{Stops};
 ghost use Rattle.spv_types.specs.Walks.{main_walk};
 
 use spv_annotation_typing::annotation;
-use spv_named::Named;
-use spv_scopes::{Known, Own, Scope};
+use spv_environments::{Known, Own, Scope};
+use spv_program::ordered_map::Named;
+use spv_program::typed::{Annotation, Main, Statement};
 use spv_statement_typing::{Setting, block};
-use spv_syntax::{Block, Formula, Program};
-use spv_typed::{Annotation, Main, Statement};
+use spv_tree::syntax::{Block, Formula, Program};
 use spv_typing::TypeFault;
 use std::alloc::Global;
 

@@ -3,7 +3,7 @@
 ghost use Rattle.std.specs.Prelude.{◌≡◌, IsTrue};
 ghost use Rattle.spv_program.specs.Typing.{well_typed};
 
-use spv_typed::Program;
+use spv_program::typed::Program;
 use std::marker::Model;
 
 /// A program with each name resolved, which is well typed.
@@ -17,9 +17,9 @@ impl Model for Typed {
     ghost use Rattle.spv_program.specs.Programs as plain;
     ghost use Rattle.spv_program.specs.Typing.{well_typed};
     ghost use Rattle.std.specs.Coded.{codes};
-    ghost use Rattle.spv_list.specs.Ways.{coded_by};
-    ghost use Rattle.spv_typed.specs.Model.FormulaCodes.{way_formula};
-    ghost use Rattle.spv_typed.specs.Model.StatementCodes.{way_statement};
+    ghost use Rattle.spv_logic.specs.list.Ways.{coded_by};
+    ghost use Rattle.spv_program.specs.typed.Model.FormulaCodes.{way_formula};
+    ghost use Rattle.spv_program.specs.typed.Model.StatementCodes.{way_statement};
 
     ghost Value = { plain.Program };
 

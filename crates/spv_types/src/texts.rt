@@ -2,31 +2,35 @@
 
 ghost use Rattle.std.specs.Prelude.{◌≡◌, None, IfErr, IfOk, IsTrue, Ok};
 ghost use Rattle.spv_program.specs.Statements.{Assert};
-ghost use Rattle.spv_syntax.specs.Reads.{well_formed};
-ghost use Rattle.spv_typed.specs.FormulaViews.{annotation_of};
-ghost use Rattle.spv_typed.specs.ProgramViews.{main_of};
+ghost use Rattle.spv_tree.specs.syntax.Reads.{well_formed};
+ghost use Rattle.spv_program.specs.typed.FormulaViews.{annotation_of};
+ghost use Rattle.spv_program.specs.typed.ProgramViews.{main_of};
 ghost use Rattle.spv_typing.specs.Known.{known_in};
 ghost use Rattle.spv_typing.specs.ProgramWalk.{formula_text_walk, program_walk, titles_of};
-ghost use Rattle.spv_scopes.specs.Answers.{Stops};
+ghost use Rattle.spv_environments.specs.Answers.{Stops};
 ghost use Rattle.spv_types.specs.Walks.{formula_parts_walk, parts_walk};
 
 use crate::main_block::{annotation_at_top, main_block};
 use crate::program::Typed;
 use crate::titles::titles;
 use spv_declaration_typing::declarations;
-use spv_list::List;
-use spv_names::{Names, Symbol};
+use spv_environments::{Known, KnownNames};
+use spv_logic::list::List;
+use spv_logic::names::{Names, Symbol};
+use spv_program::typed::{Annotation, Main, Program, Statement, StatementForm};
 use spv_routine_typing::routines;
-use spv_scopes::{Known, KnownNames};
-use spv_syntax::FormulaText;
-use spv_typed::{Annotation, Main, Program, Statement, StatementForm};
+use spv_tree::syntax::FormulaText;
+use spv_type_soundness::well_typed_programs::law_programs;
 use spv_typing::TypeFault;
-use spv_well_typed_programs::law_programs;
 use std::alloc::{AllocError, Global};
 
 // What stands behind the declarations of a program: routines, ENTRY, EXIT and the main block.
 #[tactic(auto, using(crate::proofs::Whole::parts_made, crate::proofs::Whole::parts_stop_at_declarations, crate::proofs::Whole::parts_stop_at_routines, crate::proofs::Whole::parts_stop_at_main))]
-fn parts(known: &mut Known, alloc: Global, tree: &spv_syntax::Program) -> Result<Main, TypeFault>
+fn parts(
+    known: &mut Known,
+    alloc: Global,
+    tree: &spv_tree::syntax::Program,
+) -> Result<Main, TypeFault>
     ensures ok { IfOk result (λ m. parts_walk known.old tree.now ≡ Ok (record { known = known.new; main = main_of m })) }
     ensures err { IfErr result (λ e. Stops e (parts_walk known.old tree.now)) }
 {
@@ -51,7 +55,7 @@ fn ends(
     known: &mut Known,
     alloc: Global,
     names: &Names,
-    tree: &spv_syntax::Program,
+    tree: &spv_tree::syntax::Program,
 ) -> Result<(List<Option<Symbol>>, Main), TypeFault>
     ensures ok { IfOk result (λ e. parts_walk known.old tree.now ≡ Ok (record { known = known.new; main = main_of e.1 })) }
     ensures titles { IfOk result (λ e. e.0 ≡ titles_of (known_in names.now) known.new.program) }
@@ -64,7 +68,11 @@ fn ends(
 
 // The program of a text's tree.
 #[tactic(auto, using(crate::proofs::Whole::program_made, crate::proofs::Whole::program_stops))]
-fn walked(alloc: Global, tree: &spv_syntax::Program, names: &Names) -> Result<Program, TypeFault>
+fn walked(
+    alloc: Global,
+    tree: &spv_tree::syntax::Program,
+    names: &Names,
+) -> Result<Program, TypeFault>
     ensures ok { IfOk result (λ p. program_walk (known_in names.now) tree.now ≡ Ok p) }
     ensures err { IfErr result (λ e. Stops e (program_walk (known_in names.now) tree.now)) }
 {
@@ -78,7 +86,11 @@ fn walked(alloc: Global, tree: &spv_syntax::Program, names: &Names) -> Result<Pr
 /// The typed program of a text's tree, which is well formed, as each tree is that a reading answers: each routine in it that begins
 /// ends. Or the first fault of names and types, in the order of the text. Memory: there was not enough of it.
 #[tactic(auto, using(crate::proofs::Whole::is_well_typed))]
-pub fn typed(alloc: Global, tree: &spv_syntax::Program, names: &Names) -> Result<Typed, TypeFault>
+pub fn typed(
+    alloc: Global,
+    tree: &spv_tree::syntax::Program,
+    names: &Names,
+) -> Result<Typed, TypeFault>
     requires formed { IsTrue (well_formed tree.now) }
     ensures ok { IfOk result (λ t. program_walk (known_in names.now) tree.now ≡ Ok t) }
     ensures err { IfErr result (λ e. Stops e (program_walk (known_in names.now) tree.now)) }

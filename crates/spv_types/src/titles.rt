@@ -5,12 +5,12 @@ ghost use Rattle.spv_typing.specs.Known.{boolean_type, integer_type};
 ghost use Rattle.spv_typing.specs.ProgramWalk.{titles_from};
 ghost use Rattle.spv_types.specs.Titles.{entitled, no_titles};
 
-use spv_list::List;
+use spv_environments::KnownNames;
 use spv_logic::TypeId;
-use spv_named::Named;
-use spv_names::Symbol;
+use spv_logic::list::List;
+use spv_logic::names::Symbol;
 use spv_program::TypeForm;
-use spv_scopes::KnownNames;
+use spv_program::ordered_map::Named;
 use std::alloc::{AllocError, Global};
 
 #[tactic(auto, using(crate::proofs::Entitling::none_entitled))]

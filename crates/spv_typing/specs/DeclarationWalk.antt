@@ -1,22 +1,22 @@
 -- The walk over declarations.
 use Rattle.std.specs.Prelude.{ℕ, Bool, ◌&&◌, not, List, [], ◌∷◌, ◌++◌, map, Option, Some, None, Ok, Err, ℤ}
 use Rattle.std.specs.List.{list_any}
-use Rattle.spv_names.specs.declared.names.Symbol.{Symbol}
+use Rattle.spv_logic.specs.declared.names.names.Symbol.{Symbol}
 use Rattle.spv_logic.specs.declared.types.TypeId.{TypeId}
 use Rattle.spv_logic.specs.declared.types.Sort.{Sort}
 use Rattle.spv_logic.specs.declared.types.Sort.TheVariants as sort
 use Rattle.spv_logic.specs.declared.types.Decl.{Decl}
-use Rattle.spv_syntax.specs.declared.names.Name.{Name}
-use Rattle.spv_syntax.specs.declared.lists.Several.{Several}
-use Rattle.spv_syntax.specs.declared.declarations.Const.{Const}
-use Rattle.spv_syntax.specs.declared.declarations.Typedef.{Typedef}
-use Rattle.spv_syntax.specs.declared.declarations.Vars.{Vars}
-use Rattle.spv_syntax.specs.declared.declarations.NameOrClass.{NameOrClass}
-use Rattle.spv_syntax.specs.declared.declarations.NameOrClass.TheVariants as written
-use Rattle.spv_syntax.specs.declared.declarations.SortName.{SortName}
-use Rattle.spv_syntax.specs.declared.declarations.SymbolText.{SymbolText}
-use Rattle.spv_syntax.specs.declared.declarations.Declarations.{Declarations}
-use Rattle.spv_syntax.specs.Types.{TypeDenoter}
+use Rattle.spv_tree.specs.declared.syntax.names.Name.{Name}
+use Rattle.spv_tree.specs.declared.syntax.lists.Several.{Several}
+use Rattle.spv_tree.specs.declared.syntax.declarations.Const.{Const}
+use Rattle.spv_tree.specs.declared.syntax.declarations.Typedef.{Typedef}
+use Rattle.spv_tree.specs.declared.syntax.declarations.Vars.{Vars}
+use Rattle.spv_tree.specs.declared.syntax.declarations.NameOrClass.{NameOrClass}
+use Rattle.spv_tree.specs.declared.syntax.declarations.NameOrClass.TheVariants as written
+use Rattle.spv_tree.specs.declared.syntax.declarations.SortName.{SortName}
+use Rattle.spv_tree.specs.declared.syntax.declarations.SymbolText.{SymbolText}
+use Rattle.spv_tree.specs.declared.syntax.declarations.Declarations.{Declarations}
+use Rattle.spv_tree.specs.syntax.Types.{TypeDenoter}
 use Rattle.spv_program.specs.declared.types.TypeForm.{TypeForm}
 use Rattle.spv_program.specs.Lists.{same_name}
 use Rattle.spv_program.specs.Types.{sort_of}

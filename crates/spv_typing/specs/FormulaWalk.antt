@@ -6,8 +6,8 @@ use Rattle.spv_logic.specs.declared.types.Sort.TheVariants as sort
 use Rattle.spv_logic.specs.declared.types.Field.{Field as SortedField}
 use Rattle.spv_logic.specs.declared.types.Shape.{Shape}
 use Rattle.spv_logic.specs.Shapes.{element_sort, fields_of, field_sort}
-use Rattle.spv_syntax.specs.declared.names.Name.{Name}
-use Rattle.spv_syntax.specs.Formulas as tree
+use Rattle.spv_tree.specs.declared.syntax.names.Name.{Name}
+use Rattle.spv_tree.specs.syntax.Formulas as tree
 use Rattle.spv_program.specs.declared.operators.BuiltIn.{BuiltIn}
 use Rattle.spv_program.specs.declared.operators.BuiltIn.TheVariants as known
 use Rattle.spv_program.specs.Types.{sort_of}

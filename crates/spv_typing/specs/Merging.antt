@@ -2,7 +2,7 @@
 -- numbers in the order of the text, and those of equal pointer types are put together when all names are known.
 use Rattle.std.specs.Prelude.{ℕ, zero, suc, Bool, false, List, [], ◌∷◌, map, length, Option, Some, None, option_map, nat_eq, if◌then◌else◌}
 use Rattle.spv_logic.specs.declared.types.TypeId.{TypeId}
-use Rattle.spv_names.specs.declared.names.Symbol.{Symbol}
+use Rattle.spv_logic.specs.declared.names.names.Symbol.{Symbol}
 use Rattle.spv_program.specs.declared.types.TypeForm.{TypeForm}
 use Rattle.spv_program.specs.declared.types.TypeForm.TheVariants.{Pointer, Array, Record}
 use Rattle.spv_program.specs.Lists.{found, item_at}

@@ -5,17 +5,17 @@ use Rattle.spv_logic.specs.declared.types.TypeId.{TypeId}
 use Rattle.spv_logic.specs.declared.types.Sort.{Sort}
 use Rattle.spv_logic.specs.declared.types.Sort.TheVariants as sort
 use Rattle.spv_logic.specs.Terms.{sort_eq}
-use Rattle.spv_syntax.specs.declared.names.Name.{Name}
-use Rattle.spv_syntax.specs.declared.operators.PlusOrMinus.{PlusOrMinus}
-use Rattle.spv_syntax.specs.declared.operators.PlusOrMinus.TheVariants as prefix
-use Rattle.spv_syntax.specs.declared.operators.Comparison.{Comparison as ComparisonSign}
-use Rattle.spv_syntax.specs.declared.operators.Comparison.TheVariants as comparison_sign
-use Rattle.spv_syntax.specs.declared.operators.Adding.{Adding}
-use Rattle.spv_syntax.specs.declared.operators.Adding.TheVariants as adding
-use Rattle.spv_syntax.specs.declared.operators.Multiplying.{Multiplying}
-use Rattle.spv_syntax.specs.declared.operators.Multiplying.TheVariants as multiplying
-pub use Rattle.spv_syntax.specs.Lines.{formula_line}
-use Rattle.spv_syntax.specs.Formulas.{Formula, Relation, Simple, MoreTerms, Term, MoreFactors, Factor, MoreFormulas, Designator, Selectors, Selector, formula, no_conclusion, implies, relation, no_right_side, compared, simple, no_more_terms, more_terms, term, no_more_factors, more_factors, number, truth, nil, class, place, application, bracketed, negation, no_more_formulas, more_formulas, designator, no_selectors, selectors, index, field, content}
+use Rattle.spv_tree.specs.declared.syntax.names.Name.{Name}
+use Rattle.spv_tree.specs.declared.syntax.operators.PlusOrMinus.{PlusOrMinus}
+use Rattle.spv_tree.specs.declared.syntax.operators.PlusOrMinus.TheVariants as prefix
+use Rattle.spv_tree.specs.declared.syntax.operators.Comparison.{Comparison as ComparisonSign}
+use Rattle.spv_tree.specs.declared.syntax.operators.Comparison.TheVariants as comparison_sign
+use Rattle.spv_tree.specs.declared.syntax.operators.Adding.{Adding}
+use Rattle.spv_tree.specs.declared.syntax.operators.Adding.TheVariants as adding
+use Rattle.spv_tree.specs.declared.syntax.operators.Multiplying.{Multiplying}
+use Rattle.spv_tree.specs.declared.syntax.operators.Multiplying.TheVariants as multiplying
+pub use Rattle.spv_tree.specs.syntax.Lines.{formula_line}
+use Rattle.spv_tree.specs.syntax.Formulas.{Formula, Relation, Simple, MoreTerms, Term, MoreFactors, Factor, MoreFormulas, Designator, Selectors, Selector, formula, no_conclusion, implies, relation, no_right_side, compared, simple, no_more_terms, more_terms, term, no_more_factors, more_factors, number, truth, nil, class, place, application, bracketed, negation, no_more_formulas, more_formulas, designator, no_selectors, selectors, index, field, content}
 use Rattle.spv_program.specs.declared.operators.Arithmetic.{Arithmetic}
 use Rattle.spv_program.specs.declared.operators.Arithmetic.TheVariants as arithmetic
 use Rattle.spv_program.specs.declared.operators.Comparison.{Comparison}

@@ -1,18 +1,18 @@
 -- The walk over the routines of a text in a row, and over whole programs and formula texts.
 use Rattle.std.specs.Prelude.{ℕ, suc, Bool, true, false, ◌&&◌, not, List, [], ◌∷◌, ◌++◌, filter, Option, Some, None, Ok, Err, is_some, if◌then◌else◌}
-use Rattle.spv_names.specs.declared.names.Symbol.{Symbol}
+use Rattle.spv_logic.specs.declared.names.names.Symbol.{Symbol}
 use Rattle.spv_logic.specs.declared.types.TypeId.{TypeId}
 use Rattle.spv_logic.specs.declared.conditions.RoutineId.{RoutineId}
-use Rattle.spv_syntax.specs.declared.routines.Heading.{Heading as HeadingText}
-use Rattle.spv_syntax.specs.declared.routines.HeadingForm.{HeadingForm}
-use Rattle.spv_syntax.specs.declared.routines.HeadingForm.TheVariants.{Procedure, Function}
-use Rattle.spv_syntax.specs.declared.routines.Clauses.{Clauses}
-use Rattle.spv_syntax.specs.declared.routines.Locals.{Locals}
-use Rattle.spv_syntax.specs.declared.routines.RoutineMark.{RoutineMark}
-use Rattle.spv_syntax.specs.declared.routines.RoutineMark.TheVariants.{Announced, Begins, Ends}
-use Rattle.spv_syntax.specs.declared.programs.Program.{Program as ProgramText}
-use Rattle.spv_syntax.specs.declared.formula_texts.FormulaText.{FormulaText}
-use Rattle.spv_syntax.specs.Statements as tree
+use Rattle.spv_tree.specs.declared.syntax.routines.Heading.{Heading as HeadingText}
+use Rattle.spv_tree.specs.declared.syntax.routines.HeadingForm.{HeadingForm}
+use Rattle.spv_tree.specs.declared.syntax.routines.HeadingForm.TheVariants.{Procedure, Function}
+use Rattle.spv_tree.specs.declared.syntax.routines.Clauses.{Clauses}
+use Rattle.spv_tree.specs.declared.syntax.routines.Locals.{Locals}
+use Rattle.spv_tree.specs.declared.syntax.routines.RoutineMark.{RoutineMark}
+use Rattle.spv_tree.specs.declared.syntax.routines.RoutineMark.TheVariants.{Announced, Begins, Ends}
+use Rattle.spv_tree.specs.declared.syntax.programs.Program.{Program as ProgramText}
+use Rattle.spv_tree.specs.declared.syntax.formula_texts.FormulaText.{FormulaText}
+use Rattle.spv_tree.specs.syntax.Statements as tree
 use Rattle.spv_program.specs.declared.types.TypeForm.{TypeForm}
 use Rattle.spv_program.specs.declared.types.TypeForm.TheVariants.{Integer, Boolean}
 use Rattle.spv_program.specs.Lists.{same_name}

@@ -1,28 +1,28 @@
 -- The walk over routines: headings, clauses, local declarations and bodies.
 use Rattle.std.specs.Prelude.{ℕ, Bool, true, false, ◌&&◌, ◌||◌, not, List, [], ◌∷◌, ◌++◌, map, Option, Some, None, Ok, Err}
 use Rattle.std.specs.List.{list_any}
-use Rattle.spv_names.specs.declared.names.Symbol.{Symbol}
+use Rattle.spv_logic.specs.declared.names.names.Symbol.{Symbol}
 use Rattle.spv_logic.specs.declared.types.TypeId.{TypeId}
 use Rattle.spv_logic.specs.declared.types.Sort.{Sort}
 use Rattle.spv_logic.specs.declared.types.Sort.TheVariants as sort
 use Rattle.spv_logic.specs.declared.conditions.RoutineId.{RoutineId}
-use Rattle.spv_syntax.specs.declared.lists.Several.{Several}
-use Rattle.spv_syntax.specs.declared.names.Name.{Name}
-use Rattle.spv_syntax.specs.declared.declarations.Const.{Const}
-use Rattle.spv_syntax.specs.declared.declarations.Vars.{Vars}
-use Rattle.spv_syntax.specs.declared.declarations.NameOrClass.{NameOrClass}
-use Rattle.spv_syntax.specs.declared.declarations.NameOrClass.TheVariants as written
-use Rattle.spv_syntax.specs.declared.routines.GroupForm.{GroupForm}
-use Rattle.spv_syntax.specs.declared.routines.GroupForm.TheVariants.{Variables, Procedures, Functions}
-use Rattle.spv_syntax.specs.declared.routines.Group.{Group}
-use Rattle.spv_syntax.specs.declared.routines.Params.{Params}
-use Rattle.spv_syntax.specs.declared.routines.HeadingForm.{HeadingForm}
-use Rattle.spv_syntax.specs.declared.routines.HeadingForm.TheVariants.{Procedure, Function}
-use Rattle.spv_syntax.specs.declared.routines.Item.{Item as ItemText}
-use Rattle.spv_syntax.specs.declared.routines.GlobalGroup.{GlobalGroup}
-use Rattle.spv_syntax.specs.declared.routines.Start.{Start}
-use Rattle.spv_syntax.specs.declared.routines.Clauses.{Clauses}
-use Rattle.spv_syntax.specs.declared.routines.Locals.{Locals}
+use Rattle.spv_tree.specs.declared.syntax.lists.Several.{Several}
+use Rattle.spv_tree.specs.declared.syntax.names.Name.{Name}
+use Rattle.spv_tree.specs.declared.syntax.declarations.Const.{Const}
+use Rattle.spv_tree.specs.declared.syntax.declarations.Vars.{Vars}
+use Rattle.spv_tree.specs.declared.syntax.declarations.NameOrClass.{NameOrClass}
+use Rattle.spv_tree.specs.declared.syntax.declarations.NameOrClass.TheVariants as written
+use Rattle.spv_tree.specs.declared.syntax.routines.GroupForm.{GroupForm}
+use Rattle.spv_tree.specs.declared.syntax.routines.GroupForm.TheVariants.{Variables, Procedures, Functions}
+use Rattle.spv_tree.specs.declared.syntax.routines.Group.{Group}
+use Rattle.spv_tree.specs.declared.syntax.routines.Params.{Params}
+use Rattle.spv_tree.specs.declared.syntax.routines.HeadingForm.{HeadingForm}
+use Rattle.spv_tree.specs.declared.syntax.routines.HeadingForm.TheVariants.{Procedure, Function}
+use Rattle.spv_tree.specs.declared.syntax.routines.Item.{Item as ItemText}
+use Rattle.spv_tree.specs.declared.syntax.routines.GlobalGroup.{GlobalGroup}
+use Rattle.spv_tree.specs.declared.syntax.routines.Start.{Start}
+use Rattle.spv_tree.specs.declared.syntax.routines.Clauses.{Clauses}
+use Rattle.spv_tree.specs.declared.syntax.routines.Locals.{Locals}
 use Rattle.spv_program.specs.declared.types.Item.{Item}
 use Rattle.spv_program.specs.declared.types.Item.TheVariants.{Variable, Class}
 use Rattle.spv_program.specs.Lists.{same_name, found}

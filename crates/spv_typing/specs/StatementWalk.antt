@@ -2,17 +2,17 @@
 use Rattle.std.specs.Prelude.{ℕ, Bool, true, false, ◌&&◌, ◌||◌, not, List, [], ◌∷◌, ◌++◌, map, filter, Option, Some, None, Ok, Err, ℤ, is_some, nat_eq, if◌then◌else◌}
 use Rattle.std.specs.List.{list_any, flat_map}
 use Rattle.std.specs.Ordering.{int_eq}
-use Rattle.spv_names.specs.declared.names.Symbol.{Symbol}
+use Rattle.spv_logic.specs.declared.names.names.Symbol.{Symbol}
 use Rattle.spv_logic.specs.declared.types.TypeId.{TypeId}
 use Rattle.spv_logic.specs.declared.types.Sort.TheVariants as sort
 use Rattle.spv_logic.specs.Terms.{sort_eq}
-use Rattle.spv_syntax.specs.declared.lists.Several.{Several}
-use Rattle.spv_syntax.specs.declared.names.Name.{Name}
-use Rattle.spv_syntax.specs.declared.names.Constant.{Constant}
-use Rattle.spv_syntax.specs.declared.operators.Direction.{Direction as DirectionSign}
-use Rattle.spv_syntax.specs.declared.operators.Direction.TheVariants as direction_sign
-use Rattle.spv_syntax.specs.Formulas as formulas
-use Rattle.spv_syntax.specs.Statements as tree
+use Rattle.spv_tree.specs.declared.syntax.lists.Several.{Several}
+use Rattle.spv_tree.specs.declared.syntax.names.Name.{Name}
+use Rattle.spv_tree.specs.declared.syntax.names.Constant.{Constant}
+use Rattle.spv_tree.specs.declared.syntax.operators.Direction.{Direction as DirectionSign}
+use Rattle.spv_tree.specs.declared.syntax.operators.Direction.TheVariants as direction_sign
+use Rattle.spv_tree.specs.syntax.Formulas as formulas
+use Rattle.spv_tree.specs.syntax.Statements as tree
 use Rattle.spv_program.specs.declared.operators.Direction.{Direction}
 use Rattle.spv_program.specs.declared.operators.Direction.TheVariants as direction
 use Rattle.spv_program.specs.Types.{form_at, sort_of, target_of}

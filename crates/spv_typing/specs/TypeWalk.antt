@@ -2,16 +2,16 @@
 use Rattle.std.specs.Prelude.{ℕ, Bool, true, false, ◌&&◌, not, List, [], ◌∷◌, ◌++◌, map, length, Option, Some, None, Ok, Err, ℤ, pos, negsuc, ◌*ℤ◌, if◌then◌else◌}
 use Rattle.std.specs.List.{list_any}
 use Rattle.std.specs.Int.RustNames.{int_lt}
-use Rattle.spv_names.specs.declared.names.Symbol.{Symbol}
+use Rattle.spv_logic.specs.declared.names.names.Symbol.{Symbol}
 use Rattle.spv_logic.specs.declared.types.TypeId.{TypeId}
-use Rattle.spv_syntax.specs.declared.names.Name.{Name}
-use Rattle.spv_syntax.specs.declared.names.Scalar.{Scalar}
-use Rattle.spv_syntax.specs.declared.names.Scalar.TheVariants as scalar
-use Rattle.spv_syntax.specs.declared.names.Constant.{Constant}
-use Rattle.spv_syntax.specs.declared.operators.PlusOrMinus.{PlusOrMinus}
-use Rattle.spv_syntax.specs.declared.operators.PlusOrMinus.TheVariants as prefix
-use Rattle.spv_syntax.specs.declared.lists.Several.{Several}
-use Rattle.spv_syntax.specs.Types.{TypeDenoter, MoreTypes, Field, MoreFields, named, range, pointer, array, fields, no_more_types, more_types, no_field, field, no_more_fields, more_fields}
+use Rattle.spv_tree.specs.declared.syntax.names.Name.{Name}
+use Rattle.spv_tree.specs.declared.syntax.names.Scalar.{Scalar}
+use Rattle.spv_tree.specs.declared.syntax.names.Scalar.TheVariants as scalar
+use Rattle.spv_tree.specs.declared.syntax.names.Constant.{Constant}
+use Rattle.spv_tree.specs.declared.syntax.operators.PlusOrMinus.{PlusOrMinus}
+use Rattle.spv_tree.specs.declared.syntax.operators.PlusOrMinus.TheVariants as prefix
+use Rattle.spv_tree.specs.declared.syntax.lists.Several.{Several}
+use Rattle.spv_tree.specs.syntax.Types.{TypeDenoter, MoreTypes, Field, MoreFields, named, range, pointer, array, fields, no_more_types, more_types, no_field, field, no_more_fields, more_fields}
 use Rattle.spv_program.specs.declared.types.TypeField.{TypeField}
 use Rattle.spv_program.specs.declared.types.TypeForm.TheVariants as form
 use Rattle.spv_program.specs.Lists.{same_name, item_at}

@@ -3,7 +3,7 @@
 ghost use Rattle.std.specs.Prelude.{◌≡◌};
 ghost use Rattle.spv_typing.specs.declared.faults.TypeFault.TheVariants.{Memory};
 
-use spv_names::Symbol;
+use spv_logic::names::Symbol;
 use std::alloc::AllocError;
 
 /// The first thing in the order of the text that breaks a rule of names and types. The first number is the line.

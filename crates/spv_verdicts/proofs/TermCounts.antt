@@ -6,16 +6,16 @@ use Rattle.spv_term.specs.Arena.{Arena, trees_of}
 use Rattle.spv_atoms.specs.Atoms.{is_atom, with_term, with_terms}
 use Rattle.spv_atoms.specs.Order.{passing}
 use Rattle.spv_atoms.proofs.Members.{has, or_left, or_right, has-with_terms, with_terms-has}
-use Rattle.spv_proof.specs.Effects.{Question, is_truth}
-use Rattle.spv_leaf_tables.specs.Atoms.{all_equations}
-use Rattle.spv_leaf_tables.specs.Subterms.{subterms}
-use Rattle.spv_leaf_tables.specs.Tables.{formulas_of}
-use Rattle.spv_leaf_tables.proofs.Closed.{with_term-parts}
-use Rattle.spv_leaf_tables.proofs.Lookups.{passing-parts}
-use Rattle.spv_subterms.specs.Gaining.{Stops}
-use Rattle.spv_subterms.proofs.GainLemmas.{longer}
-use Rattle.spv_split_trees.specs.Paths.{atoms}
-use Rattle.spv_copies.specs.Copies.{base_terms, all_terms}
+use Rattle.spv_proof_rules.specs.Effects.{Question, is_truth}
+use Rattle.spv_models.specs.leaf_models.Atoms.{all_equations}
+use Rattle.spv_models.specs.leaf_models.Subterms.{subterms}
+use Rattle.spv_models.specs.leaf_models.Tables.{formulas_of}
+use Rattle.spv_models.proofs.leaf_models.Closed.{with_term-parts}
+use Rattle.spv_models.proofs.leaf_models.Lookups.{passing-parts}
+use Rattle.spv_search_terms.specs.subterms.Gaining.{Stops}
+use Rattle.spv_search_terms.proofs.subterms.GainLemmas.{longer}
+use Rattle.spv_models.specs.split_trees.Paths.{atoms}
+use Rattle.spv_search_terms.specs.condition_copy.Copies.{base_terms, all_terms}
 use Rattle.spv_verdicts.specs.Verdicts.{search_terms, most_terms, HasTooManyTerms}
 
 terms-parts : {A : Type 0} (xs ts : List Term) (u : Term) → has (with_terms xs ts) u ≡ true → (has xs u ≡ true → A) → (has ts u ≡ true → A) → A

@@ -5,7 +5,7 @@ use Rattle.spv_logic.specs.declared.types.Sort.TheVariants as sort
 use Rattle.spv_logic.specs.declared.operators.Head.TheVariants.{Var}
 use Rattle.spv_logic.specs.Terms.{Term, term, no_terms}
 use Rattle.spv_term.specs.Arena.{Arena}
-use Rattle.spv_proof.specs.Effects.{Question}
+use Rattle.spv_proof_rules.specs.Effects.{Question}
 use Rattle.spv_verdicts.specs.Verdicts.{Limits, Verdict, Unproved, GaveUp, WideForm, TooManyTerms, IsRight}
 
 abbrev pub p : Term

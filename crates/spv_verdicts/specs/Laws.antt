@@ -2,14 +2,14 @@
 use Rattle.std.specs.Prelude.{◌≡◌, ◌^◌, ◌<◌, true, length}
 use Rattle.spv_logic.specs.Terms.{Term}
 use Rattle.spv_term.specs.Arena.{Arena, trees_of}
-use Rattle.spv_proof.specs.Effects.{Question}
-use Rattle.spv_leaf_tables.specs.Atoms.{all_equations}
-use Rattle.spv_leaf_tables.specs.Subterms.{is_among, subterms}
-use Rattle.spv_leaf_tables.specs.Tables.{formulas_of}
-use Rattle.spv_subterms.specs.Gaining.{Stops}
-use Rattle.spv_split_trees.specs.Trees.{Tree}
-use Rattle.spv_split_trees.specs.Paths.{atoms}
-use Rattle.spv_copies.specs.Copies.{all_terms}
+use Rattle.spv_proof_rules.specs.Effects.{Question}
+use Rattle.spv_models.specs.leaf_models.Atoms.{all_equations}
+use Rattle.spv_models.specs.leaf_models.Subterms.{is_among, subterms}
+use Rattle.spv_models.specs.leaf_models.Tables.{formulas_of}
+use Rattle.spv_search_terms.specs.subterms.Gaining.{Stops}
+use Rattle.spv_models.specs.split_trees.Trees.{Tree}
+use Rattle.spv_models.specs.split_trees.Paths.{atoms}
+use Rattle.spv_search_terms.specs.condition_copy.Copies.{all_terms}
 use Rattle.spv_verdicts.specs.Verdicts.{Limits, Splits, TooManyTerms, IsReached, search_terms, most_terms}
 
 -- ---- terms

@@ -6,16 +6,16 @@ use Rattle.spv_logic.specs.declared.operators.Head.TheVariants.{Eq, Lt, Le}
 use Rattle.spv_logic.specs.Terms.{Term, term}
 use Rattle.spv_term.specs.Arena.{Arena}
 use Rattle.spv_atoms.specs.Linear.{IdForm}
-use Rattle.spv_proof.specs.Effects.{Question, is_number}
-use Rattle.spv_tableaux.specs.Bounds.{Bound}
-use Rattle.spv_tableaux.specs.Forms.{rows_of}
-use Rattle.spv_tableaux.specs.Solved.{basis_of}
-use Rattle.spv_tableaux.specs.Walks.{Start, held_at, HoldsBounds}
-use Rattle.spv_readings.specs.declared.saying.Saying.{Saying}
-use Rattle.spv_readings.specs.declared.saying.Saying.TheVariants.{Equal, Below, AtMost, Above, AtLeast}
-use Rattle.spv_readings.specs.Sayings.{bounds_of}
-use Rattle.spv_readings.specs.Relations.{number_sides, relations, AreRowsOf}
-use Rattle.spv_split_trees.specs.Paths.{atoms}
+use Rattle.spv_proof_rules.specs.Effects.{Question, is_number}
+use Rattle.spv_tableau_rules.specs.tableaux.Bounds.{Bound}
+use Rattle.spv_tableau_rules.specs.tableaux.Forms.{rows_of}
+use Rattle.spv_tableau_rules.specs.tableaux.Solved.{basis_of}
+use Rattle.spv_tableau_rules.specs.tableaux.Walks.{Start, held_at, HoldsBounds}
+use Rattle.spv_tableau_rules.specs.declared.constraints.saying.RowConstraint.{RowConstraint}
+use Rattle.spv_tableau_rules.specs.declared.constraints.saying.RowConstraint.TheVariants.{Equal, Below, AtMost, Above, AtLeast}
+use Rattle.spv_tableau_rules.specs.constraints.Sayings.{bounds_of}
+use Rattle.spv_tableau_rules.specs.constraints.Relations.{number_sides, relations, AreRowsOf}
+use Rattle.spv_models.specs.split_trees.Paths.{atoms}
 
 abbrev pub head_of : Term → Head
 head_of (term h ts) = h
@@ -30,7 +30,7 @@ relation_heads is_number [] = []
 relation_heads is_number (t ∷ ts) = head_in_front (number_sides is_number t) t (relation_heads is_number ts)
 
 -- what may be read of a relation: what it says where it is true, or false, or in a part of its split
-abbrev pub sayings : Head → List Saying
+abbrev pub sayings : Head → List RowConstraint
 sayings Eq = Equal ∷ Below ∷ Above ∷ []
 sayings Lt = Below ∷ AtLeast ∷ []
 sayings Le = AtMost ∷ Above ∷ []
@@ -46,18 +46,18 @@ abbrev pub AreRows : Arena → Question → List IdForm → Type 0
 AreRows a q forms = AreRowsOf a (relations (is_number q) (atoms q)) forms
 
 -- a saying is one of these
-pub record IsOneOf (xs : List Saying) (x : Saying) : Type 0 where
+pub record IsOneOf (xs : List RowConstraint) (x : RowConstraint) : Type 0 where
   pub place : ℕ
   pub there : slice_get xs place ≡ Some x
 
 -- a bound is one of what a saying is on a row
-pub record IsBoundIn (row : ℕ) (f : IdForm) (x : Saying) (b : Bound) : Type 0 where
+pub record IsBoundIn (row : ℕ) (f : IdForm) (x : RowConstraint) (b : Bound) : Type 0 where
   pub place : ℕ
   pub there : slice_get (bounds_of row f.constant x) place ≡ Some b
 
 -- each bound is read of its row's relation, and each relation in one way only
 pub record AreRead (q : Question) (forms : List IdForm) (bounds : List Bound) : Type 0 where
-  pub way : ℕ → Saying
+  pub way : ℕ → RowConstraint
   pub may : (row : ℕ) (h : Head) → slice_get (relation_heads (is_number q) (atoms q)) row ≡ Some h → IsOneOf (sayings h) (way row)
   pub each : (i : ℕ) (b : Bound) (f : IdForm) → slice_get bounds i ≡ Some b → slice_get forms b.row ≡ Some f → IsBoundIn b.row f (way b.row) b
   pub within : (i : ℕ) (b : Bound) → slice_get bounds i ≡ Some b → (f : IdForm) × (slice_get forms b.row ≡ Some f)

@@ -11,21 +11,21 @@ use Rattle.spv_atoms.specs.Order.{passing}
 use Rattle.spv_table.specs.declared.operations.WideValue.{WideValue}
 use Rattle.spv_table.specs.Values.{value, holds, listed_in}
 use Rattle.spv_table.specs.Tables.{IsTable}
-use Rattle.spv_tableaux.specs.Rows.{Point, IsSolution}
-use Rattle.spv_tableaux.specs.Forms.{part_ids, rows_of}
-use Rattle.spv_tableaux.specs.Operations.{Operation}
-use Rattle.spv_tableaux.specs.Solved.{Entries, Places, IsSolved}
-use Rattle.spv_tableaux.specs.Walks.{Exchange, Start, HoldsBounds, IsWide, IsUnfinished}
-use Rattle.spv_proof.specs.Accepted.{accepts}
-use Rattle.spv_proof.specs.Effects.{Question, is_truth, is_number}
-use Rattle.spv_readings.specs.Relations.{number_sides, fits_each_way}
-use Rattle.spv_leaf_tables.specs.Atoms.{all_equations}
-use Rattle.spv_leaf_tables.specs.Subterms.{is_among, subterms, is_listed}
-use Rattle.spv_leaf_tables.specs.Tables.{formulas_of, Falsifies}
-use Rattle.spv_split_trees.specs.Trees.{Tree}
-use Rattle.spv_split_trees.specs.Paths.{atoms}
-use Rattle.spv_split_trees.specs.Kept.{IsKept}
-use Rattle.spv_copies.specs.Copies.{all_terms}
+use Rattle.spv_tableau_rules.specs.tableaux.Rows.{Point, IsSolution}
+use Rattle.spv_tableau_rules.specs.tableaux.Forms.{part_ids, rows_of}
+use Rattle.spv_tableau_rules.specs.tableaux.Operations.{Operation}
+use Rattle.spv_tableau_rules.specs.tableaux.Solved.{Entries, Places, IsSolved}
+use Rattle.spv_tableau_rules.specs.tableaux.Walks.{Exchange, Start, HoldsBounds, IsWide, IsUnfinished}
+use Rattle.spv_proof_rules.specs.Accepted.{accepts}
+use Rattle.spv_proof_rules.specs.Effects.{Question, is_truth, is_number}
+use Rattle.spv_tableau_rules.specs.constraints.Relations.{number_sides, fits_each_way}
+use Rattle.spv_models.specs.leaf_models.Atoms.{all_equations}
+use Rattle.spv_models.specs.leaf_models.Subterms.{is_among, subterms, is_listed}
+use Rattle.spv_models.specs.leaf_models.Tables.{formulas_of, Falsifies}
+use Rattle.spv_models.specs.split_trees.Trees.{Tree}
+use Rattle.spv_models.specs.split_trees.Paths.{atoms}
+use Rattle.spv_models.specs.split_trees.Kept.{IsKept}
+use Rattle.spv_search_terms.specs.condition_copy.Copies.{all_terms}
 use Rattle.spv_verdicts.specs.Exact.{is_exactly_true}
 use Rattle.spv_verdicts.specs.Rows.{relation_heads, readable, AreRows, IsBegun}
 

@@ -4,25 +4,25 @@ use Rattle.std.proofs.lemmas.Bool.{false≢true}
 use Rattle.std.proofs.lemmas.Option.{none-some}
 use Rattle.spv_lexer.specs.declared.LexFault.TheVariants as lex
 use Rattle.spv_parser.specs.declared.refused.SyntaxFault.TheVariants as syntax
-use Rattle.spv_language.specs.declared.fault.LanguageFault.{LanguageFault}
-use Rattle.spv_language.specs.declared.fault.LanguageFault.TheVariants.{Tokens, Tree}
-use Rattle.spv_language.specs.Texts.{IsFaultOf, TextsHaveOneTree}
-use Rattle.spv_syntax.specs.declared.programs.Program.{Program as TextTree}
-use Rattle.spv_syntax.specs.Reads.{Reads}
+use Rattle.spv_parser.specs.declared.language.fault.LanguageFault.{LanguageFault}
+use Rattle.spv_parser.specs.declared.language.fault.LanguageFault.TheVariants.{Tokens, Tree}
+use Rattle.spv_parser.specs.language.Texts.{IsFaultOf, TextsHaveOneTree}
+use Rattle.spv_tree.specs.declared.syntax.programs.Program.{Program as TextTree}
+use Rattle.spv_tree.specs.syntax.Reads.{Reads}
 use Rattle.spv_program.specs.Programs.{Program}
-use Rattle.spv_well_typed.proofs.Outcomes.{no_fault, same_value}
-use Rattle.spv_frame_walk.specs.FrameWalk.{frame_fault}
-use Rattle.spv_control.specs.Blocks.{only_control}
-use Rattle.spv_taken.specs.Taken.{is_taken}
-use Rattle.spv_events.specs.declared.faults.GenFault.{GenFault}
+use Rattle.spv_type_soundness.proofs.well_typed.Outcomes.{no_fault, same_value}
+use Rattle.spv_effects.specs.frame_walk.FrameWalk.{frame_fault}
+use Rattle.spv_rule_soundness.specs.control.Blocks.{only_control}
+use Rattle.spv_reports.specs.supported.Taken.{is_taken}
+use Rattle.spv_assign.specs.declared.creation_trace.faults.GenFault.{GenFault}
 use Rattle.spv_conditions.specs.Making.{MeetsLimit, IsWithinLimits, MeetsNoOther}
 use Rattle.spv_reports.specs.declared.mode.Mode.{Mode}
 use Rattle.spv_reports.specs.declared.mode.Mode.TheVariants.{Verify, Conditions}
 use Rattle.spv_reports.specs.Reports.{Findings, IsReportOn, IsTakenFor, has_verdicts}
-use Rattle.spv_refusals.specs.declared.refusal.Refusal.{Refusal}
-use Rattle.spv_refusals.specs.Told.{text_refusal, limit_refusal}
-use Rattle.spv_tree_reports.specs.Walks.{IsSound, IsWalkRefusal, is_typed_as}
-use Rattle.spv_tree_reports.specs.Programs.{IsProgramRefusal, IsTreeRefusal}
+use Rattle.spv_verify.specs.declared.refused.refusal.Refusal.{Refusal}
+use Rattle.spv_verify.specs.refused.Told.{text_refusal, limit_refusal}
+use Rattle.spv_verify.specs.tree_reports.Walks.{IsSound, IsWalkRefusal, is_typed_as}
+use Rattle.spv_verify.specs.tree_reports.Programs.{IsProgramRefusal, IsTreeRefusal}
 use Rattle.spv_verify.specs.Refusals.{names_of, IsReportOf, HaveNotBoth, IsOneProgram}
 
 -- a text with a report has no fault of reading

@@ -1,16 +1,16 @@
 -- What is found of a tree, said of its text.
 use Rattle.std.proofs.Common.{◌≡◌, inl, inr, ℕ, List, [], Result, Ok, Err, IfErr, IfOk, subst, ◌∙◌}
-use Rattle.spv_language.specs.declared.fault.LanguageFault.{LanguageFault}
-use Rattle.spv_language.specs.Texts.{names_with, IsFaultOf}
-use Rattle.spv_syntax.specs.declared.programs.Program.{Program as Tree}
-use Rattle.spv_syntax.specs.Reads.{Reads}
+use Rattle.spv_parser.specs.declared.language.fault.LanguageFault.{LanguageFault}
+use Rattle.spv_parser.specs.language.Texts.{names_with, IsFaultOf}
+use Rattle.spv_tree.specs.declared.syntax.programs.Program.{Program as Tree}
+use Rattle.spv_tree.specs.syntax.Reads.{Reads}
 use Rattle.spv_reports.specs.declared.mode.Mode.{Mode}
 use Rattle.spv_reports.specs.Reports.{Findings, IsReport}
-use Rattle.spv_refusals.specs.declared.fault.VerifyFault.{VerifyFault}
-use Rattle.spv_refusals.specs.declared.fault.VerifyFault.TheVariants.{Refused, Memory}
-use Rattle.spv_refusals.specs.Told.{Tells, text_refusal}
-use Rattle.spv_tree_reports.specs.Walks.{IsSound}
-use Rattle.spv_tree_reports.specs.Programs.{IsTreeCause, IsTreeReport}
+use Rattle.spv_verify.specs.declared.refused.fault.VerifyFault.{VerifyFault}
+use Rattle.spv_verify.specs.declared.refused.fault.VerifyFault.TheVariants.{Refused, Memory}
+use Rattle.spv_verify.specs.refused.Told.{Tells, text_refusal}
+use Rattle.spv_verify.specs.tree_reports.Walks.{IsSound}
+use Rattle.spv_verify.specs.tree_reports.Programs.{IsTreeCause, IsTreeReport}
 use Rattle.spv_verify.specs.Refusals.{IsTextTree, IsReportOf}
 use Rattle.spv_verify.specs.Causes.{IsReadingCause, IsCause}
 

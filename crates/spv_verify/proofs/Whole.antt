@@ -3,13 +3,13 @@ use Rattle.std.proofs.Common.{◌≡◌, inl, inr, ℕ, ◌≤◌, ◌<◌, List
 use Rattle.std.proofs.lemmas.List.{take_all, length-take}
 use Rattle.spv_lexer.specs.declared.LexFault.TheVariants as lex
 use Rattle.spv_parser.specs.declared.refused.SyntaxFault.TheVariants as syntax
-use Rattle.spv_language.specs.declared.fault.LanguageFault.{LanguageFault}
-use Rattle.spv_language.specs.declared.fault.LanguageFault.TheVariants.{Tokens, Tree}
-use Rattle.spv_language.specs.Texts.{IsShort, IsFaultOf}
-use Rattle.spv_syntax.specs.Reads.{Reads}
+use Rattle.spv_parser.specs.declared.language.fault.LanguageFault.{LanguageFault}
+use Rattle.spv_parser.specs.declared.language.fault.LanguageFault.TheVariants.{Tokens, Tree}
+use Rattle.spv_parser.specs.language.Texts.{IsShort, IsFaultOf}
+use Rattle.spv_tree.specs.syntax.Reads.{Reads}
 use Rattle.spv_reports.specs.declared.mode.Mode.{Mode}
 use Rattle.spv_reports.specs.Reports.{Findings}
-use Rattle.spv_refusals.specs.declared.refusal.Refusal.{Refusal}
+use Rattle.spv_verify.specs.declared.refused.refusal.Refusal.{Refusal}
 use Rattle.spv_verify.specs.Refusals.{IsRefused, IsReportOf}
 
 -- what was read is the whole text, where it is short

@@ -1,8 +1,8 @@
 -- What code answers on the way to a report: what was found, or the refusal, or want of memory, which has no cause.
 use Rattle.std.specs.Prelude.{⊤, ℕ, List}
 use Rattle.spv_reports.specs.declared.mode.Mode.{Mode}
-use Rattle.spv_refusals.specs.declared.fault.VerifyFault.{VerifyFault}
-use Rattle.spv_refusals.specs.declared.fault.VerifyFault.TheVariants.{Refused, Memory}
+use Rattle.spv_verify.specs.declared.refused.fault.VerifyFault.{VerifyFault}
+use Rattle.spv_verify.specs.declared.refused.fault.VerifyFault.TheVariants.{Refused, Memory}
 use Rattle.spv_verify.specs.Refusals.{IsReadingRefusal, IsRefused}
 
 abbrev pub IsReadingCause : List ℕ → VerifyFault → Type 0

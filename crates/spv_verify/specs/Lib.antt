@@ -1,2 +1,5 @@
+pub mod refused
+pub mod reporting
+pub mod tree_reports
 pub mod Refusals
 pub mod Causes

@@ -1,16 +1,16 @@
 -- When a text is refused, and when a report is its report.
 use Rattle.std.specs.Prelude.{◌≡◌, ℕ, ◌⊎◌, List, [], Some}
-use Rattle.spv_syntax.specs.declared.programs.Program.{Program as Tree}
-use Rattle.spv_syntax.specs.Reads.{Reads}
-use Rattle.spv_language.specs.declared.fault.LanguageFault.{LanguageFault}
-use Rattle.spv_language.specs.Texts.{names_with, IsTreeOf, IsFaultOf}
+use Rattle.spv_tree.specs.declared.syntax.programs.Program.{Program as Tree}
+use Rattle.spv_tree.specs.syntax.Reads.{Reads}
+use Rattle.spv_parser.specs.declared.language.fault.LanguageFault.{LanguageFault}
+use Rattle.spv_parser.specs.language.Texts.{names_with, IsTreeOf, IsFaultOf}
 use Rattle.spv_program.specs.Programs.{Program}
 use Rattle.spv_reports.specs.declared.mode.Mode.{Mode}
 use Rattle.spv_reports.specs.Reports.{Findings, IsReportOn}
-use Rattle.spv_refusals.specs.declared.refusal.Refusal.{Refusal}
-use Rattle.spv_refusals.specs.Told.{text_refusal}
-use Rattle.spv_tree_reports.specs.Walks.{IsSound}
-use Rattle.spv_tree_reports.specs.Programs.{IsTreeRefusal}
+use Rattle.spv_verify.specs.declared.refused.refusal.Refusal.{Refusal}
+use Rattle.spv_verify.specs.refused.Told.{text_refusal}
+use Rattle.spv_verify.specs.tree_reports.Walks.{IsSound}
+use Rattle.spv_verify.specs.tree_reports.Programs.{IsTreeRefusal}
 
 -- the names of a text, in the order in which they first stand there
 abbrev pub names_of : List ℕ → List (List ℕ)

@@ -1,8 +1,11 @@
 //! The verification of a text: from its bytes to the report, or to what the text is refused for.
 #![tactic(auto)]
 
+pub mod refused;
+pub mod reporting;
+pub mod tree_reports;
 mod verifying;
 
-pub use spv_refusals::{Refusal, VerifyFault};
+pub use crate::refused::{Refusal, VerifyFault};
 pub use spv_reports::{Limits, Mode, Report, default_limits, law_report};
 pub use verifying::{law_not_both, list, verify};

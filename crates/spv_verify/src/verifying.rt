@@ -1,19 +1,19 @@
 // From the bytes of a text to its report.
 
 ghost use Rattle.std.specs.Prelude.{◌≡◌, [], IfErr, IfOk, OnOk};
-ghost use Rattle.spv_language.specs.Texts.{names_with};
+ghost use Rattle.spv_parser.specs.language.Texts.{names_with};
 ghost use Rattle.spv_reports.specs.declared.mode.Mode.TheVariants as mode;
 ghost use Rattle.spv_reports.specs.Reports.{IsReport};
 ghost use Rattle.spv_verify.specs.Causes.{IsCause, IsReadingCause};
 ghost use Rattle.spv_verify.specs.Refusals.{HaveNotBoth, IsOneProgram, IsReportOf, IsTextTree};
 
+use crate::refused::{VerifyFault, of_text};
+use crate::tree_reports as trees;
 use spv_conditions::law_limits;
-use spv_language::law_one_tree;
-use spv_names::Names;
-use spv_refusals::{VerifyFault, of_text};
+use spv_logic::names::Names;
+use spv_parser::language::law_one_tree;
 use spv_reports::{Limits, Mode, Report};
-use spv_syntax::Program;
-use spv_tree_reports as trees;
+use spv_tree::syntax::Program;
 use std::alloc::Global;
 
 // The tree of a text, or what the text is refused for.
@@ -24,7 +24,7 @@ fn tree_of(alloc: Global, text: &[u8], names: &mut Names) -> Result<Program, Ver
     ensures names { OnOk result (names.new ≡ names_with [] text.now) }
     ensures cause { IfErr result (IsReadingCause text.now) }
 {
-    match spv_language::program(alloc, text, names) {
+    match spv_parser::language::program(alloc, text, names) {
         Ok(tree) => Ok(tree),
         Err(fault) => Err(of_text(alloc, fault)),
     }

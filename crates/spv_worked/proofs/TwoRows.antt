@@ -1,7 +1,7 @@
 -- A state with a value of no sort is no start.
 use Rattle.std.proofs.Common.{◌≡◌, true, ◌&&◌, not, List, [], ◌∷◌, nat_eq, Option, Some, None, pos}
 use Rattle.std.proofs.lemmas.Bool.{false≢true}
-use Rattle.spv_list.proofs.Tests.{left_true, right_true}
+use Rattle.spv_logic.proofs.list.Tests.{left_true, right_true}
 use Rattle.spv_logic.specs.declared.types.Sort.{Sort}
 use Rattle.spv_logic.specs.Values.{Rows, Truth, ArrayOf, no_rows, row}
 use Rattle.spv_logic.specs.Shapes.{element_sort}

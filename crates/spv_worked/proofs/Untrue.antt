@@ -1,7 +1,7 @@
 -- Programs that are not correct.
 use Rattle.std.proofs.Common.{◌≡◌, true, [], ◌∷◌, refl, None, pos}
 use Rattle.std.proofs.lemmas.Bool.{false≢true}
-use Rattle.spv_list.proofs.Tests.{left_true}
+use Rattle.spv_logic.proofs.list.Tests.{left_true}
 use Rattle.spv_logic.specs.Values.{Number}
 use Rattle.spv_logic.specs.Conditions.{Meaning, answers}
 use Rattle.spv_logic.proofs.Equality.{value_eq-true}

@@ -12,3 +12,5 @@ pub mod UntypedDeclarations
 pub mod UntypedExpressions
 pub mod UntypedStatements
 pub mod UnframedPrograms
+pub mod typed_texts
+pub mod frame_texts

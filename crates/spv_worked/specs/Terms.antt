@@ -1,6 +1,6 @@
 -- Terms and conditions, as they are written in worked examples.
 use Rattle.std.specs.Prelude.{ℕ, List, Option, pos}
-use Rattle.spv_names.specs.declared.names.Symbol.{Symbol}
+use Rattle.spv_logic.specs.declared.names.names.Symbol.{Symbol}
 use Rattle.spv_logic.specs.declared.conditions.Kind.{Kind}
 use Rattle.spv_logic.specs.declared.conditions.RoutineId.{RoutineId}
 use Rattle.spv_logic.specs.declared.types.Sort.{Sort}

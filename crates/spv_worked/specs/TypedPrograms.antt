@@ -2,7 +2,7 @@
 -- changed from.
 use Rattle.std.specs.Prelude.{true, false, ◌&&◌, List, [], ◌∷◌, Some, None, IsTrue}
 use Rattle.std.specs.List.{list_all}
-use Rattle.spv_names.specs.declared.names.Symbol.{Symbol}
+use Rattle.spv_logic.specs.declared.names.names.Symbol.{Symbol}
 use Rattle.spv_logic.specs.declared.types.TypeId.{TypeId}
 use Rattle.spv_program.specs.declared.operators.Comparison.TheVariants as comparison
 use Rattle.spv_program.specs.declared.operators.Connective.TheVariants as connective

@@ -1,6 +1,6 @@
 -- Programs that are not well typed, for a statement: each breaks one rule alone.
 use Rattle.std.specs.Prelude.{List, [], ◌∷◌, Some, None, pos}
-use Rattle.spv_names.specs.declared.names.Symbol.{Symbol}
+use Rattle.spv_logic.specs.declared.names.names.Symbol.{Symbol}
 use Rattle.spv_program.specs.declared.operators.Direction.TheVariants.{Up}
 use Rattle.spv_program.specs.declared.types.Item.TheVariants.{Variable}
 use Rattle.spv_program.specs.Expressions.{Expression, NilOf, call, no_arguments}

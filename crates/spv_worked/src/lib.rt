@@ -5,5 +5,7 @@
 
 pub mod conditions;
 pub mod doubts;
+pub mod frame_texts;
 pub mod runs;
+pub mod typed_texts;
 pub mod typing;

@@ -1,7 +1,7 @@
 use Rattle.std.proofs.Common.{arith, refl, sym, ◌∙◌}
-use Rattle.spv_reading.specs.FormulaReaders.{read_inner, read_factor, read_term}
-use Rattle.spv_front.proofs.Exits.{same_fault}
-use Rattle.spv_front.proofs.Turns.{turn, stopped, failed, over, when_absent, when_there}
+use Rattle.spv_grammar.specs.reading.FormulaReaders.{read_inner, read_factor, read_term}
+use Rattle.spv_formula_parser.proofs.primitives.Exits.{same_fault}
+use Rattle.spv_formula_parser.proofs.primitives.Turns.{turn, stopped, failed, over, when_absent, when_there}
 use Rattle.spv_formula_parser.proofs.FormulaLists.{put-more_terms, put-more_factors, put-more_formulas, put-selectors, read_list, no_operator, an_operator, no_operand, a_selector, no_selector, same_factor, one_lower}
 use Rattle.spv_formula_parser.proofs.+formula.Goals as goal
 

@@ -1,10 +1,10 @@
 use Rattle.std.proofs.Common.{◌+◌, ◌*◌}
-use Rattle.spv_tokens.specs.declared.token.TokenKind.TheVariants as kind
-use Rattle.spv_tokens.specs.declared.token.Sign.TheVariants as sign
-use Rattle.spv_syntax.specs.Formulas.{no_more_terms, more_terms, no_more_factors, more_factors, no_more_formulas, more_formulas, no_selectors, selectors}
-use Rattle.spv_reading.specs.Readers.{front, behind, operated}
-use Rattle.spv_reading.specs.FormulaReaders.{adding_of, multiplying_of, read_inner, read_factor, read_more_formulas, selector_by, read_selectors, read_more_factors, read_term, read_more_terms}
-use Rattle.spv_front.specs.Lists.{ItemsSoFar}
+use Rattle.spv_tree.specs.declared.tokens.token.TokenKind.TheVariants as kind
+use Rattle.spv_tree.specs.declared.tokens.token.Sign.TheVariants as sign
+use Rattle.spv_tree.specs.syntax.Formulas.{no_more_terms, more_terms, no_more_factors, more_factors, no_more_formulas, more_formulas, no_selectors, selectors}
+use Rattle.spv_grammar.specs.reading.Readers.{front, behind, operated}
+use Rattle.spv_grammar.specs.reading.FormulaReaders.{adding_of, multiplying_of, read_inner, read_factor, read_more_formulas, selector_by, read_selectors, read_more_factors, read_term, read_more_terms}
+use Rattle.spv_formula_parser.specs.primitives.Lists.{ItemsSoFar}
 use Rattle.spv_formula_parser.proofs.+formula.Given as goal
 
 -- each level has fifty places

@@ -1,7 +1,7 @@
 use Rattle.std.proofs.Common.{arith}
-use Rattle.spv_reading.specs.StatementReaders.{read_lower, read_arm}
-use Rattle.spv_front.proofs.Exits.{same_fault}
-use Rattle.spv_front.proofs.Turns.{turn, stopped, failed, over, when_absent, when_there}
+use Rattle.spv_grammar.specs.reading.StatementReaders.{read_lower, read_arm}
+use Rattle.spv_formula_parser.proofs.primitives.Exits.{same_fault}
+use Rattle.spv_formula_parser.proofs.primitives.Turns.{turn, stopped, failed, over, when_absent, when_there}
 use Rattle.spv_formula_parser.proofs.FormulaLists.{read_list}
 use Rattle.spv_statement_parser.proofs.StatementLists.{put-more_statements, put-more_arms, one_lower}
 use Rattle.spv_statement_parser.proofs.+statement.Goals as goal

@@ -1,10 +1,10 @@
 use Rattle.std.proofs.Common.{◌+◌, ◌*◌}
-use Rattle.spv_tokens.specs.declared.token.TokenKind.TheVariants as kind
-use Rattle.spv_tokens.specs.declared.token.Sign.TheVariants as sign
-use Rattle.spv_syntax.specs.Statements.{no_more_statements, more_statements, no_more_arms, more_arms}
-use Rattle.spv_reading.specs.Readers.{behind}
-use Rattle.spv_reading.specs.StatementReaders.{read_lower, read_more_statements, read_arm, read_more_arms}
-use Rattle.spv_front.specs.Lists.{ItemsSoFar}
+use Rattle.spv_tree.specs.declared.tokens.token.TokenKind.TheVariants as kind
+use Rattle.spv_tree.specs.declared.tokens.token.Sign.TheVariants as sign
+use Rattle.spv_tree.specs.syntax.Statements.{no_more_statements, more_statements, no_more_arms, more_arms}
+use Rattle.spv_grammar.specs.reading.Readers.{behind}
+use Rattle.spv_grammar.specs.reading.StatementReaders.{read_lower, read_more_statements, read_arm, read_more_arms}
+use Rattle.spv_formula_parser.specs.primitives.Lists.{ItemsSoFar}
 use Rattle.spv_statement_parser.proofs.+statement.Given as goal
 
 -- each level has twenty places, one for each function

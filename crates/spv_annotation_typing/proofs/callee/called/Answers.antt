@@ -1,8 +1,8 @@
 use Rattle.std.proofs.Common.{ap, sym, ◌∙◌, option_map}
 use Rattle.spv_typing.specs.Outcomes.{after}
 use Rattle.spv_typing.specs.FormulaWalk.{Sorted}
-use Rattle.spv_scopes.specs.Views.{function_of}
-use Rattle.spv_scopes.specs.Scopes.{scope_of}
+use Rattle.spv_environments.specs.Views.{function_of}
+use Rattle.spv_environments.specs.Scopes.{scope_of}
 use Rattle.spv_formula_typing.specs.Arguments.{given_as}
 use Rattle.spv_annotation_typing.specs.declared.callee.Callee.{Callee}
 use Rattle.spv_annotation_typing.specs.Applied.{way_in, applied_to}

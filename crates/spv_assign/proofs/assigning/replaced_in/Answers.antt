@@ -1,7 +1,7 @@
 use Rattle.std.proofs.Common.{ap, ◌∙◌}
 use Rattle.std.specs.Prelude.{Err}
 use Rattle.spv_term.specs.declared.nodes.TermFault.TheVariants.{Size}
-use Rattle.spv_substitution.proofs.Exits.{same_fault}
+use Rattle.spv_term.proofs.substitution.Exits.{same_fault}
 use Rattle.spv_assign.proofs.Replacing.{list_below, list_adds, list_lacks, made_conditions, made_sorts, made_in}
 use Rattle.spv_assign.proofs.assigning.replaced_in.Goals as goal
 

@@ -1,8 +1,8 @@
 use Rattle.std.proofs.Common.{◌<◌, ap, subst, sym, arith}
 use Rattle.spv_program.specs.Statements.{Statement}
-use Rattle.spv_typed.specs.declared.statements.Arm.{Arm}
-use Rattle.spv_typed.specs.StatementViews.{arms_of, block_of}
-use Rattle.spv_typed.specs.Model.StatementSizes.{arms_size, statement_size}
+use Rattle.spv_program.specs.declared.typed.statements.Arm.{Arm}
+use Rattle.spv_program.specs.typed.StatementViews.{arms_of, block_of}
+use Rattle.spv_program.specs.typed.Model.StatementSizes.{arms_size, statement_size}
 use Rattle.spv_conditions.proofs.Inside.{arm_within, statement_within}
 use Rattle.spv_conditions.proofs.covering.+statements.Goals as goal
 

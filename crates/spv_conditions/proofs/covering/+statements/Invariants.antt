@@ -1,6 +1,6 @@
 use Rattle.std.proofs.Common.{◌≡◌, ◌+◌, ◌*◌, drop}
-use Rattle.spv_typed.specs.StatementViews.{arms_of, block_of}
-use Rattle.spv_typed.specs.Model.StatementSizes.{arms_size, statement_size}
+use Rattle.spv_program.specs.typed.StatementViews.{arms_of, block_of}
+use Rattle.spv_program.specs.typed.Model.StatementSizes.{arms_size, statement_size}
 use Rattle.spv_conditions.specs.Plain.{arms_plain, is_plain}
 use Rattle.spv_conditions.proofs.covering.+statements.Given as goal
 

@@ -1,5 +1,5 @@
 use Rattle.std.proofs.Common.{length, ap, sym, ◌∙◌, arith}
-use Rattle.spv_control.specs.Blocks.{is_whole}
+use Rattle.spv_rule_soundness.specs.control.Blocks.{is_whole}
 use Rattle.spv_conditions.proofs.Inside.{not_whole}
 use Rattle.spv_conditions.proofs.covering.is_whole.Goals as goal
 

@@ -1,6 +1,6 @@
 use Rattle.std.proofs.Common.{ap}
 use Rattle.spv_program.specs.Programs.{Program}
-use Rattle.spv_supply.specs.Numbers.{supply_of}
+use Rattle.spv_assign.specs.supply.Numbers.{supply_of}
 use Rattle.spv_conditions.proofs.Mains.{nothing_there, block_taken, block_made_by}
 use Rattle.spv_conditions.proofs.making.before_block.Goals as goal
 

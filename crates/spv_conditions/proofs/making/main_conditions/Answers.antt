@@ -5,7 +5,7 @@ use Rattle.spv_assign.specs.Conditions.{AreIn, conditions_of}
 use Rattle.spv_meaning.specs.Before.{assuming_if_there}
 use Rattle.spv_flow_parts.specs.Walks.{AreThese}
 use Rattle.spv_program.specs.Programs.{Program}
-use Rattle.spv_typed.specs.FormulaViews.{annotation_of}
+use Rattle.spv_program.specs.typed.FormulaViews.{annotation_of}
 use Rattle.spv_conditions.proofs.Mains.{note_as, these_as, stops_as, body_stops, entry_stops, all_made, entry_there}
 use Rattle.spv_conditions.proofs.making.main_conditions.Goals as goal
 

@@ -1,5 +1,5 @@
 use Rattle.std.proofs.Common.{arith}
-use Rattle.spv_classes.proofs.Lists.{get_within}
+use Rattle.spv_union_find.proofs.classes.Lists.{get_within}
 use Rattle.spv_congruence.proofs.clashing.term_of.Goals as goal
 
 pub unreachable-requires : goal.unreachable-requires

@@ -1,7 +1,7 @@
 use Rattle.std.proofs.Common.{◌≡◌, length, ap, arith}
 use Rattle.spv_typing.specs.Merging.{renumbered}
-use Rattle.spv_merging.specs.Counting.{all_firsts}
-use Rattle.spv_type_typing.proofs.Entries.{entry_at}
+use Rattle.spv_declaration_typing.specs.pointer_types.Counting.{all_firsts}
+use Rattle.spv_declaration_typing.proofs.type_typing.Entries.{entry_at}
 use Rattle.spv_declaration_typing.proofs.Renumbered.{many_names, one_renamed, all_renamed}
 use Rattle.spv_declaration_typing.proofs.types.renumber.Goals as goal
 

@@ -1,6 +1,6 @@
 use Rattle.std.proofs.Common.{◌≡◌}
 use Rattle.spv_typing.specs.Merging.{renumbered}
-use Rattle.spv_merging.specs.Counting.{all_firsts}
+use Rattle.spv_declaration_typing.specs.pointer_types.Counting.{all_firsts}
 use Rattle.spv_typing.specs.DeclarationWalk as spec
 use Rattle.spv_declaration_typing.proofs.Renumbered.{changed_to}
 use Rattle.spv_declaration_typing.proofs.types.renumber.Given as goal

@@ -1,6 +1,6 @@
 use Rattle.std.proofs.Common.{rules}
 use Rattle.spv_typing.specs.DeclarationWalk as spec
-use Rattle.spv_scopes.specs.Answers.{Stops}
+use Rattle.spv_environments.specs.Answers.{Stops}
 use Rattle.spv_declaration_typing.proofs.Part.{part_done, part_stops}
 use Rattle.spv_declaration_typing.proofs.types.type_part.Goals as goal
 

@@ -1,6 +1,6 @@
 use Rattle.spv_typing.specs.Outcomes.{each}
 use Rattle.spv_typing.specs.DeclarationWalk as spec
-use Rattle.spv_type_typing.proofs.Each.{EachFrom}
+use Rattle.spv_declaration_typing.proofs.type_typing.Each.{EachFrom}
 use Rattle.spv_declaration_typing.specs.Parts.{part_of, is_in}
 use Rattle.spv_declaration_typing.proofs.types.typedefs.Given as goal
 

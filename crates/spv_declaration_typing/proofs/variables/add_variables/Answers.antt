@@ -1,7 +1,7 @@
 use Rattle.std.proofs.Common.{◌≡◌, length, arith}
 use Rattle.std.proofs.lemmas.List.{length-map}
-use Rattle.spv_type_typing.specs.Names.{only_names}
-use Rattle.spv_type_typing.proofs.Entries.{name_at}
+use Rattle.spv_declaration_typing.specs.type_typing.Names.{only_names}
+use Rattle.spv_declaration_typing.proofs.type_typing.Entries.{name_at}
 use Rattle.spv_declaration_typing.proofs.Varying.{none_varied, next_is_missing, one_varied, all_varied}
 use Rattle.spv_declaration_typing.proofs.variables.add_variables.Goals as goal
 

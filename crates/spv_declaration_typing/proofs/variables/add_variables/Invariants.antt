@@ -1,5 +1,5 @@
 use Rattle.std.proofs.Common.{◌≡◌}
-use Rattle.spv_type_typing.specs.Names.{only_names}
+use Rattle.spv_declaration_typing.specs.type_typing.Names.{only_names}
 use Rattle.spv_declaration_typing.proofs.Varying.{with_some}
 use Rattle.spv_declaration_typing.proofs.variables.add_variables.Given as goal
 

@@ -1,4 +1,4 @@
-use Rattle.spv_type_typing.specs.Names.{only_names}
+use Rattle.spv_declaration_typing.specs.type_typing.Names.{only_names}
 use Rattle.spv_declaration_typing.proofs.Varying.{vars_done}
 use Rattle.spv_declaration_typing.proofs.variables.vars_walk.Goals as goal
 

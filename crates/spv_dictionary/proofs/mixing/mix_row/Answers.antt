@@ -1,5 +1,5 @@
 use Rattle.std.proofs.Common.{rules, ◌<◌, length, sym, ap, ◌∙◌}
-use Rattle.spv_rational.specs.Rational.{is_zero}
+use Rattle.spv_frac.specs.rational.Rational.{is_zero}
 use Rattle.spv_dictionary.proofs.Mixed.{unmixed, mixed_next, mixed_more}
 use Rattle.spv_dictionary.proofs.mixing.mix_row.Goals as goal
 

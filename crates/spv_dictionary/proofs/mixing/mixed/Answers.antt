@@ -1,7 +1,7 @@
 use Rattle.std.proofs.Common.{sym, subst}
-use Rattle.spv_tableaux.specs.Operations.{operation}
+use Rattle.spv_tableau_rules.specs.tableaux.Operations.{operation}
 use Rattle.spv_frac.specs.declared.frac.Op.TheVariants.{Add}
-use Rattle.spv_rational.specs.Rational.{Rational}
+use Rattle.spv_frac.specs.rational.Rational.{Rational}
 use Rattle.spv_dictionary.specs.Mixing.{IsMixing, scaling, adding}
 use Rattle.spv_dictionary.proofs.Mixed.{if_refused}
 use Rattle.spv_dictionary.proofs.mixing.mixed.Goals as goal

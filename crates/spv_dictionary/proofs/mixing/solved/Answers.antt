@@ -1,10 +1,10 @@
 use Rattle.spv_dictionary.proofs.Exchanging.{false_of}
 use Rattle.std.proofs.Common.{◌∙◌, sym, subst}
-use Rattle.spv_tableaux.specs.Operations.{operation}
+use Rattle.spv_tableau_rules.specs.tableaux.Operations.{operation}
 use Rattle.spv_frac.specs.declared.frac.Op.TheVariants.{Div}
 use mathlib.Core.Path.{ap₂}
-use Rattle.spv_rational.specs.Rational.{Rational}
-use Rattle.spv_tableaux.specs.Numbers.{one, divided}
+use Rattle.spv_frac.specs.rational.Rational.{Rational}
+use Rattle.spv_tableau_rules.specs.tableaux.Numbers.{one, divided}
 use Rattle.spv_dictionary.specs.Mixing.{IsSolving, inverting, dividing}
 use Rattle.spv_dictionary.proofs.Mixed.{if_refused, solved_other}
 use Rattle.spv_dictionary.proofs.mixing.solved.Goals as goal

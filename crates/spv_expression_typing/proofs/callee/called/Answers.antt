@@ -1,6 +1,6 @@
 use Rattle.std.proofs.Common.{ℕ, Some, ap, sym, ◌∙◌, option_map}
-use Rattle.spv_scopes.specs.Views.{function_of}
-use Rattle.spv_scopes.specs.Scopes.{scope_of}
+use Rattle.spv_environments.specs.Views.{function_of}
+use Rattle.spv_environments.specs.Scopes.{scope_of}
 use Rattle.spv_typing.specs.Outcomes.{after}
 use Rattle.spv_formula_typing.specs.Arguments.{given_as}
 use Rattle.spv_expression_typing.specs.declared.callee.Callee.TheVariants as callee

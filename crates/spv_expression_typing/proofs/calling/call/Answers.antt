@@ -1,12 +1,12 @@
 use Rattle.std.proofs.Common.{◌≡◌, Ok, IfOk, IfErr, subst, sym, refl, rules}
-use Rattle.spv_syntax.specs.StatementViews.{given_of}
+use Rattle.spv_tree.specs.syntax.StatementViews.{given_of}
 use Rattle.spv_program.specs.Expressions.{Call}
 use Rattle.spv_typing.specs.Outcomes.{Outcome}
 use Rattle.spv_typing.specs.ExpressionWalk.{call_of}
 use Rattle.spv_typing.specs.StatementWalk.{arguments_of}
-use Rattle.spv_scopes.specs.Answers.{Stops}
-use Rattle.spv_scopes.specs.Scopes.{scope_of}
-use Rattle.spv_scopes.specs.Views.{heading_of}
+use Rattle.spv_environments.specs.Answers.{Stops}
+use Rattle.spv_environments.specs.Scopes.{scope_of}
+use Rattle.spv_environments.specs.Views.{heading_of}
 use Rattle.spv_formula_typing.specs.Arguments.{all_given}
 use Rattle.spv_expression_typing.specs.declared.callee.Callee.TheVariants as callee
 use Rattle.spv_expression_typing.specs.Applied.{way_in}

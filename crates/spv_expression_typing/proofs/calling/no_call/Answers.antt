@@ -1,10 +1,10 @@
 use Rattle.std.proofs.Common.{◌≡◌, length, subst, sym, ◌∙◌, rules}
-use Rattle.spv_syntax.specs.StatementViews.{given_of}
+use Rattle.spv_tree.specs.syntax.StatementViews.{given_of}
 use Rattle.spv_typing.specs.declared.faults.TypeFault.{TypeFault}
 use Rattle.spv_typing.specs.ExpressionWalk.{no_call}
 use Rattle.spv_typing.specs.StatementWalk.{arguments_of}
-use Rattle.spv_scopes.specs.Answers.{Stops}
-use Rattle.spv_scopes.specs.Scopes.{scope_of}
+use Rattle.spv_environments.specs.Answers.{Stops}
+use Rattle.spv_environments.specs.Scopes.{scope_of}
 use Rattle.spv_formula_typing.specs.Arguments.{all_given}
 use Rattle.spv_expression_typing.proofs.Callees.{nothing_called, nothing_stops}
 use Rattle.spv_expression_typing.proofs.Formals.{given_count}

@@ -2,8 +2,8 @@ use Rattle.std.proofs.Common.{◌≡◌, List, Some, Ok, IfOk, IfErr, refl, subs
 use Rattle.spv_typing.specs.OperatorWalk.{Argument}
 use Rattle.spv_program.specs.Expressions.{Expression}
 use Rattle.spv_typing.specs.ExpressionWalk.{Reached}
-use Rattle.spv_scopes.specs.Answers.{Stops}
-use Rattle.spv_scopes.specs.Scopes.{scope_of}
+use Rattle.spv_environments.specs.Answers.{Stops}
+use Rattle.spv_environments.specs.Scopes.{scope_of}
 use Rattle.spv_formula_typing.specs.Arguments.{given_as, all_given}
 use Rattle.spv_expression_typing.specs.Applied.{way_in}
 use Rattle.spv_expression_typing.proofs.Texts.{given_texts}

@@ -1,8 +1,8 @@
 use Rattle.std.proofs.Common.{ℕ, List, map, ap, refl, arith, rules, subst}
 use Rattle.std.specs.Vec.Iter.{into_iter_items, into_iter_len}
 use Rattle.spv_typing.specs.ExpressionWalk.{Given, fitted}
-use Rattle.spv_typed.specs.ProgramViews.{formal_of}
-use Rattle.spv_scopes.specs.Answers.{Stops}
+use Rattle.spv_program.specs.typed.ProgramViews.{formal_of}
+use Rattle.spv_environments.specs.Answers.{Stops}
 use Rattle.spv_formula_typing.specs.declared.forms.Given.{Given as GivenText}
 use Rattle.spv_formula_typing.specs.Arguments.{given_of, all_given}
 use Rattle.spv_program.specs.Expressions.{Expression}

@@ -1,6 +1,6 @@
 use Rattle.std.proofs.Common.{◌≤◌, subst, sym, arith}
-use Rattle.spv_syntax.specs.Formulas.{Formula, Selector}
-use Rattle.spv_syntax.specs.Model.FormulaSizes.{more_formulas_of, selectors_of, formula_size, more_formulas_size, selectors_size, selector_size}
+use Rattle.spv_tree.specs.syntax.Formulas.{Formula, Selector}
+use Rattle.spv_tree.specs.syntax.Model.FormulaSizes.{more_formulas_of, selectors_of, formula_size, more_formulas_size, selectors_size, selector_size}
 use Rattle.spv_flat.proofs.Sizes.{formula_within, selector_within}
 use Rattle.spv_flat.proofs.formulas.+formulas.Goals as goal
 

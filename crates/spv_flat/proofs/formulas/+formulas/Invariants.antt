@@ -1,8 +1,8 @@
 use Rattle.std.proofs.Common.{◌+◌, ◌*◌}
-use Rattle.spv_syntax.specs.Members.{in_kinds}
-use Rattle.spv_syntax.specs.FormulaSpelling.{more_factors_spelling, more_formulas_spelling, more_terms_spelling, selectors_spelling}
-use Rattle.spv_syntax.specs.FormulaViews.{conclusion_of}
-use Rattle.spv_syntax.specs.Model.FormulaSizes.{more_terms_of, more_factors_of, more_formulas_of, selectors_of, formula_size, conclusion_size, relation_size, simple_size, term_size, factor_size, designator_size, selector_size, more_formulas_size, selectors_size}
+use Rattle.spv_tree.specs.syntax.Members.{in_kinds}
+use Rattle.spv_tree.specs.syntax.FormulaSpelling.{more_factors_spelling, more_formulas_spelling, more_terms_spelling, selectors_spelling}
+use Rattle.spv_tree.specs.syntax.FormulaViews.{conclusion_of}
+use Rattle.spv_tree.specs.syntax.Model.FormulaSizes.{more_terms_of, more_factors_of, more_formulas_of, selectors_of, formula_size, conclusion_size, relation_size, simple_size, term_size, factor_size, designator_size, selector_size, more_formulas_size, selectors_size}
 use Rattle.spv_flat.proofs.Loops.{ComeTo}
 use Rattle.spv_flat.proofs.formulas.+formulas.Given as goal
 

@@ -1,4 +1,4 @@
-use Rattle.spv_syntax.specs.Lists.{each}
+use Rattle.spv_tree.specs.syntax.Lists.{each}
 use Rattle.spv_flat.proofs.Loops.{ComeTo}
 use Rattle.spv_flat.proofs.lists.each.Given as goal
 

@@ -1,5 +1,5 @@
-use Rattle.spv_tokens.specs.declared.token.TokenKind.TheVariants as kind
-use Rattle.spv_syntax.specs.Lists.{further}
+use Rattle.spv_tree.specs.declared.tokens.token.TokenKind.TheVariants as kind
+use Rattle.spv_tree.specs.syntax.Lists.{further}
 use Rattle.spv_flat.proofs.Loops.{ComeTo}
 use Rattle.spv_flat.proofs.lists.further.Given as goal
 

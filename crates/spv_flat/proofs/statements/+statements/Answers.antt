@@ -1,6 +1,6 @@
 use Rattle.std.proofs.Common.{◌≤◌, ◌∷◌, List, subst, sym, arith}
-use Rattle.spv_syntax.specs.Statements.{Statement, Arm}
-use Rattle.spv_syntax.specs.Model.StatementSizes.{more_statements_of, more_arms_of, statement_size, more_statements_size, arm_size, more_arms_size}
+use Rattle.spv_tree.specs.syntax.Statements.{Statement, Arm}
+use Rattle.spv_tree.specs.syntax.Model.StatementSizes.{more_statements_of, more_arms_of, statement_size, more_statements_size, arm_size, more_arms_size}
 use Rattle.spv_flat.proofs.Sizes.{statement_within, arm_within}
 use Rattle.spv_flat.proofs.statements.+statements.Goals as goal
 

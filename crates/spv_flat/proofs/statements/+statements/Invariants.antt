@@ -1,8 +1,8 @@
 use Rattle.std.proofs.Common.{◌+◌, ◌*◌}
-use Rattle.spv_syntax.specs.Members.{in_kinds}
-use Rattle.spv_syntax.specs.StatementSpelling.{more_arms_spelling, more_statements_spelling}
-use Rattle.spv_syntax.specs.Model.StatementSizes.{more_statements_of, more_arms_of, statement_size, otherwise_size, block_size, more_statements_size, arm_size, more_arms_size, loop_size}
-use Rattle.spv_syntax.specs.StatementViews.{otherwise_of}
+use Rattle.spv_tree.specs.syntax.Members.{in_kinds}
+use Rattle.spv_tree.specs.syntax.StatementSpelling.{more_arms_spelling, more_statements_spelling}
+use Rattle.spv_tree.specs.syntax.Model.StatementSizes.{more_statements_of, more_arms_of, statement_size, otherwise_size, block_size, more_statements_size, arm_size, more_arms_size, loop_size}
+use Rattle.spv_tree.specs.syntax.StatementViews.{otherwise_of}
 use Rattle.spv_flat.proofs.Loops.{ComeTo}
 use Rattle.spv_flat.proofs.statements.+statements.Given as goal
 

@@ -1,6 +1,6 @@
 use Rattle.std.proofs.Common.{◌≤◌, subst, sym, arith}
-use Rattle.spv_syntax.specs.Types.{TypeDenoter, Field}
-use Rattle.spv_syntax.specs.Model.TypeSizes.{more_types_of, more_fields_of, type_size, more_types_size, field_size, more_fields_size}
+use Rattle.spv_tree.specs.syntax.Types.{TypeDenoter, Field}
+use Rattle.spv_tree.specs.syntax.Model.TypeSizes.{more_types_of, more_fields_of, type_size, more_types_size, field_size, more_fields_size}
 use Rattle.spv_flat.proofs.Sizes.{type_within, field_within}
 use Rattle.spv_flat.proofs.types.+types.Goals as goal
 

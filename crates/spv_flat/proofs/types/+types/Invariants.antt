@@ -1,7 +1,7 @@
 use Rattle.std.proofs.Common.{◌+◌, ◌*◌}
-use Rattle.spv_syntax.specs.Members.{in_kinds}
-use Rattle.spv_syntax.specs.TypeSpelling.{more_fields_spelling, more_types_spelling}
-use Rattle.spv_syntax.specs.Model.TypeSizes.{more_types_of, more_fields_of, type_size, more_types_size, field_size, more_fields_size}
+use Rattle.spv_tree.specs.syntax.Members.{in_kinds}
+use Rattle.spv_tree.specs.syntax.TypeSpelling.{more_fields_spelling, more_types_spelling}
+use Rattle.spv_tree.specs.syntax.Model.TypeSizes.{more_types_of, more_fields_of, type_size, more_types_size, field_size, more_fields_size}
 use Rattle.spv_flat.proofs.Loops.{ComeTo}
 use Rattle.spv_flat.proofs.types.+types.Given as goal
 

@@ -1,4 +1,4 @@
-use Rattle.spv_control.proofs.Programs.{control_correct}
+use Rattle.spv_rule_soundness.proofs.control.Programs.{control_correct}
 use Rattle.spv_flow.proofs.Rules.{rules_right, main_counters, entry_right, shapes_right}
 use Rattle.spv_flow.proofs.laws.law_before.Goals as goal
 

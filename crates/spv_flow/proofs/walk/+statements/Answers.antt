@@ -1,13 +1,13 @@
 use Rattle.std.proofs.Common.{rules, ◌<◌, ◌+◌, ◌*◌, ◌-◌, [], ◌∷◌, drop, option_map, arith, subst, sym, refl, ap, Ok, Err}
-use Rattle.spv_typed.specs.FormulaViews.{annotation_of}
-use Rattle.spv_typed.specs.StatementViews.{arms_of, counting_of, block_of}
-use Rattle.spv_supply.specs.Numbers.{supply_of}
+use Rattle.spv_program.specs.typed.FormulaViews.{annotation_of}
+use Rattle.spv_program.specs.typed.StatementViews.{arms_of, counting_of, block_of}
+use Rattle.spv_assign.specs.supply.Numbers.{supply_of}
 use Rattle.spv_term.specs.Arena.{tree}
 use Rattle.spv_program.specs.Statements.{Statement, Arms}
-use Rattle.spv_typed.specs.declared.statements.Arm.{Arm}
-use Rattle.spv_typed.specs.Model.StatementSizes.{statement_size, arms_size}
+use Rattle.spv_program.specs.declared.typed.statements.Arm.{Arm}
+use Rattle.spv_program.specs.typed.Model.StatementSizes.{statement_size, arms_size}
 use Rattle.spv_flow_parts.specs.Walks.{made_of}
-use Rattle.spv_flow_leaves.specs.Parts.{IsTaken}
+use Rattle.spv_flow_parts.specs.leaves.Parts.{IsTaken}
 use Rattle.spv_assign.specs.Conditions.{AreIn}
 use Rattle.spv_flow.specs.Walking.{AreTakenArms, MayWalk, MayWalkArms}
 use Rattle.spv_flow.proofs.Sizes.{statement_within, arm_within}

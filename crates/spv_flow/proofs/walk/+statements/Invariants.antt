@@ -1,8 +1,8 @@
 use Rattle.std.proofs.Common.{◌+◌, ◌*◌, drop}
 use Rattle.spv_term.specs.Arena.{tree}
-use Rattle.spv_supply.specs.Numbers.{supply_of}
-use Rattle.spv_typed.specs.StatementViews.{arms_of, block_of}
-use Rattle.spv_typed.specs.Model.StatementSizes.{arms_size, statement_size}
+use Rattle.spv_assign.specs.supply.Numbers.{supply_of}
+use Rattle.spv_program.specs.typed.StatementViews.{arms_of, block_of}
+use Rattle.spv_program.specs.typed.Model.StatementSizes.{arms_size, statement_size}
 use Rattle.spv_flow_parts.specs.Walks.{made_of}
 use Rattle.spv_flow.proofs.Blocks.{BlockSoFar}
 use Rattle.spv_flow.proofs.Cases.{ArmsSoFar}

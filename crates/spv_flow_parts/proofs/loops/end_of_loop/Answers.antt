@@ -1,6 +1,6 @@
 use Rattle.std.proofs.Common.{option_map}
-use Rattle.spv_typed.specs.FormulaViews.{annotation_of}
-use Rattle.spv_supply.specs.Numbers.{supply_of}
+use Rattle.spv_program.specs.typed.FormulaViews.{annotation_of}
+use Rattle.spv_assign.specs.supply.Numbers.{supply_of}
 use Rattle.spv_meaning.specs.Before.{renamed}
 use Rattle.spv_flow_parts.proofs.LoopLemmas.{IsNoted-Extends, loop_stops, loop_comes}
 use Rattle.spv_flow_parts.proofs.loops.end_of_loop.Goals as goal

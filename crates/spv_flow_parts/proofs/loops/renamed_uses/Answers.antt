@@ -1,6 +1,6 @@
 use Rattle.std.proofs.Common.{subst, sym, option_map}
 use Rattle.spv_term.specs.Arena.{tree}
-use Rattle.spv_supply.specs.Numbers.{supply_of}
+use Rattle.spv_assign.specs.supply.Numbers.{supply_of}
 use Rattle.spv_assign.specs.Conditions.{AreIn, conditions_of}
 use Rattle.spv_assign.proofs.Growing.{AreIn-Extends}
 use Rattle.spv_meaning.specs.Before.{renamed}

@@ -1,4 +1,4 @@
-use Rattle.spv_typed.specs.FormulaViews.{annotation_of}
+use Rattle.spv_program.specs.typed.FormulaViews.{annotation_of}
 use Rattle.spv_flow_parts.proofs.Terms.{term_made, note_in, note_sorts}
 use Rattle.spv_flow_parts.proofs.notes.note.Goals as goal
 

@@ -1,8 +1,8 @@
 use Rattle.std.proofs.Common.{subst}
 use Rattle.std.proofs.lemmas.List.{drop_more, drop_all}
-use Rattle.spv_supply.specs.Numbers.{supply_of}
+use Rattle.spv_assign.specs.supply.Numbers.{supply_of}
 use Rattle.spv_term.proofs.ArenaLemmas.{Extends-trans}
-use Rattle.spv_flow_steps.proofs.Limits.{same_stop}
+use Rattle.spv_assign.proofs.limited_steps.Limits.{same_stop}
 use Rattle.spv_flow_parts.proofs.Pairs.{RenamedSoFar, renamed_first, next_variable, next_type, renamed_stops, renamed_pushed, renamed_all, renamed_walk}
 use Rattle.spv_flow_parts.proofs.renaming.renamed.Goals as goal
 

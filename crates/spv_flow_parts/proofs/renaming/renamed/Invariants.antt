@@ -1,5 +1,5 @@
 use Rattle.std.proofs.Common.{drop}
-use Rattle.spv_supply.specs.Numbers.{supply_of}
+use Rattle.spv_assign.specs.supply.Numbers.{supply_of}
 use Rattle.spv_flow_parts.proofs.Pairs.{RenamedSoFar}
 use Rattle.spv_flow_parts.proofs.renaming.renamed.Given as goal
 

@@ -1,5 +1,5 @@
 use Rattle.std.proofs.Common.{◌≤◌, List, Some, length, ap, ◌∙◌, subst}
-use Rattle.spv_syntax.specs.Formulas.{Selector, Designator}
+use Rattle.spv_tree.specs.syntax.Formulas.{Selector, Designator}
 use Rattle.spv_typing.specs.OperatorWalk as spec
 use Rattle.spv_formula_typing.proofs.Places.{more_selectors}
 use Rattle.spv_formula_typing.proofs.alone.bare.Goals as goal

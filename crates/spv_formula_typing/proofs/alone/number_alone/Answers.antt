@@ -1,7 +1,7 @@
 use Rattle.std.proofs.Common.{◌≤◌, List, length, ap, ◌∙◌, sym, subst}
-use Rattle.spv_syntax.specs.Formulas.{Factor}
-use Rattle.spv_syntax.specs.Lines.{factor_line}
-use Rattle.spv_syntax.specs.declared.operators.Multiplying.{Multiplying}
+use Rattle.spv_tree.specs.syntax.Formulas.{Factor}
+use Rattle.spv_tree.specs.syntax.Lines.{factor_line}
+use Rattle.spv_tree.specs.declared.syntax.operators.Multiplying.{Multiplying}
 use Rattle.spv_formula_typing.specs.Operands.{numeral_alone}
 use Rattle.spv_formula_typing.proofs.Places.{no_number}
 use Rattle.spv_formula_typing.proofs.alone.number_alone.Goals as goal

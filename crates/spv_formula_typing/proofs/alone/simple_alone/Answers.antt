@@ -1,8 +1,8 @@
 use Rattle.std.proofs.Common.{Option, ◌≤◌, List, length, ap, ◌∙◌, sym, subst}
-use Rattle.spv_syntax.specs.Formulas.{Term, simple}
-use Rattle.spv_syntax.specs.declared.operators.PlusOrMinus.{PlusOrMinus}
-use Rattle.spv_syntax.specs.Model.FormulaSizes.{more_terms_of}
-use Rattle.spv_syntax.specs.declared.operators.Adding.{Adding}
+use Rattle.spv_tree.specs.syntax.Formulas.{Term, simple}
+use Rattle.spv_tree.specs.declared.syntax.operators.PlusOrMinus.{PlusOrMinus}
+use Rattle.spv_tree.specs.syntax.Model.FormulaSizes.{more_terms_of}
+use Rattle.spv_tree.specs.declared.syntax.operators.Adding.{Adding}
 use Rattle.spv_typing.specs.OperatorWalk as spec
 use Rattle.spv_formula_typing.proofs.Places.{more_terms_behind}
 use Rattle.spv_formula_typing.proofs.alone.simple_alone.Goals as goal

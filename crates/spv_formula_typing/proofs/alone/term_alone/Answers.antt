@@ -1,7 +1,7 @@
 use Rattle.std.proofs.Common.{◌≤◌, List, length, ap, ◌∙◌, subst}
-use Rattle.spv_syntax.specs.Formulas.{Factor}
-use Rattle.spv_syntax.specs.Lines.{factor_line}
-use Rattle.spv_syntax.specs.declared.operators.Multiplying.{Multiplying}
+use Rattle.spv_tree.specs.syntax.Formulas.{Factor}
+use Rattle.spv_tree.specs.syntax.Lines.{factor_line}
+use Rattle.spv_tree.specs.declared.syntax.operators.Multiplying.{Multiplying}
 use Rattle.spv_typing.specs.OperatorWalk as spec
 use Rattle.spv_formula_typing.proofs.Places.{more_factors_behind}
 use Rattle.spv_formula_typing.proofs.alone.term_alone.Goals as goal

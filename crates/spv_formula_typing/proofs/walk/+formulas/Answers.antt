@@ -1,12 +1,12 @@
 use Rattle.std.proofs.Common.{◌≡◌, ◌≤◌, ◌<◌, ◌+◌, ◌*◌, List, length, get_or, Some, Ok, rules, refl, subst, sym, ap, ◌∙◌, arith}
 use Rattle.std.specs.Option.{option_copied}
-use Rattle.spv_syntax.specs.Formulas.{Formula, Term, Factor, Selector, term}
-use Rattle.spv_syntax.specs.declared.operators.Multiplying.{Multiplying}
-use Rattle.spv_syntax.specs.Lines.{factor_line}
-use Rattle.spv_syntax.specs.Model.FormulaSizes.{more_formulas_of, more_factors_of, selectors_of, factor_size, term_size, formula_size, more_formulas_size, selectors_size, selector_size}
+use Rattle.spv_tree.specs.syntax.Formulas.{Formula, Term, Factor, Selector, term}
+use Rattle.spv_tree.specs.declared.syntax.operators.Multiplying.{Multiplying}
+use Rattle.spv_tree.specs.syntax.Lines.{factor_line}
+use Rattle.spv_tree.specs.syntax.Model.FormulaSizes.{more_formulas_of, more_factors_of, selectors_of, factor_size, term_size, formula_size, more_formulas_size, selectors_size, selector_size}
 use Rattle.spv_typing.specs.Outcomes.{after}
 use Rattle.spv_typing.specs.OperatorWalk.{designator_alone}
-use Rattle.spv_scopes.specs.Answers.{Stops}
+use Rattle.spv_environments.specs.Answers.{Stops}
 use Rattle.spv_formula_typing.specs.declared.forms.Way.TheVariants.{Place}
 use Rattle.spv_formula_typing.proofs.Exits.{stops_after}
 use Rattle.spv_formula_typing.proofs.Places.{place_given}

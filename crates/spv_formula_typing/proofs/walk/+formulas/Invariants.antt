@@ -1,6 +1,6 @@
 use Rattle.std.proofs.Common.{◌≡◌, ◌+◌, ◌*◌, drop}
-use Rattle.spv_syntax.specs.FormulaViews.{conclusion_of}
-use Rattle.spv_syntax.specs.Model.FormulaSizes.{more_terms_of, more_factors_of, more_formulas_of, selectors_of, formula_size, conclusion_size, relation_size, simple_size, term_size, factor_size, designator_size, selector_size, more_formulas_size, selectors_size}
+use Rattle.spv_tree.specs.syntax.FormulaViews.{conclusion_of}
+use Rattle.spv_tree.specs.syntax.Model.FormulaSizes.{more_terms_of, more_factors_of, more_formulas_of, selectors_of, formula_size, conclusion_size, relation_size, simple_size, term_size, factor_size, designator_size, selector_size, more_formulas_size, selectors_size}
 use Rattle.spv_typing.specs.OperatorWalk.{more_terms_walk, more_factors_walk, selectors_walk, simple_walk, term_walk}
 use Rattle.spv_formula_typing.specs.Operands.{operand_of, operands_of}
 use Rattle.spv_formula_typing.specs.Arguments.{all_given}

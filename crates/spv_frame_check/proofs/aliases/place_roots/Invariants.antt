@@ -1,7 +1,7 @@
 use Rattle.std.proofs.Common.{◌≡◌, ◌++◌, drop}
 use Rattle.spv_program.specs.Frames.{place_roots}
-use Rattle.spv_typed.specs.ExpressionViews.{arguments_of}
-use Rattle.spv_frame_events.specs.Names.{named}
+use Rattle.spv_program.specs.typed.ExpressionViews.{arguments_of}
+use Rattle.spv_effects.specs.frame_events.Names.{named}
 use Rattle.spv_frame_check.specs.Roots.{plain_roots}
 use Rattle.spv_frame_check.proofs.aliases.place_roots.Given as goal
 

@@ -1,6 +1,6 @@
 use Rattle.std.proofs.Common.{◌≡◌, drop}
 use Rattle.spv_program.specs.Frames.{root_behind}
-use Rattle.spv_typed.specs.ExpressionViews.{selectors_of}
+use Rattle.spv_program.specs.typed.ExpressionViews.{selectors_of}
 use Rattle.spv_frame_check.specs.Roots.{plain_root}
 use Rattle.spv_frame_check.proofs.aliases.root_behind.Given as goal
 

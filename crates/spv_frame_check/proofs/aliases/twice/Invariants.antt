@@ -1,5 +1,5 @@
 use Rattle.std.proofs.Common.{◌≡◌, length, option_map}
-use Rattle.spv_frame_walk.specs.FrameWalk.{twice}
+use Rattle.spv_effects.specs.frame_walk.FrameWalk.{twice}
 use Rattle.spv_frame_check.specs.Roots.{plain_root, plain_roots, has_root, twice_by}
 use Rattle.spv_frame_check.proofs.aliases.twice.Given as goal
 

@@ -1,5 +1,5 @@
 use Rattle.std.proofs.Common.{◌≡◌, drop, map}
-use Rattle.spv_typed.specs.ProgramViews.{global_of}
+use Rattle.spv_program.specs.typed.ProgramViews.{global_of}
 use Rattle.spv_frame_check.specs.Sets.{with_globals}
 use Rattle.spv_frame_check.proofs.allowed.add_globals.Given as goal
 

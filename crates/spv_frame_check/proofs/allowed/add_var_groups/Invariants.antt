@@ -1,5 +1,5 @@
 use Rattle.std.proofs.Common.{◌≡◌, drop, map}
-use Rattle.spv_typed.specs.ProgramViews.{global_of}
+use Rattle.spv_program.specs.typed.ProgramViews.{global_of}
 use Rattle.spv_frame_check.specs.Sets.{with_var_groups}
 use Rattle.spv_frame_check.proofs.allowed.add_var_groups.Given as goal
 

@@ -1,5 +1,5 @@
 use Rattle.std.proofs.Common.{map}
-use Rattle.spv_typed.specs.ProgramViews.{global_of}
+use Rattle.spv_program.specs.typed.ProgramViews.{global_of}
 use Rattle.spv_frame_check.proofs.Members.{allowed_is}
 use Rattle.spv_frame_check.proofs.allowed.allowed_by.Goals as goal
 

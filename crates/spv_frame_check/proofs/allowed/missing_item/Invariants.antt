@@ -1,7 +1,7 @@
 use Rattle.std.proofs.Common.{◌≡◌, drop, map}
-use Rattle.spv_typed.specs.ProgramViews.{global_of}
+use Rattle.spv_program.specs.typed.ProgramViews.{global_of}
 use Rattle.spv_frame_check.specs.Allowed.{allows}
-use Rattle.spv_frame_walk.specs.FrameWalk.{missing_item}
+use Rattle.spv_effects.specs.frame_walk.FrameWalk.{missing_item}
 use Rattle.spv_frame_check.proofs.allowed.missing_item.Given as goal
 
 abbrev pub invariant-loop-g : goal.invariant-loop-g

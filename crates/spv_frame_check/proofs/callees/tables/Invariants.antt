@@ -1,5 +1,5 @@
 use Rattle.std.proofs.Common.{◌≡◌, ◌++◌, drop, map}
-use Rattle.spv_typed.specs.ProgramViews.{routine_of}
+use Rattle.spv_program.specs.typed.ProgramViews.{routine_of}
 use Rattle.spv_frame_check.specs.Allowed.{allows}
 use Rattle.spv_frame_check.specs.Tables.{tables_of}
 use Rattle.spv_frame_check.proofs.callees.tables.Given as goal

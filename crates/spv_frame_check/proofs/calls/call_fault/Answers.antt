@@ -1,7 +1,7 @@
 use Rattle.std.proofs.Common.{◌≡◌, Option, IfOk, map, sym, subst, ◌∙◌}
-use Rattle.spv_typed.specs.ExpressionViews.{arguments_of}
-use Rattle.spv_frame_walk.specs.declared.faults.FrameFault.{FrameFault}
-use Rattle.spv_frame_events.specs.Names.{named}
+use Rattle.spv_program.specs.typed.ExpressionViews.{arguments_of}
+use Rattle.spv_effects.specs.declared.frame_walk.faults.FrameFault.{FrameFault}
+use Rattle.spv_effects.specs.frame_events.Names.{named}
 use Rattle.spv_frame_check.specs.Allowed.{allows}
 use Rattle.spv_frame_check.proofs.Callee.{call_is}
 use Rattle.spv_frame_check.proofs.calls.call_fault.Goals as goal

@@ -1,7 +1,7 @@
 use Rattle.std.proofs.Common.{◌≡◌, drop}
-use Rattle.spv_frame_walk.specs.FrameWalk.{events_fault}
-use Rattle.spv_frame_events.specs.EventViews.{events_of}
-use Rattle.spv_frame_events.specs.Names.{named}
+use Rattle.spv_effects.specs.frame_walk.FrameWalk.{events_fault}
+use Rattle.spv_effects.specs.frame_events.EventViews.{events_of}
+use Rattle.spv_effects.specs.frame_events.Names.{named}
 use Rattle.spv_frame_check.specs.Allowed.{allows}
 use Rattle.spv_frame_check.specs.Tables.{IsCovered}
 use Rattle.spv_frame_check.proofs.calls.events_fault.Given as goal

@@ -1,5 +1,5 @@
 use Rattle.std.proofs.Common.{◌∙◌, arith}
-use Rattle.spv_frame_events.specs.EventViews.{events_of}
+use Rattle.spv_effects.specs.frame_events.EventViews.{events_of}
 use Rattle.spv_frame_check.specs.Effects.{kept}
 use Rattle.spv_frame_check.proofs.Collected.{from_none, turn, end}
 use Rattle.spv_frame_check.proofs.effects.items.Goals as goal

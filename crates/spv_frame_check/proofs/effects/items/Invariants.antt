@@ -1,5 +1,5 @@
 use Rattle.std.proofs.Common.{◌≡◌, drop}
-use Rattle.spv_frame_events.specs.EventViews.{events_of}
+use Rattle.spv_effects.specs.frame_events.EventViews.{events_of}
 use Rattle.spv_frame_check.specs.Effects.{kept, items_by, with_roots}
 use Rattle.spv_frame_check.specs.Sets.{holds, no_items}
 use Rattle.spv_frame_check.proofs.effects.items.Given as goal

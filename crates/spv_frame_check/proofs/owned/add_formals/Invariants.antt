@@ -1,5 +1,5 @@
 use Rattle.std.proofs.Common.{◌≡◌, drop, map}
-use Rattle.spv_typed.specs.ProgramViews.{formal_of}
+use Rattle.spv_program.specs.typed.ProgramViews.{formal_of}
 use Rattle.spv_frame_check.specs.Sets.{with_names}
 use Rattle.spv_frame_check.specs.Owned.{formal_names}
 use Rattle.spv_frame_check.proofs.owned.add_formals.Given as goal

@@ -1,7 +1,7 @@
 use Rattle.std.proofs.Common.{List, ap, ◌∙◌}
-use Rattle.spv_names.specs.declared.names.Symbol.{Symbol}
+use Rattle.spv_logic.specs.declared.names.names.Symbol.{Symbol}
 use Rattle.spv_program.specs.declared.types.Item.{Item}
-use Rattle.spv_typed.specs.ProgramViews.{routine_of}
+use Rattle.spv_program.specs.typed.ProgramViews.{routine_of}
 use Rattle.spv_frame_check.specs.Sets.{with_names}
 use Rattle.spv_frame_check.specs.Owned.{initial_names}
 use Rattle.spv_frame_check.proofs.Owns.{body_is}

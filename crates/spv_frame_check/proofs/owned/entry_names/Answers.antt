@@ -1,6 +1,6 @@
 use Rattle.std.proofs.Common.{List, map, ap, ◌∙◌}
-use Rattle.spv_typed.specs.declared.programs.Formal.{Formal}
-use Rattle.spv_typed.specs.ProgramViews.{formal_of, routine_of}
+use Rattle.spv_program.specs.declared.typed.programs.Formal.{Formal}
+use Rattle.spv_program.specs.typed.ProgramViews.{formal_of, routine_of}
 use Rattle.spv_frame_check.specs.Sets.{with_names}
 use Rattle.spv_frame_check.specs.Owned.{formal_names}
 use Rattle.spv_frame_check.proofs.Owns.{entry_is}

@@ -1,6 +1,6 @@
 use Rattle.std.proofs.Common.{◌≡◌, ◌++◌, drop, map}
 use Rattle.spv_program.specs.Frames.{effects_of}
-use Rattle.spv_typed.specs.ProgramViews.{routine_of}
+use Rattle.spv_program.specs.typed.ProgramViews.{routine_of}
 use Rattle.spv_frame_check.proofs.programs.all_effects.Given as goal
 
 abbrev pub invariant-loop-r : goal.invariant-loop-r

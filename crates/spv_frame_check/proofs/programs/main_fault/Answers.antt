@@ -1,10 +1,10 @@
 use Rattle.std.proofs.Common.{◌≡◌, List, ◌++◌, Option, IfOk, ap, subst, ◌∙◌}
 use Rattle.spv_program.specs.Programs.{Program}
-use Rattle.spv_frame_walk.specs.declared.faults.FrameFault.{FrameFault}
-use Rattle.spv_frame_walk.specs.Events.{statement_events}
-use Rattle.spv_frame_events.specs.declared.events.Event.{Event}
-use Rattle.spv_frame_events.specs.EventViews.{events_of}
-use Rattle.spv_frame_events.specs.Names.{named}
+use Rattle.spv_effects.specs.declared.frame_walk.faults.FrameFault.{FrameFault}
+use Rattle.spv_effects.specs.frame_walk.Events.{statement_events}
+use Rattle.spv_effects.specs.declared.frame_events.events.Event.{Event}
+use Rattle.spv_effects.specs.frame_events.EventViews.{events_of}
+use Rattle.spv_effects.specs.frame_events.Names.{named}
 use Rattle.spv_frame_check.proofs.Callee.{main_is}
 use Rattle.spv_frame_check.proofs.programs.main_fault.Goals as goal
 

@@ -1,6 +1,6 @@
 use Rattle.std.proofs.Common.{◌≡◌, None, drop, map}
-use Rattle.spv_typed.specs.ProgramViews.{routine_of}
-use Rattle.spv_frame_walk.specs.FrameWalk.{routines_fault}
+use Rattle.spv_program.specs.typed.ProgramViews.{routine_of}
+use Rattle.spv_effects.specs.frame_walk.FrameWalk.{routines_fault}
 use Rattle.spv_frame_check.proofs.programs.routines_fault.Given as goal
 
 abbrev pub invariant-loop-r : goal.invariant-loop-r

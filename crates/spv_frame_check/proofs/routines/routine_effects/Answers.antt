@@ -1,8 +1,8 @@
 use Rattle.std.proofs.Common.{List, ◌++◌, ap, ◌∙◌}
-use Rattle.spv_typed.specs.ProgramViews.{routine_of}
-use Rattle.spv_frame_walk.specs.Events as plain
-use Rattle.spv_frame_walk.specs.Events.{body_events}
-use Rattle.spv_frame_events.specs.EventViews.{events_of}
+use Rattle.spv_program.specs.typed.ProgramViews.{routine_of}
+use Rattle.spv_effects.specs.frame_walk.Events as plain
+use Rattle.spv_effects.specs.frame_walk.Events.{body_events}
+use Rattle.spv_effects.specs.frame_events.EventViews.{events_of}
 use Rattle.spv_frame_check.proofs.Effecting.{made_are}
 use Rattle.spv_frame_check.proofs.routines.routine_effects.Goals as goal
 

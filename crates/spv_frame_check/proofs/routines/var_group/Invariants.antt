@@ -1,6 +1,6 @@
 use Rattle.std.proofs.Common.{◌≡◌, drop, map}
-use Rattle.spv_typed.specs.ProgramViews.{global_of}
-use Rattle.spv_frame_walk.specs.FrameWalk.{var_group}
+use Rattle.spv_program.specs.typed.ProgramViews.{global_of}
+use Rattle.spv_effects.specs.frame_walk.FrameWalk.{var_group}
 use Rattle.spv_frame_check.proofs.routines.var_group.Given as goal
 
 abbrev pub invariant-loop-g : goal.invariant-loop-g

@@ -1,8 +1,8 @@
 use Rattle.std.proofs.Common.{◌≡◌, not, Bool, Option, None, is_some, IsTrue, refl, sym, subst}
 use Rattle.spv_program.specs.Programs.{Program}
-use Rattle.spv_frame_walk.specs.declared.faults.FrameFault.{FrameFault}
-use Rattle.spv_frame_walk.specs.FrameWalk.{frame_fault}
-use Rattle.spv_frame_laws.proofs.Framed.{framed_is}
+use Rattle.spv_effects.specs.declared.frame_walk.faults.FrameFault.{FrameFault}
+use Rattle.spv_effects.specs.frame_walk.FrameWalk.{frame_fault}
+use Rattle.spv_effects.proofs.frame_laws.Framed.{framed_is}
 use Rattle.spv_frames.proofs.framing.framed.Goals as goal
 
 pub of-requires-clause-framed : goal.of-requires-clause-framed

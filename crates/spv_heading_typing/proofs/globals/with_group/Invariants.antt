@@ -2,7 +2,7 @@ use Rattle.std.proofs.Common.{◌≡◌, drop}
 use Rattle.spv_typing.specs.Outcomes.{each}
 use Rattle.spv_typing.specs.Known.{named}
 use Rattle.spv_typing.specs.RoutineWalk.{item_walk, global_group_walk}
-use Rattle.spv_scopes.specs.Scopes.{own_of}
+use Rattle.spv_environments.specs.Scopes.{own_of}
 use Rattle.spv_heading_typing.proofs.globals.with_group.Given as goal
 
 abbrev pub invariant-loop-item : goal.invariant-loop-item

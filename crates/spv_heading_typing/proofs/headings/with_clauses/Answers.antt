@@ -1,6 +1,6 @@
 use Rattle.std.proofs.Common.{List, map, ap, ◌∙◌}
-use Rattle.spv_typed.specs.declared.programs.Formal.{Formal}
-use Rattle.spv_typed.specs.ProgramViews.{formal_of}
+use Rattle.spv_program.specs.declared.typed.programs.Formal.{Formal}
+use Rattle.spv_program.specs.typed.ProgramViews.{formal_of}
 use Rattle.spv_heading_typing.specs.Clauses.{clauses_of}
 use Rattle.spv_heading_typing.specs.Headings.{headed_of, headed_with}
 use Rattle.spv_heading_typing.proofs.Bridges.{if_stopped}

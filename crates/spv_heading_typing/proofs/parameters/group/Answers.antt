@@ -1,5 +1,5 @@
 use Rattle.spv_typing.specs.RoutineWalk.{group_walk}
-use Rattle.spv_scopes.specs.Answers.{Stops}
+use Rattle.spv_environments.specs.Answers.{Stops}
 use Rattle.spv_heading_typing.specs.Parameters.{parameters_of}
 use Rattle.spv_heading_typing.proofs.Bridges.{if_err}
 use Rattle.spv_heading_typing.proofs.Params.{variables_stop}

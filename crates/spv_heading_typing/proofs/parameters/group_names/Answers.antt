@@ -1,7 +1,7 @@
 use Rattle.std.proofs.Common.{◌≡◌, Ok, false}
 use Rattle.std.specs.List.{list_any}
 use Rattle.spv_typing.specs.TypeWalk.{all_names}
-use Rattle.spv_scopes.specs.Answers.{Stops}
+use Rattle.spv_environments.specs.Answers.{Stops}
 use Rattle.spv_heading_typing.specs.Names.{symbols_of, has}
 use Rattle.spv_heading_typing.specs.Parameters.{names_walk}
 use Rattle.spv_heading_typing.proofs.Bridges.{if_ok, if_err}

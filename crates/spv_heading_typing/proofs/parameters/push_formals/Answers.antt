@@ -1,5 +1,5 @@
 use Rattle.std.proofs.Common.{◌++◌, ◌∷◌, [], ap, ◌∙◌}
-use Rattle.spv_named.proofs.Putting.{one_more}
+use Rattle.spv_program.proofs.ordered_map.Putting.{one_more}
 use Rattle.spv_heading_typing.proofs.parameters.push_formals.Goals as goal
 
 pub loop-place-preserved : goal.loop-place-preserved

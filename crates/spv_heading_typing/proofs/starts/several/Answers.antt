@@ -1,6 +1,6 @@
 use Rattle.std.proofs.Common.{[]}
 use Rattle.spv_heading_typing.specs.Starts.{starts_of, start_in}
-use Rattle.spv_scopes.specs.Scopes.{own_of}
+use Rattle.spv_environments.specs.Scopes.{own_of}
 use Rattle.spv_typing.specs.Known.{named}
 use Rattle.spv_heading_typing.proofs.Bridges.{begun}
 use Rattle.spv_heading_typing.proofs.starts.several.Goals as goal

@@ -2,7 +2,7 @@ use Rattle.std.proofs.Common.{◌≡◌, ◌∙◌, ◌∷◌, ℕ, [], None, So
 use Rattle.std.specs.Char.{is_ascii_alphabetic, is_ascii_digit}
 use Rattle.std.specs.Map.{lookup}
 use Rattle.std.specs.Str.{bytes_eq}
-use Rattle.spv_tokens.specs.declared.token.Sign.TheVariants.{Plus, Minus, Star, Equal, Less, Greater, CloseParenthesis, OpenBracket, CloseBracket, Comma, Colon, Semicolon, Period, Caret, Hash}
+use Rattle.spv_tree.specs.declared.tokens.token.Sign.TheVariants.{Plus, Minus, Star, Equal, Less, Greater, CloseParenthesis, OpenBracket, CloseBracket, Comma, Colon, Semicolon, Period, Caret, Hash}
 use Rattle.spv_lexer.specs.Spelling.{short_signs, sign}
 use Rattle.spv_lexer.specs.Front.{gap, token, fault, bad_byte, is_blank, comment, longest_sign, front}
 use Rattle.spv_lexer.specs.Seen.{parenthesis_or_comment}

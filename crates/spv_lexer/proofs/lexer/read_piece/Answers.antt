@@ -3,8 +3,8 @@ use Rattle.std.specs.Char.{is_ascii_alphanumeric, is_ascii_digit}
 use Rattle.std.specs.List.{take_while}
 use Rattle.std.proofs.lemmas.List.{length-take-le}
 use Rattle.std.proofs.lemmas.List.Folds.{length-prefix_len}
-use Rattle.spv_names.specs.Names.{folded}
-use Rattle.spv_names.proofs.NameTable.{IsFolded-folded}
+use Rattle.spv_logic.specs.names.Names.{folded}
+use Rattle.spv_logic.proofs.names.NameTable.{IsFolded-folded}
 use Rattle.spv_lexer.specs.Spelling.{number, sign, word_or_name}
 use Rattle.spv_lexer.specs.Front.{token, letters, front}
 use Rattle.spv_lexer.proofs.Lines.{piece_lines, gap_within}

@@ -1,6 +1,6 @@
 use Rattle.std.proofs.Common.{◌<◌, length, arith, refl, sym, Bor, List, ℕ, []}
-use Rattle.spv_tokens.specs.declared.token.Word.{Word}
-use Rattle.spv_tokens.specs.declared.token.Word.TheVariants.{And}
+use Rattle.spv_tree.specs.declared.tokens.token.Word.{Word}
+use Rattle.spv_tree.specs.declared.tokens.token.Word.TheVariants.{And}
 use Rattle.spv_lexer.proofs.LookUps.{lookup-here}
 use Rattle.spv_lexer.proofs.words.find.Goals as goal
 

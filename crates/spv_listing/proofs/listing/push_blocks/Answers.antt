@@ -1,7 +1,7 @@
 use Rattle.std.proofs.Common.{◌≡◌, ◌++◌, ◌<◌, ◌+◌, ℕ, List, length, get_or, rules, suc, take, sym, ap, ◌∙◌, subst, arith}
 use Rattle.spv_term.specs.declared.nodes.Condition.{Condition}
-use Rattle.spv_decided.specs.declared.verdicts.Decided.{Decided}
-use Rattle.spv_decided.specs.Views.{VerdictIn}
+use Rattle.spv_verdicts.specs.declared.answers.verdicts.Decided.{Decided}
+use Rattle.spv_verdicts.specs.answers.Views.{VerdictIn}
 use Rattle.spv_assign.specs.Conditions.{IsIn, condition_of, conditions_of}
 use Rattle.spv_listing.specs.Page.{blocks, condition_lines}
 use Rattle.spv_listing.proofs.Chains.{then_added, in_at, same_length, verdict_at, blocks_more, blocks_all}

@@ -1,6 +1,6 @@
 use Rattle.std.proofs.Common.{◌≡◌, Ok}
 use Rattle.spv_typing.specs.RoutineWalk.{Headed, locals_walk}
-use Rattle.spv_scopes.specs.Answers.{Stops}
+use Rattle.spv_environments.specs.Answers.{Stops}
 use Rattle.spv_heading_typing.proofs.Bridges.{if_ok, if_err}
 use Rattle.spv_local_typing.specs.Locals.{IsHeaded, local_of}
 use Rattle.spv_local_typing.proofs.Steps.{locals_are, locals_stop}

@@ -1,4 +1,4 @@
-use Rattle.spv_settling.specs.Types.{settled}
+use Rattle.spv_declaration_typing.specs.canonical_types.Types.{settled}
 use Rattle.spv_local_typing.specs.Locals.{names_of}
 use Rattle.spv_local_typing.proofs.Steps.{vars_done}
 use Rattle.spv_local_typing.proofs.declaring.variables.Goals as goal

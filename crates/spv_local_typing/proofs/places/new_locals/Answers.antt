@@ -5,8 +5,8 @@ use Rattle.spv_typing.specs.Known.{named}
 use Rattle.spv_typing.specs.Outcomes.{each}
 use Rattle.spv_typing.specs.TypeWalk.{all_names}
 use Rattle.spv_typing.specs.DeclarationWalk.{new_name}
-use Rattle.spv_scopes.specs.Answers.{Stops}
-use Rattle.spv_scopes.specs.Scopes.{own_of}
+use Rattle.spv_environments.specs.Answers.{Stops}
+use Rattle.spv_environments.specs.Scopes.{own_of}
 use Rattle.spv_heading_typing.proofs.Bridges.{if_ok, if_err}
 use Rattle.spv_heading_typing.proofs.Params.{names_are_new}
 use Rattle.spv_local_typing.specs.Locals.{free_among, names_of}

@@ -1,5 +1,5 @@
 use Rattle.std.proofs.Common.{◌++◌, ◌∷◌, [], ap, ◌∙◌}
-use Rattle.spv_named.proofs.Putting.{one_more}
+use Rattle.spv_program.proofs.ordered_map.Putting.{one_more}
 use Rattle.spv_local_typing.proofs.places.push_variables.Goals as goal
 
 pub loop-place-preserved : goal.loop-place-preserved

@@ -1,5 +1,5 @@
 use Rattle.std.proofs.Common.{◌≡◌, ◌++◌, ◌∷◌, [], rules, refl}
-use Rattle.spv_scopes.specs.declared.scopes.Own.TheVariants.{Constant}
+use Rattle.spv_environments.specs.declared.scopes.Own.TheVariants.{Constant}
 use Rattle.spv_local_typing.proofs.Frees.{constant_put}
 use Rattle.spv_local_typing.proofs.places.put_constant.Goals as goal
 

@@ -1,8 +1,8 @@
 use Rattle.std.proofs.Common.{arith}
-use Rattle.spv_syntax.specs.Reads.{ReadsFormulaText}
-use Rattle.spv_reading.specs.Readers.{wrong}
-use Rattle.spv_reading.specs.RuleReaders.{read_formula_text}
-use Rattle.spv_expected.specs.FormulaTexts.{whole_formula_text}
+use Rattle.spv_tree.specs.syntax.Reads.{ReadsFormulaText}
+use Rattle.spv_grammar.specs.reading.Readers.{wrong}
+use Rattle.spv_grammar.specs.reading.RuleReaders.{read_formula_text}
+use Rattle.spv_grammar.specs.expected_tokens.FormulaTexts.{whole_formula_text}
 use Rattle.spv_parser.proofs.Wholes.{whole_tree, none_where_halted, same_tree, same_low, refused_by}
 use Rattle.spv_parser.proofs.parser.formula_within.Goals as goal
 

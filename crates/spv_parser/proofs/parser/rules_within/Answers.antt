@@ -1,9 +1,9 @@
 use Rattle.std.proofs.Common.{ℕ, refl}
-use Rattle.spv_syntax.specs.Reads.{ReadsRules}
-use Rattle.spv_begins.specs.Lines.{line_where}
-use Rattle.spv_begins.specs.Begins.{GoesWrongAt}
-use Rattle.spv_reading.specs.Readers.{wrong}
-use Rattle.spv_reading.specs.RuleReaders.{read_rules}
+use Rattle.spv_tree.specs.syntax.Reads.{ReadsRules}
+use Rattle.spv_grammar.specs.first_sets.Lines.{line_where}
+use Rattle.spv_grammar.specs.first_sets.Begins.{GoesWrongAt}
+use Rattle.spv_grammar.specs.reading.Readers.{wrong}
+use Rattle.spv_grammar.specs.reading.RuleReaders.{read_rules}
 use Rattle.spv_parser.proofs.Wholes.{whole_tree, none_with_more, none_where_halted, refused, refused_by, front_left}
 use Rattle.spv_parser.proofs.parser.rules_within.Goals as goal
 

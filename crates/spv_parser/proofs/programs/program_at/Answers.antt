@@ -1,5 +1,5 @@
 use Rattle.std.proofs.Common.{◌∙◌}
-use Rattle.spv_front.proofs.Exits.{same_fault}
+use Rattle.spv_formula_parser.proofs.primitives.Exits.{same_fault}
 use Rattle.spv_parser.proofs.ProgramParts.{none_behind, up_to_entry, up_to_exit}
 use Rattle.spv_parser.proofs.programs.program_at.Goals as goal
 

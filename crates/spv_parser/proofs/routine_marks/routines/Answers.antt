@@ -1,7 +1,7 @@
 use Rattle.std.proofs.Common.{◌+◌, length, arith, sym}
-use Rattle.spv_reading.specs.RoutineReaders.{read_routines}
+use Rattle.spv_grammar.specs.reading.RoutineReaders.{read_routines}
 use Rattle.spv_parser.specs.Marks.{MarksSoFar}
-use Rattle.spv_front.proofs.Exits.{same_fault}
+use Rattle.spv_formula_parser.proofs.primitives.Exits.{same_fault}
 use Rattle.spv_parser.proofs.MarkTurns.{begins, begins_none, ends, ends_none, stops}
 use Rattle.spv_parser.proofs.routine_marks.routines.Goals.{then-begins_heading+in_ok-first+in_ok-push, else-begins_heading+then-begun-gt0+in_ok-last+in_ok-push-2}
 use Rattle.spv_parser.proofs.routine_marks.routines.Goals as goal

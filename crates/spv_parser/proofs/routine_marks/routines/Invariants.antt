@@ -1,4 +1,4 @@
-use Rattle.spv_reading.specs.RoutineReaders.{read_routines}
+use Rattle.spv_grammar.specs.reading.RoutineReaders.{read_routines}
 use Rattle.spv_parser.specs.Marks.{MarksSoFar}
 use Rattle.spv_parser.proofs.routine_marks.routines.Given as goal
 

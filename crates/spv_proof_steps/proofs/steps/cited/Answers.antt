@@ -1,6 +1,6 @@
 use Rattle.std.proofs.Common.{map, refl}
 use Rattle.spv_term.specs.Arena.{AllBelow}
-use Rattle.spv_proof.specs.Effects as spec
+use Rattle.spv_proof_rules.specs.Effects as spec
 use Rattle.spv_proof_steps.proofs.Shown.{some_in}
 use Rattle.spv_proof_steps.proofs.StepLemmas.{cited-more, AllBelow-pushed}
 use Rattle.spv_proof_steps.proofs.steps.cited.Goals as goal

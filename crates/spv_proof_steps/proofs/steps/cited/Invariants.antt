@@ -2,7 +2,7 @@ use Rattle.std.proofs.Common.{◌≡◌, ℕ, drop, map}
 use Rattle.spv_logic.specs.declared.conditions.TermId.{TermId}
 use Rattle.spv_logic.specs.Terms.{Term}
 use Rattle.spv_term.specs.Arena.{AllBelow}
-use Rattle.spv_proof.specs.Effects as spec
+use Rattle.spv_proof_rules.specs.Effects as spec
 use Rattle.spv_proof_steps.proofs.StepLemmas.{before_all}
 use Rattle.spv_proof_steps.proofs.steps.cited.Given as goal
 

@@ -1,6 +1,6 @@
 use Rattle.std.proofs.Common.{Some, None, map, refl, length, ap, ◌∙◌}
 use Rattle.spv_term.specs.Arena.{tree, sequent}
-use Rattle.spv_proof.specs.Effects as spec
+use Rattle.spv_proof_rules.specs.Effects as spec
 use Rattle.spv_proof_steps.proofs.StepLemmas.{AllBelow-formulas, given-number}
 use Rattle.spv_proof_steps.proofs.steps.given_effect.Goals as goal
 

@@ -1,6 +1,6 @@
 use Rattle.std.proofs.Common.{◌≡◌, ◌||◌, drop, map}
-use Rattle.spv_names.specs.declared.names.Symbol.{Symbol}
-use Rattle.spv_typed.specs.ProgramViews.{global_of}
+use Rattle.spv_logic.specs.declared.names.names.Symbol.{Symbol}
+use Rattle.spv_program.specs.typed.ProgramViews.{global_of}
 use Rattle.spv_typing.specs.RoutineWalk.{is_listed}
 use Rattle.spv_heading_typing.specs.Names.{has}
 use Rattle.spv_routine_typing.proofs.listed.listed.Given as goal

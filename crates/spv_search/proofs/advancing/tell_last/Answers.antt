@@ -1,5 +1,5 @@
 use Rattle.std.proofs.Common.{length, ap, arith}
-use Rattle.spv_course.proofs.Bridges.{if_both}
+use Rattle.spv_derivations.proofs.derivation.Bridges.{if_both}
 use Rattle.spv_search.proofs.Advance.{last_many, last_at, may_at, fits_at, told_with, arrived}
 use Rattle.spv_search.proofs.advancing.tell_last.Goals as goal
 

@@ -22,7 +22,7 @@ returns-in_ok-close_by-in-Some c =
     ended_visited c.args.terms.now c.args.condition.now c.args.atoms.now c.args.ground.now c.args.limits.now c.args.path.now c.grow.new.self _ c.args.branches.now c.close_by.new.branches c.args.marks.now.items c.in-Some.end c.requires.arrived
     c.in_ok-ended.ensures.goes
     (grown_as c.args.terms.now c.args.condition.now c.args.ground.now c.args.branches.now c.grow.new.self _ _ c.in-Some.is (c.in_ok-ended.ensures.told (formulas_in c.args.terms.now c.args.branches.now.cases) c.requires.arrived.path))
-    c.close_by.ensures.course refl refl (c.in_ok-close_by-in-Some.ensures.taken c.args.limits.now c.requires.arrived.within)
+    c.close_by.ensures.derivation refl refl (c.in_ok-close_by-in-Some.ensures.taken c.args.limits.now c.requires.arrived.within)
 
 pub ask-requires-clause-quiet : goal.ask-requires-clause-quiet
 ask-requires-clause-quiet c =

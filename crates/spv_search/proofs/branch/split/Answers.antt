@@ -3,7 +3,7 @@ use Rattle.spv_term.specs.Arena.{sequent}
 use Rattle.spv_search.proofs.Ended.{on_both}
 use Rattle.spv_search.proofs.Splitting.{atom_there}
 use Rattle.spv_search.proofs.Turns.{open_visited, split_visited, marks_many}
-use Rattle.spv_proof.specs.Stand.{question}
+use Rattle.spv_proof_rules.specs.Stand.{question}
 use Rattle.spv_search.proofs.branch.split.Goals as goal
 
 pub push_mark-requires-clause-both : goal.push_mark-requires-clause-both

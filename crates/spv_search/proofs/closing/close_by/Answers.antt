@@ -4,7 +4,7 @@ use Rattle.spv_search.proofs.closing.close_by.Goals as goal
 
 pub close-requires-clause-closes : goal.close-requires-clause-closes
 close-requires-clause-closes c =
-    end_closes c.args.terms.now c.args.condition.now (formulas_in c.args.terms.now c.args.branches.now.cases) c.args.course.now c.args.end c.in_ok-steps.steps.items c.requires.ends c.in_ok-steps.ensures
+    end_closes c.args.terms.now c.args.condition.now (formulas_in c.args.terms.now c.args.branches.now.cases) c.args.derivation.now c.args.end c.in_ok-steps.steps.items c.requires.ends c.in_ok-steps.ensures
 
 pub close-requires-clause-path : goal.close-requires-clause-path
 close-requires-clause-path c = c.requires.ends.path

@@ -1,4 +1,4 @@
-use Rattle.spv_proof.specs.Stand.{question}
+use Rattle.spv_proof_rules.specs.Stand.{question}
 use Rattle.spv_search.proofs.Ends.{starts}
 use Rattle.spv_search.proofs.exploring.explore.Goals as goal
 

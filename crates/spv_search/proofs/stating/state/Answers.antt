@@ -1,5 +1,5 @@
 use Rattle.std.proofs.Common.{ℕ, refl, subst, Result, Ok, Err, OnOk}
-use Rattle.spv_course.proofs.Bridges.{if_ok}
+use Rattle.spv_derivations.proofs.derivation.Bridges.{if_ok}
 use Rattle.spv_share.specs.States.{IsAnswer}
 use Rattle.spv_search.proofs.stating.state.Goals as goal
 

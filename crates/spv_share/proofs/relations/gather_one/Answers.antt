@@ -1,8 +1,8 @@
-use Rattle.spv_course.proofs.Bridges.{on_ok}
+use Rattle.spv_derivations.proofs.derivation.Bridges.{on_ok}
 use Rattle.spv_term.specs.Arena.{tree}
-use Rattle.spv_sums.specs.Readings.{number_in}
-use Rattle.spv_readings.specs.Relations.{number_sides}
-use Rattle.spv_atom_rows.proofs.Pushing.{none_of}
+use Rattle.spv_proof.specs.sums.Readings.{number_in}
+use Rattle.spv_tableau_rules.specs.constraints.Relations.{number_sides}
+use Rattle.spv_arithmetic_side.proofs.slack_rows.Pushing.{none_of}
 use Rattle.spv_share.proofs.Gathering.{gathered_other, gathered_relation, pair_here}
 use Rattle.spv_share.proofs.relations.gather_one.Goals as goal
 

@@ -1,7 +1,7 @@
 use Rattle.std.proofs.Common.{rules, ◌≡◌, ◌+◌, ◌++◌, ◌∷◌, [], List, length, map, sym, ap, ◌∙◌, arith}
 use Rattle.std.proofs.lemmas.List.{length-append}
 use mathlib.Core.Path.{ap₂}
-use Rattle.spv_tableaux.specs.Bounds.{Bound}
+use Rattle.spv_tableau_rules.specs.tableaux.Bounds.{Bound}
 use Rattle.spv_simplex.specs.Evidence.{bound_in}
 use Rattle.spv_simplex.proofs.Searches.{map_push, take_next, le_trans}
 use Rattle.spv_simplex.proofs.evidence.copy_bounds.Goals as goal

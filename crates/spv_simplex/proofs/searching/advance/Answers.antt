@@ -1,6 +1,6 @@
 use Rattle.std.proofs.Common.{rules, ◌≡◌, ◌<◌, length, refl}
-use Rattle.spv_steps.specs.Choosing.{limits_of}
-use Rattle.spv_walks.specs.Course.{makes}
+use Rattle.spv_dictionary.specs.pivoting.Choosing.{limits_of}
+use Rattle.spv_simplex.specs.pivot_runs.Derivation.{makes}
 use Rattle.spv_simplex.specs.Searching.{full}
 use Rattle.spv_simplex.proofs.Searches.{is_turn, too_wide}
 use Rattle.spv_simplex.proofs.searching.advance.Goals as goal

@@ -1,8 +1,8 @@
 use Rattle.std.proofs.Common.{ℕ, ◌<◌, ◌^◌, List, length, refl, sym, ap, ◌∙◌, subst}
 use Rattle.std.specs.Prelude.{vec_capacity}
-use Rattle.spv_tableaux.specs.Walks.{Exchange}
-use Rattle.spv_steps.specs.Choosing.{limits_of}
-use Rattle.spv_walks.specs.Course.{Goes, begins}
+use Rattle.spv_tableau_rules.specs.tableaux.Walks.{Exchange}
+use Rattle.spv_dictionary.specs.pivoting.Choosing.{limits_of}
+use Rattle.spv_simplex.specs.pivot_runs.Derivation.{Goes, begins}
 use Rattle.spv_simplex.specs.Searching.{IsTurn}
 use Rattle.spv_simplex.proofs.Searches.{goes_on, stays_fit, smaller, enough, le_refl, le_trans}
 use Rattle.spv_simplex.proofs.searching.go.Goals as goal

@@ -1,7 +1,7 @@
 use Rattle.std.proofs.Common.{◌≡◌, ◌-◌, ◌≤◌, ◌<◌, ◌^◌, length}
 use Rattle.std.specs.Prelude.{vec_capacity}
-use Rattle.spv_steps.specs.Choosing.{limits_of}
-use Rattle.spv_walks.specs.Course.{Goes}
+use Rattle.spv_dictionary.specs.pivoting.Choosing.{limits_of}
+use Rattle.spv_simplex.specs.pivot_runs.Derivation.{Goes}
 use Rattle.spv_simplex.specs.Evidence.{no_operation}
 use Rattle.spv_simplex.proofs.searching.go.Given as goal
 

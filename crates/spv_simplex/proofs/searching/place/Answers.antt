@@ -1,9 +1,9 @@
 use Rattle.std.proofs.Common.{◌≡◌, Some, length, sym, ap, ◌∙◌}
 use Rattle.spv_dictionary.specs.Dictionary.{outside_at}
 use Rattle.spv_dictionary.proofs.Mixed.{if_err}
-use Rattle.spv_shifts.specs.Shifts.{value_in}
-use Rattle.spv_steps.specs.Choosing.{limits_of, out_side}
-use Rattle.spv_walks.specs.Course.{moves, moving}
+use Rattle.spv_dictionary.specs.updates.Shifts.{value_in}
+use Rattle.spv_dictionary.specs.pivoting.Choosing.{limits_of, out_side}
+use Rattle.spv_simplex.specs.pivot_runs.Derivation.{moves, moving}
 use Rattle.spv_simplex.proofs.Searches.{on_ok}
 use Rattle.spv_simplex.proofs.searching.place.Goals as goal
 

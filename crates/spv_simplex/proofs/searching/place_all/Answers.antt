@@ -1,7 +1,7 @@
 use Rattle.std.proofs.Common.{rules, ◌<◌, List, length, sym, subst, ◌∙◌, arith}
-use Rattle.spv_rational.specs.Rational.{Rational}
-use Rattle.spv_steps.specs.Choosing.{limits_of}
-use Rattle.spv_walks.specs.Course.{ArePlaced, IsPlacing, none, more}
+use Rattle.spv_frac.specs.rational.Rational.{Rational}
+use Rattle.spv_dictionary.specs.pivoting.Choosing.{limits_of}
+use Rattle.spv_simplex.specs.pivot_runs.Derivation.{ArePlaced, IsPlacing, none, more}
 use Rattle.spv_simplex.proofs.searching.place_all.Goals as goal
 
 pub loop-slot-init : goal.loop-slot-init

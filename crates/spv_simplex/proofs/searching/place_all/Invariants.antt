@@ -1,6 +1,6 @@
 use Rattle.std.proofs.Common.{◌≡◌, length}
-use Rattle.spv_steps.specs.Choosing.{limits_of}
-use Rattle.spv_walks.specs.Course.{ArePlaced}
+use Rattle.spv_dictionary.specs.pivoting.Choosing.{limits_of}
+use Rattle.spv_simplex.specs.pivot_runs.Derivation.{ArePlaced}
 use Rattle.spv_simplex.proofs.searching.place_all.Given as goal
 
 abbrev pub invariant-loop-slot : goal.invariant-loop-slot

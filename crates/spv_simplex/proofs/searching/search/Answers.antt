@@ -1,8 +1,8 @@
 use Rattle.std.proofs.Common.{◌≡◌, length, map, refl, sym, ap, ◌∙◌, subst}
 use mathlib.Core.Path.{ap₂}
-use Rattle.spv_tableaux.specs.Operations.{Operation}
-use Rattle.spv_steps.specs.Choosing.{limits_of}
-use Rattle.spv_steps.specs.Combining.{multiple_in}
+use Rattle.spv_tableau_rules.specs.tableaux.Operations.{Operation}
+use Rattle.spv_dictionary.specs.pivoting.Choosing.{limits_of}
+use Rattle.spv_dictionary.specs.pivoting.Combining.{multiple_in}
 use Rattle.spv_simplex.specs.Evidence.{EvidenceValue, with_operation}
 use Rattle.spv_simplex.specs.Searching.{PlacingEnds, Arrives, placing, arriving}
 use Rattle.spv_simplex.proofs.searching.search.Goals as goal

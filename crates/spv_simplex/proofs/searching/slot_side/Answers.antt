@@ -1,10 +1,10 @@
 use Rattle.std.proofs.Common.{rules, ℕ, ◌≡◌, ◌<◌, length, sym, subst}
-use Rattle.spv_tableaux.specs.declared.side.Side.TheVariants.{Lower, Upper}
+use Rattle.spv_tableau_rules.specs.declared.tableaux.side.Side.TheVariants.{Lower, Upper}
 use Rattle.spv_dictionary.specs.Dictionary.{outside_at}
 use Rattle.spv_dictionary.proofs.Mixed.{if_err}
-use Rattle.spv_shifts.specs.Shifts.{value_in}
-use Rattle.spv_steps.specs.Choosing.{limits_of}
-use Rattle.spv_steps.proofs.Choices.{read_value}
+use Rattle.spv_dictionary.specs.updates.Shifts.{value_in}
+use Rattle.spv_dictionary.specs.pivoting.Choosing.{limits_of}
+use Rattle.spv_dictionary.proofs.pivoting.Choices.{read_value}
 use Rattle.spv_simplex.proofs.Searches.{side_compares}
 use Rattle.spv_simplex.proofs.searching.slot_side.Goals as goal
 

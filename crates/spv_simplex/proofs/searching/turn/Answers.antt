@@ -1,9 +1,9 @@
 use Rattle.std.proofs.Common.{length, map, refl, subst}
-use Rattle.spv_shifts.specs.Shifts.{value_in}
-use Rattle.spv_steps.specs.Choosing.{limits_of}
-use Rattle.spv_steps.specs.Combining.{multiple_in}
-use Rattle.spv_steps.specs.Finding.{IsFound}
-use Rattle.spv_walks.specs.Course.{compares}
+use Rattle.spv_dictionary.specs.updates.Shifts.{value_in}
+use Rattle.spv_dictionary.specs.pivoting.Choosing.{limits_of}
+use Rattle.spv_dictionary.specs.pivoting.Combining.{multiple_in}
+use Rattle.spv_dictionary.specs.pivoting.Finding.{IsFound}
+use Rattle.spv_simplex.specs.pivot_runs.Derivation.{compares}
 use Rattle.spv_simplex.specs.Searching.{met, stuck}
 use Rattle.spv_simplex.proofs.Searches.{too_wide}
 use Rattle.spv_simplex.proofs.searching.turn.Goals as goal

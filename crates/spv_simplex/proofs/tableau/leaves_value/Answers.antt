@@ -1,5 +1,5 @@
 use Rattle.std.proofs.Common.{rules, ◌≡◌, sym, ap, ◌∙◌}
-use Rattle.spv_tableaux.specs.Operations.{fits}
+use Rattle.spv_tableau_rules.specs.tableaux.Operations.{fits}
 use Rattle.spv_simplex.specs.State.{clashes}
 use Rattle.spv_simplex.proofs.Accepting.{leaves_some}
 use Rattle.spv_simplex.proofs.tableau.leaves_value.Goals as goal

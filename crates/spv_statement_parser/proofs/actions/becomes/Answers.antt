@@ -1,6 +1,6 @@
 use Rattle.std.proofs.Common.{length, subst, ◌≤◌, ◌∙◌}
-use Rattle.spv_reading.specs.FormulaReaders.{read_inner, read_formula}
-use Rattle.spv_front.proofs.Exits.{halted}
+use Rattle.spv_grammar.specs.reading.FormulaReaders.{read_inner, read_formula}
+use Rattle.spv_formula_parser.proofs.primitives.Exits.{halted}
 use Rattle.spv_statement_parser.proofs.Calls.{no_call}
 use Rattle.spv_statement_parser.proofs.actions.becomes.Goals as goal
 

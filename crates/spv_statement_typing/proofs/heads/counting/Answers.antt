@@ -1,8 +1,8 @@
 use Rattle.std.proofs.Common.{◌≡◌, Ok, IfOk, IfErr, subst, sym}
 use Rattle.spv_program.specs.Statements.{Counting}
-use Rattle.spv_typed.specs.StatementViews.{counting_of}
+use Rattle.spv_program.specs.typed.StatementViews.{counting_of}
 use Rattle.spv_typing.specs.Outcomes.{Outcome}
-use Rattle.spv_scopes.specs.Answers.{Stops}
+use Rattle.spv_environments.specs.Answers.{Stops}
 use Rattle.spv_formula_typing.specs.Operands.{operand_of}
 use Rattle.spv_statement_typing.specs.Settings.{setting_of}
 use Rattle.spv_statement_typing.proofs.Counters.{counting_is}

@@ -1,7 +1,7 @@
 use Rattle.std.proofs.Common.{rules}
 use Rattle.spv_typing.specs.StatementWalk.{new_label, new_labels}
-use Rattle.spv_scopes.specs.Answers.{Stops}
-use Rattle.spv_scopes.specs.Scopes.{scope_of}
+use Rattle.spv_environments.specs.Answers.{Stops}
+use Rattle.spv_environments.specs.Scopes.{scope_of}
 use Rattle.spv_statement_typing.proofs.Loops.{label_stops}
 use Rattle.spv_statement_typing.proofs.labels.arm_labels.Goals as goal
 

@@ -1,7 +1,7 @@
 use Rattle.std.proofs.Common.{◌≡◌, ◌++◌, drop}
 use Rattle.spv_typing.specs.Outcomes.{each}
 use Rattle.spv_typing.specs.StatementWalk.{new_label, new_labels}
-use Rattle.spv_scopes.specs.Scopes.{scope_of}
+use Rattle.spv_environments.specs.Scopes.{scope_of}
 use Rattle.spv_statement_typing.proofs.labels.arm_labels.Given as goal
 
 abbrev pub invariant-loop-other : goal.invariant-loop-other

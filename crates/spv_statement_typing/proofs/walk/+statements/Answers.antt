@@ -1,16 +1,16 @@
 use Rattle.std.proofs.Common.{◌≤◌, ◌<◌, ◌+◌, ◌*◌, Option, Ok, IfErr, option_map, rules, refl, subst, sym, ap, ◌∙◌, arith}
 use Rattle.std.specs.declared.boxed.Box.{Box}
 use Rattle.std.specs.Global.{Global}
-use Rattle.spv_syntax.specs.declared.lists.Several.{Several}
-use Rattle.spv_syntax.specs.declared.names.Constant.{Constant}
-use Rattle.spv_syntax.specs.Statements as tree
-use Rattle.spv_syntax.specs.StatementViews.{arm_of}
-use Rattle.spv_syntax.specs.Model.StatementSizes.{more_statements_of, more_arms_of, statement_size, more_statements_size, arm_size, more_arms_size}
+use Rattle.spv_tree.specs.declared.syntax.lists.Several.{Several}
+use Rattle.spv_tree.specs.declared.syntax.names.Constant.{Constant}
+use Rattle.spv_tree.specs.syntax.Statements as tree
+use Rattle.spv_tree.specs.syntax.StatementViews.{arm_of}
+use Rattle.spv_tree.specs.syntax.Model.StatementSizes.{more_statements_of, more_arms_of, statement_size, more_statements_size, arm_size, more_arms_size}
 use Rattle.spv_program.specs.Statements.{Statement}
-use Rattle.spv_typed.specs.FormulaViews.{annotation_of}
+use Rattle.spv_program.specs.typed.FormulaViews.{annotation_of}
 use Rattle.spv_typing.specs.Outcomes.{Outcome}
 use Rattle.spv_typing.specs.StatementWalk.{statement_walk, arm_walk}
-use Rattle.spv_scopes.specs.Answers.{Stops}
+use Rattle.spv_environments.specs.Answers.{Stops}
 use Rattle.spv_statement_typing.specs.Chains.{so_far, arms_walk}
 use Rattle.spv_statement_typing.specs.Settings.{setting_of}
 use Rattle.spv_statement_typing.proofs.Loops.{chain_more, chain_all, arm_is, arms_stop, arms_all, statement_within, arm_within, repeat_walked, selection_stops}

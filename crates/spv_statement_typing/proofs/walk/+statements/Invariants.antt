@@ -1,6 +1,6 @@
 use Rattle.std.proofs.Common.{◌+◌, ◌*◌}
-use Rattle.spv_syntax.specs.Model.StatementSizes.{more_statements_of, more_arms_of, statement_size, otherwise_size, block_size, more_statements_size, arm_size, more_arms_size, loop_size}
-use Rattle.spv_syntax.specs.StatementViews.{otherwise_of}
+use Rattle.spv_tree.specs.syntax.Model.StatementSizes.{more_statements_of, more_arms_of, statement_size, otherwise_size, block_size, more_statements_size, arm_size, more_arms_size, loop_size}
+use Rattle.spv_tree.specs.syntax.StatementViews.{otherwise_of}
 use Rattle.spv_statement_typing.specs.Settings.{setting_of}
 use Rattle.spv_statement_typing.proofs.Loops.{ChainSoFar, ArmsDone}
 use Rattle.spv_statement_typing.proofs.walk.+statements.Given as goal

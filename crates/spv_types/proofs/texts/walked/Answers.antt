@@ -1,5 +1,5 @@
 use Rattle.spv_typing.specs.Known.{known_in}
-use Rattle.spv_typed.specs.ProgramViews.{main_of}
+use Rattle.spv_program.specs.typed.ProgramViews.{main_of}
 use Rattle.spv_types.proofs.Whole.{program_made, program_stops}
 use Rattle.spv_types.proofs.texts.walked.Goals as goal
 

@@ -1,4 +1,4 @@
-use Rattle.spv_split_trees.proofs.Counting.{kept-small}
+use Rattle.spv_models.proofs.split_trees.Counting.{kept-small}
 use Rattle.spv_verdicts.proofs.laws.law_splits.Goals as goal
 
 pub returns : goal.returns

@@ -1,5 +1,5 @@
 use Rattle.std.proofs.Common.{ap, arith}
-use Rattle.spv_classes.proofs.Labels.{label_in}
+use Rattle.spv_union_find.proofs.classes.Labels.{label_in}
 use Rattle.spv_congruence.specs.Keep.{Kept}
 use Rattle.spv_congruence.proofs.kept.Kept.class_size.Goals as goal
 

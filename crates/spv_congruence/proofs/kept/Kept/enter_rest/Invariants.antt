@@ -1,6 +1,6 @@
 use Rattle.std.proofs.Common.{◌≡◌, ◌≤◌, ◌+◌, drop}
 use Rattle.spv_logic.specs.declared.conditions.TermId.{TermId}
-use Rattle.spv_signatures.specs.Signatures.{cells_of}
+use Rattle.spv_union_find.specs.signatures.Signatures.{cells_of}
 use Rattle.spv_congruence.specs.Graph.{IsUpTo, IsEarly, label_of, weight_of}
 use Rattle.spv_congruence.specs.Keep.{graph, Fits, GoesOn}
 use Rattle.spv_congruence.proofs.kept.Kept.enter_rest.Given as goal

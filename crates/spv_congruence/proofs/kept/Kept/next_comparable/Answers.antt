@@ -1,6 +1,6 @@
 use Rattle.std.proofs.Common.{◌<◌, List, Option, slice_get, ap, subst, ◌∙◌}
 use Rattle.spv_term.specs.declared.nodes.Node.{Node}
-use Rattle.spv_classes.specs.Classes.{next}
+use Rattle.spv_union_find.specs.classes.Classes.{next}
 use Rattle.spv_congruence.specs.Keep.{Kept}
 use Rattle.spv_congruence.specs.Rings.{comparable_with}
 use Rattle.spv_congruence.proofs.ClashLemmas.{ring_on}

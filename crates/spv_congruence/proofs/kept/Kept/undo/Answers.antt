@@ -1,5 +1,5 @@
 use Rattle.std.proofs.Common.{◌+◌, ◌≤◌, ℕ, drop, sym, subst, arith}
-use Rattle.spv_signatures.specs.Signatures.{cells_of}
+use Rattle.spv_union_find.specs.signatures.Signatures.{cells_of}
 use Rattle.spv_congruence.specs.Graph.{IsUpTo, weight_of}
 use Rattle.spv_congruence.specs.Keep.{graph, EntersRest}
 use Rattle.spv_congruence.proofs.Tells.{rewound_fits, rewound_graph, rewound_room, undoes}

@@ -1,5 +1,5 @@
 use Rattle.std.proofs.Common.{OnOk, length, map, sym, ap, ◌∙◌, subst}
-use Rattle.spv_classes.proofs.Steps.{written}
+use Rattle.spv_union_find.proofs.classes.Steps.{written}
 use Rattle.spv_congruence.specs.Graph.{Waits}
 use Rattle.spv_congruence.specs.Keep.{Kept, KeepsUses, uses_at}
 use Rattle.spv_congruence.proofs.kept.Kept.use_arg.Goals as goal

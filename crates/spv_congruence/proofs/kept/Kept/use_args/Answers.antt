@@ -1,5 +1,5 @@
 use Rattle.std.proofs.Common.{◌∙◌, ap, arith}
-use Rattle.spv_classes.proofs.Lists.{get_within}
+use Rattle.spv_union_find.proofs.classes.Lists.{get_within}
 use Rattle.spv_congruence.specs.Graph.{id}
 use Rattle.spv_congruence.specs.Keep.{Kept}
 use Rattle.spv_congruence.proofs.PutLemmas.{below_here, used_more}

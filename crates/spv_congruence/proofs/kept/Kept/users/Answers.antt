@@ -1,5 +1,5 @@
 use Rattle.std.proofs.Common.{sym, subst}
-use Rattle.spv_classes.specs.Classes.{HasMembers}
+use Rattle.spv_union_find.specs.classes.Classes.{HasMembers}
 use Rattle.spv_congruence.proofs.Goings.{got_at, uses_more, all_users}
 use Rattle.spv_congruence.proofs.kept.Kept.users.Goals as goal
 

@@ -2,7 +2,7 @@ use Rattle.std.proofs.Common.{◌≡◌, false, rules, subst, sym}
 use Rattle.spv_share.specs.declared.both.Both.{Both}
 use Rattle.spv_share.specs.Both.{IsClaimed}
 use Rattle.spv_share.proofs.Goings.{goes_as, goes_said, still_graph}
-use Rattle.spv_share_rows.specs.Said.{IsOpposed}
+use Rattle.spv_arithmetic_side.specs.constraint_rows.Said.{IsOpposed}
 use Rattle.spv_share.proofs.both.Both.give_claim.Goals as goal
 
 pub returns-then-say_claim-clause-goes : goal.returns-then-say_claim-clause-goes

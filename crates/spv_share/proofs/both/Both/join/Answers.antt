@@ -1,4 +1,4 @@
-use Rattle.spv_course.proofs.Bridges.{on_ok}
+use Rattle.spv_derivations.proofs.derivation.Bridges.{on_ok}
 use Rattle.spv_share.proofs.Closing.{closed_now, same_last}
 use Rattle.spv_share.proofs.Giving.{left_node, right_node}
 use Rattle.spv_share.proofs.Goings.{goes_joined}

@@ -1,8 +1,8 @@
 use Rattle.std.proofs.Common.{inr, refl, subst, sym}
-use Rattle.spv_course.specs.declared.entries.Part.TheVariants as part
-use Rattle.spv_readings.specs.declared.saying.Saying.TheVariants.{Below}
-use Rattle.spv_share_rows.specs.declared.standing.Standing.{Standing}
-use Rattle.spv_share_rows.specs.Standing.{IsBack}
+use Rattle.spv_derivations.specs.declared.derivation.entries.Part.TheVariants as part
+use Rattle.spv_tableau_rules.specs.declared.constraints.saying.RowConstraint.TheVariants.{Below}
+use Rattle.spv_arithmetic_side.specs.declared.constraint_rows.standing.Standing.{Standing}
+use Rattle.spv_arithmetic_side.specs.constraint_rows.Standing.{IsBack}
 use Rattle.spv_share.specs.Relations.{sayable}
 use Rattle.spv_share.proofs.Allowed.{may_order}
 use Rattle.spv_share.proofs.Giving.{row_there}

@@ -1,4 +1,4 @@
-use Rattle.spv_course.proofs.Bridges.{if_ok}
+use Rattle.spv_derivations.proofs.derivation.Bridges.{if_ok}
 use Rattle.spv_share.proofs.Goings.{goes_same}
 use Rattle.spv_share.proofs.Seeking.{sought_after, sought_apart}
 use Rattle.spv_share.proofs.both.Both.seek_on.Goals as goal

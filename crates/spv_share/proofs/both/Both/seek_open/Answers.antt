@@ -1,5 +1,5 @@
 use Rattle.std.proofs.Common.{◌≡◌, rules, false, true}
-use Rattle.spv_course.proofs.Bridges.{if_ok}
+use Rattle.spv_derivations.proofs.derivation.Bridges.{if_ok}
 use Rattle.spv_share.proofs.Giving.{at_place, left_node, right_node, there}
 use Rattle.spv_share.proofs.Goings.{goes_same}
 use Rattle.spv_share.proofs.Seeking.{found_not_open, found_same, open_at}

@@ -1,7 +1,7 @@
 use Rattle.std.proofs.Common.{inl, refl}
-use Rattle.spv_course.specs.declared.entries.Part.TheVariants as part
-use Rattle.spv_readings.specs.declared.saying.Saying.TheVariants.{Above}
-use Rattle.spv_course.proofs.Bridges.{if_ok}
+use Rattle.spv_derivations.specs.declared.derivation.entries.Part.TheVariants as part
+use Rattle.spv_tableau_rules.specs.declared.constraints.saying.RowConstraint.TheVariants.{Above}
+use Rattle.spv_derivations.proofs.derivation.Bridges.{if_ok}
 use Rattle.spv_share.specs.Relations.{sayable}
 use Rattle.spv_share.proofs.Allowed.{may_order}
 use Rattle.spv_share.proofs.Giving.{row_there}

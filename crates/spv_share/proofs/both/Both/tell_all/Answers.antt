@@ -1,5 +1,5 @@
 use Rattle.std.proofs.Common.{refl}
-use Rattle.spv_course.proofs.Bridges.{on_ok}
+use Rattle.spv_derivations.proofs.derivation.Bridges.{on_ok}
 use Rattle.spv_share.proofs.Claiming.{both_told, claimed_some, stays_grows, stays_told}
 use Rattle.spv_share.proofs.Sound.{sound_trail}
 use Rattle.spv_share.proofs.both.Both.tell_all.Goals as goal

@@ -1,5 +1,5 @@
 use Rattle.std.proofs.Common.{◌≡◌, drop}
-use Rattle.spv_tableaux.specs.Forms.{with_parts}
+use Rattle.spv_tableau_rules.specs.tableaux.Forms.{with_parts}
 use Rattle.spv_simplex.proofs.forms.Parts.add_form.Given as goal
 
 abbrev pub invariant-loop-part : goal.invariant-loop-part

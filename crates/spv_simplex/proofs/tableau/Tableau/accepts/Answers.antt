@@ -1,6 +1,6 @@
 use Rattle.std.proofs.Common.{rules, ◌≡◌, refl}
-use Rattle.spv_tableaux.specs.Bounds.{bound_on, other_side}
-use Rattle.spv_steps.specs.Trail.{IsFree}
+use Rattle.spv_tableau_rules.specs.tableaux.Bounds.{bound_on, other_side}
+use Rattle.spv_dictionary.specs.pivoting.Trail.{IsFree}
 use Rattle.spv_simplex.proofs.Accepting.{accepts_as, uncomparable_as}
 use Rattle.spv_simplex.proofs.tableau.Tableau.accepts.Goals as goal
 

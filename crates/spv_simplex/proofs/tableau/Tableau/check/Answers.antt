@@ -1,10 +1,10 @@
 use Rattle.std.proofs.Common.{rules, ◌≡◌, true, length, sym, ◌∙◌}
 use Rattle.std.proofs.lemmas.List.{with_items_is}
 use mathlib.Core.Path.{ap₂}
-use Rattle.spv_rational.specs.Rational.{Rational}
+use Rattle.spv_frac.specs.rational.Rational.{Rational}
 use Rattle.std.specs.Prelude.{List, ℕ}
-use Rattle.spv_shifts.specs.Shifts.{value_in}
-use Rattle.spv_steps.specs.Choosing.{are_met}
+use Rattle.spv_dictionary.specs.updates.Shifts.{value_in}
+use Rattle.spv_dictionary.specs.pivoting.Choosing.{are_met}
 use Rattle.spv_simplex.proofs.Checking.{ends_as, rows_in_basis, basis_fits, basis_recorded, ended_keeps, ended_checks, found_keeps, found_checks, checks_as, checks_hold}
 use Rattle.spv_simplex.proofs.tableau.Tableau.check.Goals as goal
 

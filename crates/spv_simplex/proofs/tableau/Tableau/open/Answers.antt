@@ -1,6 +1,6 @@
 use Rattle.std.proofs.Common.{rules, ◌≡◌, ◌≤◌, ◌+◌, length, replicate}
 use Rattle.std.specs.Prelude.{vec_capacity}
-use Rattle.spv_tableaux.specs.Numbers.{nothing}
+use Rattle.spv_tableau_rules.specs.tableaux.Numbers.{nothing}
 use Rattle.spv_simplex.proofs.Calls.{opened_as}
 use Rattle.spv_simplex.proofs.tableau.Tableau.open.Goals as goal
 

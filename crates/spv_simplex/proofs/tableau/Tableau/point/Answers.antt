@@ -2,8 +2,8 @@ use Rattle.std.proofs.Common.{◌≡◌, List, true, slice_index_or, sym, ap, �
 use Rattle.std.specs.List.{list_any}
 use Rattle.spv_logic.specs.declared.conditions.TermId.{TermId}
 use Rattle.spv_atoms.specs.Order.{same_id}
-use Rattle.spv_rational.specs.Rational.{Rational}
-use Rattle.spv_tableaux.specs.Forms.{part_ids}
+use Rattle.spv_frac.specs.rational.Rational.{Rational}
+use Rattle.spv_tableau_rules.specs.tableaux.Forms.{part_ids}
 use Rattle.spv_simplex.specs.State.{State, value_of}
 use Rattle.spv_simplex.proofs.Reading.{is_there, value_is}
 use Rattle.spv_simplex.proofs.tableau.Tableau.point.Goals as goal

@@ -1,6 +1,6 @@
 use Rattle.std.proofs.Common.{List, ◌+◌, slice_index_or, subst, length, ◌<◌, sym, ap, ◌∙◌}
-use Rattle.spv_rational.specs.Rational.{Rational}
-use Rattle.spv_tableaux.specs.Rows.{column_of}
+use Rattle.spv_frac.specs.rational.Rational.{Rational}
+use Rattle.spv_tableau_rules.specs.tableaux.Rows.{column_of}
 use Rattle.spv_simplex.specs.State.{State, kept_point, rows_in}
 use Rattle.spv_simplex.proofs.Reading.{row_value_is}
 use Rattle.spv_simplex.proofs.tableau.Tableau.row_value.Goals as goal

@@ -1,6 +1,0 @@
-//! Which tokens begin a text, and at which line tokens that are no text go wrong.
-#![tactic(auto)]
-
-mod laws;
-
-pub use laws::{law_among, law_examples, law_one_line, law_prefixes};

@@ -1,6 +1,0 @@
-use Rattle.spv_sums.specs.Readings.{number_in}
-use Rattle.spv_bounds.proofs.Pairing.{not_two}
-use Rattle.spv_bounds.proofs.relation.number_pair.Goals as goal
-
-pub returns-then-args-ne2 : goal.returns-then-args-ne2
-returns-then-args-ne2 c = not_two c.args.terms.now (number_in c.args.terms.now) c.args.args.now c.if-args-ne2.true

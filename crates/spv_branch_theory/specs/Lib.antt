@@ -1,0 +1,5 @@
+pub mod model_construction
+pub mod consistency
+pub mod saturation
+pub mod search_invariant
+pub mod evidence

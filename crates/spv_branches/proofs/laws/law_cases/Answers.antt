@@ -1,8 +1,0 @@
-use Rattle.spv_branches.proofs.Telling.{others-new, last-in}
-use Rattle.spv_branches.proofs.laws.law_cases.Goals as goal
-
-pub returns-clause-new : goal.returns-clause-new
-returns-clause-new c = others-new
-
-pub returns-clause-last : goal.returns-clause-last
-returns-clause-last c = last-in

@@ -1,6 +1,0 @@
-use Rattle.std.proofs.Common.{◌∙◌}
-use Rattle.spv_chains.proofs.TestLemmas.{sort_test}
-use Rattle.spv_chains.proofs.tests.same_sort.Goals as goal
-
-pub returns : goal.returns
-returns c = c.eq.ensures ∙ sort_test c.args.left c.args.right

@@ -1,9 +1,0 @@
-//! Terms of one head, each with the next one behind it; and tests of terms.
-#![tactic(auto)]
-
-mod linking;
-mod places;
-mod tests;
-
-pub use linking::chains;
-pub use tests::{comparable, is_connective, is_number, is_truth, is_truth_value};

@@ -1,5 +1,0 @@
-use Rattle.spv_changed.proofs.Events.{SoFar}
-use Rattle.spv_changed.proofs.changing.changed_roots.Given as goal
-
-abbrev pub invariant-loop-event : goal.invariant-loop-event
-invariant-loop-event l = SoFar l.program l.events l.event-index l.roots l.callees

@@ -1,7 +1,0 @@
-use Rattle.std.proofs.Common.{◌≡◌, ◌++◌, drop, map}
-use Rattle.spv_changed.specs.Roots.{class_row, rows_of}
-use Rattle.spv_changed.proofs.roots.add_classes.Given as goal
-
-abbrev pub invariant-loop-t : goal.invariant-loop-t
-invariant-loop-t l =
-    rows_of l.rows.items ++ map class_row (drop l.t-index l.types) ≡ rows_of l.initial.rows.items ++ map class_row l.types

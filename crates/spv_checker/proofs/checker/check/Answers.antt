@@ -1,5 +1,0 @@
-use Rattle.spv_checker.proofs.Nodes.{if_accepted}
-use Rattle.spv_checker.proofs.checker.check.Goals as goal
-
-pub returns-clause-accepted : goal.returns-clause-accepted
-returns-clause-accepted c = if_accepted c.args.terms.now c.check_nodes.new.terms c.args.condition.now c.nodes.result.now c.args.proof.now c.nodes.ensures.nodes c.check_nodes.result c.check_nodes.ensures.outcome

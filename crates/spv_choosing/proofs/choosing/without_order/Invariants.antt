@@ -1,8 +1,0 @@
-use Rattle.std.specs.Prelude.{◌≡◌, false}
-use Rattle.spv_logic.specs.declared.conditions.TermId.{TermId}
-use Rattle.spv_choosing.specs.Choosing.{lacks_order}
-use Rattle.spv_known_facts.proofs.Turns.{AreBefore}
-use Rattle.spv_choosing.proofs.choosing.without_order.Given as goal
-
-abbrev pub invariant-loop-t : goal.invariant-loop-t
-invariant-loop-t l = AreBefore (λ (t : TermId). lacks_order l.terms l.values l.known t ≡ false) l.atoms l.t-index

@@ -1,8 +1,0 @@
-use Rattle.std.specs.Prelude.{◌≡◌, true, is_some}
-use Rattle.spv_logic.specs.declared.conditions.TermId.{TermId}
-use Rattle.spv_truths.specs.Passes.{at}
-use Rattle.spv_known_facts.proofs.Turns.{AreBefore}
-use Rattle.spv_choosing.proofs.choosing.without_value.Given as goal
-
-abbrev pub invariant-loop-t : goal.invariant-loop-t
-invariant-loop-t l = AreBefore (λ (t : TermId). is_some (at l.values t.0) ≡ true) l.atoms l.t-index

@@ -1,9 +1,0 @@
-use Rattle.spv_choosing.proofs.Questions.{questions-filled}
-use Rattle.spv_choosing.proofs.Filled.{nothing_left}
-use Rattle.spv_choosing.proofs.laws.law_full.Goals as goal
-
-pub returns-clause-questions : goal.returns-clause-questions
-returns-clause-questions c = questions-filled
-
-pub returns-clause-filled : goal.returns-clause-filled
-returns-clause-filled c = nothing_left

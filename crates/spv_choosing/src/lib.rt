@@ -1,8 +1,0 @@
-//! Which atom a search splits on next, and that nothing is missing where there is none.
-#![tactic(auto)]
-
-mod choosing;
-mod laws;
-
-pub use choosing::{Choice, choose};
-pub use laws::law_full;

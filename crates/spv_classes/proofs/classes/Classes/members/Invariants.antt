@@ -1,9 +1,0 @@
-use Rattle.std.proofs.Common.{◌≡◌, ◌++◌, ◌-◌, ◌<◌}
-use Rattle.spv_classes.specs.Classes.{ring_from, size}
-use Rattle.spv_classes.proofs.classes.Classes.members.Given as goal
-
-abbrev pub invariant-loop : goal.invariant-loop
-invariant-loop l = record {
-  at : l.at < l.self.count;
-  whole : l.members.items ++ ring_from l.self.joins l.at (size l.self.joins l.label - l.counter) ≡ ring_from l.self.joins l.label (size l.self.joins l.label);
-}

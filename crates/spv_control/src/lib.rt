@@ -1,4 +1,0 @@
-//! Programs without routines, NEW and assignments to parts: true conditions make them correct.
-#![tactic(auto)]
-
-pub mod laws;

@@ -1,6 +1,0 @@
-use Rattle.std.proofs.Common.{◌≡◌, map, take}
-use Rattle.spv_copies.specs.Copies.{image_in}
-use Rattle.spv_copies.proofs.copying.images_of.Given as goal
-
-abbrev pub invariant-loop-t : goal.invariant-loop-t
-invariant-loop-t l = l.found.items ≡ map (image_in l.order l.images) (take l.t-index l.list)

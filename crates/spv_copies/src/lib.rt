@@ -1,8 +1,0 @@
-//! A condition in an arena of its own, in which nothing else stands but 0, 1, TRUE and FALSE.
-#![tactic(auto)]
-
-mod arenas;
-mod copying;
-mod filling;
-
-pub use filling::{Base, Copied, copy_condition};

@@ -1,6 +1,0 @@
-use Rattle.std.proofs.Common.{◌≡◌, drop}
-use Rattle.spv_counted_changes.specs.Counted.{is_counted}
-use Rattle.spv_counted_changes.proofs.counted.is_counted.Given as goal
-
-abbrev pub invariant-loop-v : goal.invariant-loop-v
-invariant-loop-v l = is_counted (drop l.v-index l.counted) l.x ≡ is_counted l.counted l.x

@@ -1,8 +1,0 @@
-use Rattle.spv_course.proofs.Bridges.{if_ok}
-use Rattle.spv_course.proofs.Derivations.{evaluation-false}
-use Rattle.spv_course.proofs.course.Course.equal_to_false.Goals as goal
-
-pub returns-clause-gains : goal.returns-clause-gains
-returns-clause-gains c =
-    if_ok c.evaluated_by.result c.evaluated_by.ensures.gains
-    (λ n g a f p t e. g a _ f (evaluation-false a c.args.self.now c.args.p c.args.falsity c.args.k p t e))

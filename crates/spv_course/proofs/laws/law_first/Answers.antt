@@ -1,8 +1,0 @@
-use Rattle.spv_course.proofs.Growth.{course-take, fact_at-more}
-use Rattle.spv_course.proofs.laws.law_first.Goals as goal
-
-pub returns-clause-first : goal.returns-clause-first
-returns-clause-first c a es n f = course-take a es n f
-
-pub returns-clause-facts : goal.returns-clause-facts
-returns-clause-facts c a es more n t h = fact_at-more a es more n t h

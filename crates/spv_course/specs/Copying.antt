@@ -1,6 +1,0 @@
--- What the code has copied, as the definitions see it.
-use Rattle.spv_course.specs.declared.copying.Copied.{Copied}
-use Rattle.spv_course.specs.Steps as steps
-
-abbrev pub copying : Copied → steps.Copied
-copying c = record { next = c.next; numbers = c.numbers.items; steps = c.steps.items }

@@ -1,8 +1,0 @@
-pub mod Course
-pub mod Derived
-pub mod Sides
-pub mod Renumbered
-pub mod Steps
-pub mod Copying
-pub mod Laws
-pub mod Literals

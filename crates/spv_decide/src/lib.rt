@@ -1,6 +1,0 @@
-//! Deciding a condition: a search for a proof of it is opened and made.
-#![tactic(auto)]
-
-mod deciding;
-
-pub use deciding::decide;

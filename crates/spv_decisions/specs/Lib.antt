@@ -1,0 +1,3 @@
+pub mod literal_lookup
+pub mod decision
+pub mod heuristic

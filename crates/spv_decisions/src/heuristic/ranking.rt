@@ -1,0 +1,227 @@
+// The formulas of a condition in the order in which they are looked at: the goal, and the others by how near to it their variables are.
+
+ghost use Rattle.std.specs.Prelude.{◌<◌, length, IfOk, OnOk};
+ghost use Rattle.spv_term.specs.Arena.{AllBelow};
+
+use crate::heuristic::parts::formulas_of;
+use spv_search_terms::subterms::subterms;
+use spv_term::{Condition, Head, TermId, Terms};
+use std::alloc::{AllocError, Global};
+
+// Whether a term is a variable or a symbol without arguments.
+fn is_name(terms: &Terms, t: TermId) -> bool
+    requires { t.0 < length terms.now.nodes }
+{
+    let node = terms.node(t);
+    node.args.as_slice().is_empty() && !matches!(node.head, Head::Num(_) | Head::True | Head::False)
+}
+
+// The variables among these terms.
+fn names_among(alloc: Global, terms: &Terms, ids: &[TermId]) -> Result<Vec<TermId>, AllocError>
+    requires { AllBelow (length terms.now.nodes) ids.now }
+{
+    let mut names = Vec::new(alloc);
+    for t in ids {
+        if is_name(terms, *t) {
+            names.push(*t)?;
+        }
+    }
+    Ok(names)
+}
+
+// The variables of a formula.
+fn names_of(alloc: Global, terms: &Terms, f: TermId) -> Result<Vec<TermId>, AllocError>
+    requires { f.0 < length terms.now.nodes }
+{
+    let found = subterms(alloc, terms, &[f])?;
+    names_among(alloc, terms, found.as_slice())
+}
+
+// The variables of each of these formulas.
+fn all_names(
+    alloc: Global,
+    terms: &Terms,
+    formulas: &[TermId],
+) -> Result<Vec<Vec<TermId>>, AllocError>
+    requires { AllBelow (length terms.now.nodes) formulas.now }
+{
+    let mut names = Vec::new(alloc);
+    for f in formulas {
+        names.push(names_of(alloc, terms, *f)?)?;
+    }
+    Ok(names)
+}
+
+// Lists for so many terms, all of them empty.
+fn no_uses(alloc: Global, count: u32) -> Result<Vec<Vec<usize>>, AllocError> {
+    let mut uses = Vec::new(alloc);
+    for _ in 0..count {
+        uses.push(Vec::new(alloc))?;
+    }
+    Ok(uses)
+}
+
+// A formula has these variables.
+fn add_uses(
+    uses: &mut Vec<Vec<usize>>,
+    names: &[TermId],
+    formula: usize,
+) -> Result<(), AllocError> {
+    for t in names {
+        if let Some(list) = uses.get_mut(t.0 as usize) {
+            list.push(formula)?;
+        }
+    }
+    Ok(())
+}
+
+// Beside each term the formulas whose variable it is, by their places.
+fn uses_of(
+    alloc: Global,
+    count: u32,
+    names: &[Vec<TermId>],
+) -> Result<Vec<Vec<usize>>, AllocError> {
+    let mut uses = no_uses(alloc, count)?;
+    for formula in 0..names.len() {
+        add_uses(&mut uses, names[formula].as_slice(), formula)?;
+    }
+    Ok(uses)
+}
+
+// The formulas that are in order so far, by their places, and which ones they are.
+#[derive(Drop)]
+struct Ranking {
+    order: Vec<usize>,
+    has: Vec<bool>,
+}
+
+impl Ranking {
+    // No formula of so many is in order.
+    fn new(alloc: Global, count: usize) -> Result<Ranking, AllocError> {
+        let mut has = Vec::new(alloc);
+        for _ in 0..count {
+            has.push(false)?;
+        }
+        Ok(Ranking {
+            order: Vec::new(alloc),
+            has,
+        })
+    }
+
+    // Puts a formula behind the others, if it is new.
+    fn add(&mut self, formula: usize) -> Result<(), AllocError> {
+        if let Some(has) = self.has.get_mut(formula) {
+            if !*has {
+                *has = true;
+                self.order.push(formula)?;
+            }
+        }
+        Ok(())
+    }
+
+    // Puts these formulas behind the others, where they are new.
+    fn add_all(&mut self, formulas: &[usize]) -> Result<(), AllocError> {
+        for formula in formulas {
+            self.add(*formula)?;
+        }
+        Ok(())
+    }
+
+    // Puts the formulas behind the others that share a variable with this one.
+    fn add_near(
+        &mut self,
+        names: &[Vec<TermId>],
+        uses: &mut Vec<Vec<usize>>,
+        formula: usize,
+    ) -> Result<(), AllocError> {
+        let Some(own) = names.get(formula) else {
+            return Ok(());
+        };
+        for t in own.as_slice() {
+            if let Some(list) = uses.get_mut(t.0 as usize) {
+                self.add_all(list.as_slice())?;
+                list.clear();
+            }
+        }
+        Ok(())
+    }
+
+    // Goes on from each formula in order to those that share a variable with it.
+    fn spread(
+        &mut self,
+        names: &[Vec<TermId>],
+        uses: &mut Vec<Vec<usize>>,
+    ) -> Result<(), AllocError> {
+        for place in 0..names.len() {
+            if place < self.order.len() {
+                let formula = self.order[place];
+                self.add_near(names, uses, formula)?;
+            }
+        }
+        Ok(())
+    }
+
+    // Puts all formulas behind the others that are not there yet.
+    fn fill(&mut self, count: usize) -> Result<(), AllocError> {
+        for formula in 0..count {
+            self.add(formula)?;
+        }
+        Ok(())
+    }
+}
+
+// Puts the formula at a place behind others, if there is one.
+fn push_at(
+    terms: &Terms,
+    list: &mut Vec<TermId>,
+    formulas: &[TermId],
+    place: usize,
+) -> Result<(), AllocError>
+    requires { AllBelow (length terms.now.nodes) formulas.now }
+    ensures { OnOk result (AllBelow (length terms.now.nodes) list.old.items → AllBelow (length terms.now.nodes) list.new.items) }
+{
+    let _ = terms;
+    if place >= formulas.len() {
+        return Ok(());
+    }
+    list.push(formulas[place])?;
+    Ok(())
+}
+
+// These formulas in the order of these places.
+fn placed(
+    alloc: Global,
+    terms: &Terms,
+    formulas: &[TermId],
+    order: &[usize],
+) -> Result<Vec<TermId>, AllocError>
+    requires { AllBelow (length terms.now.nodes) formulas.now }
+    ensures { IfOk result (λ fs. AllBelow (length terms.now.nodes) fs.items) }
+{
+    let mut list = Vec::new(alloc);
+    for place in order {
+        push_at(terms, &mut list, formulas, *place)?;
+    }
+    Ok(list)
+}
+
+/// The goal of a condition, and behind it its hypotheses, each conjunction in its parts; the nearer the variables of one are to the goal's, the
+/// earlier it comes.
+pub(crate) fn ranked(
+    alloc: Global,
+    terms: &Terms,
+    condition: &Condition,
+) -> Result<Vec<TermId>, AllocError>
+    requires given { AllBelow (length terms.now.nodes) condition.now.given }
+    requires goal { condition.now.goal.0 < length terms.now.nodes }
+    ensures { IfOk result (λ fs. AllBelow (length terms.now.nodes) fs.items) }
+{
+    let formulas = formulas_of(alloc, terms, condition)?;
+    let names = all_names(alloc, terms, formulas.as_slice())?;
+    let mut uses = uses_of(alloc, terms.len(), names.as_slice())?;
+    let mut ranking = Ranking::new(alloc, formulas.len())?;
+    ranking.add(0)?;
+    ranking.spread(names.as_slice(), &mut uses)?;
+    ranking.fill(formulas.len())?;
+    placed(alloc, terms, formulas.as_slice(), ranking.order.as_slice())
+}

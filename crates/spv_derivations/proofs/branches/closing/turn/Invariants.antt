@@ -1,0 +1,9 @@
+use Rattle.std.proofs.Common.{length}
+use Rattle.spv_derivations.proofs.branches.Turning.{Turning}
+use Rattle.spv_derivations.proofs.branches.closing.turn.Given as goal
+
+abbrev pub invariant-loop-step : goal.invariant-loop-step
+invariant-loop-step l = Turning l.other.items l.left.items l.fn.steps.items
+
+abbrev pub decreases-loop-step : goal.decreases-loop-step
+decreases-loop-step l = length l.left.items

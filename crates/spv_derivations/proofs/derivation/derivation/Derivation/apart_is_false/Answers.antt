@@ -1,0 +1,8 @@
+use Rattle.spv_derivations.proofs.derivation.Bridges.{if_ok}
+use Rattle.spv_derivations.proofs.derivation.Derivations.{evaluation-apart}
+use Rattle.spv_derivations.proofs.derivation.derivation.Derivation.apart_is_false.Goals as goal
+
+pub returns-clause-gains : goal.returns-clause-gains
+returns-clause-gains c =
+    if_ok c.evaluated_by.result c.evaluated_by.ensures.gains
+    (λ n g a f h t. g a _ f (evaluation-apart a c.args.self.now c.args.p c.args.falsity c.args.k h t))

@@ -1,0 +1,8 @@
+use Rattle.spv_derivations.proofs.derivation.Bridges.{if_ok}
+use Rattle.spv_derivations.proofs.derivation.Derivations.{evaluation-true}
+use Rattle.spv_derivations.proofs.derivation.derivation.Derivation.equal_to_true.Goals as goal
+
+pub returns-clause-gains : goal.returns-clause-gains
+returns-clause-gains c =
+    if_ok c.evaluated_by.result c.evaluated_by.ensures.gains
+    (λ n g a f p t e. g a _ f (evaluation-true a c.args.self.now c.args.p c.args.truth c.args.k p t e))

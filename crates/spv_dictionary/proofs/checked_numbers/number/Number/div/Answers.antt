@@ -1,0 +1,6 @@
+use Rattle.std.proofs.Common.{◌∙◌}
+use Rattle.spv_dictionary.proofs.checked_numbers.Seen.{quotient_seen}
+use Rattle.spv_dictionary.proofs.checked_numbers.number.Number.div.Goals as goal
+
+pub returns-in-Ok-clause-value : goal.returns-in-Ok-clause-value
+returns-in-Ok-clause-value c = c.of.ensures ∙ quotient_seen c.args.self c.args.other _ _ c.in-Ok.frac c.requires c.frac.ensures c.frac-2.ensures c.in-Ok.ensures.value

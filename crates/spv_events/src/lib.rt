@@ -1,8 +1,0 @@
-//! What a walk over statements makes, in order, and the limits that it meets.
-#![tactic(auto)]
-
-mod faults;
-mod laws;
-
-pub use faults::{GenFault, LONGEST_LIST};
-pub use laws::{law_examples, law_limits, law_walks};

@@ -1,5 +1,0 @@
-use Rattle.spv_expected.proofs.Texts.{programs_stop, programs_leave, programs_take}
-use Rattle.spv_expected.proofs.laws.law_program_stops.Goals as goal
-
-pub returns : goal.returns
-returns c = record { stops = programs_stop; surplus = programs_leave; levels = programs_take }

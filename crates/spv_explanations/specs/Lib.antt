@@ -1,0 +1,2 @@
+pub mod equalities
+pub mod congruence_side

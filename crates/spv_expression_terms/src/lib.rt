@@ -1,0 +1,8 @@
+//! `postfix`: Terms built in the arena from their heads in postfix order.
+//! `term_walk`: The terms of typed formulas, and of typed expressions and places without calls, written head by head in postfix order, and made in the arena.
+//! `makeable_terms`: The terms of well typed formulas, expressions and places are such as an arena may have.
+#![tactic(auto)]
+
+pub mod makeable_terms;
+pub mod postfix;
+pub mod term_walk;

@@ -1,4 +1,0 @@
-//! Facts about the definitions that a doubter wants to see: division, fields, places.
-#![tactic(auto)]
-
-pub mod laws;

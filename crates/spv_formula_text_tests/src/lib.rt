@@ -1,5 +1,0 @@
-//! Tests of typed formula texts.
-#![tactic(auto)]
-
-#[cfg(test)]
-mod formulas;

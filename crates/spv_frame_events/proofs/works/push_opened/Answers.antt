@@ -1,6 +1,0 @@
-use Rattle.std.proofs.Common.{}
-use Rattle.spv_frame_events.proofs.Stacks.{pushed_all, on_ok}
-use Rattle.spv_frame_events.proofs.works.push_opened.Goals as goal
-
-pub returns : goal.returns
-returns c = on_ok c.push-3.result c.push-3.ensures (λ k. pushed_all _ _ _ _ _ c.in_ok-push.ensures c.in_ok-push-2.ensures k)

@@ -1,8 +1,0 @@
-use Rattle.std.proofs.Common.{◌∷◌, []}
-use Rattle.spv_reading.specs.Readers.{starting, all_items}
-use Rattle.spv_reading.specs.TypeReaders.{begins_name}
-use Rattle.spv_front.specs.Lists.{first_and, ItemsSoFar}
-use Rattle.spv_front.proofs.lists.others.Given as goal
-
-abbrev pub invariant-loop : goal.invariant-loop
-invariant-loop g l = ItemsSoFar [] ◌∷◌ (starting begins_name (g.R.PartReader.reader l.levels)) (first_and l.fn.first (all_items [] ◌∷◌ (starting begins_name (g.R.PartReader.reader l.levels))) l.tokens) l.end l.counter l.parts.items l.rest

@@ -1,7 +1,0 @@
-//! What the reading of each part of a text needs: why a part is not read, the first tokens, lists, and constants.
-#![tactic(auto)]
-
-pub mod constants;
-pub mod fault;
-pub mod front;
-pub mod lists;

@@ -1,6 +1,0 @@
-use Rattle.spv_congruence.specs.Graph.{label_of}
-use Rattle.spv_full_tables.proofs.FirstLemmas.{Firsting}
-use Rattle.spv_full_tables.proofs.firsts.firsts.Given as goal
-
-abbrev pub invariant-loop-place : goal.invariant-loop-place
-invariant-loop-place l = Firsting (label_of l.graph.joins) l.ids l.flags l.place l.seen l.places.items

@@ -1,6 +1,0 @@
-use Rattle.std.proofs.Common.{◌≡◌}
-use Rattle.spv_full_tables.specs.Numbers.{listed_to}
-use Rattle.spv_full_tables.proofs.full.values.Given as goal
-
-abbrev pub invariant-loop-place : goal.invariant-loop-place
-invariant-loop-place l = l.values.items ≡ listed_to l.terms l.both l.ids l.flags l.firsts l.place

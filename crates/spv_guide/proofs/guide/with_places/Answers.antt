@@ -1,6 +1,0 @@
-use Rattle.std.proofs.Common.{length, arith}
-use Rattle.spv_guide.proofs.Places.{item_in}
-use Rattle.spv_guide.proofs.guide.with_places.Goals as goal
-
-pub places_of-requires : goal.places_of-requires
-places_of-requires c = item_in (length c.args.terms.now.nodes) c.args.formulas.now c.loop-f.f-index (record { 0 = 0 }) c.requires (omega (arith, c.loop-f-test.true))

@@ -1,7 +1,0 @@
-use Rattle.std.proofs.Common.{◌≡◌}
-use Rattle.spv_joined.specs.Laws.{Listed}
-use Rattle.spv_joined.proofs.Kept.{kept}
-use Rattle.spv_joined.proofs.law_kept.Goals as goal
-
-pub returns : goal.returns
-returns c a ok ids f r s t h k d = kept a ok (Listed ids) (λ x y. x ≡ y) f r s t h k d

@@ -1,5 +1,0 @@
-use Rattle.spv_known.proofs.Turns.{AreEither}
-use Rattle.spv_known.proofs.following.first_question.Given as goal
-
-abbrev pub invariant-loop-t : goal.invariant-loop-t
-invariant-loop-t l = AreEither l.terms l.lists.direct.items l.lists.cores.items l.lists.all.items l.questions l.t-index

@@ -1,6 +1,0 @@
-//! What facts give as they become more. Theorems; there is no code.
-#![tactic(auto)]
-
-mod laws;
-
-pub use laws::law_known_growth;

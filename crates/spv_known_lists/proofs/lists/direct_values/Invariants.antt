@@ -1,5 +1,0 @@
-use Rattle.spv_known_lists.specs.Values.{direct_value, Said, ListedFor}
-use Rattle.spv_known_lists.proofs.lists.direct_values.Given as goal
-
-abbrev pub invariant-loop-i : goal.invariant-loop-i
-invariant-loop-i l = ListedFor l.terms (Said l.terms l.given) direct_value l.i l.values.items

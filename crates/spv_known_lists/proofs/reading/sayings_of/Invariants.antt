@@ -1,7 +1,0 @@
-use Rattle.std.proofs.Common.{drop}
-use Rattle.spv_known.specs.Facts.{facts_of}
-use Rattle.spv_known_lists.proofs.AllFacts.{SaidSoFar}
-use Rattle.spv_known_lists.proofs.reading.sayings_of.Given as goal
-
-abbrev pub invariant-loop-k : goal.invariant-loop-k
-invariant-loop-k l = SaidSoFar l.terms (facts_of l.terms l.known) (facts_of l.terms (drop l.k-index l.known)) l.sayings

@@ -1,0 +1,111 @@
+// The last lines of a page of verdicts.
+
+ghost use Rattle.std.specs.Prelude.{◌≡◌, ◌++◌, OnOk};
+ghost use Rattle.std.specs.List.{count_by};
+ghost use Rattle.spv_listing.specs.printed.Printed.{line};
+ghost use Rattle.spv_listing.specs.verdict_pages.Totals as spec;
+ghost use Rattle.spv_listing.specs.verdict_pages.Totals.{counts_line, result_text, total_lines};
+
+use crate::printed::push_decimal;
+use crate::verdict_pages::tallies::one_if;
+use spv_verdicts::answers::{Decided, Verdict};
+use std::alloc::AllocError;
+
+// Whether a verdict is Proved.
+fn is_proved(decided: &Decided) -> bool
+    ensures { result ≡ spec.is_proved decided.now }
+{
+    matches!(&decided.verdict, Verdict::Proved(_))
+}
+
+// How many verdicts are Proved.
+fn count_proved(verdicts: &[Decided]) -> usize
+    ensures { result ≡ count_by spec.is_proved verdicts.now }
+{
+    let mut number = 0;
+    for decided in verdicts {
+        number += one_if(is_proved(decided));
+    }
+    number
+}
+
+// Whether a verdict is Unproved.
+fn is_unproved(decided: &Decided) -> bool
+    ensures { result ≡ spec.is_unproved decided.now }
+{
+    matches!(&decided.verdict, Verdict::Unproved(_))
+}
+
+// How many verdicts are Unproved.
+fn count_unproved(verdicts: &[Decided]) -> usize
+    ensures { result ≡ count_by spec.is_unproved verdicts.now }
+{
+    let mut number = 0;
+    for decided in verdicts {
+        number += one_if(is_unproved(decided));
+    }
+    number
+}
+
+// Whether a verdict is GaveUp.
+fn is_given_up(decided: &Decided) -> bool
+    ensures { result ≡ spec.is_given_up decided.now }
+{
+    matches!(&decided.verdict, Verdict::GaveUp(_))
+}
+
+// How many verdicts are GaveUp.
+fn count_given_up(verdicts: &[Decided]) -> usize
+    ensures { result ≡ count_by spec.is_given_up verdicts.now }
+{
+    let mut number = 0;
+    for decided in verdicts {
+        number += one_if(is_given_up(decided));
+    }
+    number
+}
+
+// The line of these counts.
+fn push_counts(
+    out: &mut Vec<u8>,
+    proved: u64,
+    unproved: u64,
+    given_up: u64,
+) -> Result<(), AllocError>
+    ensures { OnOk result (out.new.items ≡ out.old.items ++ counts_line proved unproved given_up) }
+{
+    out.extend_from_slice(b"TOTAL ")?;
+    push_decimal(out, proved)?;
+    out.extend_from_slice(b" PROVED ")?;
+    push_decimal(out, unproved)?;
+    out.extend_from_slice(b" UNPROVED ")?;
+    push_decimal(out, given_up)?;
+    out.extend_from_slice(b" GAVE UP\n")?;
+    Ok(())
+}
+
+// The line of the result.
+fn push_result(out: &mut Vec<u8>, unproved: u64, given_up: u64) -> Result<(), AllocError>
+    ensures { OnOk result (out.new.items ≡ out.old.items ++ line (result_text unproved given_up)) }
+{
+    if unproved > 0 {
+        out.extend_from_slice(b"RESULT UNPROVED\n")?;
+    } else if given_up > 0 {
+        out.extend_from_slice(b"RESULT GAVE UP\n")?;
+    } else {
+        out.extend_from_slice(b"RESULT PROVED\n")?;
+    }
+    Ok(())
+}
+
+/// Adds the last lines of a page of verdicts: how many of each kind there are, and the result, which is `UNPROVED` where some verdict is,
+/// else `GAVE UP` where some verdict is, else `PROVED`.
+pub fn push_totals(out: &mut Vec<u8>, verdicts: &[Decided]) -> Result<(), AllocError>
+    ensures lines { OnOk result (out.new.items ≡ out.old.items ++ total_lines verdicts.now) }
+{
+    let proved = count_proved(verdicts) as u64;
+    let unproved = count_unproved(verdicts) as u64;
+    let given_up = count_given_up(verdicts) as u64;
+    push_counts(out, proved, unproved, given_up)?;
+    push_result(out, unproved, given_up)
+}

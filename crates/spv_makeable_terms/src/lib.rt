@@ -1,6 +1,0 @@
-//! The terms of well typed formulas, expressions and places are such as an arena may have.
-#![tactic(auto)]
-
-mod laws;
-
-pub use laws::{law_scopes, law_sorted};

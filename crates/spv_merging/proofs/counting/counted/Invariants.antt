@@ -1,5 +1,0 @@
-use Rattle.spv_merging.proofs.Counts.{CountedSoFar}
-use Rattle.spv_merging.proofs.counting.counted.Given as goal
-
-abbrev pub invariant-loop-place : goal.invariant-loop-place
-invariant-loop-place l = CountedSoFar l.base l.firsts l.place l.before.items l.count

@@ -1,6 +1,0 @@
-use Rattle.spv_merging.proofs.Alike.{numbers_more}
-use Rattle.spv_merging.proofs.firsts.numbers.Goals as goal
-
-pub loop-place-preserved : goal.loop-place-preserved
-loop-place-preserved c =
-    numbers_more c.args.targets.now c.loop-place.place c.loop-place.numbers.items c.push.new.items.items _ c.loop-place-test.true c.in_ok-push.ensures c.loop-place.invariant

@@ -1,6 +1,0 @@
-use Rattle.std.proofs.Common.{◌≡◌, map, take}
-use Rattle.spv_merging.specs.Rounds.{target_first}
-use Rattle.spv_merging.proofs.rounds.targets_seen.Given as goal
-
-abbrev pub invariant-loop-target : goal.invariant-loop-target
-invariant-loop-target l = l.seen.items ≡ map (target_first l.firsts) (take l.target-index l.targets)

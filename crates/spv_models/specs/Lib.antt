@@ -1,0 +1,2 @@
+pub mod leaf_models
+pub mod split_trees

@@ -1,6 +1,0 @@
-use Rattle.std.proofs.Common.{◌≡◌, ◌++◌, map, take}
-use Rattle.spv_named.specs.Entries.{under}
-use Rattle.spv_named.proofs.Named.put_names.Given as goal
-
-abbrev pub invariant-loop-place : goal.invariant-loop-place
-invariant-loop-place g l = l.self ≡ l.initial.self ++ map (under l.value) (take l.place l.names)

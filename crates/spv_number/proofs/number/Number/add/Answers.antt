@@ -1,6 +1,0 @@
-use Rattle.std.proofs.Common.{◌∙◌}
-use Rattle.spv_number.proofs.Seen.{sum_seen}
-use Rattle.spv_number.proofs.number.Number.add.Goals as goal
-
-pub returns-in-Ok-clause-value : goal.returns-in-Ok-clause-value
-returns-in-Ok-clause-value c = c.of.ensures ∙ sum_seen c.args.self c.args.other _ _ c.in-Ok.frac c.frac.ensures c.frac-2.ensures c.in-Ok.ensures.value

@@ -1,8 +1,0 @@
-use Rattle.std.proofs.Common.{ap, ◌∙◌}
-use Rattle.spv_rational.specs.Rational.{number, whole}
-use Rattle.spv_rational.proofs.Field.{number_whole}
-use Rattle.spv_atoms.proofs.Sums.{narrow}
-use Rattle.spv_number.proofs.number.Number.whole.Goals as goal
-
-pub returns : goal.returns
-returns c = c.of.ensures ∙ ap number c.fraction_of.ensures ∙ number_whole _ ∙ ap whole (narrow c.args.n c.requires)

@@ -1,6 +1,0 @@
-//! Fractions of 128 bits, seen as the rational numbers that they are.
-#![tactic(auto)]
-
-mod number;
-
-pub use number::{Number, Refused};

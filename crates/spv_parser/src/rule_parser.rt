@@ -1,0 +1,3 @@
+//! Rule files from tokens.
+
+pub mod rules;

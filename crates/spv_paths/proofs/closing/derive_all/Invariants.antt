@@ -1,9 +1,0 @@
-use Rattle.std.proofs.Common.{length}
-use Rattle.spv_paths.proofs.Turning.{Putting}
-use Rattle.spv_paths.proofs.closing.derive_all.Given as goal
-
-abbrev pub invariant-loop-step : goal.invariant-loop-step
-invariant-loop-step l = Putting l.fn.path l.path l.left.items l.fn.steps.items
-
-abbrev pub decreases-loop-step : goal.decreases-loop-step
-decreases-loop-step l = length l.left.items

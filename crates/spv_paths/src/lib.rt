@@ -1,8 +1,0 @@
-//! The facts of a path of a search in the order in which they come, as a course, and the steps that close the path behind its cases.
-#![tactic(auto)]
-
-mod closing;
-mod laws;
-
-pub use closing::closed_behind;
-pub use laws::law_path;

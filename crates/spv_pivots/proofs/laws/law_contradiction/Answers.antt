@@ -1,9 +1,0 @@
-use Rattle.spv_pivots.proofs.Contradicting.{refutes}
-use Rattle.spv_pivots.proofs.Stuck.{stuck_contradicts}
-use Rattle.spv_pivots.proofs.laws.law_contradiction.Goals as goal
-
-pub returns-clause-stuck : goal.returns-clause-stuck
-returns-clause-stuck c = stuck_contradicts
-
-pub returns-clause-refutes : goal.returns-clause-refutes
-returns-clause-refutes c = refutes

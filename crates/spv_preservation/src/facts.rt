@@ -1,0 +1,3 @@
+//! Facts about the definitions that a doubter wants to see: division, fields, places.
+
+pub mod laws;

@@ -1,0 +1,28 @@
+use Rattle.spv_proof.proofs.sums.Pairs.{args-below, none_in}
+use Rattle.spv_proof.proofs.sums.Relations.{nothing-false, no-falsehood, lt-false, le-false}
+use Rattle.spv_proof.proofs.sums.reading.read_false.Goals as goal
+
+pub number_pair-requires : goal.number_pair-requires
+number_pair-requires c = args-below c.args.terms.now c.law_arena.ensures c.args.relation c.node-node.result.now c.node-node.ensures c.as_slice.result.now c.as_slice.ensures
+
+pub returns-in-Lt-clause-value : goal.returns-in-Lt-clause-value
+returns-in-Lt-clause-value c most shown =
+    lt-false c.args.terms.now c.law_arena.ensures c.args.relation c.node-node.result.now c.node-node.ensures c.as_slice.result.now c.as_slice.ensures c.in-Some.left c.in-Some.right c.in-Some.ensures.value
+    most shown c.new.result c.in-Lt.is c.new.ensures
+
+pub returns-in-Le-clause-value : goal.returns-in-Le-clause-value
+returns-in-Le-clause-value c most shown =
+    le-false c.args.terms.now c.law_arena.ensures c.args.relation c.node-node.result.now c.node-node.ensures c.as_slice.result.now c.as_slice.ensures c.in-Some.left c.in-Some.right c.in-Some.ensures.value
+    most shown c.new-in-Le.result c.in-Le.is c.new-in-Le.ensures
+
+pub returns-in_default : goal.returns-in_default
+returns-in_default c = record {
+  value = λ most shown. nothing-false c.args.terms.now c.law_arena.ensures c.args.relation c.node-node.result.now c.node-node.ensures c.as_slice.result.now c.as_slice.ensures c.in_default.ensures.value;
+  in_range = none_in _;
+}
+
+pub returns-in_default-head : goal.returns-in_default-head
+returns-in_default-head c = record {
+  value = λ most shown. no-falsehood c.args.terms.now c.law_arena.ensures c.args.relation c.node-node.result.now c.node-node.ensures c.as_slice.result.now c.as_slice.ensures c.in_default-head.not-Lt c.in_default-head.not-Le;
+  in_range = none_in _;
+}

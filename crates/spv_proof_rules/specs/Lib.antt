@@ -1,0 +1,9 @@
+pub mod Sums
+pub mod Evaluation
+pub mod Effects
+pub mod Accepted
+pub mod Stops
+pub mod Outcomes
+pub mod Stand
+pub mod Laws
+pub mod Examples

@@ -1,9 +1,0 @@
-//! The subterms, the atoms and the questions of a search as ids.
-#![tactic(auto)]
-
-mod adding;
-mod asking;
-mod equations;
-mod pairs;
-
-pub use asking::{Questions, ask};

@@ -1,4 +1,0 @@
-//! How tokens become trees: what is read at their front, and why it is the only tree that they spell.
-#![tactic(auto)]
-
-pub mod laws;

@@ -1,7 +1,0 @@
-//! The report on a program is made: its conditions, and where verdicts are wanted what is decided of each.
-#![tactic(auto)]
-
-mod deciding;
-mod making;
-
-pub use making::report_on;

@@ -1,0 +1,4 @@
+//! Types and declarations from tokens.
+
+pub mod declarations;
+pub mod types;

@@ -1,8 +1,0 @@
-use Rattle.spv_row_reasons.proofs.Refuting.{refuted_above, ends_by_one}
-use Rattle.spv_row_reasons.proofs.laws.law_refuted.Goals as goal
-
-pub returns-clause-above : goal.returns-clause-above
-returns-clause-above c = refuted_above
-
-pub returns-clause-ends : goal.returns-clause-ends
-returns-clause-ends c = ends_by_one

@@ -1,8 +1,0 @@
-use Rattle.spv_row_reasons.proofs.Readings.{above_is_sourced, below_is_sourced}
-use Rattle.spv_row_reasons.proofs.laws.law_supposed.Goals as goal
-
-pub returns-clause-above : goal.returns-clause-above
-returns-clause-above c = above_is_sourced
-
-pub returns-clause-below : goal.returns-clause-below
-returns-clause-below c = below_is_sourced

@@ -1,4 +1,0 @@
-//! Rule files from tokens.
-#![tactic(auto)]
-
-pub mod rules;

@@ -1,0 +1,4 @@
+pub mod evaluation
+pub mod statements
+pub mod control
+pub mod condition_sorts

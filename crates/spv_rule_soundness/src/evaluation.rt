@@ -1,0 +1,3 @@
+//! Evaluation and terms: what an expression without calls gives is what its term is worth.
+
+pub mod laws;

@@ -1,6 +1,0 @@
-use Rattle.std.proofs.Common.{◌≡◌, take}
-use Rattle.spv_scopes.specs.Symbols.{symbols_of}
-use Rattle.spv_scopes.proofs.ending.listed_symbols.Given as goal
-
-abbrev pub invariant-loop-place : goal.invariant-loop-place
-invariant-loop-place l = l.all ≡ symbols_of (take l.place l.table)

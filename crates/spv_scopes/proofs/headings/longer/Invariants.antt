@@ -1,5 +1,0 @@
-use Rattle.spv_scopes.specs.IndexedHeadings.{IsLonger}
-use Rattle.spv_scopes.proofs.headings.longer.Given as goal
-
-abbrev pub invariant-loop-place : goal.invariant-loop-place
-invariant-loop-place g l = IsLonger g.old l.places.items l.place

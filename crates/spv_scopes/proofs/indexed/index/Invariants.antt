@@ -1,5 +1,0 @@
-use Rattle.spv_scopes.specs.Indexed.{IndexedTo}
-use Rattle.spv_scopes.proofs.indexed.index.Given as goal
-
-abbrev pub invariant-loop-place : goal.invariant-loop-place
-invariant-loop-place l = IndexedTo l.place l.forms l.pointers.items

@@ -1,0 +1,35 @@
+-- What a search asks of its condition is there where it was opened, and what it finds is decided.
+use Rattle.std.proofs.Common.{◌≡◌, ℕ, List, Bool, sym, subst, Result, Ok, Err, IfOk}
+use Rattle.spv_logic.specs.declared.conditions.TermId.{TermId}
+use Rattle.spv_term.specs.declared.nodes.Condition.{Condition}
+use Rattle.spv_term.specs.Arena.{Arena}
+use Rattle.spv_verdicts.specs.Verdicts.{Limits}
+use Rattle.spv_verdicts.specs.declared.answers.verdicts.Verdict.{Verdict}
+use Rattle.spv_verdicts.specs.declared.answers.verdicts.Decided.{Decided}
+use Rattle.spv_verdicts.specs.answers.Views.{IsDecided}
+use Rattle.spv_branch_theory.specs.saturation.States.{AreListed}
+use Rattle.spv_search.specs.Searching.{IsSetUp}
+use Rattle.spv_search.specs.Finding.{IsFound}
+use Rattle.spv_trail.specs.declared.search_setup.outcomes.Opened.{Opened}
+use Rattle.spv_trail.specs.declared.search_setup.outcomes.Opening.{Opening}
+use Rattle.spv_trail.specs.declared.search_setup.outcomes.Opening.TheVariants as opening
+use Rattle.spv_trail.specs.search_setup.Openings.{IsOpened, IsOpening}
+use Rattle.spv_search.specs.deciding.Finding.{HasOpened, IsFoundFor}
+
+module _ (limits : Limits) (o : Opened) (h : HasOpened limits o) where
+  pub lists : (ids : List TermId) (flags : List Bool) → ids ≡ o.subterms → flags ≡ o.listed.items → AreListed o.terms o.condition ids flags
+  lists ids flags e f =
+      subst (λ (xs : List TermId). AreListed o.terms o.condition xs flags) (sym e)
+      (subst (λ (bs : List Bool). AreListed o.terms o.condition o.subterms bs) (sym f)
+      (record { in_range = h.opened.subterms.subterms_in; subterms = record { trees = h.opened.subterms.subterms; flags_are = h.opened.subterms.listed } }))
+
+  pub sets_up : (ids : List TermId) → ids ≡ o.atoms.items → IsSetUp o.terms o.condition ids o.ground limits o.both
+  sets_up ids e = subst (λ (xs : List TermId). IsSetUp o.terms o.condition xs o.ground limits o.both) (sym e) (record { opened = h.opened.opened; asked = h.opened.asked; pivots = h.opened.pivots })
+
+pub decided_of : (limits : Limits) (o : Opened) (v : Verdict) → IsFound o.terms o.condition limits v → (a : Arena) (c : Condition) → IsOpened a c limits.pivots o → IsDecided a c limits (record { terms = o.terms; condition = o.condition; verdict = v })
+decided_of limits o v f a c h = record { claim = h.claim; shapes = h.shapes; decls = h.decls; terms_in = f.terms_in; right = f.right }
+
+-- where it was opened for a condition, what it finds is decided of that one
+pub ready_decides : {E : Type 0} (a : Arena) (c : Condition) (limits : Limits) (most : ℕ) (p : Opening) (o : Opened) (r : Result Decided E) → p ≡ opening.Ready o → most ≡ limits.pivots → IsOpening a c most p → IfOk r (IsFoundFor limits o) → IfOk r (IsDecided a c limits)
+ready_decides a c limits most p o (Err e) is same h f = tt
+ready_decides a c limits most p o (Ok d) is same h f = f a c (subst (λ (n : ℕ). IsOpened a c n o) same (subst (λ (x : Opening). IsOpening a c most x) is h))

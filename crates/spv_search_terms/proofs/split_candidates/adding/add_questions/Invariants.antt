@@ -1,0 +1,13 @@
+use Rattle.std.proofs.Common.{drop, map}
+use Rattle.std.specs.List.{flat_map}
+use Rattle.spv_atoms.specs.Atoms.{is_truth}
+use Rattle.spv_search_terms.specs.split_candidates.Adding.{asked_of}
+use Rattle.spv_term.specs.Arena.{tree}
+use Rattle.spv_atoms.specs.Atoms.{with_terms}
+use Rattle.spv_search_terms.proofs.split_candidates.AddLemmas.{Adding}
+use Rattle.spv_search_terms.proofs.split_candidates.adding.add_questions.Given as goal
+
+abbrev pub invariant-loop-t : goal.invariant-loop-t
+invariant-loop-t l =
+    Adding l.terms l.out (flat_map (asked_of (is_truth l.terms.shapes l.terms.decls)) (map (tree l.terms) (drop l.t-index l.found)))
+    (with_terms (map (tree l.terms) l.fn.out) (flat_map (asked_of (is_truth l.terms.shapes l.terms.decls)) (map (tree l.terms) l.found)))

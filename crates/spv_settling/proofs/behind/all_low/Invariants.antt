@@ -1,7 +1,0 @@
-use Rattle.std.proofs.Common.{◌≡◌, drop}
-use Rattle.std.specs.List.{list_all}
-use Rattle.spv_settling.specs.Behind.{is_low}
-use Rattle.spv_settling.proofs.behind.all_low.Given as goal
-
-abbrev pub invariant-loop-target : goal.invariant-loop-target
-invariant-loop-target l = list_all (is_low l.base) (drop l.target-index l.targets) ≡ list_all (is_low l.base) l.targets

@@ -1,6 +1,0 @@
-use Rattle.std.proofs.Common.{length}
-use Rattle.spv_settling.proofs.Seeing.{ToldSoFar}
-use Rattle.spv_settling.proofs.behind.firsts_behind.Given as goal
-
-abbrev pub invariant-loop-place : goal.invariant-loop-place
-invariant-loop-place l = ToldSoFar l.pointers (length l.pointers) l.targets l.place l.seen.entries l.firsts.items

@@ -1,7 +1,0 @@
-//! A type that was read is put among the types of the program.
-#![tactic(auto)]
-
-mod behind;
-pub mod settling;
-
-pub use settling::{NewType, read_type, settle};

@@ -1,5 +1,0 @@
-use Rattle.spv_share_laws.proofs.Enough.{search_enough}
-use Rattle.spv_share_laws.proofs.searching.law_search.Goals as goal
-
-pub returns : goal.returns
-returns c = λ a ok b h ts fs over is. search_enough a ok b h ts fs over is

@@ -1,9 +1,0 @@
-// Both sides as the arena grows.
-
-ghost use Rattle.spv_share_laws.specs.Laws.{BothStay, LevelsStay};
-
-/// Both sides stay sound, and levels stay levels, as the arena grows.
-pub fn law_growing()
-    ensures both { BothStay }
-    ensures levels { LevelsStay }
-{}

@@ -1,5 +1,0 @@
-use Rattle.spv_share_rows.proofs.Asserting.{asserted_none}
-use Rattle.spv_share_rows.proofs.standing.Standing.open.Goals as goal
-
-pub returns-clause-asserted : goal.returns-clause-asserted
-returns-clause-asserted c = λ known. asserted_none c.law_asserted.ensures.open known _ _ _ _ c.in_ok-tableau.ensures

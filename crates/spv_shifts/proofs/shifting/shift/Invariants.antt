@@ -1,5 +1,0 @@
-use Rattle.spv_shifts.specs.Shifts.{HasGoneTo}
-use Rattle.spv_shifts.proofs.shifting.shift.Given as goal
-
-abbrev pub invariant-loop-row : goal.invariant-loop-row
-invariant-loop-row l = HasGoneTo l.dictionary l.initial.values l.slot l.distance l.skip l.row l.values

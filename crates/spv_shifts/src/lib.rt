@@ -1,6 +1,0 @@
-//! How the values of the columns in a basis go on with that of a column outside it.
-#![tactic(auto)]
-
-mod shifting;
-
-pub use shifting::{shift, test};

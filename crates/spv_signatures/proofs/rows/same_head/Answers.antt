@@ -1,6 +1,0 @@
-use Rattle.std.proofs.Common.{◌∙◌}
-use Rattle.spv_signatures.proofs.Heads.{head_test}
-use Rattle.spv_signatures.proofs.rows.same_head.Goals as goal
-
-pub returns : goal.returns
-returns c = c.eq.ensures ∙ head_test c.args.left c.args.right

@@ -1,8 +1,0 @@
-//! A table of signatures, which finds the term of a head over labels.
-#![tactic(auto)]
-
-mod chains;
-mod rows;
-mod table;
-
-pub use table::Signatures;

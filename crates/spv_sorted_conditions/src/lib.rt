@@ -1,6 +1,0 @@
-//! The formulas of a program's conditions are of sort Bool.
-#![tactic(auto)]
-
-mod laws;
-
-pub use laws::law_sorted_conditions;

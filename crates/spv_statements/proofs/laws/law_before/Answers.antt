@@ -1,5 +1,0 @@
-use Rattle.spv_statements.proofs.Induction.{right_level}
-use Rattle.spv_statements.proofs.laws.law_before.Goals as goal
-
-pub returns : goal.returns
-returns c p ok world here passing entry right s passes n = (right_level p world ok here entry passing right n).statements s passes

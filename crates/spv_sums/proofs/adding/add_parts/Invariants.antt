@@ -1,6 +1,0 @@
-use Rattle.std.proofs.Common.{drop}
-use Rattle.spv_sums.proofs.Tallies.{AddingParts}
-use Rattle.spv_sums.proofs.adding.add_parts.Given as goal
-
-abbrev pub invariant-loop-part : goal.invariant-loop-part
-invariant-loop-part l = AddingParts l.fn.m l.fn.parts (drop l.part-index l.fn.parts) l.fn.sum l.sum

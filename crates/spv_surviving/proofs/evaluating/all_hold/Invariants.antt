@@ -1,6 +1,0 @@
-use Rattle.spv_table.specs.Kept.{listed_over}
-use Rattle.spv_surviving.proofs.LoopLemmas.{HoldSoFar}
-use Rattle.spv_surviving.proofs.evaluating.all_hold.Given as goal
-
-abbrev pub invariant-loop-f : goal.invariant-loop-f
-invariant-loop-f l = HoldSoFar l.terms (listed_over l.terms l.table.values) l.fs l.f-index

@@ -1,6 +1,0 @@
-use Rattle.spv_table.specs.Kept.{listed_over}
-use Rattle.spv_surviving.proofs.LoopLemmas.{TruthsSoFar}
-use Rattle.spv_surviving.proofs.evaluating.truths.Given as goal
-
-abbrev pub invariant-loop-f : goal.invariant-loop-f
-invariant-loop-f l = TruthsSoFar l.terms (listed_over l.terms l.table.values) l.fs l.f-index l.branch.items

@@ -1,8 +1,0 @@
-//! Whether the hypotheses of a condition are true and its goal is false in a table, and the truth of each of its atoms there.
-#![tactic(auto)]
-
-mod evaluating;
-mod faults;
-
-pub use evaluating::surviving;
-pub use faults::SurvivingFault;

@@ -1,6 +1,0 @@
-use Rattle.std.proofs.Common.{ap, ◌∙◌}
-use Rattle.spv_syntax.specs.Lines.{relation_line, simple_line}
-use Rattle.spv_syntax.proofs.formulas.Relation.line.Goals as goal
-
-pub returns : goal.returns
-returns c = ap (λ a. simple_line a.left) c.self-inside.view_is ∙ ap relation_line c.self.view_is

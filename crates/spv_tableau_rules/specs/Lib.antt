@@ -1,0 +1,3 @@
+pub mod tableaux
+pub mod pivots
+pub mod constraints

@@ -1,0 +1,2 @@
+pub mod proof_tests
+pub mod reasons_tests

@@ -1,0 +1,4 @@
+//! Tests of typed formula texts.
+
+#[cfg(test)]
+mod formulas;

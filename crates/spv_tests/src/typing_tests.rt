@@ -1,0 +1,4 @@
+//! Tests of typed and framed programs.
+
+#[cfg(test)]
+mod texts;

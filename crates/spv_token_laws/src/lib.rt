@@ -1,6 +1,0 @@
-//! What a reader expects of the tokens of a text.
-#![tactic(auto)]
-
-mod laws;
-
-pub use laws::{law_comment, law_decimal, law_followed};

@@ -1,3 +1,0 @@
-pub mod Saying
-pub mod Resting
-pub mod Growing

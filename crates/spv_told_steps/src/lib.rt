@@ -1,8 +1,0 @@
-//! Steps that add facts to a path of a search, and the numbers of these facts.
-#![tactic(auto)]
-
-mod adding;
-mod evaluating;
-
-pub use adding::{derive, give, tell};
-pub use evaluating::{deny, evaluate, evaluate_all};

@@ -1,0 +1,3 @@
+pub mod RowConstraint
+pub mod Resting
+pub mod Growing

@@ -1,6 +1,0 @@
-//! The report of a text's tree: the walks over names, types and frames, and then the report of the program.
-#![tactic(auto)]
-
-mod walks;
-
-pub use walks::report_of;

@@ -1,9 +1,0 @@
-use Rattle.std.proofs.Common.{◌≡◌, length}
-use Rattle.spv_tried_tables.specs.Trying.{numbers_eq}
-use Rattle.spv_tried_tables.proofs.agreeing.same_numbers.Given as goal
-
-abbrev pub invariant-loop-rest : goal.invariant-loop-rest
-invariant-loop-rest l = numbers_eq l.rest l.others ≡ numbers_eq l.left l.right
-
-abbrev pub decreases-loop-rest : goal.decreases-loop-rest
-decreases-loop-rest l = length l.rest

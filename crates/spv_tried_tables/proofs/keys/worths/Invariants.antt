@@ -1,8 +1,0 @@
-use Rattle.std.proofs.Common.{map, take}
-use Rattle.spv_term.specs.Arena.{tree}
-use Rattle.spv_table.specs.Kept.{listed_over}
-use Rattle.spv_tried_tables.specs.Trying.{AreWorth}
-use Rattle.spv_tried_tables.proofs.keys.worths.Given as goal
-
-abbrev pub invariant-loop-t : goal.invariant-loop-t
-invariant-loop-t l = AreWorth (listed_over l.terms l.table.values) (map (tree l.terms) (take l.t-index l.ids)) l.numbers

@@ -1,5 +1,0 @@
-use Rattle.spv_truths.proofs.Listing.{ListedTo}
-use Rattle.spv_truths.proofs.connectives.connective_ids.Given as goal
-
-abbrev pub invariant-loop-i : goal.invariant-loop-i
-invariant-loop-i l = ListedTo l.terms l.i l.ids.items

@@ -1,7 +1,0 @@
-use Rattle.std.proofs.Common.{refl}
-use Rattle.spv_truths.specs.Passes.{plain_at}
-use Rattle.spv_truths.proofs.Listing.{valued_next}
-use Rattle.spv_truths.proofs.connectives.plain_values.Goals as goal
-
-pub loop-i-preserved : goal.loop-i-preserved
-loop-i-preserved c = valued_next c.loop-i.i (plain_at c.args.terms.now) c.loop-i.values.items _ _ c.plain_at.result c.loop-i.invariant refl c.plain_at.ensures c.in_ok-push.ensures.items

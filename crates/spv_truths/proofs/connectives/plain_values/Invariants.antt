@@ -1,6 +1,0 @@
-use Rattle.spv_truths.specs.Passes.{plain_at}
-use Rattle.spv_truths.proofs.Listing.{ValuedTo}
-use Rattle.spv_truths.proofs.connectives.plain_values.Given as goal
-
-abbrev pub invariant-loop-i : goal.invariant-loop-i
-invariant-loop-i l = ValuedTo l.i (plain_at l.terms) l.values.items

@@ -1,5 +1,0 @@
-//! Types and declarations from tokens.
-#![tactic(auto)]
-
-pub mod declarations;
-pub mod types;

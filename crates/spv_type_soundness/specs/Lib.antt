@@ -1,0 +1,2 @@
+pub mod well_typed
+pub mod well_typed_programs

@@ -1,6 +1,0 @@
-use Rattle.std.proofs.Common.{◌≡◌, take}
-use Rattle.spv_type_typing.specs.Reading.{fields_of}
-use Rattle.spv_type_typing.proofs.fields.listed.Given as goal
-
-abbrev pub invariant-loop-place : goal.invariant-loop-place
-invariant-loop-place l = l.made.items ≡ fields_of (take l.place l.fields)

@@ -1,5 +1,0 @@
-//! Tests of typed and framed programs.
-#![tactic(auto)]
-
-#[cfg(test)]
-mod texts;

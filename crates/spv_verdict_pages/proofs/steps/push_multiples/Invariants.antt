@@ -1,6 +1,0 @@
-use Rattle.std.proofs.Common.{◌≡◌, ◌++◌, take}
-use Rattle.spv_verdict_pages.specs.ProofLines.{multiples_text}
-use Rattle.spv_verdict_pages.proofs.steps.push_multiples.Given as goal
-
-abbrev pub invariant-loop-multiple : goal.invariant-loop-multiple
-invariant-loop-multiple l = l.out.items ≡ l.initial.out.items ++ multiples_text (take l.multiple-index l.multiples)

@@ -1,7 +1,0 @@
-use Rattle.std.proofs.Common.{◌≡◌, ◌≤◌, take}
-use Rattle.std.specs.List.{count_by}
-use Rattle.spv_verdict_pages.specs.Totals.{is_proved}
-use Rattle.spv_verdict_pages.proofs.totals.count_proved.Given as goal
-
-abbrev pub invariant-loop-decided : goal.invariant-loop-decided
-invariant-loop-decided l = (l.number ≡ count_by is_proved (take l.decided-index l.verdicts)) × (l.number ≤ l.decided-index)

@@ -1,0 +1,35 @@
+-- Conditions that are decided one after the other.
+use Rattle.std.proofs.Common.{◌≡◌, ◌<◌, ℕ, zero, suc, List, [], ◌∷◌, ◌++◌, length, get_or, take, subst, arith, sym}
+use Rattle.spv_term.specs.declared.nodes.Condition.{Condition}
+use Rattle.spv_term.specs.Arena.{Arena}
+use Rattle.spv_assign.specs.Conditions.{AreIn, IsIn}
+use Rattle.spv_proof_rules.specs.Stand.{question}
+use Rattle.spv_models.specs.leaf_models.Laws.{AreFormulas}
+use Rattle.spv_models.specs.leaf_models.Tables.{formulas_of}
+use Rattle.spv_verdicts.specs.Verdicts.{Limits}
+use Rattle.spv_verdicts.specs.declared.answers.verdicts.Decided.{Decided}
+use Rattle.spv_verdicts.specs.answers.Views.{IsDecided}
+use Rattle.spv_verify.specs.reporting.Parts.{AreFormulasIn}
+use Rattle.spv_reports.specs.Reports.{AreVerdicts}
+
+nowhere : (k : ℕ) → k < 0 → ⊥
+nowhere k h = omega (arith, h)
+
+pub in_item : (a : Arena) (cs : List Condition) (k : ℕ) (d : Condition) → AreIn a cs → k < length cs → IsIn a (get_or cs k d)
+in_item a [] k d all h = absurd (nowhere k h)
+in_item a (c ∷ cs) zero d all h = all.0
+in_item a (c ∷ cs) (suc k) d all h = in_item a cs k d all.1 (omega (arith, h))
+
+pub formulas_item : (a : Arena) (cs : List Condition) (k : ℕ) (d : Condition) → AreFormulasIn a cs → k < length cs → AreFormulas a.shapes a.decls (formulas_of (question a (get_or cs k d)).sequent)
+formulas_item a [] k d all h = absurd (nowhere k h)
+formulas_item a (c ∷ cs) zero d all h = all.0
+formulas_item a (c ∷ cs) (suc k) d all h = formulas_item a cs k d all.1 (omega (arith, h))
+
+-- one condition more was decided
+pub verdicts_more : (a : Arena) (limits : Limits) (cs : List Condition) (k : ℕ) (ds : List Decided) (c : Condition) (d : Decided) → k < length cs → c ≡ get_or cs k c → AreVerdicts a limits (take k cs) ds → IsDecided a c limits d
+    → AreVerdicts a limits (take (suc k) cs) (ds ++ d ∷ [])
+verdicts_more a limits [] k ds c d h is right decided = absurd (nowhere k h)
+verdicts_more a limits (b ∷ cs) zero [] c d h is right decided = (subst (λ (x : Condition). IsDecided a x limits d) is decided, tt)
+verdicts_more a limits (b ∷ cs) zero (e ∷ ds) c d h is right decided = absurd right
+verdicts_more a limits (b ∷ cs) (suc k) [] c d h is right decided = absurd right
+verdicts_more a limits (b ∷ cs) (suc k) (e ∷ ds) c d h is right decided = (right.0, verdicts_more a limits cs k ds c d (omega (arith, h)) is right.1 decided)

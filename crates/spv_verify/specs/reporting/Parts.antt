@@ -1,0 +1,32 @@
+-- The parts of a report that are made of its program.
+use Rattle.std.specs.Prelude.{◌≡◌, true, List, [], ◌∷◌}
+use Rattle.spv_term.specs.declared.nodes.Condition.{Condition}
+use Rattle.spv_term.specs.Arena.{Arena, IsArena, Extends}
+use Rattle.spv_proof_rules.specs.Stand.{question}
+use Rattle.spv_models.specs.leaf_models.Laws.{AreFormulas}
+use Rattle.spv_models.specs.leaf_models.Tables.{formulas_of}
+use Rattle.spv_program.specs.Programs.{Program}
+use Rattle.spv_meaning.specs.ProgramConditions as program
+use Rattle.spv_rule_soundness.specs.control.Blocks.{only_control}
+use Rattle.spv_assign.specs.Conditions.{conditions_of, AreIn}
+use Rattle.spv_assign.specs.creation_trace.Events.{Walked}
+use Rattle.spv_conditions.specs.Making.{main_events, empty_arena}
+use Rattle.spv_reports.specs.declared.mode.Mode.{Mode}
+use Rattle.spv_verify.specs.declared.reporting.making.Parts.{Parts}
+use Rattle.spv_reports.specs.Reports.{AreVerdictsIn, IsTakenFor}
+
+-- the formulas of conditions are of sort Bool
+abbrev pub AreFormulasIn : Arena → List Condition → Type 0
+AreFormulasIn a [] = Unit {0}
+AreFormulasIn a (c ∷ conditions) = AreFormulas a.shapes a.decls (formulas_of (question a c).sequent) × AreFormulasIn a conditions
+
+-- the conditions are those of the program, and the verdicts are right
+pub record AreParts (p : Program) (mode : Mode) (x : Parts) : Type 0 where
+  pub covered : only_control p ≡ true
+  pub taken : IsTakenFor mode p
+  pub sound : IsArena x.terms
+  pub grows : Extends (empty_arena p) x.terms
+  pub in_range : AreIn x.terms x.conditions.items
+  pub conditions : conditions_of x.terms x.conditions.items ≡ program.conditions_of p
+  pub within : Walked (main_events p) (empty_arena p) x.terms
+  pub verdicts : AreVerdictsIn mode x.terms x.conditions.items x.verdicts.items

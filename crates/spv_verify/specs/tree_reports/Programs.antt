@@ -1,0 +1,76 @@
+-- What a program without faults is refused for, and reports of trees.
+use Rattle.std.specs.Prelude.{◌≡◌, ⊤, ℕ, ◌⊎◌, true, false, List, [], Some, None}
+use Rattle.spv_tree.specs.declared.syntax.programs.Program.{Program as Tree}
+use Rattle.spv_program.specs.Programs.{Program}
+use Rattle.spv_rule_soundness.specs.control.Blocks.{only_control}
+use Rattle.spv_effects.specs.frame_walk.FrameWalk.{frame_fault}
+use Rattle.spv_assign.specs.declared.creation_trace.faults.GenFault.{GenFault}
+use Rattle.spv_conditions.specs.Making.{MeetsLimit, IsWithinLimits}
+use Rattle.spv_reports.specs.declared.mode.Mode.{Mode}
+use Rattle.spv_reports.specs.supported.Taken.{is_taken}
+use Rattle.spv_reports.specs.Reports.{Findings, IsReportOn, has_verdicts}
+use Rattle.spv_verify.specs.declared.refused.refusal.Refusal.{Refusal}
+use Rattle.spv_verify.specs.declared.refused.refusal.Refusal.TheVariants as refusal
+use Rattle.spv_verify.specs.declared.refused.fault.VerifyFault.{VerifyFault}
+use Rattle.spv_verify.specs.declared.refused.fault.VerifyFault.TheVariants.{Refused, Memory}
+use Rattle.spv_verify.specs.refused.Told.{limit_refusal}
+use Rattle.spv_verify.specs.tree_reports.Walks.{IsSound, IsWalkRefusal, IsFrameRefusal}
+
+-- ---- refusals
+
+-- no conditions are made of a program of such a form
+abbrev pub IsFormRefusal : Program → Refusal → Type 0
+IsFormRefusal p r = (only_control p ≡ false) × (r ≡ refusal.Form 1 [])
+
+-- the conditions of the program meet a limit
+pub record IsLimitRefusal (p : Program) (r : Refusal) : Type 0 where
+  pub covered : only_control p ≡ true
+  pub limit : GenFault
+  pub meets : MeetsLimit limit p
+  pub told : limit_refusal limit ≡ Some r
+
+-- verdicts are wanted, and the program is none of those that are verified so far
+pub record IsNotTakenRefusal (mode : Mode) (p : Program) (r : Refusal) : Type 0 where
+  pub covered : only_control p ≡ true
+  pub within : IsWithinLimits p
+  pub asked : has_verdicts mode ≡ true
+  pub taken : is_taken p ≡ false
+  pub told : r ≡ refusal.Form 1 []
+
+abbrev pub IsProgramRefusal : Mode → Program → Refusal → Type 0
+IsProgramRefusal mode p r = IsFormRefusal p r ⊎ (IsLimitRefusal p r ⊎ IsNotTakenRefusal mode p r)
+
+-- a tree is refused so: for a fault of names, types or frames, or for one of its program
+abbrev pub IsTreeRefusal : Mode → List (List ℕ) → Tree → Refusal → Type 0
+IsTreeRefusal mode names tree r = IsWalkRefusal names tree r ⊎ ((p : Program) × IsSound names tree p × IsProgramRefusal mode p r)
+
+-- ---- reports
+
+-- a report for this, with these names, on a program that has no fault of frames
+pub record IsFramedReport (names : List (List ℕ)) (p : Program) (mode : Mode) (r : Findings) : Type 0 where
+  pub framed : frame_fault p ≡ None
+  pub is_on : IsReportOn p r
+  pub names_same : r.names ≡ names
+  pub mode_same : r.mode ≡ mode
+
+-- a report for this, with these names, on the program that a tree is
+pub record IsTreeReport (names : List (List ℕ)) (tree : Tree) (mode : Mode) (r : Findings) : Type 0 where
+  pub program : Program
+  pub sound : IsSound names tree program
+  pub is_on : IsReportOn program r
+  pub names_same : r.names ≡ names
+  pub mode_same : r.mode ≡ mode
+
+-- ---- what code answers: the refusal, or want of memory, which has no cause
+
+abbrev pub IsProgramCause : Mode → Program → VerifyFault → Type 0
+IsProgramCause mode p (Refused r) = IsProgramRefusal mode p r
+IsProgramCause mode p Memory = ⊤
+
+abbrev pub IsFramedCause : Mode → List (List ℕ) → Program → VerifyFault → Type 0
+IsFramedCause mode names p (Refused r) = IsFrameRefusal names p r ⊎ ((frame_fault p ≡ None) × IsProgramRefusal mode p r)
+IsFramedCause mode names p Memory = ⊤
+
+abbrev pub IsTreeCause : Mode → List (List ℕ) → Tree → VerifyFault → Type 0
+IsTreeCause mode names tree (Refused r) = IsTreeRefusal mode names tree r
+IsTreeCause mode names tree Memory = ⊤

@@ -1,0 +1,6 @@
+//! The report on a program is made: its conditions, and where verdicts are wanted what is decided of each.
+
+mod deciding;
+mod making;
+
+pub use making::report_on;

@@ -1,0 +1,104 @@
+// The report on a program is made.
+
+ghost use Rattle.std.specs.Prelude.{◌≡◌, None, IsTrue, IfErr, IfOk};
+ghost use Rattle.spv_program.specs.Typing.{well_typed};
+ghost use Rattle.spv_effects.specs.frame_walk.FrameWalk.{frame_fault};
+ghost use Rattle.spv_rule_soundness.specs.control.Blocks.{only_control};
+ghost use Rattle.spv_verify.specs.reporting.Parts.{AreParts};
+ghost use Rattle.spv_reports.specs.Reports.{IsReportFault, IsReportOn};
+
+use crate::reporting::deciding::decided;
+use spv_assign::creation_trace::GenFault;
+use spv_conditions::{conditions, is_covered};
+use spv_logic::list::List;
+use spv_logic::names::{Names, Symbol};
+use spv_program::typed::Program;
+use spv_reports::{Mode, Report, ReportFault};
+use spv_rule_soundness::condition_sorts::law_sorted_conditions;
+use spv_term::{Condition, Terms};
+use spv_verdicts::answers::Decided;
+use std::alloc::{AllocError, Global};
+
+// The conditions of a program, and the verdicts on them.
+#[derive(Drop)]
+pub(crate) struct Parts {
+    pub(crate) terms: Terms,
+    pub(crate) conditions: Vec<Condition>,
+    pub(crate) verdicts: Vec<Decided>,
+}
+
+// The conditions of a program of a form whose conditions are made, and the verdicts on them.
+#[tactic(auto, using(crate::proofs::reporting::Formulas::all_formulas))]
+fn made_parts(alloc: Global, program: &Program, mode: &Mode) -> Result<Parts, ReportFault>
+    requires typed { IsTrue (well_typed program.now) }
+    requires covered { IsTrue (only_control program.now) }
+    ensures parts { IfOk result (AreParts program.now mode.now) }
+    ensures fault { IfErr result (IsReportFault program.now mode.now) }
+{
+    let made = match conditions(alloc, program) {
+        Ok(made) => made,
+        Err(fault) => return Err(ReportFault::Stopped(fault)),
+    };
+    made.terms.law_arena();
+    law_sorted_conditions();
+    match decided(alloc, program, mode, &made.terms, made.list.as_slice()) {
+        Ok(verdicts) => Ok(Parts {
+            terms: made.terms,
+            conditions: made.list,
+            verdicts,
+        }),
+        Err(fault) => Err(fault),
+    }
+}
+
+// The same of any program.
+fn make_parts(alloc: Global, program: &Program, mode: &Mode) -> Result<Parts, ReportFault>
+    requires typed { IsTrue (well_typed program.now) }
+    ensures parts { IfOk result (AreParts program.now mode.now) }
+    ensures fault { IfErr result (IsReportFault program.now mode.now) }
+{
+    if !is_covered(program) {
+        return Err(ReportFault::Form);
+    }
+    made_parts(alloc, program, mode)
+}
+
+/// The report on a program, for what its mode says: the conditions of the definition, in its order, and in the mode `Verify` a
+/// verdict on each, within its limits. `Form`: it has routines, or its main block assigns to parts, creates cells or calls. `Stopped`: the
+/// conditions meet a limit, or there is no memory left. `NotTaken`, in the mode `Verify` alone: it is no program that is verified so far.
+pub fn report_on(
+    alloc: Global,
+    names: Names,
+    program: &Program,
+    mode: Mode,
+) -> Result<Report, ReportFault>
+    requires typed { IsTrue (well_typed program.now) }
+    requires framed { frame_fault program.now ≡ None }
+    ensures names { IfOk result (λ r. r.names ≡ names) }
+    ensures mode { IfOk result (λ r. r.mode ≡ mode) }
+    ensures program { IfOk result (IsReportOn program.now) }
+    ensures fault { IfErr result (IsReportFault program.now mode) }
+{
+    let titles = match titles_of(alloc, program) {
+        Ok(titles) => titles,
+        Err(_) => return Err(ReportFault::Stopped(GenFault::Memory)),
+    };
+    match make_parts(alloc, program, &mode) {
+        Ok(parts) => Ok(Report::new(
+            names,
+            titles,
+            parts.terms,
+            parts.conditions,
+            mode,
+            parts.verdicts,
+        )),
+        Err(fault) => Err(fault),
+    }
+}
+
+// The first names of a program's types.
+fn titles_of(alloc: Global, program: &Program) -> Result<List<Option<Symbol>>, AllocError>
+    ensures { IfOk result (λ titles. titles ≡ program.now.titles) }
+{
+    Ok(List::from_vec(Vec::from_slice(alloc, program.titles.as_slice())?))
+}

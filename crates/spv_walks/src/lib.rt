@@ -1,6 +1,0 @@
-//! What the steps on the numbers are: the walk of a check over solved forms, and what its answers mean.
-#![tactic(auto)]
-
-mod laws;
-
-pub use laws::{law_placed, law_step, law_underway};
