@@ -19,6 +19,7 @@ pub fn law_parts()
     ensures elements_are_stored { statements.ElementsAreStored }
     ensures cells_are_one_class { statements.CellsAreOneClass }
     ensures new_cells_differ { statements.NewCellsDiffer }
+    ensures cells_without_a_name { statements.CellsWithoutANameAreRenamed }
 {}
 
 /// The conditions of calls and of routines.
@@ -29,4 +30,5 @@ pub fn law_calls_and_routines()
     ensures factorial { calls.Factorial }
     ensures twice { calls.Twice }
     ensures call_in_a_test { calls.CallInATest }
+    ensures classes_without_names { calls.Numbering }
 {}

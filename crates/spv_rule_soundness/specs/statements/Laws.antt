@@ -1,8 +1,8 @@
 -- What is proved of the rules of statements.
-use Rattle.std.specs.Prelude.{◌≡◌, ℕ, zero, suc, Bool, true, false, ℤ, Option, Some, None}
+use Rattle.std.specs.Prelude.{◌≡◌, ℕ, zero, suc, true, false, ℤ, Option, Some, None}
 use Rattle.spv_logic.specs.declared.names.names.Symbol.{Symbol}
 use Rattle.spv_logic.specs.declared.operators.Head.{Head}
-use Rattle.spv_logic.specs.Values.{Value, Number, number_of}
+use Rattle.spv_logic.specs.Values.{Number, number_of}
 use Rattle.spv_logic.specs.Terms.{head_eq, eval}
 use Rattle.spv_logic.specs.Shapes.{shapes_ok}
 use Rattle.spv_logic.specs.Conditions.{Meaning, Valuation, IsValuation}
@@ -19,7 +19,7 @@ use Rattle.spv_meaning.specs.Views.{place_of, now_view}
 use Rattle.spv_meaning.specs.Levels.{Here, Level}
 use Rattle.spv_meaning.specs.Walks.{walk, level, run}
 use Rattle.spv_meaning.specs.Starts.{IsStart}
-use Rattle.spv_meaning.specs.Before.{Made, before}
+use Rattle.spv_meaning.specs.Before.{Made}
 use Rattle.spv_rule_soundness.specs.statements.Truth.{IsEntry, meaning_in, Ignores}
 use Rattle.spv_rule_soundness.specs.statements.Runs.{IsRight, IsSupplied, IsRightTest, IsSuppliedTest, may_change}
 use Rattle.spv_rule_soundness.specs.statements.Parts.{Passing, parts_pass}
