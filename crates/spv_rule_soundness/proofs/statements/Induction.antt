@@ -1,5 +1,5 @@
 -- Every statement is right, by induction on its turns and its parts.
-use Rattle.std.proofs.Common.{◌≡◌, ℕ, zero, suc, true, ◌||◌, List, [], ◌∷◌, ◌++◌, ℤ, refl, sym, ap, subst, ◌∙◌, Option, Some, None}
+use Rattle.std.proofs.Common.{◌≡◌, arith, ℕ, zero, suc, true, ◌||◌, List, [], ◌∷◌, ◌++◌, ℤ, refl, sym, ap, subst, ◌∙◌, Option, Some, None}
 use Rattle.std.specs.List.{list_any}
 use Rattle.std.specs.Ordering.{int_eq}
 use Rattle.std.proofs.lemmas.Bool.{false≢true}
@@ -25,6 +25,7 @@ use Rattle.spv_meaning.specs.Places.{State}
 use Rattle.spv_meaning.specs.Levels.{Here, Run, Loop, Level}
 use Rattle.spv_meaning.specs.Walks.{walk, walk_arms, count_on, level, run}
 use Rattle.spv_meaning.specs.Starts.{IsStart}
+use Rattle.spv_meaning.specs.Correct.{CorrectBelow}
 use Rattle.spv_meaning.specs.Before.{Made, all_assuming, replaced, wanted_with, before_calls, standing_for, within_term, past_term, is_label, before, before_arms}
 use Rattle.spv_rule_soundness.specs.statements.Truth.{IsLater, IsWindow, IsEntry, meaning_in, shown, IsTrueFor, Ignores}
 use Rattle.spv_rule_soundness.specs.statements.Runs.{Reaches, EndsWell, IsRight, IsRightTest, may_change}
@@ -175,19 +176,22 @@ module _ (p : Program) (world : Meaning) (ok : shapes_ok (shapes p) ≡ true) (h
   no_level : (l : Level) → None ≡ Some l → ⊥
   no_level l e = nothing_there e
 
-  pub right_level : (n : ℕ) → RightLevel (level p n)
-  right_level zero =
+  fewer : (n : ℕ) → CorrectBelow p world (suc n) → CorrectBelow p world n
+  fewer n correct = record { each = λ here there turns less. correct.each here there turns (omega (arith, less)) }
+
+  pub right_level : (n : ℕ) → CorrectBelow p world n → RightLevel (level p n)
+  right_level zero correct =
       let goes : AllGoOn (count_on p None here)
       = λ line f count s counted q ignores n to_n pass_s window is first_state begun end e end_is turn_list exit_list. none_goes_on p world ok here entry passing right line f count s counted q ignores n to_n pass_s window is first_state begun end e end_is turn_list exit_list in
       record {
-        statements = structural None (λ s pass. right.leaf s pass 0) (λ e pass. right.test e pass 0) goes (λ l e. absurd (no_level l e));
+        statements = structural None (λ s pass. right.leaf s pass 0 correct) (λ e pass. right.test e pass 0 correct) goes (λ l e. absurd (no_level l e));
         counts = goes;
       }
-  right_level (suc n) =
-      let lower = right_level n in
+  right_level (suc n) correct =
+      let lower = right_level n (fewer n correct) in
       let goes : AllGoOn (count_on p (Some (level p n)) here)
       = λ line f count s counted q ignores m to_m pass_s window is first_state begun end e end_is turn_list exit_list. some_goes_on p world ok here entry passing right line f count s counted q ignores m to_m pass_s window is first_state begun end e end_is turn_list exit_list (level p n) (lower.statements s pass_s) (lower.counts line f count s counted q ignores m to_m pass_s window is first_state begun end e end_is turn_list exit_list) in
       record {
-        statements = structural (Some (level p n)) (λ s pass. right.leaf s pass (suc n)) (λ e pass. right.test e pass (suc n)) goes (λ l e. subst RightLevel (some_is e) lower);
+        statements = structural (Some (level p n)) (λ s pass. right.leaf s pass (suc n) correct) (λ e pass. right.test e pass (suc n) correct) goes (λ l e. subst RightLevel (some_is e) lower);
         counts = goes;
       }
