@@ -111,7 +111,7 @@ module _ (a : Arena) where
 
 -- terms were added
 pub holds_adds : (a : Arena) (old new : Trail) (t : TermId) → Holds a old → AddsParts a t old.graph new.graph → IsOf a new.graph → new.derivation ≡ old.derivation → new.facts.items ≡ old.facts.items → new.truth ≡ old.truth → new.falsity ≡ old.falsity → Holds a new
-holds_adds a old new t h adds of course facts truth falsity = record {
+holds_adds a old new t h adds of derivation facts truth falsity = record {
   of = of;
   derivation = subst (IsDerivation a) (sym derivation) h.derivation;
   kept = facts ∙ (h.kept ∙ sym adds.told);
