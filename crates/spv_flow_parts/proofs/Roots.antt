@@ -106,8 +106,10 @@ module _ (p : Program) (d : declarations_ok p ≡ true) where
       both_true below (numbered_there (suc n) fs (omega (arith, e)))
 
   all_there : list_all (type_exists p.forms) (all_types p) ≡ true
-  all_there = once_there [] (types_of_names p.types ++ types_from 0 p.forms)
-      (all_joined (type_exists p.forms) (types_of_names p.types) (types_from 0 p.forms) (named_there p.types types) (numbered_there 0 p.forms refl))
+  all_there =
+      let whole : 0 + length p.forms ≡ length p.forms = grind (arith) in
+      once_there [] (types_of_names p.types ++ types_from 0 p.forms)
+      (all_joined (type_exists p.forms) (types_of_names p.types) (types_from 0 p.forms) (named_there p.types types) (numbered_there 0 p.forms whole))
 
   classes_there : (ts : List TypeId) → list_all (type_exists p.forms) ts ≡ true → list_all row_there (map (λ t. (Shared (Class t), head.ClassVar t 0)) ts) ≡ true
   classes_there [] h = refl
