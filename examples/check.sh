@@ -1,10 +1,11 @@
 #!/bin/sh
 # Compares pages with those that are kept in this folder: NAME.lst is what `verify` writes of NAME.pas, and its status is
 # that of the page's RESULT; NAME.cnd is what `conditions` writes, with status 8. The last line says how many are as they
-# should be; the status is 0 where all are.
+# should be; the status is 0 where all are. SPV names another program than the launcher, by its path from the root.
 
 set -u
 cd "$(dirname "$0")" || exit 2
+spv=${SPV:-../spv}
 
 page=$(mktemp) || exit 2
 trap 'rm -f "$page"' EXIT
@@ -15,7 +16,7 @@ failed=0
 # Compares the page of a program in a mode, and the status.
 compare() {
     mode=$1 program=$2 wanted=$3 status=$4
-    ../spv "$mode" "$program" > "$page"
+    "$spv" "$mode" "$program" > "$page"
     got=$?
     if [ "$got" -ne "$status" ]; then
         echo "$program: status $got, not $status"
