@@ -6,6 +6,7 @@ pub mod CellRuns
 pub mod Terms
 pub mod StatementConditions
 pub mod CallConditions
+pub mod PlaceConditions
 pub mod Doubts
 pub mod TypedPrograms
 pub mod UntypedDeclarations
