@@ -7,6 +7,7 @@ pub mod Terms
 pub mod StatementConditions
 pub mod CallConditions
 pub mod PlaceConditions
+pub mod PlaceRuns
 pub mod Doubts
 pub mod TypedPrograms
 pub mod UntypedDeclarations

@@ -260,3 +260,8 @@ abbrev pub CreateInARow : Type 0
 CreateInARow = Are creating_in_a_row
     (condition None kind.Exit 4 (no (eq new_one NIL) ∷ no (binary head.PointerTo new_one cells) ∷ [])
     (no (eq (binary head.Select (ternary head.Store refs (X i) new_one) (X i)) P)) ∷ [])
+
+-- the programs of these examples
+abbrev pub programs : List Program
+programs =
+    filling_a_cell ∷ filling_a_field ∷ filling_and_moving ∷ passing_on ∷ summing ∷ calling_in_an_index ∷ remaking ∷ resetting ∷ creating_in_a_row ∷ []

@@ -2,6 +2,7 @@
 
 ghost use Rattle.std.specs.Prelude.{[], ◌∷◌};
 ghost use Rattle.spv_worked.specs.CallConditions as calls;
+ghost use Rattle.spv_worked.specs.PlaceConditions as places;
 ghost use Rattle.spv_worked.specs.StatementConditions as conditions;
 ghost use Rattle.spv_worked.specs.TypedPrograms as typed;
 ghost use Rattle.spv_worked.specs.UntypedDeclarations as declarations;
@@ -15,6 +16,7 @@ pub fn law_typed()
     ensures conditions { typed.AreRight typed.condition_programs }
     ensures shared { typed.AreRight (typed.shared ∷ []) }
     ensures initial_names { typed.AreRight (statements.remembers ∷ []) }
+    ensures places { typed.AreRight places.programs }
     ensures without_names { typed.AreRight (conditions.nameless ∷ calls.numbering ∷ []) }
 {}
 
