@@ -60,7 +60,7 @@ FillAField = Are filling_a_field
     ∷ condition None kind.Entry 9 [] (at_most (N 0) (N 5))
     ∷ condition None kind.Exit 8 (eq (fresh p 1) (N 5) ∷ []) (eq (unary (head.Field val) (binary (head.Put val) T (fresh p 1))) (N 5)) ∷ [])
 
--- PROCEDURE f(VAR p: INTEGER; n: INTEGER); GLOBAL (VAR i); EXIT p = n; BEGIN p := n END
+-- as fill, without ENTRY, and with i in a VAR group
 abbrev pub fill_and_move : Routine
 fill_and_move = record {
   name = f;
