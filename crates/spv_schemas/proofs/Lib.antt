@@ -1,0 +1,3 @@
+mod Sorts
+mod Values
+pub mod Soundness

@@ -1,0 +1,38 @@
+-- What is proved of schemas.
+use Rattle.std.specs.Prelude.{◌≡◌, List, Option, Some, IsTrue}
+use Rattle.std.specs.List.{list_all}
+use Rattle.spv_logic.specs.declared.names.names.Symbol.{Symbol}
+use Rattle.spv_logic.specs.declared.types.Sort.TheVariants as sort
+use Rattle.spv_logic.specs.declared.types.Shape.{Shape}
+use Rattle.spv_logic.specs.declared.types.Decl.{Decl}
+use Rattle.spv_logic.specs.Terms.{Term}
+use Rattle.spv_logic.specs.Shapes.{shapes_ok}
+use Rattle.spv_logic.specs.Sorts.{term_sort}
+use Rattle.spv_logic.specs.Conditions.{Meaning, Valuation, IsValuation, answers, holds}
+use Rattle.spv_schemas.specs.declared.kinds.SchemaKind.{SchemaKind}
+use Rattle.spv_schemas.specs.Kinds.{number_of_kind, kind_of_number}
+use Rattle.spv_schemas.specs.Facts.{schema_fact}
+use Rattle.spv_schemas.specs.Instances.{schema_facts}
+
+-- each fact is a formula
+abbrev pub FactsAreFormulas : Type 0
+FactsAreFormulas =
+    (shapes : List Shape) (decls : List Decl) (kind : SchemaKind) (ts : List Term) (field : Option Symbol) (fact : Term)
+    → schema_fact shapes decls kind ts field ≡ Some fact → term_sort shapes decls fact ≡ Some sort.Bool
+
+-- each fact is true in every world under every valuation
+abbrev pub FactsAreTrue : Type 0
+FactsAreTrue =
+    (kind : SchemaKind) (shapes : List Shape) → IsTrue (shapes_ok shapes) → (decls : List Decl) (ts : List Term) (field : Option Symbol) (fact : Term)
+    → schema_fact shapes decls kind ts field ≡ Some fact
+    → (world : Meaning) (v : Valuation) → IsValuation shapes v → IsTrue (holds (answers shapes decls world) v fact)
+
+-- so is each that is listed, whatever terms are used
+abbrev pub ListedFactsAreTrue : Type 0
+ListedFactsAreTrue =
+    (shapes : List Shape) → IsTrue (shapes_ok shapes) → (decls : List Decl) (used : List Term)
+    → (world : Meaning) (v : Valuation) → IsValuation shapes v → IsTrue (list_all (holds (answers shapes decls world) v) (schema_facts shapes decls used))
+
+-- a kind's number tells the kind
+abbrev pub NumbersTellKinds : Type 0
+NumbersTellKinds = (kind : SchemaKind) → kind_of_number (number_of_kind kind) ≡ Some kind

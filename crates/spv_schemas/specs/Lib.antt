@@ -1,0 +1,5 @@
+pub mod Kinds
+pub mod Facts
+pub mod Instances
+pub mod Laws
+pub mod Examples
