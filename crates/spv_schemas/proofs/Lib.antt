@@ -1,3 +1,4 @@
 mod Sorts
 mod Values
 pub mod Soundness
+mod Once

@@ -24,7 +24,7 @@ use Rattle.spv_schemas.specs.declared.kinds.SchemaKind.{SchemaKind}
 use Rattle.spv_schemas.specs.declared.kinds.SchemaKind.TheVariants.{SelectStoreSame, SelectStoreOther, FieldPutSame, FieldPutOther, CellSetCellSame, CellSetCellOther, PointerToSetCell, CellExtendSame, CellExtendOther, PointerToExtend, PointerToNil, CarCons, CdrCons, AtomCons, ConsCarCdr, DivMod, ModOfNonNegative, ModOfNonPositive, DivOfNumerals, ModOfNumerals}
 use Rattle.spv_schemas.specs.Facts as facts
 use Rattle.spv_schemas.specs.Facts.{one, two, three, numeral, nil_of, about_store, about_put, about_put_other, about_set_cell, about_extend, about_one, about_cons, about_quotient, about_numerals, of_shape, is_formula, if_formula, schema_fact}
-use Rattle.spv_schemas.specs.Instances.{Instance, instance_fact, schemas, schema_facts}
+use Rattle.spv_schemas.specs.Instances.{SchemaInstance, instance_fact, schemas, schema_facts}
 use Rattle.spv_schemas.proofs.Sorts.{of_negation, of_implication, of_equation, of_sum, of_select, of_store, of_field, of_put, of_cell, of_set_cell, of_extend, of_pointer_to}
 use Rattle.spv_schemas.proofs.Values.{element_same, element_other, field_same, field_other, content_same, content_other, members_extended, nil_is_no_member, pair_of_parts, dividend, remainder_above, remainder_below}
 
@@ -272,7 +272,7 @@ module _ (shapes : List Shape) (ok : shapes_ok shapes ≡ true) (decls : List De
 
   -- ---- lists of facts
 
-  all_true : (instances : List Instance) → list_all (holds (answers shapes decls world) v) (filter_map (instance_fact shapes decls) instances) ≡ true
+  all_true : (instances : List SchemaInstance) → list_all (holds (answers shapes decls world) v) (filter_map (instance_fact shapes decls) instances) ≡ true
   all_true [] = refl
   all_true (i ∷ instances) = by_fact (instance_fact shapes decls i) refl (all_true instances)
     where

@@ -13,7 +13,7 @@ use Rattle.spv_logic.specs.Terms.{Term, term, no_terms}
 use Rattle.spv_schemas.specs.declared.kinds.SchemaKind.{SchemaKind}
 use Rattle.spv_schemas.specs.declared.kinds.SchemaKind.TheVariants.{SelectStoreSame, SelectStoreOther, FieldPutSame, FieldPutOther, CellSetCellSame, CellSetCellOther, PointerToSetCell, CellExtendSame, CellExtendOther, PointerToExtend, PointerToNil, CarCons, CdrCons, AtomCons, ConsCarCdr, DivMod, ModOfNonNegative, ModOfNonPositive, DivOfNumerals, ModOfNumerals}
 use Rattle.spv_schemas.specs.Facts.{one, two, three, schema_fact}
-use Rattle.spv_schemas.specs.Instances.{Instance, schemas}
+use Rattle.spv_schemas.specs.Instances.{SchemaInstance, schemas}
 
 -- ---- types and names
 
@@ -276,11 +276,11 @@ NumeralsByZero = SaysNothing ModOfNumerals (plus_two ∷ zero ∷ []) None
 
 -- ---- what is listed
 
-abbrev about : SchemaKind → List Term → Instance
+abbrev about : SchemaKind → List Term → SchemaInstance
 about kind ts = record { kind = kind; about = ts; field = None }
 
 -- these kinds, each about these terms
-abbrev Lists : List Term → List Instance → Type 0
+abbrev Lists : List Term → List SchemaInstance → Type 0
 Lists used instances = schemas types [] used ≡ instances
 
 -- what one formula uses of an array that is changed twice: NOT i = j implies that at i the first change is seen

@@ -17,12 +17,12 @@ use Rattle.spv_schemas.specs.Kinds.{kinds}
 use Rattle.spv_schemas.specs.Facts.{one, two, schema_fact}
 
 -- an instance of a schema: its kind, the terms that it is about, and for one kind a field
-pub record Instance : Type 0 where
+pub record SchemaInstance : Type 0 where
   pub kind : SchemaKind
   pub about : List Term
   pub field : Option Symbol
 
-abbrev pub instance_fact : List Shape → List Decl → Instance → Option Term
+abbrev pub instance_fact : List Shape → List Decl → SchemaInstance → Option Term
 instance_fact shapes decls i = schema_fact shapes decls i.kind i.about i.field
 
 -- ---- what used terms call for
@@ -47,10 +47,25 @@ points sorts s q (term Extend (terms c (terms p ts))) = same_sort (sorts c) s &&
 points sorts s q (term PointerTo (terms p (terms c ts))) = same_sort (sorts c) s && term_eq p q
 points sorts s q _ = false
 
+-- whether a used term reads or changes an array of the sort of s at this index
+abbrev pub is_index : (Term → Option Sort) → List Term → Term → Term → Bool
+is_index sorts used s j = list_any (indexes sorts (sorts s) j) used
+
+-- whether a used term does so with a class of the sort of s at this pointer, or asks whether it is a member
+abbrev pub is_pointer : (Term → Option Sort) → List Term → Term → Term → Bool
+is_pointer sorts used s q = list_any (points sorts (sorts s) q) used
+
+-- whether a used term has the first part of x, the second, or whether it is an atom
 abbrev pub is_taken_apart : List Term → Term → Bool
 is_taken_apart used x = is_used used (one Car x) || (is_used used (one Cdr x) || is_used used (one Atom x))
 
+abbrev pub is_divided : List Term → Term → Term → Bool
+is_divided used a k = is_used used (two Div a k) || is_used used (two Mod a k)
+
 -- ---- the list
+
+abbrev pub is_any : Term → Bool
+is_any t = true
 
 -- used terms, and pairs of them by the place of the first and then of the second, that pass a test
 abbrev pub each : List Term → (Term → Bool) → List (List Term)
@@ -61,24 +76,24 @@ pairs used test = flat_map (λ s. map (λ t. s ∷ t ∷ []) (filter (test s) us
 
 -- the used terms that a kind is about, where they have its shape
 abbrev pub subjects : (Term → Option Sort) → List Term → SchemaKind → List (List Term)
-subjects sorts used SelectStoreSame = pairs used (λ s j. list_any (indexes sorts (sorts s) j) used)
-subjects sorts used SelectStoreOther = pairs used (λ s j. list_any (indexes sorts (sorts s) j) used)
-subjects sorts used FieldPutSame = each used (λ s. true)
-subjects sorts used FieldPutOther = each used (λ s. true)
-subjects sorts used CellSetCellSame = pairs used (λ s q. list_any (points sorts (sorts s) q) used)
-subjects sorts used CellSetCellOther = pairs used (λ s q. list_any (points sorts (sorts s) q) used)
-subjects sorts used PointerToSetCell = pairs used (λ s q. list_any (points sorts (sorts s) q) used)
-subjects sorts used CellExtendSame = pairs used (λ s q. list_any (points sorts (sorts s) q) used)
-subjects sorts used CellExtendOther = pairs used (λ s q. list_any (points sorts (sorts s) q) used)
-subjects sorts used PointerToExtend = pairs used (λ s q. list_any (points sorts (sorts s) q) used)
-subjects sorts used PointerToNil = each used (λ c. true)
-subjects sorts used CarCons = each used (λ s. true)
-subjects sorts used CdrCons = each used (λ s. true)
-subjects sorts used AtomCons = each used (λ s. true)
+subjects sorts used SelectStoreSame = pairs used (is_index sorts used)
+subjects sorts used SelectStoreOther = pairs used (is_index sorts used)
+subjects sorts used FieldPutSame = each used is_any
+subjects sorts used FieldPutOther = each used is_any
+subjects sorts used CellSetCellSame = pairs used (is_pointer sorts used)
+subjects sorts used CellSetCellOther = pairs used (is_pointer sorts used)
+subjects sorts used PointerToSetCell = pairs used (is_pointer sorts used)
+subjects sorts used CellExtendSame = pairs used (is_pointer sorts used)
+subjects sorts used CellExtendOther = pairs used (is_pointer sorts used)
+subjects sorts used PointerToExtend = pairs used (is_pointer sorts used)
+subjects sorts used PointerToNil = each used is_any
+subjects sorts used CarCons = each used is_any
+subjects sorts used CdrCons = each used is_any
+subjects sorts used AtomCons = each used is_any
 subjects sorts used ConsCarCdr = each used (is_taken_apart used)
-subjects sorts used DivMod = pairs used (λ a k. is_used used (two Div a k) || is_used used (two Mod a k))
-subjects sorts used ModOfNonNegative = pairs used (λ a k. is_used used (two Div a k) || is_used used (two Mod a k))
-subjects sorts used ModOfNonPositive = pairs used (λ a k. is_used used (two Div a k) || is_used used (two Mod a k))
+subjects sorts used DivMod = pairs used (is_divided used)
+subjects sorts used ModOfNonNegative = pairs used (is_divided used)
+subjects sorts used ModOfNonPositive = pairs used (is_divided used)
 subjects sorts used DivOfNumerals = pairs used (λ a k. is_used used (two Div a k))
 subjects sorts used ModOfNumerals = pairs used (λ a k. is_used used (two Mod a k))
 
@@ -99,13 +114,13 @@ abbrev pub fields_for : List Shape → (Term → Option Sort) → SchemaKind →
 fields_for shapes sorts FieldPutOther ts = fields_of_first shapes sorts ts
 fields_for shapes sorts _ ts = None ∷ []
 
-abbrev pub instances_of : List Shape → List Decl → List Term → SchemaKind → List Instance
+abbrev pub instances_of : List Shape → List Decl → List Term → SchemaKind → List SchemaInstance
 instances_of shapes decls used kind =
     filter (λ i. is_some (instance_fact shapes decls i))
     (flat_map (λ ts. map (λ field. record { kind = kind; about = ts; field = field }) (fields_for shapes (term_sort shapes decls) kind ts)) (subjects (term_sort shapes decls) used kind))
 
 -- the instances about used terms: by kind, then by the places of their terms, then by the place of the field
-abbrev pub schemas : List Shape → List Decl → List Term → List Instance
+abbrev pub schemas : List Shape → List Decl → List Term → List SchemaInstance
 schemas shapes decls used = flat_map (instances_of shapes decls used) kinds
 
 -- their facts

@@ -1,5 +1,5 @@
 -- What is proved of schemas.
-use Rattle.std.specs.Prelude.{◌≡◌, List, Option, Some, IsTrue}
+use Rattle.std.specs.Prelude.{◌≡◌, ℕ, List, Option, Some, IsTrue, slice_get}
 use Rattle.std.specs.List.{list_all}
 use Rattle.spv_logic.specs.declared.names.names.Symbol.{Symbol}
 use Rattle.spv_logic.specs.declared.types.Sort.TheVariants as sort
@@ -12,7 +12,7 @@ use Rattle.spv_logic.specs.Conditions.{Meaning, Valuation, IsValuation, answers,
 use Rattle.spv_schemas.specs.declared.kinds.SchemaKind.{SchemaKind}
 use Rattle.spv_schemas.specs.Kinds.{number_of_kind, kind_of_number}
 use Rattle.spv_schemas.specs.Facts.{schema_fact}
-use Rattle.spv_schemas.specs.Instances.{schema_facts}
+use Rattle.spv_schemas.specs.Instances.{schemas, schema_facts}
 
 -- each fact is a formula
 abbrev pub FactsAreFormulas : Type 0
@@ -32,6 +32,14 @@ abbrev pub ListedFactsAreTrue : Type 0
 ListedFactsAreTrue =
     (shapes : List Shape) → IsTrue (shapes_ok shapes) → (decls : List Decl) (used : List Term)
     → (world : Meaning) (v : Valuation) → IsValuation shapes v → IsTrue (list_all (holds (answers shapes decls world) v) (schema_facts shapes decls used))
+
+-- nothing stands at two places of a list
+abbrev pub IsOnce : {T : Type 0} → List T → Type 0
+IsOnce {T} xs = (i j : ℕ) (x : T) → slice_get xs i ≡ Some x → slice_get xs j ≡ Some x → i ≡ j
+
+-- where no used term is, no instance is
+abbrev pub InstancesAreOnce : Type 0
+InstancesAreOnce = (shapes : List Shape) → IsTrue (shapes_ok shapes) → (decls : List Decl) (used : List Term) → IsOnce used → IsOnce (schemas shapes decls used)
 
 -- a kind's number tells the kind
 abbrev pub NumbersTellKinds : Type 0

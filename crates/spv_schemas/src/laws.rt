@@ -1,13 +1,18 @@
 // What is proved of schemas, each claim the contract of a function that does nothing.
 
 ghost use Rattle.spv_schemas.specs.Examples as examples;
-ghost use Rattle.spv_schemas.specs.Laws.{FactsAreFormulas, FactsAreTrue, ListedFactsAreTrue, NumbersTellKinds};
+ghost use Rattle.spv_schemas.specs.Laws.{FactsAreFormulas, FactsAreTrue, ListedFactsAreTrue, InstancesAreOnce, NumbersTellKinds};
 
 /// The fact of each kind is a formula, and true in every world under every valuation; so are all that are listed.
 pub fn law_schema()
     ensures formulas { FactsAreFormulas }
     ensures true_everywhere { FactsAreTrue }
     ensures listed { ListedFactsAreTrue }
+{}
+
+/// Of terms without repetition no fact is listed twice.
+pub fn law_once()
+    ensures { InstancesAreOnce }
 {}
 
 /// Kinds and their numbers.
