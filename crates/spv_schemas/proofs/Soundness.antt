@@ -23,14 +23,15 @@ use Rattle.spv_logic.proofs.Sorting.{eval-fits}
 use Rattle.spv_schemas.specs.declared.kinds.SchemaKind.{SchemaKind}
 use Rattle.spv_schemas.specs.declared.kinds.SchemaKind.TheVariants.{SelectStoreSame, SelectStoreOther, FieldPutSame, FieldPutOther, CellSetCellSame, CellSetCellOther, PointerToSetCell, CellExtendSame, CellExtendOther, PointerToExtend, PointerToNil, CarCons, CdrCons, AtomCons, ConsCarCdr, DivMod, ModOfNonNegative, ModOfNonPositive, DivOfNumerals, ModOfNumerals}
 use Rattle.spv_schemas.specs.Facts as facts
-use Rattle.spv_schemas.specs.Facts.{one, two, three, numeral, nil_of, about_store, about_put, about_put_other, about_set_cell, about_extend, about_one, about_cons, about_quotient, about_numerals, of_shape, is_formula, if_formula, schema_fact}
+use Rattle.spv_schemas.specs.Facts.{one, two, three, numeral, nil_of, of_shape, is_formula, if_formula, schema_fact}
 use Rattle.spv_schemas.specs.Instances.{SchemaInstance, instance_fact, schemas, schema_facts}
+use Rattle.spv_schemas.proofs.Shapes.{by_store, by_put, by_put_other, by_set_cell, by_extend, by_one, by_cons, by_quotient, by_numerals}
 use Rattle.spv_schemas.proofs.Sorts.{of_negation, of_implication, of_equation, of_sum, of_select, of_store, of_field, of_put, of_cell, of_set_cell, of_extend, of_pointer_to}
 use Rattle.spv_schemas.proofs.Values.{element_same, element_other, field_same, field_other, content_same, content_other, members_extended, nil_is_no_member, pair_of_parts, dividend, remainder_above, remainder_below}
 
 -- ---- facts are formulas
 
-bool_told : (o : Option Sort) → on_sort o (sort_eq sort.Bool) ≡ true → o ≡ Some sort.Bool
+pub bool_told : (o : Option Sort) → on_sort o (sort_eq sort.Bool) ≡ true → o ≡ Some sort.Bool
 bool_told None h = absurd (false≢true h)
 bool_told (Some s) h = ap Some (sym (sort_eq-true sort.Bool s h))
 
@@ -74,7 +75,7 @@ module _ (shapes : List Shape) (ok : shapes_ok shapes ≡ true) (decls : List De
       let e = of_equation shapes decls (two head.Select (three head.Store a i w) j) w sort.Bool m.1 in
       let r = of_select shapes decls (three head.Store a i w) j e.0 e.1 in
       let s = of_store shapes decls a i w r.0 r.1 in
-      element_same shapes s.0 s.1 (value a) (value i) (value w) (value j) s.3 (value-fits a s.0 s.2)
+      element_same shapes r.0 s.0 (value a) (value i) (value w) (value j) s.2 (value-fits a r.0 s.1)
 
   select_store_other : (a i w j : Term) → Right (facts.select_store_other a i w j)
   select_store_other a i w j h =
@@ -82,7 +83,7 @@ module _ (shapes : List Shape) (ok : shapes_ok shapes ≡ true) (decls : List De
       let e = of_equation shapes decls (two head.Select (three head.Store a i w) j) (two head.Select a j) sort.Bool m.1 in
       let r = of_select shapes decls (three head.Store a i w) j e.0 e.1 in
       let s = of_store shapes decls a i w r.0 r.1 in
-      element_other shapes (value a) (value i) (value w) (value j) (value-fits i sort.Int s.4) (value-fits j sort.Int r.2)
+      element_other shapes (value a) (value i) (value w) (value j) (value-fits i sort.Int s.3) (value-fits j sort.Int r.2)
 
   -- ---- records
 
@@ -90,8 +91,8 @@ module _ (shapes : List Shape) (ok : shapes_ok shapes ≡ true) (decls : List De
   field_put_same f r w h =
       let e = of_equation shapes decls (one (head.Field f) (two (head.Put f) r w)) w sort.Bool h in
       let k = of_field shapes decls f (two (head.Put f) r w) e.0 e.1 in
-      let p = of_put shapes decls f r w k.0 k.1 in
-      field_same shapes p.0 p.1 f.0 (value r) (value w) (Number (pos 0)) p.3 (value-fits r p.0 p.2)
+      let p = of_put shapes decls f r w k.0 k.2 in
+      field_same shapes k.0 p.0 f.0 (value r) (value w) (Number (pos 0)) p.2 (value-fits r k.0 p.1)
 
   field_put_other : (f : Symbol) (r w : Term) (g : Symbol) → nat_eq g.0 f.0 ≡ false → Right (facts.field_put_other f r w g)
   field_put_other f r w g differ h = field_other f.0 g.0 (value r) (value w) (Number (pos 0)) differ
@@ -104,7 +105,7 @@ module _ (shapes : List Shape) (ok : shapes_ok shapes ≡ true) (decls : List De
       let e = of_equation shapes decls (two head.Cell (three head.SetCell c p w) q) w sort.Bool m.1 in
       let r = of_cell shapes decls (three head.SetCell c p w) q e.0 e.1 in
       let s = of_set_cell shapes decls c p w (sort.Class r.0) r.1 in
-      content_same shapes s.0 (value c) (value p) (value w) (value q) (value-fits c (sort.Class s.0) s.1)
+      content_same shapes s.0 (value c) (value p) (value w) (value q) (value-fits c (sort.Class s.0) s.2)
 
   cell_set_cell_other : (c p w q : Term) → Right (facts.cell_other head.SetCell c p w q)
   cell_set_cell_other c p w q h =
@@ -112,7 +113,7 @@ module _ (shapes : List Shape) (ok : shapes_ok shapes ≡ true) (decls : List De
       let e = of_equation shapes decls (two head.Cell (three head.SetCell c p w) q) (two head.Cell c q) sort.Bool m.1 in
       let r = of_cell shapes decls (three head.SetCell c p w) q e.0 e.1 in
       let s = of_set_cell shapes decls c p w (sort.Class r.0) r.1 in
-      content_other shapes s.0 r.0 (value c) (value p) (value w) (value q) (value-fits p (sort.Ptr s.0) s.2) (value-fits q (sort.Ptr r.0) r.2)
+      content_other shapes s.0 r.0 (value c) (value p) (value w) (value q) (value-fits p (sort.Ptr s.0) s.3) (value-fits q (sort.Ptr r.0) r.2)
 
   pointer_to_set_cell : (c p w q : Term) → Right (facts.pointer_to_set_cell c p w q)
   pointer_to_set_cell c p w q h = value_eq-refl (value (two head.PointerTo q c))
@@ -123,7 +124,7 @@ module _ (shapes : List Shape) (ok : shapes_ok shapes ≡ true) (decls : List De
       let e = of_equation shapes decls (two head.Cell (three head.Extend c p w) q) w sort.Bool m.1 in
       let r = of_cell shapes decls (three head.Extend c p w) q e.0 e.1 in
       let s = of_extend shapes decls c p w (sort.Class r.0) r.1 in
-      content_same shapes s.0 (value c) (value p) (value w) (value q) (value-fits c (sort.Class s.0) s.1)
+      content_same shapes s.0 (value c) (value p) (value w) (value q) (value-fits c (sort.Class s.0) s.2)
 
   cell_extend_other : (c p w q : Term) → Right (facts.cell_other head.Extend c p w q)
   cell_extend_other c p w q h =
@@ -131,7 +132,7 @@ module _ (shapes : List Shape) (ok : shapes_ok shapes ≡ true) (decls : List De
       let e = of_equation shapes decls (two head.Cell (three head.Extend c p w) q) (two head.Cell c q) sort.Bool m.1 in
       let r = of_cell shapes decls (three head.Extend c p w) q e.0 e.1 in
       let s = of_extend shapes decls c p w (sort.Class r.0) r.1 in
-      content_other shapes s.0 r.0 (value c) (value p) (value w) (value q) (value-fits p (sort.Ptr s.0) s.2) (value-fits q (sort.Ptr r.0) r.2)
+      content_other shapes s.0 r.0 (value c) (value p) (value w) (value q) (value-fits p (sort.Ptr s.0) s.3) (value-fits q (sort.Ptr r.0) r.2)
 
   nil_value : (o : Option Sort) → value (nil_of o) ≡ Pointer 0
   nil_value (Some (sort.Class t)) = refl
@@ -144,7 +145,7 @@ module _ (shapes : List Shape) (ok : shapes_ok shapes ≡ true) (decls : List De
       let r = of_pointer_to shapes decls q (three head.Extend c p w) e.0 e.1 in
       let s = of_extend shapes decls c p w (sort.Class r.0) r.2 in
       subst (λ x. (not (not (value_eq (value p) x)) || value_eq (Truth (list_any (nat_eq (pointer_of (value q))) (with_member (members_of (value c)) (pointer_of (value p))))) (Truth (value_eq (value p) (value q) || list_any (nat_eq (pointer_of (value q))) (members_of (value c))))) ≡ true) (sym is)
-      (members_extended shapes s.0 r.0 (value p) (value q) (members_of (value c)) (value-fits p (sort.Ptr s.0) s.2) (value-fits q (sort.Ptr r.0) r.1))
+      (members_extended shapes s.0 r.0 (value p) (value q) (members_of (value c)) (value-fits p (sort.Ptr s.0) s.3) (value-fits q (sort.Ptr r.0) r.1))
 
   pointer_to_nil : (nil c : Term) → value nil ≡ Pointer 0 → Right (facts.pointer_to_nil nil c)
   pointer_to_nil nil c is h =
@@ -200,70 +201,37 @@ module _ (shapes : List Shape) (ok : shapes_ok shapes ≡ true) (decls : List De
   said_unless true t right = λ fact e. cc
   said_unless false t right = said t (right refl)
 
-  of_about_store : (make : Term → Term → Term → Term → Term) → ((a i w j : Term) → Right (make a i w j)) → (ts : List Term) → RightIf (about_store make ts)
-  of_about_store make right (term head.Store (terms a (terms i (terms w no_terms))) ∷ j ∷ []) = said (make a i w j) (right a i w j)
-  of_about_store make right _ = λ fact e. cc
-
-  of_about_put : (ts : List Term) → RightIf (about_put ts)
-  of_about_put (term (head.Put f) (terms r (terms w no_terms)) ∷ []) = said (facts.field_put_same f r w) (field_put_same f r w)
-  of_about_put _ = λ fact e. cc
-
-  of_about_put_other : (ts : List Term) (g : Symbol) → RightIf (about_put_other ts g)
-  of_about_put_other (term (head.Put f) (terms r (terms w no_terms)) ∷ []) g = said_unless (nat_eq g.0 f.0) (facts.field_put_other f r w g) (λ e. field_put_other f r w g e)
-  of_about_put_other _ g = λ fact e. cc
-
-  of_about_set_cell : (make : Term → Term → Term → Term → Term) → ((c p w q : Term) → Right (make c p w q)) → (ts : List Term) → RightIf (about_set_cell make ts)
-  of_about_set_cell make right (term head.SetCell (terms c (terms p (terms w no_terms))) ∷ q ∷ []) = said (make c p w q) (right c p w q)
-  of_about_set_cell make right _ = λ fact e. cc
-
-  of_about_extend : (make : Term → Term → Term → Term → Term) → ((c p w q : Term) → Right (make c p w q)) → (ts : List Term) → RightIf (about_extend make ts)
-  of_about_extend make right (term head.Extend (terms c (terms p (terms w no_terms))) ∷ q ∷ []) = said (make c p w q) (right c p w q)
-  of_about_extend make right _ = λ fact e. cc
-
-  of_about_one : (make : Term → Term) → ((t : Term) → Right (make t)) → (ts : List Term) → RightIf (about_one make ts)
-  of_about_one make right (t ∷ []) = said (make t) (right t)
-  of_about_one make right _ = λ fact e. cc
-
-  of_about_cons : (make : Term → Term → Term) → ((x y : Term) → Right (make x y)) → (ts : List Term) → RightIf (about_cons make ts)
-  of_about_cons make right (term head.Cons (terms x (terms y no_terms)) ∷ []) = said (make x y) (right x y)
-  of_about_cons make right _ = λ fact e. cc
-
-  of_about_quotient : (make : Term → ℤ → Term) → ((a : Term) (k : ℤ) → int_eq k (pos 0) ≡ false → Right (make a k)) → (ts : List Term) → RightIf (about_quotient make ts)
-  of_about_quotient make right (a ∷ term (head.Num k) no_terms ∷ []) = said_unless (int_eq k (pos 0)) (make a k) (right a k)
-  of_about_quotient make right _ = λ fact e. cc
-
-  of_about_numerals : (make : ℤ → ℤ → Term) → ((a k : ℤ) → Right (make a k)) → (ts : List Term) → RightIf (about_numerals make ts)
-  of_about_numerals make right (term (head.Num a) no_terms ∷ term (head.Num k) no_terms ∷ []) = said_unless (int_eq k (pos 0)) (make a k) (λ e. right a k)
-  of_about_numerals make right _ = λ fact e. cc
+  nothing : (ts : List Term) → RightIf None
+  nothing ts fact e = cc
 
   -- a case for each kind
   of_kind : (kind : SchemaKind) (ts : List Term) (field : Option Symbol) → RightIf (of_shape (term_sort shapes decls) kind ts field)
-  of_kind SelectStoreSame ts None = of_about_store facts.select_store_same select_store_same ts
-  of_kind SelectStoreOther ts None = of_about_store facts.select_store_other select_store_other ts
-  of_kind FieldPutSame ts None = of_about_put ts
-  of_kind FieldPutOther ts None = λ fact e. cc
-  of_kind CellSetCellSame ts None = of_about_set_cell (facts.cell_same head.SetCell) cell_set_cell_same ts
-  of_kind CellSetCellOther ts None = of_about_set_cell (facts.cell_other head.SetCell) cell_set_cell_other ts
-  of_kind PointerToSetCell ts None = of_about_set_cell facts.pointer_to_set_cell pointer_to_set_cell ts
-  of_kind CellExtendSame ts None = of_about_extend (facts.cell_same head.Extend) cell_extend_same ts
-  of_kind CellExtendOther ts None = of_about_extend (facts.cell_other head.Extend) cell_extend_other ts
+  of_kind SelectStoreSame ts None = by_store (λ ts o. RightIf o) nothing facts.select_store_same (λ a i w j. said (facts.select_store_same a i w j) (select_store_same a i w j)) ts
+  of_kind SelectStoreOther ts None = by_store (λ ts o. RightIf o) nothing facts.select_store_other (λ a i w j. said (facts.select_store_other a i w j) (select_store_other a i w j)) ts
+  of_kind FieldPutSame ts None = by_put (λ ts o. RightIf o) nothing (λ f r w. said (facts.field_put_same f r w) (field_put_same f r w)) ts
+  of_kind FieldPutOther ts None = nothing ts
+  of_kind CellSetCellSame ts None = by_set_cell (λ ts o. RightIf o) nothing (facts.cell_same head.SetCell) (λ c p w q. said (facts.cell_same head.SetCell c p w q) (cell_set_cell_same c p w q)) ts
+  of_kind CellSetCellOther ts None = by_set_cell (λ ts o. RightIf o) nothing (facts.cell_other head.SetCell) (λ c p w q. said (facts.cell_other head.SetCell c p w q) (cell_set_cell_other c p w q)) ts
+  of_kind PointerToSetCell ts None = by_set_cell (λ ts o. RightIf o) nothing facts.pointer_to_set_cell (λ c p w q. said (facts.pointer_to_set_cell c p w q) (pointer_to_set_cell c p w q)) ts
+  of_kind CellExtendSame ts None = by_extend (λ ts o. RightIf o) nothing (facts.cell_same head.Extend) (λ c p w q. said (facts.cell_same head.Extend c p w q) (cell_extend_same c p w q)) ts
+  of_kind CellExtendOther ts None = by_extend (λ ts o. RightIf o) nothing (facts.cell_other head.Extend) (λ c p w q. said (facts.cell_other head.Extend c p w q) (cell_extend_other c p w q)) ts
   of_kind PointerToExtend ts None =
-      of_about_extend (λ c p w q. facts.pointer_to_extend (nil_of (term_sort shapes decls c)) c p w q)
-      (λ c p w q. pointer_to_extend (nil_of (term_sort shapes decls c)) c p w q (nil_value (term_sort shapes decls c))) ts
+      by_extend (λ ts o. RightIf o) nothing (λ c p w q. facts.pointer_to_extend (nil_of (term_sort shapes decls c)) c p w q)
+      (λ c p w q. said (facts.pointer_to_extend (nil_of (term_sort shapes decls c)) c p w q) (pointer_to_extend (nil_of (term_sort shapes decls c)) c p w q (nil_value (term_sort shapes decls c)))) ts
   of_kind PointerToNil ts None =
-      of_about_one (λ c. facts.pointer_to_nil (nil_of (term_sort shapes decls c)) c)
-      (λ c. pointer_to_nil (nil_of (term_sort shapes decls c)) c (nil_value (term_sort shapes decls c))) ts
-  of_kind CarCons ts None = of_about_cons facts.car_cons car_cons ts
-  of_kind CdrCons ts None = of_about_cons facts.cdr_cons cdr_cons ts
-  of_kind AtomCons ts None = of_about_cons facts.atom_cons atom_cons ts
-  of_kind ConsCarCdr ts None = of_about_one facts.cons_car_cdr cons_car_cdr ts
-  of_kind DivMod ts None = of_about_quotient facts.div_mod (λ a k e. div_mod a k) ts
-  of_kind ModOfNonNegative ts None = of_about_quotient facts.mod_of_non_negative mod_of_non_negative ts
-  of_kind ModOfNonPositive ts None = of_about_quotient facts.mod_of_non_positive mod_of_non_positive ts
-  of_kind DivOfNumerals ts None = of_about_numerals facts.div_of_numerals div_of_numerals ts
-  of_kind ModOfNumerals ts None = of_about_numerals facts.mod_of_numerals mod_of_numerals ts
-  of_kind FieldPutOther ts (Some g) = of_about_put_other ts g
-  of_kind _ ts (Some g) = λ fact e. cc
+      by_one (λ ts o. RightIf o) nothing (λ c. facts.pointer_to_nil (nil_of (term_sort shapes decls c)) c)
+      (λ c. said (facts.pointer_to_nil (nil_of (term_sort shapes decls c)) c) (pointer_to_nil (nil_of (term_sort shapes decls c)) c (nil_value (term_sort shapes decls c)))) ts
+  of_kind CarCons ts None = by_cons (λ ts o. RightIf o) nothing facts.car_cons (λ x y. said (facts.car_cons x y) (car_cons x y)) ts
+  of_kind CdrCons ts None = by_cons (λ ts o. RightIf o) nothing facts.cdr_cons (λ x y. said (facts.cdr_cons x y) (cdr_cons x y)) ts
+  of_kind AtomCons ts None = by_cons (λ ts o. RightIf o) nothing facts.atom_cons (λ x y. said (facts.atom_cons x y) (atom_cons x y)) ts
+  of_kind ConsCarCdr ts None = by_one (λ ts o. RightIf o) nothing facts.cons_car_cdr (λ x. said (facts.cons_car_cdr x) (cons_car_cdr x)) ts
+  of_kind DivMod ts None = by_quotient (λ ts o. RightIf o) nothing facts.div_mod (λ a k. said_unless (int_eq k (pos 0)) (facts.div_mod a k) (λ e. div_mod a k)) ts
+  of_kind ModOfNonNegative ts None = by_quotient (λ ts o. RightIf o) nothing facts.mod_of_non_negative (λ a k. said_unless (int_eq k (pos 0)) (facts.mod_of_non_negative a k) (mod_of_non_negative a k)) ts
+  of_kind ModOfNonPositive ts None = by_quotient (λ ts o. RightIf o) nothing facts.mod_of_non_positive (λ a k. said_unless (int_eq k (pos 0)) (facts.mod_of_non_positive a k) (mod_of_non_positive a k)) ts
+  of_kind DivOfNumerals ts None = by_numerals (λ ts o. RightIf o) nothing facts.div_of_numerals (λ a k. said_unless (int_eq k (pos 0)) (facts.div_of_numerals a k) (λ e. div_of_numerals a k)) ts
+  of_kind ModOfNumerals ts None = by_numerals (λ ts o. RightIf o) nothing facts.mod_of_numerals (λ a k. said_unless (int_eq k (pos 0)) (facts.mod_of_numerals a k) (λ e. mod_of_numerals a k)) ts
+  of_kind FieldPutOther ts (Some g) = by_put_other (λ ts o. RightIf o) nothing g (λ f r w. said_unless (nat_eq g.0 f.0) (facts.field_put_other f r w g) (field_put_other f r w g)) ts
+  of_kind _ ts (Some g) = nothing ts
 
   pub fact_true : (kind : SchemaKind) (ts : List Term) (field : Option Symbol) (fact : Term) → schema_fact shapes decls kind ts field ≡ Some fact → holds (answers shapes decls world) v fact ≡ true
   fact_true kind ts field fact h =

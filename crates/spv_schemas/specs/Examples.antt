@@ -61,6 +61,9 @@ i = variable 0 sort.Int
 abbrev j : Term
 j = variable 1 sort.Int
 
+abbrev k : Term
+k = variable 15 sort.Int
+
 abbrev v : Term
 v = variable 2 sort.Int
 
@@ -77,7 +80,7 @@ bits = variable 5 (sort.Whole (type 2))
 abbrev r : Term
 r = variable 6 (sort.Whole (type 1))
 
--- a class, two of its pointers and a content; another class and its pointer
+-- a class, four of its pointers and a content; another class and its pointer
 abbrev c : Term
 c = term (ClassVar (type 3) 0) no_terms
 
@@ -86,6 +89,12 @@ p = variable 7 (sort.Ptr (type 3))
 
 abbrev q : Term
 q = variable 8 (sort.Ptr (type 3))
+
+abbrev n : Term
+n = variable 13 (sort.Ptr (type 3))
+
+abbrev m : Term
+m = variable 14 (sort.Ptr (type 3))
 
 abbrev e : Term
 e = variable 9 (sort.Whole (type 3))
@@ -299,11 +308,11 @@ ArraysAreListed =
     (about SelectStoreSame (once ∷ i ∷ []) ∷ about SelectStoreSame (once ∷ j ∷ []) ∷ about SelectStoreSame (twice ∷ i ∷ []) ∷ about SelectStoreSame (twice ∷ j ∷ [])
     ∷ about SelectStoreOther (once ∷ i ∷ []) ∷ about SelectStoreOther (once ∷ j ∷ []) ∷ about SelectStoreOther (twice ∷ i ∷ []) ∷ about SelectStoreOther (twice ∷ j ∷ []) ∷ [])
 
--- an index that two terms have comes once, and an index of arrays of another type not at all
+-- an index comes once, whether it is read or changed at, and of which array of the type; an index of arrays of another type not at all
 abbrev pub IndicesAreOfTheArray : Type 0
 IndicesAreOfTheArray =
-    Lists (bits ∷ j ∷ two Select bits j ∷ a ∷ i ∷ v ∷ stored ∷ two Select stored i ∷ two Select a i ∷ [])
-    (about SelectStoreSame (stored ∷ i ∷ []) ∷ about SelectStoreOther (stored ∷ i ∷ []) ∷ [])
+    Lists (bits ∷ j ∷ two Select bits j ∷ a ∷ i ∷ v ∷ stored ∷ two Select stored i ∷ k ∷ two Select a k ∷ [])
+    (about SelectStoreSame (stored ∷ i ∷ []) ∷ about SelectStoreSame (stored ∷ k ∷ []) ∷ about SelectStoreOther (stored ∷ i ∷ []) ∷ about SelectStoreOther (stored ∷ k ∷ []) ∷ [])
 
 abbrev put_truth : Term
 put_truth = two (Put g) r b
@@ -329,11 +338,13 @@ ClassesAreListed =
     ∷ about PointerToExtend (grown ∷ p ∷ []) ∷ about PointerToExtend (grown ∷ q ∷ [])
     ∷ about PointerToNil (c ∷ []) ∷ about PointerToNil (changed ∷ []) ∷ about PointerToNil (grown ∷ []) ∷ about PointerToNil (d ∷ []) ∷ [])
 
--- a pointer that only an equation has is none of the class
+-- a pointer is one of the class where CELL reads at it, where POINTERTO asks for it, or where it is the new member; one that only an equation has is none
 abbrev pub PointersAreOfTheClass : Type 0
 PointersAreOfTheClass =
-    Lists (p ∷ q ∷ two Eq p q ∷ c ∷ two Cell c p ∷ two PointerTo p c ∷ extended ∷ [])
-    (about CellExtendSame (extended ∷ p ∷ []) ∷ about CellExtendOther (extended ∷ p ∷ []) ∷ about PointerToExtend (extended ∷ p ∷ [])
+    Lists (p ∷ q ∷ n ∷ m ∷ two Eq p m ∷ c ∷ two Cell c q ∷ two PointerTo n c ∷ e ∷ extended ∷ [])
+    (about CellExtendSame (extended ∷ p ∷ []) ∷ about CellExtendSame (extended ∷ q ∷ []) ∷ about CellExtendSame (extended ∷ n ∷ [])
+    ∷ about CellExtendOther (extended ∷ p ∷ []) ∷ about CellExtendOther (extended ∷ q ∷ []) ∷ about CellExtendOther (extended ∷ n ∷ [])
+    ∷ about PointerToExtend (extended ∷ p ∷ []) ∷ about PointerToExtend (extended ∷ q ∷ []) ∷ about PointerToExtend (extended ∷ n ∷ [])
     ∷ about PointerToNil (c ∷ []) ∷ about PointerToNil (extended ∷ []) ∷ [])
 
 -- a list has its fact where it is taken apart, by CAR, CDR or ATOM
@@ -349,9 +360,12 @@ three_is = num (pos 3)
 abbrev seven : Term
 seven = num (pos 7)
 
--- a dividend and a divisor come once, whether both DIV and MOD have them or one; a divisor that is no numeral, or is 0, does not come
+-- a dividend and a divisor come once, whether DIV and MOD have them or one of these; a divisor that is no numeral, or is 0, does not come
 abbrev pub QuotientsAreListed : Type 0
 QuotientsAreListed =
-    Lists (i ∷ three_is ∷ two Div i three_is ∷ two Mod i three_is ∷ seven ∷ two Mod seven three_is ∷ j ∷ two Div i j ∷ zero ∷ two Div i zero ∷ [])
-    (about DivMod (i ∷ three_is ∷ []) ∷ about DivMod (seven ∷ three_is ∷ []) ∷ about ModOfNonNegative (i ∷ three_is ∷ []) ∷ about ModOfNonNegative (seven ∷ three_is ∷ [])
-    ∷ about ModOfNonPositive (i ∷ three_is ∷ []) ∷ about ModOfNonPositive (seven ∷ three_is ∷ []) ∷ about ModOfNumerals (seven ∷ three_is ∷ []) ∷ [])
+    Lists (i ∷ three_is ∷ two Div i three_is ∷ two Mod i three_is ∷ seven ∷ two Mod seven three_is ∷ plus_two ∷ two Div seven plus_two
+    ∷ j ∷ two Div j three_is ∷ two Div i j ∷ zero ∷ two Div i zero ∷ [])
+    (about DivMod (i ∷ three_is ∷ []) ∷ about DivMod (seven ∷ three_is ∷ []) ∷ about DivMod (seven ∷ plus_two ∷ []) ∷ about DivMod (j ∷ three_is ∷ [])
+    ∷ about ModOfNonNegative (i ∷ three_is ∷ []) ∷ about ModOfNonNegative (seven ∷ three_is ∷ []) ∷ about ModOfNonNegative (seven ∷ plus_two ∷ []) ∷ about ModOfNonNegative (j ∷ three_is ∷ [])
+    ∷ about ModOfNonPositive (i ∷ three_is ∷ []) ∷ about ModOfNonPositive (seven ∷ three_is ∷ []) ∷ about ModOfNonPositive (seven ∷ plus_two ∷ []) ∷ about ModOfNonPositive (j ∷ three_is ∷ [])
+    ∷ about DivOfNumerals (seven ∷ plus_two ∷ []) ∷ about ModOfNumerals (seven ∷ three_is ∷ []) ∷ [])

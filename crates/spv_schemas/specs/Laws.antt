@@ -1,5 +1,5 @@
 -- What is proved of schemas.
-use Rattle.std.specs.Prelude.{◌≡◌, ℕ, List, Option, Some, IsTrue, slice_get}
+use Rattle.std.specs.Prelude.{◌≡◌, ℕ, List, Option, Some, None, IsTrue, slice_get, if◌then◌else◌}
 use Rattle.std.specs.List.{list_all}
 use Rattle.spv_logic.specs.declared.names.names.Symbol.{Symbol}
 use Rattle.spv_logic.specs.declared.types.Sort.TheVariants as sort
@@ -11,7 +11,8 @@ use Rattle.spv_logic.specs.Sorts.{term_sort}
 use Rattle.spv_logic.specs.Conditions.{Meaning, Valuation, IsValuation, answers, holds}
 use Rattle.spv_schemas.specs.declared.kinds.SchemaKind.{SchemaKind}
 use Rattle.spv_schemas.specs.Kinds.{number_of_kind, kind_of_number}
-use Rattle.spv_schemas.specs.Facts.{schema_fact}
+use Rattle.spv_schemas.specs.Facts.{of_shape, schema_fact}
+use Rattle.spv_schemas.specs.SortsThatFit.{sorts_fit}
 use Rattle.spv_schemas.specs.Instances.{schemas, schema_facts}
 
 -- each fact is a formula
@@ -19,6 +20,12 @@ abbrev pub FactsAreFormulas : Type 0
 FactsAreFormulas =
     (shapes : List Shape) (decls : List Decl) (kind : SchemaKind) (ts : List Term) (field : Option Symbol) (fact : Term)
     → schema_fact shapes decls kind ts field ≡ Some fact → term_sort shapes decls fact ≡ Some sort.Bool
+
+-- there is a fact exactly where terms have the kind's shape and sorts that fit it
+abbrev pub FactsAreWhereSortsFit : Type 0
+FactsAreWhereSortsFit =
+    (shapes : List Shape) (decls : List Decl) (kind : SchemaKind) (ts : List Term) (field : Option Symbol)
+    → schema_fact shapes decls kind ts field ≡ (if sorts_fit shapes (term_sort shapes decls) kind ts field then of_shape (term_sort shapes decls) kind ts field else None)
 
 -- each fact is true in every world under every valuation
 abbrev pub FactsAreTrue : Type 0

@@ -1,13 +1,18 @@
 // What is proved of schemas, each claim the contract of a function that does nothing.
 
 ghost use Rattle.spv_schemas.specs.Examples as examples;
-ghost use Rattle.spv_schemas.specs.Laws.{FactsAreFormulas, FactsAreTrue, ListedFactsAreTrue, InstancesAreOnce, NumbersTellKinds};
+ghost use Rattle.spv_schemas.specs.Laws.{FactsAreFormulas, FactsAreWhereSortsFit, FactsAreTrue, ListedFactsAreTrue, InstancesAreOnce, NumbersTellKinds};
 
 /// The fact of each kind is a formula, and true in every world under every valuation; so are all that are listed.
 pub fn law_schema()
     ensures formulas { FactsAreFormulas }
     ensures true_everywhere { FactsAreTrue }
     ensures listed { ListedFactsAreTrue }
+{}
+
+/// Terms have a fact exactly where they have the kind's shape and sorts that fit it.
+pub fn law_sorts_that_fit()
+    ensures { FactsAreWhereSortsFit }
 {}
 
 /// Of terms without repetition no fact is listed twice.
