@@ -13,13 +13,13 @@ use Rattle.spv_logic.specs.declared.types.Shape.{Shape}
 use Rattle.spv_logic.specs.declared.types.Shape.TheVariants as shape
 use Rattle.spv_logic.specs.declared.types.Decl.{Decl}
 use Rattle.spv_logic.specs.Terms.{Term}
-use Rattle.spv_logic.specs.Shapes.{shape_at, fields_of_shape, fields_of, names_differ, shape_ok, shapes_ok}
+use Rattle.spv_logic.specs.Shapes.{shape_at, fields_of_shape, names_differ, shape_ok, shapes_ok}
 use Rattle.spv_logic.specs.Sorts.{term_sort}
 use Rattle.spv_logic.proofs.Ranges.{shape_ok-at}
 use Rattle.spv_schemas.specs.declared.kinds.SchemaKind.{SchemaKind}
 use Rattle.spv_schemas.specs.declared.kinds.SchemaKind.TheVariants.{SelectStoreSame, SelectStoreOther, FieldPutSame, FieldPutOther, CellSetCellSame, CellSetCellOther, PointerToSetCell, CellExtendSame, CellExtendOther, PointerToExtend, PointerToNil, CarCons, CdrCons, AtomCons, ConsCarCdr, DivMod, ModOfNonNegative, ModOfNonPositive, DivOfNumerals, ModOfNumerals}
 use Rattle.spv_schemas.specs.Kinds.{kinds, number_of_kind}
-use Rattle.spv_schemas.specs.Instances.{SchemaInstance, instance_fact, is_any, each, pairs, subjects, named, names_in, fields_of_first, fields_for, instances_of, schemas}
+use Rattle.spv_schemas.specs.Instances.{SchemaInstance, instance_fact, is_any, each, pairs, subjects, named, names_in, fields_for, instances_of, schemas}
 use Rattle.spv_schemas.specs.Laws.{IsOnce}
 
 -- ---- lists
@@ -242,7 +242,7 @@ module _ (shapes : List Shape) (ok : shapes_ok shapes ≡ true) (decls : List De
   once_of_kind kind =
       once_filter (λ i. is_some (instance_fact shapes decls i)) (flat_map (about kind) (subjects (term_sort shapes decls) used kind))
       (once_flat_map (about kind) (λ ts us i m n. sym (is_about kind ts i m).1 ∙ (is_about kind us i n).1) (once_about kind)
-          (subjects (term_sort shapes decls) used kind) (once_subjects (term_sort shapes decls) used once kind))
+      (subjects (term_sort shapes decls) used kind) (once_subjects (term_sort shapes decls) used once kind))
 
   kind_is : (kind : SchemaKind) (i : SchemaInstance) → In i (instances_of shapes decls used kind) → i.kind ≡ kind
   kind_is kind i m =

@@ -1,5 +1,5 @@
 -- What holds of each shape's fact, and where there is none, holds of what a kind says.
-use Rattle.std.proofs.Common.{Bool, List, [], ◌∷◌, ℤ, pos, Option, Some, None, nat_eq, if◌then◌else◌}
+use Rattle.std.proofs.Common.{List, [], ◌∷◌, ℤ, pos, Option, Some, None, nat_eq, if◌then◌else◌}
 use Rattle.std.specs.Ordering.{int_eq}
 use Rattle.spv_logic.specs.declared.names.names.Symbol.{Symbol}
 use Rattle.spv_logic.specs.declared.operators.Head.TheVariants as head

@@ -1,5 +1,5 @@
 -- A fact is a formula exactly where the sorts of its terms fit.
-use Rattle.std.proofs.Common.{◌≡◌, Bool, true, false, cond, List, [], ◌∷◌, ℤ, pos, neg_ℤ, Option, Some, None, is_some, refl, sym, ap, ◌∙◌, subst, nat_eq, if◌then◌else◌}
+use Rattle.std.proofs.Common.{◌≡◌, Bool, true, false, cond, List, [], ◌∷◌, ℤ, pos, neg_ℤ, Option, Some, None, is_some, refl, sym, ap, ◌∙◌, nat_eq, if◌then◌else◌}
 use Rattle.std.proofs.lemmas.Bool.{false≢true}
 use Rattle.std.specs.Ordering.{int_eq}
 use Rattle.spv_logic.specs.declared.names.names.Symbol.{Symbol}
@@ -9,7 +9,7 @@ use Rattle.spv_logic.specs.declared.types.Sort.TheVariants as sort
 use Rattle.spv_logic.specs.declared.types.Shape.{Shape}
 use Rattle.spv_logic.specs.declared.types.Decl.{Decl}
 use Rattle.spv_logic.specs.declared.operators.Head.TheVariants as head
-use Rattle.spv_logic.specs.Terms.{Term, term, no_terms, sort_eq}
+use Rattle.spv_logic.specs.Terms.{Term, sort_eq}
 use Rattle.spv_logic.specs.Formulas.{negation, equation}
 use Rattle.spv_logic.specs.Shapes.{fields_of, field_sort_of, pointer_sort, is_list, sort_of_type}
 use Rattle.spv_logic.specs.Fits.{on_sort}
@@ -98,8 +98,7 @@ module _ (shapes : List Shape) (decls : List Decl) where
   store_to a i w j h =
       let k = told_two (sort_of (three head.Store a i w)) (sort_of j) (λ s j. sort_eq sort.Int j) h in
       let q = of_store shapes decls a i w k.0 k.2 in
-      let number : IsSorted j sort.Int = k.3 ∙ ap Some (sym (sort_eq-true sort.Int k.1 k.4)) in
-      (
+      let number : IsSorted j sort.Int = k.3 ∙ ap Some (sym (sort_eq-true sort.Int k.1 k.4)) in (
         k.0,
         q.0,
         sorted_equation shapes decls i j sort.Int q.3 number,

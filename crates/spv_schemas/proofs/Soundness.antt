@@ -12,7 +12,7 @@ use Rattle.spv_logic.specs.declared.types.Shape.{Shape}
 use Rattle.spv_logic.specs.declared.types.Decl.{Decl}
 use Rattle.spv_logic.specs.declared.operators.Head.TheVariants as head
 use Rattle.spv_logic.specs.Values.{Value, Number, Truth, Pointer, value_eq, number_of, pointer_of, members_of, with_member}
-use Rattle.spv_logic.specs.Terms.{Term, term, no_terms, terms, sort_eq, eval}
+use Rattle.spv_logic.specs.Terms.{Term, sort_eq, eval}
 use Rattle.spv_logic.specs.Formulas.{negation, equation}
 use Rattle.spv_logic.specs.Shapes.{shapes_ok}
 use Rattle.spv_logic.specs.Fits.{fits, on_sort}

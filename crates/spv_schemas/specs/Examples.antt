@@ -1,6 +1,6 @@
 -- Worked facts of schemas: one of each kind, what has none, and what is listed.
 -- Behind some of them stands which wrong definition they refuse.
-use Rattle.std.specs.Prelude.{◌≡◌, ℕ, Bool, true, false, List, [], ◌∷◌, map, Option, Some, None, ℤ, pos, negsuc}
+use Rattle.std.specs.Prelude.{◌≡◌, ℕ, List, [], ◌∷◌, Option, Some, None, ℤ, pos, negsuc}
 use Rattle.spv_logic.specs.declared.names.names.Symbol.{Symbol}
 use Rattle.spv_logic.specs.declared.types.TypeId.{TypeId}
 use Rattle.spv_logic.specs.declared.types.Sort.{Sort}

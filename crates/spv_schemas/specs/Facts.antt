@@ -1,5 +1,5 @@
 -- The facts of schemas: formulas about terms of one shape, which are true whatever these are worth.
-use Rattle.std.specs.Prelude.{ℕ, Bool, true, false, List, [], ◌∷◌, Option, Some, None, ℤ, pos, ◌-◌, neg_ℤ, nat_eq, if◌then◌else◌}
+use Rattle.std.specs.Prelude.{Bool, List, [], ◌∷◌, Option, Some, None, ℤ, pos, ◌-◌, neg_ℤ, nat_eq, if◌then◌else◌}
 use Rattle.std.specs.Int.RustNames.{int_div, int_rem, unsigned_abs}
 use Rattle.std.specs.Ordering.{int_eq}
 use Rattle.spv_logic.specs.declared.names.names.Symbol.{Symbol}
