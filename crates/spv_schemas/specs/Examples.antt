@@ -114,7 +114,7 @@ y = variable 12 sort.List
 
 -- ---- facts
 
--- what a kind says of terms
+-- what a kind says of terms; each of these laws refuses any other formula
 abbrev Says : SchemaKind → List Term → Term → Type 0
 Says kind ts fact = schema_fact types [] kind ts None ≡ Some fact
 
@@ -125,6 +125,7 @@ SaysNothing kind ts field = schema_fact types [] kind ts field ≡ None
 abbrev stored : Term
 stored = three Store a i v
 
+-- refuses: with NOT
 abbrev pub SelectStoreSameSays : Type 0
 SelectStoreSameSays = Says SelectStoreSame (stored ∷ j ∷ []) (two Implies (two Eq i j) (two Eq (two Select stored j) v))
 
@@ -144,9 +145,11 @@ FieldPutOtherSays = schema_fact types [] FieldPutOther (put_number ∷ []) (Some
 abbrev changed : Term
 changed = three SetCell c p e
 
+-- refuses: without a condition on q
 abbrev pub CellSetCellSameSays : Type 0
 CellSetCellSameSays = Says CellSetCellSame (changed ∷ q ∷ []) (two Implies (two Eq p q) (two Eq (two Cell changed q) e))
 
+-- refuses: without NOT
 abbrev pub CellSetCellOtherSays : Type 0
 CellSetCellOtherSays = Says CellSetCellOther (changed ∷ q ∷ []) (two Implies (one Not (two Eq p q)) (two Eq (two Cell changed q) (two Cell c q)))
 
@@ -171,18 +174,22 @@ abbrev pub PointerToExtendSays : Type 0
 PointerToExtendSays =
     Says PointerToExtend (extended ∷ q ∷ []) (two Implies (one Not (two Eq p nil)) (two Eq (two PointerTo q extended) (two Or (two Eq p q) (two PointerTo q c))))
 
+-- refuses: without NOT
 abbrev pub PointerToNilSays : Type 0
 PointerToNilSays = Says PointerToNil (c ∷ []) (one Not (two PointerTo nil c))
 
+-- refuses: the other part
 abbrev pub CarConsSays : Type 0
 CarConsSays = Says CarCons (two Cons x y ∷ []) (two Eq (one Car (two Cons x y)) x)
 
 abbrev pub CdrConsSays : Type 0
 CdrConsSays = Says CdrCons (two Cons x y ∷ []) (two Eq (one Cdr (two Cons x y)) y)
 
+-- refuses: without NOT
 abbrev pub AtomConsSays : Type 0
 AtomConsSays = Says AtomCons (two Cons x y ∷ []) (one Not (one Atom (two Cons x y)))
 
+-- refuses: of an atom, too
 abbrev pub ConsCarCdrSays : Type 0
 ConsCarCdrSays = Says ConsCarCdr (x ∷ []) (two Implies (one Not (one Atom x)) (two Eq (two Cons (one Car x) (one Cdr x)) x))
 
@@ -232,9 +239,11 @@ FieldIsMissing = SaysNothing FieldPutOther (put_number ∷ []) None
 abbrev pub FieldOfAnotherRecord : Type 0
 FieldOfAnotherRecord = SaysNothing FieldPutOther (put_number ∷ []) (Some val)
 
+-- refuses: a field that is not looked at
 abbrev pub FieldTooMuch : Type 0
 FieldTooMuch = SaysNothing FieldPutSame (put_number ∷ []) (Some g)
 
+-- refuses, as all that follow on sorts: a fact that is no formula
 abbrev pub IndexIsNoNumber : Type 0
 IndexIsNoNumber = SaysNothing SelectStoreOther (stored ∷ b ∷ []) None
 
@@ -250,6 +259,7 @@ IndexIsMissing = SaysNothing SelectStoreSame (stored ∷ []) None
 abbrev pub IndexTooMuch : Type 0
 IndexTooMuch = SaysNothing SelectStoreSame (stored ∷ i ∷ j ∷ []) None
 
+-- refuses: EXTEND taken for SETCELL
 abbrev pub ExtendedIsNoSetCell : Type 0
 ExtendedIsNoSetCell = SaysNothing PointerToSetCell (extended ∷ q ∷ []) None
 
@@ -268,6 +278,7 @@ ListIsNoPair = SaysNothing AtomCons (x ∷ []) None
 abbrev pub NumberIsNoList : Type 0
 NumberIsNoList = SaysNothing ConsCarCdr (i ∷ []) None
 
+-- refuses: a divisor that is not looked at
 abbrev pub DivisorIsZero : Type 0
 DivisorIsZero = SaysNothing ModOfNonNegative (i ∷ zero ∷ []) None
 
@@ -292,7 +303,8 @@ about kind ts = record { kind = kind; about = ts; field = None }
 abbrev Lists : List Term → List SchemaInstance → Type 0
 Lists used instances = schemas types [] used ≡ instances
 
--- what one formula uses of an array that is changed twice: NOT i = j implies that at i the first change is seen
+-- what one formula uses of an array that is changed twice: NOT i = j implies that at i the first change is seen.
+-- refuses: indices of SELECT alone; every number; pairs by the second term first; kinds in another order
 abbrev once : Term
 once = three Store a i (num (pos 1))
 
@@ -308,7 +320,8 @@ ArraysAreListed =
     (about SelectStoreSame (once ∷ i ∷ []) ∷ about SelectStoreSame (once ∷ j ∷ []) ∷ about SelectStoreSame (twice ∷ i ∷ []) ∷ about SelectStoreSame (twice ∷ j ∷ [])
     ∷ about SelectStoreOther (once ∷ i ∷ []) ∷ about SelectStoreOther (once ∷ j ∷ []) ∷ about SelectStoreOther (twice ∷ i ∷ []) ∷ about SelectStoreOther (twice ∷ j ∷ []) ∷ [])
 
--- an index comes once, whether it is read or changed at, and of which array of the type; an index of arrays of another type not at all
+-- an index comes once, whether it is read or changed at, and of which array of the type; an index of arrays of another type not at all.
+-- refuses: indices of any array; indices of STORE alone
 abbrev pub IndicesAreOfTheArray : Type 0
 IndicesAreOfTheArray =
     Lists (bits ∷ j ∷ two Select bits j ∷ a ∷ i ∷ v ∷ stored ∷ two Select stored i ∷ k ∷ two Select a k ∷ [])
@@ -317,7 +330,8 @@ IndicesAreOfTheArray =
 abbrev put_truth : Term
 put_truth = two (Put g) r b
 
--- the other fields come in the order of the record, and for each record behind those of the one before
+-- the other fields come in the order of the record, and for each record behind those of the one before.
+-- refuses: fields from the last on
 abbrev pub RecordsAreListed : Type 0
 RecordsAreListed =
     Lists (r ∷ b ∷ put_truth ∷ v ∷ two (Put f) put_truth v ∷ [])
@@ -328,7 +342,8 @@ RecordsAreListed =
 abbrev grown : Term
 grown = three Extend changed q e
 
--- the pointers of a class are those that it is read, changed, extended and asked at; each class has that NIL is no member
+-- the pointers of a class are those that it is read, changed, extended and asked at; each class has that NIL is no member.
+-- refuses: without those of SETCELL, or of EXTEND
 abbrev pub ClassesAreListed : Type 0
 ClassesAreListed =
     Lists (c ∷ p ∷ e ∷ changed ∷ q ∷ grown ∷ d ∷ o ∷ two PointerTo o d ∷ [])
@@ -338,7 +353,8 @@ ClassesAreListed =
     ∷ about PointerToExtend (grown ∷ p ∷ []) ∷ about PointerToExtend (grown ∷ q ∷ [])
     ∷ about PointerToNil (c ∷ []) ∷ about PointerToNil (changed ∷ []) ∷ about PointerToNil (grown ∷ []) ∷ about PointerToNil (d ∷ []) ∷ [])
 
--- a pointer is one of the class where CELL reads at it, where POINTERTO asks for it, or where it is the new member; one that only an equation has is none
+-- a pointer is one of the class where CELL reads at it, where POINTERTO asks for it, or where it is the new member; one that only an equation has is none.
+-- refuses: every pointer; without those of CELL, of POINTERTO, or of EXTEND
 abbrev pub PointersAreOfTheClass : Type 0
 PointersAreOfTheClass =
     Lists (p ∷ q ∷ n ∷ m ∷ two Eq p m ∷ c ∷ two Cell c q ∷ two PointerTo n c ∷ e ∷ extended ∷ [])
@@ -347,7 +363,8 @@ PointersAreOfTheClass =
     ∷ about PointerToExtend (extended ∷ p ∷ []) ∷ about PointerToExtend (extended ∷ q ∷ []) ∷ about PointerToExtend (extended ∷ n ∷ [])
     ∷ about PointerToNil (c ∷ []) ∷ about PointerToNil (extended ∷ []) ∷ [])
 
--- a list has its fact where it is taken apart, by CAR, CDR or ATOM
+-- a list has its fact where it is taken apart, by CAR, CDR or ATOM.
+-- refuses: every list; without one of the three
 abbrev pub ListsAreListed : Type 0
 ListsAreListed =
     Lists (x ∷ y ∷ two Cons x y ∷ one Car x ∷ one Atom y ∷ one Cdr (two Cons x y) ∷ [])
@@ -360,7 +377,8 @@ three_is = num (pos 3)
 abbrev seven : Term
 seven = num (pos 7)
 
--- a dividend and a divisor come once, whether DIV and MOD have them or one of these; a divisor that is no numeral, or is 0, does not come
+-- a dividend and a divisor come once, whether DIV and MOD have them or one of these; a divisor that is no numeral, or is 0, does not come.
+-- refuses: DIV alone; MOD alone; the quotient of what only MOD has, or the other way
 abbrev pub QuotientsAreListed : Type 0
 QuotientsAreListed =
     Lists (i ∷ three_is ∷ two Div i three_is ∷ two Mod i three_is ∷ seven ∷ two Mod seven three_is ∷ plus_two ∷ two Div seven plus_two
