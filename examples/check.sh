@@ -1,9 +1,16 @@
 #!/bin/sh
 # Compares pages with those that are kept in this folder: NAME.lst is what `verify` writes of NAME.pas, and its status is
-# that of the page's RESULT; NAME.cnd is what `conditions` writes, with status 8. The last line says how many are as they
-# should be; the status is 0 where all are.
+# that of the page's RESULT; NAME.cnd is what `conditions` writes, with status 8. The last line says how many pages were
+# compared, and how many are as they should be. The status is 0 where all are, and 1 where one is not.
+#
+# SPV names the program to run, as in `SPV=/tmp/spv examples/check.sh`; without it that is `spv` in the folder above.
 
 set -u
+spv=${SPV:-../spv}
+case $spv in
+    /* | ../spv) ;;
+    */*) spv=$PWD/$spv ;;
+esac
 cd "$(dirname "$0")" || exit 2
 
 page=$(mktemp) || exit 2
@@ -15,7 +22,7 @@ failed=0
 # Compares the page of a program in a mode, and the status.
 compare() {
     mode=$1 program=$2 wanted=$3 status=$4
-    ../spv "$mode" "$program" > "$page"
+    "$spv" "$mode" "$program" > "$page"
     got=$?
     if [ "$got" -ne "$status" ]; then
         echo "$program: status $got, not $status"
@@ -29,6 +36,12 @@ compare() {
     fi
 }
 
+for program in *.pas; do
+    if [ ! -f "${program%.pas}.lst" ] && [ ! -f "${program%.pas}.cnd" ]; then
+        echo "$program: no page is kept of it"
+        failed=$((failed + 1))
+    fi
+done
 for wanted in *.lst; do
     case $(tail -n 1 "$wanted") in
         'RESULT PROVED') compare verify "${wanted%.lst}.pas" "$wanted" 0 ;;
@@ -41,5 +54,5 @@ for wanted in *.cnd; do
     compare conditions "${wanted%.cnd}.pas" "$wanted" 8
 done
 
-echo "$passed as they should be, $failed not"
+echo "$((passed + failed)) pages compared: $passed as they should be, $failed not"
 [ "$failed" -eq 0 ]

@@ -1,4 +1,5 @@
 pub mod PlacesOfHeadings
+pub mod AtFirst
 pub mod Tables
 pub mod FieldTables
 pub mod Free

@@ -5,6 +5,7 @@ use Rattle.spv_logic.specs.Shapes.{shapes_ok}
 use Rattle.spv_program.specs.Programs.{Program, shapes}
 use Rattle.spv_program.specs.Statements.{Statement}
 use Rattle.spv_meaning.specs.Levels.{Here}
+use Rattle.spv_meaning.specs.Correct.{CorrectBelow}
 use Rattle.spv_meaning.specs.Walks.{run}
 use Rattle.spv_meaning.proofs.Assigning.{in_main}
 use Rattle.spv_rule_soundness.proofs.evaluation.Settings.{forms_right}
@@ -32,8 +33,8 @@ module _ (p : Program) (world : Meaning) (here : Here) (taking : Taking) (leaves
     left_alone = counters.left_alone;
   }
 
-  pub rules_right : shapes_ok (shapes p) ≡ true → IsEntry p here.entry → (s : Statement) → parts_pass (passing p here.routine taking) s ≡ true → (n : ℕ) → IsRight p world here s (run p n here s)
-  rules_right ok entry s passes n = (right_level p world ok here entry (passing p here.routine taking) parts n).statements s passes
+  pub rules_right : shapes_ok (shapes p) ≡ true → IsEntry p here.entry → (s : Statement) → parts_pass (passing p here.routine taking) s ≡ true → (n : ℕ) → CorrectBelow p world n → IsRight p world here s (run p n here s)
+  rules_right ok entry s passes n correct = (right_level p world ok here entry (passing p here.routine taking) parts n correct).statements s passes
 
 -- ---- the main block
 

@@ -6,4 +6,5 @@ pub mod statement_rules;
 mod walk;
 
 pub use laws::law_before;
+pub use spv_flow_parts::leaves::Leaves;
 pub use walk::before;

@@ -1,7 +1,8 @@
 -- What statements may change are variables and classes whose types are there.
-use Rattle.std.proofs.Common.{◌≡◌, Bool, true, false, cond, ◌&&◌, nat_eq, length, List, [], ◌∷◌, ◌++◌, map, filter, refl, sym, subst, Option, Some, None, if◌then◌else◌}
+use Rattle.std.proofs.Common.{◌≡◌, ◌+◌, ℕ, suc, arith, nat_lt, Bool, true, false, cond, ◌&&◌, nat_eq, length, List, [], ◌∷◌, ◌++◌, map, filter, refl, sym, subst, Option, Some, None, if◌then◌else◌}
 use Rattle.std.specs.List.{list_all, list_any}
 use Rattle.std.specs.Cmp.Derive.{both_true}
+use Rattle.std.proofs.lemmas.Bool.Decides.{nat_tests}
 use Rattle.spv_logic.proofs.list.Tests.{left_true, right_true}
 use Rattle.spv_logic.specs.declared.names.names.Symbol.{Symbol}
 use Rattle.spv_logic.specs.declared.types.TypeId.{TypeId}
@@ -12,12 +13,13 @@ use Rattle.spv_logic.specs.Sorts.{head_in_range}
 use Rattle.spv_logic.specs.Substitution.{is_variable}
 use Rattle.spv_term.specs.Arena.{Arena}
 use Rattle.spv_program.specs.declared.types.Item.TheVariants.{Variable, Class}
+use Rattle.spv_program.specs.declared.types.TypeForm.{TypeForm}
 use Rattle.spv_program.specs.Types.{same_type, sort_of, type_exists, forms_ok}
 use Rattle.spv_program.specs.Statements.{Statement}
 use Rattle.spv_program.specs.Programs.{Formal, Routine, Program, shapes, routine_in}
 use Rattle.spv_program.specs.Scopes.{result_name, own_names_in}
 use Rattle.spv_program.specs.Uses.{Root, Own, Shared, same_root}
-use Rattle.spv_program.specs.Changes.{changed_roots, changed_heads, types_once, all_roots}
+use Rattle.spv_program.specs.Changes.{changed_roots, changed_heads, types_once, types_from, types_of_names, all_types, all_roots}
 use Rattle.spv_program.specs.Typing.{types_exist, result_ok, declarations_ok}
 use Rattle.spv_expression_terms.specs.makeable_terms.Laws.{heading_ok_in}
 use Rattle.spv_expression_terms.proofs.makeable_terms.Ranges.{shape_there, sort_there}
@@ -79,17 +81,35 @@ module _ (p : Program) (d : declarations_ok p ≡ true) where
   names_there root (n ∷ names) h =
       both_true (sort_there p.forms n.1 forms (left_true (type_exists p.forms n.1) (types_exist p names) h)) (names_there root names (right_true (type_exists p.forms n.1) (types_exist p names) h))
 
-  once_there : (seen : List TypeId) (names : List (Symbol × TypeId)) → types_exist p names ≡ true → list_all (type_exists p.forms) (types_once seen names) ≡ true
+  once_there : (seen ts : List TypeId) → list_all (type_exists p.forms) ts ≡ true → list_all (type_exists p.forms) (types_once seen ts) ≡ true
   once_there seen [] h = refl
-  once_there seen (n ∷ names) h = by (list_any (same_type n.1) seen) (once_there seen names others) (once_there (n.1 ∷ seen) names others)
+  once_there seen (t ∷ ts) h = by (list_any (same_type t) seen) (once_there seen ts others) (once_there (t ∷ seen) ts others)
     where
-      others : types_exist p names ≡ true
-      others = right_true (type_exists p.forms n.1) (types_exist p names) h
+      others : list_all (type_exists p.forms) ts ≡ true
+      others = right_true (type_exists p.forms t) (list_all (type_exists p.forms) ts) h
 
-      by : (b : Bool) → list_all (type_exists p.forms) (types_once seen names) ≡ true → list_all (type_exists p.forms) (types_once (n.1 ∷ seen) names) ≡ true
-          → list_all (type_exists p.forms) (if b then types_once seen names else n.1 ∷ types_once (n.1 ∷ seen) names) ≡ true
+      by : (b : Bool) → list_all (type_exists p.forms) (types_once seen ts) ≡ true → list_all (type_exists p.forms) (types_once (t ∷ seen) ts) ≡ true
+          → list_all (type_exists p.forms) (if b then types_once seen ts else t ∷ types_once (t ∷ seen) ts) ≡ true
       by true x y = x
-      by false x y = both_true (left_true (type_exists p.forms n.1) (types_exist p names) h) y
+      by false x y = both_true (left_true (type_exists p.forms t) (list_all (type_exists p.forms) ts) h) y
+
+  named_there : (names : List (Symbol × TypeId)) → types_exist p names ≡ true → list_all (type_exists p.forms) (types_of_names names) ≡ true
+  named_there [] h = refl
+  named_there (n ∷ names) h =
+      both_true (left_true (type_exists p.forms n.1) (types_exist p names) h) (named_there names (right_true (type_exists p.forms n.1) (types_exist p names) h))
+
+  -- the types with the last forms, of which the first has this number
+  numbered_there : (n : ℕ) (fs : List TypeForm) → n + length fs ≡ length p.forms → list_all (type_exists p.forms) (types_from n fs) ≡ true
+  numbered_there n [] e = refl
+  numbered_there n (f ∷ fs) e =
+      let below : nat_lt n (length p.forms) ≡ true = grind (arith, nat_tests) in
+      both_true below (numbered_there (suc n) fs (omega (arith, e)))
+
+  all_there : list_all (type_exists p.forms) (all_types p) ≡ true
+  all_there =
+      let whole : 0 + length p.forms ≡ length p.forms = grind (arith) in
+      once_there [] (types_of_names p.types ++ types_from 0 p.forms)
+      (all_joined (type_exists p.forms) (types_of_names p.types) (types_from 0 p.forms) (named_there p.types types) (numbered_there 0 p.forms whole))
 
   classes_there : (ts : List TypeId) → list_all (type_exists p.forms) ts ≡ true → list_all row_there (map (λ t. (Shared (Class t), head.ClassVar t 0)) ts) ≡ true
   classes_there [] h = refl
@@ -100,7 +120,7 @@ module _ (p : Program) (d : declarations_ok p ≡ true) where
   rows_there here h =
       all_joined row_there (map (λ n. (Own n.0, head.Var n.0 (sort_of p.forms n.1) 0)) (own_names_in here)) _ (names_there Own (own_names_in here) (own_there here h))
       (all_joined row_there (map (λ n. (Shared (Variable n.0), head.Var n.0 (sort_of p.forms n.1) 0)) p.variables) _ (names_there (λ x. Shared (Variable x)) p.variables variables)
-      (classes_there (types_once [] p.types) (once_there [] p.types types)))
+      (classes_there (all_types p) all_there))
 
   -- ---- those that are changed
 

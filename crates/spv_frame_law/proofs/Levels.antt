@@ -73,7 +73,7 @@ below_writes p typed to (suc n) l e = subst (LevelWrites p) (some_is e) (level_w
 -- ---- the frame law
 
 pub all_keep : (p : Program) → IsFramed p → AllKeepTo p
-all_keep p f = keeps_to p f.typed f.framed f.hidden
+all_keep p f = keeps_to p f.typed f.framed
 
 pub statement_writes : (p : Program) → IsFramed p → (here : Here) (types : List FrameType) → IsIn p here.routine types → (s : Statement) → statement_ok p (routine_in p here.routine) s ≡ true → (state : State) → IsRight p types state
     → (turns : ℕ) (choices : List Value) (after : State) → (run p turns here s state choices).end ≡ Ended after → Writes p (areas_of state.frames (changed_roots p (routine_in p here.routine) s)) state after

@@ -1,10 +1,11 @@
 -- What framed programs say of the roots that bodies change.
-use Rattle.std.proofs.Common.{◌≡◌, ℕ, Bool, true, false, cond, not, ◌&&◌, ◌||◌, List, [], ◌∷◌, ◌++◌, map, filter, refl, sym, ap, subst, ◌∙◌, Option, Some, None, is_some}
+use Rattle.std.proofs.Common.{◌≡◌, arith, nat_eq, ℕ, Bool, true, false, cond, not, ◌&&◌, ◌||◌, List, [], ◌∷◌, ◌++◌, map, filter, refl, sym, ap, subst, ◌∙◌, Option, Some, None, is_some}
 use Rattle.std.specs.Option.{option_and_then, unwrap_or}
 use Rattle.std.specs.List.{list_all, list_any, flat_map}
 use Rattle.std.specs.Ordering.{int_eq}
 use Rattle.std.specs.Cmp.Derive.{both_true}
 use Rattle.std.proofs.lemmas.Bool.{false≢true, eq-eqb}
+use Rattle.std.proofs.lemmas.Bool.Decides.{nat_tests}
 use Rattle.spv_logic.proofs.list.Tests.{left_true, right_true}
 use Rattle.spv_logic.specs.declared.names.names.Symbol.{Symbol}
 use Rattle.spv_logic.specs.declared.types.TypeId.{TypeId}
@@ -20,7 +21,7 @@ use Rattle.spv_program.specs.Formulas as formula
 use Rattle.spv_program.specs.Formulas.{Formula, Formulas, Annotation, no_formulas, formulas}
 use Rattle.spv_program.specs.Statements.{Statement, Arms, Empty, Assign, Perform, New, Sequence, If, Case, While, Repeat, For, Assert, no_arms, arm}
 use Rattle.spv_program.specs.Programs.{Formal, GlobalItem, Routine, Program, routine_at}
-use Rattle.spv_program.specs.Scopes.{is_own, name_type, result_name, body_scope, is_value_parameter}
+use Rattle.spv_program.specs.Scopes.{is_own, is_initial as initial_here, name_type, result_name, body_scope, is_value_parameter}
 use Rattle.spv_program.specs.Uses.{Root, Own, Shared, Use, same_item, has_cell, name_root, annotation_uses, formula_uses, formulas_uses, expression_uses, designator_uses, selector_uses, call_uses, argument_uses, statement_uses, arms_uses, statement_calls}
 use Rattle.spv_program.specs.Frames.{is_formal, is_initial, routine_uses, lists, use_allowed, lists_cover, globals_of, arguments_apart, callee_covered, changes_nothing, routine_framed, framed}
 use Rattle.spv_program.specs.Changes.{var_items, items_of_callee, changed_by_call, changed_roots}
@@ -33,7 +34,6 @@ use Rattle.spv_program.proofs.ExpressionSorting.{mapped}
 use Rattle.spv_meaning.proofs.RoutineStarts.{item_passes}
 use Rattle.spv_preservation.proofs.Calls.{routine_right}
 use Rattle.spv_preservation.proofs.Expressions.{compares}
-use Rattle.spv_frame_law.specs.Frames.{InitialNamesAreHidden, may_use}
 use Rattle.spv_writes.proofs.Lists.{all_both, all_left, all_right, clash, or_left, or_right, swapped}
 use Rattle.spv_frame_law.proofs.Covering.{items_same, is_own_or}
 use Rattle.spv_frame_law.proofs.Records.{use_kept, KeepsTo, AllKeepTo}
@@ -364,32 +364,45 @@ count_own q x ok = by_local (is_some (found q.locals x)) refl ok
     by_local true e h = found_behind (map (λ f. (f.name, f.of)) q.formals) (result_name q.name q.result ++ q.locals) x (found_behind (result_name q.name q.result) q.locals x e)
     by_local false e h = parameter_own q.formals (result_name q.name q.result ++ q.locals) x h
 
+not_true : (b : Bool) → not b ≡ true → b ≡ false
+not_true true e = absurd (false≢true e)
+not_true false e = refl
+
+same_turned : (x y : Symbol) → same_name x y ≡ same_name y x
+same_turned x y = let same : (m n : ℕ) → nat_eq m n ≡ nat_eq n m = λ m n. grind (arith, nat_tests) in same x.0 y.0
+
+-- what stands under a name is there where the name is
+found_there : {X : Type 0} (entries : List (Symbol × X)) (x : Symbol) → is_some (found entries x) ≡ list_any (same_name x) (map (λ n. n.0) entries)
+found_there [] x = refl
+found_there {X} (n ∷ entries) x = by_name (same_name n.0 x) (found_there entries x) ∙ ap (λ b. b || list_any (same_name x) (map (λ n. n.0) entries)) (same_turned n.0 x)
+  where
+    by_name : (b : Bool) → is_some (found entries x) ≡ list_any (same_name x) (map (λ n. n.0) entries)
+        → is_some (cond b (Some n.1) (found entries x)) ≡ b || list_any (same_name x) (map (λ n. n.0) entries)
+    by_name true later = refl
+    by_name false later = later
+
 -- the routines of a framed program keep to their lists
-pub keeps_to : (p : Program) → well_typed p ≡ true → framed p ≡ true → InitialNamesAreHidden p → AllKeepTo p
-keeps_to p typed frames hidden = record { each = λ id q there. one id q there }
+pub keeps_to : (p : Program) → well_typed p ≡ true → framed p ≡ true → AllKeepTo p
+keeps_to p typed frames = record { each = λ id q there. one id q there }
   where
     or_false : (b : Bool) → (b || false) ≡ b
     or_false true = refl
     or_false false = refl
 
-    -- a name that is used is no INITIAL name, or own
-    used : (id : RoutineId) (q : Routine) → routine_at p id ≡ Some q → (line : ℕ) (x : Symbol) (others : Selectors) → may_use p q (designator line x others) x ≡ true → (b c : Bool) → is_initial q x ≡ b → is_own (Some q) x ≡ c → (is_own (Some q) x || is_initial q x) ≡ is_own (Some q) x
-    used id q there line x others usable false c e own = ap (λ b. is_own (Some q) x || b) e ∙ or_false (is_own (Some q) x)
-    used id q there line x others usable true true e own = ap (λ c. c || is_initial q x) own ∙ sym own
-    used id q there line x others usable true false e own = clash (may_use p q (designator line x others) x) usable (hidden.each id q there x e own line others)
+    -- what is no INITIAL name is an own name with these or without them
+    used : (q : Routine) (x : Symbol) → initial_here (Some q) x ≡ false → (is_own (Some q) x || is_initial q x) ≡ is_own (Some q) x
+    used q x no = ap (λ b. is_own (Some q) x || b) (found_there q.initial x ∙ no) ∙ or_false (is_own (Some q) x)
 
     alike : (id : RoutineId) (q : Routine) → routine_at p id ≡ Some q → Alike p (Some q) (λ x. is_own (Some q) x || is_initial q x) (is_own (Some q))
     alike id q there = record { reads = reads; writes = writes; counts = λ x ok. ap (λ c. c || is_initial q x) (count_own q x ok) ∙ sym (count_own q x ok) }
       where
         reads : (d : Designator) (t : TypeId) → designator_type p (Some q) d ≡ Some t → may_read (Some q) d ≡ true → (is_own (Some q) (first_of_place d) || is_initial q (first_of_place d)) ≡ is_own (Some q) (first_of_place d)
         reads (designator line x others) t h ok =
-            let k = behind (λ t. selected_type p (Some q) t others) (name_type p (Some q) x) t h in
-            used id q there line x others (both_true (ap is_some k.is) (or_left (may_read (Some q) (designator line x others)) _ ok)) (is_initial q x) (is_own (Some q) x) refl refl
+            used q x (not_true (initial_here (Some q) x) (left_true (not (initial_here (Some q) x)) _ ok))
 
         writes : (d : Designator) (t : TypeId) → designator_type p (Some q) d ≡ Some t → may_write (Some q) d ≡ true → (is_own (Some q) (first_of_place d) || is_initial q (first_of_place d)) ≡ is_own (Some q) (first_of_place d)
         writes (designator line x others) t h ok =
-            let k = behind (λ t. selected_type p (Some q) t others) (name_type p (Some q) x) t h in
-            used id q there line x others (both_true (ap is_some k.is) (or_right (may_read (Some q) (designator line x others)) _ ok)) (is_initial q x) (is_own (Some q) x) refl refl
+            used q x (not_true (initial_here (Some q) x) (left_true (not (initial_here (Some q) x)) _ ok))
 
     one : (id : RoutineId) (q : Routine) → routine_at p id ≡ Some q → KeepsTo p q
     one id q there =

@@ -64,16 +64,6 @@ call_areas names r = referred names ++ map area_of_item (var_items r.globals)
 abbrev pub routine_areas : Routine → State → List Area
 routine_areas r state = frame_areas state.frames ++ map area_of_item (var_items r.globals)
 
--- whether a statement of a routine may read or write something under a name, with these selectors
-abbrev pub may_use : Program → Routine → Designator → Symbol → Bool
-may_use p r d x = is_some (name_type p (Some r) x) && (may_read (Some r) d || may_write (Some r) d)
-
--- no statement of a routine may use an INITIAL name that is no own name
-pub record InitialNamesAreHidden (p : Program) : Type 0 where
-  pub each : (id : RoutineId) (r : Routine) → routine_at p id ≡ Some r
-      → (x : Symbol) → IsTrue (is_initial r x) → is_own (Some r) x ≡ false
-      → (line : ℕ) (others : Selectors) → may_use p r (designator line x others) x ≡ false
-
 -- ---- what shows
 
 -- whether a root is an own name of a routine, or an item that it sees

@@ -28,14 +28,12 @@ use Rattle.spv_meaning.specs.Starts.{Area, IsRight, IsRightFor, IsStart, apart}
 use Rattle.spv_meaning.specs.Correct.{begun, body_of, is_there}
 use Rattle.spv_preservation.specs.facts.Places.{IsPlace}
 use Rattle.spv_writes.specs.Writes.{Writes, is_in_one}
-use Rattle.spv_frame_law.specs.Frames.{InitialNamesAreHidden, root_areas, areas_of, refer_in_turn, call_areas, routine_areas, root_shown, is_of_one, call_shown}
+use Rattle.spv_frame_law.specs.Frames.{root_areas, areas_of, refer_in_turn, call_areas, routine_areas, root_shown, is_of_one, call_shown}
 
--- the programs that the frame law is about: well typed, framed, and no INITIAL name of a routine hides what its statements
--- may use
+-- the programs that the frame law is about
 pub record IsFramed (p : Program) : Type 0 where
   pub typed : IsTrue (well_typed p)
   pub framed : IsTrue (framed p)
-  pub hidden : InitialNamesAreHidden p
 
 -- what there is with one turn less than so many
 abbrev pub below_turns : Program → ℕ → Option Level

@@ -37,7 +37,7 @@ use Rattle.spv_program.proofs.SortFacts.{nothing_there, some_is, is_sort-true}
 use Rattle.spv_meaning.specs.declared.faults.Fault.TheVariants as fault
 use Rattle.spv_meaning.specs.Places.{State, put}
 use Rattle.spv_meaning.specs.Views.{of_sort, class_of, now_view, entry_view}
-use Rattle.spv_meaning.specs.Outcomes.{End, Ended, Stopped, Going, Met, Outcome, go_on, and_then, stops_unless}
+use Rattle.spv_meaning.specs.Outcomes.{End, Ended, Stopped, Jump, Going, Met, Outcome, go_on, and_then, stops_unless}
 use Rattle.spv_meaning.specs.Levels.{Level, reached_in_body}
 use Rattle.spv_meaning.specs.Evaluation.{Fixed}
 use Rattle.spv_meaning.specs.Walks.{walk, assign, level, run}
@@ -77,6 +77,7 @@ run_on p world middle after (Ended state) met rest next ok here go =
       ended_ok = second.ended_ok;
     }
 run_on p world middle after (Stopped fault) met rest next ok here go = record { met_ok = ok; ended_ok = λ state e. cc }
+run_on p world middle after (Jump label at) met rest next ok here go = record { met_ok = ok; ended_ok = λ state e. cc }
 run_on p world middle after Going met rest next ok here go = record { met_ok = ok; ended_ok = λ state e. cc }
 
 -- the sorts of both sides of an assignment

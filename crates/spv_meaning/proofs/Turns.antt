@@ -11,7 +11,7 @@ use Rattle.spv_program.specs.Scopes.{result_name}
 use Rattle.spv_meaning.specs.declared.faults.Fault.TheVariants as fault
 use Rattle.spv_meaning.specs.Places.{State, put}
 use Rattle.spv_meaning.specs.Views.{entry_view}
-use Rattle.spv_meaning.specs.Outcomes.{End, Ended, Stopped, Going, Met, Outcome, go_on, and_then, meets, stops_unless}
+use Rattle.spv_meaning.specs.Outcomes.{End, Ended, Stopped, Jump, Going, Met, Outcome, go_on, and_then, meets, stops_unless}
 use Rattle.spv_meaning.specs.Levels.{Here, Loop, Level, Bound, with_turn, reached_entry, push, choose_all, run_routine, enter}
 use Rattle.spv_meaning.specs.Evaluation.{Fixed, to_element, to_field, to_cell, holds_now, for_parameter, formals_of, evaluate, fix, select, result, arguments}
 use Rattle.spv_meaning.specs.Walks.{reaches, counter_place, counter_takes, is_past, next_candidate, count_on, walk, walk_arms, level_over, level, run}
@@ -29,6 +29,7 @@ go_keeps {A} {B} (Ended x) met rest a k l first next done =
     let after = (next x rest).same done in
     ap (λ (o : Outcome B). record { end = o.end; met = met ++ o.met; rest = o.rest }) after ∙ ap (λ (o : Outcome A). go_on o.end o.met o.rest l) (first.same refl)
 go_keeps {A} {B} (Stopped f) met rest a k l first next done = ap (λ (o : Outcome A). go_on o.end o.met o.rest l) (first.same refl)
+go_keeps {A} {B} (Jump label state) met rest a k l first next done = ap (λ (o : Outcome A). go_on o.end o.met o.rest l) (first.same refl)
 go_keeps (Going) met rest a k l first next done = absurd (false≢true done)
 
 keeps_then : {A B : Type 0} (a b : Outcome A) {k l : A → List Value → Outcome B} → Keeps a b → ((x : A) (rest : List Value) → Keeps (k x rest) (l x rest)) → Keeps (and_then a k) (and_then b l)

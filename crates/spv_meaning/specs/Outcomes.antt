@@ -9,11 +9,13 @@ use Rattle.spv_logic.specs.Fits.{fits}
 use Rattle.spv_logic.specs.Conditions.{View}
 use Rattle.spv_meaning.specs.declared.faults.Fault.{Fault}
 use Rattle.spv_meaning.specs.declared.faults.Fault.TheVariants as fault
+use Rattle.spv_meaning.specs.Places.{State}
 
--- how a run ends: with what it is to give, by a fault, or not yet, since its turns are used up
+-- how a run ends: with what it is to give, by a fault, by a jump to a label in a state, or not yet, since its turns are used up
 pub data End (A : Type 0) : Type 0 where
   Ended : A → End A
   Stopped : Fault → End A
+  Jump : ℕ → State → End A
   Going : End A
 
 -- an annotation that was reached: its formula, kind and line, what showed when its routine began, and what shows now
@@ -39,10 +41,11 @@ stops f rest = record { end = Stopped f; met = []; rest = rest }
 abbrev pub is_going : {A : Type 0} → List Value → Outcome A
 is_going rest = record { end = Going; met = []; rest = rest }
 
--- goes on from where a run ended; the first fault, and the end of the turns, end the whole
+-- goes on from where a run ended; the first fault, the first jump, and the end of the turns, end the whole
 abbrev pub go_on : {A B : Type 0} → End A → List Met → List Value → (A → List Value → Outcome B) → Outcome B
 go_on (Ended x) met rest next = let after = next x rest in record { end = after.end; met = met ++ after.met; rest = after.rest }
 go_on (Stopped f) met rest next = record { end = Stopped f; met = met; rest = rest }
+go_on (Jump label state) met rest next = record { end = Jump label state; met = met; rest = rest }
 go_on Going met rest next = record { end = Going; met = met; rest = rest }
 
 abbrev pub and_then : {A B : Type 0} → Outcome A → (A → List Value → Outcome B) → Outcome B

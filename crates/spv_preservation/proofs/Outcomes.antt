@@ -1,12 +1,13 @@
 -- What is true of a run's end, where it ended.
-use Rattle.std.proofs.Common.{◌≡◌, Bool, true, false, cond, List, [], ◌∷◌, refl, subst, Option, Some, None}
+use Rattle.std.proofs.Common.{◌≡◌, ℕ, Bool, true, false, cond, List, [], ◌∷◌, refl, subst, Option, Some, None}
 use Rattle.spv_logic.specs.declared.types.Sort.{Sort}
 use Rattle.spv_logic.specs.declared.types.Shape.{Shape}
 use Rattle.spv_logic.specs.Values.{Value}
 use Rattle.spv_logic.specs.Fits.{fits}
 use Rattle.spv_meaning.specs.declared.faults.Fault.{Fault}
 use Rattle.spv_meaning.specs.declared.faults.Fault.TheVariants as fault
-use Rattle.spv_meaning.specs.Outcomes.{End, Ended, Stopped, Going, Met, Outcome, ends, stops, is_going, go_on, and_then, meets, stops_unless, take_choice}
+use Rattle.spv_meaning.specs.Places.{State}
+use Rattle.spv_meaning.specs.Outcomes.{End, Ended, Stopped, Jump, Going, Met, Outcome, ends, stops, is_going, go_on, and_then, meets, stops_unless, take_choice}
 use Rattle.spv_meaning.specs.Levels.{Level, with_turn}
 
 -- what a run gave has a property, where it ended
@@ -15,6 +16,9 @@ pub record IfEnded {A : Type 0} (P : A → Type 0) (o : Outcome A) : Type 0 wher
 
 not_stopped : {A : Type 0} (f : Fault) (x : A) → Stopped f ≡ Ended x → ⊥
 not_stopped f x e = cc
+
+not_jumped : {A : Type 0} (label : ℕ) (state : State) (x : A) → Jump label state ≡ Ended x → ⊥
+not_jumped label state x e = cc
 
 not_going : {A : Type 0} (x : A) → Going ≡ Ended x → ⊥
 not_going x e = cc
@@ -39,6 +43,7 @@ if_then {A} {B} P Q first next h later = by_end first.end refl
     by_end : (e : End A) → first.end ≡ e → IfEnded Q (go_on e first.met first.rest next)
     by_end (Ended x) is = record { holds = λ y e. (later x first.rest (h.holds x is)).holds y e }
     by_end (Stopped f) is = record { holds = λ y e. absurd (not_stopped f y e) }
+    by_end (Jump label state) is = record { holds = λ y e. absurd (not_jumped label state y e) }
     by_end Going is = record { holds = λ y e. absurd (not_going y e) }
 
 pub if_unless : {A : Type 0} (P : A → Type 0) (test : Bool) (f : Fault) (x : A) (rest : List Value) → (test ≡ true → P x) → IfEnded P (stops_unless test f x rest)

@@ -1,11 +1,12 @@
 -- What a statement may change, calls and all.
-use Rattle.std.specs.Prelude.{List, [], ◌∷◌, ◌++◌, map, filter, Option, Some, None, if◌then◌else◌}
+use Rattle.std.specs.Prelude.{ℕ, suc, List, [], ◌∷◌, ◌++◌, map, filter, Option, Some, None, if◌then◌else◌}
 use Rattle.std.specs.List.{list_any, flat_map}
 use Rattle.spv_logic.specs.declared.names.names.Symbol.{Symbol}
 use Rattle.spv_logic.specs.declared.types.TypeId.{TypeId}
 use Rattle.spv_logic.specs.declared.operators.Head.{Head}
 use Rattle.spv_logic.specs.declared.operators.Head.TheVariants as head
 use Rattle.spv_program.specs.declared.types.Item.{Item}
+use Rattle.spv_program.specs.declared.types.TypeForm.{TypeForm}
 use Rattle.spv_program.specs.declared.types.Item.TheVariants.{Variable, Class}
 use Rattle.spv_program.specs.Types.{same_type, sort_of}
 use Rattle.spv_program.specs.Expressions.{Call, call}
@@ -34,17 +35,28 @@ changed_roots p here s =
 -- ---- in the order of declaration
 
 -- each type of a list once, where it stands first
-abbrev pub types_once : List TypeId → List (Symbol × TypeId) → List TypeId
+abbrev pub types_once : List TypeId → List TypeId → List TypeId
 types_once seen [] = []
-types_once seen (n ∷ names) =
-    if list_any (same_type n.1) seen then types_once seen names else n.1 ∷ types_once (n.1 ∷ seen) names
+types_once seen (t ∷ types) = if list_any (same_type t) seen then types_once seen types else t ∷ types_once (t ∷ seen) types
+
+-- the types with these forms, where the first of them has this number
+abbrev pub types_from : ℕ → List TypeForm → List TypeId
+types_from n [] = []
+types_from n (f ∷ forms) = record { 0 = n } ∷ types_from (suc n) forms
+
+abbrev pub types_of_names : List (Symbol × TypeId) → List TypeId
+types_of_names names = map (λ n. n.1) names
+
+-- the types of a program: those that have names, in the order of the names, and then all others
+abbrev pub all_types : Program → List TypeId
+all_types p = types_once [] (types_of_names p.types ++ types_from 0 p.forms)
 
 -- the variables and classes of a program as a routine sees them: own names, program variables, classes
 abbrev pub all_roots : Program → Option Routine → List (Root × Head)
 all_roots p here =
     map (λ n. (Own n.0, head.Var n.0 (sort_of p.forms n.1) 0)) (own_names_in here)
     ++ (map (λ n. (Shared (Variable n.0), head.Var n.0 (sort_of p.forms n.1) 0)) p.variables ++ map
-    (λ t. (Shared (Class t), head.ClassVar t 0)) (types_once [] p.types))
+    (λ t. (Shared (Class t), head.ClassVar t 0)) (all_types p))
 
 -- the variables and classes that a statement may change, in the order of declaration
 abbrev pub changed_heads : Program → Option Routine → Statement → List Head

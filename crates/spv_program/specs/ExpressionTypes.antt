@@ -7,7 +7,7 @@ use Rattle.spv_logic.specs.declared.types.Sort.TheVariants as sort
 use Rattle.spv_program.specs.Types.{same_type, form_at, sort_of, element_of, field_of, target_of, same_places, type_exists}
 use Rattle.spv_program.specs.Expressions.{Expression, Designator, Selectors, Call, Arguments, Numeral, Boolean, NilOf, Read, Result, Through, Negative, Calculated, Compared, Negated, Joined, designator, no_selectors, at_index, at_field, at_cell, call, no_arguments, by_value, by_place}
 use Rattle.spv_program.specs.Programs.{Formal, Routine, Program, routine_at}
-use Rattle.spv_program.specs.Scopes.{name_type, is_result}
+use Rattle.spv_program.specs.Scopes.{name_type, is_result, is_initial}
 use Rattle.spv_program.specs.FormulaTypes.{is_sort, sort_if, numbers, truth_values, compared_sort}
 
 -- program expressions compare numbers, truth values and pointers
@@ -25,13 +25,13 @@ abbrev pub has_none : Selectors → Bool
 has_none no_selectors = true
 has_none _ = false
 
--- an expression cannot read a function's result by its name
+-- an expression cannot read a function's result by its name, nor what an INITIAL name stands for
 abbrev pub may_read : Option Routine → Designator → Bool
-may_read here (designator line x others) = not (is_result here x)
+may_read here (designator line x others) = not (is_initial here x) && not (is_result here x)
 
--- a function's result is written as a whole
+-- a function's result is written as a whole, and no INITIAL name is written
 abbrev pub may_write : Option Routine → Designator → Bool
-may_write here (designator line x others) = not (is_result here x) || has_none others
+may_write here (designator line x others) = not (is_initial here x) && (not (is_result here x) || has_none others)
 
 abbrev pub sort_of_type : Program → Option TypeId → Option Sort
 sort_of_type p t = option_map (sort_of p.forms) t

@@ -39,6 +39,11 @@ abbrev pub is_result : Option Routine → Symbol → Bool
 is_result None x = false
 is_result (Some r) x = is_some r.result && same_name r.name x
 
+-- whether a name is an INITIAL name of the routine in whose body it stands
+abbrev pub is_initial : Option Routine → Symbol → Bool
+is_initial None x = false
+is_initial (Some r) x = list_any (same_name x) (map (λ i. i.0) r.initial)
+
 abbrev pub is_value_parameter : Routine → Symbol → Bool
 is_value_parameter r x = list_any (λ f. same_name f.name x && not f.by_place) r.formals
 

@@ -1,20 +1,21 @@
 -- The conditions of small programs with routines.
-use Rattle.std.specs.Prelude.{true, false, [], ◌∷◌, Option, Some, None}
+use Rattle.std.specs.Prelude.{ℕ, true, false, [], ◌∷◌, Option, Some, None}
 use Rattle.spv_logic.specs.declared.conditions.Kind.TheVariants as kind
 use Rattle.spv_logic.specs.declared.conditions.RoutineId.{RoutineId}
+use Rattle.spv_logic.specs.declared.types.Sort.TheVariants as sort
 use Rattle.spv_logic.specs.declared.operators.Head.TheVariants as head
 use Rattle.spv_logic.specs.Terms.{Term}
 use Rattle.spv_program.specs.declared.operators.Arithmetic.TheVariants as arithmetic
 use Rattle.spv_program.specs.declared.operators.Comparison.TheVariants as comparison
 use Rattle.spv_program.specs.declared.operators.Connective.TheVariants as connective
-use Rattle.spv_program.specs.declared.types.Item.TheVariants.{Variable}
+use Rattle.spv_program.specs.declared.types.Item.TheVariants.{Variable, Class}
 use Rattle.spv_program.specs.Expressions.{Expression, Result, Calculated, Compared, call, no_arguments, by_value, by_place}
 use Rattle.spv_program.specs.Formulas as formula
 use Rattle.spv_program.specs.Statements.{Empty, Perform, While}
 use Rattle.spv_program.specs.Programs.{Routine, Program}
-use Rattle.spv_program.specs.Terms.{unary, binary, ternary}
-use Rattle.spv_worked.specs.Small.{x, y, i, a, p, q, f, n, Fact, integer, row_of_nine, program, num, at, read, set, element, named, number, equal, note, value_formal, place_formal, routine}
-use Rattle.spv_worked.specs.Terms.{X, N, fresh, eq, less, at_most, plus, minus, times, no, both_of, condition}
+use Rattle.spv_program.specs.Terms.{alone, unary, binary, ternary}
+use Rattle.spv_worked.specs.Small.{x, y, i, b, a, p, q, f, n, Fact, integer, boolean, row_of_nine, program, num, at, read, set, element, named, number, equal, note, value_formal, place_formal, routine}
+use Rattle.spv_worked.specs.Terms.{X, N, fresh, of, TRUE, eq, less, at_most, plus, minus, times, no, both_of, condition}
 use Rattle.spv_worked.specs.CallRuns.{swap, fac}
 use Rattle.spv_worked.specs.StatementConditions.{Are, A}
 
@@ -161,3 +162,38 @@ CallInATest = Are in_a_test
     ∷ condition None kind.Exit 6
     (less (fresh x 1) (N 9) ∷ eq (fresh f 1) (plus (fresh x 1) (N 1)) ∷ no (less (fresh f 1) (N 9)) ∷ [])
     (eq (fresh x 1) (N 9)) ∷ [])
+
+-- ---- classes in GLOBAL lists
+
+-- PROCEDURE f; GLOBAL (VAR #INTEGER); EXIT TRUE; BEGIN END
+abbrev pub renumber : Routine
+renumber = record {
+  name = f;
+  line = 3;
+  formals = [];
+  result = None;
+  globals = record { item = Class integer; is_var = true; line = 3 } ∷ [];
+  initial = [];
+  entry = None;
+  exit = Some (note 4 (formula.Boolean true));
+  locals = [];
+  body = Empty;
+}
+
+-- DECLARE Fact(#INTEGER): BOOLEAN; INVARIANT Fact(#INTEGER) WHILE b DO f
+abbrev pub numbering : Program
+numbering =
+    record (program ((b, boolean) ∷ []) (renumber ∷ []) None None
+    (While 6 (Some (note 6 (formula.Applied Fact (formula.formulas (formula.ClassOf 6 integer) formula.no_formulas)))) (read b)
+    (Perform (call (routine 0) 7 no_arguments)))) { symbols = record { name = Fact; args = sort.Class integer ∷ []; result = sort.Bool } ∷ [] }
+
+-- the class of a type without a name
+abbrev pub numbers : ℕ → Term
+numbers k = alone (head.ClassVar integer k)
+
+-- the loop renames the class that the call may change, though its type has no name
+abbrev pub Numbering : Type 0
+Numbering = Are numbering
+    (condition first kind.Exit 4 [] TRUE
+    ∷ condition None kind.Invariant 6 [] (fact (numbers 0))
+    ∷ condition None kind.Preserved 6 (fact (numbers 2) ∷ of sort.Bool b 0 ∷ TRUE ∷ []) (fact (numbers 1)) ∷ [])

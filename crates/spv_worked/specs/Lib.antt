@@ -7,6 +7,8 @@ pub mod WrittenRuns
 pub mod Terms
 pub mod StatementConditions
 pub mod CallConditions
+pub mod PlaceConditions
+pub mod PlaceRuns
 pub mod Doubts
 pub mod TypedPrograms
 pub mod UntypedDeclarations

@@ -20,7 +20,7 @@ use Rattle.spv_program.specs.Statements.{Statement, Empty, Assign, Sequence}
 use Rattle.spv_program.specs.Programs.{Formal, Routine, Program}
 use Rattle.spv_meaning.specs.declared.faults.Fault.{Fault}
 use Rattle.spv_meaning.specs.Places.{HeapRow, State, look, whole, ProgramVariable}
-use Rattle.spv_meaning.specs.Outcomes.{End, Ended, Stopped, Going, Met, Outcome}
+use Rattle.spv_meaning.specs.Outcomes.{End, Ended, Stopped, Jump, Going, Met, Outcome}
 use Rattle.spv_meaning.specs.Views.{entry_view}
 use Rattle.spv_meaning.specs.Walks.{run}
 
@@ -197,10 +197,11 @@ routine n = record { 0 = n }
 abbrev pub z : ℕ → Value
 z k = Number (pos k)
 
--- how a run ended: with these values of some variables, by a fault, or not yet
+-- how a run ended: with these values of some variables, by a fault, by a jump to a label, or not yet
 pub data Told : Type 0 where
   EndedWith : List (Option Value) → Told
   StoppedBy : Fault → Told
+  JumpedTo : ℕ → Told
   StillGoing : Told
 
 -- an annotation that was reached: its kind, its line, and what shows of some names then
@@ -219,6 +220,7 @@ value_in state v = look state (whole (ProgramVariable v))
 abbrev pub end_told : List Symbol → End State → Told
 end_told names (Ended state) = EndedWith (map (value_in state) names)
 end_told names (Stopped fault) = StoppedBy fault
+end_told names (Jump label state) = JumpedTo label
 end_told names Going = StillGoing
 
 abbrev pub met_told : List Head → Met → Reached

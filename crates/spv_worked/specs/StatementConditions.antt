@@ -14,7 +14,7 @@ use Rattle.spv_program.specs.Expressions.{Boolean, Compared, Calculated}
 use Rattle.spv_program.specs.Formulas as formula
 use Rattle.spv_program.specs.Statements.{Statement, Empty, Assign, New, If, Case, While, Repeat, For, Assert, no_arms, arm}
 use Rattle.spv_program.specs.Programs.{Program}
-use Rattle.spv_program.specs.Terms.{unary, binary, ternary}
+use Rattle.spv_program.specs.Terms.{alone, unary, binary, ternary}
 use Rattle.spv_meaning.specs.ProgramConditions.{conditions_of}
 use Rattle.spv_worked.specs.Small.{x, y, i, b, a, p, q, val, Node, integer, boolean, row_of_nine, ref, node, program, num, read, at, set, content, element, block, named, number, equal, note}
 use Rattle.spv_worked.specs.Terms.{X, N, fresh, of, eq, less, at_most, plus, no, both_of, either, TRUE, FALSE, cells, NIL, condition}
@@ -162,6 +162,18 @@ shared =
 abbrev pub CellsAreOneClass : Type 0
 CellsAreOneClass = Are shared
     (condition None kind.Exit 4 [] (eq (unary (head.Field val) (binary head.Cell (with_val (with_val cells P (N 1)) Q (N 2)) P)) (N 1)) ∷ [])
+
+-- without a TYPE part; EXIT p^.val = 0; WHILE b DO p^.val := 1
+abbrev pub nameless : Program
+nameless =
+    record (program ((b, boolean) ∷ (p, ref) ∷ []) [] None
+    (Some (note 4 (equal (formula.FieldOf (formula.Content 4 node (named p)) val) (number 0))))
+    (While 5 None (read b) (Assign (content p) (num 1)))) { types = [] }
+
+-- the loop renames the cells of a type that has no name
+abbrev pub CellsWithoutANameAreRenamed : Type 0
+CellsWithoutANameAreRenamed = Are nameless
+    (condition None kind.Exit 4 (no (of sort.Bool b 0) ∷ []) (eq (unary (head.Field val) (binary head.Cell (alone (head.ClassVar node 1)) P)) (N 0)) ∷ [])
 
 -- EXIT p <> q; NEW(p); NEW(q)
 abbrev pub creating : Program

@@ -1,12 +1,13 @@
 -- Programs that are not well typed, for a statement: each breaks one rule alone.
-use Rattle.std.specs.Prelude.{List, [], ◌∷◌, Some, None, pos}
+use Rattle.std.specs.Prelude.{true, List, [], ◌∷◌, Some, None, pos}
 use Rattle.spv_logic.specs.declared.names.names.Symbol.{Symbol}
+use Rattle.spv_program.specs.declared.operators.Comparison.TheVariants as comparison
 use Rattle.spv_program.specs.declared.operators.Direction.TheVariants.{Up}
 use Rattle.spv_program.specs.declared.types.Item.TheVariants.{Variable}
-use Rattle.spv_program.specs.Expressions.{Expression, NilOf, call, no_arguments}
+use Rattle.spv_program.specs.Expressions.{Expression, NilOf, Compared, call, no_arguments}
 use Rattle.spv_program.specs.Statements.{Counting, Statement, Empty, Assign, Perform, New, Sequence, If, Case, While, Repeat, For, Assert, no_arms, arm}
 use Rattle.spv_program.specs.Programs.{Program}
-use Rattle.spv_worked.specs.Small.{x, b, a, p, q, f, g, n, integer, ref, node, other, num, at, read, set, element, content, number, note, place_formal, routine}
+use Rattle.spv_worked.specs.Small.{x, y, b, a, p, q, f, g, n, integer, ref, node, other, program, named, equal, num, at, read, set, element, content, number, note, place_formal, routine}
 use Rattle.spv_worked.specs.TypedPrograms.{var_item, nothing, sharing, pointing, over, with_main, sharing_call}
 
 -- ---- assignments and NEW
@@ -90,3 +91,33 @@ with_wrong_bodies =
     ∷ with_main (counting (sharing_call (at x) (num 1)))
     ∷ over (record nothing { globals = var_item (Variable x) ∷ [] }) pointing
     (counting (Perform (call (routine 0) 1 no_arguments))) ∷ []
+
+-- ---- INITIAL names
+
+-- PROCEDURE f; GLOBAL (VAR y); INITIAL x = y: the program has a variable x too, which the body does not see
+abbrev pub remembering : Statement → Program
+remembering s =
+    program ((x, integer) ∷ (y, integer) ∷ [])
+    (record {
+      name = f;
+      line = 3;
+      formals = [];
+      result = None;
+      globals = record { item = Variable y; is_var = true; line = 3 } ∷ [];
+      initial = (x, Variable y) ∷ [];
+      entry = None;
+      exit = Some (note 5 (equal (named x) (number 1)));
+      locals = [];
+      body = s;
+    } ∷ []) None None Empty
+
+-- the body writes what the INITIAL name hides, reads it, and tests it
+abbrev pub with_initial_names : List Program
+with_initial_names =
+    remembering (set x (num 1))
+    ∷ remembering (set y (read x))
+    ∷ remembering (While 6 None (Compared comparison.Less (read x) (num 1)) Empty) ∷ []
+
+-- a name of its own is written
+abbrev pub remembers : Program
+remembers = remembering (set y (num 1))

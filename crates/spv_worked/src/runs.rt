@@ -7,6 +7,7 @@ ghost use Rattle.spv_worked.specs.CallRuns as calls;
 ghost use Rattle.spv_worked.specs.CellRuns as cells;
 ghost use Rattle.spv_worked.specs.FaultRuns as faults;
 ghost use Rattle.spv_worked.specs.LoopRuns as loops;
+ghost use Rattle.spv_worked.specs.PlaceRuns as places;
 
 /// What FOR does: when its INVARIANT is met, when its subrange is tested, and what its variable is at the end.
 pub fn law_for()
@@ -89,4 +90,26 @@ pub fn law_new()
     ensures no_pointer { cells.NewStopsWith (z 3 ∷ cells.node_with 30 ∷ []) }
     ensures content_of_another_sort { cells.NewStopsWith (Pointer 3 ∷ z 30 ∷ []) }
     ensures place_before_choices { cells.PlaceBeforeChoices }
+{}
+
+/// What calls do with VAR arguments at parts and in cells, and where VAR parameters are given on.
+pub fn law_place_runs()
+    ensures shared_cell { places.FillASharedCell }
+    ensures field { places.FillAField }
+    ensures passed_on { places.PassOn }
+    ensures recursion { places.RecursionByPlace }
+    ensures initial_name { places.InitialNameStays }
+{}
+
+/// What calls in arguments and indices do.
+pub fn law_inner_calls()
+    ensures arguments { places.Summing }
+    ensures index { places.CallInAnIndex }
+    ensures index_tested_last { places.CallLeadsOut }
+{}
+
+/// Which places and items are apart, and which are not.
+pub fn law_apart()
+    ensures apart { places.Apart }
+    ensures not_apart { places.NotApart }
 {}

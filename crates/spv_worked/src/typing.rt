@@ -1,6 +1,9 @@
 // Which small programs are well typed and share rightly, each the contract of a function that does nothing.
 
 ghost use Rattle.std.specs.Prelude.{[], ◌∷◌};
+ghost use Rattle.spv_worked.specs.CallConditions as calls;
+ghost use Rattle.spv_worked.specs.PlaceConditions as places;
+ghost use Rattle.spv_worked.specs.StatementConditions as conditions;
 ghost use Rattle.spv_worked.specs.TypedPrograms as typed;
 ghost use Rattle.spv_worked.specs.UntypedDeclarations as declarations;
 ghost use Rattle.spv_worked.specs.UntypedExpressions as expressions;
@@ -12,6 +15,9 @@ pub fn law_typed()
     ensures runs { typed.AreRight typed.run_programs }
     ensures conditions { typed.AreRight typed.condition_programs }
     ensures shared { typed.AreRight (typed.shared ∷ []) }
+    ensures initial_names { typed.AreRight (statements.remembers ∷ []) }
+    ensures places { typed.AreRight places.programs }
+    ensures without_names { typed.AreRight (conditions.nameless ∷ calls.numbering ∷ []) }
 {}
 
 /// What no well typed program declares: types, names, headings, and what ENTRY and EXIT see.
@@ -44,6 +50,7 @@ pub fn law_untyped_statements()
     ensures heads { declarations.NoneTyped statements.with_wrong_heads }
     ensures counters { declarations.NoneTyped statements.with_wrong_counters }
     ensures bodies { declarations.NoneTyped statements.with_wrong_bodies }
+    ensures initial_names { declarations.NoneTyped statements.with_initial_names }
 {}
 
 /// Well typed programs whose routines use what their GLOBAL lists do not have, or whose arguments meet.

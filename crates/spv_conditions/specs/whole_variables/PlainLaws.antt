@@ -38,12 +38,12 @@ module _ (p : Program) (world : Meaning) (here : Here) (h : IsMainBlock p here) 
 
   pub plain_leaves_right : LeavesAreRight p world here (plain_taking p here.routine)
   plain_leaves_right = subst (λ (at : Here). LeavesAreRight p world at (plain_taking p at.routine)) (sym is_main) (record {
-    right = λ s taken n. parts.leaf s (main_leaf p s taken) n;
+    right = λ s taken n correct. parts.leaf s (main_leaf p s taken) n correct;
     supplied = λ s taken q ignores. parts.leaf_supplied s (main_leaf p s taken) q ignores;
   })
 
   pub plain_tests_right : TestsAreRight p world here (plain_taking p here.routine)
   plain_tests_right = subst (λ (at : Here). TestsAreRight p world at (plain_taking p at.routine)) (sym is_main) (record {
-    right = λ e taken n. parts.test e taken n;
+    right = λ e taken n correct. parts.test e taken n correct;
     supplied = λ e taken n. parts.test_supplied e taken n;
   })

@@ -5,11 +5,12 @@ use Rattle.std.proofs.lemmas.List.{append-nil, append_assoc, drop_all}
 use Rattle.spv_logic.specs.declared.names.names.Symbol.{Symbol}
 use Rattle.spv_logic.specs.declared.types.TypeId.{TypeId}
 use Rattle.spv_logic.specs.declared.conditions.RoutineId.{RoutineId}
+use Rattle.spv_program.specs.declared.types.TypeForm.{TypeForm}
 use Rattle.spv_program.specs.Lists.{item_at}
 use Rattle.spv_program.specs.Types.{same_type}
 use Rattle.spv_program.specs.Programs.{Program}
 use Rattle.spv_program.specs.Uses.{Root}
-use Rattle.spv_program.specs.Changes.{types_once, items_of_callee}
+use Rattle.spv_program.specs.Changes.{types_once, types_from, types_of_names, all_types, items_of_callee}
 use Rattle.spv_effects.specs.mod_sets.Sets.{with_type, with_types, with_routine}
 use Rattle.spv_effects.specs.mod_sets.Changing.{among, of_callees, shared_roots}
 use Rattle.spv_effects.proofs.mod_sets.Tests.{or_false, or_swapped, any_last, one_more}
@@ -25,26 +26,46 @@ callee_more p callees r q =
 
 -- ---- types, each once
 
-types_from : (known seen : List TypeId) → ((t : TypeId) → list_any (same_type t) known ≡ list_any (same_type t) seen) → (names : List (Symbol × TypeId))
-    → with_types known names ≡ known ++ types_once seen names
-types_from known seen same [] = sym (append-nil known)
-types_from known seen same (n ∷ names) =
-    by_case (list_any (same_type n.1) seen) (same n.1) (types_from known seen same names) (types_from (known ++ n.1 ∷ []) (n.1 ∷ seen) more names)
+once_behind : (known seen : List TypeId) → ((t : TypeId) → list_any (same_type t) known ≡ list_any (same_type t) seen) → (types : List TypeId)
+    → with_types known types ≡ known ++ types_once seen types
+once_behind known seen same [] = sym (append-nil known)
+once_behind known seen same (t ∷ types) =
+    by_case (list_any (same_type t) seen) (same t) (once_behind known seen same types) (once_behind (known ++ t ∷ []) (t ∷ seen) more types)
   where
-    more : (t : TypeId) → list_any (same_type t) (known ++ n.1 ∷ []) ≡ same_type t n.1 || list_any (same_type t) seen
-    more t =
-        any_last (same_type t) known n.1 ∙ or_swapped (list_any (same_type t) known) (same_type t n.1) ∙ ap (λ b. same_type t n.1 || b) (same t)
+    more : (u : TypeId) → list_any (same_type u) (known ++ t ∷ []) ≡ same_type u t || list_any (same_type u) seen
+    more u =
+        any_last (same_type u) known t ∙ or_swapped (list_any (same_type u) known) (same_type u t) ∙ ap (λ b. same_type u t || b) (same u)
 
-    by_case : (b : Bool) → list_any (same_type n.1) known ≡ b → with_types known names ≡ known ++ types_once seen names
-        → with_types (known ++ n.1 ∷ []) names ≡ (known ++ n.1 ∷ []) ++ types_once (n.1 ∷ seen) names
-        → with_types (with_type known n.1) names ≡ known ++ cond b (types_once seen names) (n.1 ∷ types_once (n.1 ∷ seen) names)
-    by_case true e kept added = ap (λ b. with_types (cond b known (known ++ n.1 ∷ [])) names) e ∙ kept
+    by_case : (b : Bool) → list_any (same_type t) known ≡ b → with_types known types ≡ known ++ types_once seen types
+        → with_types (known ++ t ∷ []) types ≡ (known ++ t ∷ []) ++ types_once (t ∷ seen) types
+        → with_types (with_type known t) types ≡ known ++ cond b (types_once seen types) (t ∷ types_once (t ∷ seen) types)
+    by_case true e kept added = ap (λ b. with_types (cond b known (known ++ t ∷ [])) types) e ∙ kept
     by_case false e kept added =
-        ap (λ b. with_types (cond b known (known ++ n.1 ∷ [])) names) e ∙ added ∙ append_assoc known (n.1 ∷ []) (types_once (n.1 ∷ seen) names)
+        ap (λ b. with_types (cond b known (known ++ t ∷ [])) types) e ∙ added ∙ append_assoc known (t ∷ []) (types_once (t ∷ seen) types)
 
-pub types_are : (names : List (Symbol × TypeId)) → with_types [] names ≡ types_once [] names
-types_are names = types_from [] [] (λ t. refl) names
+pub types_are : (types : List TypeId) → with_types [] types ≡ types_once [] types
+types_are types = once_behind [] [] (λ t. refl) types
 
--- behind the last name
-pub types_end : (names : List (Symbol × TypeId)) (i : ℕ) (types : List TypeId) → length names ≤ i → with_types types (drop i names) ≡ with_types [] names → types ≡ types_once [] names
-types_end names i types over so_far = sym (ap (λ (ns : List (Symbol × TypeId)). with_types types ns) (drop_all i names over)) ∙ so_far ∙ types_are names
+-- two lists, one behind the other
+pub types_both : (known xs ys : List TypeId) → with_types known (xs ++ ys) ≡ with_types (with_types known xs) ys
+types_both known [] ys = refl
+types_both known (t ∷ xs) ys = types_both (with_type known t) xs ys
+
+-- behind the last name, and behind the last form
+pub names_end : (names : List (Symbol × TypeId)) (i : ℕ) (old types : List TypeId) → length names ≤ i
+    → with_types types (types_of_names (drop i names)) ≡ with_types old (types_of_names names) → types ≡ with_types old (types_of_names names)
+names_end names i old types over so_far =
+    sym (ap (λ (ns : List (Symbol × TypeId)). with_types types (types_of_names ns)) (drop_all i names over)) ∙ so_far
+
+pub forms_end : (forms : List TypeForm) (i n : ℕ) (old types : List TypeId) → length forms ≤ i
+    → with_types types (types_from n (drop i forms)) ≡ with_types old (types_from 0 forms) → types ≡ with_types old (types_from 0 forms)
+forms_end forms i n old types over so_far =
+    sym (ap (λ (fs : List TypeForm). with_types types (types_from n fs)) (drop_all i forms over)) ∙ so_far
+
+-- the whole, as the code puts it together
+pub whole : (p : Program) (none named types : List TypeId) → none ≡ [] → named ≡ with_types none (types_of_names p.types)
+    → types ≡ with_types named (types_from 0 p.forms) → types ≡ all_types p
+whole p none named types empty first second =
+    second
+    ∙ ap (λ (ts : List TypeId). with_types ts (types_from 0 p.forms)) (first ∙ ap (λ (ts : List TypeId). with_types ts (types_of_names p.types)) empty)
+    ∙ sym (types_both [] (types_of_names p.types) (types_from 0 p.forms)) ∙ types_are (types_of_names p.types ++ types_from 0 p.forms)

@@ -15,7 +15,7 @@ use Rattle.spv_program.specs.Programs.{Program, Routine}
 use Rattle.spv_program.specs.Scopes.{own_names_in, is_own}
 use Rattle.spv_program.specs.Uses as plain
 use Rattle.spv_program.specs.Uses.{Own, Shared, same_root}
-use Rattle.spv_program.specs.Changes.{types_once, all_roots}
+use Rattle.spv_program.specs.Changes.{all_types, all_roots}
 use Rattle.spv_effects.specs.declared.mod_sets.roots.RootHead.{RootHead}
 use Rattle.spv_effects.specs.mod_sets.Roots.{plain_root, row_of, rows_of, named_row, class_row, own_among}
 use Rattle.spv_effects.proofs.mod_sets.Tests.{or_false}
@@ -55,10 +55,10 @@ own_is : (p : Program) (here : Option Routine) (x : Symbol) → own_among (all_r
 own_is p here x =
     let mine = map (named_row p.forms true) (own_names_in here) in
     let shared = map (named_row p.forms false) p.variables in
-    let classes = map class_row (types_once [] p.types) in
+    let classes = map class_row (all_types p) in
     own_both mine (shared ++ classes) x
     ∙ ap (λ b. own_among mine x || b)
-    (own_both shared classes x ∙ ap (λ b. b || own_among classes x) (variables_not_own p.forms x p.variables) ∙ classes_not_own x (types_once [] p.types))
+    (own_both shared classes x ∙ ap (λ b. b || own_among classes x) (variables_not_own p.forms x p.variables) ∙ classes_not_own x (all_types p))
     ∙ or_false (own_among mine x) ∙ own_found p.forms x (own_names_in here)
 
 -- the rows as the code has them
@@ -74,7 +74,7 @@ own_of_all p here rows is at x = (ap (λ (rs : List (plain.Root × Head)). own_a
 -- ---- all rows, one part behind the other
 
 pub all_are : (forms : List TypeForm) (none own variables : List RootHead) (all : List RootHead) (p : Program) (here : Option Routine) (names shared : List (Symbol × TypeId)) (types : List TypeId)
-    → none ≡ [] → forms ≡ p.forms → names ≡ own_names_in here → shared ≡ p.variables → types ≡ types_once [] p.types
+    → none ≡ [] → forms ≡ p.forms → names ≡ own_names_in here → shared ≡ p.variables → types ≡ all_types p
     → rows_of own ≡ rows_of none ++ map (named_row forms true) names
     → rows_of variables ≡ rows_of own ++ map (named_row forms false) shared
     → rows_of all ≡ rows_of variables ++ map class_row types

@@ -1,7 +1,6 @@
 -- Sets as lists, and what they hold.
 use Rattle.std.specs.Prelude.{◌≡◌, Bool, ◌||◌, List, [], ◌∷◌, ◌++◌, nat_eq, if◌then◌else◌}
 use Rattle.std.specs.List.{list_any}
-use Rattle.spv_logic.specs.declared.names.names.Symbol.{Symbol}
 use Rattle.spv_logic.specs.declared.types.TypeId.{TypeId}
 use Rattle.spv_logic.specs.declared.conditions.RoutineId.{RoutineId}
 use Rattle.spv_program.specs.declared.types.Item.TheVariants.{Variable, Class}
@@ -13,10 +12,10 @@ use Rattle.spv_effects.specs.declared.mod_sets.sets.RootSet.{RootSet}
 abbrev pub with_type : List TypeId → TypeId → List TypeId
 with_type types t = if list_any (same_type t) types then types else types ++ t ∷ []
 
--- with the types of these names
-abbrev pub with_types : List TypeId → List (Symbol × TypeId) → List TypeId
+-- with these types
+abbrev pub with_types : List TypeId → List TypeId → List TypeId
 with_types types [] = types
-with_types types (n ∷ names) = with_types (with_type types n.1) names
+with_types types (t ∷ others) = with_types (with_type types t) others
 
 abbrev pub same_routine : RoutineId → RoutineId → Bool
 same_routine r q = nat_eq r.0 q.0

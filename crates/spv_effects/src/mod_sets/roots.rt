@@ -9,7 +9,7 @@ ghost use Rattle.spv_effects.specs.mod_sets.Roots.{AddsOwn, class_row, named_roo
 use crate::frame_events::NameSet;
 use crate::mod_sets::kinds::sort_of;
 use crate::mod_sets::names::own_names_in;
-use crate::mod_sets::sets::types_once;
+use crate::mod_sets::sets::all_types;
 use spv_logic::names::Symbol;
 use spv_logic::{Head, RoutineId, TypeId};
 use spv_program::typed::Program;
@@ -146,8 +146,8 @@ fn with_own(alloc: Global, rows: Vec<RootHead>) -> Result<AllRoots, AllocError>
     Ok(AllRoots { rows, own })
 }
 
-/// What a routine, or the main block, sees: each own name, each variable of the program, and the class of each type that has a
-/// name, once, with the heads that stand for them.
+/// What a routine, or the main block, sees: each own name, each variable of the program, and the class of each type, those
+/// of types with names first, with the heads that stand for them.
 pub fn all_roots(
     alloc: Global,
     program: &Program,
@@ -156,7 +156,7 @@ pub fn all_roots(
     ensures { IfOk result (λ roots. rows_of roots ≡ all_roots program.now (routine_in program.now here)) }
 {
     let own = own_names_in(alloc, program, here)?;
-    let types = types_once(alloc, program.types.as_slice())?;
+    let types = all_types(alloc, program)?;
     let forms = program.forms.as_slice();
     let mut rows = Vec::new(alloc);
     add_names(&mut rows, forms, true, own.as_slice())?;

@@ -2,18 +2,19 @@
 
 ghost use Rattle.std.specs.List.{list_any};
 ghost use Rattle.std.specs.Prelude.{◌≡◌, [], IfOk, OnOk};
-ghost use Rattle.spv_program.specs.Changes.{types_once};
+ghost use Rattle.spv_program.specs.Changes.{types_of_names, types_from, all_types};
 ghost use Rattle.spv_program.specs.Types.{same_type};
 ghost use Rattle.spv_program.specs.Uses.{same_root};
 ghost use Rattle.spv_effects.specs.mod_sets.Roots.{plain_root};
-ghost use Rattle.spv_effects.specs.mod_sets.Sets.{Adds, has_root, no_roots, with_routine, with_type};
+ghost use Rattle.spv_effects.specs.mod_sets.Sets.{Adds, has_root, no_roots, with_routine, with_type, with_types};
 
 use crate::frame_events::NameSet;
 use crate::mod_sets::roots::Root;
 use indexmap::IndexSet;
 use spv_logic::names::Symbol;
 use spv_logic::{RoutineId, TypeId};
-use spv_program::Item;
+use spv_program::typed::Program;
+use spv_program::{Item, TypeForm};
 use std::alloc::{AllocError, Global};
 use std::marker::Model;
 
@@ -62,14 +63,35 @@ impl TypeSet {
     }
 }
 
-// Each type of a list once, where it stands first.
-pub(crate) fn types_once(alloc: Global, names: &[(Symbol, TypeId)]) -> Result<TypeSet, AllocError>
-    ensures { IfOk result (λ types. types ≡ types_once [] names.now) }
+// Puts the types of these names at the end, each that is new.
+fn add_named(types: &mut TypeSet, names: &[(Symbol, TypeId)]) -> Result<(), AllocError>
+    ensures { OnOk result (types.new ≡ with_types types.old (types_of_names names.now)) }
 {
-    let mut types = TypeSet::new(alloc);
     for (_, t) in names {
         types.add(*t)?;
     }
+    Ok(())
+}
+
+// Puts the types with these forms, which are numbered from 0 on, at the end, each that is new.
+fn add_numbered(types: &mut TypeSet, forms: &[TypeForm]) -> Result<(), AllocError>
+    ensures { OnOk result (types.new ≡ with_types types.old (types_from 0 forms.now)) }
+{
+    let mut number: u32 = 0;
+    for _form in forms {
+        types.add(TypeId(number))?;
+        number = number.checked_add(1).ok_or(AllocError)?;
+    }
+    Ok(())
+}
+
+// The types of a program: those that have names, in the order of the names, and then all others.
+pub(crate) fn all_types(alloc: Global, program: &Program) -> Result<TypeSet, AllocError>
+    ensures { IfOk result (λ types. types ≡ all_types program.now) }
+{
+    let mut types = TypeSet::new(alloc);
+    add_named(&mut types, program.types.as_slice())?;
+    add_numbered(&mut types, program.forms.as_slice())?;
     Ok(types)
 }
 

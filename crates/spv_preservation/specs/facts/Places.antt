@@ -1,12 +1,10 @@
 -- What a put does to places.
-use Rattle.std.specs.Prelude.{◌≡◌, false, List, [], ◌∷◌, Option, Some, IsTrue}
-use Rattle.std.specs.Option.{option_and_then}
+use Rattle.std.specs.Prelude.{◌≡◌, false, List, [], Some, IsTrue}
 use Rattle.spv_logic.specs.declared.types.Sort.{Sort}
 use Rattle.spv_logic.specs.declared.types.Shape.{Shape}
 use Rattle.spv_logic.specs.Values.{Value}
-use Rattle.spv_logic.specs.Shapes.{element_sort, fields_of, field_sort_of}
 use Rattle.spv_logic.specs.Fits.{fits}
-use Rattle.spv_meaning.specs.Places.{PathStep, Place, State, IndexStep, FieldStep, root_value, look, exists, put}
+use Rattle.spv_meaning.specs.Places.{PathStep, Place, State, root_value, look, exists, put}
 use Rattle.spv_meaning.specs.Starts.{paths_meet}
 use Rattle.spv_meaning.specs.FrameTypes.{path_sort}
 

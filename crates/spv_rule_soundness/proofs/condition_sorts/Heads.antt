@@ -1,5 +1,5 @@
 -- Fresh variables, and what a main block may change.
-use Rattle.std.proofs.Common.{◌≡◌, ℕ, Bool, true, false, cond, ◌&&◌, List, [], ◌∷◌, ◌++◌, map, filter, Option, Some, None, refl, sym, ap, ◌∙◌}
+use Rattle.std.proofs.Common.{◌≡◌, Bool, true, false, cond, ◌&&◌, List, [], ◌∷◌, ◌++◌, map, filter, Option, Some, None, refl, ap, ◌∙◌}
 use Rattle.std.specs.List.{list_all}
 use Rattle.std.specs.Option.{unwrap_or}
 use Rattle.std.proofs.lemmas.Bool.{false≢true}
@@ -19,8 +19,8 @@ use Rattle.spv_program.specs.Laws.{HasSort}
 use Rattle.spv_program.specs.Terms.{alone}
 use Rattle.spv_program.specs.Supplies.{Supply, fresh_like}
 use Rattle.spv_program.specs.Calls.{replacing}
-use Rattle.spv_program.specs.Uses.{Root, Own, Shared, same_root}
-use Rattle.spv_program.specs.Changes.{changed_roots, changed_heads, types_once}
+use Rattle.spv_program.specs.Uses.{Root, Shared, same_root}
+use Rattle.spv_program.specs.Changes.{changed_roots, changed_heads, all_types}
 use Rattle.spv_meaning.specs.Before.{renamed, standing_for}
 use Rattle.spv_rule_soundness.proofs.condition_sorts.Substituted.{AllKeep, pairs_keep}
 use Rattle.std.specs.List.{list_any}
@@ -76,5 +76,5 @@ classed (t ∷ ts) = classed ts
 pub changed_variables : (p : Program) (s : Statement) → list_all is_variable (changed_heads p None s) ≡ true
 changed_variables p s =
     let variables : List (Root × Head) = map (λ n. (Shared (Variable n.0), head.Var n.0 (sort_of p.forms n.1) 0)) p.variables in
-    let classes : List (Root × Head) = map (λ t. (Shared (Class t), head.ClassVar t 0)) (types_once [] p.types) in
-    heads_kept (λ r. list_any (same_root r.0) (changed_roots p None s)) (variables ++ classes) (all_both variables classes (named p p.variables) (classed (types_once [] p.types)))
+    let classes : List (Root × Head) = map (λ t. (Shared (Class t), head.ClassVar t 0)) (all_types p) in
+    heads_kept (λ r. list_any (same_root r.0) (changed_roots p None s)) (variables ++ classes) (all_both variables classes (named p p.variables) (classed (all_types p)))

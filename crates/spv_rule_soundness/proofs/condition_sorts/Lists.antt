@@ -1,5 +1,5 @@
 -- Lists of conditions whose formulas are of sort Bool.
-use Rattle.std.proofs.Common.{◌≡◌, List, [], ◌∷◌, ◌++◌, map, Option, Some, None, refl}
+use Rattle.std.proofs.Common.{List, [], ◌∷◌, ◌++◌, map, Option, Some, None}
 use Rattle.spv_logic.specs.declared.types.Sort.TheVariants as sort
 use Rattle.spv_logic.specs.declared.operators.Head.{Head}
 use Rattle.spv_logic.specs.Terms.{Term}
@@ -8,7 +8,7 @@ use Rattle.spv_logic.specs.Conditions.{Condition}
 use Rattle.spv_program.specs.Programs.{Program}
 use Rattle.spv_program.specs.Calls.{replacing}
 use Rattle.spv_meaning.specs.Before.{all_assuming, assuming_if_there, replaced}
-use Rattle.spv_rule_soundness.specs.condition_sorts.Sorted.{IsTruth, AreTruths, IsSorted, AreSorted}
+use Rattle.spv_rule_soundness.specs.condition_sorts.Sorted.{IsTruth, AreTruths, AreSorted}
 use Rattle.spv_rule_soundness.proofs.condition_sorts.Substituted.{Keeps, AllKeep, substituted, pairs_keep}
 
 abbrev pub IfTruth : Program → Option Term → Type 0

@@ -1,5 +1,5 @@
 -- The conditions before a statement have formulas of sort Bool where those after it have.
-use Rattle.std.proofs.Common.{◌≡◌, ℕ, Bool, true, false, ◌&&◌, List, [], ◌∷◌, ◌++◌, fold, ℤ, pos, Option, Some, None, option_map, refl, sym, ap, subst, ◌∙◌}
+use Rattle.std.proofs.Common.{◌≡◌, ℕ, true, List, [], ◌∷◌, ◌++◌, fold, ℤ, pos, Option, Some, None, option_map, refl, sym, ap, subst, ◌∙◌}
 use Rattle.std.specs.List.{list_all}
 use Rattle.std.specs.Ordering.{int_eq}
 use Rattle.std.proofs.lemmas.Bool.{false≢true}
@@ -21,25 +21,25 @@ use Rattle.spv_program.specs.declared.types.Item.TheVariants.{Variable}
 use Rattle.spv_program.specs.Lists.{all_differ}
 use Rattle.spv_program.specs.Types.{sort_of}
 use Rattle.spv_program.specs.Formulas.{Annotation}
-use Rattle.spv_program.specs.Expressions.{Expression, Designator, designator, no_selectors, at_index, at_field, at_cell}
+use Rattle.spv_program.specs.Expressions.{Expression, designator, no_selectors, at_index, at_field, at_cell}
 use Rattle.spv_program.specs.Statements.{Counting, Statement, Arms, Empty, Assign, Perform, New, Sequence, If, Case, While, Repeat, For, Assert, no_arms, arm}
 use Rattle.spv_program.specs.Programs.{Routine, Program, shapes}
-use Rattle.spv_program.specs.Scopes.{name_type, body_scope, item_sort, sort_or_int}
+use Rattle.spv_program.specs.Scopes.{name_type, body_scope, sort_or_int}
 use Rattle.spv_program.specs.Uses.{expression_calls}
 use Rattle.spv_program.specs.Changes.{changed_heads}
-use Rattle.spv_program.specs.FormulaTypes.{is_sort, annotation_ok, formula_sort}
+use Rattle.spv_program.specs.FormulaTypes.{is_sort, annotation_ok}
 use Rattle.spv_program.specs.ExpressionTypes.{expression_sort, designator_type, sort_of_type, may_write}
 use Rattle.spv_program.specs.Typing.{labels_in, may_count, counting_ok, statement_ok, arms_ok, declarations_ok, routine_ok, main_ok, well_typed}
 use Rattle.spv_program.specs.Laws.{HasSort}
 use Rattle.spv_program.specs.Supplies.{Supply, fresh_like, full_supply}
-use Rattle.spv_program.specs.Terms.{alone, unary, binary, numeral, item_head, body_term}
+use Rattle.spv_program.specs.Terms.{alone, binary, numeral, item_head, body_term}
 use Rattle.spv_program.specs.Calls.{replacing}
-use Rattle.spv_program.specs.ExpressionTerms.{Called, valued, placed}
+use Rattle.spv_program.specs.ExpressionTerms.{Called, valued}
 use Rattle.spv_program.proofs.SortFacts.{sort_one, sort_two, equation_sort, is_sort-true, some_is}
 use Rattle.spv_program.proofs.FormulaSorting.{scope_sorted}
 use Rattle.spv_program.proofs.ExpressionSorting.{mapped, value_sorted, place_sorted}
 use Rattle.spv_meaning.specs.Assignments.{has_no_routines}
-use Rattle.spv_meaning.specs.Before.{Made, assuming_if_there, all_assuming, replaced, annotation_term, wanted, wanted_if_there, wanted_with, before_calls, behind_calls, negated, renamed, standing_for, next_term, within_term, past_term, is_label, before, before_arms}
+use Rattle.spv_meaning.specs.Before.{Made, assuming_if_there, all_assuming, replaced, annotation_term, wanted, wanted_if_there, wanted_with, before_calls, negated, renamed, standing_for, next_term, within_term, past_term, is_label, before, before_arms}
 use Rattle.spv_meaning.specs.ProgramConditions.{main_conditions, conditions_from, conditions_of}
 use Rattle.spv_meaning.proofs.AssignedPrograms.{same_sorts}
 use Rattle.spv_rule_soundness.specs.control.Blocks.{calls_nothing, is_control, arms_control, only_control}

@@ -14,7 +14,7 @@ use Rattle.spv_program.specs.Lists.{same_name, found}
 use Rattle.spv_program.specs.Types.{sort_of}
 use Rattle.spv_program.specs.Programs.{Program}
 use Rattle.spv_program.specs.Uses.{Root, Shared, Use, same_root}
-use Rattle.spv_program.specs.Changes.{types_once, all_roots}
+use Rattle.spv_program.specs.Changes.{all_types, all_roots}
 use Rattle.spv_program.proofs.SortFacts.{nothing_there, some_is}
 use Rattle.spv_meaning.proofs.Maps.{same_names}
 use Rattle.spv_rule_soundness.proofs.statements.Changing.{or_left, or_right}
@@ -51,7 +51,7 @@ among p test x t rest (n ∷ variables) e pass = by_name (same_name n.0 x) refl 
 
 -- a variable of the program whose root passes is kept
 pub is_kept : (p : Program) (test : Root → Bool) (x : Symbol) (t : TypeId) → found p.variables x ≡ Some t → test (Shared (Variable x)) ≡ true → list_any (head_eq (head.Var x (sort_of p.forms t) 0)) (kept test (all_roots p None)) ≡ true
-is_kept p test x t e pass = among p test x t (map (λ t. (Shared (Class t), head.ClassVar t 0)) (types_once [] p.types)) p.variables e pass
+is_kept p test x t e pass = among p test x t (map (λ t. (Shared (Class t), head.ClassVar t 0)) (all_types p)) p.variables e pass
 
 -- ---- what is not kept
 
@@ -85,7 +85,7 @@ not_among p test x s rest in_rest (n ∷ variables) fails =
 -- a variable of the program whose root does not pass is not kept
 pub is_not_kept : (p : Program) (test : Root → Bool) (x : Symbol) (s : Sort) → test (Shared (Variable x)) ≡ false → list_any (head_eq (head.Var x s 0)) (kept test (all_roots p None)) ≡ false
 is_not_kept p test x s fails =
-    not_among p test x s (map (λ t. (Shared (Class t), head.ClassVar t 0)) (types_once [] p.types)) (not_among_classes test x s (types_once [] p.types)) p.variables fails
+    not_among p test x s (map (λ t. (Shared (Class t), head.ClassVar t 0)) (all_types p)) (not_among_classes test x s (all_types p)) p.variables fails
 
 -- ---- what is written
 

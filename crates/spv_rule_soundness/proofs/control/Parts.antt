@@ -325,9 +325,9 @@ module _ (p : Program) (typed : well_typed p ≡ true) (world : Meaning) (entry 
 
   pub parts_right : PartsAreRight p world (in_main entry) (main_parts p)
   parts_right = record {
-    leaf = λ s ok n. leaf_right s ok (below p n);
+    leaf = λ s ok n correct. leaf_right s ok (below p n);
     leaf_supplied = leaf_supplied;
-    test = λ e ok n. let k = test_sort e ok in test_right e k.sort k.is (test_calls e ok) (below p n);
+    test = λ e ok n correct. let k = test_sort e ok in test_right e k.sort k.is (test_calls e ok) (below p n);
     test_supplied = λ e ok n. let k = test_sort e ok in test_supplied e k.sort k.is (test_calls e ok) n;
     number = number_worth;
     counts = λ count s ok state start z. counts_right count.variable (head_of_count count s ok) state start z;

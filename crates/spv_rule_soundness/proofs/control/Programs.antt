@@ -1,9 +1,10 @@
 -- True conditions make such a program correct.
-use Rattle.std.proofs.Common.{◌≡◌, ℕ, true, ◌&&◌, List, [], ◌∷◌, refl, sym, subst, ◌∙◌, Option, Some, None, is_some}
+use Rattle.std.proofs.Common.{◌≡◌, ◌<◌, ℕ, zero, suc, nat_lt, arith, Bool, true, false, ◌&&◌, List, [], ◌∷◌, refl, sym, subst, ◌∙◌, Option, Some, None, is_some}
 use Rattle.std.specs.List.{list_all}
 use Rattle.std.specs.Cmp.Derive.{both_true}
 use Rattle.std.proofs.lemmas.Bool.{false≢true}
 use Rattle.std.specs.Ordering.{int_eq}
+use Rattle.std.proofs.lemmas.Bool.Decides.{nat_tests}
 use Rattle.spv_logic.specs.declared.types.Sort.{Sort}
 use Rattle.spv_logic.specs.declared.types.Sort.TheVariants as sort
 use Rattle.spv_logic.specs.declared.conditions.Kind.TheVariants as kind
@@ -24,7 +25,7 @@ use Rattle.spv_program.proofs.SortFacts.{nothing_there}
 use Rattle.spv_meaning.specs.Places.{State}
 use Rattle.spv_meaning.specs.Views.{now_view, entry_view}
 use Rattle.spv_meaning.specs.Walks.{run}
-use Rattle.spv_meaning.specs.Correct.{Starts, CorrectWith, is_there, Correct}
+use Rattle.spv_meaning.specs.Correct.{Starts, CorrectWith, CorrectBelow, is_there, Correct}
 use Rattle.spv_meaning.specs.Before.{Made, before, wanted_if_there}
 use Rattle.spv_meaning.specs.Assignments.{has_no_routines}
 use Rattle.spv_meaning.specs.ProgramConditions.{main_conditions, conditions_from, conditions_of, AllTrueIn}
@@ -140,8 +141,8 @@ module _ (p : Program) (world : Meaning) (begin state : State) where
 
 -- ---- the program
 
-main_right : (p : Program) (world : Meaning) → well_typed p ≡ true → only_control p ≡ true → AllTrueIn (shapes p) p.symbols world (conditions_of p) → (turns : ℕ) → CorrectWith p world None turns
-main_right p world typed control h turns =
+main_right : (p : Program) (world : Meaning) → well_typed p ≡ true → only_control p ≡ true → AllTrueIn (shapes p) p.symbols world (conditions_of p) → (turns : ℕ) → CorrectBelow p world turns → CorrectWith p world None turns
+main_right p world typed control h turns fewer =
     let main = right_true (list_all (routine_ok p) p.routines) _ (right_true (declarations_ok p) _ typed) in
     let entry = left_true (annotation_ok p (body_scope p None) p.main.entry) _ main in
     let rest = right_true (annotation_ok p (body_scope p None) p.main.entry) _ main in
@@ -152,7 +153,7 @@ main_right p world typed control h turns =
     let q : Made = record { conditions = wanted_if_there p None kind.Exit p.main.exit; supply = full_supply } in
     let runs : (state : State) → Starts p world None state → (choices : List Value) → Reaches p world State (EndsWell p world (in_main (entry_view p None state)) nothing_fixed (may_change p (in_main (entry_view p None state)) p.main.body) q.conditions state) (run p turns (in_main (entry_view p None state)) p.main.body state choices)
     = λ state starts choices.
-    (right_level p world (forms_right p typed) (in_main (entry_view p None state)) (main_entry p typed world (entry_view p None state) (entry-main p state)) (main_parts p) (parts_right p typed world (entry_view p None state) (entry-main p state)) turns).statements p.main.body (all_pass p p.main.body block body)
+    (right_level p world (forms_right p typed) (in_main (entry_view p None state)) (main_entry p typed world (entry_view p None state) (entry-main p state)) (main_parts p) (parts_right p typed world (entry_view p None state) (entry-main p state)) turns fewer).statements p.main.body (all_pass p p.main.body block body)
     q (wanted_there_ignores p world full_supply None kind.Exit p.main.exit) nothing_fixed (no_window p) state starts.is_start
     (true_all p world state state (before p None p.main.body q).conditions (under_entry p world state starts.is_start p.main.entry entry starts.entry (before p None p.main.body q).conditions all)) choices in
     record {
@@ -162,10 +163,23 @@ main_right p world typed control h turns =
           exit_holds p world p.main.exit state after (forms_right p typed) last.is_start (true_each p world state after q.conditions last.true_there);
     }
 
--- conditions that are true make the program correct
-pub control_correct : (p : Program) (world : Meaning) → well_typed p ≡ true → only_control p ≡ true → AllTrueIn (shapes p) p.symbols world (conditions_of p) → Correct p world
-control_correct p world typed control h = record { each = λ here there turns. by_routine here there turns }
+-- what is correct with fewer turns than a number and with that number is so with fewer than the next one
+one_more : (p : Program) (world : Meaning) (n : ℕ) → CorrectBelow p world n → ((here : Option RoutineId) → is_there p here ≡ true → CorrectWith p world here n) → CorrectBelow p world (suc n)
+one_more p world n fewer now = record { each = λ here there turns less. by_case here there turns less (nat_lt turns n) refl }
   where
-    by_routine : (here : Option RoutineId) → is_there p here ≡ true → (turns : ℕ) → CorrectWith p world here turns
-    by_routine None there turns = main_right p world typed control h turns
-    by_routine (Some id) there turns = nobody p world id turns (no_routine p.routines (left_true (has_no_routines p.routines) _ control)) there
+    by_case : (here : Option RoutineId) → is_there p here ≡ true → (turns : ℕ) → turns < suc n → (b : Bool) → nat_lt turns n ≡ b → CorrectWith p world here turns
+    by_case here there turns less true e = let below : turns < n = grind (arith, nat_tests) in fewer.each here there turns below
+    by_case here there turns less false e = let same : n ≡ turns = grind (arith, nat_tests) in subst (CorrectWith p world here) same (now here there)
+
+module _ (p : Program) (world : Meaning) (typed : well_typed p ≡ true) (control : only_control p ≡ true) (h : AllTrueIn (shapes p) p.symbols world (conditions_of p)) where
+  with_turns : (turns : ℕ) → CorrectBelow p world turns → (here : Option RoutineId) → is_there p here ≡ true → CorrectWith p world here turns
+  with_turns turns fewer None there = main_right p world typed control h turns fewer
+  with_turns turns fewer (Some id) there = nobody p world id turns (no_routine p.routines (left_true (has_no_routines p.routines) _ control)) there
+
+  below_turns : (turns : ℕ) → CorrectBelow p world turns
+  below_turns zero = record { each = λ here there turns less. let none : ⊥ = omega (arith, less) in absurd none }
+  below_turns (suc n) = let fewer = below_turns n in one_more p world n fewer (with_turns n fewer)
+
+  -- conditions that are true make the program correct
+  pub control_correct : Correct p world
+  control_correct = record { each = λ here there turns. with_turns turns (below_turns turns) here there }

@@ -1,5 +1,5 @@
 -- The terms of annotations have no fresh variable, and so their worth ignores what a supply has still to give.
-use Rattle.std.proofs.Common.{◌≡◌, ℕ, Bool, true, false, cond, not, subst, ◌&&◌, ◌||◌, List, [], ◌∷◌, fold, ℤ, refl, sym, ap, ◌∙◌, Option, Some, None, option_map}
+use Rattle.std.proofs.Common.{◌≡◌, ℕ, Bool, true, false, cond, not, subst, ◌&&◌, ◌||◌, List, [], ◌∷◌, refl, sym, ap, ◌∙◌, Option, Some, None}
 use Rattle.std.specs.Cmp.Derive.{both_true}
 use Rattle.std.proofs.lemmas.Bool.{false≢true}
 use Rattle.spv_logic.specs.declared.names.names.Symbol.{Symbol}
@@ -7,10 +7,10 @@ use Rattle.spv_logic.specs.declared.conditions.Kind.{Kind}
 use Rattle.spv_logic.specs.declared.conditions.RoutineId.{RoutineId}
 use Rattle.spv_logic.specs.declared.operators.Head.{Head}
 use Rattle.spv_logic.specs.declared.operators.Head.TheVariants as head
-use Rattle.spv_logic.specs.Values.{Value, truth_of}
-use Rattle.spv_logic.specs.Terms.{Term, Terms, head_eq, eval, worth, heads_pass, all_heads_pass}
+use Rattle.spv_logic.specs.Values.{truth_of}
+use Rattle.spv_logic.specs.Terms.{Term, head_eq, eval, worth, heads_pass, all_heads_pass}
 use Rattle.spv_logic.specs.Substitution.{is_variable, substitute, value_under, under}
-use Rattle.spv_logic.specs.Conditions.{Meaning, Valuation, Condition, holds}
+use Rattle.spv_logic.specs.Conditions.{Meaning, Valuation, Condition}
 use Rattle.spv_logic.proofs.Substitution.{worth-same, eval-agree, eval-substitute}
 use Rattle.spv_program.specs.declared.operators.Arithmetic.{Arithmetic}
 use Rattle.spv_program.specs.declared.operators.Arithmetic.TheVariants as arithmetic
@@ -25,11 +25,11 @@ use Rattle.spv_program.specs.FormulaTypes.{head_of_known}
 use Rattle.spv_program.specs.Programs.{Routine, Program, routine_in}
 use Rattle.spv_program.specs.Scopes.{body_scope}
 use Rattle.spv_program.specs.Supplies.{Supply, full_supply}
-use Rattle.spv_program.specs.Terms.{alone, unary, binary, truth, head_of_arithmetic, comparing, head_of_connective, name_in, formula_term, formula_terms, body_term}
+use Rattle.spv_program.specs.Terms.{binary, truth, head_of_arithmetic, comparing, head_of_connective, name_in, formula_term, formula_terms, body_term}
 use Rattle.spv_program.specs.Calls.{replacing}
 use Rattle.spv_program.proofs.SortFacts.{nothing_there, some_is}
-use Rattle.spv_meaning.specs.Before.{wanted, negated, annotation_term, wanted_if_there, wanted_with, replaced}
-use Rattle.spv_rule_soundness.specs.statements.Truth.{is_new, meaning_in, all_follow, Ignores, TermIgnores}
+use Rattle.spv_meaning.specs.Before.{wanted, negated, wanted_if_there, wanted_with, replaced}
+use Rattle.spv_rule_soundness.specs.statements.Truth.{is_new, meaning_in, Ignores, TermIgnores}
 use Rattle.spv_rule_soundness.proofs.statements.Lists.{not_new, follow-replaced}
 use Rattle.spv_rule_soundness.proofs.statements.States.{full_first}
 

@@ -6,13 +6,12 @@ use Rattle.std.proofs.lemmas.Bool.{false≢true}
 use Rattle.spv_logic.specs.declared.operators.Head.{Head}
 use Rattle.spv_logic.specs.Terms.{head_eq}
 use Rattle.spv_logic.proofs.list.Tests.{left_true, right_true}
-use Rattle.spv_program.specs.Expressions.{Call}
 use Rattle.spv_program.specs.Formulas.{Annotation}
 use Rattle.spv_program.specs.Statements.{Counting, Statement, For}
-use Rattle.spv_program.specs.Programs.{Routine, Program, routine_in}
+use Rattle.spv_program.specs.Programs.{Program, routine_in}
 use Rattle.spv_program.specs.Scopes.{is_own}
 use Rattle.spv_program.specs.Uses.{Root, Use, same_root, name_root, annotation_uses, expression_uses, expression_calls, statement_uses, statement_calls}
-use Rattle.spv_program.specs.Changes.{changed_by_call, changed_roots, all_roots, changed_heads}
+use Rattle.spv_program.specs.Changes.{changed_by_call, changed_roots, all_roots}
 use Rattle.spv_meaning.specs.Levels.{Here}
 use Rattle.spv_rule_soundness.specs.statements.Runs.{may_change}
 

@@ -1,47 +1,45 @@
 -- The rules of sequences, IF, CASE, WHILE, REPEAT and ASSERT are right where those of their parts are.
-use Rattle.std.proofs.Common.{◌≡◌, ℕ, zero, suc, Bool, true, false, cond, not, ◌&&◌, ◌||◌, List, [], ◌∷◌, ◌++◌, fold, ℤ, pos, refl, sym, ap, subst, ◌∙◌, Option, Some, None, option_map}
-use Rattle.std.specs.List.{list_any, list_all}
+use Rattle.std.proofs.Common.{◌≡◌, ℕ, Bool, true, false, cond, not, ◌||◌, List, [], ◌∷◌, ◌++◌, fold, ℤ, refl, sym, ap, subst, ◌∙◌, Option, Some, None, option_map}
+use Rattle.std.specs.List.{list_any}
 use Rattle.std.specs.Ordering.{int_eq}
 use Rattle.std.specs.Cmp.Derive.{both_true}
 use Rattle.std.proofs.lemmas.Bool.{false≢true}
-use Rattle.spv_logic.specs.declared.conditions.Kind.{Kind}
 use Rattle.spv_logic.specs.declared.conditions.Kind.TheVariants as kind
 use Rattle.spv_logic.specs.declared.operators.Head.{Head}
 use Rattle.spv_logic.specs.declared.operators.Head.TheVariants as head
 use Rattle.spv_logic.specs.Values.{Value, Number, number_of, truth_of, value_eq}
 use Rattle.spv_logic.specs.Terms.{Term, eval}
 use Rattle.spv_logic.specs.Shapes.{shapes_ok}
-use Rattle.spv_logic.specs.Conditions.{Meaning, Valuation, IsValuation, View, Shows, Condition, holds}
-use Rattle.spv_logic.proofs.Equality.{int_eq-true, int_eq-refl}
+use Rattle.spv_logic.specs.Conditions.{Meaning, Valuation, View, Condition, holds}
 use Rattle.spv_program.specs.Expressions.{Expression}
 use Rattle.spv_program.specs.Formulas.{Annotation}
-use Rattle.spv_program.specs.Statements.{Statement, Arms, Empty, Assign, Perform, New, Sequence, If, Case, While, Repeat, For, Assert, no_arms, arm}
+use Rattle.spv_program.specs.Statements.{Statement, Sequence, If, While, Repeat, Assert}
 use Rattle.spv_program.specs.Programs.{Program, shapes, routine_in}
 use Rattle.spv_program.specs.Scopes.{is_own}
-use Rattle.spv_program.specs.Uses.{Use, statement_uses, statement_calls, annotation_uses, expression_uses, expression_calls, arms_uses, arms_calls}
+use Rattle.spv_program.specs.Uses.{statement_uses, statement_calls, annotation_uses, expression_uses, expression_calls}
 use Rattle.spv_program.specs.Changes.{changed_heads}
 use Rattle.spv_program.specs.Supplies.{Supply}
 use Rattle.spv_program.specs.Terms.{binary, numeral, body_term}
 use Rattle.spv_program.specs.ExpressionTerms.{valued}
 use Rattle.spv_meaning.specs.Places.{State}
 use Rattle.spv_meaning.specs.Views.{now_view}
-use Rattle.spv_meaning.specs.Outcomes.{Outcome, ends, and_then, meets}
+use Rattle.spv_meaning.specs.Outcomes.{Outcome, ends, and_then}
 use Rattle.spv_meaning.specs.Levels.{Here, Run, Level, reached_in_body}
 use Rattle.spv_meaning.specs.Evaluation.{Got, evaluate}
-use Rattle.spv_meaning.specs.Walks.{walk, walk_arms, reaches}
+use Rattle.spv_meaning.specs.Walks.{walk, reaches}
 use Rattle.spv_meaning.specs.Starts.{IsStart}
-use Rattle.spv_meaning.specs.Before.{Made, all_assuming, assuming_if_there, replaced, wanted, negated, annotation_term, wanted_if_there, before_calls, renamed, is_label, before, before_arms}
-use Rattle.spv_rule_soundness.specs.statements.Truth.{is_new, IsLater, IsWindow, IsEntry, meaning_in, all_follow, shown, IsTrueFor, Ignores}
+use Rattle.spv_meaning.specs.Before.{Made, all_assuming, assuming_if_there, replaced, wanted, negated, annotation_term, wanted_if_there, before_calls, renamed, before}
+use Rattle.spv_rule_soundness.specs.statements.Truth.{IsLater, IsWindow, IsEntry, meaning_in, shown, IsTrueFor, Ignores}
 use Rattle.spv_rule_soundness.specs.statements.Runs.{Reaches, EndsWell, IsRight, GivesWell, IsRightTest, may_change}
-use Rattle.spv_rule_soundness.specs.statements.Parts.{Passing, parts_pass, arms_pass}
+use Rattle.spv_rule_soundness.specs.statements.Parts.{Passing, parts_pass}
 use Rattle.spv_rule_soundness.specs.statements.Laws.{PartsAreRight}
 use Rattle.spv_rule_soundness.proofs.statements.Lists.{follow-append, not_new, later_after, ignores_later, ignores_both, ignores_assuming}
 use Rattle.spv_rule_soundness.proofs.statements.Views.{shown_wider, narrow}
 use Rattle.spv_rule_soundness.proofs.statements.States.{renaming, persisting}
-use Rattle.spv_rule_soundness.proofs.statements.Annotations.{annotation_ignores, negated_ignores, later_term, wanted_there_ignores}
+use Rattle.spv_rule_soundness.proofs.statements.Annotations.{negated_ignores, later_term, wanted_there_ignores}
 use Rattle.spv_rule_soundness.proofs.statements.Supplied.{changed_are_names, assuming_there_ignores, annotation_there, supplied}
-use Rattle.spv_rule_soundness.proofs.statements.Changing.{Within, within_all, within_left, within_right, within_then, part_leaves}
-use Rattle.spv_rule_soundness.proofs.statements.Reaching.{reach_then, reach_ends, reach_stops, reach_going, reach_as, reach_meets, true_first, true_second, true_assumed, wanted_holds, true_under, reached_holds}
+use Rattle.spv_rule_soundness.proofs.statements.Changing.{within_left, within_right, within_then, part_leaves}
+use Rattle.spv_rule_soundness.proofs.statements.Reaching.{reach_then, reach_ends, reach_as, reach_meets, true_first, true_second, true_assumed, wanted_holds, true_under, reached_holds}
 
 -- a window goes on being one as more is taken from the supply
 pub window_later : (p : Program) (n m : Supply) (window : View) → IsLater n m → IsWindow p n window → IsWindow p m window

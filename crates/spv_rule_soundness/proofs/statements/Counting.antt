@@ -1,15 +1,12 @@
 -- The rule of FOR is right where those of its parts are.
-use Rattle.std.proofs.Common.{◌≡◌, ℕ, zero, suc, Bool, true, false, cond, not, ◌&&◌, ◌||◌, List, [], ◌∷◌, ◌++◌, ℤ, pos, ◌+ℤ◌, ◌-ℤ◌, refl, sym, ap, subst, ◌∙◌, Option, Some, None, option_map}
+use Rattle.std.proofs.Common.{◌≡◌, Bool, true, false, cond, not, List, [], ◌∷◌, ℤ, pos, ◌+ℤ◌, ◌-ℤ◌, refl, sym, ap, ◌∙◌, Option, Some, None, option_map}
 use Rattle.std.specs.List.{list_any, list_all}
 use Rattle.std.specs.Option.{unwrap_or}
 use Rattle.std.specs.Int.RustNames.{int_lt}
-use Rattle.std.proofs.lemmas.Bool.{false≢true}
 use Rattle.spv_logic.proofs.list.Tests.{left_true}
 use Rattle.spv_logic.specs.declared.conditions.Kind.TheVariants as kind
-use Rattle.spv_logic.specs.declared.types.Sort.TheVariants as sort
 use Rattle.spv_logic.specs.declared.operators.Head.{Head}
-use Rattle.spv_logic.specs.declared.operators.Head.TheVariants as head
-use Rattle.spv_logic.specs.Values.{Value, Number, Truth, Pointer, ArrayOf, RecordOf, ClassOf, AtomOf, PairOf, number_of, truth_of}
+use Rattle.spv_logic.specs.Values.{Value, Number, number_of, truth_of}
 use Rattle.spv_logic.specs.Terms.{Term, head_eq, eval}
 use Rattle.spv_logic.specs.Shapes.{shapes_ok}
 use Rattle.spv_logic.specs.Fits.{fits}
@@ -22,28 +19,25 @@ use Rattle.spv_program.specs.declared.operators.Direction.{Direction}
 use Rattle.spv_program.specs.declared.operators.Direction.TheVariants.{Up, Down}
 use Rattle.spv_program.specs.declared.types.Item.TheVariants.{Variable}
 use Rattle.spv_program.specs.Formulas.{Annotation}
-use Rattle.spv_program.specs.Statements.{Counting, Statement, For}
+use Rattle.spv_program.specs.Statements.{Counting, Statement}
 use Rattle.spv_program.specs.Programs.{Program, shapes, routine_in}
 use Rattle.spv_program.specs.Changes.{changed_heads}
-use Rattle.spv_program.specs.Supplies.{Supply, Fresh, full_supply, fresh_like}
+use Rattle.spv_program.specs.Supplies.{Supply, Fresh, fresh_like}
 use Rattle.spv_program.specs.Terms.{alone, item_head, body_term}
 use Rattle.spv_program.specs.Calls.{replacing}
-use Rattle.spv_program.proofs.SortFacts.{nothing_there, some_is}
 use Rattle.spv_meaning.specs.Places.{State, put}
 use Rattle.spv_meaning.specs.Views.{place_of, now_view}
 use Rattle.spv_meaning.specs.Levels.{Here}
 use Rattle.spv_meaning.specs.Walks.{is_past, next_candidate}
 use Rattle.spv_meaning.specs.Starts.{IsStart}
 use Rattle.spv_meaning.specs.Before.{Made, Renamed, all_assuming, assuming_if_there, replaced, annotation_term, wanted_if_there, wanted_with, renamed, standing_for, next_term, within_term, past_term, before}
-use Rattle.spv_rule_soundness.specs.statements.Truth.{is_new, IsLater, IsWindow, IsEntry, meaning_in, all_follow, shown, IsTrueFor, Ignores, TermIgnores}
+use Rattle.spv_rule_soundness.specs.statements.Truth.{is_new, IsWindow, IsEntry, meaning_in, all_follow, shown, IsTrueFor, Ignores}
 use Rattle.spv_rule_soundness.specs.statements.Runs.{may_change}
-use Rattle.spv_rule_soundness.specs.statements.Parts.{Passing, parts_pass}
-use Rattle.spv_rule_soundness.specs.statements.Laws.{Counts, PartsAreRight}
-use Rattle.spv_rule_soundness.proofs.statements.Lists.{follow-replaced, assumed, not_new, later_after, ignores_later}
-use Rattle.spv_rule_soundness.proofs.statements.Views.{in_first, within, within-there, within-none}
-use Rattle.spv_rule_soundness.proofs.statements.Renaming.{is_name, Stands, stands, with_fresh, fresh_else, fresh_new, fresh_later, fresh_sort, new_differs, old_differs, renamed_later, under_there, under_else, fresh_valuation, value_at, valuation_from}
-use Rattle.spv_rule_soundness.proofs.statements.States.{full_first, shown_taken, at_state-valuation, at_state-shows, same_shown}
-use Rattle.spv_rule_soundness.proofs.statements.Annotations.{PairsAre, annotation_ignores}
+use Rattle.spv_rule_soundness.proofs.statements.Lists.{follow-replaced, assumed, not_new}
+use Rattle.spv_rule_soundness.proofs.statements.Views.{in_first, within, within-there}
+use Rattle.spv_rule_soundness.proofs.statements.Renaming.{is_name, stands, with_fresh, fresh_else, fresh_new, fresh_sort, new_differs, renamed_later, under_else, fresh_valuation, value_at, valuation_from}
+use Rattle.spv_rule_soundness.proofs.statements.States.{full_first, shown_taken, at_state-valuation, at_state-shows}
+use Rattle.spv_rule_soundness.proofs.statements.Annotations.{annotation_ignores}
 use Rattle.spv_rule_soundness.proofs.statements.Supplied.{fresh_not_changed, changed_are_names, fresh_pairs}
 
 -- ---- the parts of the rule

@@ -1,16 +1,14 @@
 -- Every statement is right, by induction on its turns and its parts.
-use Rattle.std.proofs.Common.{◌≡◌, ℕ, zero, suc, Bool, true, false, cond, not, ◌&&◌, ◌||◌, List, [], ◌∷◌, ◌++◌, ℤ, pos, refl, sym, ap, subst, ◌∙◌, Option, Some, None, option_map}
-use Rattle.std.specs.List.{list_any, list_all}
+use Rattle.std.proofs.Common.{◌≡◌, arith, ℕ, zero, suc, true, ◌||◌, List, [], ◌∷◌, ◌++◌, ℤ, refl, sym, ap, subst, ◌∙◌, Option, Some, None}
+use Rattle.std.specs.List.{list_any}
 use Rattle.std.specs.Ordering.{int_eq}
 use Rattle.std.proofs.lemmas.Bool.{false≢true}
 use Rattle.spv_logic.specs.declared.conditions.Kind.TheVariants as kind
-use Rattle.spv_logic.specs.declared.operators.Head.{Head}
 use Rattle.spv_logic.specs.declared.operators.Head.TheVariants as head
-use Rattle.spv_logic.specs.Values.{Value, Number, number_of, truth_of, value_eq}
+use Rattle.spv_logic.specs.Values.{Value, Number, number_of, value_eq}
 use Rattle.spv_logic.specs.Terms.{Term, eval}
 use Rattle.spv_logic.specs.Shapes.{shapes_ok}
-use Rattle.spv_logic.specs.Substitution.{substitute}
-use Rattle.spv_logic.specs.Conditions.{Meaning, Valuation, IsValuation, View, Shows, Condition, holds}
+use Rattle.spv_logic.specs.Conditions.{Meaning, Valuation, IsValuation, View, Shows, holds}
 use Rattle.spv_logic.proofs.list.Tests.{left_true, right_true}
 use Rattle.spv_program.specs.Expressions.{Expression}
 use Rattle.spv_program.specs.Formulas.{Annotation}
@@ -20,28 +18,25 @@ use Rattle.spv_program.specs.Scopes.{is_own}
 use Rattle.spv_program.specs.Uses.{statement_uses, statement_calls, expression_uses, expression_calls, arms_uses, arms_calls}
 use Rattle.spv_program.specs.Supplies.{Supply}
 use Rattle.spv_program.specs.Terms.{alone, binary, numeral}
-use Rattle.spv_program.specs.Calls.{replacing}
 use Rattle.spv_program.specs.ExpressionTerms.{valued}
 use Rattle.spv_program.proofs.SortFacts.{nothing_there, some_is}
 use Rattle.spv_meaning.specs.declared.faults.Fault.TheVariants as fault
 use Rattle.spv_meaning.specs.Places.{State}
-use Rattle.spv_meaning.specs.Views.{now_view}
-use Rattle.spv_meaning.specs.Outcomes.{Outcome, ends, and_then}
 use Rattle.spv_meaning.specs.Levels.{Here, Run, Loop, Level}
-use Rattle.spv_meaning.specs.Evaluation.{evaluate}
-use Rattle.spv_meaning.specs.Walks.{walk, walk_arms, count_on, level_over, level, run}
+use Rattle.spv_meaning.specs.Walks.{walk, walk_arms, count_on, level, run}
 use Rattle.spv_meaning.specs.Starts.{IsStart}
-use Rattle.spv_meaning.specs.Before.{Made, all_assuming, assuming_if_there, replaced, annotation_term, wanted_with, before_calls, renamed, standing_for, within_term, past_term, is_label, before, before_arms}
-use Rattle.spv_rule_soundness.specs.statements.Truth.{is_new, IsLater, IsWindow, IsEntry, meaning_in, all_follow, shown, IsTrueFor, Ignores}
-use Rattle.spv_rule_soundness.specs.statements.Runs.{Reaches, EndsWell, IsRight, IsSupplied, GivesWell, IsRightTest, may_change}
+use Rattle.spv_meaning.specs.Correct.{CorrectBelow}
+use Rattle.spv_meaning.specs.Before.{Made, all_assuming, replaced, wanted_with, before_calls, standing_for, within_term, past_term, is_label, before, before_arms}
+use Rattle.spv_rule_soundness.specs.statements.Truth.{IsLater, IsWindow, IsEntry, meaning_in, shown, IsTrueFor, Ignores}
+use Rattle.spv_rule_soundness.specs.statements.Runs.{Reaches, EndsWell, IsRight, IsRightTest, may_change}
 use Rattle.spv_rule_soundness.specs.statements.Parts.{Passing, parts_pass, arms_pass}
-use Rattle.spv_rule_soundness.specs.statements.Laws.{below, PartsAreRight}
+use Rattle.spv_rule_soundness.specs.statements.Laws.{PartsAreRight}
 use Rattle.spv_rule_soundness.proofs.statements.Lists.{later_after, ignores_later}
 use Rattle.spv_rule_soundness.proofs.statements.Views.{shown_wider}
 use Rattle.spv_rule_soundness.proofs.statements.Supplied.{calls-append, supplied}
-use Rattle.spv_rule_soundness.proofs.statements.Changing.{Within, within_all, within_left, within_right, within_then, part_leaves}
-use Rattle.spv_rule_soundness.proofs.statements.Reaching.{reach_then, reach_ends, reach_stops, reach_going, reach_as, true_first, true_second, true_assumed}
-use Rattle.spv_rule_soundness.proofs.statements.Control.{choose, window_later, ends_wider, ends_from, tested, sequence_right, assert_right, if_right, while_right, repeat_right, labels_hold}
+use Rattle.spv_rule_soundness.proofs.statements.Changing.{Within, within_left, within_right, within_then, part_leaves}
+use Rattle.spv_rule_soundness.proofs.statements.Reaching.{reach_ends, reach_stops, reach_going, reach_as, true_first, true_second, true_assumed}
+use Rattle.spv_rule_soundness.proofs.statements.Control.{choose, window_later, ends_wider, tested, sequence_right, assert_right, if_right, while_right, repeat_right, labels_hold}
 use Rattle.spv_rule_soundness.proofs.statements.Counting.{counter, turn_of, fresh_of, last_of, under_invariant}
 use Rattle.spv_rule_soundness.proofs.statements.Loops.{with_counter, GoesOn, none_goes_on, some_goes_on}
 
@@ -181,19 +176,22 @@ module _ (p : Program) (world : Meaning) (ok : shapes_ok (shapes p) ≡ true) (h
   no_level : (l : Level) → None ≡ Some l → ⊥
   no_level l e = nothing_there e
 
-  pub right_level : (n : ℕ) → RightLevel (level p n)
-  right_level zero =
+  fewer : (n : ℕ) → CorrectBelow p world (suc n) → CorrectBelow p world n
+  fewer n correct = record { each = λ here there turns less. correct.each here there turns (omega (arith, less)) }
+
+  pub right_level : (n : ℕ) → CorrectBelow p world n → RightLevel (level p n)
+  right_level zero correct =
       let goes : AllGoOn (count_on p None here)
       = λ line f count s counted q ignores n to_n pass_s window is first_state begun end e end_is turn_list exit_list. none_goes_on p world ok here entry passing right line f count s counted q ignores n to_n pass_s window is first_state begun end e end_is turn_list exit_list in
       record {
-        statements = structural None (λ s pass. right.leaf s pass 0) (λ e pass. right.test e pass 0) goes (λ l e. absurd (no_level l e));
+        statements = structural None (λ s pass. right.leaf s pass 0 correct) (λ e pass. right.test e pass 0 correct) goes (λ l e. absurd (no_level l e));
         counts = goes;
       }
-  right_level (suc n) =
-      let lower = right_level n in
+  right_level (suc n) correct =
+      let lower = right_level n (fewer n correct) in
       let goes : AllGoOn (count_on p (Some (level p n)) here)
       = λ line f count s counted q ignores m to_m pass_s window is first_state begun end e end_is turn_list exit_list. some_goes_on p world ok here entry passing right line f count s counted q ignores m to_m pass_s window is first_state begun end e end_is turn_list exit_list (level p n) (lower.statements s pass_s) (lower.counts line f count s counted q ignores m to_m pass_s window is first_state begun end e end_is turn_list exit_list) in
       record {
-        statements = structural (Some (level p n)) (λ s pass. right.leaf s pass (suc n)) (λ e pass. right.test e pass (suc n)) goes (λ l e. subst RightLevel (some_is e) lower);
+        statements = structural (Some (level p n)) (λ s pass. right.leaf s pass (suc n) correct) (λ e pass. right.test e pass (suc n) correct) goes (λ l e. subst RightLevel (some_is e) lower);
         counts = goes;
       }

@@ -1,19 +1,18 @@
 -- The truth of lists of conditions, by how they are made.
-use Rattle.std.proofs.Common.{◌≡◌, Bool, true, false, not, ◌&&◌, ◌||◌, List, [], ◌∷◌, ◌++◌, map, refl, sym, ap, ◌∙◌, Option, Some, None}
+use Rattle.std.proofs.Common.{◌≡◌, Bool, true, false, not, ◌&&◌, ◌||◌, List, [], ◌∷◌, ◌++◌, map, refl, sym, ap, ◌∙◌}
 use Rattle.std.specs.List.{list_all}
-use Rattle.std.specs.Cmp.Derive.{both_true}
 use Rattle.std.proofs.lemmas.Bool.{false≢true}
 use Rattle.spv_logic.specs.declared.operators.Head.{Head}
-use Rattle.spv_logic.specs.Values.{Value, truth_of}
+use Rattle.spv_logic.specs.Values.{truth_of}
 use Rattle.spv_logic.specs.Terms.{Term, eval}
-use Rattle.spv_logic.specs.Substitution.{Replacement, is_variable, substitute, under}
-use Rattle.spv_logic.specs.Conditions.{Meaning, Valuation, Sequent, Condition, holds, follows}
+use Rattle.spv_logic.specs.Substitution.{Replacement, substitute, under}
+use Rattle.spv_logic.specs.Conditions.{Meaning, Valuation, Condition, holds, follows}
 use Rattle.spv_logic.proofs.list.Tests.{left_true, right_true}
 use Rattle.spv_logic.proofs.Substitution.{eval-substitute}
 use Rattle.spv_program.specs.Programs.{Program}
 use Rattle.spv_program.specs.Supplies.{Supply}
 use Rattle.spv_program.specs.Calls.{replacing}
-use Rattle.spv_meaning.specs.Before.{assuming, all_assuming, substitute_in, with_claim, replaced}
+use Rattle.spv_meaning.specs.Before.{assuming, all_assuming, replaced}
 use Rattle.spv_rule_soundness.specs.statements.Truth.{is_new, IsLater, meaning_in, all_follow, Ignores, TermIgnores}
 
 -- ---- the parts of a list

@@ -1,52 +1,45 @@
 -- FOR, by induction on its turns.
-use Rattle.std.proofs.Common.{◌≡◌, ℕ, zero, suc, Bool, true, false, cond, not, ◌&&◌, ◌||◌, List, [], ◌∷◌, ◌++◌, ℤ, pos, refl, sym, ap, subst, ◌∙◌, Option, Some, None, option_map}
-use Rattle.std.specs.List.{list_any, list_all}
-use Rattle.std.specs.Option.{unwrap_or}
+use Rattle.std.proofs.Common.{◌≡◌, ℕ, Bool, true, false, cond, not, ◌&&◌, ◌||◌, List, [], ◌∷◌, ℤ, refl, sym, ap, subst, ◌∙◌, Option, Some, None}
 use Rattle.std.proofs.lemmas.Bool.{false≢true}
 use Rattle.spv_logic.specs.declared.conditions.Kind.{Kind}
 use Rattle.spv_logic.specs.declared.conditions.Kind.TheVariants as kind
 use Rattle.spv_logic.specs.declared.types.Sort.TheVariants as sort
 use Rattle.spv_logic.specs.declared.operators.Head.{Head}
-use Rattle.spv_logic.specs.declared.operators.Head.TheVariants as head
 use Rattle.spv_logic.specs.Values.{Value, Number, Truth, Pointer, ArrayOf, RecordOf, ClassOf, AtomOf, PairOf, number_of, truth_of}
 use Rattle.spv_logic.specs.Terms.{Term, head_eq, eval}
 use Rattle.spv_logic.specs.Shapes.{shapes_ok}
 use Rattle.spv_logic.specs.Fits.{fits}
-use Rattle.spv_logic.specs.Sorts.{variable_sort}
-use Rattle.spv_logic.specs.Substitution.{is_variable, substitute, value_under, under}
-use Rattle.spv_logic.specs.Conditions.{Meaning, Valuation, IsValuation, View, Shows, Condition, shown_or, holds}
-use Rattle.spv_logic.proofs.Equality.{head_eq-true, head_eq-refl}
-use Rattle.spv_logic.proofs.Substitution.{worth-variable, eval-substitute, eval-same}
-use Rattle.spv_program.specs.declared.operators.Direction.{Direction}
+use Rattle.spv_logic.specs.Substitution.{value_under, under}
+use Rattle.spv_logic.specs.Conditions.{Meaning, Valuation, IsValuation, View, Shows}
+use Rattle.spv_logic.proofs.Equality.{head_eq-true}
+use Rattle.spv_logic.proofs.Substitution.{eval-substitute, eval-same}
 use Rattle.spv_program.specs.Formulas.{Annotation}
 use Rattle.spv_program.specs.Statements.{Counting, Statement, For}
 use Rattle.spv_program.specs.Programs.{Program, shapes, routine_in}
-use Rattle.spv_program.specs.Scopes.{is_own}
-use Rattle.spv_program.specs.Uses.{statement_uses, annotation_uses, expression_uses, expression_calls, statement_calls}
 use Rattle.spv_program.specs.Supplies.{Supply}
 use Rattle.spv_program.specs.Terms.{alone, body_term}
 use Rattle.spv_program.specs.Calls.{replacing}
 use Rattle.spv_meaning.specs.declared.faults.Fault.TheVariants as fault
 use Rattle.spv_meaning.specs.Places.{State, put}
 use Rattle.spv_meaning.specs.Views.{place_of, now_view}
-use Rattle.spv_meaning.specs.Outcomes.{Outcome, ends, stops, stops_unless, and_then, take_choice}
-use Rattle.spv_meaning.specs.Levels.{Here, Run, Loop, Level}
+use Rattle.spv_meaning.specs.Outcomes.{ends, stops, stops_unless, and_then, take_choice}
+use Rattle.spv_meaning.specs.Levels.{Here, Run, Level}
 use Rattle.spv_meaning.specs.Walks.{is_past, next_candidate, reaches, count_on, counter_takes}
 use Rattle.spv_meaning.specs.Starts.{IsStart}
 use Rattle.spv_meaning.specs.Before.{Made, replaced, wanted_if_there, wanted_with, standing_for, next_term, within_term, past_term}
-use Rattle.spv_rule_soundness.specs.statements.Truth.{is_new, IsLater, IsWindow, IsEntry, meaning_in, all_follow, shown, IsTrueFor, Ignores}
+use Rattle.spv_rule_soundness.specs.statements.Truth.{IsLater, IsWindow, IsEntry, meaning_in, all_follow, shown, IsTrueFor, Ignores}
 use Rattle.spv_rule_soundness.specs.statements.Runs.{Reaches, EndsWell, IsRight, IsSupplied, may_change}
 use Rattle.spv_rule_soundness.specs.statements.Parts.{Passing, parts_pass}
 use Rattle.spv_rule_soundness.specs.statements.Laws.{Counts, PartsAreRight}
 use Rattle.spv_rule_soundness.proofs.statements.Lists.{later_after, ignores_later}
-use Rattle.spv_rule_soundness.proofs.statements.Views.{in_first, within, within-there}
+use Rattle.spv_rule_soundness.proofs.statements.Views.{in_first, within}
 use Rattle.spv_rule_soundness.proofs.statements.States.{at_state-valuation, at_state-shows, same_shown}
 use Rattle.spv_rule_soundness.proofs.statements.Annotations.{wanted_with_ignores}
 use Rattle.spv_rule_soundness.proofs.statements.Supplied.{next_ignores, counter_ignores, supplied}
-use Rattle.spv_rule_soundness.proofs.statements.Changing.{within_left, within_right, within_then, part_leaves, part_of_for}
-use Rattle.spv_rule_soundness.proofs.statements.Reaching.{reach_then, reach_ends, reach_stops, reach_going, reach_unless, reach_as}
-use Rattle.spv_rule_soundness.proofs.statements.Control.{choose, truth_not, window_later, ends_from, ends_wider, reach_invariant}
-use Rattle.spv_rule_soundness.proofs.statements.Counting.{counter, turn_of, fresh_of, last_of, under_invariant, candidate, Instance, instance, past-holds, within-holds, next-is, under_known, counter_now, turn_true, exit_true}
+use Rattle.spv_rule_soundness.proofs.statements.Changing.{part_of_for}
+use Rattle.spv_rule_soundness.proofs.statements.Reaching.{reach_then, reach_ends, reach_stops, reach_going, reach_unless}
+use Rattle.spv_rule_soundness.proofs.statements.Control.{choose, truth_not, window_later, reach_invariant}
+use Rattle.spv_rule_soundness.proofs.statements.Counting.{counter, turn_of, fresh_of, last_of, under_invariant, candidate, instance, past-holds, within-holds, next-is, under_known, counter_now, turn_true, exit_true}
 
 -- a choice of a number is a number
 pub number_fits : (p : Program) (v : Value) → fits (shapes p) v sort.Int ≡ true → v ≡ Number (number_of v)

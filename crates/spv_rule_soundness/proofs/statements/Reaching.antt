@@ -1,6 +1,5 @@
 -- Runs one after the other, and annotations that hold where they are reached.
-use Rattle.std.proofs.Common.{◌≡◌, ℕ, Bool, true, false, not, ◌&&◌, ◌||◌, List, [], ◌∷◌, ◌++◌, refl, sym, ap, subst, ◌∙◌, Option, Some, None, option_map}
-use Rattle.std.specs.List.{list_all}
+use Rattle.std.proofs.Common.{◌≡◌, ℕ, Bool, true, false, List, [], ◌∷◌, ◌++◌, refl, sym, ap, subst, ◌∙◌, Option, Some, None, option_map}
 use Rattle.std.specs.Option.{unwrap_or}
 use Rattle.std.specs.Cmp.Derive.{both_true}
 use Rattle.std.proofs.lemmas.Bool.{false≢true}
@@ -9,7 +8,7 @@ use Rattle.spv_logic.specs.declared.conditions.RoutineId.{RoutineId}
 use Rattle.spv_logic.specs.declared.operators.Head.{Head}
 use Rattle.spv_logic.specs.declared.operators.Head.TheVariants as head
 use Rattle.spv_logic.specs.Values.{Value, truth_of}
-use Rattle.spv_logic.specs.Terms.{Term, eval}
+use Rattle.spv_logic.specs.Terms.{Term}
 use Rattle.spv_logic.specs.Shapes.{shapes_ok}
 use Rattle.spv_logic.specs.Fits.{default_of}
 use Rattle.spv_logic.specs.Sorts.{variable_sort}
@@ -24,20 +23,23 @@ use Rattle.spv_program.proofs.SortFacts.{nothing_there, some_is}
 use Rattle.spv_meaning.specs.Places.{State}
 use Rattle.spv_meaning.specs.Views.{now_view}
 use Rattle.spv_meaning.specs.declared.faults.Fault.{Fault}
-use Rattle.spv_meaning.specs.Outcomes.{End, Met, is_going, Outcome, Ended, Stopped, Going, ends, stops, go_on, and_then, meets, stops_unless}
+use Rattle.spv_meaning.specs.Outcomes.{End, Met, is_going, Outcome, Ended, Stopped, Jump, Going, ends, stops, go_on, and_then, meets, stops_unless}
 use Rattle.spv_meaning.specs.Levels.{Here, reached_in_body}
 use Rattle.spv_meaning.specs.Starts.{IsStart}
 use Rattle.spv_meaning.specs.Correct.{valuation_of, met_holds, all_hold}
 use Rattle.spv_meaning.specs.Before.{all_assuming, assuming_if_there, wanted, annotation_term, wanted_if_there}
-use Rattle.spv_rule_soundness.specs.statements.Truth.{is_new, IsWindow, IsEntry, meaning_in, all_follow, shown, IsTrueFor, TermIgnores}
+use Rattle.spv_rule_soundness.specs.statements.Truth.{is_new, IsWindow, IsEntry, meaning_in, shown, IsTrueFor, TermIgnores}
 use Rattle.spv_rule_soundness.specs.statements.Runs.{Reaches}
 use Rattle.spv_rule_soundness.proofs.statements.Lists.{first_part, second_part, assumed}
-use Rattle.spv_rule_soundness.proofs.statements.Views.{within, within-none, laid_over}
+use Rattle.spv_rule_soundness.proofs.statements.Views.{within, laid_over}
 use Rattle.spv_rule_soundness.proofs.statements.States.{shown_fit}
 use Rattle.spv_rule_soundness.proofs.statements.Annotations.{annotation_ignores}
 
 stopped_no_end : {A : Type 0} (f : Fault) (x : A) → Stopped f ≡ Ended x → ⊥
 stopped_no_end f x e = cc
+
+jump_no_end : {A : Type 0} (label : ℕ) (state : State) (x : A) → Jump label state ≡ Ended x → ⊥
+jump_no_end label state x e = cc
 
 going_no_end : {A : Type 0} (x : A) → Going ≡ Ended x → ⊥
 going_no_end x e = cc
@@ -58,6 +60,7 @@ module _ (p : Program) (world : Meaning) where
           let second = later x (passes x refl) rest in
           record { holds = all_hold-append p world met (next x rest).met holds second.holds; ended = second.ended }
       by_end (Stopped f) met rest holds passes = record { holds = holds; ended = λ y e. absurd (stopped_no_end f y e) }
+      by_end (Jump label state) met rest holds passes = record { holds = holds; ended = λ y e. absurd (jump_no_end label state y e) }
       by_end Going met rest holds passes = record { holds = holds; ended = λ y e. absurd (going_no_end y e) }
 
   pub reach_ends : {A : Type 0} (P : A → Type 0) (x : A) (rest : List Value) → P x → Reaches p world A P (ends x rest)

@@ -1,17 +1,12 @@
 -- Fresh variables in the place of others.
-use Rattle.std.proofs.Common.{arith, ◌≡◌, ℕ, zero, suc, Bool, true, false, cond, not, ◌&&◌, ◌||◌, List, [], ◌∷◌, refl, sym, ap, subst, ◌∙◌, nat_eq, nat_lt, Option, Some, None}
+use Rattle.std.proofs.Common.{arith, ◌≡◌, ℕ, suc, Bool, true, false, cond, ◌||◌, List, [], ◌∷◌, refl, sym, ap, ◌∙◌, nat_lt, Some, None}
 use Rattle.std.specs.List.{list_any, list_all}
 use Rattle.std.proofs.lemmas.Bool.{false≢true, eq-eqb}
 use Rattle.std.proofs.lemmas.Bool.Decides.{nat_tests}
 use Rattle.spv_logic.proofs.list.Tests.{left_true, right_true}
-use Rattle.spv_logic.specs.declared.names.names.Symbol.{Symbol}
-use Rattle.spv_logic.specs.declared.types.TypeId.{TypeId}
-use Rattle.spv_logic.specs.declared.types.Sort.{Sort}
-use Rattle.spv_logic.specs.declared.types.Sort.TheVariants as sort
 use Rattle.spv_logic.specs.declared.operators.Head.{Head}
 use Rattle.spv_logic.specs.declared.operators.Head.TheVariants as head
-use Rattle.spv_logic.specs.Values.{Value}
-use Rattle.spv_logic.specs.Terms.{Term, term, head_eq, eval}
+use Rattle.spv_logic.specs.Terms.{Term, term, head_eq}
 use Rattle.spv_logic.specs.Fits.{fits}
 use Rattle.spv_logic.specs.Sorts.{variable_sort}
 use Rattle.spv_logic.specs.Substitution.{is_variable, value_under, under}
@@ -24,7 +19,7 @@ use Rattle.spv_program.specs.Programs.{Program, shapes}
 use Rattle.spv_program.specs.Supplies.{Supply, fresh_like}
 use Rattle.spv_program.specs.Terms.{alone}
 use Rattle.spv_program.specs.Calls.{replacing}
-use Rattle.spv_meaning.specs.Before.{Renamed, renamed}
+use Rattle.spv_meaning.specs.Before.{renamed}
 use Rattle.spv_rule_soundness.specs.statements.Truth.{is_new, IsLater}
 use Rattle.spv_rule_soundness.proofs.statements.Lists.{not_new}
 

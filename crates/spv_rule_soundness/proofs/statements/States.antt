@@ -1,21 +1,19 @@
 -- What is true in one state, and in another one that differs where variables are renamed.
-use Rattle.std.proofs.Common.{arith, ◌≡◌, ℕ, zero, suc, Bool, true, false, cond, not, ◌&&◌, ◌||◌, List, [], ◌∷◌, ◌++◌, map, filter, refl, sym, ap, subst, ◌∙◌, nat_eq, nat_lt, Option, Some, None, option_map}
+use Rattle.std.proofs.Common.{arith, ◌≡◌, ℕ, zero, suc, Bool, true, false, List, [], refl, sym, ap, ◌∙◌, nat_lt, Option, Some, None, option_map}
 use Rattle.std.specs.List.{list_any, list_all}
 use Rattle.std.specs.Option.{unwrap_or}
 use Rattle.std.proofs.lemmas.Bool.{false≢true}
 use Rattle.std.proofs.lemmas.Bool.Decides.{nat_tests}
-use Rattle.spv_logic.specs.declared.names.names.Symbol.{Symbol}
 use Rattle.spv_logic.specs.declared.types.TypeId.{TypeId}
-use Rattle.spv_logic.specs.declared.types.Sort.{Sort}
 use Rattle.spv_logic.specs.declared.types.Sort.TheVariants as sort
 use Rattle.spv_logic.specs.declared.operators.Head.{Head}
 use Rattle.spv_logic.specs.declared.operators.Head.TheVariants as head
 use Rattle.spv_logic.specs.Values.{Value}
-use Rattle.spv_logic.specs.Terms.{Term, head_eq, sort_eq}
+use Rattle.spv_logic.specs.Terms.{head_eq, sort_eq}
 use Rattle.spv_logic.specs.Shapes.{shapes_ok}
 use Rattle.spv_logic.specs.Fits.{fits}
 use Rattle.spv_logic.specs.Sorts.{variable_sort}
-use Rattle.spv_logic.specs.Substitution.{is_variable, value_under, under}
+use Rattle.spv_logic.specs.Substitution.{value_under, under}
 use Rattle.spv_logic.specs.Conditions.{Meaning, Valuation, IsValuation, View, Shows, Condition, both, shown_or}
 use Rattle.spv_logic.proofs.Equality.{sort_eq-true}
 use Rattle.spv_logic.proofs.Substitution.{worth-variable}
@@ -26,15 +24,15 @@ use Rattle.spv_program.specs.Supplies.{Supply, full_supply}
 use Rattle.spv_program.specs.Calls.{replacing}
 use Rattle.spv_program.proofs.SortFacts.{nothing_there, some_is, passed, chosen}
 use Rattle.spv_meaning.specs.Places.{State, look}
-use Rattle.spv_meaning.specs.Views.{place_of, sees, shown_names, shown_type, of_sort, class_of, now_view}
+use Rattle.spv_meaning.specs.Views.{place_of, sees, shown_type, of_sort, class_of, now_view}
 use Rattle.spv_meaning.specs.Levels.{Here}
 use Rattle.spv_meaning.specs.Starts.{IsStart, is_of_type}
 use Rattle.spv_meaning.specs.Before.{renamed, replaced}
 use Rattle.spv_meaning.proofs.Heaps.{class_fits}
-use Rattle.spv_rule_soundness.specs.statements.Truth.{is_new, IsLater, IsWindow, IsEntry, meaning_in, all_follow, shown, IsTrueFor, Ignores}
+use Rattle.spv_rule_soundness.specs.statements.Truth.{is_new, IsLater, IsWindow, IsEntry, meaning_in, shown, IsTrueFor, Ignores}
 use Rattle.spv_rule_soundness.proofs.statements.Lists.{not_new, follow-replaced}
-use Rattle.spv_rule_soundness.proofs.statements.Views.{Part, First, Second, parts, state_old, within, within-there, within-none, laid_over}
-use Rattle.spv_rule_soundness.proofs.statements.Renaming.{is_name, with_fresh, fresh_else, Stands, stands, under_there, under_else, fresh_valuation}
+use Rattle.spv_rule_soundness.proofs.statements.Views.{Part, First, Second, parts, state_old, within, within-there, laid_over}
+use Rattle.spv_rule_soundness.proofs.statements.Renaming.{is_name, with_fresh, fresh_else, stands, under_there, under_else, fresh_valuation}
 
 above_zero : (k m : ℕ) → nat_lt k m ≡ true → nat_lt 0 m ≡ true
 above_zero k m h = grind (arith, nat_tests)

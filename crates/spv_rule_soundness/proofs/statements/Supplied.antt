@@ -1,5 +1,5 @@
 -- The lists before statements ignore what is left of the supply.
-use Rattle.std.proofs.Common.{◌≡◌, ℕ, Bool, true, false, cond, not, ◌&&◌, ◌||◌, List, [], ◌∷◌, ◌++◌, map, filter, fold, ℤ, pos, refl, sym, ap, subst, ◌∙◌, Option, Some, None, option_map}
+use Rattle.std.proofs.Common.{◌≡◌, Bool, true, false, cond, not, ◌||◌, List, [], ◌∷◌, ◌++◌, map, filter, fold, ℤ, pos, refl, sym, ap, subst, ◌∙◌, Option, Some, None, option_map}
 use Rattle.std.specs.List.{list_any, list_all}
 use Rattle.std.specs.Option.{unwrap_or}
 use Rattle.std.specs.Cmp.Derive.{both_true}
@@ -13,29 +13,28 @@ use Rattle.spv_logic.specs.declared.operators.Head.{Head}
 use Rattle.spv_logic.specs.declared.operators.Head.TheVariants as head
 use Rattle.spv_logic.specs.Terms.{Term, head_eq}
 use Rattle.spv_logic.specs.Substitution.{is_variable, substitute}
-use Rattle.spv_logic.specs.Conditions.{Meaning, Valuation, Condition}
+use Rattle.spv_logic.specs.Conditions.{Meaning, Condition}
 use Rattle.spv_logic.proofs.list.Tests.{left_true, right_true}
 use Rattle.spv_logic.proofs.Substitution.{worth-variable}
 use Rattle.spv_program.specs.declared.operators.Direction.{Direction}
 use Rattle.spv_program.specs.declared.operators.Direction.TheVariants.{Up, Down}
 use Rattle.spv_program.specs.declared.types.Item.TheVariants.{Variable, Class}
 use Rattle.spv_program.specs.Types.{sort_of}
-use Rattle.spv_program.specs.Expressions.{Expression}
 use Rattle.spv_program.specs.Formulas.{Annotation}
-use Rattle.spv_program.specs.Statements.{Counting, Statement, Arms, Empty, Assign, Perform, New, Sequence, If, Case, While, Repeat, For, Assert, no_arms, arm}
+use Rattle.spv_program.specs.Statements.{Statement, Arms, Empty, Assign, Perform, New, Sequence, If, Case, While, Repeat, For, Assert, no_arms, arm}
 use Rattle.spv_program.specs.Programs.{Routine, Program, routine_in}
 use Rattle.spv_program.specs.Scopes.{own_names_in}
 use Rattle.spv_program.specs.Uses.{Root, Own, Shared, same_root}
-use Rattle.spv_program.specs.Changes.{types_once, changed_roots, all_roots, changed_heads}
+use Rattle.spv_program.specs.Changes.{all_types, changed_roots, all_roots, changed_heads}
 use Rattle.spv_program.specs.Supplies.{Supply, full_supply, fresh_like}
 use Rattle.spv_program.specs.Terms.{alone, binary, numeral, item_head, body_term}
 use Rattle.spv_program.specs.Calls.{replacing}
 use Rattle.spv_program.specs.ExpressionTerms.{Called, valued}
 use Rattle.spv_program.proofs.SortFacts.{nothing_there, some_is}
 use Rattle.spv_meaning.specs.Levels.{Here}
-use Rattle.spv_meaning.specs.Before.{Made, all_assuming, assuming_if_there, replaced, wanted, negated, annotation_term, wanted_if_there, wanted_with, wanted_entry, before_calls, behind_calls, renamed, standing_for, next_term, within_term, past_term, is_label, before, before_arms}
+use Rattle.spv_meaning.specs.Before.{Made, all_assuming, assuming_if_there, replaced, wanted, negated, annotation_term, wanted_if_there, wanted_with, wanted_entry, before_calls, renamed, standing_for, next_term, within_term, past_term, is_label, before, before_arms}
 use Rattle.spv_rule_soundness.specs.statements.Truth.{is_new, IsLater, meaning_in, Ignores, TermIgnores}
-use Rattle.spv_rule_soundness.specs.statements.Runs.{IsSupplied, IsSuppliedTest}
+use Rattle.spv_rule_soundness.specs.statements.Runs.{IsSupplied}
 use Rattle.spv_rule_soundness.specs.statements.Parts.{Passing, parts_pass, arms_pass}
 use Rattle.spv_rule_soundness.specs.statements.Laws.{PartsAreRight}
 use Rattle.spv_rule_soundness.proofs.statements.Lists.{not_new, later_after, ignores_later, ignores_none, ignores_both, ignores_assuming}
@@ -64,7 +63,7 @@ classes_are_names (t ∷ types) = classes_are_names types
 roots_are_names : (p : Program) (r : Option Routine) → list_all (λ (r : Root × Head). is_name r.1) (all_roots p r) ≡ true
 roots_are_names p r =
     all_names-append (map (λ n. (Own n.0, head.Var n.0 (sort_of p.forms n.1) 0)) (own_names_in r)) _ (own_are_names p (own_names_in r))
-    (all_names-append (map (λ n. (Shared (Variable n.0), head.Var n.0 (sort_of p.forms n.1) 0)) p.variables) _ (variables_are_names p p.variables) (classes_are_names (types_once [] p.types)))
+    (all_names-append (map (λ n. (Shared (Variable n.0), head.Var n.0 (sort_of p.forms n.1) 0)) p.variables) _ (variables_are_names p p.variables) (classes_are_names (all_types p)))
 
 kept_are_names : (test : Root → Bool) (roots : List (Root × Head)) → list_all (λ (r : Root × Head). is_name r.1) roots ≡ true → list_all is_name (map (λ r. r.1) (filter (λ r. test r.0) roots)) ≡ true
 kept_are_names test [] h = refl
@@ -110,7 +109,7 @@ pub fresh_not_changed : (p : Program) (r : Option Routine) (s : Statement) (h : 
 fresh_not_changed p r s h new =
     kept_are_old (λ x. list_any (same_root x) (changed_roots p r s)) (all_roots p r)
     (all_old-append (map (λ n. (Own n.0, head.Var n.0 (sort_of p.forms n.1) 0)) (own_names_in r)) _ (own_are_old p (own_names_in r))
-    (all_old-append (map (λ n. (Shared (Variable n.0), head.Var n.0 (sort_of p.forms n.1) 0)) p.variables) _ (variables_are_old p p.variables) (classes_are_old (types_once [] p.types))))
+    (all_old-append (map (λ n. (Shared (Variable n.0), head.Var n.0 (sort_of p.forms n.1) 0)) p.variables) _ (variables_are_old p p.variables) (classes_are_old (all_types p))))
     h new
 
 pub changed_are_names : (p : Program) (r : Option Routine) (s : Statement) → list_all is_name (changed_heads p r s) ≡ true

@@ -1,27 +1,20 @@
 -- Valuations that show a state, with fresh variables of which some have fixed values.
-use Rattle.std.proofs.Common.{◌≡◌, ℕ, zero, suc, Bool, true, false, cond, not, ◌&&◌, List, [], ◌∷◌, refl, sym, ap, subst, ◌∙◌, Option, Some, None}
-use Rattle.std.specs.List.{list_all}
+use Rattle.std.proofs.Common.{◌≡◌, zero, suc, true, false, List, refl, sym, ap, ◌∙◌, Option, Some, None}
 use Rattle.std.specs.Option.{unwrap_or}
 use Rattle.std.proofs.lemmas.Bool.{false≢true}
-use Rattle.spv_logic.specs.declared.names.names.Symbol.{Symbol}
-use Rattle.spv_logic.specs.declared.types.TypeId.{TypeId}
-use Rattle.spv_logic.specs.declared.types.Sort.{Sort}
-use Rattle.spv_logic.specs.declared.types.Sort.TheVariants as sort
 use Rattle.spv_logic.specs.declared.operators.Head.{Head}
 use Rattle.spv_logic.specs.declared.operators.Head.TheVariants as head
 use Rattle.spv_logic.specs.Values.{Value}
 use Rattle.spv_logic.specs.Fits.{fits}
 use Rattle.spv_logic.specs.Sorts.{variable_sort}
-use Rattle.spv_logic.specs.Substitution.{is_variable}
 use Rattle.spv_logic.specs.Conditions.{Meaning, Valuation, IsValuation, View, Shows, Condition, both, shown_or}
 use Rattle.spv_program.specs.Programs.{Program, shapes}
 use Rattle.spv_program.specs.Supplies.{Supply, full_supply}
-use Rattle.spv_program.proofs.SortFacts.{nothing_there, some_is}
+use Rattle.spv_program.proofs.SortFacts.{nothing_there}
 use Rattle.spv_meaning.specs.Places.{State}
 use Rattle.spv_meaning.specs.Views.{now_view}
 use Rattle.spv_meaning.specs.Levels.{Here}
-use Rattle.spv_rule_soundness.specs.statements.Truth.{is_new, IsLater, IsWindow, IsEntry, meaning_in, all_follow, shown, IsTrueFor, Ignores}
-use Rattle.spv_rule_soundness.proofs.statements.Lists.{not_new}
+use Rattle.spv_rule_soundness.specs.statements.Truth.{is_new, IsWindow, IsEntry, shown, IsTrueFor, Ignores}
 
 -- ---- what shows
 

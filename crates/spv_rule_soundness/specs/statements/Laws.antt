@@ -1,8 +1,8 @@
 -- What is proved of the rules of statements.
-use Rattle.std.specs.Prelude.{◌≡◌, ℕ, zero, suc, Bool, true, false, ℤ, Option, Some, None}
+use Rattle.std.specs.Prelude.{◌≡◌, ℕ, zero, suc, true, false, ℤ, Option, Some, None}
 use Rattle.spv_logic.specs.declared.names.names.Symbol.{Symbol}
 use Rattle.spv_logic.specs.declared.operators.Head.{Head}
-use Rattle.spv_logic.specs.Values.{Value, Number, number_of}
+use Rattle.spv_logic.specs.Values.{Number, number_of}
 use Rattle.spv_logic.specs.Terms.{head_eq, eval}
 use Rattle.spv_logic.specs.Shapes.{shapes_ok}
 use Rattle.spv_logic.specs.Conditions.{Meaning, Valuation, IsValuation}
@@ -19,7 +19,8 @@ use Rattle.spv_meaning.specs.Views.{place_of, now_view}
 use Rattle.spv_meaning.specs.Levels.{Here, Level}
 use Rattle.spv_meaning.specs.Walks.{walk, level, run}
 use Rattle.spv_meaning.specs.Starts.{IsStart}
-use Rattle.spv_meaning.specs.Before.{Made, before}
+use Rattle.spv_meaning.specs.Correct.{CorrectBelow}
+use Rattle.spv_meaning.specs.Before.{Made}
 use Rattle.spv_rule_soundness.specs.statements.Truth.{IsEntry, meaning_in, Ignores}
 use Rattle.spv_rule_soundness.specs.statements.Runs.{IsRight, IsSupplied, IsRightTest, IsSuppliedTest, may_change}
 use Rattle.spv_rule_soundness.specs.statements.Parts.{Passing, parts_pass}
@@ -35,20 +36,20 @@ pub record Counts (p : Program) (here : Here) (x : Symbol) (state : State) (z : 
   pub shows : now_view p here.routine (put state (place_of here.routine state x) (Number z)) (item_head p (routine_in p here.routine) (Variable x)) ≡ Some (Number z)
   pub same : (h : Head) → head_eq h (item_head p (routine_in p here.routine) (Variable x)) ≡ false → now_view p here.routine (put state (place_of here.routine state x) (Number z)) h ≡ now_view p here.routine state h
 
--- what is asked of the parts of statements that a routine runs: leaves and tests are right with any number of turns,
--- and a FOR's variable is one that its body leaves alone
+-- what is asked of the parts of statements that a routine runs: leaves and tests are right with so many turns, where every
+-- routine is correct with fewer, and a FOR's variable is one that its body leaves alone
 pub record PartsAreRight (p : Program) (world : Meaning) (here : Here) (passing : Passing) : Type 0 where
-  pub leaf : (s : Statement) → passing.leaf s ≡ true → (n : ℕ) → IsRight p world here s (walk p (below p n) here s)
+  pub leaf : (s : Statement) → passing.leaf s ≡ true → (n : ℕ) → CorrectBelow p world n → IsRight p world here s (walk p (below p n) here s)
   pub leaf_supplied : (s : Statement) → passing.leaf s ≡ true → (q : Made) → Ignores p world q.supply q.conditions → IsSupplied p world here s q
-  pub test : (e : Expression) → passing.test e ≡ true → (n : ℕ) → IsRightTest p world here (below p n) e
+  pub test : (e : Expression) → passing.test e ≡ true → (n : ℕ) → CorrectBelow p world n → IsRightTest p world here (below p n) e
   pub test_supplied : (e : Expression) → passing.test e ≡ true → (n : Supply) → IsSuppliedTest p world here e n
   pub number : (e : Expression) → passing.number e ≡ true → (n : Supply) (v : Valuation) → IsValuation (shapes p) v → eval (meaning_in p world) v (valued p (routine_in p here.routine) n e).term ≡ Number (number_of (eval (meaning_in p world) v (valued p (routine_in p here.routine) n e).term))
   pub counts : (count : Counting) (s : Statement) → passing.count count s ≡ true → (state : State) → IsStart p here.routine state → (z : ℤ) → Counts p here count.variable state z
   pub counted : (line : ℕ) (f : Option Annotation) (count : Counting) (s : Statement) → passing.count count s ≡ true → may_change p here (For line f count s) (item_head p (routine_in p here.routine) (Variable count.variable)) ≡ true
   pub left_alone : (count : Counting) (s : Statement) → passing.count count s ≡ true → may_change p here s (item_head p (routine_in p here.routine) (Variable count.variable)) ≡ false
 
--- where the parts are right, so is every statement made of them, with any number of turns
+-- where the parts are right, so is every statement made of them, with so many turns, where every routine is correct with fewer
 abbrev pub ControlRulesAreRight : Type 0
 ControlRulesAreRight =
     (p : Program) → shapes_ok (shapes p) ≡ true → (world : Meaning) (here : Here) (passing : Passing) → IsEntry p here.entry → PartsAreRight p world here passing
-    → (s : Statement) → parts_pass passing s ≡ true → (n : ℕ) → IsRight p world here s (run p n here s)
+    → (s : Statement) → parts_pass passing s ≡ true → (n : ℕ) → CorrectBelow p world n → IsRight p world here s (run p n here s)

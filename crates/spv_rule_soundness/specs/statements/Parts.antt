@@ -1,6 +1,5 @@
 -- Statements whose parts pass: leaves, tests, and variables that are counted.
 use Rattle.std.specs.Prelude.{Bool, true, ◌&&◌}
-use Rattle.spv_logic.specs.declared.names.names.Symbol.{Symbol}
 use Rattle.spv_program.specs.Expressions.{Expression}
 use Rattle.spv_program.specs.Statements.{Counting, Statement, Arms, Empty, Assign, Perform, New, Sequence, If, Case, While, Repeat, For, Assert, no_arms, arm}
 

@@ -3,14 +3,14 @@ use Rattle.std.specs.Prelude.{◌≡◌, Bool, true, false, List, Option, Some}
 use Rattle.std.specs.List.{list_any}
 use Rattle.spv_logic.specs.declared.operators.Head.{Head}
 use Rattle.spv_logic.specs.Values.{Value}
-use Rattle.spv_logic.specs.Terms.{Term, head_eq, eval}
+use Rattle.spv_logic.specs.Terms.{head_eq, eval}
 use Rattle.spv_logic.specs.Conditions.{Meaning, Valuation, IsValuation, View, Shows, Condition}
 use Rattle.spv_program.specs.Expressions.{Expression}
 use Rattle.spv_program.specs.Statements.{Statement}
 use Rattle.spv_program.specs.Programs.{Program, shapes, routine_in}
 use Rattle.spv_program.specs.Changes.{changed_heads}
 use Rattle.spv_program.specs.Supplies.{Supply}
-use Rattle.spv_program.specs.ExpressionTerms.{Called, valued}
+use Rattle.spv_program.specs.ExpressionTerms.{valued}
 use Rattle.spv_meaning.specs.Places.{State}
 use Rattle.spv_meaning.specs.Views.{now_view}
 use Rattle.spv_meaning.specs.Outcomes.{Ended, Outcome}

@@ -1,5 +1,5 @@
 -- The truth of lists of conditions in a state, with fresh variables of which some have fixed values.
-use Rattle.std.specs.Prelude.{◌≡◌, ℕ, Bool, true, false, List, Option, Some, nat_lt}
+use Rattle.std.specs.Prelude.{◌≡◌, Bool, true, false, List, Some, nat_lt}
 use Rattle.std.specs.List.{list_all}
 use Rattle.spv_logic.specs.declared.operators.Head.{Head}
 use Rattle.spv_logic.specs.declared.operators.Head.TheVariants as head

@@ -48,8 +48,8 @@ module _ (s : Scope) (p : Program) (here : Option Routine) (b : Belongs s p here
 
   selected_base : (c : Base) (links : List Link) (t : TypeId) → Writes p here b.forms_right b.first c links t → may_be_selected c ≡ true
       → IsSelected p here b.forms_right b.first c
-  selected_base c links t (writes_name line x ls u v e n way) m = selected line x
-  selected_base c links t (writes_result line x v e) m = absurd (false≢true m)
+  selected_base c links t (writes_name line x ls u v e k n way) m = selected line x
+  selected_base c links t (writes_result line x v e k) m = absurd (false≢true m)
 
   reached_on : (written : Bool) (r : Reached) (l : Link) (u : TypeId) → may_be_selected r.base ≡ true → reached_ok written r
       → Leads p here l r.type u → reached_ok written (further r l u)
@@ -203,7 +203,7 @@ module _ (s : Scope) (p : Program) (here : Option Routine) (b : Belongs s p here
   name_read_ok line x (Some (OfPlace t)) z m e =
       subst Read (same_value e)
       (record {
-        reads = reads_name x.line x.symbol [] t t (b.places x.symbol t m) (b.no_results x.symbol t m) (at_once t);
+        reads = reads_name x.line x.symbol [] t t (b.places x.symbol t m) (b.no_starts x.symbol t m) (b.no_results x.symbol t m) (at_once t);
         exists =
             exists_at x.symbol t m;
       })
@@ -218,7 +218,7 @@ module _ (s : Scope) (p : Program) (here : Option Routine) (b : Belongs s p here
       → is_this s.routine h ≡ own → h.result ≡ o → own_result line x own o ≡ Ok z → Written z
   own_ok line x h true (Some t) z m q k e =
       subst Written (same_value e) (record
-      { writes = writes_result x.line x.symbol t (b.own_result x.symbol h t m q k); exists = b.results x.symbol h t m k })
+      { writes = writes_result x.line x.symbol t (b.own_result x.symbol h t m q k) (b.own_result_no_start x.symbol h m q); exists = b.results x.symbol h t m k })
   own_ok line x h true None z m q k e = absurd (no_fault e)
   own_ok line x h false (Some t) z m q k e = absurd (no_fault e)
   own_ok line x h false None z m q k e = absurd (no_fault e)
@@ -234,7 +234,7 @@ module _ (s : Scope) (p : Program) (here : Option Routine) (b : Belongs s p here
   name_written_ok line x (Some (OfPlace t)) z m e =
       subst Written (same_value e)
       (record {
-        writes = writes_name x.line x.symbol [] t t (b.places x.symbol t m) (b.no_results x.symbol t m) (at_once t);
+        writes = writes_name x.line x.symbol [] t t (b.places x.symbol t m) (b.no_starts x.symbol t m) (b.no_results x.symbol t m) (at_once t);
         exists =
             exists_at x.symbol t m;
       })

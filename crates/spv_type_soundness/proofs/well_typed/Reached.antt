@@ -3,6 +3,7 @@ use Rattle.std.proofs.Common.{◌≡◌, ℕ, zero, suc, Bool, true, false, cond
 use Rattle.std.specs.Prelude.{List, [], ◌∷◌, ◌++◌, ℤ, Option, Some, None, nat_lt}
 use Rattle.std.specs.List.{list_all}
 use Rattle.std.specs.Option.{option_and_then}
+use Rattle.std.specs.Cmp.Derive.{both_true}
 use Rattle.std.proofs.lemmas.Bool.{false≢true}
 use Rattle.std.proofs.lemmas.List.{length-map}
 use Rattle.spv_logic.specs.declared.names.names.Symbol.{Symbol}
@@ -22,7 +23,7 @@ use Rattle.spv_program.specs.Expressions.{Designator, Call, Numeral, Read, Resul
 use Rattle.spv_program.specs.ExpressionTypes.{expression_sort, designator_type, selected_type, callee, result_type, sort_of_type, is_nil, may_read, may_write}
 use Rattle.spv_program.specs.FormulaTypes.{is_sort}
 use Rattle.spv_program.specs.Programs.{Routine, Program, shapes}
-use Rattle.spv_program.specs.Scopes.{name_type, is_result}
+use Rattle.spv_program.specs.Scopes.{name_type, is_result, is_initial}
 use Rattle.spv_program.proofs.SortFacts.{nothing_there, some_is, sort_is}
 use Rattle.spv_typing.specs.Known.{integer_type}
 use Rattle.spv_typing.specs.ExpressionWalk.{Base, AtName, AtResult, OfNumber, OfCall, Link, ByIndex, ByField, ByCell, Reached, chained, place_at, expression_at, designator_at, further}
@@ -112,7 +113,7 @@ module _ (p : Program) (here : Option Routine) (forms_right : forms_ok p.forms �
   -- ---- what is read
 
   pub data Reads : Base → List Link → TypeId → Type 0 where
-    reads_name : (line : ℕ) (x : Symbol) (links : List Link) (u t : TypeId) → name_type p here x ≡ Some u → is_result here x ≡ false
+    reads_name : (line : ℕ) (x : Symbol) (links : List Link) (u t : TypeId) → name_type p here x ≡ Some u → is_initial here x ≡ false → is_result here x ≡ false
         → Way p here u links t → Reads (AtName line x) links t
     reads_number : (z : ℤ) → Reads (OfNumber z) [] integer_type
     reads_result : (c : Call) (t : TypeId) → option_and_then result_type (callee p here c) ≡ Some t
@@ -155,8 +156,8 @@ module _ (p : Program) (here : Option Routine) (forms_right : forms_ok p.forms �
 
   read_further : (b : Base) (links : List Link) (t u : TypeId) (l : Link) → Reads b links t → Leads p here l t u
       → Reads b (links ++ l ∷ []) u
-  read_further b links t u l (reads_name line x ls a v e n way) h =
-      reads_name line x (ls ++ l ∷ []) a u e n (way_further p here a ls t u l way h)
+  read_further b links t u l (reads_name line x ls a v e m n way) h =
+      reads_name line x (ls ++ l ∷ []) a u e m n (way_further p here a ls t u l way h)
   read_further b links t u l (reads_number z) h = absurd (no_number l u h)
   read_further b links t u l (reads_result c q e m) h = result_further c t u l e m h
   read_further b links t u l (reads_through c line q w x ls e k way) h =
@@ -172,9 +173,9 @@ module _ (p : Program) (here : Option Routine) (forms_right : forms_ok p.forms �
 
   read_fine : (b : Base) (links : List Link) (t : TypeId) → Reads b links t → type_exists p.forms t ≡ true
       → FineExpression p here (expression_at (record { base = b; links = links; type = t })) (sort_of p.forms t)
-  read_fine b links t (reads_name line x ls u v e n way) there =
+  read_fine b links t (reads_name line x ls u v e m n way) there =
       fine_is p here (Read (place_at line x ls)) (sort_of p.forms v)
-      (ap (λ c. cond c (sort_of_type p (designator_type p here (place_at line x ls))) None) (ap not n)
+      (ap (λ c. cond c (sort_of_type p (designator_type p here (place_at line x ls))) None) (both_true (ap not m) (ap not n))
       ∙ ap (sort_of_type p) (read_of_designator line x ls u v e way))
       (type_range v there) refl
   read_fine b links t (reads_number z) there =
@@ -196,9 +197,9 @@ module _ (p : Program) (here : Option Routine) (forms_right : forms_ok p.forms �
   -- ---- what is written
 
   pub data Writes : Base → List Link → TypeId → Type 0 where
-    writes_name : (line : ℕ) (x : Symbol) (links : List Link) (u t : TypeId) → name_type p here x ≡ Some u → is_result here x ≡ false
+    writes_name : (line : ℕ) (x : Symbol) (links : List Link) (u t : TypeId) → name_type p here x ≡ Some u → is_initial here x ≡ false → is_result here x ≡ false
         → Way p here u links t → Writes (AtName line x) links t
-    writes_result : (line : ℕ) (x : Symbol) (t : TypeId) → name_type p here x ≡ Some t → Writes (AtResult line x) [] t
+    writes_result : (line : ℕ) (x : Symbol) (t : TypeId) → name_type p here x ≡ Some t → is_initial here x ≡ false → Writes (AtResult line x) [] t
 
   pub record WrittenOk (r : Reached) : Type 0 where
     pub writes : Writes r.base r.links r.type
@@ -209,8 +210,8 @@ module _ (p : Program) (here : Option Routine) (forms_right : forms_ok p.forms �
 
   write_further : (b : Base) (links : List Link) (t u : TypeId) (l : Link) → IsSelected b → Writes b links t → Leads p here l t u
       → Writes b (links ++ l ∷ []) u
-  write_further b links t u l (selected at y) (writes_name line x ls a v e n way) h =
-      writes_name line x (ls ++ l ∷ []) a u e n (way_further p here a ls t u l way h)
+  write_further b links t u l (selected at y) (writes_name line x ls a v e m n way) h =
+      writes_name line x (ls ++ l ∷ []) a u e m n (way_further p here a ls t u l way h)
 
   pub write_on : (r : Reached) (l : Link) (u : TypeId) → IsSelected r.base → WrittenOk r → Leads p here l r.type u
       → WrittenOk (further r l u)
@@ -223,16 +224,15 @@ module _ (p : Program) (here : Option Routine) (forms_right : forms_ok p.forms �
 
   written_place : (b : Base) (links : List Link) (t : TypeId) → Writes b links t → (d : Designator)
       → designator_at (record { base = b; links = links; type = t }) ≡ Some d → IsPlaceOf d t
-  written_place b links t (writes_name line x ls u v e n way) d k =
+  written_place b links t (writes_name line x ls u v e m n way) d k =
       subst (λ q. IsPlaceOf q v) (some_is k)
       (record {
         type = read_of_designator line x ls u v e way;
-        may =
-            ap (λ c. not c || Rattle.spv_program.specs.ExpressionTypes.has_none (chained ls)) n;
+        may = both_true (ap not m) (ap (λ c. not c || Rattle.spv_program.specs.ExpressionTypes.has_none (chained ls)) n);
       })
-  written_place b links t (writes_result line x v e) d k =
+  written_place b links t (writes_result line x v e m) d k =
       subst (λ q. IsPlaceOf q v) (some_is k)
-      (record { type = read_of_designator line x [] v v e (at_once v); may = or_true (not (is_result here x)) })
+      (record { type = read_of_designator line x [] v v e (at_once v); may = both_true (ap not m) (or_true (not (is_result here x))) })
     where
       or_true : (c : Bool) → (c || true) ≡ true
       or_true true = refl

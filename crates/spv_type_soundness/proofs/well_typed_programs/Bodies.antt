@@ -11,7 +11,7 @@ use Rattle.spv_program.specs.Lists.{same_name, found, item_at}
 use Rattle.spv_program.specs.Types.{type_exists}
 use Rattle.spv_program.specs.Expressions.{Call, call}
 use Rattle.spv_program.specs.Programs.{Formal, Routine, Program, routine_at}
-use Rattle.spv_program.specs.Scopes.{name_type, is_result}
+use Rattle.spv_program.specs.Scopes.{name_type, is_result, is_initial}
 use Rattle.spv_program.specs.Uses.{Root, Shared}
 use Rattle.spv_program.specs.Changes.{var_items, items_of_callee, changed_by_call}
 use Rattle.spv_program.proofs.SortFacts.{nothing_there, some_is}
@@ -228,10 +228,12 @@ module _ (k : Known) (p : Program) (right : RightProgram k.program) (headings : 
 
     pub belongs : (here : Option Routine) → ((x : Symbol) (t : TypeId) → meaning s x ≡ Some (OfPlace t) → name_type q here x ≡ Some t)
         → ((x : Symbol) (t : TypeId) → meaning s x ≡ Some (OfPlace t) → is_result here x ≡ false)
+        → ((x : Symbol) (t : TypeId) → meaning s x ≡ Some (OfPlace t) → is_initial here x ≡ false)
         → ((x : Symbol) (h : Heading) (t : TypeId) → meaning s x ≡ Some (OfRoutine h) → is_this s.routine h ≡ true → h.result ≡ Some t
         → name_type q here x ≡ Some t)
+        → ((x : Symbol) (h : Heading) → meaning s x ≡ Some (OfRoutine h) → is_this s.routine h ≡ true → is_initial here x ≡ false)
         → Belongs s q here
-    belongs here places no_results own_result = record {
+    belongs here places no_results no_starts own_result own_result_no_start = record {
       forms = ap (λ (n : Known). n.program.forms) (sym known);
       forms_right = forms_pass k.program.forms right.forms;
       first = first_form k.program.forms right.forms;
@@ -239,9 +241,11 @@ module _ (k : Known) (p : Program) (right : RightProgram k.program) (headings : 
       places = places;
       place_types = λ x t m. subst (λ (n : Known). type_exists n.program.forms t ≡ true) known (place_there s here_right plain x t m);
       no_results = no_results;
+      no_starts = no_starts;
       routines = body_of;
       results = λ x h t m e. (headings.each x h (heading_found x h m)).result t e;
       plain_results = λ x h t m e. (headings.each x h (heading_found x h m)).plain_result t e;
       own_result = own_result;
+      own_result_no_start = own_result_no_start;
       parameters = λ x h m. formals_there h (headings.each x h (heading_found x h m));
     }

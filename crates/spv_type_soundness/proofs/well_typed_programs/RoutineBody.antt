@@ -6,7 +6,7 @@ use Rattle.std.proofs.lemmas.Bool.{false≢true}
 use Rattle.std.proofs.lemmas.List.{append_assoc}
 use Rattle.std.proofs.lemmas.List.Folds.{list_any-append}
 use Rattle.spv_logic.specs.declared.names.names.Symbol.{Symbol}
-use Rattle.spv_logic.proofs.list.Tests.{left_true, right_true, and_false, left_false, both_false}
+use Rattle.spv_logic.proofs.list.Tests.{left_true, right_true, and_false, left_false, right_false, both_false}
 use Rattle.spv_logic.specs.declared.types.TypeId.{TypeId}
 use Rattle.spv_logic.specs.declared.types.Sort.{Sort}
 use Rattle.spv_logic.specs.Sorts.{sort_in_range}
@@ -17,7 +17,7 @@ use Rattle.spv_program.specs.Types.{form_at, sort_of, type_exists, may_be_result
 use Rattle.spv_program.specs.Statements.{Statement}
 use Rattle.spv_program.specs.Programs.{Formal, GlobalItem, Routine, Program, shapes}
 use Rattle.spv_program.specs.Scopes as program
-use Rattle.spv_program.specs.Scopes.{result_name, own_names, is_own, name_type, is_result, is_value_parameter, with_sorts_of, item_sort, initial_names, body_scope, entry_scope, exit_scope}
+use Rattle.spv_program.specs.Scopes.{result_name, own_names, is_own, name_type, is_result, is_initial, is_value_parameter, with_sorts_of, item_sort, initial_names, body_scope, entry_scope, exit_scope}
 use Rattle.spv_program.specs.Uses.{same_item}
 use Rattle.spv_program.specs.Frames.{lists}
 use Rattle.spv_program.specs.FormulaTypes.{annotation_ok}
@@ -32,7 +32,7 @@ use Rattle.spv_typing.specs.StatementWalk as statements
 use Rattle.spv_type_soundness.specs.well_typed.Laws.{SeesAlike}
 use Rattle.spv_type_soundness.specs.well_typed_programs.Statements.{Stands}
 use Rattle.spv_type_soundness.proofs.well_typed_programs.Differ.{or_left, or_right, not_true, by_test, name-refl, same_names, Apart, differ_rest, differ_apart}
-use Rattle.spv_type_soundness.proofs.well_typed_programs.Finding.{pair, keys, found_append, found_mapped, found_key, found_none, found_name, found_all, first_case, first_none, second_none}
+use Rattle.spv_type_soundness.proofs.well_typed_programs.Finding.{pair, keys, found_append, found_mapped, found_key, found_there, found_none, found_name, found_all, first_case, first_none, second_none}
 use Rattle.spv_type_soundness.proofs.well_typed_programs.Items.{all_map}
 use Rattle.spv_type_soundness.proofs.well_typed_programs.Naming.{heading_names, headings_named}
 use Rattle.spv_type_soundness.proofs.well_typed_programs.Declaring.{all_there, all_longer, all_append, RightProgram, RightKnown}
@@ -283,6 +283,45 @@ module _ (k : Known) (given : Specified) (sorts : List (Symbol × Sort)) (consta
   no_results : (x : Symbol) (t : TypeId) → meaning inside x ≡ Some (OfPlace t) → is_result (Some r) x ≡ false
   no_results x t m = and_false (is_some h.result) (same_name h.name x) (place_not_name x t (is_place_here x t m))
 
+  -- no place and not the routine itself has an INITIAL name
+
+  formal_no_start : (x : Symbol) (t : TypeId) → found F x ≡ Some t → list_any (same_name x) (keys given.initial) ≡ false
+  formal_no_start x t e =
+      left_false (list_any (same_name x) (keys given.initial)) (list_any (same_name x) (keys locals ++ G))
+      (sym (list_any-append (same_name x) (keys given.initial) (keys locals ++ G))
+      ∙ (differ_apart same_name name-refl same_names (keys F) (keys given.initial ++ (keys locals ++ G)) tail_differ).apart x (found_key F x t e))
+
+  local_no_start : (x : Symbol) (t : TypeId) → found locals x ≡ Some t → list_any (same_name x) (keys given.initial) ≡ false
+  local_no_start x t e =
+      by_test (list_any (same_name x) (keys given.initial)) (list_any (same_name x) (keys given.initial) ≡ false)
+      (λ i. absurd (false≢true (sym (left_false (list_any (same_name x) (keys locals)) (list_any (same_name x) G)
+      (sym (list_any-append (same_name x) (keys locals) G) ∙ starts_rest.apart x i)) ∙ found_key locals x t e)))
+      (λ i. i)
+
+  variable_no_start : (x : Symbol) → found sorts x ≡ None → list_any (same_name x) (keys given.initial) ≡ false
+  variable_no_start x e =
+      ap (list_any (same_name x)) (sym (starts_keys k.program F given.initial sorts specified.are_starts))
+      ∙ (sym (found_there sorts x) ∙ ap is_some e)
+
+  place_no_start : (x : Symbol) (t : TypeId) → IsPlace x t → is_initial (Some r) x ≡ false
+  place_no_start x t (place_formal o e) = formal_no_start x t e
+  place_no_start x t (place_local o n e) = local_no_start x t e
+  place_no_start x t (place_variable n o e) = variable_no_start x n.start
+
+  no_starts : (x : Symbol) (t : TypeId) → meaning inside x ≡ Some (OfPlace t) → is_initial (Some r) x ≡ false
+  no_starts x t m = place_no_start x t (is_place_here x t m)
+
+  own_result_no_start : (x : Symbol) (g : Heading) → meaning inside x ≡ Some (OfRoutine g) → is_this (Some h) g ≡ true
+      → is_initial (Some r) x ≡ false
+  own_result_no_start x g m same =
+      let name : g.name ≡ x = found_name (λ (a : Heading). a.name) k.headings x g (routine_meant inside right plain x g m) in
+      subst (λ y. is_initial (Some r) y ≡ false) (same_names h.name g.name same ∙ name)
+      (left_false (list_any (same_name h.name) (keys given.initial)) (list_any (same_name h.name) (keys locals ++ G))
+      (sym (list_any-append (same_name h.name) (keys given.initial) (keys locals ++ G))
+      ∙ right_false (list_any (same_name h.name) (keys F)) _
+      (sym (list_any-append (same_name h.name) (keys F) (keys given.initial ++ (keys locals ++ G)))
+      ∙ not_true (list_any (same_name h.name) others) (left_true _ _ begins.differ))))
+
   own_result : (x : Symbol) (g : Heading) (t : TypeId) → meaning inside x ≡ Some (OfRoutine g) → is_this (Some h) g ≡ true
       → g.result ≡ Some t → name_type q (Some r) x ≡ Some t
   own_result x g t m same e =
@@ -492,7 +531,7 @@ module _ (k : Known) (given : Specified) (sorts : List (Symbol × Sort)) (consta
 
   pub body_stands : Stands inside noted q p (Some r)
   body_stands = record {
-    names = belongs k p right begins.headings final inside refl plain (Some r) places no_results own_result;
+    names = belongs k p right begins.headings final inside refl plain (Some r) places no_results no_starts own_result own_result_no_start;
     noted_names = subst (SeesAlike noted) (sym body_names) (sees_alike noted right noted_plain front noted_sees);
     noted_grows = program_grows k p right begins.headings final;
     noted_sorts = λ x s e. found_all (sort_in_range (shapes k.program)) (front ++ with_sorts_of k.program k.program.variables) x s

@@ -221,8 +221,8 @@ module _ (start : KnownNames) (bodies : List Symbol) (k : Known) (state : RightS
 
   pub main_stands : Stands (at_top k) (at_top k) (known_program k p) p None
   main_stands = record {
-    names = belongs k p right state.headings final (at_top k) refl (plain_none k.program) None main_places (λ x t e. refl)
-        (λ x h t e this f. absurd (false≢true this));
+    names = belongs k p right state.headings final (at_top k) refl (plain_none k.program) None main_places (λ x t e. refl) (λ x t e. refl)
+        (λ x h t e this f. absurd (false≢true this)) (λ x h e this. refl);
     noted_names = subst (SeesAlike (at_top k)) (sym main_names) main_sees;
     noted_grows = program_grows k p right state.headings final;
     noted_sorts = λ x s e. found_all (sort_in_range (shapes k.program)) (with_sorts_of k.program k.program.variables) x s main_range

@@ -11,7 +11,7 @@ use Rattle.spv_program.specs.Types.{form_at, type_exists, forms_ok, may_be_resul
 use Rattle.spv_program.specs.Expressions.{Expression, Designator}
 use Rattle.spv_program.specs.ExpressionTypes.{expression_sort, designator_type, may_write}
 use Rattle.spv_program.specs.Programs.{Formal, Routine, Program, routine_at, shapes}
-use Rattle.spv_program.specs.Scopes.{name_type, is_result}
+use Rattle.spv_program.specs.Scopes.{name_type, is_result, is_initial}
 use Rattle.spv_typing.specs.Known.{OfPlace, OfRoutine, Heading, Scope, meaning}
 use Rattle.spv_typing.specs.ExpressionWalk.{Reached, expression_of, written, designator_at, is_this}
 
@@ -32,12 +32,14 @@ pub record Belongs (s : Scope) (p : Program) (here : Option Routine) : Type 0 wh
   pub places : (x : Symbol) (t : TypeId) → meaning s x ≡ Some (OfPlace t) → name_type p here x ≡ Some t
   pub place_types : (x : Symbol) (t : TypeId) → meaning s x ≡ Some (OfPlace t) → IsTrue (type_exists p.forms t)
   pub no_results : (x : Symbol) (t : TypeId) → meaning s x ≡ Some (OfPlace t) → is_result here x ≡ false
+  pub no_starts : (x : Symbol) (t : TypeId) → meaning s x ≡ Some (OfPlace t) → is_initial here x ≡ false
   pub routines : (x : Symbol) (h : Heading) → meaning s x ≡ Some (OfRoutine h) → IsHeadingOf p h
   pub results : (x : Symbol) (h : Heading) (t : TypeId) → meaning s x ≡ Some (OfRoutine h) → h.result ≡ Some t → IsTrue (type_exists p.forms t)
   pub plain_results : (x : Symbol) (h : Heading) (t : TypeId) → meaning s x ≡ Some (OfRoutine h) → h.result ≡ Some t
       → IsTrue (may_be_result (form_at p.forms t.0))
   pub own_result : (x : Symbol) (h : Heading) (t : TypeId) → meaning s x ≡ Some (OfRoutine h) → is_this s.routine h ≡ true → h.result ≡ Some t
       → name_type p here x ≡ Some t
+  pub own_result_no_start : (x : Symbol) (h : Heading) → meaning s x ≡ Some (OfRoutine h) → is_this s.routine h ≡ true → is_initial here x ≡ false
   pub parameters : (x : Symbol) (h : Heading) → meaning s x ≡ Some (OfRoutine h)
       → IsTrue (list_all (λ (f : Formal). type_exists p.forms f.of) h.formals)
 

@@ -1,6 +1,6 @@
 -- Small texts, and what the walk tells of each.
 use Rattle.std.specs.Prelude.{◌≡◌, ℕ, List, [], ◌∷◌, pos, codes}
-use Rattle.spv_worked.specs.typed_texts.Told.{Told, told, no_tree, typed, undeclared, twice, label_twice, wrong_type, wrong_count, nested, is_parameter, counts}
+use Rattle.spv_worked.specs.typed_texts.Told.{Told, told, typed, undeclared, twice, label_twice, wrong_type, wrong_count, nested, is_parameter, counts}
 
 abbrev pub AllTold : List (List ℕ × Told) → Type 0
 AllTold [] = Unit {0}

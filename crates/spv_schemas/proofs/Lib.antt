@@ -1,0 +1,7 @@
+mod Sorts
+mod Sorted
+mod Values
+mod Shapes
+pub mod Soundness
+mod SortsThatFit
+mod Once

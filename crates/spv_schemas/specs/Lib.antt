@@ -1,0 +1,6 @@
+pub mod Kinds
+pub mod Facts
+pub mod SortsThatFit
+pub mod Instances
+pub mod Laws
+pub mod Examples

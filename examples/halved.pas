@@ -1,0 +1,6 @@
+PROGRAM halved;
+{ DIV is not verified yet; its conditions can be read }
+VAR n, h: INTEGER;
+ENTRY n >= 0;
+EXIT (2 * h <= n) AND (n < 2 * h + 2);
+BEGIN h := n DIV 2 END.

@@ -1,0 +1,7 @@
+PROGRAM raised;
+VAR a, b: INTEGER;
+EXIT a > b;
+BEGIN
+  IF a < b THEN a := b;
+  a := a + 1
+END.
