@@ -28,13 +28,13 @@ use Rattle.spv_program.specs.Changes.{var_items, items_of_callee, changed_by_cal
 use Rattle.spv_program.specs.FormulaTypes.{is_sort, same_sort, annotation_ok}
 use Rattle.spv_program.specs.ExpressionTypes.{is_nil, may_read, may_write, sort_of_type, result_type, stands_for, expression_sort, designator_type, selected_type, callee, arguments_fit}
 use Rattle.spv_program.specs.Typing.{well_typed, leads_to, labels_in, is_procedure, may_count, counting_ok, statement_ok, arms_ok}
-use Rattle.spv_program.proofs.SortFacts.{nothing_there, is_sort-true, Behind, behind, passed, chosen, failed}
+use Rattle.spv_program.proofs.SortFacts.{is_sort-true, Behind, behind, passed, chosen, failed}
 use Rattle.spv_program.proofs.FormulaSorting.{two_truths, two_numbers, one_of}
 use Rattle.spv_program.proofs.ExpressionSorting.{mapped}
 use Rattle.spv_meaning.proofs.RoutineStarts.{item_passes}
 use Rattle.spv_preservation.proofs.Calls.{routine_right}
 use Rattle.spv_preservation.proofs.Expressions.{compares}
-use Rattle.spv_writes.proofs.Lists.{all_both, all_left, all_right, clash, or_left, or_right, swapped}
+use Rattle.spv_writes.proofs.Lists.{all_both, all_left, all_right, or_left, or_right, swapped}
 use Rattle.spv_frame_law.proofs.Covering.{items_same, is_own_or}
 use Rattle.spv_frame_law.proofs.Records.{use_kept, KeepsTo, AllKeepTo}
 
@@ -391,7 +391,7 @@ keeps_to p typed frames = record { each = λ id q there. one id q there }
 
     -- what is no INITIAL name is an own name with these or without them
     used : (q : Routine) (x : Symbol) → initial_here (Some q) x ≡ false → (is_own (Some q) x || is_initial q x) ≡ is_own (Some q) x
-    used q x no = ap (λ b. is_own (Some q) x || b) (found_there q.initial x ∙ no) ∙ or_false (is_own (Some q) x)
+    used q x other = ap (λ b. is_own (Some q) x || b) (found_there q.initial x ∙ other) ∙ or_false (is_own (Some q) x)
 
     alike : (id : RoutineId) (q : Routine) → routine_at p id ≡ Some q → Alike p (Some q) (λ x. is_own (Some q) x || is_initial q x) (is_own (Some q))
     alike id q there = record { reads = reads; writes = writes; counts = λ x ok. ap (λ c. c || is_initial q x) (count_own q x ok) ∙ sym (count_own q x ok) }

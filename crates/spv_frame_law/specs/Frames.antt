@@ -1,5 +1,5 @@
 -- Which areas the names and items of a routine are.
-use Rattle.std.specs.Prelude.{ℕ, Bool, true, false, ◌&&◌, ◌||◌, is_some, List, [], ◌∷◌, ◌++◌, map, length, Option, Some, None, IsTrue, ◌≡◌}
+use Rattle.std.specs.Prelude.{ℕ, Bool, true, false, ◌&&◌, ◌||◌, List, [], ◌∷◌, ◌++◌, map, length, Option, Some, None, ◌≡◌}
 use Rattle.std.specs.List.{list_all, list_any, flat_map}
 use Rattle.spv_logic.specs.declared.names.names.Symbol.{Symbol}
 use Rattle.spv_logic.specs.declared.operators.Head.{Head}
@@ -7,12 +7,10 @@ use Rattle.spv_logic.specs.declared.operators.Head.TheVariants as head
 use Rattle.spv_program.specs.declared.types.Item.{Item}
 use Rattle.spv_program.specs.declared.types.Item.TheVariants.{Variable, Class}
 use Rattle.spv_program.specs.Lists.{found}
-use Rattle.spv_logic.specs.declared.conditions.RoutineId.{RoutineId}
 use Rattle.spv_program.specs.Programs.{Routine, Program, routine_at}
-use Rattle.spv_program.specs.Scopes.{is_own, name_type}
-use Rattle.spv_program.specs.Expressions.{Designator, Selectors, Call, designator, call}
-use Rattle.spv_program.specs.ExpressionTypes.{may_read, may_write}
-use Rattle.spv_program.specs.Frames.{is_initial, place_roots, globals_of}
+use Rattle.spv_program.specs.Scopes.{is_own}
+use Rattle.spv_program.specs.Expressions.{Call, call}
+use Rattle.spv_program.specs.Frames.{place_roots, globals_of}
 use Rattle.spv_program.specs.Uses.{Root, Own, Shared, same_root, name_root}
 use Rattle.spv_program.specs.Changes.{var_items}
 use Rattle.spv_meaning.specs.Places.{Binding, Frame, HeapRow, State, ProgramVariable, Holding, Referring, whole}
