@@ -1,2 +1,1 @@
-pub mod proof_tests
 pub mod reasons_tests

@@ -7,7 +7,7 @@ use Rattle.spv_atoms.specs.declared.proofs.Stated.{Stated}
 use Rattle.spv_atoms.specs.declared.proofs.Stated.TheVariants.{Is, Same}
 use Rattle.spv_atoms.specs.declared.proofs.Step.TheVariants.{Given, Refl, Symm, Trans, Cong, Schema, Rule, Eval, Contra}
 use Rattle.spv_proof_rules.specs.Effects.{at_most}
-use Rattle.spv_tests.specs.proof_tests.Named.{number, x, y, z, p, q, both, twice, f_of, same, same_or_q, always, never, the_x, the_y, the_zero, the_one, the_p, the_q, the_both, the_twice, f_of_x, f_of_y, the_same_or_q, shows}
+use Rattle.spv_proof_tests.specs.Named.{number, x, y, z, p, q, both, twice, f_of, same, same_or_q, always, never, the_x, the_y, the_zero, the_one, the_p, the_q, the_both, the_twice, f_of_x, f_of_y, the_same_or_q, shows}
 
 -- ---- GIVEN, REFL
 

@@ -1,6 +1,6 @@
 //! What no clause says of the crates that prove conditions.
+#![tactic(auto)]
 
-#[cfg(test)]
 mod checks;
 #[cfg(test)]
 mod formulas;
@@ -9,3 +9,5 @@ pub mod rules;
 mod splits;
 #[cfg(test)]
 mod sums;
+#[cfg(test)]
+pub mod term_walk_tests;

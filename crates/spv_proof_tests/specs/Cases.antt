@@ -6,7 +6,7 @@ use Rattle.spv_logic.specs.Formulas.{below}
 use Rattle.spv_atoms.specs.declared.proofs.Step.TheVariants.{Given, Contra}
 use Rattle.spv_atoms.specs.declared.proofs.ProofNode.{ProofNode}
 use Rattle.spv_proof_rules.specs.Accepted.{accepts}
-use Rattle.spv_tests.specs.proof_tests.Named.{x, y, p, same, the_x, the_p, the_both, the_same, the_always, the_truths_agree, asks, node, split_by}
+use Rattle.spv_proof_tests.specs.Named.{x, y, p, same, the_x, the_p, the_both, the_same, the_always, the_truths_agree, asks, node, split_by}
 
 -- ---- two cases
 

@@ -1,6 +1,6 @@
 use Rattle.std.proofs.Common.{◌∙◌}
 use Rattle.spv_term.proofs.ArenaLemmas.{Extends-trans, sort_at-Extends}
-use Rattle.spv_tests.proofs.proof_tests.sums.closes_gap.Goals as goal
+use Rattle.spv_proof_tests.proofs.sums.closes_gap.Goals as goal
 
 pub is_accepted-answer-requires-clause-first_sort : goal.is_accepted-answer-requires-clause-first_sort
 is_accepted-answer-requires-clause-first_sort c =

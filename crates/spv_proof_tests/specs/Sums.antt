@@ -7,7 +7,7 @@ use Rattle.spv_atoms.specs.declared.proofs.Relation.{Relation}
 use Rattle.spv_atoms.specs.declared.proofs.Relation.TheVariants.{AtMost, Equal}
 use Rattle.spv_atoms.specs.declared.proofs.Step.TheVariants.{Given, Linear, Contra}
 use Rattle.spv_proof_rules.specs.Effects.{at_most}
-use Rattle.spv_tests.specs.proof_tests.Named.{x, y, z, p, q, never, same, the_x, the_y, the_zero, the_one, the_p, the_q, shows}
+use Rattle.spv_proof_tests.specs.Named.{x, y, z, p, q, never, same, the_x, the_y, the_zero, the_one, the_p, the_q, shows}
 
 -- a multiplier and a fact's number
 abbrev times : ℕ → ℕ → Fraction × ℕ

@@ -1,7 +1,7 @@
 use Rattle.std.proofs.Common.{refl}
 use Rattle.spv_whole.specs.Fraction as fraction
 use Rattle.spv_whole.specs.Gcd.{gcd}
-use Rattle.spv_tests.proofs.proof_tests.rules.law_multiples.Goals as goal
+use Rattle.spv_proof_tests.proofs.rules.law_multiples.Goals as goal
 
 pub returns : goal.returns
 unfolding fraction.sum fraction.product fraction.lowest gcd

@@ -1,9 +1,9 @@
 //! Worked proofs for each rule: what is accepted, and what each way to break it makes of it. That the
 //! checker answers the same is its contract.
 
-ghost use Rattle.spv_tests.specs.proof_tests.Rules.{OfGiven, OfRefl, OfSymm, OfTrans, OfCong, OfEval, OfContra};
-ghost use Rattle.spv_tests.specs.proof_tests.Sums.{OfLinear};
-ghost use Rattle.spv_tests.specs.proof_tests.Cases.{OfTwoCases, OfThreeCases, OfNestedCases};
+ghost use Rattle.spv_proof_tests.specs.Rules.{OfGiven, OfRefl, OfSymm, OfTrans, OfCong, OfEval, OfContra};
+ghost use Rattle.spv_proof_tests.specs.Sums.{OfLinear};
+ghost use Rattle.spv_proof_tests.specs.Cases.{OfTwoCases, OfThreeCases, OfNestedCases};
 
 /// Hypotheses and equations.
 pub fn law_equations()
