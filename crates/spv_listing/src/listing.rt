@@ -145,13 +145,7 @@ fn push_condition(
     ensures { OnOk result (out.new.items ≡ out.old.items ++ condition_lines proofs named.now number (condition_of terms.now condition.now) decided.now) }
 {
     push_claim(out, named, terms, number, condition)?;
-    push_verdict(
-        out,
-        &named.names,
-        named.titles.as_slice(),
-        decided,
-        proofs,
-    )
+    push_verdict(out, &named.names, named.titles.as_slice(), decided, proofs)
 }
 
 /// Adds the lines of a condition: its number and origin, its hypotheses and its goal.

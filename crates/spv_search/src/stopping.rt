@@ -42,10 +42,7 @@ pub(crate) fn give_up(alloc: Global, both: &Both) -> Result<Verdict, AllocError>
 {
     let (is_wide, evidence) = stopped(alloc, both)?;
     if is_wide {
-        Ok(Verdict::GaveUp(
-            List::new(alloc),
-            Limit::Number(Wide::Pivot(evidence)),
-        ))
+        Ok(Verdict::GaveUp(List::new(alloc), Limit::Number(Wide::Pivot(evidence))))
     } else {
         Ok(Verdict::GaveUp(List::new(alloc), Limit::Pivots(evidence)))
     }

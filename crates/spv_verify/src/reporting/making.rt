@@ -84,13 +84,7 @@ pub fn report_on(
         Err(_) => return Err(ReportFault::Stopped(GenFault::Memory)),
     };
     match make_parts(alloc, program, &mode) {
-        Ok(parts) => Ok(Report::new(
-            named,
-            parts.terms,
-            parts.conditions,
-            mode,
-            parts.verdicts,
-        )),
+        Ok(parts) => Ok(Report::new(named, parts.terms, parts.conditions, mode, parts.verdicts)),
         Err(fault) => Err(fault),
     }
 }
