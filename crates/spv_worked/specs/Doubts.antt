@@ -5,10 +5,14 @@ use Rattle.spv_meaning.specs.Places.{State, OwnValue, IndexStep, Holding, Referr
 use Rattle.spv_meaning.specs.Starts.{IsStart}
 use Rattle.spv_logic.specs.Conditions.{Meaning, answers}
 use Rattle.spv_program.specs.Formulas as formula
-use Rattle.spv_program.specs.Statements.{Empty}
-use Rattle.spv_program.specs.Programs.{Program, shapes}
+use Rattle.spv_logic.specs.declared.conditions.Kind.TheVariants as kind
+use Rattle.spv_program.specs.Expressions.{call, no_arguments, by_place}
+use Rattle.spv_program.specs.Statements.{Empty, Perform}
+use Rattle.spv_program.specs.Programs.{Routine, Program, shapes}
 use Rattle.spv_meaning.specs.Correct.{Correct}
-use Rattle.spv_worked.specs.Small.{x, y, n, f, Fact, integer, program, num, set, named, number, equal, note, place_formal, routine, z}
+use Rattle.spv_worked.specs.Terms.{N, fresh, eq, condition}
+use Rattle.spv_worked.specs.StatementConditions.{Are}
+use Rattle.spv_worked.specs.Small.{x, y, n, f, Fact, integer, program, num, at, set, named, number, equal, note, place_formal, routine, z}
 
 -- VAR x: INTEGER; EXIT x = 1; BEGIN x := 2 END
 abbrev pub wrong : Program
@@ -26,6 +30,36 @@ about_fact = program [] [] None (Some (note 3 (equal (formula.Applied Fact (form
 abbrev pub CorrectWhereFactIsOne : Type 0
 CorrectWhereFactIsOne = (world : Meaning) → Correct about_fact world
     → answers (shapes about_fact) about_fact.symbols world Fact.0 (Number (pos 0) ∷ []) ≡ Number (pos 1)
+
+-- PROCEDURE f(VAR n: INTEGER); EXIT n = 1; BEGIN n := 0 END
+abbrev pub careless : Routine
+careless = record {
+  name = f;
+  line = 1;
+  formals = place_formal n integer ∷ [];
+  result = None;
+  globals = [];
+  initial = [];
+  entry = None;
+  exit = Some (note 2 (equal (named n) (number 1)));
+  locals = [];
+  body = set n (num 0);
+}
+
+-- VAR x: INTEGER; EXIT x = 1; BEGIN f(x) END: the main block is right where f keeps its promise
+abbrev pub promising : Program
+promising =
+    program ((x, integer) ∷ []) (careless ∷ []) None (Some (note 5 (equal (named x) (number 1))))
+    (Perform (call (routine 0) 6 (by_place (at x) no_arguments)))
+
+-- it is correct in no world, for the routine's sake
+abbrev pub PromisingIsNotCorrect : Type 0
+PromisingIsNotCorrect = (world : Meaning) → Correct promising world → ⊥
+
+-- and the condition that says so is the routine's
+abbrev pub PromisingIsAsked : Type 0
+PromisingIsAsked = Are promising
+    (condition (Some (routine 0)) kind.Exit 2 [] (eq (N 0) (N 1)) ∷ condition None kind.Exit 5 (eq (fresh n 1) (N 1) ∷ []) (eq (fresh n 1) (N 1)) ∷ [])
 
 -- PROCEDURE f(VAR n: INTEGER); BEGIN n := 0 END
 abbrev pub zeroing : Program

@@ -13,12 +13,12 @@ use Rattle.spv_program.specs.declared.operators.Arithmetic.TheVariants as arithm
 use Rattle.spv_program.specs.declared.operators.Comparison.TheVariants as comparison
 use Rattle.spv_program.specs.declared.types.TypeForm.TheVariants as form
 use Rattle.spv_program.specs.declared.types.Item.TheVariants.{Variable, Class}
-use Rattle.spv_program.specs.Expressions.{Expression, Result, Calculated, designator, no_selectors, at_index, at_field, call, no_arguments, by_value, by_place}
+use Rattle.spv_program.specs.Expressions.{Expression, Result, Calculated, designator, no_selectors, at_index, at_field, at_cell, call, no_arguments, by_value, by_place}
 use Rattle.spv_program.specs.Formulas as formula
 use Rattle.spv_program.specs.Statements.{Empty, Assign, Perform, New, While}
 use Rattle.spv_program.specs.Programs.{Formal, Routine, Program}
 use Rattle.spv_program.specs.Terms.{alone, unary, binary, ternary}
-use Rattle.spv_worked.specs.Small.{x, y, i, b, a, p, q, f, g, n, t, val, Node, Fact, integer, boolean, nine, row_of_nine, ref, node, program, forms, type, num, at, read, set, element, content, named, number, equal, note, value_formal, place_formal, routine}
+use Rattle.spv_worked.specs.Small.{x, y, i, b, a, p, q, f, g, n, t, val, Node, Fact, integer, boolean, nine, row_of_nine, ref, node, program, forms, name, type, num, at, read, set, element, content, named, number, equal, note, value_formal, place_formal, routine}
 use Rattle.spv_worked.specs.Terms.{X, N, fresh, of, eq, at_most, plus, minus, no, cells, NIL, condition}
 use Rattle.spv_worked.specs.StatementConditions.{Are, A, Q, with_val}
 use Rattle.spv_worked.specs.CallConditions.{first, fill, inc, inc_of}
@@ -261,7 +261,49 @@ CreateInARow = Are creating_in_a_row
     (condition None kind.Exit 4 (no (eq new_one NIL) ∷ no (binary head.PointerTo new_one cells) ∷ [])
     (no (eq (binary head.Select (ternary head.Store refs (X i) new_one) (X i)) P)) ∷ [])
 
+-- ^Link, and Link = RECORD val: INTEGER; next: ^Link END
+abbrev pub to_link : TypeId
+to_link = type 9
+
+abbrev pub link : TypeId
+link = type 10
+
+abbrev pub Link : Symbol
+Link = name 17
+
+abbrev pub next : Symbol
+next = name 18
+
+-- EXIT p^.next <> p; NEW(p^.next)
+abbrev pub creating_in_a_cell : Program
+creating_in_a_cell =
+    record (program ((p, to_link) ∷ []) [] None
+    (Some (note 4 (formula.Compared comparison.NotEqual (formula.FieldOf (formula.Content 4 link (named p)) next) (named p))))
+    (New 5 (designator 1 p (at_cell 5 link (at_field link next no_selectors))) link)) {
+      forms = forms ++ form.Pointer link ∷ form.Record (record { name = val; of = integer } ∷ record { name = next; of = to_link } ∷ []) ∷ [];
+      titles = None ∷ None ∷ None ∷ None ∷ None ∷ None ∷ Some Node ∷ None ∷ None ∷ None ∷ Some Link ∷ [];
+      types = (Node, node) ∷ (Link, link) ∷ [];
+    }
+
+abbrev links : Term
+links = alone (head.ClassVar link 0)
+
+abbrev here : Term
+here = of (sort.Ptr link) p 0
+
+abbrev new_link : Term
+new_link = of (sort.Ptr link) p 1
+
+abbrev more_links : Term
+more_links = ternary head.Extend links new_link (of (sort.Whole link) Link 1)
+
+-- the cell that p leads to takes the new pointer, in the class that has the new cell
+abbrev pub CreateInACell : Type 0
+CreateInACell = Are creating_in_a_cell
+    (condition None kind.Exit 4 (no (eq new_link (alone (head.Nil link))) ∷ no (binary head.PointerTo new_link links) ∷ [])
+    (no (eq (unary (head.Field next) (binary head.Cell (ternary head.SetCell more_links here (binary (head.Put next) (binary head.Cell more_links here) new_link)) here)) here)) ∷ [])
+
 -- the programs of these examples
 abbrev pub programs : List Program
 programs =
-    filling_a_cell ∷ filling_a_field ∷ filling_and_moving ∷ passing_on ∷ summing ∷ calling_in_an_index ∷ remaking ∷ resetting ∷ creating_in_a_row ∷ []
+    filling_a_cell ∷ filling_a_field ∷ filling_and_moving ∷ passing_on ∷ summing ∷ calling_in_an_index ∷ remaking ∷ resetting ∷ creating_in_a_row ∷ creating_in_a_cell ∷ []

@@ -41,6 +41,7 @@ pub fn law_places()
     ensures element { places.FillAndMove }
     ensures passed_on { places.PassOn }
     ensures new { places.CreateInARow }
+    ensures new_in_a_cell { places.CreateInACell }
 {}
 
 /// The conditions of calls in arguments and indices, of classes that a call may change, and of a loop over a call.
