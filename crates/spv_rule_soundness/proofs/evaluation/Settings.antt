@@ -6,14 +6,11 @@ use Rattle.std.proofs.lemmas.Bool.{false≢true, eqb-true, eq-eqb}
 use Rattle.spv_logic.proofs.list.Tests.{left_true, right_true}
 use Rattle.spv_logic.specs.declared.names.names.Symbol.{Symbol}
 use Rattle.spv_logic.specs.declared.types.TypeId.{TypeId}
-use Rattle.spv_logic.specs.declared.types.Sort.{Sort}
 use Rattle.spv_logic.specs.declared.types.Sort.TheVariants as sort
 use Rattle.spv_logic.specs.declared.operators.Head.{Head}
 use Rattle.spv_logic.specs.declared.operators.Head.TheVariants as head
 use Rattle.spv_logic.specs.Values.{Value, rows_in, default_in, row_at}
-use Rattle.spv_logic.specs.Terms.{Term, eval}
 use Rattle.spv_logic.specs.Shapes.{shapes_ok, sort_of_type}
-use Rattle.spv_logic.specs.Fits.{fits}
 use Rattle.spv_logic.specs.Conditions.{Meaning, Valuation, View, Shows, answers}
 use Rattle.spv_logic.proofs.Equality.{sort_eq-refl}
 use Rattle.spv_logic.proofs.Sorting.{eval-fits}
@@ -25,14 +22,13 @@ use Rattle.spv_program.specs.Programs.{Routine, Program, shapes, routine_in}
 use Rattle.spv_program.specs.Scopes.{own_names_in, is_own, name_type}
 use Rattle.spv_program.specs.Uses.{name_root}
 use Rattle.spv_program.specs.Typing.{declarations_ok, well_typed}
-use Rattle.spv_program.specs.Laws.{HasSort}
 use Rattle.spv_program.proofs.SortFacts.{nothing_there, some_is}
 use Rattle.spv_meaning.specs.Places.{HeapRow, State, row_of, look}
 use Rattle.spv_meaning.specs.Views.{place_of, sees, shown_type, of_sort, with_heap_row, class_of, now_view}
 use Rattle.spv_meaning.specs.Levels.{Here}
 use Rattle.spv_meaning.specs.Starts.{is_of_type, row_ok, heap_ok}
 use Rattle.spv_meaning.proofs.Heaps.{class_fits}
-use Rattle.spv_rule_soundness.specs.evaluation.Laws.{root_seen, Shown}
+use Rattle.spv_rule_soundness.specs.evaluation.Laws.{root_seen, Shown, Setting}
 
 -- ---- names
 
@@ -135,12 +131,6 @@ cell_shown p ok here state v all t r q seen e is =
     ∙ content p ok state.heap all.start.heap t r q e is
 
 -- ---- all together
-
--- what a valuation knows of a state: the values of the names, and the contents of the cells
-pub record Setting (p : Program) (symbols : Meaning) (v : Valuation) (here : Here) (state : State) : Type 0 where
-  pub sorted : (t : Term) (s : Sort) → HasSort p t s → fits (shapes p) (eval symbols v t) s ≡ true
-  pub named : (x : Symbol) (t : TypeId) → name_type p (routine_in p here.routine) x ≡ Some t → root_seen (routine_in p here.routine) (name_root (is_own (routine_in p here.routine)) x) ≡ true → look state (place_of here.routine state x) ≡ Some (v (head.Var x (sort_of p.forms t) 0))
-  pub cells : (t : TypeId) (r : HeapRow) (q : ℕ) → sees (routine_in p here.routine) (Class t) ≡ true → row_of state.heap q ≡ Some r → same_type r.type t ≡ true → row_at (rows_in (v (head.ClassVar t 0))) (pos q) (default_in (v (head.ClassVar t 0))) ≡ r.content
 
 pub forms_right : (p : Program) → well_typed p ≡ true → shapes_ok (shapes p) ≡ true
 forms_right p ok = right_true (list_all (form_ok p.forms) p.forms) _ (left_true (forms_ok p.forms) _ (left_true (declarations_ok p) _ ok))

@@ -1,0 +1,4 @@
+pub mod Known
+pub mod Lying
+pub mod Functions
+pub mod Laws
