@@ -23,7 +23,7 @@ use Rattle.spv_tree.specs.syntax.Formulas as formulas
 use Rattle.spv_program.specs.declared.types.Item.{Item}
 use Rattle.spv_program.specs.declared.types.Item.TheVariants.{Class}
 use Rattle.spv_program.specs.Lists.{found}
-use Rattle.spv_program.specs.Uses.{same_item}
+use Rattle.spv_program.specs.Types.{same_item}
 use Rattle.spv_program.specs.Formulas.{Annotation}
 use Rattle.spv_program.specs.Programs.{Formal, GlobalItem, Program}
 use Rattle.spv_program.proofs.SortFacts.{nothing_there}

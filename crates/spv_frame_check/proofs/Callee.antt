@@ -6,9 +6,10 @@ use Rattle.spv_logic.specs.declared.conditions.RoutineId.{RoutineId}
 use Rattle.spv_program.specs.declared.types.Item.{Item}
 use Rattle.spv_program.specs.Lists.{item_at, first_of}
 use Rattle.spv_program.specs.Expressions.{Call, Arguments, call}
-use Rattle.spv_program.specs.Programs.{GlobalItem, Routine, Program, routine_at}
-use Rattle.spv_program.specs.Uses.{Root, Own, Shared, same_item}
-use Rattle.spv_program.specs.Frames.{lists, is_item_of, place_roots, globals_of}
+use Rattle.spv_program.specs.Programs.{GlobalItem, Routine, Program, routine_at, lists}
+use Rattle.spv_program.specs.Types.{same_item}
+use Rattle.spv_program.specs.Uses.{Root, Own, Shared}
+use Rattle.spv_program.specs.Frames.{is_item_of, place_roots, globals_of}
 use Rattle.spv_effects.specs.declared.frame_walk.faults.FrameFault.TheVariants.{GlobalMissing}
 use Rattle.spv_effects.specs.frame_walk.FrameWalk.{anything, events_fault, main_fault, missing_item, twice, listed, meeting_fault, call_fault, alias}
 use Rattle.spv_effects.specs.frame_walk.Events.{Event, statement_events}

@@ -4,7 +4,8 @@ use Rattle.std.specs.List.{list_any}
 use Rattle.std.proofs.lemmas.List.{append-nil, drop_all}
 use Rattle.spv_program.specs.declared.types.Item.{Item}
 use Rattle.spv_program.specs.declared.types.Item.TheVariants.{Variable, Class}
-use Rattle.spv_program.specs.Uses.{Root, Own, Shared, same_item}
+use Rattle.spv_program.specs.Types.{same_item}
+use Rattle.spv_program.specs.Uses.{Root, Own, Shared}
 use Rattle.spv_program.specs.Frames.{items_once}
 use Rattle.spv_effects.specs.declared.frame_events.events.Event.{Event}
 use Rattle.spv_effects.specs.frame_events.EventViews.{event_of, events_of}

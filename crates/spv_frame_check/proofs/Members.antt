@@ -6,9 +6,9 @@ use Rattle.spv_logic.specs.declared.types.TypeId.{TypeId}
 use Rattle.spv_program.specs.declared.types.Item.{Item}
 use Rattle.spv_program.specs.declared.types.Item.TheVariants.{Variable, Class}
 use Rattle.spv_program.specs.Lists.{same_name}
-use Rattle.spv_program.specs.Programs.{GlobalItem}
-use Rattle.spv_program.specs.Uses.{Root, Own, Shared, same_item, same_root}
-use Rattle.spv_program.specs.Frames.{lists}
+use Rattle.spv_program.specs.Programs.{GlobalItem, lists}
+use Rattle.spv_program.specs.Types.{same_item}
+use Rattle.spv_program.specs.Uses.{Root, Own, Shared, same_root}
 use Rattle.spv_effects.specs.frame_events.Names.{named, with_name}
 use Rattle.spv_frame_check.specs.declared.aliases.RootSet.{RootSet}
 use Rattle.spv_frame_check.specs.declared.allowed.Allowed.TheVariants.{Listed}

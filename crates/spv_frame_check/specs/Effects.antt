@@ -1,7 +1,8 @@
 -- Items that are read, or written, each where it stands first.
 use Rattle.std.specs.Prelude.{◌≡◌, Bool, not, ◌||◌, List, [], ◌∷◌, ◌++◌, map, filter, if◌then◌else◌}
 use Rattle.spv_program.specs.declared.types.Item.{Item}
-use Rattle.spv_program.specs.Uses.{Root, Own, Shared, same_item}
+use Rattle.spv_program.specs.Types.{same_item}
+use Rattle.spv_program.specs.Uses.{Root, Own, Shared}
 use Rattle.spv_effects.specs.frame_walk.Events.{Event, uses_in}
 use Rattle.spv_frame_check.specs.declared.effects.Once.{Once}
 use Rattle.spv_frame_check.specs.Sets.{holds}

@@ -6,9 +6,9 @@ use Rattle.spv_program.specs.declared.types.Item.{Item}
 use Rattle.spv_logic.specs.declared.names.names.Symbol.{Symbol}
 use Rattle.spv_program.specs.Lists.{item_at, first_of}
 use Rattle.spv_program.specs.Expressions.{Call, call}
-use Rattle.spv_program.specs.Programs.{Routine, Program, routine_at}
+use Rattle.spv_program.specs.Programs.{Routine, Program, routine_at, lists}
 use Rattle.spv_program.specs.Uses.{Root, Own, Shared}
-use Rattle.spv_program.specs.Frames.{lists, globals_of, place_roots}
+use Rattle.spv_program.specs.Frames.{globals_of, place_roots}
 use Rattle.spv_effects.specs.frame_walk.FrameWalk.{missing_item, twice, alias}
 use Rattle.spv_effects.specs.declared.frame_walk.faults.FrameFault.{FrameFault}
 

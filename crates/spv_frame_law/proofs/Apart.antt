@@ -7,10 +7,9 @@ use Rattle.spv_logic.specs.declared.names.names.Symbol.{Symbol}
 use Rattle.spv_program.specs.declared.types.Item.{Item}
 use Rattle.spv_program.specs.declared.types.Item.TheVariants.{Variable, Class}
 use Rattle.spv_program.specs.Lists.{same_name, found, all_differ}
-use Rattle.spv_program.specs.Types.{same_type}
-use Rattle.spv_program.specs.Programs.{GlobalItem, Routine}
-use Rattle.spv_program.specs.Uses.{Root, Own, Shared, same_item, same_root}
-use Rattle.spv_program.specs.Frames.{lists}
+use Rattle.spv_program.specs.Types.{same_type, same_item}
+use Rattle.spv_program.specs.Programs.{GlobalItem, Routine, lists}
+use Rattle.spv_program.specs.Uses.{Root, Own, Shared, same_root}
 use Rattle.spv_program.proofs.SortFacts.{nothing_there, some_is}
 use Rattle.spv_meaning.specs.Places.{Place, Binding, Frame, HeapRow}
 use Rattle.spv_meaning.specs.Starts.{Area, At, CellsOf, same_root as same_place_root, paths_meet, places_overlap, lies_in, overlap, bound_area, item_area, apart}

@@ -16,11 +16,11 @@ use Rattle.spv_program.specs.Types.{sort_of}
 use Rattle.spv_program.specs.Expressions.{Arguments, call}
 use Rattle.spv_program.specs.Programs.{Formal, GlobalItem, Routine, Program, shapes, routine_at, routine_in}
 use Rattle.spv_program.specs.Scopes.{result_name, is_own}
-use Rattle.spv_program.specs.Uses.{Root, Own, Shared, same_item, same_root}
+use Rattle.spv_program.specs.Uses.{Root, Own, Shared, same_root}
 use Rattle.spv_program.specs.Frames.{place_roots, is_item_of, roots_apart, globals_of, arguments_apart}
 use Rattle.spv_program.specs.ExpressionTypes.{callee}
 use Rattle.spv_program.specs.Typing.{item_exists, variables_among, scope_names, types_exist, result_ok, heading_ok, routine_ok, declarations_ok, well_typed}
-use Rattle.spv_program.specs.Types.{type_exists}
+use Rattle.spv_program.specs.Types.{type_exists, same_item}
 use Rattle.spv_program.proofs.SortFacts.{is_sort-true, behind}
 use Rattle.spv_meaning.specs.Places as places
 use Rattle.spv_meaning.specs.Places.{Place, Binding, Frame, HeapRow, State, ProgramVariable, OwnValue, CellOf, Holding, Referring, whole}

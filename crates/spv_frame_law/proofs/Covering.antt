@@ -10,7 +10,8 @@ use Rattle.spv_logic.specs.Values.{Value}
 use Rattle.spv_program.specs.declared.types.Item.{Item}
 use Rattle.spv_program.specs.declared.types.Item.TheVariants.{Variable, Class}
 use Rattle.spv_program.specs.Lists.{same_name, found}
-use Rattle.spv_program.specs.Uses.{Root, Own, Shared, same_item, same_root}
+use Rattle.spv_program.specs.Types.{same_item}
+use Rattle.spv_program.specs.Uses.{Root, Own, Shared, same_root}
 use Rattle.spv_program.proofs.SortFacts.{nothing_there, some_is}
 use Rattle.spv_program.proofs.ExpressionSorting.{same_types}
 use Rattle.spv_meaning.specs.Places.{Place, Binding, Frame, HeapRow, State, Holding, Referring, OwnValue, whole}

@@ -15,15 +15,15 @@ use Rattle.spv_logic.specs.declared.conditions.RoutineId.{RoutineId}
 use Rattle.spv_program.specs.declared.types.Item.{Item}
 use Rattle.spv_program.specs.declared.types.Item.TheVariants.{Variable, Class}
 use Rattle.spv_program.specs.Lists.{found, all_differ, same_name}
-use Rattle.spv_program.specs.Types.{same_type, form_at, sort_of, element_of, field_of, target_of}
+use Rattle.spv_program.specs.Types.{same_type, form_at, sort_of, element_of, field_of, target_of, same_item}
 use Rattle.spv_program.specs.Expressions.{Expression, Designator, Selectors, Call, Arguments, Numeral, Boolean, NilOf, Read, Result, Through, Negative, Calculated, Compared, Negated, Joined, designator, no_selectors, at_index, at_field, at_cell, call, no_arguments, by_value, by_place}
 use Rattle.spv_program.specs.Formulas as formula
 use Rattle.spv_program.specs.Formulas.{Formula, Formulas, Annotation, no_formulas, formulas}
 use Rattle.spv_program.specs.Statements.{Statement, Arms, Empty, Assign, Perform, New, Sequence, If, Case, While, Repeat, For, Assert, no_arms, arm}
-use Rattle.spv_program.specs.Programs.{Formal, GlobalItem, Routine, Program, routine_at}
+use Rattle.spv_program.specs.Programs.{Formal, GlobalItem, Routine, Program, routine_at, lists}
 use Rattle.spv_program.specs.Scopes.{is_own, is_initial as initial_here, name_type, result_name, body_scope, is_value_parameter}
-use Rattle.spv_program.specs.Uses.{Root, Own, Shared, Use, same_item, has_cell, name_root, annotation_uses, formula_uses, formulas_uses, expression_uses, designator_uses, selector_uses, call_uses, argument_uses, statement_uses, arms_uses, statement_calls}
-use Rattle.spv_program.specs.Frames.{is_formal, is_initial, routine_uses, lists, use_allowed, lists_cover, globals_of, arguments_apart, callee_covered, changes_nothing, routine_framed, framed}
+use Rattle.spv_program.specs.Uses.{Root, Own, Shared, Use, has_cell, name_root, annotation_uses, formula_uses, formulas_uses, expression_uses, designator_uses, selector_uses, call_uses, argument_uses, statement_uses, arms_uses, statement_calls}
+use Rattle.spv_program.specs.Frames.{is_formal, is_initial, routine_uses, use_allowed, lists_cover, globals_of, arguments_apart, callee_covered, changes_nothing, routine_framed, framed}
 use Rattle.spv_program.specs.Changes.{var_items, items_of_callee, changed_by_call, changed_roots}
 use Rattle.spv_program.specs.FormulaTypes.{is_sort, same_sort, annotation_ok}
 use Rattle.spv_program.specs.ExpressionTypes.{is_nil, may_read, may_write, sort_of_type, result_type, stands_for, expression_sort, designator_type, selected_type, callee, arguments_fit}

@@ -15,12 +15,12 @@ use Rattle.spv_logic.specs.Fits.{fits}
 use Rattle.spv_program.specs.declared.types.Item.{Item}
 use Rattle.spv_program.specs.declared.types.Item.TheVariants.{Variable, Class}
 use Rattle.spv_program.specs.Lists.{same_name, found, all_differ}
-use Rattle.spv_program.specs.Types.{sort_of}
-use Rattle.spv_program.specs.Programs.{GlobalItem, Routine, Program, shapes, routine_at, routine_in}
+use Rattle.spv_program.specs.Types.{sort_of, same_item}
+use Rattle.spv_program.specs.Programs.{GlobalItem, Routine, Program, shapes, routine_at, routine_in, lists}
 use Rattle.spv_program.specs.Scopes.{own_names_in, is_own}
-use Rattle.spv_program.specs.Uses.{Root, Own, Shared, Use, same_item, same_root, name_root, statement_uses, statement_calls}
+use Rattle.spv_program.specs.Uses.{Root, Own, Shared, Use, same_root, name_root, statement_uses, statement_calls}
 use Rattle.spv_program.specs.Expressions.{Call, call}
-use Rattle.spv_program.specs.Frames.{lists, lists_cover, globals_of, arguments_apart, callee_covered, routine_framed}
+use Rattle.spv_program.specs.Frames.{lists_cover, globals_of, arguments_apart, callee_covered, routine_framed}
 use Rattle.spv_program.specs.Changes.{var_items, changed_roots}
 use Rattle.spv_program.specs.Statements.{Statement}
 use Rattle.spv_program.specs.Typing.{statement_ok}

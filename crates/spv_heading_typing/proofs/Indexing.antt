@@ -9,9 +9,8 @@ use Rattle.spv_logic.specs.declared.types.TypeId.{TypeId}
 use Rattle.spv_program.specs.declared.types.Item.{Item}
 use Rattle.spv_program.specs.declared.types.Item.TheVariants.{Variable, Class}
 use Rattle.spv_program.specs.Lists.{found, first_of, same_name}
-use Rattle.spv_program.specs.Uses.{same_item}
-use Rattle.spv_program.specs.Frames.{lists}
-use Rattle.spv_program.specs.Programs.{GlobalItem}
+use Rattle.spv_program.specs.Types.{same_item}
+use Rattle.spv_program.specs.Programs.{GlobalItem, lists}
 use Rattle.spv_program.specs.declared.typed.programs.GlobalItem.{GlobalItem as GlobalText}
 use Rattle.spv_program.specs.typed.ProgramViews.{global_of}
 use Rattle.spv_heading_typing.specs.Shared.{looked_up, says_true, Indexed}

@@ -11,8 +11,7 @@ use Rattle.spv_logic.specs.declared.types.Sort.TheVariants as sort
 use Rattle.spv_tree.specs.declared.syntax.declarations.NameOrClass.TheVariants as written
 use Rattle.spv_program.specs.Lists.{found, same_name}
 use Rattle.spv_program.specs.Types.{sort_of}
-use Rattle.spv_program.specs.Programs.{GlobalItem}
-use Rattle.spv_program.specs.Frames.{lists}
+use Rattle.spv_program.specs.Programs.{GlobalItem, lists}
 use Rattle.spv_typing.specs.Outcomes.{Outcome, after}
 use Rattle.spv_typing.specs.DeclarationWalk.{class_named}
 use Rattle.spv_formula_typing.proofs.Exits.{stops_after}

@@ -5,9 +5,8 @@ use Rattle.spv_logic.specs.declared.names.names.Symbol.{Symbol}
 use Rattle.spv_program.specs.declared.types.Item.{Item}
 use Rattle.spv_program.specs.declared.types.Item.TheVariants.{Variable, Class}
 use Rattle.spv_program.specs.Lists.{found}
-use Rattle.spv_program.specs.Uses.{same_item}
-use Rattle.spv_program.specs.Frames.{lists}
-use Rattle.spv_program.specs.Programs.{GlobalItem}
+use Rattle.spv_program.specs.Types.{same_item}
+use Rattle.spv_program.specs.Programs.{GlobalItem, lists}
 
 -- whether an item's group has VAR, where the item is in the tables
 abbrev pub looked_up : List (Symbol × Bool) → List (Symbol × Bool) → Item → Option Bool

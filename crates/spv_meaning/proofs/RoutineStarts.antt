@@ -14,10 +14,9 @@ use Rattle.spv_logic.proofs.Defaults.{default_fits}
 use Rattle.spv_program.specs.declared.types.Item.{Item}
 use Rattle.spv_program.specs.declared.types.Item.TheVariants.{Variable, Class}
 use Rattle.spv_program.specs.Lists.{same_name, found, item_at, all_differ}
-use Rattle.spv_program.specs.Types.{sort_of, form_ok, forms_ok, type_exists}
+use Rattle.spv_program.specs.Types.{sort_of, form_ok, forms_ok, type_exists, same_item}
 use Rattle.spv_program.specs.Programs.{Formal, GlobalItem, Routine, Program, shapes, routine_at}
 use Rattle.spv_program.specs.Scopes.{result_name}
-use Rattle.spv_program.specs.Uses.{same_item}
 use Rattle.spv_program.specs.Typing.{well_typed, declarations_ok, heading_ok, item_exists, types_exist, result_ok, may_be_initial, routine_ok, scope_names, variables_among}
 use Rattle.spv_program.proofs.SortFacts.{nothing_there, some_is}
 use Rattle.spv_meaning.specs.Places.{Binding, State, OwnValue, Holding, Referring, whole, held, look}

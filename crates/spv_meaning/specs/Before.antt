@@ -277,3 +277,7 @@ abbrev mutual
       let first = before p here s q in
       let second = before_arms p here t others (record { conditions = q.conditions; supply = first.supply }) in
       record { conditions = all_assuming (is_label t labels) first.conditions ++ second.conditions; supply = second.supply }
+
+-- the body of a routine, or of the main block
+abbrev pub before_body : Program → Option RoutineId → Statement → Made → Made
+before_body p here body q = before p here body q

@@ -15,8 +15,8 @@ use Rattle.spv_program.specs.Programs.{Routine, Program, shapes, routine_at}
 use Rattle.spv_meaning.specs.Places.{State}
 use Rattle.spv_meaning.specs.Views.{entry_view}
 use Rattle.spv_meaning.specs.Outcomes.{Ended, Met}
-use Rattle.spv_meaning.specs.Levels.{Here, reached_in_body, reached_entry, reached_exit}
-use Rattle.spv_meaning.specs.Walks.{run}
+use Rattle.spv_meaning.specs.Levels.{Here, run_body, reached_in_body, reached_entry, reached_exit}
+use Rattle.spv_meaning.specs.Walks.{level}
 use Rattle.spv_meaning.specs.Starts.{IsStart}
 
 -- ---- annotations that hold
@@ -80,9 +80,9 @@ pub record Starts (p : Program) (world : Meaning) (here : Option RoutineId) (sta
 -- where the run ended, EXIT holds
 pub record CorrectWith (p : Program) (world : Meaning) (here : Option RoutineId) (turns : ℕ) : Type 0 where
   pub reached : (state : State) → Starts p world here state → (choices : List Value)
-      → IsTrue (all_hold p world (run p turns (begun p here state) (body_of p here) state choices).met)
+      → IsTrue (all_hold p world (run_body (level p turns) (begun p here state) (body_of p here) state choices).met)
   pub ended : (state : State) → Starts p world here state → (choices : List Value) (after : State)
-      → (run p turns (begun p here state) (body_of p here) state choices).end ≡ Ended after → IsTrue (all_hold p world (exit_met p here state after))
+      → (run_body (level p turns) (begun p here state) (body_of p here) state choices).end ≡ Ended after → IsTrue (all_hold p world (exit_met p here state after))
 
 -- whether there is such a routine; the main block is always there
 abbrev pub is_there : Program → Option RoutineId → Bool

@@ -39,6 +39,10 @@ pub record Level : Type 0 where
   pub run : Here → Statement → Run
   pub next : Here → Loop → ℤ → ℤ → Run
 
+-- the body of a routine, or of the main block
+abbrev pub run_body : Level → Here → Statement → Run
+run_body level here body = level.run here body
+
 -- what takes a turn, where there is one; else the run is going still
 abbrev pub with_turn : {A : Type 0} → Option Level → List Value → (Level → Outcome A) → Outcome A
 with_turn None rest go = is_going rest
@@ -84,7 +88,7 @@ abbrev pub run_routine : Program → Level → RoutineId → Routine → State �
 run_routine p below id r state choices =
     let here : Here = record { routine = Some id; entry = entry_view p (Some id) state } in
     and_then (meets (option_map (reached_entry p here r state) r.entry) state choices)
-    (λ begun rest. and_then (below.run here r.body begun rest) (λ after last. meets (option_map (reached_exit p here r after) r.exit) after last))
+    (λ begun rest. and_then (run_body below here r.body begun rest) (λ after last. meets (option_map (reached_exit p here r after) r.exit) after last))
 
 -- the run of a call with these parameters: the frame stays, so that the result can be read
 abbrev pub enter : Program → Level → RoutineId → Option Routine → Bound → List Value → Outcome State

@@ -15,7 +15,7 @@ use Rattle.spv_program.specs.Scopes.{item_sort}
 use Rattle.spv_program.specs.Terms.{alone, item_head, entry_term, exit_term}
 use Rattle.spv_program.specs.Supplies.{Supply, full_supply}
 use Rattle.spv_program.specs.Calls.{formal_head}
-use Rattle.spv_meaning.specs.Before.{Made, wanted, assuming_if_there, replaced, annotation_term, wanted_if_there, before}
+use Rattle.spv_meaning.specs.Before.{Made, wanted, assuming_if_there, replaced, annotation_term, wanted_if_there, before_body}
 
 -- ---- routines
 
@@ -34,7 +34,7 @@ wanted_exit p id r (Some a) = wanted (Some id) kind.Exit a.line (exit_term p r a
 -- EXIT brought in front of the body, under ENTRY, with all names as they are at the beginning
 abbrev pub routine_conditions : Program → RoutineId → Routine → Supply → Made
 routine_conditions p id r n =
-    let made = before p (Some id) r.body (record { conditions = wanted_exit p id r r.exit; supply = n }) in
+    let made = before_body p (Some id) r.body (record { conditions = wanted_exit p id r r.exit; supply = n }) in
     record {
       conditions = replaced (initial_pairs p r ++ start_pairs p r) (assuming_if_there (option_map (entry_term p r) r.entry) made.conditions);
       supply = made.supply;
@@ -44,7 +44,7 @@ routine_conditions p id r n =
 
 abbrev pub main_conditions : Program → Supply → List Condition
 main_conditions p n =
-    let made = before p None p.main.body (record { conditions = wanted_if_there p None kind.Exit p.main.exit; supply = n }) in
+    let made = before_body p None p.main.body (record { conditions = wanted_if_there p None kind.Exit p.main.exit; supply = n }) in
     assuming_if_there (annotation_term p None p.main.entry) made.conditions
 
 -- the routines in their order, counted from a number, and then the main block

@@ -16,9 +16,8 @@ use Rattle.spv_program.specs.declared.types.Item.{Item}
 use Rattle.spv_program.specs.declared.types.Item.TheVariants.{Variable, Class}
 use Rattle.spv_program.specs.Lists.{found}
 use Rattle.spv_program.specs.Types.{sort_of}
-use Rattle.spv_program.specs.Programs.{Routine, Program, shapes, routine_in}
+use Rattle.spv_program.specs.Programs.{Routine, Program, shapes, routine_in, lists}
 use Rattle.spv_program.specs.Scopes.{own_names_in, item_sort, is_value_parameter}
-use Rattle.spv_program.specs.Frames.{lists}
 use Rattle.spv_meaning.specs.Places.{Place, Binding, Frame, HeapRow, State, ProgramVariable, OwnValue, Holding, Referring, whole, look}
 
 -- ---- where names lie

@@ -12,8 +12,7 @@ use Rattle.spv_logic.specs.declared.conditions.RoutineId.{RoutineId}
 use Rattle.spv_logic.specs.Values.{Value}
 use Rattle.spv_logic.specs.Fits.{fits}
 use Rattle.spv_program.specs.Lists.{same_name, all_differ}
-use Rattle.spv_program.specs.Types.{sort_of, type_exists}
-use Rattle.spv_program.specs.Uses.{same_item}
+use Rattle.spv_program.specs.Types.{sort_of, type_exists, same_item}
 use Rattle.spv_program.specs.Programs.{Formal, Routine, Program, shapes, routine_at, routine_in}
 use Rattle.spv_program.specs.Scopes.{result_name, name_type, entry_scope, exit_scope}
 use Rattle.spv_program.specs.FormulaTypes.{annotation_ok}

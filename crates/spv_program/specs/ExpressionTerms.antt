@@ -1,5 +1,5 @@
 -- The terms of expressions and places, with the calls that they make.
-use Rattle.std.specs.Prelude.{ℕ, List, [], ◌∷◌, ◌++◌, Option, Some, None}
+use Rattle.std.specs.Prelude.{ℕ, List, [], ◌∷◌, ◌++◌, map, Option, Some, None}
 use Rattle.spv_logic.specs.declared.names.names.Symbol.{Symbol}
 use Rattle.spv_logic.specs.declared.types.TypeId.{TypeId}
 use Rattle.spv_logic.specs.declared.types.Sort.{Sort}
@@ -14,10 +14,11 @@ use Rattle.spv_program.specs.declared.types.Item.TheVariants.{Variable}
 use Rattle.spv_program.specs.Terms.{alone, unary, binary, numeral, truth, negative, head_of_arithmetic, comparing, head_of_connective, item_head}
 use Rattle.spv_program.specs.Supplies.{Supply, fresh_variable}
 use Rattle.spv_program.specs.Places.{ToElement, ToField, Target, present, further, cell_behind}
-use Rattle.spv_program.specs.Calls.{Argument, Given, AtPlace, entry_at_call, exit_at_call}
+use Rattle.spv_program.specs.Calls.{Argument, Given, AtPlace, present_argument, entry_at_call, exit_at_call}
 
--- a call that was made: its ENTRY, what its EXIT gives, and the line of the called name
+-- a call that was made: the terms of its arguments, its ENTRY, what its EXIT gives, and the line of the called name
 pub record Called : Type 0 where
+  pub args : List Term
   pub needs : Option Term
   pub gives : Option Term
   pub line : ℕ
@@ -89,6 +90,7 @@ with_call p r line given =
     record {
       term = alone value.head;
       calls = given.calls ++ record {
+        args = map present_argument given.arguments;
         needs = entry_at_call p r given.arguments;
         gives = exit_at_call p r given.arguments ((result_head p r, alone value.head) ∷ []);
         line = line;

@@ -6,9 +6,10 @@ use Rattle.spv_program.specs.declared.types.Item.{Item}
 use Rattle.spv_program.specs.declared.types.Item.TheVariants.{Class}
 use Rattle.spv_program.specs.Lists.{found, all_differ}
 use Rattle.spv_program.specs.Expressions.{Designator, Selectors, Call, Arguments, designator, no_selectors, at_index, at_field, at_cell, call, no_arguments, by_value, by_place}
-use Rattle.spv_program.specs.Programs.{GlobalItem, Routine, Program, routine_at}
+use Rattle.spv_program.specs.Programs.{GlobalItem, Routine, Program, lists, routine_at}
 use Rattle.spv_program.specs.Scopes.{is_own, result_name}
-use Rattle.spv_program.specs.Uses.{Root, Own, Shared, Use, same_item, same_root, name_root, annotation_uses, statement_uses, statement_calls}
+use Rattle.spv_program.specs.Types.{same_item}
+use Rattle.spv_program.specs.Uses.{Root, Own, Shared, Use, same_root, name_root, annotation_uses, body_uses, body_calls}
 
 -- ---- what a routine uses
 
@@ -23,7 +24,7 @@ abbrev pub routine_uses : Routine → List Use
 routine_uses r =
     annotation_uses (is_formal r) r.entry
     ++ (annotation_uses (λ x. is_formal r x || (is_some (found (result_name r.name r.result) x) || is_initial r x)) r.exit
-    ++ statement_uses (λ x. is_own (Some r) x || is_initial r x) r.body)
+    ++ body_uses (λ x. is_own (Some r) x || is_initial r x) r.body)
 
 abbrev pub items_once : List Item → List Root → List Item
 items_once seen [] = []
@@ -42,10 +43,6 @@ effects_of r = record {
 }
 
 -- ---- what is allowed
-
--- whether a list has an item, in a VAR group where that is wanted
-abbrev pub lists : List GlobalItem → Item → Bool → Bool
-lists globals item var = list_any (λ g. same_item g.item item && (g.is_var || not var)) globals
 
 abbrev pub use_allowed : List GlobalItem → Root → Bool → Bool
 use_allowed globals (Own x) changes = true
@@ -96,9 +93,9 @@ abbrev pub routine_framed : Program → Routine → Bool
 routine_framed p r =
     (changes_nothing r || not (is_some r.result))
     && (list_all (λ u. use_allowed r.globals u.root u.changes) (routine_uses r)
-    && list_all (λ c. callee_covered p r.globals c && arguments_apart p (Some r) c) (statement_calls r.body))
+    && list_all (λ c. callee_covered p r.globals c && arguments_apart p (Some r) c) (body_calls r.body))
 
 -- whether each routine uses what its GLOBAL list has, functions change nothing, and no two roots meet at a call;
 -- the main block may use everything
 abbrev pub framed : Program → Bool
-framed p = list_all (routine_framed p) p.routines && list_all (arguments_apart p None) (statement_calls p.main.body)
+framed p = list_all (routine_framed p) p.routines && list_all (arguments_apart p None) (body_calls p.main.body)

@@ -1,5 +1,6 @@
 -- Routines and programs.
-use Rattle.std.specs.Prelude.{ℕ, Bool, List, Option}
+use Rattle.std.specs.Prelude.{ℕ, Bool, ◌&&◌, ◌||◌, not, List, Option, ℤ}
+use Rattle.std.specs.List.{list_any}
 use Rattle.std.specs.Option.{option_and_then}
 use Rattle.spv_logic.specs.declared.names.names.Symbol.{Symbol}
 use Rattle.spv_logic.specs.declared.types.TypeId.{TypeId}
@@ -8,11 +9,10 @@ use Rattle.spv_logic.specs.declared.types.Shape.{Shape}
 use Rattle.spv_logic.specs.declared.conditions.RoutineId.{RoutineId}
 use Rattle.spv_program.specs.declared.types.Item.{Item}
 use Rattle.spv_program.specs.declared.types.TypeForm.{TypeForm}
-use Rattle.spv_program.specs.Types.{shapes_of}
+use Rattle.spv_program.specs.Types.{same_item, shapes_of}
 use Rattle.spv_program.specs.Formulas.{Annotation}
 use Rattle.spv_program.specs.Statements.{Statement}
 use Rattle.spv_program.specs.Lists.{item_at}
-use Rattle.std.specs.Prelude.{ℤ}
 
 -- a parameter, by place where VAR stands before its group, and the line where the group begins
 pub record Formal : Type 0 where
@@ -26,6 +26,10 @@ pub record GlobalItem : Type 0 where
   pub item : Item
   pub is_var : Bool
   pub line : ℕ
+
+-- whether a list has an item, in a VAR group where that is wanted
+abbrev pub lists : List GlobalItem → Item → Bool → Bool
+lists globals item var = list_any (λ g. same_item g.item item && (g.is_var || not var)) globals
 
 -- a procedure, or with a result a function; `line` is that of its heading
 pub record Routine : Type 0 where

@@ -13,12 +13,19 @@ use Rattle.spv_logic.specs.Values.{Value, number_of}
 use Rattle.spv_logic.specs.Terms.{sort_eq}
 use Rattle.spv_logic.specs.Shapes.{shapes_ok}
 use Rattle.spv_program.specs.declared.types.TypeField.{TypeField}
+use Rattle.spv_program.specs.declared.types.Item.{Item}
+use Rattle.spv_program.specs.declared.types.Item.TheVariants.{Variable, Class}
 use Rattle.spv_program.specs.declared.types.TypeForm.{TypeForm}
 use Rattle.spv_program.specs.declared.types.TypeForm.TheVariants.{Integer, Boolean, Range, Pointer, Array, Record}
 use Rattle.spv_program.specs.Lists.{same_name, names_differ}
 
 abbrev pub same_type : TypeId → TypeId → Bool
 same_type t u = nat_eq t.0 u.0
+
+abbrev pub same_item : Item → Item → Bool
+same_item (Variable x) (Variable y) = same_name x y
+same_item (Class t) (Class u) = same_type t u
+same_item _ _ = false
 
 -- the form of a type; a type out of range counts as a record without fields
 abbrev pub form_at : List TypeForm → ℕ → TypeForm

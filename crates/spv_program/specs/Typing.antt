@@ -10,14 +10,13 @@ use Rattle.spv_logic.specs.Sorts.{sort_in_range}
 use Rattle.spv_program.specs.declared.types.Item.{Item}
 use Rattle.spv_program.specs.declared.types.Item.TheVariants.{Variable, Class}
 use Rattle.spv_program.specs.Lists.{same_name, found, all_differ, names_differ}
-use Rattle.spv_program.specs.Types.{same_type, form_at, target_of, forms_ok, type_exists, may_be_result}
+use Rattle.spv_program.specs.Types.{same_type, form_at, target_of, forms_ok, type_exists, may_be_result, same_item}
 use Rattle.spv_program.specs.Statements.{Counting, Statement, Arms, Empty, Assign, Perform, New, Sequence, If, Case, While, Repeat, For, Assert, no_arms, arm}
-use Rattle.spv_program.specs.Programs.{Routine, Main, Program, shapes}
+use Rattle.spv_program.specs.Programs.{Routine, Main, Program, shapes, lists}
 use Rattle.spv_program.specs.Scopes.{name_type, is_value_parameter, body_scope, entry_scope, exit_scope}
-use Rattle.spv_program.specs.Uses.{same_item, same_root, name_root}
+use Rattle.spv_program.specs.Uses.{same_root, name_root}
 use Rattle.spv_program.specs.Changes.{changed_roots}
 use Rattle.spv_program.specs.Scopes.{is_own}
-use Rattle.spv_program.specs.Frames.{lists}
 use Rattle.spv_program.specs.FormulaTypes.{is_sort, same_sort, annotation_ok}
 use Rattle.spv_program.specs.ExpressionTypes.{expression_sort, designator_type, sort_of_type, callee, may_write}
 
@@ -80,6 +79,10 @@ abbrev mutual
   arms_ok p here no_arms = true
   arms_ok p here (arm labels s others) = statement_ok p here s && arms_ok p here others
 
+-- the body of a routine, or of the main block
+abbrev pub body_ok : Program → Option Routine → Statement → Bool
+body_ok p here body = statement_ok p here body
+
 -- ---- routines
 
 abbrev pub item_exists : Program → Item → Bool
@@ -121,7 +124,7 @@ heading_ok p r =
 abbrev pub routine_ok : Program → Routine → Bool
 routine_ok p r =
     heading_ok p r
-    && (annotation_ok p (entry_scope p r) r.entry && (annotation_ok p (exit_scope p r) r.exit && statement_ok p (Some r) r.body))
+    && (annotation_ok p (entry_scope p r) r.entry && (annotation_ok p (exit_scope p r) r.exit && body_ok p (Some r) r.body))
 
 -- ---- programs
 
@@ -142,7 +145,7 @@ declarations_ok p =
 
 abbrev pub main_ok : Program → Main → Bool
 main_ok p m =
-    annotation_ok p (body_scope p None) m.entry && (annotation_ok p (body_scope p None) m.exit && statement_ok p None m.body)
+    annotation_ok p (body_scope p None) m.entry && (annotation_ok p (body_scope p None) m.exit && body_ok p None m.body)
 
 abbrev pub well_typed : Program → Bool
 well_typed p = declarations_ok p && (list_all (routine_ok p) p.routines && main_ok p p.main)

@@ -4,7 +4,7 @@ use Rattle.spv_logic.specs.declared.names.names.Symbol.{Symbol}
 use Rattle.spv_program.specs.declared.types.Item.{Item}
 use Rattle.spv_program.specs.declared.types.Item.TheVariants.{Variable, Class}
 use Rattle.spv_program.specs.Lists.{same_name}
-use Rattle.spv_program.specs.Types.{same_type}
+use Rattle.spv_program.specs.Types.{same_item}
 use Rattle.spv_program.specs.Expressions.{Expression, Designator, Selectors, Call, Arguments, Numeral, Boolean, NilOf, Read, Result, Through, Negative, Calculated, Compared, Negated, Joined, designator, no_selectors, at_index, at_field, at_cell, call, no_arguments, by_value, by_place}
 use Rattle.spv_program.specs.Formulas as formula
 use Rattle.spv_program.specs.Formulas.{Formula, Formulas, Annotation, no_formulas, formulas}
@@ -20,11 +20,6 @@ pub record Use : Type 0 where
   pub root : Root
   pub changes : Bool
   pub line : ℕ
-
-abbrev pub same_item : Item → Item → Bool
-same_item (Variable x) (Variable y) = same_name x y
-same_item (Class t) (Class u) = same_type t u
-same_item _ _ = false
 
 abbrev pub same_root : Root → Root → Bool
 same_root (Own x) (Own y) = same_name x y
@@ -185,3 +180,12 @@ abbrev mutual
   pub arms_calls : Arms → List Call
   arms_calls no_arms = []
   arms_calls (arm labels s others) = statement_calls s ++ arms_calls others
+
+-- ---- bodies
+
+-- what the body of a routine, or of the main block, reads and writes, and which routines it calls
+abbrev pub body_uses : (Symbol → Bool) → Statement → List Use
+body_uses own body = statement_uses own body
+
+abbrev pub body_calls : Statement → List Call
+body_calls body = statement_calls body

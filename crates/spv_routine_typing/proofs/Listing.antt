@@ -6,7 +6,7 @@ use Rattle.spv_logic.specs.declared.types.TypeId.{TypeId}
 use Rattle.spv_program.specs.declared.types.Item.{Item}
 use Rattle.spv_program.specs.declared.types.Item.TheVariants.{Variable, Class}
 use Rattle.spv_program.specs.Lists.{found, first_of, same_name}
-use Rattle.spv_program.specs.Uses.{same_item}
+use Rattle.spv_program.specs.Types.{same_item}
 use Rattle.spv_heading_typing.specs.Names.{has}
 
 pub found_last : {X : Type 0} (xs : List (Symbol × X)) (x y : Symbol) (b : X) → found (xs ++ (x, b) ∷ []) y ≡ first_of (found xs y) (cond (same_name x y) (Some b) None)

@@ -26,11 +26,9 @@ use Rattle.spv_tree.specs.declared.syntax.routines.Locals.{Locals}
 use Rattle.spv_program.specs.declared.types.Item.{Item}
 use Rattle.spv_program.specs.declared.types.Item.TheVariants.{Variable, Class}
 use Rattle.spv_program.specs.Lists.{same_name, found}
-use Rattle.spv_program.specs.Types.{form_at, sort_of, may_be_result}
-use Rattle.spv_program.specs.Uses.{same_item}
-use Rattle.spv_program.specs.Frames.{lists}
+use Rattle.spv_program.specs.Types.{form_at, sort_of, may_be_result, same_item}
 use Rattle.spv_program.specs.Statements.{Statement}
-use Rattle.spv_program.specs.Programs.{Formal, GlobalItem, Routine}
+use Rattle.spv_program.specs.Programs.{Formal, GlobalItem, Routine, lists}
 use Rattle.spv_typing.specs.declared.faults.TypeFault.TheVariants.{ProcParameter}
 use Rattle.spv_typing.specs.Outcomes.{Outcome, after, where_so, each, if_there, undeclared, twice, wrong}
 use Rattle.spv_typing.specs.Known.{KnownNames, is_fixed, Heading, Specified, Meaning, OfConstant, OfPlace, OfStart, Names, Known, Scope, meaning, is_named, program_names}

@@ -7,10 +7,11 @@ use Rattle.spv_program.specs.declared.types.Item.TheVariants.{Variable, Class}
 use Rattle.spv_program.specs.Lists.{first_of, all_differ}
 use Rattle.spv_logic.specs.declared.conditions.RoutineId.{RoutineId}
 use Rattle.spv_program.specs.Expressions.{Call, Arguments, call}
-use Rattle.spv_program.specs.Programs.{Formal, GlobalItem, Routine, Program, routine_at}
+use Rattle.spv_program.specs.Programs.{Formal, GlobalItem, Routine, Program, routine_at, lists}
 use Rattle.spv_program.specs.Scopes.{is_own}
-use Rattle.spv_program.specs.Uses.{Root, Own, Shared, Use, same_item, same_root, statement_calls}
-use Rattle.spv_program.specs.Frames.{lists, place_roots, is_item_of, globals_of, routine_uses}
+use Rattle.spv_program.specs.Types.{same_item}
+use Rattle.spv_program.specs.Uses.{Root, Own, Shared, Use, same_root, statement_calls}
+use Rattle.spv_program.specs.Frames.{place_roots, is_item_of, globals_of, routine_uses}
 use Rattle.spv_effects.specs.frame_walk.Events.{Event, Used, Called, statement_events, clause_events, body_events, uses_in, calls_in}
 use Rattle.spv_effects.specs.frame_walk.FrameWalk.{var_parameter, var_group, writes_at, heading_fault, anything, root_fault, use_fault, missing_item, twice, listed, root_item, meeting_fault, call_fault, event_fault, events_fault, line_of, earliest, part_fault, routine_fault, routines_fault, main_fault, alias}
 use Rattle.spv_effects.specs.declared.frame_walk.faults.FrameFault.{FrameFault}

@@ -6,10 +6,11 @@ use Rattle.spv_program.specs.declared.types.Item.{Item}
 use Rattle.spv_program.specs.Lists.{same_name, all_differ}
 use Rattle.spv_program.specs.Expressions.{Call, call}
 use Rattle.spv_program.specs.Statements.{Statement}
-use Rattle.spv_program.specs.Programs.{GlobalItem, Routine, Program, routine_at}
+use Rattle.spv_program.specs.Programs.{GlobalItem, Routine, Program, routine_at, lists}
 use Rattle.spv_program.specs.Scopes.{is_own}
-use Rattle.spv_program.specs.Uses.{Root, Shared, Use, same_item, same_root, statement_calls}
-use Rattle.spv_program.specs.Frames.{lists, place_roots, is_item_of, globals_of, routine_uses}
+use Rattle.spv_program.specs.Types.{same_item}
+use Rattle.spv_program.specs.Uses.{Root, Shared, Use, same_root, statement_calls}
+use Rattle.spv_program.specs.Frames.{place_roots, is_item_of, globals_of, routine_uses}
 use Rattle.spv_effects.specs.declared.frame_walk.faults.FrameFault.{FrameFault}
 use Rattle.spv_effects.specs.declared.frame_walk.faults.FrameFault.TheVariants.{Alias, GlobalMissing, FunctionWrites, Memory}
 use Rattle.spv_effects.specs.frame_walk.FrameWalk.{root_item}

@@ -8,10 +8,10 @@ use Rattle.spv_program.specs.declared.types.Item.{Item}
 use Rattle.spv_program.specs.declared.types.Item.TheVariants.{Variable}
 use Rattle.spv_program.specs.Lists.{first_of}
 use Rattle.spv_program.specs.Expressions.{Call, call}
-use Rattle.spv_program.specs.Programs.{Formal, GlobalItem, Routine, Program, routine_at}
+use Rattle.spv_program.specs.Programs.{Formal, GlobalItem, Routine, Program, routine_at, lists}
 use Rattle.spv_program.specs.Scopes.{is_own}
 use Rattle.spv_program.specs.Uses.{Root, Own, Shared, Use, same_root}
-use Rattle.spv_program.specs.Frames.{lists, place_roots, is_item_of, globals_of}
+use Rattle.spv_program.specs.Frames.{place_roots, is_item_of, globals_of}
 use Rattle.spv_effects.specs.declared.frame_walk.faults.FrameFault.{FrameFault}
 use Rattle.spv_effects.specs.declared.frame_walk.faults.FrameFault.TheVariants.{Alias, GlobalMissing, FunctionWrites, Memory}
 use Rattle.spv_effects.specs.frame_walk.Events.{Event, Used, Called, statement_events, clause_events, body_events}

@@ -11,11 +11,9 @@ use Rattle.spv_logic.specs.Sorts.{sort_in_range}
 use Rattle.spv_program.specs.declared.types.Item.{Item}
 use Rattle.spv_program.specs.declared.types.Item.TheVariants.{Variable, Class}
 use Rattle.spv_program.specs.Lists.{found, first_of, all_differ}
-use Rattle.spv_program.specs.Types.{sort_of, type_exists, forms_ok}
-use Rattle.spv_program.specs.Programs.{Formal, GlobalItem, Routine, Program, shapes}
+use Rattle.spv_program.specs.Types.{sort_of, type_exists, forms_ok, same_item}
+use Rattle.spv_program.specs.Programs.{Formal, GlobalItem, Routine, Program, shapes, lists}
 use Rattle.spv_program.specs.Scopes.{Scope, result_name, own_names, own_names_in, name_type, with_sorts_of, sort_or_int, item_sort, initial_names, body_scope, parameters_of, entry_scope, exit_scope}
-use Rattle.spv_program.specs.Uses.{same_item}
-use Rattle.spv_program.specs.Frames.{lists}
 use Rattle.spv_program.specs.Typing.{item_exists, may_be_initial, types_exist, result_ok, heading_ok, declarations_ok}
 use Rattle.spv_program.proofs.ExpressionSorting.{same_types}
 use Rattle.spv_expression_terms.specs.makeable_terms.Laws.{SortsAreThere, heading_ok_in}

@@ -24,12 +24,11 @@ use Rattle.spv_tree.specs.syntax.Formulas as tree
 use Rattle.spv_program.specs.declared.types.Item.{Item}
 use Rattle.spv_program.specs.declared.types.Item.TheVariants.{Variable, Class}
 use Rattle.spv_program.specs.Lists.{same_name, found, all_differ, names_differ}
-use Rattle.spv_program.specs.Types.{form_at, sort_of, type_exists, may_be_result}
+use Rattle.spv_program.specs.Types.{form_at, sort_of, type_exists, may_be_result, same_item}
 use Rattle.spv_program.specs.Formulas.{Annotation}
 use Rattle.spv_program.specs.FormulaTypes.{annotation_ok}
 use Rattle.spv_program.specs.Programs.{Formal, GlobalItem, Program}
 use Rattle.spv_program.specs.Scopes.{Scope as Seen}
-use Rattle.spv_program.specs.Uses.{same_item}
 use Rattle.spv_program.specs.Typing.{item_exists, variables_among}
 use Rattle.spv_typing.specs.Outcomes.{after, where_so, each, if_there, twice, wrong}
 use Rattle.spv_typing.specs.Known.{KnownNames, is_fixed, Heading, Meaning, OfType, OfList, OfConstant, OfPlace, OfStart, OfSymbol, OfRoutine, Names, named, Known, Scope, program_names, meaning, is_named, is_free}

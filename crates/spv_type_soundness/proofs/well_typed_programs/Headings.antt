@@ -11,12 +11,11 @@ use Rattle.spv_logic.specs.Sorts.{sort_in_range}
 use Rattle.spv_program.specs.declared.types.Item.{Item}
 use Rattle.spv_program.specs.declared.types.Item.TheVariants.{Variable, Class}
 use Rattle.spv_program.specs.Lists.{found, all_differ, names_differ}
-use Rattle.spv_program.specs.Types.{form_at, sort_of, type_exists, may_be_result}
+use Rattle.spv_program.specs.Types.{form_at, sort_of, type_exists, may_be_result, same_item}
 use Rattle.spv_program.specs.Formulas.{Annotation}
 use Rattle.spv_program.specs.FormulaTypes.{annotation_ok}
 use Rattle.spv_program.specs.Programs.{Formal, GlobalItem, Program, shapes}
 use Rattle.spv_program.specs.Scopes.{Scope, with_sorts_of, result_name}
-use Rattle.spv_program.specs.Uses.{same_item}
 use Rattle.spv_program.specs.Typing.{item_exists, variables_among}
 use Rattle.spv_typing.specs.Known.{Heading, Specified}
 use Rattle.spv_typing.specs.RoutineWalk.{may_be_initial}

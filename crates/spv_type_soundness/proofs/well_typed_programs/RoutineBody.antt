@@ -13,13 +13,11 @@ use Rattle.spv_logic.specs.Sorts.{sort_in_range}
 use Rattle.spv_program.specs.declared.types.Item.{Item}
 use Rattle.spv_program.specs.declared.types.Item.TheVariants.{Variable, Class}
 use Rattle.spv_program.specs.Lists.{same_name, found, first_of, names_differ}
-use Rattle.spv_program.specs.Types.{form_at, sort_of, type_exists, may_be_result}
+use Rattle.spv_program.specs.Types.{form_at, sort_of, type_exists, may_be_result, same_item}
 use Rattle.spv_program.specs.Statements.{Statement}
-use Rattle.spv_program.specs.Programs.{Formal, GlobalItem, Routine, Program, shapes}
+use Rattle.spv_program.specs.Programs.{Formal, GlobalItem, Routine, Program, shapes, lists}
 use Rattle.spv_program.specs.Scopes as program
 use Rattle.spv_program.specs.Scopes.{result_name, own_names, is_own, name_type, is_result, is_initial, is_value_parameter, with_sorts_of, item_sort, initial_names, body_scope, entry_scope, exit_scope}
-use Rattle.spv_program.specs.Uses.{same_item}
-use Rattle.spv_program.specs.Frames.{lists}
 use Rattle.spv_program.specs.FormulaTypes.{annotation_ok}
 use Rattle.spv_program.specs.Typing.{statement_ok, may_count, may_be_initial, variables_among, result_ok, heading_ok, routine_ok}
 use Rattle.spv_program.proofs.SortFacts.{nothing_there, some_is}

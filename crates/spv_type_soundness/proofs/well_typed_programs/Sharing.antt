@@ -10,7 +10,7 @@ use Rattle.spv_program.specs.declared.types.Item.{Item}
 use Rattle.spv_program.specs.declared.types.Item.TheVariants.{Variable, Class}
 use Rattle.spv_program.specs.Lists.{same_name, all_differ, names_differ}
 use Rattle.spv_program.specs.Programs.{GlobalItem}
-use Rattle.spv_program.specs.Uses.{same_item}
+use Rattle.spv_program.specs.Types.{same_item}
 use Rattle.spv_program.specs.Typing.{variables_among}
 use Rattle.spv_program.proofs.ExpressionSorting.{same_types}
 use Rattle.spv_type_soundness.proofs.well_typed_programs.Differ.{name-refl, same_names}
