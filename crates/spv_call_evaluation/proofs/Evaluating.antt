@@ -28,7 +28,7 @@ use Rattle.spv_program.specs.ExpressionTypes.{is_nil, may_read, may_write, sort_
 use Rattle.spv_program.specs.Supplies.{Supply, fresh_variable}
 use Rattle.spv_program.specs.Places.{Step, ToElement, ToField, Target, present, further, cell_behind}
 use Rattle.spv_program.specs.Terms.{alone, binary, numeral, truth, head_of_arithmetic, comparing, head_of_connective, item_head}
-use Rattle.spv_program.specs.Calls.{Given, AtPlace, entry_at_call, exit_at_call}
+use Rattle.spv_program.specs.Calls.{Given, AtPlace, present_argument, entry_at_call, exit_at_call}
 use Rattle.spv_program.specs.ExpressionTerms.{Called, Valued, Placed, Argued, without_calls, sort_of_result, result_head, called_in, valued, placed, selected, called, argued, read_at, at_start, to_element, to_field, to_cell}
 use Rattle.spv_program.specs.Laws.{HasSort}
 use Rattle.spv_program.proofs.SortFacts.{some_is, is_sort-true, test_passes, behind, passed, chosen, failed}
@@ -395,6 +395,7 @@ module _ (p : Program) (world : Meaning) (here : Here) (below : Option Level) (s
         let v = value_head p q.routine a.supply in
         let after = (fresh_variable q.routine.name (sort_of_result p q.routine) a.supply).supply in
         let made : Called = record {
+          args = map present_argument a.arguments;
           needs = entry_at_call p q.routine a.arguments;
           gives = exit_at_call p q.routine a.arguments ((result_head p q.routine, alone v) ∷ []);
           line = line;

@@ -1,3 +1,4 @@
 pub mod Windows
 pub mod Results
 pub mod Evaluating
+pub mod Supplies

@@ -19,9 +19,10 @@ use Rattle.spv_meaning.specs.Starts.{IsStart}
 use Rattle.spv_meaning.specs.Before.{before_calls}
 use Rattle.spv_rule_soundness.specs.evaluation.Laws.{uses_seen}
 use Rattle.spv_rule_soundness.specs.statements.Truth.{IsWindow, IsEntry, meaning_in, shown, IsTrueFor}
-use Rattle.spv_rule_soundness.specs.statements.Runs.{Reaches, IsRightTest}
+use Rattle.spv_rule_soundness.specs.statements.Runs.{Reaches, IsRightTest, IsSuppliedTest}
 use Rattle.spv_call_evaluation.specs.Known.{Widely, IsWorth}
 use Rattle.spv_call_evaluation.specs.Lying.{IsFixedAt, IsBoundTo}
+use Rattle.spv_call_evaluation.specs.Supplied.{IsSuppliedPlace, AreSuppliedArguments}
 use Rattle.spv_call_evaluation.specs.Functions.{calls_shown, FunctionsGive}
 
 -- what is asked of where evaluations begin: a well typed program, a start, and functions that give what they promise
@@ -78,3 +79,16 @@ ExpressionsAreRightTests =
     → (e : Expression) (s : Sort) → expression_sort p (routine_in p here.routine) e ≡ Some s → IsTrue (calls_shown p (routine_in p here.routine) (expression_calls e))
     → IsTrue (uses_seen (routine_in p here.routine) (expression_uses (is_own (routine_in p here.routine)) e))
     → IsRightTest p world here below e
+
+-- ---- supplies
+
+-- whatever is evaluated: its calls take their variables from the supply, and its terms, and the list with its calls in front, ignore
+-- what is left
+abbrev pub ExpressionsAreSupplied : Type 0
+ExpressionsAreSupplied = (p : Program) (world : Meaning) (here : Here) (e : Expression) (n : Supply) → IsSuppliedTest p world here e n
+
+abbrev pub PlacesAreSupplied : Type 0
+PlacesAreSupplied = (p : Program) (world : Meaning) (here : Here) (d : Designator) (n : Supply) → IsSuppliedPlace p world here d n
+
+abbrev pub ArgumentsAreSupplied : Type 0
+ArgumentsAreSupplied = (p : Program) (world : Meaning) (here : Here) (given : Arguments) (n : Supply) → AreSuppliedArguments p world here given n
