@@ -1,5 +1,5 @@
 -- Expressions, places and arguments with calls.
-use Rattle.std.proofs.Common.{◌≡◌, Bool, true, false, cond, not, ◌&&◌, List, [], ◌∷◌, ◌++◌, map, ℕ, pos, ◌-ℤ◌, refl, sym, ap, subst, ◌∙◌, Option, Some, None, option_map}
+use Rattle.std.proofs.Common.{◌≡◌, Bool, true, false, cond, not, ◌&&◌, List, [], ◌∷◌, ◌++◌, map, pos, ◌-ℤ◌, refl, sym, ap, subst, ◌∙◌, Option, Some, None, option_map}
 use Rattle.std.specs.Option.{option_and_then, unwrap_or}
 use Rattle.std.specs.Ordering.{int_eq}
 use Rattle.std.proofs.lemmas.Bool.{false≢true}
@@ -8,7 +8,6 @@ use Rattle.spv_logic.specs.declared.names.names.Symbol.{Symbol}
 use Rattle.spv_logic.specs.declared.types.TypeId.{TypeId}
 use Rattle.spv_logic.specs.declared.types.Sort.{Sort}
 use Rattle.spv_logic.specs.declared.types.Sort.TheVariants as sort
-use Rattle.spv_logic.specs.declared.conditions.RoutineId.{RoutineId}
 use Rattle.spv_logic.specs.declared.operators.Head.{Head}
 use Rattle.spv_logic.specs.declared.operators.Head.TheVariants as head
 use Rattle.spv_logic.specs.Values.{Value, Number, Truth, Pointer, number_of, truth_of, pointer_of}
@@ -19,7 +18,7 @@ use Rattle.spv_logic.proofs.Equality.{sort_eq-true}
 use Rattle.spv_program.specs.declared.types.Item.TheVariants.{Variable, Class}
 use Rattle.spv_program.specs.Types.{same_type, form_at, sort_of, element_of, field_of, target_of, takes_index, takes_value}
 use Rattle.spv_program.specs.Expressions.{Expression, Designator, Selectors, Call, Arguments, Numeral, Boolean, NilOf, Read, Result, Through, Negative, Calculated, Compared, Negated, Joined, designator, no_selectors, at_index, at_field, at_cell, call, no_arguments, by_value, by_place}
-use Rattle.spv_program.specs.Programs.{Formal, Routine, Program, routine_at, routine_in}
+use Rattle.spv_program.specs.Programs.{Formal, Routine, Program, routine_in}
 use Rattle.spv_program.specs.Scopes.{name_type, is_own, sort_or_int}
 use Rattle.spv_program.specs.Frames.{arguments_apart}
 use Rattle.spv_program.specs.Uses.{Use, name_root, expression_uses, designator_uses, selector_uses, call_uses, argument_uses, expression_calls, designator_calls, selector_calls, calls_with, argument_calls}
@@ -47,6 +46,7 @@ use Rattle.spv_rule_soundness.specs.statements.Truth.{meaning_in, shown}
 use Rattle.spv_rule_soundness.specs.statements.Runs.{Reaches}
 use Rattle.spv_rule_soundness.proofs.evaluation.Values.{Stands, seen_left, seen_right, same_types, target_is, sides, truth_worth, arithmetic_worth, comparison_worth, connective_worth, element_sorted, field_sorted, element_at, field_stands, cell_there, got_is}
 use Rattle.spv_rule_soundness.proofs.statements.Reaching.{reach_going, reach_as, true_first, true_second}
+use Rattle.spv_preservation.proofs.Expressions.{is_callee}
 use Rattle.spv_writes.proofs.Lists.{all_left, all_right}
 use Rattle.spv_frame_law.specs.Frames.{call_shown}
 use Rattle.spv_call_evaluation.specs.Known.{Knows, Widely, IsWorth}
@@ -88,23 +88,6 @@ record Function (p : Program) (r : Option Routine) (c : Call) (t : TypeId) : Typ
 
 function : (p : Program) (r : Option Routine) (c : Call) (t : TypeId) → option_and_then result_type (callee p r c) ≡ Some t → Function p r c t
 function p r c t e = let b = behind result_type (callee p r c) t e in record { routine = b.item; is = b.is; gives = b.gives }
-
--- the routine of a call is there, and its parameters take the arguments
-record Takes (p : Program) (r : Option Routine) (id : RoutineId) (given : Arguments) (q : Routine) : Type 0 where
-  there : routine_at p id ≡ Some q
-  fit : arguments_fit p r q.formals given ≡ true
-
-takes_them : (p : Program) (r : Option Routine) (id : RoutineId) (line : ℕ) (given : Arguments) (q : Routine) → callee p r (call id line given) ≡ Some q → Takes p r id given q
-takes_them p r id line given q e =
-    let b = behind (λ q. cond (arguments_fit p r q.formals given) (Some q) None) (routine_at p id) q e in
-    let same = some_is (chosen (arguments_fit p r b.item.formals given) (Some b.item) q b.gives) in
-    record {
-      there = b.is ∙ ap Some same;
-      fit = ap (λ q. arguments_fit p r q.formals given) (sym same) ∙ passed (arguments_fit p r b.item.formals given) _ q b.gives;
-    }
-
-result_sort_is : (p : Program) (q : Routine) (t : TypeId) → q.result ≡ Some t → sort_of_result p q ≡ sort_of p.forms t
-result_sort_is p q t e = ap (λ o. sort_or_int (sort_of_type p o)) e
 
 -- a place that may stand for a VAR parameter has a type of its sort
 record StandsFor (p : Program) (t : TypeId) (o : Option TypeId) : Type 0 where
@@ -383,7 +366,7 @@ module _ (p : Program) (world : Meaning) (here : Here) (below : Option Level) (s
 
     called_at : (c : Call) (t : TypeId) → Function p r c t → Shown (calls_with c) → Seen (call_uses (is_own r) c) → (n : Supply) (window : View) (wanted : List Condition) → Before n window (called p r n c).calls wanted → (now : State) → now ≡ state → (choices : List Value) → Gives n (called p r n c) window wanted (result p below here c now choices)
     called_at (call id line given) t q calls uses n window wanted from now same choices =
-        let takes = takes_them p r id line given q.routine q.is in
+        let takes = is_callee p r id line given q.routine q.is in
         subst (λ (o : Option Routine). Before n window (called_in p o line (argued p r n given)).calls wanted → Gives n (called_in p o line (argued p r n given)) window wanted
         (with_turn below choices (λ level.
         and_then (arguments p below here (formals_of o) given now choices) (λ bound rest.

@@ -55,11 +55,11 @@ module _ (p : Program) (world : Meaning) where
   checked_then Q false f x rest next later = reach_stops p world Q f rest
 
   -- what ended, and that it did
-  record Given (A : Type 0) (P : A → Type 0) (o : Outcome A) (x : A) : Type 0 where
-    passes : P x
-    ended : o.end ≡ Ended x
+  pub record Given (A : Type 0) (P : A → Type 0) (o : Outcome A) (x : A) : Type 0 where
+    pub passes : P x
+    pub ended : o.end ≡ Ended x
 
-  reach_with : {A : Type 0} (P : A → Type 0) (o : Outcome A) → Reaches p world A P o → Reaches p world A (Given A P o) o
+  pub reach_with : {A : Type 0} (P : A → Type 0) (o : Outcome A) → Reaches p world A P o → Reaches p world A (Given A P o) o
   reach_with P o first = record { holds = first.holds; ended = λ x e. record { passes = first.ended x e; ended = e } }
 
   module _ (here : Here) (state : State) where

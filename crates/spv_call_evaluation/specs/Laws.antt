@@ -1,5 +1,5 @@
 -- What is proved of evaluations with calls.
-use Rattle.std.specs.Prelude.{◌≡◌, Bool, List, Option, Some, IsTrue}
+use Rattle.std.specs.Prelude.{◌≡◌, ℕ, Bool, List, Option, Some, IsTrue}
 use Rattle.spv_logic.specs.declared.types.TypeId.{TypeId}
 use Rattle.spv_logic.specs.declared.types.Sort.{Sort}
 use Rattle.spv_logic.specs.Values.{Value}
@@ -16,10 +16,13 @@ use Rattle.spv_meaning.specs.Places.{State}
 use Rattle.spv_meaning.specs.Levels.{Here, Level, Bound}
 use Rattle.spv_meaning.specs.Evaluation.{Got, Fixed, evaluate, fix, arguments}
 use Rattle.spv_meaning.specs.Starts.{IsStart}
+use Rattle.spv_meaning.specs.Correct.{CorrectBelow}
 use Rattle.spv_meaning.specs.Before.{before_calls}
 use Rattle.spv_rule_soundness.specs.evaluation.Laws.{uses_seen}
 use Rattle.spv_rule_soundness.specs.statements.Truth.{IsWindow, IsEntry, meaning_in, shown, IsTrueFor}
 use Rattle.spv_rule_soundness.specs.statements.Runs.{Reaches, IsRightTest, IsSuppliedTest}
+use Rattle.spv_rule_soundness.specs.statements.Laws.{below}
+use Rattle.spv_frame_law.specs.Laws.{IsFramed}
 use Rattle.spv_call_evaluation.specs.Known.{Widely, IsWorth}
 use Rattle.spv_call_evaluation.specs.Lying.{IsFixedAt, IsBoundTo}
 use Rattle.spv_call_evaluation.specs.Supplied.{IsSuppliedPlace, AreSuppliedArguments}
@@ -71,14 +74,19 @@ ArgumentsAreBoundToTheirTerms =
     → Reaches p world Bound (Widely p world here state n (argued p (routine_in p here.routine) n given).supply window wanted Bound (IsBoundTo p (meaning_in p world) here state formals (argued p (routine_in p here.routine) n given).arguments))
     (arguments p below here formals given state choices)
 
--- so an expression is a right test, where functions give what they promise from every start
+-- where every routine is correct with fewer turns, functions give what they promise, from every start
+abbrev pub CorrectFunctionsGive : Type 0
+CorrectFunctionsGive =
+    (p : Program) → IsFramed p → (world : Meaning) (here : Here) → IsEntry p here.entry → (turns : ℕ) → CorrectBelow p world turns
+    → (state : State) → IsStart p here.routine state → FunctionsGive p world here (below p turns) state
+
+-- so an expression is a right test, whatever functions it calls
 abbrev pub ExpressionsAreRightTests : Type 0
 ExpressionsAreRightTests =
-    (p : Program) → IsTrue (well_typed p) → (world : Meaning) (here : Here) → IsEntry p here.entry → (below : Option Level)
-    → ((state : State) → IsStart p here.routine state → FunctionsGive p world here below state)
+    (p : Program) → IsFramed p → (world : Meaning) (here : Here) → IsEntry p here.entry
     → (e : Expression) (s : Sort) → expression_sort p (routine_in p here.routine) e ≡ Some s → IsTrue (calls_shown p (routine_in p here.routine) (expression_calls e))
     → IsTrue (uses_seen (routine_in p here.routine) (expression_uses (is_own (routine_in p here.routine)) e))
-    → IsRightTest p world here below e
+    → (turns : ℕ) → CorrectBelow p world turns → IsRightTest p world here (below p turns) e
 
 -- ---- supplies
 

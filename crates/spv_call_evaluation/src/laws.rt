@@ -1,6 +1,6 @@
 // What is proved of evaluations with calls, each claim the contract of a function that does nothing.
 
-ghost use Rattle.spv_call_evaluation.specs.Laws.{ExpressionsGiveTheirWorth, PlacesLieWhereTheirTermsSay, ArgumentsAreBoundToTheirTerms, ExpressionsAreRightTests, ExpressionsAreSupplied, PlacesAreSupplied, ArgumentsAreSupplied};
+ghost use Rattle.spv_call_evaluation.specs.Laws.{ExpressionsGiveTheirWorth, PlacesLieWhereTheirTermsSay, ArgumentsAreBoundToTheirTerms, ExpressionsAreRightTests, CorrectFunctionsGive, ExpressionsAreSupplied, PlacesAreSupplied, ArgumentsAreSupplied};
 
 /// Expressions, places and arguments with calls in them, wherever these stand: where the functions that are called give what they
 /// promise, and the list with the calls in front is true, each annotation that is reached holds; the state is as it was; and the
@@ -11,7 +11,6 @@ pub fn law_evaluation()
     ensures expressions { ExpressionsGiveTheirWorth }
     ensures places { PlacesLieWhereTheirTermsSay }
     ensures arguments { ArgumentsAreBoundToTheirTerms }
-    ensures tests { ExpressionsAreRightTests }
 {}
 
 /// The calls of expressions, places and arguments take their fresh variables from the supply: the terms, and each list with the calls
@@ -20,4 +19,12 @@ pub fn law_supplies()
     ensures expressions { ExpressionsAreSupplied }
     ensures places { PlacesAreSupplied }
     ensures arguments { ArgumentsAreSupplied }
+{}
+
+/// In a well typed program that shares rightly, where every routine is correct with fewer turns, a function that is called gives what it
+/// promises: its ENTRY, which is true of the arguments' terms, holds where it begins; what its run reaches holds; the state behind it
+/// is the one before; and its EXIT holds of the arguments' terms and the value that it gave. So every expression is a right test.
+pub fn law_functions()
+    ensures functions { CorrectFunctionsGive }
+    ensures tests { ExpressionsAreRightTests }
 {}

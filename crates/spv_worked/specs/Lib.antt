@@ -9,6 +9,7 @@ pub mod StatementConditions
 pub mod CallConditions
 pub mod PlaceConditions
 pub mod PlaceRuns
+pub mod EvaluationRuns
 pub mod Doubts
 pub mod TypedPrograms
 pub mod UntypedDeclarations

@@ -6,6 +6,7 @@ use Rattle.std.proofs.lemmas.Bool.{false≢true, eqb-true, eq-eqb}
 use Rattle.spv_logic.proofs.list.Tests.{left_true, right_true}
 use Rattle.spv_logic.specs.declared.names.names.Symbol.{Symbol}
 use Rattle.spv_logic.specs.declared.types.TypeId.{TypeId}
+use Rattle.spv_logic.specs.declared.conditions.RoutineId.{RoutineId}
 use Rattle.spv_logic.specs.declared.types.Sort.TheVariants as sort
 use Rattle.spv_logic.specs.declared.operators.Head.{Head}
 use Rattle.spv_logic.specs.declared.operators.Head.TheVariants as head
@@ -35,7 +36,7 @@ use Rattle.spv_rule_soundness.specs.evaluation.Laws.{root_seen, Shown, Setting}
 same_names : (x y : Symbol) → same_name x y ≡ true → x ≡ y
 same_names x y h = let e = eqb-true x.0 y.0 h in λ i. record { 0 = e i }
 
-found-append : {X : Type 0} (xs ys : List (Symbol × X)) (x : Symbol) → found (xs ++ ys) x ≡ first_of (found xs x) (found ys x)
+pub found-append : {X : Type 0} (xs ys : List (Symbol × X)) (x : Symbol) → found (xs ++ ys) x ≡ first_of (found xs x) (found ys x)
 found-append [] ys x = refl
 found-append (n ∷ xs) ys x = by_case (same_name n.0 x) (found-append xs ys x)
   where
@@ -61,7 +62,7 @@ found-filter {X} test (n ∷ xs) x passes = by_name (same_name n.0 x) refl (foun
         subst (Kept (test n.0)) (sym e) (by_test here (test n.0) e later (λ is. ap test (same_names n.0 x (e ∙ is)) ∙ passes))
 
 -- a name that is seen shows, with its type
-shown : (p : Program) (r : Option Routine) (x : Symbol) (t : TypeId) → name_type p r x ≡ Some t → root_seen r (name_root (is_own r) x) ≡ true → shown_type p r x ≡ Some t
+pub shown : (p : Program) (r : Option Routine) (x : Symbol) (t : TypeId) → name_type p r x ≡ Some t → root_seen r (name_root (is_own r) x) ≡ true → shown_type p r x ≡ Some t
 shown p r x t is seen =
     found-append (own_names_in r) (filter (λ n. sees r (Variable n.0)) p.variables) x ∙ by_own (found (own_names_in r) x) is seen
   where
@@ -77,15 +78,17 @@ something p t (Some w) h = (w, refl)
 at_head : (view : View) (v : Valuation) (h : Head) (w : Value) → Shows view v → view h ≡ Some w → v h ≡ w
 at_head view v h w shows e = shows h w e
 
+-- what a name that is seen shows
+pub view_name : (p : Program) (here : Option RoutineId) (state : State) (x : Symbol) (t : TypeId) (w : Value) → name_type p (routine_in p here) x ≡ Some t → root_seen (routine_in p here) (name_root (is_own (routine_in p here)) x) ≡ true → look state (place_of here state x) ≡ Some w → now_view p here state (head.Var x (sort_of p.forms t) 0) ≡ Some w
+view_name p here state x t w is seen there =
+    ap (λ o. of_sort (option_map (sort_of p.forms) o) (sort_of p.forms t) (look state (place_of here state x))) (shown p (routine_in p here) x t is seen)
+    ∙ (ap (λ b. cond b (look state (place_of here state x)) None) (sort_eq-refl (sort_of p.forms t)) ∙ there)
+
 pub name_shown : (p : Program) (here : Here) (state : State) (v : Valuation) → Shown p here state v → (x : Symbol) (t : TypeId) → name_type p (routine_in p here.routine) x ≡ Some t → root_seen (routine_in p here.routine) (name_root (is_own (routine_in p here.routine)) x) ≡ true → look state (place_of here.routine state x) ≡ Some (v (head.Var x (sort_of p.forms t) 0))
 name_shown p here state v all x t is seen =
-    let type = shown p (routine_in p here.routine) x t is seen in
-    let holds = all.start.names x t type in
+    let holds = all.start.names x t (shown p (routine_in p here.routine) x t is seen) in
     let w = something p t (look state (place_of here.routine state x)) holds in
-    let view : now_view p here.routine state (head.Var x (sort_of p.forms t) 0) ≡ Some w.0
-    = ap (λ o. of_sort (option_map (sort_of p.forms) o) (sort_of p.forms t) (look state (place_of here.routine state x))) type
-    ∙ (ap (λ b. cond b (look state (place_of here.routine state x)) None) (sort_eq-refl (sort_of p.forms t)) ∙ w.1) in
-    w.1 ∙ ap Some (sym (at_head (now_view p here.routine state) v (head.Var x (sort_of p.forms t) 0) w.0 all.shows view))
+    w.1 ∙ ap Some (sym (at_head (now_view p here.routine state) v (head.Var x (sort_of p.forms t) 0) w.0 all.shows (view_name p here.routine state x t w.0 is seen w.1)))
 
 -- ---- cells
 
