@@ -18,10 +18,10 @@ use Rattle.spv_atoms.specs.declared.proofs.Step.TheVariants as step
 use Rattle.spv_atoms.specs.declared.proofs.ProofNode.{ProofNode}
 use Rattle.spv_proof_rules.specs.Sums.{Reading, reading, may_multiply, refutes}
 use Rattle.spv_proof_rules.specs.Evaluation.{bare}
-use Rattle.spv_proof_rules.specs.Effects.{Question, Effect, Adds, Ends, Fails, is_number, is_empty, at_most, linear}
+use Rattle.spv_proof_rules.specs.Effects.{Question, Effect, Adds, Ends, Fails, is_number, is_empty, at_most, effect}
 use Rattle.spv_proof_rules.specs.Accepted.{Path, closed_if_last}
 use Rattle.spv_proof_rules.specs.Stops.{WideSum, WideForm, Halt, is_narrow_fact, kept, Source, fact_source, source, halt_after, denied, Partial, empty, Tally, Stands, Ended, Halted, then_tally, operate, add_number, factor_of, in_order, with_factor, with_constant, add_parts, add_multiple, add_source, add_all, halt_of, halt_in}
-use Rattle.spv_proof_rules.specs.Outcomes.{IsFirst, Trial, Does, Halts, does_unless, first_halt, only_where, halt_of_sums, trial, Ending, Comes, Stops, Outcome, comes, by_ending, then_outcome, on_kept, add_fact, on_does, on_trial, steps_outcome, Branch, root, begin_with, begin, branches_after, node_outcome, on_branches, nodes_outcome, outcome}
+use Rattle.spv_proof_rules.specs.Outcomes.{IsFirst, Trial, Does, Halts, does_unless, first_halt, only_where, halt_of_sums, halt_by, trial, Ending, Comes, Stops, Outcome, comes, by_ending, then_outcome, on_kept, add_fact, on_does, on_trial, steps_outcome, Branch, root, begin_with, begin, branches_after, node_outcome, on_branches, nodes_outcome, outcome}
 
 pub first-same : (known : List Term) → IsFirst known known
 first-same known = record { others = []; all_are = sym (append-nil known) }
@@ -163,17 +163,12 @@ module _ (known : List Term) where
   unless-first None e h = tt
   unless-first (Some x) e h = h
 
+  by-first : (most : ℕ) (q : Question) (facts : List Term) (s : Step) → HaltFirst (halt_by most q known facts s)
+  by-first most q facts (step.Linear r first second) = sums-first most q facts r first second
+  by-first most q facts _ = tt
+
   trial-first : (most : ℕ) (q : Question) (facts : List Term) (s : Step) → TrialFirst (trial most q known facts s)
-  trial-first most q facts (step.Linear r first second) = unless-first (halt_of_sums most q known facts r first second) (linear q facts r first second) (sums-first most q facts r first second)
-  trial-first most q facts (step.Given k) = tt
-  trial-first most q facts (step.Refl t) = tt
-  trial-first most q facts (step.Symm i) = tt
-  trial-first most q facts (step.Trans i j) = tt
-  trial-first most q facts (step.Cong t u ks) = tt
-  trial-first most q facts (step.Schema kind ts field) = tt
-  trial-first most q facts (step.Rule r ts) = tt
-  trial-first most q facts (step.Eval s ks) = tt
-  trial-first most q facts (step.Contra i j) = tt
+  trial-first most q facts s = unless-first (halt_by most q known facts s) (effect q facts s) (by-first most q facts s)
 
 kept-go : {T : Type 0} (known : List Term) (o : Option (List Term)) (go : List Term → Outcome T) → OptionFirst known o → ((more : List Term) → IsFirst more (go more).known) → IsFirst known (on_kept known o go).known
 kept-go known None go h k = first-same known

@@ -4,14 +4,13 @@ use Rattle.std.specs.Option.{option_map}
 use Rattle.std.proofs.lemmas.List.{map-append}
 use Rattle.spv_logic.specs.Terms.{Term}
 use Rattle.spv_atoms.specs.declared.proofs.Step.{Step}
-use Rattle.spv_atoms.specs.declared.proofs.Step.TheVariants as step
 use Rattle.spv_atoms.specs.declared.proofs.Split.{Split}
 use Rattle.spv_atoms.specs.declared.proofs.ProofNode.{ProofNode}
 use Rattle.spv_atoms.specs.Atoms.{is_atom}
-use Rattle.spv_proof_rules.specs.Effects.{Question, Effect, Adds, Ends, Fails, is_truth, linear, effect}
+use Rattle.spv_proof_rules.specs.Effects.{Question, Effect, Adds, Ends, Fails, is_truth, effect}
 use Rattle.spv_proof_rules.specs.Accepted.{Path, Open, Closed, Broken, closed_if_last, on_effect, walk, cases_of, opened_if, after_node, on_opened, closes, accepts}
 use Rattle.spv_proof_rules.specs.Stops.{Halt, kept}
-use Rattle.spv_proof_rules.specs.Outcomes.{Trial, Does, Halts, does_unless, halt_of_sums, trial, Ending, Comes, Stops, Outcome, comes, by_ending, then_outcome, on_kept, add_fact, on_does, on_trial, steps_outcome, Branch, root, begin_with, begin, case_after, branches_if, branches_after, node_outcome, on_branches, nodes_outcome, outcome}
+use Rattle.spv_proof_rules.specs.Outcomes.{Trial, Does, Halts, does_unless, halt_by, trial, Ending, Comes, Stops, Outcome, comes, by_ending, then_outcome, on_kept, add_fact, on_does, on_trial, steps_outcome, Branch, root, begin_with, begin, case_after, branches_if, branches_after, node_outcome, on_branches, nodes_outcome, outcome}
 
 -- ---- one step
 
@@ -21,16 +20,7 @@ does-unless (Some x) e f h = absurd (cc)
 
 module _ (most : ℕ) (q : Question) where
   trial-does : (known facts : List Term) (s : Step) (e : Effect) → trial most q known facts s ≡ Does e → effect q facts s ≡ e
-  trial-does known facts (step.Linear r first second) e h = does-unless (halt_of_sums most q known facts r first second) (linear q facts r first second) e h
-  trial-does known facts (step.Given k) e h = cc
-  trial-does known facts (step.Refl t) e h = cc
-  trial-does known facts (step.Symm i) e h = cc
-  trial-does known facts (step.Trans i j) e h = cc
-  trial-does known facts (step.Cong t u ks) e h = cc
-  trial-does known facts (step.Schema kind ts field) e h = cc
-  trial-does known facts (step.Rule r ts) e h = cc
-  trial-does known facts (step.Eval s ks) e h = cc
-  trial-does known facts (step.Contra i j) e h = cc
+  trial-does known facts s e h = does-unless (halt_by most q known facts s) (effect q facts s) e h
 
   -- ---- the steps of a node
 

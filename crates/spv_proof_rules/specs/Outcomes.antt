@@ -11,7 +11,7 @@ use Rattle.spv_atoms.specs.declared.proofs.Split.{Split}
 use Rattle.spv_atoms.specs.declared.proofs.ProofNode.{ProofNode}
 use Rattle.spv_atoms.specs.Atoms.{is_atom}
 use Rattle.spv_proof_rules.specs.Sums.{refutes}
-use Rattle.spv_proof_rules.specs.Effects.{Question, Effect, Adds, Ends, Fails, is_truth, is_number, is_empty, at_most, linear, effect}
+use Rattle.spv_proof_rules.specs.Effects.{Question, Effect, Adds, Ends, Fails, is_truth, is_number, is_empty, at_most, effect}
 use Rattle.spv_proof_rules.specs.Accepted.{Path, Open, Closed, Broken, closed_if_last, cases_of}
 use Rattle.spv_proof_rules.specs.Stops.{Stop, TooMany, Halt, kept, halt_in}
 
@@ -50,10 +50,14 @@ abbrev pub halt_of_sums : ℕ → Question → List Term → List Term → Relat
 halt_of_sums most q known facts (AtMost s t) first second = halt_at_most (is_number q) most known facts (q.at s) (q.at t) first second
 halt_of_sums most q known facts (Equal s t) first second = halt_equal (is_number q) most known facts (q.at s) (q.at t) first second
 
+-- what stops a step: the sums of a relation alone
+abbrev pub halt_by : ℕ → Question → List Term → List Term → Step → Option Halt
+halt_by most q known facts (step.Linear r first second) = halt_of_sums most q known facts r first second
+halt_by most q known facts _ = None
+
 -- what a step comes to after these facts, where there are these terms
 abbrev pub trial : ℕ → Question → List Term → List Term → Step → Trial
-trial most q known facts (step.Linear r first second) = does_unless (halt_of_sums most q known facts r first second) (linear q facts r first second)
-trial most q known facts s = Does (effect q facts s)
+trial most q known facts s = does_unless (halt_by most q known facts s) (effect q facts s)
 
 -- ---- outcomes
 

@@ -26,7 +26,8 @@ use Rattle.spv_proof.specs.checker.Ends.{ConditionIn, halt_at, FormIn, IsTrialSt
 use Rattle.spv_proof.specs.declared.checker.walking.Path as walked
 use Rattle.spv_proof.specs.declared.checker.walking.Path.TheVariants as path
 use Rattle.spv_proof.specs.checker.Walks.{no_steps, path_of, steps_in, Leads}
-use Rattle.spv_proof.proofs.checker.Staying.{StepIn-Extends, trial-Extends}
+use Rattle.spv_proof_rules.proofs.Staying.{StepIn-Extends}
+use Rattle.spv_proof.proofs.checker.Staying.{trial-Extends}
 
 -- ---- ends
 

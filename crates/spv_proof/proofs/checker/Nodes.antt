@@ -7,7 +7,7 @@ use Rattle.spv_logic.specs.declared.conditions.TermId.{TermId}
 use Rattle.spv_logic.specs.Terms.{Term}
 use Rattle.spv_logic.specs.Formulas as formulas
 use Rattle.spv_term.specs.declared.nodes.Condition.{Condition}
-use Rattle.spv_term.specs.Arena.{Arena, Extends, AllBelow, tree, trees_of}
+use Rattle.spv_term.specs.Arena.{Arena, Extends, AllBelow, sequent, tree, trees_of}
 use Rattle.spv_term.proofs.ArenaLemmas.{Extends-refl, Extends-trans, tree-Extends, sort_at-Extends, map_tree-Extends}
 use Rattle.spv_atoms.specs.declared.proofs.Step.{Step}
 use Rattle.spv_atoms.specs.declared.proofs.Split.{Split}
@@ -33,7 +33,8 @@ use Rattle.spv_proof.specs.declared.checker.walking.Path as walked
 use Rattle.spv_proof.specs.checker.Ends.{ConditionIn, EndsAs, comes_in}
 use Rattle.spv_proof.specs.checker.Walks.{path_of, steps_in, Leads}
 use Rattle.spv_proof.specs.checker.Stacks.{BranchIn, OpensIn, branch_in, Begun, stacked, AllFrom, IsPending, Leaves, Checked}
-use Rattle.spv_proof.proofs.checker.Staying.{below-Extends, condition-Extends, StepIn-Extends, trial-Extends, truth-Extends, number-Extends}
+use Rattle.spv_proof_rules.proofs.Staying.{below-Extends, StepIn-Extends, truth-Extends, number-Extends}
+use Rattle.spv_proof.proofs.checker.Staying.{condition-Extends, sequent-Extends, trial-Extends}
 use Rattle.spv_proof.proofs.checker.Goings.{ends-told, take-take, take-short}
 use Rattle.spv_proof.proofs.checker.Stacks.{AllBelow-take, stacked-last}
 
@@ -111,8 +112,8 @@ module _ {old new : Arena} (more : Extends old new) where
     after-Extends accepted.Closed (Some s) h = refl
     after-Extends (accepted.Open facts) None h = refl
     after-Extends (accepted.Open facts) (Some s) h =
-        let n = number-Extends more c ci in
-        let b = truth-Extends more c ci in
+        let n = number-Extends more (sequent new c) (sequent old c) (sequent-Extends more c ci) in
+        let b = truth-Extends more (sequent new c) (sequent old c) (sequent-Extends more c ci) in
         let t = tree-Extends more s.atom h in
         (λ i. branches_if (is_atom (b i) (t i) && nat_eq (length s.parts) (length (accepted.cases_by_sides (n i) (sides (t i)) (t i)))) facts (accepted.cases_by_sides (n i) (sides (t i)) (t i)))
     after-Extends accepted.Broken o h = refl
