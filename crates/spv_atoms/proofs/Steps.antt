@@ -1,5 +1,5 @@
 -- Steps and their shapes.
-use Rattle.std.proofs.Common.{◌≡◌, ℕ, Bool, true, false, List, [], ◌∷◌, map, Option, Some, None, unwrap_or, if◌then◌else◌, refl, sym, ap, ◌∙◌, subst}
+use Rattle.std.proofs.Common.{◌≡◌, ℕ, Bool, true, false, List, [], ◌∷◌, map, Option, Some, None, unwrap_or, if◌then◌else◌, refl, sym, ap, ◌∙◌, subst, Result, Ok, Err, IfOk}
 use Rattle.std.specs.List.{filter}
 use Rattle.std.proofs.lemmas.Option.{same_Some}
 use Rattle.std.specs.Option.{option_map}
@@ -8,7 +8,7 @@ use Rattle.spv_logic.specs.declared.conditions.TermId.{TermId}
 use Rattle.spv_atoms.specs.declared.proofs.Step.{Step}
 use Rattle.spv_atoms.specs.declared.proofs.Step.TheVariants as step
 use Rattle.spv_atoms.specs.Steps as word
-use Rattle.spv_atoms.specs.Steps.{Word, StepPart, Number, Fact, OtherFact, Facts, One, Several, Sums, States, Field, Part, Shape, says, shape, step_by, step_of, OfEach, names_terms, cites_facts, OfNaming, OfCiting, multiple_by, part_renumbered, renumbered, with_parts, renamed, part_renamed, relation_renamed, stated_renamed}
+use Rattle.spv_atoms.specs.Steps.{Word, StepPart, Number, Fact, OtherFact, Facts, One, Several, Sums, States, Field, Part, Shape, says, shape, step_by, step_of, OfEach, names_terms, cites_facts, OfNaming, OfCiting, multiple_by, part_renumbered, renumbered, with_parts}
 
 -- a step is that of its shape
 pub of_shape : (s : Step) → step_of (shape s) ≡ Some s
@@ -98,17 +98,10 @@ parts_renumbered f (step.Rule r ts) = refl
 parts_renumbered f (step.Eval s ks) = refl
 parts_renumbered f (step.Contra i j) = refl
 
-pub parts_renamed : (f : TermId → TermId) (s : Step) → shape (renamed f s) ≡ says (shape s).word (map (part_renamed f (relation_renamed f) (stated_renamed f)) (shape s).parts)
-parts_renamed f (step.Given k) = refl
-parts_renamed f (step.Refl t) = refl
-parts_renamed f (step.Symm i) = refl
-parts_renamed f (step.Trans i j) = refl
-parts_renamed f (step.Cong t u ks) = refl
-parts_renamed f (step.Linear r first second) = refl
-parts_renamed f (step.Schema kind ts field) = refl
-parts_renamed f (step.Rule r ts) = refl
-parts_renamed f (step.Eval s ks) = refl
-parts_renamed f (step.Contra i j) = refl
+-- so is a copy
+pub if_same : {E : Type 0} (r : Result Step E) (s t : Step) → s ≡ t → IfOk r (λ x. x ≡ s) → IfOk r (λ x. x ≡ t)
+if_same (Ok x) s t e h = h ∙ e
+if_same (Err x) s t e h = tt
 
 -- ---- steps with other numbers name the same terms
 

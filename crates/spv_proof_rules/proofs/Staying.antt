@@ -1,13 +1,17 @@
 -- What a step does stays the same where the arena grows.
-use Rattle.std.proofs.Common.{◌≡◌, ℕ, zero, suc, ◌<◌, true, false, ◌&&◌, List, length, Option, Some, None, slice_get, if◌then◌else◌, refl, ap, ◌∙◌, arith}
+use Rattle.std.proofs.Common.{◌≡◌, ℕ, zero, suc, ◌<◌, true, false, ◌&&◌, List, map, length, Option, Some, None, slice_get, if◌then◌else◌, refl, ap, ◌∙◌, arith}
 use Rattle.std.specs.List.{filter}
 use Rattle.spv_whole.specs.Fraction.{Fraction}
+use Rattle.spv_logic.specs.declared.names.names.Symbol.{Symbol}
 use Rattle.spv_logic.specs.declared.conditions.TermId.{TermId}
 use Rattle.spv_logic.specs.Terms.{Term}
 use Rattle.spv_logic.specs.Formulas.{negation, equation}
 use Rattle.spv_logic.specs.Conditions.{Sequent}
-use Rattle.spv_term.specs.Arena.{Arena, Extends, tree}
-use Rattle.spv_term.proofs.ArenaLemmas.{length-Extends, tree-Extends, AllBelow-Extends}
+use Rattle.spv_term.specs.Arena.{AllBelow, Arena, Extends, tree}
+use Rattle.spv_term.proofs.ArenaLemmas.{length-Extends, tree-Extends, AllBelow-Extends, map_tree-Extends}
+use Rattle.spv_schemas.specs.declared.kinds.SchemaKind.{SchemaKind}
+use Rattle.spv_schemas.specs.Kinds.{kind_of_number}
+use Rattle.spv_schemas.specs.Facts.{schema_fact}
 use Rattle.spv_atoms.specs.declared.proofs.Relation.{Relation}
 use Rattle.spv_atoms.specs.declared.proofs.Relation.TheVariants.{AtMost, Equal}
 use Rattle.spv_atoms.specs.declared.proofs.Stated.{Stated}
@@ -18,7 +22,7 @@ use Rattle.spv_atoms.specs.Steps.{Part, Number, Fact, OtherFact, Facts, One, Sev
 use Rattle.spv_atoms.specs.Atoms as atoms
 use Rattle.spv_atoms.proofs.Steps.{of_each-map}
 use Rattle.spv_proof_rules.specs.Sums.{refutes}
-use Rattle.spv_proof_rules.specs.Effects.{Question, Adds, is_truth, is_number, adds_if, adds_known, at_most, cited, congruent, effect, evaluated, given_effect, is_empty, linear, stated}
+use Rattle.spv_proof_rules.specs.Effects.{Question, Adds, is_truth, is_number, adds_if, adds_known, at_most, cited, congruent, effect, evaluated, fact_of_kind, given_effect, is_empty, linear, schema_stated, stated}
 use Rattle.spv_proof_rules.specs.Stand.{PartIn, RelationIn, StatedIn, StepIn}
 
 module _ {old new : Arena} (more : Extends old new) where
@@ -82,6 +86,15 @@ module _ {old new : Arena} (more : Extends old new) where
         let y = tree-Extends more t h.1 in
         λ i. adds_if (n i (x i) && (n i (y i) && (refutes (n i) facts (x i) (y i) first && refutes (n i) facts (y i) (x i) second))) (equation (x i) (y i))
 
+    pub schema-Extends : (number : ℕ) (ts : List TermId) (field : Option Symbol) → AllBelow (length old.nodes) ts → schema_stated now number ts field ≡ schema_stated past number ts field
+    schema-Extends number ts field h = by (kind_of_number number)
+      where
+        by : (o : Option SchemaKind) → fact_of_kind now o (map (tree new) ts) field ≡ fact_of_kind past o (map (tree old) ts) field
+        by None = refl
+        by (Some kind) =
+            let us = map_tree-Extends more ts h in
+            λ i. schema_fact (more.shapes i) (more.decls i) kind (us i) field
+
     pub effect-Extends : (facts : List Term) (s : Step) → StepIn old s → effect now facts s ≡ effect past facts s
     effect-Extends facts (step.Given k) h = ap (λ q. given_effect q k) same
     effect-Extends facts (step.Refl t) h = ap (λ x. Adds (equation x x)) (tree-Extends more t h)
@@ -92,7 +105,7 @@ module _ {old new : Arena} (more : Extends old new) where
         let y = tree-Extends more u h.1 in
         λ i. adds_if (congruent facts (x i) (y i) ks) (equation (x i) (y i))
     effect-Extends facts (step.Linear r first second) h = linear-Extends facts r first second h
-    effect-Extends facts (step.Schema kind ts field) h = refl
+    effect-Extends facts (step.Schema kind ts field) h = ap adds_known (schema-Extends kind ts field h)
     effect-Extends facts (step.Rule r ts) h = refl
     effect-Extends facts (step.Eval s ks) h = λ i. evaluated (truth-Extends i) (stated-Extends s h i) (cited facts ks)
     effect-Extends facts (step.Contra i j) h = refl

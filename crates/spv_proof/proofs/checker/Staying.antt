@@ -11,8 +11,9 @@ use Rattle.spv_atoms.specs.declared.proofs.Relation.TheVariants.{AtMost, Equal}
 use Rattle.spv_atoms.specs.declared.proofs.Step.{Step}
 use Rattle.spv_atoms.specs.declared.proofs.Step.TheVariants as step
 use Rattle.spv_proof_rules.specs.Stand.{question, RelationIn, StepIn}
-use Rattle.spv_proof_rules.specs.Outcomes.{does_unless, halt_at_most, halt_by, halt_equal, halt_of_sums, trial}
-use Rattle.spv_proof_rules.proofs.Staying.{below-Extends, number-Extends, effect-Extends}
+use Rattle.spv_proof_rules.specs.Stops.{layers_if}
+use Rattle.spv_proof_rules.specs.Outcomes.{does_unless, halt_at_most, halt_by, halt_equal, halt_of_sums, made_by, trial}
+use Rattle.spv_proof_rules.proofs.Staying.{below-Extends, number-Extends, schema-Extends, effect-Extends}
 use Rattle.spv_proof_steps.specs.Candidates.{IsBool, AllFormulas}
 use Rattle.spv_proof_steps.proofs.StepLemmas.{AllBelow-formulas}
 use Rattle.spv_proof.specs.checker.Ends.{ConditionIn}
@@ -54,6 +55,10 @@ module _ {old new : Arena} (more : Extends old new) where
     halt-Extends : (known facts : List Term) (s : Step) → StepIn old s → halt_by new.most (question new c) known facts s ≡ halt_by old.most (question old c) known facts s
     halt-Extends known facts (step.Linear r first second) h = halts-Extends known facts r first second h
     halt-Extends known facts _ h = refl
+
+    pub made-Extends : (s : Step) → StepIn old s → made_by (question new c) s ≡ made_by (question old c) s
+    made-Extends (step.Schema kind ts field) h = ap layers_if (schema-Extends more (sequent new c) (sequent old c) sequent-Extends kind ts field h)
+    made-Extends _ h = refl
 
     -- a step comes to the same
     pub trial-Extends : (known facts : List Term) (s : Step) → StepIn old s → trial new.most (question new c) known facts s ≡ trial old.most (question old c) known facts s
