@@ -374,7 +374,7 @@ module _ (shapes : List Shape) (ok : shapes_ok shapes ≡ true) (decls : List De
 
   module _ (at : TermId → Term) (c : Sequent) (given_true : list_all true_in c.given ≡ true) (goal_false : true_in c.goal ≡ false) where
     abbrev asked : Question
-    asked = record { shapes = shapes; decls = decls; at = at; sequent = c }
+    asked = record { shapes = shapes; decls = decls; at = at; sequent = c; rules = [] }
 
     linear_right : (facts : List Term) (r : Relation) (first second : List (Fraction × ℕ)) → list_all true_in facts ≡ true → EffectIsRight (linear asked facts r first second)
     linear_right facts (AtMost s t) first second h = adds_right _ (at_most (at s) (at t)) (λ e. at_most_right facts (at s) (at t) first second h e)

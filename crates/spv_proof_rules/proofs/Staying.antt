@@ -1,5 +1,5 @@
 -- What a step does stays the same where the arena grows.
-use Rattle.std.proofs.Common.{◌≡◌, ℕ, zero, suc, ◌<◌, true, false, ◌&&◌, List, map, length, Option, Some, None, slice_get, if◌then◌else◌, refl, ap, ◌∙◌, arith}
+use Rattle.std.proofs.Common.{◌≡◌, ℕ, zero, suc, ◌<◌, true, false, ◌&&◌, List, [], map, length, Option, Some, None, slice_get, if◌then◌else◌, refl, ap, ◌∙◌, arith}
 use Rattle.std.specs.List.{filter}
 use Rattle.spv_whole.specs.Fraction.{Fraction}
 use Rattle.spv_logic.specs.declared.names.names.Symbol.{Symbol}
@@ -57,10 +57,10 @@ module _ {old new : Arena} (more : Extends old new) where
 
   module _ (c d : Sequent) (same : c ≡ d) where
     abbrev now : Question
-    now = record { shapes = new.shapes; decls = new.decls; at = tree new; sequent = c }
+    now = record { shapes = new.shapes; decls = new.decls; at = tree new; sequent = c; rules = [] }
 
     abbrev past : Question
-    past = record { shapes = old.shapes; decls = old.decls; at = tree old; sequent = d }
+    past = record { shapes = old.shapes; decls = old.decls; at = tree old; sequent = d; rules = [] }
 
     pub truth-Extends : is_truth now ≡ is_truth past
     truth-Extends = λ i. atoms.is_truth (more.shapes i) (more.decls i)

@@ -5,6 +5,7 @@ use Rattle.spv_logic.specs.declared.names.names.Symbol.{Symbol}
 use Rattle.spv_logic.specs.declared.conditions.TermId.{TermId}
 use Rattle.spv_logic.specs.declared.types.Shape.{Shape}
 use Rattle.spv_logic.specs.declared.types.Decl.{Decl}
+use Rattle.spv_logic.specs.declared.operators.Head.{Head}
 use Rattle.spv_logic.specs.declared.operators.Head.TheVariants.{Le, True, False}
 use Rattle.spv_logic.specs.Terms.{Term, Terms, term, no_terms, terms, head_eq, term_eq}
 use Rattle.spv_logic.specs.Formulas.{negation, equation}
@@ -23,12 +24,19 @@ use Rattle.spv_atoms.specs.Atoms as atoms
 use Rattle.spv_proof_rules.specs.Sums.{negated, refutes}
 use Rattle.spv_proof_rules.specs.Evaluation.{sides, evaluates}
 
--- what a proof is to show: a sequent, over terms by their ids, and over types and declared symbols
+-- a rule that a proof may cite: what its instances replace, in the order of their terms, and the formula that they are instances of
+pub record Rule : Type 0 where
+  pub replaced : List Head
+  pub formula : Term
+
+-- what a proof is to show: a sequent, over terms by their ids, over types and declared symbols, and under rules, of which there are
+-- none yet
 pub record Question : Type 0 where
   pub shapes : List Shape
   pub decls : List Decl
   pub at : TermId → Term
   pub sequent : Sequent
+  pub rules : List Rule
 
 -- what a step does on a path: it adds a fact, ends the path, or does not follow
 pub data Effect : Type 0 where

@@ -35,7 +35,7 @@ numeral z = term (head.Num z) no_terms
 
 -- to show a goal of nothing, over these types and with these terms
 abbrev shows : List Shape → List Term → Term → Question
-shows shapes named goal = record { shapes = shapes; decls = []; at = λ t. slice_index_or named t.0 goal; sequent = record { given = []; goal = goal } }
+shows shapes named goal = record { shapes = shapes; decls = []; at = λ t. slice_index_or named t.0 goal; sequent = record { given = []; goal = goal }; rules = [] }
 
 abbrev node : List Step → ProofNode
 node steps = record { steps = steps; split = None }

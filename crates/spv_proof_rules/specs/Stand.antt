@@ -16,7 +16,7 @@ use Rattle.spv_proof_rules.specs.Accepted.{accepts}
 
 -- what is to be shown of a condition
 abbrev pub question : Arena → Condition → Question
-question a c = record { shapes = a.shapes; decls = a.decls; at = tree a; sequent = sequent a c }
+question a c = record { shapes = a.shapes; decls = a.decls; at = tree a; sequent = sequent a c; rules = [] }
 
 -- a term is in the arena
 abbrev pub In : Arena → TermId → Type 0

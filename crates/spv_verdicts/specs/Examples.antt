@@ -12,7 +12,7 @@ abbrev pub p : Term
 p = term (Var (record { 0 = 0 }) sort.Bool 0) no_terms
 
 abbrev pub claim : Question
-claim = record { shapes = []; decls = []; at = λ t. p; sequent = record { given = []; goal = p } }
+claim = record { shapes = []; decls = []; at = λ t. p; sequent = record { given = []; goal = p }; rules = [] }
 
 abbrev pub limits : Limits
 limits = record { splits = 0; instances = 0; pivots = 0 }
