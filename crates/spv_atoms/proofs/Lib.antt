@@ -11,3 +11,4 @@ pub mod Sums
 pub mod Forming
 pub mod Finding
 pub mod Places
+pub mod Steps

@@ -4,6 +4,7 @@ pub mod Atoms
 pub mod Order
 pub mod Valued
 pub mod Shape
+pub mod Steps
 pub mod Laws
 pub mod Linear
 pub mod Sums

@@ -1,6 +1,7 @@
 //! Linear forms and atoms of terms, and proofs as data.
 #![tactic(auto)]
 
+pub mod copies;
 mod forms;
 mod formulas;
 mod laws;
@@ -13,9 +14,10 @@ mod tables;
 mod valued;
 mod walk;
 
+pub use copies::{FactNumbers, same_step};
 pub use forms::{AtomFault, linear};
 pub use formulas::{atoms, is_atom};
-pub use laws::{law_form, law_truth};
+pub use laws::{law_form, law_steps, law_truth};
 pub use linear_form::Linear;
 pub use numerals::{numeral, numeral_relation};
 pub use proofs::{Proof, ProofNode, Relation, Split, Stated, Step};

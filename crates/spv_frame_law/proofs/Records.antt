@@ -111,10 +111,10 @@ pub record And {A : Type 0} (P Q : A → Type 0) (x : A) : Type 0 where
   pub two : Q x
 
 pub if_and : {A : Type 0} (P Q : A → Type 0) (o : Outcome A) → IfEnded P o → IfEnded Q o → IfEnded (And P Q) o
-if_and P Q o h k = record { holds = λ x e. record { one = h.holds x e; two = k.holds x e } }
+if_and P Q o h k = record { holds = λ x e. record { one = h.holds x e; two = k.holds x e }; jumped = h.jumped }
 
 pub if_as : {A : Type 0} (P Q : A → Type 0) (o : Outcome A) → ((x : A) → P x → Q x) → IfEnded P o → IfEnded Q o
-if_as P Q o change h = record { holds = λ x e. change x (h.holds x e) }
+if_as P Q o change h = record { holds = λ x e. change x (h.holds x e); jumped = h.jumped }
 
 -- what is claimed of a state, claimed of one that is the same
 pub moved : (P : State → Type 0) (x state : State) → x ≡ state → P state → P x

@@ -3,3 +3,4 @@ pub mod Waiting
 pub mod Splits
 pub mod Operands
 pub mod Counted
+pub mod Rounds

@@ -6,14 +6,13 @@ ghost use Rattle.spv_assign.specs.Conditions.{AreIn, IsIn, condition_of, conditi
 ghost use Rattle.spv_verdicts.specs.answers.Views.{VerdictIn};
 ghost use Rattle.spv_listing.specs.printed.Printed.{line};
 ghost use Rattle.spv_listing.specs.Page as spec;
-ghost use Rattle.spv_listing.specs.Page.{heading, given_line, goal_line, claim_lines, condition_lines, blocks, claims, count, AreDecided};
+ghost use Rattle.spv_listing.specs.Page.{heading, routine_text, given_line, goal_line, claim_lines, condition_lines, blocks, claims, count, AreDecided};
 ghost use Rattle.spv_term.specs.Arena.{AllBelow, tree};
 
-use crate::printed::{push_decimal, push_term};
+use crate::printed::{push_decimal, push_name, push_term};
 use crate::verdict_pages::{push_totals, push_verdict};
-use spv_logic::names::{Names, Symbol};
-use spv_reports::{Mode, Report};
-use spv_term::{Condition, Kind, Origin, TermId, Terms};
+use spv_reports::{Mode, ProgramNames, Report};
+use spv_term::{Condition, Kind, Origin, RoutineId, TermId, Terms};
 use spv_verdicts::answers::Decided;
 use std::alloc::{AllocError, Global};
 
@@ -26,16 +25,15 @@ pub fn page(alloc: Global, report: &Report) -> Result<Vec<u8>, AllocError>
     match report.mode() {
         Mode::Verify(_) => verdicts_page(
             alloc,
-            report.names(),
-            report.titles(),
+            report.named(),
             report.terms(),
             report.conditions(),
             report.verdicts(),
+            report.proofs(),
         ),
         Mode::Conditions => conditions_page(
             alloc,
-            report.names(),
-            report.titles(),
+            report.named(),
             report.terms(),
             report.conditions(),
         ),
@@ -45,18 +43,18 @@ pub fn page(alloc: Global, report: &Report) -> Result<Vec<u8>, AllocError>
 // The page of conditions with their verdicts.
 fn verdicts_page(
     alloc: Global,
-    names: &Names,
-    titles: &[Option<Symbol>],
+    named: &ProgramNames,
     terms: &Terms,
     conditions: &[Condition],
     verdicts: &[Decided],
+    proofs: bool,
 ) -> Result<Vec<u8>, AllocError>
     requires in_range { AreIn terms.now conditions.now }
     requires verdicts { AreDecided conditions.now verdicts.now }
-    ensures { IfOk result (λ p. p.items ≡ spec.verdicts_page names.now titles.now terms.now conditions.now verdicts.now) }
+    ensures { IfOk result (λ p. p.items ≡ spec.verdicts_page proofs named.now terms.now conditions.now verdicts.now) }
 {
     let mut out = Vec::from_slice(alloc, b"SPV LISTING 1\n")?;
-    push_blocks(&mut out, names, titles, terms, conditions, verdicts)?;
+    push_blocks(&mut out, named, terms, conditions, verdicts, proofs)?;
     push_totals(&mut out, verdicts)?;
     Ok(out)
 }
@@ -64,16 +62,15 @@ fn verdicts_page(
 // The page of conditions alone.
 fn conditions_page(
     alloc: Global,
-    names: &Names,
-    titles: &[Option<Symbol>],
+    named: &ProgramNames,
     terms: &Terms,
     conditions: &[Condition],
 ) -> Result<Vec<u8>, AllocError>
     requires in_range { AreIn terms.now conditions.now }
-    ensures { IfOk result (λ p. p.items ≡ spec.conditions_page names.now titles.now terms.now conditions.now) }
+    ensures { IfOk result (λ p. p.items ≡ spec.conditions_page named.now terms.now conditions.now) }
 {
     let mut out = Vec::from_slice(alloc, b"SPV CONDITIONS 1\n")?;
-    push_claims(&mut out, names, titles, terms, conditions)?;
+    push_claims(&mut out, named, terms, conditions)?;
     push_count(&mut out, conditions.len() as u64)?;
     Ok(out)
 }
@@ -81,17 +78,16 @@ fn conditions_page(
 // Each condition, numbered from 1.
 fn push_claims(
     out: &mut Vec<u8>,
-    names: &Names,
-    titles: &[Option<Symbol>],
+    named: &ProgramNames,
     terms: &Terms,
     conditions: &[Condition],
 ) -> Result<(), AllocError>
     requires { AreIn terms.now conditions.now }
-    ensures { OnOk result (out.new.items ≡ out.old.items ++ claims names.now titles.now 1 (conditions_of terms.now conditions.now)) }
+    ensures { OnOk result (out.new.items ≡ out.old.items ++ claims named.now 1 (conditions_of terms.now conditions.now)) }
 {
     for place in 0..conditions.len() {
         let number = place as u64 + 1;
-        push_claim(out, names, titles, terms, number, &conditions[place])?;
+        push_claim(out, named, terms, number, &conditions[place])?;
     }
     Ok(())
 }
@@ -109,26 +105,26 @@ fn push_count(out: &mut Vec<u8>, number: u64) -> Result<(), AllocError>
 // Each condition with its verdict, numbered from 1.
 fn push_blocks(
     out: &mut Vec<u8>,
-    names: &Names,
-    titles: &[Option<Symbol>],
+    named: &ProgramNames,
     terms: &Terms,
     conditions: &[Condition],
     verdicts: &[Decided],
+    proofs: bool,
 ) -> Result<(), AllocError>
     requires in_range { AreIn terms.now conditions.now }
     requires verdicts { AreDecided conditions.now verdicts.now }
-    ensures { OnOk result (out.new.items ≡ out.old.items ++ blocks names.now titles.now 1 (conditions_of terms.now conditions.now) verdicts.now) }
+    ensures { OnOk result (out.new.items ≡ out.old.items ++ blocks proofs named.now 1 (conditions_of terms.now conditions.now) verdicts.now) }
 {
     for place in 0..conditions.len() {
         let number = place as u64 + 1;
         push_condition(
             out,
-            names,
-            titles,
+            named,
             terms,
             number,
             &conditions[place],
             &verdicts[place],
+            proofs,
         )?;
     }
     Ok(())
@@ -137,51 +133,49 @@ fn push_blocks(
 // A condition with its verdict.
 fn push_condition(
     out: &mut Vec<u8>,
-    names: &Names,
-    titles: &[Option<Symbol>],
+    named: &ProgramNames,
     terms: &Terms,
     number: u64,
     condition: &Condition,
     decided: &Decided,
+    proofs: bool,
 ) -> Result<(), AllocError>
     requires in_range { IsIn terms.now condition.now }
     requires verdict { VerdictIn decided.now.terms decided.now.verdict }
-    ensures { OnOk result (out.new.items ≡ out.old.items ++ condition_lines names.now titles.now number (condition_of terms.now condition.now) decided.now) }
+    ensures { OnOk result (out.new.items ≡ out.old.items ++ condition_lines proofs named.now number (condition_of terms.now condition.now) decided.now) }
 {
-    push_claim(out, names, titles, terms, number, condition)?;
-    push_verdict(out, names, titles, decided, false)
+    push_claim(out, named, terms, number, condition)?;
+    push_verdict(out, &named.names, named.titles.as_slice(), decided, proofs)
 }
 
 /// Adds the lines of a condition: its number and origin, its hypotheses and its goal.
 pub fn push_claim(
     out: &mut Vec<u8>,
-    names: &Names,
-    titles: &[Option<Symbol>],
+    named: &ProgramNames,
     terms: &Terms,
     number: u64,
     condition: &Condition,
 ) -> Result<(), AllocError>
     requires in_range { IsIn terms.now condition.now }
-    ensures lines { OnOk result (out.new.items ≡ out.old.items ++ claim_lines names.now titles.now number (condition_of terms.now condition.now)) }
+    ensures lines { OnOk result (out.new.items ≡ out.old.items ++ claim_lines named.now number (condition_of terms.now condition.now)) }
 {
-    push_heading(out, number, condition.origin)?;
-    push_givens(out, names, titles, terms, condition.given.as_slice())?;
-    push_goal(out, names, titles, terms, condition.goal)
+    push_heading(out, named, number, condition.origin)?;
+    push_givens(out, named, terms, condition.given.as_slice())?;
+    push_goal(out, named, terms, condition.goal)
 }
 
 // The line of each hypothesis.
 fn push_givens(
     out: &mut Vec<u8>,
-    names: &Names,
-    titles: &[Option<Symbol>],
+    named: &ProgramNames,
     terms: &Terms,
     given: &[TermId],
 ) -> Result<(), AllocError>
     requires { AllBelow (length terms.now.nodes) given.now }
-    ensures { OnOk result (out.new.items ≡ out.old.items ++ flat_map (given_line names.now titles.now) (map (tree terms.now) given.now)) }
+    ensures { OnOk result (out.new.items ≡ out.old.items ++ flat_map (given_line named.now.names named.now.titles) (map (tree terms.now) given.now)) }
 {
     for t in given {
-        push_given(out, names, titles, terms, *t)?;
+        push_given(out, named, terms, *t)?;
     }
     Ok(())
 }
@@ -189,32 +183,56 @@ fn push_givens(
 // The line of a hypothesis.
 fn push_given(
     out: &mut Vec<u8>,
-    names: &Names,
-    titles: &[Option<Symbol>],
+    named: &ProgramNames,
     terms: &Terms,
     t: TermId,
 ) -> Result<(), AllocError>
     requires { t.0 < length terms.now.nodes }
-    ensures { OnOk result (out.new.items ≡ out.old.items ++ given_line names.now titles.now (tree terms.now t)) }
+    ensures { OnOk result (out.new.items ≡ out.old.items ++ given_line named.now.names named.now.titles (tree terms.now t)) }
 {
     out.extend_from_slice(b"GIVEN ")?;
-    push_term(out, names, titles, terms, t)?;
+    push_term(out, &named.names, named.titles.as_slice(), terms, t)?;
     out.push(b'\n')?;
     Ok(())
 }
 
 // The line of a condition's number and origin.
-fn push_heading(out: &mut Vec<u8>, number: u64, origin: Origin) -> Result<(), AllocError>
-    ensures { OnOk result (out.new.items ≡ out.old.items ++ line (heading number origin)) }
+fn push_heading(
+    out: &mut Vec<u8>,
+    named: &ProgramNames,
+    number: u64,
+    origin: Origin,
+) -> Result<(), AllocError>
+    ensures { OnOk result (out.new.items ≡ out.old.items ++ line (heading named.now number origin)) }
 {
     out.extend_from_slice(b"CONDITION ")?;
     push_decimal(out, number)?;
-    out.extend_from_slice(b" MAIN ")?;
+    out.push(b' ')?;
+    push_routine(out, named, origin.routine)?;
+    out.push(b' ')?;
     out.extend_from_slice(kind_word(origin.kind))?;
     out.extend_from_slice(b" LINE ")?;
     push_decimal(out, origin.line as u64)?;
     out.push(b'\n')?;
     Ok(())
+}
+
+// The name of the routine that a condition is of, or the main block's word.
+fn push_routine(
+    out: &mut Vec<u8>,
+    named: &ProgramNames,
+    routine: Option<RoutineId>,
+) -> Result<(), AllocError>
+    ensures { OnOk result (out.new.items ≡ out.old.items ++ routine_text named.now routine) }
+{
+    let Some(id) = routine else {
+        out.extend_from_slice(b"MAIN")?;
+        return Ok(());
+    };
+    match named.routines.as_slice().get(id.0 as usize) {
+        Some(name) => push_name(out, &named.names, *name),
+        None => Ok(()),
+    }
 }
 
 // The word for a kind of condition.
@@ -233,16 +251,15 @@ fn kind_word(kind: Kind) -> &'static [u8]
 // The line of a goal.
 fn push_goal(
     out: &mut Vec<u8>,
-    names: &Names,
-    titles: &[Option<Symbol>],
+    named: &ProgramNames,
     terms: &Terms,
     goal: TermId,
 ) -> Result<(), AllocError>
     requires { goal.0 < length terms.now.nodes }
-    ensures { OnOk result (out.new.items ≡ out.old.items ++ goal_line names.now titles.now (tree terms.now goal)) }
+    ensures { OnOk result (out.new.items ≡ out.old.items ++ goal_line named.now.names named.now.titles (tree terms.now goal)) }
 {
     out.extend_from_slice(b"GOAL ")?;
-    push_term(out, names, titles, terms, goal)?;
+    push_term(out, &named.names, named.titles.as_slice(), terms, goal)?;
     out.push(b'\n')?;
     Ok(())
 }

@@ -1,5 +1,6 @@
 //! The lines of a verdict: what a listing says of a condition behind its goal.
 
+mod instances;
 mod laws;
 mod limits;
 mod nodes;
@@ -8,6 +9,6 @@ mod tallies;
 mod totals;
 mod verdict;
 
-pub use laws::{law_limit_lines, law_proof_lines, law_totals, law_unproved_lines};
+pub use laws::{law_limit_lines, law_other_proof, law_proof_lines, law_totals, law_unproved_lines};
 pub use totals::push_totals;
 pub use verdict::push_verdict;

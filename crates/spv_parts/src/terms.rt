@@ -7,6 +7,7 @@ ghost use Rattle.spv_logic.specs.declared.types.Shape.TheVariants as shape;
 use spv_listing::{push_claim, push_head, push_term};
 use spv_logic::list::List;
 use spv_logic::names::{Names, Symbol};
+use spv_reports::ProgramNames;
 use spv_term::{
     Condition, Decl, Field, Head, Kind, Origin, Shape, Shapes, Sort, TermFault, TermId, Terms,
     TypeId,
@@ -193,7 +194,12 @@ fn push_condition(
             line: 7,
         },
     };
-    push_claim(out, &names_of(alloc)?, &[], terms, 2, &condition)
+    let named = ProgramNames {
+        names: names_of(alloc)?,
+        titles: List::new(alloc),
+        routines: List::new(alloc),
+    };
+    push_claim(out, &named, terms, 2, &condition)
 }
 
 // A condition with a hypothesis.

@@ -14,7 +14,7 @@ use Rattle.spv_program.specs.FormulaTypes.{annotation_ok}
 use Rattle.spv_program.specs.Typing.{well_typed, declarations_ok, routine_ok, statement_ok}
 use Rattle.spv_program.proofs.SortFacts.{nothing_there, some_is}
 use Rattle.spv_meaning.specs.Places.{State}
-use Rattle.spv_meaning.specs.Outcomes.{Ended}
+use Rattle.spv_meaning.specs.Outcomes.{Jump, Ended}
 use Rattle.spv_meaning.specs.Levels.{Here, Level}
 use Rattle.spv_meaning.specs.Walks.{level_over, level, run}
 use Rattle.spv_meaning.specs.Correct.{begun, body_of, routine_body}
@@ -38,6 +38,11 @@ pub statement_leaves : (p : Program) → well_typed p ≡ true → (here : Here)
     → (turns : ℕ) (choices : List Value) (after : State) → (run p turns here s state choices).end ≡ Ended after → Leaves p types state.heap after
 statement_leaves p typed here types inside s ok state right turns choices after ended =
     ((level_keeps p typed turns).run here types inside s ok state.heap state (leaves_now p types state right) choices).holds after ended
+
+pub statement_jumps : (p : Program) → well_typed p ≡ true → (here : Here) (types : List FrameType) → IsIn p here.routine types → (s : Statement) → statement_ok p (routine_in p here.routine) s ≡ true → (state : State) → IsRight p types state
+    → (turns : ℕ) (choices : List Value) (label : ℕ) (at : State) → (run p turns here s state choices).end ≡ Jump label at → ⊥
+statement_jumps p typed here types inside s ok state right turns choices label at jumped =
+    ((level_keeps p typed turns).run here types inside s ok state.heap state (leaves_now p types state right) choices).jumped label at jumped
 
 -- bodies are well typed where they stand
 body_ok : (p : Program) → well_typed p ≡ true → (here : Option RoutineId) (types : List FrameType) → IsIn p here types → statement_ok p (routine_in p here) (body_of p here) ≡ true

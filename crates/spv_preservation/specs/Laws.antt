@@ -7,7 +7,7 @@ use Rattle.spv_program.specs.Statements.{Statement}
 use Rattle.spv_program.specs.Programs.{Program, routine_in}
 use Rattle.spv_program.specs.Typing.{statement_ok, well_typed}
 use Rattle.spv_meaning.specs.Places.{State}
-use Rattle.spv_meaning.specs.Outcomes.{Ended}
+use Rattle.spv_meaning.specs.Outcomes.{Ended, Jump}
 use Rattle.spv_meaning.specs.Levels.{Here}
 use Rattle.spv_meaning.specs.Walks.{run}
 use Rattle.spv_meaning.specs.Starts.{IsStart, IsRight, IsRightFor, apart}
@@ -21,6 +21,13 @@ StatementsLeaveRightStates =
     → (s : Statement) → IsTrue (statement_ok p (routine_in p here.routine) s) → (state : State) → IsRight p types state
     → (turns : ℕ) (choices : List Value) (after : State) → (run p turns here s state choices).end ≡ Ended after
     → Leaves p types state.heap after
+
+-- no such statement ends by a jump: labels are not in the language yet
+abbrev pub StatementsJumpNowhere : Type 0
+StatementsJumpNowhere =
+    (p : Program) → IsTrue (well_typed p) → (here : Here) (types : List FrameType) → IsIn p here.routine types
+    → (s : Statement) → IsTrue (statement_ok p (routine_in p here.routine) s) → (state : State) → IsRight p types state
+    → (turns : ℕ) (choices : List Value) (label : ℕ) (at : State) → (run p turns here s state choices).end ≡ Jump label at → ⊥
 
 -- the body of a routine, or of the main block, that ended, from a start, leaves values of their types and a right heap
 abbrev pub BodiesKeepValues : Type 0

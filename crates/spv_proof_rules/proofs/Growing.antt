@@ -1,5 +1,5 @@
 -- A check of a proof only adds terms.
-use Rattle.std.proofs.Common.{ℕ, zero, suc, Bool, true, false, ◌&&◌, List, [], ◌∷◌, ◌++◌, length, Option, Some, None, ℤ, pos, nat_eq, slice_get, if◌then◌else◌, refl, sym, ap, ◌∙◌}
+use Rattle.std.proofs.Common.{ℕ, zero, suc, Bool, true, false, ◌&&◌, List, [], ◌∷◌, ◌++◌, length, Option, Some, None, Result, Ok, Err, ℤ, pos, nat_eq, slice_get, if◌then◌else◌, refl, sym, ap, ◌∙◌}
 use Rattle.std.specs.List.{list_any}
 use Rattle.std.specs.Option.{option_map}
 use Rattle.std.proofs.lemmas.List.{append-nil, append_assoc}
@@ -18,10 +18,10 @@ use Rattle.spv_atoms.specs.declared.proofs.Step.TheVariants as step
 use Rattle.spv_atoms.specs.declared.proofs.ProofNode.{ProofNode}
 use Rattle.spv_proof_rules.specs.Sums.{Reading, reading, may_multiply, refutes}
 use Rattle.spv_proof_rules.specs.Evaluation.{bare}
-use Rattle.spv_proof_rules.specs.Effects.{Question, Effect, Adds, Ends, Fails, is_number, is_empty, at_most, linear}
+use Rattle.spv_proof_rules.specs.Effects.{Question, Effect, Adds, Ends, Fails, is_number, is_empty, at_most, effect}
 use Rattle.spv_proof_rules.specs.Accepted.{Path, closed_if_last}
-use Rattle.spv_proof_rules.specs.Stops.{WideSum, WideForm, Halt, is_narrow_fact, kept, Source, fact_source, source, halt_after, denied, Partial, empty, Tally, Stands, Ended, Halted, then_tally, operate, add_number, factor_of, in_order, with_factor, with_constant, add_parts, add_multiple, add_source, add_all, halt_of, halt_in}
-use Rattle.spv_proof_rules.specs.Outcomes.{IsFirst, Trial, Does, Halts, does_unless, first_halt, only_where, halt_of_sums, trial, Ending, Comes, Stops, Outcome, comes, by_ending, then_outcome, on_kept, add_fact, on_does, on_trial, steps_outcome, Branch, root, begin_with, begin, branches_after, node_outcome, on_branches, nodes_outcome, outcome}
+use Rattle.spv_proof_rules.specs.Stops.{WideSum, WideForm, Halt, is_narrow_fact, kept, on_room, all_kept, terms_of, Source, fact_source, source, halt_after, denied, Partial, empty, Tally, Stands, Ended, Halted, then_tally, operate, add_number, factor_of, in_order, with_factor, with_constant, add_parts, add_multiple, add_source, add_all, halt_of, halt_in}
+use Rattle.spv_proof_rules.specs.Outcomes.{IsFirst, Trial, Does, Halts, does_unless, first_halt, only_where, halt_of_sums, halt_by, trial, Ending, Comes, Stops, Outcome, comes, by_ending, then_outcome, on_kept, add_fact, on_does, on_trial, made_by, where_made, steps_outcome, Branch, root, begin_with, begin, branches_after, node_outcome, on_branches, nodes_outcome, outcome}
 
 pub first-same : (known : List Term) → IsFirst known known
 first-same known = record { others = []; all_are = sym (append-nil known) }
@@ -45,6 +45,14 @@ kept-first most known t = by (list_any (term_eq t) known) (nat_eq (length known)
     by true c = first-same known
     by false true = tt
     by false false = record { others = t ∷ []; all_are = refl }
+
+pub all-kept-first : (most : ℕ) (ts known : List Term) → IsFirst known (terms_of (all_kept most known ts))
+all-kept-first most [] known = first-same known
+all-kept-first most (t ∷ ts) known = by (kept most known t) (kept-first most known t) (λ more. all-kept-first most ts more)
+  where
+    by : (o : Option (List Term)) → OptionFirst known o → ((more : List Term) → IsFirst more (terms_of (all_kept most more ts))) → IsFirst known (terms_of (on_room known o (λ more. all_kept most more ts)))
+    by None f later = first-same known
+    by (Some more) f later = first-then known more (terms_of (all_kept most more ts)) f (later more)
 
 -- ---- sums
 
@@ -163,17 +171,12 @@ module _ (known : List Term) where
   unless-first None e h = tt
   unless-first (Some x) e h = h
 
+  by-first : (most : ℕ) (q : Question) (facts : List Term) (s : Step) → HaltFirst (halt_by most q known facts s)
+  by-first most q facts (step.Linear r first second) = sums-first most q facts r first second
+  by-first most q facts _ = tt
+
   trial-first : (most : ℕ) (q : Question) (facts : List Term) (s : Step) → TrialFirst (trial most q known facts s)
-  trial-first most q facts (step.Linear r first second) = unless-first (halt_of_sums most q known facts r first second) (linear q facts r first second) (sums-first most q facts r first second)
-  trial-first most q facts (step.Given k) = tt
-  trial-first most q facts (step.Refl t) = tt
-  trial-first most q facts (step.Symm i) = tt
-  trial-first most q facts (step.Trans i j) = tt
-  trial-first most q facts (step.Cong t u ks) = tt
-  trial-first most q facts (step.Schema kind ts field) = tt
-  trial-first most q facts (step.Rule r ts) = tt
-  trial-first most q facts (step.Eval s ks) = tt
-  trial-first most q facts (step.Contra i j) = tt
+  trial-first most q facts s = unless-first (halt_by most q known facts s) (effect q facts s) (by-first most q facts s)
 
 kept-go : {T : Type 0} (known : List Term) (o : Option (List Term)) (go : List Term → Outcome T) → OptionFirst known o → ((more : List Term) → IsFirst more (go more).known) → IsFirst known (on_kept known o go).known
 kept-go known None go h k = first-same known
@@ -191,10 +194,24 @@ trial-go : (known : List Term) (t : Trial) (go : Term → Outcome Path) (last : 
 trial-go known (Does e) go last f h = does-go known e go last h
 trial-go known (Halts x) go last f h = f
 
+pub made-go : {T : Type 0} (known : List Term) (r : Result (List Term) (List Term)) (go : List Term → Outcome T) → IsFirst known (terms_of r) → ((more : List Term) → IsFirst more (go more).known) → IsFirst known (where_made r go).known
+made-go known (Ok more) go f h = first-then known more (go more).known f (h more)
+made-go known (Err more) go f h = f
+
 module _ (most : ℕ) (q : Question) where
   pub steps-first : (steps : List Step) (known facts : List Term) → IsFirst known (steps_outcome most q known facts steps).known
   steps-first [] known facts = first-same known
   steps-first (s ∷ steps) known facts =
+      made-go known (all_kept most known (made_by q s))
+      (λ now. on_trial now (trial most q now facts s) (λ t. add_fact most now t (λ more. steps_outcome most q more (facts ++ t ∷ []) steps)) (closed_if_last steps))
+      (all-kept-first most (made_by q s) known)
+      (λ now.
+      trial-go now (trial most q now facts s) (λ t. add_fact most now t (λ more. steps_outcome most q more (facts ++ t ∷ []) steps)) (closed_if_last steps) (trial-first now most q facts s)
+      (λ t. add-go most now t (λ more. steps_outcome most q more (facts ++ t ∷ []) steps) (λ more. steps-first steps more (facts ++ t ∷ []))))
+
+  pub step-rest-first : (known facts : List Term) (s : Step) (steps : List Step)
+      → IsFirst known (on_trial known (trial most q known facts s) (λ t. add_fact most known t (λ more. steps_outcome most q more (facts ++ t ∷ []) steps)) (closed_if_last steps)).known
+  step-rest-first known facts s steps =
       trial-go known (trial most q known facts s) (λ t. add_fact most known t (λ more. steps_outcome most q more (facts ++ t ∷ []) steps)) (closed_if_last steps) (trial-first known most q facts s)
       (λ t. add-go most known t (λ more. steps_outcome most q more (facts ++ t ∷ []) steps) (λ more. steps-first steps more (facts ++ t ∷ [])))
 

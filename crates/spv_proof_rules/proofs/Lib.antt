@@ -3,3 +3,4 @@ pub mod Evaluating
 pub mod Soundness
 pub mod Outcomes
 pub mod Growing
+pub mod Staying

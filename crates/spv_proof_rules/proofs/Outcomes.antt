@@ -1,17 +1,16 @@
 -- A check that nothing stops comes to whether its proof is accepted, and only adds terms.
-use Rattle.std.proofs.Common.{◌≡◌, ℕ, Bool, true, false, ◌&&◌, List, [], ◌∷◌, ◌++◌, map, length, Option, Some, None, nat_eq, refl, sym, ap, ◌∙◌}
+use Rattle.std.proofs.Common.{◌≡◌, ℕ, Bool, true, false, ◌&&◌, List, [], ◌∷◌, ◌++◌, map, length, Option, Some, None, Result, Ok, Err, nat_eq, refl, sym, ap, ◌∙◌}
 use Rattle.std.specs.Option.{option_map}
 use Rattle.std.proofs.lemmas.List.{map-append}
 use Rattle.spv_logic.specs.Terms.{Term}
 use Rattle.spv_atoms.specs.declared.proofs.Step.{Step}
-use Rattle.spv_atoms.specs.declared.proofs.Step.TheVariants as step
 use Rattle.spv_atoms.specs.declared.proofs.Split.{Split}
 use Rattle.spv_atoms.specs.declared.proofs.ProofNode.{ProofNode}
 use Rattle.spv_atoms.specs.Atoms.{is_atom}
-use Rattle.spv_proof_rules.specs.Effects.{Question, Effect, Adds, Ends, Fails, is_truth, linear, effect}
+use Rattle.spv_proof_rules.specs.Effects.{Question, Effect, Adds, Ends, Fails, is_truth, effect}
 use Rattle.spv_proof_rules.specs.Accepted.{Path, Open, Closed, Broken, closed_if_last, on_effect, walk, cases_of, opened_if, after_node, on_opened, closes, accepts}
-use Rattle.spv_proof_rules.specs.Stops.{Halt, kept}
-use Rattle.spv_proof_rules.specs.Outcomes.{Trial, Does, Halts, does_unless, halt_of_sums, trial, Ending, Comes, Stops, Outcome, comes, by_ending, then_outcome, on_kept, add_fact, on_does, on_trial, steps_outcome, Branch, root, begin_with, begin, case_after, branches_if, branches_after, node_outcome, on_branches, nodes_outcome, outcome}
+use Rattle.spv_proof_rules.specs.Stops.{Halt, kept, all_kept}
+use Rattle.spv_proof_rules.specs.Outcomes.{Trial, Does, Halts, does_unless, halt_by, trial, Ending, Comes, Stops, Outcome, comes, by_ending, then_outcome, on_kept, add_fact, on_does, on_trial, made_by, where_made, steps_outcome, Branch, root, begin_with, begin, case_after, branches_if, branches_after, node_outcome, on_branches, nodes_outcome, outcome}
 
 -- ---- one step
 
@@ -21,16 +20,7 @@ does-unless (Some x) e f h = absurd (cc)
 
 module _ (most : ℕ) (q : Question) where
   trial-does : (known facts : List Term) (s : Step) (e : Effect) → trial most q known facts s ≡ Does e → effect q facts s ≡ e
-  trial-does known facts (step.Linear r first second) e h = does-unless (halt_of_sums most q known facts r first second) (linear q facts r first second) e h
-  trial-does known facts (step.Given k) e h = cc
-  trial-does known facts (step.Refl t) e h = cc
-  trial-does known facts (step.Symm i) e h = cc
-  trial-does known facts (step.Trans i j) e h = cc
-  trial-does known facts (step.Cong t u ks) e h = cc
-  trial-does known facts (step.Schema kind ts field) e h = cc
-  trial-does known facts (step.Rule r ts) e h = cc
-  trial-does known facts (step.Eval s ks) e h = cc
-  trial-does known facts (step.Contra i j) e h = cc
+  trial-does known facts s e h = does-unless (halt_by most q known facts s) (effect q facts s) e h
 
   -- ---- the steps of a node
 
@@ -38,6 +28,10 @@ module _ (most : ℕ) (q : Question) where
   kept-comes : {T : Type 0} (known : List Term) (o : Option (List Term)) (go : List Term → Outcome T) (x : T) → (on_kept known o go).ending ≡ Comes x → (more : List Term) × ((go more).ending ≡ Comes x)
   kept-comes known None go x h = absurd (cc)
   kept-comes known (Some more) go x h = (more, h)
+
+  made-comes : {T : Type 0} (r : Result (List Term) (List Term)) (go : List Term → Outcome T) (x : T) → (where_made r go).ending ≡ Comes x → (known : List Term) × ((go known).ending ≡ Comes x)
+  made-comes (Ok known) go x h = (known, h)
+  made-comes (Err known) go x h = absurd (cc)
 
   by_effect : (known facts : List Term) (s : Step) (steps : List Step) (p : Path) (e : Effect) → effect q facts s ≡ e
       → ((t : Term) (more : List Term) → (steps_outcome most q more (facts ++ t ∷ []) steps).ending ≡ Comes p → walk q (facts ++ t ∷ []) steps ≡ p)
@@ -60,7 +54,9 @@ module _ (most : ℕ) (q : Question) where
 
   steps-come : (steps : List Step) (known facts : List Term) (p : Path) → (steps_outcome most q known facts steps).ending ≡ Comes p → walk q facts steps ≡ p
   steps-come [] known facts p h = cc
-  steps-come (s ∷ steps) known facts p h = by_trial known facts s steps p (trial most q known facts s) refl (λ t more k. steps-come steps more (facts ++ t ∷ []) p k) h
+  steps-come (s ∷ steps) known facts p h =
+      let k = made-comes (all_kept most known (made_by q s)) _ p h in
+      by_trial k.0 facts s steps p (trial most q k.0 facts s) refl (λ t more g. steps-come steps more (facts ++ t ∷ []) p g) k.1
 
   -- ---- nodes
 

@@ -9,6 +9,7 @@ use Rattle.std.specs.Int.RustNames.{int_lt}
 use Rattle.std.specs.Cmp.Derive.{both_true}
 use Rattle.spv_logic.proofs.list.Tests.{left_true, right_true}
 use Rattle.spv_whole.specs.Fraction.{Fraction}
+use Rattle.spv_logic.specs.declared.names.names.Symbol.{Symbol}
 use Rattle.spv_logic.specs.declared.conditions.TermId.{TermId}
 use Rattle.spv_logic.specs.declared.types.Shape.{Shape}
 use Rattle.spv_logic.specs.declared.types.Decl.{Decl}
@@ -19,6 +20,9 @@ use Rattle.spv_logic.specs.Shapes.{shapes_ok}
 use Rattle.spv_logic.specs.Formulas.{negation, equation}
 use Rattle.spv_logic.specs.Conditions.{Meaning, Valuation, Sequent, IsValuation, TrueIn, answers, holds}
 use Rattle.spv_logic.proofs.Equality.{value_eq-true, value_eq-refl, term_eq-true, head_eq-true}
+use Rattle.spv_schemas.specs.declared.kinds.SchemaKind.{SchemaKind}
+use Rattle.spv_schemas.specs.Kinds.{kind_of_number}
+use Rattle.spv_schemas.proofs.Soundness as schemas
 use Rattle.spv_atoms.specs.declared.proofs.Relation.{Relation}
 use Rattle.spv_atoms.specs.declared.proofs.Relation.TheVariants.{AtMost, Equal}
 use Rattle.spv_atoms.specs.declared.proofs.Step.{Step}
@@ -33,7 +37,7 @@ use Rattle.spv_atoms.proofs.Truths.{Known}
 use Rattle.spv_atoms.proofs.Truths as truths
 use Rattle.spv_proof_rules.specs.Sums.{Comparison, Equals, IsBelow, IsAtMost, comparison, negated, Reading, difference, is_at_most_zero, read_true, read_false, sides_pass, read_if, read_relation, read_by, read_cited, cited_reading, refutes}
 use Rattle.spv_proof_rules.specs.Evaluation.{sides, evaluates}
-use Rattle.spv_proof_rules.specs.Effects.{Question, Effect, Adds, Ends, Fails, is_number, adds_if, adds_known, numbered, fact_before, cited, sides_of, exchanged, joined, is_fact, all_equal, congruent, at_most, is_empty, linear, stated, evaluated, is_negation_of, contrary, is_false, impossible, ends_if, end_of_one, end_of_two, end_of, effect}
+use Rattle.spv_proof_rules.specs.Effects.{Question, Effect, Adds, Ends, Fails, is_number, adds_if, adds_known, numbered, fact_before, cited, sides_of, exchanged, joined, is_fact, all_equal, congruent, at_most, is_empty, linear, stated, evaluated, is_negation_of, contrary, is_false, impossible, ends_if, end_of_one, end_of_two, end_of, fact_of_kind, schema_stated, effect}
 use Rattle.spv_proof_rules.specs.Accepted.{Path, Open, Closed, Broken, closed_if_last, on_effect, walk, two_cases, three_cases, cases_by_sides, cases_of, opened_if, after_node, on_opened, closes, accepts}
 use Rattle.spv_proof_rules.proofs.Combinations.{Says, no_refutation}
 use Rattle.spv_proof_rules.proofs.Evaluating as evaluating
@@ -370,11 +374,15 @@ module _ (shapes : List Shape) (ok : shapes_ok shapes ≡ true) (decls : List De
 
   module _ (at : TermId → Term) (c : Sequent) (given_true : list_all true_in c.given ≡ true) (goal_false : true_in c.goal ≡ false) where
     abbrev asked : Question
-    asked = record { shapes = shapes; decls = decls; at = at; sequent = c }
+    asked = record { shapes = shapes; decls = decls; at = at; sequent = c; rules = [] }
 
     linear_right : (facts : List Term) (r : Relation) (first second : List (Fraction × ℕ)) → list_all true_in facts ≡ true → EffectIsRight (linear asked facts r first second)
     linear_right facts (AtMost s t) first second h = adds_right _ (at_most (at s) (at t)) (λ e. at_most_right facts (at s) (at t) first second h e)
     linear_right facts (Equal s t) first second h = adds_right _ (equation (at s) (at t)) (λ e. equal_right facts (at s) (at t) first second h e)
+
+    schema_true : (o : Option SchemaKind) (ts : List Term) (field : Option Symbol) (t : Term) → fact_of_kind asked o ts field ≡ Some t → true_in t ≡ true
+    schema_true None ts field t e = absurd (cc)
+    schema_true (Some kind) ts field t e = schemas.fact_true shapes ok decls world v typed kind ts field t e
 
     effect_right : (facts : List Term) (s : Step) → list_all true_in facts ≡ true → EffectIsRight (effect asked facts s)
     effect_right facts (step.Given zero) h = ap not goal_false
@@ -387,7 +395,7 @@ module _ (shapes : List Shape) (ok : shapes_ok shapes ≡ true) (decls : List De
     effect_right facts (step.Cong t u ks) h =
         adds_right (congruent facts (at t) (at u) ks) (equation (at t) (at u)) (λ e. equal_true (at t) (at u) (congruent_worth facts (at t) (at u) ks h e))
     effect_right facts (step.Linear r first second) h = linear_right facts r first second h
-    effect_right facts (step.Schema kind ts field) h = tt
+    effect_right facts (step.Schema kind ts field) h = known_true (schema_stated asked kind ts field) (λ t e. schema_true (kind_of_number kind) (map at ts) field t e)
     effect_right facts (step.Rule r ts) h = tt
     effect_right facts (step.Eval s ks) h = evaluated_right (stated asked s) (cited facts ks) (λ all e. cited_true facts ks all h e)
     effect_right facts (step.Contra i j) h = end_of_right facts i j h

@@ -1,13 +1,18 @@
 -- What each step of a proof does on its path.
-use Rattle.std.specs.Prelude.{ℕ, zero, suc, Bool, true, false, ◌&&◌, ◌||◌, not, List, [], ◌∷◌, Option, Some, None, slice_get, if◌then◌else◌}
+use Rattle.std.specs.Prelude.{ℕ, zero, suc, Bool, true, false, ◌&&◌, ◌||◌, not, List, [], ◌∷◌, map, Option, Some, None, slice_get, if◌then◌else◌}
 use Rattle.spv_whole.specs.Fraction.{Fraction}
+use Rattle.spv_logic.specs.declared.names.names.Symbol.{Symbol}
 use Rattle.spv_logic.specs.declared.conditions.TermId.{TermId}
 use Rattle.spv_logic.specs.declared.types.Shape.{Shape}
 use Rattle.spv_logic.specs.declared.types.Decl.{Decl}
+use Rattle.spv_logic.specs.declared.operators.Head.{Head}
 use Rattle.spv_logic.specs.declared.operators.Head.TheVariants.{Le, True, False}
 use Rattle.spv_logic.specs.Terms.{Term, Terms, term, no_terms, terms, head_eq, term_eq}
 use Rattle.spv_logic.specs.Formulas.{negation, equation}
 use Rattle.spv_logic.specs.Conditions.{Sequent}
+use Rattle.spv_schemas.specs.declared.kinds.SchemaKind.{SchemaKind}
+use Rattle.spv_schemas.specs.Kinds.{kind_of_number}
+use Rattle.spv_schemas.specs.Facts.{schema_fact}
 use Rattle.spv_atoms.specs.declared.proofs.Relation.{Relation}
 use Rattle.spv_atoms.specs.declared.proofs.Relation.TheVariants.{AtMost, Equal}
 use Rattle.spv_atoms.specs.declared.proofs.Stated.{Stated}
@@ -19,12 +24,19 @@ use Rattle.spv_atoms.specs.Atoms as atoms
 use Rattle.spv_proof_rules.specs.Sums.{negated, refutes}
 use Rattle.spv_proof_rules.specs.Evaluation.{sides, evaluates}
 
--- what a proof is to show: a sequent, over terms by their ids, and over types and declared symbols
+-- a rule that a proof may cite: what its instances replace, in the order of their terms, and the formula that they are instances of
+pub record Rule : Type 0 where
+  pub replaced : List Head
+  pub formula : Term
+
+-- what a proof is to show: a sequent, over terms by their ids, over types and declared symbols, and under rules, of which there are
+-- none yet
 pub record Question : Type 0 where
   pub shapes : List Shape
   pub decls : List Decl
   pub at : TermId → Term
   pub sequent : Sequent
+  pub rules : List Rule
 
 -- what a step does on a path: it adds a fact, ends the path, or does not follow
 pub data Effect : Type 0 where
@@ -131,6 +143,16 @@ evaluated is_truth None facts = Fails
 evaluated is_truth (Some formula) None = Fails
 evaluated is_truth (Some formula) (Some facts) = adds_if (evaluates is_truth facts formula) formula
 
+-- ---- schemas
+
+abbrev pub fact_of_kind : Question → Option SchemaKind → List Term → Option Symbol → Option Term
+fact_of_kind q None ts field = None
+fact_of_kind q (Some kind) ts field = schema_fact q.shapes q.decls kind ts field
+
+-- the fact of the kind of this number about these terms, which need not be those of the sequent
+abbrev pub schema_stated : Question → ℕ → List TermId → Option Symbol → Option Term
+schema_stated q number ts field = fact_of_kind q (kind_of_number number) (map q.at ts) field
+
 -- ---- the end of a path
 
 abbrev pub is_negation_of : Option Term → Term → Bool
@@ -169,7 +191,7 @@ end_of facts s (Some k) = end_of_two s (numbered facts k)
 
 -- ---- steps
 
--- what a step does after these facts; of schemas and rules none follows so far
+-- what a step does after these facts; of rules none follows so far
 abbrev pub effect : Question → List Term → Step → Effect
 effect q facts (step.Given k) = given_effect q.sequent k
 effect q facts (step.Refl t) = Adds (equation (q.at t) (q.at t))
@@ -177,7 +199,7 @@ effect q facts (step.Symm i) = exchanged (sides_of (numbered facts i))
 effect q facts (step.Trans i j) = joined (sides_of (numbered facts i)) (sides_of (numbered facts j))
 effect q facts (step.Cong t u ks) = adds_if (congruent facts (q.at t) (q.at u) ks) (equation (q.at t) (q.at u))
 effect q facts (step.Linear r first second) = linear q facts r first second
-effect q facts (step.Schema kind ts field) = Fails
+effect q facts (step.Schema kind ts field) = adds_known (schema_stated q kind ts field)
 effect q facts (step.Rule r ts) = Fails
 effect q facts (step.Eval s ks) = evaluated (is_truth q) (stated q s) (cited facts ks)
 effect q facts (step.Contra i j) = end_of facts (numbered facts i) j

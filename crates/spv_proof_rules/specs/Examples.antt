@@ -55,6 +55,7 @@ asks given goal = record {
   decls = f_is ∷ [];
   at = λ t. slice_index_or named t.0 x;
   sequent = record { given = given; goal = goal };
+  rules = [];
 }
 
 -- a node that a step ends

@@ -7,3 +7,4 @@ pub mod Outcomes
 pub mod Stand
 pub mod Laws
 pub mod Examples
+pub mod SchemaExamples

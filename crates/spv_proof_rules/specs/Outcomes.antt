@@ -1,5 +1,5 @@
 -- What a check of a proof comes to, step by step, where there may be so many terms and no more.
-use Rattle.std.specs.Prelude.{◌≡◌, ℕ, Bool, true, false, ◌&&◌, List, [], ◌∷◌, ◌++◌, map, length, Option, Some, None, nat_eq}
+use Rattle.std.specs.Prelude.{◌≡◌, ℕ, Bool, true, false, ◌&&◌, List, [], ◌∷◌, ◌++◌, map, length, Option, Some, None, Result, Ok, Err, nat_eq}
 use Rattle.spv_whole.specs.Fraction.{Fraction}
 use Rattle.spv_logic.specs.Terms.{Term}
 use Rattle.spv_logic.specs.Formulas.{equation}
@@ -11,9 +11,9 @@ use Rattle.spv_atoms.specs.declared.proofs.Split.{Split}
 use Rattle.spv_atoms.specs.declared.proofs.ProofNode.{ProofNode}
 use Rattle.spv_atoms.specs.Atoms.{is_atom}
 use Rattle.spv_proof_rules.specs.Sums.{refutes}
-use Rattle.spv_proof_rules.specs.Effects.{Question, Effect, Adds, Ends, Fails, is_truth, is_number, is_empty, at_most, linear, effect}
+use Rattle.spv_proof_rules.specs.Effects.{Question, Effect, Adds, Ends, Fails, is_truth, is_number, is_empty, at_most, schema_stated, effect}
 use Rattle.spv_proof_rules.specs.Accepted.{Path, Open, Closed, Broken, closed_if_last, cases_of}
-use Rattle.spv_proof_rules.specs.Stops.{Stop, TooMany, Halt, kept, halt_in}
+use Rattle.spv_proof_rules.specs.Stops.{Stop, TooMany, Halt, kept, all_kept, layers_if, halt_in}
 
 -- ---- steps
 
@@ -50,10 +50,14 @@ abbrev pub halt_of_sums : ℕ → Question → List Term → List Term → Relat
 halt_of_sums most q known facts (AtMost s t) first second = halt_at_most (is_number q) most known facts (q.at s) (q.at t) first second
 halt_of_sums most q known facts (Equal s t) first second = halt_equal (is_number q) most known facts (q.at s) (q.at t) first second
 
+-- what stops a step: the sums of a relation alone
+abbrev pub halt_by : ℕ → Question → List Term → List Term → Step → Option Halt
+halt_by most q known facts (step.Linear r first second) = halt_of_sums most q known facts r first second
+halt_by most q known facts _ = None
+
 -- what a step comes to after these facts, where there are these terms
 abbrev pub trial : ℕ → Question → List Term → List Term → Step → Trial
-trial most q known facts (step.Linear r first second) = does_unless (halt_of_sums most q known facts r first second) (linear q facts r first second)
-trial most q known facts s = Does (effect q facts s)
+trial most q known facts s = does_unless (halt_by most q known facts s) (effect q facts s)
 
 -- ---- outcomes
 
@@ -104,11 +108,21 @@ abbrev pub on_trial : List Term → Trial → (Term → Outcome Path) → Path �
 on_trial known (Does e) go last = on_does known e go last
 on_trial known (Halts h) go last = stops h.known h.stop
 
--- where steps lead from these facts; each fact that is added is kept among the terms
+-- the terms that a step makes beforehand: those of a fact of a schema, which may be new
+abbrev pub made_by : Question → Step → List Term
+made_by q (step.Schema kind ts field) = layers_if (schema_stated q kind ts field)
+made_by q _ = []
+
+abbrev pub where_made : {T : Type 0} → Result (List Term) (List Term) → (List Term → Outcome T) → Outcome T
+where_made (Ok known) go = go known
+where_made (Err known) go = stops known TooMany
+
+-- where steps lead from these facts; each term that a step makes and each fact that it adds is kept among the terms
 abbrev pub steps_outcome : ℕ → Question → List Term → List Term → List Step → Outcome Path
-steps_outcome most q known facts [] = comes known (Open facts)
-steps_outcome most q known facts (s ∷ steps) =
-    on_trial known (trial most q known facts s) (λ t. add_fact most known t (λ more. steps_outcome most q more (facts ++ t ∷ []) steps)) (closed_if_last steps)
+steps_outcome most q before facts [] = comes before (Open facts)
+steps_outcome most q before facts (s ∷ steps) =
+    where_made (all_kept most before (made_by q s)) (λ known.
+    on_trial known (trial most q known facts s) (λ t. add_fact most known t (λ more. steps_outcome most q more (facts ++ t ∷ []) steps)) (closed_if_last steps))
 
 -- ---- nodes
 

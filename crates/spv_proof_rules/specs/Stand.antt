@@ -8,15 +8,15 @@ use Rattle.spv_atoms.specs.declared.proofs.Relation.TheVariants.{AtMost, Equal}
 use Rattle.spv_atoms.specs.declared.proofs.Stated.{Stated}
 use Rattle.spv_atoms.specs.declared.proofs.Stated.TheVariants.{Is, Same}
 use Rattle.spv_atoms.specs.declared.proofs.Step.{Step}
-use Rattle.spv_atoms.specs.declared.proofs.Step.TheVariants as step
 use Rattle.spv_atoms.specs.declared.proofs.Split.{Split}
 use Rattle.spv_atoms.specs.declared.proofs.ProofNode.{ProofNode}
+use Rattle.spv_atoms.specs.Steps.{Part, One, Several, Sums, States, OfNaming}
 use Rattle.spv_proof_rules.specs.Effects.{Question}
 use Rattle.spv_proof_rules.specs.Accepted.{accepts}
 
 -- what is to be shown of a condition
 abbrev pub question : Arena → Condition → Question
-question a c = record { shapes = a.shapes; decls = a.decls; at = tree a; sequent = sequent a c }
+question a c = record { shapes = a.shapes; decls = a.decls; at = tree a; sequent = sequent a c; rules = [] }
 
 -- a term is in the arena
 abbrev pub In : Arena → TermId → Type 0
@@ -30,15 +30,16 @@ abbrev pub StatedIn : Arena → Stated → Type 0
 StatedIn a (Is t b) = In a t
 StatedIn a (Same s t) = In a s × In a t
 
+abbrev pub PartIn : Arena → Part → Type 0
+PartIn a (One t) = In a t
+PartIn a (Several ts) = AllBelow (length a.nodes) ts
+PartIn a (Sums r first second) = RelationIn a r
+PartIn a (States s) = StatedIn a s
+PartIn a _ = Unit {0}
+
 -- the terms that a step names are in the arena
 abbrev pub StepIn : Arena → Step → Type 0
-StepIn a (step.Refl t) = In a t
-StepIn a (step.Cong t u ks) = In a t × In a u
-StepIn a (step.Linear r first second) = RelationIn a r
-StepIn a (step.Schema kind ts field) = AllBelow (length a.nodes) ts
-StepIn a (step.Rule r ts) = AllBelow (length a.nodes) ts
-StepIn a (step.Eval s ks) = StatedIn a s
-StepIn a _ = Unit {0}
+StepIn a s = OfNaming (PartIn a) s
 
 abbrev pub StepsIn : Arena → List Step → Type 0
 StepsIn a [] = Unit {0}

@@ -1,5 +1,5 @@
 -- What stops a check: a number of a sum, or of a form, that is too wide, or a term too many.
-use Rattle.std.specs.Prelude.{ℕ, zero, suc, Bool, true, ◌&&◌, List, [], ◌∷◌, ◌++◌, length, Option, Some, None, ℤ, pos, nat_eq, slice_get, if◌then◌else◌}
+use Rattle.std.specs.Prelude.{ℕ, zero, suc, Bool, true, ◌&&◌, List, [], ◌∷◌, ◌++◌, length, Option, Some, None, Result, Ok, Err, ℤ, pos, nat_eq, slice_get, if◌then◌else◌}
 use Rattle.std.specs.List.{list_any}
 use Rattle.std.specs.Option.{option_map}
 use Rattle.std.specs.Ordering.{int_eq}
@@ -8,7 +8,7 @@ use Rattle.spv_frac.specs.declared.frac.Op.{Op}
 use Rattle.spv_frac.specs.declared.frac.Op.TheVariants.{Add, Mul}
 use Rattle.spv_frac.specs.Range.{op_fits}
 use Rattle.spv_frac.specs.rational.Rational.{number}
-use Rattle.spv_logic.specs.Terms.{Term, term_eq}
+use Rattle.spv_logic.specs.Terms.{Term, Terms, term, no_terms, terms, term_eq}
 use Rattle.spv_atoms.specs.Forms.{Sum, Form, with_part, form_fits, is_narrow}
 use Rattle.spv_proof_rules.specs.Sums.{Comparison, Equals, IsBelow, IsAtMost, comparison, negated, Reading, difference, is_at_most_zero, reading, may_multiply}
 use Rattle.spv_proof_rules.specs.Evaluation.{bare}
@@ -31,6 +31,33 @@ pub record Halt : Type 0 where
 -- the terms with one more, of at most so many: as they are where it is among them; none where it is one too many
 abbrev pub kept : ℕ → List Term → Term → Option (List Term)
 kept most known t = if list_any (term_eq t) known then Some known else if nat_eq (length known) most then None else Some (known ++ t ∷ [])
+
+abbrev pub on_room : List Term → Option (List Term) → (List Term → Result (List Term) (List Term)) → Result (List Term) (List Term)
+on_room known None go = Err known
+on_room known (Some more) go = go more
+
+-- the terms with these, one after the other; an error has those before the first for which there is no room
+abbrev pub all_kept : ℕ → List Term → List Term → Result (List Term) (List Term)
+all_kept most known [] = Ok known
+all_kept most known (t ∷ ts) = on_room known (kept most known t) (λ more. all_kept most more ts)
+
+-- the terms that there are then
+abbrev pub terms_of : Result (List Term) (List Term) → List Term
+terms_of (Ok known) = known
+terms_of (Err known) = known
+
+-- a term behind its subterms, arguments first and in their order
+abbrev mutual
+  pub layers : Term → List Term
+  layers (term h ts) = layers_each ts ++ term h ts ∷ []
+
+  pub layers_each : Terms → List Term
+  layers_each no_terms = []
+  layers_each (terms t ts) = layers t ++ layers_each ts
+
+abbrev pub layers_if : Option Term → List Term
+layers_if None = []
+layers_if (Some t) = layers t
 
 -- ---- forms
 

@@ -3,6 +3,7 @@
 ghost use Rattle.std.specs.Prelude.{◌≡◌, true, false};
 ghost use Rattle.spv_logic.specs.Conditions.{Meaning};
 ghost use Rattle.spv_proof_rules.specs.Examples as examples;
+ghost use Rattle.spv_proof_rules.specs.SchemaExamples as schemas;
 ghost use Rattle.spv_proof_rules.specs.Laws.{AcceptedIsTrueIn, ProvedIsTrueIn, UnstoppedIsExact, TermsStay};
 
 use spv_logic::World;
@@ -37,4 +38,23 @@ pub fn law_examples()
     ensures a_case_has_its_own_facts { examples.a_sisters_fact ≡ false }
     ensures each_case_is_closed { examples.an_open_case ≡ false }
     ensures a_value_comes_from_a_cited_fact { examples.a_value_from_nowhere ≡ false }
+{}
+
+/// Worked proofs with facts of schemas.
+pub fn law_schema_examples()
+    ensures numbers { schemas.NumbersTellFacts }
+    ensures quotient_and_remainder { schemas.both_kinds ≡ true }
+    ensures each_has_its_kind { schemas.one_kind_twice ≡ false }
+    ensures there_are_twenty_kinds { schemas.no_such_kind ≡ false }
+    ensures none_has_number_0 { schemas.kind_of_0 ≡ false }
+    ensures a_field_has_its_kind { schemas.field_for_nothing ≡ false }
+    ensures all_terms_are_named { schemas.term_is_missing ≡ false }
+    ensures another_index_stays { schemas.element_stays ≡ true }
+    ensures kinds_differ { schemas.kinds_exchanged ≡ false }
+    ensures changes_differ { schemas.changes_exchanged ≡ false }
+    ensures indices_differ { schemas.another_index ≡ false }
+    ensures room_for_all { schemas.RoomForAll }
+    ensures no_room_for_the_fact { schemas.NoRoomForTheFact }
+    ensures no_room_for_the_value { schemas.NoRoomForTheValue }
+    ensures no_room_for_the_quotient { schemas.NoRoomForTheQuotient }
 {}

@@ -3,4 +3,4 @@
 
 mod laws;
 
-pub use laws::{law_check, law_examples, law_outcome};
+pub use laws::{law_check, law_examples, law_outcome, law_schema_examples};

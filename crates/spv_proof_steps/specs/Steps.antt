@@ -1,5 +1,5 @@
 -- What a step does, where the fact that it adds need not stand in the arena.
-use Rattle.std.specs.Prelude.{◌≡◌, ◌<◌, length}
+use Rattle.std.specs.Prelude.{◌≡◌, ◌<◌, length, []}
 use Rattle.spv_logic.specs.declared.conditions.TermId.{TermId}
 use Rattle.spv_logic.specs.declared.types.Sort.TheVariants as sort
 use Rattle.spv_logic.specs.Terms.{Term}
@@ -47,4 +47,4 @@ MayAdd a _ = Unit {0}
 
 -- what is to be shown, over an arena
 abbrev pub asked : Arena → Sequent → Question
-asked a c = record { shapes = a.shapes; decls = a.decls; at = tree a; sequent = c }
+asked a c = record { shapes = a.shapes; decls = a.decls; at = tree a; sequent = c; rules = [] }

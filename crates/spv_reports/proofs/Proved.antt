@@ -12,7 +12,7 @@ use Rattle.spv_proof_rules.proofs.Soundness.{accepted_true}
 use Rattle.spv_verdicts.specs.Verdicts.{Limits, IsRight}
 use Rattle.spv_verdicts.specs.declared.answers.verdicts.Decided.{Decided}
 use Rattle.spv_verdicts.specs.declared.answers.verdicts.Verdict.{Verdict}
-use Rattle.spv_verdicts.specs.declared.answers.verdicts.Verdict.TheVariants.{Proved, Unproved, GaveUp}
+use Rattle.spv_verdicts.specs.declared.answers.verdicts.Verdict.TheVariants.{Proved, Unproved, GaveUp, NotAccepted}
 use Rattle.spv_verdicts.specs.answers.Views.{IsDecided, verdict_in}
 use Rattle.spv_reports.specs.Reports.{is_proved}
 
@@ -27,7 +27,8 @@ proved_true a c limits d world ok is proved = here (copied d.verdict is.right pr
     copied : (v : Verdict) → IsRight d.terms (question d.terms d.condition) limits (verdict_in d.terms v) → is_proved v ≡ true → TrueIn d.terms.shapes d.terms.decls world (sequent d.terms d.condition)
     copied (Proved nodes) right proved = accepted_true world (question d.terms d.condition) shapes_there nodes right
     copied (Unproved u) right proved = absurd (false≢true proved)
-    copied (GaveUp l) right proved = absurd (false≢true proved)
+    copied (GaveUp rounds l) right proved = absurd (false≢true proved)
+    copied NotAccepted right proved = absurd right
 
     here : TrueIn d.terms.shapes d.terms.decls world (sequent d.terms d.condition) → TrueIn a.shapes a.decls world (sequent a c)
     here there =

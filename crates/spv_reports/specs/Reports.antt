@@ -1,7 +1,6 @@
 -- Reports, and what each keeps.
-use Rattle.std.specs.Prelude.{◌≡◌, ⊤, ℕ, Bool, true, false, not, List, [], ◌∷◌, Option, None, IsTrue}
+use Rattle.std.specs.Prelude.{◌≡◌, ⊤, ℕ, Bool, true, false, not, List, [], ◌∷◌, map, None, IsTrue}
 use Rattle.std.specs.List.{list_all}
-use Rattle.spv_logic.specs.declared.names.names.Symbol.{Symbol}
 use Rattle.spv_logic.specs.Conditions.{Meaning}
 use Rattle.spv_term.specs.declared.nodes.Condition.{Condition}
 use Rattle.spv_term.specs.Arena.{Arena, IsArena}
@@ -19,33 +18,34 @@ use Rattle.spv_conditions.specs.Making.{main_events, empty_arena, MeetsLimit, Is
 use Rattle.spv_verdicts.specs.Verdicts.{Limits}
 use Rattle.spv_verdicts.specs.declared.answers.verdicts.Decided.{Decided}
 use Rattle.spv_verdicts.specs.declared.answers.verdicts.Verdict.{Verdict}
-use Rattle.spv_verdicts.specs.declared.answers.verdicts.Verdict.TheVariants.{Proved, Unproved, GaveUp}
+use Rattle.spv_verdicts.specs.declared.answers.verdicts.Verdict.TheVariants.{Proved, Unproved, GaveUp, NotAccepted}
 use Rattle.spv_verdicts.specs.answers.Views.{IsDecided}
 use Rattle.spv_reports.specs.supported.Taken.{is_taken}
+use Rattle.spv_reports.specs.declared.report.ProgramNames.{ProgramNames}
 use Rattle.spv_reports.specs.declared.mode.Mode.{Mode}
 use Rattle.spv_reports.specs.declared.mode.Mode.TheVariants.{Verify, Conditions}
 use Rattle.spv_reports.specs.declared.fault.ReportFault.{ReportFault}
 use Rattle.spv_reports.specs.declared.fault.ReportFault.TheVariants.{Form, Stopped, NotTaken}
 
--- what contracts see of a report: the names of its program and the first names of its types, its conditions over an arena, what it is
--- for, and what was decided of each condition
+-- what contracts see of a report: the names of its program, its conditions over an arena, what it is for, what was decided of each
+-- condition, and whether a page of it has proofs
 pub record Findings : Type 0 where
-  pub names : List (List ℕ)
-  pub titles : List (Option Symbol)
+  pub named : ProgramNames
   pub arena : Arena
   pub conditions : List Condition
   pub mode : Mode
   pub verdicts : List Decided
+  pub proofs : Bool
 
-abbrev pub findings : List (List ℕ) → List (Option Symbol) → Arena → List Condition → Mode → List Decided → Findings
-findings names titles arena conditions mode verdicts =
-    record { names = names; titles = titles; arena = arena; conditions = conditions; mode = mode; verdicts = verdicts }
+abbrev pub findings : ProgramNames → Arena → List Condition → Mode → List Decided → Findings
+findings named arena conditions mode verdicts =
+    record { named = named; arena = arena; conditions = conditions; mode = mode; verdicts = verdicts; proofs = false }
 
 -- ---- what a report is for
 
 -- the limits of a search where none are given
 abbrev pub default_limits : Limits
-default_limits = record { splits = 20000; pivots = 5000 }
+default_limits = record { splits = 20000; instances = 400; pivots = 5000 }
 
 abbrev pub has_verdicts : Mode → Bool
 has_verdicts (Verify limits) = true
@@ -72,12 +72,14 @@ AreVerdictsIn Conditions a conditions verdicts = verdicts ≡ []
 abbrev pub is_proved : Verdict → Bool
 is_proved (Proved nodes) = true
 is_proved (Unproved u) = false
-is_proved (GaveUp l) = false
+is_proved (GaveUp rounds l) = false
+is_proved NotAccepted = false
 
 abbrev pub is_unproved : Verdict → Bool
 is_unproved (Proved nodes) = false
 is_unproved (Unproved u) = true
-is_unproved (GaveUp l) = false
+is_unproved (GaveUp rounds l) = false
+is_unproved NotAccepted = false
 
 -- the outcome of a report is one of three: all its conditions are proved, or one is unproved, or none is and the search gave up
 abbrev pub all_proved : List Decided → Bool
@@ -97,7 +99,8 @@ pub record IsReportOn (p : Program) (r : Findings) : Type 0 where
   pub sound : IsArena r.arena
   pub shapes : r.arena.shapes ≡ shapes p
   pub decls : r.arena.decls ≡ p.symbols
-  pub titles : r.titles ≡ p.titles
+  pub titles : r.named.titles ≡ p.titles
+  pub routines : r.named.routines ≡ map (λ q. q.name) p.routines
   pub in_range : AreIn r.arena r.conditions
   pub conditions : conditions_of r.arena r.conditions ≡ program.conditions_of p
   pub within : Walked (main_events p) (empty_arena p) r.arena

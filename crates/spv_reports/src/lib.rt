@@ -11,6 +11,6 @@ mod verdicts;
 pub use fault::ReportFault;
 pub use limits::default_limits;
 pub use mode::Mode;
-pub use report::{Report, law_report};
+pub use report::{ProgramNames, Report, law_report};
 pub use spv_verdicts::answers::{Decided, Limit, Limits, Unproved, Verdict, Wide};
 pub use verdicts::{all_proved, is_proved, is_unproved, none_unproved};

@@ -11,16 +11,28 @@ use spv_term::{Condition, Terms, World};
 use spv_verdicts::answers::Decided;
 use std::marker::Model;
 
+/// The names that a program gives: the table of all its names, the first name of each type that has one, by its number, and the name of
+/// each routine, by its number.
+#[derive(Debug, Drop)]
+pub struct ProgramNames {
+    /// All names.
+    pub names: Names,
+    /// The first names of the types.
+    pub titles: List<Option<Symbol>>,
+    /// The names of the routines.
+    pub routines: List<Symbol>,
+}
+
 /// What was found out about a program: its verification conditions, and where verdicts were wanted what was decided of each. That there
 /// is a program whose conditions these are, and that the verdicts are right, are facts of this type.
 #[derive(Drop)]
 pub struct Report {
-    names: Names,
-    titles: List<Option<Symbol>>,
+    named: ProgramNames,
     terms: Terms,
     conditions: Vec<Condition>,
     mode: Mode,
     verdicts: Vec<Decided>,
+    proofs: bool,
 }
 
 impl Model for Report {
@@ -29,59 +41,67 @@ impl Model for Report {
     ghost Value = { Findings };
 
     ghost view = { λ r. record {
-      names = r.names;
-      titles = r.titles;
+      named = r.named;
       arena = r.terms;
       conditions = r.conditions.items;
       mode = r.mode;
       verdicts = r.verdicts.items;
+      proofs = r.proofs;
     } };
 
     ghost invariant = { λ r. IsReport (record {
-      names = r.names;
-      titles = r.titles;
+      named = r.named;
       arena = r.terms;
       conditions = r.conditions.items;
       mode = r.mode;
       verdicts = r.verdicts.items;
+      proofs = r.proofs;
     }) };
 }
 
 impl Report {
-    /// The report with these conditions and verdicts, which are those of a program.
+    /// The report with these conditions and verdicts, which are those of a program. A page of it has no proofs.
     pub fn new(
-        names: Names,
-        titles: List<Option<Symbol>>,
+        named: ProgramNames,
         terms: Terms,
         conditions: Vec<Condition>,
         mode: Mode,
         verdicts: Vec<Decided>,
     ) -> Report
-        requires report { IsReport (findings names titles terms conditions.items mode verdicts.items) }
-        ensures findings { result ≡ findings names titles terms conditions.items mode verdicts.items }
+        requires report { IsReport (findings named terms conditions.items mode verdicts.items) }
+        ensures findings { result ≡ findings named terms conditions.items mode verdicts.items }
     {
         Report {
-            names,
-            titles,
+            named,
             terms,
             conditions,
             mode,
             verdicts,
+            proofs: false,
         }
     }
 
-    /// The names of the program.
-    pub fn names(&self) -> &Names
-        ensures { result.now ≡ self.now.names }
+    /// The same report, of which a page has proofs, or has none.
+    pub fn with_proofs(self, proofs: bool) -> Report
+        ensures { result ≡ record self { proofs = proofs } }
     {
-        &self.names
+        let mut report = self;
+        report.proofs = proofs;
+        report
     }
 
-    /// The first names of the types, where they have one.
-    pub fn titles(&self) -> &[Option<Symbol>]
-        ensures { result.now ≡ self.now.titles }
+    /// The names that the program gives.
+    pub fn named(&self) -> &ProgramNames
+        ensures { result.now ≡ self.now.named }
     {
-        self.titles.as_slice()
+        &self.named
+    }
+
+    /// Whether a page of it has proofs.
+    pub fn proofs(&self) -> bool
+        ensures { result ≡ self.now.proofs }
+    {
+        self.proofs
     }
 
     /// The terms of the conditions.

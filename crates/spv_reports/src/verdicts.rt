@@ -12,7 +12,8 @@ pub fn is_proved(verdict: &Verdict) -> bool
     match verdict {
         Verdict::Proved(_) => true,
         Verdict::Unproved(_) => false,
-        Verdict::GaveUp(_) => false,
+        Verdict::GaveUp(_, _) => false,
+        Verdict::NotAccepted => false,
     }
 }
 
@@ -23,7 +24,8 @@ pub fn is_unproved(verdict: &Verdict) -> bool
     match verdict {
         Verdict::Proved(_) => false,
         Verdict::Unproved(_) => true,
-        Verdict::GaveUp(_) => false,
+        Verdict::GaveUp(_, _) => false,
+        Verdict::NotAccepted => false,
     }
 }
 

@@ -16,6 +16,7 @@ use Rattle.spv_proof_rules.specs.Stand.{question}
 use Rattle.spv_table.specs.declared.table.Table.{Table}
 use Rattle.spv_models.specs.leaf_models.Subterms.{is_listed, subterms}
 use Rattle.spv_models.specs.leaf_models.Tables.{formulas_of}
+use Rattle.spv_verdicts.specs.declared.answers.verdicts.Instance.{Instance}
 use Rattle.spv_verdicts.specs.declared.answers.verdicts.Verdict.TheVariants as verdict
 use Rattle.spv_verdicts.specs.answers.Views.{pairs_in}
 use Rattle.spv_assignments.specs.declared.partial_assignment.facts.Known.{Known}
@@ -32,6 +33,7 @@ use Rattle.spv_trail.specs.declared.backtracking.path.BranchTrail.{BranchTrail}
 use Rattle.spv_search.specs.declared.consulting.Next.{Next}
 use Rattle.spv_search.specs.Finding.{IsFoundAlways, IsNext, IsTableFor, MayBeSplitIf}
 use Rattle.spv_search.proofs.Tables.{table_in, flags_many}
+use Rattle.spv_search.proofs.NoRules.{unproved}
 
 -- ---- what the table of both sides lists
 
@@ -104,8 +106,9 @@ may_advised a ids p values ks x t e f is h =
 pub tried_as : (a : Arena) (c : Condition) (table : Table) (x y : Tried) → x ≡ y → IsTried a c table x → IsTried a c table y
 tried_as a c table x y e h = subst (IsTried a c table) e h
 
-pub found_by_trial : (a : Arena) (c : Condition) (table : Table) (branch : List (TermId × Bool)) → IsTried a c table (tried.Shown branch) → IsFoundAlways a c (verdict.Unproved (record { branch = branch; table = table }))
-found_by_trial a c table branch h = λ limits. record { terms_in = h.1; right = h.0 }
+pub found_by_trial : (a : Arena) (c : Condition) (table : Table) (branch : List (TermId × Bool)) → IsTried a c table (tried.Shown branch) → (instances : List Instance) → instances ≡ []
+    → IsFoundAlways a c (verdict.Unproved (record { branch = branch; table = table; instances = instances }))
+found_by_trial a c table branch h instances none = λ limits. unproved a c limits branch table h.1 h.2 h.0 instances none
 
 -- ---- what comes next
 

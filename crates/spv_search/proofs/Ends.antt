@@ -11,6 +11,7 @@ use Rattle.spv_models.specs.leaf_models.Laws.{AreFormulas}
 use Rattle.spv_models.specs.leaf_models.Tables.{formulas_of}
 use Rattle.spv_models.specs.split_trees.Kept.{IsKept}
 use Rattle.spv_verdicts.specs.declared.answers.trees.SplitNode.{SplitNode}
+use Rattle.spv_verdicts.specs.declared.answers.verdicts.Round.{Round}
 use Rattle.spv_verdicts.specs.declared.answers.verdicts.Verdict.TheVariants as verdict
 use Rattle.spv_verdicts.specs.declared.answers.verdicts.Limit.TheVariants as limit
 use Rattle.spv_verdicts.specs.answers.Nodes.{tree_at}
@@ -24,6 +25,7 @@ use Rattle.spv_trail.specs.declared.backtracking.marks.TrailMark.{TrailMark}
 use Rattle.spv_trail.specs.backtracking.Paths.{IsToldOrEnded}
 use Rattle.spv_search.specs.Searching.{IsArrived, IsSetUp, IsWithin}
 use Rattle.spv_search.specs.Finding.{IsFound}
+use Rattle.spv_search.proofs.NoRules.{given_up}
 
 -- ---- no branch is left
 
@@ -31,11 +33,9 @@ module _ (a : Arena) (c : Condition) (limits : Limits) (s : Growth) (w : IsWithi
   pub proved : (nodes : List ProofNode) → AreFormulas a.shapes a.decls (formulas_of (question a c).sequent) → IsFinished s (finished.Proved nodes) → FinishedIn a (finished.Proved nodes) → IsFound a c limits (verdict.Proved nodes)
   proved nodes formulas is there = record { terms_in = there; right = is.1 (question a c) w.grows formulas }
 
-  pub gave_up : (nodes : List SplitNode) → IsFinished s (finished.Open nodes) → FinishedIn a (finished.Open nodes) → IsFound a c limits (verdict.GaveUp (limit.Splits nodes))
-  gave_up nodes is there = record {
-    terms_in = there;
-    right = subst (λ (n : ℕ). IsKept (question a c) n (tree_at (tree a) nodes)) (w.spent is.0) (is.1 (question a c) w.grows);
-  }
+  pub gave_up : (nodes : List SplitNode) → IsFinished s (finished.Open nodes) → FinishedIn a (finished.Open nodes) → (rounds : List Round) → rounds ≡ [] → IsFound a c limits (verdict.GaveUp rounds (limit.Splits nodes))
+  gave_up nodes is there rounds none =
+      given_up a c limits (limit.Splits nodes) there (subst (λ (n : ℕ). IsKept (question a c) n (tree_at (tree a) nodes)) (w.spent is.0) (is.1 (question a c) w.grows)) rounds none
 
 -- ---- the first branch
 

@@ -1,4 +1,5 @@
 pub mod Lists
+pub mod NoRules
 pub mod Staying
 pub mod Marks
 pub mod Branching

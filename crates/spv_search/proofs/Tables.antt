@@ -12,6 +12,8 @@ use Rattle.spv_table.specs.declared.operations.WideValue.{WideValue}
 use Rattle.spv_table.specs.declared.table.Table.{Table}
 use Rattle.spv_table.specs.Kept.{PairsIn, listed_over}
 use Rattle.spv_models.specs.leaf_models.Subterms.{is_listed}
+use Rattle.spv_verdicts.specs.declared.answers.verdicts.Instance.{Instance}
+use Rattle.spv_verdicts.specs.declared.answers.verdicts.Round.{Round}
 use Rattle.spv_verdicts.specs.declared.answers.verdicts.Verdict.TheVariants as verdict
 use Rattle.spv_verdicts.specs.declared.answers.verdicts.Limit.TheVariants as limit
 use Rattle.spv_verdicts.specs.declared.answers.verdicts.Wide.TheVariants as wide
@@ -23,6 +25,7 @@ use Rattle.spv_verdicts.specs.declared.model_check.faults.SurvivingFault.TheVari
 use Rattle.spv_branch_theory.specs.saturation.States.{AreListed, IsTableOf}
 use Rattle.spv_branch_theory.specs.saturation.Laws.{NeverNotShown, ShownIsUnproved, WideIsReached}
 use Rattle.spv_search.specs.Finding.{HasFullState, IsFoundAlways}
+use Rattle.spv_search.proofs.NoRules.{given_up, unproved}
 
 -- ---- terms that are there
 
@@ -59,14 +62,12 @@ module _ (a : Arena) (c : Condition) (b : Both) (ids : List TermId) (flags : Lis
   pub not_shown : NeverNotShown → IsNotShown a c (listed_over a table.values) → ⊥
   not_shown law h = law a c b full.facts full.value table.values table_of h
 
-  pub found_unproved : ShownIsUnproved → (branch : List (TermId × Bool)) → ShowsFalse a c (listed_over a table.values) branch → IsFoundAlways a c (verdict.Unproved (record { branch = branch; table = table }))
-  found_unproved law branch shows = λ limits. record {
-    terms_in = (cases_in a branch shows.branch_is.in_range, table_in a c b ids flags table.values listed is);
-    right = law a c b full.facts full.value table.values table_of branch shows;
-  }
+  pub found_unproved : ShownIsUnproved → (branch : List (TermId × Bool)) → ShowsFalse a c (listed_over a table.values) branch → (instances : List Instance) → instances ≡ []
+      → IsFoundAlways a c (verdict.Unproved (record { branch = branch; table = table; instances = instances }))
+  found_unproved law branch shows instances none = λ limits.
+      unproved a c limits branch table (cases_in a branch shows.branch_is.in_range) (table_in a c b ids flags table.values listed is) (law a c b full.facts full.value table.values table_of branch shows) instances none
 
-  pub found_wide : WideIsReached → (t : TermId) (w : WideValue) → IsFaultFor a c (listed_over a table.values) (Wide t w) → IsFoundAlways a c (verdict.GaveUp (limit.Number (wide.Value table t w.op w.left w.right)))
-  found_wide law t w fault = λ limits. record {
-    terms_in = (table_in a c b ids flags table.values listed is, fault.0);
-    right = law a c b full.facts full.value table.values table_of t w fault;
-  }
+  pub found_wide : WideIsReached → (t : TermId) (w : WideValue) → IsFaultFor a c (listed_over a table.values) (Wide t w) → (rounds : List Round) → rounds ≡ []
+      → IsFoundAlways a c (verdict.GaveUp rounds (limit.Number (wide.Value table t w.op w.left w.right)))
+  found_wide law t w fault rounds none = λ limits.
+      given_up a c limits (limit.Number (wide.Value table t w.op w.left w.right)) (table_in a c b ids flags table.values listed is, fault.0) (law a c b full.facts full.value table.values table_of t w fault) rounds none

@@ -12,6 +12,7 @@ ghost use Rattle.spv_search.specs.Finding.{HasOpenState, IsNext, IsTableFor, May
 use spv_branch_theory::model_construction::full_table;
 use spv_branch_theory::saturation::law_full_state;
 use spv_decisions::heuristic::{Advice, Heuristic, apart_by, shown_false};
+use spv_logic::list::List;
 use spv_share::Both;
 use spv_table::Table;
 use spv_term::{Condition, TermId, Terms};
@@ -117,7 +118,11 @@ fn probe(
     let table = table_of(alloc, terms, condition, subterms, listed, &path.both)?;
     let tried = try_table(alloc, terms, condition, &table)?;
     match tried {
-        Tried::Shown(branch) => Ok(Next::Found(Unproved { branch, table })),
+        Tried::Shown(branch) => Ok(Next::Found(Unproved {
+            branch,
+            table,
+            instances: List::new(alloc),
+        })),
         Tried::Apart(t, u) => Ok(mend_apart(terms, atoms, path, t, u)),
         Tried::NotShown => mend(alloc, terms, atoms, path, &table),
     }

@@ -15,6 +15,7 @@ ghost use Rattle.spv_search.specs.Finding.{IsFound};
 use crate::branches::{Branches, Finished};
 use crate::walking::run;
 use spv_decisions::heuristic::Heuristic;
+use spv_logic::list::List;
 use spv_share::Both;
 use spv_term::{Condition, TermId, Terms};
 use spv_trail::backtracking::{BranchTrail, Ground};
@@ -41,7 +42,7 @@ fn conclude(
     let finished = branches.finish(alloc)?;
     match finished {
         Finished::Proved(proof) => Ok(Verdict::Proved(proof)),
-        Finished::Open(tree) => Ok(Verdict::GaveUp(Limit::Splits(tree))),
+        Finished::Open(tree) => Ok(Verdict::GaveUp(List::new(alloc), Limit::Splits(tree))),
     }
 }
 

@@ -8,6 +8,7 @@ ghost use Rattle.spv_branch_theory.specs.evidence.Laws.{IsStoppedFor};
 ghost use Rattle.spv_share.specs.States.{IsLimit};
 ghost use Rattle.spv_search.specs.Finding.{is_too_wide, IsFound, IsStoppedBy};
 
+use spv_logic::list::List;
 use spv_share::Both;
 use spv_simplex::{Checked, Evidence};
 use spv_verdicts::answers::{Limit, Verdict, Wide};
@@ -41,8 +42,8 @@ pub(crate) fn give_up(alloc: Global, both: &Both) -> Result<Verdict, AllocError>
 {
     let (is_wide, evidence) = stopped(alloc, both)?;
     if is_wide {
-        Ok(Verdict::GaveUp(Limit::Number(Wide::Pivot(evidence))))
+        Ok(Verdict::GaveUp(List::new(alloc), Limit::Number(Wide::Pivot(evidence))))
     } else {
-        Ok(Verdict::GaveUp(Limit::Pivots(evidence)))
+        Ok(Verdict::GaveUp(List::new(alloc), Limit::Pivots(evidence)))
     }
 }

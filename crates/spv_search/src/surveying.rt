@@ -8,6 +8,7 @@ ghost use Rattle.spv_search.specs.Finding.{HasFullState, IsFoundAlways};
 
 use spv_branch_theory::model_construction::full_table;
 use spv_branch_theory::saturation::{law_full_state, law_wide_value};
+use spv_logic::list::List;
 use spv_share::Both;
 use spv_table::Table;
 use spv_term::{Condition, TermId, Terms};
@@ -38,11 +39,16 @@ fn judge(
     let _ = listed;
     let _ = both;
     match surviving(alloc, terms, condition, &table) {
-        Ok(Some(branch)) => Ok(Verdict::Unproved(Unproved { branch, table })),
+        Ok(Some(branch)) => Ok(Verdict::Unproved(Unproved {
+            branch,
+            table,
+            instances: List::new(alloc),
+        })),
         Ok(None) => unreachable!(),
-        Err(SurvivingFault::Wide(t, wide)) => Ok(Verdict::GaveUp(Limit::Number(Wide::Value(
-            table, t, wide.op, wide.left, wide.right,
-        )))),
+        Err(SurvivingFault::Wide(t, wide)) => Ok(Verdict::GaveUp(
+            List::new(alloc),
+            Limit::Number(Wide::Value(table, t, wide.op, wide.left, wide.right)),
+        )),
         Err(SurvivingFault::Memory) => Err(AllocError),
     }
 }

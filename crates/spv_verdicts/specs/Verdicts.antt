@@ -31,19 +31,34 @@ use Rattle.spv_verdicts.specs.Rows.{relation_heads, readable, AreRows, IsBegun}
 
 -- ---- verdicts
 
--- how many splits a search may make, and how many steps a check of its tableau
+-- how many splits a search may make, how many instances of rules it may add, and how many steps a check of its tableau may make
 pub record Limits : Type 0 where
   pub splits : ℕ
+  pub instances : ℕ
   pub pivots : ℕ
 
--- what a search gave up at
+-- an instance of a rule: the rule's number, and the terms of its variables in their order
+pub record Instance : Type 0 where
+  pub rule : ℕ
+  pub values : List Term
+
+-- a round: a table that falsified all so far, and the instances that were matched in it
+pub record Round : Type 0 where
+  pub table : List (Term × Fraction)
+  pub members : List Instance
+
+-- what a search, or a recheck, gave up at
 pub data Limit : Type 0 where
   -- the splits, with the tree so far
   Splits : Tree → Limit
+  -- the instances of rules
+  TooManyInstances : Limit
   -- a relation whose forms do not fit
   WideForm : Term → Limit
   -- an operation of a check that does not fit: what the check began with, its steps, and the operation
   WidePivot : Start → List Exchange → Operation → Limit
+  -- an operation in the check of a sum of a proof that does not fit: the proof, and the operation
+  WideSum : List ProofNode → WideValue → Limit
   -- a term whose value in a table does not fit, and the operation
   WideEvaluation : List (Term × Fraction) → Term → WideValue → Limit
   -- the steps of a check: what it began with, and its steps
@@ -53,9 +68,12 @@ pub data Limit : Type 0 where
 
 pub data Verdict : Type 0 where
   Proved : List ProofNode → Verdict
-  -- the truth of each atom of the condition, and a table in which it is false
-  Unproved : List (Term × Bool) → List (Term × Fraction) → Verdict
-  GaveUp : Limit → Verdict
+  -- the truth of each atom of the condition, a table in which it is false, and the instances that were added
+  Unproved : List (Term × Bool) → List (Term × Fraction) → List Instance → Verdict
+  -- the rounds that were made, and the limit
+  GaveUp : List Round → Limit → Verdict
+  -- a proof that was handed in is not accepted
+  NotAccepted : Verdict
 
 -- ---- unproved
 
@@ -129,8 +147,11 @@ pub record HasTooManyTerms (q : Question) (n : ℕ) : Type 0 where
   pub limit : n ≡ most_terms
   pub more : n < length (search_terms q)
 
+-- a search comes to no limit of instances, since there are no rules, and to no sum of a proof
 abbrev pub IsReached : Arena → Question → Limits → Limit → Type 0
 IsReached a q limits (Splits tree) = IsKept q limits.splits tree
+IsReached a q limits TooManyInstances = ⊥
+IsReached a q limits (WideSum nodes w) = ⊥
 IsReached a q limits (WideForm t) = HasWideForm q t
 IsReached a q limits (WidePivot s steps o) = HasWidePivot a q s steps o
 IsReached a q limits (WideEvaluation table t w) = HasWideValue a q table t w
@@ -139,8 +160,19 @@ IsReached a q limits (TooManyTerms n) = HasTooManyTerms q n
 
 -- ---- when each verdict may come
 
+-- without rules no instance is added
+pub record IsUnproved (q : Question) (branch : List (Term × Bool)) (table : List (Term × Fraction)) (instances : List Instance) : Type 0 where
+  pub survives : Survives q branch table
+  pub no_instances : instances ≡ []
+
+-- and no round is made
+pub record HasGivenUp (a : Arena) (q : Question) (limits : Limits) (rounds : List Round) (limit : Limit) : Type 0 where
+  pub reached : IsReached a q limits limit
+  pub no_rounds : rounds ≡ []
+
 -- the verdict of a search for a proof of a question over an arena is right
 abbrev pub IsRight : Arena → Question → Limits → Verdict → Type 0
 IsRight a q limits (Proved nodes) = accepts q nodes ≡ true
-IsRight a q limits (Unproved branch table) = Survives q branch table
-IsRight a q limits (GaveUp limit) = IsReached a q limits limit
+IsRight a q limits (Unproved branch table instances) = IsUnproved q branch table instances
+IsRight a q limits (GaveUp rounds limit) = HasGivenUp a q limits rounds limit
+IsRight a q limits NotAccepted = ⊥

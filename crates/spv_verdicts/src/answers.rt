@@ -10,4 +10,4 @@ pub use growing::{Grown, grown_tree};
 pub use laws::{law_closed, law_tree};
 pub use limits::Limits;
 pub use trees::{SplitNode, SplitTree};
-pub use verdicts::{Decided, Limit, Unproved, Verdict, Wide};
+pub use verdicts::{Decided, Instance, Limit, Round, Unproved, Verdict, Wide};

@@ -30,4 +30,7 @@ pub fn law_examples()
     ensures no_table { (a : Arena) → IsRight a example.claim example.limits example.no_table → ⊥ }
     ensures few_terms { (a : Arena) → IsRight a example.claim example.limits example.few_terms → ⊥ }
     ensures no_relation { (a : Arena) → IsRight a example.claim example.limits example.no_relation → ⊥ }
+    ensures with_instance { (a : Arena) → IsRight a example.claim example.limits example.with_instance → ⊥ }
+    ensures no_more_instances { (a : Arena) → IsRight a example.claim example.limits example.no_more_instances → ⊥ }
+    ensures not_accepted { (a : Arena) → IsRight a example.claim example.limits example.not_accepted → ⊥ }
 {}

@@ -45,7 +45,7 @@ pub record IsReportOf (text : List ℕ) (r : Findings) : Type 0 where
   pub program : Program
   pub of_text : IsProgramOf text program
   pub is_on : IsReportOn program r
-  pub names : r.names ≡ names_of text
+  pub names : r.named.names ≡ names_of text
 
 -- no text is refused and has a report
 abbrev pub HaveNotBoth : Type 0

@@ -11,14 +11,15 @@ use Rattle.spv_term.proofs.ListLemmas.{slice_get-append_left, slice_get_push}
 use Rattle.spv_atoms.specs.declared.proofs.Relation.TheVariants.{AtMost, Equal}
 use Rattle.spv_atoms.specs.declared.proofs.Step.{Step}
 use Rattle.spv_atoms.specs.declared.proofs.Step.TheVariants as step
-use Rattle.spv_proof_rules.specs.Effects.{Question, Effect, Adds, Ends, Fails, effect, numbered, adds_if, adds_known, cited, sides_of, exchanged, joined, congruent, evaluated, is_truth, stated}
+use Rattle.spv_proof_rules.specs.Effects.{Question, Effect, Adds, Ends, Fails, effect, numbered, adds_if, adds_known, cited, sides_of, exchanged, joined, congruent, evaluated, is_truth, schema_stated, stated}
 use Rattle.spv_proof_rules.specs.Evaluation.{evaluates}
 use Rattle.spv_proof_rules.specs.Accepted.{Open, Closed, closed_if_last, on_effect, walk}
 use Rattle.spv_derivations.specs.declared.derivation.entries.Part.{Part}
 use Rattle.spv_derivations.specs.declared.derivation.entries.Entry.{Entry}
 use Rattle.spv_derivations.specs.declared.derivation.entries.Entry.TheVariants.{Told, Derived}
 use Rattle.spv_derivations.specs.derivation.Derivation.{added_by, literal}
-use Rattle.spv_derivations.specs.derivation.Renumbered.{Moves, renumbered}
+use Rattle.spv_atoms.specs.Steps.{renumbered}
+use Rattle.spv_derivations.specs.derivation.Renumbered.{Moves}
 use Rattle.spv_derivations.specs.derivation.Steps.{Copied, outside_of, with_entry, uncopied, copy_of, closing_steps_of}
 use Rattle.spv_derivations.proofs.derivation.Renumbering.{of_cited, effect-renumbered}
 use Rattle.spv_derivations.proofs.derivation.Growth.{numbered-more, numbered-push}
@@ -288,7 +289,7 @@ ends_path q before (s ∷ steps) h = by_effect (effect q before s) refl h (λ t 
     is_end (step.Cong t u ks) e = absurd (not_if (congruent before (q.at t) (q.at u) ks) (equation (q.at t) (q.at u)) e)
     is_end (step.Linear (AtMost s t) first second) e = absurd (not_if _ _ e)
     is_end (step.Linear (Equal s t) first second) e = absurd (not_if _ _ e)
-    is_end (step.Schema kind ts field) e = absurd (cc)
+    is_end (step.Schema kind ts field) e = absurd (not_known (schema_stated q kind ts field) e)
     is_end (step.Rule r ts) e = absurd (cc)
     is_end (step.Eval c ks) e = absurd (not_evaluated (is_truth q) (stated q c) (cited before ks) e)
 

@@ -16,11 +16,13 @@ use Rattle.spv_atoms.specs.declared.proofs.Stated.TheVariants.{Is, Same}
 use Rattle.spv_atoms.specs.declared.proofs.Step.{Step}
 use Rattle.spv_atoms.specs.declared.proofs.Step.TheVariants as step
 use Rattle.spv_proof_rules.specs.Effects.{Adds, cited, effect, evaluated, is_truth, stated}
-use Rattle.spv_proof_rules.specs.Stand.{In, question, StatedIn, StepIn, StepsIn}
+use Rattle.spv_proof_rules.specs.Stand.{In, question, PartIn, StatedIn, StepIn, StepsIn}
 use Rattle.spv_derivations.specs.declared.derivation.entries.Entry.{Entry}
 use Rattle.spv_derivations.specs.declared.derivation.entries.Entry.TheVariants.{Told, Derived}
 use Rattle.spv_derivations.specs.derivation.Derivation as derivation
-use Rattle.spv_derivations.specs.derivation.Renumbered.{renumbered}
+use Rattle.spv_atoms.specs.Steps as steps
+use Rattle.spv_atoms.specs.Steps.{Number, Fact, OtherFact, Facts, One, Several, Sums, States, Field, part_renumbered, renumbered}
+use Rattle.spv_atoms.proofs.Steps.{naming-renumbered}
 use Rattle.spv_derivations.specs.derivation.Steps.{Copied, closing_steps_of, copy_of, outside_of, uncopied, with_entry}
 use Rattle.spv_derivations.specs.branches.Paths.{AreSearchSteps, EntriesIn, fact_in, Follow, IsClosing, IsPath, IsSearchStep, as_entries}
 
@@ -35,17 +37,19 @@ steps_in-front a [] ys h = tt
 steps_in-front a (x ∷ xs) ys h = (h.0, steps_in-front a xs ys h.1)
 
 -- a step whose facts have other numbers names the same terms
+part_in-renumbered : (a : Arena) (f : ℕ → ℕ) (p : steps.Part) → PartIn a p → PartIn a (part_renumbered f p)
+part_in-renumbered a f (Number k) h = tt
+part_in-renumbered a f (Fact k) h = tt
+part_in-renumbered a f (OtherFact k) h = tt
+part_in-renumbered a f (Facts ks) h = tt
+part_in-renumbered a f (One t) h = h
+part_in-renumbered a f (Several ts) h = h
+part_in-renumbered a f (Sums r first second) h = h
+part_in-renumbered a f (States s) h = h
+part_in-renumbered a f (Field x) h = tt
+
 step_in-renumbered : (a : Arena) (f : ℕ → ℕ) (s : Step) → StepIn a s → StepIn a (renumbered f s)
-step_in-renumbered a f (step.Given k) h = tt
-step_in-renumbered a f (step.Refl t) h = h
-step_in-renumbered a f (step.Symm i) h = tt
-step_in-renumbered a f (step.Trans i j) h = tt
-step_in-renumbered a f (step.Cong t u ks) h = h
-step_in-renumbered a f (step.Linear r first second) h = h
-step_in-renumbered a f (step.Schema kind ts field) h = h
-step_in-renumbered a f (step.Rule r ts) h = h
-step_in-renumbered a f (step.Eval s ks) h = h
-step_in-renumbered a f (step.Contra i j) h = tt
+step_in-renumbered a f s h = naming-renumbered (PartIn a) f (part_in-renumbered a f) s h
 
 -- ---- entries
 

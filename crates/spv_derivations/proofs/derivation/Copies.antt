@@ -17,7 +17,8 @@ use Rattle.spv_derivations.specs.declared.derivation.entries.Part.{Part}
 use Rattle.spv_derivations.specs.declared.derivation.entries.Entry.{Entry}
 use Rattle.spv_derivations.specs.declared.derivation.entries.Entry.TheVariants.{Told, Derived}
 use Rattle.spv_derivations.specs.derivation.Derivation.{Adding, Follow, IsDerivation, added_by, any_sequent, asked, fact_of, facts, facts_from, literal}
-use Rattle.spv_derivations.specs.derivation.Renumbered.{Moves, renumbered}
+use Rattle.spv_atoms.specs.Steps.{renumbered}
+use Rattle.spv_derivations.specs.derivation.Renumbered.{Moves}
 use Rattle.spv_derivations.specs.derivation.Steps.{Copied, outside, outside_of, with_entry, uncopied, copy_of, steps_of, closing_steps_of, derived_from, derived, AreTold, IsEnd}
 use Rattle.spv_derivations.proofs.derivation.Renumbering.{of_cited, effect-renumbered}
 use Rattle.spv_derivations.proofs.derivation.Growth.{numbered-more, numbered-push}

@@ -2,26 +2,16 @@
 use Rattle.std.proofs.Common.{◌≡◌, ℕ, zero, suc, ◌+◌, ◌<◌, true, false, ◌&&◌, List, [], ◌∷◌, ◌++◌, take, length, Some, None, slice_get, if◌then◌else◌, refl, sym, ap, ◌∙◌, subst, arith}
 use Rattle.std.proofs.lemmas.List.{append_assoc, length_push}
 use Rattle.std.proofs.lemmas.Option.{slice_get_within}
-use Rattle.spv_whole.specs.Fraction.{Fraction}
 use Rattle.spv_logic.specs.declared.conditions.TermId.{TermId}
 use Rattle.spv_logic.specs.Terms.{Term}
-use Rattle.spv_logic.specs.Formulas as formulas
-use Rattle.spv_logic.specs.Conditions.{Sequent}
 use Rattle.spv_term.specs.Arena.{Arena, Extends}
 use Rattle.spv_term.proofs.ListLemmas.{slice_get-append_left, slice_get_push}
-use Rattle.spv_term.proofs.ArenaLemmas.{length-Extends, tree-Extends, AllBelow-Extends}
+use Rattle.spv_term.proofs.ArenaLemmas.{tree-Extends}
 use Rattle.spv_atoms.specs.Atoms as atoms
-use Rattle.spv_atoms.specs.declared.proofs.Relation.{Relation}
-use Rattle.spv_atoms.specs.declared.proofs.Relation.TheVariants.{AtMost, Equal}
-use Rattle.spv_atoms.specs.declared.proofs.Stated.{Stated}
-use Rattle.spv_atoms.specs.declared.proofs.Stated.TheVariants.{Is, Same}
 use Rattle.spv_atoms.specs.declared.proofs.Step.{Step}
-use Rattle.spv_atoms.specs.declared.proofs.Step.TheVariants as step
-use Rattle.spv_proof_rules.specs.Sums.{refutes}
 use Rattle.spv_proof_rules.specs.Evaluation.{sides}
-use Rattle.spv_proof_rules.specs.Effects as spec
 use Rattle.spv_proof_rules.specs.Effects.{numbered}
-use Rattle.spv_proof_rules.specs.Stand.{RelationIn, StatedIn, StepIn}
+use Rattle.spv_proof_rules.proofs.Staying.{below-Extends, StepIn-Extends, effect-Extends}
 use Rattle.spv_derivations.specs.declared.derivation.entries.Part.{Part}
 use Rattle.spv_derivations.specs.declared.derivation.entries.Part.TheVariants.{True, False, Below, Above}
 use Rattle.spv_derivations.specs.declared.derivation.entries.Entry.{Entry}
@@ -120,78 +110,8 @@ module _ (a : Arena) where
 -- ---- arenas that grow
 
 module _ {old new : Arena} (more : Extends old new) where
-  below-Extends : (n : ℕ) → n < length old.nodes → n < length new.nodes
-  below-Extends n h = omega (arith, length-Extends more)
-
-  stated_in-Extends : (s : Stated) → StatedIn old s → StatedIn new s
-  stated_in-Extends (Is t b) h = below-Extends t.0 h
-  stated_in-Extends (Same s t) h = (below-Extends s.0 h.0, below-Extends t.0 h.1)
-
-  relation_in-Extends : (r : Relation) → RelationIn old r → RelationIn new r
-  relation_in-Extends (AtMost s t) h = (below-Extends s.0 h.0, below-Extends t.0 h.1)
-  relation_in-Extends (Equal s t) h = (below-Extends s.0 h.0, below-Extends t.0 h.1)
-
-  step_in-Extends : (s : Step) → StepIn old s → StepIn new s
-  step_in-Extends (step.Refl t) h = below-Extends t.0 h
-  step_in-Extends (step.Cong t u ks) h = (below-Extends t.0 h.0, below-Extends u.0 h.1)
-  step_in-Extends (step.Linear r first second) h = relation_in-Extends r h
-  step_in-Extends (step.Schema kind ts field) h = AllBelow-Extends more ts h
-  step_in-Extends (step.Rule r ts) h = AllBelow-Extends more ts h
-  step_in-Extends (step.Eval s ks) h = stated_in-Extends s h
-  step_in-Extends (step.Given k) h = tt
-  step_in-Extends (step.Symm i) h = tt
-  step_in-Extends (step.Trans i j) h = tt
-  step_in-Extends (step.Contra i j) h = tt
-
-  truth-Extends : atoms.is_truth new.shapes new.decls ≡ atoms.is_truth old.shapes old.decls
-  truth-Extends = λ i. atoms.is_truth (more.shapes i) (more.decls i)
-
-  number-Extends : atoms.is_number new.shapes new.decls ≡ atoms.is_number old.shapes old.decls
-  number-Extends = λ i. atoms.is_number (more.shapes i) (more.decls i)
-
-  module _ (c : Sequent) where
-    abbrev now : spec.Question
-    now = asked new c
-
-    abbrev past : spec.Question
-    past = asked old c
-
-    stated-Extends : (s : Stated) → StatedIn old s → spec.stated now s ≡ spec.stated past s
-    stated-Extends (Is t true) h = λ i. if truth-Extends i (tree-Extends more t h i) then Some (tree-Extends more t h i) else None
-    stated-Extends (Is t false) h = λ i. if truth-Extends i (tree-Extends more t h i) then Some (formulas.negation (tree-Extends more t h i)) else None
-    stated-Extends (Same s t) h =
-        λ i. if truth-Extends i (tree-Extends more s h.0 i) && truth-Extends i (tree-Extends more t h.1 i) then Some (formulas.equation (tree-Extends more s h.0 i) (tree-Extends more t h.1 i)) else None
-
-    linear-Extends : (before : List Term) (r : Relation) (first second : List (Fraction × ℕ)) → RelationIn old r → spec.linear now before r first second ≡ spec.linear past before r first second
-    linear-Extends before (AtMost s t) first second h =
-        let n = number-Extends in
-        let x = tree-Extends more s h.0 in
-        let y = tree-Extends more t h.1 in
-        λ i. spec.adds_if (n i (x i) && (n i (y i) && (spec.is_empty second && refutes (n i) before (x i) (y i) first))) (spec.at_most (x i) (y i))
-    linear-Extends before (Equal s t) first second h =
-        let n = number-Extends in
-        let x = tree-Extends more s h.0 in
-        let y = tree-Extends more t h.1 in
-        λ i. spec.adds_if (n i (x i) && (n i (y i) && (refutes (n i) before (x i) (y i) first && refutes (n i) before (y i) (x i) second))) (formulas.equation (x i) (y i))
-
-    -- a step does the same
-    effect-Extends : (before : List Term) (s : Step) → StepIn old s → spec.effect now before s ≡ spec.effect past before s
-    effect-Extends before (step.Given k) h = refl
-    effect-Extends before (step.Refl t) h = ap (λ x. spec.Adds (formulas.equation x x)) (tree-Extends more t h)
-    effect-Extends before (step.Symm i) h = refl
-    effect-Extends before (step.Trans i j) h = refl
-    effect-Extends before (step.Cong t u ks) h =
-        let x = tree-Extends more t h.0 in
-        let y = tree-Extends more u h.1 in
-        λ i. spec.adds_if (spec.congruent before (x i) (y i) ks) (formulas.equation (x i) (y i))
-    effect-Extends before (step.Linear r first second) h = linear-Extends before r first second h
-    effect-Extends before (step.Schema kind ts field) h = refl
-    effect-Extends before (step.Rule r ts) h = refl
-    effect-Extends before (step.Eval s ks) h = λ i. spec.evaluated (truth-Extends i) (stated-Extends s h i) (spec.cited before ks)
-    effect-Extends before (step.Contra i j) h = refl
-
   comparison-Extends : (t : TermId) → t.0 < length old.nodes → IsComparison old t → IsComparison new t
-  comparison-Extends t h p = (λ i. are_numbers (number-Extends i) (sides (tree-Extends more t h i))) ∙ p
+  comparison-Extends t h p = (λ i. are_numbers (atoms.is_number (more.shapes i) (more.decls i)) (sides (tree-Extends more t h i))) ∙ p
 
   part-Extends : (t : TermId) (p : Part) → t.0 < length old.nodes → PartFits old t p → PartFits new t p
   part-Extends t True h f = tt
@@ -200,15 +120,15 @@ module _ {old new : Arena} (more : Extends old new) where
   part-Extends t Above h f = comparison-Extends t h f
 
   adding-Extends : (before : List Term) (s : Step) (t : Term) → Adding old before s t → Adding new before s t
-  adding-Extends before s t h = record { terms = step_in-Extends s h.terms; adds = λ c. effect-Extends c before s h.terms ∙ h.adds c }
+  adding-Extends before s t h = record { terms = StepIn-Extends more s h.terms; adds = λ c. effect-Extends more c c refl before s h.terms ∙ h.adds c }
 
   may_follow-Extends : (before : List Term) (e : Entry) → MayFollow old before e → MayFollow new before e
-  may_follow-Extends before (Told t part why) h = (below-Extends t.0 h.0, part-Extends t part h.0 h.1)
+  may_follow-Extends before (Told t part why) h = (below-Extends more t.0 h.0, part-Extends t part h.0 h.1)
   may_follow-Extends before (Derived s) h = (h.0, adding-Extends before s h.0 h.1)
 
   fact-Extends : (before : List Term) (e : Entry) → MayFollow old before e → fact_of new before e ≡ fact_of old before e
   fact-Extends before (Told t part why) h = ap (λ x. literal x part) (tree-Extends more t h.0)
-  fact-Extends before (Derived s) h = ap added_by (effect-Extends any_sequent before s h.1.terms)
+  fact-Extends before (Derived s) h = ap added_by (effect-Extends more any_sequent any_sequent refl before s h.1.terms)
 
   follow-Extends : (before : List Term) (es : List Entry) → Follow old before es → Follow new before es
   follow-Extends before [] f = tt

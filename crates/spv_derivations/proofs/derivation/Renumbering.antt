@@ -1,5 +1,6 @@
 -- A step looks only at the facts that it cites.
 use Rattle.std.proofs.Common.{◌≡◌, ℕ, zero, suc, Bool, ◌&&◌, List, [], ◌∷◌, map, Option, Some, None, pos, refl, ap, arith}
+use Rattle.std.specs.List.{filter}
 use Rattle.spv_whole.specs.Fraction.{Fraction}
 use Rattle.spv_frac.specs.rational.Rational.{number}
 use Rattle.spv_logic.specs.Terms.{Term, Terms, term, no_terms, terms, head_eq}
@@ -10,7 +11,9 @@ use Rattle.spv_atoms.specs.declared.proofs.Step.{Step}
 use Rattle.spv_atoms.specs.declared.proofs.Step.TheVariants as step
 use Rattle.spv_proof_rules.specs.Sums.{Combination, Reading, add_reading, cited_reading, difference, is_at_most_zero, nothing, read_cited, refutes, shows_above_zero, sum_of, then_add}
 use Rattle.spv_proof_rules.specs.Effects.{Question, adds_if, all_equal, at_most, cited, congruent, effect, end_of_one, end_of_two, evaluated, exchanged, fact_before, is_empty, is_fact, is_number, is_truth, joined, linear, numbered, sides_of, stated}
-use Rattle.spv_derivations.specs.derivation.Renumbered.{Moves, OfAll, OfCited, OfMultiples, OfOptional, multiple_by, renumbered}
+use Rattle.spv_atoms.specs.Steps.{Part, Number, Fact, OtherFact, Facts, One, Several, Sums, States, Field, cites_facts, multiple_by, renumbered, shape}
+use Rattle.spv_atoms.proofs.Steps.{of_each-all}
+use Rattle.spv_derivations.specs.derivation.Renumbered.{Moves, OfAll, OfCited, OfMultiples, OfOptional, OfPart}
 
 -- ---- what holds of all numbers holds of those that a step cites
 
@@ -27,17 +30,19 @@ module _ (P : ℕ → Type 0) (h : (k : ℕ) → P k) where
   of_optional None = tt
   of_optional (Some k) = h k
 
+  of_part : (p : Part) → OfPart P p
+  of_part (Number k) = tt
+  of_part (Fact k) = h k
+  of_part (OtherFact k) = of_optional k
+  of_part (Facts ks) = of_list ks
+  of_part (One t) = tt
+  of_part (Several ts) = tt
+  of_part (Sums r first second) = (of_multiples first, of_multiples second)
+  of_part (States s) = tt
+  of_part (Field x) = tt
+
   pub of_cited : (s : Step) → OfCited P s
-  of_cited (step.Given k) = tt
-  of_cited (step.Refl t) = tt
-  of_cited (step.Symm i) = h i
-  of_cited (step.Trans i j) = (h i, h j)
-  of_cited (step.Cong t u ks) = of_list ks
-  of_cited (step.Linear r first second) = (of_multiples first, of_multiples second)
-  of_cited (step.Schema kind ts field) = tt
-  of_cited (step.Rule r ts) = tt
-  of_cited (step.Eval s ks) = of_list ks
-  of_cited (step.Contra i j) = (h i, of_optional j)
+  of_cited s = of_each-all (OfPart P) of_part (filter cites_facts (shape s).parts)
 
 -- ---- the parts of an effect
 

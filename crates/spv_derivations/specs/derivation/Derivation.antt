@@ -48,7 +48,7 @@ PartFits a t Above = IsComparison a t
 
 -- what is to be shown, over an arena
 abbrev pub asked : Arena → Sequent → Question
-asked a c = record { shapes = a.shapes; decls = a.decls; at = tree a; sequent = c }
+asked a c = record { shapes = a.shapes; decls = a.decls; at = tree a; sequent = c; rules = [] }
 
 -- some sequent: no step of a derivation looks at what is to be shown
 abbrev pub any_sequent : Sequent

@@ -10,7 +10,8 @@ use Rattle.spv_proof_rules.specs.Effects.{Question, effect}
 use Rattle.spv_proof_rules.specs.Accepted.{Open, Closed, walk}
 use Rattle.spv_derivations.specs.declared.derivation.entries.Entry.{Entry}
 use Rattle.spv_derivations.specs.derivation.Derivation.{asked, facts, fact_at, IsDerivation}
-use Rattle.spv_derivations.specs.derivation.Renumbered.{renumbered, OfCited, Moves}
+use Rattle.spv_atoms.specs.Steps.{renumbered}
+use Rattle.spv_derivations.specs.derivation.Renumbered.{OfCited, Moves}
 use Rattle.spv_derivations.specs.derivation.Sides.{sides_at}
 use Rattle.spv_derivations.specs.derivation.Steps.{steps_of, closing_steps_of, derived, AreTold, IsEnd}
 

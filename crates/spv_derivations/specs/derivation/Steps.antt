@@ -11,7 +11,7 @@ use Rattle.spv_derivations.specs.declared.derivation.entries.Part.{Part}
 use Rattle.spv_derivations.specs.declared.derivation.entries.Entry.{Entry}
 use Rattle.spv_derivations.specs.declared.derivation.entries.Entry.TheVariants.{Told, Derived}
 use Rattle.spv_derivations.specs.derivation.Derivation.{fact_of, facts, fact_at, literal}
-use Rattle.spv_derivations.specs.derivation.Renumbered.{renumbered}
+use Rattle.spv_atoms.specs.Steps.{renumbered}
 
 -- a derivation whose first entries were copied: the number outside of the next derived fact, the numbers outside of the facts so far, and the steps
 pub record Copied : Type 0 where

@@ -1,16 +1,12 @@
 // Steps of a derivation with the numbers of a path outside.
 
-ghost use Rattle.std.specs.Prelude.{◌≡◌, ◌+◌, ◌++◌, [], ◌∷◌, map, IfOk, OnOk};
-ghost use Rattle.std.specs.Option.{option_map};
+ghost use Rattle.std.specs.Prelude.{◌≡◌, ◌+◌, ◌++◌, [], ◌∷◌, IfOk, OnOk};
 ghost use Rattle.spv_derivations.specs.derivation.Copying.{copying};
-ghost use Rattle.spv_derivations.specs.derivation.Renumbered.{multiple_by, renumbered};
 ghost use Rattle.spv_derivations.specs.derivation.Steps as spec;
 
 use crate::derivation::entries::Entry;
 use spv_atoms::Step;
-use spv_frac::Frac;
-use spv_logic::TermId;
-use spv_logic::list::List;
+use spv_atoms::copies::{FactNumbers, optional_numbered, renumbered};
 use std::alloc::{AllocError, Global};
 
 /// A derivation whose first entries were copied: the number outside of the next derived fact, the numbers outside of the facts so far, and
@@ -22,106 +18,16 @@ pub(crate) struct Copied {
     pub(crate) steps: Vec<Step>,
 }
 
-// The number outside of a fact.
-fn outside(next: u32, numbers: &[u32], k: u32) -> u32
-    ensures { result ≡ spec.outside next numbers.now k }
-{
-    if k == 0 {
-        return 0;
-    }
-    numbers.get(k as usize - 1).copied().unwrap_or(next)
-}
+// The numbers outside.
+impl FactNumbers for Copied {
+    ghost number = { λ c. spec.outside c.next c.numbers.items };
 
-// The numbers outside of these facts.
-fn all_outside(
-    alloc: Global,
-    next: u32,
-    numbers: &[u32],
-    ks: &[u32],
-) -> Result<List<u32>, AllocError>
-    ensures { IfOk result (λ v. v ≡ map (spec.outside next numbers.now) ks.now) }
-{
-    let mut list = List::new(alloc);
-    for k in ks {
-        list.push(outside(next, numbers, *k))?;
-    }
-    Ok(list)
-}
-
-// Multiples of facts, by their numbers outside.
-fn multiples_outside(
-    alloc: Global,
-    next: u32,
-    numbers: &[u32],
-    multiples: &[(Frac, u32)],
-) -> Result<List<(Frac, u32)>, AllocError>
-    ensures { IfOk result (λ v. v ≡ map (multiple_by (spec.outside next numbers.now)) multiples.now) }
-{
-    let mut list = List::new(alloc);
-    for multiple in multiples {
-        list.push((multiple.0, outside(next, numbers, multiple.1)))?;
-    }
-    Ok(list)
-}
-
-// A copy of these terms.
-fn same_terms(alloc: Global, ts: &[TermId]) -> Result<List<TermId>, AllocError>
-    ensures { IfOk result (λ v. v ≡ ts.now) }
-{
-    let mut list = List::new(alloc);
-    for t in ts {
-        list.push(*t)?;
-    }
-    Ok(list)
-}
-
-// A step with the numbers outside of the facts that it cites.
-fn renumbered(alloc: Global, next: u32, numbers: &[u32], step: &Step) -> Result<Step, AllocError>
-    ensures { IfOk result (λ s. s ≡ renumbered (spec.outside next numbers.now) step.now) }
-{
-    match step {
-        Step::Given(k) => Ok(Step::Given(*k)),
-        Step::Refl(t) => Ok(Step::Refl(*t)),
-        Step::Symm(i) => Ok(Step::Symm(outside(next, numbers, *i))),
-        Step::Trans(i, j) => Ok(Step::Trans(
-            outside(next, numbers, *i),
-            outside(next, numbers, *j),
-        )),
-        Step::Cong(t, u, ks) => {
-            let list = all_outside(alloc, next, numbers, ks.as_slice())?;
-            Ok(Step::Cong(*t, *u, list))
+    fn number(&self, k: u32) -> u32 {
+        if k == 0 {
+            return 0;
         }
-        Step::Linear(relation, first, second) => {
-            let left = multiples_outside(alloc, next, numbers, first.as_slice())?;
-            let right = multiples_outside(alloc, next, numbers, second.as_slice())?;
-            Ok(Step::Linear(*relation, left, right))
-        }
-        Step::Schema(kind, ts, field) => {
-            let list = same_terms(alloc, ts.as_slice())?;
-            Ok(Step::Schema(*kind, list, *field))
-        }
-        Step::Rule(rule, ts) => {
-            let list = same_terms(alloc, ts.as_slice())?;
-            Ok(Step::Rule(*rule, list))
-        }
-        Step::Eval(claim, ks) => {
-            let list = all_outside(alloc, next, numbers, ks.as_slice())?;
-            Ok(Step::Eval(*claim, list))
-        }
-        Step::Contra(i, j) => Ok(Step::Contra(
-            outside(next, numbers, *i),
-            optional_outside(next, numbers, *j),
-        )),
-    }
-}
-
-// The number outside of a fact, if there is one.
-fn optional_outside(next: u32, numbers: &[u32], k: Option<u32>) -> Option<u32>
-    ensures { result ≡ option_map (spec.outside next numbers.now) k }
-{
-    match k {
-        Some(number) => Some(outside(next, numbers, number)),
-        None => None,
+        let numbers = self.numbers.as_slice();
+        numbers.get(k as usize - 1).copied().unwrap_or(self.next)
     }
 }
 
@@ -149,7 +55,7 @@ impl Copied {
                 self.numbers.push(*why)?;
             }
             Entry::Derived(step) => {
-                let step = renumbered(alloc, self.next, self.numbers.as_slice(), step)?;
+                let step = renumbered(alloc, self, step)?;
                 self.add_step(step)?;
             }
         }
@@ -177,10 +83,7 @@ impl Copied {
     pub(crate) fn closed(self, first: u32, second: Option<u32>) -> Result<Vec<Step>, AllocError>
         ensures { IfOk result (λ v. v.items ≡ spec.closed (copying self) first second) }
     {
-        let end = Step::Contra(
-            outside(self.next, self.numbers.as_slice(), first),
-            optional_outside(self.next, self.numbers.as_slice(), second),
-        );
+        let end = Step::Contra(self.number(first), optional_numbered(&self, second));
         let mut steps = self.steps;
         steps.push(end)?;
         Ok(steps)

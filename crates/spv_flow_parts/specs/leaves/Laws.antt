@@ -20,7 +20,7 @@ use Rattle.spv_meaning.specs.Starts.{IsStart}
 use Rattle.spv_meaning.specs.Correct.{CorrectBelow}
 use Rattle.spv_meaning.specs.Before.{Made}
 use Rattle.spv_rule_soundness.specs.statements.Truth.{meaning_in, Ignores}
-use Rattle.spv_rule_soundness.specs.statements.Runs.{IsRight, IsSupplied, IsRightTest, IsSuppliedTest, may_change}
+use Rattle.spv_rule_soundness.specs.statements.Runs.{all_allowed, IsRight, IsSupplied, IsRightTest, IsSuppliedTest, may_change}
 use Rattle.spv_rule_soundness.specs.statements.Parts.{Passing}
 use Rattle.spv_rule_soundness.specs.statements.Laws.{Counts, below}
 use Rattle.spv_flow_parts.specs.leaves.Parts.{Taking}
@@ -28,13 +28,13 @@ use Rattle.spv_flow_parts.specs.leaves.Parts.{Taking}
 -- an assignment, NEW or call: where every routine is correct with fewer turns and the conditions before it are true, its run
 -- with so many turns reaches only what holds and ends well; and these conditions ignore the fresh variables that are left
 pub record LeavesAreRight (p : Program) (world : Meaning) (here : Here) (taking : Taking) : Type 0 where
-  pub right : (s : Statement) → taking.leaf s ≡ true → (n : ℕ) → CorrectBelow p world n → IsRight p world here s (walk p (below p n) here s)
+  pub right : (s : Statement) → taking.leaf s ≡ true → (n : ℕ) → CorrectBelow p world n → IsRight p world all_allowed here s (walk p (below p n) here s)
   pub supplied : (s : Statement) → taking.leaf s ≡ true → (q : Made) → Ignores p world q.supply q.conditions → IsSupplied p world here s q
 
 -- an expression: where every routine is correct with fewer turns and the list with its calls in front is true, it reaches only what holds and gives well; and its calls
 -- take their fresh variables from those that are left
 pub record TestsAreRight (p : Program) (world : Meaning) (here : Here) (taking : Taking) : Type 0 where
-  pub right : (e : Expression) → taking.test e ≡ true → (n : ℕ) → CorrectBelow p world n → IsRightTest p world here (below p n) e
+  pub right : (e : Expression) → taking.test e ≡ true → (n : ℕ) → CorrectBelow p world n → IsRightTest p world all_allowed here (below p n) e
   pub supplied : (e : Expression) → taking.test e ≡ true → (n : Supply) → IsSuppliedTest p world here e n
 
 -- what a walk itself owes of numbers, and of the variables of FORs, which their bodies leave alone

@@ -7,7 +7,8 @@ use Rattle.spv_atoms.specs.declared.proofs.Step.{Step}
 use Rattle.spv_atoms.specs.declared.proofs.ProofNode.{ProofNode}
 use Rattle.spv_table.specs.Kept.{PairsIn}
 use Rattle.spv_proof_rules.specs.Stand.{StepIn, StepsIn, NodesIn}
-use Rattle.spv_verdicts.specs.answers.Views.{CasesIn}
+use Rattle.spv_verdicts.specs.declared.answers.verdicts.Instance.{Instance}
+use Rattle.spv_verdicts.specs.answers.Views.{CasesIn, InstancesIn}
 use Rattle.spv_listing.specs.verdict_pages.Counting.{NodeIn}
 
 nowhere : (k : ℕ) → k < 0 → ⊥
@@ -43,3 +44,7 @@ all_cases a (p ∷ branch) h = one_more (λ row. row.0.0 < length a.nodes) p bra
 pub all_pairs : (a : Arena) (values : List (TermId × Fraction)) → PairsIn a values → All (λ row. row.0.0 < length a.nodes) values
 all_pairs a [] h = no_items (λ row. row.0.0 < length a.nodes)
 all_pairs a (p ∷ values) h = one_more (λ row. row.0.0 < length a.nodes) p values h.0 (all_pairs a values h.1)
+
+pub all_instances : (a : Arena) (instances : List Instance) → InstancesIn a instances → All (λ i. AllBelow (length a.nodes) i.values) instances
+all_instances a [] h = no_items (λ i. AllBelow (length a.nodes) i.values)
+all_instances a (i ∷ instances) h = one_more (λ i. AllBelow (length a.nodes) i.values) i instances h.0 (all_instances a instances h.1)

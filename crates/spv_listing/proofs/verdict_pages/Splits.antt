@@ -11,6 +11,7 @@ use Rattle.spv_verdicts.specs.declared.answers.trees.SplitNode.{SplitNode}
 use Rattle.spv_verdicts.specs.declared.answers.trees.SplitNode.TheVariants as node
 use Rattle.spv_verdicts.specs.declared.answers.verdicts.Limit.{Limit}
 use Rattle.spv_verdicts.specs.declared.answers.verdicts.Limit.TheVariants as limit
+use Rattle.spv_verdicts.specs.Verdicts.{Round}
 use Rattle.spv_verdicts.specs.answers.Nodes.{is_split_tree, joined, trees_at, first_tree, tree_at}
 use Rattle.spv_verdicts.specs.answers.Views.{limit_in}
 use Rattle.spv_verdicts.proofs.answers.OneTree.{one_tree}
@@ -42,10 +43,10 @@ splits_counted at n nodes tree_nodes count same is =
     count ∙ sym (counted at nodes) ∙ sym (single (trees_at at nodes) (one_tree at nodes is)) ∙ ap (λ ns. splits (tree_at at ns)) same
 
 -- what is said of the tree of nodes over any terms is said of it over those of an arena
-pub split_limit : {T F : Type 0} (names : List (List ℕ)) (titles : List (Option Symbol)) (a : Arena) (l : Limit) (nodes : List SplitNode) (r : Result T F) (old new : List ℕ)
+pub split_limit : {T F : Type 0} (names : List (List ℕ)) (titles : List (Option Symbol)) (rounds : List Round) (a : Arena) (l : Limit) (nodes : List SplitNode) (r : Result T F) (old new : List ℕ)
     → l ≡ limit.Splits nodes → ((at : TermId → Term) → OnOk r (new ≡ old ++ (codes "SPLITS " ++ decimal (splits (tree_at at nodes)))))
-    → OnOk r (new ≡ old ++ limit_text names titles (limit_in a l))
-split_limit names titles a l nodes r old new is says = subst (λ m. OnOk r (new ≡ old ++ limit_text names titles (limit_in a m))) (sym is) (says (tree a))
+    → OnOk r (new ≡ old ++ limit_text names titles rounds (limit_in a l))
+split_limit names titles rounds a l nodes r old new is says = subst (λ m. OnOk r (new ≡ old ++ limit_text names titles rounds (limit_in a m))) (sym is) (says (tree a))
 
 pub on_ok : {T F : Type 0} (r : Result T F) {P Q : Type 0} → OnOk r P → (P → Q) → OnOk r Q
 on_ok (Ok t) p next = next p

@@ -11,10 +11,11 @@ use Rattle.spv_atoms.specs.declared.proofs.Relation.TheVariants.{AtMost, Equal}
 use Rattle.spv_atoms.specs.declared.proofs.Stated.{Stated}
 use Rattle.spv_atoms.specs.declared.proofs.Stated.TheVariants.{Is, Same}
 use Rattle.spv_atoms.specs.declared.proofs.Step.{Step}
-use Rattle.spv_atoms.specs.declared.proofs.Step.TheVariants as step
 use Rattle.spv_atoms.specs.declared.proofs.Split.{Split}
 use Rattle.spv_atoms.specs.declared.proofs.ProofNode.{ProofNode}
 use Rattle.spv_atoms.specs.Shape.{parts_of}
+use Rattle.spv_atoms.specs.Steps as word
+use Rattle.spv_atoms.specs.Steps.{Word, Part, Number, Fact, OtherFact, Facts, One, Several, Sums, States, Field, shape}
 use Rattle.spv_proof_rules.specs.Effects.{at_most}
 use Rattle.spv_listing.specs.printed.Printed.{line, name_in, fraction_text, term_text}
 
@@ -69,19 +70,39 @@ abbrev pub other_multiples : Relation → List (Fraction × ℕ) → List ℕ
 other_multiples (AtMost s t) ms = []
 other_multiples (Equal s t) ms = codes " /" ++ multiples_text ms
 
--- a step by its word and what it names, where terms have these ids
+abbrev pub word_text : Word → List ℕ
+word_text word.Given = codes "GIVEN"
+word_text word.Refl = codes "REFL"
+word_text word.Symm = codes "SYMM"
+word_text word.Trans = codes "TRANS"
+word_text word.Cong = codes "CONG"
+word_text word.Linear = codes "LINEAR"
+word_text word.Schema = codes "SCHEMA"
+word_text word.Rule = codes "RULE"
+word_text word.Eval = codes "EVAL"
+word_text word.Contra = codes "CONTRA"
+
+-- a part of a step, where terms have these ids
+abbrev pub part_text : List (List ℕ) → List (Option Symbol) → (TermId → Term) → Part → List ℕ
+part_text names titles at (Number n) = number_text n
+part_text names titles at (Fact k) = number_text k
+part_text names titles at (OtherFact k) = second_number k
+part_text names titles at (Facts ks) = numbers_text ks
+part_text names titles at (One t) = blank_term names titles (at t)
+part_text names titles at (Several ts) = terms_text names titles at ts
+part_text names titles at (Sums r first second) = blank_term names titles (relation_at at r) ++ multiples_text first ++ other_multiples r second
+part_text names titles at (States s) = blank_term names titles (stated_at at s)
+part_text names titles at (Field x) = field_text names x
+
+-- parts, one behind the other
+abbrev pub parts_text : List (List ℕ) → List (Option Symbol) → (TermId → Term) → List Part → List ℕ
+parts_text names titles at [] = []
+parts_text names titles at (p ∷ []) = part_text names titles at p
+parts_text names titles at (p ∷ q ∷ parts) = part_text names titles at p ++ parts_text names titles at (q ∷ parts)
+
+-- a step by its word and its parts
 abbrev pub step_text : List (List ℕ) → List (Option Symbol) → (TermId → Term) → Step → List ℕ
-step_text names titles at (step.Given k) = codes "GIVEN" ++ number_text k
-step_text names titles at (step.Refl t) = codes "REFL" ++ blank_term names titles (at t)
-step_text names titles at (step.Symm k) = codes "SYMM" ++ number_text k
-step_text names titles at (step.Trans i j) = codes "TRANS" ++ number_text i ++ number_text j
-step_text names titles at (step.Cong t u ks) = codes "CONG" ++ blank_term names titles (at t) ++ blank_term names titles (at u) ++ numbers_text ks
-step_text names titles at (step.Linear r first second) =
-    codes "LINEAR" ++ blank_term names titles (relation_at at r) ++ multiples_text first ++ other_multiples r second
-step_text names titles at (step.Schema kind ts field) = codes "SCHEMA" ++ number_text kind ++ terms_text names titles at ts ++ field_text names field
-step_text names titles at (step.Rule r ts) = codes "RULE" ++ number_text r ++ terms_text names titles at ts
-step_text names titles at (step.Eval s ks) = codes "EVAL" ++ blank_term names titles (stated_at at s) ++ numbers_text ks
-step_text names titles at (step.Contra i j) = codes "CONTRA" ++ number_text i ++ second_number j
+step_text names titles at s = word_text (shape s).word ++ parts_text names titles at (shape s).parts
 
 abbrev pub step_line : List (List ℕ) → List (Option Symbol) → (TermId → Term) → Step → List ℕ
 step_line names titles at s = line (codes "STEP " ++ step_text names titles at s)

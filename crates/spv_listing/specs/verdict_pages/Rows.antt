@@ -7,6 +7,7 @@ use Rattle.spv_logic.specs.declared.operators.Head.TheVariants.{Var, Num, Add, M
 use Rattle.spv_logic.specs.Terms.{Term, term, no_terms, terms}
 use Rattle.spv_logic.specs.Formulas.{equation, below}
 use Rattle.spv_frac.specs.declared.frac.Op.TheVariants.{Div}
+use Rattle.spv_frac.specs.declared.frac.Op.TheVariants as op
 use Rattle.spv_atoms.specs.declared.proofs.Relation.TheVariants.{AtMost, Equal}
 use Rattle.spv_atoms.specs.declared.proofs.Stated.TheVariants.{Is, Same}
 use Rattle.spv_atoms.specs.declared.proofs.Step.{Step}
@@ -14,7 +15,7 @@ use Rattle.spv_atoms.specs.declared.proofs.Step.TheVariants as step
 use Rattle.spv_atoms.specs.declared.proofs.ProofNode.{ProofNode}
 use Rattle.spv_tableau_rules.specs.tableaux.Walks.{Start}
 use Rattle.spv_models.specs.split_trees.Trees.{Open, Split, no_trees, trees}
-use Rattle.spv_verdicts.specs.Verdicts.{Proved, Unproved, GaveUp, Splits, WideForm, WideEvaluation, Pivots, TooManyTerms}
+use Rattle.spv_verdicts.specs.Verdicts.{Instance, Proved, Unproved, GaveUp, NotAccepted, Splits, TooManyInstances, WideForm, WideSum, WideEvaluation, Pivots, TooManyTerms}
 use Rattle.spv_listing.specs.verdict_pages.VerdictLines.{verdict_lines}
 use Rattle.spv_listing.specs.verdict_pages.Totals.{total_lines, counts_line, result_text}
 
@@ -58,7 +59,7 @@ fraction num den = record { num = pos num; den = den }
 -- 2 * x = 1 does not entail FALSE: at x = 1/2 it is true
 abbrev pub HalfIsUnproved : Type 0
 HalfIsUnproved =
-    verdict_lines false names [] at (Unproved ((equation (times (numeral 2) x) (numeral 1), true) ∷ []) ((x, fraction 1 2) ∷ []))
+    verdict_lines false names [] at (Unproved ((equation (times (numeral 2) x) (numeral 1), true) ∷ []) ((x, fraction 1 2) ∷ []) [])
     ≡ codes "UNPROVED\nBRANCH (= (* 2 X) 1)\nVALUE X 1/2\n"
 
 -- x = 0 and x@1 = 0 do not entail x@1 + 1 = 0
@@ -67,27 +68,49 @@ LoopIsUnproved =
     verdict_lines false names [] at
     (Unproved
     ((equation x (numeral 0), true) ∷ (equation (variable 0 1) (numeral 0), true) ∷ (equation (plus (variable 0 1) (numeral 1)) (numeral 0), false) ∷ [])
-    ((x, fraction 0 1) ∷ (variable 0 1, fraction 0 1) ∷ []))
+    ((x, fraction 0 1) ∷ (variable 0 1, fraction 0 1) ∷ []) [])
     ≡ codes "UNPROVED\nBRANCH (= X 0)\nBRANCH (= X@1 0)\nBRANCH (NOT (= (+ X@1 1) 0))\nVALUE X 0\nVALUE X@1 0\n"
+
+-- an instance of the second rule, for two terms, stands between the atoms and the numbers
+abbrev pub InstanceIsBetween : Type 0
+InstanceIsBetween =
+    verdict_lines false names [] at (Unproved ((equation x y, false) ∷ []) ((x, fraction 1 1) ∷ []) (record { rule = 2; values = y ∷ plus x (numeral 1) ∷ [] } ∷ []))
+    ≡ codes "UNPROVED\nBRANCH (NOT (= X Y))\nINSTANCE 2 Y (+ X 1)\nVALUE X 1\n"
 
 -- ---- limits
 
+-- two rounds with three instances together, of which two are allowed
+abbrev pub ThreeInstances : Type 0
+ThreeInstances =
+    (i : Instance) → verdict_lines false names [] at (GaveUp (record { table = []; members = i ∷ i ∷ [] } ∷ record { table = []; members = i ∷ [] } ∷ []) TooManyInstances)
+    ≡ codes "GAVE UP INSTANCES 2\n"
+
+-- a sum in the check of a proof that does not fit
+abbrev pub WideProduct : Type 0
+WideProduct =
+    (nodes : List ProofNode) → verdict_lines false names [] at (GaveUp [] (WideSum nodes (record { op = op.Mul; left = fraction 7 2; right = fraction 3 1 })))
+    ≡ codes "GAVE UP NUMBER MUL 7/2 3\n"
+
+-- a proof that was handed in
+abbrev pub OtherProof : Type 0
+OtherProof = verdict_lines true names [] at NotAccepted ≡ codes "NOT ACCEPTED\n"
+
 -- no split may be made, and the root is open
 abbrev pub NoSplits : Type 0
-NoSplits = verdict_lines false names [] at (GaveUp (Splits Open)) ≡ codes "GAVE UP SPLITS 0\n"
+NoSplits = verdict_lines false names [] at (GaveUp [] (Splits Open)) ≡ codes "GAVE UP SPLITS 0\n"
 
 -- a split in a split
 abbrev pub TwoSplits : Type 0
 TwoSplits =
-    verdict_lines false names [] at (GaveUp (Splits (Split (below x y) (trees Open (trees (Split (below y x) (trees Open (trees Open no_trees))) no_trees)))))
+    verdict_lines false names [] at (GaveUp [] (Splits (Split (below x y) (trees Open (trees (Split (below y x) (trees Open (trees Open no_trees))) no_trees)))))
     ≡ codes "GAVE UP SPLITS 2\n"
 
 -- no step of a check may be made
 abbrev pub NoPivots : Type 0
-NoPivots = (start : Start) → verdict_lines false names [] at (GaveUp (Pivots start [])) ≡ codes "GAVE UP PIVOTS 0\n"
+NoPivots = (start : Start) → verdict_lines false names [] at (GaveUp [] (Pivots start [])) ≡ codes "GAVE UP PIVOTS 0\n"
 
 abbrev pub ManyTerms : Type 0
-ManyTerms = verdict_lines false names [] at (GaveUp (TooManyTerms 1000000)) ≡ codes "GAVE UP TERMS 1000000\n"
+ManyTerms = verdict_lines false names [] at (GaveUp [] (TooManyTerms 1000000)) ≡ codes "GAVE UP TERMS 1000000\n"
 
 -- a coefficient that is the product of three large numerals
 abbrev pub most : Term
@@ -95,13 +118,13 @@ most = numeral 9223372036854775807
 
 abbrev pub WideRelation : Type 0
 WideRelation =
-    verdict_lines false names [] at (GaveUp (WideForm (equation (times most (times most (times most x))) (numeral 1))))
+    verdict_lines false names [] at (GaveUp [] (WideForm (equation (times most (times most (times most x))) (numeral 1))))
     ≡ codes "GAVE UP NUMBER FORM (= (* 9223372036854775807 (* 9223372036854775807 (* 9223372036854775807 X))) 1)\n"
 
 -- a quotient that does not fit
 abbrev pub WideQuotient : Type 0
 WideQuotient =
-    verdict_lines false names [] at (GaveUp (WideEvaluation [] x (record { op = Div; left = fraction 1 2; right = fraction 3 1 })))
+    verdict_lines false names [] at (GaveUp [] (WideEvaluation [] x (record { op = Div; left = fraction 1 2; right = fraction 3 1 })))
     ≡ codes "GAVE UP NUMBER DIV 1/2 3\n"
 
 -- ---- proofs

@@ -15,7 +15,7 @@ falsifies (Unproved u) = true
 falsifies _ = false
 
 abbrev pub gives_up : Verdict → Bool
-gives_up (GaveUp l) = true
+gives_up (GaveUp rounds l) = true
 gives_up _ = false
 
 abbrev pub is_proved : Decided → Bool

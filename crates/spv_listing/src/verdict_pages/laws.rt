@@ -1,11 +1,12 @@
 // Lines worked by hand, each law the contract of a function that does nothing.
 
-ghost use Rattle.spv_listing.specs.verdict_pages.Rows.{HalfIsUnproved, LoopIsUnproved, NoSplits, TwoSplits, NoPivots, ManyTerms, WideRelation, WideQuotient, GapIsProved, GapIsBare, CasesAreInOrder, NoConditions, Counts, UnprovedComesFirst, GivenUpComesSecond};
+ghost use Rattle.spv_listing.specs.verdict_pages.Rows.{HalfIsUnproved, LoopIsUnproved, InstanceIsBetween, ThreeInstances, WideProduct, OtherProof, NoSplits, TwoSplits, NoPivots, ManyTerms, WideRelation, WideQuotient, GapIsProved, GapIsBare, CasesAreInOrder, NoConditions, Counts, UnprovedComesFirst, GivenUpComesSecond};
 
 /// Lines of verdicts with a table.
 pub fn law_unproved_lines()
     ensures half { HalfIsUnproved }
     ensures turn { LoopIsUnproved }
+    ensures instance { InstanceIsBetween }
 {}
 
 /// Lines of verdicts that name a limit.
@@ -16,6 +17,13 @@ pub fn law_limit_lines()
     ensures many_terms { ManyTerms }
     ensures wide_relation { WideRelation }
     ensures wide_quotient { WideQuotient }
+    ensures instances { ThreeInstances }
+    ensures wide_product { WideProduct }
+{}
+
+/// The line of a proof that was handed in and is not accepted.
+pub fn law_other_proof()
+    ensures { OtherProof }
 {}
 
 /// Lines of proofs.

@@ -8,19 +8,20 @@ ghost use Rattle.spv_term.specs.Arena.{tree};
 ghost use Rattle.spv_listing.specs.printed.Printed.{term_text};
 ghost use Rattle.spv_models.specs.split_trees.Trees.{splits};
 ghost use Rattle.spv_verdicts.specs.answers.Nodes.{tree_at};
-ghost use Rattle.spv_verdicts.specs.answers.Views.{LimitIn, WideIn, limit_in, wide_in};
+ghost use Rattle.spv_verdicts.specs.answers.Views.{LimitIn, WideIn, limit_in, rounds_in, wide_in};
 ghost use Rattle.spv_listing.specs.verdict_pages.Counting.{split_count};
 ghost use Rattle.spv_listing.specs.verdict_pages.Counting as counting;
-ghost use Rattle.spv_listing.specs.verdict_pages.VerdictLines.{limit_text, operation_text};
+ghost use Rattle.spv_listing.specs.verdict_pages.VerdictLines.{limit_text, operation_text, wide_text};
 ghost use Rattle.spv_listing.specs.verdict_pages.VerdictLines as spec;
 
 use crate::printed::{push_decimal, push_fraction, push_term};
+use crate::verdict_pages::instances::push_most_instances;
 use crate::verdict_pages::tallies::one_if;
 use spv_frac::{Frac, Op, law_frac};
 use spv_logic::names::{Names, Symbol};
 use spv_simplex::Evidence;
 use spv_term::{TermId, Terms};
-use spv_verdicts::answers::{Limit, SplitNode, SplitTree, Wide};
+use spv_verdicts::answers::{Limit, Round, SplitNode, SplitTree, Wide};
 use std::alloc::AllocError;
 
 // The word for an operation.
@@ -99,11 +100,12 @@ fn push_wide(
     wide: &Wide,
 ) -> Result<(), AllocError>
     requires { WideIn terms.now wide.now }
-    ensures { OnOk result (out.new.items ≡ out.old.items ++ limit_text names.now titles.now (wide_in terms.now wide.now)) }
+    ensures { OnOk result (out.new.items ≡ out.old.items ++ wide_text names.now titles.now (wide_in terms.now wide.now)) }
 {
     match wide {
         Wide::Form(t) => push_form(out, names, titles, terms, *t),
         Wide::Pivot(evidence) => push_check(out, evidence),
+        Wide::Sum(_, op, left, right) => push_operation(out, *op, *left, *right),
         Wide::Value(_, _, op, left, right) => push_operation(out, *op, *left, *right),
     }
 }
@@ -173,20 +175,22 @@ fn push_most(out: &mut Vec<u8>, number: &u64) -> Result<(), AllocError>
     push_decimal(out, *number)
 }
 
-// A limit, and how much was done.
-#[tactic(auto, using(crate::proofs::verdict_pages::Splits::split_limit))]
+// A limit, and how much was done, behind these rounds.
+#[tactic(auto, using(crate::proofs::verdict_pages::Splits::split_limit, crate::proofs::verdict_pages::Rounds::instances_limit))]
 pub(crate) fn push_limit(
     out: &mut Vec<u8>,
     names: &Names,
     titles: &[Option<Symbol>],
     terms: &Terms,
+    rounds: &[Round],
     limit: &Limit,
 ) -> Result<(), AllocError>
     requires { LimitIn terms.now limit.now }
-    ensures { OnOk result (out.new.items ≡ out.old.items ++ limit_text names.now titles.now (limit_in terms.now limit.now)) }
+    ensures { OnOk result (out.new.items ≡ out.old.items ++ limit_text names.now titles.now (rounds_in terms.now rounds.now) (limit_in terms.now limit.now)) }
 {
     match limit {
         Limit::Splits(kept) => push_splits(out, kept),
+        Limit::Instances => push_most_instances(out, rounds),
         Limit::Number(wide) => push_wide(out, names, titles, terms, wide),
         Limit::Pivots(evidence) => push_pivots(out, evidence),
         Limit::Terms(number) => push_most(out, number),

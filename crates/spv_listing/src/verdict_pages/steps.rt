@@ -56,7 +56,7 @@ pub(crate) fn push_blank_term(
 }
 
 // Terms, each behind a blank.
-fn push_terms(
+pub(crate) fn push_terms(
     out: &mut Vec<u8>,
     names: &Names,
     titles: &[Option<Symbol>],

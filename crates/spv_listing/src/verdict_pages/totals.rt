@@ -51,7 +51,7 @@ fn count_unproved(verdicts: &[Decided]) -> usize
 fn is_given_up(decided: &Decided) -> bool
     ensures { result ≡ spec.is_given_up decided.now }
 {
-    matches!(&decided.verdict, Verdict::GaveUp(_))
+    matches!(&decided.verdict, Verdict::GaveUp(_, _))
 }
 
 // How many verdicts are GaveUp.

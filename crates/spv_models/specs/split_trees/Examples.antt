@@ -56,6 +56,7 @@ asks given goal = record {
   decls = decls;
   at = λ t. slice_index_or (f_of x ∷ f_of y ∷ []) t.0 x;
   sequent = record { given = given; goal = goal };
+  rules = [];
 }
 
 -- p or q is to give F(x) = F(y)

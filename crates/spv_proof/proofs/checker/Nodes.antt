@@ -7,7 +7,7 @@ use Rattle.spv_logic.specs.declared.conditions.TermId.{TermId}
 use Rattle.spv_logic.specs.Terms.{Term}
 use Rattle.spv_logic.specs.Formulas as formulas
 use Rattle.spv_term.specs.declared.nodes.Condition.{Condition}
-use Rattle.spv_term.specs.Arena.{Arena, Extends, AllBelow, tree, trees_of}
+use Rattle.spv_term.specs.Arena.{Arena, Extends, AllBelow, sequent, tree, trees_of}
 use Rattle.spv_term.proofs.ArenaLemmas.{Extends-refl, Extends-trans, tree-Extends, sort_at-Extends, map_tree-Extends}
 use Rattle.spv_atoms.specs.declared.proofs.Step.{Step}
 use Rattle.spv_atoms.specs.declared.proofs.Split.{Split}
@@ -17,8 +17,8 @@ use Rattle.spv_proof_rules.specs.Effects.{Question, Effect, is_truth, is_number}
 use Rattle.spv_proof_rules.specs.Effects as spec
 use Rattle.spv_proof_rules.specs.Evaluation.{sides}
 use Rattle.spv_proof_rules.specs.Accepted as accepted
-use Rattle.spv_proof_rules.specs.Stops.{kept}
-use Rattle.spv_proof_rules.specs.Outcomes.{IsFirst, Outcome, comes, stops, then_outcome, on_trial, add_fact, steps_outcome, trial, branches_if, branches_after, node_outcome, on_branches, nodes_outcome}
+use Rattle.spv_proof_rules.specs.Stops.{all_kept, kept}
+use Rattle.spv_proof_rules.specs.Outcomes.{IsFirst, Outcome, comes, stops, then_outcome, on_trial, add_fact, made_by, steps_outcome, trial, branches_if, branches_after, node_outcome, on_branches, nodes_outcome}
 use Rattle.spv_proof_rules.specs.Outcomes as outcomes
 use Rattle.spv_proof_rules.specs.Stand.{question, StepsIn, SplitIn, NodesIn}
 use Rattle.spv_proof_rules.proofs.Outcomes.{outcome-accepts}
@@ -33,7 +33,8 @@ use Rattle.spv_proof.specs.declared.checker.walking.Path as walked
 use Rattle.spv_proof.specs.checker.Ends.{ConditionIn, EndsAs, comes_in}
 use Rattle.spv_proof.specs.checker.Walks.{path_of, steps_in, Leads}
 use Rattle.spv_proof.specs.checker.Stacks.{BranchIn, OpensIn, branch_in, Begun, stacked, AllFrom, IsPending, Leaves, Checked}
-use Rattle.spv_proof.proofs.checker.Staying.{below-Extends, condition-Extends, StepIn-Extends, trial-Extends, truth-Extends, number-Extends}
+use Rattle.spv_proof_rules.proofs.Staying.{below-Extends, StepIn-Extends, truth-Extends, number-Extends}
+use Rattle.spv_proof.proofs.checker.Staying.{condition-Extends, made-Extends, sequent-Extends, trial-Extends}
 use Rattle.spv_proof.proofs.checker.Goings.{ends-told, take-take, take-short}
 use Rattle.spv_proof.proofs.checker.Stacks.{AllBelow-take, stacked-last}
 
@@ -94,16 +95,22 @@ module _ {old new : Arena} (more : Extends old new) where
     on_kept-same known None f g e = refl
     on_kept-same known (Some x) f g e = e x
 
+    where_made-same : (r : Result (List Term) (List Term)) (f g : List Term → Outcome accepted.Path) → ((x : List Term) → f x ≡ g x) → outcomes.where_made r f ≡ outcomes.where_made r g
+    where_made-same (Ok x) f g e = e x
+    where_made-same (Err x) f g e = refl
+
     -- steps come to the same
     pub steps-Extends : (steps : List Step) (known facts : List Term) → StepsIn old steps → steps_outcome new.most (question new c) known facts steps ≡ steps_outcome old.most (question old c) known facts steps
     steps-Extends [] known facts h = refl
-    steps-Extends (s ∷ steps) known facts h =
+    steps-Extends (s ∷ steps) start facts h =
+        ap (λ r. outcomes.where_made r _) (λ i. all_kept (more.most i) start (made-Extends more c ci s h.0 i))
+        ∙ where_made-same (all_kept old.most start (made_by (question old c) s)) _ _ (λ known.
         ap (λ t. on_trial known t (λ x. add_fact new.most known x (λ m. steps_outcome new.most (question new c) m (facts ++ x ∷ []) steps)) (accepted.closed_if_last steps)) (trial-Extends more c ci known facts s h.0)
         ∙ on_trial-same known (trial old.most (question old c) known facts s) (λ x. add_fact new.most known x (λ m. steps_outcome new.most (question new c) m (facts ++ x ∷ []) steps))
         (λ x. add_fact old.most known x (λ m. steps_outcome old.most (question old c) m (facts ++ x ∷ []) steps)) (accepted.closed_if_last steps)
         (λ x. ap (λ n. add_fact n known x (λ m. steps_outcome new.most (question new c) m (facts ++ x ∷ []) steps)) more.most
         ∙ on_kept-same known (kept old.most known x) (λ m. steps_outcome new.most (question new c) m (facts ++ x ∷ []) steps) (λ m. steps_outcome old.most (question old c) m (facts ++ x ∷ []) steps)
-        (λ m. steps-Extends steps m (facts ++ x ∷ []) h.1))
+        (λ m. steps-Extends steps m (facts ++ x ∷ []) h.1)))
 
     -- the cases of an atom are the same
     pub after-Extends : (p : accepted.Path) (o : Option Split) → SplitIn old o → branches_after (question new c) p o ≡ branches_after (question old c) p o
@@ -111,8 +118,8 @@ module _ {old new : Arena} (more : Extends old new) where
     after-Extends accepted.Closed (Some s) h = refl
     after-Extends (accepted.Open facts) None h = refl
     after-Extends (accepted.Open facts) (Some s) h =
-        let n = number-Extends more c ci in
-        let b = truth-Extends more c ci in
+        let n = number-Extends more (sequent new c) (sequent old c) (sequent-Extends more c ci) in
+        let b = truth-Extends more (sequent new c) (sequent old c) (sequent-Extends more c ci) in
         let t = tree-Extends more s.atom h in
         (λ i. branches_if (is_atom (b i) (t i) && nat_eq (length s.parts) (length (accepted.cases_by_sides (n i) (sides (t i)) (t i)))) facts (accepted.cases_by_sides (n i) (sides (t i)) (t i)))
     after-Extends accepted.Broken o h = refl

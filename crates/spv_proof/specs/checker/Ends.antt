@@ -1,8 +1,15 @@
 -- How a check ends over an arena.
-use Rattle.std.specs.Prelude.{◌≡◌, ◌<◌, length, Option, Some, None, IfSome}
+use Rattle.std.specs.Prelude.{◌≡◌, ◌<◌, List, length, Option, Some, None, Result, Ok, Err, IfSome}
+use Rattle.std.specs.Option.{option_map}
+use Rattle.spv_logic.specs.declared.conditions.TermId.{TermId}
+use Rattle.spv_logic.specs.Terms.{Term}
 use Rattle.spv_term.specs.declared.nodes.Condition.{Condition}
 use Rattle.spv_term.specs.Arena.{Arena, tree, trees_of}
-use Rattle.spv_proof_rules.specs.Stops.{WideSum, WideForm, TooMany, Halt}
+use Rattle.spv_atoms.specs.declared.proofs.Step.{Step}
+use Rattle.spv_atoms.specs.declared.proofs.Step.TheVariants as step
+use Rattle.spv_proof_rules.specs.Effects.{schema_stated}
+use Rattle.spv_proof_rules.specs.Stand.{question}
+use Rattle.spv_proof_rules.specs.Stops.{WideSum, WideForm, TooMany, Halt, terms_of}
 use Rattle.spv_proof_rules.specs.Outcomes.{IsFirst, Trial, Halts, Outcome, comes, stops}
 use Rattle.spv_proof_steps.specs.Candidates.{IsBool, AllFormulas}
 use Rattle.spv_proof.specs.declared.checker.stops.CheckStop.{CheckStop}
@@ -37,6 +44,18 @@ pub record IsTrialStop (old new : Arena) (e : CheckStop) (t : Trial) : Type 0 wh
   pub told : IfSome (halt_at new e) (λ h. t ≡ Halts h)
   pub form : FormIn new e
   pub unchanged : e ≡ Memory → new ≡ old
+
+-- an error is why terms were not all kept; for want of memory those that were come first
+abbrev pub IsMadeStop : Arena → CheckStop → Result (List Term) (List Term) → Type 0
+IsMadeStop a (Wide op x y) r = ⊥
+IsMadeStop a (Form t) r = ⊥
+IsMadeStop a Size r = r ≡ Err (trees_of a.nodes)
+IsMadeStop a Memory r = IsFirst (trees_of a.nodes) (terms_of r)
+
+-- a term is the fact of a schema that a step adds; none where it does not follow, and of another step nothing is said
+abbrev pub IsMade : Arena → Condition → Step → Option TermId → Type 0
+IsMade a c (step.Schema kind ts field) made = IfSome made (λ t. t.0 < length a.nodes) × (option_map (tree a) made ≡ schema_stated (question a c) kind ts field)
+IsMade a c _ made = Unit {0}
 
 -- what comes, over the terms of an arena
 abbrev pub comes_in : {T : Type 0} → Arena → T → Outcome T

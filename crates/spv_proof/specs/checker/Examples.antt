@@ -35,6 +35,7 @@ asks given goal = record {
   decls = [];
   at = λ t. slice_index_or (x ∷ y ∷ term (head.Num (pos 1)) no_terms ∷ term (head.Num (pos 0)) no_terms ∷ []) t.0 x;
   sequent = record { given = given; goal = goal };
+  rules = [];
 }
 
 -- a node that a step ends

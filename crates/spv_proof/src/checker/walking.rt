@@ -1,15 +1,19 @@
 //! The steps of a node, one after the other.
 
-ghost use Rattle.std.specs.Prelude.{◌≡◌, ◌<◌, List, map, length, IfOk, OnOk, IfErr};
+ghost use Rattle.std.specs.Prelude.{◌≡◌, ◌<◌, List, map, length, Ok, IfOk, OnOk, IfErr, IfSome};
+ghost use Rattle.std.specs.Option.{option_map};
 ghost use Rattle.spv_logic.specs.Terms.{Term};
 ghost use Rattle.spv_atoms.specs.declared.proofs.Step.{Step};
-ghost use Rattle.spv_term.specs.Arena.{Extends, AllBelow, tree, trees_of, IsArena};
+ghost use Rattle.spv_term.specs.declared.nodes.Condition.{Condition};
+ghost use Rattle.spv_term.specs.Arena.{Arena, Extends, AllBelow, tree, trees_of, IsArena};
 ghost use Rattle.spv_proof_rules.specs.Stand.{question, StepIn, StepsIn};
 ghost use Rattle.spv_proof_rules.specs.Accepted.{closed_if_last};
 ghost use Rattle.spv_proof_rules.specs.Outcomes as outcomes;
-ghost use Rattle.spv_proof_rules.specs.Outcomes.{Does};
+ghost use Rattle.spv_proof_rules.specs.Outcomes.{Does, made_by};
+ghost use Rattle.spv_proof_rules.specs.Effects.{adds_known};
+ghost use Rattle.spv_proof_rules.specs.Stops.{all_kept};
 ghost use Rattle.spv_proof_steps.specs.Steps.{effect_of, MayAdd};
-ghost use Rattle.spv_proof.specs.checker.Ends.{ConditionIn, IsTrialStop, EndsAs};
+ghost use Rattle.spv_proof.specs.checker.Ends.{ConditionIn, IsMade, IsMadeStop, IsTrialStop, EndsAs};
 ghost use Rattle.spv_proof.specs.checker.Walks.{no_steps, path_of, steps_in, Leads};
 
 use crate::checker::keeping::add;
@@ -33,17 +37,33 @@ pub enum Path {
     Broken,
 }
 
-// What a step does after these facts, or why the check ends there. Schemas and rules are still to come.
+// The fact of a schema that a step adds, which is made behind its subterms; no other step makes a term beforehand.
+fn made(terms: &mut Terms, step: &Step) -> Result<Option<TermId>, CheckStop>
+    requires { StepIn terms.old step.now }
+    ensures fact { IfOk result (λ fact. (c : Condition) → IsMade terms.new c step.now fact) }
+    ensures all { OnOk result ((c : Condition) → all_kept terms.old.most (trees_of terms.old.nodes) (made_by (question terms.old c) step.now) ≡ Ok (trees_of terms.new.nodes)) }
+    ensures stop { IfErr result (λ e. (c : Condition) → IsMadeStop terms.new e (all_kept terms.old.most (trees_of terms.old.nodes) (made_by (question terms.old c) step.now))) }
+    ensures grows { Extends terms.old terms.new }
+{
+    match step {
+        Step::Schema(_, _, _) => Err(CheckStop::Memory),
+        _ => Ok(None),
+    }
+}
+
+// What a step does after these facts, or why the check ends there. Rules are still to come.
 fn trial(
     alloc: Global,
     terms: &mut Terms,
     condition: &Condition,
     facts: &[TermId],
     step: &Step,
+    made: Option<TermId>,
 ) -> Result<Effect, CheckStop>
     requires condition { ConditionIn terms.old condition.now }
     requires facts { AllBelow (length terms.old.nodes) facts.now }
     requires step { StepIn terms.old step.now }
+    requires made { IsMade terms.old condition.now step.now made }
     ensures value { IfOk result (λ e. outcomes.trial terms.old.most (question terms.old condition.now)
         (trees_of terms.old.nodes) (map (tree terms.old) facts.now) step.now ≡ Does (effect_of terms.old e)) }
     ensures may { IfOk result (MayAdd terms.old) }
@@ -76,8 +96,19 @@ fn trial(
             numbers.as_slice(),
         )?),
         Step::Contra(first, second) => Ok(end_of(terms, facts, *first, *second)),
-        Step::Schema(_, _, _) => Ok(Effect::Fails),
+        Step::Schema(_, _, _) => Ok(known(made)),
         Step::Rule(_, _) => Ok(Effect::Fails),
+    }
+}
+
+// A fact that is there is added, and without one a step does not follow.
+fn known(fact: Option<TermId>) -> Effect
+    ensures effect { (a : Arena) → effect_of a result ≡ adds_known (option_map (tree a) fact) }
+    ensures may { (a : Arena) → IfSome fact (λ t. t.0 < length a.nodes) → MayAdd a result }
+{
+    match fact {
+        Some(t) => Effect::Adds(Fact::Known(t)),
+        None => Effect::Fails,
     }
 }
 
@@ -104,7 +135,8 @@ pub(crate) fn walk(
     ensures grows { Extends terms.old terms.new }
 {
     for (place, step) in steps.iter().enumerate() {
-        match trial(alloc, terms, condition, facts.as_slice(), step)? {
+        let made = made(terms, step)?;
+        match trial(alloc, terms, condition, facts.as_slice(), step, made)? {
             Effect::Adds(fact) => add(terms, facts, fact)?,
             Effect::Ends => return Ok(ended(place + 1 == steps.len())),
             Effect::Fails => return Ok(Path::Broken),

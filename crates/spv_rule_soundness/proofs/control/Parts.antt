@@ -55,7 +55,7 @@ use Rattle.spv_rule_soundness.specs.evaluation.Laws.{Shown, root_seen, uses_seen
 use Rattle.spv_rule_soundness.proofs.evaluation.Settings.{forms_right, setting}
 use Rattle.spv_rule_soundness.proofs.evaluation.Values.{evaluated}
 use Rattle.spv_rule_soundness.specs.statements.Truth.{IsLater, IsWindow, IsEntry, meaning_in, shown, IsTrueFor, Ignores}
-use Rattle.spv_rule_soundness.specs.statements.Runs.{Reaches, may_change, EndsWell, IsRight, IsSupplied, GivesWell, IsRightTest, IsSuppliedTest}
+use Rattle.spv_rule_soundness.specs.statements.Runs.{all_allowed, Reaches, may_change, EndsWell, IsRight, IsSupplied, GivesWell, IsRightTest, IsSuppliedTest}
 use Rattle.spv_rule_soundness.specs.statements.Parts.{Passing}
 use Rattle.spv_rule_soundness.specs.statements.Laws.{below, Counts, PartsAreRight}
 use Rattle.spv_rule_soundness.proofs.statements.Lists.{follow-replaced}
@@ -145,15 +145,15 @@ module _ (p : Program) (typed : well_typed p ≡ true) (world : Meaning) (entry 
   -- ---- tests
 
   module _ (e : Expression) (s : Sort) (sorted : expression_sort p None e ≡ Some s) (calls : expression_calls e ≡ []) where
-    test_right : (level : Option Level) → IsRightTest p world (in_main entry) level e
+    test_right : (level : Option Level) → IsRightTest p world all_allowed (in_main entry) level e
     test_right level n window is wanted state start true_there choices =
         by_quiet (quiet e s sorted calls state _ (shown_at state start) level n choices)
       where
-        by_quiet : Quiet Got (λ got. got ≡ record { value = eval (meaning_in p world) (valuation_of (shapes p) (both (entry_view p None state) (now_view p None state))) (valued p None n e).term; state = state }) choices (evaluate p level (in_main entry) e state choices) → Reaches p world Got (GivesWell p world (in_main entry) e n window wanted state) (evaluate p level (in_main entry) e state choices)
-        by_quiet (Stops f o) = subst (λ r. Reaches p world Got (GivesWell p world (in_main entry) e n window wanted state) r) (sym o) (reach_stops p world (GivesWell p world (in_main entry) e n window wanted state) f choices)
+        by_quiet : Quiet Got (λ got. got ≡ record { value = eval (meaning_in p world) (valuation_of (shapes p) (both (entry_view p None state) (now_view p None state))) (valued p None n e).term; state = state }) choices (evaluate p level (in_main entry) e state choices) → Reaches p world all_allowed Got (GivesWell p world (in_main entry) e n window wanted state) (evaluate p level (in_main entry) e state choices)
+        by_quiet (Stops f o) = subst (λ r. Reaches p world all_allowed Got (GivesWell p world (in_main entry) e n window wanted state) r) (sym o) (reach_stops p world all_allowed (GivesWell p world (in_main entry) e n window wanted state) f choices refl)
         by_quiet (Gives got o is_got) =
-            subst (λ r. Reaches p world Got (GivesWell p world (in_main entry) e n window wanted state) r) (sym o)
-            (reach_ends p world (GivesWell p world (in_main entry) e n window wanted state) got choices (record {
+            subst (λ r. Reaches p world all_allowed Got (GivesWell p world (in_main entry) e n window wanted state) r) (sym o)
+            (reach_ends p world all_allowed (GivesWell p world (in_main entry) e n window wanted state) got choices (record {
               state_is = ap (λ g. g.state) is_got;
               wider = window;
               is_window = subst (λ m. IsWindow p m window) (sym (plain p None e calls n).supply) is;
@@ -228,7 +228,7 @@ module _ (p : Program) (typed : well_typed p ≡ true) (world : Meaning) (entry 
         same = same_after;
       }
 
-    assign_right : (level : Option Level) → IsRight p world (in_main entry) (Assign (designator line x no_selectors) e) (walk p level (in_main entry) (Assign (designator line x no_selectors) e))
+    assign_right : (level : Option Level) → IsRight p world all_allowed (in_main entry) (Assign (designator line x no_selectors) e) (walk p level (in_main entry) (Assign (designator line x no_selectors) e))
     assign_right level q ignores window is state start true_there choices =
         by_quiet (quiet e s sorted calls state _ (shown_at state start) level q.supply choices)
       where
@@ -241,11 +241,11 @@ module _ (p : Program) (typed : well_typed p ≡ true) (world : Meaning) (entry 
         holds_before : IsTrueFor p world (shown p (in_main entry) window state) (replaced ((head_of p x, (valued p None q.supply e).term) ∷ []) q.conditions)
         holds_before = subst (λ c. IsTrueFor p world (shown p (in_main entry) window state) (before_calls None c (replaced ((head_of p x, (valued p None q.supply e).term) ∷ []) q.conditions))) (plain p None e calls q.supply).calls true_there
 
-        by_quiet : Quiet Got (λ got. got ≡ record { value = eval (meaning_in p world) (valuation_of (shapes p) (both (entry_view p None state) (now_view p None state))) (valued p None q.supply e).term; state = state }) choices (evaluate p level (in_main entry) e state choices) → Reaches p world State (EndsWell p world (in_main entry) window (may_change p (in_main entry) (Assign (designator line x no_selectors) e)) q.conditions state) (and_then (evaluate p level (in_main entry) e state choices) (λ got last. assign p (record { place = variable x; type = unwrap_or (found p.variables x) (record { 0 = 0 }); state = state }) got.value got.state last))
-        by_quiet (Stops f o) = subst (λ r. Reaches p world State (EndsWell p world (in_main entry) window (may_change p (in_main entry) (Assign (designator line x no_selectors) e)) q.conditions state) (and_then r (λ got last. assign p (record { place = variable x; type = unwrap_or (found p.variables x) (record { 0 = 0 }); state = state }) got.value got.state last))) (sym o) (reach_stops p world _ f choices)
+        by_quiet : Quiet Got (λ got. got ≡ record { value = eval (meaning_in p world) (valuation_of (shapes p) (both (entry_view p None state) (now_view p None state))) (valued p None q.supply e).term; state = state }) choices (evaluate p level (in_main entry) e state choices) → Reaches p world all_allowed State (EndsWell p world (in_main entry) window (may_change p (in_main entry) (Assign (designator line x no_selectors) e)) q.conditions state) (and_then (evaluate p level (in_main entry) e state choices) (λ got last. assign p (record { place = variable x; type = unwrap_or (found p.variables x) (record { 0 = 0 }); state = state }) got.value got.state last))
+        by_quiet (Stops f o) = subst (λ r. Reaches p world all_allowed State (EndsWell p world (in_main entry) window (may_change p (in_main entry) (Assign (designator line x no_selectors) e)) q.conditions state) (and_then r (λ got last. assign p (record { place = variable x; type = unwrap_or (found p.variables x) (record { 0 = 0 }); state = state }) got.value got.state last))) (sym o) (reach_stops p world all_allowed _ f choices refl)
         by_quiet (Gives got o is_got) =
-            subst (λ r. Reaches p world State (EndsWell p world (in_main entry) window (may_change p (in_main entry) (Assign (designator line x no_selectors) e)) q.conditions state) (and_then r (λ got last. assign p (record { place = variable x; type = unwrap_or (found p.variables x) (record { 0 = 0 }); state = state }) got.value got.state last))) (sym o)
-            (reach_unless p world _ (takes_value p.forms (unwrap_or (found p.variables x) (record { 0 = 0 })) got.value) fault.Range (put got.state (variable x) got.value) choices
+            subst (λ r. Reaches p world all_allowed State (EndsWell p world (in_main entry) window (may_change p (in_main entry) (Assign (designator line x no_selectors) e)) q.conditions state) (and_then r (λ got last. assign p (record { place = variable x; type = unwrap_or (found p.variables x) (record { 0 = 0 }); state = state }) got.value got.state last))) (sym o)
+            (reach_unless p world all_allowed _ (takes_value p.forms (unwrap_or (found p.variables x) (record { 0 = 0 })) got.value) fault.Range (put got.state (variable x) got.value) choices refl
             (subst (λ k. EndsWell p world (in_main entry) window (may_change p (in_main entry) (Assign (designator line x no_selectors) e)) q.conditions state (put k (variable x) got.value)) (sym (ap (λ g. g.state) is_got))
             (ends_well q ignores window is state start level choices got o holds_before)))
 
@@ -261,7 +261,7 @@ module _ (p : Program) (typed : well_typed p ≡ true) (world : Meaning) (entry 
 
   -- ---- leaves
 
-  leaf_right : (s : Statement) → leaf_ok p s ≡ true → (level : Option Level) → IsRight p world (in_main entry) s (walk p level (in_main entry) s)
+  leaf_right : (s : Statement) → leaf_ok p s ≡ true → (level : Option Level) → IsRight p world all_allowed (in_main entry) s (walk p level (in_main entry) s)
   leaf_right (Assign (designator line x no_selectors) e) ok level =
       let sorts = same_sorts (sort_of_type p (designator_type p None (designator line x no_selectors))) (expression_sort p None e) (right_true (may_write None (designator line x no_selectors)) _ (right_true (calls_nothing e) _ ok)) in
       assign_right line x e sorts.common (declared_as p x sorts.common sorts.left) sorts.right (nothing_called (expression_calls e) (left_true (calls_nothing e) _ ok)) level
@@ -323,8 +323,9 @@ module _ (p : Program) (typed : well_typed p ≡ true) (world : Meaning) (entry 
   test_calls : (e : Expression) → (calls_nothing e && is_some (expression_sort p None e)) ≡ true → expression_calls e ≡ []
   test_calls e ok = nothing_called (expression_calls e) (left_true (calls_nothing e) _ ok)
 
-  pub parts_right : PartsAreRight p world (in_main entry) (main_parts p)
+  pub parts_right : PartsAreRight p world all_allowed (in_main entry) (main_parts p)
   parts_right = record {
+    faults = record { no_label = refl; out_of_range = refl; no_choice = refl };
     leaf = λ s ok n correct. leaf_right s ok (below p n);
     leaf_supplied = leaf_supplied;
     test = λ e ok n correct. let k = test_sort e ok in test_right e k.sort k.is (test_calls e ok) (below p n);

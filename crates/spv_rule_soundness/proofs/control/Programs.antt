@@ -34,7 +34,7 @@ use Rattle.spv_meaning.proofs.Assigning.{in_main, AllTrueNow}
 use Rattle.spv_meaning.proofs.AssignedPrograms.{under_entry, exit_holds, nobody, no_routine}
 use Rattle.spv_rule_soundness.proofs.evaluation.Settings.{forms_right}
 use Rattle.spv_rule_soundness.specs.statements.Truth.{IsWindow, meaning_in, shown, IsTrueFor}
-use Rattle.spv_rule_soundness.specs.statements.Runs.{Reaches, may_change, EndsWell}
+use Rattle.spv_rule_soundness.specs.statements.Runs.{all_allowed, Reaches, may_change, EndsWell}
 use Rattle.spv_rule_soundness.specs.statements.Parts.{parts_pass, arms_pass}
 use Rattle.spv_rule_soundness.proofs.statements.Annotations.{wanted_there_ignores}
 use Rattle.spv_rule_soundness.proofs.statements.Views.{Part, First, Second, parts, in_first}
@@ -151,9 +151,9 @@ main_right p world typed control h turns fewer =
     let block = right_true (has_no_routines p.routines) _ control in
     let all : AllTrueIn (shapes p) p.symbols world (main_conditions p full_supply) = subst (λ rs. AllTrueIn (shapes p) p.symbols world (conditions_from p 0 rs full_supply)) none h in
     let q : Made = record { conditions = wanted_if_there p None kind.Exit p.main.exit; supply = full_supply } in
-    let runs : (state : State) → Starts p world None state → (choices : List Value) → Reaches p world State (EndsWell p world (in_main (entry_view p None state)) nothing_fixed (may_change p (in_main (entry_view p None state)) p.main.body) q.conditions state) (run p turns (in_main (entry_view p None state)) p.main.body state choices)
+    let runs : (state : State) → Starts p world None state → (choices : List Value) → Reaches p world all_allowed State (EndsWell p world (in_main (entry_view p None state)) nothing_fixed (may_change p (in_main (entry_view p None state)) p.main.body) q.conditions state) (run p turns (in_main (entry_view p None state)) p.main.body state choices)
     = λ state starts choices.
-    (right_level p world (forms_right p typed) (in_main (entry_view p None state)) (main_entry p typed world (entry_view p None state) (entry-main p state)) (main_parts p) (parts_right p typed world (entry_view p None state) (entry-main p state)) turns fewer).statements p.main.body (all_pass p p.main.body block body)
+    (right_level p world all_allowed (forms_right p typed) (in_main (entry_view p None state)) (main_entry p typed world (entry_view p None state) (entry-main p state)) (main_parts p) (parts_right p typed world (entry_view p None state) (entry-main p state)) turns fewer).statements p.main.body (all_pass p p.main.body block body)
     q (wanted_there_ignores p world full_supply None kind.Exit p.main.exit) nothing_fixed (no_window p) state starts.is_start
     (true_all p world state state (before p None p.main.body q).conditions (under_entry p world state starts.is_start p.main.entry entry starts.entry (before p None p.main.body q).conditions all)) choices in
     record {

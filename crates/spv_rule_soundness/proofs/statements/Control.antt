@@ -30,7 +30,7 @@ use Rattle.spv_meaning.specs.Walks.{walk, reaches}
 use Rattle.spv_meaning.specs.Starts.{IsStart}
 use Rattle.spv_meaning.specs.Before.{Made, all_assuming, assuming_if_there, replaced, wanted, negated, annotation_term, wanted_if_there, before_calls, renamed, before}
 use Rattle.spv_rule_soundness.specs.statements.Truth.{IsLater, IsWindow, IsEntry, meaning_in, shown, IsTrueFor, Ignores}
-use Rattle.spv_rule_soundness.specs.statements.Runs.{Reaches, EndsWell, IsRight, GivesWell, IsRightTest, may_change}
+use Rattle.spv_rule_soundness.specs.statements.Runs.{Allowed, Reaches, EndsWell, IsRight, GivesWell, IsRightTest, may_change}
 use Rattle.spv_rule_soundness.specs.statements.Parts.{Passing, parts_pass}
 use Rattle.spv_rule_soundness.specs.statements.Laws.{PartsAreRight}
 use Rattle.spv_rule_soundness.proofs.statements.Lists.{follow-append, not_new, later_after, ignores_later, ignores_both, ignores_assuming}
@@ -69,7 +69,7 @@ module _ (p : Program) (world : Meaning) (here : Here) where
     same = λ h l. e.same h (leaves h l);
   }
 
-module _ (p : Program) (world : Meaning) (ok : shapes_ok (shapes p) ≡ true) (here : Here) (entry : IsEntry p here.entry) (passing : Passing) (right : PartsAreRight p world here passing) where
+module _ (p : Program) (world : Meaning) (allowed : Allowed) (ok : shapes_ok (shapes p) ≡ true) (here : Here) (entry : IsEntry p here.entry) (passing : Passing) (right : PartsAreRight p world allowed here passing) where
   -- the window of a test taken away again
   pub ends_narrow : (e : Expression) (n : Supply) (window : View) (is : IsWindow p n window) (conditions wanted : List Condition) (start : State) (got : Got) → Ignores p world n conditions → (g : GivesWell p world here e n window wanted start got) → (changes : Head → Bool) (after : State) → EndsWell p world here g.wider changes conditions start after → EndsWell p world here window changes conditions start after
   ends_narrow e n window is conditions wanted start got ignores g changes after ends = record {
@@ -79,19 +79,19 @@ module _ (p : Program) (world : Meaning) (ok : shapes_ok (shapes p) ≡ true) (h
   }
 
   -- a test in front of a run: the run goes on in the state as it was, with what the calls' variables are
-  pub tested : (below : Option Level) (e : Expression) → IsRightTest p world here below e → (q : Made) → Ignores p world q.supply q.conditions → (window : View) → IsWindow p q.supply window → (uses : List Condition) (state : State) → IsStart p here.routine state
+  pub tested : (below : Option Level) (e : Expression) → IsRightTest p world allowed here below e → (q : Made) → Ignores p world q.supply q.conditions → (window : View) → IsWindow p q.supply window → (uses : List Condition) (state : State) → IsStart p here.routine state
       → IsTrueFor p world (shown p here window state) (before_calls here.routine (valued p (routine_in p here.routine) q.supply e).calls uses)
       → (changes : Head → Bool) (start : State) → ((h : Head) → changes h ≡ false → now_view p here.routine state h ≡ now_view p here.routine start h) → (choices : List Value) (next : Got → List Value → Outcome State)
-      → ((got : Got) (g : GivesWell p world here e q.supply window uses state got) (rest : List Value) → Reaches p world State (EndsWell p world here g.wider changes q.conditions state) (next (record { value = got.value; state = state }) rest))
-      → Reaches p world State (EndsWell p world here window changes q.conditions start) (and_then (evaluate p below here e state choices) next)
+      → ((got : Got) (g : GivesWell p world here e q.supply window uses state got) (rest : List Value) → Reaches p world allowed State (EndsWell p world here g.wider changes q.conditions state) (next (record { value = got.value; state = state }) rest))
+      → Reaches p world allowed State (EndsWell p world here window changes q.conditions start) (and_then (evaluate p below here e state choices) next)
   tested below e test q ignores window is uses state begun true_there changes start same choices next later =
-      reach_then p world _ _ (evaluate p below here e state choices) next (test q.supply window is uses state begun true_there choices)
+      reach_then p world allowed _ _ (evaluate p below here e state choices) next (test q.supply window is uses state begun true_there choices)
       (λ got g rest. moved got g rest
-      (reach_as p world _ _ (next (record { value = got.value; state = state }) rest)
+      (reach_as p world allowed _ _ (next (record { value = got.value; state = state }) rest)
       (λ after ends. ends_from p world here window changes q.conditions start state after same (ends_narrow e q.supply window is q.conditions uses state got ignores g changes after ends)) (later got g rest)))
     where
-      moved : (got : Got) (g : GivesWell p world here e q.supply window uses state got) (rest : List Value) → Reaches p world State (EndsWell p world here window changes q.conditions start) (next (record { value = got.value; state = state }) rest) → Reaches p world State (EndsWell p world here window changes q.conditions start) (next got rest)
-      moved got g rest r = subst (λ (x : State). Reaches p world State (EndsWell p world here window changes q.conditions start) (next (record { value = got.value; state = x }) rest)) (sym g.state_is) r
+      moved : (got : Got) (g : GivesWell p world here e q.supply window uses state got) (rest : List Value) → Reaches p world allowed State (EndsWell p world here window changes q.conditions start) (next (record { value = got.value; state = state }) rest) → Reaches p world allowed State (EndsWell p world here window changes q.conditions start) (next got rest)
+      moved got g rest r = subst (λ (x : State). Reaches p world allowed State (EndsWell p world here window changes q.conditions start) (next (record { value = got.value; state = x }) rest)) (sym g.state_is) r
 
   -- what is wanted where a test is true, and where it is not
   pub where_true : (e : Expression) (n : Supply) (window : View) (uses : List Condition) (state : State) (got : Got) (g : GivesWell p world here e n window uses state got) (conditions : List Condition) → truth_of got.value ≡ true → IsTrueFor p world (shown p here g.wider state) (all_assuming (valued p (routine_in p here.routine) n e).term conditions) → IsTrueFor p world (shown p here g.wider state) conditions
@@ -103,38 +103,38 @@ module _ (p : Program) (world : Meaning) (ok : shapes_ok (shapes p) ≡ true) (h
       true_assumed p world (shown p here g.wider state) (negated (valued p (routine_in p here.routine) n e).term) conditions (λ v val shows. truth_not _ (ap truth_of (g.worth v val shows) ∙ is)) known
 
   -- an INVARIANT that is reached
-  pub reach_invariant : (A : Type 0) (f : Option Annotation) (n : Supply) (window : View) → IsWindow p n window → (showing : State) → IsStart p here.routine showing → IsTrueFor p world (shown p here window showing) (wanted_if_there p here.routine kind.Invariant f) → (state : State) (rest : List Value) → Reaches p world State (λ x. x ≡ state) (reaches p here f showing state rest)
+  pub reach_invariant : (A : Type 0) (f : Option Annotation) (n : Supply) (window : View) → IsWindow p n window → (showing : State) → IsStart p here.routine showing → IsTrueFor p world (shown p here window showing) (wanted_if_there p here.routine kind.Invariant f) → (state : State) (rest : List Value) → Reaches p world allowed State (λ x. x ≡ state) (reaches p here f showing state rest)
   reach_invariant A f n window is showing start known state rest =
-      reach_meets p world _ (option_map (reached_in_body p here kind.Invariant showing) f) state rest (reached_holds p world ok here entry n window is showing start f kind.Invariant kind.Invariant known) refl
+      reach_meets p world allowed _ (option_map (reached_in_body p here kind.Invariant showing) f) state rest (reached_holds p world ok here entry n window is showing start f kind.Invariant kind.Invariant known) refl
 
   -- ---- sequences, IF, ASSERT
 
-  pub sequence_right : (a b : Statement) (first second : Run) → IsRight p world here a first → IsRight p world here b second → ((q : Made) → Ignores p world q.supply q.conditions → Ignores p world (before p here.routine b q).supply (before p here.routine b q).conditions) → ((q : Made) → Ignores p world q.supply q.conditions → IsLater q.supply (before p here.routine b q).supply) → IsRight p world here (Sequence a b) (λ state choices. and_then (first state choices) (λ after rest. second after rest))
+  pub sequence_right : (a b : Statement) (first second : Run) → IsRight p world allowed here a first → IsRight p world allowed here b second → ((q : Made) → Ignores p world q.supply q.conditions → Ignores p world (before p here.routine b q).supply (before p here.routine b q).conditions) → ((q : Made) → Ignores p world q.supply q.conditions → IsLater q.supply (before p here.routine b q).supply) → IsRight p world allowed here (Sequence a b) (λ state choices. and_then (first state choices) (λ after rest. second after rest))
   sequence_right a b first second one two ignored later q ignores window is state start true_there choices =
       let middle = before p here.routine b q in
       let own = is_own (routine_in p here.routine) in
       let in_a = part_leaves p here a (Sequence a b) (within_left (statement_uses own a) (statement_uses own b)) (within_left (statement_calls a) (statement_calls b)) in
       let in_b = part_leaves p here b (Sequence a b) (within_right (statement_uses own a) (statement_uses own b)) (within_right (statement_calls a) (statement_calls b)) in
-      reach_then p world _ _ (first state choices) _
+      reach_then p world allowed _ _ (first state choices) _
       (one middle (ignored q ignores) window (window_later p q.supply middle.supply window (later q ignores) is) state start true_there choices)
-      (λ after e rest. reach_as p world _ _ (second after rest)
+      (λ after e rest. reach_as p world allowed _ _ (second after rest)
       (λ last f. ends_from p world here window (may_change p here (Sequence a b)) q.conditions state after last (λ h leaves. e.same h (in_a h leaves)) (ends_wider p world here window (may_change p here b) (may_change p here (Sequence a b)) q.conditions after last in_b f))
       (two q ignores window is after e.is_start e.true_there rest))
 
-  pub assert_right : (a : Annotation) (below : Option Level) → IsRight p world here (Assert a) (walk p below here (Assert a))
+  pub assert_right : (a : Annotation) (below : Option Level) → IsRight p world allowed here (Assert a) (walk p below here (Assert a))
   assert_right a below q ignores window is state start true_there choices =
       let t = body_term p (routine_in p here.routine) a in
       let view = shown p here window state in
       let first = true_first p world view (wanted here.routine kind.Assert a.line t ∷ []) (all_assuming t q.conditions) true_there in
       let second = true_second p world view (wanted here.routine kind.Assert a.line t ∷ []) (all_assuming t q.conditions) true_there in
-      reach_meets p world _ (Some (reached_in_body p here kind.Assert state a)) state choices (reached_holds p world ok here entry q.supply window is state start (Some a) kind.Assert kind.Assert first)
+      reach_meets p world allowed _ (Some (reached_in_body p here kind.Assert state a)) state choices (reached_holds p world ok here entry q.supply window is state start (Some a) kind.Assert kind.Assert first)
       (record {
         is_start = start;
         true_there = true_assumed p world view t q.conditions (wanted_holds p world view here.routine kind.Assert a.line t first) second;
         same = λ h leaves. refl;
       })
 
-  pub if_right : (line : ℕ) (e : Expression) (a b : Statement) (below : Option Level) → passing.test e ≡ true → IsRightTest p world here below e → parts_pass passing a ≡ true → IsRight p world here a (walk p below here a) → IsRight p world here b (walk p below here b) → IsRight p world here (If line e a b) (walk p below here (If line e a b))
+  pub if_right : (line : ℕ) (e : Expression) (a b : Statement) (below : Option Level) → passing.test e ≡ true → IsRightTest p world allowed here below e → parts_pass passing a ≡ true → IsRight p world allowed here a (walk p below here a) → IsRight p world allowed here b (walk p below here b) → IsRight p world allowed here (If line e a b) (walk p below here (If line e a b))
   if_right line e a b below pass test pass_a one two q ignores window is state start true_there choices =
       let r = routine_in p here.routine in
       let own = is_own r in
@@ -143,7 +143,7 @@ module _ (p : Program) (world : Meaning) (ok : shapes_ok (shapes p) ≡ true) (h
       let later = at_test.later in
       let for_a : Made = record { conditions = q.conditions; supply = v.supply } in
       let first = before p here.routine a for_a in
-      let in_first = supplied p world here passing right a pass_a for_a (ignores_later p world q.supply v.supply q.conditions later ignores) in
+      let in_first = supplied p world allowed here passing right a pass_a for_a (ignores_later p world q.supply v.supply q.conditions later ignores) in
       let for_b : Made = record { conditions = q.conditions; supply = first.supply } in
       let second = before p here.routine b for_b in
       let uses_a = within_then (statement_uses own a) (statement_uses own a ++ statement_uses own b) (statement_uses own (If line e a b)) (within_left (statement_uses own a) (statement_uses own b)) (within_right (expression_uses own e) _) in
@@ -152,11 +152,11 @@ module _ (p : Program) (world : Meaning) (ok : shapes_ok (shapes p) ≡ true) (h
       let calls_b = within_then (statement_calls b) (statement_calls a ++ statement_calls b) (statement_calls (If line e a b)) (within_right (statement_calls a) (statement_calls b)) (within_right (expression_calls e) _) in
       let uses = all_assuming v.term first.conditions ++ all_assuming (negated v.term) second.conditions in
       tested below e test q ignores window is uses state start true_there (may_change p here (If line e a b)) state (λ h leaves. refl) choices _
-      (λ got g rest. choose (Reaches p world State (EndsWell p world here g.wider (may_change p here (If line e a b)) q.conditions state)) (truth_of got.value) (walk p below here a state rest) (walk p below here b state rest)
-      (λ is_true. reach_as p world _ _ (walk p below here a state rest) (λ after f. ends_wider p world here g.wider (may_change p here a) (may_change p here (If line e a b)) q.conditions state after (part_leaves p here a (If line e a b) uses_a calls_a) f)
+      (λ got g rest. choose (Reaches p world allowed State (EndsWell p world here g.wider (may_change p here (If line e a b)) q.conditions state)) (truth_of got.value) (walk p below here a state rest) (walk p below here b state rest)
+      (λ is_true. reach_as p world allowed _ _ (walk p below here a state rest) (λ after f. ends_wider p world here g.wider (may_change p here a) (may_change p here (If line e a b)) q.conditions state after (part_leaves p here a (If line e a b) uses_a calls_a) f)
       (one for_a (ignores_later p world q.supply v.supply q.conditions later ignores) g.wider g.is_window state start
       (where_true e q.supply window uses state got g first.conditions is_true (true_first p world (shown p here g.wider state) (all_assuming v.term first.conditions) (all_assuming (negated v.term) second.conditions) g.true_there)) rest))
-      (λ is_false. reach_as p world _ _ (walk p below here b state rest) (λ after f. ends_wider p world here g.wider (may_change p here b) (may_change p here (If line e a b)) q.conditions state after (part_leaves p here b (If line e a b) uses_b calls_b) f)
+      (λ is_false. reach_as p world allowed _ _ (walk p below here b state rest) (λ after f. ends_wider p world here g.wider (may_change p here b) (may_change p here (If line e a b)) q.conditions state after (part_leaves p here b (If line e a b) uses_b calls_b) f)
       (two for_b (ignores_later p world q.supply first.supply q.conditions (later_after q.supply v.supply first.supply later in_first.later) ignores) g.wider (window_later p v.supply first.supply g.wider in_first.later g.is_window) state start
       (where_false e q.supply window uses state got g second.conditions is_false (true_second p world (shown p here g.wider state) (all_assuming v.term first.conditions) (all_assuming (negated v.term) second.conditions) g.true_there)) rest)))
 
@@ -184,7 +184,7 @@ module _ (p : Program) (world : Meaning) (ok : shapes_ok (shapes p) ≡ true) (h
   preserved None view is = is
   preserved (Some a) view is = is
 
-  pub while_right : (line : ℕ) (f : Option Annotation) (e : Expression) (s : Statement) (level : Level) → passing.test e ≡ true → IsRightTest p world here (Some level) e → parts_pass passing s ≡ true → IsRight p world here s (level.run here s) → IsRight p world here (While line f e s) (level.run here (While line f e s)) → IsRight p world here (While line f e s) (walk p (Some level) here (While line f e s))
+  pub while_right : (line : ℕ) (f : Option Annotation) (e : Expression) (s : Statement) (level : Level) → passing.test e ≡ true → IsRightTest p world allowed here (Some level) e → parts_pass passing s ≡ true → IsRight p world allowed here s (level.run here s) → IsRight p world allowed here (While line f e s) (level.run here (While line f e s)) → IsRight p world allowed here (While line f e s) (walk p (Some level) here (While line f e s))
   while_right line f e s level pass test pass_s body again q ignores window is state start true_there choices =
       let w = While line f e s in
       let r = routine_in p here.routine in
@@ -192,7 +192,7 @@ module _ (p : Program) (world : Meaning) (ok : shapes_ok (shapes p) ≡ true) (h
       let v = valued p r q.supply e in
       let later = (right.test_supplied e pass q.supply).later in
       let for_body : Made = record { conditions = wanted_if_there p here.routine kind.Preserved f; supply = v.supply } in
-      let in_body = supplied p world here passing right s pass_s for_body (wanted_there_ignores p world v.supply here.routine kind.Preserved f) in
+      let in_body = supplied p world allowed here passing right s pass_s for_body (wanted_there_ignores p world v.supply here.routine kind.Preserved f) in
       let turn = before p here.routine s for_body in
       let uses = all_assuming v.term turn.conditions ++ all_assuming (negated v.term) q.conditions in
       let calls = before_calls here.routine v.calls uses in
@@ -207,33 +207,33 @@ module _ (p : Program) (world : Meaning) (ok : shapes_ok (shapes p) ≡ true) (h
       (ignores_both p world n (all_assuming v.term turn.conditions) (all_assuming (negated v.term) q.conditions)
       (ignores_assuming p world n v.term turn.conditions term in_body.ignores)
       (ignores_assuming p world n (negated v.term) q.conditions (negated_ignores p world n v.term term) (ignores_later p world q.supply n q.conditions to_n ignores))) in
-      let list_ignores = assuming_there_ignores p world n (annotation_term p here.routine f) (annotation_there p world here passing right n f) calls calls_ignore in
+      let list_ignores = assuming_there_ignores p world n (annotation_term p here.routine f) (annotation_there p world allowed here passing right n f) calls calls_ignore in
       let parts = loop_parts f window state (replaced (renamed heads n).pairs list) true_there in
       let here_list = renaming p ok world here entry n window window_n heads names list list_ignores state state start (λ h away. refl) (parts.1) in
       let here_calls = true_under p world here (shown p here window state) f kind.Invariant calls (parts.0) here_list in
       let uses_s = within_then (statement_uses own s) (expression_uses own e ++ statement_uses own s) (statement_uses own w) (within_right (expression_uses own e) (statement_uses own s)) (within_right (annotation_uses own f) _) in
       let calls_s = within_right (expression_calls e) (statement_calls s) in
       let leaves = part_leaves p here s w uses_s calls_s in
-      reach_then p world _ _ (reaches p here f state state choices) _
+      reach_then p world allowed _ _ (reaches p here f state state choices) _
       (reach_invariant State f q.supply window is state start (parts.0) state choices)
-      (λ now at rest. subst (λ (x : State). Reaches p world State (EndsWell p world here window (may_change p here w) q.conditions state) (and_then (evaluate p (Some level) here e x rest) (λ got more. cond (truth_of got.value) (and_then (level.run here s got.state more) (λ after last. level.run here w after last)) (ends got.state more)))) (sym at)
+      (λ now at rest. subst (λ (x : State). Reaches p world allowed State (EndsWell p world here window (may_change p here w) q.conditions state) (and_then (evaluate p (Some level) here e x rest) (λ got more. cond (truth_of got.value) (and_then (level.run here s got.state more) (λ after last. level.run here w after last)) (ends got.state more)))) (sym at)
       (tested (Some level) e test q ignores window is uses state start here_calls (may_change p here w) state (λ h l. refl) rest _
-      (λ got g more. choose (Reaches p world State (EndsWell p world here g.wider (may_change p here w) q.conditions state)) (truth_of got.value) (and_then (level.run here s state more) (λ after last. level.run here w after last)) (ends state more)
-      (λ is_true. reach_then p world _ _ (level.run here s state more) _
+      (λ got g more. choose (Reaches p world allowed State (EndsWell p world here g.wider (may_change p here w) q.conditions state)) (truth_of got.value) (and_then (level.run here s state more) (λ after last. level.run here w after last)) (ends state more)
+      (λ is_true. reach_then p world allowed _ _ (level.run here s state more) _
       (body for_body (wanted_there_ignores p world v.supply here.routine kind.Preserved f) g.wider g.is_window state start (where_true e q.supply window uses state got g turn.conditions is_true (true_first p world (shown p here g.wider state) (all_assuming v.term turn.conditions) (all_assuming (negated v.term) q.conditions) g.true_there)) more)
       (λ after x last.
       let same : (h : Head) → may_change p here w h ≡ false → now_view p here.routine after h ≡ now_view p here.routine state h = λ h l. x.same h (leaves h l) in
       let invariant = narrow p here entry world q.supply v.supply window g.wider is g.is_window g.adds (wanted_if_there p here.routine kind.Invariant f) (wanted_there_ignores p world q.supply here.routine kind.Invariant f) after (preserved f (shown p here g.wider after) x.true_there) in
-      reach_as p world _ _ (level.run here w after last)
+      reach_as p world allowed _ _ (level.run here w after last)
       (λ final ending. ends_from p world here g.wider (may_change p here w) q.conditions state after final same (ends_in_wider window g.wider g.keeps (may_change p here w) q.conditions after final ending))
       (again q ignores window is after x.is_start (joined f window after (replaced (renamed heads n).pairs list) invariant (persisting p ok world here entry n window window_n heads names list list_ignores state after start same (parts.1))) last)))
-      (λ is_false. reach_ends p world _ state more (record {
+      (λ is_false. reach_ends p world allowed _ state more (record {
         is_start = start;
         true_there = where_false e q.supply window uses state got g q.conditions is_false (true_second p world (shown p here g.wider state) (all_assuming v.term turn.conditions) (all_assuming (negated v.term) q.conditions) g.true_there);
         same = λ h l. refl;
       })))))
 
-  pub repeat_right : (line : ℕ) (f : Option Annotation) (s : Statement) (e : Expression) (level : Level) → passing.test e ≡ true → IsRightTest p world here (Some level) e → parts_pass passing s ≡ true → IsRight p world here s (level.run here s) → IsRight p world here (Repeat line f s e) (level.run here (Repeat line f s e)) → IsRight p world here (Repeat line f s e) (walk p (Some level) here (Repeat line f s e))
+  pub repeat_right : (line : ℕ) (f : Option Annotation) (s : Statement) (e : Expression) (level : Level) → passing.test e ≡ true → IsRightTest p world allowed here (Some level) e → parts_pass passing s ≡ true → IsRight p world allowed here s (level.run here s) → IsRight p world allowed here (Repeat line f s e) (level.run here (Repeat line f s e)) → IsRight p world allowed here (Repeat line f s e) (walk p (Some level) here (Repeat line f s e))
   repeat_right line f s e level pass test pass_s body again q ignores window is state start true_there choices =
       let w = Repeat line f s e in
       let r = routine_in p here.routine in
@@ -248,7 +248,7 @@ module _ (p : Program) (world : Meaning) (ok : shapes_ok (shapes p) ≡ true) (h
       (ignores_assuming p world v.supply (negated v.term) (wanted_if_there p here.routine kind.Preserved f) (negated_ignores p world v.supply v.term at_test.term) (wanted_there_ignores p world v.supply here.routine kind.Preserved f))
       (ignores_assuming p world v.supply v.term q.conditions at_test.term (ignores_later p world q.supply v.supply q.conditions later ignores)) in
       let calls_ignore = at_test.calls v.supply (λ h new. new) uses uses_ignore in
-      let in_body = supplied p world here passing right s pass_s for_body calls_ignore in
+      let in_body = supplied p world allowed here passing right s pass_s for_body calls_ignore in
       let turn = before p here.routine s for_body in
       let list = assuming_if_there (annotation_term p here.routine f) turn.conditions in
       let heads = changed_heads p r w in
@@ -256,22 +256,22 @@ module _ (p : Program) (world : Meaning) (ok : shapes_ok (shapes p) ≡ true) (h
       let n = turn.supply in
       let to_n = later_after q.supply v.supply n later in_body.later in
       let window_n = window_later p q.supply n window to_n is in
-      let list_ignores = assuming_there_ignores p world n (annotation_term p here.routine f) (annotation_there p world here passing right n f) turn.conditions in_body.ignores in
+      let list_ignores = assuming_there_ignores p world n (annotation_term p here.routine f) (annotation_there p world allowed here passing right n f) turn.conditions in_body.ignores in
       let parts = loop_parts f window state (replaced (renamed heads n).pairs list) true_there in
       let here_list = renaming p ok world here entry n window window_n heads names list list_ignores state state start (λ h away. refl) (parts.1) in
       let here_turn = true_under p world here (shown p here window state) f kind.Invariant turn.conditions (parts.0) here_list in
       let uses_s = within_then (statement_uses own s) (statement_uses own s ++ expression_uses own e) (statement_uses own w) (within_left (statement_uses own s) (expression_uses own e)) (within_right (annotation_uses own f) _) in
       let leaves = part_leaves p here s w uses_s (within_left (statement_calls s) (expression_calls e)) in
-      reach_then p world _ _ (reaches p here f state state choices) _
+      reach_then p world allowed _ _ (reaches p here f state state choices) _
       (reach_invariant State f q.supply window is state start (parts.0) state choices)
-      (λ now at rest. subst (λ (x : State). Reaches p world State (EndsWell p world here window (may_change p here w) q.conditions state) (and_then (level.run here s x rest) (λ after more. and_then (evaluate p (Some level) here e after more) (λ got last. cond (truth_of got.value) (ends got.state last) (level.run here w got.state last))))) (sym at)
-      (reach_then p world _ _ (level.run here s state rest) _
+      (λ now at rest. subst (λ (x : State). Reaches p world allowed State (EndsWell p world here window (may_change p here w) q.conditions state) (and_then (level.run here s x rest) (λ after more. and_then (evaluate p (Some level) here e after more) (λ got last. cond (truth_of got.value) (ends got.state last) (level.run here w got.state last))))) (sym at)
+      (reach_then p world allowed _ _ (level.run here s state rest) _
       (body for_body calls_ignore window (window_later p q.supply v.supply window later is) state start here_turn rest)
       (λ after x more.
       let same : (h : Head) → may_change p here w h ≡ false → now_view p here.routine after h ≡ now_view p here.routine state h = λ h l. x.same h (leaves h l) in
       tested (Some level) e test q ignores window is uses after x.is_start x.true_there (may_change p here w) state same more _
-      (λ got g last. choose (Reaches p world State (EndsWell p world here g.wider (may_change p here w) q.conditions after)) (truth_of got.value) (ends after last) (level.run here w after last)
-      (λ is_true. reach_ends p world _ after last (record {
+      (λ got g last. choose (Reaches p world allowed State (EndsWell p world here g.wider (may_change p here w) q.conditions after)) (truth_of got.value) (ends after last) (level.run here w after last)
+      (λ is_true. reach_ends p world allowed _ after last (record {
         is_start = x.is_start;
         true_there = where_true e q.supply window uses after got g q.conditions is_true (true_second p world (shown p here g.wider after) (all_assuming (negated v.term) (wanted_if_there p here.routine kind.Preserved f)) (all_assuming v.term q.conditions) g.true_there);
         same = λ h l. refl;
@@ -279,7 +279,7 @@ module _ (p : Program) (world : Meaning) (ok : shapes_ok (shapes p) ≡ true) (h
       (λ is_false.
       let known = where_false e q.supply window uses after got g (wanted_if_there p here.routine kind.Preserved f) is_false (true_first p world (shown p here g.wider after) (all_assuming (negated v.term) (wanted_if_there p here.routine kind.Preserved f)) (all_assuming v.term q.conditions) g.true_there) in
       let invariant = narrow p here entry world q.supply v.supply window g.wider is g.is_window g.adds (wanted_if_there p here.routine kind.Invariant f) (wanted_there_ignores p world q.supply here.routine kind.Invariant f) after (preserved f (shown p here g.wider after) known) in
-      reach_as p world _ _ (level.run here w after last)
+      reach_as p world allowed _ _ (level.run here w after last)
       (λ final ending. ends_in_wider window g.wider g.keeps (may_change p here w) q.conditions after final ending)
       (again q ignores window is after x.is_start (joined f window after (replaced (renamed heads n).pairs list) invariant (persisting p ok world here entry n window window_n heads names list list_ignores state after start same (parts.1))) last))))))
 

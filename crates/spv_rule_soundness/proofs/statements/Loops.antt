@@ -28,7 +28,7 @@ use Rattle.spv_meaning.specs.Walks.{is_past, next_candidate, reaches, count_on, 
 use Rattle.spv_meaning.specs.Starts.{IsStart}
 use Rattle.spv_meaning.specs.Before.{Made, replaced, wanted_if_there, wanted_with, standing_for, next_term, within_term, past_term}
 use Rattle.spv_rule_soundness.specs.statements.Truth.{IsLater, IsWindow, IsEntry, meaning_in, all_follow, shown, IsTrueFor, Ignores}
-use Rattle.spv_rule_soundness.specs.statements.Runs.{Reaches, EndsWell, IsRight, IsSupplied, may_change}
+use Rattle.spv_rule_soundness.specs.statements.Runs.{Allowed, Reaches, EndsWell, IsRight, IsSupplied, may_change}
 use Rattle.spv_rule_soundness.specs.statements.Parts.{Passing, parts_pass}
 use Rattle.spv_rule_soundness.specs.statements.Laws.{Counts, PartsAreRight}
 use Rattle.spv_rule_soundness.proofs.statements.Lists.{later_after, ignores_later}
@@ -52,15 +52,15 @@ number_fits p (ClassOf cells d rows) h = absurd (false≢true h)
 number_fits p (AtomOf z) h = absurd (false≢true h)
 number_fits p (PairOf a b) h = absurd (false≢true h)
 
-reach_number : (p : Program) (world : Meaning) (choices : List Value) → Reaches p world Value (λ v. v ≡ Number (number_of v)) (take_choice (shapes p) sort.Int choices)
-reach_number p world [] = reach_stops p world _ fault.Choice []
-reach_number p world (v ∷ rest) = by_case (fits (shapes p) v sort.Int) refl
+reach_number : (p : Program) (world : Meaning) (allowed : Allowed) → allowed.fault fault.Choice ≡ true → (choices : List Value) → Reaches p world allowed Value (λ v. v ≡ Number (number_of v)) (take_choice (shapes p) sort.Int choices)
+reach_number p world allowed may [] = reach_stops p world allowed _ fault.Choice [] may
+reach_number p world allowed may (v ∷ rest) = by_case (fits (shapes p) v sort.Int) refl
   where
-    by_case : (b : Bool) → fits (shapes p) v sort.Int ≡ b → Reaches p world Value (λ v. v ≡ Number (number_of v)) (cond b (ends v rest) (stops fault.Choice (v ∷ rest)))
-    by_case true h = reach_ends p world _ v rest (number_fits p v h)
-    by_case false h = reach_stops p world _ fault.Choice (v ∷ rest)
+    by_case : (b : Bool) → fits (shapes p) v sort.Int ≡ b → Reaches p world allowed Value (λ v. v ≡ Number (number_of v)) (cond b (ends v rest) (stops fault.Choice (v ∷ rest)))
+    by_case true h = reach_ends p world allowed _ v rest (number_fits p v h)
+    by_case false h = reach_stops p world allowed _ fault.Choice (v ∷ rest) may
 
-module _ (p : Program) (world : Meaning) (ok : shapes_ok (shapes p) ≡ true) (here : Here) (entry : IsEntry p here.entry) (passing : Passing) (right : PartsAreRight p world here passing) (line : ℕ) (f : Option Annotation) (count : Counting) (s : Statement) (counted : passing.count count s ≡ true) where
+module _ (p : Program) (world : Meaning) (allowed : Allowed) (ok : shapes_ok (shapes p) ≡ true) (here : Here) (entry : IsEntry p here.entry) (passing : Passing) (right : PartsAreRight p world allowed here passing) (line : ℕ) (f : Option Annotation) (count : Counting) (s : Statement) (counted : passing.count count s ≡ true) where
   -- a wanted formula with a term for the counter is the formula where the counter has the term's value
   pub with_counter : (k : Kind) (window : View) (n : Supply) (is : IsWindow p n window) (t : Term) (c : ℤ) (state : State) → IsStart p here.routine state
       → ((v : Valuation) → IsValuation (shapes p) v → Shows (shown p here window state) v → eval (meaning_in p world) v t ≡ Number c)
@@ -101,7 +101,7 @@ module _ (p : Program) (world : Meaning) (ok : shapes_ok (shapes p) ≡ true) (h
         wanted_with_ignores p world n here.routine kind.Preserved (counter p here count) (next_term count.direction (alone (counter p here count))) (next_ignores p world n count.direction (alone (counter p here count)) (counter_ignores p world n (routine_in p here.routine) count.variable)) f
 
     in_body : IsSupplied p world here s (record { conditions = wanted_with p here.routine kind.Preserved (counter p here count) (next_term count.direction (alone (counter p here count))) f; supply = n })
-    in_body = supplied p world here passing right s pass_s (record { conditions = wanted_with p here.routine kind.Preserved (counter p here count) (next_term count.direction (alone (counter p here count))) f; supply = n }) again_ignores
+    in_body = supplied p world allowed here passing right s pass_s (record { conditions = wanted_with p here.routine kind.Preserved (counter p here count) (next_term count.direction (alone (counter p here count))) f; supply = n }) again_ignores
 
     is_turn : IsWindow p (turn_of p here f count s n).supply window
     is_turn = window_later p n (turn_of p here f count s n).supply window in_body.later is
@@ -120,7 +120,7 @@ module _ (p : Program) (world : Meaning) (ok : shapes_ok (shapes p) ≡ true) (h
     abbrev pub GoesOn : (ℤ → Run) → Type 0
     GoesOn run = (c : ℤ) (state : State) → IsStart p here.routine state → ((h : Head) → may_change p here (For line f count s) h ≡ false → now_view p here.routine state h ≡ now_view p here.routine first_state h)
         → IsTrueFor p world (shown p here window (candidate here state count c)) (wanted_if_there p here.routine kind.Invariant f) → (choices : List Value)
-        → Reaches p world State (EndsWell p world here window (may_change p here (For line f count s)) q.conditions first_state) (run c state choices)
+        → Reaches p world allowed State (EndsWell p world here window (may_change p here (For line f count s)) q.conditions first_state) (run c state choices)
 
     -- past the end the counter takes any value
     finished : (c : ℤ) (state : State) → IsStart p here.routine state → ((h : Head) → may_change p here (For line f count s) h ≡ false → now_view p here.routine state h ≡ now_view p here.routine first_state h)
@@ -160,14 +160,14 @@ module _ (p : Program) (world : Meaning) (ok : shapes_ok (shapes p) ≡ true) (h
     -- ---- candidates
 
     pub none_goes_on : GoesOn (count_on p None here (record { invariant = f; count = count; body = s }) e)
-    none_goes_on c state start same known choices = reach_going p world _ choices
+    none_goes_on c state start same known choices = reach_going p world allowed _ choices
 
-    turn_goes_on : (level : Level) → IsRight p world here s (level.run here s) → GoesOn (level.next here (record { invariant = f; count = count; body = s }) e) → (c : ℤ) (state : State) → IsStart p here.routine state → ((h : Head) → may_change p here (For line f count s) h ≡ false → now_view p here.routine state h ≡ now_view p here.routine first_state h)
+    turn_goes_on : (level : Level) → IsRight p world allowed here s (level.run here s) → GoesOn (level.next here (record { invariant = f; count = count; body = s }) e) → (c : ℤ) (state : State) → IsStart p here.routine state → ((h : Head) → may_change p here (For line f count s) h ≡ false → now_view p here.routine state h ≡ now_view p here.routine first_state h)
         → IsTrueFor p world (shown p here window (candidate here state count c)) (wanted_if_there p here.routine kind.Invariant f) → is_past count.direction e c ≡ false → (more : List Value)
-        → Reaches p world State (EndsWell p world here window (may_change p here (For line f count s)) q.conditions first_state) (and_then (level.run here s (candidate here state count c) more) (λ after last. level.next here (record { invariant = f; count = count; body = s }) e (next_candidate count.direction c) after last))
+        → Reaches p world allowed State (EndsWell p world here window (may_change p here (For line f count s)) q.conditions first_state) (and_then (level.run here s (candidate here state count c) more) (λ after last. level.next here (record { invariant = f; count = count; body = s }) e (next_candidate count.direction c) after last))
     turn_goes_on level body next c state start same known past more =
         let at_c = right.counts count s counted state start c in
-        reach_then p world _ _ (level.run here s (candidate here state count c) more) _
+        reach_then p world allowed _ _ (level.run here s (candidate here state count c) more) _
         (body (record { conditions = wanted_with p here.routine kind.Preserved (counter p here count) (next_term count.direction (alone (counter p here count))) f; supply = n }) again_ignores window is (candidate here state count c) at_c.is_start (within_turn c state start same known past) more)
         (λ after x last.
         let shows_c : now_view p here.routine after (counter p here count) ≡ Some (Number c) = x.same (counter p here count) (right.left_alone count s counted) ∙ at_c.shows in
@@ -176,17 +176,17 @@ module _ (p : Program) (world : Meaning) (ok : shapes_ok (shapes p) ≡ true) (h
         (λ v val shows. next-is (meaning_in p world) v count.direction (counter p here count) c refl (shows (counter p here count) (Number c) (in_first _ (window (counter p here count)) (Number c) (in_first _ (here.entry (counter p here count)) (Number c) shows_c))))
         x.true_there) last)
 
-    pub some_goes_on : (level : Level) → IsRight p world here s (level.run here s) → GoesOn (level.next here (record { invariant = f; count = count; body = s }) e) → GoesOn (count_on p (Some level) here (record { invariant = f; count = count; body = s }) e)
+    pub some_goes_on : (level : Level) → IsRight p world allowed here s (level.run here s) → GoesOn (level.next here (record { invariant = f; count = count; body = s }) e) → GoesOn (count_on p (Some level) here (record { invariant = f; count = count; body = s }) e)
     some_goes_on level body next c state start same known choices =
         let at_c = right.counts count s counted state start c in
-        reach_then p world _ _ (reaches p here f (candidate here state count c) state choices) _
-        (reach_invariant p world ok here entry passing right State f n window is (candidate here state count c) at_c.is_start known state choices)
-        (λ now at rest. subst (λ (x : State). Reaches p world State (EndsWell p world here window (may_change p here (For line f count s)) q.conditions first_state) (cond (is_past count.direction e c) (and_then (take_choice (shapes p) sort.Int rest) (λ v last. ends (put x (place_of here.routine x count.variable) v) last)) (and_then (stops_unless (counter_takes p here (record { invariant = f; count = count; body = s }) c) fault.Range (put x (place_of here.routine x count.variable) (Number c)) rest) (λ set more. and_then (level.run here s set more) (λ after last. level.next here (record { invariant = f; count = count; body = s }) e (next_candidate count.direction c) after last))))) (sym at)
-        (choose (Reaches p world State (EndsWell p world here window (may_change p here (For line f count s)) q.conditions first_state)) (is_past count.direction e c) _ _
-        (λ past. reach_then p world _ _ (take_choice (shapes p) sort.Int rest) _ (reach_number p world rest)
-        (λ v number last. reach_ends p world _ (put state (place_of here.routine state count.variable) v) last
+        reach_then p world allowed _ _ (reaches p here f (candidate here state count c) state choices) _
+        (reach_invariant p world allowed ok here entry passing right State f n window is (candidate here state count c) at_c.is_start known state choices)
+        (λ now at rest. subst (λ (x : State). Reaches p world allowed State (EndsWell p world here window (may_change p here (For line f count s)) q.conditions first_state) (cond (is_past count.direction e c) (and_then (take_choice (shapes p) sort.Int rest) (λ v last. ends (put x (place_of here.routine x count.variable) v) last)) (and_then (stops_unless (counter_takes p here (record { invariant = f; count = count; body = s }) c) fault.Range (put x (place_of here.routine x count.variable) (Number c)) rest) (λ set more. and_then (level.run here s set more) (λ after last. level.next here (record { invariant = f; count = count; body = s }) e (next_candidate count.direction c) after last))))) (sym at)
+        (choose (Reaches p world allowed State (EndsWell p world here window (may_change p here (For line f count s)) q.conditions first_state)) (is_past count.direction e c) _ _
+        (λ past. reach_then p world allowed _ _ (take_choice (shapes p) sort.Int rest) _ (reach_number p world allowed right.faults.no_choice rest)
+        (λ v number last. reach_ends p world allowed _ (put state (place_of here.routine state count.variable) v) last
         (subst (λ (u : Value). EndsWell p world here window (may_change p here (For line f count s)) q.conditions first_state (put state (place_of here.routine state count.variable) u)) (sym number) (finished c state start same known past (number_of v)))))
-        (λ within. reach_then p world _ _ (stops_unless (counter_takes p here (record { invariant = f; count = count; body = s }) c) fault.Range (candidate here state count c) rest) _
-        (reach_unless p world (λ x. x ≡ candidate here state count c) (counter_takes p here (record { invariant = f; count = count; body = s }) c) fault.Range (candidate here state count c) rest refl)
-        (λ set at more. subst (λ (x : State). Reaches p world State (EndsWell p world here window (may_change p here (For line f count s)) q.conditions first_state) (and_then (level.run here s x more) (λ after last. level.next here (record { invariant = f; count = count; body = s }) e (next_candidate count.direction c) after last))) (sym at)
+        (λ within. reach_then p world allowed _ _ (stops_unless (counter_takes p here (record { invariant = f; count = count; body = s }) c) fault.Range (candidate here state count c) rest) _
+        (reach_unless p world allowed (λ x. x ≡ candidate here state count c) (counter_takes p here (record { invariant = f; count = count; body = s }) c) fault.Range (candidate here state count c) rest right.faults.out_of_range refl)
+        (λ set at more. subst (λ (x : State). Reaches p world allowed State (EndsWell p world here window (may_change p here (For line f count s)) q.conditions first_state) (and_then (level.run here s x more) (λ after last. level.next here (record { invariant = f; count = count; body = s }) e (next_candidate count.direction c) after last))) (sym at)
         (turn_goes_on level body next c state start same known within more)))))

@@ -29,7 +29,7 @@ use Rattle.spv_meaning.specs.Starts.{IsStart}
 use Rattle.spv_meaning.specs.Correct.{valuation_of, met_holds, all_hold}
 use Rattle.spv_meaning.specs.Before.{all_assuming, assuming_if_there, wanted, annotation_term, wanted_if_there}
 use Rattle.spv_rule_soundness.specs.statements.Truth.{is_new, IsWindow, IsEntry, meaning_in, shown, IsTrueFor, TermIgnores}
-use Rattle.spv_rule_soundness.specs.statements.Runs.{Reaches}
+use Rattle.spv_rule_soundness.specs.statements.Runs.{Allowed, Reaches}
 use Rattle.spv_rule_soundness.proofs.statements.Lists.{first_part, second_part, assumed}
 use Rattle.spv_rule_soundness.proofs.statements.Views.{within, laid_over}
 use Rattle.spv_rule_soundness.proofs.statements.States.{shown_fit}
@@ -44,45 +44,95 @@ jump_no_end label state x e = cc
 going_no_end : {A : Type 0} (x : A) → Going ≡ Ended x → ⊥
 going_no_end x e = cc
 
+stopped_no_jump : {A : Type 0} (x : End A) (f : Fault) (label : ℕ) (state : State) → x ≡ Stopped f → x ≡ Jump label state → ⊥
+stopped_no_jump x f label state d e = cc
+
+going_no_stop : {A : Type 0} (x : End A) (f : Fault) → x ≡ Going → x ≡ Stopped f → ⊥
+going_no_stop x f d e = cc
+
+going_no_jump : {A : Type 0} (x : End A) (label : ℕ) (state : State) → x ≡ Going → x ≡ Jump label state → ⊥
+going_no_jump x label state d e = cc
+
 ended_is : {A : Type 0} {x y : A} → Ended x ≡ Ended y → x ≡ y
 ended_is {A} {x} {y} e = cc
+
+stopped_is : {A : Type 0} (x : End A) (f g : Fault) → x ≡ Stopped f → x ≡ Stopped g → f ≡ g
+stopped_is x f g d e = cc
+
+label_is : {A : Type 0} (x : End A) (k l : ℕ) (s t : State) → x ≡ Jump k s → x ≡ Jump l t → k ≡ l
+label_is x k l s t d e = cc
+
+state_is : {A : Type 0} (x : End A) (k l : ℕ) (s t : State) → x ≡ Jump k s → x ≡ Jump l t → s ≡ t
+state_is x k l s t d e = cc
 
 all_hold-append : (p : Program) (world : Meaning) (xs ys : List Met) → all_hold p world xs ≡ true → all_hold p world ys ≡ true → all_hold p world (xs ++ ys) ≡ true
 all_hold-append p world [] ys a b = b
 all_hold-append p world (x ∷ xs) ys a b = both_true (left_true (met_holds p world x) _ a) (all_hold-append p world xs ys (right_true (met_holds p world x) _ a) b)
 
-module _ (p : Program) (world : Meaning) where
-  pub reach_then : {A B : Type 0} (P : A → Type 0) (Q : B → Type 0) (o : Outcome A) (next : A → List Value → Outcome B) → Reaches p world A P o → ((x : A) → P x → (rest : List Value) → Reaches p world B Q (next x rest)) → Reaches p world B Q (and_then o next)
-  reach_then P Q o next first later = by_end o.end o.met o.rest first.holds first.ended
+module _ (p : Program) (world : Meaning) (allowed : Allowed) where
+  stopped_with : {A : Type 0} (P : A → Type 0) (f : Fault) (met : List Met) (rest : List Value) → all_hold p world met ≡ true → allowed.fault f ≡ true → Reaches p world allowed A P (record { end = Stopped f; met = met; rest = rest })
+  stopped_with P f met rest holds passes = record {
+    holds = holds;
+    ended = λ y e. absurd (stopped_no_end f y e);
+    stopped = λ g e. subst (λ h. allowed.fault h ≡ true) (stopped_is (Stopped f) f g refl e) passes;
+    jumped = λ l s e. absurd (stopped_no_jump (Stopped f) f l s refl e);
+  }
+
+  ended_with : {A : Type 0} (P : A → Type 0) (x : A) (met : List Met) (rest : List Value) → all_hold p world met ≡ true → P x → Reaches p world allowed A P (record { end = Ended x; met = met; rest = rest })
+  ended_with P x met rest holds passes = record {
+    holds = holds;
+    ended = λ y e. subst P (ended_is e) passes;
+    stopped = λ f e. absurd (stopped_no_end f x (sym e));
+    jumped = λ l s e. absurd (jump_no_end l s x (sym e));
+  }
+
+  pub reach_then : {A B : Type 0} (P : A → Type 0) (Q : B → Type 0) (o : Outcome A) (next : A → List Value → Outcome B) → Reaches p world allowed A P o → ((x : A) → P x → (rest : List Value) → Reaches p world allowed B Q (next x rest)) → Reaches p world allowed B Q (and_then o next)
+  reach_then P Q o next first later = by_end o.end o.met o.rest first.holds first.ended first.stopped first.jumped
     where
-      by_end : (e : End _) (met : List Met) (rest : List Value) → all_hold p world met ≡ true → ((x : _) → e ≡ Ended x → P x) → Reaches p world _ Q (go_on e met rest next)
-      by_end (Ended x) met rest holds passes =
+      by_end : (e : End _) (met : List Met) (rest : List Value) → all_hold p world met ≡ true → ((x : _) → e ≡ Ended x → P x) → ((f : Fault) → e ≡ Stopped f → allowed.fault f ≡ true) → ((label : ℕ) (state : State) → e ≡ Jump label state → allowed.jump label state ≡ true) → Reaches p world allowed _ Q (go_on e met rest next)
+      by_end (Ended x) met rest holds passes stopped jumped =
           let second = later x (passes x refl) rest in
-          record { holds = all_hold-append p world met (next x rest).met holds second.holds; ended = second.ended }
-      by_end (Stopped f) met rest holds passes = record { holds = holds; ended = λ y e. absurd (stopped_no_end f y e) }
-      by_end (Jump label state) met rest holds passes = record { holds = holds; ended = λ y e. absurd (jump_no_end label state y e) }
-      by_end Going met rest holds passes = record { holds = holds; ended = λ y e. absurd (going_no_end y e) }
+          record { holds = all_hold-append p world met (next x rest).met holds second.holds; ended = second.ended; stopped = second.stopped; jumped = second.jumped }
+      by_end (Stopped f) met rest holds passes stopped jumped = stopped_with Q f met rest holds (stopped f refl)
+      by_end (Jump label state) met rest holds passes stopped jumped = record {
+        holds = holds;
+        ended = λ y e. absurd (jump_no_end label state y e);
+        stopped = λ f e. absurd (stopped_no_jump (Jump label state) f label state e refl);
+        jumped = λ l s e. subst (λ k. allowed.jump k s ≡ true) (label_is (Jump label state) label l state s refl e) (subst (λ t. allowed.jump label t ≡ true) (state_is (Jump label state) label l state s refl e) (jumped label state refl));
+      }
+      by_end Going met rest holds passes stopped jumped = record {
+        holds = holds;
+        ended = λ y e. absurd (going_no_end y e);
+        stopped = λ f e. absurd (going_no_stop Going f refl e);
+        jumped = λ l s e. absurd (going_no_jump Going l s refl e);
+      }
 
-  pub reach_ends : {A : Type 0} (P : A → Type 0) (x : A) (rest : List Value) → P x → Reaches p world A P (ends x rest)
-  reach_ends P x rest passes = record { holds = refl; ended = λ y e. subst P (ended_is e) passes }
+  pub reach_ends : {A : Type 0} (P : A → Type 0) (x : A) (rest : List Value) → P x → Reaches p world allowed A P (ends x rest)
+  reach_ends P x rest passes = ended_with P x [] rest refl passes
 
-  pub reach_stops : {A : Type 0} (P : A → Type 0) (f : Fault) (rest : List Value) → Reaches p world A P (stops f rest)
-  reach_stops P f rest = record { holds = refl; ended = λ y e. absurd (stopped_no_end f y e) }
+  pub reach_stops : {A : Type 0} (P : A → Type 0) (f : Fault) (rest : List Value) → allowed.fault f ≡ true → Reaches p world allowed A P (stops f rest)
+  reach_stops P f rest passes = stopped_with P f [] rest refl passes
 
-  pub reach_going : {A : Type 0} (P : A → Type 0) (rest : List Value) → Reaches p world A P (is_going rest)
-  reach_going P rest = record { holds = refl; ended = λ y e. absurd (going_no_end y e) }
+  pub reach_going : {A : Type 0} (P : A → Type 0) (rest : List Value) → Reaches p world allowed A P (is_going rest)
+  reach_going P rest = record {
+    holds = refl;
+    ended = λ y e. absurd (going_no_end y e);
+    stopped = λ f e. absurd (going_no_stop Going f refl e);
+    jumped = λ l s e. absurd (going_no_jump Going l s refl e);
+  }
 
-  pub reach_unless : {A : Type 0} (P : A → Type 0) (test : Bool) (f : Fault) (x : A) (rest : List Value) → P x → Reaches p world A P (stops_unless test f x rest)
-  reach_unless P true f x rest passes = reach_ends P x rest passes
-  reach_unless P false f x rest passes = reach_stops P f rest
+  pub reach_unless : {A : Type 0} (P : A → Type 0) (test : Bool) (f : Fault) (x : A) (rest : List Value) → allowed.fault f ≡ true → P x → Reaches p world allowed A P (stops_unless test f x rest)
+  reach_unless P true f x rest may passes = reach_ends P x rest passes
+  reach_unless P false f x rest may passes = reach_stops P f rest may
 
-  pub reach_as : {A : Type 0} (P Q : A → Type 0) (o : Outcome A) → ((x : A) → P x → Q x) → Reaches p world A P o → Reaches p world A Q o
-  reach_as P Q o change first = record { holds = first.holds; ended = λ x e. change x (first.ended x e) }
+  pub reach_as : {A : Type 0} (P Q : A → Type 0) (o : Outcome A) → ((x : A) → P x → Q x) → Reaches p world allowed A P o → Reaches p world allowed A Q o
+  reach_as P Q o change first = record { holds = first.holds; ended = λ x e. change x (first.ended x e); stopped = first.stopped; jumped = first.jumped }
 
-  pub reach_meets : {A : Type 0} (P : A → Type 0) (m : Option Met) (x : A) (rest : List Value) → ((y : Met) → m ≡ Some y → met_holds p world y ≡ true) → P x → Reaches p world A P (meets m x rest)
+  pub reach_meets : {A : Type 0} (P : A → Type 0) (m : Option Met) (x : A) (rest : List Value) → ((y : Met) → m ≡ Some y → met_holds p world y ≡ true) → P x → Reaches p world allowed A P (meets m x rest)
   reach_meets P None x rest holds passes = reach_ends P x rest passes
-  reach_meets P (Some m) x rest holds passes = record { holds = both_true (holds m refl) refl; ended = λ y e. subst P (ended_is e) passes }
+  reach_meets P (Some m) x rest holds passes = ended_with P x (m ∷ []) rest (both_true (holds m refl) refl) passes
 
+module _ (p : Program) (world : Meaning) where
   -- ---- lists that are true
 
   pub true_first : (view : View) (xs ys : List Condition) → IsTrueFor p world view (xs ++ ys) → IsTrueFor p world view xs

@@ -34,7 +34,7 @@ use Rattle.spv_program.proofs.SortFacts.{nothing_there, some_is}
 use Rattle.spv_meaning.specs.Levels.{Here}
 use Rattle.spv_meaning.specs.Before.{Made, all_assuming, assuming_if_there, replaced, wanted, negated, annotation_term, wanted_if_there, wanted_with, wanted_entry, before_calls, renamed, standing_for, next_term, within_term, past_term, is_label, before, before_arms}
 use Rattle.spv_rule_soundness.specs.statements.Truth.{is_new, IsLater, meaning_in, Ignores, TermIgnores}
-use Rattle.spv_rule_soundness.specs.statements.Runs.{IsSupplied}
+use Rattle.spv_rule_soundness.specs.statements.Runs.{Allowed, IsSupplied}
 use Rattle.spv_rule_soundness.specs.statements.Parts.{Passing, parts_pass, arms_pass}
 use Rattle.spv_rule_soundness.specs.statements.Laws.{PartsAreRight}
 use Rattle.spv_rule_soundness.proofs.statements.Lists.{not_new, later_after, ignores_later, ignores_none, ignores_both, ignores_assuming}
@@ -177,7 +177,7 @@ calls-append here [] ys conditions = refl
 calls-append here (c ∷ xs) ys conditions =
     ap (λ rest. wanted_entry here c.line c.needs ++ assuming_if_there c.gives rest) (calls-append here xs ys conditions)
 
-module _ (p : Program) (world : Meaning) (here : Here) (passing : Passing) (right : PartsAreRight p world here passing) where
+module _ (p : Program) (world : Meaning) (allowed : Allowed) (here : Here) (passing : Passing) (right : PartsAreRight p world allowed here passing) where
   pub annotation_there : (n : Supply) (a : Option Annotation) (t : Term) → annotation_term p here.routine a ≡ Some t → TermIgnores p world n t
   annotation_there n None t e = absurd (nothing_there e)
   annotation_there n (Some a) t e = subst (TermIgnores p world n) (some_is e) (annotation_ignores p world n (routine_in p here.routine) a)

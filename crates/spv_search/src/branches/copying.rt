@@ -1,12 +1,10 @@
 // Copies of the steps of a proof, and the nodes of a proof from those of a tree.
 
-ghost use Rattle.std.specs.Prelude.{◌≡◌, map, IfOk};
+ghost use Rattle.std.specs.Prelude.{◌≡◌, IfOk};
 ghost use Rattle.spv_verdicts.specs.answers.Nodes.{proof_node, proof_nodes};
 
-use spv_atoms::{ProofNode, Split, Step};
-use spv_frac::Frac;
+use spv_atoms::{ProofNode, Split, Step, same_step};
 use spv_logic::list::List;
-use spv_term::TermId;
 use spv_verdicts::answers::SplitNode;
 use std::alloc::{AllocError, Global};
 
@@ -18,59 +16,6 @@ fn same_numbers(alloc: Global, numbers: &[u32]) -> Result<List<u32>, AllocError>
         list.push(*number)?;
     }
     Ok(list)
-}
-
-fn same_terms(alloc: Global, terms: &[TermId]) -> Result<List<TermId>, AllocError>
-    ensures { IfOk result (λ v. v ≡ terms.now) }
-{
-    let mut list = List::new(alloc);
-    for t in terms {
-        list.push(*t)?;
-    }
-    Ok(list)
-}
-
-fn same_multiples(alloc: Global, multiples: &[(Frac, u32)]) -> Result<List<(Frac, u32)>, AllocError>
-    ensures { IfOk result (λ v. v ≡ multiples.now) }
-{
-    let mut list = List::new(alloc);
-    for multiple in multiples {
-        list.push((multiple.0, multiple.1))?;
-    }
-    Ok(list)
-}
-
-fn same_step(alloc: Global, step: &Step) -> Result<Step, AllocError>
-    ensures { IfOk result (λ s. s ≡ step.now) }
-{
-    match step {
-        Step::Given(k) => Ok(Step::Given(*k)),
-        Step::Refl(t) => Ok(Step::Refl(*t)),
-        Step::Symm(i) => Ok(Step::Symm(*i)),
-        Step::Trans(i, j) => Ok(Step::Trans(*i, *j)),
-        Step::Cong(t, u, ks) => {
-            let list = same_numbers(alloc, ks.as_slice())?;
-            Ok(Step::Cong(*t, *u, list))
-        }
-        Step::Linear(relation, first, second) => {
-            let left = same_multiples(alloc, first.as_slice())?;
-            let right = same_multiples(alloc, second.as_slice())?;
-            Ok(Step::Linear(*relation, left, right))
-        }
-        Step::Schema(kind, ts, field) => {
-            let list = same_terms(alloc, ts.as_slice())?;
-            Ok(Step::Schema(*kind, list, *field))
-        }
-        Step::Rule(rule, ts) => {
-            let list = same_terms(alloc, ts.as_slice())?;
-            Ok(Step::Rule(*rule, list))
-        }
-        Step::Eval(claim, ks) => {
-            let list = same_numbers(alloc, ks.as_slice())?;
-            Ok(Step::Eval(*claim, list))
-        }
-        Step::Contra(i, j) => Ok(Step::Contra(*i, *j)),
-    }
 }
 
 fn same_steps(alloc: Global, steps: &[Step]) -> Result<List<Step>, AllocError>

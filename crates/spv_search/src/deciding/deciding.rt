@@ -9,6 +9,7 @@ ghost use Rattle.spv_verdicts.specs.answers.Views.{IsDecided};
 ghost use Rattle.spv_search.specs.deciding.Finding.{HasOpened, IsFoundFor};
 
 use crate::search;
+use spv_logic::list::List;
 use spv_term::{Condition, Terms};
 use spv_trail::search_setup::{Opened, Opening, open};
 use spv_verdicts::answers::{Decided, Limit, Limits, Verdict, Wide};
@@ -65,7 +66,7 @@ pub fn decide(
         Opening::Terms { terms, condition } => Ok(Decided {
             terms,
             condition,
-            verdict: Verdict::GaveUp(Limit::Terms(1000000)),
+            verdict: Verdict::GaveUp(List::new(alloc), Limit::Terms(1000000)),
         }),
         Opening::Wide {
             terms,
@@ -74,7 +75,7 @@ pub fn decide(
         } => Ok(Decided {
             terms,
             condition,
-            verdict: Verdict::GaveUp(Limit::Number(Wide::Form(atom))),
+            verdict: Verdict::GaveUp(List::new(alloc), Limit::Number(Wide::Form(atom))),
         }),
     }
 }

@@ -9,12 +9,12 @@ use std::test::Fail;
 
 // The report of a text where no search may split.
 fn unsplit(alloc: Global, text: &[u8]) -> Result<Report, VerifyFault> {
-    verify(alloc, text, Limits::new(0, 5000))
+    verify(alloc, text, Limits::new(0, 400, 5000))
 }
 
 // Whether a search gave up where no split was left, with one node, which is open.
 fn is_one_open_node(decided: &Decided) -> bool {
-    let Verdict::GaveUp(Limit::Splits(tree)) = &decided.verdict else {
+    let Verdict::GaveUp(_, Limit::Splits(tree)) = &decided.verdict else {
         return false;
     };
     matches!(tree.nodes(), [SplitNode::Open])
@@ -22,7 +22,7 @@ fn is_one_open_node(decided: &Decided) -> bool {
 
 // Whether a search gave up at the first step of a check.
 fn has_no_step(decided: &Decided) -> bool {
-    let Verdict::GaveUp(Limit::Pivots(evidence)) = &decided.verdict else {
+    let Verdict::GaveUp(_, Limit::Pivots(evidence)) = &decided.verdict else {
         return false;
     };
     evidence.steps().is_empty()
@@ -64,7 +64,7 @@ fn a_check_without_steps(rt: HostRuntime) -> Result<(), Fail> {
     let report = verify(
         rt.alloc(),
         b"PROGRAM v; VAR x, y: INTEGER; ENTRY x + y >= 1; EXIT FALSE; BEGIN END.",
-        Limits::new(20000, 0),
+        Limits::new(20000, 400, 0),
     )?;
     assert!(rt; matches!(report.verdicts(), [decided] if has_no_step(decided)));
     Ok(())

@@ -17,7 +17,7 @@ fn holds_its_parts(report: &Report) -> bool {
     matches!(
         (origin.kind, origin.line, origin.routine),
         (Kind::Exit, 3, None)
-    ) && (given, report.names().len()) == (0, 3)
+    ) && (given, report.named().names.len()) == (0, 3)
 }
 
 // The law of a report.

@@ -9,14 +9,14 @@ use Rattle.spv_atoms.specs.Atoms.{is_truth}
 use Rattle.spv_atoms.specs.Order.{passing}
 use Rattle.spv_proof_rules.specs.Stand.{question, In}
 use Rattle.spv_table.specs.declared.table.Table.{Table}
+use Rattle.spv_table.specs.Kept.{PairsIn}
 use Rattle.spv_table.specs.Tables.{IsTable}
 use Rattle.spv_table.specs.Values.{Outcome, is_same, value}
 use Rattle.spv_search_terms.specs.head_index.Chains.{head_of}
 use Rattle.spv_models.specs.leaf_models.Subterms.{arguments, is_listed, subterms}
 use Rattle.spv_models.specs.leaf_models.Tables.{formulas_of}
 use Rattle.spv_verdicts.specs.Verdicts.{Survives}
-use Rattle.spv_verdicts.specs.declared.answers.verdicts.Verdict.TheVariants.{Unproved}
-use Rattle.spv_verdicts.specs.answers.Views.{VerdictIn, branch_in, pairs_in}
+use Rattle.spv_verdicts.specs.answers.Views.{CasesIn, branch_in, pairs_in}
 use Rattle.spv_verdicts.specs.declared.candidate_models.trying.Tried.{Tried}
 use Rattle.spv_verdicts.specs.declared.candidate_models.trying.Tried.TheVariants.{Shown, Apart, NotShown}
 use Rattle.spv_verdicts.specs.declared.candidate_models.agreeing.Agreement.{Agreement}
@@ -110,6 +110,6 @@ ListsSubterms a c pairs = map (λ p. p.0) (pairs_in a pairs) ≡ passing is_list
 
 -- a table was tried: where it shows the condition false, the condition is unproved with it
 abbrev pub IsTried : Arena → Condition → Table → Tried → Type 0
-IsTried a c table (Shown branch) = Survives (question a c) (branch_in a branch) (pairs_in a table.values) × VerdictIn a (Unproved (record { branch = branch; table = table }))
+IsTried a c table (Shown branch) = Survives (question a c) (branch_in a branch) (pairs_in a table.values) × CasesIn a branch × PairsIn a table.values
 IsTried a c table (Apart t u) = In a t × In a u
 IsTried a c table NotShown = ⊤

@@ -8,6 +8,7 @@ use std::marker::Model;
 #[derive(Debug, Drop)]
 pub struct Limits {
     splits: u64,
+    instances: u64,
     pivots: u64,
 }
 
@@ -17,19 +18,24 @@ impl Model for Limits {
 
     ghost Value = { spec.Limits };
 
-    ghost view = { λ l. record { splits = l.splits; pivots = l.pivots } };
+    ghost view = { λ l. record { splits = l.splits; instances = l.instances; pivots = l.pivots } };
 
     ghost invariant = { λ l. l.pivots ≤ 1000000 };
 }
 
 impl Limits {
-    /// At most so many splits, and at most so many steps in each check of the tableau.
-    pub fn new(splits: u64, pivots: u64) -> Limits
+    /// At most so many splits, at most so many instances of rules, and at most so many steps in each check of the tableau.
+    pub fn new(splits: u64, instances: u64, pivots: u64) -> Limits
         requires { pivots ≤ 1000000 }
         ensures splits { result.splits ≡ splits }
+        ensures instances { result.instances ≡ instances }
         ensures pivots { result.pivots ≡ pivots }
     {
-        Limits { splits, pivots }
+        Limits {
+            splits,
+            instances,
+            pivots,
+        }
     }
 
     /// How many splits a search may make.
@@ -37,6 +43,13 @@ impl Limits {
         ensures { result ≡ self.now.splits }
     {
         self.splits
+    }
+
+    /// How many instances of rules a search may add.
+    pub fn instances(&self) -> u64
+        ensures { result ≡ self.now.instances }
+    {
+        self.instances
     }
 
     /// How many steps a check of the tableau may make.

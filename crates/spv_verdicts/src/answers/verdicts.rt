@@ -15,8 +15,29 @@ pub enum Wide {
     Form(TermId),
     /// An operation of a check of the tableau: the evidence of the check.
     Pivot(Evidence),
+    /// An operation on these two fractions in the check of a sum of this proof. No search comes to it, but a recheck may.
+    Sum(Proof, Op, Frac, Frac),
     /// An operation on these two fractions, at this term, when it is evaluated in a table.
     Value(Table, TermId, Op, Frac, Frac),
+}
+
+/// An instance of a rule: the rule's number, from 1, and the terms of its variables, in the order in which the text of its trigger first
+/// has them.
+#[derive(Debug, Drop)]
+pub struct Instance {
+    /// The rule's number.
+    pub rule: u32,
+    /// The terms.
+    pub values: List<TermId>,
+}
+
+/// A round of a search with rules: a table that falsified all so far, and the instances that were matched in it and then added.
+#[derive(Debug, Drop)]
+pub struct Round {
+    /// The table.
+    pub table: Table,
+    /// The instances, of which there is one at least.
+    pub members: List<Instance>,
 }
 
 /// Why a search gave up.
@@ -24,6 +45,8 @@ pub enum Wide {
 pub enum Limit {
     /// It made as many splits as it may: its tree.
     Splits(SplitTree),
+    /// Its rounds added more instances than it may.
+    Instances,
     /// A number does not fit.
     Number(Wide),
     /// A check of the tableau made as many steps as it may: its evidence.
@@ -39,6 +62,8 @@ pub struct Unproved {
     pub branch: List<(TermId, bool)>,
     /// A table in which each hypothesis is true and the goal is false.
     pub table: Table,
+    /// The instances of rules that were added: none where there are no rules.
+    pub instances: List<Instance>,
 }
 
 /// What a search for a proof of a condition came to.
@@ -48,8 +73,10 @@ pub enum Verdict {
     Proved(Proof),
     /// A table falsifies it.
     Unproved(Unproved),
-    /// Neither, within the limits.
-    GaveUp(Limit),
+    /// Neither, within the limits: the rounds that were made, of which there is none where there are no rules, and the limit.
+    GaveUp(List<Round>, Limit),
+    /// A proof that was handed in is not accepted for this condition. No search answers this, but a recheck may.
+    NotAccepted,
 }
 
 /// A condition, and what was decided of it.

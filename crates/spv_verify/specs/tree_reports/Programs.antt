@@ -50,7 +50,7 @@ IsTreeRefusal mode names tree r = IsWalkRefusal names tree r ⊎ ((p : Program) 
 pub record IsFramedReport (names : List (List ℕ)) (p : Program) (mode : Mode) (r : Findings) : Type 0 where
   pub framed : frame_fault p ≡ None
   pub is_on : IsReportOn p r
-  pub names_same : r.names ≡ names
+  pub names_same : r.named.names ≡ names
   pub mode_same : r.mode ≡ mode
 
 -- a report for this, with these names, on the program that a tree is
@@ -58,7 +58,7 @@ pub record IsTreeReport (names : List (List ℕ)) (tree : Tree) (mode : Mode) (r
   pub program : Program
   pub sound : IsSound names tree program
   pub is_on : IsReportOn program r
-  pub names_same : r.names ≡ names
+  pub names_same : r.named.names ≡ names
   pub mode_same : r.mode ≡ mode
 
 -- ---- what code answers: the refusal, or want of memory, which has no cause

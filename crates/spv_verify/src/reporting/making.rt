@@ -1,6 +1,6 @@
 // The report on a program is made.
 
-ghost use Rattle.std.specs.Prelude.{◌≡◌, None, IsTrue, IfErr, IfOk};
+ghost use Rattle.std.specs.Prelude.{◌≡◌, map, None, IsTrue, IfErr, IfOk};
 ghost use Rattle.spv_program.specs.Typing.{well_typed};
 ghost use Rattle.spv_effects.specs.frame_walk.FrameWalk.{frame_fault};
 ghost use Rattle.spv_rule_soundness.specs.control.Blocks.{only_control};
@@ -12,8 +12,8 @@ use spv_assign::creation_trace::GenFault;
 use spv_conditions::{conditions, is_covered};
 use spv_logic::list::List;
 use spv_logic::names::{Names, Symbol};
-use spv_program::typed::Program;
-use spv_reports::{Mode, Report, ReportFault};
+use spv_program::typed::{Program, Routine};
+use spv_reports::{Mode, ProgramNames, Report, ReportFault};
 use spv_rule_soundness::condition_sorts::law_sorted_conditions;
 use spv_term::{Condition, Terms};
 use spv_verdicts::answers::Decided;
@@ -74,26 +74,45 @@ pub fn report_on(
 ) -> Result<Report, ReportFault>
     requires typed { IsTrue (well_typed program.now) }
     requires framed { frame_fault program.now ≡ None }
-    ensures names { IfOk result (λ r. r.names ≡ names) }
+    ensures names { IfOk result (λ r. r.named.names ≡ names) }
     ensures mode { IfOk result (λ r. r.mode ≡ mode) }
     ensures program { IfOk result (IsReportOn program.now) }
     ensures fault { IfErr result (IsReportFault program.now mode) }
 {
-    let titles = match titles_of(alloc, program) {
-        Ok(titles) => titles,
+    let named = match named_by(alloc, names, program) {
+        Ok(named) => named,
         Err(_) => return Err(ReportFault::Stopped(GenFault::Memory)),
     };
     match make_parts(alloc, program, &mode) {
-        Ok(parts) => Ok(Report::new(
-            names,
-            titles,
-            parts.terms,
-            parts.conditions,
-            mode,
-            parts.verdicts,
-        )),
+        Ok(parts) => Ok(Report::new(named, parts.terms, parts.conditions, mode, parts.verdicts)),
         Err(fault) => Err(fault),
     }
+}
+
+// The names that a program gives, of which this is the table.
+fn named_by(alloc: Global, names: Names, program: &Program) -> Result<ProgramNames, AllocError>
+    ensures names { IfOk result (λ named. named.names ≡ names) }
+    ensures titles { IfOk result (λ named. named.titles ≡ program.now.titles) }
+    ensures routines { IfOk result (λ named. named.routines ≡ map (λ q. q.name) program.now.routines) }
+{
+    let titles = titles_of(alloc, program)?;
+    let routines = routine_names(alloc, program.routines.as_slice())?;
+    Ok(ProgramNames {
+        names,
+        titles,
+        routines,
+    })
+}
+
+// The names of routines.
+fn routine_names(alloc: Global, routines: &[Routine]) -> Result<List<Symbol>, AllocError>
+    ensures { IfOk result (λ names. names ≡ map (λ q. q.name) routines.now) }
+{
+    let mut names = List::new(alloc);
+    for routine in routines {
+        names.push(routine.name)?;
+    }
+    Ok(names)
 }
 
 // The first names of a program's types.

@@ -30,8 +30,8 @@ push_condition-requires-clause-in_range c =
 
 pub loop-place-preserved : goal.loop-place-preserved
 loop-place-preserved c =
-    let names = c.args.names.now in
-    let titles = c.args.titles.now in
+    let proofs = c.args.proofs in
+    let named = c.args.named.now in
     let a = c.args.terms.now in
     let k = c.loop-place.place in
     let cs = c.args.conditions.now in
@@ -39,16 +39,16 @@ loop-place-preserved c =
     let condition = c.index-conditions-place.result in
     let verdict = c.index-verdicts-place.result in
     let next : suc k ≡ k + 1 = grind (arith) in
-    let more = blocks_more names titles a 1 cs vs k condition verdict c.requires.verdicts c.loop-place-test.true in
-    let all = then_added c.args.out.now.items c.loop-place.out.items c.push_condition.new.out.items (blocks names titles 1 (conditions_of a (take k cs)) (take k vs)) (condition_lines names titles (k + 1) (condition_of a condition) verdict) c.loop-place.invariant c.in_ok-push_condition.ensures in
-    let lines : Condition → Decided → List ℕ = λ d w. condition_lines names titles (k + 1) (condition_of a d) w in
+    let more = blocks_more proofs named a 1 cs vs k condition verdict c.requires.verdicts c.loop-place-test.true in
+    let all = then_added c.args.out.now.items c.loop-place.out.items c.push_condition.new.out.items (blocks proofs named 1 (conditions_of a (take k cs)) (take k vs)) (condition_lines proofs named (k + 1) (condition_of a condition) verdict) c.loop-place.invariant c.in_ok-push_condition.ensures in
+    let lines : Condition → Decided → List ℕ = λ d w. condition_lines proofs named (k + 1) (condition_of a d) w in
     let same = ap (λ d. lines d verdict) c.index-conditions-place.is ∙ ap (lines (get_or cs k condition)) c.index-verdicts-place.is in
     all
-    ∙ ap (λ l. c.args.out.now.items ++ (blocks names titles 1 (conditions_of a (take k cs)) (take k vs) ++ l)) same
+    ∙ ap (λ l. c.args.out.now.items ++ (blocks proofs named 1 (conditions_of a (take k cs)) (take k vs) ++ l)) same
     ∙ ap (λ l. c.args.out.now.items ++ l) (sym more)
-    ∙ ap (λ m. c.args.out.now.items ++ blocks names titles 1 (conditions_of a (take m cs)) (take m vs)) next
+    ∙ ap (λ m. c.args.out.now.items ++ blocks proofs named 1 (conditions_of a (take m cs)) (take m vs)) next
 
 pub returns : goal.returns
 returns c =
     c.loop-place.invariant
-    ∙ ap (λ l. c.args.out.now.items ++ l) (blocks_all c.args.names.now c.args.titles.now c.args.terms.now 1 c.args.conditions.now c.args.verdicts.now c.loop-place.place c.requires.verdicts c.loop-place-test.false)
+    ∙ ap (λ l. c.args.out.now.items ++ l) (blocks_all c.args.proofs c.args.named.now c.args.terms.now 1 c.args.conditions.now c.args.verdicts.now c.loop-place.place c.requires.verdicts c.loop-place-test.false)

@@ -4,4 +4,4 @@ use Rattle.spv_listing.specs.Page.{blocks}
 use Rattle.spv_listing.proofs.listing.push_blocks.Given as goal
 
 abbrev pub invariant-loop-place : goal.invariant-loop-place
-invariant-loop-place l = l.out.items ≡ l.initial.out.items ++ blocks l.names l.titles 1 (conditions_of l.terms (take l.place l.conditions)) (take l.place l.verdicts)
+invariant-loop-place l = l.out.items ≡ l.initial.out.items ++ blocks l.proofs l.named 1 (conditions_of l.terms (take l.place l.conditions)) (take l.place l.verdicts)

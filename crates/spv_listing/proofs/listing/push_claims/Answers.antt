@@ -12,22 +12,21 @@ push_claim-requires c = record {
 
 pub loop-place-preserved : goal.loop-place-preserved
 loop-place-preserved c =
-    let names = c.args.names.now in
-    let titles = c.args.titles.now in
+    let named = c.args.named.now in
     let a = c.args.terms.now in
     let k = c.loop-place.place in
     let cs = c.args.conditions.now in
     let condition = c.index-conditions-place.result in
     let next : suc k ≡ k + 1 = grind (arith) in
-    let more = claims_more names titles a 1 cs k condition c.loop-place-test.true in
-    let all = then_added c.args.out.now.items c.loop-place.out.items c.push_claim.new.out.items (claims names titles 1 (conditions_of a (take k cs))) (claim_lines names titles (k + 1) (condition_of a condition)) c.loop-place.invariant c.in_ok-push_claim.ensures.lines in
-    let lines : Condition → List ℕ = λ d. claim_lines names titles (k + 1) (condition_of a d) in
+    let more = claims_more named a 1 cs k condition c.loop-place-test.true in
+    let all = then_added c.args.out.now.items c.loop-place.out.items c.push_claim.new.out.items (claims named 1 (conditions_of a (take k cs))) (claim_lines named (k + 1) (condition_of a condition)) c.loop-place.invariant c.in_ok-push_claim.ensures.lines in
+    let lines : Condition → List ℕ = λ d. claim_lines named (k + 1) (condition_of a d) in
     all
-    ∙ ap (λ l. c.args.out.now.items ++ (claims names titles 1 (conditions_of a (take k cs)) ++ l)) (ap lines c.index-conditions-place.is)
+    ∙ ap (λ l. c.args.out.now.items ++ (claims named 1 (conditions_of a (take k cs)) ++ l)) (ap lines c.index-conditions-place.is)
     ∙ ap (λ l. c.args.out.now.items ++ l) (sym more)
-    ∙ ap (λ m. c.args.out.now.items ++ claims names titles 1 (conditions_of a (take m cs))) next
+    ∙ ap (λ m. c.args.out.now.items ++ claims named 1 (conditions_of a (take m cs))) next
 
 pub returns : goal.returns
 returns c =
     c.loop-place.invariant
-    ∙ ap (λ l. c.args.out.now.items ++ l) (claims_all c.args.names.now c.args.titles.now c.args.terms.now 1 c.args.conditions.now c.loop-place.place c.loop-place-test.false)
+    ∙ ap (λ l. c.args.out.now.items ++ l) (claims_all c.args.named.now c.args.terms.now 1 c.args.conditions.now c.loop-place.place c.loop-place-test.false)

@@ -8,7 +8,7 @@ pub try_table-requires-clause-lists : goal.try_table-requires-clause-lists
 try_table-requires-clause-lists c = c.in_ok-table.ensures.lists
 
 pub returns-in-Shown : goal.returns-in-Shown
-returns-in-Shown c = found_by_trial c.args.terms.now c.args.condition.now c.in_ok-table.table c.in-Shown.branch (tried_as c.args.terms.now c.args.condition.now c.in_ok-table.table _ _ c.in-Shown.is c.in_ok-tried.ensures)
+returns-in-Shown c = found_by_trial c.args.terms.now c.args.condition.now c.in_ok-table.table c.in-Shown.branch (tried_as c.args.terms.now c.args.condition.now c.in_ok-table.table _ _ c.in-Shown.is c.in_ok-tried.ensures) _ c.new.ensures
 
 pub mend_apart-requires-clause-t : goal.mend_apart-requires-clause-t
 mend_apart-requires-clause-t c = (tried_as c.args.terms.now c.args.condition.now c.in_ok-table.table _ _ c.in-Apart.is c.in_ok-tried.ensures).0

@@ -7,4 +7,4 @@ returns-in-Proved c =
 
 pub returns-in-Open : goal.returns-in-Open
 returns-in-Open c =
-    gave_up c.args.terms.now c.args.condition.now c.args.limits.now c.args.branches c.requires.within _ (rw c.in-Open.is at c.in_ok-finished.ensures.finished) (rw c.in-Open.is at c.in_ok-finished.ensures.within c.args.terms.now c.requires.within.terms_in)
+    gave_up c.args.terms.now c.args.condition.now c.args.limits.now c.args.branches c.requires.within _ (rw c.in-Open.is at c.in_ok-finished.ensures.finished) (rw c.in-Open.is at c.in_ok-finished.ensures.within c.args.terms.now c.requires.within.terms_in) _ c.new.ensures

@@ -7,7 +7,7 @@ surviving-requires-clause-values c = table_in c.args.terms.now c.args.condition.
 pub returns-in-Ok-Some : goal.returns-in-Ok-Some
 returns-in-Ok-Some c =
     found_unproved c.args.terms.now c.args.condition.now c.args.both.now c.args.subterms.now c.args.listed.now c.args.table c.requires.listed c.requires.state c.requires.table c.law_full_state.ensures.unproved _
-    (rw c.in-Ok-Some.field-0-is at c.in-Ok-Some.ensures.shown)
+    (rw c.in-Ok-Some.field-0-is at c.in-Ok-Some.ensures.shown) _ c.new.ensures
 
 pub unreachable-requires : goal.unreachable-requires
 unreachable-requires c =
@@ -17,4 +17,4 @@ unreachable-requires c =
 pub returns-in-Err-Wide : goal.returns-in-Err-Wide
 returns-in-Err-Wide c =
     found_wide c.args.terms.now c.args.condition.now c.args.both.now c.args.subterms.now c.args.listed.now c.args.table c.requires.listed c.requires.state c.requires.table c.law_wide_value.ensures _ _
-    (rw c.in-Err-Wide.field-0-is at c.in-Err-Wide.ensures.fault)
+    (rw c.in-Err-Wide.field-0-is at c.in-Err-Wide.ensures.fault) _ c.new.ensures

@@ -1,4 +1,4 @@
-use Rattle.std.proofs.Common.{◌≡◌, ℕ, zero, suc, Bool, true, false, Ok, refl, ap, arith}
+use Rattle.std.proofs.Common.{◌≡◌, ℕ, zero, suc, Bool, true, false, Ok, refl, sym, ap, arith}
 use Rattle.std.specs.Prelude.{Some, None, Result, length}
 use Rattle.std.proofs.lemmas.Bool.{false≢true}
 use Rattle.spv_verdicts.specs.Examples as example
@@ -15,22 +15,31 @@ zero_is : (n : ℕ) → zero ≡ suc n → ⊥
 zero_is n e = omega (arith)
 
 pub returns-clause-expected : goal.returns-clause-expected
-returns-clause-expected c a = survives-here
+returns-clause-expected c a = record { survives = survives-here; no_instances = refl }
 
 pub returns-clause-other_branch : goal.returns-clause-other_branch
-returns-clause-other_branch c a v = false≢true (one_truth false true _ v.falsifies.goal_false (v.truths 0 (example.p, true) refl))
+returns-clause-other_branch c a v = false≢true (one_truth false true _ v.survives.falsifies.goal_false (v.survives.truths 0 (example.p, true) refl))
 
 pub returns-clause-no_branch : goal.returns-clause-no_branch
-returns-clause-no_branch c a v = zero_is 0 (ap length v.atoms)
+returns-clause-no_branch c a v = zero_is 0 (ap length v.survives.atoms)
 
 pub returns-clause-true_table : goal.returns-clause-true_table
-returns-clause-true_table c a v = false≢true (one_truth false true _ v.falsifies.goal_false refl)
+returns-clause-true_table c a v = false≢true (one_truth false true _ v.survives.falsifies.goal_false refl)
 
 pub returns-clause-no_table : goal.returns-clause-no_table
-returns-clause-no_table c a v = zero_is 0 (ap length v.falsifies.lists)
+returns-clause-no_table c a v = zero_is 0 (ap length v.survives.falsifies.lists)
 
 pub returns-clause-few_terms : goal.returns-clause-few_terms
-returns-clause-few_terms c a v = omega (arith, v.limit)
+returns-clause-few_terms c a v = omega (arith, v.reached.limit)
 
 pub returns-clause-no_relation : goal.returns-clause-no_relation
-returns-clause-no_relation c a v = none_is v.sides v.are
+returns-clause-no_relation c a v = none_is v.reached.sides v.reached.are
+
+pub returns-clause-with_instance : goal.returns-clause-with_instance
+returns-clause-with_instance c a v = zero_is 0 (sym (ap length v.no_instances))
+
+pub returns-clause-no_more_instances : goal.returns-clause-no_more_instances
+returns-clause-no_more_instances c a v = v.reached
+
+pub returns-clause-not_accepted : goal.returns-clause-not_accepted
+returns-clause-not_accepted c a v = v

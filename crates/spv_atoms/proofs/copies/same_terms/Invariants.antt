@@ -1,5 +1,5 @@
 use Rattle.std.proofs.Common.{◌≡◌, take}
-use Rattle.spv_derivations.proofs.derivation.copying.same_terms.Given as goal
+use Rattle.spv_atoms.proofs.copies.same_terms.Given as goal
 
 abbrev pub invariant-loop-t : goal.invariant-loop-t
 invariant-loop-t l = l.list ≡ take l.t-index l.ts

@@ -1,5 +1,0 @@
-use Rattle.std.proofs.Common.{◌≡◌, take}
-use Rattle.spv_search.proofs.branches.copying.same_terms.Given as goal
-
-abbrev pub invariant-loop-t : goal.invariant-loop-t
-invariant-loop-t l = l.list ≡ take l.t-index l.terms
