@@ -43,7 +43,7 @@ use Rattle.spv_meaning.specs.Evaluation.{Got, Fixed, gives, calculate, calculate
 use Rattle.spv_meaning.specs.Before.{wanted_entry, assuming_if_there, before_calls}
 use Rattle.spv_rule_soundness.specs.evaluation.Laws.{root_seen, uses_seen}
 use Rattle.spv_rule_soundness.specs.statements.Truth.{meaning_in, shown}
-use Rattle.spv_rule_soundness.specs.statements.Runs.{Reaches}
+use Rattle.spv_rule_soundness.specs.statements.Runs.{all_allowed, Reaches}
 use Rattle.spv_rule_soundness.proofs.evaluation.Values.{Stands, seen_left, seen_right, same_types, target_is, sides, truth_worth, arithmetic_worth, comparison_worth, connective_worth, element_sorted, field_sorted, element_at, field_stands, cell_there, got_is}
 use Rattle.spv_rule_soundness.proofs.statements.Reaching.{reach_going, reach_as, true_first, true_second}
 use Rattle.spv_preservation.proofs.Expressions.{is_callee}
@@ -113,13 +113,13 @@ module _ (p : Program) (world : Meaning) (here : Here) (below : Option Level) (s
   Before n window calls wanted = IsTrueBefore p world here state n window calls wanted
 
   abbrev Gives : Supply → Valued → View → List Condition → Outcome Got → Type 0
-  Gives n v window wanted o = Reaches p world Got (Widely p world here state n v.supply window wanted Got (IsWorth p symbols here state v.term)) o
+  Gives n v window wanted o = Reaches p world all_allowed Got (Widely p world here state n v.supply window wanted Got (IsWorth p symbols here state v.term)) o
 
   abbrev Fixes : Supply → Placed → TypeId → View → List Condition → Outcome Fixed → Type 0
-  Fixes n d t window wanted o = Reaches p world Fixed (Widely p world here state n d.supply window wanted Fixed (IsFixedAt p symbols here state d.target t)) o
+  Fixes n d t window wanted o = Reaches p world all_allowed Fixed (Widely p world here state n d.supply window wanted Fixed (IsFixedAt p symbols here state d.target t)) o
 
   abbrev Binds : Supply → List Formal → Argued → View → List Condition → Outcome Bound → Type 0
-  Binds n formals a window wanted o = Reaches p world Bound (Widely p world here state n a.supply window wanted Bound (IsBoundTo p symbols here state formals a.arguments)) o
+  Binds n formals a window wanted o = Reaches p world all_allowed Bound (Widely p world here state n a.supply window wanted Bound (IsBoundTo p symbols here state formals a.arguments)) o
 
   abbrev Worth : Term → View → Value → Type 0
   Worth t window w = (v : Valuation) → Knows p symbols here state window v → eval symbols v t ≡ w
@@ -145,8 +145,8 @@ module _ (p : Program) (world : Meaning) (here : Here) (below : Option Level) (s
   two_given : (a b : Expression) (n : Supply) (window : View) (wanted : List Condition) (Q : View → Got → Type 0) (next : Got → Got → List Value → Outcome Got) (now : State) (choices : List Value)
       → Gives n (valued p r n a) window (before_calls here.routine (valued p r (valued p r n a).supply b).calls wanted) (evaluate p below here a now choices)
       → ((wider : View) → Before (valued p r n a).supply wider (valued p r (valued p r n a).supply b).calls wanted → (after : State) → after ≡ state → (rest : List Value) → Gives (valued p r n a).supply (valued p r (valued p r n a).supply b) wider wanted (evaluate p below here b after rest))
-      → ((left right : Got) (wider : View) → right.state ≡ state → Worth (valued p r n a).term wider left.value → Worth (valued p r (valued p r n a).supply b).term wider right.value → Before (valued p r (valued p r n a).supply b).supply wider [] wanted → (rest : List Value) → Reaches p world Got (Widely p world here state (valued p r (valued p r n a).supply b).supply (valued p r (valued p r n a).supply b).supply wider wanted Got Q) (next left right rest))
-      → Reaches p world Got (Widely p world here state n (valued p r (valued p r n a).supply b).supply window wanted Got Q) (and_then (evaluate p below here a now choices) (λ left rest. and_then (evaluate p below here b left.state rest) (λ right last. next left right last)))
+      → ((left right : Got) (wider : View) → right.state ≡ state → Worth (valued p r n a).term wider left.value → Worth (valued p r (valued p r n a).supply b).term wider right.value → Before (valued p r (valued p r n a).supply b).supply wider [] wanted → (rest : List Value) → Reaches p world all_allowed Got (Widely p world here state (valued p r (valued p r n a).supply b).supply (valued p r (valued p r n a).supply b).supply wider wanted Got Q) (next left right rest))
+      → Reaches p world all_allowed Got (Widely p world here state n (valued p r (valued p r n a).supply b).supply window wanted Got Q) (and_then (evaluate p below here a now choices) (λ left rest. and_then (evaluate p below here b left.state rest) (λ right last. next left right last)))
   two_given a b n window wanted Q next now choices first second made =
       let v = valued p r n a in
       let w = valued p r v.supply b in
@@ -389,14 +389,14 @@ module _ (p : Program) (world : Meaning) (here : Here) (below : Option Level) (s
         let view = shown p here wider state in
         let entry = true_first p world view (wanted_entry here.routine line made.needs) (assuming_if_there made.gives wanted) widens.true_there in
         let exit = true_second p world view (wanted_entry here.routine line made.needs) (assuming_if_there made.gives wanted) widens.true_there in
-        reach_as p world _ _ (and_then (enter p level id (Some q.routine) bound rest) (λ after last. gives (result_in (Some q.routine) after.frames) (pop after) last))
+        reach_as p world all_allowed _ _ (and_then (enter p level id (Some q.routine) bound rest) (λ after last. gives (result_in (Some q.routine) after.frames) (pop after) last))
         (λ got result. with_result p world here ready.entry state q.routine a.supply wider widens.is_window a.arguments wanted exit got result)
         (ready.functions.each level is id line given q.routine t q.is q.gives here_calls choices bound
         (subst (λ (s : State). (arguments p below here q.routine.formals given s choices).end ≡ Ended bound) same ended) a.supply wider widens.is_window a.arguments binds entry rest))))
         from
       where
-        by_level : {P : Got → Type 0} {go : Level → Outcome Got} (o : Option Level) → below ≡ o → ((level : Level) → below ≡ Some level → Reaches p world Got P (go level)) → Reaches p world Got P (with_turn o choices go)
-        by_level None is later = reach_going p world _ choices
+        by_level : {P : Got → Type 0} {go : Level → Outcome Got} (o : Option Level) → below ≡ o → ((level : Level) → below ≡ Some level → Reaches p world all_allowed Got P (go level)) → Reaches p world all_allowed Got P (with_turn o choices go)
+        by_level None is later = reach_going p world all_allowed _ choices
         by_level (Some level) is later = later level is
 
     pub argued_at : (formals : List Formal) (given : Arguments) → arguments_fit p r formals given ≡ true → Shown (argument_calls given) → Seen (argument_uses (is_own r) given) → (n : Supply) (window : View) (wanted : List Condition) → Before n window (argued p r n given).calls wanted → (now : State) → now ≡ state → (choices : List Value) → Binds n formals (argued p r n given) window wanted (arguments p below here formals given now choices)

@@ -47,7 +47,7 @@ use Rattle.spv_meaning.specs.Before.{wanted_entry}
 use Rattle.spv_preservation.proofs.Calls.{routine_right}
 use Rattle.spv_preservation.proofs.Expressions.{is_callee}
 use Rattle.spv_rule_soundness.specs.statements.Truth.{IsWindow, IsEntry, meaning_in, shown, IsTrueFor}
-use Rattle.spv_rule_soundness.specs.statements.Runs.{Reaches}
+use Rattle.spv_rule_soundness.specs.statements.Runs.{all_allowed, Reaches}
 use Rattle.spv_rule_soundness.specs.statements.Laws.{below}
 use Rattle.spv_rule_soundness.proofs.evaluation.Settings.{forms_right}
 use Rattle.spv_rule_soundness.proofs.statements.Views.{within, laid_over}
@@ -68,18 +68,18 @@ use Rattle.spv_call_evaluation.proofs.Callees.{entry_uses, exit_uses, result_fit
 
 -- variables that begin with choices reach nothing
 module _ (p : Program) (world : Meaning) where
-  chosen_reaches : (names : List (Symbol × TypeId)) (choices : List Value) → Reaches p world (List (Symbol × Binding)) (λ own. Unit {0}) (choose_all p names choices)
-  chosen_reaches [] choices = reach_ends p world _ [] choices tt
+  chosen_reaches : (names : List (Symbol × TypeId)) (choices : List Value) → Reaches p world all_allowed (List (Symbol × Binding)) (λ own. Unit {0}) (choose_all p names choices)
+  chosen_reaches [] choices = reach_ends p world all_allowed _ [] choices tt
   chosen_reaches (n ∷ names) choices =
-      reach_then p world (λ v. Unit {0}) _ (take_choice (shapes p) (sort_of p.forms n.1) choices) _ (taken (sort_of p.forms n.1) choices)
-      (λ v done rest. reach_then p world (λ own. Unit {0}) _ (choose_all p names rest) _ (chosen_reaches names rest) (λ others done last. reach_ends p world _ _ last tt))
+      reach_then p world all_allowed (λ v. Unit {0}) _ (take_choice (shapes p) (sort_of p.forms n.1) choices) _ (taken (sort_of p.forms n.1) choices)
+      (λ v done rest. reach_then p world all_allowed (λ own. Unit {0}) _ (choose_all p names rest) _ (chosen_reaches names rest) (λ others done last. reach_ends p world all_allowed _ _ last tt))
     where
-      by_fit : (v : Value) (rest : List Value) (b : Bool) → Reaches p world Value (λ v. Unit {0}) (cond b (ends v rest) (stops fault.Choice (v ∷ rest)))
-      by_fit v rest true = reach_ends p world _ v rest tt
-      by_fit v rest false = reach_stops p world _ fault.Choice (v ∷ rest)
+      by_fit : (v : Value) (rest : List Value) (b : Bool) → Reaches p world all_allowed Value (λ v. Unit {0}) (cond b (ends v rest) (stops fault.Choice (v ∷ rest)))
+      by_fit v rest true = reach_ends p world all_allowed _ v rest tt
+      by_fit v rest false = reach_stops p world all_allowed _ fault.Choice (v ∷ rest) refl
 
-      taken : (s : Sort) (choices : List Value) → Reaches p world Value (λ v. Unit {0}) (take_choice (shapes p) s choices)
-      taken s [] = reach_stops p world _ fault.Choice []
+      taken : (s : Sort) (choices : List Value) → Reaches p world all_allowed Value (λ v. Unit {0}) (take_choice (shapes p) s choices)
+      taken s [] = reach_stops p world all_allowed _ fault.Choice [] refl
       taken s (v ∷ rest) = by_fit v rest (fits (shapes p) v s)
 
 -- ---- a call
@@ -179,7 +179,7 @@ module _ (p : Program) (f : IsFramed p) (world : Meaning) (here : Here) (entry :
       right : CorrectWith p world (Some id) k
       right = correct.each (Some id) (ap is_some there) k (omega arith)
 
-      body : (rest : List Value) → Reaches p world State (Ran own) (run_body (level p k) (begun p (Some id) (push id (bound.names ++ own) state)) q.body (push id (bound.names ++ own) state) rest)
+      body : (rest : List Value) → Reaches p world all_allowed State (Ran own) (run_body (level p k) (begun p (Some id) (push id (bound.names ++ own) state)) q.body (push id (bound.names ++ own) state) rest)
       body rest =
           let s = push id (bound.names ++ own) state in
           let same : body_of p (Some id) ≡ q.body = ap routine_body there in
@@ -190,16 +190,18 @@ module _ (p : Program) (f : IsFramed p) (world : Meaning) (here : Here) (entry :
               popped = function_alone p f id q there t result s began.right k rest after e;
               exit = sym (ap (λ o. all_hold p world (routine_exit p (begun p (Some id) s) o after)) there) ∙ right.ended s starts rest after (subst (λ b. (run_body (level p k) (begun p (Some id) s) b s rest).end ≡ Ended after) (sym same) e);
             };
+            stopped = λ f e. refl;
+            jumped = λ label at e. refl;
           }
 
-      routine : (rest : List Value) → Reaches p world State (Ran own) (run_routine p (level p k) id q (push id (bound.names ++ own) state) rest)
+      routine : (rest : List Value) → Reaches p world all_allowed State (Ran own) (run_routine p (level p k) id q (push id (bound.names ++ own) state) rest)
       routine rest =
           let s = push id (bound.names ++ own) state in
-          reach_then p world (λ x. x ≡ s) (Ran own) (meets (option_map (reached_entry p (begun p (Some id) s) q s) q.entry) s rest) _
-          (reach_meets p world (λ x. x ≡ s) (option_map (reached_entry p (begun p (Some id) s) q s) q.entry) s rest (one_holds (reached_entry p (begun p (Some id) s) q s) q.entry (entry_holds own began)) refl)
-          (λ x same last. subst (λ (x : State). Reaches p world State (Ran own) (and_then (run_body (level p k) (begun p (Some id) s) q.body x last) (λ after end. meets (option_map (reached_exit p (begun p (Some id) s) q after) q.exit) after end))) (sym same)
-          (reach_then p world (Ran own) (Ran own) (run_body (level p k) (begun p (Some id) s) q.body s last) _ (body last)
-          (λ after ran end. reach_meets p world (Ran own) (option_map (reached_exit p (begun p (Some id) s) q after) q.exit) after end (one_holds (reached_exit p (begun p (Some id) s) q after) q.exit ran.exit) ran)))
+          reach_then p world all_allowed (λ x. x ≡ s) (Ran own) (meets (option_map (reached_entry p (begun p (Some id) s) q s) q.entry) s rest) _
+          (reach_meets p world all_allowed (λ x. x ≡ s) (option_map (reached_entry p (begun p (Some id) s) q s) q.entry) s rest (one_holds (reached_entry p (begun p (Some id) s) q s) q.entry (entry_holds own began)) refl)
+          (λ x same last. subst (λ (x : State). Reaches p world all_allowed State (Ran own) (and_then (run_body (level p k) (begun p (Some id) s) q.body x last) (λ after end. meets (option_map (reached_exit p (begun p (Some id) s) q after) q.exit) after end))) (sym same)
+          (reach_then p world all_allowed (Ran own) (Ran own) (run_body (level p k) (begun p (Some id) s) q.body s last) _ (body last)
+          (λ after ran end. reach_meets p world all_allowed (Ran own) (option_map (reached_exit p (begun p (Some id) s) q after) q.exit) after end (one_holds (reached_exit p (begun p (Some id) s) q after) q.exit ran.exit) ran)))
         where
           one_holds : (g : Annotation → Met) (o : Option Annotation) → all_hold p world (met_if_there g o) ≡ true → (m : Met) → option_map g o ≡ Some m → met_holds p world m ≡ true
           one_holds g None all m e = absurd (nothing_there e)
@@ -220,16 +222,16 @@ module _ (p : Program) (f : IsFramed p) (world : Meaning) (here : Here) (entry :
             subst (λ (x : Term). holds symbols v x ≡ true) (some_is e)
             (exit_true v val shows own began after ran.is_start (ap (λ (s : State). s.variables) ran.popped) (ap (λ (s : State). s.heap) ran.popped) (value_head p q n) refl value a is (left_true _ true all))
 
-    pub function_gives : (rest : List Value) → Reaches p world Got (IsResult p world here state q n terms window) (and_then (enter p (level p k) id (Some q) bound rest) (λ after last. gives (result_in (Some q) after.frames) (pop after) last))
+    pub function_gives : (rest : List Value) → Reaches p world all_allowed Got (IsResult p world here state q n terms window) (and_then (enter p (level p k) id (Some q) bound rest) (λ after last. gives (result_in (Some q) after.frames) (pop after) last))
     function_gives rest =
-        reach_then p world Done (IsResult p world here state q n terms window) (enter p (level p k) id (Some q) bound rest) _
-        (reach_then p world _ Done (choose_all p (result_name q.name q.result ++ q.locals) rest) _
+        reach_then p world all_allowed Done (IsResult p world here state q n terms window) (enter p (level p k) id (Some q) bound rest) _
+        (reach_then p world all_allowed _ Done (choose_all p (result_name q.name q.result ++ q.locals) rest) _
         (reach_with p world _ (choose_all p (result_name q.name q.result ++ q.locals) rest) (chosen_reaches p world (result_name q.name q.result ++ q.locals) rest))
         (λ own chosen last.
         let began = began_right own rest chosen.ended in
-        reach_as p world (Ran own) Done (run_routine p (level p k) id q (push id (bound.names ++ own) bound.state) last) (λ after ran. result_given own began after ran)
-        (subst (λ (s : State). Reaches p world State (Ran own) (run_routine p (level p k) id q (push id (bound.names ++ own) s) last)) (sym binds.state_is) (routine own began last))))
-        (λ after done last. reach_ends p world _ _ last done)
+        reach_as p world all_allowed (Ran own) Done (run_routine p (level p k) id q (push id (bound.names ++ own) bound.state) last) (λ after ran. result_given own began after ran)
+        (subst (λ (s : State). Reaches p world all_allowed State (Ran own) (run_routine p (level p k) id q (push id (bound.names ++ own) s) last)) (sym binds.state_is) (routine own began last))))
+        (λ after done last. reach_ends p world all_allowed _ _ last done)
       where
         Done : State → Type 0
         Done after = IsResult p world here state q n terms window (record { value = result_in (Some q) after.frames; state = pop after })
@@ -239,6 +241,6 @@ pub functions_give : (p : Program) → IsFramed p → (world : Meaning) (here : 
 functions_give p f world here entry zero correct state start = record { each = λ level none. absurd (nothing_there none) }
 functions_give p f world here entry (suc k) correct state start = record {
   each = λ level is id line given q t found result calls choices bound ended n window fixed terms binds known rest.
-      subst (λ (l : Level). Reaches p world Got (IsResult p world here state q n terms window) (and_then (enter p l id (Some q) bound rest) (λ after last. gives (result_in (Some q) after.frames) (pop after) last))) (some_is is)
+      subst (λ (l : Level). Reaches p world all_allowed Got (IsResult p world here state q n terms window) (and_then (enter p l id (Some q) bound rest) (λ after last. gives (result_in (Some q) after.frames) (pop after) last))) (some_is is)
       (function_gives p f world here entry state start k correct id line given q t found result calls choices bound ended n window fixed terms binds known rest);
 }

@@ -51,7 +51,7 @@ module _ (p : Program) (world : Meaning) where
     alike = λ v w same. worth-same (meaning_in p world) v w h _ op ∙ ap (λ x. worth (meaning_in p world) w h (x ∷ [])) (a.alike v w same);
   }
 
-  three_ignore : (n : Supply) (h : Head) (s t u : Term) → is_variable h ≡ false → TermIgnores p world n s → TermIgnores p world n t → TermIgnores p world n u → TermIgnores p world n (ternary h s t u)
+  pub three_ignore : (n : Supply) (h : Head) (s t u : Term) → is_variable h ≡ false → TermIgnores p world n s → TermIgnores p world n t → TermIgnores p world n u → TermIgnores p world n (ternary h s t u)
   three_ignore n h s t u op a b c = record {
     alike = λ v w same.
         let m = meaning_in p world in
@@ -84,7 +84,7 @@ module _ (p : Program) (world : Meaning) where
   truth_ignores n false = record { alike = λ v w same. refl }
 
   -- a variable or class that is not fresh
-  old_variable : (n : Supply) (h : Head) → is_variable h ≡ true → is_new full_supply h ≡ false → TermIgnores p world n (alone h)
+  pub old_variable : (n : Supply) (h : Head) → is_variable h ≡ true → is_new full_supply h ≡ false → TermIgnores p world n (alone h)
   old_variable n h variable old = variable_ignores p world n h variable (not_new full_supply n h (full_first n) old)
 
   -- ---- places
@@ -231,7 +231,7 @@ module _ (p : Program) (world : Meaning) where
           subst (TermIgnores p world n) (some_is e)
           (substituted_ignores p world n pairs (as_pairs n pairs ignore) (exit_term p q a) (old_ignores p world n (exit_term p q a) (formula_old (name_at_exit p q) (λ x. start_old _ x _) a.formula)))
 
-  wanted_entry_ignores : (n : Supply) (here : Here) (line : ℕ) (o : Option Term) → ((t : Term) → o ≡ Some t → TermIgnores p world n t) → Ignores p world n (wanted_entry here.routine line o)
+  pub wanted_entry_ignores : (n : Supply) (here : Here) (line : ℕ) (o : Option Term) → ((t : Term) → o ≡ Some t → TermIgnores p world n t) → Ignores p world n (wanted_entry here.routine line o)
   wanted_entry_ignores n here line None a = ignores_none p world n
   wanted_entry_ignores n here line (Some t) a = wanted_ignores p world n here.routine kind.Entry line t (a t refl)
 
@@ -242,7 +242,7 @@ module _ (p : Program) (world : Meaning) where
     none_supplied : (n : Supply) → AreSupplied p world here n n []
     none_supplied n = record { later = λ h new. new; in_front = λ k later wanted ignores. ignores }
 
-    supplied_then : (n m k : Supply) (xs ys : List Called) → AreSupplied p world here n m xs → AreSupplied p world here m k ys → AreSupplied p world here n k (xs ++ ys)
+    pub supplied_then : (n m k : Supply) (xs ys : List Called) → AreSupplied p world here n m xs → AreSupplied p world here m k ys → AreSupplied p world here n k (xs ++ ys)
     supplied_then n m k xs ys a b = record {
       later = later_after n m k a.later b.later;
       in_front = λ l later wanted ignores. subst (Ignores p world l) (sym (calls-append here.routine xs ys wanted))

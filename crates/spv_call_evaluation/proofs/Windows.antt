@@ -16,7 +16,7 @@ use Rattle.spv_meaning.specs.Levels.{Here}
 use Rattle.spv_meaning.specs.Starts.{IsStart}
 use Rattle.spv_meaning.specs.Before.{before_calls}
 use Rattle.spv_rule_soundness.specs.statements.Truth.{IsWindow, IsEntry, meaning_in, shown, IsTrueFor}
-use Rattle.spv_rule_soundness.specs.statements.Runs.{Reaches}
+use Rattle.spv_rule_soundness.specs.statements.Runs.{all_allowed, Reaches}
 use Rattle.spv_rule_soundness.proofs.evaluation.Settings.{setting}
 use Rattle.spv_rule_soundness.proofs.statements.Views.{state_old, in_first}
 use Rattle.spv_rule_soundness.proofs.statements.Lists.{not_new, later_after}
@@ -46,21 +46,21 @@ knows_shown p typed world here entry n window is state start v val shows = recor
 
 module _ (p : Program) (world : Meaning) where
   -- a test that stops where it fails
-  pub checked : {A : Type 0} (P : A → Type 0) (test : Bool) (f : Fault) (x : A) (rest : List Value) → (test ≡ true → P x) → Reaches p world A P (stops_unless test f x rest)
-  checked P true f x rest passes = reach_ends p world P x rest (passes refl)
-  checked P false f x rest passes = reach_stops p world P f rest
+  pub checked : {A : Type 0} (P : A → Type 0) (test : Bool) (f : Fault) (x : A) (rest : List Value) → (test ≡ true → P x) → Reaches p world all_allowed A P (stops_unless test f x rest)
+  checked P true f x rest passes = reach_ends p world all_allowed P x rest (passes refl)
+  checked P false f x rest passes = reach_stops p world all_allowed P f rest refl
 
-  pub checked_then : {A B : Type 0} (Q : B → Type 0) (test : Bool) (f : Fault) (x : A) (rest : List Value) (next : A → List Value → Outcome B) → (test ≡ true → Reaches p world B Q (next x rest)) → Reaches p world B Q (and_then (stops_unless test f x rest) next)
-  checked_then Q true f x rest next later = let second = later refl in record { holds = second.holds; ended = second.ended }
-  checked_then Q false f x rest next later = reach_stops p world Q f rest
+  pub checked_then : {A B : Type 0} (Q : B → Type 0) (test : Bool) (f : Fault) (x : A) (rest : List Value) (next : A → List Value → Outcome B) → (test ≡ true → Reaches p world all_allowed B Q (next x rest)) → Reaches p world all_allowed B Q (and_then (stops_unless test f x rest) next)
+  checked_then Q true f x rest next later = let second = later refl in record { holds = second.holds; ended = second.ended; stopped = second.stopped; jumped = second.jumped }
+  checked_then Q false f x rest next later = reach_stops p world all_allowed Q f rest refl
 
   -- what ended, and that it did
   pub record Given (A : Type 0) (P : A → Type 0) (o : Outcome A) (x : A) : Type 0 where
     pub passes : P x
     pub ended : o.end ≡ Ended x
 
-  pub reach_with : {A : Type 0} (P : A → Type 0) (o : Outcome A) → Reaches p world A P o → Reaches p world A (Given A P o) o
-  reach_with P o first = record { holds = first.holds; ended = λ x e. record { passes = first.ended x e; ended = e } }
+  pub reach_with : {A : Type 0} (P : A → Type 0) (o : Outcome A) → Reaches p world all_allowed A P o → Reaches p world all_allowed A (Given A P o) o
+  reach_with P o first = record { holds = first.holds; ended = λ x e. record { passes = first.ended x e; ended = e }; stopped = first.stopped; jumped = first.jumped }
 
   module _ (here : Here) (state : State) where
     -- where nothing is called the window stays
@@ -85,18 +85,18 @@ module _ (p : Program) (world : Meaning) where
         record { is_window = from.is_window; true_there = subst (IsTrueFor p world (shown p here window state)) (calls-append here.routine xs ys wanted) from.true_there }
 
     -- something with no calls passes
-    pub gives_now : {A : Type 0} (P : View → A → Type 0) (n : Supply) (window : View) (wanted : List Condition) (x : A) (rest : List Value) → IsTrueBefore p world here state n window [] wanted → P window x → Reaches p world A (Widely p world here state n n window wanted A P) (ends x rest)
+    pub gives_now : {A : Type 0} (P : View → A → Type 0) (n : Supply) (window : View) (wanted : List Condition) (x : A) (rest : List Value) → IsTrueBefore p world here state n window [] wanted → P window x → Reaches p world all_allowed A (Widely p world here state n n window wanted A P) (ends x rest)
     gives_now P n window wanted x rest from passes =
-        reach_ends p world _ x rest (record { wider = window; widens = as_it_was n window wanted from; passes = passes })
+        reach_ends p world all_allowed _ x rest (record { wider = window; widens = as_it_was n window wanted from; passes = passes })
 
     -- one behind the other: the second begins with the window of the first
     pub gives_then : {A B : Type 0} (P : View → A → Type 0) (Q : View → B → Type 0) (n m k : Supply) (window : View) (one two : List Condition) (o : Outcome A) (next : A → List Value → Outcome B)
-        → Reaches p world A (Widely p world here state n m window one A P) o
-        → ((x : A) → o.end ≡ Ended x → (wider : View) → Widens p world here state n m window wider one → P wider x → (rest : List Value) → Reaches p world B (Widely p world here state m k wider two B Q) (next x rest))
-        → Reaches p world B (Widely p world here state n k window two B Q) (and_then o next)
+        → Reaches p world all_allowed A (Widely p world here state n m window one A P) o
+        → ((x : A) → o.end ≡ Ended x → (wider : View) → Widens p world here state n m window wider one → P wider x → (rest : List Value) → Reaches p world all_allowed B (Widely p world here state m k wider two B Q) (next x rest))
+        → Reaches p world all_allowed B (Widely p world here state n k window two B Q) (and_then o next)
     gives_then P Q n m k window one two o next first later =
-        reach_then p world _ _ o next (reach_with _ o first) (λ x given rest.
-        reach_as p world _ _ (next x rest)
+        reach_then p world all_allowed _ _ o next (reach_with _ o first) (λ x given rest.
+        reach_as p world all_allowed _ _ (next x rest)
         (λ y second. record {
           wider = second.wider;
           widens = widens_then n m k window given.passes.wider second.wider one two given.passes.widens second.widens;
@@ -106,9 +106,9 @@ module _ (p : Program) (world : Meaning) where
 
     -- and something is made of what was given
     pub gives_map : {A B : Type 0} (P : View → A → Type 0) (Q : View → B → Type 0) (n m : Supply) (window : View) (wanted : List Condition) (f : A → B) (o : Outcome A)
-        → Reaches p world A (Widely p world here state n m window wanted A P) o
+        → Reaches p world all_allowed A (Widely p world here state n m window wanted A P) o
         → ((x : A) (wider : View) → Widens p world here state n m window wider wanted → P wider x → Q wider (f x))
-        → Reaches p world B (Widely p world here state n m window wanted B Q) (and_then o (λ x rest. ends (f x) rest))
+        → Reaches p world all_allowed B (Widely p world here state n m window wanted B Q) (and_then o (λ x rest. ends (f x) rest))
     gives_map P Q n m window wanted f o first made =
-        reach_then p world _ _ o (λ x rest. ends (f x) rest) first (λ x given rest.
-        reach_ends p world _ (f x) rest (record { wider = given.wider; widens = given.widens; passes = made x given.wider given.widens given.passes }))
+        reach_then p world all_allowed _ _ o (λ x rest. ends (f x) rest) first (λ x given rest.
+        reach_ends p world all_allowed _ (f x) rest (record { wider = given.wider; widens = given.widens; passes = made x given.wider given.widens given.passes }))

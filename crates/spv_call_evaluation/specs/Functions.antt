@@ -22,7 +22,7 @@ use Rattle.spv_meaning.specs.Levels.{Here, Level, Bound, enter, pop, result_in}
 use Rattle.spv_meaning.specs.Evaluation.{Got, gives, arguments}
 use Rattle.spv_meaning.specs.Before.{wanted_entry}
 use Rattle.spv_rule_soundness.specs.statements.Truth.{IsWindow, meaning_in, shown, IsTrueFor}
-use Rattle.spv_rule_soundness.specs.statements.Runs.{Reaches}
+use Rattle.spv_rule_soundness.specs.statements.Runs.{all_allowed, Reaches}
 use Rattle.spv_frame_law.specs.Frames.{call_shown}
 use Rattle.spv_call_evaluation.specs.Lying.{IsBoundTo}
 
@@ -52,4 +52,4 @@ pub record FunctionsGive (p : Program) (world : Meaning) (here : Here) (below : 
       → (n : Supply) (window : View) → IsWindow p n window
       → (terms : List Argument) → IsBoundTo p (meaning_in p world) here state q.formals terms window bound
       → IsTrueFor p world (shown p here window state) (wanted_entry here.routine line (entry_at_call p q terms))
-      → (rest : List Value) → Reaches p world Got (IsResult p world here state q n terms window) (and_then (enter p level id (Some q) bound rest) (λ after last. gives (result_in (Some q) after.frames) (pop after) last))
+      → (rest : List Value) → Reaches p world all_allowed Got (IsResult p world here state q n terms window) (and_then (enter p level id (Some q) bound rest) (λ after last. gives (result_in (Some q) after.frames) (pop after) last))

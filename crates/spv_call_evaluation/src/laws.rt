@@ -1,6 +1,6 @@
 // What is proved of evaluations with calls, each claim the contract of a function that does nothing.
 
-ghost use Rattle.spv_call_evaluation.specs.Laws.{ExpressionsGiveTheirWorth, PlacesLieWhereTheirTermsSay, ArgumentsAreBoundToTheirTerms, ExpressionsAreRightTests, CorrectFunctionsGive, ExpressionsAreSupplied, PlacesAreSupplied, ArgumentsAreSupplied};
+ghost use Rattle.spv_call_evaluation.specs.Laws.{ExpressionsGiveTheirWorth, PlacesLieWhereTheirTermsSay, ArgumentsAreBoundToTheirTerms, ExpressionsAreRightTests, CorrectFunctionsGive, ExpressionsAreSupplied, PlacesAreSupplied, ArgumentsAreSupplied, LeavesAreSupplied};
 
 /// Expressions, places and arguments with calls in them, wherever these stand: where the functions that are called give what they
 /// promise, and the list with the calls in front is true, each annotation that is reached holds; the state is as it was; and the
@@ -14,11 +14,12 @@ pub fn law_evaluation()
 {}
 
 /// The calls of expressions, places and arguments take their fresh variables from the supply: the terms, and each list with the calls
-/// in front, have nothing to do with what the supply has still to give, where the list behind them has not.
+/// in front, have nothing to do with what the supply has still to give, where the list behind them has not; and so it is with the lists before assignments, calls and NEW.
 pub fn law_supplies()
     ensures expressions { ExpressionsAreSupplied }
     ensures places { PlacesAreSupplied }
     ensures arguments { ArgumentsAreSupplied }
+    ensures leaves { LeavesAreSupplied }
 {}
 
 /// In a well typed program that shares rightly, where every routine is correct with fewer turns, a function that is called gives what it

@@ -10,6 +10,7 @@ pub mod CallConditions
 pub mod PlaceConditions
 pub mod PlaceRuns
 pub mod EvaluationRuns
+pub mod ViewRuns
 pub mod Doubts
 pub mod TypedPrograms
 pub mod UntypedDeclarations

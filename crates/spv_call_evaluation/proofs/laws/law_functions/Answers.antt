@@ -2,6 +2,7 @@ use Rattle.std.proofs.Common.{refl}
 use Rattle.spv_program.specs.Programs.{routine_in}
 use Rattle.spv_program.specs.ExpressionTerms.{valued}
 use Rattle.spv_meaning.specs.Evaluation.{evaluate}
+use Rattle.spv_rule_soundness.specs.statements.Runs.{all_allowed}
 use Rattle.spv_rule_soundness.specs.statements.Laws.{below}
 use Rattle.spv_rule_soundness.proofs.statements.Reaching.{reach_as}
 use Rattle.spv_call_evaluation.proofs.Windows.{knows_shown}
@@ -14,7 +15,7 @@ returns-clause-functions c = functions_give
 
 pub returns-clause-tests : goal.returns-clause-tests
 returns-clause-tests c p framed world here entry e s sort calls uses turns correct n window is wanted state start from choices =
-    reach_as p world _ _ (evaluate p (below p turns) here e state choices)
+    reach_as p world all_allowed _ _ (evaluate p (below p turns) here e state choices)
     (λ got given.
     let made = given.widens in
     record {
