@@ -21,7 +21,7 @@ use Rattle.spv_program.specs.ExpressionTypes.{expression_sort, designator_type, 
 use Rattle.spv_program.specs.Typing.{statement_ok, well_typed}
 use Rattle.spv_program.proofs.SortFacts.{nothing_there, some_is}
 use Rattle.spv_meaning.specs.Places.{Binding, Frame, State}
-use Rattle.spv_meaning.specs.Outcomes.{Ended}
+use Rattle.spv_meaning.specs.Outcomes.{Jump, Ended}
 use Rattle.spv_meaning.specs.Levels.{Here, Level, Bound, enter, pop}
 use Rattle.spv_meaning.specs.Evaluation.{Got, Fixed, evaluate, fix, arguments}
 use Rattle.spv_meaning.specs.Walks.{level_over, level, run}
@@ -35,7 +35,7 @@ use Rattle.spv_preservation.proofs.Roots.{first_frame}
 use Rattle.spv_preservation.proofs.Frames.{leaves_now}
 use Rattle.spv_preservation.proofs.Calls.{BoundRight, LevelKeeps, routine_right}
 use Rattle.spv_preservation.proofs.Expressions.{binds_rightly}
-use Rattle.spv_preservation.proofs.Levels.{level_keeps}
+use Rattle.spv_preservation.proofs.Levels.{statement_jumps, level_keeps}
 use Rattle.spv_writes.specs.Writes.{Writes, without_frame}
 use Rattle.spv_writes.proofs.Lists.{or_right, any_left, any_right, any_of_two}
 use Rattle.spv_writes.proofs.Kept.{widen, unwritten}
@@ -79,6 +79,10 @@ pub statement_writes : (p : Program) → IsFramed p → (here : Here) (types : L
     → (turns : ℕ) (choices : List Value) (after : State) → (run p turns here s state choices).end ≡ Ended after → Writes p (areas_of state.frames (changed_roots p (routine_in p here.routine) s)) state after
 statement_writes p f here types inside s ok state right turns choices after ended =
     (((level_writes p f.typed (all_keep p f) turns).run here types inside s ok (changed_roots p (routine_in p here.routine) s) (changes_itself p (routine_in p here.routine) s) state right choices).holds after ended).writes
+
+pub jump_writes : (p : Program) → IsFramed p → (here : Here) (types : List FrameType) → IsIn p here.routine types → (s : Statement) → statement_ok p (routine_in p here.routine) s ≡ true → (state : State) → IsRight p types state
+    → (turns : ℕ) (choices : List Value) (label : ℕ) (at : State) → (run p turns here s state choices).end ≡ Jump label at → Writes p (areas_of state.frames (changed_roots p (routine_in p here.routine) s)) state at
+jump_writes p f here types inside s ok state right turns choices label at jumped = absurd (statement_jumps p f.typed here types inside s ok state right turns choices label at jumped)
 
 pub expression_same : (p : Program) → IsFramed p → (here : Here) (types : List FrameType) → IsIn p here.routine types → (e : Expression) (s : Sort) → expression_sort p (routine_in p here.routine) e ≡ Some s → (state : State) → IsRight p types state
     → (turns : ℕ) (choices : List Value) (got : Got) → (evaluate p (below_turns p turns) here e state choices).end ≡ Ended got → got.state ≡ state

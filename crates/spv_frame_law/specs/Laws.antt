@@ -19,7 +19,7 @@ use Rattle.spv_program.specs.ExpressionTypes.{expression_sort, designator_type, 
 use Rattle.spv_program.specs.Typing.{statement_ok, well_typed}
 use Rattle.spv_meaning.specs.Places.{Place, Binding, State, put}
 use Rattle.spv_meaning.specs.Views.{now_view}
-use Rattle.spv_meaning.specs.Outcomes.{Ended}
+use Rattle.spv_meaning.specs.Outcomes.{Ended, Jump}
 use Rattle.spv_meaning.specs.Levels.{Here, Level, Bound, choose_all, enter, push, pop}
 use Rattle.spv_meaning.specs.Evaluation.{Got, Fixed, evaluate, fix, arguments}
 use Rattle.spv_meaning.specs.Walks.{level, run}
@@ -49,6 +49,14 @@ StatementsWriteWhatTheyChange =
     → (s : Statement) → IsTrue (statement_ok p (routine_in p here.routine) s) → (state : State) → IsRight p types state
     → (turns : ℕ) (choices : List Value) (after : State) → (run p turns here s state choices).end ≡ Ended after
     → Writes p (areas_of state.frames (changed_roots p (routine_in p here.routine) s)) state after
+
+-- and so did one that ended by a jump, in the state that it jumped in; nothing jumps as long as there are no labels
+abbrev pub JumpsWriteWhatTheyChange : Type 0
+JumpsWriteWhatTheyChange =
+    (p : Program) → IsFramed p → (here : Here) (types : List FrameType) → IsIn p here.routine types
+    → (s : Statement) → IsTrue (statement_ok p (routine_in p here.routine) s) → (state : State) → IsRight p types state
+    → (turns : ℕ) (choices : List Value) (label : ℕ) (at : State) → (run p turns here s state choices).end ≡ Jump label at
+    → Writes p (areas_of state.frames (changed_roots p (routine_in p here.routine) s)) state at
 
 -- an expression leaves the state as it was, whatever functions it calls
 abbrev pub ExpressionsLeaveTheState : Type 0

@@ -1,17 +1,18 @@
 // The frame law, each claim the contract of a function that does nothing.
 
 ghost use Rattle.spv_writes.specs.Laws.{PutLeavesPlacesApart};
-ghost use Rattle.spv_frame_law.specs.Laws.{StatementsWriteWhatTheyChange, ExpressionsLeaveTheState, PlacesAreFixedInTheirAreas, ArgumentsReferIntoTheirAreas, RoutinesWriteWhatTheyMay, FunctionsChangeTheirFramesAlone, CalledRoutinesWriteWhatTheyMay, WritingKeepsApart, WritingLeavesStarts, StatementsLeaveStarts, CallsBeginInStarts, BodiesCallSo, OtherNamesShowWhatTheyDid, PutChangesOneOfTheView, BodiesChangeWhatShows, StatementsChangeWhatTheyMay};
+ghost use Rattle.spv_frame_law.specs.Laws.{StatementsWriteWhatTheyChange, JumpsWriteWhatTheyChange, ExpressionsLeaveTheState, PlacesAreFixedInTheirAreas, ArgumentsReferIntoTheirAreas, RoutinesWriteWhatTheyMay, FunctionsChangeTheirFramesAlone, CalledRoutinesWriteWhatTheyMay, WritingKeepsApart, WritingLeavesStarts, StatementsLeaveStarts, CallsBeginInStarts, BodiesCallSo, OtherNamesShowWhatTheyDid, PutChangesOneOfTheView, BodiesChangeWhatShows, StatementsChangeWhatTheyMay};
 
 /// Where a routine of a framed program has run, nothing is changed but its own frame, its VAR places and the items of its VAR groups, and
 /// there are new cells only of their types; a function changes nothing but its own frame. A statement writes in the areas of what it
-/// changes, an expression leaves the state as it was, a place is fixed in the areas of its designator's root, and VAR
+/// changes, also where it ends by a jump, an expression leaves the state as it was, a place is fixed in the areas of its designator's root, and VAR
 /// parameters refer into those of their arguments.
 pub fn law_frame()
     ensures routines { RoutinesWriteWhatTheyMay }
     ensures functions { FunctionsChangeTheirFramesAlone }
     ensures calls { CalledRoutinesWriteWhatTheyMay }
     ensures statements { StatementsWriteWhatTheyChange }
+    ensures jumps { JumpsWriteWhatTheyChange }
     ensures expressions { ExpressionsLeaveTheState }
     ensures places { PlacesAreFixedInTheirAreas }
     ensures arguments { ArgumentsReferIntoTheirAreas }

@@ -67,7 +67,7 @@ popped p t types before state leaves = record {
 
 -- ---- results
 
-result_slot : (formals : List Formal) (x : Symbol) (t : TypeId) (locals : List (Symbol × TypeId)) → list_any (same_name x) (map (λ f. f.name) formals) ≡ false → option_and_then kept_type (slot_in (map formal_slot formals ++ map own_slot ((x, t) ∷ locals)) x) ≡ Some t
+pub result_slot : (formals : List Formal) (x : Symbol) (t : TypeId) (locals : List (Symbol × TypeId)) → list_any (same_name x) (map (λ f. f.name) formals) ≡ false → option_and_then kept_type (slot_in (map formal_slot formals ++ map own_slot ((x, t) ∷ locals)) x) ≡ Some t
 result_slot [] x t locals none = ap (λ b. option_and_then kept_type (cond b (Some (own_slot (x, t))) (slot_in (map own_slot locals) x))) (eq-eqb x.0 x.0 refl)
 result_slot (f ∷ formals) x t locals none =
     ap (λ b. option_and_then kept_type (cond b (Some (formal_slot f)) (slot_in (map formal_slot formals ++ map own_slot ((x, t) ∷ locals)) x))) (other_way x f.name (left_false (same_name x f.name) _ none))

@@ -9,6 +9,8 @@ pub mod StatementConditions
 pub mod CallConditions
 pub mod PlaceConditions
 pub mod PlaceRuns
+pub mod EvaluationRuns
+pub mod ViewRuns
 pub mod Doubts
 pub mod TypedPrograms
 pub mod UntypedDeclarations

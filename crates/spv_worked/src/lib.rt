@@ -5,6 +5,7 @@
 
 pub mod conditions;
 pub mod doubts;
+pub mod evaluated;
 pub mod frame_texts;
 pub mod runs;
 pub mod typed_texts;

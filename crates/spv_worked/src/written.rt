@@ -2,6 +2,7 @@
 
 ghost use Rattle.spv_frame_law.specs.Laws.{IsFramed};
 ghost use Rattle.spv_worked.specs.CallRuns as calls;
+ghost use Rattle.spv_worked.specs.ViewRuns as views;
 ghost use Rattle.spv_worked.specs.WrittenRuns as written;
 
 /// A callee writes its VAR place inside the caller's array, and what its GLOBAL list lets it change: nothing else.
@@ -28,6 +29,16 @@ pub fn law_written_recursion()
     ensures may_change { written.AddingMayChange }
     ensures writes { written.AddingWrites }
     ensures functions { written.FunctionsLeaveTheState }
+{}
+
+/// A put at a name of a routine's view changes that name alone where the routine's names and items are apart, also where two VAR places
+/// are elements of one array; where they are one element both names change. In a cell it changes the cell's class alone.
+pub fn law_written_views()
+    ensures sees { views.FillSees }
+    ensures one_name { views.PutsChangeOneName }
+    ensures elements { views.ElementsAreApart }
+    ensures one_element { views.OneElementIsNot }
+    ensures cells { views.CellsChangeOneClass }
 {}
 
 /// The frame law is about these programs.

@@ -6,14 +6,12 @@ use Rattle.std.proofs.lemmas.Bool.{false≢true, eqb-true, eq-eqb}
 use Rattle.spv_logic.proofs.list.Tests.{left_true, right_true}
 use Rattle.spv_logic.specs.declared.names.names.Symbol.{Symbol}
 use Rattle.spv_logic.specs.declared.types.TypeId.{TypeId}
-use Rattle.spv_logic.specs.declared.types.Sort.{Sort}
+use Rattle.spv_logic.specs.declared.conditions.RoutineId.{RoutineId}
 use Rattle.spv_logic.specs.declared.types.Sort.TheVariants as sort
 use Rattle.spv_logic.specs.declared.operators.Head.{Head}
 use Rattle.spv_logic.specs.declared.operators.Head.TheVariants as head
 use Rattle.spv_logic.specs.Values.{Value, rows_in, default_in, row_at}
-use Rattle.spv_logic.specs.Terms.{Term, eval}
 use Rattle.spv_logic.specs.Shapes.{shapes_ok, sort_of_type}
-use Rattle.spv_logic.specs.Fits.{fits}
 use Rattle.spv_logic.specs.Conditions.{Meaning, Valuation, View, Shows, answers}
 use Rattle.spv_logic.proofs.Equality.{sort_eq-refl}
 use Rattle.spv_logic.proofs.Sorting.{eval-fits}
@@ -25,21 +23,20 @@ use Rattle.spv_program.specs.Programs.{Routine, Program, shapes, routine_in}
 use Rattle.spv_program.specs.Scopes.{own_names_in, is_own, name_type}
 use Rattle.spv_program.specs.Uses.{name_root}
 use Rattle.spv_program.specs.Typing.{declarations_ok, well_typed}
-use Rattle.spv_program.specs.Laws.{HasSort}
 use Rattle.spv_program.proofs.SortFacts.{nothing_there, some_is}
 use Rattle.spv_meaning.specs.Places.{HeapRow, State, row_of, look}
 use Rattle.spv_meaning.specs.Views.{place_of, sees, shown_type, of_sort, with_heap_row, class_of, now_view}
 use Rattle.spv_meaning.specs.Levels.{Here}
 use Rattle.spv_meaning.specs.Starts.{is_of_type, row_ok, heap_ok}
 use Rattle.spv_meaning.proofs.Heaps.{class_fits}
-use Rattle.spv_rule_soundness.specs.evaluation.Laws.{root_seen, Shown}
+use Rattle.spv_rule_soundness.specs.evaluation.Laws.{root_seen, Shown, Setting}
 
 -- ---- names
 
 same_names : (x y : Symbol) → same_name x y ≡ true → x ≡ y
 same_names x y h = let e = eqb-true x.0 y.0 h in λ i. record { 0 = e i }
 
-found-append : {X : Type 0} (xs ys : List (Symbol × X)) (x : Symbol) → found (xs ++ ys) x ≡ first_of (found xs x) (found ys x)
+pub found-append : {X : Type 0} (xs ys : List (Symbol × X)) (x : Symbol) → found (xs ++ ys) x ≡ first_of (found xs x) (found ys x)
 found-append [] ys x = refl
 found-append (n ∷ xs) ys x = by_case (same_name n.0 x) (found-append xs ys x)
   where
@@ -65,7 +62,7 @@ found-filter {X} test (n ∷ xs) x passes = by_name (same_name n.0 x) refl (foun
         subst (Kept (test n.0)) (sym e) (by_test here (test n.0) e later (λ is. ap test (same_names n.0 x (e ∙ is)) ∙ passes))
 
 -- a name that is seen shows, with its type
-shown : (p : Program) (r : Option Routine) (x : Symbol) (t : TypeId) → name_type p r x ≡ Some t → root_seen r (name_root (is_own r) x) ≡ true → shown_type p r x ≡ Some t
+pub shown : (p : Program) (r : Option Routine) (x : Symbol) (t : TypeId) → name_type p r x ≡ Some t → root_seen r (name_root (is_own r) x) ≡ true → shown_type p r x ≡ Some t
 shown p r x t is seen =
     found-append (own_names_in r) (filter (λ n. sees r (Variable n.0)) p.variables) x ∙ by_own (found (own_names_in r) x) is seen
   where
@@ -81,15 +78,17 @@ something p t (Some w) h = (w, refl)
 at_head : (view : View) (v : Valuation) (h : Head) (w : Value) → Shows view v → view h ≡ Some w → v h ≡ w
 at_head view v h w shows e = shows h w e
 
+-- what a name that is seen shows
+pub view_name : (p : Program) (here : Option RoutineId) (state : State) (x : Symbol) (t : TypeId) (w : Value) → name_type p (routine_in p here) x ≡ Some t → root_seen (routine_in p here) (name_root (is_own (routine_in p here)) x) ≡ true → look state (place_of here state x) ≡ Some w → now_view p here state (head.Var x (sort_of p.forms t) 0) ≡ Some w
+view_name p here state x t w is seen there =
+    ap (λ o. of_sort (option_map (sort_of p.forms) o) (sort_of p.forms t) (look state (place_of here state x))) (shown p (routine_in p here) x t is seen)
+    ∙ (ap (λ b. cond b (look state (place_of here state x)) None) (sort_eq-refl (sort_of p.forms t)) ∙ there)
+
 pub name_shown : (p : Program) (here : Here) (state : State) (v : Valuation) → Shown p here state v → (x : Symbol) (t : TypeId) → name_type p (routine_in p here.routine) x ≡ Some t → root_seen (routine_in p here.routine) (name_root (is_own (routine_in p here.routine)) x) ≡ true → look state (place_of here.routine state x) ≡ Some (v (head.Var x (sort_of p.forms t) 0))
 name_shown p here state v all x t is seen =
-    let type = shown p (routine_in p here.routine) x t is seen in
-    let holds = all.start.names x t type in
+    let holds = all.start.names x t (shown p (routine_in p here.routine) x t is seen) in
     let w = something p t (look state (place_of here.routine state x)) holds in
-    let view : now_view p here.routine state (head.Var x (sort_of p.forms t) 0) ≡ Some w.0
-    = ap (λ o. of_sort (option_map (sort_of p.forms) o) (sort_of p.forms t) (look state (place_of here.routine state x))) type
-    ∙ (ap (λ b. cond b (look state (place_of here.routine state x)) None) (sort_eq-refl (sort_of p.forms t)) ∙ w.1) in
-    w.1 ∙ ap Some (sym (at_head (now_view p here.routine state) v (head.Var x (sort_of p.forms t) 0) w.0 all.shows view))
+    w.1 ∙ ap Some (sym (at_head (now_view p here.routine state) v (head.Var x (sort_of p.forms t) 0) w.0 all.shows (view_name p here.routine state x t w.0 is seen w.1)))
 
 -- ---- cells
 
@@ -135,12 +134,6 @@ cell_shown p ok here state v all t r q seen e is =
     ∙ content p ok state.heap all.start.heap t r q e is
 
 -- ---- all together
-
--- what a valuation knows of a state: the values of the names, and the contents of the cells
-pub record Setting (p : Program) (symbols : Meaning) (v : Valuation) (here : Here) (state : State) : Type 0 where
-  pub sorted : (t : Term) (s : Sort) → HasSort p t s → fits (shapes p) (eval symbols v t) s ≡ true
-  pub named : (x : Symbol) (t : TypeId) → name_type p (routine_in p here.routine) x ≡ Some t → root_seen (routine_in p here.routine) (name_root (is_own (routine_in p here.routine)) x) ≡ true → look state (place_of here.routine state x) ≡ Some (v (head.Var x (sort_of p.forms t) 0))
-  pub cells : (t : TypeId) (r : HeapRow) (q : ℕ) → sees (routine_in p here.routine) (Class t) ≡ true → row_of state.heap q ≡ Some r → same_type r.type t ≡ true → row_at (rows_in (v (head.ClassVar t 0))) (pos q) (default_in (v (head.ClassVar t 0))) ≡ r.content
 
 pub forms_right : (p : Program) → well_typed p ≡ true → shapes_ok (shapes p) ≡ true
 forms_right p ok = right_true (list_all (form_ok p.forms) p.forms) _ (left_true (forms_ok p.forms) _ (left_true (declarations_ok p) _ ok))

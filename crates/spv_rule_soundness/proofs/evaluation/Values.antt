@@ -30,7 +30,7 @@ use Rattle.spv_program.specs.Uses.{Use, name_root, expression_uses, designator_u
 use Rattle.spv_program.specs.FormulaTypes.{is_sort, two_sorts, numbers, compared_sort}
 use Rattle.spv_program.specs.ExpressionTypes.{comparable, is_nil, may_read, expression_sort, designator_type, selected_type}
 use Rattle.spv_program.specs.Supplies.{Supply}
-use Rattle.spv_program.specs.Places.{ToElement, ToField, present}
+use Rattle.spv_program.specs.Places.{ToElement, ToField, present, further}
 use Rattle.spv_program.specs.Terms.{binary, truth, head_of_arithmetic, comparing, head_of_connective, item_head}
 use Rattle.spv_program.specs.ExpressionTerms.{Placed, valued, placed, selected, read_at, at_start, to_element, to_field, to_cell}
 use Rattle.spv_program.specs.Laws.{HasSort}
@@ -45,8 +45,7 @@ use Rattle.spv_meaning.specs.Levels.{Here, Level}
 use Rattle.spv_meaning.specs.Evaluation as run
 use Rattle.spv_meaning.specs.Evaluation.{Got, Fixed, evaluate, fix, select, calculate, calculated, divides, compare, join, is_cell_of, holds_now}
 use Rattle.spv_rule_soundness.specs.evaluation.Quiet.{Quiet, Gives}
-use Rattle.spv_rule_soundness.specs.evaluation.Laws.{root_seen, uses_seen}
-use Rattle.spv_rule_soundness.proofs.evaluation.Settings.{Setting}
+use Rattle.spv_rule_soundness.specs.evaluation.Laws.{root_seen, uses_seen, Setting}
 use Rattle.spv_rule_soundness.proofs.evaluation.Steps.{quiet_then, quiet_unless, look-further, array_step, field_step}
 
 -- ---- lists that are empty, and uses that are seen
@@ -80,16 +79,16 @@ mapped : {X Y : Type 0} (f : X → Y) (o : Option X) (y : Y) → option_map f o 
 mapped f None y e = absurd (nothing_there e)
 mapped f (Some x) y e = record { item = x; is = refl; gives = e }
 
-same_types : (t u : TypeId) → same_type t u ≡ true → t ≡ u
+pub same_types : (t u : TypeId) → same_type t u ≡ true → t ≡ u
 same_types t u h = let e = eqb-true t.0 u.0 h in λ i. record { 0 = e i }
 
 abbrev as_got : Value → State → Got
 as_got a x = record { value = a; state = x }
 
-got_is : (a b : Value) (x y : State) → a ≡ b → x ≡ y → as_got a x ≡ as_got b y
+pub got_is : (a b : Value) (x y : State) → a ≡ b → x ≡ y → as_got a x ≡ as_got b y
 got_is a b x y e f = λ i. record { value = e i; state = f i }
 
-target_is : (p : Program) (t u : TypeId) → target_of (form_at p.forms t.0) ≡ Some u → sort_of p.forms t ≡ sort.Ptr u
+pub target_is : (p : Program) (t u : TypeId) → target_of (form_at p.forms t.0) ≡ Some u → sort_of p.forms t ≡ sort.Ptr u
 target_is p t u e = by_form (form_at p.forms t.0) e
   where
     by_form : (f : TypeForm) → target_of f ≡ Some u → sort_of_form f t ≡ sort.Ptr u
@@ -97,11 +96,11 @@ target_is p t u e = by_form (form_at p.forms t.0) e
     by_form _ e = absurd (nothing_there e)
 
 -- the sides of a comparison have sorts
-record Sides (a b : Option Sort) : Type 0 where
-  left : Sort
-  right : Sort
-  left_is : a ≡ Some left
-  right_is : b ≡ Some right
+pub record Sides (a b : Option Sort) : Type 0 where
+  pub left : Sort
+  pub right : Sort
+  pub left_is : a ≡ Some left
+  pub right_is : b ≡ Some right
 
 of_two : (a b : Option Sort) (go : Sort → Sort → Option Sort) (s : Sort) → two_sorts a b go ≡ Some s → Sides a b
 of_two a b go s e = let t = two_there a b go s e in record { left = t.left; right = t.right; left_is = t.left_is; right_is = t.right_is }
@@ -116,7 +115,7 @@ of_numbers a b s e =
       right_is = is_sort-true sort.Int b (right_true (is_sort sort.Int a) _ both);
     }
 
-sides : (o : Comparison) (a b : Option Sort) (s : Sort) → compared_sort comparable o a b ≡ Some s → Sides a b
+pub sides : (o : Comparison) (a b : Option Sort) (s : Sort) → compared_sort comparable o a b ≡ Some s → Sides a b
 sides comparison.Equal a b s e = of_two a b _ s e
 sides comparison.NotEqual a b s e = of_two a b _ s e
 sides comparison.Less a b s e = of_numbers a b s e
@@ -125,18 +124,18 @@ sides comparison.Greater a b s e = of_numbers a b s e
 sides comparison.AtLeast a b s e = of_numbers a b s e
 
 module _ (symbols : Meaning) (v : Valuation) where
-  truth_worth : (b : Bool) → Truth b ≡ eval symbols v (truth b)
+  pub truth_worth : (b : Bool) → Truth b ≡ eval symbols v (truth b)
   truth_worth true = refl
   truth_worth false = refl
 
-  arithmetic_worth : (o : Arithmetic) (x y : Term) → Number (calculate o (number_of (eval symbols v x)) (number_of (eval symbols v y))) ≡ eval symbols v (binary (head_of_arithmetic o) x y)
+  pub arithmetic_worth : (o : Arithmetic) (x y : Term) → Number (calculate o (number_of (eval symbols v x)) (number_of (eval symbols v y))) ≡ eval symbols v (binary (head_of_arithmetic o) x y)
   arithmetic_worth arithmetic.Plus x y = refl
   arithmetic_worth arithmetic.Minus x y = refl
   arithmetic_worth arithmetic.Times x y = refl
   arithmetic_worth arithmetic.Div x y = refl
   arithmetic_worth arithmetic.Mod x y = refl
 
-  comparison_worth : (o : Comparison) (x y : Term) → Truth (compare o (eval symbols v x) (eval symbols v y)) ≡ eval symbols v (comparing o x y)
+  pub comparison_worth : (o : Comparison) (x y : Term) → Truth (compare o (eval symbols v x) (eval symbols v y)) ≡ eval symbols v (comparing o x y)
   comparison_worth comparison.Equal x y = refl
   comparison_worth comparison.NotEqual x y = refl
   comparison_worth comparison.Less x y = refl
@@ -144,7 +143,7 @@ module _ (symbols : Meaning) (v : Valuation) where
   comparison_worth comparison.Greater x y = refl
   comparison_worth comparison.AtLeast x y = refl
 
-  connective_worth : (o : Connective) (x y : Term) → Truth (join o (truth_of (eval symbols v x)) (truth_of (eval symbols v y))) ≡ eval symbols v (binary (head_of_connective o) x y)
+  pub connective_worth : (o : Connective) (x y : Term) → Truth (join o (truth_of (eval symbols v x)) (truth_of (eval symbols v y))) ≡ eval symbols v (binary (head_of_connective o) x y)
   connective_worth connective.And x y = refl
   connective_worth connective.Or x y = refl
 
@@ -157,29 +156,39 @@ pub record Stands (p : Program) (symbols : Meaning) (v : Valuation) (state : Sta
   pub there : look state fixed.place ≡ Some (eval symbols v (present d.target))
   pub sorted : HasSort p (present d.target) (sort_of p.forms t)
 
+-- the sorts of elements and fields
+pub element_sorted : (p : Program) (d : Placed) (i : Term) (t u : TypeId) → HasSort p (present d.target) (sort_of p.forms t) → element_of (form_at p.forms t.0) ≡ Some u → HasSort p i sort.Int → HasSort p (present (further (ToElement i) d.target)) (sort_of p.forms u)
+element_sorted p d i t u sorted element int =
+    ap (term_sort (shapes p) p.symbols) (present-further d (ToElement i))
+    ∙ sort_two (shapes p) p.symbols head.Select (present d.target) i (sort_of p.forms t) sort.Int (sort_of p.forms u) sorted int (selected_sort (shapes p) (sort_of p.forms t) (sort_of p.forms u) (element_told p t u element))
+
+pub field_sorted : (p : Program) (d : Placed) (f : Symbol) (t u : TypeId) → HasSort p (present d.target) (sort_of p.forms t) → field_of (form_at p.forms t.0) f ≡ Some u → HasSort p (present (further (ToField f) d.target)) (sort_of p.forms u)
+field_sorted p d f t u sorted field =
+    ap (term_sort (shapes p) p.symbols) (present-further d (ToField f))
+    ∙ sort_one (shapes p) p.symbols (head.Field f) (present d.target) (sort_of p.forms t) (sort_of p.forms u) sorted (field_sort_told (shapes p) (sort_of p.forms t) (sort_of p.forms u) _ (field_told p t u f field))
+
 module _ (p : Program) (symbols : Meaning) (v : Valuation) (here : Here) (state : State) (k : Setting p symbols v here state) where
-  value_now : (d : Placed) (t : TypeId) (fixed : Fixed) → Stands p symbols v state d t fixed → holds_now fixed ≡ eval symbols v (present d.target)
+  pub value_now : (d : Placed) (t : TypeId) (fixed : Fixed) → Stands p symbols v state d t fixed → holds_now fixed ≡ eval symbols v (present d.target)
   value_now d t fixed st = ap (λ x. value_or_zero (look x fixed.place)) st.state_is ∙ ap value_or_zero st.there
 
   -- a step to an element
-  element_stands : (d : Placed) (t a u : TypeId) (fixed : Fixed) (e : Expression) (got : Got) (choices : List Value) → Stands p symbols v state d t fixed → a ≡ t → element_of (form_at p.forms t.0) ≡ Some u → HasSort p (valued p (routine_in p here.routine) d.supply e).term sort.Int → got ≡ record { value = eval symbols v (valued p (routine_in p here.routine) d.supply e).term; state = state }
-      → Quiet Fixed (Stands p symbols v state (to_element d (λ m. valued p (routine_in p here.routine) m e)) u) choices (run.to_element p a fixed.place got choices)
-  element_stands d t a u fixed e got choices st same element int is =
+  pub element_at : (d : Placed) (t a u : TypeId) (fixed : Fixed) (e : Expression) (got : Got) → Stands p symbols v state d t fixed → a ≡ t → element_of (form_at p.forms t.0) ≡ Some u → HasSort p (valued p (routine_in p here.routine) d.supply e).term sort.Int → got ≡ record { value = eval symbols v (valued p (routine_in p here.routine) d.supply e).term; state = state }
+      → Stands p symbols v state (to_element d (λ m. valued p (routine_in p here.routine) m e)) u (run.further (IndexStep (number_of got.value)) (unwrap_or (element_of (form_at p.forms a.0)) a) fixed.place got.state)
+  element_at d t a u fixed e got st same element int is =
       let i = (valued p (routine_in p here.routine) d.supply e).term in
       let told = element_told p t u element in
       let whole = eval symbols v (present d.target) in
-      quiet_unless _ (takes_index p.forms a got.value) fault.Index _ choices (λ passed. record {
+      record {
         state_is = ap (λ g. g.state) is;
         type_is = ap (λ t. unwrap_or (element_of (form_at p.forms t.0)) a) same ∙ ap (λ o. unwrap_or o a) element;
         there = look-further state fixed.place (IndexStep (number_of got.value)) whole (row_at (rows_in whole) (number_of (eval symbols v i)) (default_in whole)) st.there
             (ap (λ g. step_part whole (IndexStep (number_of g.value))) is ∙ array_step (shapes p) whole (eval symbols v i) (sort_of p.forms t) (sort_of p.forms u) told (k.sorted (present d.target) (sort_of p.forms t) st.sorted))
             ∙ ap (λ t. Some (eval symbols v t)) (sym (present-further d (ToElement i)));
-        sorted = ap (term_sort (shapes p) p.symbols) (present-further d (ToElement i))
-            ∙ sort_two (shapes p) p.symbols head.Select (present d.target) i (sort_of p.forms t) sort.Int (sort_of p.forms u) st.sorted int (selected_sort (shapes p) (sort_of p.forms t) (sort_of p.forms u) told);
-      })
+        sorted = element_sorted p d i t u st.sorted element int;
+      }
 
   -- a step to a field
-  field_stands : (d : Placed) (t a u : TypeId) (f : Symbol) (fixed : Fixed) → Stands p symbols v state d t fixed → a ≡ t → field_of (form_at p.forms t.0) f ≡ Some u → Stands p symbols v state (to_field f d) u (run.to_field p a f fixed)
+  pub field_stands : (d : Placed) (t a u : TypeId) (f : Symbol) (fixed : Fixed) → Stands p symbols v state d t fixed → a ≡ t → field_of (form_at p.forms t.0) f ≡ Some u → Stands p symbols v state (to_field f d) u (run.to_field p a f fixed)
   field_stands d t a u f fixed st same field =
       let told = field_told p t u f field in
       let whole = eval symbols v (present d.target) in
@@ -188,27 +197,27 @@ module _ (p : Program) (symbols : Meaning) (v : Valuation) (here : Here) (state 
         type_is = ap (λ t. unwrap_or (field_of (form_at p.forms t.0) f) a) same ∙ ap (λ o. unwrap_or o a) field;
         there = look-further state fixed.place (FieldStep f) whole (row_at (rows_in whole) (pos f.0) (Number (pos 0))) st.there (field_step (shapes p) whole (sort_of p.forms t) (sort_of p.forms u) f told (k.sorted (present d.target) (sort_of p.forms t) st.sorted))
             ∙ ap (λ t. Some (eval symbols v t)) (sym (present-further d (ToField f)));
-        sorted = ap (term_sort (shapes p) p.symbols) (present-further d (ToField f))
-            ∙ sort_one (shapes p) p.symbols (head.Field f) (present d.target) (sort_of p.forms t) (sort_of p.forms u) st.sorted (field_sort_told (shapes p) (sort_of p.forms t) (sort_of p.forms u) _ told);
+        sorted = field_sorted p d f t u st.sorted field;
       }
 
-  cell_there : (c : TypeId) (q : ℕ) → sees (routine_in p here.routine) (Class c) ≡ true → (o : Option HeapRow) → row_of state.heap q ≡ o → is_cell_of c o ≡ true → look state (whole (CellOf q)) ≡ Some (row_at (rows_in (v (head.ClassVar c 0))) (pos q) (default_in (v (head.ClassVar c 0))))
+  pub cell_there : (c : TypeId) (q : ℕ) → sees (routine_in p here.routine) (Class c) ≡ true → (o : Option HeapRow) → row_of state.heap q ≡ o → is_cell_of c o ≡ true → look state (whole (CellOf q)) ≡ Some (row_at (rows_in (v (head.ClassVar c 0))) (pos q) (default_in (v (head.ClassVar c 0))))
   cell_there c q seen None e h = absurd (false≢true h)
   cell_there c q seen (Some r) e h =
       ap (λ o. option_and_then (λ w. part_at w []) (option_and_then content_of o)) e ∙ ap Some (sym (k.cells c r q seen e h))
 
-  -- a step through a pointer
-  cell_stands : (d : Placed) (t c : TypeId) (fixed : Fixed) (choices : List Value) → Stands p symbols v state d t fixed → sort_of p.forms t ≡ sort.Ptr c → sees (routine_in p here.routine) (Class c) ≡ true → Quiet Fixed (Stands p symbols v state (to_cell c (read_at d)) c) choices (run.to_cell c (holds_now fixed) fixed.state choices)
-  cell_stands d t c fixed choices st pointer seen =
+  -- a step through a pointer to a cell of its type
+  pub cell_at : (d : Placed) (t c : TypeId) (fixed : Fixed) → Stands p symbols v state d t fixed → sort_of p.forms t ≡ sort.Ptr c → sees (routine_in p here.routine) (Class c) ≡ true → is_cell_of c (row_of fixed.state.heap (pointer_of (holds_now fixed))) ≡ true
+      → Stands p symbols v state (to_cell c (read_at d)) c (record { place = whole (CellOf (pointer_of (holds_now fixed))); type = c; state = fixed.state })
+  cell_at d t c fixed st pointer seen found =
       let now = value_now d t fixed st in
       let q = pointer_of (eval symbols v (present d.target)) in
       let moved = ap (λ x. is_cell_of c (row_of x.heap (pointer_of (holds_now fixed)))) st.state_is ∙ ap (λ x. is_cell_of c (row_of state.heap (pointer_of x))) now in
-      quiet_unless _ (is_cell_of c (row_of fixed.state.heap (pointer_of (holds_now fixed)))) fault.Nil _ choices (λ found. record {
+      record {
         state_is = st.state_is;
         type_is = refl;
         there = ap (λ x. look state (whole (CellOf (pointer_of x)))) now ∙ cell_there c q seen (row_of state.heap q) refl (sym moved ∙ found);
         sorted = content_told p c (present d.target) (st.sorted ∙ ap Some pointer);
-      })
+      }
 
   -- two operands, from left to right
   both_given : (a b : Expression) (below : Option Level) (n : Supply) (choices : List Value) (Q : Got → Type 0) (next : Got → Got → List Value → Outcome Got)
@@ -294,7 +303,7 @@ module _ (p : Program) (symbols : Meaning) (v : Valuation) (here : Here) (state 
         quiet_then _ _ choices (evaluate p below here e fixed.state choices) _
         (subst (λ (z : State). Quiet Got (λ got. got ≡ record { value = eval symbols v (valued p r d.supply e).term; state = state }) choices (evaluate p below here e z choices)) (sym st.state_is) (evaluated e sort.Int int (left_empty (expression_calls e) _ calls) (seen_left r (expression_uses (is_own r) e) _ uses) below d.supply choices))
         (λ got is. quiet_then _ _ choices (run.to_element p a fixed.place got choices) _
-        (element_stands d t a b.item fixed e got choices st same b.is (value_sorted p r d.supply e sort.Int int) is)
+        (quiet_unless _ (takes_index p.forms a got.value) fault.Index _ choices (λ passed. element_at d t a b.item fixed e got st same b.is (value_sorted p r d.supply e sort.Int int) is))
         (λ next stands. selected_at others (to_element d (λ m. valued p r m e)) b.item u next stands b.gives (right_empty (expression_calls e) _ calls) writes (seen_right r (expression_uses (is_own r) e) _ uses) below choices))
     selected_at (at_field a f others) d t u fixed st h calls writes uses below choices =
         let r = routine_in p here.routine in
@@ -307,5 +316,5 @@ module _ (p : Program) (symbols : Meaning) (v : Valuation) (here : Here) (state 
         let same = same_types c b.item (passed (same_type c b.item) _ u b.gives) in
         let pointer = target_is p t b.item b.is ∙ ap sort.Ptr (sym same) in
         quiet_then _ _ choices (run.to_cell c (holds_now fixed) fixed.state choices) _
-        (cell_stands d t c fixed choices st pointer (left_true (sees r (Class c)) _ uses))
+        (quiet_unless _ (is_cell_of c (row_of fixed.state.heap (pointer_of (holds_now fixed)))) fault.Nil _ choices (cell_at d t c fixed st pointer (left_true (sees r (Class c)) _ uses)))
         (λ next stands. selected_at others (to_cell c (read_at d)) c u next stands (ap (λ w. selected_type p r w others) same ∙ chosen (same_type c b.item) _ u b.gives) calls writes (right_true (sees r (Class c)) _ uses) below choices)

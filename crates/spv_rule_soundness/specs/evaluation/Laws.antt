@@ -1,22 +1,28 @@
 -- What is proved of evaluations.
-use Rattle.std.specs.Prelude.{◌≡◌, Bool, true, List, [], Option, Some, IsTrue}
+use Rattle.std.specs.Prelude.{◌≡◌, ℕ, Bool, true, List, [], pos, Option, Some, IsTrue}
 use Rattle.std.specs.List.{list_all}
+use Rattle.spv_logic.specs.declared.names.names.Symbol.{Symbol}
 use Rattle.spv_logic.specs.declared.types.TypeId.{TypeId}
 use Rattle.spv_logic.specs.declared.types.Sort.{Sort}
-use Rattle.spv_logic.specs.Values.{Value}
-use Rattle.spv_logic.specs.Terms.{eval}
+use Rattle.spv_logic.specs.declared.operators.Head.TheVariants as head
+use Rattle.spv_logic.specs.Values.{Value, rows_in, default_in, row_at}
+use Rattle.spv_logic.specs.Terms.{Term, eval}
+use Rattle.spv_logic.specs.Fits.{fits}
 use Rattle.spv_logic.specs.Conditions.{Meaning, Valuation, IsValuation, Shows, answers}
+use Rattle.spv_program.specs.declared.types.Item.TheVariants.{Class}
+use Rattle.spv_program.specs.Types.{same_type, sort_of}
 use Rattle.spv_program.specs.Expressions.{Expression, Designator}
 use Rattle.spv_program.specs.Programs.{Routine, Program, shapes, routine_in}
-use Rattle.spv_program.specs.Scopes.{is_own}
-use Rattle.spv_program.specs.Uses.{Root, Own, Shared, Use, expression_uses, designator_uses, expression_calls, designator_calls}
+use Rattle.spv_program.specs.Scopes.{name_type, is_own}
+use Rattle.spv_program.specs.Uses.{Root, Own, Shared, Use, name_root, expression_uses, designator_uses, expression_calls, designator_calls}
 use Rattle.spv_program.specs.Supplies.{Supply}
 use Rattle.spv_program.specs.Places.{present}
 use Rattle.spv_program.specs.ExpressionTypes.{expression_sort, designator_type}
 use Rattle.spv_program.specs.ExpressionTerms.{valued, placed}
 use Rattle.spv_program.specs.Typing.{well_typed}
-use Rattle.spv_meaning.specs.Places.{State, look}
-use Rattle.spv_meaning.specs.Views.{sees, now_view}
+use Rattle.spv_program.specs.Laws.{HasSort}
+use Rattle.spv_meaning.specs.Places.{HeapRow, State, row_of, look}
+use Rattle.spv_meaning.specs.Views.{place_of, sees, now_view}
 use Rattle.spv_meaning.specs.Levels.{Here, Level}
 use Rattle.spv_meaning.specs.Evaluation.{Got, Fixed, evaluate, fix}
 use Rattle.spv_meaning.specs.Starts.{IsStart}
@@ -35,6 +41,16 @@ pub record Shown (p : Program) (here : Here) (state : State) (v : Valuation) : T
   pub valuation : IsValuation (shapes p) v
   pub start : IsStart p here.routine state
   pub shows : Shows (now_view p here.routine state) v
+
+-- ---- what a valuation knows
+
+-- what a valuation knows of a state: the values of the names, and the contents of the cells
+pub record Setting (p : Program) (symbols : Meaning) (v : Valuation) (here : Here) (state : State) : Type 0 where
+  pub sorted : (t : Term) (s : Sort) → HasSort p t s → IsTrue (fits (shapes p) (eval symbols v t) s)
+  pub named : (x : Symbol) (t : TypeId) → name_type p (routine_in p here.routine) x ≡ Some t → IsTrue (root_seen (routine_in p here.routine) (name_root (is_own (routine_in p here.routine)) x)) → look state (place_of here.routine state x) ≡ Some (v (head.Var x (sort_of p.forms t) 0))
+  pub cells : (t : TypeId) (r : HeapRow) (q : ℕ) → IsTrue (sees (routine_in p here.routine) (Class t)) → row_of state.heap q ≡ Some r → IsTrue (same_type r.type t) → row_at (rows_in (v (head.ClassVar t 0))) (pos q) (default_in (v (head.ClassVar t 0))) ≡ r.content
+
+-- ---- expressions without calls
 
 -- an evaluated expression: what it gives is what its term is worth
 abbrev pub ExpressionsGiveWhatTheirTermsAreWorth : Type 0

@@ -1,4 +1,4 @@
-use Rattle.spv_frame_law.proofs.Levels.{statement_writes, expression_same, place_fixed, arguments_bound, routine_writes, function_alone, called_writes}
+use Rattle.spv_frame_law.proofs.Levels.{statement_writes, jump_writes, expression_same, place_fixed, arguments_bound, routine_writes, function_alone, called_writes}
 use Rattle.spv_frame_law.proofs.laws.law_frame.Goals as goal
 
 pub returns-clause-routines : goal.returns-clause-routines
@@ -21,3 +21,6 @@ returns-clause-arguments c = arguments_bound
 
 pub returns-clause-calls : goal.returns-clause-calls
 returns-clause-calls c = called_writes
+
+pub returns-clause-jumps : goal.returns-clause-jumps
+returns-clause-jumps c = jump_writes

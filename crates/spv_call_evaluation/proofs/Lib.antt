@@ -1,0 +1,10 @@
+pub mod Windows
+pub mod Results
+pub mod Evaluating
+pub mod Supplies
+pub mod LeafSupplies
+pub mod Globals
+pub mod Heads
+pub mod Parameters
+pub mod Callees
+pub mod Functions

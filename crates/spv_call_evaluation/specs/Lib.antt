@@ -1,0 +1,5 @@
+pub mod Known
+pub mod Lying
+pub mod Functions
+pub mod Supplied
+pub mod Laws
