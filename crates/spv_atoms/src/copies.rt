@@ -117,10 +117,7 @@ pub fn renumbered<F: FactNumbers>(
             let list = all_numbered(alloc, numbers, ks.as_slice())?;
             Ok(Step::Eval(*claim, list))
         }
-        Step::Contra(i, j) => Ok(Step::Contra(
-            numbers.number(*i),
-            optional_numbered(numbers, *j),
-        )),
+        Step::Contra(i, j) => Ok(Step::Contra(numbers.number(*i), optional_numbered(numbers, *j))),
     }
 }
 

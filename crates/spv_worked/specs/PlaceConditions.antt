@@ -191,7 +191,7 @@ remaking =
     (Perform (call (routine 0) 9 no_arguments)))
     { symbols = record { name = Fact; args = sort.Class node ∷ sort.Class node ∷ []; result = sort.Bool } ∷ [] }
 
-abbrev P : Term
+abbrev pub P : Term
 P = of (sort.Ptr node) p 0
 
 abbrev later_cells : Term

@@ -5,8 +5,8 @@ ghost use Rattle.spv_derivations.specs.derivation.Copying.{copying};
 ghost use Rattle.spv_derivations.specs.derivation.Steps as spec;
 
 use crate::derivation::entries::Entry;
-use spv_atoms::copies::{FactNumbers, optional_numbered, renumbered};
 use spv_atoms::Step;
+use spv_atoms::copies::{FactNumbers, optional_numbered, renumbered};
 use std::alloc::{AllocError, Global};
 
 /// A derivation whose first entries were copied: the number outside of the next derived fact, the numbers outside of the facts so far, and
@@ -83,10 +83,7 @@ impl Copied {
     pub(crate) fn closed(self, first: u32, second: Option<u32>) -> Result<Vec<Step>, AllocError>
         ensures { IfOk result (λ v. v.items ≡ spec.closed (copying self) first second) }
     {
-        let end = Step::Contra(
-            self.number(first),
-            optional_numbered(&self, second),
-        );
+        let end = Step::Contra(self.number(first), optional_numbered(&self, second));
         let mut steps = self.steps;
         steps.push(end)?;
         Ok(steps)

@@ -123,8 +123,8 @@ module _ {old : Arena} {c : Condition} {start : List TermId} {steps : List Step}
       rest_in = in_old;
       before_is = g.before_is;
       same = ap (λ fs. on_trial (trees_of new.nodes) (trial old.most (question old c) (trees_of new.nodes) fs s)
-      (λ t. add_fact old.most (trees_of new.nodes) t (λ more. steps_outcome old.most (question old c) more (fs ++ t ∷ []) others)) (closed_if_last others)) (map_tree-Extends grows facts g.facts_in)
-      ∙ going-made (Ok (trees_of new.nodes)) e;
+          (λ t. add_fact old.most (trees_of new.nodes) t (λ more. steps_outcome old.most (question old c) more (fs ++ t ∷ []) others)) (closed_if_last others)) (map_tree-Extends grows facts g.facts_in)
+          ∙ going-made (Ok (trees_of new.nodes)) e;
     }
 
     -- the terms that there are come first
