@@ -42,7 +42,7 @@ pub record Instance : Type 0 where
   pub rule : ℕ
   pub values : List Term
 
--- a round: a table that falsified all so far, and the instances that were matched in it
+-- a round: a table in which all that was known held and the goal did not, and the instances that were added for it
 pub record Round : Type 0 where
   pub table : List (Term × Fraction)
   pub members : List Instance

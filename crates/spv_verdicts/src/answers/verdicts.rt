@@ -21,8 +21,8 @@ pub enum Wide {
     Value(Table, TermId, Op, Frac, Frac),
 }
 
-/// An instance of a rule: the rule's number, from 1, and the terms of its variables, in the order in which the text of its trigger first
-/// has them.
+/// An instance of a rule: the rule's number, from 1, and a term for each of its variables, in the order in which its trigger first names
+/// them.
 #[derive(Debug, Drop)]
 pub struct Instance {
     /// The rule's number.
@@ -31,12 +31,12 @@ pub struct Instance {
     pub values: List<TermId>,
 }
 
-/// A round of a search with rules: a table that falsified all so far, and the instances that were matched in it and then added.
+/// A round of a search with rules: a table in which all that was known held and the goal did not, and what it called for.
 #[derive(Debug, Drop)]
 pub struct Round {
     /// The table.
     pub table: Table,
-    /// The instances, of which there is one at least.
+    /// The instances that were added for it, of which there is one at least.
     pub members: List<Instance>,
 }
 
