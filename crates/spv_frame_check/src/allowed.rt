@@ -1,7 +1,7 @@
 // What a routine may use.
 
 ghost use Rattle.std.specs.Prelude.{◌≡◌, IfOk, OnOk, map, if◌then◌else◌};
-ghost use Rattle.spv_program.specs.Frames.{lists};
+ghost use Rattle.spv_program.specs.Programs.{lists};
 ghost use Rattle.spv_program.specs.typed.ProgramViews.{global_of};
 ghost use Rattle.spv_effects.specs.frame_walk.FrameWalk.{missing_item};
 ghost use Rattle.spv_frame_check.specs.Allowed.{allows};

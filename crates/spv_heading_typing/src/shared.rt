@@ -4,8 +4,8 @@ ghost use Rattle.std.specs.Prelude.{◌≡◌, [], ◌∷◌, ◌++◌, true, fa
 ghost use Rattle.std.specs.List.{list_any};
 ghost use Rattle.spv_logic.specs.declared.names.names.Symbol.{Symbol as SymbolText};
 ghost use Rattle.spv_program.specs.declared.types.Item.TheVariants.{Variable, Class};
-ghost use Rattle.spv_program.specs.Uses.{same_item};
-ghost use Rattle.spv_program.specs.Frames.{lists};
+ghost use Rattle.spv_program.specs.Types.{same_item};
+ghost use Rattle.spv_program.specs.Programs.{lists};
 ghost use Rattle.spv_program.specs.typed.ProgramViews.{global_of};
 ghost use Rattle.spv_typing.specs.RoutineWalk.{is_listed};
 ghost use Rattle.spv_heading_typing.specs.Names.{has};

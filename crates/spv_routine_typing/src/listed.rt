@@ -3,7 +3,7 @@
 ghost use Rattle.std.specs.Prelude.{◌≡◌, ◌||◌, map, IfOk};
 ghost use Rattle.spv_logic.specs.declared.names.names.Symbol.{Symbol as Plain};
 ghost use Rattle.spv_program.specs.declared.types.Item.TheVariants.{Variable};
-ghost use Rattle.spv_program.specs.Uses.{same_item};
+ghost use Rattle.spv_program.specs.Types.{same_item};
 ghost use Rattle.spv_program.specs.typed.ProgramViews.{global_of};
 ghost use Rattle.spv_typing.specs.RoutineWalk.{is_listed};
 ghost use Rattle.spv_heading_typing.specs.Names.{has};
