@@ -78,6 +78,15 @@ returns-in-Fails-clause-leads c =
     let k = stepped p c.trial.new.terms c.as_slice.result.now c.in_ok-fact.field-0 c.in_ok-fact.ensures.same c.as_slice.ensures.value c.in_ok-fact.ensures.value in
     going-fails k.prepared c.requires.condition c.in_ok-fact.field-0 k.does c.in-Fails.is
 
+pub add-requires-clause-facts : goal.add-requires-clause-facts
+add-requires-clause-facts c =
+    let s = c.index-steps-place.result in
+    let others = drop (c.loop-place.place + 1) c.args.steps.now in
+    let p = going-prepared c.loop-place.invariant c.requires.condition s others (next-step c.args.steps.now c.loop-place.place s c.loop-place-test.true c.index-steps-place.is)
+    c.made.new.terms c.in_ok-made.ensures.grows (c.in_ok-made.ensures.all c.args.condition.now) in
+    let k = stepped p c.trial.new.terms c.as_slice.result.now c.in_ok-fact.field-0 c.in_ok-fact.ensures.same c.as_slice.ensures.value c.in_ok-fact.ensures.value in
+    k.prepared.facts_in
+
 pub returns-in_err-add-in-Adds-clause-stop : goal.returns-in_err-add-in-Adds-clause-stop
 returns-in_err-add-in-Adds-clause-stop c =
     let s = c.index-steps-place.result in
