@@ -1,5 +1,5 @@
 -- A report whose verdicts are all Proved makes its program correct.
-use Rattle.std.proofs.Common.{◌≡◌, true, List, [], ◌∷◌, subst}
+use Rattle.std.proofs.Common.{◌≡◌, Bool, true, List, [], ◌∷◌, subst}
 use Rattle.std.proofs.lemmas.Bool.{false≢true}
 use Rattle.spv_logic.proofs.list.Tests.{left_true, right_true}
 use Rattle.spv_logic.specs.Shapes.{shapes_ok}
@@ -16,7 +16,7 @@ use Rattle.spv_verdicts.specs.Verdicts.{Limits}
 use Rattle.spv_verdicts.specs.declared.answers.verdicts.Decided.{Decided}
 use Rattle.spv_reports.specs.declared.mode.Mode.{Mode}
 use Rattle.spv_reports.specs.declared.mode.Mode.TheVariants.{Verify, Conditions}
-use Rattle.spv_reports.specs.Reports.{Findings, IsReportOn, AreVerdicts, AreVerdictsIn, has_verdicts, is_proved, all_proved, ProvedIsCorrectIn}
+use Rattle.spv_reports.specs.Reports.{Findings, IsReport, IsReportOn, AreVerdicts, AreVerdictsIn, has_verdicts, is_proved, all_proved, ProvedIsCorrectIn}
 use Rattle.spv_reports.proofs.Proved.{proved_true}
 
 -- proved conditions are true in every world
@@ -42,3 +42,24 @@ proved_correct r world has proved p is =
     let there : AllTrueIn (shapes p) r.arena.decls world (conditions_of r.arena r.conditions) = subst (λ (s : List Shape). AllTrueIn s r.arena.decls world (conditions_of r.arena r.conditions)) is.shapes here in
     let all : AllTrueIn (shapes p) p.symbols world (conditions_of r.arena r.conditions) = subst (λ (d : List Decl). AllTrueIn (shapes p) d world (conditions_of r.arena r.conditions)) is.decls there in
     control_correct p world is.typed is.covered (subst (AllTrueIn (shapes p) p.symbols world) is.conditions all)
+
+-- whether a page has proofs changes nothing of what a report is on
+pub same_report : (r : Findings) (proofs : Bool) → IsReport r → IsReport (record r { proofs = proofs })
+same_report r proofs q = record {
+  program = q.program;
+  is_on = record {
+    typed = q.is_on.typed;
+    framed = q.is_on.framed;
+    covered = q.is_on.covered;
+    taken = q.is_on.taken;
+    sound = q.is_on.sound;
+    shapes = q.is_on.shapes;
+    decls = q.is_on.decls;
+    titles = q.is_on.titles;
+    routines = q.is_on.routines;
+    in_range = q.is_on.in_range;
+    conditions = q.is_on.conditions;
+    within = q.is_on.within;
+    verdicts = q.is_on.verdicts;
+  };
+}

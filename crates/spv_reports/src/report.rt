@@ -82,6 +82,7 @@ impl Report {
     }
 
     /// The same report, of which a page has proofs, or has none.
+    #[tactic(auto, using(crate::proofs::Reports::same_report))]
     pub fn with_proofs(self, proofs: bool) -> Report
         ensures { result ≡ record self { proofs = proofs } }
     {
