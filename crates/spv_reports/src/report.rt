@@ -13,7 +13,7 @@ use std::marker::Model;
 
 /// The names that a program gives: the table of all its names, the first name of each type that has one, by its number, and the name of
 /// each routine, by its number.
-#[derive(Debug, Drop)]
+#[derive(Drop)]
 pub struct ProgramNames {
     /// All names.
     pub names: Names,
