@@ -1,0 +1,4 @@
+pub mod Parts
+pub mod Roots
+pub mod Kept
+pub mod Assigning
