@@ -85,7 +85,7 @@ use Rattle.spv_leaf_soundness.proofs.Parts.{changed_worth, look_joined}
 use Rattle.spv_leaf_soundness.proofs.Roots.{IsRootOf, OfName, OfClass, root_is}
 use Rattle.spv_leaf_soundness.proofs.Kept.{root_kept}
 
-below_same : (p : Program) (turns : ℕ) → below p turns ≡ below_turns p turns
+pub below_same : (p : Program) (turns : ℕ) → below p turns ≡ below_turns p turns
 below_same p zero = refl
 below_same p (suc n) = refl
 
@@ -108,7 +108,7 @@ class_and_name own x c = by_own (own x)
     by_own true = refl
     by_own false = refl
 
-name_and_class : (own : Symbol → Bool) (x : Symbol) (c : TypeId) → (same_root (name_root own x) (Shared (Class c)) || false) ≡ false
+pub name_and_class : (own : Symbol → Bool) (x : Symbol) (c : TypeId) → (same_root (name_root own x) (Shared (Class c)) || false) ≡ false
 name_and_class own x c = by_own (own x)
   where
     by_own : (b : Bool) → (same_root (cond b (Own x) (Shared (Variable x))) (Shared (Class c)) || false) ≡ false
@@ -222,7 +222,7 @@ module _ (p : Program) (f : IsFramed p) (here : Here) (state : State) (start : I
     part_was beginning path is x y there holds =
         sym (ap (option_and_then (λ w. part_at w path)) there) ∙ (sym (look_joined state beginning path) ∙ (sym (ap (look state) is) ∙ holds))
 
-    root_at : (k : Head) (pointer : Option Term) (path : List Step) (beginning : Place) → BeginsAt p (meaning_in p world) u here state k pointer beginning → a ≡ part_of beginning (map (step_at (meaning_in p world) u) path) → (y : Value) → look state a ≡ Some y
+    pub root_at : (k : Head) (pointer : Option Term) (path : List Step) (beginning : Place) → BeginsAt p (meaning_in p world) u here state k pointer beginning → a ≡ part_of beginning (map (step_at (meaning_in p world) u) path) → (y : Value) → look state a ≡ Some y
         → now_view p here.routine (put state a w) k ≡ Some (eval (meaning_in p world) u (in_root k pointer (changed_part (base k pointer) path t)))
     root_at _ _ path _ (AtName x type told seen) is y holds =
         let beginning = place_of here.routine state x in

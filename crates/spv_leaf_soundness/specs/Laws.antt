@@ -1,8 +1,9 @@
--- What is proved of assignments.
+-- What is proved of assignments and NEW.
 use Rattle.std.specs.Prelude.{ℕ, IsTrue}
 use Rattle.spv_logic.specs.Conditions.{Meaning}
 use Rattle.spv_program.specs.Expressions.{Expression, Designator}
-use Rattle.spv_program.specs.Statements.{Assign}
+use Rattle.spv_logic.specs.declared.types.TypeId.{TypeId}
+use Rattle.spv_program.specs.Statements.{Assign, New}
 use Rattle.spv_program.specs.Programs.{Program, routine_in}
 use Rattle.spv_program.specs.Scopes.{is_own}
 use Rattle.spv_program.specs.Uses.{statement_uses, statement_calls}
@@ -26,3 +27,13 @@ AssignmentsAreRight =
     → IsTrue (uses_seen (routine_in p here.routine) (statement_uses (is_own (routine_in p here.routine)) (Assign d e)))
     → (turns : ℕ) → CorrectBelow p world turns
     → IsRight p world all_allowed here (Assign d e) (walk p (below p turns) here (Assign d e))
+
+-- NEW for any place
+abbrev pub NewIsRight : Type 0
+NewIsRight =
+    (p : Program) → IsFramed p → (world : Meaning) (here : Here) → IsEntry p here.entry
+    → (line : ℕ) (d : Designator) (t : TypeId) → IsTrue (statement_ok p (routine_in p here.routine) (New line d t))
+    → IsTrue (calls_shown p (routine_in p here.routine) (statement_calls (New line d t)))
+    → IsTrue (uses_seen (routine_in p here.routine) (statement_uses (is_own (routine_in p here.routine)) (New line d t)))
+    → (turns : ℕ) → CorrectBelow p world turns
+    → IsRight p world all_allowed here (New line d t) (walk p (below p turns) here (New line d t))
