@@ -58,7 +58,7 @@ over_writes p typed to below keeps writes = record {
   next = λ here types inside loop counts body roots among changes end candidate state right choices. counting p typed to below keeps writes here types inside roots loop counts body among changes end candidate state right choices;
 }
 
-below_keeps : (p : Program) → well_typed p ≡ true → (turns : ℕ) (l : Level) → below_turns p turns ≡ Some l → LevelKeeps p l
+pub below_keeps : (p : Program) → well_typed p ≡ true → (turns : ℕ) (l : Level) → below_turns p turns ≡ Some l → LevelKeeps p l
 below_keeps p typed zero l e = absurd (nothing_there e)
 below_keeps p typed (suc n) l e = subst (LevelKeeps p) (some_is e) (level_keeps p typed n)
 

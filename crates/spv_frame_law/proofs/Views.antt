@@ -167,7 +167,7 @@ shown_apart p here state start root shown others all other a inside = by_types h
 
 -- ---- views
 
-place_stays : (p : Program) (areas : List Area) (here : Option RoutineId) (s t : State) → Writes p areas s t → (x : Symbol) → place_of here t x ≡ place_of here s x
+pub place_stays : (p : Program) (areas : List Area) (here : Option RoutineId) (s t : State) → Writes p areas s t → (x : Symbol) → place_of here t x ≡ place_of here s x
 place_stays p areas None s t w x = refl
 place_stays p areas (Some id) s t w x = places_stay s t (outlines_stay p areas s t w) x
 

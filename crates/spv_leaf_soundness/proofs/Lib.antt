@@ -1,0 +1,5 @@
+pub mod Parts
+pub mod Roots
+pub mod Kept
+pub mod Assigning
+pub mod Creating

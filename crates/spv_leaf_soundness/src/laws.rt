@@ -1,0 +1,16 @@
+// What is proved of assignments and NEW, each the contract of a function that does nothing.
+
+ghost use Rattle.spv_leaf_soundness.specs.Laws.{AssignmentsAreRight, NewIsRight};
+
+/// In a program that is well typed and shares rightly, where every routine is correct with fewer turns, an assignment is right: to a
+/// variable, to parts of arrays and records, in cells that others point to as well, and through VAR parameters, with calls wherever
+/// they may stand.
+pub fn law_assignment()
+    ensures assignments { AssignmentsAreRight }
+{}
+
+/// In such a program NEW is right, for a variable, a part of one, and a part of a cell: the place points to a cell that was none, with
+/// any content, and the class of its type is extended by it.
+pub fn law_new()
+    ensures creations { NewIsRight }
+{}
