@@ -99,12 +99,16 @@ module _ {old new : Arena} (more : Extends old new) where
     where_made-same (Ok x) f g e = e x
     where_made-same (Err x) f g e = refl
 
+    -- what comes once the terms of a step are made
+    abbrev going_on : Arena → Step → List Step → List Term → List Term → Outcome accepted.Path
+    going_on a s steps facts known = on_trial known (trial a.most (question a c) known facts s) (λ x. add_fact a.most known x (λ m. steps_outcome a.most (question a c) m (facts ++ x ∷ []) steps)) (accepted.closed_if_last steps)
+
     -- steps come to the same
     pub steps-Extends : (steps : List Step) (known facts : List Term) → StepsIn old steps → steps_outcome new.most (question new c) known facts steps ≡ steps_outcome old.most (question old c) known facts steps
     steps-Extends [] known facts h = refl
     steps-Extends (s ∷ steps) start facts h =
-        ap (λ r. outcomes.where_made r _) (λ i. all_kept (more.most i) start (made-Extends more c ci s h.0 i))
-        ∙ where_made-same (all_kept old.most start (made_by (question old c) s)) _ _ (λ known.
+        ap (λ r. outcomes.where_made r (going_on new s steps facts)) (λ i. all_kept (more.most i) start (made-Extends more c ci s h.0 i))
+        ∙ where_made-same (all_kept old.most start (made_by (question old c) s)) (going_on new s steps facts) (going_on old s steps facts) (λ known.
         ap (λ t. on_trial known t (λ x. add_fact new.most known x (λ m. steps_outcome new.most (question new c) m (facts ++ x ∷ []) steps)) (accepted.closed_if_last steps)) (trial-Extends more c ci known facts s h.0)
         ∙ on_trial-same known (trial old.most (question old c) known facts s) (λ x. add_fact new.most known x (λ m. steps_outcome new.most (question new c) m (facts ++ x ∷ []) steps))
         (λ x. add_fact old.most known x (λ m. steps_outcome old.most (question old c) m (facts ++ x ∷ []) steps)) (accepted.closed_if_last steps)

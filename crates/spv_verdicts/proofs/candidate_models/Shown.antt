@@ -42,7 +42,8 @@ is_shown a c table branch within lists s whole = (
     atoms = terms_of a branch ∙ s.branch_is.atoms;
     truths = truths_of a (listed_over a table.values) branch s.branch_is.truths;
   },
-  (cases_in a branch s.branch_is.in_range, within),
+  cases_in a branch s.branch_is.in_range,
+  within,
 )
 
 pub agreed_as : (a : Arena) (values : List (TermId × Fraction)) (x y : Agreement) → x ≡ y → IsAgreement a values x → IsAgreement a values y
