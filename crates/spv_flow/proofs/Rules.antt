@@ -1,5 +1,5 @@
 -- The rules of statements whose parts are taken are right.
-use Rattle.std.proofs.Common.{◌≡◌, ℕ, true, sym, subst}
+use Rattle.std.proofs.Common.{◌≡◌, ℕ, true, refl, sym, subst}
 use Rattle.spv_logic.specs.Conditions.{Meaning}
 use Rattle.spv_logic.specs.Shapes.{shapes_ok}
 use Rattle.spv_program.specs.Programs.{Program, shapes}
@@ -10,7 +10,7 @@ use Rattle.spv_meaning.specs.Walks.{run}
 use Rattle.spv_meaning.proofs.Assigning.{in_main}
 use Rattle.spv_rule_soundness.proofs.evaluation.Settings.{forms_right}
 use Rattle.spv_rule_soundness.specs.statements.Truth.{IsEntry}
-use Rattle.spv_rule_soundness.specs.statements.Runs.{IsRight}
+use Rattle.spv_rule_soundness.specs.statements.Runs.{all_allowed, IsRight}
 use Rattle.spv_rule_soundness.specs.statements.Parts.{parts_pass}
 use Rattle.spv_rule_soundness.specs.statements.Laws.{PartsAreRight}
 use Rattle.spv_rule_soundness.proofs.statements.Induction.{right_level}
@@ -21,8 +21,9 @@ use Rattle.spv_flow_parts.specs.leaves.Laws.{CountersAreRight, IsMainBlock, Leav
 -- leaves, tests and counters together
 module _ (p : Program) (world : Meaning) (here : Here) (taking : Taking) (leaves : LeavesAreRight p world here taking) (tests : TestsAreRight p world here taking)
     (counters : CountersAreRight p world here (passing p here.routine taking)) where
-  parts : PartsAreRight p world here (passing p here.routine taking)
+  parts : PartsAreRight p world all_allowed here (passing p here.routine taking)
   parts = record {
+    faults = record { no_label = refl; out_of_range = refl; no_choice = refl };
     leaf = leaves.right;
     leaf_supplied = leaves.supplied;
     test = tests.right;
@@ -33,13 +34,13 @@ module _ (p : Program) (world : Meaning) (here : Here) (taking : Taking) (leaves
     left_alone = counters.left_alone;
   }
 
-  pub rules_right : shapes_ok (shapes p) ≡ true → IsEntry p here.entry → (s : Statement) → parts_pass (passing p here.routine taking) s ≡ true → (n : ℕ) → CorrectBelow p world n → IsRight p world here s (run p n here s)
-  rules_right ok entry s passes n correct = (right_level p world ok here entry (passing p here.routine taking) parts n correct).statements s passes
+  pub rules_right : shapes_ok (shapes p) ≡ true → IsEntry p here.entry → (s : Statement) → parts_pass (passing p here.routine taking) s ≡ true → (n : ℕ) → CorrectBelow p world n → IsRight p world all_allowed here s (run p n here s)
+  rules_right ok entry s passes n correct = (right_level p world all_allowed ok here entry (passing p here.routine taking) parts n correct).statements s passes
 
 -- ---- the main block
 
 module _ (p : Program) (world : Meaning) (here : Here) (h : IsMainBlock p here) where
-  own : PartsAreRight p world (in_main here.entry) (main_parts p)
+  own : PartsAreRight p world all_allowed (in_main here.entry) (main_parts p)
   own = parts_right p h.typed world here.entry h.entry
 
   is_main : here ≡ in_main here.entry

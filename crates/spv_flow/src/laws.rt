@@ -9,7 +9,7 @@ ghost use Rattle.spv_meaning.specs.Levels.{Here};
 ghost use Rattle.spv_meaning.specs.Correct.{CorrectBelow};
 ghost use Rattle.spv_meaning.specs.Walks.{run};
 ghost use Rattle.spv_rule_soundness.specs.statements.Truth.{IsEntry};
-ghost use Rattle.spv_rule_soundness.specs.statements.Runs.{IsRight};
+ghost use Rattle.spv_rule_soundness.specs.statements.Runs.{all_allowed, IsRight};
 ghost use Rattle.spv_rule_soundness.specs.statements.Parts.{parts_pass};
 ghost use Rattle.spv_rule_soundness.specs.control.Laws.{TrueConditionsGiveCorrectIn};
 ghost use Rattle.spv_flow_parts.specs.leaves.Parts.{Taking, passing};
@@ -24,9 +24,9 @@ use spv_flow_parts::leaves::Leaves;
 /// in it.
 pub fn law_before<L: Leaves>(leaves: &L)
     ensures rules { (p : Program) → IsTrue (shapes_ok (shapes p)) → (world : Meaning) (here : Here) → IsEntry p here.entry → L.holds p here → CountersAreRight p world here (passing p here.routine (L.takes p here.routine))
-        → (s : Statement) → IsTrue (parts_pass (passing p here.routine (L.takes p here.routine)) s) → (n : ℕ) → CorrectBelow p world n → IsRight p world here s (run p n here s) }
+        → (s : Statement) → IsTrue (parts_pass (passing p here.routine (L.takes p here.routine)) s) → (n : ℕ) → CorrectBelow p world n → IsRight p world all_allowed here s (run p n here s) }
     ensures main { (p : Program) (world : Meaning) (here : Here) → IsMainBlock p here → L.holds p here
-        → (s : Statement) → IsTrue (parts_pass (passing p here.routine (L.takes p here.routine)) s) → (n : ℕ) → CorrectBelow p world n → IsRight p world here s (run p n here s) }
+        → (s : Statement) → IsTrue (parts_pass (passing p here.routine (L.takes p here.routine)) s) → (n : ℕ) → CorrectBelow p world n → IsRight p world all_allowed here s (run p n here s) }
     ensures counters { (p : Program) (world : Meaning) (here : Here) (taking : Taking) → IsMainBlock p here → CountersAreRight p world here (passing p here.routine taking) }
     ensures programs { (m : Meaning) → TrueConditionsGiveCorrectIn m }
 {

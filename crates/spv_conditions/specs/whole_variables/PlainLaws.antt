@@ -7,6 +7,7 @@ use Rattle.spv_program.specs.Statements.{Statement, Empty, Assign, Perform, New,
 use Rattle.spv_program.specs.Programs.{Program}
 use Rattle.spv_meaning.specs.Levels.{Here}
 use Rattle.spv_meaning.proofs.Assigning.{in_main}
+use Rattle.spv_rule_soundness.specs.statements.Runs.{all_allowed}
 use Rattle.spv_rule_soundness.specs.statements.Laws.{PartsAreRight}
 use Rattle.spv_rule_soundness.proofs.control.Parts.{leaf_ok, main_parts, parts_right}
 use Rattle.spv_flow_parts.specs.leaves.Laws.{IsMainBlock, LeavesAreRight, TestsAreRight}
@@ -30,7 +31,7 @@ main_leaf p (For line f count s) h = absurd (false≢true h)
 main_leaf p (Assert a) h = absurd (false≢true h)
 
 module _ (p : Program) (world : Meaning) (here : Here) (h : IsMainBlock p here) where
-  parts : PartsAreRight p world (in_main here.entry) (main_parts p)
+  parts : PartsAreRight p world all_allowed (in_main here.entry) (main_parts p)
   parts = parts_right p h.typed world here.entry h.entry
 
   is_main : here ≡ in_main here.entry
