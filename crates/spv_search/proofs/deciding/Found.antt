@@ -1,10 +1,14 @@
 -- What a search asks of its condition is there where it was opened, and what it finds is decided.
-use Rattle.std.proofs.Common.{◌≡◌, ℕ, List, Bool, sym, subst, Result, Ok, Err, IfOk}
+use Rattle.std.proofs.Common.{◌≡◌, ℕ, List, [], Bool, sym, subst, Result, Ok, Err, IfOk}
 use Rattle.spv_logic.specs.declared.conditions.TermId.{TermId}
 use Rattle.spv_term.specs.declared.nodes.Condition.{Condition}
 use Rattle.spv_term.specs.Arena.{Arena}
 use Rattle.spv_verdicts.specs.Verdicts.{Limits}
+use Rattle.spv_verdicts.specs.declared.answers.verdicts.Round.{Round}
+use Rattle.spv_verdicts.specs.declared.answers.verdicts.Wide.TheVariants as wide
+use Rattle.spv_verdicts.specs.declared.answers.verdicts.Limit.TheVariants as limit
 use Rattle.spv_verdicts.specs.declared.answers.verdicts.Verdict.{Verdict}
+use Rattle.spv_verdicts.specs.declared.answers.verdicts.Verdict.TheVariants as verdict
 use Rattle.spv_verdicts.specs.declared.answers.verdicts.Decided.{Decided}
 use Rattle.spv_verdicts.specs.answers.Views.{IsDecided}
 use Rattle.spv_branch_theory.specs.saturation.States.{AreListed}
@@ -13,8 +17,9 @@ use Rattle.spv_search.specs.Finding.{IsFound}
 use Rattle.spv_trail.specs.declared.search_setup.outcomes.Opened.{Opened}
 use Rattle.spv_trail.specs.declared.search_setup.outcomes.Opening.{Opening}
 use Rattle.spv_trail.specs.declared.search_setup.outcomes.Opening.TheVariants as opening
-use Rattle.spv_trail.specs.search_setup.Openings.{IsOpened, IsOpening}
+use Rattle.spv_trail.specs.search_setup.Openings.{HasTooMany, HasWide, IsOpened, IsOpening}
 use Rattle.spv_search.specs.deciding.Finding.{HasOpened, IsFoundFor}
+use Rattle.spv_search.proofs.NoRules.{given_up}
 
 module _ (limits : Limits) (o : Opened) (h : HasOpened limits o) where
   pub lists : (ids : List TermId) (flags : List Bool) → ids ≡ o.subterms → flags ≡ o.listed.items → AreListed o.terms o.condition ids flags
@@ -33,3 +38,18 @@ decided_of limits o v f a c h = record { claim = h.claim; shapes = h.shapes; dec
 pub ready_decides : {E : Type 0} (a : Arena) (c : Condition) (limits : Limits) (most : ℕ) (p : Opening) (o : Opened) (r : Result Decided E) → p ≡ opening.Ready o → most ≡ limits.pivots → IsOpening a c most p → IfOk r (IsFoundFor limits o) → IfOk r (IsDecided a c limits)
 ready_decides a c limits most p o (Err e) is same h f = tt
 ready_decides a c limits most p o (Ok d) is same h f = f a c (subst (λ (n : ℕ). IsOpened a c n o) same (subst (λ (x : Opening). IsOpening a c most x) is h))
+
+-- where there are too many terms, or a form does not fit, no round is made
+pub too_many_decides : (a : Arena) (c : Condition) (limits : Limits) (most : ℕ) (p : Opening) (b : Arena) (d : Condition) (rounds : List Round) → p ≡ opening.Terms b d → IsOpening a c most p → rounds ≡ []
+    → IsDecided a c limits (record { terms = b; condition = d; verdict = verdict.GaveUp rounds (limit.Terms 1000000) })
+too_many_decides a c limits most p b d rounds is h none =
+    let k : HasTooMany a c b d = subst (IsOpening a c most) is h in
+    let f : IsFound b d limits (verdict.GaveUp rounds (limit.Terms 1000000)) = given_up b d limits (limit.Terms 1000000) tt k.many rounds none in
+    record { claim = k.copy.claim; shapes = k.copy.shapes; decls = k.copy.decls; terms_in = f.terms_in; right = f.right }
+
+pub too_wide_decides : (a : Arena) (c : Condition) (limits : Limits) (most : ℕ) (p : Opening) (b : Arena) (d : Condition) (t : TermId) (rounds : List Round) → p ≡ opening.Wide b d t → IsOpening a c most p → rounds ≡ []
+    → IsDecided a c limits (record { terms = b; condition = d; verdict = verdict.GaveUp rounds (limit.Number (wide.Form t)) })
+too_wide_decides a c limits most p b d t rounds is h none =
+    let k : HasWide a c b d t = subst (IsOpening a c most) is h in
+    let f : IsFound b d limits (verdict.GaveUp rounds (limit.Number (wide.Form t))) = given_up b d limits (limit.Number (wide.Form t)) k.within k.wide rounds none in
+    record { claim = k.copy.claim; shapes = k.copy.shapes; decls = k.copy.decls; terms_in = f.terms_in; right = f.right }

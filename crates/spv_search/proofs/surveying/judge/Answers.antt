@@ -17,4 +17,4 @@ unreachable-requires c =
 pub returns-in-Err-Wide : goal.returns-in-Err-Wide
 returns-in-Err-Wide c =
     found_wide c.args.terms.now c.args.condition.now c.args.both.now c.args.subterms.now c.args.listed.now c.args.table c.requires.listed c.requires.state c.requires.table c.law_wide_value.ensures _ _
-    (rw c.in-Err-Wide.field-0-is at c.in-Err-Wide.ensures.fault) _ c.new.ensures
+    (rw c.in-Err-Wide.field-0-is at c.in-Err-Wide.ensures.fault) _ c.new-in-Err-Wide.ensures
