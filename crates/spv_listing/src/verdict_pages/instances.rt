@@ -66,7 +66,7 @@ fn count_members(rounds: &[Round]) -> Result<u64, AllocError>
 {
     let mut number = 0;
     for round in rounds {
-        number = sum(number, round.members.as_slice().len() as u64)?;
+        number = sum(number, round.members.len() as u64)?;
     }
     Ok(number)
 }
