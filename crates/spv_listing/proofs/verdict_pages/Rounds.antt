@@ -7,9 +7,11 @@ use Rattle.spv_term.specs.Arena.{Arena}
 use Rattle.spv_verdicts.specs.declared.answers.verdicts.Limit.{Limit}
 use Rattle.spv_verdicts.specs.declared.answers.verdicts.Limit.TheVariants as limit
 use Rattle.spv_verdicts.specs.declared.answers.verdicts.Round.{Round}
-use Rattle.spv_verdicts.specs.answers.Views.{instance_in, limit_in, rounds_in}
+use Rattle.spv_verdicts.specs.declared.answers.verdicts.Wide.{Wide}
+use Rattle.spv_verdicts.specs.declared.answers.verdicts.Wide.TheVariants as wide
+use Rattle.spv_verdicts.specs.answers.Views.{instance_in, limit_in, rounds_in, wide_in}
 use Rattle.spv_listing.specs.verdict_pages.Counting.{member_total}
-use Rattle.spv_listing.specs.verdict_pages.VerdictLines.{limit_text, member_count}
+use Rattle.spv_listing.specs.verdict_pages.VerdictLines.{limit_text, member_count, wide_text}
 
 nowhere : (k : ℕ) → k < 0 → ⊥
 nowhere k h = omega (arith, h)
@@ -53,3 +55,15 @@ pub instances_limit : {T F : Type 0} (names : List (List ℕ)) (titles : List (O
     → l ≡ limit.Instances → ((b : Arena) → OnOk r (new ≡ old ++ (codes "INSTANCES " ++ decimal (member_count (rounds_in b rounds) - 1))))
     → OnOk r (new ≡ old ++ limit_text names titles (rounds_in a rounds) (limit_in a l))
 instances_limit names titles rounds a l r old new is says = subst (λ m. OnOk r (new ≡ old ++ limit_text names titles (rounds_in a rounds) (limit_in a m))) (sym is) (says a)
+
+-- a number that does not fit is a limit, whatever the rounds are
+pub number_limit : {T F : Type 0} (names : List (List ℕ)) (titles : List (Option Symbol)) (rounds : List Round) (a : Arena) (l : Limit) (w : Wide) (r : Result T F) (old new : List ℕ)
+    → l ≡ limit.Number w → OnOk r (new ≡ old ++ wide_text names titles (wide_in a w)) → OnOk r (new ≡ old ++ limit_text names titles (rounds_in a rounds) (limit_in a l))
+number_limit names titles rounds a l w r old new is says =
+    subst (λ m. OnOk r (new ≡ old ++ limit_text names titles (rounds_in a rounds) (limit_in a m))) (sym is) (subst (λ t. OnOk r (new ≡ old ++ t)) (sym (same w)) says)
+  where
+    same : (x : Wide) → limit_text names titles (rounds_in a rounds) (wide_in a x) ≡ wide_text names titles (wide_in a x)
+    same (wide.Form t) = refl
+    same (wide.Pivot e) = refl
+    same (wide.Sum nodes op m n) = refl
+    same (wide.Value table t op m n) = refl

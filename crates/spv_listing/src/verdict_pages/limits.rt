@@ -176,7 +176,7 @@ fn push_most(out: &mut Vec<u8>, number: &u64) -> Result<(), AllocError>
 }
 
 // A limit, and how much was done, behind these rounds.
-#[tactic(auto, using(crate::proofs::verdict_pages::Splits::split_limit, crate::proofs::verdict_pages::Rounds::instances_limit))]
+#[tactic(auto, using(crate::proofs::verdict_pages::Splits::split_limit, crate::proofs::verdict_pages::Rounds::instances_limit, crate::proofs::verdict_pages::Rounds::number_limit))]
 pub(crate) fn push_limit(
     out: &mut Vec<u8>,
     names: &Names,

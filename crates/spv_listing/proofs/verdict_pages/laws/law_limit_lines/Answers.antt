@@ -25,3 +25,11 @@ returns-clause-wide_quotient c = refl
 pub returns-clause-no_pivots : goal.returns-clause-no_pivots
 unfolding digits
 returns-clause-no_pivots c = λ start. refl
+
+pub returns-clause-instances : goal.returns-clause-instances
+unfolding digits
+returns-clause-instances c = λ i. refl
+
+pub returns-clause-wide_product : goal.returns-clause-wide_product
+unfolding digits
+returns-clause-wide_product c = λ nodes. refl

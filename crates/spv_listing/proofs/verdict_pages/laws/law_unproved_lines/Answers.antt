@@ -9,3 +9,7 @@ returns-clause-half c = refl
 pub returns-clause-turn : goal.returns-clause-turn
 unfolding digits
 returns-clause-turn c = refl
+
+pub returns-clause-instance : goal.returns-clause-instance
+unfolding digits
+returns-clause-instance c = refl
