@@ -108,8 +108,11 @@ fn named_by(alloc: Global, names: Names, program: &Program) -> Result<ProgramNam
 fn routine_names(alloc: Global, routines: &[Routine]) -> Result<List<Symbol>, AllocError>
     ensures { IfOk result (λ names. names ≡ map (λ q. q.name) routines.now) }
 {
-    let names = routines.iter().map(|routine| routine.name).collect(alloc)?;
-    Ok(List::from_vec(names))
+    let mut names = List::new(alloc);
+    for routine in routines {
+        names.push(routine.name)?;
+    }
+    Ok(names)
 }
 
 // The first names of a program's types.
