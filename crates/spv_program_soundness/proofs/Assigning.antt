@@ -81,9 +81,9 @@ use Rattle.spv_call_evaluation.specs.Laws.{IsReady}
 use Rattle.spv_call_evaluation.proofs.Windows.{reach_with, knows_shown, narrower, first_calls, behind_them, checked}
 use Rattle.spv_call_evaluation.proofs.Evaluating.{evaluated, fixed_at}
 use Rattle.spv_call_evaluation.proofs.Functions.{functions_give}
-use Rattle.spv_leaf_soundness.proofs.Parts.{changed_worth, look_joined}
-use Rattle.spv_leaf_soundness.proofs.Roots.{IsRootOf, OfName, OfClass, root_is}
-use Rattle.spv_leaf_soundness.proofs.Kept.{root_kept}
+use Rattle.spv_program_soundness.proofs.Parts.{changed_worth, look_joined}
+use Rattle.spv_program_soundness.proofs.Roots.{IsRootOf, OfName, OfClass, root_is}
+use Rattle.spv_program_soundness.proofs.Kept.{root_kept}
 
 pub below_same : (p : Program) (turns : ℕ) → below p turns ≡ below_turns p turns
 below_same p zero = refl

@@ -88,9 +88,9 @@ use Rattle.spv_call_evaluation.specs.Laws.{IsReady}
 use Rattle.spv_call_evaluation.proofs.Windows.{reach_with, knows_shown, checked_then}
 use Rattle.spv_call_evaluation.proofs.Evaluating.{fixed_at}
 use Rattle.spv_call_evaluation.proofs.Functions.{functions_give}
-use Rattle.spv_leaf_soundness.proofs.Roots.{IsRootOf, OfClass, root_is}
-use Rattle.spv_leaf_soundness.proofs.Kept.{root_kept}
-use Rattle.spv_leaf_soundness.proofs.Assigning.{below_same, name_and_class, after_start, same_else, root_at}
+use Rattle.spv_program_soundness.proofs.Roots.{IsRootOf, OfClass, root_is}
+use Rattle.spv_program_soundness.proofs.Kept.{root_kept}
+use Rattle.spv_program_soundness.proofs.Assigning.{below_same, name_and_class, after_start, same_else, root_at}
 
 -- ---- new cells and members
 

@@ -1,6 +1,6 @@
 // What is proved of assignments and NEW, each the contract of a function that does nothing.
 
-ghost use Rattle.spv_leaf_soundness.specs.Laws.{AssignmentsAreRight, NewIsRight};
+ghost use Rattle.spv_program_soundness.specs.Laws.{AssignmentsAreRight, NewIsRight};
 
 /// In a program that is well typed and shares rightly, where every routine is correct with fewer turns, an assignment is right: to a
 /// variable, to parts of arrays and records, in cells that others point to as well, and through VAR parameters, with calls wherever

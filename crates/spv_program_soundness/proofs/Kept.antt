@@ -25,7 +25,7 @@ use Rattle.spv_program.proofs.SortFacts.{nothing_there, some_is}
 use Rattle.spv_rule_soundness.proofs.evaluation.Values.{same_types}
 use Rattle.spv_meaning.proofs.Maps.{same_names}
 use Rattle.spv_writes.proofs.Lists.{or_left, or_right, any_right}
-use Rattle.spv_leaf_soundness.proofs.Roots.{IsRootOf, OfName, OfClass}
+use Rattle.spv_program_soundness.proofs.Roots.{IsRootOf, OfName, OfClass}
 
 -- the heads of roots that pass a test
 abbrev kept : (Root → Bool) → List (Root × Head) → List Head
