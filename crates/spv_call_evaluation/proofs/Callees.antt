@@ -1,4 +1,4 @@
--- What the view of a called function has in common with that of its caller.
+-- What the view of a called routine has in common with that of its caller.
 use Rattle.std.proofs.Common.{◌≡◌, ℕ, Bool, true, false, cond, not, ◌&&◌, ◌||◌, List, [], ◌∷◌, ◌++◌, map, length, refl, sym, ap, subst, ◌∙◌, nat_eq, Option, Some, None, option_map}
 use Rattle.std.specs.Prelude.{is_some}
 use Rattle.std.specs.List.{list_all, list_any}
@@ -44,7 +44,7 @@ use Rattle.spv_meaning.specs.Correct.{valuation_of}
 use Rattle.spv_meaning.proofs.RoutineStarts.{item_passes}
 use Rattle.spv_meaning.proofs.Differing.{not_true}
 use Rattle.spv_meaning.proofs.Maps.{same_names, other_way}
-use Rattle.spv_preservation.proofs.Calls.{names_differ, routine_right}
+use Rattle.spv_preservation.proofs.Calls.{names_differ, formals_differ, routine_right}
 use Rattle.spv_preservation.proofs.Roots.{first_frame, name_there}
 use Rattle.spv_preservation.proofs.Frames.{result_right, result_slot}
 use Rattle.spv_rule_soundness.specs.evaluation.Laws.{root_seen}
@@ -59,7 +59,8 @@ use Rattle.spv_call_evaluation.specs.Lying.{AreBound}
 use Rattle.spv_call_evaluation.proofs.Windows.{knows_shown}
 use Rattle.spv_call_evaluation.proofs.Globals.{listed_not_own, listed_passes, shared_place, seen_not_own}
 use Rattle.spv_call_evaluation.proofs.Heads.{named_at_exit, entry_test, exit_test, found-sorts, value_is_formal, formal_is_value, no_initial}
-use Rattle.spv_call_evaluation.proofs.Parameters.{replacing-there, replacing-none, no_parameter, no_such_parameter, no_start, ArgumentOf, argument_of}
+use Rattle.spv_call_evaluation.proofs.Parameters.{replacing-there, replacing-none, bound_value, no_parameter, no_such_parameter, no_start, ParameterAt, parameter_at, ArgumentOf, argument_of}
+use Rattle.spv_call_evaluation.proofs.Pushed.{pushed_look}
 
 -- what a view shows is what its valuation says
 told : (p : Program) (view : View) (h : Head) (w : Value) → view h ≡ Some w → valuation_of (shapes p) view h ≡ w
@@ -71,34 +72,19 @@ all_of (Some w) = refl
 
 -- ---- the routine
 
--- what is asked of a function that is called
-module _ (p : Program) (f : IsFramed p) (id : RoutineId) (q : Routine) (there : routine_at p id ≡ Some q) (t : TypeId) (result : q.result ≡ Some t) where
+-- a routine that is called
+module _ (p : Program) (f : IsFramed p) (id : RoutineId) (q : Routine) (there : routine_at p id ≡ Some q) where
   right_heading : heading_ok p q ≡ true
   right_heading = left_true (heading_ok p q) _ (item_passes (routine_ok p) p.routines id.0 q (left_true (list_all (routine_ok p) p.routines) _ (right_true (declarations_ok p) _ f.typed)) there)
 
   is_framed : routine_framed p q ≡ true
   is_framed = item_passes (routine_framed p) p.routines id.0 q (left_true (list_all (routine_framed p) p.routines) _ f.framed) there
 
-  quiet : changes_nothing q ≡ true
-  quiet = ((keeps_to p f.typed f.framed).each id q there).function (ap is_some result)
-
-  by_value : list_any (λ f. f.by_place) q.formals ≡ false
-  by_value = not_true (list_any (λ f. f.by_place) q.formals) (left_true (not (list_any (λ f. f.by_place) q.formals)) _ quiet)
-
   all_items : list_all (λ g. item_exists p g.item) q.globals ≡ true
   all_items =
       left_true (list_all (λ g. item_exists p g.item) q.globals) _
       (right_true (types_exist p q.locals) _
       (right_true (result_ok p q.result) _ (right_true (list_all (λ f. type_exists p.forms f.of) q.formals) _ right_heading)))
-
-  initial : q.initial ≡ []
-  initial =
-      no_initial q quiet
-      (left_true (list_all (λ i. may_be_initial q i.1) q.initial) _
-      (right_true (all_differ same_item (map (λ g. g.item) q.globals)) _
-      (right_true (list_all (λ g. item_exists p g.item) q.globals) _
-      (right_true (types_exist p q.locals) _
-      (right_true (result_ok p q.result) _ (right_true (list_all (λ f. type_exists p.forms f.of) q.formals) _ right_heading))))))
 
   pub entry_uses : list_all (λ u. use_allowed q.globals u.root u.changes) (annotation_uses (is_formal q) q.entry) ≡ true
   entry_uses = all_left (λ u. use_allowed q.globals u.root u.changes) (annotation_uses (is_formal q) q.entry) _ (left_true (list_all (λ u. use_allowed q.globals u.root u.changes) (routine_uses q)) _ (right_true (changes_nothing q || not (is_some q.result)) _ is_framed))
@@ -127,70 +113,86 @@ module _ (p : Program) (f : IsFramed p) (id : RoutineId) (q : Routine) (there : 
   parameter_type : (x : Symbol) (u : TypeId) → found (map (λ f. (f.name, f.of)) q.formals) x ≡ Some u → found (own_names q) x ≡ Some u
   parameter_type x u e = found-append (map (λ f. (f.name, f.of)) q.formals) (result_name q.name q.result ++ q.locals) x ∙ ap (λ o. first_of o (found (result_name q.name q.result ++ q.locals) x)) e
 
-  -- the name of the function is its result
-  result_type_own : found (own_names q) q.name ≡ Some t
-  result_type_own =
-      found-append (map (λ f. (f.name, f.of)) q.formals) (result_name q.name q.result ++ q.locals) q.name
-      ∙ (ap (λ o. first_of o (found (result_name q.name q.result ++ q.locals) q.name)) (not_formal q.formals (routine_right p f.typed id q there).result)
-      ∙ (ap (λ o. found (result_name q.name o ++ q.locals) q.name) result ∙ ap (λ b. cond b (Some t) (found q.locals q.name)) (eq-eqb q.name.0 q.name.0 refl)))
-    where
-      not_formal : (formals : List Formal) → list_any (same_name q.name) (map (λ f. f.name) formals) ≡ false → found (map (λ f. (f.name, f.of)) formals) q.name ≡ None
-      not_formal [] none = refl
-      not_formal (g ∷ formals) none =
-          ap (λ b. cond b (Some g.of) (found (map (λ f. (f.name, f.of)) formals) q.name)) (other_way q.name g.name (left_false (same_name q.name g.name) _ none)) ∙ not_formal formals (right_false (same_name q.name g.name) _ none)
-
   -- what an own name shows
   own_shows : (s : State) (x : Symbol) (u : TypeId) (w : Value) → found (own_names q) x ≡ Some u → look s (place_of (Some id) s x) ≡ Some w → now_view p (Some id) s (head.Var x (sort_of p.forms u) 0) ≡ Some w
   own_shows s x u w own holds =
       view_name p (Some id) s x u w (ap (λ o. name_type p o x) there ∙ ap (λ o. first_of o (found p.variables x)) own)
       (ap (λ o. root_seen o (name_root (is_own o) x)) there ∙ ap (λ o. root_seen (Some q) (cond (is_some o) (Own x) (Shared (Variable x)))) own) holds
 
-  -- ---- the result
+  -- ---- a function
 
-  -- the state shows the function's result under its name
-  record ResultOf (s : State) : Type 0 where
-    fit : fits (shapes p) (result_in (Some q) s.frames) (sort_of p.forms t) ≡ true
-    shows : look s (place_of (Some id) s q.name) ≡ Some (result_in (Some q) s.frames)
+  module _ (t : TypeId) (result : q.result ≡ Some t) where
+    quiet : changes_nothing q ≡ true
+    quiet = ((keeps_to p f.typed f.framed).each id q there).function (ap is_some result)
 
-  result_of : (s : State) → IsStart p (Some id) s → ResultOf s
-  result_of s start = by_types start.right.types start.right.inside start.right.right
-    where
-      none : list_any (same_name q.name) (map (λ f. f.name) q.formals) ≡ false
-      none = (routine_right p f.typed id q there).result
+    by_value : list_any (λ f. f.by_place) q.formals ≡ false
+    by_value = not_true (list_any (λ f. f.by_place) q.formals) (left_true (not (list_any (λ f. f.by_place) q.formals)) _ quiet)
 
-      Goal : List Frame → Type 0
-      Goal frames = look (record { variables = s.variables; frames = frames; heap = s.heap }) (place_in frames q.name) ≡ Some (result_in (Some q) frames)
+    initial : q.initial ≡ []
+    initial =
+        no_initial q quiet
+        (left_true (list_all (λ i. may_be_initial q i.1) q.initial) _
+        (right_true (all_differ same_item (map (λ g. g.item) q.globals)) _
+        (right_true (list_all (λ g. item_exists p g.item) q.globals) _
+        (right_true (types_exist p q.locals) _
+        (right_true (result_ok p q.result) _ (right_true (list_all (λ f. type_exists p.forms f.of) q.formals) _ right_heading))))))
 
-      by_binding : (g : Frame) (frames : List Frame) (o : Option Binding) → found g.names q.name ≡ o → is_of_type p t (option_and_then held o) ≡ true → Goal (g ∷ frames)
-      by_binding g frames None e h = absurd (false≢true h)
-      by_binding g frames (Some (Referring a)) e h = absurd (false≢true h)
-      by_binding g frames (Some (Holding w)) e h =
-          ap (λ o. look (record { variables = s.variables; frames = g ∷ frames; heap = s.heap }) (bound_place (length frames) q.name o)) e
-          ∙ (all_of (option_and_then (own_value q.name) (cond (nat_eq (length frames) (length frames)) (Some g) (frame_at frames (length frames))))
-          ∙ (ap (λ b. option_and_then (own_value q.name) (cond b (Some g) (frame_at frames (length frames)))) (eq-eqb (length frames) (length frames) refl)
-          ∙ (ap (option_and_then held) e ∙ ap (λ o. Some (value_or_zero (option_and_then held o))) (sym e))))
+    -- the name of the function is its result
+    result_type_own : found (own_names q) q.name ≡ Some t
+    result_type_own =
+        found-append (map (λ f. (f.name, f.of)) q.formals) (result_name q.name q.result ++ q.locals) q.name
+        ∙ (ap (λ o. first_of o (found (result_name q.name q.result ++ q.locals) q.name)) (not_formal q.formals (routine_right p f.typed id q there).result)
+        ∙ (ap (λ o. found (result_name q.name o ++ q.locals) q.name) result ∙ ap (λ b. cond b (Some t) (found q.locals q.name)) (eq-eqb q.name.0 q.name.0 refl)))
+      where
+        not_formal : (formals : List Formal) → list_any (same_name q.name) (map (λ f. f.name) formals) ≡ false → found (map (λ f. (f.name, f.of)) formals) q.name ≡ None
+        not_formal [] none = refl
+        not_formal (g ∷ formals) none =
+            ap (λ b. cond b (Some g.of) (found (map (λ f. (f.name, f.of)) formals) q.name)) (other_way q.name g.name (left_false (same_name q.name g.name) _ none)) ∙ not_formal formals (right_false (same_name q.name g.name) _ none)
 
-      slot : option_and_then kept_type (slot_in (slots_of q) q.name) ≡ Some t
-      slot =
-          ap (λ o. option_and_then kept_type (slot_in (map formal_slot q.formals ++ map own_slot (result_name q.name o ++ q.locals)) q.name)) result
-          ∙ result_slot q.formals q.name t q.locals none
+    -- the state shows the function's result under its name
+    record ResultOf (s : State) : Type 0 where
+      fit : fits (shapes p) (result_in (Some q) s.frames) (sort_of p.forms t) ≡ true
+      shows : look s (place_of (Some id) s q.name) ≡ Some (result_in (Some q) s.frames)
 
-      by_frames : (older : List FrameType) (frames : List Frame) → frames_right p (frame_of id q ∷ older) s.heap frames ≡ true → Goal frames
-      by_frames older [] h = absurd (false≢true h)
-      by_frames older (g ∷ frames) h =
-          by_binding g frames (found g.names q.name) refl (name_there p older s.heap (slots_of q) g.names q.name t (first_frame p (frame_of id q) older s.heap g frames h).names slot)
+    result_of : (s : State) → IsStart p (Some id) s → ResultOf s
+    result_of s start = by_types start.right.types start.right.inside start.right.right
+      where
+        none : list_any (same_name q.name) (map (λ f. f.name) q.formals) ≡ false
+        none = (routine_right p f.typed id q there).result
 
-      by_types : (types : List FrameType) → IsIn p (Some id) types → IsRight p types s → ResultOf s
-      by_types _ (in_routine _ k older found_there) right =
-          let same : k ≡ q = some_is (sym found_there ∙ there) in
-          let moved = subst (λ (k : Routine). IsRight p (frame_of id k ∷ older) s) same right in
-          record {
-            fit = result_right p id q t older s result none moved;
-            shows = by_frames older s.frames moved.frames;
-          }
+        Goal : List Frame → Type 0
+        Goal frames = look (record { variables = s.variables; frames = frames; heap = s.heap }) (place_in frames q.name) ≡ Some (result_in (Some q) frames)
 
-  pub result_fits : (s : State) → IsStart p (Some id) s → fits (shapes p) (result_in (Some q) s.frames) (sort_of p.forms t) ≡ true
-  result_fits s start = (result_of s start).fit
+        by_binding : (g : Frame) (frames : List Frame) (o : Option Binding) → found g.names q.name ≡ o → is_of_type p t (option_and_then held o) ≡ true → Goal (g ∷ frames)
+        by_binding g frames None e h = absurd (false≢true h)
+        by_binding g frames (Some (Referring a)) e h = absurd (false≢true h)
+        by_binding g frames (Some (Holding w)) e h =
+            ap (λ o. look (record { variables = s.variables; frames = g ∷ frames; heap = s.heap }) (bound_place (length frames) q.name o)) e
+            ∙ (all_of (option_and_then (own_value q.name) (cond (nat_eq (length frames) (length frames)) (Some g) (frame_at frames (length frames))))
+            ∙ (ap (λ b. option_and_then (own_value q.name) (cond b (Some g) (frame_at frames (length frames)))) (eq-eqb (length frames) (length frames) refl)
+            ∙ (ap (option_and_then held) e ∙ ap (λ o. Some (value_or_zero (option_and_then held o))) (sym e))))
+
+        slot : option_and_then kept_type (slot_in (slots_of q) q.name) ≡ Some t
+        slot =
+            ap (λ o. option_and_then kept_type (slot_in (map formal_slot q.formals ++ map own_slot (result_name q.name o ++ q.locals)) q.name)) result
+            ∙ result_slot q.formals q.name t q.locals none
+
+        by_frames : (older : List FrameType) (frames : List Frame) → frames_right p (frame_of id q ∷ older) s.heap frames ≡ true → Goal frames
+        by_frames older [] h = absurd (false≢true h)
+        by_frames older (g ∷ frames) h =
+            by_binding g frames (found g.names q.name) refl (name_there p older s.heap (slots_of q) g.names q.name t (first_frame p (frame_of id q) older s.heap g frames h).names slot)
+
+        by_types : (types : List FrameType) → IsIn p (Some id) types → IsRight p types s → ResultOf s
+        by_types _ (in_routine _ k older found_there) right =
+            let same : k ≡ q = some_is (sym found_there ∙ there) in
+            let moved = subst (λ (k : Routine). IsRight p (frame_of id k ∷ older) s) same right in
+            record {
+              fit = result_right p id q t older s result none moved;
+              shows = by_frames older s.frames moved.frames;
+            }
+
+    pub result_fits : (s : State) → IsStart p (Some id) s → fits (shapes p) (result_in (Some q) s.frames) (sort_of p.forms t) ≡ true
+    result_fits s start = (result_of s start).fit
 
   -- ---- beside the caller
 
@@ -245,16 +247,27 @@ module _ (p : Program) (f : IsFramed p) (id : RoutineId) (q : Routine) (there : 
       abbrev first_view : View
       first_view = both (entry_view p (Some id) (push id (names ++ own) state)) (now_view p (Some id) (push id (names ++ own) state))
 
-      argument : (x : Symbol) (u : TypeId) → found (map (λ f. (f.name, f.of)) q.formals) x ≡ Some u → ArgumentOf p symbols v q.formals terms names x u
-      argument x u e = argument_of p symbols here state window v knows q.formals terms names bound by_value x u e
+      -- a parameter, and one that is a value
+      parameter : (x : Symbol) (u : TypeId) → found (map (λ f. (f.name, f.of)) q.formals) x ≡ Some u → ParameterAt p symbols v state q.formals terms names x u
+      parameter x u e = parameter_at p symbols here state window v knows q.formals terms names bound x u e
 
-      argument_held : (x : Symbol) (w : Value) → found names x ≡ Some (Holding w) → look (push id (names ++ own) state) (place_of (Some id) (push id (names ++ own) state) x) ≡ Some w
-      argument_held x w e =
-          let g : Frame = record { routine = id; names = names ++ own } in
-          let held_there : found (names ++ own) x ≡ Some (Holding w) = found-append names own x ∙ ap (λ o. first_of o (found own x)) e in
-          ap (λ o. look (push id (names ++ own) state) (bound_place (length state.frames) x o)) held_there
-          ∙ (all_of (option_and_then (own_value x) (cond (nat_eq (length state.frames) (length state.frames)) (Some g) (frame_at state.frames (length state.frames))))
-          ∙ (ap (λ b. option_and_then (own_value x) (cond b (Some g) (frame_at state.frames (length state.frames)))) (eq-eqb (length state.frames) (length state.frames) refl) ∙ ap (option_and_then held) held_there))
+      argument : (x : Symbol) (u : TypeId) → is_value_parameter q x ≡ true → found (map (λ f. (f.name, f.of)) q.formals) x ≡ Some u → ArgumentOf p symbols v q.formals terms names x u
+      argument x u value e = argument_of p symbols here state window v knows q.formals terms names bound (formals_differ p f.typed id q there) x u value e
+
+      parameter_held : (x : Symbol) (b : Binding) (w : Value) → found names x ≡ Some b → bound_value state b ≡ Some w → look (push id (names ++ own) state) (place_of (Some id) (push id (names ++ own) state) x) ≡ Some w
+      parameter_held x b w e holds = ap (λ o. look (push id (names ++ own) state) (bound_place (length state.frames) x o)) (there_too b e) ∙ by_binding b e holds
+        where
+          g : Frame
+          g = record { routine = id; names = names ++ own }
+
+          there_too : (b : Binding) → found names x ≡ Some b → found (names ++ own) x ≡ Some b
+          there_too b e = found-append names own x ∙ ap (λ o. first_of o (found own x)) e
+
+          by_binding : (b : Binding) → found names x ≡ Some b → bound_value state b ≡ Some w → look (push id (names ++ own) state) (bound_place (length state.frames) x (Some b)) ≡ Some w
+          by_binding (Referring a) e holds = pushed_look g state a w holds
+          by_binding (Holding u) e holds =
+              all_of (option_and_then (own_value x) (cond (nat_eq (length state.frames) (length state.frames)) (Some g) (frame_at state.frames (length state.frames))))
+              ∙ (ap (λ b. option_and_then (own_value x) (cond b (Some g) (frame_at state.frames (length state.frames)))) (eq-eqb (length state.frames) (length state.frames) refl) ∙ (ap (option_and_then held) (there_too (Holding u) e) ∙ holds))
 
       -- the start of a parameter
       start_shown : (x : Symbol) (u : TypeId) (w : Value) → found (map (λ f. (f.name, f.of)) q.formals) x ≡ Some u → is_value_parameter q x ≡ true → found names x ≡ Some (Holding w) → entry_view p (Some id) (push id (names ++ own) state) (head.Start x (sort_of p.forms u)) ≡ Some w
@@ -262,7 +275,7 @@ module _ (p : Program) (f : IsFramed p) (id : RoutineId) (q : Routine) (there : 
           ap (λ o. of_sort (parameter_sort p o x) (sort_of p.forms u) (look (push id (names ++ own) state) (place_of (Some id) (push id (names ++ own) state) x))) there
           ∙ (ap (λ b. of_sort (cond b (Some (item_sort p (Some q) (Variable x))) None) (sort_of p.forms u) (look (push id (names ++ own) state) (place_of (Some id) (push id (names ++ own) state) x))) kept
           ∙ (ap (λ o. of_sort (Some (sort_or_int (option_map (sort_of p.forms) (first_of o (found p.variables x))))) (sort_of p.forms u) (look (push id (names ++ own) state) (place_of (Some id) (push id (names ++ own) state) x))) (parameter_type x u type)
-          ∙ (ap (λ b. cond b (look (push id (names ++ own) state) (place_of (Some id) (push id (names ++ own) state) x)) None) (sort_eq-refl (sort_of p.forms u)) ∙ argument_held x w e)))
+          ∙ (ap (λ b. cond b (look (push id (names ++ own) state) (place_of (Some id) (push id (names ++ own) state) x)) None) (sort_eq-refl (sort_of p.forms u)) ∙ parameter_held x (Holding w) w e refl)))
 
       scope_parameter : (x : Symbol) (u : TypeId) (others : List (Symbol × Sort)) → found (map (λ f. (f.name, f.of)) q.formals) x ≡ Some u → found (parameters_of p q ++ others) x ≡ Some (sort_of p.forms u)
       scope_parameter x u others e =
@@ -294,9 +307,9 @@ module _ (p : Program) (f : IsFramed p) (id : RoutineId) (q : Routine) (there : 
 
           by_formal : (o : Option TypeId) → found (map (λ f. (f.name, f.of)) q.formals) x ≡ o → nat_eq m 0 ≡ true → s ≡ sort_or_int (found (entry_scope p q) x) → use_allowed q.globals (cond (is_some o) (Own x) (Shared (Variable x))) false ≡ true → Same (head.Var x s m)
           by_formal (Some u) e zero sort allowed =
-              let a = argument x u e in
+              let a = parameter x u e in
               at_head Same x s (sort_of p.forms u) m (sort ∙ ap sort_or_int (scope_parameter x u (with_sorts_of p p.variables) e)) zero
-              (now_told (push id (names ++ own) state) (head.Var x (sort_of p.forms u) 0) a.value (own_shows (push id (names ++ own) state) x u a.value (parameter_type x u e) (argument_held x a.value a.bound))
+              (now_told (push id (names ++ own) state) (head.Var x (sort_of p.forms u) 0) a.value (own_shows (push id (names ++ own) state) x u a.value (parameter_type x u e) (parameter_held x a.binding a.value a.bound a.holds))
               ∙ sym (ap (λ o. value_under symbols v o (v (head.Var x (sort_of p.forms u) 0))) a.replaced ∙ a.worth))
           by_formal None e zero sort allowed =
               let k = declared x allowed in
@@ -310,90 +323,91 @@ module _ (p : Program) (f : IsFramed p) (id : RoutineId) (q : Routine) (there : 
       entry_same began (head.Start x s) passes variable = absurd (false≢true passes)
       entry_same began _ passes variable = absurd (false≢true variable)
 
-      -- ---- at the end
+      -- ---- at the end of a function
 
-      -- the pairs of EXIT
-      abbrev pairs : Term → List (Head × Term)
-      pairs y = starts_at_call p q.formals terms ++ (initial_at_call p q terms ++ (result_head p q, y) ∷ [])
+      module _ (t : TypeId) (result : q.result ≡ Some t) where
+        -- the pairs of EXIT
+        abbrev pairs : Term → List (Head × Term)
+        pairs y = starts_at_call p q.formals terms ++ (initial_at_call p q terms ++ (result_head p q, y) ∷ [])
 
-      no_pairs : initial_at_call p q terms ≡ []
-      no_pairs = ap (map (λ (i : Symbol × Item). (head.Var i.0 (item_sort p (Some q) i.1) 0, substitute (replacing (at_call p q.formals terms)) (alone (item_head p (Some q) i.1))))) initial
+        no_pairs : initial_at_call p q terms ≡ []
+        no_pairs = ap (map (λ (i : Symbol × Item). (head.Var i.0 (item_sort p (Some q) i.1) 0, substitute (replacing (at_call p q.formals terms)) (alone (item_head p (Some q) i.1))))) (initial t result)
 
-      -- a head that is no start is replaced by the result alone
-      replaced_else : (y : Term) (h : Head) → ((x : Symbol) (s : Sort) → head_eq h (head.Start x s) ≡ false) → replacing (starts_at_call p q.formals terms ++ (initial_at_call p q terms ++ (result_head p q, y) ∷ [])) h ≡ cond (head_eq h (result_head p q)) (Some y) None
-      replaced_else y h other =
-          replacing-none (starts_at_call p q.formals terms) _ h (no_start p q.formals terms h other)
-          ∙ ap (λ (k : List (Head × Term)). replacing (k ++ (result_head p q, y) ∷ []) h) no_pairs
+        -- a head that is no start is replaced by the result alone
+        replaced_else : (y : Term) (h : Head) → ((x : Symbol) (s : Sort) → head_eq h (head.Start x s) ≡ false) → replacing (starts_at_call p q.formals terms ++ (initial_at_call p q terms ++ (result_head p q, y) ∷ [])) h ≡ cond (head_eq h (result_head p q)) (Some y) None
+        replaced_else y h other =
+            replacing-none (starts_at_call p q.formals terms) _ h (no_start p q.formals terms h other)
+            ∙ ap (λ (k : List (Head × Term)). replacing (k ++ (result_head p q, y) ∷ []) h) no_pairs
 
-      result_sort : sort_of_result p q ≡ sort_of p.forms t
-      result_sort = ap (λ o. sort_or_int (sort_of_type p o)) result
+        result_sort : sort_of_result p q ≡ sort_of p.forms t
+        result_sort = ap (λ o. sort_or_int (sort_of_type p o)) result
 
-      pub exit_same : (after : State) → IsStart p (Some id) after → after.variables ≡ state.variables → after.heap ≡ state.heap → (y : Head) → is_variable y ≡ true → v y ≡ result_in (Some q) after.frames
-          → (h : Head) → exit_test p q h ≡ true → is_variable h ≡ true → valuation_of (shapes p) (both (entry_view p (Some id) (push id (names ++ own) state)) (now_view p (Some id) after)) h ≡ under symbols (replacing (starts_at_call p q.formals terms ++ (initial_at_call p q terms ++ (result_head p q, alone y) ∷ []))) v h
-      exit_same after ended variables heap y fresh value (head.Var x s m) passes variable =
-          let one = right_true (nat_eq m 0) _ passes in
-          let two = right_true (not (is_value_parameter q x)) _ one in
-          by_formal (found (map (λ f. (f.name, f.of)) q.formals) x) refl (left_true (nat_eq m 0) _ passes) (left_true (not (is_value_parameter q x)) _ one)
-          (sort_eq-true s (sort_or_int (found (exit_scope p q) x)) (left_true (sort_eq s (sort_or_int (found (exit_scope p q) x))) _ two)) (right_true (sort_eq s (sort_or_int (found (exit_scope p q) x))) _ two)
-        where
-          Same : Head → Type 0
-          Same h = valuation_of (shapes p) (both (entry_view p (Some id) (push id (names ++ own) state)) (now_view p (Some id) after)) h ≡ under symbols (replacing (starts_at_call p q.formals terms ++ (initial_at_call p q terms ++ (result_head p q, alone y) ∷ []))) v h
+        pub exit_same : (after : State) → IsStart p (Some id) after → after.variables ≡ state.variables → after.heap ≡ state.heap → (y : Head) → is_variable y ≡ true → v y ≡ result_in (Some q) after.frames
+            → (h : Head) → exit_test p q h ≡ true → is_variable h ≡ true → valuation_of (shapes p) (both (entry_view p (Some id) (push id (names ++ own) state)) (now_view p (Some id) after)) h ≡ under symbols (replacing (starts_at_call p q.formals terms ++ (initial_at_call p q terms ++ (result_head p q, alone y) ∷ []))) v h
+        exit_same after ended variables heap y fresh value (head.Var x s m) passes variable =
+            let one = right_true (nat_eq m 0) _ passes in
+            let two = right_true (not (is_value_parameter q x)) _ one in
+            by_formal (found (map (λ f. (f.name, f.of)) q.formals) x) refl (left_true (nat_eq m 0) _ passes) (left_true (not (is_value_parameter q x)) _ one)
+            (sort_eq-true s (sort_or_int (found (exit_scope p q) x)) (left_true (sort_eq s (sort_or_int (found (exit_scope p q) x))) _ two)) (right_true (sort_eq s (sort_or_int (found (exit_scope p q) x))) _ two)
+          where
+            Same : Head → Type 0
+            Same h = valuation_of (shapes p) (both (entry_view p (Some id) (push id (names ++ own) state)) (now_view p (Some id) after)) h ≡ under symbols (replacing (starts_at_call p q.formals terms ++ (initial_at_call p q terms ++ (result_head p q, alone y) ∷ []))) v h
 
-          others : List (Symbol × Sort)
-          others = initial_names p (Some q) ++ with_sorts_of p p.variables
+            others : List (Symbol × Sort)
+            others = initial_names p (Some q) ++ with_sorts_of p p.variables
 
-          no_names : initial_names p (Some q) ≡ []
-          no_names = ap (map (λ (i : Symbol × Item). (i.0, item_sort p (Some q) i.1))) initial
+            no_names : initial_names p (Some q) ≡ []
+            no_names = ap (map (λ (i : Symbol × Item). (i.0, item_sort p (Some q) i.1))) (initial t result)
 
-          -- another name than the function's
-          shared : same_name q.name x ≡ false → nat_eq m 0 ≡ true → s ≡ sort_or_int (found (initial_names p (Some q) ++ with_sorts_of p p.variables) x) → lists q.globals (Variable x) false ≡ true → Same (head.Var x s m)
-          shared other zero sort listed =
-              let k = declared x listed in
-              at_head Same x s (sort_of p.forms k.type) m
-              (sort ∙ ap sort_or_int (ap (λ (k : List (Symbol × Sort)). found (k ++ with_sorts_of p p.variables) x) no_names ∙ (found-sorts p p.variables x ∙ ap (option_map (sort_of p.forms)) k.is))) zero
-              (now_told after (head.Var x (sort_of p.forms k.type) 0) (v (head.Var x (sort_of p.forms k.type) 0)) (callee_name after ended variables heap x k.type listed k.is)
-              ∙ sym (ap (λ o. value_under symbols v o (v (head.Var x (sort_of p.forms k.type) 0)))
-              (replaced_else (alone y) (head.Var x (sort_of p.forms k.type) 0) (λ x s. refl) ∙ ap (λ b. cond (b && (sort_eq (sort_of p.forms k.type) (sort_of_result p q) && true)) (Some (alone y)) None) (other_way q.name x other))))
+            -- another name than the function's
+            shared : same_name q.name x ≡ false → nat_eq m 0 ≡ true → s ≡ sort_or_int (found (initial_names p (Some q) ++ with_sorts_of p p.variables) x) → lists q.globals (Variable x) false ≡ true → Same (head.Var x s m)
+            shared other zero sort listed =
+                let k = declared x listed in
+                at_head Same x s (sort_of p.forms k.type) m
+                (sort ∙ ap sort_or_int (ap (λ (k : List (Symbol × Sort)). found (k ++ with_sorts_of p p.variables) x) no_names ∙ (found-sorts p p.variables x ∙ ap (option_map (sort_of p.forms)) k.is))) zero
+                (now_told after (head.Var x (sort_of p.forms k.type) 0) (v (head.Var x (sort_of p.forms k.type) 0)) (callee_name after ended variables heap x k.type listed k.is)
+                ∙ sym (ap (λ o. value_under symbols v o (v (head.Var x (sort_of p.forms k.type) 0)))
+                (replaced_else (alone y) (head.Var x (sort_of p.forms k.type) 0) (λ x s. refl) ∙ ap (λ b. cond (b && (sort_eq (sort_of p.forms k.type) (sort_of_result p q) && true)) (Some (alone y)) None) (other_way q.name x other))))
 
-          by_name : (b : Bool) → same_name q.name x ≡ b → nat_eq m 0 ≡ true → s ≡ sort_or_int (found (with_sorts_of p (result_name q.name (Some t)) ++ (initial_names p (Some q) ++ with_sorts_of p p.variables)) x) → use_allowed q.globals (cond (is_some (cond b (Some t) None) || is_initial q x) (Own x) (Shared (Variable x))) false ≡ true → Same (head.Var x s m)
-          by_name true e zero sort allowed =
-              let name = same_names q.name x e in
-              let r = result_of after ended in
-              subst (λ (z : Symbol). Same (head.Var z s m)) name
-              (at_head Same q.name s (sort_of p.forms t) m (sort ∙ ap sort_or_int (ap (λ b. cond b (Some (sort_of p.forms t)) (found (initial_names p (Some q) ++ with_sorts_of p p.variables) x)) e)) zero
-              (now_told after (head.Var q.name (sort_of p.forms t) 0) (result_in (Some q) after.frames) (own_shows after q.name t (result_in (Some q) after.frames) result_type_own r.shows)
-              ∙ sym (ap (λ o. value_under symbols v o (v (head.Var q.name (sort_of p.forms t) 0)))
-              (replaced_else (alone y) (head.Var q.name (sort_of p.forms t) 0) (λ x s. refl) ∙ ap (λ b. cond b (Some (alone y)) None) (ap (λ k. head_eq (head.Var q.name k 0) (result_head p q)) (sym result_sort) ∙ head_eq-refl (result_head p q)))
-              ∙ (worth-variable symbols v y [] fresh ∙ value))))
-          by_name false e zero sort allowed =
-              shared e zero (sort ∙ ap sort_or_int (ap (λ b. cond b (Some (sort_of p.forms t)) (found (initial_names p (Some q) ++ with_sorts_of p p.variables) x)) e))
-              (ap (λ (names : List (Symbol × Item)). use_allowed q.globals (cond (is_some (found names x)) (Own x) (Shared (Variable x))) false) (sym initial) ∙ allowed)
+            by_name : (b : Bool) → same_name q.name x ≡ b → nat_eq m 0 ≡ true → s ≡ sort_or_int (found (with_sorts_of p (result_name q.name (Some t)) ++ (initial_names p (Some q) ++ with_sorts_of p p.variables)) x) → use_allowed q.globals (cond (is_some (cond b (Some t) None) || is_initial q x) (Own x) (Shared (Variable x))) false ≡ true → Same (head.Var x s m)
+            by_name true e zero sort allowed =
+                let name = same_names q.name x e in
+                let r = result_of t result after ended in
+                subst (λ (z : Symbol). Same (head.Var z s m)) name
+                (at_head Same q.name s (sort_of p.forms t) m (sort ∙ ap sort_or_int (ap (λ b. cond b (Some (sort_of p.forms t)) (found (initial_names p (Some q) ++ with_sorts_of p p.variables) x)) e)) zero
+                (now_told after (head.Var q.name (sort_of p.forms t) 0) (result_in (Some q) after.frames) (own_shows after q.name t (result_in (Some q) after.frames) (result_type_own t result) r.shows)
+                ∙ sym (ap (λ o. value_under symbols v o (v (head.Var q.name (sort_of p.forms t) 0)))
+                (replaced_else (alone y) (head.Var q.name (sort_of p.forms t) 0) (λ x s. refl) ∙ ap (λ b. cond b (Some (alone y)) None) (ap (λ k. head_eq (head.Var q.name k 0) (result_head p q)) (sym result_sort) ∙ head_eq-refl (result_head p q)))
+                ∙ (worth-variable symbols v y [] fresh ∙ value))))
+            by_name false e zero sort allowed =
+                shared e zero (sort ∙ ap sort_or_int (ap (λ b. cond b (Some (sort_of p.forms t)) (found (initial_names p (Some q) ++ with_sorts_of p p.variables) x)) e))
+                (ap (λ (names : List (Symbol × Item)). use_allowed q.globals (cond (is_some (found names x)) (Own x) (Shared (Variable x))) false) (sym (initial t result)) ∙ allowed)
 
-          by_formal : (o : Option TypeId) → found (map (λ f. (f.name, f.of)) q.formals) x ≡ o → nat_eq m 0 ≡ true → not (is_value_parameter q x) ≡ true → s ≡ sort_or_int (found (exit_scope p q) x) → use_allowed q.globals (cond (is_some o || (is_some (found (result_name q.name q.result) x) || is_initial q x)) (Own x) (Shared (Variable x))) false ≡ true → Same (head.Var x s m)
-          by_formal (Some u) e zero kept sort allowed = absurd (false≢true (sym (not_true (is_value_parameter q x) kept) ∙ formal_is_value q.formals by_value x (ap is_some e)))
-          by_formal None e zero kept sort allowed =
-              by_name (same_name q.name x) refl zero
-              (sort ∙ ap sort_or_int (scope_other x _ e ∙ ap (λ o. found (with_sorts_of p (result_name q.name o) ++ (initial_names p (Some q) ++ with_sorts_of p p.variables)) x) result))
-              (ap (λ o. use_allowed q.globals (cond (is_some (found (result_name q.name o) x) || is_initial q x) (Own x) (Shared (Variable x))) false) (sym result) ∙ allowed)
-      exit_same after ended variables heap y fresh value (head.ClassVar c m) passes variable =
-          subst (λ (h : Head). valuation_of (shapes p) (both (entry_view p (Some id) (push id (names ++ own) state)) (now_view p (Some id) after)) h ≡ under symbols (replacing (starts_at_call p q.formals terms ++ (initial_at_call p q terms ++ (result_head p q, alone y) ∷ []))) v h) (sym (ap (head.ClassVar c) (eqb-true m 0 (left_true (nat_eq m 0) _ passes))))
-          (now_told after (head.ClassVar c 0) (v (head.ClassVar c 0)) (callee_class after ended variables heap c (right_true (nat_eq m 0) _ passes))
-          ∙ sym (ap (λ o. value_under symbols v o (v (head.ClassVar c 0))) (replaced_else (alone y) (head.ClassVar c 0) (λ x s. refl))))
-      exit_same after ended variables heap y fresh value (head.Start x s) passes variable =
-          by_formal (found (map (λ f. (f.name, f.of)) q.formals) x) refl (value_is_formal q.formals x kept)
-        where
-          kept : is_value_parameter q x ≡ true
-          kept = left_true (is_value_parameter q x) _ passes
+            by_formal : (o : Option TypeId) → found (map (λ f. (f.name, f.of)) q.formals) x ≡ o → nat_eq m 0 ≡ true → not (is_value_parameter q x) ≡ true → s ≡ sort_or_int (found (exit_scope p q) x) → use_allowed q.globals (cond (is_some o || (is_some (found (result_name q.name q.result) x) || is_initial q x)) (Own x) (Shared (Variable x))) false ≡ true → Same (head.Var x s m)
+            by_formal (Some u) e zero kept sort allowed = absurd (false≢true (sym (not_true (is_value_parameter q x) kept) ∙ formal_is_value q.formals (by_value t result) x (ap is_some e)))
+            by_formal None e zero kept sort allowed =
+                by_name (same_name q.name x) refl zero
+                (sort ∙ ap sort_or_int (scope_other x _ e ∙ ap (λ o. found (with_sorts_of p (result_name q.name o) ++ (initial_names p (Some q) ++ with_sorts_of p p.variables)) x) result))
+                (ap (λ o. use_allowed q.globals (cond (is_some (found (result_name q.name o) x) || is_initial q x) (Own x) (Shared (Variable x))) false) (sym result) ∙ allowed)
+        exit_same after ended variables heap y fresh value (head.ClassVar c m) passes variable =
+            subst (λ (h : Head). valuation_of (shapes p) (both (entry_view p (Some id) (push id (names ++ own) state)) (now_view p (Some id) after)) h ≡ under symbols (replacing (starts_at_call p q.formals terms ++ (initial_at_call p q terms ++ (result_head p q, alone y) ∷ []))) v h) (sym (ap (head.ClassVar c) (eqb-true m 0 (left_true (nat_eq m 0) _ passes))))
+            (now_told after (head.ClassVar c 0) (v (head.ClassVar c 0)) (callee_class after ended variables heap c (right_true (nat_eq m 0) _ passes))
+            ∙ sym (ap (λ o. value_under symbols v o (v (head.ClassVar c 0))) (replaced_else (alone y) (head.ClassVar c 0) (λ x s. refl))))
+        exit_same after ended variables heap y fresh value (head.Start x s) passes variable =
+            by_formal (found (map (λ f. (f.name, f.of)) q.formals) x) refl (value_is_formal q.formals x kept)
+          where
+            kept : is_value_parameter q x ≡ true
+            kept = left_true (is_value_parameter q x) _ passes
 
-          Same : Head → Type 0
-          Same h = valuation_of (shapes p) (both (entry_view p (Some id) (push id (names ++ own) state)) (now_view p (Some id) after)) h ≡ under symbols (replacing (starts_at_call p q.formals terms ++ (initial_at_call p q terms ++ (result_head p q, alone y) ∷ []))) v h
+            Same : Head → Type 0
+            Same h = valuation_of (shapes p) (both (entry_view p (Some id) (push id (names ++ own) state)) (now_view p (Some id) after)) h ≡ under symbols (replacing (starts_at_call p q.formals terms ++ (initial_at_call p q terms ++ (result_head p q, alone y) ∷ []))) v h
 
-          by_formal : (o : Option TypeId) → found (map (λ f. (f.name, f.of)) q.formals) x ≡ o → is_some o ≡ true → Same (head.Start x s)
-          by_formal None e some = absurd (false≢true some)
-          by_formal (Some u) e some =
-              let a = argument x u e in
-              let sort = sort_eq-true s (sort_or_int (found (exit_scope p q) x)) (right_true (is_value_parameter q x) _ passes) ∙ ap sort_or_int (scope_parameter x u _ e) in
-              subst (λ (k : Sort). Same (head.Start x k)) (sym sort)
-              (start_told after x (sort_of p.forms u) a.value (start_shown x u a.value e kept a.bound)
-              ∙ sym (ap (λ o. value_under symbols v o (v (head.Start x (sort_of p.forms u)))) (replacing-there (starts_at_call p q.formals terms) _ (head.Start x (sort_of p.forms u)) a.term a.started) ∙ a.worth))
-      exit_same after ended variables heap y fresh value _ passes variable = absurd (false≢true variable)
+            by_formal : (o : Option TypeId) → found (map (λ f. (f.name, f.of)) q.formals) x ≡ o → is_some o ≡ true → Same (head.Start x s)
+            by_formal None e some = absurd (false≢true some)
+            by_formal (Some u) e some =
+                let a = argument x u kept e in
+                let sort = sort_eq-true s (sort_or_int (found (exit_scope p q) x)) (right_true (is_value_parameter q x) _ passes) ∙ ap sort_or_int (scope_parameter x u _ e) in
+                subst (λ (k : Sort). Same (head.Start x k)) (sym sort)
+                (start_told after x (sort_of p.forms u) a.value (start_shown x u a.value e kept a.bound)
+                ∙ sym (ap (λ o. value_under symbols v o (v (head.Start x (sort_of p.forms u)))) (replacing-there (starts_at_call p q.formals terms) _ (head.Start x (sort_of p.forms u)) a.term a.started) ∙ a.worth))
+        exit_same after ended variables heap y fresh value _ passes variable = absurd (false≢true variable)

@@ -116,11 +116,11 @@ module _ (p : Program) (f : IsFramed p) (world : Meaning) (here : Here) (entry :
     entry_true : (a : Annotation) → q.entry ≡ Some a → holds symbols v (substitute (replacing (at_call p q.formals terms)) (entry_term p q a)) ≡ true → met_holds p world (reached_entry p (begun p (Some id) (push id (bound.names ++ own) state)) q (push id (bound.names ++ own) state) a) ≡ true
     entry_true a e known =
         let s = push id (bound.names ++ own) state in
-        let uses = subst (λ o. list_all (λ u. use_allowed q.globals u.root u.changes) (annotation_uses (is_formal q) o) ≡ true) e (entry_uses p f id q there t result) in
+        let uses = subst (λ o. list_all (λ u. use_allowed q.globals u.root u.changes) (annotation_uses (is_formal q) o) ≡ true) e (entry_uses p f id q there) in
         let passes = formula_passes (entry_test p q) (name_in (entry_scope p q)) (is_formal q) q.globals (entry_passes p q) a.formula uses in
         ap truth_of
         (eval-agree symbols (valuation_of (shapes p) (both (entry_view p (Some id) s) (now_view p (Some id) s))) (under symbols (replacing (at_call p q.formals terms)) v) (entry_test p q) (entry_term p q a) passes
-        (entry_same p f id q there t result world here entry state start seen n window is v val shows terms bound.names own binds.names began)
+        (entry_same p f id q there world here entry state start seen n window is v val shows terms bound.names own binds.names began)
         ∙ sym (eval-substitute symbols (replacing (at_call p q.formals terms)) v (entry_term p q a)))
         ∙ known
 
@@ -130,12 +130,12 @@ module _ (p : Program) (f : IsFramed p) (world : Meaning) (here : Here) (entry :
     exit_true after end variables heap y fresh value a e known =
         let s = push id (bound.names ++ own) state in
         let pairs = starts_at_call p q.formals terms ++ (initial_at_call p q terms ++ (result_head p q, alone y) ∷ []) in
-        let uses = subst (λ o. list_all (λ u. use_allowed q.globals u.root u.changes) (annotation_uses (named_at_exit q) o) ≡ true) e (exit_uses p f id q there t result) in
+        let uses = subst (λ o. list_all (λ u. use_allowed q.globals u.root u.changes) (annotation_uses (named_at_exit q) o) ≡ true) e (exit_uses p f id q there) in
         let passes = formula_passes (exit_test p q) (name_at_exit p q) (named_at_exit q) q.globals (exit_passes p q) a.formula uses in
         ap truth_of
         (eval-substitute symbols (replacing pairs) v (exit_term p q a)
         ∙ sym (eval-agree symbols (valuation_of (shapes p) (both (entry_view p (Some id) s) (now_view p (Some id) after))) (under symbols (replacing pairs) v) (exit_test p q) (exit_term p q a) passes
-        (exit_same p f id q there t result world here entry state start seen n window is v val shows terms bound.names own binds.names after end variables heap y fresh value)))
+        (exit_same p f id q there world here entry state start seen n window is v val shows terms bound.names own binds.names t result after end variables heap y fresh value)))
         ∙ known
 
   -- where the function's run ended

@@ -6,5 +6,6 @@ pub mod LeafSupplies
 pub mod Globals
 pub mod Heads
 pub mod Parameters
+pub mod Pushed
 pub mod Callees
 pub mod Functions
