@@ -1,4 +1,4 @@
--- Where every routine is correct with fewer turns, functions that are called give what they promise.
+-- Where every routine is correct with fewer turns, routines that are called do what they promise.
 use Rattle.std.proofs.Common.{◌≡◌, ℕ, zero, suc, Bool, true, false, List, [], ◌∷◌, ◌++◌, refl, sym, ap, subst, ◌∙◌, Option, Some, None, option_map, cond, ◌&&◌, arith}
 use Rattle.std.specs.Prelude.{is_some}
 use Rattle.std.specs.List.{list_all}
@@ -39,7 +39,7 @@ use Rattle.spv_meaning.specs.Places.{Binding, State}
 use Rattle.spv_meaning.specs.Views.{now_view, entry_view, sees}
 use Rattle.spv_meaning.specs.Outcomes.{Ended, Met, ends, stops, and_then, meets, take_choice}
 use Rattle.spv_meaning.specs.Levels.{Here, Level, Bound, run_body, reached_entry, reached_exit, choose_all, push, pop, run_routine, enter, result_in}
-use Rattle.spv_meaning.specs.Walks.{level}
+use Rattle.spv_meaning.specs.Walks.{level, run}
 use Rattle.spv_meaning.specs.Evaluation.{Got, gives, arguments}
 use Rattle.spv_meaning.specs.Starts.{IsStart}
 use Rattle.spv_meaning.specs.Correct.{valuation_of, met_holds, all_hold, body_of, routine_body, begun, met_if_there, routine_entry, routine_exit, Starts, CorrectWith, CorrectBelow}
@@ -85,7 +85,7 @@ module _ (p : Program) (world : Meaning) where
 -- ---- a call
 
 module _ (p : Program) (f : IsFramed p) (world : Meaning) (here : Here) (entry : IsEntry p here.entry) (state : State) (start : IsStart p here.routine state) (k : ℕ) (correct : CorrectBelow p world (suc k))
-    (id : RoutineId) (line : ℕ) (given : Arguments) (q : Routine) (t : TypeId) (found : callee p (routine_in p here.routine) (call id line given) ≡ Some q) (result : q.result ≡ Some t) (shown_calls : calls_shown p (routine_in p here.routine) (call id line given ∷ []) ≡ true)
+    (id : RoutineId) (line : ℕ) (given : Arguments) (q : Routine) (found : callee p (routine_in p here.routine) (call id line given) ≡ Some q) (shown_calls : calls_shown p (routine_in p here.routine) (call id line given ∷ []) ≡ true)
     (choices : List Value) (bound : Bound) (ended : (arguments p (Some (level p k)) here q.formals given state choices).end ≡ Ended bound) (n : Supply) (window : View) (is : IsWindow p n window)
     (terms : List Argument) (binds : IsBoundTo p (meaning_in p world) here state q.formals terms window bound) where
   abbrev symbols : Meaning
@@ -124,25 +124,12 @@ module _ (p : Program) (f : IsFramed p) (world : Meaning) (here : Here) (entry :
         ∙ sym (eval-substitute symbols (replacing (at_call p q.formals terms)) v (entry_term p q a)))
         ∙ known
 
-    exit_true : (after : State) → IsStart p (Some id) after → after.variables ≡ state.variables → after.heap ≡ state.heap → (y : Head) → is_variable y ≡ true → v y ≡ result_in (Some q) after.frames
-        → (a : Annotation) → q.exit ≡ Some a → met_holds p world (reached_exit p (begun p (Some id) (push id (bound.names ++ own) state)) q after a) ≡ true
-        → holds symbols v (substitute (replacing (starts_at_call p q.formals terms ++ (initial_at_call p q terms ++ (result_head p q, alone y) ∷ []))) (exit_term p q a)) ≡ true
-    exit_true after end variables heap y fresh value a e known =
-        let s = push id (bound.names ++ own) state in
-        let pairs = starts_at_call p q.formals terms ++ (initial_at_call p q terms ++ (result_head p q, alone y) ∷ []) in
-        let uses = subst (λ o. list_all (λ u. use_allowed q.globals u.root u.changes) (annotation_uses (named_at_exit q) o) ≡ true) e (exit_uses p f id q there) in
-        let passes = formula_passes (exit_test p q) (name_at_exit p q) (named_at_exit q) q.globals (exit_passes p q) a.formula uses in
-        ap truth_of
-        (eval-substitute symbols (replacing pairs) v (exit_term p q a)
-        ∙ sym (eval-agree symbols (valuation_of (shapes p) (both (entry_view p (Some id) s) (now_view p (Some id) after))) (under symbols (replacing pairs) v) (exit_test p q) (exit_term p q a) passes
-        (exit_same p f id q there world here entry state start seen n window is v val shows terms bound.names own binds.names t result after end variables heap y fresh value)))
-        ∙ known
-
-  -- where the function's run ended
-  record Ran (own : List (Symbol × Binding)) (after : State) : Type 0 where
-    is_start : IsStart p (Some id) after
-    popped : pop after ≡ state
-    exit : all_hold p world (met_if_there (reached_exit p (begun p (Some id) (push id (bound.names ++ own) state)) q after) q.exit) ≡ true
+  -- where the run of the body ended, with some choices
+  pub record Ran (own : List (Symbol × Binding)) (after : State) : Type 0 where
+    pub is_start : IsStart p (Some id) after
+    pub taken : List Value
+    pub ran_to : (run p k (begun p (Some id) (push id (bound.names ++ own) state)) q.body (push id (bound.names ++ own) state) taken).end ≡ Ended after
+    pub exit : all_hold p world (met_if_there (reached_exit p (begun p (Some id) (push id (bound.names ++ own) state)) q after) q.exit) ≡ true
 
   module _ (known : IsTrueFor p world (shown p here window state) (wanted_entry here.routine line (entry_at_call p q terms))) where
     base : Valuation
@@ -187,7 +174,8 @@ module _ (p : Program) (f : IsFramed p) (world : Meaning) (here : Here) (entry :
             holds = subst (λ b. all_hold p world (run_body (level p k) (begun p (Some id) s) b s rest).met ≡ true) same (right.reached s starts rest);
             ended = λ after e. record {
               is_start = leaves_start p f (begun p (Some id) s) q.body (ap (λ o. statement_ok p o q.body) there ∙ (routine_right p f.typed id q there).body) s began k rest after e;
-              popped = function_alone p f id q there t result s began.right k rest after e;
+              taken = rest;
+              ran_to = e;
               exit = sym (ap (λ o. all_hold p world (routine_exit p (begun p (Some id) s) o after)) there) ∙ right.ended s starts rest after (subst (λ b. (run_body (level p k) (begun p (Some id) s) b s rest).end ≡ Ended after) (sym same) e);
             };
             stopped = λ f e. refl;
@@ -207,34 +195,58 @@ module _ (p : Program) (f : IsFramed p) (world : Meaning) (here : Here) (entry :
           one_holds g None all m e = absurd (nothing_there e)
           one_holds g (Some a) all m e = ap (met_holds p world) (sym (some_is e)) ∙ left_true (met_holds p world (g a)) true all
 
-    -- what it gives
-    result_given : (own : List (Symbol × Binding)) → IsStart p (Some id) (push id (bound.names ++ own) state) → (after : State) → Ran own after → IsResult p world here state q n terms window (record { value = result_in (Some q) after.frames; state = pop after })
-    result_given own began after ran = record {
-      state_is = ran.popped;
-      fit = ap (fits (shapes p) (result_in (Some q) after.frames)) (ap (λ o. sort_or_int (sort_of_type p o)) result) ∙ result_fits p f id q there t result after ran.is_start;
-      promised = λ u e v val shows value. by_exit q.exit refl e v val shows value ran.exit;
-    }
-      where
-        by_exit : (o : Option Annotation) → q.exit ≡ o → {u : Term} → option_map (λ a. substitute (replacing (starts_at_call p q.formals terms ++ (initial_at_call p q terms ++ (result_head p q, alone (value_head p q n)) ∷ []))) (exit_term p q a)) o ≡ Some u
-            → (v : Valuation) → IsValuation (shapes p) v → Shows (shown p here window state) v → v (value_head p q n) ≡ result_in (Some q) after.frames → all_hold p world (met_if_there (reached_exit p (begun p (Some id) (push id (bound.names ++ own) state)) q after) o) ≡ true → holds symbols v u ≡ true
-        by_exit None is {u} e v val shows value all = absurd (nothing_there e)
-        by_exit (Some a) is {u} e v val shows value all =
-            subst (λ (x : Term). holds symbols v x ≡ true) (some_is e)
-            (exit_true v val shows own began after ran.is_start (ap (λ (s : State). s.variables) ran.popped) (ap (λ (s : State). s.heap) ran.popped) (value_head p q n) refl value a is (left_true _ true all))
+    -- the run of the call, with the names that its frame begins with
+    pub record Entered (after : State) : Type 0 where
+      pub own : List (Symbol × Binding)
+      pub began : IsStart p (Some id) (push id (bound.names ++ own) state)
+      pub ran : Ran own after
 
-    pub function_gives : (rest : List Value) → Reaches p world all_allowed Got (IsResult p world here state q n terms window) (and_then (enter p (level p k) id (Some q) bound rest) (λ after last. gives (result_in (Some q) after.frames) (pop after) last))
-    function_gives rest =
-        reach_then p world all_allowed Done (IsResult p world here state q n terms window) (enter p (level p k) id (Some q) bound rest) _
-        (reach_then p world all_allowed _ Done (choose_all p (result_name q.name q.result ++ q.locals) rest) _
+    pub entered : (rest : List Value) → Reaches p world all_allowed State Entered (enter p (level p k) id (Some q) bound rest)
+    entered rest =
+        reach_then p world all_allowed _ Entered (choose_all p (result_name q.name q.result ++ q.locals) rest) _
         (reach_with p world _ (choose_all p (result_name q.name q.result ++ q.locals) rest) (chosen_reaches p world (result_name q.name q.result ++ q.locals) rest))
         (λ own chosen last.
         let began = began_right own rest chosen.ended in
-        reach_as p world all_allowed (Ran own) Done (run_routine p (level p k) id q (push id (bound.names ++ own) bound.state) last) (λ after ran. result_given own began after ran)
-        (subst (λ (s : State). Reaches p world all_allowed State (Ran own) (run_routine p (level p k) id q (push id (bound.names ++ own) s) last)) (sym binds.state_is) (routine own began last))))
-        (λ after done last. reach_ends p world all_allowed _ _ last done)
-      where
-        Done : State → Type 0
-        Done after = IsResult p world here state q n terms window (record { value = result_in (Some q) after.frames; state = pop after })
+        reach_as p world all_allowed (Ran own) Entered (run_routine p (level p k) id q (push id (bound.names ++ own) bound.state) last) (λ after ran. record { own = own; began = began; ran = ran })
+        (subst (λ (s : State). Reaches p world all_allowed State (Ran own) (run_routine p (level p k) id q (push id (bound.names ++ own) s) last)) (sym binds.state_is) (routine own began last)))
+
+    -- what a function gives
+    module _ (t : TypeId) (result : q.result ≡ Some t) where
+      exit_true : (v : Valuation) → IsValuation (shapes p) v → Shows (shown p here window state) v → (own : List (Symbol × Binding)) → (after : State) → IsStart p (Some id) after → after.variables ≡ state.variables → after.heap ≡ state.heap → (y : Head) → is_variable y ≡ true → v y ≡ result_in (Some q) after.frames
+          → (a : Annotation) → q.exit ≡ Some a → met_holds p world (reached_exit p (begun p (Some id) (push id (bound.names ++ own) state)) q after a) ≡ true
+          → holds symbols v (substitute (replacing (starts_at_call p q.formals terms ++ (initial_at_call p q terms ++ (result_head p q, alone y) ∷ []))) (exit_term p q a)) ≡ true
+      exit_true v val shows own after end variables heap y fresh value a e known =
+          let s = push id (bound.names ++ own) state in
+          let pairs = starts_at_call p q.formals terms ++ (initial_at_call p q terms ++ (result_head p q, alone y) ∷ []) in
+          let uses = subst (λ o. list_all (λ u. use_allowed q.globals u.root u.changes) (annotation_uses (named_at_exit q) o) ≡ true) e (exit_uses p f id q there) in
+          let passes = formula_passes (exit_test p q) (name_at_exit p q) (named_at_exit q) q.globals (exit_passes p q) a.formula uses in
+          ap truth_of
+          (eval-substitute symbols (replacing pairs) v (exit_term p q a)
+          ∙ sym (eval-agree symbols (valuation_of (shapes p) (both (entry_view p (Some id) s) (now_view p (Some id) after))) (under symbols (replacing pairs) v) (exit_test p q) (exit_term p q a) passes
+          (exit_same p f id q there world here entry state start seen n window is v val shows terms bound.names own binds.names t result after end variables heap y fresh value)))
+          ∙ known
+
+      result_given : (after : State) → Entered after → IsResult p world here state q n terms window (record { value = result_in (Some q) after.frames; state = pop after })
+      result_given after e = record {
+        state_is = popped;
+        fit = ap (fits (shapes p) (result_in (Some q) after.frames)) (ap (λ o. sort_or_int (sort_of_type p o)) result) ∙ result_fits p f id q there t result after e.ran.is_start;
+        promised = λ u is v val shows value. by_exit q.exit refl is v val shows value e.ran.exit;
+      }
+        where
+          popped : pop after ≡ state
+          popped = function_alone p f id q there t result (push id (bound.names ++ e.own) state) e.began.right k e.ran.taken after e.ran.ran_to
+
+          by_exit : (o : Option Annotation) → q.exit ≡ o → {u : Term} → option_map (λ a. substitute (replacing (starts_at_call p q.formals terms ++ (initial_at_call p q terms ++ (result_head p q, alone (value_head p q n)) ∷ []))) (exit_term p q a)) o ≡ Some u
+              → (v : Valuation) → IsValuation (shapes p) v → Shows (shown p here window state) v → v (value_head p q n) ≡ result_in (Some q) after.frames → all_hold p world (met_if_there (reached_exit p (begun p (Some id) (push id (bound.names ++ e.own) state)) q after) o) ≡ true → holds symbols v u ≡ true
+          by_exit None is {u} same v val shows value all = absurd (nothing_there same)
+          by_exit (Some a) is {u} same v val shows value all =
+              subst (λ (x : Term). holds symbols v x ≡ true) (some_is same)
+              (exit_true v val shows e.own after e.ran.is_start (ap (λ (s : State). s.variables) popped) (ap (λ (s : State). s.heap) popped) (value_head p q n) refl value a is (left_true _ true all))
+
+      pub function_gives : (rest : List Value) → Reaches p world all_allowed Got (IsResult p world here state q n terms window) (and_then (enter p (level p k) id (Some q) bound rest) (λ after last. gives (result_in (Some q) after.frames) (pop after) last))
+      function_gives rest =
+          reach_then p world all_allowed Entered (IsResult p world here state q n terms window) (enter p (level p k) id (Some q) bound rest) _ (entered rest)
+          (λ after e last. reach_ends p world all_allowed _ _ last (result_given after e))
 
 -- with one turn less than a number of turns
 pub functions_give : (p : Program) → IsFramed p → (world : Meaning) (here : Here) → IsEntry p here.entry → (turns : ℕ) → CorrectBelow p world turns → (state : State) → IsStart p here.routine state → FunctionsGive p world here (below p turns) state
@@ -242,5 +254,5 @@ functions_give p f world here entry zero correct state start = record { each = �
 functions_give p f world here entry (suc k) correct state start = record {
   each = λ level is id line given q t found result calls choices bound ended n window fixed terms binds known rest.
       subst (λ (l : Level). Reaches p world all_allowed Got (IsResult p world here state q n terms window) (and_then (enter p l id (Some q) bound rest) (λ after last. gives (result_in (Some q) after.frames) (pop after) last))) (some_is is)
-      (function_gives p f world here entry state start k correct id line given q t found result calls choices bound ended n window fixed terms binds known rest);
+      (function_gives p f world here entry state start k correct id line given q found calls choices bound ended n window fixed terms binds known t result rest);
 }
