@@ -249,24 +249,24 @@ module _ (heap : List HeapRow) (number : ℕ) (globals : List GlobalItem) where
 -- ---- what a call's test says
 
 -- a root that is no item of a list
-no_item_of : (globals : List GlobalItem) (r : Root) → is_item_of globals r ≡ false → list_any (same_root r) (map Shared (map (λ g. g.item) globals)) ≡ false
+pub no_item_of : (globals : List GlobalItem) (r : Root) → is_item_of globals r ≡ false → list_any (same_root r) (map Shared (map (λ g. g.item) globals)) ≡ false
 no_item_of [] r h = refl
 no_item_of (g ∷ globals) (Own x) h = no_item_of globals (Own x) h
 no_item_of (g ∷ globals) (Shared i) h =
     both_false (same_item i g.item) (list_any (same_root (Shared i)) (map Shared (map (λ g. g.item) globals))) (swapped same_item items_same item_itself i g.item ∙ left_false (same_item g.item i) _ h)
     (no_item_of globals (Shared i) (right_false (same_item g.item i) _ h))
 
-no_items_of : (globals : List GlobalItem) (roots : List Root) → list_any (is_item_of globals) roots ≡ false → list_any (λ r. list_any (same_root r) (map Shared (map (λ g. g.item) globals))) roots ≡ false
+pub no_items_of : (globals : List GlobalItem) (roots : List Root) → list_any (is_item_of globals) roots ≡ false → list_any (λ r. list_any (same_root r) (map Shared (map (λ g. g.item) globals))) roots ≡ false
 no_items_of globals [] h = refl
 no_items_of globals (r ∷ roots) h =
     both_false (list_any (same_root r) (map Shared (map (λ g. g.item) globals))) (list_any (λ r. list_any (same_root r) (map Shared (map (λ g. g.item) globals))) roots)
     (no_item_of globals r (left_false (is_item_of globals r) _ h)) (no_items_of globals roots (right_false (is_item_of globals r) _ h))
 
-shown_items : (here : Option Routine) (globals : List GlobalItem) → list_all (λ g. sees here g.item) globals ≡ true → list_all (root_shown here) (map Shared (map (λ g. g.item) globals)) ≡ true
+pub shown_items : (here : Option Routine) (globals : List GlobalItem) → list_all (λ g. sees here g.item) globals ≡ true → list_all (root_shown here) (map Shared (map (λ g. g.item) globals)) ≡ true
 shown_items here [] h = refl
 shown_items here (g ∷ globals) h = both_true (left_true (sees here g.item) _ h) (shown_items here globals (right_true (sees here g.item) _ h))
 
-globals_differ : (p : Program) → well_typed p ≡ true → (id : RoutineId) (q : Routine) → routine_at p id ≡ Some q → all_differ same_item (map (λ g. g.item) q.globals) ≡ true
+pub globals_differ : (p : Program) → well_typed p ≡ true → (id : RoutineId) (q : Routine) → routine_at p id ≡ Some q → all_differ same_item (map (λ g. g.item) q.globals) ≡ true
 globals_differ p typed id q there =
     let ok = item_passes (routine_ok p) p.routines id.0 q (left_true (list_all (routine_ok p) p.routines) _ (right_true (declarations_ok p) _ typed)) there in
     left_true (all_differ same_item (map (λ g. g.item) q.globals)) _

@@ -70,9 +70,9 @@ shown_seen p here x t shown other =
     found_passes (λ y. sees here (Variable y)) p.variables x t (sym (found_append (own_names_in here) (filter (λ n. sees here (Variable n.0)) p.variables) x other) ∙ shown)
 
 -- where a routine or the main block runs, no area of roots that show touches the place of another name, or another class
-record Untouched (p : Program) (here : Option RoutineId) (state : State) (roots : List Root) : Type 0 where
-  name : (x : Symbol) (t : TypeId) → shown_type p (routine_in p here) x ≡ Some t → list_any (same_root (name_root (is_own (routine_in p here)) x)) roots ≡ false → is_touched state.heap (areas_of state.frames roots) (At (place_of here state x)) ≡ false
-  class : (t : TypeId) → sees (routine_in p here) (Class t) ≡ true → list_any (same_root (Shared (Class t))) roots ≡ false → is_touched state.heap (areas_of state.frames roots) (CellsOf t) ≡ false
+pub record Untouched (p : Program) (here : Option RoutineId) (state : State) (roots : List Root) : Type 0 where
+  pub name : (x : Symbol) (t : TypeId) → shown_type p (routine_in p here) x ≡ Some t → list_any (same_root (name_root (is_own (routine_in p here)) x)) roots ≡ false → is_touched state.heap (areas_of state.frames roots) (At (place_of here state x)) ≡ false
+  pub class : (t : TypeId) → sees (routine_in p here) (Class t) ≡ true → list_any (same_root (Shared (Class t))) roots ≡ false → is_touched state.heap (areas_of state.frames roots) (CellsOf t) ≡ false
 
 main_shown : (p : Program) (state : State) (roots : List Root) → list_all (root_shown None) roots ≡ true → Untouched p None state roots
 main_shown p state roots shown = record {
@@ -120,7 +120,7 @@ routine_shown p id r there older state right parts roots shown = by_frames state
           ∙ shown_class p id r older state f frames is h parts roots shown t (ap (λ o. sees o (Class t)) (sym there) ∙ seen) other;
     }
 
-untouched : (p : Program) (here : Option RoutineId) (state : State) → IsStart p here state → (roots : List Root) → list_all (root_shown (routine_in p here)) roots ≡ true → Untouched p here state roots
+pub untouched : (p : Program) (here : Option RoutineId) (state : State) → IsStart p here state → (roots : List Root) → list_all (root_shown (routine_in p here)) roots ≡ true → Untouched p here state roots
 untouched p here state start roots shown = by_types here start.right.types start.right.inside start.right.right start.areas shown
   where
     by_types : (here : Option RoutineId) (types : List FrameType) → IsIn p here types → IsRight p types state → apart (routine_in p here) state ≡ true → list_all (root_shown (routine_in p here)) roots ≡ true → Untouched p here state roots

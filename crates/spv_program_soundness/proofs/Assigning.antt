@@ -1,6 +1,7 @@
 -- Assignments are right.
 use Rattle.std.proofs.Common.{◌≡◌, ℕ, zero, suc, Bool, true, false, cond, not, ◌&&◌, ◌||◌, List, [], ◌∷◌, ◌++◌, map, pos, refl, sym, ap, subst, ◌∙◌, Option, Some, None, option_map}
 use Rattle.std.specs.Option.{option_and_then, unwrap_or}
+use Rattle.std.specs.Cmp.Derive.{both_true}
 use Rattle.std.proofs.lemmas.Bool.{false≢true}
 use Rattle.spv_logic.proofs.list.Tests.{right_true}
 use Rattle.spv_logic.specs.declared.names.names.Symbol.{Symbol}
@@ -21,7 +22,7 @@ use Rattle.spv_program.specs.Expressions.{Expression, Designator}
 use Rattle.spv_program.specs.Statements.{Assign}
 use Rattle.spv_program.specs.Programs.{Routine, Program, shapes, routine_in}
 use Rattle.spv_program.specs.Scopes.{is_own, name_type}
-use Rattle.spv_program.specs.Uses.{Root, Own, Shared, same_root, name_root, expression_uses, designator_uses, expression_calls, designator_calls}
+use Rattle.spv_program.specs.Uses.{Root, expression_uses, designator_uses, expression_calls, designator_calls}
 use Rattle.spv_program.specs.Frames.{root_of, arguments_apart}
 use Rattle.spv_program.specs.Changes.{changed_roots}
 use Rattle.spv_program.specs.ExpressionTypes.{may_write, sort_of_type, expression_sort, designator_type}
@@ -39,7 +40,7 @@ use Rattle.spv_meaning.specs.Levels.{Here}
 use Rattle.spv_meaning.specs.Evaluation.{Got, Fixed, is_cell_of, fix, evaluate}
 use Rattle.spv_meaning.specs.Walks.{walk, assign}
 use Rattle.spv_meaning.specs.FrameTypes.{row_type, place_sort}
-use Rattle.spv_meaning.specs.Starts.{IsStart, At, overlap}
+use Rattle.spv_meaning.specs.Starts.{IsStart, At, CellsOf, same_root, overlap}
 use Rattle.spv_meaning.specs.Correct.{CorrectBelow}
 use Rattle.spv_meaning.specs.Before.{Made, before_calls, replaced}
 use Rattle.spv_meaning.proofs.AssignedPrograms.{same_sorts}
@@ -61,9 +62,9 @@ use Rattle.spv_rule_soundness.proofs.statements.Lists.{not_new, follow-replaced}
 use Rattle.spv_rule_soundness.proofs.statements.Views.{in_first, within}
 use Rattle.spv_rule_soundness.proofs.statements.States.{at_state-valuation, at_state-shows, same_shown}
 use Rattle.spv_rule_soundness.proofs.statements.Reaching.{reach_then}
-use Rattle.spv_writes.specs.Writes.{Writes, part_of, is_in, is_in_one}
+use Rattle.spv_writes.specs.Writes.{Writes, part_of, is_below, is_in, is_in_one}
 use Rattle.spv_writes.proofs.Lists.{all_left, all_right, any_left, or_left}
-use Rattle.spv_writes.proofs.Places.{below_itself}
+use Rattle.spv_writes.proofs.Places.{root_itself, below_itself}
 use Rattle.spv_writes.proofs.Kept.{one_put}
 use Rattle.spv_writes.proofs.Parts.{part_written}
 use Rattle.spv_writes.proofs.Classes.{put_in_cell}
@@ -81,51 +82,16 @@ use Rattle.spv_call_evaluation.specs.Laws.{IsReady}
 use Rattle.spv_call_evaluation.proofs.Windows.{reach_with, knows_shown, narrower, first_calls, behind_them, checked}
 use Rattle.spv_call_evaluation.proofs.Evaluating.{evaluated, fixed_at}
 use Rattle.spv_call_evaluation.proofs.Functions.{functions_give}
-use Rattle.spv_program_soundness.proofs.Parts.{changed_worth, look_joined}
 use Rattle.spv_program_soundness.proofs.Roots.{IsRootOf, OfName, OfClass, root_is}
 use Rattle.spv_program_soundness.proofs.Kept.{root_kept}
+use Rattle.spv_program_soundness.proofs.Staying.{AreRoots, NoRoots, OneRoot, else_stays}
+use Rattle.spv_program_soundness.proofs.Written.{OnlyThere, root_after}
 
 pub below_same : (p : Program) (turns : ℕ) → below p turns ≡ below_turns p turns
 below_same p zero = refl
 below_same p (suc n) = refl
 
 -- ---- a put, and what shows
-
--- roots of two names that differ, and of a name and a class
-names_apart : (own : Symbol → Bool) (x y : Symbol) → same_name y x ≡ false → (same_root (name_root own y) (name_root own x) || false) ≡ false
-names_apart own x y other = by_own (own y) (own x)
-  where
-    by_own : (b c : Bool) → (same_root (cond b (Own y) (Shared (Variable y))) (cond c (Own x) (Shared (Variable x))) || false) ≡ false
-    by_own true true = ap (λ b. b || false) other
-    by_own true false = refl
-    by_own false true = refl
-    by_own false false = ap (λ b. b || false) other
-
-class_and_name : (own : Symbol → Bool) (x : Symbol) (c : TypeId) → (same_root (Shared (Class c)) (name_root own x) || false) ≡ false
-class_and_name own x c = by_own (own x)
-  where
-    by_own : (b : Bool) → (same_root (Shared (Class c)) (cond b (Own x) (Shared (Variable x))) || false) ≡ false
-    by_own true = refl
-    by_own false = refl
-
-pub name_and_class : (own : Symbol → Bool) (x : Symbol) (c : TypeId) → (same_root (name_root own x) (Shared (Class c)) || false) ≡ false
-name_and_class own x c = by_own (own x)
-  where
-    by_own : (b : Bool) → (same_root (cond b (Own x) (Shared (Variable x))) (Shared (Class c)) || false) ≡ false
-    by_own true = refl
-    by_own false = refl
-
-name_shows : (r : Option Routine) (x : Symbol) → root_seen r (name_root (is_own r) x) ≡ true → root_shown r (name_root (is_own r) x) ≡ true
-name_shows r x seen = by_own (is_own r x) refl seen
-  where
-    by_own : (b : Bool) → is_own r x ≡ b → root_seen r (cond b (Own x) (Shared (Variable x))) ≡ true → root_shown r (cond b (Own x) (Shared (Variable x))) ≡ true
-    by_own true own seen = own
-    by_own false own seen = seen
-
--- a cell of a type
-cell_typed : (c : TypeId) (o : Option HeapRow) → is_cell_of c o ≡ true → option_and_then row_type o ≡ Some c
-cell_typed c None h = absurd (false≢true h)
-cell_typed c (Some r) h = ap Some (same_types r.type c h)
 
 module _ (p : Program) (f : IsFramed p) (here : Here) (state : State) (start : IsStart p here.routine state) (root : Root) (h : Head) (is_root : IsRootOf p (routine_in p here.routine) root h) (a : Place) (s : Sort) (w : Value) (place : IsPlace (shapes p) state a s) (fit : fits (shapes p) w s ≡ true) (inside : is_in_one state.heap (root_areas state.frames root) a ≡ true) where
   abbrev r : Option Routine
@@ -139,115 +105,28 @@ module _ (p : Program) (f : IsFramed p) (here : Here) (state : State) (start : I
 
   -- all else shows what it did
   pub same_else : (k : Head) → head_eq k h ≡ false → now_view p here.routine (put state a w) k ≡ now_view p here.routine state k
-  same_else k other = by_root root h is_root refl k other
-    where
-      Same : Head → Type 0
-      Same k = now_view p here.routine (put state a w) k ≡ now_view p here.routine state k
-
-      others : (root' : Root) → root' ≡ root → root_shown (routine_in p here.routine) root' ≡ true → (k : Head) → is_of_one (routine_in p here.routine) (root' ∷ []) k ≡ false → Same k
-      others root' is shows k none =
-          put_shows p here.routine state start root (ap (root_shown (routine_in p here.routine)) (sym is) ∙ shows) a s w place fit inside k (ap (λ (x : Root). is_of_one (routine_in p here.routine) (x ∷ []) k) (sym is) ∙ none)
-
-      -- of another sort than the name's nothing shows
-      sorted : (x : Symbol) (t : TypeId) → name_type p (routine_in p here.routine) x ≡ Some t → root_seen (routine_in p here.routine) (name_root (is_own (routine_in p here.routine)) x) ≡ true → (q : Sort) → sort_eq q (sort_of p.forms t) ≡ false → Same (head.Var x q 0)
-      sorted x t told seen q other =
-          let type = settings.shown p (routine_in p here.routine) x t told seen in
-          nothing (put state a w) type ∙ sym (nothing state type)
-        where
-          differs : sort_eq (sort_of p.forms t) q ≡ false
-          differs = by_case (sort_eq (sort_of p.forms t) q) refl
-            where
-              by_case : (b : Bool) → sort_eq (sort_of p.forms t) q ≡ b → b ≡ false
-              by_case true e = absurd (false≢true (sym other ∙ (ap (λ (k : Sort). sort_eq k (sort_of p.forms t)) (sym (sort_eq-true (sort_of p.forms t) q e)) ∙ sort_eq-refl (sort_of p.forms t))))
-              by_case false e = refl
-
-          nothing : (st : State) → shown_type p (routine_in p here.routine) x ≡ Some t → now_view p here.routine st (head.Var x q 0) ≡ None
-          nothing st type =
-              ap (λ o. of_sort (option_map (sort_of p.forms) o) q (look st (place_of here.routine st x))) type
-              ∙ ap (λ b. cond b (look st (place_of here.routine st x)) None) differs
-
-      by_root : (root' : Root) (h : Head) → IsRootOf p (routine_in p here.routine) root' h → root' ≡ root → (k : Head) → head_eq k h ≡ false → Same k
-      by_root _ _ (OfName x t told seen) is (head.Var y q zero) other = by_name (same_name y x) refl
-        where
-          by_name : (b : Bool) → same_name y x ≡ b → Same (head.Var y q zero)
-          by_name true e =
-              subst (λ (z : Symbol). Same (head.Var z q 0)) (sym (same_names y x e))
-              (sorted x t told seen q (only (sort_eq q (sort_of p.forms t)) (ap (λ b. b && (sort_eq q (sort_of p.forms t) && true)) (sym e) ∙ other)))
-            where
-              only : (b : Bool) → (true && (b && true)) ≡ false → b ≡ false
-              only true h = h
-              only false h = refl
-          by_name false e = others (name_root (is_own (routine_in p here.routine)) x) is (name_shows (routine_in p here.routine) x seen) (head.Var y q zero) (names_apart (is_own (routine_in p here.routine)) x y e)
-      by_root _ _ (OfName x t told seen) is (head.Var y q (suc n)) other = refl
-      by_root _ _ (OfName x t told seen) is (head.ClassVar c zero) other =
-          others (name_root (is_own (routine_in p here.routine)) x) is (name_shows (routine_in p here.routine) x seen) (head.ClassVar c zero) (class_and_name (is_own (routine_in p here.routine)) x c)
-      by_root _ _ (OfName x t told seen) is (head.ClassVar c (suc n)) other = refl
-      by_root _ _ (OfName x t told seen) is _ other = refl
-      by_root _ _ (OfClass c n there seen) is (head.Var y q zero) other = others (Shared (Class c)) is seen (head.Var y q zero) (name_and_class (is_own (routine_in p here.routine)) y c)
-      by_root _ _ (OfClass c n there seen) is (head.Var y q (suc m)) other = refl
-      by_root _ _ (OfClass c n there seen) is (head.ClassVar k zero) other = others (Shared (Class c)) is seen (head.ClassVar k zero) (as_types (same_type k c) other)
-        where
-          as_types : (b : Bool) → (b && true) ≡ false → (b || false) ≡ false
-          as_types true h = absurd (false≢true (sym h))
-          as_types false h = refl
-      by_root _ _ (OfClass c n there seen) is (head.ClassVar k (suc m)) other = refl
-      by_root _ _ (OfClass c n there seen) is _ other = refl
+  same_else k other = else_stays p here state start (root ∷ []) (h ∷ []) (OneRoot root h is_root [] [] NoRoots) (put state a w) writes k (ap (λ b. b || false) other)
 
   -- ---- the root
 
   module _ (world : Meaning) (window : View) (u : Valuation) (knows : Knows p (meaning_in p world) here state window u) (shows : Shows (now_view p here.routine state) u) (t : Term) (worth : eval (meaning_in p world) u t ≡ w) where
-    abbrev symbols : Meaning
-    symbols = meaning_in p world
-
-    abbrev rel : List Step → List PathStep
-    rel path = map (step_at (meaning_in p world) u) path
-
-    -- what is where the steps begin, afterwards
-    written : (beginning : Place) (path : List PathStep) → a ≡ part_of beginning path → (x : Value) → look state beginning ≡ Some x → look (put state a w) beginning ≡ Some (with_part x path w)
-    written beginning path is x there =
-        let at : IsPlace (shapes p) state (part_of beginning path) s = subst (λ (b : Place). IsPlace (shapes p) state b s) is place in
-        let areas = At (part_of beginning path) ∷ [] in
-        let wrote = one_put p areas state (part_of beginning path) s w at fit (or_left _ false (below_itself (part_of beginning path))) in
-        let found = put_found (shapes p) state (part_of beginning path) s at w in
-        ap (λ (b : Place). look (put state b w) beginning) is
-        ∙ (part_written p areas state (put state (part_of beginning path) w) wrote beginning path s at (ends (overlap state.heap (At (part_of beginning path)) (At beginning)) (below_itself (part_of beginning path))) x there
-        ∙ ap (λ o. Some (with_part x path (value_or_zero o))) found)
+    -- the place alone is written
+    only_there : (k : Head) (beginning : Place) (path : List PathStep) → a ≡ part_of beginning path → OnlyThere state.heap (At a ∷ []) k beginning path
+    only_there k beginning path is = record {
+      below = either (overlap state.heap (At a) (At beginning)) (ap (is_below a) (sym is) ∙ below_itself a);
+      cell = λ c cell class there. either (overlap state.heap (At a) (CellsOf c)) (both_true (ap (λ (b : Place). same_root (CellOf cell) b.root) is ∙ (ap (λ (b : Place). same_root (CellOf cell) b.root) there ∙ root_itself (CellOf cell))) refl);
+    }
       where
-        ends : (b : Bool) → {c : Bool} → c ≡ true → ((not b || c) && true) ≡ true
-        ends true h = ap (λ c. c && true) h
-        ends false h = refl
-
-    -- the part that was there
-    part_was : (beginning : Place) (path : List PathStep) → a ≡ part_of beginning path → (x y : Value) → look state beginning ≡ Some x → look state a ≡ Some y → part_at x path ≡ Some y
-    part_was beginning path is x y there holds =
-        sym (ap (option_and_then (λ w. part_at w path)) there) ∙ (sym (look_joined state beginning path) ∙ (sym (ap (look state) is) ∙ holds))
+        either : (b : Bool) → {c : Bool} → c ≡ true → ((not b || c) && true) ≡ true
+        either true h = ap (λ c. c && true) h
+        either false h = refl
 
     pub root_at : (k : Head) (pointer : Option Term) (path : List Step) (beginning : Place) → BeginsAt p (meaning_in p world) u here state k pointer beginning → a ≡ part_of beginning (map (step_at (meaning_in p world) u) path) → (y : Value) → look state a ≡ Some y
         → now_view p here.routine (put state a w) k ≡ Some (eval (meaning_in p world) u (in_root k pointer (changed_part (base k pointer) path t)))
-    root_at _ _ path _ (AtName x type told seen) is y holds =
-        let beginning = place_of here.routine state x in
-        let key = head.Var x (sort_of p.forms type) 0 in
-        let there = knows.setting.named x type told seen in
-        let changed = changed_worth (meaning_in p world) u path (alone key) t y (part_was beginning (map (step_at (meaning_in p world) u) path) is (u key) y there holds) in
-        view_name p here.routine (put state a w) x type _ told seen (ap (look (put state a w)) (place_stays p (areas_of state.frames (root ∷ [])) here.routine state (put state a w) writes x) ∙ written beginning (map (step_at (meaning_in p world) u) path) is (u key) there)
-        ∙ ap Some (sym (changed ∙ ap (λ z. with_part (u key) (map (step_at (meaning_in p world) u) path) z) worth))
-    root_at _ _ path _ (AtCell c q seen found) is y holds =
-        let cell = pointer_of (eval (meaning_in p world) u q) in
-        let beginning = whole (CellOf cell) in
-        let key = head.ClassVar c 0 in
-        let content = row_at (rows_in (u key)) (pos cell) (default_in (u key)) in
-        let there : look state beginning ≡ Some content = cell_there p (meaning_in p world) u here state knows.setting c cell seen (row_of state.heap cell) refl found in
-        let steps = map (step_at (meaning_in p world) u) path in
-        let changed = changed_worth (meaning_in p world) u path (binary head.Cell (alone key) q) t y (part_was beginning steps is content y there holds) in
-        let class : u key ≡ class_of (shapes p) state.heap c = shows key (class_of (shapes p) state.heap c) (ap (λ b. cond b (Some (class_of (shapes p) state.heap c)) None) seen) in
-        let now = put_in_cell p (forms_right p f.typed) start.right.types state start.right.right c cell (cell_typed c (row_of state.heap cell) found) steps s w (subst (λ (b : Place). IsPlace (shapes p) state b s) is place) fit in
-        let held = written beginning steps is content there in
-        ap (λ b. cond b (Some (class_of (shapes p) (put state a w).heap c)) None) seen
-        ∙ ap Some (ap (λ (b : Place). class_of (shapes p) (put state b w).heap c) is
-        ∙ (now
-        ∙ (ap (λ o. class_with (members_of (class_of (shapes p) state.heap c)) (class_of (shapes p) state.heap c) (Pointer cell) (value_or_zero o)) (sym (ap (λ (b : Place). look (put state b w) (whole (CellOf cell))) is) ∙ held)
-        ∙ (ap (λ z. class_with (members_of z) z (Pointer cell) (with_part content steps w)) (sym class)
-        ∙ ap (λ z. class_with (members_of (u key)) (u key) (Pointer cell) z) (sym (changed ∙ ap (λ z. with_part content steps z) worth))))))
+    root_at k pointer path beginning begins is y holds =
+        let areas = At a ∷ [] in
+        let wrote = one_put p areas state a s w place fit (or_left _ false (below_itself a)) in
+        root_after p f here state start areas (put state a w) wrote a s place w (put_found (shapes p) state a s place w) world window u knows shows t worth k pointer path beginning begins is (only_there k beginning (map (step_at (meaning_in p world) u) path) is) y holds
 
 -- ---- assignments
 
@@ -291,7 +170,7 @@ module _ (p : Program) (f : IsFramed p) (world : Meaning) (here : Here) (entry :
         let k = both_sides in
         let roots = changed_roots p (routine_in p here.routine) (Assign d e) in
         let own = is_own (routine_in p here.routine) in
-        root_kept p f.typed (routine_in p here.routine) (is_among roots) (root_of own d) (placed p (routine_in p here.routine) q.supply d).target.root (root_is p (routine_in p here.routine) d k.type k.is true place_uses q.supply)
+        root_kept p f.typed (routine_in p here.routine) (is_among roots) (root_of own d) (placed p (routine_in p here.routine) q.supply d).target.root (root_is p f.typed (routine_in p here.routine) d k.type k.is true place_uses q.supply)
         (written_root (is_among roots) own d (all_left (use_kept (is_among roots)) (designator_uses own true d) (expression_uses own e) (changes_itself p (routine_in p here.routine) (Assign d e)).uses))
 
     module _ (choices : List Value) (fixed : Fixed) (fix_ended : (fix p (below p turns) here d state choices).end ≡ Ended fixed)
@@ -325,7 +204,7 @@ module _ (p : Program) (f : IsFramed p) (world : Meaning) (here : Here) (entry :
           (subst (λ b. (evaluate p b here e fixed.state rest).end ≡ Ended got) (below_same p turns) value_ended)).fit
 
       is_root : IsRootOf p (routine_in p here.routine) (root_of (is_own (routine_in p here.routine)) d) (placed p (routine_in p here.routine) q.supply d).target.root
-      is_root = root_is p (routine_in p here.routine) d both_sides.type both_sides.is true place_uses q.supply
+      is_root = root_is p f.typed (routine_in p here.routine) d both_sides.type both_sides.is true place_uses q.supply
 
       else_same : (k : Head) → head_eq k (placed p (routine_in p here.routine) q.supply d).target.root ≡ false → now_view p here.routine (put state fixed.place got.value) k ≡ now_view p here.routine state k
       else_same k other =

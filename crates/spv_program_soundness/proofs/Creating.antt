@@ -88,9 +88,10 @@ use Rattle.spv_call_evaluation.specs.Laws.{IsReady}
 use Rattle.spv_call_evaluation.proofs.Windows.{reach_with, knows_shown, checked_then}
 use Rattle.spv_call_evaluation.proofs.Evaluating.{fixed_at}
 use Rattle.spv_call_evaluation.proofs.Functions.{functions_give}
-use Rattle.spv_program_soundness.proofs.Roots.{IsRootOf, OfClass, root_is}
+use Rattle.spv_program_soundness.proofs.Roots.{IsRootOf, OfClass, pointed_exists, root_is}
 use Rattle.spv_program_soundness.proofs.Kept.{root_kept}
-use Rattle.spv_program_soundness.proofs.Assigning.{below_same, name_and_class, after_start, same_else, root_at}
+use Rattle.spv_program_soundness.proofs.Staying.{name_and_class}
+use Rattle.spv_program_soundness.proofs.Assigning.{below_same, after_start, same_else, root_at}
 
 -- ---- new cells and members
 
@@ -336,7 +337,7 @@ module _ (p : Program) (f : IsFramed p) (world : Meaning) (here : Here) (entry :
     ready = record { typed = f.typed; entry = entry; start = start; functions = functions_give p f world here entry turns correct state start }
 
     is_root : IsRootOf p (routine_in p here.routine) (root_of (is_own (routine_in p here.routine)) d) (placed p (routine_in p here.routine) q.supply d).target.root
-    is_root = root_is p (routine_in p here.routine) d pointed.type pointed.is true place_uses q.supply
+    is_root = root_is p f.typed (routine_in p here.routine) d pointed.type pointed.is true place_uses q.supply
 
     root_changes : may_change p here (New line d t) (placed p (routine_in p here.routine) q.supply d).target.root ≡ true
     root_changes =
@@ -349,7 +350,7 @@ module _ (p : Program) (f : IsFramed p) (world : Meaning) (here : Here) (entry :
     class_changes =
         let roots = changed_roots p (routine_in p here.routine) (New line d t) in
         let own = is_own (routine_in p here.routine) in
-        root_kept p f.typed (routine_in p here.routine) (is_among roots) (Shared (Class t)) (head.ClassVar t 0) (OfClass t pointed.type.0 pointed.target seen)
+        root_kept p f.typed (routine_in p here.routine) (is_among roots) (Shared (Class t)) (head.ClassVar t 0) (OfClass t (pointed_exists p f.typed pointed.type.0 t pointed.target) seen)
         (left_true (is_among roots (Shared (Class t))) true (all_right (use_kept (is_among roots)) (designator_uses own true d) (record { root = Shared (Class t); changes = true; line = line } ∷ []) (changes_itself p (routine_in p here.routine) (New line d t)).uses))
 
     module _ (choices : List Value) (fixed : Fixed) (fix_ended : (fix p (below p turns) here d state choices).end ≡ Ended fixed)

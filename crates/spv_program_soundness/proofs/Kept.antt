@@ -70,19 +70,6 @@ module _ (p : Program) (test : Root → Bool) (of : Symbol → Root) (x : Symbol
 
 -- ---- classes
 
-form_there : (forms : List TypeForm) (n : ℕ) (c : TypeId) → target_of (form_at forms n) ≡ Some c → (all : List TypeForm) → list_all (form_ok all) forms ≡ true → type_exists all c ≡ true
-form_there [] n c e all ok = absurd (nothing_there e)
-form_there (g ∷ forms) zero c e all ok = by_form g e (left_true (form_ok all g) _ ok)
-  where
-    by_form : (g : TypeForm) → target_of g ≡ Some c → form_ok all g ≡ true → type_exists all c ≡ true
-    by_form (Pointer k) e ok = ap (type_exists all) (sym (some_is e)) ∙ ok
-    by_form Integer e ok = absurd (nothing_there e)
-    by_form Boolean e ok = absurd (nothing_there e)
-    by_form (Range low high) e ok = absurd (nothing_there e)
-    by_form (Array index element) e ok = absurd (nothing_there e)
-    by_form (Record fields) e ok = absurd (nothing_there e)
-form_there (g ∷ forms) (suc n) c e all ok = form_there forms n c e all (right_true (form_ok all g) _ ok)
-
 -- a type that exists is among those with forms
 among_forms : (forms : List TypeForm) (from k : ℕ) → nat_lt k (length forms) ≡ true → list_any (same_type (record { 0 = from + k })) (types_from from forms) ≡ true
 among_forms [] from k h = absurd (none k h)
@@ -120,13 +107,10 @@ root_kept p typed r test _ _ (OfName x t told seen) passes = by_own (found (own_
     by_own (Some u) e told passes = among_names p test (λ y. Own y) x t passes (own_names_in r) _ (e ∙ told)
     by_own None e told passes =
         behind_some test (Shared (Variable x)) (head.Var x (sort_of p.forms t) 0) passes own _ (among_names p test (λ y. Shared (Variable y)) x t passes p.variables _ told)
-root_kept p typed r test _ _ (OfClass c n there seen) passes =
+root_kept p typed r test _ _ (OfClass c exists seen) passes =
     behind_some test (Shared (Class c)) (head.ClassVar c 0) passes (map (λ n. (Own n.0, head.Var n.0 (sort_of p.forms n.1) 0)) (own_names_in r)) _
     (behind_some test (Shared (Class c)) (head.ClassVar c 0) passes (map (λ n. (Shared (Variable n.0), head.Var n.0 (sort_of p.forms n.1) 0)) p.variables) _ (among_classes (all_types p) in_all))
   where
-    exists : type_exists p.forms c ≡ true
-    exists = form_there p.forms n c there p.forms (left_true (list_all (form_ok p.forms) p.forms) _ (left_true (forms_ok p.forms) _ (left_true (declarations_ok p) _ typed)))
-
     plain : 0 + c.0 ≡ c.0
     plain = omega arith
 
