@@ -94,7 +94,7 @@ abbrev pub refers_into : List HeapRow → List Area → Symbol × Binding → Bo
 refers_into heap areas (x, Holding v) = true
 refers_into heap areas (x, Referring a) = is_in_one heap areas a
 
-more_areas : (heap : List HeapRow) (front areas : List Area) (names : List (Symbol × Binding)) → list_all (refers_into heap areas) names ≡ true → list_all (refers_into heap (front ++ areas)) names ≡ true
+pub more_areas : (heap : List HeapRow) (front areas : List Area) (names : List (Symbol × Binding)) → list_all (refers_into heap areas) names ≡ true → list_all (refers_into heap (front ++ areas)) names ≡ true
 more_areas heap front areas [] all = refl
 more_areas heap front areas ((x, Holding v) ∷ names) all = more_areas heap front areas names all
 more_areas heap front areas ((x, Referring a) ∷ names) all =

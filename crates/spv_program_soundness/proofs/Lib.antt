@@ -3,5 +3,7 @@ pub mod Roots
 pub mod Kept
 pub mod Staying
 pub mod Written
+pub mod Changed
+pub mod Touching
 pub mod Assigning
 pub mod Creating
