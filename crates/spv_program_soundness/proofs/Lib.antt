@@ -3,3 +3,8 @@ pub mod Roots
 pub mod Kept
 pub mod Assigning
 pub mod Creating
+pub mod Passing
+pub mod Counting
+pub mod Entries
+pub mod Bodies
+pub mod Programs
