@@ -119,9 +119,6 @@ sort_there None h = absurd (false≢true h)
 sort_there (Some s) h = record { sort = s; is = refl }
 
 module _ (calls : CallsAreRight) (p : Program) (f : IsFramed p) (world : Meaning) (here : Here) (entry : IsEntry p here.entry) where
-  abbrev r : Option Routine
-  r = routine_in p here.routine
-
   -- assignments, NEW and calls
   leaf_right : (s : Statement) → leaf_passes p (routine_in p here.routine) s ≡ true → (turns : ℕ) → CorrectBelow p world turns → IsRight p world all_allowed here s (walk p (below p turns) here s)
   leaf_right (Assign d e) h turns correct =

@@ -43,7 +43,7 @@ use Rattle.spv_meaning.proofs.Differing.{first_differs, others_differ, differ_le
 use Rattle.spv_meaning.proofs.Heaps.{class_fits}
 use Rattle.spv_meaning.proofs.MainViews.{entry-main}
 use Rattle.spv_meaning.proofs.Maps.{same_names}
-use Rattle.spv_meaning.proofs.RoutineStarts.{item_passes}
+use Rattle.spv_meaning.proofs.RoutineStarts.{item_passes, found_passes}
 use Rattle.spv_preservation.proofs.Calls.{names_differ, formals_differ}
 use Rattle.spv_rule_soundness.specs.evaluation.Laws.{root_seen}
 use Rattle.spv_rule_soundness.specs.statements.Truth.{is_new, IsEntry, meaning_in, shown}
@@ -56,9 +56,9 @@ use Rattle.spv_call_evaluation.proofs.Heads.{entry_test, entry_passes, formula_p
 
 -- ---- names that differ
 
-none_found : {X : Type 0} (entries : List (Symbol × X)) (x : Symbol) → list_any (same_name x) (map (λ n. n.0) entries) ≡ false → found entries x ≡ None
-none_found [] x none = refl
-none_found {X} (n ∷ entries) x none = by_name (same_name n.0 x) refl (none_found entries x (right_false (same_name x n.0) _ none))
+found_none : {X : Type 0} (entries : List (Symbol × X)) (x : Symbol) → list_any (same_name x) (map (λ n. n.0) entries) ≡ false → found entries x ≡ None
+found_none [] x none = refl
+found_none {X} (n ∷ entries) x none = by_name (same_name n.0 x) refl (found_none entries x (right_false (same_name x n.0) _ none))
   where
     by_name : (b : Bool) → same_name n.0 x ≡ b → found entries x ≡ None → cond b (Some n.1) (found entries x) ≡ None
     by_name true same later =
@@ -74,7 +74,7 @@ found_later {X} n entries x i other e = by_name (same_name n.0 x) refl
   where
     by_name : (b : Bool) → same_name n.0 x ≡ b → cond b (Some n.1) (found entries x) ≡ Some i
     by_name true same =
-        absurd (nothing_there (sym (none_found entries x (ap (λ k. list_any (same_name k) (map (λ n. n.0) entries)) (sym (same_names n.0 x same)) ∙ other)) ∙ e))
+        absurd (nothing_there (sym (found_none entries x (ap (λ k. list_any (same_name k) (map (λ n. n.0) entries)) (sym (same_names n.0 x same)) ∙ other)) ∙ e))
     by_name false same = e
 
 -- a name that is found is one of the names
@@ -83,11 +83,11 @@ among_names {X} entries x there = by_place (list_any (same_name x) (map (λ n. n
   where
     by_place : (b : Bool) → list_any (same_name x) (map (λ n. n.0) entries) ≡ b → b ≡ true
     by_place true e = refl
-    by_place false e = absurd (false≢true (sym (ap is_some (none_found entries x e)) ∙ there))
+    by_place false e = absurd (false≢true (sym (ap is_some (found_none entries x e)) ∙ there))
 
-found_passes : {X : Type 0} (test : X → Bool) (entries : List (Symbol × X)) (x : Symbol) (i : X) → list_all (λ n. test n.1) entries ≡ true → found entries x ≡ Some i → test i ≡ true
-found_passes test [] x i all e = absurd (nothing_there e)
-found_passes {X} test (n ∷ entries) x i all e = by_name (same_name n.0 x) e (found_passes test entries x i (right_true (test n.1) _ all))
+found_all : {X : Type 0} (test : X → Bool) (entries : List (Symbol × X)) (x : Symbol) (i : X) → list_all (λ n. test n.1) entries ≡ true → found entries x ≡ Some i → test i ≡ true
+found_all test [] x i all e = absurd (nothing_there e)
+found_all {X} test (n ∷ entries) x i all e = by_name (same_name n.0 x) e (found_all test entries x i (right_true (test n.1) _ all))
   where
     by_name : (b : Bool) → cond b (Some n.1) (found entries x) ≡ Some i → (found entries x ≡ Some i → test i ≡ true) → test i ≡ true
     by_name true e later = ap test (sym (some_is e)) ∙ left_true (test n.1) _ all
@@ -110,14 +110,12 @@ not_before xs ys x differ there = by_place (list_any (same_name x) xs) refl
     by_place false e = refl
     by_place true e = absurd (false≢true (sym (not_behind xs ys x differ e) ∙ there))
 
-none_filtered : {X : Type 0} (test : Symbol → Bool) (entries : List (Symbol × X)) (x : Symbol) → test x ≡ false → found (filter (λ n. test n.0) entries) x ≡ None
-none_filtered test [] x fails = refl
-none_filtered {X} test (n ∷ entries) x fails = by_test (test n.0) refl (same_name n.0 x) refl (none_filtered test entries x fails)
+filtered_none : {X : Type 0} (test : Symbol → Bool) (entries : List (Symbol × X)) (x : Symbol) → test x ≡ false → found (filter (λ n. test n.0) entries) x ≡ None
+filtered_none {X} test entries x fails = by_value (found (filter (λ n. test n.0) entries) x) refl
   where
-    by_test : (b : Bool) → test n.0 ≡ b → (c : Bool) → same_name n.0 x ≡ c → found (filter (λ n. test n.0) entries) x ≡ None → found (cond b (n ∷ filter (λ n. test n.0) entries) (filter (λ n. test n.0) entries)) x ≡ None
-    by_test false is c e later = later
-    by_test true is true e later = absurd (false≢true (sym fails ∙ (ap test (sym (same_names n.0 x e)) ∙ is)))
-    by_test true is false e later = ap (λ c. cond c (Some n.1) (found (filter (λ n. test n.0) entries) x)) e ∙ later
+    by_value : (o : Option X) → found (filter (λ n. test n.0) entries) x ≡ o → o ≡ None
+    by_value None e = refl
+    by_value (Some i) e = absurd (false≢true (sym fails ∙ found_passes test entries x i e))
 
 formal_names : (formals : List Formal) → map (λ (n : Symbol × TypeId). n.0) (map (λ f. (f.name, f.of)) formals) ≡ map (λ f. f.name) formals
 formal_names [] = refl
@@ -267,8 +265,8 @@ module _ (p : Program) (f : IsFramed p) (id : RoutineId) (q : Routine) (there : 
   initial_apart : (x : Symbol) → is_some (found q.initial x) ≡ true → shown_type p (Some q) x ≡ None
   initial_apart x there =
       found-append (own_names q) (filter (λ n. sees (Some q) (Variable n.0)) p.variables) x
-      ∙ (ap (λ o. first_of o (found (filter (λ n. sees (Some q) (Variable n.0)) p.variables) x)) (none_found (own_names q) x own)
-      ∙ none_filtered (λ y. sees (Some q) (Variable y)) p.variables x unseen)
+      ∙ (ap (λ o. first_of o (found (filter (λ n. sees (Some q) (Variable n.0)) p.variables) x)) (found_none (own_names q) x own)
+      ∙ filtered_none (λ y. sees (Some q) (Variable y)) p.variables x unseen)
     where
       formals : List Symbol
       formals = map (λ f. f.name) q.formals
@@ -376,7 +374,7 @@ module _ (p : Program) (f : IsFramed p) (id : RoutineId) (q : Routine) (there : 
     }
 
     initial_held : (x : Symbol) (i : Item) → found q.initial x ≡ Some i → ItemHeld i
-    initial_held x i e = item_held i (found_passes (may_be_initial q) q.initial x i all_initial e)
+    initial_held x i e = item_held i (found_all (may_be_initial q) q.initial x i all_initial e)
 
     -- a value parameter has a value
     record ParameterHeld (x : Symbol) : Type 0 where

@@ -22,11 +22,11 @@ use Rattle.spv_program.proofs.SortFacts.{nothing_there, some_is}
 use Rattle.spv_meaning.specs.Places.{State}
 use Rattle.spv_meaning.specs.Views.{entry_view}
 use Rattle.spv_meaning.specs.Outcomes.{Ended}
-use Rattle.spv_meaning.specs.Levels.{Here, run_body, reached_in_body, reached_entry, reached_exit}
+use Rattle.spv_meaning.specs.Levels.{run_body, reached_in_body, reached_entry, reached_exit}
 use Rattle.spv_meaning.specs.Walks.{level, run}
 use Rattle.spv_meaning.specs.Starts.{IsStart}
 use Rattle.spv_meaning.specs.Correct.{all_hold, met_holds, routine_body, begun, met_if_there, routine_entry, routine_exit, Starts, CorrectWith, CorrectBelow, is_there, Correct}
-use Rattle.spv_meaning.specs.Before.{Made, before, replaced, assuming_if_there, annotation_term, wanted_if_there}
+use Rattle.spv_meaning.specs.Before.{before, replaced, assuming_if_there, annotation_term, wanted_if_there}
 use Rattle.spv_meaning.specs.ProgramConditions.{initial_pairs, start_pairs, wanted_exit, routine_conditions, main_conditions, conditions_from, conditions_of, AllTrueIn}
 use Rattle.spv_meaning.proofs.AssignedPrograms.{same_truth}
 use Rattle.spv_rule_soundness.specs.statements.Truth.{IsWindow, IsEntry, meaning_in, all_follow, shown, IsTrueFor, Ignores, TermIgnores}
@@ -47,9 +47,6 @@ use Rattle.spv_program_soundness.proofs.Bodies.{body_passes, parts_right}
 -- ---- the conditions of a program
 
 module _ (p : Program) (world : Meaning) where
-  abbrev AllTrue : List Condition → Type 0
-  AllTrue conditions = AllTrueIn (shapes p) p.symbols world conditions
-
   -- true conditions follow under each valuation
   all_true : (conditions : List Condition) → AllTrueIn (shapes p) p.symbols world conditions → (v : Valuation) → IsValuation (shapes p) v → all_follow (meaning_in p world) v conditions ≡ true
   all_true [] h v val = refl
@@ -120,16 +117,10 @@ module _ (calls : CallsAreRight) (p : Program) (f : IsFramed p) (world : Meaning
   -- ---- a routine
 
   module _ (id : RoutineId) (q : Routine) (there : routine_at p id ≡ Some q) (truth : RoutineTrue p world id q) where
-    abbrev exit_made : Made
-    exit_made = record { conditions = wanted_exit p id q q.exit; supply = truth.supply }
-
     body_there : parts_pass (body_parts p (routine_at p id)) q.body ≡ true
     body_there = subst (λ (o : Option Routine). parts_pass (body_parts p (routine_at p id)) (routine_body o) ≡ true) there (body_passes p f (Some id) (ap is_some there))
 
     module _ (state : State) (starts : Starts p world (Some id) state) where
-      abbrev here : Here
-      here = begun p (Some id) state
-
       routine_entered : IsEntry p (entry_view p (Some id) state)
       routine_entered = routine_is_entry p f id q there state starts.is_start
 

@@ -20,6 +20,6 @@ pub fn law_new()
 /// Where calls of procedures are right, a program that is well typed and shares rightly, each of whose conditions is true in a world, is
 /// correct there: from every start that meets ENTRY, each routine and the main block reach only annotations that hold, and where they
 /// end EXIT holds.
-pub fn law_program()
+fn law_program()
     ensures programs { CallsAreRight → TrueConditionsMakeProgramsCorrect }
 {}
