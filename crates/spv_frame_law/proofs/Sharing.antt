@@ -55,7 +55,7 @@ module _ (p : Program) (r : Option Routine) (wide own : Symbol → Bool) (alike 
   both_alike a b one two = λ i. one i ++ two i
 
   mutual
-    expression_alike : (e : Expression) (s : Sort) → expression_sort p r e ≡ Some s → expression_uses wide e ≡ expression_uses own e
+    pub expression_alike : (e : Expression) (s : Sort) → expression_sort p r e ≡ Some s → expression_uses wide e ≡ expression_uses own e
     expression_alike (Numeral z) s h = refl
     expression_alike (Boolean b) s h = refl
     expression_alike (NilOf t) s h = refl
@@ -89,7 +89,7 @@ module _ (p : Program) (r : Option Routine) (wide own : Symbol → Bool) (alike 
         two_truths (expression_sort p r a) (expression_sort p r b) s (expression_uses wide (Joined o a b) ≡ expression_uses own (Joined o a b))
         (λ x y told. both_alike a b (expression_alike a sort.Bool x) (expression_alike b sort.Bool y)) h
 
-    designator_alike : (d : Designator) (t : TypeId) → designator_type p r d ≡ Some t → (writes : Bool) → wide (first_of_place d) ≡ own (first_of_place d) → designator_uses wide writes d ≡ designator_uses own writes d
+    pub designator_alike : (d : Designator) (t : TypeId) → designator_type p r d ≡ Some t → (writes : Bool) → wide (first_of_place d) ≡ own (first_of_place d) → designator_uses wide writes d ≡ designator_uses own writes d
     designator_alike (designator line x others) t h writes name =
         let q = behind (λ t. selected_type p r t others) (name_type p r x) t h in
         let rest = selector_alike others q.item t q.gives writes in
@@ -112,7 +112,7 @@ module _ (p : Program) (r : Option Routine) (wide own : Symbol → Bool) (alike 
         let rest = selector_alike others k.item u (chosen (same_type c k.item) _ u k.gives) writes in
         λ i. record { root = Shared (Class c); changes = writes && not (has_cell others); line = line } ∷ rest i
 
-    call_alike : (c : Call) (q : Routine) → callee p r c ≡ Some q → call_uses wide c ≡ call_uses own c
+    pub call_alike : (c : Call) (q : Routine) → callee p r c ≡ Some q → call_uses wide c ≡ call_uses own c
     call_alike (call id line given) q h =
         let k = behind (λ called. cond (arguments_fit p r called.formals given) (Some called) None) (routine_at p id) q h in
         arguments_alike k.item.formals given (passed (arguments_fit p r k.item.formals given) (Some k.item) q k.gives)
@@ -305,7 +305,7 @@ module _ (p : Program) (r : Option Routine) (wide own : Symbol → Bool) (alike 
 
 -- ---- routines
 
-kept_roots : (keep : Root → Bool) (us : List Use) → list_all (use_kept keep) us ≡ true → list_all keep (map (λ u. u.root) (filter (λ u. u.changes) us)) ≡ true
+pub kept_roots : (keep : Root → Bool) (us : List Use) → list_all (use_kept keep) us ≡ true → list_all keep (map (λ u. u.root) (filter (λ u. u.changes) us)) ≡ true
 kept_roots keep [] h = refl
 kept_roots keep (u ∷ us) h = by_change u.changes (left_true (use_kept keep u) _ h) (kept_roots keep us (right_true (use_kept keep u) _ h))
   where
@@ -357,7 +357,7 @@ parameter_own (f ∷ formals) others x h = by_name (same_name f.name x) h (param
     by_name false h later = later h
 
 -- a routine counts with own names
-count_own : (q : Routine) (x : Symbol) → may_count (Some q) x ≡ true → is_own (Some q) x ≡ true
+pub count_own : (q : Routine) (x : Symbol) → may_count (Some q) x ≡ true → is_own (Some q) x ≡ true
 count_own q x ok = by_local (is_some (found q.locals x)) refl ok
   where
     by_local : (b : Bool) → is_some (found q.locals x) ≡ b → (b || is_value_parameter q x) ≡ true → is_own (Some q) x ≡ true
@@ -381,29 +381,30 @@ found_there {X} (n ∷ entries) x = by_name (same_name n.0 x) (found_there entri
     by_name true later = refl
     by_name false later = later
 
+or_false : (b : Bool) → (b || false) ≡ b
+or_false true = refl
+or_false false = refl
+
+-- what is no INITIAL name is an own name with these or without them
+used_alike : (q : Routine) (x : Symbol) → initial_here (Some q) x ≡ false → (is_own (Some q) x || is_initial q x) ≡ is_own (Some q) x
+used_alike q x other = ap (λ b. is_own (Some q) x || b) (found_there q.initial x ∙ other) ∙ or_false (is_own (Some q) x)
+
+-- the names that a routine may use are its own with its INITIAL names or without them
+pub names_alike : (p : Program) (q : Routine) → Alike p (Some q) (λ x. is_own (Some q) x || is_initial q x) (is_own (Some q))
+names_alike p q = record { reads = reads; writes = writes; counts = λ x ok. ap (λ c. c || is_initial q x) (count_own q x ok) ∙ sym (count_own q x ok) }
+  where
+    reads : (d : Designator) (t : TypeId) → designator_type p (Some q) d ≡ Some t → may_read (Some q) d ≡ true → (is_own (Some q) (first_of_place d) || is_initial q (first_of_place d)) ≡ is_own (Some q) (first_of_place d)
+    reads (designator line x others) t h ok =
+        used_alike q x (not_true (initial_here (Some q) x) (left_true (not (initial_here (Some q) x)) _ ok))
+
+    writes : (d : Designator) (t : TypeId) → designator_type p (Some q) d ≡ Some t → may_write (Some q) d ≡ true → (is_own (Some q) (first_of_place d) || is_initial q (first_of_place d)) ≡ is_own (Some q) (first_of_place d)
+    writes (designator line x others) t h ok =
+        used_alike q x (not_true (initial_here (Some q) x) (left_true (not (initial_here (Some q) x)) _ ok))
+
 -- the routines of a framed program keep to their lists
 pub keeps_to : (p : Program) → well_typed p ≡ true → framed p ≡ true → AllKeepTo p
 keeps_to p typed frames = record { each = λ id q there. one id q there }
   where
-    or_false : (b : Bool) → (b || false) ≡ b
-    or_false true = refl
-    or_false false = refl
-
-    -- what is no INITIAL name is an own name with these or without them
-    used : (q : Routine) (x : Symbol) → initial_here (Some q) x ≡ false → (is_own (Some q) x || is_initial q x) ≡ is_own (Some q) x
-    used q x other = ap (λ b. is_own (Some q) x || b) (found_there q.initial x ∙ other) ∙ or_false (is_own (Some q) x)
-
-    alike : (id : RoutineId) (q : Routine) → routine_at p id ≡ Some q → Alike p (Some q) (λ x. is_own (Some q) x || is_initial q x) (is_own (Some q))
-    alike id q there = record { reads = reads; writes = writes; counts = λ x ok. ap (λ c. c || is_initial q x) (count_own q x ok) ∙ sym (count_own q x ok) }
-      where
-        reads : (d : Designator) (t : TypeId) → designator_type p (Some q) d ≡ Some t → may_read (Some q) d ≡ true → (is_own (Some q) (first_of_place d) || is_initial q (first_of_place d)) ≡ is_own (Some q) (first_of_place d)
-        reads (designator line x others) t h ok =
-            used q x (not_true (initial_here (Some q) x) (left_true (not (initial_here (Some q) x)) _ ok))
-
-        writes : (d : Designator) (t : TypeId) → designator_type p (Some q) d ≡ Some t → may_write (Some q) d ≡ true → (is_own (Some q) (first_of_place d) || is_initial q (first_of_place d)) ≡ is_own (Some q) (first_of_place d)
-        writes (designator line x others) t h ok =
-            used q x (not_true (initial_here (Some q) x) (left_true (not (initial_here (Some q) x)) _ ok))
-
     one : (id : RoutineId) (q : Routine) → routine_at p id ≡ Some q → KeepsTo p q
     one id q there =
         let ok = item_passes (routine_framed p) p.routines id.0 q (left_true (list_all (routine_framed p) p.routines) _ frames) there in
@@ -415,7 +416,7 @@ keeps_to p typed frames = record { each = λ id q there. one id q there }
         let exit : List Use = annotation_uses (λ x. is_formal q x || (is_some (found (result_name q.name q.result) x) || is_initial q x)) q.exit in
         let body : List Use = statement_uses wide q.body in
         let allowed : Use → Bool = λ u. use_allowed q.globals u.root u.changes in
-        let written = statement_kept p (Some q) wide (is_own (Some q)) (alike id q there) q.globals q.body (routine_right p typed id q there).body
+        let written = statement_kept p (Some q) wide (is_own (Some q)) (names_alike p q) q.globals q.body (routine_right p typed id q there).body
         (all_right allowed exit body (all_right allowed entry (exit ++ body) uses)) in
         record {
           uses = written;
@@ -432,8 +433,8 @@ keeps_to p typed frames = record { each = λ id q there. one id q there }
 
 -- ---- names that are own
 
--- the root of what is written is that of a name, or an item of the program
-module _ (keep : Root → Bool) (own : Symbol → Bool) (names : (x : Symbol) → keep (name_root own x) ≡ true) (items : (i : Item) → keep (Shared i) ≡ true) where
+-- the root of what is written is that of a name, or a class
+module _ (keep : Root → Bool) (own : Symbol → Bool) (names : (x : Symbol) → keep (name_root own x) ≡ true) (classes : (t : TypeId) → keep (Shared (Class t)) ≡ true) where
   abbrev Named : List Use → Type 0
   Named us = list_all (use_kept keep) us ≡ true
 
@@ -465,7 +466,7 @@ module _ (keep : Root → Bool) (own : Symbol → Bool) (names : (x : Symbol) �
     selector_named no_selectors writes = refl
     selector_named (at_index t e others) writes = both_named (expression_uses own e) (selector_uses own writes others) (expression_named e) (selector_named others writes)
     selector_named (at_field t f others) writes = selector_named others writes
-    selector_named (at_cell line t others) writes = both_true (kept_if (writes && not (has_cell others)) (keep (Shared (Class t))) (items (Class t))) (selector_named others writes)
+    selector_named (at_cell line t others) writes = both_true (kept_if (writes && not (has_cell others)) (keep (Shared (Class t))) (classes t)) (selector_named others writes)
 
     call_named : (c : Call) → Named (call_uses own c)
     call_named (call id line given) = arguments_named given
@@ -480,7 +481,7 @@ module _ (keep : Root → Bool) (own : Symbol → Bool) (names : (x : Symbol) �
     statement_named Empty = refl
     statement_named (Assign d e) = both_named (designator_uses own true d) (expression_uses own e) (designator_named d true) (expression_named e)
     statement_named (Perform c) = call_named c
-    statement_named (New line d t) = both_named (designator_uses own true d) (record { root = Shared (Class t); changes = true; line = line } ∷ []) (designator_named d true) (both_true (items (Class t)) refl)
+    statement_named (New line d t) = both_named (designator_uses own true d) (record { root = Shared (Class t); changes = true; line = line } ∷ []) (designator_named d true) (both_true (classes t) refl)
     statement_named (Sequence a b) = both_named (statement_uses own a) (statement_uses own b) (statement_named a) (statement_named b)
     statement_named (If line e a b) = both_named (expression_uses own e) (statement_uses own a ++ statement_uses own b) (expression_named e) (both_named (statement_uses own a) (statement_uses own b) (statement_named a) (statement_named b))
     statement_named (Case line e arms) = both_named (expression_uses own e) (arms_uses own arms) (expression_named e) (arms_named arms)
@@ -498,16 +499,16 @@ module _ (keep : Root → Bool) (own : Symbol → Bool) (names : (x : Symbol) �
     arms_named no_arms = refl
     arms_named (arm labels s others) = both_named (statement_uses own s) (arms_uses own others) (statement_named s) (arms_named others)
 
-  called_named : (p : Program) (cs : List Call) → list_all keep (flat_map (changed_by_call p) cs) ≡ true
-  called_named p [] = refl
-  called_named p (call id line given ∷ cs) = all_both keep (map Shared (items_of_callee (routine_at p id))) (flat_map (changed_by_call p) cs) (each (items_of_callee (routine_at p id))) (called_named p cs)
-    where
-      each : (xs : List Item) → list_all keep (map Shared xs) ≡ true
-      each [] = refl
-      each (i ∷ xs) = both_true (items i) (each xs)
+called_named : (keep : Root → Bool) → ((i : Item) → keep (Shared i) ≡ true) → (p : Program) (cs : List Call) → list_all keep (flat_map (changed_by_call p) cs) ≡ true
+called_named keep items p [] = refl
+called_named keep items p (call id line given ∷ cs) = all_both keep (map Shared (items_of_callee (routine_at p id))) (flat_map (changed_by_call p) cs) (each (items_of_callee (routine_at p id))) (called_named keep items p cs)
+  where
+    each : (xs : List Item) → list_all keep (map Shared xs) ≡ true
+    each [] = refl
+    each (i ∷ xs) = both_true (items i) (each xs)
 
 -- what a statement changes are own names, and items of the program
 pub roots_named : (p : Program) (here : Option Routine) (keep : Root → Bool) → ((x : Symbol) → keep (name_root (is_own here) x) ≡ true) → ((i : Item) → keep (Shared i) ≡ true) → (s : Statement) → list_all keep (changed_roots p here s) ≡ true
 roots_named p here keep names items s =
     all_both keep (map (λ u. u.root) (filter (λ u. u.changes) (statement_uses (is_own here) s))) (flat_map (changed_by_call p) (statement_calls s))
-    (kept_roots keep (statement_uses (is_own here) s) (statement_named keep (is_own here) names items s)) (called_named keep (is_own here) names items p (statement_calls s))
+    (kept_roots keep (statement_uses (is_own here) s) (statement_named keep (is_own here) names (λ t. items (Class t)) s)) (called_named keep items p (statement_calls s))

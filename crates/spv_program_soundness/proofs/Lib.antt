@@ -7,3 +7,8 @@ pub mod Changed
 pub mod Touching
 pub mod Assigning
 pub mod Creating
+pub mod Passing
+pub mod Counting
+pub mod Entries
+pub mod Bodies
+pub mod Programs

@@ -1,6 +1,8 @@
-// What is proved of assignments and NEW, each the contract of a function that does nothing.
+// What is proved of assignments, NEW and programs, each the contract of a function that does nothing.
 
 ghost use Rattle.spv_program_soundness.specs.Laws.{AssignmentsAreRight, NewIsRight};
+ghost use Rattle.spv_program_soundness.specs.Calls.{CallsAreRight};
+ghost use Rattle.spv_program_soundness.specs.Programs.{TrueConditionsMakeProgramsCorrect};
 
 /// In a program that is well typed and shares rightly, where every routine is correct with fewer turns, an assignment is right: to a
 /// variable, to parts of arrays and records, in cells that others point to as well, and through VAR parameters, with calls wherever
@@ -13,4 +15,11 @@ pub fn law_assignment()
 /// any content, and the class of its type is extended by it.
 pub fn law_new()
     ensures creations { NewIsRight }
+{}
+
+/// Where calls of procedures are right, a program that is well typed and shares rightly, each of whose conditions is true in a world, is
+/// correct there: from every start that meets ENTRY, each routine and the main block reach only annotations that hold, and where they
+/// end EXIT holds.
+fn law_program()
+    ensures programs { CallsAreRight → TrueConditionsMakeProgramsCorrect }
 {}
