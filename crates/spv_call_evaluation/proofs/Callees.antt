@@ -63,7 +63,7 @@ use Rattle.spv_call_evaluation.proofs.Parameters.{replacing-there, replacing-non
 use Rattle.spv_call_evaluation.proofs.Pushed.{pushed_look}
 
 -- what a view shows is what its valuation says
-told : (p : Program) (view : View) (h : Head) (w : Value) → view h ≡ Some w → valuation_of (shapes p) view h ≡ w
+pub told : (p : Program) (view : View) (h : Head) (w : Value) → view h ≡ Some w → valuation_of (shapes p) view h ≡ w
 told p view h w e = ap (λ o. unwrap_or o (default_of (shapes p) (variable_sort h))) e
 
 all_of : (o : Option Value) → option_and_then (λ w. part_at w []) o ≡ o
@@ -80,7 +80,7 @@ module _ (p : Program) (f : IsFramed p) (id : RoutineId) (q : Routine) (there : 
   is_framed : routine_framed p q ≡ true
   is_framed = item_passes (routine_framed p) p.routines id.0 q (left_true (list_all (routine_framed p) p.routines) _ f.framed) there
 
-  all_items : list_all (λ g. item_exists p g.item) q.globals ≡ true
+  pub all_items : list_all (λ g. item_exists p g.item) q.globals ≡ true
   all_items =
       left_true (list_all (λ g. item_exists p g.item) q.globals) _
       (right_true (types_exist p q.locals) _
@@ -94,15 +94,15 @@ module _ (p : Program) (f : IsFramed p) (id : RoutineId) (q : Routine) (there : 
       all_left (λ u. use_allowed q.globals u.root u.changes) (annotation_uses (named_at_exit q) q.exit) _
       (all_right (λ u. use_allowed q.globals u.root u.changes) (annotation_uses (is_formal q) q.entry) _ (left_true (list_all (λ u. use_allowed q.globals u.root u.changes) (routine_uses q)) _ (right_true (changes_nothing q || not (is_some q.result)) _ is_framed)))
 
-  not_own : (x : Symbol) → lists q.globals (Variable x) false ≡ true → found (own_names q) x ≡ None
+  pub not_own : (x : Symbol) → lists q.globals (Variable x) false ≡ true → found (own_names q) x ≡ None
   not_own x listed = listed_not_own q (names_differ p f.typed id q there) x listed
 
   -- a variable of the list is there
-  record Declared (x : Symbol) : Type 0 where
-    type : TypeId
-    is : found p.variables x ≡ Some type
+  pub record Declared (x : Symbol) : Type 0 where
+    pub type : TypeId
+    pub is : found p.variables x ≡ Some type
 
-  declared : (x : Symbol) → lists q.globals (Variable x) false ≡ true → Declared x
+  pub declared : (x : Symbol) → lists q.globals (Variable x) false ≡ true → Declared x
   declared x listed = by_type (found p.variables x) refl (listed_passes (item_exists p) q.globals (Variable x) all_items listed)
     where
       by_type : (o : Option TypeId) → found p.variables x ≡ o → is_some o ≡ true → Declared x
@@ -110,11 +110,11 @@ module _ (p : Program) (f : IsFramed p) (id : RoutineId) (q : Routine) (there : 
       by_type (Some u) e h = record { type = u; is = e }
 
   -- the types of own names
-  parameter_type : (x : Symbol) (u : TypeId) → found (map (λ f. (f.name, f.of)) q.formals) x ≡ Some u → found (own_names q) x ≡ Some u
+  pub parameter_type : (x : Symbol) (u : TypeId) → found (map (λ f. (f.name, f.of)) q.formals) x ≡ Some u → found (own_names q) x ≡ Some u
   parameter_type x u e = found-append (map (λ f. (f.name, f.of)) q.formals) (result_name q.name q.result ++ q.locals) x ∙ ap (λ o. first_of o (found (result_name q.name q.result ++ q.locals) x)) e
 
   -- what an own name shows
-  own_shows : (s : State) (x : Symbol) (u : TypeId) (w : Value) → found (own_names q) x ≡ Some u → look s (place_of (Some id) s x) ≡ Some w → now_view p (Some id) s (head.Var x (sort_of p.forms u) 0) ≡ Some w
+  pub own_shows : (s : State) (x : Symbol) (u : TypeId) (w : Value) → found (own_names q) x ≡ Some u → look s (place_of (Some id) s x) ≡ Some w → now_view p (Some id) s (head.Var x (sort_of p.forms u) 0) ≡ Some w
   own_shows s x u w own holds =
       view_name p (Some id) s x u w (ap (λ o. name_type p o x) there ∙ ap (λ o. first_of o (found p.variables x)) own)
       (ap (λ o. root_seen o (name_root (is_own o) x)) there ∙ ap (λ o. root_seen (Some q) (cond (is_some o) (Own x) (Shared (Variable x)))) own) holds
@@ -205,7 +205,7 @@ module _ (p : Program) (f : IsFramed p) (id : RoutineId) (q : Routine) (there : 
     knows = knows_shown p f.typed world here entry n window is state start v val shows
 
     -- what the caller's valuation says of items of the list
-    caller_name : (x : Symbol) (u : TypeId) → lists q.globals (Variable x) false ≡ true → found p.variables x ≡ Some u → found state.variables x ≡ Some (v (head.Var x (sort_of p.forms u) 0))
+    pub caller_name : (x : Symbol) (u : TypeId) → lists q.globals (Variable x) false ≡ true → found p.variables x ≡ Some u → found state.variables x ≡ Some (v (head.Var x (sort_of p.forms u) 0))
     caller_name x u listed type =
         let r = routine_in p here.routine in
         let sees_it = listed_passes (sees r) q.globals (Variable x) seen listed in
@@ -217,14 +217,14 @@ module _ (p : Program) (f : IsFramed p) (id : RoutineId) (q : Routine) (there : 
         name_told None e type = type
         name_told (Some k) e type = absurd (false≢true (sym e))
 
-    caller_class : (c : TypeId) → lists q.globals (Class c) false ≡ true → v (head.ClassVar c 0) ≡ class_of (shapes p) state.heap c
+    pub caller_class : (c : TypeId) → lists q.globals (Class c) false ≡ true → v (head.ClassVar c 0) ≡ class_of (shapes p) state.heap c
     caller_class c listed =
         let sees_it = listed_passes (sees (routine_in p here.routine)) q.globals (Class c) seen listed in
         shows (head.ClassVar c 0) (class_of (shapes p) state.heap c) (in_first _ (window (head.ClassVar c 0)) _ (in_first _ (here.entry (head.ClassVar c 0)) _ (ap (λ b. cond b (Some (class_of (shapes p) state.heap c)) None) sees_it)))
 
     -- what the called function sees of them, in a state that has the caller's variables and cells
     module _ (s : State) (began : IsStart p (Some id) s) (variables : s.variables ≡ state.variables) (heap : s.heap ≡ state.heap) where
-      callee_name : (x : Symbol) (u : TypeId) → lists q.globals (Variable x) false ≡ true → found p.variables x ≡ Some u → now_view p (Some id) s (head.Var x (sort_of p.forms u) 0) ≡ Some (v (head.Var x (sort_of p.forms u) 0))
+      pub callee_name : (x : Symbol) (u : TypeId) → lists q.globals (Variable x) false ≡ true → found p.variables x ≡ Some u → now_view p (Some id) s (head.Var x (sort_of p.forms u) 0) ≡ Some (v (head.Var x (sort_of p.forms u) 0))
       callee_name x u listed type =
           let own = not_own x listed in
           let other : is_own (routine_at p id) x ≡ false = ap (λ o. is_own o x) there ∙ ap is_some own in
@@ -232,7 +232,7 @@ module _ (p : Program) (f : IsFramed p) (id : RoutineId) (q : Routine) (there : 
           (ap (λ o. root_seen o (name_root (is_own o) x)) there ∙ (ap (λ o. root_seen (Some q) (cond (is_some o) (Own x) (Shared (Variable x)))) own ∙ listed))
           (ap (look s) (shared_place p (Some id) began.right.types began.right.inside s began.right.right x other) ∙ (all_of (found s.variables x) ∙ (ap (λ k. found k x) variables ∙ caller_name x u listed type)))
 
-      callee_class : (c : TypeId) → lists q.globals (Class c) false ≡ true → now_view p (Some id) s (head.ClassVar c 0) ≡ Some (v (head.ClassVar c 0))
+      pub callee_class : (c : TypeId) → lists q.globals (Class c) false ≡ true → now_view p (Some id) s (head.ClassVar c 0) ≡ Some (v (head.ClassVar c 0))
       callee_class c listed =
           ap (λ o. cond (sees o (Class c)) (Some (class_of (shapes p) s.heap c)) None) there
           ∙ (ap (λ b. cond b (Some (class_of (shapes p) s.heap c)) None) listed
@@ -248,13 +248,13 @@ module _ (p : Program) (f : IsFramed p) (id : RoutineId) (q : Routine) (there : 
       first_view = both (entry_view p (Some id) (push id (names ++ own) state)) (now_view p (Some id) (push id (names ++ own) state))
 
       -- a parameter, and one that is a value
-      parameter : (x : Symbol) (u : TypeId) → found (map (λ f. (f.name, f.of)) q.formals) x ≡ Some u → ParameterAt p symbols v state q.formals terms names x u
+      pub parameter : (x : Symbol) (u : TypeId) → found (map (λ f. (f.name, f.of)) q.formals) x ≡ Some u → ParameterAt p symbols v state q.formals terms names x u
       parameter x u e = parameter_at p symbols here state window v knows q.formals terms names bound x u e
 
-      argument : (x : Symbol) (u : TypeId) → is_value_parameter q x ≡ true → found (map (λ f. (f.name, f.of)) q.formals) x ≡ Some u → ArgumentOf p symbols v q.formals terms names x u
+      pub argument : (x : Symbol) (u : TypeId) → is_value_parameter q x ≡ true → found (map (λ f. (f.name, f.of)) q.formals) x ≡ Some u → ArgumentOf p symbols v q.formals terms names x u
       argument x u value e = argument_of p symbols here state window v knows q.formals terms names bound (formals_differ p f.typed id q there) x u value e
 
-      parameter_held : (x : Symbol) (b : Binding) (w : Value) → found names x ≡ Some b → bound_value state b ≡ Some w → look (push id (names ++ own) state) (place_of (Some id) (push id (names ++ own) state) x) ≡ Some w
+      pub parameter_held : (x : Symbol) (b : Binding) (w : Value) → found names x ≡ Some b → bound_value state b ≡ Some w → look (push id (names ++ own) state) (place_of (Some id) (push id (names ++ own) state) x) ≡ Some w
       parameter_held x b w e holds = ap (λ o. look (push id (names ++ own) state) (bound_place (length state.frames) x o)) (there_too b e) ∙ by_binding b e holds
         where
           g : Frame
@@ -270,31 +270,31 @@ module _ (p : Program) (f : IsFramed p) (id : RoutineId) (q : Routine) (there : 
               ∙ (ap (λ b. option_and_then (own_value x) (cond b (Some g) (frame_at state.frames (length state.frames)))) (eq-eqb (length state.frames) (length state.frames) refl) ∙ (ap (option_and_then held) (there_too (Holding u) e) ∙ holds))
 
       -- the start of a parameter
-      start_shown : (x : Symbol) (u : TypeId) (w : Value) → found (map (λ f. (f.name, f.of)) q.formals) x ≡ Some u → is_value_parameter q x ≡ true → found names x ≡ Some (Holding w) → entry_view p (Some id) (push id (names ++ own) state) (head.Start x (sort_of p.forms u)) ≡ Some w
+      pub start_shown : (x : Symbol) (u : TypeId) (w : Value) → found (map (λ f. (f.name, f.of)) q.formals) x ≡ Some u → is_value_parameter q x ≡ true → found names x ≡ Some (Holding w) → entry_view p (Some id) (push id (names ++ own) state) (head.Start x (sort_of p.forms u)) ≡ Some w
       start_shown x u w type kept e =
           ap (λ o. of_sort (parameter_sort p o x) (sort_of p.forms u) (look (push id (names ++ own) state) (place_of (Some id) (push id (names ++ own) state) x))) there
           ∙ (ap (λ b. of_sort (cond b (Some (item_sort p (Some q) (Variable x))) None) (sort_of p.forms u) (look (push id (names ++ own) state) (place_of (Some id) (push id (names ++ own) state) x))) kept
           ∙ (ap (λ o. of_sort (Some (sort_or_int (option_map (sort_of p.forms) (first_of o (found p.variables x))))) (sort_of p.forms u) (look (push id (names ++ own) state) (place_of (Some id) (push id (names ++ own) state) x))) (parameter_type x u type)
           ∙ (ap (λ b. cond b (look (push id (names ++ own) state) (place_of (Some id) (push id (names ++ own) state) x)) None) (sort_eq-refl (sort_of p.forms u)) ∙ parameter_held x (Holding w) w e refl)))
 
-      scope_parameter : (x : Symbol) (u : TypeId) (others : List (Symbol × Sort)) → found (map (λ f. (f.name, f.of)) q.formals) x ≡ Some u → found (parameters_of p q ++ others) x ≡ Some (sort_of p.forms u)
+      pub scope_parameter : (x : Symbol) (u : TypeId) (others : List (Symbol × Sort)) → found (map (λ f. (f.name, f.of)) q.formals) x ≡ Some u → found (parameters_of p q ++ others) x ≡ Some (sort_of p.forms u)
       scope_parameter x u others e =
           found-append (parameters_of p q) others x ∙ ap (λ o. first_of o (found others x)) (found-sorts p (map (λ f. (f.name, f.of)) q.formals) x ∙ ap (option_map (sort_of p.forms)) e)
 
-      scope_other : (x : Symbol) (others : List (Symbol × Sort)) → found (map (λ f. (f.name, f.of)) q.formals) x ≡ None → found (parameters_of p q ++ others) x ≡ found others x
+      pub scope_other : (x : Symbol) (others : List (Symbol × Sort)) → found (map (λ f. (f.name, f.of)) q.formals) x ≡ None → found (parameters_of p q ++ others) x ≡ found others x
       scope_other x others e =
           found-append (parameters_of p q) others x ∙ ap (λ o. first_of o (found others x)) (found-sorts p (map (λ f. (f.name, f.of)) q.formals) x ∙ ap (option_map (sort_of p.forms)) e)
 
       -- what shows now is what the valuation of the view says, and so is a start, which never shows now
-      now_told : (s : State) (h : Head) (w : Value) → now_view p (Some id) s h ≡ Some w → valuation_of (shapes p) (both (entry_view p (Some id) (push id (names ++ own) state)) (now_view p (Some id) s)) h ≡ w
+      pub now_told : (s : State) (h : Head) (w : Value) → now_view p (Some id) s h ≡ Some w → valuation_of (shapes p) (both (entry_view p (Some id) (push id (names ++ own) state)) (now_view p (Some id) s)) h ≡ w
       now_told s h w e =
           told p (both (entry_view p (Some id) (push id (names ++ own) state)) (now_view p (Some id) s)) h w (in_first (now_view p (Some id) s h) (entry_view p (Some id) (push id (names ++ own) state) h) w e)
 
-      start_told : (s : State) (x : Symbol) (u : Sort) (w : Value) → entry_view p (Some id) (push id (names ++ own) state) (head.Start x u) ≡ Some w → valuation_of (shapes p) (both (entry_view p (Some id) (push id (names ++ own) state)) (now_view p (Some id) s)) (head.Start x u) ≡ w
+      pub start_told : (s : State) (x : Symbol) (u : Sort) (w : Value) → entry_view p (Some id) (push id (names ++ own) state) (head.Start x u) ≡ Some w → valuation_of (shapes p) (both (entry_view p (Some id) (push id (names ++ own) state)) (now_view p (Some id) s)) (head.Start x u) ≡ w
       start_told s x u w e = told p (both (entry_view p (Some id) (push id (names ++ own) state)) (now_view p (Some id) s)) (head.Start x u) w e
 
       -- a head without a number, of a sort that is told
-      at_head : (P : Head → Type 0) (x : Symbol) (s u : Sort) (m : ℕ) → s ≡ u → nat_eq m 0 ≡ true → P (head.Var x u 0) → P (head.Var x s m)
+      pub at_head : (P : Head → Type 0) (x : Symbol) (s u : Sort) (m : ℕ) → s ≡ u → nat_eq m 0 ≡ true → P (head.Var x u 0) → P (head.Var x s m)
       at_head P x s u m sort zero h = subst P (sym (λ i. head.Var x (sort i) (eqb-true m 0 zero i))) h
 
       pub entry_same : IsStart p (Some id) (push id (names ++ own) state) → (h : Head) → entry_test p q h ≡ true → is_variable h ≡ true → valuation_of (shapes p) (both (entry_view p (Some id) (push id (names ++ own) state)) (now_view p (Some id) (push id (names ++ own) state))) h ≡ under symbols (replacing (at_call p q.formals terms)) v h

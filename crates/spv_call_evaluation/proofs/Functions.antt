@@ -91,23 +91,23 @@ module _ (p : Program) (f : IsFramed p) (world : Meaning) (here : Here) (entry :
   abbrev symbols : Meaning
   symbols = meaning_in p world
 
-  there : routine_at p id ≡ Some q
+  pub there : routine_at p id ≡ Some q
   there = (is_callee p (routine_in p here.routine) id line given q found).there
 
-  apart : arguments_apart p (routine_in p here.routine) (call id line given) ≡ true
+  pub apart : arguments_apart p (routine_in p here.routine) (call id line given) ≡ true
   apart = left_true (arguments_apart p (routine_in p here.routine) (call id line given)) _ (left_true (arguments_apart p (routine_in p here.routine) (call id line given) && call_shown p (routine_in p here.routine) (call id line given)) true shown_calls)
 
-  shown_call : call_shown p (routine_in p here.routine) (call id line given) ≡ true
+  pub shown_call : call_shown p (routine_in p here.routine) (call id line given) ≡ true
   shown_call = right_true (arguments_apart p (routine_in p here.routine) (call id line given)) _ (left_true (arguments_apart p (routine_in p here.routine) (call id line given) && call_shown p (routine_in p here.routine) (call id line given)) true shown_calls)
 
-  seen : list_all (λ g. sees (routine_in p here.routine) g.item) q.globals ≡ true
+  pub seen : list_all (λ g. sees (routine_in p here.routine) g.item) q.globals ≡ true
   seen = sym (ap (λ o. list_all (λ g. sees (routine_in p here.routine) g.item) (globals_of o)) there) ∙ right_true _ _ shown_call
 
   -- the state in which the function begins
   abbrev begins : List (Symbol × Binding) → State
   begins own = push id (bound.names ++ own) state
 
-  began_right : (own : List (Symbol × Binding)) (rest : List Value) → (choose_all p (result_name q.name q.result ++ q.locals) rest).end ≡ Ended own → IsStart p (Some id) (push id (bound.names ++ own) state)
+  pub began_right : (own : List (Symbol × Binding)) (rest : List Value) → (choose_all p (result_name q.name q.result ++ q.locals) rest).end ≡ Ended own → IsStart p (Some id) (push id (bound.names ++ own) state)
   began_right own rest chosen =
       subst (λ (s : State). IsStart p (Some id) (push id (bound.names ++ own) s)) binds.state_is (call_begins p f here state start id line given q found apart shown_call (suc k) choices bound ended rest own chosen)
 

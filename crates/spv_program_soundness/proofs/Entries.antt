@@ -8,6 +8,7 @@ use Rattle.std.proofs.lemmas.Bool.{false≢true, eqb-true, eq-eqb}
 use Rattle.spv_logic.proofs.list.Tests.{left_true, right_true, left_false, right_false}
 use Rattle.spv_logic.specs.declared.names.names.Symbol.{Symbol}
 use Rattle.spv_logic.specs.declared.types.TypeId.{TypeId}
+use Rattle.spv_logic.specs.declared.types.Sort.{Sort}
 use Rattle.spv_logic.specs.declared.conditions.RoutineId.{RoutineId}
 use Rattle.spv_logic.specs.declared.operators.Head.{Head}
 use Rattle.spv_logic.specs.declared.operators.Head.TheVariants as head
@@ -56,7 +57,7 @@ use Rattle.spv_call_evaluation.proofs.Heads.{entry_test, entry_passes, formula_p
 
 -- ---- names that differ
 
-found_none : {X : Type 0} (entries : List (Symbol × X)) (x : Symbol) → list_any (same_name x) (map (λ n. n.0) entries) ≡ false → found entries x ≡ None
+pub found_none : {X : Type 0} (entries : List (Symbol × X)) (x : Symbol) → list_any (same_name x) (map (λ n. n.0) entries) ≡ false → found entries x ≡ None
 found_none [] x none = refl
 found_none {X} (n ∷ entries) x none = by_name (same_name n.0 x) refl (found_none entries x (right_false (same_name x n.0) _ none))
   where
@@ -85,7 +86,7 @@ among_names {X} entries x there = by_place (list_any (same_name x) (map (λ n. n
     by_place true e = refl
     by_place false e = absurd (false≢true (sym (ap is_some (found_none entries x e)) ∙ there))
 
-found_all : {X : Type 0} (test : X → Bool) (entries : List (Symbol × X)) (x : Symbol) (i : X) → list_all (λ n. test n.1) entries ≡ true → found entries x ≡ Some i → test i ≡ true
+pub found_all : {X : Type 0} (test : X → Bool) (entries : List (Symbol × X)) (x : Symbol) (i : X) → list_all (λ n. test n.1) entries ≡ true → found entries x ≡ Some i → test i ≡ true
 found_all test [] x i all e = absurd (nothing_there e)
 found_all {X} test (n ∷ entries) x i all e = by_name (same_name n.0 x) e (found_all test entries x i (right_true (test n.1) _ all))
   where
@@ -121,7 +122,7 @@ formal_names : (formals : List Formal) → map (λ (n : Symbol × TypeId). n.0) 
 formal_names [] = refl
 formal_names (f ∷ formals) = ap (λ (k : List Symbol). f.name ∷ k) (formal_names formals)
 
-place_is_formal : (formals : List Formal) (x : Symbol) → list_any (λ f. same_name f.name x && f.by_place) formals ≡ true → is_some (found (map (λ f. (f.name, f.of)) formals) x) ≡ true
+pub place_is_formal : (formals : List Formal) (x : Symbol) → list_any (λ f. same_name f.name x && f.by_place) formals ≡ true → is_some (found (map (λ f. (f.name, f.of)) formals) x) ≡ true
 place_is_formal [] x h = absurd (false≢true h)
 place_is_formal (f ∷ formals) x h = by_name (same_name f.name x) h (place_is_formal formals x)
   where
@@ -211,7 +212,7 @@ module _ (p : Program) (f : IsFramed p) (id : RoutineId) (q : Routine) (there : 
       (right_true (types_exist p q.locals) _
       (right_true (result_ok p q.result) _ (right_true (list_all (λ f. type_exists p.forms f.of) q.formals) _ right_heading)))
 
-  all_initial : list_all (λ i. may_be_initial q i.1) q.initial ≡ true
+  pub all_initial : list_all (λ i. may_be_initial q i.1) q.initial ≡ true
   all_initial =
       left_true (list_all (λ i. may_be_initial q i.1) q.initial) _
       (right_true (all_differ same_item (map (λ g. g.item) q.globals)) _
@@ -230,7 +231,7 @@ module _ (p : Program) (f : IsFramed p) (id : RoutineId) (q : Routine) (there : 
       (item_passes (routine_framed p) p.routines id.0 q (left_true (list_all (routine_framed p) p.routines) _ f.framed) there)))
 
   -- parameters are seen
-  formal_seen : (x : Symbol) (u : TypeId) → found (map (λ f. (f.name, f.of)) q.formals) x ≡ Some u → SeenName p (Some q) x u
+  pub formal_seen : (x : Symbol) (u : TypeId) → found (map (λ f. (f.name, f.of)) q.formals) x ≡ Some u → SeenName p (Some q) x u
   formal_seen x u e =
       let own : found (own_names q) x ≡ Some u = found-append (map (λ f. (f.name, f.of)) q.formals) (result_name q.name q.result ++ q.locals) x ∙ ap (λ o. first_of o (found (result_name q.name q.result ++ q.locals) x)) e in
       record {
@@ -239,12 +240,12 @@ module _ (p : Program) (f : IsFramed p) (id : RoutineId) (q : Routine) (there : 
       }
 
   -- and variables of the GLOBAL list
-  record Listed (x : Symbol) : Type 0 where
-    type : TypeId
-    declared : found p.variables x ≡ Some type
-    is : SeenName p (Some q) x type
+  pub record Listed (x : Symbol) : Type 0 where
+    pub type : TypeId
+    pub declared : found p.variables x ≡ Some type
+    pub is : SeenName p (Some q) x type
 
-  listed_seen : (x : Symbol) → lists q.globals (Variable x) false ≡ true → Listed x
+  pub listed_seen : (x : Symbol) → lists q.globals (Variable x) false ≡ true → Listed x
   listed_seen x listed = by_type (found p.variables x) refl (listed_passes (item_exists p) q.globals (Variable x) all_items listed)
     where
       own : found (own_names q) x ≡ None
@@ -262,7 +263,7 @@ module _ (p : Program) (f : IsFramed p) (id : RoutineId) (q : Routine) (there : 
       }
 
   -- an INITIAL name is no name that shows
-  initial_apart : (x : Symbol) → is_some (found q.initial x) ≡ true → shown_type p (Some q) x ≡ None
+  pub initial_apart : (x : Symbol) → is_some (found q.initial x) ≡ true → shown_type p (Some q) x ≡ None
   initial_apart x there =
       found-append (own_names q) (filter (λ n. sees (Some q) (Variable n.0)) p.variables) x
       ∙ (ap (λ o. first_of o (found (filter (λ n. sees (Some q) (Variable n.0)) p.variables) x)) (found_none (own_names q) x own)
@@ -314,15 +315,18 @@ module _ (p : Program) (f : IsFramed p) (id : RoutineId) (q : Routine) (there : 
           by_result None = local
           by_result (Some t) = ap (λ b. b || list_any (same_name x) locals) (left_false (same_name x q.name) _ front) ∙ local
 
+  pub initial_hidden : (state : State) (x : Symbol) (s : Sort) → is_some (found q.initial x) ≡ true → now_view p (Some id) state (head.Var x s 0) ≡ None
+  initial_hidden state x s e = ap (λ o. of_sort (option_map (sort_of p.forms) o) s (look state (place_of (Some id) state x))) (ap (λ o. shown_type p o x) there ∙ initial_apart x e)
+
   module _ (state : State) (start : IsStart p (Some id) state) where
     -- a name that is seen has a value, which shows
-    record NameHeld (x : Symbol) (u : TypeId) : Type 0 where
-      value : Value
-      held : look state (place_of (Some id) state x) ≡ Some value
-      shows : now_view p (Some id) state (head.Var x (sort_of p.forms u) 0) ≡ Some value
-      fit : fits (shapes p) value (sort_of p.forms u) ≡ true
+    pub record NameHeld (x : Symbol) (u : TypeId) : Type 0 where
+      pub value : Value
+      pub held : look state (place_of (Some id) state x) ≡ Some value
+      pub shows : now_view p (Some id) state (head.Var x (sort_of p.forms u) 0) ≡ Some value
+      pub fit : fits (shapes p) value (sort_of p.forms u) ≡ true
 
-    name_held : (x : Symbol) (u : TypeId) → SeenName p (Some q) x u → NameHeld x u
+    pub name_held : (x : Symbol) (u : TypeId) → SeenName p (Some q) x u → NameHeld x u
     name_held x u seen =
         let s = subst (λ (o : Option Routine). SeenName p o x u) (sym there) seen in
         by_value s (look state (place_of (Some id) state x)) refl (start.names x u (shown_with p (routine_at p id) x u s.type s.seen))
@@ -336,16 +340,16 @@ module _ (p : Program) (f : IsFramed p) (id : RoutineId) (q : Routine) (there : 
         ap (λ o. cond (sees o (Class t)) (Some (class_of (shapes p) state.heap t)) None) there ∙ ap (λ b. cond b (Some (class_of (shapes p) state.heap t)) None) listed
 
     -- what an INITIAL name stands for has a value, which shows
-    record ItemHeld (i : Item) : Type 0 where
-      value : Value
-      held : item_value p (Some id) state i ≡ Some value
-      shows : now_view p (Some id) state (item_head p (Some q) i) ≡ Some value
-      fit : fits (shapes p) value (item_sort p (Some q) i) ≡ true
+    pub record ItemHeld (i : Item) : Type 0 where
+      pub value : Value
+      pub held : item_value p (Some id) state i ≡ Some value
+      pub shows : now_view p (Some id) state (item_head p (Some q) i) ≡ Some value
+      pub fit : fits (shapes p) value (item_sort p (Some q) i) ≡ true
 
     sort_of_name : (x : Symbol) (u : TypeId) → SeenName p (Some q) x u → item_sort p (Some q) (Variable x) ≡ sort_of p.forms u
     sort_of_name x u seen = ap (λ o. sort_or_int (option_map (sort_of p.forms) o)) seen.type
 
-    item_held : (i : Item) → may_be_initial q i ≡ true → ItemHeld i
+    pub item_held : (i : Item) → may_be_initial q i ≡ true → ItemHeld i
     item_held (Variable x) may = by_kind (list_any (λ f. same_name f.name x && f.by_place) q.formals) refl may
       where
         of_name : (u : TypeId) → SeenName p (Some q) x u → ItemHeld (Variable x)
@@ -373,7 +377,7 @@ module _ (p : Program) (f : IsFramed p) (id : RoutineId) (q : Routine) (there : 
       fit = class_fits p (forms_right p f.typed) state.heap start.heap t;
     }
 
-    initial_held : (x : Symbol) (i : Item) → found q.initial x ≡ Some i → ItemHeld i
+    pub initial_held : (x : Symbol) (i : Item) → found q.initial x ≡ Some i → ItemHeld i
     initial_held x i e = item_held i (found_all (may_be_initial q) q.initial x i all_initial e)
 
     -- a value parameter has a value
@@ -463,6 +467,15 @@ module _ (p : Program) (f : IsFramed p) (id : RoutineId) (q : Routine) (there : 
     head_shown (head.Start x s) passes variable = absurd (false≢true passes)
     head_shown _ passes variable = absurd (false≢true variable)
 
+    -- what an INITIAL name showed at the beginning
+    pub initial_shown : (x : Symbol) (i : Item) (e : found q.initial x ≡ Some i) → entry_view p (Some id) state (head.Var x (item_sort p (Some q) i) 0) ≡ Some (initial_held x i e).value
+    initial_shown x i e =
+        let k = initial_held x i e in
+        let s = item_sort p (Some q) i in
+        ap (λ o. of_sort (option_map (item_sort p o) (initial_item o x)) s (option_and_then (item_value p (Some id) state) (initial_item o x))) there
+        ∙ (ap (λ o. of_sort (option_map (item_sort p (Some q)) o) s (option_and_then (item_value p (Some id) state) o)) e
+        ∙ (ap (λ b. cond b (item_value p (Some id) state i) None) (sort_eq-refl s) ∙ k.held))
+
     -- a valuation that shows the beginning
     module _ (world : Meaning) (v : Valuation) (shows : Shows (shown p (begun p (Some id) state) no_window state) v) where
       now_told : (h : Head) (w : Value) → now_view p (Some id) state h ≡ Some w → v h ≡ w
@@ -475,11 +488,7 @@ module _ (p : Program) (f : IsFramed p) (id : RoutineId) (q : Routine) (there : 
       initial_told x i e =
           let k = initial_held x i e in
           let s = item_sort p (Some q) i in
-          let hidden : now_view p (Some id) state (head.Var x s 0) ≡ None = ap (λ o. of_sort (option_map (sort_of p.forms) o) s (look state (place_of (Some id) state x))) (ap (λ o. shown_type p o x) there ∙ initial_apart x (ap is_some e)) in
-          let shown_there : entry_view p (Some id) state (head.Var x s 0) ≡ Some k.value = ap (λ o. of_sort (option_map (item_sort p o) (initial_item o x)) s (option_and_then (item_value p (Some id) state) (initial_item o x))) there
-          ∙ (ap (λ o. of_sort (option_map (item_sort p (Some q)) o) s (option_and_then (item_value p (Some id) state) o)) e
-          ∙ (ap (λ b. cond b (item_value p (Some id) state i) None) (sort_eq-refl s) ∙ k.held)) in
-          entry_told (head.Var x s 0) k.value hidden shown_there ∙ sym (now_told (item_head p (Some q) i) k.value k.shows)
+          entry_told (head.Var x s 0) k.value (initial_hidden state x s (ap is_some e)) (initial_shown x i e) ∙ sym (now_told (item_head p (Some q) i) k.value k.shows)
 
       start_told : (x : Symbol) (u : TypeId) → found (map (λ f. (f.name, f.of)) q.formals) x ≡ Some u → is_value_parameter q x ≡ true → v (head.Start x (sort_of p.forms u)) ≡ v (head.Var x (sort_of p.forms u) 0)
       start_told x u e kept =

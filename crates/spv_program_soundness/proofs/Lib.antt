@@ -12,3 +12,4 @@ pub mod Counting
 pub mod Entries
 pub mod Bodies
 pub mod Programs
+pub mod Returning
