@@ -14,6 +14,7 @@ use Rattle.spv_logic.specs.declared.operators.Head.{Head}
 use Rattle.spv_logic.specs.declared.operators.Head.TheVariants as head
 use Rattle.spv_logic.specs.Values.{Value, truth_of}
 use Rattle.spv_logic.specs.Terms.{Term}
+use Rattle.spv_logic.specs.Shapes.{shapes_ok}
 use Rattle.spv_logic.specs.Fits.{fits, default_of}
 use Rattle.spv_logic.specs.Sorts.{variable_sort}
 use Rattle.spv_logic.specs.Substitution.{is_variable, substitute, under}
@@ -82,6 +83,14 @@ module _ (p : Program) (world : Meaning) where
       taken s [] = reach_stops p world all_allowed _ fault.Choice [] refl
       taken s (v ∷ rest) = by_fit v rest (fits (shapes p) v s)
 
+-- each variable has its sort's default
+pub defaults_right : (p : Program) → shapes_ok (shapes p) ≡ true → IsValuation (shapes p) (λ h. default_of (shapes p) (variable_sort h))
+defaults_right p ok = record {
+  variables = λ x s m. default_fits (shapes p) ok s;
+  classes = λ c m. default_fits (shapes p) ok (variable_sort (head.ClassVar c m));
+  starts = λ x s. default_fits (shapes p) ok s;
+}
+
 -- ---- a call
 
 module _ (p : Program) (f : IsFramed p) (world : Meaning) (here : Here) (entry : IsEntry p here.entry) (state : State) (start : IsStart p here.routine state) (k : ℕ) (correct : CorrectBelow p world (suc k))
@@ -132,16 +141,6 @@ module _ (p : Program) (f : IsFramed p) (world : Meaning) (here : Here) (entry :
     pub exit : all_hold p world (met_if_there (reached_exit p (begun p (Some id) (push id (bound.names ++ own) state)) q after) q.exit) ≡ true
 
   module _ (known : IsTrueFor p world (shown p here window state) (wanted_entry here.routine line (entry_at_call p q terms))) where
-    base : Valuation
-    base h = default_of (shapes p) (variable_sort h)
-
-    base_right : IsValuation (shapes p) (λ h. default_of (shapes p) (variable_sort h))
-    base_right = record {
-      variables = λ x s m. default_fits (shapes p) (forms_right p f.typed) s;
-      classes = λ c m. default_fits (shapes p) (forms_right p f.typed) (variable_sort (head.ClassVar c m));
-      starts = λ x s. default_fits (shapes p) (forms_right p f.typed) s;
-    }
-
     entry_holds : (own : List (Symbol × Binding)) → IsStart p (Some id) (push id (bound.names ++ own) state) → all_hold p world (met_if_there (reached_entry p (begun p (Some id) (push id (bound.names ++ own) state)) q (push id (bound.names ++ own) state)) q.entry) ≡ true
     entry_holds own began = by_entry q.entry refl known
       where
@@ -151,7 +150,7 @@ module _ (p : Program) (f : IsFramed p) (world : Meaning) (here : Here) (entry :
         by_entry (Some a) e known =
             let view = shown p here window state in
             let v = within view (λ h. default_of (shapes p) (variable_sort h)) in
-            let val = laid_over p view (shown_fit p (forms_right p f.typed) world here entry n window is state start) (λ h. default_of (shapes p) (variable_sort h)) base_right in
+            let val = laid_over p view (shown_fit p (forms_right p f.typed) world here entry n window is state start) (λ h. default_of (shapes p) (variable_sort h)) (defaults_right p (forms_right p f.typed)) in
             let shows : Shows view v = λ h w e. ap (λ o. unwrap_or o (default_of (shapes p) (variable_sort h))) e in
             both_true (entry_true v val shows own began a e (wanted_holds p world view here.routine kind.Entry line (substitute (replacing (at_call p q.formals terms)) (entry_term p q a)) known v val shows)) refl
 

@@ -13,3 +13,4 @@ pub mod Entries
 pub mod Bodies
 pub mod Programs
 pub mod Returning
+pub mod Performing

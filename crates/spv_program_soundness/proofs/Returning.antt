@@ -88,12 +88,12 @@ use Rattle.spv_program_soundness.proofs.Entries.{listed_there, found_none, found
 -- ---- parameters by place
 
 -- a parameter that is no value refers to a place
-record Refers (names : List (Symbol × Binding)) (x : Symbol) : Type 0 where
-  place : Place
-  is : found names x ≡ Some (Referring place)
+pub record Refers (names : List (Symbol × Binding)) (x : Symbol) : Type 0 where
+  pub place : Place
+  pub is : found names x ≡ Some (Referring place)
 
 module _ (p : Program) (symbols : Meaning) (here : Here) (state : State) (window : View) where
-  refers : (formals : List Formal) (terms : List Argument) (names : List (Symbol × Binding)) → AreBound p symbols here state window formals terms names → (x : Symbol) (t : TypeId) → found (map (λ f. (f.name, f.of)) formals) x ≡ Some t → list_any (λ f. same_name f.name x && not f.by_place) formals ≡ false → Refers names x
+  pub refers : (formals : List Formal) (terms : List Argument) (names : List (Symbol × Binding)) → AreBound p symbols here state window formals terms names → (x : Symbol) (t : TypeId) → found (map (λ f. (f.name, f.of)) formals) x ≡ Some t → list_any (λ f. same_name f.name x && not f.by_place) formals ≡ false → Refers names x
   refers _ _ _ NoneBound x t e none = absurd (nothing_there e)
   refers _ _ _ (ValueBound f u w kept sorted worth formals terms names others) x t e none =
       by_name (same_name f.name x) refl e (left_false (same_name f.name x && not f.by_place) _ none) (λ e. refers formals terms names others x t e (right_false (same_name f.name x && not f.by_place) _ none))
@@ -109,7 +109,7 @@ module _ (p : Program) (symbols : Meaning) (here : Here) (state : State) (window
       by_name false is e later = let r = later e in record { place = r.place; is = ap (λ b. cond b (Some (Referring a)) (found names x)) is ∙ r.is }
 
   -- and it is among what the call changes
-  place_changed : (q : Routine) (formals : List Formal) (terms : List Argument) (names : List (Symbol × Binding)) → AreBound p symbols here state window formals terms names → (x : Symbol) (t : TypeId) (a : Place) → found (map (λ f. (f.name, f.of)) formals) x ≡ Some t → found names x ≡ Some (Referring a)
+  pub place_changed : (q : Routine) (formals : List Formal) (terms : List Argument) (names : List (Symbol × Binding)) → AreBound p symbols here state window formals terms names → (x : Symbol) (t : TypeId) (a : Place) → found (map (λ f. (f.name, f.of)) formals) x ≡ Some t → found names x ≡ Some (Referring a)
       → list_any (head_eq (head.Var x (sort_of p.forms t) 0)) (heads_changed p q formals terms) ≡ true
   place_changed q _ _ _ NoneBound x t a e r = absurd (nothing_there e)
   place_changed q _ _ _ (ValueBound f u w kept sorted worth formals terms names others) x t a e r = by_name (same_name f.name x) e r (place_changed q formals terms names others x t a)
@@ -143,7 +143,7 @@ var_among (g ∷ globals) root none = by_group g.is_var (left_false (same_root r
     by_group true one rest = both_false (same_root root (Shared g.item)) _ one rest
     by_group false one rest = rest
 
-vars_among : (globals : List GlobalItem) (roots : List Root) → list_any (λ r. list_any (same_root r) (map Shared (map (λ g. g.item) globals))) roots ≡ false → list_any (λ r. list_any (same_root r) (map Shared (var_items globals))) roots ≡ false
+pub vars_among : (globals : List GlobalItem) (roots : List Root) → list_any (λ r. list_any (same_root r) (map Shared (map (λ g. g.item) globals))) roots ≡ false → list_any (λ r. list_any (same_root r) (map Shared (var_items globals))) roots ≡ false
 vars_among globals [] none = refl
 vars_among globals (r ∷ roots) none = both_false (list_any (same_root r) (map Shared (var_items globals))) _ (var_among globals r (left_false (list_any (same_root r) (map Shared (map (λ g. g.item) globals))) _ none)) (vars_among globals roots (right_false (list_any (same_root r) (map Shared (map (λ g. g.item) globals))) _ none))
 
@@ -156,7 +156,7 @@ vars_pass test (g ∷ globals) all = by_group g.is_var (left_true (test g.item) 
     by_group false one rest = rest
 
 -- the roots of a list's items
-listed_root : (globals : List GlobalItem) (i : Item) → lists globals i false ≡ true → list_any (same_root (Shared i)) (map Shared (map (λ g. g.item) globals)) ≡ true
+pub listed_root : (globals : List GlobalItem) (i : Item) → lists globals i false ≡ true → list_any (same_root (Shared i)) (map Shared (map (λ g. g.item) globals)) ≡ true
 listed_root [] i h = h
 listed_root (g ∷ globals) i h = by_item (same_item g.item i) refl h (listed_root globals i)
   where
@@ -165,7 +165,7 @@ listed_root (g ∷ globals) i h = by_item (same_item g.item i) refl h (listed_ro
     by_item false e h later = or_right (same_item i g.item) _ (later h)
 
 -- what stands in a VAR group is listed
-var_listed : (globals : List GlobalItem) (i : Item) → list_any (same_item i) (var_items globals) ≡ true → lists globals i false ≡ true
+pub var_listed : (globals : List GlobalItem) (i : Item) → list_any (same_item i) (var_items globals) ≡ true → lists globals i false ≡ true
 var_listed [] i h = h
 var_listed (g ∷ globals) i h = by_group g.is_var h (var_listed globals i)
   where
@@ -210,7 +210,7 @@ module _ (p : Program) (f : IsFramed p) (world : Meaning) (here : Here) (entry :
   items_roots (i ∷ items) all = OneRoot (Shared i) (item_head p (Some q) i) (item_root i (left_true (lists q.globals i false) _ all)) (map Shared items) (item_heads p q items) (items_roots items (right_true (lists q.globals i false) _ all))
 
   -- no root of a VAR argument is an item of the list
-  item_apart : (i : Item) → lists q.globals i false ≡ true → (roots : List Root) (heads : List Head) → AreRoots p here roots heads → list_any (λ r. list_any (same_root r) (map Shared (map (λ g. g.item) q.globals))) roots ≡ false → list_any (head_eq (item_head p (Some q) i)) heads ≡ false
+  pub item_apart : (i : Item) → lists q.globals i false ≡ true → (roots : List Root) (heads : List Head) → AreRoots p here roots heads → list_any (λ r. list_any (same_root r) (map Shared (map (λ g. g.item) q.globals))) roots ≡ false → list_any (head_eq (item_head p (Some q) i)) heads ≡ false
   item_apart i listed _ _ NoRoots none = refl
   item_apart i listed _ _ (OneRoot root h is roots heads others) none =
       both_false (head_eq (item_head p (Some q) i) h) _
