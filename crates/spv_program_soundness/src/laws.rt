@@ -1,4 +1,4 @@
-// What is proved of assignments, NEW and programs, each the contract of a function that does nothing.
+// What is proved of assignments, calls, NEW and programs, each the contract of a function that does nothing.
 
 ghost use Rattle.spv_program_soundness.specs.Laws.{AssignmentsAreRight, NewIsRight};
 ghost use Rattle.spv_program_soundness.specs.Calls.{CallsAreRight};
@@ -17,9 +17,16 @@ pub fn law_new()
     ensures creations { NewIsRight }
 {}
 
-/// Where calls of procedures are right, a program that is well typed and shares rightly, each of whose conditions is true in a world, is
-/// correct there: from every start that meets ENTRY, each routine and the main block reach only annotations that hold, and where they
-/// end EXIT holds.
-fn law_program()
-    ensures programs { CallsAreRight → TrueConditionsMakeProgramsCorrect }
+/// In such a program a procedure's call is right: its value arguments are evaluated and its VAR arguments fixed first, functions that
+/// they call included; the procedure's ENTRY is met; and where it returns, each place that a VAR parameter refers to, and each item of
+/// its VAR groups, has a new value for which EXIT holds, and nothing else shows something new.
+pub fn law_call()
+    ensures calls { CallsAreRight }
+{}
+
+/// A program that is well typed and shares rightly, each of whose conditions is true in a world, is correct there: from every start that
+/// meets ENTRY, each routine and the main block reach only annotations that hold, and where they end EXIT holds, whatever cells their
+/// pointers share.
+pub fn law_program()
+    ensures programs { TrueConditionsMakeProgramsCorrect }
 {}

@@ -1,4 +1,4 @@
-//! Assignments and NEW are right: where the list before one is true, the list behind it is true where its run ends.
+//! Assignments, calls of procedures and NEW are right, and so are programs whose conditions are true.
 #![tactic(auto)]
 
 pub mod laws;
