@@ -1,63 +1,56 @@
 -- Assignments are right.
-use Rattle.std.proofs.Common.{◌≡◌, ℕ, zero, suc, Bool, true, false, cond, not, ◌&&◌, ◌||◌, List, [], ◌∷◌, ◌++◌, map, pos, refl, sym, ap, subst, ◌∙◌, Option, Some, None, option_map}
-use Rattle.std.specs.Option.{option_and_then, unwrap_or}
+use Rattle.std.proofs.Common.{◌≡◌, ℕ, zero, suc, Bool, true, false, cond, not, ◌&&◌, ◌||◌, List, [], ◌∷◌, ◌++◌, map, refl, sym, ap, subst, ◌∙◌, Option, Some, None}
+use Rattle.std.specs.Option.{unwrap_or}
 use Rattle.std.specs.Cmp.Derive.{both_true}
 use Rattle.std.proofs.lemmas.Bool.{false≢true}
 use Rattle.spv_logic.proofs.list.Tests.{right_true}
-use Rattle.spv_logic.specs.declared.names.names.Symbol.{Symbol}
 use Rattle.spv_logic.specs.declared.types.TypeId.{TypeId}
 use Rattle.spv_logic.specs.declared.types.Sort.{Sort}
 use Rattle.spv_logic.specs.declared.operators.Head.{Head}
-use Rattle.spv_logic.specs.declared.operators.Head.TheVariants as head
-use Rattle.spv_logic.specs.Values.{Value, Pointer, members_of, rows_in, default_in, row_at, pointer_of}
-use Rattle.spv_logic.specs.Terms.{Term, sort_eq, head_eq, class_with, eval}
+use Rattle.spv_logic.specs.Values.{Value}
+use Rattle.spv_logic.specs.Terms.{Term, head_eq, eval}
 use Rattle.spv_logic.specs.Fits.{fits}
 use Rattle.spv_logic.specs.Substitution.{value_under, under}
 use Rattle.spv_logic.specs.Conditions.{Meaning, Valuation, View, Shows, both, shown_or}
-use Rattle.spv_logic.proofs.Equality.{sort_eq-true, sort_eq-refl, head_eq-true}
-use Rattle.spv_program.specs.declared.types.Item.TheVariants.{Variable, Class}
-use Rattle.spv_program.specs.Lists.{same_name}
-use Rattle.spv_program.specs.Types.{same_type, sort_of, takes_value}
+use Rattle.spv_logic.proofs.Equality.{head_eq-true}
+use Rattle.spv_program.specs.Types.{sort_of, takes_value}
 use Rattle.spv_program.specs.Expressions.{Expression, Designator}
 use Rattle.spv_program.specs.Statements.{Assign}
 use Rattle.spv_program.specs.Programs.{Routine, Program, shapes, routine_in}
-use Rattle.spv_program.specs.Scopes.{is_own, name_type}
+use Rattle.spv_program.specs.Scopes.{is_own}
 use Rattle.spv_program.specs.Uses.{Root, expression_uses, designator_uses, expression_calls, designator_calls}
 use Rattle.spv_program.specs.Frames.{root_of, arguments_apart}
 use Rattle.spv_program.specs.Changes.{changed_roots}
 use Rattle.spv_program.specs.ExpressionTypes.{may_write, sort_of_type, expression_sort, designator_type}
 use Rattle.spv_program.specs.Places.{Step, Target, base, present, changed_part, in_root, whole_with}
-use Rattle.spv_program.specs.Terms.{alone, binary}
 use Rattle.spv_program.specs.Calls.{replacing}
 use Rattle.spv_program.specs.ExpressionTerms.{valued, placed}
 use Rattle.spv_program.specs.Typing.{statement_ok}
 use Rattle.spv_program.proofs.ExpressionSorting.{mapped}
 use Rattle.spv_meaning.specs.declared.faults.Fault.TheVariants as fault
-use Rattle.spv_meaning.specs.Places.{PathStep, Place, HeapRow, State, CellOf, whole, row_of, part_at, with_part, look, value_or_zero, put}
-use Rattle.spv_meaning.specs.Views.{place_of, class_of, of_sort, shown_type, now_view}
+use Rattle.spv_meaning.specs.Places.{PathStep, Place, State, CellOf, look, put}
+use Rattle.spv_meaning.specs.Views.{now_view}
 use Rattle.spv_meaning.specs.Outcomes.{Ended}
 use Rattle.spv_meaning.specs.Levels.{Here}
-use Rattle.spv_meaning.specs.Evaluation.{Got, Fixed, is_cell_of, fix, evaluate}
+use Rattle.spv_meaning.specs.Evaluation.{Got, Fixed, fix, evaluate}
 use Rattle.spv_meaning.specs.Walks.{walk, assign}
-use Rattle.spv_meaning.specs.FrameTypes.{row_type, place_sort}
+use Rattle.spv_meaning.specs.FrameTypes.{place_sort}
 use Rattle.spv_meaning.specs.Starts.{IsStart, At, CellsOf, same_root, overlap}
 use Rattle.spv_meaning.specs.Correct.{CorrectBelow}
 use Rattle.spv_meaning.specs.Before.{Made, before_calls, replaced}
 use Rattle.spv_meaning.proofs.AssignedPrograms.{same_sorts}
-use Rattle.spv_meaning.proofs.Maps.{same_names}
 use Rattle.spv_preservation.specs.facts.Places.{IsPlace}
 use Rattle.spv_preservation.proofs.facts.Places.{put_found}
 use Rattle.spv_preservation.proofs.Roots.{place_there}
 use Rattle.spv_preservation.proofs.Frames.{leaves_now}
 use Rattle.spv_preservation.proofs.Calls.{FixedRight}
 use Rattle.spv_preservation.proofs.Expressions.{evaluates, fixes}
-use Rattle.spv_rule_soundness.specs.evaluation.Laws.{root_seen, uses_seen}
+use Rattle.spv_rule_soundness.specs.evaluation.Laws.{uses_seen}
 use Rattle.spv_rule_soundness.specs.statements.Truth.{is_new, IsWindow, IsEntry, meaning_in, shown, IsTrueFor, Ignores}
 use Rattle.spv_rule_soundness.specs.statements.Runs.{all_allowed, Reaches, may_change, EndsWell, IsRight}
 use Rattle.spv_rule_soundness.specs.statements.Laws.{below}
-use Rattle.spv_rule_soundness.proofs.evaluation.Settings.{forms_right, view_name}
-use Rattle.spv_rule_soundness.proofs.evaluation.Settings as settings
-use Rattle.spv_rule_soundness.proofs.evaluation.Values.{same_types, seen_left, seen_right, cell_there}
+use Rattle.spv_rule_soundness.proofs.evaluation.Settings.{forms_right}
+use Rattle.spv_rule_soundness.proofs.evaluation.Values.{seen_left, seen_right}
 use Rattle.spv_rule_soundness.proofs.statements.Lists.{not_new, follow-replaced}
 use Rattle.spv_rule_soundness.proofs.statements.Views.{in_first, within}
 use Rattle.spv_rule_soundness.proofs.statements.States.{at_state-valuation, at_state-shows, same_shown}
@@ -66,25 +59,22 @@ use Rattle.spv_writes.specs.Writes.{Writes, part_of, is_below, is_in, is_in_one}
 use Rattle.spv_writes.proofs.Lists.{all_left, all_right, any_left, or_left}
 use Rattle.spv_writes.proofs.Places.{root_itself, below_itself}
 use Rattle.spv_writes.proofs.Kept.{one_put}
-use Rattle.spv_writes.proofs.Parts.{part_written}
-use Rattle.spv_writes.proofs.Classes.{put_in_cell}
-use Rattle.spv_frame_law.specs.Frames.{root_areas, areas_of, root_shown, is_of_one, call_shown}
+use Rattle.spv_frame_law.specs.Frames.{root_areas, areas_of, call_shown}
 use Rattle.spv_frame_law.specs.Laws.{IsFramed, below_turns}
 use Rattle.spv_frame_law.proofs.Levels.{below_keeps, place_fixed}
 use Rattle.spv_frame_law.proofs.Records.{changes_itself, is_among, use_kept}
 use Rattle.spv_frame_law.proofs.Starts.{start_stays}
 use Rattle.spv_frame_law.proofs.Uses.{written_root}
-use Rattle.spv_frame_law.proofs.Views.{place_stays, put_shows}
 use Rattle.spv_call_evaluation.specs.Known.{Knows, Widely, IsWorth}
-use Rattle.spv_call_evaluation.specs.Lying.{step_at, BeginsAt, AtName, AtCell, IsFixedAt}
+use Rattle.spv_call_evaluation.specs.Lying.{step_at, BeginsAt, IsFixedAt}
 use Rattle.spv_call_evaluation.specs.Functions.{calls_shown}
 use Rattle.spv_call_evaluation.specs.Laws.{IsReady}
 use Rattle.spv_call_evaluation.proofs.Windows.{reach_with, knows_shown, narrower, first_calls, behind_them, checked}
 use Rattle.spv_call_evaluation.proofs.Evaluating.{evaluated, fixed_at}
 use Rattle.spv_call_evaluation.proofs.Functions.{functions_give}
-use Rattle.spv_program_soundness.proofs.Roots.{IsRootOf, OfName, OfClass, root_is}
+use Rattle.spv_program_soundness.proofs.Roots.{IsRootOf, root_is}
 use Rattle.spv_program_soundness.proofs.Kept.{root_kept}
-use Rattle.spv_program_soundness.proofs.Staying.{AreRoots, NoRoots, OneRoot, else_stays}
+use Rattle.spv_program_soundness.proofs.Staying.{NoRoots, OneRoot, else_stays}
 use Rattle.spv_program_soundness.proofs.Written.{OnlyThere, root_after}
 
 pub below_same : (p : Program) (turns : ℕ) → below p turns ≡ below_turns p turns

@@ -1,12 +1,10 @@
 -- The fresh variables for what a call changes, and what is wanted behind it in terms of them.
-use Rattle.std.proofs.Common.{◌≡◌, Bool, true, false, cond, ◌||◌, List, [], ◌∷◌, ◌++◌, map, refl, sym, ap, ◌∙◌, Some, None}
+use Rattle.std.proofs.Common.{◌≡◌, Bool, true, false, cond, ◌||◌, List, [], ◌∷◌, map, refl, sym, ap, ◌∙◌, Some, None}
 use Rattle.std.specs.List.{list_all, list_any}
-use Rattle.std.specs.Cmp.Derive.{both_true}
-use Rattle.std.proofs.lemmas.Bool.{false≢true, eq-eqb}
+use Rattle.std.proofs.lemmas.Bool.{false≢true}
 use Rattle.spv_logic.proofs.list.Tests.{left_true, right_true, left_false, right_false}
 use Rattle.spv_logic.specs.declared.operators.Head.{Head}
 use Rattle.spv_logic.specs.Terms.{Term, head_eq, eval}
-use Rattle.spv_logic.specs.Substitution.{is_variable}
 use Rattle.spv_logic.specs.Conditions.{Meaning, Valuation}
 use Rattle.spv_logic.proofs.Equality.{head_eq-true, head_eq-refl}
 use Rattle.spv_logic.proofs.Substitution.{worth-variable}
@@ -22,12 +20,11 @@ use Rattle.spv_program.specs.Calls.{Argument, Given, AtPlace, replacing, formal_
 use Rattle.spv_meaning.specs.Places.{State}
 use Rattle.spv_meaning.specs.Views.{now_view}
 use Rattle.spv_meaning.specs.Levels.{Here}
-use Rattle.spv_meaning.specs.Before.{Changed, renamed, changed_items, changed_places}
-use Rattle.spv_rule_soundness.specs.statements.Truth.{is_new, IsLater}
+use Rattle.spv_meaning.specs.Before.{renamed, changed_items, changed_places}
+use Rattle.spv_rule_soundness.specs.statements.Truth.{is_new}
 use Rattle.spv_rule_soundness.proofs.statements.Renaming.{is_name, fresh_later, fresh_new, fresh_taken, old_differs, with_fresh, fresh_is_variable}
 use Rattle.spv_writes.proofs.Lists.{or_left, or_right}
 use Rattle.spv_frame_law.proofs.Sharing.{item_itself}
-use Rattle.spv_frame_law.proofs.Covering.{items_same}
 
 module _ (p : Program) (q : Routine) where
   -- ---- what is changed

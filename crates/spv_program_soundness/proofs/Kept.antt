@@ -1,10 +1,10 @@
 -- What a statement writes is among what it may change.
 use Rattle.std.proofs.Common.{◌≡◌, ◌+◌, ℕ, zero, suc, Bool, true, false, cond, ◌||◌, List, [], ◌∷◌, ◌++◌, map, filter, length, refl, sym, ap, subst, ◌∙◌, nat_eq, nat_lt, Option, Some, None, arith}
 use Rattle.std.specs.Prelude.{is_some}
-use Rattle.std.specs.List.{list_any, list_all}
+use Rattle.std.specs.List.{list_any}
 use Rattle.std.proofs.lemmas.Bool.{false≢true, eqb-true}
 use Rattle.std.proofs.lemmas.Bool.Decides.{nat_tests}
-use Rattle.spv_logic.proofs.list.Tests.{left_true, right_true, both_false}
+use Rattle.spv_logic.proofs.list.Tests.{both_false}
 use Rattle.spv_logic.specs.declared.names.names.Symbol.{Symbol}
 use Rattle.spv_logic.specs.declared.types.TypeId.{TypeId}
 use Rattle.spv_logic.specs.declared.operators.Head.{Head}
@@ -13,14 +13,13 @@ use Rattle.spv_logic.specs.Terms.{head_eq}
 use Rattle.spv_logic.proofs.Equality.{head_eq-refl}
 use Rattle.spv_program.specs.declared.types.Item.TheVariants.{Variable, Class}
 use Rattle.spv_program.specs.declared.types.TypeForm.{TypeForm}
-use Rattle.spv_program.specs.declared.types.TypeForm.TheVariants.{Integer, Boolean, Range, Pointer, Array, Record}
 use Rattle.spv_program.specs.Lists.{same_name, found, first_of}
-use Rattle.spv_program.specs.Types.{same_type, form_at, sort_of, target_of, type_exists, form_ok, forms_ok}
+use Rattle.spv_program.specs.Types.{same_type, sort_of}
 use Rattle.spv_program.specs.Programs.{Routine, Program}
 use Rattle.spv_program.specs.Scopes.{own_names_in}
 use Rattle.spv_program.specs.Uses.{Root, Own, Shared}
 use Rattle.spv_program.specs.Changes.{types_once, types_from, types_of_names, all_types, all_roots}
-use Rattle.spv_program.specs.Typing.{declarations_ok, well_typed}
+use Rattle.spv_program.specs.Typing.{well_typed}
 use Rattle.spv_program.proofs.SortFacts.{nothing_there, some_is}
 use Rattle.spv_rule_soundness.proofs.evaluation.Values.{same_types}
 use Rattle.spv_meaning.proofs.Maps.{same_names}

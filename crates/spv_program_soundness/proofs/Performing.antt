@@ -4,8 +4,8 @@ use Rattle.std.specs.Prelude.{is_some}
 use Rattle.std.specs.List.{list_all, list_any}
 use Rattle.std.specs.Option.{unwrap_or}
 use Rattle.std.specs.Cmp.Derive.{both_true}
-use Rattle.std.proofs.lemmas.Bool.{false≢true, eqb-true, eq-eqb}
-use Rattle.spv_logic.proofs.list.Tests.{left_true, right_true, left_false, right_false, both_false}
+use Rattle.std.proofs.lemmas.Bool.{false≢true, eqb-true}
+use Rattle.spv_logic.proofs.list.Tests.{left_true, right_true, right_false}
 use Rattle.spv_logic.specs.declared.names.names.Symbol.{Symbol}
 use Rattle.spv_logic.specs.declared.types.TypeId.{TypeId}
 use Rattle.spv_logic.specs.declared.types.Sort.{Sort}
@@ -20,30 +20,29 @@ use Rattle.spv_logic.specs.Substitution.{is_variable, substitute, value_under, u
 use Rattle.spv_logic.specs.Conditions.{Meaning, Valuation, IsValuation, View, Shows, both, shown_or, holds, Condition}
 use Rattle.spv_logic.proofs.Equality.{sort_eq-true, sort_eq-refl, head_eq-true, head_eq-refl}
 use Rattle.spv_logic.proofs.Substitution.{worth-variable, eval-substitute, eval-agree}
-use Rattle.spv_logic.proofs.Defaults.{default_fits}
 use Rattle.spv_program.specs.declared.types.Item.{Item}
 use Rattle.spv_program.specs.declared.types.Item.TheVariants.{Variable, Class}
 use Rattle.spv_program.specs.Lists.{same_name, found, first_of, all_differ}
-use Rattle.spv_program.specs.Types.{sort_of, same_item, type_exists}
+use Rattle.spv_program.specs.Types.{sort_of, same_item}
 use Rattle.spv_program.specs.Formulas.{Annotation}
 use Rattle.spv_program.specs.Expressions.{Arguments, call, no_arguments, by_value, by_place}
-use Rattle.spv_program.specs.Programs.{Formal, GlobalItem, Routine, Program, shapes, lists, routine_at, routine_in}
-use Rattle.spv_program.specs.Scopes.{name_type, is_own, own_names_in, sort_or_int, item_sort, result_name, parameters_of, with_sorts_of, initial_names, entry_scope, exit_scope, is_value_parameter}
-use Rattle.spv_program.specs.Uses.{Root, Own, Shared, same_root, name_root, annotation_uses, expression_uses, designator_uses, argument_uses, argument_calls}
-use Rattle.spv_program.specs.Frames.{is_formal, is_initial, use_allowed, is_item_of, place_roots, roots_apart, globals_of, arguments_apart, root_of}
+use Rattle.spv_program.specs.Programs.{Formal, Routine, Program, shapes, lists, routine_at, routine_in}
+use Rattle.spv_program.specs.Scopes.{is_own, sort_or_int, item_sort, result_name, parameters_of, with_sorts_of, initial_names, entry_scope, exit_scope, is_value_parameter}
+use Rattle.spv_program.specs.Uses.{Root, Own, Shared, same_root, annotation_uses, expression_uses, designator_uses, argument_uses, argument_calls}
+use Rattle.spv_program.specs.Frames.{is_initial, use_allowed, is_item_of, place_roots, roots_apart, globals_of, arguments_apart, root_of}
 use Rattle.spv_program.specs.Changes.{var_items, items_of_callee, changed_roots, all_roots}
-use Rattle.spv_program.specs.Terms.{alone, item_head, name_in, name_at_exit, entry_term, exit_term}
+use Rattle.spv_program.specs.Terms.{alone, item_head, name_at_exit, exit_term}
 use Rattle.spv_program.specs.Supplies.{Supply, full_supply}
 use Rattle.spv_program.specs.Calls.{Argument, Given, AtPlace, replacing, formal_head, at_call, starts_at_call, initial_at_call, exit_at_call, entry_at_call}
 use Rattle.spv_program.specs.ExpressionTypes.{callee, arguments_fit, may_write, expression_sort, designator_type, stands_for}
-use Rattle.spv_program.specs.Typing.{item_exists, may_be_initial, is_procedure, well_typed}
+use Rattle.spv_program.specs.Typing.{may_be_initial, is_procedure, well_typed}
 use Rattle.spv_program.proofs.SortFacts.{nothing_there, some_is}
 use Rattle.spv_meaning.specs.Places.{HeapRow, Place, Binding, State, Holding, Referring, look, exists}
-use Rattle.spv_meaning.specs.Views.{bound_place, place_of, sees, class_of, item_value, now_view, entry_view}
+use Rattle.spv_meaning.specs.Views.{bound_place, place_of, sees, class_of, now_view, entry_view}
 use Rattle.spv_meaning.specs.Outcomes.{Ended, ends, and_then}
-use Rattle.spv_meaning.specs.Levels.{Here, Bound, reached_exit, push, pop, enter, choose_all}
+use Rattle.spv_meaning.specs.Levels.{Here, Bound, reached_exit, push, pop, enter}
 use Rattle.spv_meaning.specs.Evaluation.{arguments, formals_of}
-use Rattle.spv_meaning.specs.Walks.{level, walk, perform}
+use Rattle.spv_meaning.specs.Walks.{level, walk}
 use Rattle.spv_meaning.specs.FrameTypes.{formal_slot, names_right}
 use Rattle.spv_meaning.specs.Starts.{IsStart, Area}
 use Rattle.spv_meaning.specs.Starts as starts
@@ -53,7 +52,7 @@ use Rattle.spv_meaning.proofs.Differing.{not_true, none_both}
 use Rattle.spv_meaning.proofs.Maps.{same_names, other_way}
 use Rattle.spv_preservation.proofs.Calls.{formals_differ}
 use Rattle.spv_preservation.proofs.Expressions.{is_callee}
-use Rattle.spv_rule_soundness.specs.evaluation.Laws.{root_seen, uses_seen}
+use Rattle.spv_rule_soundness.specs.evaluation.Laws.{uses_seen}
 use Rattle.spv_rule_soundness.specs.statements.Truth.{is_new, IsLater, IsWindow, IsEntry, meaning_in, shown, IsTrueFor, Ignores, all_follow}
 use Rattle.spv_rule_soundness.proofs.evaluation.Settings.{found-append, forms_right, view_name}
 use Rattle.spv_rule_soundness.proofs.statements.Lists.{not_new, second_part, follow-replaced, assumed}
@@ -61,33 +60,32 @@ use Rattle.spv_rule_soundness.proofs.statements.Views.{in_first, within, laid_ov
 use Rattle.spv_rule_soundness.proofs.statements.States.{shown_fit, shown_taken, at_state-valuation, at_state-shows, same_shown}
 use Rattle.spv_rule_soundness.proofs.statements.Renaming.{is_name, with_fresh, fresh_else, fresh_valuation, under_there, under_else}
 use Rattle.spv_writes.specs.Writes.{Writes, is_in, is_in_one}
-use Rattle.spv_writes.proofs.Lists.{not_so, or_left, or_right, swapped, any_left, any_right, all_left, all_right, all_both}
-use Rattle.spv_writes.proofs.Kept.{existing, widen, grows}
+use Rattle.spv_writes.proofs.Lists.{not_so, or_left, or_right, any_left, any_right, all_left, all_right, all_both}
+use Rattle.spv_writes.proofs.Kept.{existing, widen}
 use Rattle.spv_frame_law.specs.Frames.{area_of_item, areas_of, referred, refer_in_turn, call_areas, root_shown, call_shown, routine_areas}
-use Rattle.spv_frame_law.specs.Laws.{IsFramed, below_turns}
-use Rattle.spv_frame_law.proofs.Callees.{no_items_of, shown_items}
+use Rattle.spv_frame_law.specs.Laws.{IsFramed}
+use Rattle.spv_frame_law.proofs.Callees.{no_items_of}
 use Rattle.spv_frame_law.proofs.Levels.{arguments_bound, bound_rightly, called_writes, routine_writes}
 use Rattle.spv_frame_law.proofs.Sharing.{item_itself}
-use Rattle.spv_frame_law.proofs.Covering.{items_same, refers_into, in_turn_all, roots_among, items_among, referred_covered, covered_both, covered_by}
+use Rattle.spv_frame_law.proofs.Covering.{refers_into, in_turn_all, roots_among, items_among, referred_covered, covered_both, covered_by}
 use Rattle.spv_frame_law.proofs.Starts.{start_stays}
 use Rattle.spv_frame_law.proofs.Views.{place_stays}
 use Rattle.spv_call_evaluation.specs.Known.{Knows}
 use Rattle.spv_call_evaluation.specs.Lying.{AreBound, NoneBound, ValueBound, PlaceBound, IsBoundTo}
 use Rattle.spv_call_evaluation.specs.Functions.{calls_shown}
 use Rattle.spv_call_evaluation.proofs.Windows.{knows_shown, reach_with}
-use Rattle.spv_call_evaluation.proofs.Globals.{listed_passes, seen_not_own}
 use Rattle.spv_call_evaluation.proofs.Heads.{entry_test, exit_test, exit_passes, formula_passes, named_at_exit, found-sorts, value_is_formal}
 use Rattle.spv_call_evaluation.proofs.Parameters.{replacing-there, replacing-none, bound_value, no_start, ParameterAt, parameter_at}
 use Rattle.spv_call_evaluation.proofs.Pushed.{unpopped_look}
 use Rattle.spv_program_soundness.proofs.Roots.{IsRootOf, OfName, OfClass, root_is}
 use Rattle.spv_program_soundness.proofs.Staying.{AreRoots, NoRoots, OneRoot, roots_joined, else_stays, all_show}
-use Rattle.spv_program_soundness.proofs.Changed.{heads_changed, heads_after, item_heads, all_named, exit_renamed, AreWorth, fresh_worth, AreWritten, StandsAfter, places_stand, unreplaced}
+use Rattle.spv_program_soundness.proofs.Changed.{heads_changed, heads_after, item_heads, all_named, exit_renamed, fresh_worth, AreWritten, StandsAfter, places_stand, unreplaced}
 use Rattle.spv_program_soundness.proofs.Touching.{place_heads, EndsAt, all_written}
-use Rattle.spv_program_soundness.proofs.Entries.{listed_there, found_none, found_all, place_is_formal, all_initial, initial_hidden, initial_held, initial_shown, no_window}
+use Rattle.spv_program_soundness.proofs.Entries.{listed_there, found_all, place_is_formal, all_initial, initial_hidden, initial_held, initial_shown, no_window}
 use Rattle.spv_rule_soundness.specs.statements.Runs.{all_allowed, Reaches, may_change, EndsWell, IsRight}
 use Rattle.spv_preservation.proofs.Growing.{grows_not}
 use Rattle.spv_frame_law.proofs.Records.{all_among, is_among, call_among, changes_itself}
-use Rattle.spv_program_soundness.proofs.Returning.{Refers, refers, place_changed, vars_among, var_listed, listed_root, item_root, items_roots, item_apart}
+use Rattle.spv_program_soundness.proofs.Returning.{refers, place_changed, vars_among, var_listed, item_root, items_roots, item_apart}
 use Rattle.spv_logic.specs.declared.operators.Head.TheVariants as head
 use Rattle.spv_call_evaluation.proofs.Callees as callees
 use Rattle.spv_call_evaluation.proofs.Functions.{defaults_right}

@@ -1,5 +1,5 @@
 -- Names and classes that show what they did where something else is written.
-use Rattle.std.proofs.Common.{◌≡◌, ℕ, zero, suc, Bool, true, false, cond, ◌&&◌, ◌||◌, List, [], ◌∷◌, ◌++◌, refl, sym, ap, subst, ◌∙◌, Option, Some, None, option_map}
+use Rattle.std.proofs.Common.{◌≡◌, zero, suc, Bool, true, false, cond, ◌&&◌, ◌||◌, List, [], ◌∷◌, ◌++◌, refl, sym, ap, subst, ◌∙◌, Option, None, option_map}
 use Rattle.std.specs.List.{list_all, list_any}
 use Rattle.std.specs.Cmp.Derive.{both_true}
 use Rattle.std.proofs.lemmas.Bool.{false≢true}
@@ -15,10 +15,10 @@ use Rattle.spv_program.specs.declared.types.Item.TheVariants.{Variable, Class}
 use Rattle.spv_program.specs.Lists.{same_name}
 use Rattle.spv_program.specs.Types.{same_type, sort_of}
 use Rattle.spv_program.specs.Programs.{Routine, Program, routine_in}
-use Rattle.spv_program.specs.Scopes.{is_own, name_type}
+use Rattle.spv_program.specs.Scopes.{is_own}
 use Rattle.spv_program.specs.Uses.{Root, Own, Shared, same_root, name_root}
 use Rattle.spv_meaning.specs.Places.{State, look}
-use Rattle.spv_meaning.specs.Views.{place_of, of_sort, shown_type, now_view}
+use Rattle.spv_meaning.specs.Views.{place_of, of_sort, now_view}
 use Rattle.spv_meaning.specs.Levels.{Here}
 use Rattle.spv_meaning.specs.Starts.{IsStart}
 use Rattle.spv_meaning.proofs.Maps.{same_names}

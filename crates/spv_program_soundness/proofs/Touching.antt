@@ -1,8 +1,8 @@
 -- The places of VAR arguments, each written by itself.
-use Rattle.std.proofs.Common.{◌≡◌, ℕ, Bool, true, false, cond, not, ◌&&◌, ◌||◌, List, [], ◌∷◌, ◌++◌, map, refl, sym, ap, subst, ◌∙◌, Option, Some, None}
+use Rattle.std.proofs.Common.{◌≡◌, Bool, true, false, cond, not, ◌||◌, List, [], ◌∷◌, map, refl, sym, ap, ◌∙◌, Option, Some}
 use Rattle.std.specs.List.{list_all, list_any}
 use Rattle.std.specs.Cmp.Derive.{both_true}
-use Rattle.std.proofs.lemmas.Bool.{false≢true, eq-eqb}
+use Rattle.std.proofs.lemmas.Bool.{eq-eqb}
 use Rattle.spv_logic.proofs.list.Tests.{left_true, right_true, left_false, right_false, both_false}
 use Rattle.spv_logic.specs.declared.names.names.Symbol.{Symbol}
 use Rattle.spv_logic.specs.declared.types.TypeId.{TypeId}
@@ -13,26 +13,24 @@ use Rattle.spv_logic.specs.Values.{Value, pointer_of}
 use Rattle.spv_logic.specs.Terms.{Term, eval}
 use Rattle.spv_logic.specs.Conditions.{Meaning, Valuation, View, Shows}
 use Rattle.spv_program.specs.declared.types.Item.{Item}
-use Rattle.spv_program.specs.declared.types.Item.TheVariants.{Variable, Class}
+use Rattle.spv_program.specs.declared.types.Item.TheVariants.{Class}
 use Rattle.spv_program.specs.Lists.{same_name, found, all_differ}
 use Rattle.spv_program.specs.Types.{sort_of}
-use Rattle.spv_program.specs.Places.{Target, present, whole_with}
-use Rattle.spv_program.specs.Programs.{Formal, Routine, Program, shapes, routine_in}
+use Rattle.spv_program.specs.Places.{present}
+use Rattle.spv_program.specs.Programs.{Formal, Routine, Program, routine_in}
 use Rattle.spv_program.specs.Scopes.{is_own}
 use Rattle.spv_program.specs.Changes.{var_items}
 use Rattle.spv_program.specs.Uses.{Root, Own, Shared, same_root, name_root}
-use Rattle.spv_program.specs.Calls.{Argument, Given, AtPlace, formal_head}
-use Rattle.spv_program.proofs.SortFacts.{nothing_there, some_is, is_sort-true}
-use Rattle.spv_program.proofs.ExpressionSorting.{same_types}
+use Rattle.spv_program.specs.Calls.{Argument, Given, AtPlace}
+use Rattle.spv_program.proofs.SortFacts.{nothing_there, is_sort-true}
 use Rattle.spv_meaning.specs.Places.{PathStep, Place, Binding, Frame, HeapRow, State, CellOf, Holding, Referring, whole, row_of, look}
-use Rattle.spv_meaning.specs.Places as places
 use Rattle.spv_meaning.specs.Views.{place_of, sees, now_view}
 use Rattle.spv_meaning.specs.Evaluation.{is_cell_of}
 use Rattle.spv_meaning.specs.Levels.{Here}
-use Rattle.spv_meaning.specs.FrameTypes.{FrameType, formal_slot, binding_right, names_right, place_sort}
+use Rattle.spv_meaning.specs.FrameTypes.{formal_slot, binding_right, names_right, place_sort}
 use Rattle.spv_meaning.specs.Starts.{Area, At, CellsOf, same_root as same_place_root, IsStart, overlap}
 use Rattle.spv_meaning.proofs.Differing.{first_differs, others_differ}
-use Rattle.spv_meaning.proofs.Maps.{same_names, other_way}
+use Rattle.spv_meaning.proofs.Maps.{same_names}
 use Rattle.spv_preservation.proofs.Roots.{place_there}
 use Rattle.spv_rule_soundness.specs.statements.Truth.{meaning_in}
 use Rattle.spv_writes.specs.Writes.{Writes, part_of, is_below, is_in, is_in_one, is_touched, lies_below}
@@ -45,9 +43,9 @@ use Rattle.spv_frame_law.proofs.Names.{name_in}
 use Rattle.spv_frame_law.proofs.Sharing.{item_itself}
 use Rattle.spv_frame_law.proofs.Views.{shown_apart, untouched}
 use Rattle.spv_call_evaluation.specs.Known.{Knows}
-use Rattle.spv_call_evaluation.specs.Lying.{step_at, BeginsAt, AtName, AtCell, LiesAt, AreBound, NoneBound, ValueBound, PlaceBound}
+use Rattle.spv_call_evaluation.specs.Lying.{step_at, BeginsAt, AtName, AtCell, AreBound, NoneBound, ValueBound, PlaceBound}
 use Rattle.spv_program_soundness.proofs.Roots.{IsRootOf, OfName, OfClass}
-use Rattle.spv_program_soundness.proofs.Staying.{AreRoots, NoRoots, OneRoot, root_shows, all_show}
+use Rattle.spv_program_soundness.proofs.Staying.{AreRoots, OneRoot, root_shows, all_show}
 use Rattle.spv_program_soundness.proofs.Written.{OnlyThere, root_after}
 use Rattle.spv_program_soundness.proofs.Changed.{AreWritten, NoneWritten, ValueGiven, PlaceWritten}
 

@@ -1,5 +1,5 @@
 -- What a root shows after writing at or below one of its places.
-use Rattle.std.proofs.Common.{◌≡◌, ℕ, Bool, true, false, cond, List, [], ◌∷◌, ◌++◌, map, pos, refl, sym, ap, subst, ◌∙◌, Option, Some, None}
+use Rattle.std.proofs.Common.{◌≡◌, ℕ, true, cond, List, map, pos, refl, sym, ap, subst, ◌∙◌, Option, Some, None}
 use Rattle.std.specs.Option.{option_and_then}
 use Rattle.std.proofs.lemmas.Bool.{false≢true}
 use Rattle.spv_logic.specs.declared.types.TypeId.{TypeId}
@@ -9,13 +9,12 @@ use Rattle.spv_logic.specs.declared.operators.Head.TheVariants as head
 use Rattle.spv_logic.specs.Values.{Value, Pointer, members_of, rows_in, default_in, row_at, pointer_of}
 use Rattle.spv_logic.specs.Terms.{Term, class_with, eval}
 use Rattle.spv_logic.specs.Conditions.{Meaning, Valuation, View, Shows}
-use Rattle.spv_program.specs.declared.types.Item.TheVariants.{Class}
 use Rattle.spv_program.specs.Types.{sort_of}
 use Rattle.spv_program.specs.Places.{Step, base, changed_part, in_root}
-use Rattle.spv_program.specs.Programs.{Program, shapes, routine_in}
+use Rattle.spv_program.specs.Programs.{Program, shapes}
 use Rattle.spv_program.specs.Terms.{alone, binary}
 use Rattle.spv_meaning.specs.Places.{PathStep, Place, HeapRow, State, CellOf, whole, row_of, part_at, with_part, look, value_or_zero}
-use Rattle.spv_meaning.specs.Views.{place_of, class_of, sees, now_view}
+use Rattle.spv_meaning.specs.Views.{place_of, class_of, now_view}
 use Rattle.spv_meaning.specs.Levels.{Here}
 use Rattle.spv_meaning.specs.Evaluation.{is_cell_of}
 use Rattle.spv_meaning.specs.FrameTypes.{row_type}
