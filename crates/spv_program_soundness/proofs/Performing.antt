@@ -206,14 +206,14 @@ module _ (p : Program) (f : IsFramed p) (world : Meaning) (here : Here) (entry :
 
   -- ---- what the call wrote
 
-  fit : arguments_fit p (routine_in p here.routine) q.formals given ≡ true
-  fit = (is_callee p (routine_in p here.routine) id line given q called).fit
+  given_fit : arguments_fit p (routine_in p here.routine) q.formals given ≡ true
+  given_fit = (is_callee p (routine_in p here.routine) id line given q called).fit
 
   turn : refer_in_turn state.heap state.frames bound.names (place_roots (is_own (routine_in p here.routine)) given) ≡ true
-  turn = (arguments_bound p f here start.right.types start.right.inside q.formals given fit state start.right.right (suc k) choices bound ended).names
+  turn = (arguments_bound p f here start.right.types start.right.inside q.formals given given_fit state start.right.right (suc k) choices bound ended).names
 
   rightly : names_right p start.right.types bound.state.heap (map formal_slot q.formals) bound.names ≡ true
-  rightly = (bound_rightly p f here start.right.types start.right.inside q.formals given fit state start.right.right (suc k) choices bound ended).names
+  rightly = (bound_rightly p f here start.right.types start.right.inside q.formals given given_fit state start.right.right (suc k) choices bound ended).names
 
   names_are_right : names_right p start.right.types state.heap (map formal_slot q.formals) bound.names ≡ true
   names_are_right = subst (λ (s : State). names_right p start.right.types s.heap (map formal_slot q.formals) bound.names ≡ true) binds.state_is rightly
@@ -286,7 +286,7 @@ module _ (p : Program) (f : IsFramed p) (world : Meaning) (here : Here) (entry :
     ok_forms : shapes_ok (shapes p) ≡ true
     ok_forms = forms_right p f.typed
 
-    named : list_all is_name (heads_changed p q q.formals terms) ≡ true
+    named : list_all is_name heads ≡ true
     named = all_named p q q.formals terms
 
     end_fits : (h : Head) (w : Value) → now_view p (Some id) end h ≡ Some w → fits (shapes p) w (variable_sort h) ≡ true
@@ -294,26 +294,26 @@ module _ (p : Program) (f : IsFramed p) (world : Meaning) (here : Here) (entry :
         shown_fit p ok_forms world (record { routine = Some id; entry = no_window }) (record { fit = λ h w e. absurd (nothing_there e); old = λ h w e. absurd (nothing_there e) }) full_supply no_window
         (record { fit = λ h w e. absurd (nothing_there e); taken = λ h w e. absurd (nothing_there e); fresh = λ h w e. absurd (nothing_there e) }) end went.ran.is_start h w (in_first _ None w (in_first _ None w e))
 
-    source_right : IsValuation (shapes p) (valuation_of (shapes p) (now_view p (Some id) end))
+    source_right : IsValuation (shapes p) source
     source_right = laid_over p (now_view p (Some id) end) end_fits (λ h. default_of (shapes p) (variable_sort h)) (defaults_right p ok_forms)
 
-    u_right : IsValuation (shapes p) (with_fresh (renamed (heads_changed p q q.formals terms) n).pairs (valuation_of (shapes p) (now_view p (Some id) end)) (within (shown p here window state) v))
-    u_right = fresh_valuation p (heads_changed p q q.formals terms) named n (valuation_of (shapes p) (now_view p (Some id) end)) (within (shown p here window state) v) source_right (at_state-valuation p ok_forms world here entry n window is state start v val)
+    u_right : IsValuation (shapes p) u
+    u_right = fresh_valuation p heads named n source base source_right (at_state-valuation p ok_forms world here entry n window is state start v val)
 
-    u_else : (h : Head) → is_new n h ≡ false → with_fresh (renamed (heads_changed p q q.formals terms) n).pairs (valuation_of (shapes p) (now_view p (Some id) end)) (within (shown p here window state) v) h ≡ within (shown p here window state) v h
-    u_else h old = fresh_else (heads_changed p q q.formals terms) named n (valuation_of (shapes p) (now_view p (Some id) end)) (within (shown p here window state) v) h old
+    u_else : (h : Head) → is_new n h ≡ false → u h ≡ within (shown p here window state) v h
+    u_else h old = fresh_else heads named n source base h old
 
-    u_shows : Shows (shown p here window state) (with_fresh (renamed (heads_changed p q q.formals terms) n).pairs (valuation_of (shapes p) (now_view p (Some id) end)) (within (shown p here window state) v))
+    u_shows : Shows (shown p here window state) u
     u_shows h w e = u_else h (shown_taken p ok_forms world here entry n window is state h w e) ∙ at_state-shows p ok_forms world here entry n window is state v h w e
 
-    u_knows : Knows p (meaning_in p world) here state window (with_fresh (renamed (heads_changed p q q.formals terms) n).pairs (valuation_of (shapes p) (now_view p (Some id) end)) (within (shown p here window state) v))
+    u_knows : Knows p (meaning_in p world) here state window u
     u_knows = knows_shown p f.typed world here entry n window is state start _ u_right u_shows
 
-    u_now : Shows (now_view p here.routine state) (with_fresh (renamed (heads_changed p q q.formals terms) n).pairs (valuation_of (shapes p) (now_view p (Some id) end)) (within (shown p here window state) v))
+    u_now : Shows (now_view p here.routine state) u
     u_now h w e = u_shows h w (in_first _ (window h) w (in_first _ (here.entry h) w e))
 
     -- what shows the same before and after has one value
-    unchanged : (h : Head) → is_new before h ≡ false → now_view p here.routine (pop end) h ≡ now_view p here.routine state h → with_fresh (renamed (heads_changed p q q.formals terms) n).pairs (valuation_of (shapes p) (now_view p (Some id) end)) (within (shown p here window state) v) h ≡ v h
+    unchanged : (h : Head) → is_new before h ≡ false → now_view p here.routine (pop end) h ≡ now_view p here.routine state h → u h ≡ v h
     unchanged h old same =
         u_else h (not_new before n h later old)
         ∙ (ap (λ o. unwrap_or (shown_or (both here.entry (now_view p here.routine state) h) o) (v h)) (adds h old)
@@ -329,15 +329,15 @@ module _ (p : Program) (f : IsFramed p) (world : Meaning) (here : Here) (entry :
     place_end : (x : Symbol) (t : TypeId) (a : Place) → found bound.names x ≡ Some (Referring a) → found (map (λ f. (f.name, f.of)) q.formals) x ≡ Some t → PlaceEnd x t a
     place_end x t a refer type = by_value (look (pop end) a) refl (existing p (call_areas bound.names q) state (pop end) wrote a (ap is_some held))
       where
-        at : ParameterAt p (meaning_in p world) (with_fresh (renamed (heads_changed p q q.formals terms) n).pairs (valuation_of (shapes p) (now_view p (Some id) end)) (within (shown p here window state) v)) state q.formals terms bound.names x t
-        at = parameter_at p (meaning_in p world) here state window (with_fresh (renamed (heads_changed p q q.formals terms) n).pairs (valuation_of (shapes p) (now_view p (Some id) end)) (within (shown p here window state) v)) u_knows q.formals terms bound.names binds.names x t type
+        at : ParameterAt p (meaning_in p world) u state q.formals terms bound.names x t
+        at = parameter_at p (meaning_in p world) here state window u u_knows q.formals terms bound.names binds.names x t type
 
         held : look state a ≡ Some at.value
         held = ap (bound_value state) (some_is (sym refer ∙ at.bound)) ∙ at.holds
 
         place : place_of (Some id) end x ≡ a
         place =
-            place_stays p (routine_areas q (push id (bound.names ++ went.own) state)) (Some id) (push id (bound.names ++ went.own) state) end body_wrote x
+            place_stays p (routine_areas q first) (Some id) first end body_wrote x
             ∙ ap (bound_place (length state.frames) x) (found-append bound.names went.own x ∙ ap (λ o. first_of o (found went.own x)) refer)
 
         by_value : (o : Option Value) → look (pop end) a ≡ o → is_some o ≡ true → PlaceEnd x t a
@@ -369,68 +369,68 @@ module _ (p : Program) (f : IsFramed p) (world : Meaning) (here : Here) (entry :
 
     -- ---- what is changed, in the caller's terms
 
-    ends_at : (x : Symbol) (t : TypeId) (a : Place) → found bound.names x ≡ Some (Referring a) → found (map (λ f. (f.name, f.of)) q.formals) x ≡ Some t → EndsAt p f here state start q bound.names (pop end) wrote world window (with_fresh (renamed (heads_changed p q q.formals terms) n).pairs (valuation_of (shapes p) (now_view p (Some id) end)) (within (shown p here window state) v)) u_knows u_now (valuation_of (shapes p) (now_view p (Some id) end)) x t a
+    ends_at : (x : Symbol) (t : TypeId) (a : Place) → found bound.names x ≡ Some (Referring a) → found (map (λ f. (f.name, f.of)) q.formals) x ≡ Some t → EndsAt p f here state start q bound.names (pop end) wrote world window u u_knows u_now source x t a
     ends_at x t a refer type =
         let e = place_end x t a refer type in
         record { value = e.value; holds = e.holds; is = callees.told p (now_view p (Some id) end) (head.Var x (sort_of p.forms t) 0) e.value e.there_too }
 
-    written : AreWritten p q (meaning_in p world) (with_fresh (renamed (heads_changed p q q.formals terms) n).pairs (valuation_of (shapes p) (now_view p (Some id) end)) (within (shown p here window state) v)) (valuation_of (shapes p) (now_view p (Some id) end)) here (pop end) q.formals terms
+    written : AreWritten p q (meaning_in p world) u source here (pop end) q.formals terms
     written =
-        all_written p f here state start q bound.names (pop end) wrote world window (with_fresh (renamed (heads_changed p q q.formals terms) n).pairs (valuation_of (shapes p) (now_view p (Some id) end)) (within (shown p here window state) v)) u_knows u_now (valuation_of (shapes p) (now_view p (Some id) end)) ends_at
+        all_written p f here state start q bound.names (pop end) wrote world window u u_knows u_now source ends_at
         (all_show p here (map Shared (var_items q.globals)) (item_heads p q (var_items q.globals)) item_roots) terms binds.names names_are_right (formals_differ p f.typed id q there)
         (place_roots (is_own (routine_in p here.routine)) given) are turn roots_differ (vars_among q.globals (place_roots (is_own (routine_in p here.routine)) given) no_items)
 
-    stands : (h : Head) → list_any (head_eq h) (heads_after p q q.formals terms) ≡ true → StandsAfter p q (meaning_in p world) (with_fresh (renamed (heads_changed p q q.formals terms) n).pairs (valuation_of (shapes p) (now_view p (Some id) end)) (within (shown p here window state) v)) (valuation_of (shapes p) (now_view p (Some id) end)) here (pop end) (changed_places p q q.formals terms n).after h
+    stands : (h : Head) → list_any (head_eq h) (heads_after p q q.formals terms) ≡ true → StandsAfter p q (meaning_in p world) u source here (pop end) (changed_places p q q.formals terms n).after h
     stands h among =
-        places_stand p q (meaning_in p world) (with_fresh (renamed (heads_changed p q q.formals terms) n).pairs (valuation_of (shapes p) (now_view p (Some id) end)) (within (shown p here window state) v)) (valuation_of (shapes p) (now_view p (Some id) end)) here (pop end)
+        places_stand p q (meaning_in p world) u source here (pop end)
         (λ i among. let listed = var_listed q.globals i among in item_now i listed ∙ ap Some (sym (callees.told p (now_view p (Some id) end) (item_head p (Some q) i) (v (item_head p (Some q) i)) (item_end i listed))))
         q.formals terms written n
-        (fresh_worth p q (meaning_in p world) (with_fresh (renamed (heads_changed p q q.formals terms) n).pairs (valuation_of (shapes p) (now_view p (Some id) end)) (within (shown p here window state) v)) (valuation_of (shapes p) (now_view p (Some id) end)) (within (shown p here window state) v) (heads_changed p q q.formals terms) named n (λ h new. refl)) h among
+        (fresh_worth p q (meaning_in p world) u source base heads named n (λ h new. refl)) h among
 
     -- with the terms in their places, the valuation of the beginning is that of the end
-    replaced_alike : (h : Head) → is_new before h ≡ false → v h ≡ under (meaning_in p world) (replacing (changed_places p q q.formals terms n).after) (with_fresh (renamed (heads_changed p q q.formals terms) n).pairs (valuation_of (shapes p) (now_view p (Some id) end)) (within (shown p here window state) v)) h
+    replaced_alike : (h : Head) → is_new before h ≡ false → v h ≡ under (meaning_in p world) (replacing (changed_places p q q.formals terms n).after) u h
     replaced_alike h old = by_head (list_any (head_eq h) (heads_after p q q.formals terms)) refl
       where
-        by_head : (b : Bool) → list_any (head_eq h) (heads_after p q q.formals terms) ≡ b → v h ≡ under (meaning_in p world) (replacing (changed_places p q q.formals terms n).after) (with_fresh (renamed (heads_changed p q q.formals terms) n).pairs (valuation_of (shapes p) (now_view p (Some id) end)) (within (shown p here window state) v)) h
+        by_head : (b : Bool) → list_any (head_eq h) (heads_after p q q.formals terms) ≡ b → v h ≡ under (meaning_in p world) (replacing (changed_places p q q.formals terms n).after) u h
         by_head true among =
             let s = stands h among in
-            shows h (eval (meaning_in p world) (with_fresh (renamed (heads_changed p q q.formals terms) n).pairs (valuation_of (shapes p) (now_view p (Some id) end)) (within (shown p here window state) v)) s.term) (in_first _ (first_window h) _ (in_first _ (here.entry h) _ s.shows))
-            ∙ sym (ap (λ o. value_under (meaning_in p world) (with_fresh (renamed (heads_changed p q q.formals terms) n).pairs (valuation_of (shapes p) (now_view p (Some id) end)) (within (shown p here window state) v)) o ((with_fresh (renamed (heads_changed p q q.formals terms) n).pairs (valuation_of (shapes p) (now_view p (Some id) end)) (within (shown p here window state) v)) h)) s.is)
+            shows h (eval (meaning_in p world) u s.term) (in_first _ (first_window h) _ (in_first _ (here.entry h) _ s.shows))
+            ∙ sym (ap (λ o. value_under (meaning_in p world) u o (u h)) s.is)
         by_head false none =
-            sym (ap (λ o. value_under (meaning_in p world) (with_fresh (renamed (heads_changed p q q.formals terms) n).pairs (valuation_of (shapes p) (now_view p (Some id) end)) (within (shown p here window state) v)) o ((with_fresh (renamed (heads_changed p q q.formals terms) n).pairs (valuation_of (shapes p) (now_view p (Some id) end)) (within (shown p here window state) v)) h)) (unreplaced p q q.formals terms n h none) ∙ unchanged h old (rest_stays h none))
+            sym (ap (λ o. value_under (meaning_in p world) u o (u h)) (unreplaced p q q.formals terms n h none) ∙ unchanged h old (rest_stays h none))
 
     -- ---- EXIT
 
     -- the pairs of EXIT, where the fresh variables are a renaming
     abbrev exit_pairs : List (Head × Term)
-    exit_pairs = starts_at_call p q.formals terms ++ (initial_at_call p q terms ++ (renamed (heads_changed p q q.formals terms) n).pairs)
+    exit_pairs = starts_at_call p q.formals terms ++ (initial_at_call p q terms ++ (renamed heads n).pairs)
 
     abbrev Same : Head → Type 0
     Same h =
-        valuation_of (shapes p) (both (entry_view p (Some id) (push id (bound.names ++ went.own) state)) (now_view p (Some id) end)) h
-        ≡ under (meaning_in p world) (replacing (starts_at_call p q.formals terms ++ (initial_at_call p q terms ++ (renamed (heads_changed p q q.formals terms) n).pairs))) (with_fresh (renamed (heads_changed p q q.formals terms) n).pairs (valuation_of (shapes p) (now_view p (Some id) end)) (within (shown p here window state) v)) h
+        valuation_of (shapes p) (both (entry_view p (Some id) first) (now_view p (Some id) end)) h
+        ≡ under (meaning_in p world) (replacing (starts_at_call p q.formals terms ++ (initial_at_call p q terms ++ (renamed heads n).pairs))) u h
 
     end_view : View
-    end_view = both (entry_view p (Some id) (push id (bound.names ++ went.own) state)) (now_view p (Some id) end)
+    end_view = both (entry_view p (Some id) first) (now_view p (Some id) end)
 
-    now_told : (h : Head) (w : Value) → now_view p (Some id) end h ≡ Some w → valuation_of (shapes p) (both (entry_view p (Some id) (push id (bound.names ++ went.own) state)) (now_view p (Some id) end)) h ≡ w
-    now_told h w e = callees.told p (both (entry_view p (Some id) (push id (bound.names ++ went.own) state)) (now_view p (Some id) end)) h w (in_first (now_view p (Some id) end h) (entry_view p (Some id) (push id (bound.names ++ went.own) state) h) w e)
+    now_told : (h : Head) (w : Value) → now_view p (Some id) end h ≡ Some w → valuation_of (shapes p) (both (entry_view p (Some id) first) (now_view p (Some id) end)) h ≡ w
+    now_told h w e = callees.told p (both (entry_view p (Some id) first) (now_view p (Some id) end)) h w (in_first (now_view p (Some id) end h) (entry_view p (Some id) first h) w e)
 
     -- what is no start and no INITIAL name is replaced by a fresh variable, or stays
     beside : (h : Head) → ((x : Symbol) (s : Sort) → head_eq h (head.Start x s) ≡ false) → replacing (initial_at_call p q terms) h ≡ None
-        → under (meaning_in p world) (replacing (starts_at_call p q.formals terms ++ (initial_at_call p q terms ++ (renamed (heads_changed p q q.formals terms) n).pairs))) (with_fresh (renamed (heads_changed p q q.formals terms) n).pairs (valuation_of (shapes p) (now_view p (Some id) end)) (within (shown p here window state) v)) h ≡ under (meaning_in p world) (replacing (renamed (heads_changed p q q.formals terms) n).pairs) (with_fresh (renamed (heads_changed p q q.formals terms) n).pairs (valuation_of (shapes p) (now_view p (Some id) end)) (within (shown p here window state) v)) h
+        → under (meaning_in p world) (replacing (starts_at_call p q.formals terms ++ (initial_at_call p q terms ++ (renamed heads n).pairs))) u h ≡ under (meaning_in p world) (replacing (renamed heads n).pairs) u h
     beside h other none =
-        ap (λ o. value_under (meaning_in p world) (with_fresh (renamed (heads_changed p q q.formals terms) n).pairs (valuation_of (shapes p) (now_view p (Some id) end)) (within (shown p here window state) v)) o ((with_fresh (renamed (heads_changed p q q.formals terms) n).pairs (valuation_of (shapes p) (now_view p (Some id) end)) (within (shown p here window state) v)) h))
+        ap (λ o. value_under (meaning_in p world) u o (u h))
         (replacing-none (starts_at_call p q.formals terms) _ h (no_start p q.formals terms h other) ∙ replacing-none (initial_at_call p q terms) _ h none)
 
     -- what shows at the end, and has a fresh variable or shows what it did
     same_now : (h : Head) (w : Value) → ((x : Symbol) (s : Sort) → head_eq h (head.Start x s) ≡ false) → replacing (initial_at_call p q terms) h ≡ None → now_view p (Some id) end h ≡ Some w
-        → (list_any (head_eq h) (heads_changed p q q.formals terms) ≡ false → (with_fresh (renamed (heads_changed p q q.formals terms) n).pairs (valuation_of (shapes p) (now_view p (Some id) end)) (within (shown p here window state) v)) h ≡ w) → Same h
-    same_now h w other none now_is kept = now_told h w now_is ∙ sym (beside h other none ∙ by_head (list_any (head_eq h) (heads_changed p q q.formals terms)) refl)
+        → (list_any (head_eq h) heads ≡ false → u h ≡ w) → Same h
+    same_now h w other none now_is kept = now_told h w now_is ∙ sym (beside h other none ∙ by_head (list_any (head_eq h) heads) refl)
       where
-        by_head : (b : Bool) → list_any (head_eq h) (heads_changed p q q.formals terms) ≡ b → under (meaning_in p world) (replacing (renamed (heads_changed p q q.formals terms) n).pairs) (with_fresh (renamed (heads_changed p q q.formals terms) n).pairs (valuation_of (shapes p) (now_view p (Some id) end)) (within (shown p here window state) v)) h ≡ w
-        by_head true among = under_there (meaning_in p world) (heads_changed p q q.formals terms) named n (valuation_of (shapes p) (now_view p (Some id) end)) (within (shown p here window state) v) h among ∙ callees.told p (now_view p (Some id) end) h w now_is
-        by_head false away = under_else (meaning_in p world) (heads_changed p q q.formals terms) n (with_fresh (renamed (heads_changed p q q.formals terms) n).pairs (valuation_of (shapes p) (now_view p (Some id) end)) (within (shown p here window state) v)) h away ∙ kept away
+        by_head : (b : Bool) → list_any (head_eq h) heads ≡ b → under (meaning_in p world) (replacing (renamed heads n).pairs) u h ≡ w
+        by_head true among = under_there (meaning_in p world) heads named n source base h among ∙ callees.told p (now_view p (Some id) end) h w now_is
+        by_head false away = under_else (meaning_in p world) heads n u h away ∙ kept away
 
     -- an item of the list
     same_item_end : (i : Item) → lists q.globals i false ≡ true → is_new before (item_head p (Some q) i) ≡ false → ((x : Symbol) (s : Sort) → head_eq (item_head p (Some q) i) (head.Start x s) ≡ false) → replacing (initial_at_call p q terms) (item_head p (Some q) i) ≡ None → Same (item_head p (Some q) i)
@@ -448,8 +448,8 @@ module _ (p : Program) (f : IsFramed p) (world : Meaning) (here : Here) (entry :
 
     -- ---- INITIAL names
 
-    first_told : (h : Head) (w : Value) → now_view p (Some id) (push id (bound.names ++ went.own) state) h ≡ Some w → valuation_of (shapes p) (both (entry_view p (Some id) (push id (bound.names ++ went.own) state)) (now_view p (Some id) (push id (bound.names ++ went.own) state))) h ≡ w
-    first_told h w e = callees.told p (both (entry_view p (Some id) (push id (bound.names ++ went.own) state)) (now_view p (Some id) (push id (bound.names ++ went.own) state))) h w (in_first (now_view p (Some id) (push id (bound.names ++ went.own) state) h) (entry_view p (Some id) (push id (bound.names ++ went.own) state) h) w e)
+    first_told : (h : Head) (w : Value) → now_view p (Some id) first h ≡ Some w → valuation_of (shapes p) (both (entry_view p (Some id) first) (now_view p (Some id) first)) h ≡ w
+    first_told h w e = callees.told p (both (entry_view p (Some id) first) (now_view p (Some id) first)) h w (in_first (now_view p (Some id) first h) (entry_view p (Some id) first h) w e)
 
     item_test : (i : Item) → may_be_initial q i ≡ true → entry_test p q (item_head p (Some q) i) ≡ true
     item_test (Class c) may = listed_there q.globals (Class c) true may
@@ -489,11 +489,11 @@ module _ (p : Program) (f : IsFramed p) (world : Meaning) (here : Here) (entry :
         let by = replacing (at_call p q.formals terms) in
         let t = substitute by (alone h) in
         callees.told p (both (entry_view p (Some id) first) (now_view p (Some id) end)) (head.Var x s 0) k.value (ap (λ o. shown_or o (entry_view p (Some id) first (head.Var x s 0))) hidden ∙ shown_there)
-        ∙ sym (ap (λ o. value_under (meaning_in p world) (with_fresh (renamed (heads_changed p q q.formals terms) n).pairs (valuation_of (shapes p) (now_view p (Some id) end)) (within (shown p here window state) v)) o ((with_fresh (renamed (heads_changed p q q.formals terms) n).pairs (valuation_of (shapes p) (now_view p (Some id) end)) (within (shown p here window state) v)) (head.Var x s 0)))
+        ∙ sym (ap (λ o. value_under (meaning_in p world) u o (u (head.Var x s 0)))
         (replacing-none (starts_at_call p q.formals terms) _ (head.Var x s 0) (no_start p q.formals terms (head.Var x s 0) (λ y r. refl)) ∙ replacing-there (initial_at_call p q terms) _ (head.Var x s 0) t (initial_pair p q (λ i. substitute (replacing (at_call p q.formals terms)) (alone (item_head p (Some q) i))) q.initial x i e))
-        ∙ (eval-substitute (meaning_in p world) by (with_fresh (renamed (heads_changed p q q.formals terms) n).pairs (valuation_of (shapes p) (now_view p (Some id) end)) (within (shown p here window state) v)) (alone h)
-        ∙ (worth-variable (meaning_in p world) (under (meaning_in p world) by (with_fresh (renamed (heads_changed p q q.formals terms) n).pairs (valuation_of (shapes p) (now_view p (Some id) end)) (within (shown p here window state) v))) h [] (item_is_variable i)
-        ∙ (sym (callees.entry_same p f id q there world here entry state start seen n window is (with_fresh (renamed (heads_changed p q q.formals terms) n).pairs (valuation_of (shapes p) (now_view p (Some id) end)) (within (shown p here window state) v)) u_right u_shows terms bound.names went.own binds.names went.began h (item_test i (found_all (may_be_initial q) q.initial x i (all_initial p f id q there) e)) (item_is_variable i))
+        ∙ (eval-substitute (meaning_in p world) by u (alone h)
+        ∙ (worth-variable (meaning_in p world) (under (meaning_in p world) by u) h [] (item_is_variable i)
+        ∙ (sym (callees.entry_same p f id q there world here entry state start seen n window is u u_right u_shows terms bound.names went.own binds.names went.began h (item_test i (found_all (may_be_initial q) q.initial x i (all_initial p f id q there) e)) (item_is_variable i))
         ∙ first_told h k.value k.shows))))
 
     -- ---- all heads of EXIT
@@ -556,36 +556,36 @@ module _ (p : Program) (f : IsFramed p) (world : Meaning) (here : Here) (entry :
         by_formal : (o : Option TypeId) → found (map (λ f. (f.name, f.of)) q.formals) x ≡ o → is_some o ≡ true → Same (head.Start x s)
         by_formal None e some = absurd (false≢true some)
         by_formal (Some t) e some =
-            let a = callees.argument p f id q there world here entry state start seen n window is (with_fresh (renamed (heads_changed p q q.formals terms) n).pairs (valuation_of (shapes p) (now_view p (Some id) end)) (within (shown p here window state) v)) u_right u_shows terms bound.names went.own binds.names x t kept e in
+            let a = callees.argument p f id q there world here entry state start seen n window is u u_right u_shows terms bound.names went.own binds.names x t kept e in
             let sort = sort_eq-true s (sort_or_int (found (exit_scope p q) x)) (right_true (is_value_parameter q x) _ passes) ∙ ap sort_or_int (scope_formal x t e) in
             subst (λ (k : Sort). Same (head.Start x k)) (sym sort)
-            (callees.start_told p f id q there world here entry state start seen n window is (with_fresh (renamed (heads_changed p q q.formals terms) n).pairs (valuation_of (shapes p) (now_view p (Some id) end)) (within (shown p here window state) v)) u_right u_shows terms bound.names went.own binds.names end x (sort_of p.forms t) a.value (callees.start_shown p f id q there world here entry state start seen n window is (with_fresh (renamed (heads_changed p q q.formals terms) n).pairs (valuation_of (shapes p) (now_view p (Some id) end)) (within (shown p here window state) v)) u_right u_shows terms bound.names went.own binds.names x t a.value e kept a.bound)
-            ∙ sym (ap (λ o. value_under (meaning_in p world) (with_fresh (renamed (heads_changed p q q.formals terms) n).pairs (valuation_of (shapes p) (now_view p (Some id) end)) (within (shown p here window state) v)) o ((with_fresh (renamed (heads_changed p q q.formals terms) n).pairs (valuation_of (shapes p) (now_view p (Some id) end)) (within (shown p here window state) v)) (head.Start x (sort_of p.forms t)))) (replacing-there (starts_at_call p q.formals terms) _ (head.Start x (sort_of p.forms t)) a.term a.started) ∙ a.worth))
+            (callees.start_told p f id q there world here entry state start seen n window is u u_right u_shows terms bound.names went.own binds.names end x (sort_of p.forms t) a.value (callees.start_shown p f id q there world here entry state start seen n window is u u_right u_shows terms bound.names went.own binds.names x t a.value e kept a.bound)
+            ∙ sym (ap (λ o. value_under (meaning_in p world) u o (u (head.Start x (sort_of p.forms t)))) (replacing-there (starts_at_call p q.formals terms) _ (head.Start x (sort_of p.forms t)) a.term a.started) ∙ a.worth))
     exit_same _ passes variable = absurd (false≢true variable)
 
     -- EXIT, which the procedure met, is true in the caller's terms
-    exit_holds : (a : Annotation) → q.exit ≡ Some a → met_holds p world (reached_exit p (begun p (Some id) (push id (bound.names ++ went.own) state)) q end a) ≡ true
-        → holds (meaning_in p world) (with_fresh (renamed (heads_changed p q q.formals terms) n).pairs (valuation_of (shapes p) (now_view p (Some id) end)) (within (shown p here window state) v)) (substitute (replacing (starts_at_call p q.formals terms ++ (initial_at_call p q terms ++ (changed_places p q q.formals terms n).in_exit))) (exit_term p q a)) ≡ true
+    exit_holds : (a : Annotation) → q.exit ≡ Some a → met_holds p world (reached_exit p (begun p (Some id) first) q end a) ≡ true
+        → holds (meaning_in p world) u (substitute (replacing (starts_at_call p q.formals terms ++ (initial_at_call p q terms ++ (changed_places p q q.formals terms n).in_exit))) (exit_term p q a)) ≡ true
     exit_holds a e met =
-        let pairs = starts_at_call p q.formals terms ++ (initial_at_call p q terms ++ (renamed (heads_changed p q q.formals terms) n).pairs) in
+        let pairs = starts_at_call p q.formals terms ++ (initial_at_call p q terms ++ (renamed heads n).pairs) in
         let uses = subst (λ o. list_all (λ u. use_allowed q.globals u.root u.changes) (annotation_uses (named_at_exit q) o) ≡ true) e (callees.exit_uses p f id q there) in
         let passes = formula_passes (exit_test p q) (name_at_exit p q) (named_at_exit q) q.globals (exit_passes p q) a.formula uses in
-        ap (λ (k : List (Head × Term)). holds (meaning_in p world) (with_fresh (renamed (heads_changed p q q.formals terms) n).pairs (valuation_of (shapes p) (now_view p (Some id) end)) (within (shown p here window state) v)) (substitute (replacing (starts_at_call p q.formals terms ++ (initial_at_call p q terms ++ k))) (exit_term p q a))) (exit_renamed p q q.formals terms n)
+        ap (λ (k : List (Head × Term)). holds (meaning_in p world) u (substitute (replacing (starts_at_call p q.formals terms ++ (initial_at_call p q terms ++ k))) (exit_term p q a))) (exit_renamed p q q.formals terms n)
         ∙ (ap truth_of
-        (eval-substitute (meaning_in p world) (replacing pairs) (with_fresh (renamed (heads_changed p q q.formals terms) n).pairs (valuation_of (shapes p) (now_view p (Some id) end)) (within (shown p here window state) v)) (exit_term p q a)
-        ∙ sym (eval-agree (meaning_in p world) (valuation_of (shapes p) (both (entry_view p (Some id) (push id (bound.names ++ went.own) state)) (now_view p (Some id) end))) (under (meaning_in p world) (replacing pairs) (with_fresh (renamed (heads_changed p q q.formals terms) n).pairs (valuation_of (shapes p) (now_view p (Some id) end)) (within (shown p here window state) v))) (exit_test p q) (exit_term p q a) passes exit_same))
+        (eval-substitute (meaning_in p world) (replacing pairs) u (exit_term p q a)
+        ∙ sym (eval-agree (meaning_in p world) (valuation_of (shapes p) (both (entry_view p (Some id) first) (now_view p (Some id) end))) (under (meaning_in p world) (replacing pairs) u) (exit_test p q) (exit_term p q a) passes exit_same))
         ∙ met)
 
     -- what is wanted behind the call is true
-    followed : (conditions : List Condition) → all_follow (meaning_in p world) (with_fresh (renamed (heads_changed p q q.formals terms) n).pairs (valuation_of (shapes p) (now_view p (Some id) end)) (within (shown p here window state) v)) (assuming_if_there (exit_at_call p q terms (changed_places p q q.formals terms n).in_exit) (replaced (changed_places p q q.formals terms n).after conditions)) ≡ true
-        → all_follow (meaning_in p world) (with_fresh (renamed (heads_changed p q q.formals terms) n).pairs (valuation_of (shapes p) (now_view p (Some id) end)) (within (shown p here window state) v)) (replaced (changed_places p q q.formals terms n).after conditions) ≡ true
+    followed : (conditions : List Condition) → all_follow (meaning_in p world) u (assuming_if_there (exit_at_call p q terms (changed_places p q q.formals terms n).in_exit) (replaced (changed_places p q q.formals terms n).after conditions)) ≡ true
+        → all_follow (meaning_in p world) u (replaced (changed_places p q q.formals terms n).after conditions) ≡ true
     followed conditions = by_exit q.exit refl went.ran.exit
       where
-        by_exit : (o : Option Annotation) → q.exit ≡ o → all_hold p world (met_if_there (reached_exit p (begun p (Some id) (push id (bound.names ++ went.own) state)) q end) o) ≡ true
-            → all_follow (meaning_in p world) (with_fresh (renamed (heads_changed p q q.formals terms) n).pairs (valuation_of (shapes p) (now_view p (Some id) end)) (within (shown p here window state) v)) (assuming_if_there (option_map (λ a. substitute (replacing (starts_at_call p q.formals terms ++ (initial_at_call p q terms ++ (changed_places p q q.formals terms n).in_exit))) (exit_term p q a)) o) (replaced (changed_places p q q.formals terms n).after conditions)) ≡ true
-            → all_follow (meaning_in p world) (with_fresh (renamed (heads_changed p q q.formals terms) n).pairs (valuation_of (shapes p) (now_view p (Some id) end)) (within (shown p here window state) v)) (replaced (changed_places p q q.formals terms n).after conditions) ≡ true
+        by_exit : (o : Option Annotation) → q.exit ≡ o → all_hold p world (met_if_there (reached_exit p (begun p (Some id) first) q end) o) ≡ true
+            → all_follow (meaning_in p world) u (assuming_if_there (option_map (λ a. substitute (replacing (starts_at_call p q.formals terms ++ (initial_at_call p q terms ++ (changed_places p q q.formals terms n).in_exit))) (exit_term p q a)) o) (replaced (changed_places p q q.formals terms n).after conditions)) ≡ true
+            → all_follow (meaning_in p world) u (replaced (changed_places p q q.formals terms n).after conditions) ≡ true
         by_exit None e met h = h
-        by_exit (Some a) e met h = assumed (meaning_in p world) (with_fresh (renamed (heads_changed p q q.formals terms) n).pairs (valuation_of (shapes p) (now_view p (Some id) end)) (within (shown p here window state) v)) (substitute (replacing (starts_at_call p q.formals terms ++ (initial_at_call p q terms ++ (changed_places p q q.formals terms n).in_exit))) (exit_term p q a)) (replaced (changed_places p q q.formals terms n).after conditions) (exit_holds a e (left_true _ true met)) h
+        by_exit (Some a) e met h = assumed (meaning_in p world) u (substitute (replacing (starts_at_call p q.formals terms ++ (initial_at_call p q terms ++ (changed_places p q q.formals terms n).in_exit))) (exit_term p q a)) (replaced (changed_places p q q.formals terms n).after conditions) (exit_holds a e (left_true _ true met)) h
 
     pub true_behind : (conditions : List Condition) → Ignores p world before conditions
         → IsTrueFor p world (shown p here window state) (wanted_entry here.routine line (entry_at_call p q terms) ++ assuming_if_there (exit_at_call p q terms (changed_places p q q.formals terms n).in_exit) (replaced (changed_places p q q.formals terms n).after conditions))
@@ -593,9 +593,9 @@ module _ (p : Program) (f : IsFramed p) (world : Meaning) (here : Here) (entry :
     true_behind conditions ignores from =
         let entered = wanted_entry here.routine line (entry_at_call p q terms) in
         let rest = assuming_if_there (exit_at_call p q terms (changed_places p q q.formals terms n).in_exit) (replaced (changed_places p q q.formals terms n).after conditions) in
-        ignores.alike v (under (meaning_in p world) (replacing (changed_places p q q.formals terms n).after) (with_fresh (renamed (heads_changed p q q.formals terms) n).pairs (valuation_of (shapes p) (now_view p (Some id) end)) (within (shown p here window state) v))) (λ h variable old. replaced_alike h old)
-        ∙ (sym (follow-replaced (meaning_in p world) (with_fresh (renamed (heads_changed p q q.formals terms) n).pairs (valuation_of (shapes p) (now_view p (Some id) end)) (within (shown p here window state) v)) (changed_places p q q.formals terms n).after conditions)
-        ∙ followed conditions (second_part (meaning_in p world) (with_fresh (renamed (heads_changed p q q.formals terms) n).pairs (valuation_of (shapes p) (now_view p (Some id) end)) (within (shown p here window state) v)) entered rest (from (with_fresh (renamed (heads_changed p q q.formals terms) n).pairs (valuation_of (shapes p) (now_view p (Some id) end)) (within (shown p here window state) v)) u_right u_shows)))
+        ignores.alike v (under (meaning_in p world) (replacing (changed_places p q q.formals terms n).after) u) (λ h variable old. replaced_alike h old)
+        ∙ (sym (follow-replaced (meaning_in p world) u (changed_places p q q.formals terms n).after conditions)
+        ∙ followed conditions (second_part (meaning_in p world) u entered rest (from u u_right u_shows)))
 
 -- ---- the statement
 
