@@ -16,7 +16,7 @@ use Rattle.spv_program.specs.Terms.{alone, binary, ternary}
 use Rattle.spv_program.specs.Places.{part_behind, changed_part, base, present, in_root, whole_with}
 use Rattle.spv_assign.specs.declared.structures.elements.Step.{Step}
 use Rattle.spv_assign.specs.declared.structures.places.Target.{Target}
-use Rattle.spv_assign.specs.structures.Making.{MakesTerm}
+use Rattle.spv_assign.specs.structures.Making.{GivesTerm}
 use Rattle.spv_assign.specs.structures.Steps.{step_in, steps_in, AreSteps}
 use Rattle.spv_assign.specs.structures.Targets.{target_in, read_of_cell, changed_cell}
 use Rattle.spv_assign.proofs.creation_trace.Covering.{part_of_part}
@@ -38,10 +38,10 @@ module _ (old : Arena) (class q : TermId) (path : List Step) (steps : AreSteps o
   pub read_cell_sorts : IsSome (term_sort old.shapes old.decls read_goal) → IsSome (term_sort old.shapes old.decls the_cell)
   read_cell_sorts h = part_sorted old.shapes old.decls the_cell read_goal cell_in h
 
-  pub read_cell_stopped : (b : Arena) (r : Result TermId TermFault) (e : TermFault) → IsErrAnd r (λ f. f ≡ e) → MakesTerm (Err e) the_cell old b → MakesTerm r read_goal old b
+  pub read_cell_stopped : (b : Arena) (r : Result TermId TermFault) (e : TermFault) → IsErrAnd r (λ f. f ≡ e) → GivesTerm (Err e) the_cell old b → GivesTerm r read_goal old b
   read_cell_stopped b r e told m = part_stopped old old b read_goal the_cell cell_in (toward_begins old read_goal) r e told m
 
-  module _ (b : Arena) (content : TermId) (made : MakesTerm (Ok content) the_cell old b) where
+  module _ (b : Arena) (content : TermId) (made : GivesTerm (Ok content) the_cell old b) where
     read_is : part_behind (tree b content) (steps_in b path) ≡ read_goal
     read_is = let is = made.term.is_tree in let stay = steps_stay made.grows path steps in λ i. part_behind (is i) (stay i)
 
@@ -51,7 +51,7 @@ module _ (old : Arena) (class q : TermId) (path : List Step) (steps : AreSteps o
     pub read_behind_sorts : IsSome (term_sort old.shapes old.decls read_goal) → IsSome (term_sort b.shapes b.decls (part_behind (tree b content) (steps_in b path)))
     read_behind_sorts h = subst (λ x. IsSome (term_sort b.shapes b.decls x)) (sym read_is) (sorted_stays made.grows read_goal h)
 
-    pub read_cell_done : (c : Arena) (r : Result TermId TermFault) → MakesTerm r (part_behind (tree b content) (steps_in b path)) b c → MakesTerm r read_goal old c
+    pub read_cell_done : (c : Arena) (r : Result TermId TermFault) → GivesTerm r (part_behind (tree b content) (steps_in b path)) b c → GivesTerm r read_goal old c
     read_cell_done c r m =
         behind old b c read_goal (part_behind (tree b content) (steps_in b path)) read_is (toward_more old old b read_goal the_cell cell_in (toward_begins old read_goal) (Ok content) made) r m
 
@@ -71,10 +71,10 @@ module _ (old : Arena) (class q : TermId) (path : List Step) (steps : AreSteps o
     pub write_cell_sorts : IsSome (term_sort old.shapes old.decls write_goal) → IsSome (term_sort old.shapes old.decls the_cell)
     write_cell_sorts h = part_sorted old.shapes old.decls the_cell write_goal cell_in_changed h
 
-    pub write_cell_stopped : (b : Arena) (r : Result TermId TermFault) (e : TermFault) → IsErrAnd r (λ f. f ≡ e) → MakesTerm (Err e) the_cell old b → MakesTerm r write_goal old b
+    pub write_cell_stopped : (b : Arena) (r : Result TermId TermFault) (e : TermFault) → IsErrAnd r (λ f. f ≡ e) → GivesTerm (Err e) the_cell old b → GivesTerm r write_goal old b
     write_cell_stopped b r e told m = part_stopped old old b write_goal the_cell cell_in_changed (toward_begins old write_goal) r e told m
 
-    module _ (b : Arena) (content : TermId) (made : MakesTerm (Ok content) the_cell old b) where
+    module _ (b : Arena) (content : TermId) (made : GivesTerm (Ok content) the_cell old b) where
       toward_cell : Toward old b write_goal
       toward_cell = toward_more old old b write_goal the_cell cell_in_changed (toward_begins old write_goal) (Ok content) made
 
@@ -88,10 +88,10 @@ module _ (old : Arena) (class q : TermId) (path : List Step) (steps : AreSteps o
       changed_sorts h = subst (λ x. IsSome (term_sort b.shapes b.decls x)) (sym changed_is) (sorted_stays made.grows changed (part_sorted old.shapes old.decls changed write_goal changed_in h))
 
       module _ (c : Arena) where
-        pub changed_stopped : (r : Result TermId TermFault) (e : TermFault) → IsErrAnd r (λ f. f ≡ e) → MakesTerm (Err e) (changed_part (tree b content) (steps_in b path) (tree b v)) b c → MakesTerm r write_goal old c
-        changed_stopped r e told m = part_stopped old b c write_goal changed changed_in toward_cell r e told (subst (λ x. MakesTerm (Err e) x b c) changed_is m)
+        pub changed_stopped : (r : Result TermId TermFault) (e : TermFault) → IsErrAnd r (λ f. f ≡ e) → GivesTerm (Err e) (changed_part (tree b content) (steps_in b path) (tree b v)) b c → GivesTerm r write_goal old c
+        changed_stopped r e told m = part_stopped old b c write_goal changed changed_in toward_cell r e told (subst (λ x. GivesTerm (Err e) x b c) changed_is m)
 
-        module _ (u : TermId) (m : MakesTerm (Ok u) (changed_part (tree b content) (steps_in b path) (tree b v)) b c) where
+        module _ (u : TermId) (m : GivesTerm (Ok u) (changed_part (tree b content) (steps_in b path) (tree b v)) b c) where
           set_is : ternary head.SetCell (tree c class) (tree c q) (tree c u) ≡ write_goal
           set_is =
               let first = tree-Extends m.grows class class_there ∙ tree-Extends made.grows class hc in
@@ -106,7 +106,7 @@ module _ (old : Arena) (class q : TermId) (path : List Step) (steps : AreSteps o
               pointer_there = omega (arith, length-Extends made.grows, hq)
 
           toward_changed : Toward old c write_goal
-          toward_changed = toward_more old b c write_goal changed changed_in toward_cell (Ok u) (subst (λ x. MakesTerm (Ok u) x b c) changed_is m)
+          toward_changed = toward_more old b c write_goal changed changed_in toward_cell (Ok u) (subst (λ x. GivesTerm (Ok u) x b c) changed_is m)
 
           pub class_stays : class.0 < length c.nodes
           class_stays = omega (arith, length-Extends made.grows, length-Extends m.grows, hc)
@@ -117,7 +117,7 @@ module _ (old : Arena) (class q : TermId) (path : List Step) (steps : AreSteps o
           pub set_sorts : IsSome (term_sort old.shapes old.decls write_goal) → IsSome (term_sort c.shapes c.decls (ternary head.SetCell (tree c class) (tree c q) (tree c u)))
           set_sorts h = subst (λ x. IsSome (term_sort c.shapes c.decls x)) (sym set_is) (sorted_stays toward_changed.grows write_goal h)
 
-          pub set_done : (d : Arena) (r : Result TermId TermFault) → MakesTerm r (ternary head.SetCell (tree c class) (tree c q) (tree c u)) c d → MakesTerm r write_goal old d
+          pub set_done : (d : Arena) (r : Result TermId TermFault) → GivesTerm r (ternary head.SetCell (tree c class) (tree c q) (tree c u)) c d → GivesTerm r write_goal old d
           set_done d r n = behind old c d write_goal (ternary head.SetCell (tree c class) (tree c q) (tree c u)) set_is toward_changed r n
 
 -- where there are no steps
@@ -159,5 +159,5 @@ module _ (a : Arena) (ok : IsArena a) (d : Target) (there : d.root.0 < length a.
 pub sorted_as : (a : Arena) (x y : Term) → x ≡ y → IsSome (term_sort a.shapes a.decls y) → IsSome (term_sort a.shapes a.decls x)
 sorted_as a x y same h = subst (λ z. IsSome (term_sort a.shapes a.decls z)) (sym same) h
 
-pub makes_as : (a b : Arena) (r : Result TermId TermFault) (x y : Term) → x ≡ y → MakesTerm r x a b → MakesTerm r y a b
-makes_as a b r x y same m = subst (λ z. MakesTerm r z a b) same m
+pub makes_as : (a b : Arena) (r : Result TermId TermFault) (x y : Term) → x ≡ y → GivesTerm r x a b → GivesTerm r y a b
+makes_as a b r x y same m = subst (λ z. GivesTerm r z a b) same m

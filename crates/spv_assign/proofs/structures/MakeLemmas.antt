@@ -8,7 +8,7 @@ use Rattle.spv_term.specs.declared.nodes.TermFault.{TermFault}
 use Rattle.spv_term.specs.declared.nodes.TermFault.TheVariants.{Size}
 use Rattle.spv_term.specs.Arena.{Arena, IsArena, AllBelow, Extends, node, with_node, place_of, lacks_room, tree, trees, sort_at, sorts_at}
 use Rattle.spv_term.proofs.ArenaLemmas.{term_sorts-trees}
-use Rattle.spv_assign.specs.structures.Making.{MakesTerm}
+use Rattle.spv_assign.specs.structures.Making.{GivesTerm}
 use Rattle.spv_assign.proofs.limited_steps.Limits.{make_makes}
 
 module _ (a b : Arena) (ok : IsArena a) (h : Head) (ts : List TermId) (below : AllBelow (length a.nodes) ts) where
@@ -27,7 +27,7 @@ module _ (a b : Arena) (ok : IsArena a) (h : Head) (ts : List TermId) (below : A
       → Extends a b
       → (r ≡ Err Size → IsTrue (lacks_room a (node h ts)))
       → OnErr r (b ≡ a)
-      → MakesTerm r (term h (trees a ts)) a b
+      → GivesTerm r (term h (trees a ts)) a b
   makes (Ok t) id arena there is sorted grows size same =
       let made = make_makes a b ok h ts below (Ok t) id arena there is grows size same in
       record { grows = grows; term = record { there = there; is_tree = is }; sort = sort_over ∙ sorted; only = made.only; size = made.size }

@@ -14,7 +14,7 @@ use Rattle.spv_term.specs.Arena.{Arena, IsArena, Extends, tree, sort_at}
 use Rattle.spv_term.proofs.ArenaLemmas.{Extends-refl, Extends-trans, tree-Extends, term_sort-tree}
 use Rattle.spv_term.specs.substitution.Parts.{is_part, is_part_of_some, is_part_of, AddsParts, LacksPart}
 use Rattle.spv_term.proofs.substitution.PartLemmas.{or_split, is_part-refl}
-use Rattle.spv_assign.specs.structures.Making.{MakesTerm, MakesAll}
+use Rattle.spv_assign.specs.structures.Making.{GivesTerm, GivesTerms}
 use Rattle.spv_assign.proofs.creation_trace.Covering.{part_of_part}
 
 -- ---- parts
@@ -76,7 +76,7 @@ module _ (old a b : Arena) (goal x : Term) (inside : is_part x goal ≡ true) wh
   }
 
   -- whatever a call answers that makes a part of the term
-  pub toward_more : Toward old a goal → (r : Result TermId TermFault) → MakesTerm r x a b → Toward old b goal
+  pub toward_more : Toward old a goal → (r : Result TermId TermFault) → GivesTerm r x a b → Toward old b goal
   toward_more known r m = record { grows = Extends-trans known.grows m.grows; only = record { part = added } }
     where
       added : (u : TermId) → length old.nodes ≤ u.0 → u.0 < length b.nodes → is_part_of (goal ∷ []) (tree b u) ≡ true
@@ -104,7 +104,7 @@ sorts_same grows x = let shapes = grows.shapes in let decls = grows.decls in sym
 
 module _ (old a : Arena) (goal : Term) where
   -- it was made
-  pub done : IsArena a → Toward old a goal → (t : TermId) → t.0 < length a.nodes → tree a t ≡ goal → MakesTerm (Ok t) goal old a
+  pub done : IsArena a → Toward old a goal → (t : TermId) → t.0 < length a.nodes → tree a t ≡ goal → GivesTerm (Ok t) goal old a
   done ok known t there is = record {
     grows = known.grows;
     term = record { there = there; is_tree = is };
@@ -114,7 +114,7 @@ module _ (old a : Arena) (goal : Term) where
   }
 
   -- a call before its end stopped
-  pub stopped : (r : Result TermId TermFault) (e : TermFault) → IsErrAnd r (λ f. f ≡ e) → Toward old a goal → (e ≡ Size → LacksPart a (goal ∷ [])) → MakesTerm r goal old a
+  pub stopped : (r : Result TermId TermFault) (e : TermFault) → IsErrAnd r (λ f. f ≡ e) → Toward old a goal → (e ≡ Size → LacksPart a (goal ∷ [])) → GivesTerm r goal old a
   stopped (Ok t) e told known lacks = absurd told
   stopped (Err f) e told known lacks = record {
     grows = known.grows;
@@ -125,7 +125,7 @@ module _ (old a : Arena) (goal : Term) where
   }
 
   pub all_stopped : {X : Type 0} (r : Result X TermFault) (ids : X → List TermId) (xs : List Term) (e : TermFault) → IsErrAnd r (λ f. f ≡ e) → Toward old a goal
-      → (e ≡ Size → LacksPart a (goal ∷ [])) → MakesAll r ids xs goal old a
+      → (e ≡ Size → LacksPart a (goal ∷ [])) → GivesTerms r ids xs goal old a
   all_stopped (Ok t) ids xs e told known lacks = absurd told
   all_stopped (Err f) ids xs e told known lacks = record {
     grows = known.grows;
@@ -136,15 +136,15 @@ module _ (old a : Arena) (goal : Term) where
 
 -- a part of it could not be made
 pub part_stopped : (old a b : Arena) (goal x : Term) → is_part x goal ≡ true → Toward old a goal → (r : Result TermId TermFault) (e : TermFault) → IsErrAnd r (λ f. f ≡ e)
-    → MakesTerm (Err e) x a b → MakesTerm r goal old b
+    → GivesTerm (Err e) x a b → GivesTerm r goal old b
 part_stopped old a b goal x inside known r e told m =
     stopped old b goal r e told (toward_more old a b goal x inside known (Err e) m) (λ is. lacks_in old a b goal x inside (m.size (ap Err is)))
 
 -- the last call made it, behind what made parts of it
-pub behind : (old b c : Arena) (goal x : Term) → x ≡ goal → Toward old b goal → (r : Result TermId TermFault) → MakesTerm r x b c → MakesTerm r goal old c
-behind old b c goal x same known r m = subst (λ g. Toward old b g → MakesTerm r g old c) same by known
+pub behind : (old b c : Arena) (goal x : Term) → x ≡ goal → Toward old b goal → (r : Result TermId TermFault) → GivesTerm r x b c → GivesTerm r goal old c
+behind old b c goal x same known r m = subst (λ g. Toward old b g → GivesTerm r g old c) same by known
   where
-    by : Toward old b x → MakesTerm r x old c
+    by : Toward old b x → GivesTerm r x old c
     by known = record {
       grows = Extends-trans known.grows m.grows;
       term = m.term;

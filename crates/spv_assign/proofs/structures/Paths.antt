@@ -17,7 +17,7 @@ use Rattle.spv_program.specs.Places as place
 use Rattle.spv_program.specs.Places.{ToElement, ToField, part, part_behind, changed_part}
 use Rattle.spv_assign.specs.declared.structures.elements.Step.{Step}
 use Rattle.spv_assign.specs.declared.structures.elements.Step.TheVariants as step
-use Rattle.spv_assign.specs.structures.Making.{MakesTerm, MakesAll}
+use Rattle.spv_assign.specs.structures.Making.{GivesTerm, GivesTerms}
 use Rattle.spv_assign.specs.structures.Steps.{step_in, steps_in, IsStep, AreSteps, changed_by, structures_to, structures_before}
 use Rattle.spv_assign.proofs.creation_trace.Covering.{part_of_part}
 use Rattle.spv_assign.proofs.structures.Parts.{part_sorted, sorted_stays, Toward, toward_begins, toward_more, lacks_in, done, part_stopped, all_stopped}
@@ -144,10 +144,10 @@ module _ (old a : Arena) (goal : Term) (t : TermId) (s : Step) (rest left : List
   pub read_sorts : IsSome (term_sort old.shapes old.decls goal) → IsSome (term_sort a.shapes a.decls (part (tree a t) (step_in a s)))
   read_sorts sorted = sorted_stays known.toward.grows (part (tree a t) (step_in a s)) (part_sorted old.shapes old.decls (part (tree a t) (step_in a s)) goal next_in sorted)
 
-  pub read_toward : (b : Arena) (r : Result TermId TermFault) → MakesTerm r (part (tree a t) (step_in a s)) a b → Toward old b goal
+  pub read_toward : (b : Arena) (r : Result TermId TermFault) → GivesTerm r (part (tree a t) (step_in a s)) a b → Toward old b goal
   read_toward b r m = toward_more old a b goal (part (tree a t) (step_in a s)) next_in known.toward r m
 
-  pub read_next : (b : Arena) (u : TermId) → MakesTerm (Ok u) (part (tree a t) (step_in a s)) a b → Reads old b goal u rest
+  pub read_next : (b : Arena) (u : TermId) → GivesTerm (Ok u) (part (tree a t) (step_in a s)) a b → Reads old b goal u rest
   read_next b u m = record {
     toward = read_toward b (Ok u) m;
     there = m.term.there;
@@ -155,10 +155,10 @@ module _ (old a : Arena) (goal : Term) (t : TermId) (s : Step) (rest left : List
     leads = ap (λ x. part_behind x (steps_in old rest)) m.term.is_tree ∙ next_is;
   }
 
-  pub read_stopped : (b : Arena) (r : Result TermId TermFault) (e : TermFault) → IsErrAnd r (λ f. f ≡ e) → MakesTerm (Err e) (part (tree a t) (step_in a s)) a b → MakesTerm r goal old b
+  pub read_stopped : (b : Arena) (r : Result TermId TermFault) (e : TermFault) → IsErrAnd r (λ f. f ≡ e) → GivesTerm (Err e) (part (tree a t) (step_in a s)) a b → GivesTerm r goal old b
   read_stopped b r e told m = part_stopped old a b goal (part (tree a t) (step_in a s)) next_in known.toward r e told m
 
-pub read_done : (old a : Arena) (goal : Term) (t : TermId) (left : List Step) → left ≡ [] → Reads old a goal t left → IsArena a → MakesTerm (Ok t) goal old a
+pub read_done : (old a : Arena) (goal : Term) (t : TermId) (left : List Step) → left ≡ [] → Reads old a goal t left → IsArena a → GivesTerm (Ok t) goal old a
 read_done old a goal t left none known ok =
     done old a goal ok known.toward t known.there (ap (λ xs. part_behind (tree a t) (steps_in old xs)) (sym none) ∙ known.leads)
 
@@ -175,7 +175,7 @@ finds_begin a root path there steps = record { reads = reads_begin a root path t
 
 module _ (old a : Arena) (goal : Term) (all : List Term) (found : List TermId) (t : TermId) (s : Step) (rest left : List Step) (is : left ≡ s ∷ rest)
     (so_far : Finds old a goal all found t left) where
-  pub find_next : (b : Arena) (u : TermId) (more : List TermId) → more ≡ found ++ t ∷ [] → MakesTerm (Ok u) (part (tree a t) (step_in a s)) a b
+  pub find_next : (b : Arena) (u : TermId) (more : List TermId) → more ≡ found ++ t ∷ [] → GivesTerm (Ok u) (part (tree a t) (step_in a s)) a b
       → Finds old b goal all more u rest
   find_next b u more pushed m = record {
     reads = read_next old a goal t s rest left is so_far.reads b u m;
@@ -202,14 +202,14 @@ module _ (old a : Arena) (goal : Term) (all : List Term) (found : List TermId) (
 -- a step on the way could not be made
 pub find_stopped : (old a : Arena) (goal : Term) (all : List Term) (found : List TermId) (t : TermId) (s : Step) (rest left : List Step) → left ≡ s ∷ rest
     → Finds old a goal all found t left → {X : Type 0} (b : Arena) (r : Result X TermFault) (ids : X → List TermId) (e : TermFault) → IsErrAnd r (λ f. f ≡ e)
-    → MakesTerm (Err e) (part (tree a t) (step_in a s)) a b → MakesAll r ids all goal old b
+    → GivesTerm (Err e) (part (tree a t) (step_in a s)) a b → GivesTerms r ids all goal old b
 find_stopped old a goal all found t s rest left is so_far b r ids e told m =
     let x = part (tree a t) (step_in a s) in
     let inside = next_in old a goal t s rest left is so_far.reads in
     all_stopped old b goal r ids all e told (toward_more old a b goal x inside so_far.reads.toward (Err e) m) (λ is. lacks_in old a b goal x inside (m.size (ap Err is)))
 
 pub find_done : (old a : Arena) (goal : Term) (all : List Term) (found more : List TermId) (t : TermId) (left : List Step) → left ≡ [] → more ≡ found ++ t ∷ []
-    → Finds old a goal all found t left → {X : Type 0} (x : X) (ids : X → List TermId) → ids x ≡ more → MakesAll (Ok x) ids all goal old a
+    → Finds old a goal all found t left → {X : Type 0} (x : X) (ids : X → List TermId) → ids x ≡ more → GivesTerms (Ok x) ids all goal old a
 find_done old a goal all found more t left none pushed known x ids is = record {
   grows = known.reads.toward.grows;
   terms = record {

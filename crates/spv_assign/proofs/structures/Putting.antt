@@ -11,7 +11,7 @@ use Rattle.spv_term.specs.substitution.Parts.{is_part}
 use Rattle.spv_program.specs.Places as place
 use Rattle.spv_program.specs.Places.{part, part_behind, changed_part}
 use Rattle.spv_assign.specs.declared.structures.elements.Step.{Step}
-use Rattle.spv_assign.specs.structures.Making.{MakesTerm, MakesAll}
+use Rattle.spv_assign.specs.structures.Making.{GivesTerm, GivesTerms}
 use Rattle.spv_assign.specs.structures.Steps.{step_in, steps_in, IsStep, AreSteps, changed_by, structures_to, structures_before}
 use Rattle.spv_assign.proofs.structures.Parts.{part_sorted, sorted_stays, Toward, toward_begins, toward_more, toward_within, lacks_in, done, stopped, part_stopped, behind}
 use Rattle.spv_assign.proofs.structures.Paths.{value_in, changed_first, structures_in, structures_are, step_stays, step_there, steps_stay, steps_there}
@@ -74,7 +74,7 @@ puts_begin a whole path v n all there = record {
   leads = ap (λ xs. changed_part whole xs (tree a v)) (ap (λ k. take k (steps_in a path)) (all ∙ sym (length-map path (step_in a))) ∙ take_whole (steps_in a path));
 }
 
-pub puts_done : (old a : Arena) (goal whole : Term) (path : List Step) (made : TermId) (left : ℕ) → left ≡ 0 → Puts old a goal whole path made left → IsArena a → MakesTerm (Ok made) goal old a
+pub puts_done : (old a : Arena) (goal whole : Term) (path : List Step) (made : TermId) (left : ℕ) → left ≡ 0 → Puts old a goal whole path made left → IsArena a → GivesTerm (Ok made) goal old a
 puts_done old a goal whole path made left none known ok =
     done old a goal ok known.toward made known.there (ap (λ n. changed_part whole (take n (steps_in old path)) (tree a made)) (sym none) ∙ known.leads)
 
@@ -123,13 +123,13 @@ module _ (old a : Arena) (goal whole : Term) (path : List Step) (made : TermId) 
       sorted_stays known.toward.grows (changed_by (tree a w) (step_in a s) (tree a made))
       (part_sorted old.shapes old.decls (changed_by (tree a w) (step_in a s) (tree a made)) goal put_in sorted)
 
-  pub put_stopped : (b : Arena) (r : Result TermId TermFault) (f : TermFault) → IsErrAnd r (λ g. g ≡ f) → MakesTerm (Err f) (changed_by (tree a w) (step_in a s) (tree a made)) a b → MakesTerm r goal old b
+  pub put_stopped : (b : Arena) (r : Result TermId TermFault) (f : TermFault) → IsErrAnd r (λ g. g ≡ f) → GivesTerm (Err f) (changed_by (tree a w) (step_in a s) (tree a made)) a b → GivesTerm r goal old b
   put_stopped b r f told m = part_stopped old a b goal (changed_by (tree a w) (step_in a s) (tree a made)) put_in known.toward r f told m
 
-  pub put_toward : (b : Arena) (r : Result TermId TermFault) → MakesTerm r (changed_by (tree a w) (step_in a s) (tree a made)) a b → Toward old b goal
+  pub put_toward : (b : Arena) (r : Result TermId TermFault) → GivesTerm r (changed_by (tree a w) (step_in a s) (tree a made)) a b → Toward old b goal
   put_toward b r m = toward_more old a b goal (changed_by (tree a w) (step_in a s) (tree a made)) put_in known.toward r m
 
-  pub put_next : (b : Arena) (u : TermId) (j : ℕ) → j ≡ k → MakesTerm (Ok u) (changed_by (tree a w) (step_in a s) (tree a made)) a b → Puts old b goal whole path u j
+  pub put_next : (b : Arena) (u : TermId) (j : ℕ) → j ≡ k → GivesTerm (Ok u) (changed_by (tree a w) (step_in a s) (tree a made)) a b → Puts old b goal whole path u j
   put_next b u j same m = record {
     toward = put_toward b (Ok u) m;
     within = omega (arith, same, in_path);
@@ -165,11 +165,11 @@ module _ (old : Arena) (root v : TermId) (path : List Step) (steps : AreSteps ol
   way_sorts h = part_sorted old.shapes old.decls way change way_in h
 
   pub way_stopped : {X : Type 0} (b : Arena) (ids : X → List TermId) (xs : List Term) (r : Result TermId TermFault) (e : TermFault) → IsErrAnd r (λ f. f ≡ e)
-      → MakesAll (Err e) ids xs way old b → MakesTerm r change old b
+      → GivesTerms (Err e) ids xs way old b → GivesTerm r change old b
   way_stopped b ids xs r e told m =
       stopped old b change r e told (toward_within old b change way way_in m.grows m.only) (λ is. lacks_in old old b change way way_in (m.size (ap Err is)))
 
-  module _ {X : Type 0} (b : Arena) (ids : X → List TermId) (x : X) (found : List TermId) (same : found ≡ ids x) (m : MakesAll (Ok x) ids (structures_to (tree old root) (steps_in old (take n path))) way old b) where
+  module _ {X : Type 0} (b : Arena) (ids : X → List TermId) (x : X) (found : List TermId) (same : found ≡ ids x) (m : GivesTerms (Ok x) ids (structures_to (tree old root) (steps_in old (take n path))) way old b) where
     found_trees : map (tree b) found ≡ structures_to (tree old root) (steps_in old (take n path))
     found_trees = ap (map (tree b)) same ∙ m.terms.trees
 
@@ -197,9 +197,9 @@ module _ (old : Arena) (root v : TermId) (path : List Step) (steps : AreSteps ol
     pub found_sorts : IsSome (term_sort old.shapes old.decls change) → IsSome (term_sort b.shapes b.decls (changed_part (tree b (get_or found 0 v)) (steps_in b path) (tree b v)))
     found_sorts h = subst (λ x. IsSome (term_sort b.shapes b.decls x)) (sym change_is) (sorted_stays m.grows change h)
 
-    pub change_done : (c : Arena) (r : Result TermId TermFault) → MakesTerm r (changed_part (tree b (get_or found 0 v)) (steps_in b path) (tree b v)) b c → MakesTerm r change old c
+    pub change_done : (c : Arena) (r : Result TermId TermFault) → GivesTerm r (changed_part (tree b (get_or found 0 v)) (steps_in b path) (tree b v)) b c → GivesTerm r change old c
     change_done c r n = behind old b c change (changed_part (tree b (get_or found 0 v)) (steps_in b path) (tree b v)) change_is (toward_within old b change way way_in m.grows m.only) r n
 
-pub nothing_changed : (a : Arena) → IsArena a → (root v : TermId) (path : List Step) → v.0 < length a.nodes → length path ≡ 0 → MakesTerm (Ok v) (changed_part (tree a root) (steps_in a path) (tree a v)) a a
+pub nothing_changed : (a : Arena) → IsArena a → (root v : TermId) (path : List Step) → v.0 < length a.nodes → length path ≡ 0 → GivesTerm (Ok v) (changed_part (tree a root) (steps_in a path) (tree a v)) a a
 nothing_changed a ok root v [] hv e = done a a (tree a v) ok (toward_begins a (tree a v)) v hv refl
 nothing_changed a ok root v (x ∷ path) hv e = absurd (omega (arith, e))

@@ -16,7 +16,7 @@ pub record AreTerms (a : Arena) (ts : List TermId) (xs : List Term) : Type 0 whe
 
 -- it answers this term with its sort; whatever it answers, old ids stay, and nothing but parts of the term is added; and `Size`
 -- comes only where the arena is full and a part of the term is not there
-pub record MakesTerm (r : Result TermId TermFault) (x : Term) (old new : Arena) : Type 0 where
+pub record GivesTerm (r : Result TermId TermFault) (x : Term) (old new : Arena) : Type 0 where
   pub grows : Extends old new
   pub term : IfOk r (λ t. IsTerm new t x)
   pub sort : IfOk r (λ t. term_sort old.shapes old.decls x ≡ Some (sort_at new t))
@@ -24,7 +24,7 @@ pub record MakesTerm (r : Result TermId TermFault) (x : Term) (old new : Arena) 
   pub size : r ≡ Err Size → LacksPart new (x ∷ [])
 
 -- the same of several terms on the way to another
-pub record MakesAll {X : Type 0} (r : Result X TermFault) (ids : X → List TermId) (xs : List Term) (goal : Term) (old new : Arena) : Type 0 where
+pub record GivesTerms {X : Type 0} (r : Result X TermFault) (ids : X → List TermId) (xs : List Term) (goal : Term) (old new : Arena) : Type 0 where
   pub grows : Extends old new
   pub terms : IfOk r (λ x. AreTerms new (ids x) xs)
   pub only : AddsParts old new (goal ∷ [])

@@ -5,7 +5,7 @@ ghost use Rattle.spv_logic.specs.declared.operators.Head.TheVariants as head;
 ghost use Rattle.spv_logic.specs.Sorts.{term_sort};
 ghost use Rattle.spv_term.specs.Arena.{tree};
 ghost use Rattle.spv_program.specs.Terms.{binary, ternary};
-ghost use Rattle.spv_assign.specs.structures.Making.{MakesTerm};
+ghost use Rattle.spv_assign.specs.structures.Making.{GivesTerm};
 
 use crate::structures::making::over;
 use spv_logic::Head;
@@ -17,7 +17,7 @@ pub fn cell(terms: &mut Terms, c: TermId, p: TermId) -> Result<TermId, TermFault
     requires c { c.0 < length terms.old.nodes }
     requires p { p.0 < length terms.old.nodes }
     requires sorts { IsSome (term_sort terms.old.shapes terms.old.decls (binary head.Cell (tree terms.old c) (tree terms.old p))) }
-    ensures { MakesTerm result (binary head.Cell (tree terms.old c) (tree terms.old p)) terms.old terms.new }
+    ensures { GivesTerm result (binary head.Cell (tree terms.old c) (tree terms.old p)) terms.old terms.new }
 {
     over(terms, Head::Cell, &[c, p])
 }
@@ -29,7 +29,7 @@ pub fn set_cell(terms: &mut Terms, c: TermId, p: TermId, v: TermId) -> Result<Te
     requires p { p.0 < length terms.old.nodes }
     requires v { v.0 < length terms.old.nodes }
     requires sorts { IsSome (term_sort terms.old.shapes terms.old.decls (ternary head.SetCell (tree terms.old c) (tree terms.old p) (tree terms.old v))) }
-    ensures { MakesTerm result (ternary head.SetCell (tree terms.old c) (tree terms.old p) (tree terms.old v)) terms.old terms.new }
+    ensures { GivesTerm result (ternary head.SetCell (tree terms.old c) (tree terms.old p) (tree terms.old v)) terms.old terms.new }
 {
     over(terms, Head::SetCell, &[c, p, v])
 }
@@ -41,7 +41,7 @@ pub fn extend(terms: &mut Terms, c: TermId, p: TermId, v: TermId) -> Result<Term
     requires p { p.0 < length terms.old.nodes }
     requires v { v.0 < length terms.old.nodes }
     requires sorts { IsSome (term_sort terms.old.shapes terms.old.decls (ternary head.Extend (tree terms.old c) (tree terms.old p) (tree terms.old v))) }
-    ensures { MakesTerm result (ternary head.Extend (tree terms.old c) (tree terms.old p) (tree terms.old v)) terms.old terms.new }
+    ensures { GivesTerm result (ternary head.Extend (tree terms.old c) (tree terms.old p) (tree terms.old v)) terms.old terms.new }
 {
     over(terms, Head::Extend, &[c, p, v])
 }
@@ -52,7 +52,7 @@ pub fn pointer_to(terms: &mut Terms, p: TermId, c: TermId) -> Result<TermId, Ter
     requires p { p.0 < length terms.old.nodes }
     requires c { c.0 < length terms.old.nodes }
     requires sorts { IsSome (term_sort terms.old.shapes terms.old.decls (binary head.PointerTo (tree terms.old p) (tree terms.old c))) }
-    ensures { MakesTerm result (binary head.PointerTo (tree terms.old p) (tree terms.old c)) terms.old terms.new }
+    ensures { GivesTerm result (binary head.PointerTo (tree terms.old p) (tree terms.old c)) terms.old terms.new }
 {
     over(terms, Head::PointerTo, &[p, c])
 }

@@ -7,7 +7,7 @@ ghost use Rattle.spv_logic.specs.Terms.{Term};
 ghost use Rattle.spv_term.specs.Arena.{AllBelow, tree};
 ghost use Rattle.spv_program.specs.Terms.{unary, binary, ternary};
 ghost use Rattle.spv_program.specs.Places as place;
-ghost use Rattle.spv_assign.specs.structures.Making.{MakesTerm, MakesAll};
+ghost use Rattle.spv_assign.specs.structures.Making.{GivesTerm, GivesTerms};
 ghost use Rattle.spv_assign.specs.structures.Steps.{AreSteps, IsStep, changed_by, step_in, steps_in, structures_before, structures_to};
 
 use crate::structures::making::over;
@@ -31,7 +31,7 @@ pub fn select(terms: &mut Terms, a: TermId, i: TermId) -> Result<TermId, TermFau
     requires a { a.0 < length terms.old.nodes }
     requires i { i.0 < length terms.old.nodes }
     requires sorts { IsSome (term_sort terms.old.shapes terms.old.decls (binary head.Select (tree terms.old a) (tree terms.old i))) }
-    ensures { MakesTerm result (binary head.Select (tree terms.old a) (tree terms.old i)) terms.old terms.new }
+    ensures { GivesTerm result (binary head.Select (tree terms.old a) (tree terms.old i)) terms.old terms.new }
 {
     over(terms, Head::Select, &[a, i])
 }
@@ -43,7 +43,7 @@ pub fn store(terms: &mut Terms, a: TermId, i: TermId, v: TermId) -> Result<TermI
     requires i { i.0 < length terms.old.nodes }
     requires v { v.0 < length terms.old.nodes }
     requires sorts { IsSome (term_sort terms.old.shapes terms.old.decls (ternary head.Store (tree terms.old a) (tree terms.old i) (tree terms.old v))) }
-    ensures { MakesTerm result (ternary head.Store (tree terms.old a) (tree terms.old i) (tree terms.old v)) terms.old terms.new }
+    ensures { GivesTerm result (ternary head.Store (tree terms.old a) (tree terms.old i) (tree terms.old v)) terms.old terms.new }
 {
     over(terms, Head::Store, &[a, i, v])
 }
@@ -53,7 +53,7 @@ pub fn store(terms: &mut Terms, a: TermId, i: TermId, v: TermId) -> Result<TermI
 pub fn field(terms: &mut Terms, r: TermId, f: Symbol) -> Result<TermId, TermFault>
     requires r { r.0 < length terms.old.nodes }
     requires sorts { IsSome (term_sort terms.old.shapes terms.old.decls (unary (head.Field f) (tree terms.old r))) }
-    ensures { MakesTerm result (unary (head.Field f) (tree terms.old r)) terms.old terms.new }
+    ensures { GivesTerm result (unary (head.Field f) (tree terms.old r)) terms.old terms.new }
 {
     over(terms, Head::Field(f), &[r])
 }
@@ -64,7 +64,7 @@ pub fn put(terms: &mut Terms, r: TermId, f: Symbol, v: TermId) -> Result<TermId,
     requires r { r.0 < length terms.old.nodes }
     requires v { v.0 < length terms.old.nodes }
     requires sorts { IsSome (term_sort terms.old.shapes terms.old.decls (binary (head.Put f) (tree terms.old r) (tree terms.old v))) }
-    ensures { MakesTerm result (binary (head.Put f) (tree terms.old r) (tree terms.old v)) terms.old terms.new }
+    ensures { GivesTerm result (binary (head.Put f) (tree terms.old r) (tree terms.old v)) terms.old terms.new }
 {
     over(terms, Head::Put(f), &[r, v])
 }
@@ -74,7 +74,7 @@ fn part(terms: &mut Terms, s: TermId, step: Step) -> Result<TermId, TermFault>
     requires s { s.0 < length terms.old.nodes }
     requires step { IsStep terms.old step }
     requires sorts { IsSome (term_sort terms.old.shapes terms.old.decls (place.part (tree terms.old s) (step_in terms.old step))) }
-    ensures { MakesTerm result (place.part (tree terms.old s) (step_in terms.old step)) terms.old terms.new }
+    ensures { GivesTerm result (place.part (tree terms.old s) (step_in terms.old step)) terms.old terms.new }
 {
     match step {
         Step::Index(i) => select(terms, s, i),
@@ -88,7 +88,7 @@ fn changed(terms: &mut Terms, s: TermId, step: Step, v: TermId) -> Result<TermId
     requires step { IsStep terms.old step }
     requires v { v.0 < length terms.old.nodes }
     requires sorts { IsSome (term_sort terms.old.shapes terms.old.decls (changed_by (tree terms.old s) (step_in terms.old step) (tree terms.old v))) }
-    ensures { MakesTerm result (changed_by (tree terms.old s) (step_in terms.old step) (tree terms.old v)) terms.old terms.new }
+    ensures { GivesTerm result (changed_by (tree terms.old s) (step_in terms.old step) (tree terms.old v)) terms.old terms.new }
 {
     match step {
         Step::Index(i) => store(terms, s, i, v),
@@ -102,7 +102,7 @@ pub fn read_path(terms: &mut Terms, root: TermId, path: &[Step]) -> Result<TermI
     requires root { root.0 < length terms.old.nodes }
     requires path { AreSteps terms.old path.now }
     requires sorts { IsSome (term_sort terms.old.shapes terms.old.decls (place.part_behind (tree terms.old root) (steps_in terms.old path.now))) }
-    ensures { MakesTerm result (place.part_behind (tree terms.old root) (steps_in terms.old path.now)) terms.old terms.new }
+    ensures { GivesTerm result (place.part_behind (tree terms.old root) (steps_in terms.old path.now)) terms.old terms.new }
 {
     let mut t = root;
     for step in path {
@@ -130,7 +130,7 @@ fn structures(
     requires root { root.0 < length terms.old.nodes }
     requires path { AreSteps terms.old path.now }
     requires sorts { IsSome (term_sort terms.old.shapes terms.old.decls (place.part_behind (tree terms.old root) (steps_in terms.old path.now))) }
-    ensures { MakesAll result (λ ts. ts.items) (structures_to (tree terms.old root) (steps_in terms.old path.now)) (place.part_behind (tree terms.old root) (steps_in terms.old path.now)) terms.old terms.new }
+    ensures { GivesTerms result (λ ts. ts.items) (structures_to (tree terms.old root) (steps_in terms.old path.now)) (place.part_behind (tree terms.old root) (steps_in terms.old path.now)) terms.old terms.new }
 {
     let mut found = Vec::new(alloc);
     let mut t = root;
@@ -155,7 +155,7 @@ fn put_back(
     requires v { v.0 < length terms.old.nodes }
     requires whole { map (tree terms.old) structures.now ≡ structures_before whole (steps_in terms.old path.now) }
     requires sorts { IsSome (term_sort terms.old.shapes terms.old.decls (place.changed_part whole (steps_in terms.old path.now) (tree terms.old v))) }
-    ensures { MakesTerm result (place.changed_part whole (steps_in terms.old path.now) (tree terms.old v)) terms.old terms.new }
+    ensures { GivesTerm result (place.changed_part whole (steps_in terms.old path.now) (tree terms.old v)) terms.old terms.new }
 {
     let mut made = v;
     let mut left = path.len();
@@ -180,7 +180,7 @@ pub fn write_path(
     requires path { AreSteps terms.old path.now }
     requires v { v.0 < length terms.old.nodes }
     requires sorts { IsSome (term_sort terms.old.shapes terms.old.decls (place.changed_part (tree terms.old root) (steps_in terms.old path.now) (tree terms.old v))) }
-    ensures { MakesTerm result (place.changed_part (tree terms.old root) (steps_in terms.old path.now) (tree terms.old v)) terms.old terms.new }
+    ensures { GivesTerm result (place.changed_part (tree terms.old root) (steps_in terms.old path.now) (tree terms.old v)) terms.old terms.new }
 {
     terms.law_arena();
     if path.len() == 0 {

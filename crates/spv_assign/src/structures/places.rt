@@ -4,7 +4,7 @@ ghost use Rattle.std.specs.Prelude.{◌<◌, length, IsSome};
 ghost use Rattle.spv_logic.specs.Sorts.{term_sort};
 ghost use Rattle.spv_term.specs.Arena.{tree};
 ghost use Rattle.spv_program.specs.Places as place;
-ghost use Rattle.spv_assign.specs.structures.Making.{MakesTerm};
+ghost use Rattle.spv_assign.specs.structures.Making.{GivesTerm};
 ghost use Rattle.spv_assign.specs.structures.Steps.{AreSteps, steps_in};
 ghost use Rattle.spv_assign.specs.structures.Targets.{IsTarget, changed_cell, read_of_cell, target_in};
 
@@ -36,7 +36,7 @@ fn read_in_cell(
     requires q { q.0 < length terms.old.nodes }
     requires path { AreSteps terms.old path.now }
     requires sorts { IsSome (term_sort terms.old.shapes terms.old.decls (read_of_cell (tree terms.old class) (tree terms.old q) (steps_in terms.old path.now))) }
-    ensures { MakesTerm result (read_of_cell (tree terms.old class) (tree terms.old q) (steps_in terms.old path.now)) terms.old terms.new }
+    ensures { GivesTerm result (read_of_cell (tree terms.old class) (tree terms.old q) (steps_in terms.old path.now)) terms.old terms.new }
 {
     let content = cell(terms, class, q)?;
     read_path(terms, content, path)
@@ -47,7 +47,7 @@ fn read_in_cell(
 pub fn present(terms: &mut Terms, d: &Target) -> Result<TermId, TermFault>
     requires target { IsTarget terms.old d.now }
     requires sorts { IsSome (term_sort terms.old.shapes terms.old.decls (place.present (target_in terms.old d.now))) }
-    ensures { MakesTerm result (place.present (target_in terms.old d.now)) terms.old terms.new }
+    ensures { GivesTerm result (place.present (target_in terms.old d.now)) terms.old terms.new }
 {
     terms.law_arena();
     let path = d.path.as_slice();
@@ -72,7 +72,7 @@ fn write_in_content(
     requires steps { 0 < length path.now }
     requires v { v.0 < length terms.old.nodes }
     requires sorts { IsSome (term_sort terms.old.shapes terms.old.decls (changed_cell (tree terms.old class) (tree terms.old q) (steps_in terms.old path.now) (tree terms.old v))) }
-    ensures { MakesTerm result (changed_cell (tree terms.old class) (tree terms.old q) (steps_in terms.old path.now) (tree terms.old v)) terms.old terms.new }
+    ensures { GivesTerm result (changed_cell (tree terms.old class) (tree terms.old q) (steps_in terms.old path.now) (tree terms.old v)) terms.old terms.new }
 {
     let content = cell(terms, class, q)?;
     let changed = write_path(terms, alloc, content, path, v)?;
@@ -93,7 +93,7 @@ fn write_in_cell(
     requires path { AreSteps terms.old path.now }
     requires v { v.0 < length terms.old.nodes }
     requires sorts { IsSome (term_sort terms.old.shapes terms.old.decls (changed_cell (tree terms.old class) (tree terms.old q) (steps_in terms.old path.now) (tree terms.old v))) }
-    ensures { MakesTerm result (changed_cell (tree terms.old class) (tree terms.old q) (steps_in terms.old path.now) (tree terms.old v)) terms.old terms.new }
+    ensures { GivesTerm result (changed_cell (tree terms.old class) (tree terms.old q) (steps_in terms.old path.now) (tree terms.old v)) terms.old terms.new }
 {
     match path {
         [] => set_cell(terms, class, q, v),
@@ -112,7 +112,7 @@ pub fn whole_with(
     requires target { IsTarget terms.old d.now }
     requires v { v.0 < length terms.old.nodes }
     requires sorts { IsSome (term_sort terms.old.shapes terms.old.decls (place.whole_with (target_in terms.old d.now) (tree terms.old v))) }
-    ensures { MakesTerm result (place.whole_with (target_in terms.old d.now) (tree terms.old v)) terms.old terms.new }
+    ensures { GivesTerm result (place.whole_with (target_in terms.old d.now) (tree terms.old v)) terms.old terms.new }
 {
     terms.law_arena();
     let path = d.path.as_slice();
