@@ -3,3 +3,4 @@ pub mod Conditions
 pub mod creation_trace
 pub mod limits
 pub mod limited_steps
+pub mod structures

@@ -6,3 +6,5 @@ pub mod Ends
 pub mod Passing
 pub mod Fitting
 pub mod Listed
+pub mod Filled
+pub mod Gathered

@@ -5,3 +5,4 @@ pub mod ExpressionTerms
 pub mod Selectors
 pub mod Makeable
 pub mod Laws
+pub mod OuterCalls

@@ -1,5 +1,5 @@
 //! `postfix`: Terms built in the arena from their heads in postfix order.
-//! `term_walk`: The terms of typed formulas, and of typed expressions and places without calls, written head by head in postfix order, and made in the arena.
+//! `term_walk`: The terms of typed formulas, and of typed expressions and places with variables in the place of their calls, written head by head in postfix order, and made in the arena.
 //! `makeable_terms`: The terms of well typed formulas, expressions and places are such as an arena may have.
 #![tactic(auto)]
 

@@ -1,5 +1,7 @@
 -- The types that the heads of well typed formulas and expressions name are there.
-use Rattle.std.proofs.Common.{◌≡◌, Bool, true, cond, ◌&&◌, List, pos, refl, ap, ◌∙◌, Option, Some, None}
+use Rattle.std.proofs.Common.{◌≡◌, Bool, true, cond, ◌&&◌, List, [], drop, length, pos, refl, ap, ◌∙◌, subst, Option, Some, None}
+use Rattle.std.specs.List.{list_all}
+use Rattle.std.specs.Option.{option_and_then}
 use Rattle.std.specs.Cmp.Derive.{both_true}
 use Rattle.std.proofs.lemmas.Bool.{false≢true}
 use Rattle.spv_logic.proofs.list.Tests.{left_true, right_true}
@@ -15,7 +17,9 @@ use Rattle.spv_logic.specs.Sorts.{takes_declared, declared, result_sort, head_in
 use Rattle.spv_program.specs.declared.operators.Comparison.{Comparison}
 use Rattle.spv_program.specs.declared.operators.Comparison.TheVariants as comparison
 use Rattle.spv_program.specs.Lists.{found}
-use Rattle.spv_program.specs.Types.{form_at, sort_of, element_of, field_of, target_of, same_type, type_exists, forms_ok}
+use Rattle.spv_program.specs.declared.types.TypeForm.{TypeForm}
+use Rattle.spv_program.specs.declared.types.TypeForm.TheVariants as form
+use Rattle.spv_program.specs.Types.{form_at, sort_of, sort_of_form, element_of, field_of, target_of, same_type, type_exists, forms_ok}
 use Rattle.spv_program.specs.Formulas as formula
 use Rattle.spv_program.specs.Expressions as expression
 use Rattle.spv_program.specs.Programs.{Routine, Program, shapes}
@@ -23,12 +27,14 @@ use Rattle.spv_program.specs.Scopes.{Scope, name_type}
 use Rattle.spv_program.specs.FormulaTypes.{is_sort, sort_if, compared_sort, any_sort, head_of_known, formula_sort, formula_sorts}
 use Rattle.spv_program.specs.FormulaTypes as formulas
 use Rattle.spv_program.specs.ExpressionTypes as expressions
-use Rattle.spv_program.specs.ExpressionTypes.{comparable, may_read, expression_sort, designator_type, selected_type}
+use Rattle.spv_program.specs.ExpressionTypes.{callee, comparable, may_read, expression_sort, designator_type, result_type, selected_type, sort_of_type}
 use Rattle.spv_program.specs.Terms.{alone, unary, binary, numeral, formula_term, formula_terms}
 use Rattle.spv_program.proofs.SortFacts.{is_sort-true, test_passes, two_there, behind, passed, chosen, failed}
 use Rattle.spv_program.proofs.FormulaSorting.{two_truths, two_numbers, one_of, some_sorts}
 use Rattle.spv_program.proofs.ExpressionSorting.{same_types, mapped}
-use Rattle.spv_expression_terms.specs.term_walk.ExpressionTerms.{expression_term, place_term, term_behind}
+use Rattle.spv_expression_terms.specs.term_walk.ExpressionTerms.{expression_term, place_term}
+use Rattle.spv_expression_terms.specs.term_walk.OuterCalls.{outer_calls, first_variable, for_first, for_others, filled, filled_place, filled_behind}
+use Rattle.spv_expression_terms.proofs.term_walk.Filled.{filled_nothing, filled_place_nothing, first_passes, all_taken, all_dropped}
 use Rattle.spv_expression_terms.proofs.term_walk.Passing.{is_operator, pass_one, pass_two, pass_known, pass_applied, pass_truth, pass_calculated, pass_joined, pass_compared}
 use Rattle.spv_expression_terms.proofs.makeable_terms.Ranges.{shape_there, form_is_right, target_exists}
 
@@ -129,51 +135,84 @@ module _ (p : Program) where
           some_sorts (formula_sort p names f) (formula_sorts p names fs) ss (all_heads_pass test (formula_terms heads (formula.formulas f fs)) ≡ true)
           (λ s rest a b told. both_true (formula_there f s a) (formulas_there fs rest b)) e
 
+  some_same : (s t : Sort) → Some s ≡ Some t → s ≡ t
+  some_same s t e = cc
+
+  pointed_form : (f : TypeForm) (u t : TypeId) → sort_of_form f u ≡ sort.Ptr t → target_of f ≡ Some t
+  pointed_form form.Integer u t e = absurd (cc)
+  pointed_form form.Boolean u t e = absurd (cc)
+  pointed_form (form.Range low high) u t e = absurd (cc)
+  pointed_form (form.Pointer v) u t e = let same : v ≡ t = cc in ap Some same
+  pointed_form (form.Array index v) u t e = absurd (cc)
+  pointed_form (form.Record fields) u t e = absurd (cc)
+
   module _ (here : Option Routine) (heads : Symbol → Head) (forms : forms_ok p.forms ≡ true) (right : (x : Symbol) (t : TypeId) → name_type p here x ≡ Some t → test (heads x) ≡ true) where
+    -- the type that a pointer leads to
+    pointed_exists : (u t : TypeId) → sort_of p.forms u ≡ sort.Ptr t → type_exists p.forms t ≡ true
+    pointed_exists u t e = target_exists p.forms (form_at p.forms u.0) t (form_is_right p.forms u.0 forms) (pointed_form (form_at p.forms u.0) u t e)
+
     mutual
-      pub expression_there : (e : expression.Expression) (s : Sort) → expression_sort p here e ≡ Some s → there (expression_term heads e)
-      expression_there (expression.Numeral z) s h = refl
-      expression_there (expression.Boolean b) s h = pass_truth test operators_there b
-      expression_there (expression.NilOf t) s h = both_true (shape_there p.forms t (test_passes (type_exists p.forms t) (sort.Ptr t) s h)) refl
-      expression_there (expression.Read d) s h =
+      -- with variables of sorts that are there in the place of calls
+      pub filled_there : (vs : List Head) → list_all test vs ≡ true → (e : expression.Expression) (s : Sort) → expression_sort p here e ≡ Some s → there (filled heads vs e)
+      filled_there vs v (expression.Numeral z) s h = refl
+      filled_there vs v (expression.Boolean b) s h = pass_truth test operators_there b
+      filled_there vs v (expression.NilOf t) s h = both_true (shape_there p.forms t (test_passes (type_exists p.forms t) (sort.Ptr t) s h)) refl
+      filled_there vs v (expression.Read d) s h =
           let t = mapped (sort_of p.forms) (designator_type p here d) s (chosen (may_read here d) _ s h) in
-          place_there d t.item t.is
-      expression_there (expression.Result c) s h = refl
-      expression_there (expression.Through c line t others) s h = refl
-      expression_there (expression.Negative e) s h =
-          one_of sort.Int sort.Int (expression_sort p here e) s (there (expression_term heads (expression.Negative e)))
-          (λ is told. pass_two test operators_there head.Sub (numeral (pos 0)) (expression_term heads e) refl refl (expression_there e sort.Int is)) h
-      expression_there (expression.Calculated o a b) s h =
-          two_numbers (expression_sort p here a) (expression_sort p here b) s (there (expression_term heads (expression.Calculated o a b)))
-          (λ x y told. pass_calculated test operators_there o (expression_term heads a) (expression_term heads b) (expression_there a sort.Int x) (expression_there b sort.Int y)) h
-      expression_there (expression.Compared o a b) s h =
+          filled_place_there vs v d t.item t.is
+      filled_there vs v (expression.Result c) s h = both_true (first_passes test refl vs v) refl
+      filled_there vs v (expression.Through c line t others) s h =
+          let tested = is_sort (sort.Ptr t) (sort_of_type p (option_and_then result_type (callee p here c))) in
+          let result = mapped (sort_of p.forms) (option_and_then result_type (callee p here c)) (sort.Ptr t)
+          (is_sort-true (sort.Ptr t) (sort_of_type p (option_and_then result_type (callee p here c))) (passed tested _ s h)) in
+          let r = mapped (sort_of p.forms) (selected_type p here t others) s (chosen tested _ s h) in
+          let told = some_same (sort_of p.forms result.item) (sort.Ptr t) result.gives in
+          filled_behind_there (drop 1 vs) (all_dropped test 1 vs v) (binary head.Cell (alone (head.ClassVar t 0)) (alone (first_variable vs))) t r.item others
+          (content_there t (alone (first_variable vs)) (pointed_exists result.item t told) (both_true (first_passes test refl vs v) refl)) r.is
+      filled_there vs v (expression.Negative e) s h =
+          one_of sort.Int sort.Int (expression_sort p here e) s (there (filled heads vs (expression.Negative e)))
+          (λ is told. pass_two test operators_there head.Sub (numeral (pos 0)) (filled heads vs e) refl refl (filled_there vs v e sort.Int is)) h
+      filled_there vs v (expression.Calculated o a b) s h =
+          two_numbers (expression_sort p here a) (expression_sort p here b) s (there (filled heads vs (expression.Calculated o a b)))
+          (λ x y told. pass_calculated test operators_there o (filled heads (for_first a vs) a) (filled heads (for_others a vs) b)
+          (filled_there (for_first a vs) (all_taken test (length (outer_calls a)) vs v) a sort.Int x) (filled_there (for_others a vs) (all_dropped test (length (outer_calls a)) vs v) b sort.Int y)) h
+      filled_there vs v (expression.Compared o a b) s h =
           let two = operands comparable o (expression_sort p here a) (expression_sort p here b) s (failed (expressions.is_nil a && expressions.is_nil b) _ s h) in
-          pass_compared test operators_there o (expression_term heads a) (expression_term heads b) (expression_there a two.left two.left_is) (expression_there b two.right two.right_is)
-      expression_there (expression.Negated e) s h =
-          one_of sort.Bool sort.Bool (expression_sort p here e) s (there (expression_term heads (expression.Negated e)))
-          (λ is told. pass_one test operators_there head.Not (expression_term heads e) refl (expression_there e sort.Bool is)) h
-      expression_there (expression.Joined o a b) s h =
-          two_truths (expression_sort p here a) (expression_sort p here b) s (there (expression_term heads (expression.Joined o a b)))
-          (λ x y told. pass_joined test operators_there o (expression_term heads a) (expression_term heads b) (expression_there a sort.Bool x) (expression_there b sort.Bool y)) h
+          pass_compared test operators_there o (filled heads (for_first a vs) a) (filled heads (for_others a vs) b)
+          (filled_there (for_first a vs) (all_taken test (length (outer_calls a)) vs v) a two.left two.left_is) (filled_there (for_others a vs) (all_dropped test (length (outer_calls a)) vs v) b two.right two.right_is)
+      filled_there vs v (expression.Negated e) s h =
+          one_of sort.Bool sort.Bool (expression_sort p here e) s (there (filled heads vs (expression.Negated e)))
+          (λ is told. pass_one test operators_there head.Not (filled heads vs e) refl (filled_there vs v e sort.Bool is)) h
+      filled_there vs v (expression.Joined o a b) s h =
+          two_truths (expression_sort p here a) (expression_sort p here b) s (there (filled heads vs (expression.Joined o a b)))
+          (λ x y told. pass_joined test operators_there o (filled heads (for_first a vs) a) (filled heads (for_others a vs) b)
+          (filled_there (for_first a vs) (all_taken test (length (outer_calls a)) vs v) a sort.Bool x) (filled_there (for_others a vs) (all_dropped test (length (outer_calls a)) vs v) b sort.Bool y)) h
 
-      pub place_there : (d : expression.Designator) (t : TypeId) → designator_type p here d ≡ Some t → there (place_term heads d)
-      place_there (expression.designator line x others) t h =
+      pub filled_place_there : (vs : List Head) → list_all test vs ≡ true → (d : expression.Designator) (t : TypeId) → designator_type p here d ≡ Some t → there (filled_place heads vs d)
+      filled_place_there vs v (expression.designator line x others) t h =
           let r = behind (λ t. selected_type p here t others) (name_type p here x) t h in
-          behind_there (alone (heads x)) r.item t others (both_true (right x r.item r.is) refl) r.gives
+          filled_behind_there vs v (alone (heads x)) r.item t others (both_true (right x r.item r.is) refl) r.gives
 
-      behind_there : (s : Term) (t u : TypeId) (others : expression.Selectors) → there s → selected_type p here t others ≡ Some u → there (term_behind heads s others)
-      behind_there s t u expression.no_selectors g h = g
-      behind_there s t u (expression.at_index a e others) g h =
+      filled_behind_there : (vs : List Head) → list_all test vs ≡ true → (s : Term) (t u : TypeId) (others : expression.Selectors) → there s → selected_type p here t others ≡ Some u → there (filled_behind heads vs s others)
+      filled_behind_there vs v s t u expression.no_selectors g h = g
+      filled_behind_there vs v s t u (expression.at_index a e others) g h =
           let tested = same_type a t && is_sort sort.Int (expression_sort p here e) in
           let int = is_sort-true sort.Int (expression_sort p here e) (right_true (same_type a t) _ (passed tested _ u h)) in
           let r = behind (λ u. selected_type p here u others) (element_of (form_at p.forms t.0)) u (chosen tested _ u h) in
-          behind_there (binary head.Select s (expression_term heads e)) r.item u others (pass_two test operators_there head.Select s (expression_term heads e) refl g (expression_there e sort.Int int)) r.gives
-      behind_there s t u (expression.at_field a f others) g h =
+          filled_behind_there (for_others e vs) (all_dropped test (length (outer_calls e)) vs v) (binary head.Select s (filled heads (for_first e vs) e)) r.item u others
+          (pass_two test operators_there head.Select s (filled heads (for_first e vs) e) refl g (filled_there (for_first e vs) (all_taken test (length (outer_calls e)) vs v) e sort.Int int)) r.gives
+      filled_behind_there vs v s t u (expression.at_field a f others) g h =
           let r = behind (λ u. selected_type p here u others) (field_of (form_at p.forms t.0) f) u (chosen (same_type a t) _ u h) in
-          behind_there (unary (head.Field f) s) r.item u others (pass_one test operators_there (head.Field f) s refl g) r.gives
-      behind_there s t u (expression.at_cell line c others) g h =
+          filled_behind_there vs v (unary (head.Field f) s) r.item u others (pass_one test operators_there (head.Field f) s refl g) r.gives
+      filled_behind_there vs v s t u (expression.at_cell line c others) g h =
           let r = behind (λ v. cond (same_type c v) (selected_type p here v others) None) (target_of (form_at p.forms t.0)) u h in
           let same = same_types c r.item (passed (same_type c r.item) _ u r.gives) in
           let exists = target_exists p.forms (form_at p.forms t.0) r.item (form_is_right p.forms t.0 forms) r.is in
-          behind_there (binary head.Cell (alone (head.ClassVar c 0)) s) r.item u others (content_there c s (ap (type_exists p.forms) same ∙ exists) g)
+          filled_behind_there vs v (binary head.Cell (alone (head.ClassVar c 0)) s) r.item u others (content_there c s (ap (type_exists p.forms) same ∙ exists) g)
           (chosen (same_type c r.item) _ u r.gives)
+
+    pub expression_there : (e : expression.Expression) (s : Sort) → expression_sort p here e ≡ Some s → there (expression_term heads e)
+    expression_there e s h = subst there (filled_nothing heads e) (filled_there [] refl e s h)
+
+    pub place_there : (d : expression.Designator) (t : TypeId) → designator_type p here d ≡ Some t → there (place_term heads d)
+    place_there d t h = subst there (filled_place_nothing heads d) (filled_place_there [] refl d t h)

@@ -3,6 +3,8 @@ use Rattle.std.proofs.Common.{◌≡◌, Bool, true, false, sym, ap, ◌∙◌, 
 use Rattle.spv_logic.specs.declared.names.names.Symbol.{Symbol}
 use Rattle.spv_logic.specs.declared.types.TypeId.{TypeId}
 use Rattle.spv_logic.specs.declared.types.Sort.{Sort}
+use Rattle.std.specs.List.{list_all}
+use Rattle.spv_logic.specs.Terms.{heads_pass}
 use Rattle.spv_logic.specs.Sorts.{head_in_range, sort_in_range, term_sort}
 use Rattle.spv_program.specs.Lists.{found}
 use Rattle.spv_program.specs.Formulas.{Formula}
@@ -12,17 +14,19 @@ use Rattle.spv_program.specs.Scopes.{Scope, exit_scope, sort_or_int, is_value_pa
 use Rattle.spv_program.specs.FormulaTypes.{formula_sort}
 use Rattle.spv_program.specs.ExpressionTypes.{expression_sort, designator_type}
 use Rattle.spv_program.specs.Typing.{declarations_ok}
-use Rattle.spv_program.specs.Supplies.{full_supply}
+use Rattle.spv_program.specs.Supplies.{Supply, full_supply}
 use Rattle.spv_program.specs.Places.{present}
-use Rattle.spv_program.specs.ExpressionTerms.{Valued, Placed}
+use Rattle.spv_program.specs.ExpressionTerms.{Valued, Placed, valued}
 use Rattle.spv_program.specs.Terms.{formula_term, name_in, name_at_exit, start_or_name}
 use Rattle.spv_program.proofs.FormulaSorting as sorting
 use Rattle.spv_program.proofs.ExpressionSorting as valuing
 use Rattle.spv_expression_terms.specs.term_walk.ExpressionTerms.{has_no_calls, place_has_no_calls, expression_term, place_term}
 use Rattle.spv_expression_terms.specs.term_walk.Laws.{variable_head}
 use Rattle.spv_expression_terms.specs.makeable_terms.Laws.{SortsAreThere, heading_ok_in, IsSorted}
+use Rattle.spv_expression_terms.specs.term_walk.OuterCalls.{made_calls, outer_calls}
+use Rattle.spv_expression_terms.proofs.term_walk.Gathered.{value_gathered}
 use Rattle.spv_expression_terms.proofs.term_walk.Values.{value_is, place_is, terms_are_present}
-use Rattle.spv_expression_terms.proofs.makeable_terms.Naming.{formula_there, expression_there, place_there}
+use Rattle.spv_expression_terms.proofs.makeable_terms.Naming.{formula_there, filled_there, expression_there, place_there}
 use Rattle.spv_expression_terms.proofs.makeable_terms.Scopes.{variable_there, forms_right}
 
 -- the sort of a name that is found
@@ -59,4 +63,12 @@ place_sorted p here x t d h n g = record {
       (ap (term_sort (shapes p) p.symbols) (sym (ap (λ (v : Placed). present v.target) (place_is p here full_supply x n) ∙ terms_are_present (variable_head p here) x))
       ∙ valuing.place_sorted p here full_supply x t g);
   types = place_there p here (variable_head p here) (forms_right p d) (λ x t is. variable_there p here x d h) x t g;
+}
+
+pub valued_sorted : (p : Program) (here : Option Routine) (n : Supply) (e : Expression) (s : Sort) → declarations_ok p ≡ true → heading_ok_in p here ≡ true
+    → list_all (head_in_range (shapes p)) (made_calls p here n (outer_calls e)).variables ≡ true → expression_sort p here e ≡ Some s → IsSorted p (valued p here n e).term
+valued_sorted p here n e s d h there g = record {
+  sorts = ap is_some (valuing.value_sorted p here n e s g);
+  types = ap (λ (v : Valued). heads_pass (head_in_range (shapes p)) v.term) (value_gathered p here n e)
+      ∙ filled_there p here (variable_head p here) (forms_right p d) (λ x t is. variable_there p here x d h) (made_calls p here n (outer_calls e)).variables there e s g;
 }

@@ -18,7 +18,7 @@ use Rattle.spv_expression_terms.specs.term_walk.Laws.{variable_head, reached_wit
 
 -- ---- what stands at a place
 
-present_further : (d : Target) (s : Step) → present (further s d) ≡ part (present d) s
+pub present_further : (d : Target) (s : Step) → present (further s d) ≡ part (present d) s
 present_further d s = fold_on (base d.root d.pointer) d.path
   where
     fold_on : (t : Term) (path : List Step) → part_behind t (path ++ s ∷ []) ≡ part (part_behind t path) s

@@ -4,7 +4,8 @@ use Rattle.spv_logic.specs.declared.names.names.Symbol.{Symbol}
 use Rattle.spv_logic.specs.declared.types.TypeId.{TypeId}
 use Rattle.spv_logic.specs.declared.types.Sort.{Sort}
 use Rattle.spv_logic.specs.Terms.{Term}
-use Rattle.spv_logic.specs.Sorts.{sort_in_range}
+use Rattle.std.specs.List.{list_all}
+use Rattle.spv_logic.specs.Sorts.{head_in_range, sort_in_range}
 use Rattle.spv_program.specs.Lists.{found}
 use Rattle.spv_program.specs.Expressions.{Expression, Designator}
 use Rattle.spv_program.specs.Formulas.{Formula}
@@ -13,8 +14,11 @@ use Rattle.spv_program.specs.Scopes.{Scope, body_scope, entry_scope, exit_scope}
 use Rattle.spv_program.specs.FormulaTypes.{formula_sort}
 use Rattle.spv_program.specs.ExpressionTypes.{expression_sort, designator_type}
 use Rattle.spv_program.specs.Typing.{declarations_ok, heading_ok}
+use Rattle.spv_program.specs.Supplies.{Supply}
+use Rattle.spv_program.specs.ExpressionTerms.{valued}
 use Rattle.spv_program.specs.Terms.{formula_term, name_in, name_at_exit}
 use Rattle.spv_expression_terms.specs.term_walk.ExpressionTerms.{has_no_calls, place_has_no_calls, expression_term, place_term}
+use Rattle.spv_expression_terms.specs.term_walk.OuterCalls.{made_calls, outer_calls}
 use Rattle.spv_expression_terms.specs.term_walk.Makeable.{IsWellSorted}
 use Rattle.spv_expression_terms.specs.term_walk.Laws.{variable_head}
 
@@ -63,3 +67,10 @@ abbrev pub PlacesAreSorted : Type 0
 PlacesAreSorted =
     (p : Program) (here : Option Routine) (d : Designator) (t : TypeId) → IsTrue (declarations_ok p) → IsTrue (heading_ok_in p here)
     → IsTrue (place_has_no_calls d) → designator_type p here d ≡ Some t → IsSorted p (place_term (variable_head p here) d)
+
+-- so is that of a well typed expression with its calls, where the types of their values are there
+abbrev pub ValuesAreSorted : Type 0
+ValuesAreSorted =
+    (p : Program) (here : Option Routine) (n : Supply) (e : Expression) (s : Sort) → IsTrue (declarations_ok p) → IsTrue (heading_ok_in p here)
+    → IsTrue (list_all (head_in_range (shapes p)) (made_calls p here n (outer_calls e)).variables)
+    → expression_sort p here e ≡ Some s → IsSorted p (valued p here n e).term

@@ -44,7 +44,8 @@ abbrev mutual
   expression_term heads (NilOf t) = alone (head.Nil t)
   expression_term heads (Read d) = place_term heads d
   expression_term heads (Result c) = alone head.False
-  expression_term heads (Through c line t others) = alone head.False
+  expression_term heads (Through c line t others) =
+      term_behind heads (binary head.Cell (alone (head.ClassVar t 0)) (alone head.False)) others
   expression_term heads (Negative e) = negative (expression_term heads e)
   expression_term heads (Calculated o a b) = binary (head_of_arithmetic o) (expression_term heads a) (expression_term heads b)
   expression_term heads (Compared o a b) = comparing o (expression_term heads a) (expression_term heads b)

@@ -1,5 +1,5 @@
 -- What is proved of the terms of expressions without calls, and of the tables of names.
-use Rattle.std.specs.Prelude.{◌≡◌, ◌↔◌, ◌++◌, List, [], Option, is_some, IsTrue}
+use Rattle.std.specs.Prelude.{◌≡◌, ◌↔◌, ℕ, ◌++◌, List, [], Option, is_some, IsTrue}
 use Rattle.spv_logic.specs.declared.names.names.Symbol.{Symbol}
 use Rattle.spv_logic.specs.declared.types.Shape.{Shape}
 use Rattle.spv_logic.specs.declared.types.Decl.{Decl}
@@ -7,7 +7,7 @@ use Rattle.spv_logic.specs.declared.operators.Head.{Head}
 use Rattle.spv_logic.specs.Sorts.{numeral_fits}
 use Rattle.spv_program.specs.declared.types.Item.TheVariants.{Variable}
 use Rattle.spv_program.specs.Lists.{found}
-use Rattle.spv_program.specs.Expressions.{Expression, Designator}
+use Rattle.spv_program.specs.Expressions.{Expression, Designator, Selectors, designator}
 use Rattle.spv_program.specs.Formulas.{Formula}
 use Rattle.spv_program.specs.Programs.{Routine, Program}
 use Rattle.spv_program.specs.Scopes.{Scope, own_names_in, with_sorts_of, exit_scope, is_value_parameter}
@@ -15,9 +15,10 @@ use Rattle.spv_program.specs.Uses.{expression_calls, designator_calls}
 use Rattle.spv_program.specs.Supplies.{Supply}
 use Rattle.spv_program.specs.Places.{Target, present}
 use Rattle.spv_program.specs.Terms.{formula_term, name_in, name_at_exit, item_head}
-use Rattle.spv_program.specs.ExpressionTerms.{Placed, without_calls, valued, placed}
+use Rattle.spv_program.specs.ExpressionTerms.{Placed, Valued, without_calls, at_start, valued, placed}
 use Rattle.spv_expression_terms.specs.postfix.Postfix.{IsMakeable}
 use Rattle.spv_expression_terms.specs.term_walk.Names.{head_in}
+use Rattle.spv_expression_terms.specs.term_walk.OuterCalls.{MadeCalls, filled, filled_target, made_calls, outer_calls, selectors_outer_calls}
 use Rattle.spv_expression_terms.specs.term_walk.Numerals.{FormulaFits, ExpressionFits, PlaceFits}
 use Rattle.spv_expression_terms.specs.term_walk.Makeable.{IsWellSorted}
 use Rattle.spv_expression_terms.specs.term_walk.ExpressionTerms.{has_no_calls, place_has_no_calls, expression_term, place_term, place_target}
@@ -51,6 +52,37 @@ PlacesAreTargets =
 -- the term of a designator is what stands at its place
 abbrev pub TermsArePresent : Type 0
 TermsArePresent = (heads : Symbol → Head) (d : Designator) → present (place_target heads d) ≡ place_term heads d
+
+-- ---- calls
+
+-- the term, calls and supply of an expression whose outermost calls were made
+abbrev pub valued_of : Program → Option Routine → Expression → MadeCalls → Valued
+valued_of p here e made = record { term = filled (variable_head p here) made.variables e; calls = made.calls; supply = made.supply }
+
+-- the place that selectors lead to from a place, where the outermost calls in them were made
+abbrev pub placed_of : Program → Option Routine → Placed → Selectors → MadeCalls → Placed
+placed_of p here d others made = record {
+  target = filled_target (variable_head p here) made.variables d.target others;
+  calls = d.calls ++ made.calls;
+  supply = made.supply;
+}
+
+-- an expression's calls are its outermost ones, made one after the other; and its term has their values in their places
+abbrev pub ValuesAreGathered : Type 0
+ValuesAreGathered =
+    (p : Program) (here : Option Routine) (n : Supply) (e : Expression)
+    → valued p here n e ≡ valued_of p here e (made_calls p here n (outer_calls e))
+
+-- the same of a designator and its place
+abbrev pub PlacesAreGathered : Type 0
+PlacesAreGathered =
+    (p : Program) (here : Option Routine) (n : Supply) (line : ℕ) (x : Symbol) (others : Selectors)
+    → placed p here n (designator line x others)
+    ≡ placed_of p here (at_start n (variable_head p here x)) others (made_calls p here n (selectors_outer_calls others))
+
+-- no variables: a call counts as FALSE
+abbrev pub NoneIsFalse : Type 0
+NoneIsFalse = (heads : Symbol → Head) (e : Expression) → filled heads [] e ≡ expression_term heads e
 
 -- ---- tables of names
 

@@ -35,7 +35,7 @@ abbrev mutual
   ExpressionFits (expression.NilOf t) = ⊤
   ExpressionFits (expression.Read d) = PlaceFits d
   ExpressionFits (expression.Result c) = ⊤
-  ExpressionFits (expression.Through c line t others) = ⊤
+  ExpressionFits (expression.Through c line t others) = SelectorsFit others
   ExpressionFits (expression.Negative e) = ExpressionFits e
   ExpressionFits (expression.Calculated o a b) = ExpressionFits a × ExpressionFits b
   ExpressionFits (expression.Compared o a b) = ExpressionFits a × ExpressionFits b

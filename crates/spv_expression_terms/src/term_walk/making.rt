@@ -1,7 +1,8 @@
 // Terms made in the arena.
 
 ghost use Rattle.std.specs.Prelude.{◌≡◌, ◌<◌, [], ◌∷◌, length, Err, Some, IfOk, IsTrue};
-ghost use Rattle.spv_logic.specs.Sorts.{term_sort};
+ghost use Rattle.std.specs.List.{list_all};
+ghost use Rattle.spv_logic.specs.Sorts.{numeral_fits, term_sort};
 ghost use Rattle.spv_program.specs.Terms as spec;
 ghost use Rattle.spv_program.specs.Terms.{name_in};
 ghost use Rattle.spv_term.specs.declared.nodes.TermFault.TheVariants.{Size};
@@ -10,10 +11,14 @@ ghost use Rattle.spv_term.specs.substitution.Parts.{AddsParts, LacksPart};
 ghost use Rattle.spv_expression_terms.specs.term_walk.ExpressionTerms as plain;
 ghost use Rattle.spv_expression_terms.specs.term_walk.Makeable.{IsWellSorted};
 ghost use Rattle.spv_expression_terms.specs.term_walk.Names.{head_in};
+ghost use Rattle.spv_expression_terms.specs.term_walk.OuterCalls.{filled, filled_place};
 
 use crate::postfix::built;
-use crate::term_walk::writing::{write_exit_formula, write_expression, write_formula, write_place};
-use spv_logic::Sort;
+use crate::term_walk::writing::{
+    write_exit_formula, write_expression, write_filled, write_filled_place, write_formula,
+    write_place,
+};
+use spv_logic::{Head, Sort};
 use spv_program::ordered_map::Named;
 use spv_program::typed::{Designator, Expression, Formula};
 use spv_term::{TermFault, TermId, Terms};
@@ -107,5 +112,53 @@ pub fn place_term(
 {
     let mut pieces = Vec::new(alloc);
     write_place(&mut pieces, names, d)?;
+    built(terms, alloc, pieces.as_slice())
+}
+
+/// Makes the term of an expression, with these variables in the place of its outermost calls, in the order in which they are
+/// made. Its own variables have the sorts of the table. `Size` comes only where the arena is full and a part of the term is
+/// not there; nothing but parts of it is added, also before an error.
+pub fn filled_term(
+    terms: &mut Terms,
+    alloc: Global,
+    names: &Named<Sort>,
+    variables: &[Head],
+    e: &Expression,
+) -> Result<TermId, TermFault>
+    requires variables { IsTrue (list_all numeral_fits variables.now) }
+    requires sorted { IsWellSorted terms.old.shapes terms.old.decls (filled (name_in names.now) variables.now e.now) }
+    ensures tree { IfOk result (λ t. tree terms.new t ≡ filled (name_in names.now) variables.now e.now) }
+    ensures sort { IfOk result (λ t. term_sort terms.old.shapes terms.old.decls (filled (name_in names.now) variables.now e.now) ≡ Some (sort_at terms.new t)) }
+    ensures in_range { IfOk result (λ t. t.0 < length terms.new.nodes) }
+    ensures grows { Extends terms.old terms.new }
+    ensures only { AddsParts terms.old terms.new (filled (name_in names.now) variables.now e.now ∷ []) }
+    ensures size { result ≡ Err Size → LacksPart terms.new (filled (name_in names.now) variables.now e.now ∷ []) }
+{
+    let mut pieces = Vec::new(alloc);
+    write_filled(&mut pieces, names, variables, e)?;
+    built(terms, alloc, pieces.as_slice())
+}
+
+/// Makes the term of what stands at a place, with these variables in the place of the outermost calls in its selectors.
+/// `Size` comes only where the arena is full and a part of the term is not there; nothing but parts of it is added, also
+/// before an error.
+pub fn filled_place_term(
+    terms: &mut Terms,
+    alloc: Global,
+    names: &Named<Sort>,
+    variables: &[Head],
+    d: &Designator,
+) -> Result<TermId, TermFault>
+    requires variables { IsTrue (list_all numeral_fits variables.now) }
+    requires sorted { IsWellSorted terms.old.shapes terms.old.decls (filled_place (name_in names.now) variables.now d.now) }
+    ensures tree { IfOk result (λ t. tree terms.new t ≡ filled_place (name_in names.now) variables.now d.now) }
+    ensures sort { IfOk result (λ t. term_sort terms.old.shapes terms.old.decls (filled_place (name_in names.now) variables.now d.now) ≡ Some (sort_at terms.new t)) }
+    ensures in_range { IfOk result (λ t. t.0 < length terms.new.nodes) }
+    ensures grows { Extends terms.old terms.new }
+    ensures only { AddsParts terms.old terms.new (filled_place (name_in names.now) variables.now d.now ∷ []) }
+    ensures size { result ≡ Err Size → LacksPart terms.new (filled_place (name_in names.now) variables.now d.now ∷ []) }
+{
+    let mut pieces = Vec::new(alloc);
+    write_filled_place(&mut pieces, names, variables, d)?;
     built(terms, alloc, pieces.as_slice())
 }

@@ -1,11 +1,12 @@
-use Rattle.std.proofs.Common.{◌≤◌, subst, sym, arith}
+use Rattle.std.proofs.Common.{◌≤◌, drop, subst, sym, arith}
+use Rattle.spv_expression_terms.specs.term_walk.OuterCalls.{first_variable}
 use Rattle.spv_program.specs.Expressions.{no_selectors}
 use Rattle.spv_program.specs.Terms.{name_in}
 use Rattle.spv_program.specs.declared.typed.expressions.Selector.{Selector}
 use Rattle.spv_program.specs.typed.ExpressionViews.{selector_before, selectors_of}
 use Rattle.spv_program.specs.typed.Model.ExpressionSizes.{selectors_size}
 use Rattle.spv_expression_terms.proofs.term_walk.Lists.{compared_as}
-use Rattle.spv_expression_terms.proofs.term_walk.Selectors.{path_written, selector_within}
+use Rattle.spv_expression_terms.proofs.term_walk.Selectors.{path_written, through_written, selector_within}
 use Rattle.spv_expression_terms.proofs.term_walk.expressions.+expressions.Goals as goal
 
 pub compared-returns-in-Equal-clause-writes : goal.compared-returns-in-Equal-clause-writes
@@ -28,8 +29,15 @@ compared-returns-in-AtLeast-clause-writes t c = compared_as _ _ _ _ _ _ _ c.in-A
 
 pub path-returns-clause-writes : goal.path-returns-clause-writes
 path-returns-clause-writes t c =
-    path_written c.write_steps.result (name_in c.args.names.now) c.args.x c.variable_head.result c.args.selectors.now c.args.pieces.now.items c.write_classes.new.pieces.items c.write.new.pieces.items c.write_steps.new.pieces.items
-    c.variable_head.ensures c.in_ok-write_classes.ensures c.in_ok-write.ensures c.write_steps.ensures.writes
+    path_written c.write_steps.result (name_in c.args.names.now) c.args.variables.now c.args.root c.args.selectors.now c.args.pieces.now.items c.write_classes.new.pieces.items c.write.new.pieces.items
+    c.write_steps.new.pieces.items c.in_ok-write_classes.ensures c.in_ok-write.ensures c.write_steps.ensures.writes
+
+pub through-returns-clause-writes : goal.through-returns-clause-writes
+through-returns-clause-writes t c =
+    through_written c.write_steps.result (name_in c.args.names.now) (drop 1 c.args.variables.now) c.behind_one.result.now c.args.t.now.of c.first_head.result (first_variable c.args.variables.now)
+    c.args.t.now.selectors.items c.as_slice-selectors.result.now c.args.pieces.now.items c.write_classes.new.pieces.items c.write.new.pieces.items c.write-2.new.pieces.items c.write-3.new.pieces.items
+    c.write_steps.new.pieces.items c.as_slice-selectors.ensures.value c.first_head.ensures c.behind_one.ensures
+    c.in_ok-write_classes.ensures c.in_ok-write.ensures c.in_ok-write-2.ensures c.in_ok-write-3.ensures c.write_steps.ensures.writes
 
 pub write_steps-write_step-requires : goal.write_steps-write_step-requires
 write_steps-write_step-requires t c =
