@@ -11,3 +11,4 @@ pub mod Apart
 pub mod Starts
 pub mod Views
 pub mod Callees
+pub mod Stacks
