@@ -1,10 +1,9 @@
 -- What places hold below a frame that is pushed or popped.
-use Rattle.std.proofs.Common.{arith, ◌≡◌, ℕ, suc, Bool, true, false, cond, List, [], ◌∷◌, drop, length, nat_eq, nat_lt, refl, sym, ap, ◌∙◌, Option, Some, None}
+use Rattle.std.proofs.Common.{arith, ◌≡◌, ℕ, suc, Bool, true, false, cond, List, [], ◌∷◌, drop, length, nat_eq, nat_lt, refl, sym, ap, ◌∙◌, Some, None}
 use Rattle.std.specs.Option.{option_and_then}
 use Rattle.std.proofs.lemmas.Bool.Decides.{nat_tests}
-use Rattle.spv_logic.specs.declared.names.names.Symbol.{Symbol}
 use Rattle.spv_logic.specs.Values.{Value}
-use Rattle.spv_program.proofs.SortFacts.{nothing_there, behind}
+use Rattle.spv_program.proofs.SortFacts.{nothing_there}
 use Rattle.spv_meaning.specs.Places.{Root, Place, Frame, State, ProgramVariable, OwnValue, CellOf, part_at, own_value, frame_at, root_value, look}
 use Rattle.spv_meaning.specs.Levels.{pop}
 

@@ -81,10 +81,10 @@ CorrectFunctionsGive =
     (p : Program) → IsFramed p → (world : Meaning) (here : Here) → IsEntry p here.entry → (turns : ℕ) → CorrectBelow p world turns
     → (state : State) → IsStart p here.routine state → FunctionsGive p world here (below p turns) state
 
--- so an expression is a right test, whatever functions it calls
-abbrev pub ExpressionsAreRightTests : Type 0
-ExpressionsAreRightTests =
-    (p : Program) → IsFramed p → (world : Meaning) (here : Here) → IsEntry p here.entry
+-- so an expression is a right test in a world, whatever functions it calls
+abbrev pub ExpressionsAreRightTestsIn : Meaning → Type 0
+ExpressionsAreRightTestsIn world =
+    (p : Program) → IsFramed p → (here : Here) → IsEntry p here.entry
     → (e : Expression) (s : Sort) → expression_sort p (routine_in p here.routine) e ≡ Some s → IsTrue (calls_shown p (routine_in p here.routine) (expression_calls e))
     → IsTrue (uses_seen (routine_in p here.routine) (expression_uses (is_own (routine_in p here.routine)) e))
     → (turns : ℕ) → CorrectBelow p world turns → IsRightTest p world all_allowed here (below p turns) e

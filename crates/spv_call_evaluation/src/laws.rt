@@ -1,6 +1,7 @@
 // What is proved of evaluations with calls, each claim the contract of a function that does nothing.
 
-ghost use Rattle.spv_call_evaluation.specs.Laws.{ExpressionsGiveTheirWorth, PlacesLieWhereTheirTermsSay, ArgumentsAreBoundToTheirTerms, ExpressionsAreRightTests, CorrectFunctionsGive, ExpressionsAreSupplied, PlacesAreSupplied, ArgumentsAreSupplied, LeavesAreSupplied};
+ghost use Rattle.spv_logic.specs.Conditions.{Meaning};
+ghost use Rattle.spv_call_evaluation.specs.Laws.{ExpressionsGiveTheirWorth, PlacesLieWhereTheirTermsSay, ArgumentsAreBoundToTheirTerms, ExpressionsAreRightTestsIn, CorrectFunctionsGive, ExpressionsAreSupplied, PlacesAreSupplied, ArgumentsAreSupplied, LeavesAreSupplied};
 
 /// Expressions, places and arguments with calls in them, wherever these stand: where the functions that are called give what they
 /// promise, and the list with the calls in front is true, each annotation that is reached holds; the state is as it was; and the
@@ -27,5 +28,5 @@ pub fn law_supplies()
 /// is the one before; and its EXIT holds of the arguments' terms and the value that it gave. So every expression is a right test.
 pub fn law_functions()
     ensures functions { CorrectFunctionsGive }
-    ensures tests { ExpressionsAreRightTests }
+    ensures tests { (m : Meaning) → ExpressionsAreRightTestsIn m }
 {}

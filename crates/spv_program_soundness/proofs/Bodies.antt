@@ -55,9 +55,9 @@ use Rattle.spv_call_evaluation.proofs.Evaluating.{evaluated}
 use Rattle.spv_call_evaluation.proofs.Functions.{functions_give}
 use Rattle.spv_call_evaluation.proofs.Supplies.{test_supplied}
 use Rattle.spv_call_evaluation.proofs.LeafSupplies.{leaf_supplied}
-use Rattle.spv_program_soundness.specs.Calls.{CallsAreRight}
 use Rattle.spv_program_soundness.proofs.Assigning.{assign_right}
 use Rattle.spv_program_soundness.proofs.Creating.{new_right}
+use Rattle.spv_program_soundness.proofs.Performing.{calls_right}
 use Rattle.spv_program_soundness.proofs.Passing.{leaf_passes, test_passes, body_parts, all_pass}
 use Rattle.spv_program_soundness.proofs.Entries.{listed_there}
 use Rattle.spv_program_soundness.proofs.Counting.{IsCounter, counter_of, counts_right, counted_changes, left_alone}
@@ -118,7 +118,7 @@ sort_there : (o : Option Sort) → is_some o ≡ true → SomeSort o
 sort_there None h = absurd (false≢true h)
 sort_there (Some s) h = record { sort = s; is = refl }
 
-module _ (calls : CallsAreRight) (p : Program) (f : IsFramed p) (world : Meaning) (here : Here) (entry : IsEntry p here.entry) where
+module _ (p : Program) (f : IsFramed p) (world : Meaning) (here : Here) (entry : IsEntry p here.entry) where
   -- assignments, NEW and calls
   leaf_right : (s : Statement) → leaf_passes p (routine_in p here.routine) s ≡ true → (turns : ℕ) → CorrectBelow p world turns → IsRight p world all_allowed here s (walk p (below p turns) here s)
   leaf_right (Assign d e) h turns correct =
@@ -128,7 +128,7 @@ module _ (calls : CallsAreRight) (p : Program) (f : IsFramed p) (world : Meaning
   leaf_right (Perform c) h turns correct =
       let s = Perform c in
       let more = right_true (statement_ok p (routine_in p here.routine) s) _ h in
-      calls p f world here entry c (left_true (statement_ok p (routine_in p here.routine) s) _ h) (left_true (calls_shown p (routine_in p here.routine) (statement_calls s)) _ more) (right_true (calls_shown p (routine_in p here.routine) (statement_calls s)) _ more) turns correct
+      calls_right world p f here entry c (left_true (statement_ok p (routine_in p here.routine) s) _ h) (left_true (calls_shown p (routine_in p here.routine) (statement_calls s)) _ more) (right_true (calls_shown p (routine_in p here.routine) (statement_calls s)) _ more) turns correct
   leaf_right (New line d t) h turns correct =
       let s = New line d t in
       let more = right_true (statement_ok p (routine_in p here.routine) s) _ h in

@@ -70,7 +70,7 @@ use Rattle.spv_frame_law.proofs.Sharing.{item_itself}
 use Rattle.spv_frame_law.proofs.Covering.{refers_into, in_turn_all, roots_among, items_among, referred_covered, covered_both, covered_by}
 use Rattle.spv_frame_law.proofs.Starts.{start_stays}
 use Rattle.spv_frame_law.proofs.Views.{place_stays}
-use Rattle.spv_call_evaluation.specs.Known.{Knows}
+use Rattle.spv_call_evaluation.specs.Known.{Knows, Widens}
 use Rattle.spv_call_evaluation.specs.Lying.{AreBound, NoneBound, ValueBound, PlaceBound, IsBoundTo}
 use Rattle.spv_call_evaluation.specs.Functions.{calls_shown}
 use Rattle.spv_call_evaluation.proofs.Windows.{knows_shown, reach_with}
@@ -100,7 +100,7 @@ use Rattle.spv_rule_soundness.proofs.statements.Reaching.{reach_then, reach_ends
 use Rattle.spv_frame_law.proofs.Uses.{place_roots_kept}
 use Rattle.spv_call_evaluation.specs.Laws.{IsReady}
 use Rattle.spv_call_evaluation.proofs.Evaluating.{argued_at}
-use Rattle.spv_program_soundness.specs.Calls.{CallsAreRight}
+use Rattle.spv_program_soundness.specs.Calls.{CallsAreRightIn, EnteringsAreRightIn}
 use Rattle.spv_program_soundness.proofs.Kept.{root_kept}
 
 -- what a list has beside a first item, and a name with what is made of it
@@ -704,32 +704,39 @@ module _ (p : Program) (f : IsFramed p) (world : Meaning) (here : Here) (entry :
           ∙ not_so (list_any (head_eq h) (place_heads terms ++ item_heads p q (var_items q.globals)))
           (λ e. sym leaves ∙ roots_may_change p f.typed here changed (place_roots (is_own r) given ++ map Shared (var_items q.globals)) (place_heads terms ++ item_heads p q (var_items q.globals)) roots (all_both (is_among changed) (place_roots (is_own r) given) (map Shared (var_items q.globals)) places items) h e)
 
-      runs : IsTrueFor p world (shown p here window state) (before_calls here.routine (argued p (routine_in p here.routine) made.supply given).calls (before_entering p here.routine line (Some q) (argued p (routine_in p here.routine) made.supply given) made.conditions).conditions) → (choices : List Value)
-          → Reaches p world all_allowed State (EndsWell p world here window (may_change p here (Perform (call id line given))) made.conditions state)
-          (and_then (arguments p (Some (level p k)) here q.formals given state choices) (λ bound rest. and_then (enter p (level p k) id (Some q) bound rest) (λ after last. ends (pop after) last)))
-      runs from choices =
+      -- the run of the procedure, with arguments that are bound
+      enters : (choices : List Value) (bound : Bound) → (arguments p (Some (level p k)) here q.formals given state choices).end ≡ Ended bound
+          → (wider : View) → Widens p world here state made.supply (argued p (routine_in p here.routine) made.supply given).supply window wider (before_entering p here.routine line (Some q) (argued p (routine_in p here.routine) made.supply given) made.conditions).conditions
+          → IsBoundTo p (meaning_in p world) here state q.formals (argued p (routine_in p here.routine) made.supply given).arguments wider bound
+          → (rest : List Value)
+          → Reaches p world all_allowed State (EndsWell p world here window (may_change p here (Perform (call id line given))) made.conditions state) (and_then (enter p (level p k) id (Some q) bound rest) (λ after last. ends (pop after) last))
+      enters choices bound ended wider widens passes rest =
           let r = routine_in p here.routine in
           let args = argued p r made.supply given in
           let terms = args.arguments in
           let fresh = changed_places p q q.formals terms args.supply in
           let entered = wanted_entry here.routine line (entry_at_call p q terms) in
           let behind = assuming_if_there (exit_at_call p q terms fresh.in_exit) (replaced fresh.after made.conditions) in
-          reach_then p world all_allowed _ _ (arguments p (Some (level p k)) here q.formals given state choices) _
-          (reach_with p world _ (arguments p (Some (level p k)) here q.formals given state choices)
-          (argued_at p world here (Some (level p k)) state ready q.formals given fits_formals argument_calls_shown uses made.supply window (entered ++ behind) (record { is_window = is; true_there = from }) state refl choices))
-          (λ bound given_bound rest.
-          let at = given_bound.passes in
-          let known = true_first p world (shown p here at.wider state) entered behind at.widens.true_there in
+          let known = true_first p world (shown p here wider state) entered behind widens.true_there in
           reach_then p world all_allowed _ _ (enter p (level p k) id (Some q) bound rest) _
           (reach_with p world _ (enter p (level p k) id (Some q) bound rest)
-          (functions.entered p f world here entry state start k correct id line given q called call_itself_shown choices bound given_bound.ended args.supply at.wider at.widens.is_window terms at.passes known rest))
+          (functions.entered p f world here entry state start k correct id line given q called call_itself_shown choices bound ended args.supply wider widens.is_window terms passes known rest))
           (λ end ran last.
           reach_ends p world all_allowed _ (pop end) last
           (record {
-            is_start = after_start p f world here entry state start k correct id line given q called call_itself_shown choices bound given_bound.ended args.supply at.wider at.widens.is_window terms at.passes known are no_result rest end ran.ended ran.passes made.supply window is at.widens.later at.widens.adds;
-            true_there = λ v val shows. true_behind p f world here entry state start k correct id line given q called call_itself_shown choices bound given_bound.ended args.supply at.wider at.widens.is_window terms at.passes known are no_result rest end ran.ended ran.passes made.supply window is at.widens.later at.widens.adds v val shows made.conditions ignores at.widens.true_there;
-            same = λ h leaves. rest_stays p f world here entry state start k correct id line given q called call_itself_shown choices bound given_bound.ended args.supply at.wider at.widens.is_window terms at.passes known are no_result rest end ran.ended ran.passes made.supply window is at.widens.later at.widens.adds h (changes h leaves bound.names at.wider at.passes.names);
-          })))
+            is_start = after_start p f world here entry state start k correct id line given q called call_itself_shown choices bound ended args.supply wider widens.is_window terms passes known are no_result rest end ran.ended ran.passes made.supply window is widens.later widens.adds;
+            true_there = λ v val shows. true_behind p f world here entry state start k correct id line given q called call_itself_shown choices bound ended args.supply wider widens.is_window terms passes known are no_result rest end ran.ended ran.passes made.supply window is widens.later widens.adds v val shows made.conditions ignores widens.true_there;
+            same = λ h leaves. rest_stays p f world here entry state start k correct id line given q called call_itself_shown choices bound ended args.supply wider widens.is_window terms passes known are no_result rest end ran.ended ran.passes made.supply window is widens.later widens.adds h (changes h leaves bound.names wider passes.names);
+          }))
+
+      runs : IsTrueFor p world (shown p here window state) (before_calls here.routine (argued p (routine_in p here.routine) made.supply given).calls (before_entering p here.routine line (Some q) (argued p (routine_in p here.routine) made.supply given) made.conditions).conditions) → (choices : List Value)
+          → Reaches p world all_allowed State (EndsWell p world here window (may_change p here (Perform (call id line given))) made.conditions state)
+          (and_then (arguments p (Some (level p k)) here q.formals given state choices) (λ bound rest. and_then (enter p (level p k) id (Some q) bound rest) (λ after last. ends (pop after) last)))
+      runs from choices =
+          reach_then p world all_allowed _ _ (arguments p (Some (level p k)) here q.formals given state choices) _
+          (reach_with p world _ (arguments p (Some (level p k)) here q.formals given state choices)
+          (argued_at p world here (Some (level p k)) state ready q.formals given fits_formals argument_calls_shown uses made.supply window wanted (record { is_window = is; true_there = from }) state refl choices))
+          (λ bound given_bound rest. let at = given_bound.passes in enters choices bound given_bound.ended at.wider at.widens at.passes rest)
 
       runs_there : (o : Option Routine) → o ≡ Some q → IsTrueFor p world (shown p here window state) (before_calls here.routine (argued p (routine_in p here.routine) made.supply given).calls (before_entering p here.routine line o (argued p (routine_in p here.routine) made.supply given) made.conditions).conditions) → (choices : List Value)
           → Reaches p world all_allowed State (EndsWell p world here window (may_change p here (Perform (call id line given))) made.conditions state)
@@ -746,5 +753,17 @@ module _ (p : Program) (f : IsFramed p) (world : Meaning) (here : Here) (entry :
       runs_there made ignores window is state start k correct q.routine q.called q.no_result (routine_at p id) (is_callee p (routine_in p here.routine) id line given q.routine q.called).there from choices
 
 -- calls of procedures are right
-pub calls_right : CallsAreRight
-calls_right p f world here entry (call id line given) ok calls uses turns correct = perform_right p f world here entry id line given ok calls uses turns correct
+pub calls_right : (world : Meaning) → CallsAreRightIn world
+calls_right world p f here entry (call id line given) ok calls uses turns correct = perform_right p f world here entry id line given ok calls uses turns correct
+
+-- and so is the entering of one, behind its arguments
+pub enterings_right : (world : Meaning) → EnteringsAreRightIn world
+enterings_right world p f here entry id line given ok calls uses turns correct q called made ignores window is state start choices bound ended wider widens passes rest =
+    enters p f world here entry id line given ok calls uses made ignores window is state start turns correct q called (no_result q called) choices bound ended wider widens passes rest
+  where
+    no_result : (q : Routine) → callee p (routine_in p here.routine) (call id line given) ≡ Some q → q.result ≡ None
+    no_result q e = nothing q.result (not_true (is_some q.result) (subst (λ (o : Option Routine). is_procedure o ≡ true) e ok))
+      where
+        nothing : (o : Option TypeId) → is_some o ≡ false → o ≡ None
+        nothing None h = refl
+        nothing (Some t) h = absurd (false≢true (sym h))

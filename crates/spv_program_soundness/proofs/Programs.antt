@@ -1,4 +1,4 @@
--- True conditions make a program correct, where calls of procedures are right.
+-- True conditions make a program correct.
 use Rattle.std.proofs.Common.{◌≡◌, ◌<◌, ◌+◌, ℕ, zero, suc, nat_lt, arith, Bool, true, false, List, [], ◌∷◌, ◌++◌, refl, sym, ap, subst, ◌∙◌, Option, Some, None, option_map, is_some}
 use Rattle.std.specs.List.{list_all}
 use Rattle.std.specs.Cmp.Derive.{both_true}
@@ -39,7 +39,6 @@ use Rattle.spv_rule_soundness.proofs.statements.Lists.{follow-replaced}
 use Rattle.spv_rule_soundness.proofs.statements.Reaching.{true_assumed, wanted_holds, formula_holds}
 use Rattle.spv_rule_soundness.proofs.statements.Views.{in_first}
 use Rattle.spv_frame_law.specs.Laws.{IsFramed}
-use Rattle.spv_program_soundness.specs.Calls.{CallsAreRight}
 use Rattle.spv_program_soundness.proofs.Passing.{body_parts}
 use Rattle.spv_program_soundness.proofs.Entries.{no_window, main_is_entry, routine_is_entry, stand_there, entry_true}
 use Rattle.spv_program_soundness.proofs.Bodies.{body_passes, parts_right}
@@ -113,7 +112,7 @@ module _ (p : Program) (world : Meaning) (q : Routine) where
   wanted_exit_ignores n id None = record { alike = λ v w same. refl }
   wanted_exit_ignores n id (Some a) = wanted_ignores p world n (Some id) kind.Exit a.line (exit_term p q a) (exit_ignores n a)
 
-module _ (calls : CallsAreRight) (p : Program) (f : IsFramed p) (world : Meaning) (turns : ℕ) (correct : CorrectBelow p world turns) where
+module _ (p : Program) (f : IsFramed p) (world : Meaning) (turns : ℕ) (correct : CorrectBelow p world turns) where
   -- ---- a routine
 
   module _ (id : RoutineId) (q : Routine) (there : routine_at p id ≡ Some q) (truth : RoutineTrue p world id q) where
@@ -144,7 +143,7 @@ module _ (calls : CallsAreRight) (p : Program) (f : IsFramed p) (world : Meaning
 
       routine_runs : (choices : List Value) → Reaches p world all_allowed State (EndsWell p world (begun p (Some id) state) no_window (may_change p (begun p (Some id) state) q.body) (wanted_exit p id q q.exit) state) (run p turns (begun p (Some id) state) q.body state choices)
       routine_runs choices =
-          (right_level p world all_allowed (forms_right p f.typed) (begun p (Some id) state) routine_entered (body_parts p (routine_at p id)) (parts_right calls p f world (begun p (Some id) state) routine_entered) turns correct).statements q.body body_there
+          (right_level p world all_allowed (forms_right p f.typed) (begun p (Some id) state) routine_entered (body_parts p (routine_at p id)) (parts_right p f world (begun p (Some id) state) routine_entered) turns correct).statements q.body body_there
           (record { conditions = wanted_exit p id q q.exit; supply = truth.supply }) (wanted_exit_ignores p world q truth.supply id q.exit) no_window (window_empty p truth.supply) state starts.is_start begins choices
 
       -- EXIT holds where it is true
@@ -187,7 +186,7 @@ module _ (calls : CallsAreRight) (p : Program) (f : IsFramed p) (world : Meaning
 
       main_runs : (choices : List Value) → Reaches p world all_allowed State (EndsWell p world (begun p None state) no_window (may_change p (begun p None state) p.main.body) (wanted_if_there p None kind.Exit p.main.exit) state) (run p turns (begun p None state) p.main.body state choices)
       main_runs choices =
-          (right_level p world all_allowed (forms_right p f.typed) (begun p None state) (main_is_entry p state) (body_parts p None) (parts_right calls p f world (begun p None state) (main_is_entry p state)) turns correct).statements p.main.body (body_passes p f None refl)
+          (right_level p world all_allowed (forms_right p f.typed) (begun p None state) (main_is_entry p state) (body_parts p None) (parts_right p f world (begun p None state) (main_is_entry p state)) turns correct).statements p.main.body (body_passes p f None refl)
           (record { conditions = wanted_if_there p None kind.Exit p.main.exit; supply = truth.supply }) (wanted_there_ignores p world truth.supply None kind.Exit p.main.exit) no_window (window_empty p truth.supply) state starts.is_start main_begins choices
 
       main_exit_met : (after : State) → IsStart p None after → (o : Option Annotation) → IsTrueFor p world (shown p (begun p None state) no_window after) (wanted_if_there p None kind.Exit o) → all_hold p world (met_if_there (reached_in_body p (begun p None state) kind.Exit after) o) ≡ true
@@ -216,9 +215,9 @@ one_more p world n fewer now = record { each = λ here there turns less. by_case
     by_case here there turns less true e = let below : turns < n = grind (arith, nat_tests) in fewer.each here there turns below
     by_case here there turns less false e = let same : n ≡ turns = grind (arith, nat_tests) in subst (CorrectWith p world here) same (now here there)
 
-module _ (calls : CallsAreRight) (p : Program) (f : IsFramed p) (world : Meaning) (h : AllTrueIn (shapes p) p.symbols world (conditions_of p)) where
+module _ (p : Program) (f : IsFramed p) (world : Meaning) (h : AllTrueIn (shapes p) p.symbols world (conditions_of p)) where
   with_turns : (turns : ℕ) → CorrectBelow p world turns → (here : Option RoutineId) → is_there p here ≡ true → CorrectWith p world here turns
-  with_turns turns correct None there = main_correct calls p f world turns correct (main_true p world 0 p.routines full_supply h)
+  with_turns turns correct None there = main_correct p f world turns correct (main_true p world 0 p.routines full_supply h)
   with_turns turns correct (Some id) there = by_routine (routine_at p id) refl there
     where
       plain : 0 + id.0 ≡ id.0
@@ -227,7 +226,7 @@ module _ (calls : CallsAreRight) (p : Program) (f : IsFramed p) (world : Meaning
       by_routine : (o : Option Routine) → routine_at p id ≡ o → is_some o ≡ true → CorrectWith p world (Some id) turns
       by_routine None e none = absurd (false≢true none)
       by_routine (Some q) e some =
-          routine_correct calls p f world turns correct id q e (subst (λ m. RoutineTrue p world (record { 0 = m }) q) plain (routine_true p world 0 p.routines full_supply h id.0 q e))
+          routine_correct p f world turns correct id q e (subst (λ m. RoutineTrue p world (record { 0 = m }) q) plain (routine_true p world 0 p.routines full_supply h id.0 q e))
 
   below_turns : (turns : ℕ) → CorrectBelow p world turns
   below_turns zero = record { each = λ here there turns less. let none : ⊥ = omega (arith, less) in absurd none }

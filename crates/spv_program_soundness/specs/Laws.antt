@@ -1,4 +1,4 @@
--- What is proved of assignments and NEW.
+-- What is proved of assignments and NEW in a world.
 use Rattle.std.specs.Prelude.{ℕ, IsTrue}
 use Rattle.spv_logic.specs.Conditions.{Meaning}
 use Rattle.spv_program.specs.Expressions.{Expression, Designator}
@@ -19,9 +19,9 @@ use Rattle.spv_frame_law.specs.Laws.{IsFramed}
 use Rattle.spv_call_evaluation.specs.Functions.{calls_shown}
 
 -- an assignment to any place, of any expression, where every routine is correct with fewer turns
-abbrev pub AssignmentsAreRight : Type 0
-AssignmentsAreRight =
-    (p : Program) → IsFramed p → (world : Meaning) (here : Here) → IsEntry p here.entry
+abbrev pub AssignmentsAreRightIn : Meaning → Type 0
+AssignmentsAreRightIn world =
+    (p : Program) → IsFramed p → (here : Here) → IsEntry p here.entry
     → (d : Designator) (e : Expression) → IsTrue (statement_ok p (routine_in p here.routine) (Assign d e))
     → IsTrue (calls_shown p (routine_in p here.routine) (statement_calls (Assign d e)))
     → IsTrue (uses_seen (routine_in p here.routine) (statement_uses (is_own (routine_in p here.routine)) (Assign d e)))
@@ -29,9 +29,9 @@ AssignmentsAreRight =
     → IsRight p world all_allowed here (Assign d e) (walk p (below p turns) here (Assign d e))
 
 -- NEW for any place
-abbrev pub NewIsRight : Type 0
-NewIsRight =
-    (p : Program) → IsFramed p → (world : Meaning) (here : Here) → IsEntry p here.entry
+abbrev pub NewIsRightIn : Meaning → Type 0
+NewIsRightIn world =
+    (p : Program) → IsFramed p → (here : Here) → IsEntry p here.entry
     → (line : ℕ) (d : Designator) (t : TypeId) → IsTrue (statement_ok p (routine_in p here.routine) (New line d t))
     → IsTrue (calls_shown p (routine_in p here.routine) (statement_calls (New line d t)))
     → IsTrue (uses_seen (routine_in p here.routine) (statement_uses (is_own (routine_in p here.routine)) (New line d t)))

@@ -14,7 +14,7 @@ pub returns-clause-functions : goal.returns-clause-functions
 returns-clause-functions c = functions_give
 
 pub returns-clause-tests : goal.returns-clause-tests
-returns-clause-tests c p framed world here entry e s sort calls uses turns correct n window is wanted state start from choices =
+returns-clause-tests c world p framed here entry e s sort calls uses turns correct n window is wanted state start from choices =
     reach_as p world all_allowed _ _ (evaluate p (below p turns) here e state choices)
     (λ got given.
     let made = given.widens in

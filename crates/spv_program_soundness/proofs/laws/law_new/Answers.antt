@@ -1,5 +1,8 @@
 use Rattle.spv_program_soundness.proofs.Creating.{new_right}
 use Rattle.spv_program_soundness.proofs.laws.law_new.Goals as goal
 
-pub returns : goal.returns
-returns c = record { creations = λ p framed world here entry line d t ok calls uses turns correct. new_right p framed world here entry line d t ok calls uses turns correct }
+pub returns-clause-every_world : goal.returns-clause-every_world
+returns-clause-every_world g c world = λ p framed here entry line d t ok calls uses turns correct. new_right p framed world here entry line d t ok calls uses turns correct
+
+pub returns-clause-this_world : goal.returns-clause-this_world
+returns-clause-this_world g c = λ p framed here entry line d t ok calls uses turns correct. new_right p framed (g.W.World.apply c.args.world.now) here entry line d t ok calls uses turns correct
