@@ -1,3 +1,4 @@
 pub mod Untrue
 mod TwoRows
 mod Puts
+pub mod Correct

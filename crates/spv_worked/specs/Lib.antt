@@ -12,6 +12,7 @@ pub mod PlaceRuns
 pub mod EvaluationRuns
 pub mod ViewRuns
 pub mod Doubts
+pub mod CorrectPrograms
 pub mod TypedPrograms
 pub mod UntypedDeclarations
 pub mod UntypedExpressions
