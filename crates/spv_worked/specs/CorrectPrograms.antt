@@ -1,5 +1,5 @@
 -- Programs with routines that are correct in every world.
-use Rattle.std.specs.Prelude.{ℕ, true, false, [], ◌∷◌, Some, None}
+use Rattle.std.specs.Prelude.{true, [], ◌∷◌, Some, None}
 use Rattle.spv_logic.specs.declared.conditions.Kind.TheVariants as kind
 use Rattle.spv_logic.specs.Conditions.{Meaning}
 use Rattle.spv_program.specs.declared.operators.Arithmetic.TheVariants as arithmetic
