@@ -14,7 +14,8 @@ use Rattle.std.specs.Ordering.{int_eq}
 use Rattle.std.specs.List.{list_all}
 use Rattle.spv_program.specs.Lists.{all_differ}
 use Rattle.spv_meaning.specs.Assignments.{has_no_routines}
-use Rattle.spv_rule_soundness.specs.control.Blocks.{is_whole, none, calls_nothing, is_control, arms_control, only_control}
+use Rattle.spv_rule_soundness.specs.control.Blocks.{is_whole, none, calls_nothing, is_control, arms_control}
+use Rattle.spv_conditions.specs.Covered.{is_covered}
 use Rattle.spv_conditions.specs.Plain.{is_plain, arms_plain}
 use Rattle.spv_conditions.proofs.Calls.{expression-calls}
 
@@ -75,7 +76,7 @@ module _ (p : Program) (empty : p.routines ≡ []) where
         ap (λ x. x && arms_plain others) (plain-control s (left_true _ _ h)) ∙ ap (λ x. is_control s && x) (plain-arms others (right_true (statement_ok p None s) _ h))
 
 -- of a well typed program
-pub covered : (p : Program) → well_typed p ≡ true → (has_no_routines p.routines && is_plain p.main.body) ≡ only_control p
+pub covered : (p : Program) → well_typed p ≡ true → (has_no_routines p.routines && is_plain p.main.body) ≡ is_covered p
 covered p h = by (p.routines) refl
   where
     by : (rs : List Routine) → p.routines ≡ rs → (has_no_routines p.routines && is_plain p.main.body) ≡ (has_no_routines p.routines && is_control p.main.body)

@@ -4,3 +4,4 @@ pub mod Covered
 pub mod Symbols
 pub mod Mains
 pub mod Limits
+pub mod Correct

@@ -23,7 +23,7 @@ use Rattle.spv_meaning.specs.Before.{before, annotation_term, wanted_if_there, a
 use Rattle.spv_meaning.specs.Assignments.{has_no_routines}
 use Rattle.spv_meaning.specs.ProgramConditions as whole
 use Rattle.spv_meaning.specs.ProgramConditions.{main_conditions}
-use Rattle.spv_rule_soundness.specs.control.Blocks.{is_control, only_control}
+use Rattle.spv_rule_soundness.specs.control.Blocks.{is_control}
 use Rattle.spv_assign.specs.declared.creation_trace.faults.GenFault.{GenFault}
 use Rattle.spv_assign.specs.declared.creation_trace.faults.GenFault.TheVariants as fault
 use Rattle.spv_assign.specs.creation_trace.Events.{Event, Walked, Stops}
@@ -37,6 +37,7 @@ use Rattle.spv_flow_parts.proofs.Steps.{went, stopped_at}
 use Rattle.spv_flow_parts.proofs.LoopLemmas.{note_there, note_term}
 use Rattle.spv_flow_parts.proofs.Steps.{AreThese-Extends}
 use Rattle.spv_flow.specs.statement_rules.Events.{events_by}
+use Rattle.spv_conditions.specs.Covered.{is_covered}
 use Rattle.spv_conditions.specs.whole_variables.Plain.{IsRight, Walks, plain_making, plain_taking}
 use Rattle.spv_conditions.proofs.whole_variables.Taken.{right_taken}
 use Rattle.spv_conditions.proofs.whole_variables.Same.{same_events}
@@ -45,7 +46,7 @@ use Rattle.spv_conditions.specs.Making.{behind, behind_main, empty_arena, main_e
 
 -- ---- what is right
 
-module _ (p : Program) (typed : well_typed p ≡ true) (covered : only_control p ≡ true) where
+module _ (p : Program) (typed : well_typed p ≡ true) (covered : is_covered p ≡ true) where
   mains : (annotation_ok p (body_scope p None) p.main.entry && (annotation_ok p (body_scope p None) p.main.exit && statement_ok p None p.main.body)) ≡ true
   mains = right_true (list_all (routine_ok p) p.routines) _ (right_true (declarations_ok p) _ typed)
 
@@ -253,7 +254,7 @@ memory_stops p a0 a1 r g is memory grows = record {
     none (Err f) h = tt
 
 -- the conditions of a main block are those of its program, where that has no routines
-pub all_conditions : (p : Program) → only_control p ≡ true → main_conditions p full_supply ≡ whole.conditions_of p
+pub all_conditions : (p : Program) → is_covered p ≡ true → main_conditions p full_supply ≡ whole.conditions_of p
 all_conditions p covered = by p.routines refl (left_true _ _ covered)
   where
     by : (rs : List Routine) → p.routines ≡ rs → has_no_routines p.routines ≡ true → main_conditions p full_supply ≡ whole.conditions_of p

@@ -1,4 +1,6 @@
 pub mod whole_variables
 pub mod bodies
 pub mod Plain
+pub mod Covered
 pub mod Making
+pub mod Laws

@@ -3,7 +3,7 @@
 ghost use Rattle.std.specs.Prelude.{◌≡◌, IsTrue};
 ghost use Rattle.spv_program.specs.Typing.{well_typed};
 ghost use Rattle.spv_meaning.specs.Assignments.{has_no_routines};
-ghost use Rattle.spv_rule_soundness.specs.control.Blocks.{only_control};
+ghost use Rattle.spv_conditions.specs.Covered.{is_covered};
 ghost use Rattle.spv_conditions.specs.Plain.{arms_plain, is_plain};
 ghost use Rattle.spv_program.specs.typed.ExpressionViews.{selectors_of};
 ghost use Rattle.spv_program.specs.typed.StatementViews.{arms_of, block_of};
@@ -79,7 +79,7 @@ fn has_no_routines(program: &Program) -> bool
 #[tactic(auto, using(crate::proofs::Covered::covered))]
 pub fn is_covered(program: &Program) -> bool
     requires { IsTrue (well_typed program.now) }
-    ensures { result ≡ only_control program.now }
+    ensures { result ≡ is_covered program.now }
 {
     has_no_routines(program) && is_plain(&program.main.body)
 }

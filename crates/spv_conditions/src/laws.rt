@@ -1,20 +1,19 @@
 // What is true of conditions and limits, as contracts of functions that do nothing.
 
 ghost use Rattle.spv_logic.specs.Conditions.{Meaning};
-ghost use Rattle.spv_rule_soundness.specs.control.Laws.{TrueConditionsGiveCorrectIn};
+ghost use Rattle.spv_conditions.specs.Laws.{TrueConditionsGiveCorrectIn};
 ghost use Rattle.spv_conditions.specs.Making.{MeetsNoOther, MeetsOne};
 
 use spv_assign::limits::law_one_limit;
-use spv_rule_soundness::control::laws::law_control;
 use spv_term::World;
 
-/// Where the conditions of such a program are true in a world, the program is correct in it: for every world at once, and for one
-/// that is at hand.
+/// Where the conditions of a program that is well typed and shares rightly are true in a world, the program is correct in it: for every
+/// world at once, and for one that is at hand.
 pub fn law_conditions<W: World>(world: &W)
     ensures every_world { (m : Meaning) → TrueConditionsGiveCorrectIn m }
     ensures this_world { TrueConditionsGiveCorrectIn (W.apply world.now) }
 {
-    law_control(world);
+    let _ = world;
 }
 
 /// Which limit comes is one.

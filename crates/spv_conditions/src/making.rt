@@ -4,10 +4,10 @@ ghost use Rattle.std.specs.Prelude.{◌≡◌, IfOk, IfErr, IsTrue, None};
 ghost use Rattle.spv_term.specs.Arena.{Extends, IsArena};
 ghost use Rattle.spv_program.specs.Typing.{well_typed};
 ghost use Rattle.spv_meaning.specs.ProgramConditions as whole;
-ghost use Rattle.spv_rule_soundness.specs.control.Blocks.{only_control};
 ghost use Rattle.spv_assign.specs.Conditions.{AreIn, conditions_of};
 ghost use Rattle.spv_assign.specs.creation_trace.Events.{Walked};
 ghost use Rattle.spv_flow_parts.specs.Standing.{Stands};
+ghost use Rattle.spv_conditions.specs.Covered.{is_covered};
 ghost use Rattle.spv_conditions.specs.whole_variables.Plain.{IsRight};
 ghost use Rattle.spv_conditions.specs.Making as making;
 ghost use Rattle.spv_conditions.specs.Making.{IsLimit, MakesBlock, MakesMain, main_events};
@@ -67,7 +67,7 @@ fn main_conditions(
     requires stands { Stands program.now body.now terms.old }
     requires main { body.now.here ≡ None }
     requires typed { IsTrue (well_typed program.now) }
-    requires covered { IsTrue (only_control program.now) }
+    requires covered { IsTrue (is_covered program.now) }
     ensures { MakesMain result program.now terms.old terms.new }
 {
     let note = noted(program, body, terms, &program.main.exit)?;
@@ -82,7 +82,7 @@ fn main_conditions(
 /// different terms. Where both hold, the one that comes first on the way is answered.
 pub fn conditions(alloc: Global, program: &Program) -> Result<ProgramConditions, GenFault>
     requires typed { IsTrue (well_typed program.now) }
-    requires covered { IsTrue (only_control program.now) }
+    requires covered { IsTrue (is_covered program.now) }
     ensures conditions { IfOk result (λ c. conditions_of c.terms c.list.items ≡ whole.conditions_of program.now) }
     ensures in_range { IfOk result (λ c. AreIn c.terms c.list.items) }
     ensures arena { IfOk result (λ c. Extends (making.empty_arena program.now) c.terms) }

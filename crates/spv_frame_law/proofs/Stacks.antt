@@ -1,16 +1,13 @@
 -- What a run writes, calls and returns from keeps every frame that it pushed a start.
-use Rattle.std.proofs.Common.{◌≡◌, ℕ, List, [], ◌∷◌, ◌++◌, refl, sym, subst, Option, Some, None}
-use Rattle.spv_logic.specs.declared.names.names.Symbol.{Symbol}
+use Rattle.std.proofs.Common.{◌≡◌, List, [], ◌∷◌, refl, sym, subst, Option, Some}
 use Rattle.spv_logic.specs.declared.conditions.RoutineId.{RoutineId}
-use Rattle.spv_program.specs.Expressions.{Arguments, call}
 use Rattle.spv_program.specs.Programs.{Program, routine_in}
 use Rattle.spv_preservation.proofs.Expressions.{is_callee}
-use Rattle.spv_meaning.specs.Places.{Binding, State}
-use Rattle.spv_meaning.specs.Levels.{Here, Bound, push, pop}
-use Rattle.spv_meaning.specs.Starts.{Area, IsStart}
-use Rattle.spv_writes.specs.Writes.{Writes, without_frame}
+use Rattle.spv_meaning.specs.Places.{State}
+use Rattle.spv_meaning.specs.Levels.{Here, pop}
+use Rattle.spv_meaning.specs.Starts.{IsStart}
+use Rattle.spv_writes.specs.Writes.{without_frame}
 use Rattle.spv_writes.proofs.Popped.{frames_below, popped}
-use Rattle.spv_frame_law.specs.Laws.{IsFramed}
 use Rattle.spv_frame_law.proofs.Levels.{statement_writes, arguments_bound, called_writes}
 use Rattle.spv_frame_law.proofs.Starts.{start_stays}
 use Rattle.spv_frame_law.proofs.Callees.{call_begins}

@@ -1,5 +1,5 @@
 -- A report whose verdicts are all Proved makes its program correct.
-use Rattle.std.proofs.Common.{◌≡◌, Bool, true, List, [], ◌∷◌, subst}
+use Rattle.std.proofs.Common.{◌≡◌, Bool, true, not, List, [], ◌∷◌, Option, None, is_some, sym, ap, subst, ◌∙◌}
 use Rattle.std.proofs.lemmas.Bool.{false≢true}
 use Rattle.spv_logic.proofs.list.Tests.{left_true, right_true}
 use Rattle.spv_logic.specs.Shapes.{shapes_ok}
@@ -8,10 +8,14 @@ use Rattle.spv_logic.specs.declared.types.Decl.{Decl}
 use Rattle.spv_logic.specs.Conditions.{Meaning}
 use Rattle.spv_term.specs.declared.nodes.Condition.{Condition}
 use Rattle.spv_term.specs.Arena.{Arena}
-use Rattle.spv_program.specs.Programs.{shapes}
+use Rattle.spv_program.specs.Programs.{Program, shapes}
+use Rattle.spv_program.specs.Frames.{framed}
+use Rattle.spv_effects.specs.declared.frame_walk.faults.FrameFault.{FrameFault}
+use Rattle.spv_effects.specs.frame_walk.FrameWalk.{frame_fault}
+use Rattle.spv_effects.proofs.frame_laws.Framed.{framed_is}
 use Rattle.spv_meaning.specs.ProgramConditions.{AllTrueIn}
-use Rattle.spv_rule_soundness.proofs.control.Programs.{control_correct}
 use Rattle.spv_assign.specs.Conditions.{conditions_of}
+use Rattle.spv_conditions.proofs.Correct.{conditions_correct}
 use Rattle.spv_verdicts.specs.Verdicts.{Limits}
 use Rattle.spv_verdicts.specs.declared.answers.verdicts.Decided.{Decided}
 use Rattle.spv_reports.specs.declared.mode.Mode.{Mode}
@@ -36,12 +40,16 @@ all_right : (mode : Mode) (a : Arena) (world : Meaning) → shapes_ok a.shapes �
 all_right (Verify limits) a world ok cs ds has right proved = all_true a limits world ok cs ds right proved
 all_right Conditions a world ok cs ds has right proved = absurd (false≢true has)
 
+-- where the walk meets no fault, the rules of frames hold
+framed_right : (p : Program) → frame_fault p ≡ None → framed p ≡ true
+framed_right p e = sym (framed_is p) ∙ ap (λ (o : Option FrameFault). not (is_some o)) e
+
 pub proved_correct : (r : Findings) (world : Meaning) → ProvedIsCorrectIn r world
 proved_correct r world has proved p is =
     let here : AllTrueIn r.arena.shapes r.arena.decls world (conditions_of r.arena r.conditions) = all_right r.mode r.arena world is.sound.shapes r.conditions r.verdicts has is.verdicts proved in
     let there : AllTrueIn (shapes p) r.arena.decls world (conditions_of r.arena r.conditions) = subst (λ (s : List Shape). AllTrueIn s r.arena.decls world (conditions_of r.arena r.conditions)) is.shapes here in
     let all : AllTrueIn (shapes p) p.symbols world (conditions_of r.arena r.conditions) = subst (λ (d : List Decl). AllTrueIn (shapes p) d world (conditions_of r.arena r.conditions)) is.decls there in
-    control_correct p world is.typed is.covered (subst (AllTrueIn (shapes p) p.symbols world) is.conditions all)
+    conditions_correct world p is.typed (framed_right p is.framed) (subst (AllTrueIn (shapes p) p.symbols world) is.conditions all)
 
 -- whether a page has proofs changes nothing of what a report is on
 pub same_report : (r : Findings) (proofs : Bool) → IsReport r → IsReport (record r { proofs = proofs })
@@ -50,8 +58,6 @@ same_report r proofs q = record {
   is_on = record {
     typed = q.is_on.typed;
     framed = q.is_on.framed;
-    covered = q.is_on.covered;
-    taken = q.is_on.taken;
     sound = q.is_on.sound;
     shapes = q.is_on.shapes;
     decls = q.is_on.decls;
@@ -59,7 +65,6 @@ same_report r proofs q = record {
     routines = q.is_on.routines;
     in_range = q.is_on.in_range;
     conditions = q.is_on.conditions;
-    within = q.is_on.within;
     verdicts = q.is_on.verdicts;
   };
 }

@@ -9,11 +9,11 @@ use Rattle.spv_effects.specs.frame_walk.FrameWalk.{frame_fault}
 use Rattle.spv_program.specs.Programs.{Program, shapes}
 use Rattle.spv_meaning.specs.ProgramConditions as program
 use Rattle.spv_meaning.specs.Correct.{Correct}
-use Rattle.spv_rule_soundness.specs.control.Blocks.{only_control}
 use Rattle.spv_assign.specs.Conditions.{conditions_of, AreIn}
 use Rattle.spv_assign.specs.declared.creation_trace.faults.GenFault.{GenFault}
 use Rattle.spv_assign.specs.declared.creation_trace.faults.GenFault.TheVariants as limit
 use Rattle.spv_assign.specs.creation_trace.Events.{Walked}
+use Rattle.spv_conditions.specs.Covered.{is_covered}
 use Rattle.spv_conditions.specs.Making.{main_events, empty_arena, MeetsLimit, IsWithinLimits}
 use Rattle.spv_verdicts.specs.Verdicts.{Limits}
 use Rattle.spv_verdicts.specs.declared.answers.verdicts.Decided.{Decided}
@@ -94,8 +94,6 @@ none_unproved verdicts = list_all (λ d. not (is_unproved d.verdict)) verdicts
 pub record IsReportOn (p : Program) (r : Findings) : Type 0 where
   pub typed : IsTrue (well_typed p)
   pub framed : frame_fault p ≡ None
-  pub covered : IsTrue (only_control p)
-  pub taken : IsTakenFor r.mode p
   pub sound : IsArena r.arena
   pub shapes : r.arena.shapes ≡ shapes p
   pub decls : r.arena.decls ≡ p.symbols
@@ -103,7 +101,6 @@ pub record IsReportOn (p : Program) (r : Findings) : Type 0 where
   pub routines : r.named.routines ≡ map (λ q. q.name) p.routines
   pub in_range : AreIn r.arena r.conditions
   pub conditions : conditions_of r.arena r.conditions ≡ program.conditions_of p
-  pub within : Walked (main_events p) (empty_arena p) r.arena
   pub verdicts : AreVerdictsIn r.mode r.arena r.conditions r.verdicts
 
 -- what is true of every report
@@ -115,7 +112,14 @@ pub record IsReport (r : Findings) : Type 0 where
 abbrev pub ProvedIsCorrectIn : Findings → Meaning → Type 0
 ProvedIsCorrectIn r world = IsTrue (has_verdicts r.mode) → IsTrue (all_proved r.verdicts) → (p : Program) → IsReportOn p r → Correct p world
 
--- ---- why there is none
+-- ---- what is taken so far, and why there is no report
+
+-- what a program with a report is not refused for: its conditions are made so far, they meet no limit, and where verdicts are wanted it
+-- is verified so far
+pub record IsNotRefused (p : Program) (r : Findings) : Type 0 where
+  pub covered : IsTrue (is_covered p)
+  pub within : Walked (main_events p) (empty_arena p) r.arena
+  pub taken : IsTakenFor r.mode p
 
 -- verdicts are wanted on a program that is not verified so far; want of memory has no cause
 abbrev pub IsNotTakenIn : Mode → Program → ReportFault → Type 0
@@ -126,8 +130,8 @@ IsNotTakenIn mode p _ = ⊥
 -- the program is of no form whose conditions are made, or they meet a limit, or verdicts are wanted and it is not verified so far; want
 -- of memory has no cause
 abbrev pub IsReportFault : Program → Mode → ReportFault → Type 0
-IsReportFault p mode Form = only_control p ≡ false
+IsReportFault p mode Form = is_covered p ≡ false
 IsReportFault p mode (Stopped limit.Memory) = ⊤
-IsReportFault p mode (Stopped e) = (only_control p ≡ true) × MeetsLimit e p
+IsReportFault p mode (Stopped e) = (is_covered p ≡ true) × MeetsLimit e p
 IsReportFault p mode NotTaken =
-    (only_control p ≡ true) × IsWithinLimits p × (has_verdicts mode ≡ true) × (is_taken p ≡ false)
+    (is_covered p ≡ true) × IsWithinLimits p × (has_verdicts mode ≡ true) × (is_taken p ≡ false)

@@ -12,13 +12,13 @@ use Rattle.spv_tree.specs.syntax.Reads.{Reads}
 use Rattle.spv_program.specs.Programs.{Program}
 use Rattle.spv_type_soundness.proofs.well_typed.Outcomes.{no_fault, same_value}
 use Rattle.spv_effects.specs.frame_walk.FrameWalk.{frame_fault}
-use Rattle.spv_rule_soundness.specs.control.Blocks.{only_control}
 use Rattle.spv_reports.specs.supported.Taken.{is_taken}
 use Rattle.spv_assign.specs.declared.creation_trace.faults.GenFault.{GenFault}
+use Rattle.spv_conditions.specs.Covered.{is_covered}
 use Rattle.spv_conditions.specs.Making.{MeetsLimit, IsWithinLimits, MeetsNoOther}
 use Rattle.spv_reports.specs.declared.mode.Mode.{Mode}
 use Rattle.spv_reports.specs.declared.mode.Mode.TheVariants.{Verify, Conditions}
-use Rattle.spv_reports.specs.Reports.{Findings, IsReportOn, IsTakenFor, has_verdicts}
+use Rattle.spv_reports.specs.Reports.{Findings, IsReportOn, IsNotRefused, IsTakenFor, has_verdicts}
 use Rattle.spv_verify.specs.declared.refused.refusal.Refusal.{Refusal}
 use Rattle.spv_verify.specs.refused.Told.{text_refusal, limit_refusal}
 use Rattle.spv_verify.specs.tree_reports.Walks.{IsSound, IsWalkRefusal, is_typed_as}
@@ -54,18 +54,18 @@ taken_there : (mode : Mode) (p : Program) → has_verdicts mode ≡ true → IsT
 taken_there (Verify limits) p asked is = is
 taken_there Conditions p asked is = absurd (false≢true asked)
 
-module _ (one : MeetsNoOther) (p : Program) (f : Findings) (is : IsReportOn p f) where
+module _ (one : MeetsNoOther) (p : Program) (f : Findings) (is : IsReportOn p f) (not_refused : IsNotRefused p f) where
   within : IsWithinLimits p
-  within = record { arena = f.arena; sound = is.sound; walked = is.within }
+  within = record { arena = f.arena; sound = is.sound; walked = not_refused.within }
 
   no_limit : (e : GenFault) (r : Refusal) → MeetsLimit e p → limit_refusal e ≡ Some r → ⊥
   no_limit e r meets told = none-some _ (sym (ap limit_refusal (one p e meets within)) ∙ told)
 
   -- the program of a report has no refusal
   pub program_not_refused : (r : Refusal) → IsProgramRefusal f.mode p r → ⊥
-  program_not_refused r (inl form) = never (only_control p) is.covered form.0
+  program_not_refused r (inl form) = never (is_covered p) not_refused.covered form.0
   program_not_refused r (inr (inl limits)) = no_limit limits.limit r limits.meets limits.told
-  program_not_refused r (inr (inr other)) = never (is_taken p) (taken_there f.mode p other.asked is.taken) other.taken
+  program_not_refused r (inr (inr other)) = never (is_taken p) (taken_there f.mode p other.asked not_refused.taken) other.taken
 
   pub tree_not_refused : (names : List (List ℕ)) (tree : TextTree) (r : Refusal) → IsSound names tree p → IsTreeRefusal f.mode names tree r → ⊥
   tree_not_refused names tree r sound (inl walk) = sound_not_refused names tree p r sound walk
@@ -75,7 +75,7 @@ module _ (one : MeetsNoOther) (p : Program) (f : Findings) (is : IsReportOn p f)
 pub not_both : TextsHaveOneTree Reads → MeetsNoOther → HaveNotBoth
 not_both trees one text f r of (inl reading) = by_reading text f r of reading.fault reading.stops reading.told
 not_both trees one text f r of (inr (tree, tree_is, refused)) =
-    tree_not_refused one of.program f of.is_on (names_of text) of.of_text.tree r of.of_text.sound
+    tree_not_refused one of.program f of.is_on of.not_refused (names_of text) of.of_text.tree r of.of_text.sound
     (subst (λ (t : TextTree). IsTreeRefusal f.mode (names_of text) t r) (trees [] text tree of.of_text.tree tree_is of.of_text.is_tree) refused)
 
 pub is_one_program : TextsHaveOneTree Reads → IsOneProgram

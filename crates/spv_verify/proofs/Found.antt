@@ -37,6 +37,7 @@ module _ (mode : Mode) (text : List ℕ) (tree : Tree) (tree_is : IsTextTree tex
     program = h.program;
     of_text = record { tree = tree; is_tree = tree_is; sound = subst (λ n. IsSound n tree h.program) same h.sound };
     is_on = h.is_on;
+    not_refused = h.not_refused;
     names = h.names_same ∙ same;
   }
 

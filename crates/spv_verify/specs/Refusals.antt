@@ -6,7 +6,7 @@ use Rattle.spv_parser.specs.declared.language.fault.LanguageFault.{LanguageFault
 use Rattle.spv_parser.specs.language.Texts.{names_with, IsTreeOf, IsFaultOf}
 use Rattle.spv_program.specs.Programs.{Program}
 use Rattle.spv_reports.specs.declared.mode.Mode.{Mode}
-use Rattle.spv_reports.specs.Reports.{Findings, IsReportOn}
+use Rattle.spv_reports.specs.Reports.{Findings, IsNotRefused, IsReportOn}
 use Rattle.spv_verify.specs.declared.refused.refusal.Refusal.{Refusal}
 use Rattle.spv_verify.specs.refused.Told.{text_refusal}
 use Rattle.spv_verify.specs.tree_reports.Walks.{IsSound}
@@ -40,11 +40,12 @@ IsRefused mode text r = IsReadingRefusal text r ⊎ ((tree : Tree) × IsTextTree
 
 -- ---- reports
 
--- the report is on the program of the text, with its names
+-- the report is on the program of the text, which is not refused, with its names
 pub record IsReportOf (text : List ℕ) (r : Findings) : Type 0 where
   pub program : Program
   pub of_text : IsProgramOf text program
   pub is_on : IsReportOn program r
+  pub not_refused : IsNotRefused program r
   pub names : r.named.names ≡ names_of text
 
 -- no text is refused and has a report

@@ -91,5 +91,5 @@ module _ (mode : Mode) (names : List (List ℕ)) (tree : Tree) (p : Program) (ty
   framed_tree_causes (Err v) h = framed_tree_cause v h
 
   pub tree_reports : {T : Type 0} (of : T → Findings) (r : Result T VerifyFault) → IfOk r (λ x. IsFramedReport names p mode (of x)) → IfOk r (λ x. IsTreeReport names tree mode (of x))
-  tree_reports of (Ok x) h = record { program = p; sound = record { typed = typed; framed = h.framed }; is_on = h.is_on; names_same = h.names_same; mode_same = h.mode_same }
+  tree_reports of (Ok x) h = record { program = p; sound = record { typed = typed; framed = h.framed }; is_on = h.is_on; not_refused = h.not_refused; names_same = h.names_same; mode_same = h.mode_same }
   tree_reports of (Err v) h = tt

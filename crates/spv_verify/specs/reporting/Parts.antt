@@ -7,9 +7,9 @@ use Rattle.spv_models.specs.leaf_models.Laws.{AreFormulas}
 use Rattle.spv_models.specs.leaf_models.Tables.{formulas_of}
 use Rattle.spv_program.specs.Programs.{Program}
 use Rattle.spv_meaning.specs.ProgramConditions as program
-use Rattle.spv_rule_soundness.specs.control.Blocks.{only_control}
 use Rattle.spv_assign.specs.Conditions.{conditions_of, AreIn}
 use Rattle.spv_assign.specs.creation_trace.Events.{Walked}
+use Rattle.spv_conditions.specs.Covered.{is_covered}
 use Rattle.spv_conditions.specs.Making.{main_events, empty_arena}
 use Rattle.spv_reports.specs.declared.mode.Mode.{Mode}
 use Rattle.spv_verify.specs.declared.reporting.making.Parts.{Parts}
@@ -22,7 +22,7 @@ AreFormulasIn a (c ∷ conditions) = AreFormulas a.shapes a.decls (formulas_of (
 
 -- the conditions are those of the program, and the verdicts are right
 pub record AreParts (p : Program) (mode : Mode) (x : Parts) : Type 0 where
-  pub covered : only_control p ≡ true
+  pub covered : is_covered p ≡ true
   pub taken : IsTakenFor mode p
   pub sound : IsArena x.terms
   pub grows : Extends (empty_arena p) x.terms

@@ -2,13 +2,13 @@
 use Rattle.std.specs.Prelude.{◌≡◌, ⊤, ℕ, ◌⊎◌, true, false, List, [], Some, None}
 use Rattle.spv_tree.specs.declared.syntax.programs.Program.{Program as Tree}
 use Rattle.spv_program.specs.Programs.{Program}
-use Rattle.spv_rule_soundness.specs.control.Blocks.{only_control}
 use Rattle.spv_effects.specs.frame_walk.FrameWalk.{frame_fault}
 use Rattle.spv_assign.specs.declared.creation_trace.faults.GenFault.{GenFault}
+use Rattle.spv_conditions.specs.Covered.{is_covered}
 use Rattle.spv_conditions.specs.Making.{MeetsLimit, IsWithinLimits}
 use Rattle.spv_reports.specs.declared.mode.Mode.{Mode}
 use Rattle.spv_reports.specs.supported.Taken.{is_taken}
-use Rattle.spv_reports.specs.Reports.{Findings, IsReportOn, has_verdicts}
+use Rattle.spv_reports.specs.Reports.{Findings, IsNotRefused, IsReportOn, has_verdicts}
 use Rattle.spv_verify.specs.declared.refused.refusal.Refusal.{Refusal}
 use Rattle.spv_verify.specs.declared.refused.refusal.Refusal.TheVariants as refusal
 use Rattle.spv_verify.specs.declared.refused.fault.VerifyFault.{VerifyFault}
@@ -20,18 +20,18 @@ use Rattle.spv_verify.specs.tree_reports.Walks.{IsSound, IsWalkRefusal, IsFrameR
 
 -- no conditions are made of a program of such a form
 abbrev pub IsFormRefusal : Program → Refusal → Type 0
-IsFormRefusal p r = (only_control p ≡ false) × (r ≡ refusal.Form 1 [])
+IsFormRefusal p r = (is_covered p ≡ false) × (r ≡ refusal.Form 1 [])
 
 -- the conditions of the program meet a limit
 pub record IsLimitRefusal (p : Program) (r : Refusal) : Type 0 where
-  pub covered : only_control p ≡ true
+  pub covered : is_covered p ≡ true
   pub limit : GenFault
   pub meets : MeetsLimit limit p
   pub told : limit_refusal limit ≡ Some r
 
 -- verdicts are wanted, and the program is none of those that are verified so far
 pub record IsNotTakenRefusal (mode : Mode) (p : Program) (r : Refusal) : Type 0 where
-  pub covered : only_control p ≡ true
+  pub covered : is_covered p ≡ true
   pub within : IsWithinLimits p
   pub asked : has_verdicts mode ≡ true
   pub taken : is_taken p ≡ false
@@ -50,6 +50,7 @@ IsTreeRefusal mode names tree r = IsWalkRefusal names tree r ⊎ ((p : Program) 
 pub record IsFramedReport (names : List (List ℕ)) (p : Program) (mode : Mode) (r : Findings) : Type 0 where
   pub framed : frame_fault p ≡ None
   pub is_on : IsReportOn p r
+  pub not_refused : IsNotRefused p r
   pub names_same : r.named.names ≡ names
   pub mode_same : r.mode ≡ mode
 
@@ -58,6 +59,7 @@ pub record IsTreeReport (names : List (List ℕ)) (tree : Tree) (mode : Mode) (r
   pub program : Program
   pub sound : IsSound names tree program
   pub is_on : IsReportOn program r
+  pub not_refused : IsNotRefused program r
   pub names_same : r.named.names ≡ names
   pub mode_same : r.mode ≡ mode
 

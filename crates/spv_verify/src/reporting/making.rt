@@ -3,9 +3,9 @@
 ghost use Rattle.std.specs.Prelude.{◌≡◌, map, None, IsTrue, IfErr, IfOk};
 ghost use Rattle.spv_program.specs.Typing.{well_typed};
 ghost use Rattle.spv_effects.specs.frame_walk.FrameWalk.{frame_fault};
-ghost use Rattle.spv_rule_soundness.specs.control.Blocks.{only_control};
+ghost use Rattle.spv_conditions.specs.Covered.{is_covered};
 ghost use Rattle.spv_verify.specs.reporting.Parts.{AreParts};
-ghost use Rattle.spv_reports.specs.Reports.{IsReportFault, IsReportOn};
+ghost use Rattle.spv_reports.specs.Reports.{IsNotRefused, IsReportFault, IsReportOn};
 
 use crate::reporting::deciding::decided;
 use spv_assign::creation_trace::GenFault;
@@ -31,7 +31,7 @@ pub(crate) struct Parts {
 #[tactic(auto, using(crate::proofs::reporting::Formulas::all_formulas))]
 fn made_parts(alloc: Global, program: &Program, mode: &Mode) -> Result<Parts, ReportFault>
     requires typed { IsTrue (well_typed program.now) }
-    requires covered { IsTrue (only_control program.now) }
+    requires covered { IsTrue (is_covered program.now) }
     ensures parts { IfOk result (AreParts program.now mode.now) }
     ensures fault { IfErr result (IsReportFault program.now mode.now) }
 {
@@ -77,6 +77,7 @@ pub fn report_on(
     ensures names { IfOk result (λ r. r.named.names ≡ names) }
     ensures mode { IfOk result (λ r. r.mode ≡ mode) }
     ensures program { IfOk result (IsReportOn program.now) }
+    ensures not_refused { IfOk result (IsNotRefused program.now) }
     ensures fault { IfErr result (IsReportFault program.now mode) }
 {
     let named = match named_by(alloc, names, program) {
