@@ -20,7 +20,7 @@ use Rattle.spv_verdicts.specs.Verdicts.{Limits}
 use Rattle.spv_verdicts.specs.declared.answers.verdicts.Decided.{Decided}
 use Rattle.spv_reports.specs.declared.mode.Mode.{Mode}
 use Rattle.spv_reports.specs.declared.mode.Mode.TheVariants.{Verify, Conditions}
-use Rattle.spv_reports.specs.Reports.{Findings, IsReport, IsReportOn, AreVerdicts, AreVerdictsIn, has_verdicts, is_proved, all_proved, ProvedIsCorrectIn}
+use Rattle.spv_reports.specs.Reports.{Findings, IsReport, AreVerdicts, AreVerdictsIn, has_verdicts, is_proved, all_proved, ProvedIsCorrectIn}
 use Rattle.spv_reports.proofs.Proved.{proved_true}
 
 -- proved conditions are true in every world

@@ -1,5 +1,5 @@
 -- Reports, and what each keeps.
-use Rattle.std.specs.Prelude.{◌≡◌, ⊤, ℕ, Bool, true, false, not, List, [], ◌∷◌, map, None, IsTrue}
+use Rattle.std.specs.Prelude.{◌≡◌, ⊤, Bool, true, false, not, List, [], ◌∷◌, map, None, IsTrue}
 use Rattle.std.specs.List.{list_all}
 use Rattle.spv_logic.specs.Conditions.{Meaning}
 use Rattle.spv_term.specs.declared.nodes.Condition.{Condition}
@@ -10,7 +10,6 @@ use Rattle.spv_program.specs.Programs.{Program, shapes}
 use Rattle.spv_meaning.specs.ProgramConditions as program
 use Rattle.spv_meaning.specs.Correct.{Correct}
 use Rattle.spv_assign.specs.Conditions.{conditions_of, AreIn}
-use Rattle.spv_assign.specs.declared.creation_trace.faults.GenFault.{GenFault}
 use Rattle.spv_assign.specs.declared.creation_trace.faults.GenFault.TheVariants as limit
 use Rattle.spv_assign.specs.creation_trace.Events.{Walked}
 use Rattle.spv_conditions.specs.Covered.{is_covered}
