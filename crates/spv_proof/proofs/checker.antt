@@ -1,4 +1,5 @@
 pub mod Kept
+pub mod SchemaMade
 pub mod Staying
 pub mod Goings
 pub mod Stacks

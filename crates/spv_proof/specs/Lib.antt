@@ -1,2 +1,3 @@
 pub mod sums
 pub mod checker
+pub mod schema_facts

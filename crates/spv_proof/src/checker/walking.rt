@@ -19,6 +19,7 @@ ghost use Rattle.spv_proof.specs.checker.Walks.{no_steps, path_of, steps_in, Lea
 use crate::checker::keeping::add;
 use crate::checker::linear::linear;
 use crate::checker::stops::CheckStop;
+use crate::schema_facts::{fact, kind_of};
 use spv_atoms::Step;
 use spv_proof_steps::{
     Effect, Fact, congruent, end_of, evaluated, exchanged, given_effect, joined,
@@ -38,7 +39,7 @@ pub enum Path {
 }
 
 // The fact of a schema that a step adds, which is made behind its subterms; no other step makes a term beforehand.
-fn made(terms: &mut Terms, step: &Step) -> Result<Option<TermId>, CheckStop>
+fn made(alloc: Global, terms: &mut Terms, step: &Step) -> Result<Option<TermId>, CheckStop>
     requires { StepIn terms.old step.now }
     ensures fact { IfOk result (λ fact. (c : Condition) → IsMade terms.new c step.now fact) }
     ensures all { OnOk result ((c : Condition) → all_kept terms.old.most (trees_of terms.old.nodes) (made_by (question terms.old c) step.now) ≡ Ok (trees_of terms.new.nodes)) }
@@ -46,7 +47,10 @@ fn made(terms: &mut Terms, step: &Step) -> Result<Option<TermId>, CheckStop>
     ensures grows { Extends terms.old terms.new }
 {
     match step {
-        Step::Schema(_, _, _) => Err(CheckStop::Memory),
+        Step::Schema(number, ts, field) => match kind_of(*number) {
+            Some(kind) => Ok(fact(alloc, terms, kind, ts.as_slice(), *field)?),
+            None => Ok(None),
+        },
         _ => Ok(None),
     }
 }
@@ -135,7 +139,7 @@ pub(crate) fn walk(
     ensures grows { Extends terms.old terms.new }
 {
     for (place, step) in steps.iter().enumerate() {
-        let made = made(terms, step)?;
+        let made = made(alloc, terms, step)?;
         match trial(alloc, terms, condition, facts.as_slice(), step, made)? {
             Effect::Adds(fact) => add(terms, facts, fact)?,
             Effect::Ends => return Ok(ended(place + 1 == steps.len())),

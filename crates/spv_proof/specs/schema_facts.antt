@@ -1,0 +1,5 @@
+pub mod Pieces
+pub mod Facts
+pub mod Sketches
+pub mod Shapes
+pub mod Kinds
