@@ -137,13 +137,13 @@ fn check_nodes(
     Ok(pending.as_slice().is_empty())
 }
 
-/// Whether a proof of a condition is accepted. Its facts are made, one after the other, and no other
-/// term, but that a relation that is named for its form is made too.
+/// Whether a proof of a condition is accepted. Its facts are made, one after the other, those of schemas
+/// behind their subterms, and no other term, but that a relation that is named for its form is made too.
 ///
 /// An error says what ends the check first, in the order of the proof: `Wide` for the first operation
 /// of a sum that does not fit, `Form` for the first relation that a sum reads or shows whose form does
-/// not fit, `Size` for the first fact that is new where there may be no more terms; or `Memory`, where
-/// the arena has some of the facts that come first.
+/// not fit, `Size` for the first fact, or subterm of a fact of a schema, that is new where there may be no
+/// more terms; or `Memory`, where the arena has some of the terms that come first.
 pub fn check(
     alloc: Global,
     terms: &mut Terms,
