@@ -1,5 +1,4 @@
 pub mod whole_variables
-pub mod bodies
 pub mod Plain
 pub mod Covered
 pub mod Making

@@ -1,7 +1,6 @@
 //! The conditions of a program.
 #![tactic(auto)]
 
-pub mod bodies;
 mod covering;
 mod laws;
 mod making;

@@ -12,7 +12,7 @@ ghost use Rattle.spv_conditions.specs.whole_variables.Plain.{IsRight};
 ghost use Rattle.spv_conditions.specs.Making as making;
 ghost use Rattle.spv_conditions.specs.Making.{IsLimit, MakesBlock, MakesMain, main_events};
 
-use crate::bodies::body_of;
+use spv_flow_parts::body_tables::body_of;
 use crate::opening::empty_arena;
 use crate::whole_variables::PlainLeaves;
 use spv_assign::creation_trace::GenFault;

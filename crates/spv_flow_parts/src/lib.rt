@@ -3,6 +3,8 @@
 #![tactic(auto)]
 
 mod bodies;
+pub mod body_tables;
+pub mod calls;
 pub mod for_loops;
 mod laws;
 pub mod leaves;

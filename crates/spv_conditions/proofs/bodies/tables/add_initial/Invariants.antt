@@ -1,7 +1,0 @@
-use Rattle.std.proofs.Common.{drop}
-use Rattle.spv_conditions.specs.bodies.Tables.{initial_sorts}
-use Rattle.spv_conditions.proofs.bodies.Scoping.{PutSoFar}
-use Rattle.spv_conditions.proofs.bodies.tables.add_initial.Given as goal
-
-abbrev pub invariant-loop-x : goal.invariant-loop-x
-invariant-loop-x l = PutSoFar l.initial.table l.table (initial_sorts l.variables l.items) (initial_sorts l.variables (drop l.x-index l.items))

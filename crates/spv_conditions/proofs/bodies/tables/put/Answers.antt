@@ -1,6 +1,0 @@
-use Rattle.spv_conditions.proofs.bodies.Putting.{put_inserted}
-use Rattle.spv_conditions.proofs.bodies.tables.put.Goals as goal
-
-pub returns-else-has : goal.returns-else-has
-returns-else-has c =
-    put_inserted c.insert.result c.args.table.now c.insert.new.self c.args.x c.args.s c.insert.ensures.ok

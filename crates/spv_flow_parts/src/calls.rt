@@ -1,0 +1,12 @@
+//! The terms of expressions and places with the calls in them, the arguments of calls, and the conditions before a call.
+
+mod at_call;
+mod callees;
+mod entering;
+mod passed;
+mod places;
+mod values;
+
+pub use entering::{before_call, before_entered};
+pub use passed::{Argued, Argument, Placed};
+pub use values::{arguments, place, value};

@@ -1,0 +1,216 @@
+// The conditions before a call of a procedure.
+
+ghost use Rattle.std.specs.Prelude.{◌≡◌, ◌++◌, [], ◌∷◌, map, IfOk, IsTrue, List, OnOk, Some};
+ghost use Rattle.spv_logic.specs.declared.conditions.RoutineId.{RoutineId};
+ghost use Rattle.spv_term.specs.Arena.{Extends};
+ghost use Rattle.spv_program.specs.Programs as programs;
+ghost use Rattle.spv_program.specs.Programs.{routine_in, shapes};
+ghost use Rattle.spv_program.specs.Calls as plain;
+ghost use Rattle.spv_program.specs.Changes.{var_items};
+ghost use Rattle.spv_program.specs.ExpressionTerms.{Argued};
+ghost use Rattle.spv_program.specs.Statements.{Perform};
+ghost use Rattle.spv_program.specs.Typing.{statement_ok};
+ghost use Rattle.spv_program.specs.typed.ProgramViews.{formal_of, global_of};
+ghost use Rattle.spv_meaning.specs.Before.{before, before_entering, changed_items, changed_places};
+ghost use Rattle.spv_expression_terms.specs.term_walk.Laws.{HasNamesOf, variable_scope};
+ghost use Rattle.spv_assign.specs.Conditions.{AreIn, conditions_of};
+ghost use Rattle.spv_assign.specs.creation_trace.Events.{Answers};
+ghost use Rattle.spv_assign.specs.creation_trace.StatementEvents.{pair_terms, several};
+ghost use Rattle.spv_assign.specs.supply.Numbers.{AreThere, supply_of};
+ghost use Rattle.spv_flow_parts.specs.Walks.{Comes, made_of};
+ghost use Rattle.spv_flow_parts.specs.calls.Arguments.{Calling, AddsChanged, AreArguments, AreChanged, IsArgued, IsAtCall, MayMake, call_line, called_routine, changed_by_places};
+ghost use Rattle.spv_flow_parts.specs.calls.Events.{entering_events, perform_events};
+
+use crate::Body;
+use crate::body_tables::variables_of;
+use crate::calls::at_call::{called, item_head};
+use crate::calls::passed::{Argued, Argument};
+use crate::calls::values::arguments;
+use crate::leaves::in_front;
+use spv_assign::creation_trace::GenFault;
+use spv_assign::limited_steps::{fresh_pair, limited, replaced};
+use spv_assign::structures::whole_with;
+use spv_assign::supply::Supply;
+use spv_effects::mod_sets::sort_of;
+use spv_logic::{Head, RoutineId, Sort};
+use spv_program::TypeForm;
+use spv_program::ordered_map::Named;
+use spv_program::typed::{Call, Formal, GlobalItem, Program};
+use spv_term::{Condition, TermId, Terms};
+use std::alloc::{AllocError, Global};
+
+// Fresh variables for what a call changes: in EXIT, and in what is wanted after the call.
+#[derive(Drop)]
+pub(crate) struct Changed {
+    pub(crate) in_exit: Vec<(Head, TermId)>,
+    pub(crate) after: Vec<(TermId, TermId)>,
+}
+
+fn push(
+    changed: &mut Changed,
+    head: Head,
+    y: TermId,
+    from: TermId,
+    to: TermId,
+) -> Result<(), AllocError>
+    ensures in_exit { OnOk result (changed.new.in_exit.items ≡ changed.old.in_exit.items ++ (head, y) ∷ []) }
+    ensures after { OnOk result (changed.new.after.items ≡ changed.old.after.items ++ (from, to) ∷ []) }
+{
+    changed.in_exit.push((head, y))?;
+    changed.after.push((from, to))?;
+    Ok(())
+}
+
+// Each VAR parameter is a fresh variable, and the root of its argument is its whole with that variable at the argument's place.
+fn add_places(
+    alloc: Global,
+    forms: &[TypeForm],
+    terms: &mut Terms,
+    supply: &mut Supply,
+    formals: &[Formal],
+    given: &[Argument],
+    changed: &mut Changed,
+) -> Result<(), GenFault>
+    ghost at: { Calling }
+    requires at { IsAtCall at.program terms.old at.number at.routine at.arguments }
+    requires formals { map formal_of formals.now ≡ at.routine.formals }
+    requires forms { forms.now ≡ at.program.forms }
+    requires given { AreArguments terms.old given.now at.arguments }
+    requires there { AreThere terms.old (supply_of supply.old) }
+    ensures { AddsChanged result (changed_by_places at.program at.routine.formals at.arguments (supply_of supply.old)) terms.old terms.new changed.old changed.new (supply_of supply.new) }
+{
+    for place in 0..formals.len() {
+        if let Argument::AtPlace(d) = &given[place] {
+            let formal = formals[place];
+            let sort = sort_of(forms, formal.of);
+            let fresh = supply.fresh_variable(terms, formal.name, sort);
+            let y = limited(terms, fresh)?;
+            let whole = whole_with(terms, alloc, d, y);
+            let whole = limited(terms, whole)?;
+            push(changed, Head::Var(formal.name, sort, 0), y, d.root, whole)?;
+        }
+    }
+    Ok(())
+}
+
+// Each item of a VAR group is a fresh one.
+fn add_items(
+    terms: &mut Terms,
+    supply: &mut Supply,
+    variables: &Named<Sort>,
+    globals: &[GlobalItem],
+    changed: &mut Changed,
+) -> Result<(), GenFault>
+    ghost at: { Calling }
+    requires arena { terms.old.shapes ≡ shapes at.program }
+    requires variables { HasNamesOf variables.now (variable_scope at.program (Some at.routine)) }
+    requires there { AreThere terms.old (supply_of supply.old) }
+    ensures { AddsChanged result (changed_items at.program at.routine (var_items (map global_of globals.now)) (supply_of supply.old)) terms.old terms.new changed.old changed.new (supply_of supply.new) }
+{
+    for global in globals {
+        if global.is_var {
+            let head = item_head(variables, global.item);
+            let (name, y) = fresh_pair(terms, supply, head)?;
+            push(changed, head, y, name, y)?;
+        }
+    }
+    Ok(())
+}
+
+fn changes(
+    program: &Program,
+    alloc: Global,
+    terms: &mut Terms,
+    supply: &mut Supply,
+    number: RoutineId,
+    given: &[Argument],
+) -> Result<Changed, GenFault>
+    ghost at: { Calling }
+    requires at { IsAtCall program.now terms.old number at.routine at.arguments }
+    requires given { AreArguments terms.old given.now at.arguments }
+    requires there { AreThere terms.old (supply_of supply.old) }
+    ensures grows { Extends terms.old terms.new }
+    ensures walk { Answers result (several (pair_terms (changed_places program.now at.routine at.routine.formals at.arguments (supply_of supply.old)).after)) terms.old terms.new }
+    ensures changed { IfOk result (λ c. AreChanged terms.new (supply_of supply.new) c.in_exit.items c.after.items (changed_places program.now at.routine at.routine.formals at.arguments (supply_of supply.old))) }
+{
+    let routine = program.routines.get(number.0 as usize);
+    let mut changed = Changed {
+        in_exit: Vec::new(alloc),
+        after: Vec::new(alloc),
+    };
+    let forms = program.forms.as_slice();
+    add_places(
+        alloc,
+        forms,
+        terms,
+        supply,
+        routine.formals.as_slice(),
+        given,
+        &mut changed,
+    )?;
+    let variables = variables_of(alloc, program, Some(number))?;
+    add_items(
+        terms,
+        supply,
+        &variables,
+        routine.globals.as_slice(),
+        &mut changed,
+    )?;
+    Ok(changed)
+}
+
+/// The conditions before a call whose arguments were made.
+pub fn before_entered(
+    program: &Program,
+    body: &Body,
+    terms: &mut Terms,
+    supply: &mut Supply,
+    call: &Call,
+    argued: &Argued,
+    rest: Vec<Condition>,
+) -> Result<Vec<Condition>, GenFault>
+    ghost at: { Calling }
+    requires at { IsAtCall program.now terms.old (called_routine call.now) at.routine at.given.arguments }
+    requires argued { IsArgued terms.old (supply_of supply.old) argued.now at.given }
+    requires rest { AreIn terms.old rest.items }
+    ensures { Comes result (before_entering program.now body.now.here (call_line call.now) (Some at.routine) at.given (conditions_of terms.old rest.items))
+        (entering_events program.now body.now.here (call_line call.now) (Some at.routine) at.given (conditions_of terms.old rest.items)) terms.old terms.new (supply_of supply.new) }
+{
+    let given = argued.arguments.as_slice();
+    let fresh = changes(program, body.alloc, terms, supply, call.routine, given)?;
+    let one = called(
+        program,
+        body.alloc,
+        terms,
+        call.routine,
+        call.line,
+        given,
+        fresh.in_exit.as_slice(),
+    )?;
+    let behind = if fresh.after.is_empty() {
+        rest
+    } else {
+        replaced(terms, body.alloc, fresh.after.as_slice(), rest)?
+    };
+    in_front(body.alloc, body.here, &[one], behind)
+}
+
+/// The conditions before a call, with the calls in its arguments in front.
+pub fn before_call(
+    program: &Program,
+    body: &Body,
+    terms: &mut Terms,
+    supply: &mut Supply,
+    call: &Call,
+    rest: Vec<Condition>,
+) -> Result<Vec<Condition>, GenFault>
+    requires may { MayMake program.now body.now terms.old (supply_of supply.old) }
+    requires typed { IsTrue (statement_ok program.now (routine_in program.now body.now.here) (Perform call.now)) }
+    requires rest { AreIn terms.old rest.items }
+    ensures { Comes result (before program.now body.now.here (Perform call.now) (made_of terms.old rest.items (supply_of supply.old)))
+        (perform_events program.now body.now.here call.now (made_of terms.old rest.items (supply_of supply.old))) terms.old terms.new (supply_of supply.new) }
+{
+    let argued = arguments(program, body, terms, supply, call)?;
+    let entered = before_entered(program, body, terms, supply, call, &argued, rest)?;
+    in_front(body.alloc, body.here, argued.calls.as_slice(), entered)
+}
