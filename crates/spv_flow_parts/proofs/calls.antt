@@ -1,1 +1,4 @@
 pub mod Starts
+pub mod Building
+pub mod Passing
+pub mod AtCall

@@ -7,4 +7,4 @@ mod tables;
 pub use bodies::body_of;
 pub(crate) use bodies::variables_of;
 pub use laws::law_stands;
-pub(crate) use tables::{add_formals, add_initial, add_names, add_result};
+pub(crate) use tables::{add_formals, add_initial, add_names, add_result, item_sort};

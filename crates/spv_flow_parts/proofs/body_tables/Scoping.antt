@@ -82,7 +82,7 @@ variable_found p here x =
     ∙ first_mapped p.forms (found (own_names_in here) x) (found p.variables x)
 
 module _ (p : Program) (r : Routine) (variables : Scope) (h : HasNamesOf variables (variable_scope p (Some r))) where
-  item_is : (item : Item) → item_sort_in variables item ≡ item_sort p (Some r) item
+  pub item_is : (item : Item) → item_sort_in variables item ≡ item_sort p (Some r) item
   item_is (Variable x) = ap sort_or_int (h.each x ∙ variable_found p (Some r) x)
   item_is (Class t) = refl
 

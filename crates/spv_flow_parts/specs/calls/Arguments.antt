@@ -3,10 +3,12 @@ use Rattle.std.specs.Prelude.{◌≡◌, ⊤, ℕ, List, [], ◌∷◌, ◌++◌
 use Rattle.spv_logic.specs.declared.conditions.RoutineId.{RoutineId}
 use Rattle.spv_logic.specs.declared.types.Sort.{Sort}
 use Rattle.spv_logic.specs.declared.types.TypeId.{TypeId}
+use Rattle.spv_logic.specs.declared.names.names.Symbol.{Symbol}
 use Rattle.spv_logic.specs.declared.operators.Head.{Head}
+use Rattle.spv_logic.specs.declared.operators.Head.TheVariants as head
 use Rattle.spv_logic.specs.declared.conditions.TermId.{TermId}
 use Rattle.spv_logic.specs.Terms.{Term}
-use Rattle.spv_term.specs.Arena.{Arena, Extends}
+use Rattle.spv_term.specs.Arena.{Arena, Extends, tree}
 use Rattle.spv_program.specs.Expressions.{Expression, Designator, Selectors, Call, Arguments, call}
 use Rattle.spv_program.specs.Programs.{Formal, Routine, Program, shapes, routine_at, routine_in}
 use Rattle.spv_program.specs.ExpressionTypes.{callee, designator_type, expression_sort, selected_type}
@@ -14,16 +16,18 @@ use Rattle.spv_program.specs.Types.{sort_of}
 use Rattle.spv_program.specs.Typing.{well_typed}
 use Rattle.spv_program.specs.Places.{Target, present, whole_with}
 use Rattle.spv_logic.specs.Sorts.{head_in_range, term_sort, variable_sort}
-use Rattle.spv_logic.specs.Substitution.{is_variable}
+use Rattle.spv_logic.specs.Substitution.{is_variable, substitute}
 use Rattle.spv_term.specs.substitution.Images.{ArePairs}
 use Rattle.spv_meaning.specs.Before.{Changed, and_changed}
 use Rattle.spv_program.specs.Supplies.{fresh_like}
-use Rattle.spv_program.specs.Terms.{alone}
+use Rattle.spv_program.specs.Terms.{alone, item_head}
+use Rattle.spv_program.specs.Scopes.{item_sort}
+use Rattle.spv_program.specs.declared.types.Item.{Item}
 use Rattle.spv_assign.specs.Conditions.{pairs_of}
 use Rattle.spv_assign.specs.creation_trace.StatementEvents.{several, pair_terms}
 use Rattle.spv_program.specs.Supplies.{Supply}
 use Rattle.spv_program.specs.Calls as argument
-use Rattle.spv_program.specs.Calls.{entry_at_call, exit_at_call}
+use Rattle.spv_program.specs.Calls.{entry_at_call, exit_at_call, replacing}
 use Rattle.spv_program.specs.ExpressionTerms.{Called, Valued, Placed, Argued, with_call}
 use Rattle.spv_expression_terms.specs.term_walk.OuterCalls.{MadeCalls, head_of}
 use Rattle.spv_assign.specs.supply.Numbers.{AreThere}
@@ -106,6 +110,11 @@ abbrev pub IsArgument : Arena → code_argument.Argument → argument.Argument �
 IsArgument a (code.Given t) (argument.Given x) = IsTerm a t x
 IsArgument a (code.AtPlace d) (argument.AtPlace e) = IsTarget a d × (target_in a d ≡ e)
 IsArgument a _ _ = ⊥
+
+-- the argument that an id or a place is
+abbrev pub argument_in : Arena → code_argument.Argument → argument.Argument
+argument_in a (code.Given t) = argument.Given (tree a t)
+argument_in a (code.AtPlace d) = argument.AtPlace (target_in a d)
 
 abbrev pub AreArguments : Arena → List code_argument.Argument → List argument.Argument → Type 0
 AreArguments a [] [] = ⊤
@@ -192,6 +201,17 @@ abbrev pub AreAfter : Arena → List (Head × TermId) → List (Head × Term) �
 AreAfter a [] [] = ⊤
 AreAfter a (p ∷ ps) (q ∷ qs) = (p.0 ≡ q.0) × (IsTerm a p.1 q.1 × AreAfter a ps qs)
 AreAfter a _ _ = ⊥
+
+-- an INITIAL name, and what stands at the call for its item
+abbrev pub initial_pair : Program → Routine → List argument.Argument → Symbol × Item → Head × Term
+initial_pair p r arguments i = (
+  head.Var i.0 (item_sort p (Some r) i.1) 0,
+  substitute (replacing (argument.at_call p r.formals arguments)) (alone (item_head p (Some r) i.1)),
+)
+
+-- what is replaced in EXIT: the starts of value parameters, INITIAL names, and what `after` has
+abbrev pub pairs_at_exit : Program → Routine → List argument.Argument → List (Head × Term) → List (Head × Term)
+pairs_at_exit p r arguments after = argument.starts_at_call p r.formals arguments ++ (argument.initial_at_call p r arguments ++ after)
 
 -- a call of a routine with these arguments, where `after` says what stands for its result, its VAR parameters and its VAR items
 abbrev pub called_with : Program → Routine → ℕ → List argument.Argument → List (Head × Term) → Called

@@ -98,7 +98,7 @@ pub(crate) fn add_own(
 }
 
 // The sort of what an INITIAL name stands for.
-fn item_sort(variables: &Named<Sort>, item: Item) -> Sort
+pub(crate) fn item_sort(variables: &Named<Sort>, item: Item) -> Sort
     ensures { result ≡ item_sort_in variables.now item }
 {
     match item {

@@ -1,17 +1,18 @@
 // What a call asks and promises, in the caller's terms.
 
-ghost use Rattle.std.specs.Prelude.{◌≡◌, ◌<◌, ◌++◌, [], ◌∷◌, length, map, IfOk, IsSome, IsTrue, List, OnOk, Some};
+ghost use Rattle.std.specs.Prelude.{◌≡◌, ◌<◌, ◌≤◌, ◌++◌, [], ◌∷◌, length, map, IfOk, IsSome, IsTrue, List, OnOk, Option, Some};
 ghost use Rattle.spv_logic.specs.declared.conditions.RoutineId.{RoutineId};
 ghost use Rattle.spv_logic.specs.declared.operators.Head.{Head};
-ghost use Rattle.spv_logic.specs.Sorts.{term_sort, variable_sort};
+ghost use Rattle.spv_logic.specs.Sorts.{head_in_range, sort_in_range, term_sort, variable_sort};
 ghost use Rattle.spv_logic.specs.Terms.{Term};
-ghost use Rattle.spv_logic.specs.Substitution.{substitute as substitute_term};
-ghost use Rattle.spv_term.specs.Arena.{Extends, tree};
+ghost use Rattle.spv_logic.specs.Substitution.{is_variable, replaced, substitute as substitute_term};
+ghost use Rattle.spv_term.specs.Arena.{Arena, Extends, tree};
 ghost use Rattle.spv_term.specs.substitution.Images.{ArePairs};
 ghost use Rattle.spv_program.specs.Programs as programs;
 ghost use Rattle.spv_program.specs.Programs.{shapes};
 ghost use Rattle.spv_program.specs.Calls as plain;
-ghost use Rattle.spv_program.specs.Terms.{entry_term, exit_term, item_head};
+ghost use Rattle.spv_program.specs.Terms.{alone, entry_term, exit_term, item_head};
+ghost use Rattle.spv_program.specs.Types.{sort_of};
 ghost use Rattle.spv_program.specs.typed.ProgramViews.{formal_of, routine_of};
 ghost use Rattle.spv_program.specs.typed.FormulaViews.{annotation_of};
 ghost use Rattle.spv_expression_terms.specs.term_walk.Laws.{HasNamesOf, variable_scope};
@@ -20,10 +21,11 @@ ghost use Rattle.spv_assign.specs.creation_trace.Events.{Answers};
 ghost use Rattle.spv_assign.specs.creation_trace.StatementEvents.{pair_terms, several};
 ghost use Rattle.spv_assign.specs.supply.Numbers.{AreThere, supply_of};
 ghost use Rattle.spv_flow_parts.specs.Walks.{MakesTerm};
-ghost use Rattle.spv_flow_parts.specs.calls.Arguments.{Calling, AddsCalls, AddsPairs, AreAfter, AreArguments, ArePresent, FitHeads, IsArgument, IsAtCall, MakesBy, MakesCall, call_line, called_routine, called_with, one_call};
+ghost use Rattle.spv_flow_parts.specs.leaves.Values.{IsTermIfThere};
+ghost use Rattle.spv_flow_parts.specs.calls.Arguments.{Calling, AddsCalls, AddsPairs, AreAfter, AreArguments, ArePresent, FitHeads, IsArgument, IsAtCall, MakesBy, MakesCall, argument_in, call_line, called_routine, called_with, initial_pair, one_call, pairs_at_exit};
 ghost use Rattle.spv_flow_parts.specs.calls.Events.{at_call_events, entry_events, exit_events, made_at_call};
 
-use crate::body_tables::variables_of;
+use crate::body_tables::{item_sort, variables_of};
 use crate::calls::callees::{entry_names, exit_names, start_names};
 use crate::calls::passed::Argument;
 use crate::leaves::Called;
@@ -50,6 +52,39 @@ fn push_pair(pairs: &mut Vec<(TermId, TermId)>, from: TermId, to: TermId) -> Res
     Ok(())
 }
 
+// A variable, class or start value, and what stands in its place, behind the pairs that are there.
+fn add_pair(
+    terms: &mut Terms,
+    pairs: &mut Vec<(TermId, TermId)>,
+    head: Head,
+    t: TermId,
+) -> Result<(), GenFault>
+    requires variable { IsTrue (is_variable head) }
+    requires types { IsTrue (head_in_range terms.old.shapes head) }
+    requires t { t.0 < length terms.old.nodes }
+    requires sort { term_sort terms.old.shapes terms.old.decls (tree terms.old t) ≡ Some (variable_sort head) }
+    ensures { AddsPairs result ((head, tree terms.old t) ∷ []) terms.old terms.new pairs.old.items pairs.new.items }
+{
+    terms.law_arena();
+    let name = made(terms, head, &[])?;
+    push_pair(pairs, name, t)?;
+    Ok(())
+}
+
+fn present_argument(terms: &mut Terms, given: &Argument) -> Result<TermId, GenFault>
+    requires given { IsArgument terms.old given.now (argument_in terms.old given.now) }
+    requires sorts { IsSome (term_sort terms.old.shapes terms.old.decls (plain.present_argument (argument_in terms.old given.now))) }
+    ensures { MakesTerm result (plain.present_argument (argument_in terms.old given.now)) terms.old terms.new }
+{
+    match given {
+        Argument::Given(t) => Ok(*t),
+        Argument::AtPlace(d) => {
+            let made = present(terms, d);
+            limited(terms, made)
+        }
+    }
+}
+
 // What stands for the parameters now.
 fn present_arguments(
     alloc: Global,
@@ -69,21 +104,6 @@ fn present_arguments(
         ids.push(id)?;
     }
     Ok(ids)
-}
-
-fn present_argument(terms: &mut Terms, given: &Argument) -> Result<TermId, GenFault>
-    ghost argument: { plain.Argument }
-    requires given { IsArgument terms.old given.now argument }
-    requires sorts { IsSome (term_sort terms.old.shapes terms.old.decls (plain.present_argument argument)) }
-    ensures { MakesTerm result (plain.present_argument argument) terms.old terms.new }
-{
-    match given {
-        Argument::Given(t) => Ok(*t),
-        Argument::AtPlace(d) => {
-            let made = present(terms, d);
-            limited(terms, made)
-        }
-    }
 }
 
 // Each parameter and what stands for it at the call.
@@ -107,12 +127,8 @@ fn at_call(
     let mut pairs = Vec::new(alloc);
     for place in 0..formals.len() {
         let formal = formals[place];
-        let name = made(
-            terms,
-            Head::Var(formal.name, sort_of(forms, formal.of), 0),
-            &[],
-        )?;
-        push_pair(&mut pairs, name, now[place])?;
+        let head = Head::Var(formal.name, sort_of(forms, formal.of), 0);
+        add_pair(terms, &mut pairs, head, now[place])?;
     }
     Ok(pairs)
 }
@@ -135,6 +151,24 @@ fn with_pairs(
     limited(terms, answer)
 }
 
+// The term of ENTRY.
+fn entry_term(
+    program: &Program,
+    alloc: Global,
+    terms: &mut Terms,
+    routine: &Routine,
+    entry: &Annotation,
+) -> Result<TermId, GenFault>
+    ghost at: { Calling }
+    requires at { IsAtCall program.now terms.old at.number (routine_of routine.now) at.arguments }
+    requires entry { (routine_of routine.now).entry ≡ Some (annotation_of entry.now) }
+    ensures { MakesTerm result (entry_term program.now (routine_of routine.now) (annotation_of entry.now)) terms.old terms.new }
+{
+    let names = entry_names(alloc, program, routine)?;
+    let f = formula_term(terms, alloc, &names, &entry.formula);
+    limited(terms, f)
+}
+
 // ENTRY with what stands for the parameters in their places.
 fn entry_at_call(
     program: &Program,
@@ -151,12 +185,36 @@ fn entry_at_call(
     ensures { MakesBy result (substitute_term (plain.replacing (plain.at_call program.now (routine_of routine.now).formals at.arguments)) (entry_term program.now (routine_of routine.now) (annotation_of entry.now)))
         (entry_events program.now (routine_of routine.now) at.arguments (Some (annotation_of entry.now))) terms.old terms.new }
 {
-    let names = entry_names(alloc, program, routine)?;
-    let f = formula_term(terms, alloc, &names, &entry.formula);
-    let f = limited(terms, f)?;
+    let f = entry_term(program, alloc, terms, routine, entry)?;
     let forms = program.forms.as_slice();
     let pairs = at_call(alloc, forms, terms, routine.formals.as_slice(), now)?;
     with_pairs(alloc, terms, f, pairs.as_slice())
+}
+
+// The start of a value parameter, and its argument.
+fn add_start(
+    forms: &[TypeForm],
+    terms: &mut Terms,
+    formal: &Formal,
+    given: &Argument,
+    pairs: &mut Vec<(TermId, TermId)>,
+) -> Result<(), GenFault>
+    ghost whole: { programs.Program }
+    requires forms { forms.now ≡ whole.forms }
+    requires types { IsTrue (sort_in_range terms.old.shapes (sort_of whole.forms formal.now.of)) }
+    requires given { IsArgument terms.old given.now (argument_in terms.old given.now) }
+    requires sort { term_sort terms.old.shapes terms.old.decls (plain.present_argument (argument_in terms.old given.now)) ≡ Some (sort_of whole.forms formal.now.of) }
+    ensures { AddsPairs result (plain.starts_at_call whole (formal_of formal.now ∷ []) (argument_in terms.old given.now ∷ [])) terms.old terms.new pairs.old.items pairs.new.items }
+{
+    match given {
+        Argument::Given(t) => add_pair(
+            terms,
+            pairs,
+            Head::Start(formal.name, sort_of(forms, formal.of)),
+            *t,
+        ),
+        Argument::AtPlace(_) => Ok(()),
+    }
 }
 
 // The start of each value parameter, and its argument.
@@ -175,43 +233,121 @@ fn add_starts(
     ensures { AddsPairs result (plain.starts_at_call at.program at.routine.formals at.arguments) terms.old terms.new pairs.old.items pairs.new.items }
 {
     for place in 0..formals.len() {
-        if let Argument::Given(t) = &given[place] {
-            let formal = formals[place];
-            let start = made(
-                terms,
-                Head::Start(formal.name, sort_of(forms, formal.of)),
-                &[],
-            )?;
-            push_pair(pairs, start, *t)?;
-        }
+        add_start(forms, terms, &formals[place], &given[place], pairs)?;
     }
     Ok(())
 }
 
-// The INITIAL names, and what their items are at the call.
-fn add_initial_items(
-    alloc: Global,
+// What stands for the parameter of this name now; none where no parameter has it.
+fn passed_by_name(formals: &[Formal], now: &[TermId], name: Symbol) -> Option<TermId>
+    ghost at: { Calling }
+    requires formals { map formal_of formals.now ≡ at.routine.formals }
+    requires count { length formals.now ≤ length now.now }
+    ensures { (a : Arena) → ArePresent a now.now at.arguments
+        → IsTermIfThere a result (plain.replacing (plain.at_call at.program at.routine.formals at.arguments) (item_head at.program (Some at.routine) (Item.Variable name))) }
+{
+    for place in 0..formals.len() {
+        if formals[place].name == name {
+            return Some(now[place]);
+        }
+    }
+    None
+}
+
+// What stands for the parameter that an item is now; none where it is none.
+fn passed(formals: &[Formal], now: &[TermId], item: Item) -> Option<TermId>
+    ghost at: { Calling }
+    requires formals { map formal_of formals.now ≡ at.routine.formals }
+    requires count { length formals.now ≤ length now.now }
+    ensures { (a : Arena) → ArePresent a now.now at.arguments
+        → IsTermIfThere a result (plain.replacing (plain.at_call at.program at.routine.formals at.arguments) (item_head at.program (Some at.routine) item)) }
+{
+    match item {
+        Item::Variable(x) => passed_by_name(formals, now, x),
+        Item::Class(_) => None,
+    }
+}
+
+// What stands for a parameter, where there is one, and else a variable or class itself.
+fn passed_or_itself(
+    terms: &mut Terms,
+    given: Option<TermId>,
+    head: Head,
+) -> Result<TermId, GenFault>
+    ghost by: { Option Term }
+    requires given { IsTermIfThere terms.old given by }
+    requires variable { IsTrue (is_variable head) }
+    requires types { IsTrue (head_in_range terms.old.shapes head) }
+    ensures { MakesTerm result (replaced by (alone head)) terms.old terms.new }
+{
+    match given {
+        Some(t) => Ok(t),
+        None => made(terms, head, &[]),
+    }
+}
+
+// What stands at the call for an item that an INITIAL name has.
+fn item_at_call(
     terms: &mut Terms,
     variables: &Named<Sort>,
-    initial: &[(Symbol, Item)],
-    parameters: &[(TermId, TermId)],
+    formals: &[Formal],
+    now: &[TermId],
+    item: Item,
+) -> Result<TermId, GenFault>
+    ghost at: { Calling }
+    requires at { IsAtCall at.program terms.old at.number at.routine at.arguments }
+    requires formals { map formal_of formals.now ≡ at.routine.formals }
+    requires variables { HasNamesOf variables.now (variable_scope at.program (Some at.routine)) }
+    requires now { ArePresent terms.old now.now at.arguments }
+    requires types { IsTrue (head_in_range terms.old.shapes (item_head at.program (Some at.routine) item)) }
+    ensures { MakesTerm result (substitute_term (plain.replacing (plain.at_call at.program at.routine.formals at.arguments)) (alone (item_head at.program (Some at.routine) item))) terms.old terms.new }
+{
+    let given = passed(formals, now, item);
+    passed_or_itself(terms, given, item_head(variables, item))
+}
+
+// An INITIAL name, and what its item is at the call.
+fn add_initial_item(
+    terms: &mut Terms,
+    variables: &Named<Sort>,
+    formals: &[Formal],
+    now: &[TermId],
+    name: Symbol,
+    item: Item,
     pairs: &mut Vec<(TermId, TermId)>,
 ) -> Result<(), GenFault>
     ghost at: { Calling }
     requires at { IsAtCall at.program terms.old at.number at.routine at.arguments }
+    requires formals { map formal_of formals.now ≡ at.routine.formals }
     requires variables { HasNamesOf variables.now (variable_scope at.program (Some at.routine)) }
+    requires now { ArePresent terms.old now.now at.arguments }
+    requires types { IsTrue (head_in_range terms.old.shapes (item_head at.program (Some at.routine) item)) }
+    ensures { AddsPairs result (initial_pair at.program at.routine at.arguments (name, item) ∷ []) terms.old terms.new pairs.old.items pairs.new.items }
+{
+    let t = item_at_call(terms, variables, formals, now, item)?;
+    let head = Head::Var(name, item_sort(variables, item), 0);
+    add_pair(terms, pairs, head, t)
+}
+
+// The INITIAL names, and what their items are at the call.
+fn add_initial_items(
+    terms: &mut Terms,
+    variables: &Named<Sort>,
+    formals: &[Formal],
+    now: &[TermId],
+    initial: &[(Symbol, Item)],
+    pairs: &mut Vec<(TermId, TermId)>,
+) -> Result<(), GenFault>
+    ghost at: { Calling }
+    requires at { IsAtCall at.program terms.old at.number at.routine at.arguments }
+    requires formals { map formal_of formals.now ≡ at.routine.formals }
+    requires variables { HasNamesOf variables.now (variable_scope at.program (Some at.routine)) }
+    requires now { ArePresent terms.old now.now at.arguments }
     requires initial { initial.now ≡ at.routine.initial }
-    requires parameters { pairs_of terms.old parameters.now ≡ plain.at_call at.program at.routine.formals at.arguments }
-    requires fit { ArePairs terms.old parameters.now }
     ensures { AddsPairs result (plain.initial_at_call at.program at.routine at.arguments) terms.old terms.new pairs.old.items pairs.new.items }
 {
     for (x, item) in initial {
-        let head = item_head(variables, *item);
-        let sort = variable_sort(head);
-        let name = made(terms, Head::Var(*x, sort, 0), &[])?;
-        let old = made(terms, head, &[])?;
-        let now = with_pairs(alloc, terms, old, parameters)?;
-        push_pair(pairs, name, now)?;
+        add_initial_item(terms, variables, formals, now, *x, *item, pairs)?;
     }
     Ok(())
 }
@@ -221,21 +357,8 @@ pub(crate) fn item_head(variables: &Named<Sort>, item: Item) -> Head
     ensures { (p : programs.Program) (r : programs.Routine) → HasNamesOf variables.now (variable_scope p (Some r)) → result ≡ item_head p (Some r) item }
 {
     match item {
-        Item::Variable(x) => match variables.get(x) {
-            Some(s) => Head::Var(x, *s, 0),
-            None => Head::Var(x, Sort::Int, 0),
-        },
+        Item::Variable(x) => Head::Var(x, item_sort(variables, item), 0),
         Item::Class(t) => Head::ClassVar(t, 0),
-    }
-}
-
-fn variable_sort(head: Head) -> Sort
-    ensures { result ≡ variable_sort head }
-{
-    match head {
-        Head::Var(_, s, _) => s,
-        Head::ClassVar(t, _) => Sort::Class(t),
-        _ => Sort::Int,
     }
 }
 
@@ -252,10 +375,63 @@ fn add_after(
     ensures { AddsPairs result at.after terms.old terms.new pairs.old.items pairs.new.items }
 {
     for (head, t) in after {
-        let name = made(terms, *head, &[])?;
-        push_pair(pairs, name, *t)?;
+        add_pair(terms, pairs, *head, *t)?;
     }
     Ok(())
+}
+
+// The term of EXIT, where these are the variables of the routine's body.
+fn exit_term(
+    program: &Program,
+    alloc: Global,
+    terms: &mut Terms,
+    routine: &Routine,
+    variables: &Named<Sort>,
+    exit: &Annotation,
+) -> Result<TermId, GenFault>
+    ghost at: { Calling }
+    requires at { IsAtCall program.now terms.old at.number (routine_of routine.now) at.arguments }
+    requires variables { HasNamesOf variables.now (variable_scope program.now (Some (routine_of routine.now))) }
+    requires exit { (routine_of routine.now).exit ≡ Some (annotation_of exit.now) }
+    ensures { MakesTerm result (exit_term program.now (routine_of routine.now) (annotation_of exit.now)) terms.old terms.new }
+{
+    let names = exit_names(alloc, program, routine, variables)?;
+    let starts = start_names(alloc, routine)?;
+    let f = exit_formula_term(terms, alloc, &names, &starts, &exit.formula);
+    limited(terms, f)
+}
+
+// What is replaced in EXIT: the starts of the value parameters, INITIAL names, and what `after` has.
+fn exit_pairs(
+    program: &Program,
+    alloc: Global,
+    terms: &mut Terms,
+    routine: &Routine,
+    variables: &Named<Sort>,
+    given: &[Argument],
+    now: &[TermId],
+    after: &[(Head, TermId)],
+) -> Result<Vec<(TermId, TermId)>, GenFault>
+    ghost at: { Calling }
+    requires at { IsAtCall program.now terms.old at.number (routine_of routine.now) at.arguments }
+    requires variables { HasNamesOf variables.now (variable_scope program.now (Some (routine_of routine.now))) }
+    requires given { AreArguments terms.old given.now at.arguments }
+    requires now { ArePresent terms.old now.now at.arguments }
+    requires after { AreAfter terms.old after.now at.after }
+    requires fit { FitHeads program.now at.after }
+    ensures grows { Extends terms.old terms.new }
+    ensures walk { Answers result (several (pair_terms (pairs_at_exit program.now (routine_of routine.now) at.arguments at.after))) terms.old terms.new }
+    ensures pairs { IfOk result (λ ps. pairs_of terms.new ps.items ≡ pairs_at_exit program.now (routine_of routine.now) at.arguments at.after) }
+    ensures fit { IfOk result (λ ps. ArePairs terms.new ps.items) }
+{
+    let forms = program.forms.as_slice();
+    let formals = routine.formals.as_slice();
+    let mut pairs = Vec::new(alloc);
+    add_starts(forms, terms, formals, given, &mut pairs)?;
+    let initial = routine.initial.as_slice();
+    add_initial_items(terms, variables, formals, now, initial, &mut pairs)?;
+    add_after(terms, after, &mut pairs)?;
+    Ok(pairs)
 }
 
 // EXIT with the arguments at the starts of the value parameters, INITIAL names as they are at the call, and what `after` says.
@@ -277,29 +453,65 @@ fn exit_at_call(
     requires now { ArePresent terms.old now.now at.arguments }
     requires after { AreAfter terms.old after.now at.after }
     requires fit { FitHeads program.now at.after }
-    ensures { MakesBy result (substitute_term (plain.replacing (plain.starts_at_call program.now (routine_of routine.now).formals at.arguments ++ (plain.initial_at_call program.now (routine_of routine.now) at.arguments ++ at.after))) (exit_term program.now (routine_of routine.now) (annotation_of exit.now)))
+    ensures { MakesBy result (substitute_term (plain.replacing (pairs_at_exit program.now (routine_of routine.now) at.arguments at.after)) (exit_term program.now (routine_of routine.now) (annotation_of exit.now)))
         (exit_events program.now (routine_of routine.now) at.arguments at.after (Some (annotation_of exit.now))) terms.old terms.new }
 {
     let variables = variables_of(alloc, program, Some(number))?;
-    let names = exit_names(alloc, program, routine, &variables)?;
-    let starts = start_names(alloc, routine)?;
-    let f = exit_formula_term(terms, alloc, &names, &starts, &exit.formula);
-    let f = limited(terms, f)?;
-    let forms = program.forms.as_slice();
-    let formals = routine.formals.as_slice();
-    let mut pairs = Vec::new(alloc);
-    add_starts(forms, terms, formals, given, &mut pairs)?;
-    let parameters = at_call(alloc, forms, terms, formals, now)?;
-    add_initial_items(
-        alloc,
-        terms,
-        &variables,
-        routine.initial.as_slice(),
-        parameters.as_slice(),
-        &mut pairs,
+    let f = exit_term(program, alloc, terms, routine, &variables, exit)?;
+    let pairs = exit_pairs(
+        program, alloc, terms, routine, &variables, given, now, after,
     )?;
-    add_after(terms, after, &mut pairs)?;
     with_pairs(alloc, terms, f, pairs.as_slice())
+}
+
+// ENTRY at the call, where the routine has one.
+fn needs_of(
+    program: &Program,
+    alloc: Global,
+    terms: &mut Terms,
+    routine: &Routine,
+    now: &[TermId],
+) -> Result<Option<TermId>, GenFault>
+    ghost at: { Calling }
+    requires at { IsAtCall program.now terms.old at.number (routine_of routine.now) at.arguments }
+    requires now { ArePresent terms.old now.now at.arguments }
+    ensures grows { Extends terms.old terms.new }
+    ensures walk { Answers result (entry_events program.now (routine_of routine.now) at.arguments (routine_of routine.now).entry) terms.old terms.new }
+    ensures term { IfOk result (λ t. IsTermIfThere terms.new t (plain.entry_at_call program.now (routine_of routine.now) at.arguments)) }
+{
+    match &routine.entry {
+        None => Ok(None),
+        Some(a) => Ok(Some(entry_at_call(program, alloc, terms, routine, a, now)?)),
+    }
+}
+
+// EXIT at the call, where the routine has one.
+fn gives_of(
+    program: &Program,
+    alloc: Global,
+    terms: &mut Terms,
+    number: RoutineId,
+    routine: &Routine,
+    given: &[Argument],
+    now: &[TermId],
+    after: &[(Head, TermId)],
+) -> Result<Option<TermId>, GenFault>
+    ghost at: { Calling }
+    requires at { IsAtCall program.now terms.old number (routine_of routine.now) at.arguments }
+    requires given { AreArguments terms.old given.now at.arguments }
+    requires now { ArePresent terms.old now.now at.arguments }
+    requires after { AreAfter terms.old after.now at.after }
+    requires fit { FitHeads program.now at.after }
+    ensures grows { Extends terms.old terms.new }
+    ensures walk { Answers result (exit_events program.now (routine_of routine.now) at.arguments at.after (routine_of routine.now).exit) terms.old terms.new }
+    ensures term { IfOk result (λ t. IsTermIfThere terms.new t (plain.exit_at_call program.now (routine_of routine.now) at.arguments at.after)) }
+{
+    match &routine.exit {
+        None => Ok(None),
+        Some(a) => Ok(Some(exit_at_call(
+            program, alloc, terms, number, routine, a, given, now, after,
+        )?)),
+    }
 }
 
 // A call of the routine with this number, with these arguments, where `after` says what stands for its result, its VAR parameters and its VAR items.
@@ -320,27 +532,12 @@ pub(crate) fn called(
     ensures { MakesCall result (called_with program.now at.routine line at.arguments at.after) (at_call_events program.now at.routine at.arguments at.after) terms.old terms.new }
 {
     let routine = program.routines.get(number.0 as usize);
-    let now = present_arguments(alloc, terms, given)?;
-    let needs = match &routine.entry {
-        None => None,
-        Some(a) => Some(entry_at_call(program, alloc, terms, routine, a, now.as_slice())?),
-    };
-    let gives = match &routine.exit {
-        None => None,
-        Some(a) => Some(exit_at_call(
-            program,
-            alloc,
-            terms,
-            number,
-            routine,
-            a,
-            given,
-            now.as_slice(),
-            after,
-        )?),
-    };
+    let args = present_arguments(alloc, terms, given)?;
+    let now = args.as_slice();
+    let needs = needs_of(program, alloc, terms, routine, now)?;
+    let gives = gives_of(program, alloc, terms, number, routine, given, now, after)?;
     Ok(Called {
-        args: now,
+        args,
         needs,
         gives,
         line,
