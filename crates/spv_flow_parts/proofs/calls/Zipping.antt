@@ -84,6 +84,25 @@ module _ (p : Program) (old : Arena) (number : RoutineId) (r : Routine) (argumen
   pub range_in : (s : Sort) → sort_in_range (shapes p) s ≡ true → sort_in_range old.shapes s ≡ true
   range_in s e = ap (λ (l : List Shape). sort_in_range l s) at.shapes_are ∙ e
 
+  module _ (formals : List FormalText) (given : List code_argument.Argument) (place : ℕ) (are : map formal_of formals ≡ r.formals) (are_given : AreArguments old given arguments) where
+    pub formal_low : place < length given → place < length formals
+    formal_low low =
+        let count = given_count old given arguments are_given in
+        let formal = texts_count p formals r.formals arguments are at.fit in
+        omega (arith, low, count, formal)
+
+    pub formal_past : length given ≤ place → length formals ≤ place
+    formal_past past =
+        let count = given_count old given arguments are_given in
+        let formal = texts_count p formals r.formals arguments are at.fit in
+        omega (arith, past, count, formal)
+
+  pub passed_count : (formals : List FormalText) (now : List TermId) → map formal_of formals ≡ r.formals → ArePresent old now arguments → length formals ≤ length now
+  passed_count formals now are present =
+      let count = present_count old now arguments present in
+      let formal = texts_count p formals r.formals arguments are at.fit in
+      omega (arith, count, formal)
+
   -- ---- the parameter at a place
 
   module _ (forms : List TypeForm) (formals : List FormalText) (d : FormalText) (place : ℕ) (x : Argument) (are : map formal_of formals ≡ r.formals) (forms_are : forms ≡ p.forms) (low : place < length formals) where
@@ -201,3 +220,26 @@ pub at_call_pair : (p : Program) (f : FormalText) (x : Argument) (forms : List T
 at_call_pair p f x forms s t forms_are is same =
     let sort : s ≡ sort_of p.forms f.of = is ∙ ap (λ (fs : List TypeForm). sort_of fs f.of) forms_are in
     λ i. (head.Var f.name (sort i) 0, same i) ∷ []
+
+-- a value parameter and its argument, or a VAR parameter and its place
+pub record StartHere (p : Program) (a : Arena) (f : FormalText) (g : code_argument.Argument) (arguments : List Argument) (place : ℕ) : Type 0 where
+  pub low : place < length arguments
+  pub range : sort_in_range a.shapes (sort_of p.forms f.of) ≡ true
+  pub given : IsArgument a g (argument_in a g)
+  pub sort : term_sort a.shapes a.decls (present_argument (argument_in a g)) ≡ Some (sort_of p.forms f.of)
+  pub same : starts_at_call p (formal_of f ∷ []) (argument_in a g ∷ []) ≡ starts_at_call p (formal_of f ∷ []) (get_or arguments place no_argument ∷ [])
+
+pub start_here : (p : Program) (old a : Arena) (number : RoutineId) (r : Routine) (arguments : List Argument) → IsAtCall p old number r arguments → Extends old a → (formals : List FormalText) (given : List code_argument.Argument) (g : code_argument.Argument) (place : ℕ)
+    → map formal_of formals ≡ r.formals → AreArguments old given arguments → place < length formals → place < length given → g ≡ get_or given place g → StartHere p a (get_or formals place no_formal) g arguments place
+start_here p old a number r arguments at more formals given g place are are_given low given_low item =
+    let f = get_or formals place no_formal in
+    let now = IsAtCall-Extends p old number r arguments at a more in
+    let is = subst (λ (t : code_argument.Argument). IsArgument a t (get_or arguments place no_argument)) (sym item) (given_at a given arguments place g no_argument (AreArguments-Extends more given arguments are_given) given_low) in
+    let same = argument_is a g (get_or arguments place no_argument) is in
+    record {
+      low = place_given p old number r arguments at p.forms formals f place no_argument are refl low;
+      range = formal_range p a number r arguments now p.forms formals no_formal place no_argument are refl low (sort_of p.forms f.of) refl;
+      given = argument_itself a g (get_or arguments place no_argument) is;
+      sort = formal_sort p a number r arguments now p.forms formals no_formal place no_argument are refl low (sort_of p.forms f.of) refl (present_argument (argument_in a g)) (ap present_argument same);
+      same = ap (λ (x : Argument). starts_at_call p (formal_of f ∷ []) (x ∷ [])) same;
+    }

@@ -195,16 +195,16 @@ fn entry_at_call(
 fn add_start(
     forms: &[TypeForm],
     terms: &mut Terms,
-    formal: &Formal,
+    formal: Formal,
     given: &Argument,
     pairs: &mut Vec<(TermId, TermId)>,
 ) -> Result<(), GenFault>
     ghost whole: { programs.Program }
     requires forms { forms.now ≡ whole.forms }
-    requires types { IsTrue (sort_in_range terms.old.shapes (sort_of whole.forms formal.now.of)) }
+    requires types { IsTrue (sort_in_range terms.old.shapes (sort_of whole.forms formal.of)) }
     requires given { IsArgument terms.old given.now (argument_in terms.old given.now) }
-    requires sort { term_sort terms.old.shapes terms.old.decls (plain.present_argument (argument_in terms.old given.now)) ≡ Some (sort_of whole.forms formal.now.of) }
-    ensures { AddsPairs result (plain.starts_at_call whole (formal_of formal.now ∷ []) (argument_in terms.old given.now ∷ [])) terms.old terms.new pairs.old.items pairs.new.items }
+    requires sort { term_sort terms.old.shapes terms.old.decls (plain.present_argument (argument_in terms.old given.now)) ≡ Some (sort_of whole.forms formal.of) }
+    ensures { AddsPairs result (plain.starts_at_call whole (formal_of formal ∷ []) (argument_in terms.old given.now ∷ [])) terms.old terms.new pairs.old.items pairs.new.items }
 {
     match given {
         Argument::Given(t) => add_pair(
@@ -232,8 +232,9 @@ fn add_starts(
     requires given { AreArguments terms.old given.now at.arguments }
     ensures { AddsPairs result (plain.starts_at_call at.program at.routine.formals at.arguments) terms.old terms.new pairs.old.items pairs.new.items }
 {
-    for place in 0..formals.len() {
-        add_start(forms, terms, &formals[place], &given[place], pairs)?;
+    for place in 0..given.len() {
+        let formal = formals[place];
+        add_start(forms, terms, formal, &given[place], pairs)?;
     }
     Ok(())
 }
