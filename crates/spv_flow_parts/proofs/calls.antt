@@ -4,3 +4,4 @@ pub mod Passing
 pub mod AtCall
 pub mod Zipping
 pub mod Presenting
+pub mod Initial
