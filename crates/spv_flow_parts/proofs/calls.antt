@@ -5,3 +5,5 @@ pub mod AtCall
 pub mod Zipping
 pub mod Presenting
 pub mod Initial
+pub mod After
+pub mod Annotations

@@ -142,13 +142,13 @@ module _ (p : Program) (old : Arena) (number : RoutineId) (r : Routine) (argumen
   pub may_be_item : (item : Item) → may_be_initial r item ≡ true → head_in_range old.shapes (item_head p (Some r) item) ≡ true
   may_be_item item may = ap (λ (l : List Shape). head_in_range l (item_head p (Some r) item)) at.shapes_are ∙ by_item item may
     where
-      h1 = right_true (list_all (λ f. type_exists p.forms f.of) r.formals) _ (right_heading p old number r arguments at)
-      h2 = right_true (result_ok p r.result) _ h1
-      h3 = right_true (types_exist p r.locals) _ h2
-
       by_item : (item : Item) → may_be_initial r item ≡ true → head_in_range (shapes p) (item_head p (Some r) item) ≡ true
       by_item (Variable x) may = variable_there p (Some r) x (right_declarations p old number r arguments at) (right_heading p old number r arguments at)
-      by_item (Class t) may = shape_there p.forms t (listed_there p r.globals t (left_true (list_all (λ g. item_exists p g.item) r.globals) _ h3) may)
+      by_item (Class t) may =
+          let h1 = right_true (list_all (λ f. type_exists p.forms f.of) r.formals) _ (right_heading p old number r arguments at) in
+          let h2 = right_true (result_ok p r.result) _ h1 in
+          let h3 = right_true (types_exist p r.locals) _ h2 in
+          shape_there p.forms t (listed_there p r.globals t (left_true (list_all (λ g. item_exists p g.item) r.globals) _ h3) may)
 
   pub initial_may : list_all (λ i. may_be_initial r i.1) r.initial ≡ true
   initial_may =
