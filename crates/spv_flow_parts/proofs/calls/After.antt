@@ -4,6 +4,7 @@ use Rattle.std.proofs.lemmas.List.{drop_all, drop_more}
 use Rattle.std.specs.Prelude.{⊤}
 use Rattle.spv_logic.specs.declared.conditions.TermId.{TermId}
 use Rattle.spv_logic.specs.declared.types.Shape.{Shape}
+use Rattle.spv_logic.specs.declared.types.Sort.TheVariants as sort
 use Rattle.spv_logic.specs.declared.operators.Head.{Head}
 use Rattle.spv_logic.specs.declared.operators.Head.TheVariants as head
 use Rattle.spv_logic.specs.Terms.{Term}
@@ -40,6 +41,9 @@ fit_at p [] place d h low = absurd (omega (arith, low))
 fit_at p (q ∷ qs) zero d h low = h.0
 fit_at p (q ∷ qs) (suc n) d h low = fit_at p qs n d h.1 (let e : n < length qs = omega (arith, low) in e)
 
+abbrev pub no_after : Head × TermId
+no_after = (head.Var (record { 0 = 0 }) sort.Int 0, record { 0 = 0 })
+
 -- a pair at a place
 pub record AfterHere (a : Arena) (h : Head) (t : TermId) (qs : List (Head × Term)) (place : ℕ) : Type 0 where
   pub variable : is_variable h ≡ true
@@ -49,22 +53,21 @@ pub record AfterHere (a : Arena) (h : Head) (t : TermId) (qs : List (Head × Ter
   pub left : drop place qs ≡ ((h, tree a t) ∷ []) ++ drop (place + 1) qs
 
 module _ (p : Program) (old a : Arena) (ps : List (Head × TermId)) (qs : List (Head × Term)) (shapes_are : old.shapes ≡ shapes p) (decls_are : old.decls ≡ p.symbols) (are : AreAfter old ps qs) (fit : FitHeads p qs) where
-  pub after_here : (more : Extends old a) (place : ℕ) (h : Head) (t : TermId) (item : Head × TermId) → item ≡ get_or ps place item → h ≡ item.0 → t ≡ item.1 → place < length ps → AfterHere a h t qs place
-  after_here more place h t item is head_is term_is low =
+  pub after_here : (more : Extends old a) (place : ℕ) (d : Head × TermId) → place < length ps → AfterHere a (get_or ps place d).0 (get_or ps place d).1 qs place
+  after_here more place d low =
       let q = get_or qs place no_pair in
-      let here = after_at a ps qs place item (AreAfter-Extends more ps qs are) low in
+      let here = after_at a ps qs place d (AreAfter-Extends more ps qs are) low in
       let count = after_count old ps qs are in
       let below : place < length qs = omega (arith, low, count) in
       let right = fit_at p qs place no_pair fit below in
-      let same : h ≡ q.0 = head_is ∙ ap (λ (i : Head × TermId). i.0) is ∙ here.0 in
-      let id : t ≡ (get_or ps place item).1 = term_is ∙ ap (λ (i : Head × TermId). i.1) is in
-      let term : tree a t ≡ q.1 = ap (tree a) id ∙ here.1.is_tree in
+      let same : (get_or ps place d).0 ≡ q.0 = here.0 in
+      let term : tree a (get_or ps place d).1 ≡ q.1 = here.1.is_tree in
       let first = more.shapes ∙ shapes_are in
       let second = more.decls ∙ decls_are in
       record {
         variable = ap is_variable same ∙ right.0;
         range = (λ i. head_in_range (first i) (same i)) ∙ right.1.0;
-        there = subst (λ (u : TermId). u.0 < length a.nodes) (sym id) here.1.there;
+        there = here.1.there;
         sort = (λ i. term_sort (first i) (second i) (term i)) ∙ right.1.1 ∙ ap (λ (k : Head). Some (variable_sort k)) (sym same);
         left = drop_more qs place no_pair below ∙ (λ i. (sym same i, sym term i) ∷ drop (place + 1) qs);
       }

@@ -8,4 +8,4 @@ ghost-add_initial_item g a = g.at
 
 abbrev pub invariant-loop-x : goal.invariant-loop-x
 invariant-loop-x g l =
-    PairsSoFar l.fn.terms l.terms (map (initial_pair g.at.program g.at.routine g.at.arguments) g.at.routine.initial) (map (initial_pair g.at.program g.at.routine g.at.arguments) (drop l.x-index l.initial)) l.fn.pairs.items l.pairs.items
+    PairsSoFar l.fn.terms l.terms (map (initial_pair g.at.program g.at.routine g.at.arguments) g.at.routine.initial) (map (initial_pair g.at.program g.at.routine g.at.arguments) (drop l.x-index l.fn.initial)) l.fn.pairs.items l.pairs.items
