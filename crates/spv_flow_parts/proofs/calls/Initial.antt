@@ -165,6 +165,9 @@ module _ (p : Program) (old : Arena) (number : RoutineId) (r : Routine) (argumen
 
 -- ---- all of them
 
+abbrev pub no_item : Symbol × Item
+no_item = (record { 0 = 0 }, Variable (record { 0 = 0 }))
+
 module _ (p : Program) (r : Routine) (arguments : List Argument) (initial : List (Symbol × Item)) where
   abbrev left_at : ℕ → List (Head × Term)
   left_at place = map (initial_pair p r arguments) (drop place initial)

@@ -1,22 +1,24 @@
 -- What stands for arguments, one after the other.
-use Rattle.std.proofs.Common.{◌≡◌, ℕ, ◌+◌, ◌<◌, ◌≤◌, List, [], ◌∷◌, ◌++◌, map, get_or, drop, take, length, IsSome, refl, sym, ap, subst, ◌∙◌, arith}
+use Rattle.std.proofs.Common.{◌≡◌, ℕ, zero, suc, ◌+◌, ◌<◌, ◌≤◌, List, [], ◌∷◌, ◌++◌, map, get_or, drop, take, length, IsSome, refl, sym, ap, subst, ◌∙◌, arith}
 use Rattle.std.proofs.lemmas.List.{drop_all, drop_more, take_all, take_more}
 use Rattle.spv_logic.specs.declared.conditions.TermId.{TermId}
 use Rattle.spv_logic.specs.declared.conditions.RoutineId.{RoutineId}
+use Rattle.spv_logic.specs.declared.types.Decl.{Decl}
+use Rattle.spv_logic.specs.declared.types.Shape.{Shape}
 use Rattle.spv_logic.specs.Terms.{Term}
 use Rattle.spv_logic.specs.Sorts.{term_sort}
 use Rattle.spv_term.specs.Arena.{Arena, Extends}
-use Rattle.spv_program.specs.Programs.{Routine, Program}
+use Rattle.spv_program.specs.Programs.{Formal, Routine, Program}
 use Rattle.spv_program.specs.Calls.{Argument, present_argument}
 use Rattle.spv_assign.specs.declared.creation_trace.faults.GenFault.{GenFault}
 use Rattle.spv_assign.specs.creation_trace.Events.{Stops, Walked}
 use Rattle.spv_assign.specs.creation_trace.StatementEvents.{several}
 use Rattle.spv_assign.specs.limited_steps.Makes.{IsTerm}
 use Rattle.spv_flow_parts.specs.declared.calls.passed.Argument as code_argument
-use Rattle.spv_flow_parts.specs.calls.Arguments.{AreArguments, ArePresent, IsArgument, IsAtCall, argument_in}
+use Rattle.spv_flow_parts.specs.calls.Arguments.{AreArguments, ArePresent, IsArgument, FitFormals, HaveSorts, IsAtCall, argument_in}
 use Rattle.spv_flow_parts.proofs.calls.Building.{TermsSoFar, terms_begin, terms_end, terms_next, terms_stop}
 use Rattle.spv_flow_parts.proofs.calls.Passing.{AreArguments-Extends, ArePresent-Extends, argument_is, argument_itself, given_at, given_count, present_count}
-use Rattle.spv_flow_parts.proofs.calls.Zipping.{no_argument, sort_in, sort_somewhere}
+use Rattle.spv_flow_parts.proofs.calls.Zipping.{no_argument, sort_in}
 
 pub record PresentSoFar (old a : Arena) (arguments : List Argument) (place : ℕ) (ids : List TermId) : Type 0 where
   pub terms : TermsSoFar old a (map present_argument arguments) (map present_argument (drop place arguments))
@@ -30,6 +32,21 @@ present_push a [] [] t x h is = (is, tt)
 present_push a (s ∷ ids) (y ∷ arguments) t x h is = (h.0, present_push a ids arguments t x h.1 is)
 present_push a [] (y ∷ arguments) t x h is = absurd h
 present_push a (s ∷ ids) [] t x h is = absurd h
+
+have_sort : (shapes : List Shape) (decls : List Decl) (arguments : List Argument) (place : ℕ) (d : Argument) → HaveSorts shapes decls arguments → place < length arguments → IsSome (term_sort shapes decls (present_argument (get_or arguments place d)))
+have_sort shapes decls [] place d h low = absurd (omega (arith, low))
+have_sort shapes decls (x ∷ arguments) zero d h low = h.0
+have_sort shapes decls (x ∷ arguments) (suc n) d h low = have_sort shapes decls arguments n d h.1 (let e : n < length arguments = omega (arith, low) in e)
+
+-- arguments of a call have sorts
+pub have_sorts : (p : Program) (a : Arena) (number : RoutineId) (r : Routine) (arguments : List Argument) → IsAtCall p a number r arguments → HaveSorts a.shapes a.decls arguments
+have_sorts p a number r arguments at = by r.formals arguments at.fit
+  where
+    by : (formals : List Formal) (xs : List Argument) → FitFormals p formals xs → HaveSorts a.shapes a.decls xs
+    by [] [] h = tt
+    by (f ∷ formals) (x ∷ xs) h = (subst IsSome (sym (sort_in p a number r arguments at (present_argument x) ∙ h.0)) refl, by formals xs h.1)
+    by [] (x ∷ xs) h = absurd h
+    by (f ∷ formals) [] h = absurd h
 
 module _ (old a : Arena) (arguments : List Argument) (place : ℕ) (ids : List TermId) (given : List code_argument.Argument) (g : code_argument.Argument) (h : PresentSoFar old a arguments place ids) (are : AreArguments old given arguments)
     (low : place < length given) (item : g ≡ get_or given place g) where
@@ -50,10 +67,13 @@ module _ (old a : Arena) (arguments : List Argument) (place : ℕ) (ids : List T
   same_item : argument_in a g ≡ get_or arguments place no_argument
   same_item = argument_is a g x is_given_item
 
-  pub given_sort : (p : Program) (number : RoutineId) (r : Routine) → IsAtCall p a number r arguments → IsSome (term_sort a.shapes a.decls (present_argument (argument_in a g)))
-  given_sort p number r at =
-      subst IsSome (sym (ap (λ (y : Argument). term_sort a.shapes a.decls (present_argument y)) same_item ∙ sort_in p a number r arguments at (present_argument x)))
-      (sort_somewhere p r.formals arguments place no_argument at.fit given_low)
+  pub given_sort : HaveSorts old.shapes old.decls arguments → IsSome (term_sort a.shapes a.decls (present_argument (argument_in a g)))
+  given_sort sorts =
+      let more = h.terms.walked.grows in
+      let first = more.shapes in
+      let second = more.decls in
+      subst IsSome (sym (ap (λ (y : Argument). term_sort a.shapes a.decls (present_argument y)) same_item ∙ (λ i. term_sort (first i) (second i) (present_argument x))))
+      (have_sort old.shapes old.decls arguments place no_argument sorts given_low)
 
   split : TermsSoFar old a (map present_argument arguments) ((present_argument x ∷ []) ++ map present_argument (drop (place + 1) arguments))
   split = subst (λ (l : List Argument). TermsSoFar old a (map present_argument arguments) (map present_argument l)) (drop_more arguments place no_argument given_low) h.terms

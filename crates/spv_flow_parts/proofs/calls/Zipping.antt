@@ -45,13 +45,6 @@ routine_right p [] n r h e = absurd (nothing_there e)
 routine_right p (q ∷ rs) zero r h e = ap (routine_ok p) (sym (some_is e)) ∙ left_true (routine_ok p q) (list_all (routine_ok p) rs) h
 routine_right p (q ∷ rs) (suc n) r h e = routine_right p rs n r (right_true (routine_ok p q) (list_all (routine_ok p) rs) h) e
 
-pub sort_somewhere : (p : Program) (formals : List Formal) (arguments : List Argument) (place : ℕ) (x : Argument) → FitFormals p formals arguments → place < length arguments
-    → IsSome (term_sort (shapes p) p.symbols (present_argument (get_or arguments place x)))
-sort_somewhere p formals [] place x h low = absurd (omega (arith, low))
-sort_somewhere p [] (y ∷ arguments) place x h low = absurd h
-sort_somewhere p (f ∷ formals) (y ∷ arguments) zero x h low = subst IsSome (sym h.0) refl
-sort_somewhere p (f ∷ formals) (y ∷ arguments) (suc n) x h low = sort_somewhere p formals arguments n x h.1 (let e : n < length arguments = omega (arith, low) in e)
-
 type_somewhere : (p : Program) (formals : List FormalText) (place : ℕ) (d : FormalText) → list_all (λ f. type_exists p.forms f.of) (map formal_of formals) ≡ true → place < length formals
     → type_exists p.forms (get_or formals place d).of ≡ true
 type_somewhere p [] place d h low = absurd (omega (arith, low))

@@ -1,6 +1,8 @@
 -- Places and arguments with the calls in them, over an arena, and what is asked where they are made.
-use Rattle.std.specs.Prelude.{◌≡◌, ⊤, ℕ, List, [], ◌∷◌, ◌++◌, map, Option, Some, Result, IfOk, OnOk, IsTrue}
+use Rattle.std.specs.Prelude.{◌≡◌, ⊤, ℕ, List, [], ◌∷◌, ◌++◌, map, Option, Some, Result, IfOk, OnOk, IsSome, IsTrue}
 use Rattle.spv_logic.specs.declared.conditions.RoutineId.{RoutineId}
+use Rattle.spv_logic.specs.declared.types.Decl.{Decl}
+use Rattle.spv_logic.specs.declared.types.Shape.{Shape}
 use Rattle.spv_logic.specs.declared.types.Sort.{Sort}
 use Rattle.spv_logic.specs.declared.types.TypeId.{TypeId}
 use Rattle.spv_logic.specs.declared.names.names.Symbol.{Symbol}
@@ -195,6 +197,11 @@ abbrev pub ArePresent : Arena → List TermId → List argument.Argument → Typ
 ArePresent a [] [] = ⊤
 ArePresent a (t ∷ ts) (x ∷ xs) = IsTerm a t (argument.present_argument x) × ArePresent a ts xs
 ArePresent a _ _ = ⊥
+
+-- what stands for them has sorts
+abbrev pub HaveSorts : List Shape → List Decl → List argument.Argument → Type 0
+HaveSorts shapes decls [] = ⊤
+HaveSorts shapes decls (x ∷ xs) = IsSome (term_sort shapes decls (argument.present_argument x)) × HaveSorts shapes decls xs
 
 -- variables and what stands in their places, as heads and terms
 abbrev pub AreAfter : Arena → List (Head × TermId) → List (Head × Term) → Type 0

@@ -22,7 +22,7 @@ ghost use Rattle.spv_assign.specs.creation_trace.StatementEvents.{pair_terms, se
 ghost use Rattle.spv_assign.specs.supply.Numbers.{AreThere, supply_of};
 ghost use Rattle.spv_flow_parts.specs.Walks.{MakesTerm};
 ghost use Rattle.spv_flow_parts.specs.leaves.Values.{IsTermIfThere};
-ghost use Rattle.spv_flow_parts.specs.calls.Arguments.{Calling, AddsCalls, AddsPairs, AreAfter, AreArguments, ArePresent, FitHeads, IsArgument, IsAtCall, MakesBy, MakesCall, argument_in, call_line, called_routine, called_with, initial_pair, one_call, pairs_at_exit};
+ghost use Rattle.spv_flow_parts.specs.calls.Arguments.{Calling, AddsCalls, AddsPairs, AreAfter, AreArguments, ArePresent, FitHeads, HaveSorts, IsArgument, IsAtCall, MakesBy, MakesCall, argument_in, call_line, called_routine, called_with, initial_pair, one_call, pairs_at_exit};
 ghost use Rattle.spv_flow_parts.specs.calls.Events.{at_call_events, entry_events, exit_events, made_at_call};
 
 use crate::body_tables::{item_sort, variables_of};
@@ -92,7 +92,7 @@ fn present_arguments(
     given: &[Argument],
 ) -> Result<List<TermId>, GenFault>
     ghost at: { Calling }
-    requires at { IsAtCall at.program terms.old at.number at.routine at.arguments }
+    requires sorts { HaveSorts terms.old.shapes terms.old.decls at.arguments }
     requires given { AreArguments terms.old given.now at.arguments }
     ensures grows { Extends terms.old terms.new }
     ensures walk { Answers result (several (map plain.present_argument at.arguments)) terms.old terms.new }
@@ -179,6 +179,8 @@ fn entry_at_call(
     now: &[TermId],
 ) -> Result<TermId, GenFault>
     ghost at: { Calling }
+    requires program { at.program ≡ program.now }
+    requires routine { at.routine ≡ routine_of routine.now }
     requires at { IsAtCall program.now terms.old at.number (routine_of routine.now) at.arguments }
     requires entry { (routine_of routine.now).entry ≡ Some (annotation_of entry.now) }
     requires now { ArePresent terms.old now.now at.arguments }
@@ -414,6 +416,8 @@ fn exit_pairs(
     after: &[(Head, TermId)],
 ) -> Result<Vec<(TermId, TermId)>, GenFault>
     ghost at: { Calling }
+    requires program { at.program ≡ program.now }
+    requires routine { at.routine ≡ routine_of routine.now }
     requires at { IsAtCall program.now terms.old at.number (routine_of routine.now) at.arguments }
     requires variables { HasNamesOf variables.now (variable_scope program.now (Some (routine_of routine.now))) }
     requires given { AreArguments terms.old given.now at.arguments }

@@ -1,6 +1,5 @@
 use Rattle.spv_term.proofs.ArenaLemmas.{Extends-trans}
 use Rattle.spv_assign.proofs.limited_steps.Limits.{same_stop}
-use Rattle.spv_flow_parts.proofs.calls.Zipping.{IsAtCall-Extends}
 use Rattle.spv_flow_parts.proofs.calls.Presenting.{present_begin, given_itself, given_sort, present_stop, present_next, present_walk, present_all}
 use Rattle.spv_flow_parts.proofs.calls.at_call.present_arguments.Goals as goal
 
@@ -14,8 +13,7 @@ present_argument-requires-clause-given g c =
 pub present_argument-requires-clause-sorts : goal.present_argument-requires-clause-sorts
 present_argument-requires-clause-sorts g c =
     given_sort c.args.terms.now c.loop-argument.terms g.at.arguments c.loop-argument.argument-index c.loop-argument.ids c.args.given.now c.argument-item.result c.loop-argument.invariant c.requires.1 c.loop-argument-test.true c.argument-item.is
-    g.at.program g.at.number g.at.routine
-    (IsAtCall-Extends g.at.program c.args.terms.now g.at.number g.at.routine g.at.arguments c.requires.0 c.loop-argument.terms c.loop-argument.invariant.terms.walked.grows)
+    c.requires.0
 
 pub loop-argument-preserved : goal.loop-argument-preserved
 loop-argument-preserved g c =
