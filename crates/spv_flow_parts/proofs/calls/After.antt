@@ -11,12 +11,17 @@ use Rattle.spv_logic.specs.Terms.{Term}
 use Rattle.spv_logic.specs.Sorts.{head_in_range, term_sort, variable_sort}
 use Rattle.spv_logic.specs.Substitution.{is_variable}
 use Rattle.spv_term.specs.Arena.{Arena, Extends, tree}
-use Rattle.spv_program.specs.Programs.{Program, shapes}
+use Rattle.spv_program.specs.Programs.{Program, Routine, shapes}
+use Rattle.spv_program.specs.Scopes.{Scope}
+use Rattle.spv_expression_terms.specs.term_walk.Laws.{HasNamesOf, variable_scope}
 use Rattle.spv_program.specs.Terms.{truth}
 use Rattle.spv_assign.specs.declared.creation_trace.faults.GenFault.{GenFault}
+use Rattle.spv_assign.specs.creation_trace.Events.{Stops}
+use Rattle.spv_assign.specs.creation_trace.StatementEvents.{pair_terms, several}
 use Rattle.spv_assign.specs.limited_steps.Makes.{IsTerm}
 use Rattle.spv_flow_parts.specs.calls.Arguments.{AddsPairs, AreAfter, FitHeads}
-use Rattle.spv_flow_parts.proofs.calls.Building.{PairsSoFar, pairs_begin, pairs_end, pairs_next, pairs_stop}
+use Rattle.spv_flow_parts.proofs.calls.Building.{PairsSoFar, pairs_begin, pairs_end, pairs_next, pairs_none, pairs_stop, pairs_stop_walk}
+use Rattle.spv_flow_parts.proofs.Steps.{append_nil}
 use Rattle.spv_flow_parts.proofs.calls.Passing.{AreAfter-Extends}
 
 abbrev no_pair : Head × Term
@@ -84,3 +89,39 @@ module _ (old a b : Arena) (qs : List (Head × Term)) (place : ℕ) (h : Head) (
 
   pub after_stop : (o : Result ⊤ GenFault) (e : GenFault) (new last : List (TermId × TermId)) → IsErrAnd o (λ f. f ≡ e) → AddsPairs (Err e) ((h, tree a t) ∷ []) a b now new → AddsPairs o qs old b start last
   after_stop o e new last is k = pairs_stop old a b qs ((h, tree a t) ∷ []) (drop (place + 1) qs) start now split o e new last is k
+
+-- ---- starts, INITIAL names and what a caller gives, one behind the other
+
+pub names_as : (p q : Program) (r s : Routine) (names : Scope) → q ≡ p → s ≡ r → HasNamesOf names (variable_scope p (Some r)) → HasNamesOf names (variable_scope q (Some s))
+names_as p q r s names e f h = subst (λ (x : Program). HasNamesOf names (variable_scope x (Some s))) (sym e) (subst (λ (x : Routine). HasNamesOf names (variable_scope p (Some x))) (sym f) h)
+
+module _ (old : Arena) (starts initial after : List (Head × Term)) where
+  abbrev all : List (Head × Term)
+  all = starts ++ (initial ++ after)
+
+  first : (start : List (TermId × TermId)) → start ≡ [] → PairsSoFar old old (starts ++ (initial ++ after)) (starts ++ (initial ++ after)) [] start
+  first start none = pairs_none old all start none
+
+  module _ (b : Arena) (start : List (TermId × TermId)) (none : start ≡ []) where
+    pub starts_stop : (e : GenFault) → Stops e (several (pair_terms starts)) old b → Stops e (several (pair_terms (starts ++ (initial ++ after)))) old b
+    starts_stop e stops = pairs_stop_walk old old b all starts (initial ++ after) [] start (first start none) e stops
+
+    pub starts_put : (u : ⊤) (new : List (TermId × TermId)) → AddsPairs (Ok u) starts old b start new → PairsSoFar old b (starts ++ (initial ++ after)) (initial ++ after) [] new
+    starts_put u new k = pairs_next old old b all starts (initial ++ after) [] start (first start none) u new k
+
+  module _ (b c : Arena) (now : List (TermId × TermId)) (h : PairsSoFar old b (starts ++ (initial ++ after)) (initial ++ after) [] now) where
+    pub initial_stops : (e : GenFault) → Stops e (several (pair_terms initial)) b c → Stops e (several (pair_terms (starts ++ (initial ++ after)))) old c
+    initial_stops e stops = pairs_stop_walk old b c all initial after [] now h e stops
+
+    pub initial_put : (u : ⊤) (new : List (TermId × TermId)) → AddsPairs (Ok u) initial b c now new → PairsSoFar old c (starts ++ (initial ++ after)) after [] new
+    initial_put u new k = pairs_next old b c all initial after [] now h u new k
+
+  module _ (c d : Arena) (now : List (TermId × TermId)) (h : PairsSoFar old c (starts ++ (initial ++ after)) after [] now) where
+    last : PairsSoFar old c all (after ++ []) [] now
+    last = subst (λ (l : List (Head × Term)). PairsSoFar old c all l [] now) (sym (append_nil after)) h
+
+    pub after_stops : (e : GenFault) → Stops e (several (pair_terms after)) c d → Stops e (several (pair_terms (starts ++ (initial ++ after)))) old d
+    after_stops e stops = pairs_stop_walk old c d all after [] [] now last e stops
+
+    pub after_put : (u : ⊤) (new : List (TermId × TermId)) → AddsPairs (Ok u) after c d now new → AddsPairs (Ok u) (starts ++ (initial ++ after)) old d [] new
+    after_put u new k = pairs_end all [] [] new refl (pairs_next old c d all after [] [] now last u new k) u

@@ -132,6 +132,10 @@ module _ (p : Program) (old : Arena) (number : RoutineId) (r : Routine) (argumen
       pub is_given : (t : code_argument.Argument) → IsArgument old (get_or given place t) (get_or arguments place x)
       is_given t = given_at old given arguments place t x are_given place_in
 
+-- the same by other names
+pub at_as : (p q : Program) (a : Arena) (number : RoutineId) (r s : Routine) (arguments : List Argument) → q ≡ p → s ≡ r → IsAtCall p a number r arguments → IsAtCall q a number s arguments
+at_as p q a number r s arguments e f at = subst (λ (x : Program). IsAtCall x a number s arguments) (sym e) (subst (λ (x : Routine). IsAtCall p a number x arguments) (sym f) at)
+
 -- ---- pairs of parameters and arguments
 
 module _ (zip : List Formal → List Argument → List (Head × Term)) where
