@@ -7,3 +7,4 @@ pub mod Presenting
 pub mod Initial
 pub mod After
 pub mod Annotations
+pub mod Called

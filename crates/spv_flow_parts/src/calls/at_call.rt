@@ -452,6 +452,7 @@ fn exit_at_call(
     after: &[(Head, TermId)],
 ) -> Result<TermId, GenFault>
     ghost at: { Calling }
+    requires number { at.number ≡ number }
     requires at { IsAtCall program.now terms.old number (routine_of routine.now) at.arguments }
     requires exit { (routine_of routine.now).exit ≡ Some (annotation_of exit.now) }
     requires given { AreArguments terms.old given.now at.arguments }
@@ -502,6 +503,7 @@ fn gives_of(
     after: &[(Head, TermId)],
 ) -> Result<Option<TermId>, GenFault>
     ghost at: { Calling }
+    requires number { at.number ≡ number }
     requires at { IsAtCall program.now terms.old number (routine_of routine.now) at.arguments }
     requires given { AreArguments terms.old given.now at.arguments }
     requires now { ArePresent terms.old now.now at.arguments }
