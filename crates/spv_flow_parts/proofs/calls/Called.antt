@@ -25,7 +25,8 @@ use Rattle.spv_flow_parts.specs.declared.leaves.valued.Called as code
 use Rattle.spv_flow_parts.specs.leaves.Values.{AreCalls, IsCall, IsTermIfThere}
 use Rattle.spv_flow_parts.specs.calls.Arguments.{ArePresent, MakesBy, MakesCall, called_with, pairs_at_exit}
 use Rattle.spv_flow_parts.specs.calls.Events.{at_call_events, entry_events, exit_events}
-use Rattle.spv_flow_parts.proofs.Steps.{IsTerm-Extends, stopped_at, went}
+use Rattle.spv_flow_parts.proofs.Steps.{stopped_at, went}
+use Rattle.spv_flow_parts.proofs.leaves.InFront.{IsTermIfThere-Extends}
 use Rattle.spv_flow_parts.proofs.calls.Passing.{ArePresent-Extends}
 
 -- ---- the routine of a number
@@ -73,14 +74,6 @@ module _ (p : Program) (r : Routine) (arguments : List Argument) (a b : Arena) w
 
     pub gives_term : (t : TermId) (f : Annotation) → r.exit ≡ Some f → IsTerm b t (substitute (replacing (pairs_at_exit p r arguments after)) (exit_term p r f)) → IsTermIfThere b (Some t) (exit_at_call p r arguments after)
     gives_term t f e h = subst (λ (o : Option Annotation). IsTermIfThere b (Some t) (option_map (λ f. substitute (replacing (pairs_at_exit p r arguments after)) (exit_term p r f)) o)) (sym e) h
-
--- ---- arenas that grow
-
-pub IsTermIfThere-Extends : {a b : Arena} (t : Option TermId) (x : Option Term) → Extends a b → IsTermIfThere a t x → IsTermIfThere b t x
-IsTermIfThere-Extends None None more h = tt
-IsTermIfThere-Extends (Some t) (Some x) more h = IsTerm-Extends t x more h
-IsTermIfThere-Extends None (Some x) more h = absurd h
-IsTermIfThere-Extends (Some t) None more h = absurd h
 
 present_below : (a : Arena) (ts : List TermId) (xs : List Argument) → ArePresent a ts xs → AllBelow (length a.nodes) ts
 present_below a [] [] h = tt

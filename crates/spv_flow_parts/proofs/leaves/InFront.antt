@@ -170,7 +170,7 @@ AllBelow-more : (m n : ℕ) (ts : List TermId) → m ≤ n → AllBelow m ts →
 AllBelow-more m n [] more h = tt
 AllBelow-more m n (t ∷ ts) more h = (let below = h.0 in omega (arith, more, below), AllBelow-more m n ts more h.1)
 
-IsTermIfThere-Extends : {a b : Arena} (t : Option TermId) (x : Option Term) → Extends a b → IsTermIfThere a t x → IsTermIfThere b t x
+pub IsTermIfThere-Extends : {a b : Arena} (t : Option TermId) (x : Option Term) → Extends a b → IsTermIfThere a t x → IsTermIfThere b t x
 IsTermIfThere-Extends None None more h = tt
 IsTermIfThere-Extends (Some t) (Some x) more h = IsTerm-Extends t x more h
 IsTermIfThere-Extends None (Some x) more h = absurd h
