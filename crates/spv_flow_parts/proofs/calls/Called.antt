@@ -47,34 +47,6 @@ routine_same rs wanted n r q are e = by rs n (ap (λ (l : List Routine). item_at
     by (s ∷ rs) zero e f = ap routine_of (sym (some_is f)) ∙ some_is e
     by (s ∷ rs) (suc n) e f = by rs n e f
 
--- ---- ENTRY and EXIT, where there are
-
-module _ (p : Program) (r : Routine) (arguments : List Argument) (a b : Arena) where
-  pub needs_none : r.entry ≡ None → Walked (entry_events p r arguments r.entry) a a
-  needs_none e = subst (λ (o : Option Annotation). Walked (entry_events p r arguments o) a a) (sym e) (nothing_walked a)
-
-  pub needs_nothing : r.entry ≡ None → IsTermIfThere a None (entry_at_call p r arguments)
-  needs_nothing e = subst (λ (o : Option Annotation). IsTermIfThere a None (option_map (λ f. substitute (replacing (at_call p r.formals arguments)) (entry_term p r f)) o)) (sym e) tt
-
-  pub needs_answers : {X : Type 0} (o : Result X GenFault) (f : Annotation) → r.entry ≡ Some f → Answers o (entry_events p r arguments (Some f)) a b → Answers o (entry_events p r arguments r.entry) a b
-  needs_answers o f e h = subst (λ (n : Option Annotation). Answers o (entry_events p r arguments n) a b) (sym e) h
-
-  pub needs_term : (t : TermId) (f : Annotation) → r.entry ≡ Some f → IsTerm b t (substitute (replacing (at_call p r.formals arguments)) (entry_term p r f)) → IsTermIfThere b (Some t) (entry_at_call p r arguments)
-  needs_term t f e h = subst (λ (o : Option Annotation). IsTermIfThere b (Some t) (option_map (λ f. substitute (replacing (at_call p r.formals arguments)) (entry_term p r f)) o)) (sym e) h
-
-  module _ (after : List (Head × Term)) where
-    pub gives_none : r.exit ≡ None → Walked (exit_events p r arguments after r.exit) a a
-    gives_none e = subst (λ (o : Option Annotation). Walked (exit_events p r arguments after o) a a) (sym e) (nothing_walked a)
-
-    pub gives_nothing : r.exit ≡ None → IsTermIfThere a None (exit_at_call p r arguments after)
-    gives_nothing e = subst (λ (o : Option Annotation). IsTermIfThere a None (option_map (λ f. substitute (replacing (pairs_at_exit p r arguments after)) (exit_term p r f)) o)) (sym e) tt
-
-    pub gives_answers : {X : Type 0} (o : Result X GenFault) (f : Annotation) → r.exit ≡ Some f → Answers o (exit_events p r arguments after (Some f)) a b → Answers o (exit_events p r arguments after r.exit) a b
-    gives_answers o f e h = subst (λ (n : Option Annotation). Answers o (exit_events p r arguments after n) a b) (sym e) h
-
-    pub gives_term : (t : TermId) (f : Annotation) → r.exit ≡ Some f → IsTerm b t (substitute (replacing (pairs_at_exit p r arguments after)) (exit_term p r f)) → IsTermIfThere b (Some t) (exit_at_call p r arguments after)
-    gives_term t f e h = subst (λ (o : Option Annotation). IsTermIfThere b (Some t) (option_map (λ f. substitute (replacing (pairs_at_exit p r arguments after)) (exit_term p r f)) o)) (sym e) h
-
 present_below : (a : Arena) (ts : List TermId) (xs : List Argument) → ArePresent a ts xs → AllBelow (length a.nodes) ts
 present_below a [] [] h = tt
 present_below a (t ∷ ts) (x ∷ xs) h = (h.0.there, present_below a ts xs h.1)

@@ -268,6 +268,11 @@ pub record IsAtCall (p : Program) (a : Arena) (number : RoutineId) (r : Routine)
   pub routine : routine_at p number ≡ Some r
   pub fit : FitFormals p r.formals arguments
 
+-- the same of a routine, whatever its number
+pub record IsCallable (p : Program) (a : Arena) (r : Routine) (arguments : List argument.Argument) : Type 0 where
+  pub number : RoutineId
+  pub at : IsAtCall p a number r arguments
+
 -- pairs of variables and the terms in their places, behind those that are there
 pub record AddsPairs (r : Result ⊤ GenFault) (qs : List (Head × Term)) (a b : Arena) (old new : List (TermId × TermId)) : Type 0 where
   pub grows : Extends a b

@@ -22,7 +22,7 @@ ghost use Rattle.spv_assign.specs.creation_trace.StatementEvents.{pair_terms, se
 ghost use Rattle.spv_assign.specs.supply.Numbers.{AreThere, supply_of};
 ghost use Rattle.spv_flow_parts.specs.Walks.{MakesTerm};
 ghost use Rattle.spv_flow_parts.specs.leaves.Values.{IsTermIfThere};
-ghost use Rattle.spv_flow_parts.specs.calls.Arguments.{Calling, AddsCalls, AddsPairs, AreAfter, AreArguments, ArePresent, FitHeads, HaveSorts, IsArgument, IsAtCall, MakesBy, MakesCall, argument_in, call_line, called_routine, called_with, initial_pair, one_call, pairs_at_exit};
+ghost use Rattle.spv_flow_parts.specs.calls.Arguments.{Calling, AddsCalls, AddsPairs, AreAfter, AreArguments, ArePresent, FitHeads, HaveSorts, IsArgument, IsAtCall, IsCallable, MakesBy, MakesCall, argument_in, call_line, called_routine, called_with, initial_pair, one_call, pairs_at_exit};
 ghost use Rattle.spv_flow_parts.specs.calls.Events.{at_call_events, entry_events, exit_events, made_at_call};
 
 use crate::body_tables::{item_sort, variables_of};
@@ -115,7 +115,7 @@ fn at_call(
     now: &[TermId],
 ) -> Result<Vec<(TermId, TermId)>, GenFault>
     ghost at: { Calling }
-    requires arena { IsAtCall at.program terms.old at.number at.routine at.arguments }
+    requires arena { IsCallable at.program terms.old at.routine at.arguments }
     requires formals { map formal_of formals.now ≡ at.routine.formals }
     requires forms { forms.now ≡ at.program.forms }
     requires now { ArePresent terms.old now.now at.arguments }
@@ -160,7 +160,7 @@ fn entry_term(
     entry: &Annotation,
 ) -> Result<TermId, GenFault>
     ghost at: { Calling }
-    requires at { IsAtCall program.now terms.old at.number (routine_of routine.now) at.arguments }
+    requires at { IsCallable program.now terms.old (routine_of routine.now) at.arguments }
     requires entry { (routine_of routine.now).entry ≡ Some (annotation_of entry.now) }
     ensures { MakesTerm result (entry_term program.now (routine_of routine.now) (annotation_of entry.now)) terms.old terms.new }
 {
@@ -181,7 +181,7 @@ fn entry_at_call(
     ghost at: { Calling }
     requires program { at.program ≡ program.now }
     requires routine { at.routine ≡ routine_of routine.now }
-    requires at { IsAtCall program.now terms.old at.number (routine_of routine.now) at.arguments }
+    requires at { IsCallable program.now terms.old (routine_of routine.now) at.arguments }
     requires entry { (routine_of routine.now).entry ≡ Some (annotation_of entry.now) }
     requires now { ArePresent terms.old now.now at.arguments }
     ensures { MakesBy result (substitute_term (plain.replacing (plain.at_call program.now (routine_of routine.now).formals at.arguments)) (entry_term program.now (routine_of routine.now) (annotation_of entry.now)))
@@ -479,7 +479,7 @@ fn needs_of(
     now: &[TermId],
 ) -> Result<Option<TermId>, GenFault>
     ghost at: { Calling }
-    requires at { IsAtCall program.now terms.old at.number (routine_of routine.now) at.arguments }
+    requires at { IsCallable program.now terms.old (routine_of routine.now) at.arguments }
     requires now { ArePresent terms.old now.now at.arguments }
     ensures grows { Extends terms.old terms.new }
     ensures walk { Answers result (entry_events program.now (routine_of routine.now) at.arguments (routine_of routine.now).entry) terms.old terms.new }

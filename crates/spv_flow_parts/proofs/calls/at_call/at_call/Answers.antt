@@ -12,36 +12,36 @@ loop-place-init g c = zip_begin_none (at_call g.at.program) (at_call_by_place g.
 
 pub bounds-now-place : goal.bounds-now-place
 bounds-now-place g c =
-    place_present g.at.program c.args.terms.now g.at.number g.at.routine g.at.arguments c.requires.0 c.args.forms.now c.args.formals.now no_formal c.loop-place.place no_argument c.requires.1.0 c.requires.1.1.0 c.loop-place-test.true
+    place_present g.at.program c.args.terms.now c.requires.0.number g.at.routine g.at.arguments c.requires.0.at c.args.forms.now c.args.formals.now no_formal c.loop-place.place no_argument c.requires.1.0 c.requires.1.1.0 c.loop-place-test.true
     c.args.now.now c.requires.1.1.1
 
 pub add_pair-requires-clause-types : goal.add_pair-requires-clause-types
 add_pair-requires-clause-types g c =
-    formal_range g.at.program c.loop-place.terms g.at.number g.at.routine g.at.arguments
-    (IsAtCall-Extends g.at.program c.args.terms.now g.at.number g.at.routine g.at.arguments c.requires.0 c.loop-place.terms c.loop-place.invariant.walked.grows)
+    formal_range g.at.program c.loop-place.terms c.requires.0.number g.at.routine g.at.arguments
+    (IsAtCall-Extends g.at.program c.args.terms.now c.requires.0.number g.at.routine g.at.arguments c.requires.0.at c.loop-place.terms c.loop-place.invariant.walked.grows)
     c.args.forms.now c.args.formals.now no_formal c.loop-place.place no_argument c.requires.1.0 c.requires.1.1.0 c.loop-place-test.true c.sort_of.result c.sort_of.ensures
 
 pub add_pair-requires-clause-t : goal.add_pair-requires-clause-t
 add_pair-requires-clause-t g c =
-    (is_present g.at.program c.loop-place.terms g.at.number g.at.routine g.at.arguments
-    (IsAtCall-Extends g.at.program c.args.terms.now g.at.number g.at.routine g.at.arguments c.requires.0 c.loop-place.terms c.loop-place.invariant.walked.grows)
+    (is_present g.at.program c.loop-place.terms c.requires.0.number g.at.routine g.at.arguments
+    (IsAtCall-Extends g.at.program c.args.terms.now c.requires.0.number g.at.routine g.at.arguments c.requires.0.at c.loop-place.terms c.loop-place.invariant.walked.grows)
     c.args.forms.now c.args.formals.now no_formal c.loop-place.place no_argument c.requires.1.0 c.requires.1.1.0 c.loop-place-test.true c.args.now.now
     (ArePresent-Extends c.loop-place.invariant.walked.grows c.args.now.now g.at.arguments c.requires.1.1.1) (record { 0 = 0 })).there
 
 pub add_pair-requires-clause-sort : goal.add_pair-requires-clause-sort
 add_pair-requires-clause-sort g c =
-    let at = IsAtCall-Extends g.at.program c.args.terms.now g.at.number g.at.routine g.at.arguments c.requires.0 c.loop-place.terms c.loop-place.invariant.walked.grows in
-    let is = is_present g.at.program c.loop-place.terms g.at.number g.at.routine g.at.arguments at c.args.forms.now c.args.formals.now no_formal c.loop-place.place no_argument c.requires.1.0 c.requires.1.1.0 c.loop-place-test.true c.args.now.now
+    let at = IsAtCall-Extends g.at.program c.args.terms.now c.requires.0.number g.at.routine g.at.arguments c.requires.0.at c.loop-place.terms c.loop-place.invariant.walked.grows in
+    let is = is_present g.at.program c.loop-place.terms c.requires.0.number g.at.routine g.at.arguments at c.args.forms.now c.args.formals.now no_formal c.loop-place.place no_argument c.requires.1.0 c.requires.1.1.0 c.loop-place-test.true c.args.now.now
     (ArePresent-Extends c.loop-place.invariant.walked.grows c.args.now.now g.at.arguments c.requires.1.1.1) (record { 0 = 0 }) in
-    formal_sort g.at.program c.loop-place.terms g.at.number g.at.routine g.at.arguments at c.args.forms.now c.args.formals.now no_formal c.loop-place.place no_argument c.requires.1.0 c.requires.1.1.0 c.loop-place-test.true
+    formal_sort g.at.program c.loop-place.terms c.requires.0.number g.at.routine g.at.arguments at c.args.forms.now c.args.formals.now no_formal c.loop-place.place no_argument c.requires.1.0 c.requires.1.1.0 c.loop-place-test.true
     c.sort_of.result c.sort_of.ensures (tree c.loop-place.terms (get_or c.args.now.now c.loop-place.place (record { 0 = 0 }))) is.is_tree
 
 pub loop-place-preserved : goal.loop-place-preserved
 loop-place-preserved g c =
-    let at = IsAtCall-Extends g.at.program c.args.terms.now g.at.number g.at.routine g.at.arguments c.requires.0 c.loop-place.terms c.loop-place.invariant.walked.grows in
-    let is = is_present g.at.program c.loop-place.terms g.at.number g.at.routine g.at.arguments at c.args.forms.now c.args.formals.now no_formal c.loop-place.place no_argument c.requires.1.0 c.requires.1.1.0 c.loop-place-test.true c.args.now.now
+    let at = IsAtCall-Extends g.at.program c.args.terms.now c.requires.0.number g.at.routine g.at.arguments c.requires.0.at c.loop-place.terms c.loop-place.invariant.walked.grows in
+    let is = is_present g.at.program c.loop-place.terms c.requires.0.number g.at.routine g.at.arguments at c.args.forms.now c.args.formals.now no_formal c.loop-place.place no_argument c.requires.1.0 c.requires.1.1.0 c.loop-place-test.true c.args.now.now
     (ArePresent-Extends c.loop-place.invariant.walked.grows c.args.now.now g.at.arguments c.requires.1.1.1) (record { 0 = 0 }) in
-    let given = place_given g.at.program c.loop-place.terms g.at.number g.at.routine g.at.arguments at c.args.forms.now c.args.formals.now no_formal c.loop-place.place no_argument c.requires.1.0 c.requires.1.1.0 c.loop-place-test.true in
+    let given = place_given g.at.program c.loop-place.terms c.requires.0.number g.at.routine g.at.arguments at c.args.forms.now c.args.formals.now no_formal c.loop-place.place no_argument c.requires.1.0 c.requires.1.1.0 c.loop-place-test.true in
     zip_next (at_call g.at.program) (at_call_by_place g.at.program) c.args.formals.now g.at.routine.formals g.at.arguments c.args.terms.now c.loop-place.terms c.add_pair.new.terms c.loop-place.place [] c.loop-place.pairs.items
     c.loop-place-test.true given c.loop-place.invariant _
     (at_call_pair g.at.program (get_or c.args.formals.now c.loop-place.place no_formal) (get_or g.at.arguments c.loop-place.place no_argument) c.args.forms.now c.sort_of.result
@@ -53,10 +53,10 @@ returns-in_err-add_pair-clause-grows g c = Extends-trans c.loop-place.invariant.
 
 pub returns-in_err-add_pair-clause-walk : goal.returns-in_err-add_pair-clause-walk
 returns-in_err-add_pair-clause-walk g c =
-    let at = IsAtCall-Extends g.at.program c.args.terms.now g.at.number g.at.routine g.at.arguments c.requires.0 c.loop-place.terms c.loop-place.invariant.walked.grows in
-    let is = is_present g.at.program c.loop-place.terms g.at.number g.at.routine g.at.arguments at c.args.forms.now c.args.formals.now no_formal c.loop-place.place no_argument c.requires.1.0 c.requires.1.1.0 c.loop-place-test.true c.args.now.now
+    let at = IsAtCall-Extends g.at.program c.args.terms.now c.requires.0.number g.at.routine g.at.arguments c.requires.0.at c.loop-place.terms c.loop-place.invariant.walked.grows in
+    let is = is_present g.at.program c.loop-place.terms c.requires.0.number g.at.routine g.at.arguments at c.args.forms.now c.args.formals.now no_formal c.loop-place.place no_argument c.requires.1.0 c.requires.1.1.0 c.loop-place-test.true c.args.now.now
     (ArePresent-Extends c.loop-place.invariant.walked.grows c.args.now.now g.at.arguments c.requires.1.1.1) (record { 0 = 0 }) in
-    let given = place_given g.at.program c.loop-place.terms g.at.number g.at.routine g.at.arguments at c.args.forms.now c.args.formals.now no_formal c.loop-place.place no_argument c.requires.1.0 c.requires.1.1.0 c.loop-place-test.true in
+    let given = place_given g.at.program c.loop-place.terms c.requires.0.number g.at.routine g.at.arguments at c.args.forms.now c.args.formals.now no_formal c.loop-place.place no_argument c.requires.1.0 c.requires.1.1.0 c.loop-place-test.true in
     same_stop c.from_residual.result c.in_err-add_pair.field-0.0 _ _ _ c.from_residual.ensures.1
     (zip_stop_walk (at_call g.at.program) (at_call_by_place g.at.program) c.args.formals.now g.at.routine.formals g.at.arguments c.args.terms.now c.loop-place.terms c.add_pair.new.terms c.loop-place.place [] c.loop-place.pairs.items
     c.loop-place-test.true given c.loop-place.invariant _

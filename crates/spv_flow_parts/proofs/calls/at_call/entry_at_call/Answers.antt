@@ -18,8 +18,8 @@ use Rattle.spv_flow_parts.proofs.calls.at_call.entry_at_call.Goals as goal
 
 pub at_call-requires : goal.at_call-requires
 at_call-requires g c =
-    (at_as c.args.program.now g.at.program c.entry_term.new.terms g.at.number (routine_of c.args.routine.now) g.at.routine g.at.arguments c.requires.0 c.requires.1.0
-    (IsAtCall-Extends c.args.program.now c.args.terms.now g.at.number (routine_of c.args.routine.now) g.at.arguments c.requires.1.1.0 c.entry_term.new.terms c.in_ok-f.ensures.grows),
+    (record { number = c.requires.1.1.0.number; at = at_as c.args.program.now g.at.program c.entry_term.new.terms c.requires.1.1.0.number (routine_of c.args.routine.now) g.at.routine g.at.arguments c.requires.0 c.requires.1.0
+    (IsAtCall-Extends c.args.program.now c.args.terms.now c.requires.1.1.0.number (routine_of c.args.routine.now) g.at.arguments c.requires.1.1.0.at c.entry_term.new.terms c.in_ok-f.ensures.grows) },
     (ap (map formal_of) c.as_slice.ensures ∙ ap (λ (r : Routine). r.formals) (sym c.requires.1.0),
     (c.as_slice-forms.ensures ∙ ap (λ (p : Program). p.forms) (c.program.view_is ∙ sym c.requires.0),
     ArePresent-Extends c.in_ok-f.ensures.grows c.args.now.now g.at.arguments c.requires.1.1.1.1)))

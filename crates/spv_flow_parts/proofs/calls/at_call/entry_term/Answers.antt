@@ -6,11 +6,11 @@ use Rattle.spv_flow_parts.proofs.calls.at_call.entry_term.Goals as goal
 
 pub formula_term-f-requires : goal.formula_term-f-requires
 formula_term-f-requires g c =
-    entry_sorts_fit c.args.program.now c.args.terms.now g.at.number (routine_of c.args.routine.now) g.at.arguments c.requires.0 (annotation_of c.args.entry.now) c.in_ok-names.names c.in_ok-names.ensures c.requires.1
+    entry_sorts_fit c.args.program.now c.args.terms.now c.requires.0.number (routine_of c.args.routine.now) g.at.arguments c.requires.0.at (annotation_of c.args.entry.now) c.in_ok-names.names c.in_ok-names.ensures c.requires.1
 
 pub returns : goal.returns
 returns g c =
     let made = c.formula_term-f.ensures in
     term_made c.args.terms.now c.formula_term-f.new.terms _ _
-    (entry_in c.args.program.now c.args.terms.now g.at.number (routine_of c.args.routine.now) g.at.arguments c.requires.0 (annotation_of c.args.entry.now) c.in_ok-names.names c.in_ok-names.ensures)
+    (entry_in c.args.program.now c.args.terms.now c.requires.0.number (routine_of c.args.routine.now) g.at.arguments c.requires.0.at (annotation_of c.args.entry.now) c.in_ok-names.names c.in_ok-names.ensures)
     c.formula_term-f.result c.limited.result made.tree made.in_range made.grows made.only made.size c.limited.ensures.same c.limited.ensures.walk
