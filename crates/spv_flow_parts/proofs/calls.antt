@@ -8,3 +8,4 @@ pub mod Initial
 pub mod After
 pub mod Annotations
 pub mod Called
+pub mod FunctionCall

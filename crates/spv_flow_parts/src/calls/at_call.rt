@@ -11,6 +11,8 @@ ghost use Rattle.spv_term.specs.substitution.Images.{ArePairs};
 ghost use Rattle.spv_program.specs.Programs as programs;
 ghost use Rattle.spv_program.specs.Programs.{shapes};
 ghost use Rattle.spv_program.specs.Calls as plain;
+ghost use Rattle.spv_program.specs.ExpressionTerms.{sort_of_result};
+ghost use Rattle.spv_program.specs.Supplies as supplies;
 ghost use Rattle.spv_program.specs.Terms.{alone, entry_term, exit_term, item_head};
 ghost use Rattle.spv_program.specs.Types.{sort_of};
 ghost use Rattle.spv_program.specs.typed.ProgramViews.{formal_of, routine_of};
@@ -551,6 +553,33 @@ pub(crate) fn called(
     })
 }
 
+// The sort of a function's result.
+fn result_sort(program: &Program, routine: &Routine) -> Sort
+    ensures { result ≡ sort_of_result program.now (routine_of routine.now) }
+{
+    match routine.result {
+        Some(t) => sort_of(program.forms.as_slice(), t),
+        None => Sort::Int,
+    }
+}
+
+// A fresh variable of this name and sort.
+fn fresh_value(
+    terms: &mut Terms,
+    supply: &mut Supply,
+    name: Symbol,
+    sort: Sort,
+) -> Result<TermId, GenFault>
+    requires types { IsTrue (sort_in_range terms.old.shapes sort) }
+    requires there { AreThere terms.old (supply_of supply.old) }
+    ensures made { MakesTerm result (alone (supplies.fresh_variable name sort (supply_of supply.old)).head) terms.old terms.new }
+    ensures supply { IfOk result (λ t. supply_of supply.new ≡ (supplies.fresh_variable name sort (supply_of supply.old)).supply) }
+    ensures there { IfOk result (λ t. AreThere terms.new (supply_of supply.new)) }
+{
+    let fresh = supply.fresh_variable(terms, name, sort);
+    limited(terms, fresh)
+}
+
 // A call of a function, behind those in its arguments: its value is a fresh variable that has the function's name.
 pub(crate) fn function_call(
     program: &Program,
@@ -571,12 +600,9 @@ pub(crate) fn function_call(
         variables.old variables.new calls.old calls.new (supply_of supply.new) }
 {
     let routine = program.routines.get(call.routine.0 as usize);
-    let sort = match routine.result {
-        Some(t) => sort_of(program.forms.as_slice(), t),
-        None => Sort::Int,
-    };
-    let fresh = supply.fresh_variable(terms, routine.name, sort);
-    let value = limited(terms, fresh)?;
+    let sort = result_sort(program, routine);
+    let value = fresh_value(terms, supply, routine.name, sort)?;
+    terms.law_arena();
     let head = terms.node(value).head;
     let name = Head::Var(routine.name, sort, 0);
     let one = called(
