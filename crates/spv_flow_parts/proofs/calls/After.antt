@@ -3,7 +3,6 @@ use Rattle.std.proofs.Common.{◌≡◌, ℕ, zero, suc, ◌+◌, ◌<◌, ◌�
 use Rattle.std.proofs.lemmas.List.{drop_all, drop_more}
 use Rattle.std.specs.Prelude.{⊤}
 use Rattle.spv_logic.specs.declared.conditions.TermId.{TermId}
-use Rattle.spv_logic.specs.declared.types.Shape.{Shape}
 use Rattle.spv_logic.specs.declared.types.Sort.TheVariants as sort
 use Rattle.spv_logic.specs.declared.operators.Head.{Head}
 use Rattle.spv_logic.specs.declared.operators.Head.TheVariants as head
@@ -20,7 +19,7 @@ use Rattle.spv_assign.specs.creation_trace.Events.{Stops}
 use Rattle.spv_assign.specs.creation_trace.StatementEvents.{pair_terms, several}
 use Rattle.spv_assign.specs.limited_steps.Makes.{IsTerm}
 use Rattle.spv_flow_parts.specs.calls.Arguments.{AddsPairs, AreAfter, FitHeads}
-use Rattle.spv_flow_parts.proofs.calls.Building.{PairsSoFar, pairs_begin, pairs_end, pairs_next, pairs_none, pairs_stop, pairs_stop_walk}
+use Rattle.spv_flow_parts.proofs.calls.Building.{PairsSoFar, pairs_end, pairs_next, pairs_none, pairs_stop, pairs_stop_walk}
 use Rattle.spv_flow_parts.proofs.Steps.{append_nil}
 use Rattle.spv_flow_parts.proofs.calls.Passing.{AreAfter-Extends}
 

@@ -1,11 +1,10 @@
 -- The terms of ENTRY and EXIT of a routine.
-use Rattle.std.proofs.Common.{◌≡◌, true, List, Option, Some, is_some, refl, sym, ap, subst, ◌∙◌}
+use Rattle.std.proofs.Common.{◌≡◌, List, Some, is_some, sym, ap, subst, ◌∙◌}
 use Rattle.spv_logic.proofs.list.Tests.{left_true, right_true}
 use Rattle.spv_logic.specs.declared.names.names.Symbol.{Symbol}
 use Rattle.spv_logic.specs.declared.conditions.RoutineId.{RoutineId}
 use Rattle.spv_logic.specs.declared.types.Decl.{Decl}
 use Rattle.spv_logic.specs.declared.types.Shape.{Shape}
-use Rattle.spv_logic.specs.declared.types.Sort.{Sort}
 use Rattle.spv_logic.specs.declared.types.Sort.TheVariants as sort
 use Rattle.spv_logic.specs.Terms.{Term}
 use Rattle.spv_term.specs.Arena.{Arena}
@@ -16,10 +15,10 @@ use Rattle.spv_program.specs.Programs.{Routine, Program, shapes}
 use Rattle.spv_program.specs.Scopes.{Scope, entry_scope, exit_scope, is_value_parameter}
 use Rattle.spv_program.specs.Typing.{heading_ok}
 use Rattle.spv_program.specs.Calls.{Argument}
-use Rattle.spv_program.specs.Terms.{entry_term, exit_term, formula_term, name_at_exit, name_in}
+use Rattle.spv_program.specs.Terms.{entry_term, exit_term, formula_term, name_in}
 use Rattle.spv_program.proofs.SortFacts.{is_sort-true}
 use Rattle.spv_expression_terms.specs.term_walk.Names.{head_in}
-use Rattle.spv_expression_terms.specs.term_walk.Laws.{AreOfExit, HasNamesOf}
+use Rattle.spv_expression_terms.specs.term_walk.Laws.{HasNamesOf}
 use Rattle.spv_expression_terms.specs.term_walk.Makeable.{IsWellSorted}
 use Rattle.spv_expression_terms.specs.makeable_terms.Laws.{IsSorted}
 use Rattle.spv_expression_terms.proofs.term_walk.Tables.{tables_give_exits, tables_give_formulas}

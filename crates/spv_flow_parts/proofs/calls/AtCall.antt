@@ -1,6 +1,5 @@
 -- Annotations with what stands for parameters, starts and INITIAL names in their places.
-use Rattle.std.proofs.Common.{◌≡◌, ℕ, suc, ◌<◌, Bool, true, false, nat_eq, List, [], ◌∷◌, ◌++◌, map, length, Result, Ok, Err, IfOk, IsErrAnd, Option, Some, None, refl, sym, ap, subst, ◌∙◌, arith}
-use Rattle.std.proofs.lemmas.Bool.{false≢true}
+use Rattle.std.proofs.Common.{◌≡◌, ℕ, suc, ◌<◌, Bool, true, false, nat_eq, List, [], ◌∷◌, ◌++◌, length, Result, Ok, Err, IfOk, IsErrAnd, None, refl, sym, ap, subst, ◌∙◌, arith}
 use Rattle.std.proofs.lemmas.Bool.Decides.{nat_tests}
 use Rattle.spv_logic.specs.declared.conditions.TermId.{TermId}
 use Rattle.spv_logic.specs.declared.operators.Head.{Head}
@@ -24,7 +23,7 @@ use Rattle.spv_assign.proofs.limited_steps.Limits.{same_stop}
 use Rattle.spv_flow_parts.specs.Walks.{MakesTerm}
 use Rattle.spv_flow_parts.specs.calls.Arguments.{MakesBy}
 use Rattle.spv_flow_parts.specs.calls.Events.{replaced_events}
-use Rattle.spv_flow_parts.proofs.Steps.{IsTerm-Extends, answered_on, append_nil, stopped_at, stops_memory, went}
+use Rattle.spv_flow_parts.proofs.Steps.{IsTerm-Extends, answered_on, append_nil, stopped_at, went}
 use Rattle.spv_flow_parts.proofs.Terms.{term_made}
 use Rattle.spv_flow_parts.proofs.calls.Building.{there_already}
 

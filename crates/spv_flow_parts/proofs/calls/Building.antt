@@ -1,9 +1,8 @@
 -- Terms, and pairs of variables and terms, that are made one after the other.
-use Rattle.std.proofs.Common.{◌≡◌, ◌<◌, true, List, [], ◌∷◌, ◌++◌, length, Result, Ok, Err, IfOk, OnOk, IsErrAnd, Some, refl, sym, ap, subst, ◌∙◌, arith}
+use Rattle.std.proofs.Common.{◌≡◌, ◌<◌, true, List, [], ◌∷◌, ◌++◌, length, Result, Ok, Err, OnOk, IsErrAnd, Some, refl, sym, ap, subst, ◌∙◌, arith}
 use Rattle.std.proofs.lemmas.List.{append_assoc}
 use Rattle.std.specs.Prelude.{⊤}
 use Rattle.spv_logic.specs.declared.conditions.TermId.{TermId}
-use Rattle.spv_logic.specs.declared.types.Sort.{Sort}
 use Rattle.spv_logic.specs.declared.operators.Head.{Head}
 use Rattle.spv_logic.specs.Terms.{Term}
 use Rattle.spv_logic.specs.Sorts.{result_sort, term_sort, variable_sort}
@@ -17,10 +16,10 @@ use Rattle.spv_program.proofs.SortFacts.{some_is}
 use Rattle.spv_assign.specs.Conditions.{pairs_of}
 use Rattle.spv_assign.specs.declared.creation_trace.faults.GenFault.{GenFault}
 use Rattle.spv_assign.specs.declared.creation_trace.faults.GenFault.TheVariants as fault
-use Rattle.spv_assign.specs.creation_trace.Events.{Answers, Event, Stops, Walked}
+use Rattle.spv_assign.specs.creation_trace.Events.{Stops, Walked}
 use Rattle.spv_assign.specs.creation_trace.StatementEvents.{one, pair_terms, several}
 use Rattle.spv_assign.proofs.creation_trace.Walks.{adds_nothing, part_behind, stopped_behind}
-use Rattle.spv_assign.proofs.creation_trace.Covering.{AreCovered, covered_answers, covered_more, covered_nothing, covered_stops, covered_walked, same_walk}
+use Rattle.spv_assign.proofs.creation_trace.Covering.{AreCovered, covered_answers, covered_stops}
 use Rattle.spv_assign.proofs.supply.FreshLemmas.{variable_result}
 use Rattle.spv_assign.specs.limited_steps.Makes.{IsTerm}
 use Rattle.spv_assign.proofs.limited_steps.Limits.{same_stop}
@@ -87,9 +86,6 @@ module _ (a b : Arena) (h : Head) (t n : TermId) (ok : IsArena a) (there : t.0 <
     pairs = λ before same fit. not_ok _ r e is;
   }
 
-  pub pair_never : (r : Result ⊤ GenFault) (e : GenFault) (now new : List (TermId × TermId)) → IsErrAnd r (λ f. f ≡ e) → e ≡ fault.Memory → AddsPairs r ((h, tree a t) ∷ []) a b now new
-  pair_never r e now new is memory = pair_stops r e now new is (stops_memory e (one (alone h)) a b memory)
-
   module _ (is : IsTerm b n (alone h)) (of_sort : result_sort a.shapes a.decls h [] ≡ Some (sort_at b n)) (walked : Walked (one (alone h)) a b) where
     stays : IsTerm b t (tree a t)
     stays = record { there = let longer = length-Extends grows in omega (arith, there, longer); is_tree = tree-Extends grows t there }
@@ -115,13 +111,15 @@ module _ (a b : Arena) (h : Head) (t n : TermId) (ok : IsArena a) (there : t.0 <
 
         are : ArePairs a now → ArePairs b (now ++ (n, t) ∷ [])
         are fit =
-            are_pairs_both b now ((n, t) ∷ []) (ArePairs-Extends grows now fit)
-            (record {
-              variable_there = is.there;
-              term_there = stays.there;
-              variable = ap is_variable (ap head_of is.is_tree) ∙ variable;
-              same_sort = same_sorts;
-            }, tt)
+            are_pairs_both b now ((n, t) ∷ []) (ArePairs-Extends grows now fit) (
+              record {
+                variable_there = is.there;
+                term_there = stays.there;
+                variable = ap is_variable (ap head_of is.is_tree) ∙ variable;
+                same_sort = same_sorts;
+              },
+              tt,
+            )
 
 -- what stands in a variable's place may be made first
 module _ (a b : Arena) (h : Head) (x : Term) where

@@ -1,29 +1,24 @@
 -- A call with its ENTRY and EXIT.
-use Rattle.std.proofs.Common.{◌≡◌, ℕ, zero, suc, ◌<◌, List, [], ◌∷◌, ◌++◌, map, length, slice_get, Result, Ok, Err, IfOk, IsErrAnd, Option, Some, None, option_map, refl, sym, ap, subst, ◌∙◌, arith}
+use Rattle.std.proofs.Common.{◌≡◌, ℕ, zero, suc, ◌<◌, List, [], ◌∷◌, ◌++◌, map, length, slice_get, Result, Ok, Err, IfOk, IsErrAnd, Option, Some, refl, sym, ap, ◌∙◌, arith}
 use Rattle.spv_logic.specs.declared.conditions.TermId.{TermId}
 use Rattle.spv_logic.specs.declared.operators.Head.{Head}
 use Rattle.spv_logic.specs.Terms.{Term}
-use Rattle.spv_logic.specs.Substitution.{substitute}
 use Rattle.spv_term.specs.Arena.{AllBelow, Arena, Extends}
 use Rattle.spv_term.proofs.ArenaLemmas.{Extends-trans}
-use Rattle.spv_program.specs.Formulas.{Annotation}
 use Rattle.spv_program.specs.declared.typed.programs.Routine.{Routine as RoutineText}
 use Rattle.spv_program.specs.typed.ProgramViews.{routine_of}
 use Rattle.spv_program.specs.Lists.{item_at}
 use Rattle.spv_program.specs.Programs.{Routine, Program}
-use Rattle.spv_program.specs.Calls.{Argument, at_call, entry_at_call, exit_at_call, present_argument, replacing}
-use Rattle.spv_program.specs.Terms.{entry_term, exit_term}
-use Rattle.spv_program.specs.ExpressionTerms.{Called}
+use Rattle.spv_program.specs.Calls.{Argument, entry_at_call, exit_at_call, present_argument}
 use Rattle.spv_program.proofs.SortFacts.{nothing_there, some_is}
 use Rattle.spv_assign.specs.declared.creation_trace.faults.GenFault.{GenFault}
-use Rattle.spv_assign.specs.creation_trace.Events.{Answers, Event, Stops, Walked}
+use Rattle.spv_assign.specs.creation_trace.Events.{Event, Stops, Walked}
 use Rattle.spv_assign.specs.creation_trace.StatementEvents.{in_order, several}
 use Rattle.spv_assign.proofs.creation_trace.Walks.{nothing_walked}
-use Rattle.spv_assign.specs.limited_steps.Makes.{IsTerm}
 use Rattle.spv_assign.proofs.limited_steps.Limits.{same_stop}
 use Rattle.spv_flow_parts.specs.declared.leaves.valued.Called as code
-use Rattle.spv_flow_parts.specs.leaves.Values.{AreCalls, IsCall, IsTermIfThere}
-use Rattle.spv_flow_parts.specs.calls.Arguments.{ArePresent, MakesBy, MakesCall, called_with, pairs_at_exit}
+use Rattle.spv_flow_parts.specs.leaves.Values.{IsCall, IsTermIfThere}
+use Rattle.spv_flow_parts.specs.calls.Arguments.{ArePresent, MakesCall, called_with}
 use Rattle.spv_flow_parts.specs.calls.Events.{at_call_events, entry_events, exit_events}
 use Rattle.spv_flow_parts.proofs.Steps.{stopped_at, went}
 use Rattle.spv_flow_parts.proofs.leaves.InFront.{IsTermIfThere-Extends}

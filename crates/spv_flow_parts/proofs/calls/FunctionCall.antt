@@ -23,7 +23,7 @@ use Rattle.spv_program.specs.Types.{sort_of, type_exists}
 use Rattle.spv_program.specs.Programs.{Routine, Program, shapes}
 use Rattle.spv_program.specs.Scopes.{sort_or_int}
 use Rattle.spv_program.specs.ExpressionTypes.{sort_of_type}
-use Rattle.spv_program.specs.Typing.{heading_ok, result_ok}
+use Rattle.spv_program.specs.Typing.{result_ok}
 use Rattle.spv_program.specs.Calls.{Argument}
 use Rattle.spv_program.specs.Terms.{alone}
 use Rattle.spv_program.specs.Supplies.{Fresh, Supply, fresh_variable}
@@ -110,10 +110,6 @@ module _ (p : Program) (r : Routine) (line : ℕ) (arguments : List Argument) (n
       none : (P : Type 0) (o : Result ⊤ GenFault) → IsErrAnd o (λ f. f ≡ e) → OnOk o P
       none P (Ok u) h = absurd h
       none P (Err f) h = tt
-
-  pub adds_never : (o : Result ⊤ GenFault) (e : GenFault) (a b : Arena) (variables others : List Head) (old new : List code.Called) (m : Supply) → IsErrAnd o (λ f. f ≡ e) → Extends a b → e ≡ fault.Memory
-      → AddsCalls o (one_call p r line arguments n) (made_at_call p (Some r) (record { arguments = arguments; calls = []; supply = n })) a b variables others old new m
-  adds_never o e a b variables others old new m is grows memory = adds_not o e a b variables others old new m is grows (stops_memory e events a b memory)
 
   module _ (name : Symbol) (s : Sort) (name_is : name ≡ r.name) (s_is : s ≡ sort_of_result p r) where
     same_value : (fresh_variable name s n).head ≡ value

@@ -3,7 +3,7 @@ use Rattle.std.proofs.Common.{◌≡◌, ℕ, zero, suc, ◌+◌, ◌<◌, ◌�
 use Rattle.std.proofs.lemmas.Bool.{false≢true}
 use Rattle.std.proofs.lemmas.List.{drop_all, drop_more}
 use Rattle.std.specs.Prelude.{⊤}
-use Rattle.std.specs.List.{list_all, list_any}
+use Rattle.std.specs.List.{list_all}
 use Rattle.spv_logic.proofs.list.Tests.{left_true, right_true}
 use Rattle.spv_logic.specs.declared.names.names.Symbol.{Symbol}
 use Rattle.spv_logic.specs.declared.conditions.TermId.{TermId}
@@ -20,11 +20,11 @@ use Rattle.spv_logic.proofs.Equality.{head_eq-true}
 use Rattle.spv_term.specs.Arena.{Arena, Extends, tree}
 use Rattle.spv_program.specs.declared.types.Item.{Item}
 use Rattle.spv_program.specs.declared.types.Item.TheVariants.{Variable, Class}
-use Rattle.spv_program.specs.Types.{same_item, sort_of, type_exists}
+use Rattle.spv_program.specs.Types.{same_item, type_exists}
 use Rattle.spv_program.specs.Programs.{Formal, GlobalItem, Routine, Program, lists, shapes}
 use Rattle.spv_program.specs.Scopes.{item_sort}
 use Rattle.spv_program.specs.Terms.{alone, item_head}
-use Rattle.spv_program.specs.Typing.{heading_ok, item_exists, may_be_initial, result_ok, types_exist}
+use Rattle.spv_program.specs.Typing.{item_exists, may_be_initial, result_ok, types_exist}
 use Rattle.spv_program.specs.Lists.{all_differ}
 use Rattle.spv_program.specs.Calls.{Argument, at_call, formal_head, present_argument, replacing}
 use Rattle.spv_program.proofs.ExpressionSorting.{same_types}

@@ -17,7 +17,7 @@ use Rattle.spv_assign.specs.limited_steps.Makes.{IsTerm}
 use Rattle.spv_flow_parts.specs.declared.calls.passed.Argument as code_argument
 use Rattle.spv_flow_parts.specs.calls.Arguments.{AreArguments, ArePresent, IsArgument, FitFormals, HaveSorts, IsAtCall, argument_in}
 use Rattle.spv_flow_parts.proofs.calls.Building.{TermsSoFar, terms_begin, terms_end, terms_next, terms_stop}
-use Rattle.spv_flow_parts.proofs.calls.Passing.{AreArguments-Extends, ArePresent-Extends, argument_is, argument_itself, given_at, given_count, present_count}
+use Rattle.spv_flow_parts.proofs.calls.Passing.{AreArguments-Extends, ArePresent-Extends, argument_is, argument_itself, given_at, given_count}
 use Rattle.spv_flow_parts.proofs.calls.Zipping.{no_argument, sort_in}
 
 pub record PresentSoFar (old a : Arena) (arguments : List Argument) (place : ℕ) (ids : List TermId) : Type 0 where

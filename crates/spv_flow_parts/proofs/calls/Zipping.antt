@@ -1,6 +1,6 @@
 -- Parameters and arguments side by side.
-use Rattle.std.proofs.Common.{◌≡◌, ℕ, zero, suc, ◌+◌, ◌<◌, ◌≤◌, true, false, List, [], ◌∷◌, ◌++◌, map, get_or, drop, take, length, Result, Ok, Err, IsErrAnd, Some, IsSome, refl, sym, ap, subst, ◌∙◌, arith}
-use Rattle.std.proofs.lemmas.List.{append_assoc, drop_all, drop_more}
+use Rattle.std.proofs.Common.{◌≡◌, ℕ, zero, suc, ◌+◌, ◌<◌, ◌≤◌, true, false, List, [], ◌∷◌, ◌++◌, map, get_or, drop, length, Result, Ok, Err, IsErrAnd, Some, refl, sym, ap, subst, ◌∙◌, arith}
+use Rattle.std.proofs.lemmas.List.{drop_all, drop_more}
 use Rattle.std.specs.Prelude.{⊤}
 use Rattle.std.specs.List.{list_all}
 use Rattle.spv_logic.proofs.list.Tests.{left_true, right_true}
@@ -12,7 +12,7 @@ use Rattle.spv_logic.specs.declared.operators.Head.{Head}
 use Rattle.spv_logic.specs.declared.operators.Head.TheVariants as head
 use Rattle.spv_logic.specs.Terms.{Term}
 use Rattle.spv_logic.specs.Sorts.{sort_in_range, term_sort}
-use Rattle.spv_term.specs.Arena.{Arena, Extends, tree}
+use Rattle.spv_term.specs.Arena.{Arena, Extends}
 use Rattle.spv_program.specs.declared.types.TypeForm.{TypeForm}
 use Rattle.spv_program.specs.declared.typed.programs.Formal.{Formal as FormalText}
 use Rattle.spv_program.specs.typed.ProgramViews.{formal_of}
@@ -27,16 +27,13 @@ use Rattle.spv_program.proofs.SortFacts.{nothing_there, some_is}
 use Rattle.spv_expression_terms.proofs.makeable_terms.Ranges.{sort_there}
 use Rattle.spv_expression_terms.proofs.makeable_terms.Scopes.{forms_right}
 use Rattle.spv_assign.specs.declared.creation_trace.faults.GenFault.{GenFault}
-use Rattle.spv_assign.specs.creation_trace.Events.{Answers, Stops, Walked}
+use Rattle.spv_assign.specs.creation_trace.Events.{Stops}
 use Rattle.spv_assign.specs.creation_trace.StatementEvents.{pair_terms, several}
 use Rattle.spv_assign.specs.limited_steps.Makes.{IsTerm}
-use Rattle.spv_assign.proofs.limited_steps.Limits.{same_stop}
 use Rattle.spv_flow_parts.specs.declared.calls.passed.Argument as code_argument
-use Rattle.spv_flow_parts.specs.Walks.{MakesTerm}
 use Rattle.spv_flow_parts.specs.calls.Arguments.{AddsPairs, AreArguments, ArePresent, FitFormals, IsArgument, IsAtCall, argument_in}
-use Rattle.spv_flow_parts.proofs.Steps.{IsTerm-Extends, append_nil}
-use Rattle.spv_flow_parts.proofs.calls.Building.{PairsSoFar, TermsSoFar, pairs_begin, pairs_end, pairs_next, pairs_stop, pairs_stop_walk, terms_begin, terms_end, terms_next, terms_stop}
-use Rattle.spv_flow_parts.proofs.calls.Passing.{AreArguments-Extends, ArePresent-Extends, argument_is, argument_itself, formals_count, given_at, given_count, present_at, present_count, sort_at_place, texts_count}
+use Rattle.spv_flow_parts.proofs.calls.Building.{PairsSoFar, pairs_begin, pairs_end, pairs_next, pairs_stop, pairs_stop_walk}
+use Rattle.spv_flow_parts.proofs.calls.Passing.{AreArguments-Extends, argument_is, argument_itself, given_at, given_count, present_at, present_count, sort_at_place, texts_count}
 
 -- ---- a routine of a well typed program
 
@@ -124,13 +121,6 @@ module _ (p : Program) (old : Arena) (number : RoutineId) (r : Routine) (argumen
 
       pub is_present : (t : TermId) → IsTerm old (get_or now place t) (present_argument (get_or arguments place x))
       is_present t = present_at old now arguments place t x present place_present
-
-    module _ (given : List code_argument.Argument) (are_given : AreArguments old given arguments) where
-      pub place_in : place < length given
-      place_in = let count = given_count old given arguments are_given in let given = place_given in omega (arith, given, count)
-
-      pub is_given : (t : code_argument.Argument) → IsArgument old (get_or given place t) (get_or arguments place x)
-      is_given t = given_at old given arguments place t x are_given place_in
 
 -- the same by other names
 pub at_as : (p q : Program) (a : Arena) (number : RoutineId) (r s : Routine) (arguments : List Argument) → q ≡ p → s ≡ r → IsAtCall p a number r arguments → IsAtCall q a number s arguments

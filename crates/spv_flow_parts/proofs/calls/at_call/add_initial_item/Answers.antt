@@ -1,5 +1,4 @@
-use Rattle.std.proofs.Common.{Some, ap, sym, ◌∙◌}
-use Rattle.spv_logic.specs.Sorts.{sort_in_range}
+use Rattle.std.proofs.Common.{◌∙◌}
 use Rattle.spv_flow_parts.proofs.body_tables.Scoping.{item_is}
 use Rattle.spv_flow_parts.proofs.calls.Initial.{item_added, item_range_in, item_sorted, item_stops}
 use Rattle.spv_flow_parts.proofs.calls.Zipping.{IsAtCall-Extends}

@@ -8,9 +8,19 @@ loop-x-init g c = initial_begin g.at.program g.at.routine g.at.arguments c.args.
 
 pub add_initial_item-requires : goal.add_initial_item-requires
 add_initial_item-requires g c =
-    let at = IsAtCall-Extends g.at.program c.args.terms.now g.at.number g.at.routine g.at.arguments c.requires.0 c.loop-x.terms c.loop-x.invariant.walked.grows in
-    (at, (c.requires.1.0, (c.requires.1.1.0, (ArePresent-Extends c.loop-x.invariant.walked.grows c.args.now.now g.at.arguments c.requires.1.1.1.0,
-    initial_there g.at.program c.loop-x.terms g.at.number g.at.routine g.at.arguments at c.args.initial.now c.loop-x.x-index no_item c.requires.1.1.1.1 c.loop-x-test.true))))
+    let at = IsAtCall-Extends g.at.program c.args.terms.now g.at.number g.at.routine g.at.arguments c.requires.0 c.loop-x.terms c.loop-x.invariant.walked.grows in (
+      at,
+      (
+        c.requires.1.0,
+        (
+          c.requires.1.1.0,
+          (
+            ArePresent-Extends c.loop-x.invariant.walked.grows c.args.now.now g.at.arguments c.requires.1.1.1.0,
+            initial_there g.at.program c.loop-x.terms g.at.number g.at.routine g.at.arguments at c.args.initial.now c.loop-x.x-index no_item c.requires.1.1.1.1 c.loop-x-test.true,
+          ),
+        ),
+      ),
+    )
 
 pub loop-x-preserved : goal.loop-x-preserved
 loop-x-preserved g c =

@@ -1,9 +1,5 @@
-use Rattle.std.proofs.Common.{get_or, refl, ap, sym, subst, ◌∷◌, []}
-use Rattle.spv_program.specs.typed.ProgramViews.{formal_of}
-use Rattle.spv_program.specs.Types.{sort_of}
-use Rattle.spv_program.specs.Calls.{present_argument, starts_at_call}
-use Rattle.spv_flow_parts.specs.calls.Arguments.{IsArgument, argument_in}
-use Rattle.spv_flow_parts.proofs.calls.Zipping.{IsAtCall-Extends, StartHere, formal_low, formal_past, no_argument, no_formal, start_here, starts_by_place, zip_begin, zip_end, zip_next, zip_stop}
+use Rattle.spv_program.specs.Calls.{starts_at_call}
+use Rattle.spv_flow_parts.proofs.calls.Zipping.{formal_low, formal_past, start_here, starts_by_place, zip_begin, zip_end, zip_next, zip_stop}
 use Rattle.spv_flow_parts.proofs.calls.at_call.add_starts.Goals as goal
 
 pub loop-place-init : goal.loop-place-init

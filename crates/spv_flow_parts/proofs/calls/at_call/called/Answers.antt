@@ -1,4 +1,4 @@
-use Rattle.std.proofs.Common.{Ok, refl, sym, ap, subst, ◌∙◌}
+use Rattle.std.proofs.Common.{Ok, refl, sym, ap, subst}
 use Rattle.spv_logic.specs.declared.conditions.TermId.{TermId}
 use Rattle.spv_term.proofs.ArenaLemmas.{Extends-trans}
 use Rattle.spv_program.specs.Programs.{Program, Routine}
@@ -19,22 +19,32 @@ pub present_arguments-requires : goal.present_arguments-requires
 present_arguments-requires g c = (have_sorts c.args.program.now c.args.terms.now c.args.number g.at.routine g.at.arguments c.requires.0, c.requires.1.0)
 
 pub needs_of-requires : goal.needs_of-requires
-needs_of-requires g c =
-    (record {
-      number = c.args.number;
-      at = IsAtCall-Extends c.args.program.now c.args.terms.now c.args.number (routine_of c.get-routine.result.now) g.at.arguments
-          (at_as c.args.program.now c.args.program.now c.args.terms.now c.args.number g.at.routine (routine_of c.get-routine.result.now) g.at.arguments refl (routine_same c.program.inside.routines c.args.program.now.routines c.args.number.0 g.at.routine c.get-routine.result.now (ap (λ (p : Program). p.routines) c.program.view_is) c.requires.0.routine c.get-routine.ensures) c.requires.0) c.present_arguments.new.terms c.in_ok-args.ensures.grows;
-    }, subst (λ (ts : List TermId). ArePresent c.present_arguments.new.terms ts g.at.arguments) (sym c.as_slice-now.ensures) c.in_ok-args.ensures.present)
+needs_of-requires g c = (
+  record {
+    number = c.args.number;
+    at = IsAtCall-Extends c.args.program.now c.args.terms.now c.args.number (routine_of c.get-routine.result.now) g.at.arguments
+        (at_as c.args.program.now c.args.program.now c.args.terms.now c.args.number g.at.routine (routine_of c.get-routine.result.now) g.at.arguments refl (routine_same c.program.inside.routines c.args.program.now.routines c.args.number.0 g.at.routine c.get-routine.result.now (ap (λ (p : Program). p.routines) c.program.view_is) c.requires.0.routine c.get-routine.ensures) c.requires.0) c.present_arguments.new.terms c.in_ok-args.ensures.grows;
+  },
+  subst (λ (ts : List TermId). ArePresent c.present_arguments.new.terms ts g.at.arguments) (sym c.as_slice-now.ensures) c.in_ok-args.ensures.present,
+)
 
 pub gives_of-requires : goal.gives_of-requires
 gives_of-requires g c =
-    let more = Extends-trans c.in_ok-args.ensures.grows c.in_ok-needs.ensures.grows in
-    (refl, (IsAtCall-Extends c.args.program.now c.args.terms.now c.args.number (routine_of c.get-routine.result.now) g.at.arguments
-    (at_as c.args.program.now c.args.program.now c.args.terms.now c.args.number g.at.routine (routine_of c.get-routine.result.now) g.at.arguments refl (routine_same c.program.inside.routines c.args.program.now.routines c.args.number.0 g.at.routine c.get-routine.result.now (ap (λ (p : Program). p.routines) c.program.view_is) c.requires.0.routine c.get-routine.ensures) c.requires.0) c.needs_of.new.terms more,
-    (AreArguments-Extends more c.args.given.now g.at.arguments c.requires.1.0,
-    (ArePresent-Extends c.in_ok-needs.ensures.grows c.as_slice-now.result.now g.at.arguments
-    (subst (λ (ts : List TermId). ArePresent c.present_arguments.new.terms ts g.at.arguments) (sym c.as_slice-now.ensures) c.in_ok-args.ensures.present),
-    (AreAfter-Extends more c.args.after.now g.at.after c.requires.1.1.0, c.requires.1.1.1)))))
+    let more = Extends-trans c.in_ok-args.ensures.grows c.in_ok-needs.ensures.grows in (
+      refl,
+      (
+        IsAtCall-Extends c.args.program.now c.args.terms.now c.args.number (routine_of c.get-routine.result.now) g.at.arguments
+            (at_as c.args.program.now c.args.program.now c.args.terms.now c.args.number g.at.routine (routine_of c.get-routine.result.now) g.at.arguments refl (routine_same c.program.inside.routines c.args.program.now.routines c.args.number.0 g.at.routine c.get-routine.result.now (ap (λ (p : Program). p.routines) c.program.view_is) c.requires.0.routine c.get-routine.ensures) c.requires.0) c.needs_of.new.terms more,
+        (
+          AreArguments-Extends more c.args.given.now g.at.arguments c.requires.1.0,
+          (
+            ArePresent-Extends c.in_ok-needs.ensures.grows c.as_slice-now.result.now g.at.arguments
+                (subst (λ (ts : List TermId). ArePresent c.present_arguments.new.terms ts g.at.arguments) (sym c.as_slice-now.ensures) c.in_ok-args.ensures.present),
+            (AreAfter-Extends more c.args.after.now g.at.after c.requires.1.1.0, c.requires.1.1.1),
+          ),
+        ),
+      ),
+    )
 
 pub returns-in_err-args : goal.returns-in_err-args
 returns-in_err-args g c =

@@ -1,4 +1,4 @@
-use Rattle.std.proofs.Common.{◌≡◌, List, map, sym, ap, subst, ◌∙◌, ◌∷◌, []}
+use Rattle.std.proofs.Common.{◌≡◌, List, map, sym, ap, subst, ◌∙◌}
 use Rattle.spv_logic.specs.declared.operators.Head.{Head}
 use Rattle.spv_logic.specs.Terms.{Term}
 use Rattle.spv_program.specs.Programs.{Program, Routine}
@@ -17,12 +17,20 @@ use Rattle.spv_flow_parts.proofs.calls.Zipping.{IsAtCall-Extends, at_as}
 use Rattle.spv_flow_parts.proofs.calls.at_call.entry_at_call.Goals as goal
 
 pub at_call-requires : goal.at_call-requires
-at_call-requires g c =
-    (record { number = c.requires.1.1.0.number; at = at_as c.args.program.now g.at.program c.entry_term.new.terms c.requires.1.1.0.number (routine_of c.args.routine.now) g.at.routine g.at.arguments c.requires.0 c.requires.1.0
-    (IsAtCall-Extends c.args.program.now c.args.terms.now c.requires.1.1.0.number (routine_of c.args.routine.now) g.at.arguments c.requires.1.1.0.at c.entry_term.new.terms c.in_ok-f.ensures.grows) },
-    (ap (map formal_of) c.as_slice.ensures ∙ ap (λ (r : Routine). r.formals) (sym c.requires.1.0),
-    (c.as_slice-forms.ensures ∙ ap (λ (p : Program). p.forms) (c.program.view_is ∙ sym c.requires.0),
-    ArePresent-Extends c.in_ok-f.ensures.grows c.args.now.now g.at.arguments c.requires.1.1.1.1)))
+at_call-requires g c = (
+  record {
+    number = c.requires.1.1.0.number;
+    at = at_as c.args.program.now g.at.program c.entry_term.new.terms c.requires.1.1.0.number (routine_of c.args.routine.now) g.at.routine g.at.arguments c.requires.0 c.requires.1.0
+        (IsAtCall-Extends c.args.program.now c.args.terms.now c.requires.1.1.0.number (routine_of c.args.routine.now) g.at.arguments c.requires.1.1.0.at c.entry_term.new.terms c.in_ok-f.ensures.grows);
+  },
+  (
+    ap (map formal_of) c.as_slice.ensures ∙ ap (λ (r : Routine). r.formals) (sym c.requires.1.0),
+    (
+      c.as_slice-forms.ensures ∙ ap (λ (p : Program). p.forms) (c.program.view_is ∙ sym c.requires.0),
+      ArePresent-Extends c.in_ok-f.ensures.grows c.args.now.now g.at.arguments c.requires.1.1.1.1,
+    ),
+  ),
+)
 
 pub returns-in_err-f : goal.returns-in_err-f
 returns-in_err-f g c =

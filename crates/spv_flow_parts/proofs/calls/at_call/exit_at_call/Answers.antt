@@ -1,7 +1,7 @@
-use Rattle.std.proofs.Common.{Option, Some, refl, sym, ap, subst, ◌∙◌}
+use Rattle.std.proofs.Common.{Option, refl, sym, ap, subst, ◌∙◌}
 use Rattle.spv_logic.specs.declared.conditions.RoutineId.{RoutineId}
 use Rattle.spv_term.specs.substitution.Images.{ArePairs}
-use Rattle.spv_program.specs.Programs.{Program, Routine}
+use Rattle.spv_program.specs.Programs.{Routine}
 use Rattle.spv_program.specs.Terms.{exit_term}
 use Rattle.spv_program.specs.typed.FormulaViews.{annotation_of}
 use Rattle.spv_program.specs.typed.ProgramViews.{routine_of}
@@ -15,20 +15,33 @@ use Rattle.spv_flow_parts.proofs.calls.Zipping.{IsAtCall-Extends}
 use Rattle.spv_flow_parts.proofs.calls.at_call.exit_at_call.Goals as goal
 
 pub exit_term-requires : goal.exit_term-requires
-exit_term-requires g c =
-    (subst (λ (n : RoutineId). IsAtCall c.args.program.now c.args.terms.now n (routine_of c.args.routine.now) g.at.arguments) (sym c.requires.0) c.requires.1.0,
-    (subst (λ (r : Option Routine). HasNamesOf c.in_ok-variables.variables (variable_scope c.args.program.now r)) c.requires.1.0.routine c.in_ok-variables.ensures, c.requires.1.1.0))
+exit_term-requires g c = (
+  subst (λ (n : RoutineId). IsAtCall c.args.program.now c.args.terms.now n (routine_of c.args.routine.now) g.at.arguments) (sym c.requires.0) c.requires.1.0,
+  (subst (λ (r : Option Routine). HasNamesOf c.in_ok-variables.variables (variable_scope c.args.program.now r)) c.requires.1.0.routine c.in_ok-variables.ensures, c.requires.1.1.0),
+)
 
 pub exit_pairs-requires : goal.exit_pairs-requires
 exit_pairs-requires g c =
-    let more = c.in_ok-f.ensures.grows in
-    (refl, (refl,
-    (IsAtCall-Extends c.args.program.now c.args.terms.now g.at.number (routine_of c.args.routine.now) g.at.arguments
-    (subst (λ (n : RoutineId). IsAtCall c.args.program.now c.args.terms.now n (routine_of c.args.routine.now) g.at.arguments) (sym c.requires.0) c.requires.1.0) c.exit_term.new.terms more,
-    (subst (λ (r : Option Routine). HasNamesOf c.in_ok-variables.variables (variable_scope c.args.program.now r)) c.requires.1.0.routine c.in_ok-variables.ensures,
-    (AreArguments-Extends more c.args.given.now g.at.arguments c.requires.1.1.1.0,
-    (ArePresent-Extends more c.args.now.now g.at.arguments c.requires.1.1.1.1.0,
-    (AreAfter-Extends more c.args.after.now g.at.after c.requires.1.1.1.1.1.0, c.requires.1.1.1.1.1.1)))))))
+    let more = c.in_ok-f.ensures.grows in (
+      refl,
+      (
+        refl,
+        (
+          IsAtCall-Extends c.args.program.now c.args.terms.now g.at.number (routine_of c.args.routine.now) g.at.arguments
+              (subst (λ (n : RoutineId). IsAtCall c.args.program.now c.args.terms.now n (routine_of c.args.routine.now) g.at.arguments) (sym c.requires.0) c.requires.1.0) c.exit_term.new.terms more,
+          (
+            subst (λ (r : Option Routine). HasNamesOf c.in_ok-variables.variables (variable_scope c.args.program.now r)) c.requires.1.0.routine c.in_ok-variables.ensures,
+            (
+              AreArguments-Extends more c.args.given.now g.at.arguments c.requires.1.1.1.0,
+              (
+                ArePresent-Extends more c.args.now.now g.at.arguments c.requires.1.1.1.1.0,
+                (AreAfter-Extends more c.args.after.now g.at.after c.requires.1.1.1.1.1.0, c.requires.1.1.1.1.1.1),
+              ),
+            ),
+          ),
+        ),
+      ),
+    )
 
 pub returns-in_err-f : goal.returns-in_err-f
 returns-in_err-f g c =

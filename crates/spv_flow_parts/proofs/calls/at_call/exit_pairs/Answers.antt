@@ -5,7 +5,6 @@ use Rattle.spv_term.proofs.ArenaLemmas.{Extends-trans}
 use Rattle.spv_program.specs.Programs.{Program, Routine}
 use Rattle.spv_program.specs.Calls.{initial_at_call, starts_at_call}
 use Rattle.spv_program.specs.typed.ProgramViews.{formal_of, routine_of}
-use Rattle.spv_expression_terms.specs.term_walk.Laws.{HasNamesOf, variable_scope}
 use Rattle.spv_assign.specs.creation_trace.Events.{Stops, Walked}
 use Rattle.spv_assign.specs.creation_trace.StatementEvents.{pair_terms, several}
 use Rattle.spv_assign.proofs.limited_steps.Limits.{same_stop}
@@ -16,18 +15,28 @@ use Rattle.spv_flow_parts.proofs.calls.Zipping.{IsAtCall-Extends, at_as}
 use Rattle.spv_flow_parts.proofs.calls.at_call.exit_pairs.Goals as goal
 
 pub add_starts-requires : goal.add_starts-requires
-add_starts-requires g c =
-    (at_as c.args.program.now g.at.program c.args.terms.now g.at.number (routine_of c.args.routine.now) g.at.routine g.at.arguments c.requires.0 c.requires.1.0 c.requires.1.1.0,
-    ((ap (map formal_of) c.as_slice-formals.ensures ∙ ap (λ (r : Routine). r.formals) (sym c.requires.1.0)),
-    ((c.as_slice-forms.ensures ∙ ap (λ (p : Program). p.forms) (c.program.view_is ∙ sym c.requires.0)), c.requires.1.1.1.1.0)))
+add_starts-requires g c = (
+  at_as c.args.program.now g.at.program c.args.terms.now g.at.number (routine_of c.args.routine.now) g.at.routine g.at.arguments c.requires.0 c.requires.1.0 c.requires.1.1.0,
+  (
+    (ap (map formal_of) c.as_slice-formals.ensures ∙ ap (λ (r : Routine). r.formals) (sym c.requires.1.0)),
+    ((c.as_slice-forms.ensures ∙ ap (λ (p : Program). p.forms) (c.program.view_is ∙ sym c.requires.0)), c.requires.1.1.1.1.0),
+  ),
+)
 
 pub add_initial_items-requires : goal.add_initial_items-requires
-add_initial_items-requires g c =
-    (IsAtCall-Extends g.at.program c.args.terms.now g.at.number g.at.routine g.at.arguments (at_as c.args.program.now g.at.program c.args.terms.now g.at.number (routine_of c.args.routine.now) g.at.routine g.at.arguments c.requires.0 c.requires.1.0 c.requires.1.1.0) c.add_starts.new.terms c.in_ok-add_starts.ensures.grows,
-    ((ap (map formal_of) c.as_slice-formals.ensures ∙ ap (λ (r : Routine). r.formals) (sym c.requires.1.0)),
-    (names_as c.args.program.now g.at.program (routine_of c.args.routine.now) g.at.routine c.args.variables.now c.requires.0 c.requires.1.0 c.requires.1.1.1.0,
-    (ArePresent-Extends c.in_ok-add_starts.ensures.grows c.args.now.now g.at.arguments c.requires.1.1.1.1.1.0,
-    c.as_slice-initial.ensures ∙ ap (λ (r : Routine). r.initial) (sym c.requires.1.0)))))
+add_initial_items-requires g c = (
+  IsAtCall-Extends g.at.program c.args.terms.now g.at.number g.at.routine g.at.arguments (at_as c.args.program.now g.at.program c.args.terms.now g.at.number (routine_of c.args.routine.now) g.at.routine g.at.arguments c.requires.0 c.requires.1.0 c.requires.1.1.0) c.add_starts.new.terms c.in_ok-add_starts.ensures.grows,
+  (
+    (ap (map formal_of) c.as_slice-formals.ensures ∙ ap (λ (r : Routine). r.formals) (sym c.requires.1.0)),
+    (
+      names_as c.args.program.now g.at.program (routine_of c.args.routine.now) g.at.routine c.args.variables.now c.requires.0 c.requires.1.0 c.requires.1.1.1.0,
+      (
+        ArePresent-Extends c.in_ok-add_starts.ensures.grows c.args.now.now g.at.arguments c.requires.1.1.1.1.1.0,
+        c.as_slice-initial.ensures ∙ ap (λ (r : Routine). r.initial) (sym c.requires.1.0),
+      ),
+    ),
+  ),
+)
 
 pub add_after-requires : goal.add_after-requires
 add_after-requires g c =

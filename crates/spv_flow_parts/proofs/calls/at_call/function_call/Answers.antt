@@ -1,4 +1,4 @@
-use Rattle.std.proofs.Common.{◌≡◌, ℕ, [], Ok, Some, refl, sym, ap, subst, ◌∙◌}
+use Rattle.std.proofs.Common.{ℕ, [], Ok, Some, refl, sym, ap, subst, ◌∙◌}
 use Rattle.spv_logic.specs.declared.conditions.RoutineId.{RoutineId}
 use Rattle.spv_program.specs.Programs.{Program, Routine}
 use Rattle.spv_program.specs.ExpressionTerms.{sort_of_result}
@@ -31,18 +31,23 @@ pub node-requires : goal.node-requires
 node-requires g c = c.in_ok-value.ensures.made.term.there
 
 pub called-requires : goal.called-requires
-called-requires g c =
-    (IsAtCall-Extends c.args.program.now c.args.terms.now c.call.inside.routine g.at.routine g.at.arguments
-    (subst (λ (n : RoutineId). IsAtCall c.args.program.now c.args.terms.now n g.at.routine g.at.arguments) (sym (ap called_routine c.call.view_is)) c.requires.0)
-    c.fresh_value.new.terms c.in_ok-value.ensures.made.grows,
-    (AreArguments-Extends c.in_ok-value.ensures.made.grows c.args.given.now g.at.arguments c.requires.1.0,
-    (after_is c.args.program.now g.at.routine (call_line c.args.call.now) g.at.arguments (supply_of c.args.supply.now) c.get-routine.result.now.name c.result_sort-sort.result (ap (λ (r : Routine). r.name) (routine_same c.program.inside.routines c.args.program.now.routines c.call.inside.routine.0 g.at.routine c.get-routine.result.now (ap (λ (p : Program). p.routines) c.program.view_is) (subst (λ (n : RoutineId). IsAtCall c.args.program.now c.args.terms.now n g.at.routine g.at.arguments) (sym (ap called_routine c.call.view_is)) c.requires.0).routine c.get-routine.ensures)) (c.result_sort-sort.ensures ∙ ap (sort_of_result c.args.program.now) (routine_same c.program.inside.routines c.args.program.now.routines c.call.inside.routine.0 g.at.routine c.get-routine.result.now (ap (λ (p : Program). p.routines) c.program.view_is) (subst (λ (n : RoutineId). IsAtCall c.args.program.now c.args.terms.now n g.at.routine g.at.arguments) (sym (ap called_routine c.call.view_is)) c.requires.0).routine c.get-routine.ensures))
-    c.args.terms.now c.fresh_value.new.terms c.in_ok-value.value c.in_ok-value.ensures.made,
-    after_fits c.args.program.now g.at.routine (call_line c.args.call.now) g.at.arguments (supply_of c.args.supply.now) c.get-routine.result.now.name c.result_sort-sort.result (ap (λ (r : Routine). r.name) (routine_same c.program.inside.routines c.args.program.now.routines c.call.inside.routine.0 g.at.routine c.get-routine.result.now (ap (λ (p : Program). p.routines) c.program.view_is) (subst (λ (n : RoutineId). IsAtCall c.args.program.now c.args.terms.now n g.at.routine g.at.arguments) (sym (ap called_routine c.call.view_is)) c.requires.0).routine c.get-routine.ensures)) (c.result_sort-sort.ensures ∙ ap (sort_of_result c.args.program.now) (routine_same c.program.inside.routines c.args.program.now.routines c.call.inside.routine.0 g.at.routine c.get-routine.result.now (ap (λ (p : Program). p.routines) c.program.view_is) (subst (λ (n : RoutineId). IsAtCall c.args.program.now c.args.terms.now n g.at.routine g.at.arguments) (sym (ap called_routine c.call.view_is)) c.requires.0).routine c.get-routine.ensures))
-    c.args.terms.now c.fresh_value.new.terms c.in_ok-value.value c.in_ok-value.ensures.made
-    (result_range_in c.args.program.now c.args.terms.now c.call.inside.routine g.at.routine g.at.arguments c.result_sort-sort.result
-    (subst (λ (n : RoutineId). IsAtCall c.args.program.now c.args.terms.now n g.at.routine g.at.arguments) (sym (ap called_routine c.call.view_is)) c.requires.0)
-    (c.result_sort-sort.ensures ∙ ap (sort_of_result c.args.program.now) (routine_same c.program.inside.routines c.args.program.now.routines c.call.inside.routine.0 g.at.routine c.get-routine.result.now (ap (λ (p : Program). p.routines) c.program.view_is) (subst (λ (n : RoutineId). IsAtCall c.args.program.now c.args.terms.now n g.at.routine g.at.arguments) (sym (ap called_routine c.call.view_is)) c.requires.0).routine c.get-routine.ensures))))))
+called-requires g c = (
+  IsAtCall-Extends c.args.program.now c.args.terms.now c.call.inside.routine g.at.routine g.at.arguments
+      (subst (λ (n : RoutineId). IsAtCall c.args.program.now c.args.terms.now n g.at.routine g.at.arguments) (sym (ap called_routine c.call.view_is)) c.requires.0)
+      c.fresh_value.new.terms c.in_ok-value.ensures.made.grows,
+  (
+    AreArguments-Extends c.in_ok-value.ensures.made.grows c.args.given.now g.at.arguments c.requires.1.0,
+    (
+      after_is c.args.program.now g.at.routine (call_line c.args.call.now) g.at.arguments (supply_of c.args.supply.now) c.get-routine.result.now.name c.result_sort-sort.result (ap (λ (r : Routine). r.name) (routine_same c.program.inside.routines c.args.program.now.routines c.call.inside.routine.0 g.at.routine c.get-routine.result.now (ap (λ (p : Program). p.routines) c.program.view_is) (subst (λ (n : RoutineId). IsAtCall c.args.program.now c.args.terms.now n g.at.routine g.at.arguments) (sym (ap called_routine c.call.view_is)) c.requires.0).routine c.get-routine.ensures)) (c.result_sort-sort.ensures ∙ ap (sort_of_result c.args.program.now) (routine_same c.program.inside.routines c.args.program.now.routines c.call.inside.routine.0 g.at.routine c.get-routine.result.now (ap (λ (p : Program). p.routines) c.program.view_is) (subst (λ (n : RoutineId). IsAtCall c.args.program.now c.args.terms.now n g.at.routine g.at.arguments) (sym (ap called_routine c.call.view_is)) c.requires.0).routine c.get-routine.ensures))
+          c.args.terms.now c.fresh_value.new.terms c.in_ok-value.value c.in_ok-value.ensures.made,
+      after_fits c.args.program.now g.at.routine (call_line c.args.call.now) g.at.arguments (supply_of c.args.supply.now) c.get-routine.result.now.name c.result_sort-sort.result (ap (λ (r : Routine). r.name) (routine_same c.program.inside.routines c.args.program.now.routines c.call.inside.routine.0 g.at.routine c.get-routine.result.now (ap (λ (p : Program). p.routines) c.program.view_is) (subst (λ (n : RoutineId). IsAtCall c.args.program.now c.args.terms.now n g.at.routine g.at.arguments) (sym (ap called_routine c.call.view_is)) c.requires.0).routine c.get-routine.ensures)) (c.result_sort-sort.ensures ∙ ap (sort_of_result c.args.program.now) (routine_same c.program.inside.routines c.args.program.now.routines c.call.inside.routine.0 g.at.routine c.get-routine.result.now (ap (λ (p : Program). p.routines) c.program.view_is) (subst (λ (n : RoutineId). IsAtCall c.args.program.now c.args.terms.now n g.at.routine g.at.arguments) (sym (ap called_routine c.call.view_is)) c.requires.0).routine c.get-routine.ensures))
+          c.args.terms.now c.fresh_value.new.terms c.in_ok-value.value c.in_ok-value.ensures.made
+          (result_range_in c.args.program.now c.args.terms.now c.call.inside.routine g.at.routine g.at.arguments c.result_sort-sort.result
+          (subst (λ (n : RoutineId). IsAtCall c.args.program.now c.args.terms.now n g.at.routine g.at.arguments) (sym (ap called_routine c.call.view_is)) c.requires.0)
+          (c.result_sort-sort.ensures ∙ ap (sort_of_result c.args.program.now) (routine_same c.program.inside.routines c.args.program.now.routines c.call.inside.routine.0 g.at.routine c.get-routine.result.now (ap (λ (p : Program). p.routines) c.program.view_is) (subst (λ (n : RoutineId). IsAtCall c.args.program.now c.args.terms.now n g.at.routine g.at.arguments) (sym (ap called_routine c.call.view_is)) c.requires.0).routine c.get-routine.ensures))),
+    ),
+  ),
+)
 
 pub returns-in_err-one : goal.returns-in_err-one
 returns-in_err-one g c =

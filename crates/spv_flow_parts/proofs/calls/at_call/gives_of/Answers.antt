@@ -1,6 +1,5 @@
-use Rattle.std.proofs.Common.{Option, Some, option_map, refl, sym, ap, subst, ◌∙◌}
+use Rattle.std.proofs.Common.{option_map, ap}
 use Rattle.spv_program.specs.typed.FormulaViews.{annotation_of}
-use Rattle.spv_program.specs.typed.ProgramViews.{routine_of}
 use Rattle.spv_flow_parts.proofs.calls.at_call.gives_of.Goals as goal
 
 pub exit_at_call-requires : goal.exit_at_call-requires

@@ -1,7 +1,4 @@
-use Rattle.spv_logic.specs.Substitution.{substitute}
 use Rattle.spv_program.specs.Calls.{at_call, replacing}
-use Rattle.std.proofs.Common.{Some}
-use Rattle.spv_program.specs.Terms.{item_head}
 use Rattle.spv_flow_parts.proofs.calls.at_call.item_at_call.Given as goal
 
 abbrev pub ghost-passed : goal.ghost-passed

@@ -3,7 +3,6 @@ use Rattle.spv_logic.specs.declared.types.Sort.{Sort}
 use Rattle.spv_logic.specs.declared.operators.Head.TheVariants as head
 use Rattle.spv_program.specs.declared.types.Item.{Item}
 use Rattle.spv_program.specs.declared.types.Item.TheVariants.{Variable}
-use Rattle.spv_program.specs.Programs.{Routine}
 use Rattle.spv_program.specs.Terms.{item_head}
 use Rattle.std.proofs.Common.{Some}
 use Rattle.spv_flow_parts.proofs.body_tables.Scoping.{item_is}

@@ -1,4 +1,3 @@
-use Rattle.std.proofs.Common.{sym, subst}
 use Rattle.spv_flow_parts.proofs.calls.Passing.{class_passed}
 use Rattle.spv_flow_parts.proofs.calls.at_call.passed.Goals as goal
 

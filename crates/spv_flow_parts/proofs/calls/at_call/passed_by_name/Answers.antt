@@ -1,4 +1,4 @@
-use Rattle.std.proofs.Common.{◌≡◌, ◌∙◌, sym, arith}
+use Rattle.std.proofs.Common.{◌∙◌, sym, arith}
 use Rattle.spv_flow_parts.proofs.calls.Passing.{none_begin, none_next, by_name, by_no_name}
 use Rattle.spv_flow_parts.proofs.calls.at_call.passed_by_name.Goals as goal
 
