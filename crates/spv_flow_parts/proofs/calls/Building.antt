@@ -15,7 +15,6 @@ use Rattle.spv_program.specs.Terms.{alone}
 use Rattle.spv_program.proofs.SortFacts.{some_is}
 use Rattle.spv_assign.specs.Conditions.{pairs_of}
 use Rattle.spv_assign.specs.declared.creation_trace.faults.GenFault.{GenFault}
-use Rattle.spv_assign.specs.declared.creation_trace.faults.GenFault.TheVariants as fault
 use Rattle.spv_assign.specs.creation_trace.Events.{Stops, Walked}
 use Rattle.spv_assign.specs.creation_trace.StatementEvents.{one, pair_terms, several}
 use Rattle.spv_assign.proofs.creation_trace.Walks.{adds_nothing, part_behind, stopped_behind}
@@ -25,7 +24,7 @@ use Rattle.spv_assign.specs.limited_steps.Makes.{IsTerm}
 use Rattle.spv_assign.proofs.limited_steps.Limits.{same_stop}
 use Rattle.spv_assign.proofs.limited_steps.Renamings.{stops_at_one, walked_two}
 use Rattle.spv_flow_parts.specs.calls.Arguments.{AddsPairs}
-use Rattle.spv_flow_parts.proofs.Steps.{append_nil, stops_memory}
+use Rattle.spv_flow_parts.proofs.Steps.{append_nil}
 use Rattle.spv_flow_parts.proofs.Pairs.{ArePairs-Extends, are_pairs_both, begun_covered, pairs_both, pairs_of-Extends, terms_both, two_walks}
 
 -- ---- terms

@@ -33,7 +33,6 @@ use Rattle.spv_expression_terms.proofs.makeable_terms.Scopes.{forms_right}
 use Rattle.spv_assign.specs.supply.Numbers.{AreThere, IsFresh, Taken}
 use Rattle.spv_assign.proofs.supply.FreshLemmas.{AreThere-Extends}
 use Rattle.spv_assign.specs.declared.creation_trace.faults.GenFault.{GenFault}
-use Rattle.spv_assign.specs.declared.creation_trace.faults.GenFault.TheVariants as fault
 use Rattle.spv_assign.specs.creation_trace.Events.{Answers, Event, Stops, Walked}
 use Rattle.spv_assign.specs.creation_trace.StatementEvents.{one, several}
 use Rattle.spv_assign.proofs.creation_trace.Walks.{stopped_behind, stopped_first, walked_behind}
@@ -44,7 +43,6 @@ use Rattle.spv_flow_parts.specs.leaves.Values.{AreCalls, IsCall}
 use Rattle.spv_flow_parts.specs.Walks.{MakesTerm}
 use Rattle.spv_flow_parts.specs.calls.Arguments.{AddsCalls, AreAfter, FitHeads, IsAtCall, MakesCall, called_with, one_call}
 use Rattle.spv_flow_parts.specs.calls.Events.{at_call_events, made_at_call}
-use Rattle.spv_flow_parts.proofs.Steps.{stops_memory}
 use Rattle.spv_flow_parts.proofs.Terms.{term_made}
 use Rattle.spv_flow_parts.proofs.leaves.InFront.{AreCalls-Extends}
 use Rattle.spv_flow_parts.proofs.calls.Zipping.{range_in, right_declarations, right_heading}
