@@ -13,7 +13,7 @@ use Rattle.spv_logic.specs.Terms.{Term}
 use Rattle.spv_term.specs.Arena.{Arena, Extends, tree}
 use Rattle.spv_program.specs.Expressions.{Expression, Designator, Selectors, Call, Arguments, call}
 use Rattle.spv_program.specs.Programs.{Formal, Routine, Program, shapes, routine_at, routine_in}
-use Rattle.spv_program.specs.ExpressionTypes.{callee, designator_type, expression_sort, selected_type}
+use Rattle.spv_program.specs.ExpressionTypes.{arguments_fit, callee, designator_type, expression_sort, selected_type}
 use Rattle.spv_program.specs.Types.{sort_of}
 use Rattle.spv_program.specs.Typing.{well_typed}
 use Rattle.spv_program.specs.Places.{Target, present, whole_with}
@@ -30,7 +30,7 @@ use Rattle.spv_assign.specs.creation_trace.StatementEvents.{several, pair_terms}
 use Rattle.spv_program.specs.Supplies.{Supply}
 use Rattle.spv_program.specs.Calls as argument
 use Rattle.spv_program.specs.Calls.{entry_at_call, exit_at_call, replacing}
-use Rattle.spv_program.specs.ExpressionTerms.{Called, Valued, Placed, Argued, with_call}
+use Rattle.spv_program.specs.ExpressionTerms.{Called, Valued, Placed, Argued, called_in, with_call}
 use Rattle.spv_expression_terms.specs.term_walk.OuterCalls.{MadeCalls, head_of}
 use Rattle.spv_assign.specs.supply.Numbers.{AreThere}
 use Rattle.spv_assign.specs.declared.creation_trace.faults.GenFault.{GenFault}
@@ -90,6 +90,11 @@ pub record IsFunctionCall (p : Program) (here : Option RoutineId) (c : Call) : T
 -- a call of this routine, whose arguments fit
 pub record IsCallOf (p : Program) (here : Option RoutineId) (c : Call) (r : Routine) : Type 0 where
   pub called : callee p (routine_in p here) c ≡ Some r
+
+-- arguments that fit some parameters
+pub record FitParameters (p : Program) (here : Option RoutineId) (given : Arguments) : Type 0 where
+  pub formals : List Formal
+  pub fit : IsTrue (arguments_fit p (routine_in p here) formals given)
 
 -- ---- what is made
 
@@ -192,6 +197,15 @@ one_call p r line arguments n =
     let made = with_call p r line (record { arguments = arguments; calls = []; supply = n }) in
     record { variables = head_of made.term ∷ []; calls = made.calls; supply = made.supply }
 
+-- the arguments that these are
+abbrev pub arguments_at : Arena → List code_argument.Argument → List argument.Argument
+arguments_at a given = map (argument_in a) given
+
+-- a call of a function behind its arguments, with the variable that stands for its value
+abbrev pub call_made : Program → Call → Argued → MadeCalls
+call_made p (call r line others) given =
+    let made = called_in p (routine_at p r) line given in record { variables = head_of made.term ∷ []; calls = made.calls; supply = made.supply }
+
 -- what stands for parameters now
 abbrev pub ArePresent : Arena → List TermId → List argument.Argument → Type 0
 ArePresent a [] [] = ⊤
@@ -273,6 +287,12 @@ pub record IsCallable (p : Program) (a : Arena) (r : Routine) (arguments : List 
   pub number : RoutineId
   pub at : IsAtCall p a number r arguments
 
+-- a call of a function, and ids of arguments that fit it
+pub record IsFunctionAt (p : Program) (a : Arena) (c : Call) (given : List code_argument.Argument) : Type 0 where
+  pub routine : Routine
+  pub at : IsAtCall p a (called_routine c) routine (arguments_at a given)
+  pub there : AreArguments a given (arguments_at a given)
+
 -- pairs of variables and the terms in their places, behind those that are there
 pub record AddsPairs (r : Result ⊤ GenFault) (qs : List (Head × Term)) (a b : Arena) (old new : List (TermId × TermId)) : Type 0 where
   pub grows : Extends a b
@@ -316,6 +336,10 @@ pub record IsWay (a : Arena) (w : code_way.Way) : Type 0 where
 -- the place where the steps so far led, without calls
 abbrev pub placed_at : Target → Supply → Placed
 placed_at d n = record { target = d; calls = []; supply = n }
+
+-- these arguments, without calls
+abbrev pub argued_at : List argument.Argument → Supply → Argued
+argued_at given n = record { arguments = given; calls = []; supply = n }
 
 -- one step further
 pub record AddsStep (r : Result ⊤ GenFault) (w : Placed) (events : List Event) (a b : Arena) (further : code_way.Way) (old new : List code_called.Called) (n : Supply) : Type 0 where

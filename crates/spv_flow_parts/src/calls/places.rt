@@ -64,8 +64,9 @@ pub(crate) fn to_element(terms: &mut Terms, way: &mut Way, index: TermId) -> Res
     ensures same { OnOk result (target_in terms.new way.new.target ≡ further (ToElement (tree terms.old index)) (target_in terms.old way.old.target)) }
 {
     let element = select(terms, way.term, index);
-    way.term = limited(terms, element)?;
+    let element = limited(terms, element)?;
     way.target.path.push(Step::Index(index))?;
+    way.term = element;
     Ok(())
 }
 
@@ -79,8 +80,9 @@ pub(crate) fn to_field(terms: &mut Terms, way: &mut Way, f: Symbol) -> Result<()
     ensures same { OnOk result (target_in terms.new way.new.target ≡ further (ToField f) (target_in terms.old way.old.target)) }
 {
     let value = field(terms, way.term, f);
-    way.term = limited(terms, value)?;
+    let value = limited(terms, value)?;
     way.target.path.push(Step::Field(f))?;
+    way.term = value;
     Ok(())
 }
 

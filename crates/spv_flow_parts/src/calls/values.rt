@@ -1,19 +1,19 @@
 // The terms of expressions and places with calls, and arguments. What makes calls puts them behind those that are there.
 
-ghost use Rattle.std.specs.Prelude.{◌≡◌, [], ◌∷◌, List, IfOk, Some, IsTrue};
+ghost use Rattle.std.specs.Prelude.{◌≡◌, [], ◌∷◌, IfOk, Some};
 ghost use Rattle.spv_term.specs.Arena.{sort_at};
-ghost use Rattle.spv_program.specs.Programs.{routine_in};
+ghost use Rattle.spv_program.specs.Programs.{routine_at, routine_in};
 ghost use Rattle.spv_program.specs.Programs as programs;
 ghost use Rattle.spv_program.specs.Expressions.{no_arguments, no_selectors};
-ghost use Rattle.spv_program.specs.ExpressionTypes.{arguments_fit, expression_sort};
+ghost use Rattle.spv_program.specs.ExpressionTypes.{expression_sort};
 ghost use Rattle.spv_program.specs.ExpressionTerms.{argued, placed, selected, valued};
 ghost use Rattle.spv_program.specs.typed.ExpressionViews.{argument_before, arguments_of, selector_before, selectors_of};
 ghost use Rattle.spv_expression_terms.specs.term_walk.OuterCalls.{made_calls, outer_calls, selectors_outer_calls};
-ghost use Rattle.spv_assign.specs.supply.Numbers.{supply_of};
+ghost use Rattle.spv_assign.specs.supply.Numbers.{AreThere, supply_of};
 ghost use Rattle.spv_assign.specs.structures.Targets.{target_in};
 ghost use Rattle.spv_flow_parts.specs.leaves.Values.{MakesValue};
-ghost use Rattle.spv_flow_parts.specs.calls.Arguments.{AddsArgument, AddsArguments, AddsCalls, AddsPlace, AddsStep, AddsValue, AreSelectors, AreSteps, IsCallOf, IsExpression, IsFunctionCall, IsPlace, IsWay, MakesArguments, MakesPlace, MayMake, arguments_in, placed_at};
-ghost use Rattle.spv_flow_parts.specs.calls.Events.{argument_events, call_events, calls_in_value, made_events, place_events, step_events, value_events};
+ghost use Rattle.spv_flow_parts.specs.calls.Arguments.{AddsArgument, AddsArguments, AddsCalls, AddsPlace, AddsStep, AddsValue, AreSelectors, AreSteps, FitParameters, IsCallOf, IsExpression, IsFunctionAt, IsFunctionCall, IsPlace, IsWay, MakesArguments, MakesPlace, MayMake, argued_at, arguments_at, arguments_in, call_made, called_routine, placed_at};
+ghost use Rattle.spv_flow_parts.specs.calls.Events.{argument_events, call_events, calls_in_value, made_at_call, made_events, place_events, step_events, value_events};
 
 use crate::Body;
 use crate::calls::at_call::function_call;
@@ -31,6 +31,7 @@ use spv_program::typed::{
     Argument as ArgumentText, Call, Designator, Expression, ExpressionForm, Program, Selector,
 };
 use spv_term::{TermId, Terms};
+use std::alloc::Global;
 
 /// The term of an expression, with the calls that are made in it.
 pub fn value(
@@ -251,16 +252,36 @@ fn add_call(
         calls,
         call.arguments.as_slice(),
     )?;
-    function_call(
+    call_with(
         program,
         body.alloc,
         terms,
         supply,
-        call,
-        given.as_slice(),
         calls,
         variables,
+        call,
+        given.as_slice(),
     )
+}
+
+// A call with these arguments.
+fn call_with(
+    program: &Program,
+    alloc: Global,
+    terms: &mut Terms,
+    supply: &mut Supply,
+    calls: &mut List<Called>,
+    variables: &mut List<Head>,
+    call: &Call,
+    given: &[Argument],
+) -> Result<(), GenFault>
+    requires function { IsFunctionAt program.now terms.old call.now given.now }
+    requires there { AreThere terms.old (supply_of supply.old) }
+    ensures { AddsCalls result (call_made program.now call.now (argued_at (arguments_at terms.old given.now) (supply_of supply.old)))
+        (made_at_call program.now (routine_at program.now (called_routine call.now)) (argued_at (arguments_at terms.old given.now) (supply_of supply.old))) terms.old terms.new
+        variables.old variables.new calls.old calls.new (supply_of supply.new) }
+{
+    function_call(program, alloc, terms, supply, call, given, calls, variables)
 }
 
 // The arguments of a call, from left to right.
@@ -273,9 +294,8 @@ fn add_arguments(
     calls: &mut List<Called>,
     given: &[ArgumentText],
 ) -> Result<List<Argument>, GenFault>
-    ghost formals: { List programs.Formal }
     requires may { MayMake program.now body.now terms.old (supply_of supply.old) }
-    requires typed { IsTrue (arguments_fit program.now (routine_in program.now body.now.here) formals (arguments_of given.now)) }
+    requires typed { FitParameters program.now body.now.here (arguments_of given.now) }
     ensures { AddsArguments result (argued program.now (routine_in program.now body.now.here) (supply_of supply.old) (arguments_of given.now))
         (argument_events program.now (routine_in program.now body.now.here) (supply_of supply.old) (arguments_of given.now)) terms.old terms.new calls.old calls.new (supply_of supply.new) }
 {
@@ -297,9 +317,8 @@ fn add_argument(
     calls: &mut List<Called>,
     given: &ArgumentText,
 ) -> Result<Argument, GenFault>
-    ghost formal: { programs.Formal }
     requires may { MayMake program.now body.now terms.old (supply_of supply.old) }
-    requires typed { IsTrue (arguments_fit program.now (routine_in program.now body.now.here) (formal ∷ []) (argument_before given.now no_arguments)) }
+    requires typed { FitParameters program.now body.now.here (argument_before given.now no_arguments) }
     ensures { AddsArgument result (argued program.now (routine_in program.now body.now.here) (supply_of supply.old) (argument_before given.now no_arguments))
         (argument_events program.now (routine_in program.now body.now.here) (supply_of supply.old) (argument_before given.now no_arguments)) terms.old terms.new calls.old calls.new (supply_of supply.new) }
 {
