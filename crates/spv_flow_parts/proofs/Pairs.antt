@@ -53,15 +53,15 @@ all_there a b heads more h = subst (λ (s : List Shape). AllRenamed s heads) (sy
 
 -- ---- lists
 
-pairs_both : (a : Arena) (xs ys : List (TermId × TermId)) → pairs_of a (xs ++ ys) ≡ pairs_of a xs ++ pairs_of a ys
+pub pairs_both : (a : Arena) (xs ys : List (TermId × TermId)) → pairs_of a (xs ++ ys) ≡ pairs_of a xs ++ pairs_of a ys
 pairs_both a [] ys = refl
 pairs_both a (x ∷ xs) ys = ap (λ (l : List (Head × Term)). pairs_of a (x ∷ []) ++ l) (pairs_both a xs ys)
 
-are_pairs_both : (a : Arena) (xs ys : List (TermId × TermId)) → ArePairs a xs → ArePairs a ys → ArePairs a (xs ++ ys)
+pub are_pairs_both : (a : Arena) (xs ys : List (TermId × TermId)) → ArePairs a xs → ArePairs a ys → ArePairs a (xs ++ ys)
 are_pairs_both a [] ys h k = k
 are_pairs_both a (x ∷ xs) ys h k = (h.0, are_pairs_both a xs ys h.1 k)
 
-terms_both : (xs ys : List (Head × Term)) → pair_terms (xs ++ ys) ≡ pair_terms xs ++ pair_terms ys
+pub terms_both : (xs ys : List (Head × Term)) → pair_terms (xs ++ ys) ≡ pair_terms xs ++ pair_terms ys
 terms_both [] ys = refl
 terms_both (x ∷ xs) ys = ap (λ (l : List Term). alone x.0 ∷ x.1 ∷ l) (terms_both xs ys)
 

@@ -6,7 +6,7 @@ use Rattle.spv_logic.specs.declared.types.TypeId.{TypeId}
 use Rattle.spv_logic.specs.declared.operators.Head.{Head}
 use Rattle.spv_logic.specs.declared.conditions.TermId.{TermId}
 use Rattle.spv_logic.specs.Terms.{Term}
-use Rattle.spv_term.specs.Arena.{Arena, Extends}
+use Rattle.spv_term.specs.Arena.{Arena, Extends, tree}
 use Rattle.spv_program.specs.Expressions.{Expression, Designator, Selectors, Call, Arguments, call}
 use Rattle.spv_program.specs.Programs.{Formal, Routine, Program, shapes, routine_at, routine_in}
 use Rattle.spv_program.specs.ExpressionTypes.{callee, designator_type, expression_sort, selected_type}
@@ -106,6 +106,15 @@ abbrev pub IsArgument : Arena → code_argument.Argument → argument.Argument �
 IsArgument a (code.Given t) (argument.Given x) = IsTerm a t x
 IsArgument a (code.AtPlace d) (argument.AtPlace e) = IsTarget a d × (target_in a d ≡ e)
 IsArgument a _ _ = ⊥
+
+-- what stands for a parameter, in terms
+abbrev pub argument_in : Arena → code_argument.Argument → argument.Argument
+argument_in a (code.Given t) = argument.Given (tree a t)
+argument_in a (code.AtPlace d) = argument.AtPlace (target_in a d)
+
+-- arguments whose calls were made, with the fresh variables that are left
+abbrev pub given_as : List argument.Argument → Supply → Argued
+given_as arguments n = record { arguments = arguments; calls = []; supply = n }
 
 abbrev pub AreArguments : Arena → List code_argument.Argument → List argument.Argument → Type 0
 AreArguments a [] [] = ⊤
@@ -269,7 +278,7 @@ pub record AddsChanged (r : Result ⊤ GenFault) (w : Changed) (a b : Arena) (ol
   pub grows : Extends a b
   pub walk : Answers r (several (pair_terms w.after)) a b
   pub in_exit : (before : List (Head × Term)) → AreAfter a old.in_exit.items before → OnOk r (AreAfter b new.in_exit.items (before ++ w.in_exit))
-  pub after : OnOk r (pairs_of b new.after.items ≡ pairs_of a old.after.items ++ w.after)
+  pub after : ArePairs a old.after.items → OnOk r (pairs_of b new.after.items ≡ pairs_of a old.after.items ++ w.after)
   pub fit : ArePairs a old.after.items → OnOk r (ArePairs b new.after.items)
   pub supply : OnOk r (n ≡ w.supply)
   pub there : OnOk r (AreThere b n)
