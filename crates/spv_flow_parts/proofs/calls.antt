@@ -1,3 +1,4 @@
 pub mod Starts
 pub mod Wholes
 pub mod Changing
+pub mod Fresh

@@ -1,5 +1,6 @@
 -- What a call changes: its VAR parameters and the items of its VAR groups, one after the other.
-use Rattle.std.proofs.Common.{◌≡◌, ◌<◌, true, false, List, [], ◌∷◌, ◌++◌, map, Bool, Result, Ok, Err, OnOk, IsErrAnd, ⊤, refl, sym, ap, subst, ◌∙◌, arith}
+use Rattle.std.proofs.Common.{◌≡◌, ◌<◌, true, false, List, [], ◌∷◌, ◌++◌, map, Bool, Result, Ok, Err, OnOk, IsErrAnd, refl, sym, ap, subst, ◌∙◌, arith}
+use Rattle.std.specs.Prelude.{⊤}
 use Rattle.std.proofs.lemmas.List.{append_assoc}
 use Rattle.spv_logic.specs.declared.conditions.TermId.{TermId}
 use Rattle.spv_logic.specs.declared.operators.Head.{Head}
@@ -102,7 +103,7 @@ pub adds_stopped : (r : Result ⊤ GenFault) (e : GenFault) (w : Changed) (a b :
 adds_stopped (Ok x) e w a b old new n is grows stops = absurd is
 adds_stopped (Err f) e w a b old new n is grows stops = record {
   grows = grows;
-  walk = same_stop (Err f) e (several (pair_terms w.after)) a b is stops;
+  walk = same_stop {X = ⊤} (Err f) e (several (pair_terms w.after)) a b is stops;
   in_exit = λ before h. tt;
   after = λ fit. tt;
   fit = λ fit. tt;

@@ -1,5 +1,5 @@
 -- The whole with something else at a place: its sort, and what is made on the way to it.
-use Rattle.std.proofs.Common.{◌≡◌, ◌<◌, ◌&&◌, true, cond, List, [], ◌∷◌, length, Option, Some, None, option_map, Result, Ok, Err, IfOk, IfSome, IsSome, is_some, refl, sym, ap, ◌∙◌, arith}
+use Rattle.std.proofs.Common.{◌≡◌, ◌<◌, ◌&&◌, true, cond, List, [], ◌∷◌, length, Option, Some, None, option_map, Result, Ok, Err, IfOk, IfSome, IsSome, is_some, refl, sym, ap, subst, ◌∙◌, arith}
 use Rattle.std.specs.Cmp.Derive.{both_true}
 use Rattle.std.proofs.lemmas.Bool.{false≢true}
 use Rattle.spv_logic.proofs.list.Tests.{left_true, right_true}
@@ -11,7 +11,7 @@ use Rattle.spv_logic.specs.declared.types.Decl.{Decl}
 use Rattle.spv_logic.specs.declared.operators.Head.{Head}
 use Rattle.spv_logic.specs.declared.operators.Head.TheVariants as head
 use Rattle.spv_logic.specs.declared.names.names.Symbol.{Symbol}
-use Rattle.spv_logic.specs.Terms.{Term, sort_eq}
+use Rattle.spv_logic.specs.Terms.{Term, no_terms, sort_eq}
 use Rattle.spv_logic.specs.Shapes.{element_sort, fields_of, content_sort, pointer_sort, field_sort_of}
 use Rattle.spv_logic.specs.Sorts.{variable_sort, with_sort, with_sorts, sort_before, takes, result_sort, term_sort}
 use Rattle.spv_logic.specs.Substitution.{is_variable}
@@ -21,7 +21,7 @@ use Rattle.spv_term.specs.declared.nodes.TermFault.TheVariants.{Size}
 use Rattle.spv_term.specs.Arena.{Arena, Extends, tree}
 use Rattle.spv_term.proofs.ArenaLemmas.{tree-Extends, length-Extends}
 use Rattle.spv_term.specs.substitution.Images.{head_of}
-use Rattle.spv_term.specs.substitution.Parts.{AddsOnly, Lacks}
+use Rattle.spv_term.specs.substitution.Parts.{is_part, AddsOnly, Lacks}
 use Rattle.spv_program.specs.Places as place
 use Rattle.spv_program.specs.Places.{ToElement, ToField, part, part_behind, changed_part, base, in_root, present, whole_with}
 use Rattle.spv_program.specs.Supplies.{Supply, Fresh}
@@ -36,7 +36,8 @@ use Rattle.spv_assign.specs.structures.Targets.{IsTarget, target_in}
 use Rattle.spv_assign.specs.limited_steps.Makes.{Makes}
 use Rattle.spv_assign.proofs.limited_steps.Limits.{only_part, lacks_one}
 use Rattle.spv_assign.proofs.structures.Parts.{part_sorted}
-use Rattle.spv_assign.proofs.structures.Paths.{structure_in, steps_stay, steps_there}
+use Rattle.spv_assign.proofs.structures.Paths.{structure_in, value_in, third_part, steps_stay, steps_there}
+use Rattle.spv_assign.proofs.creation_trace.Covering.{part_of_part}
 
 -- ---- sorts
 
@@ -96,14 +97,15 @@ module _ (shapes : List Shape) (decls : List Decl) where
   -- with something else behind steps a structure keeps its sort
   changed_sorted : (path : List place.Step) (s v : Term) (e : Sort) → term_sort shapes decls (part_behind s path) ≡ Some e → term_sort shapes decls v ≡ Some e → term_sort shapes decls (changed_part s path v) ≡ term_sort shapes decls s
   changed_sorted [] s v e h k = k ∙ sym h
-  changed_sorted (x ∷ path) s v e h k = by (term_sort shapes decls (part s x)) refl there
+  changed_sorted (x ∷ path) s v e h k = by (term_sort shapes decls (part s x)) refl there (changed_sorted path (part s x) v e h k)
     where
       there : IsSome (term_sort shapes decls (part s x))
       there = part_sorted shapes decls (part s x) (part_behind (part s x) path) (structure_in (part s x) path) (ap (λ o. is_some o) h)
 
-      by : (o : Option Sort) → term_sort shapes decls (part s x) ≡ o → IsSome o → term_sort shapes decls (changed_part s (x ∷ path) v) ≡ term_sort shapes decls s
-      by None is some = absurd (false≢true some)
-      by (Some t) is some = step_sorted s x path v t is (changed_sorted path (part s x) v e h k ∙ is)
+      by : (o : Option Sort) → term_sort shapes decls (part s x) ≡ o → IsSome o → term_sort shapes decls (changed_part (part s x) path v) ≡ term_sort shapes decls (part s x)
+          → term_sort shapes decls (changed_part s (x ∷ path) v) ≡ term_sort shapes decls s
+      by None is some inner = absurd (false≢true some)
+      by (Some t) is some inner = step_sorted s x path v t is (inner ∙ is)
 
   root_sorted : (h : Head) → is_variable h ≡ true → term_sort shapes decls (alone h) ≡ Some (variable_sort h)
   root_sorted h v = variable_result shapes decls h v
@@ -123,6 +125,13 @@ module _ (shapes : List Shape) (decls : List Decl) where
       by : (o : Option Sort) → term_sort shapes decls cell ≡ o → IsSome o → term_sort shapes decls (ternary head.SetCell (alone root) q (changed_part cell path v)) ≡ Some (variable_sort root)
       by None is some = absurd (false≢true some)
       by (Some t) is some = cell_sorted (alone root) q (changed_part cell path v) t is (changed_sorted path cell v e h k ∙ is) ∙ root_sorted root variable
+
+-- what is put at a place is a part of the whole
+pub value_in_whole : (root : Head) (pointer : Option Term) (path : List place.Step) (v : Term) → is_part v (in_root root pointer (changed_part (base root pointer) path v)) ≡ true
+value_in_whole root None path v = value_in (alone root) path v
+value_in_whole root (Some q) path v =
+    let inner = changed_part (binary head.Cell (alone root) q) path v in
+    part_of_part v inner (ternary head.SetCell (alone root) q inner) (value_in (binary head.Cell (alone root) q) path v) (third_part head.SetCell (alone root) q inner no_terms)
 
 -- ---- places in arenas that grow
 
@@ -155,6 +164,9 @@ module _ {a b : Arena} (more : Extends a b) where
 pub gives_makes : (a b : Arena) (r : Result TermId TermFault) (x : Term) → GivesTerm r x a b → Makes r a b (x ∷ [])
 gives_makes a b (Ok t) x h = record { grows = h.grows; there = (record { id = t; there = h.term.there; is_tree = h.term.is_tree }, tt); only = h.only; size = h.size }
 gives_makes a b (Err e) x h = record { grows = h.grows; there = tt; only = h.only; size = h.size }
+
+pub gives_at : (r : Result TermId TermFault) (t : TermId) (x : Term) (a b : Arena) → r ≡ Ok t → GivesTerm r x a b → GivesTerm (Ok t) x a b
+gives_at r t x a b is h = subst (λ (s : Result TermId TermFault). GivesTerm s x a b) is h
 
 pub fresh_makes : (a b : Arena) (taken : Taken) (n : Supply) (f : Fresh) (r : Result TermId TermFault) → IfOk r (λ t. IsFresh b t taken f) → Extends a b → AddsOnly a b (alone f.head)
     → (AreThere a n → r ≡ Err Size → Lacks b (alone f.head)) → AreThere a n → Makes r a b (alone f.head ∷ [])
