@@ -113,8 +113,8 @@ argument_in a (code.Given t) = argument.Given (tree a t)
 argument_in a (code.AtPlace d) = argument.AtPlace (target_in a d)
 
 -- arguments whose calls were made, with the fresh variables that are left
-abbrev pub given_as : List argument.Argument → Supply → Argued
-given_as arguments n = record { arguments = arguments; calls = []; supply = n }
+abbrev pub argued_at : List argument.Argument → Supply → Argued
+argued_at arguments n = record { arguments = arguments; calls = []; supply = n }
 
 abbrev pub AreArguments : Arena → List code_argument.Argument → List argument.Argument → Type 0
 AreArguments a [] [] = ⊤

@@ -1,6 +1,6 @@
 // The conditions before a call of a procedure.
 
-ghost use Rattle.std.specs.Prelude.{◌≡◌, ◌++◌, [], ◌∷◌, map, IfOk, IsTrue, List, OnOk, Some};
+ghost use Rattle.std.specs.Prelude.{◌≡◌, ◌++◌, [], ◌∷◌, length, map, IfOk, IsTrue, List, OnOk, Some};
 ghost use Rattle.spv_logic.specs.declared.conditions.RoutineId.{RoutineId};
 ghost use Rattle.spv_logic.specs.Sorts.{head_in_range, sort_in_range, term_sort};
 ghost use Rattle.spv_term.specs.Arena.{Extends};
@@ -23,7 +23,7 @@ ghost use Rattle.spv_assign.specs.creation_trace.Events.{Answers};
 ghost use Rattle.spv_assign.specs.creation_trace.StatementEvents.{pair_terms, several};
 ghost use Rattle.spv_assign.specs.supply.Numbers.{AreThere, supply_of};
 ghost use Rattle.spv_flow_parts.specs.Walks.{Comes, ComesTo, made_of};
-ghost use Rattle.spv_flow_parts.specs.calls.Arguments.{Calling, AddsChanged, AreArguments, AreChanged, IsArgument, IsAtCall, MayMake, argument_in, call_line, called_routine, changed_by_places, given_as};
+ghost use Rattle.spv_flow_parts.specs.calls.Arguments.{Calling, AddsChanged, AreArguments, AreChanged, IsArgument, IsAtCall, MayMake, argument_in, call_line, called_routine, changed_by_places, argued_at};
 ghost use Rattle.spv_flow_parts.specs.calls.Events.{entering_events, perform_events};
 
 use crate::Body;
@@ -124,6 +124,7 @@ fn add_places(
     ghost at: { Calling }
     requires at { IsAtCall program.now terms.old at.number at.routine at.arguments }
     requires formals { map formal_of formals.now ≡ at.routine.formals }
+    requires long { length given.now ≡ length formals.now }
     requires given { AreArguments terms.old given.now at.arguments }
     requires there { AreThere terms.old (supply_of supply.old) }
     ensures { AddsChanged result (changed_by_places program.now at.routine.formals at.arguments (supply_of supply.old)) terms.old terms.new changed.old changed.new (supply_of supply.new) }
@@ -196,6 +197,7 @@ fn changes(
 ) -> Result<Changed, GenFault>
     ghost at: { Calling }
     requires program { at.program ≡ program.now }
+    requires number { at.number ≡ number }
     requires at { IsAtCall program.now terms.old number at.routine at.arguments }
     requires given { AreArguments terms.old given.now at.arguments }
     requires there { AreThere terms.old (supply_of supply.old) }
@@ -261,8 +263,8 @@ pub fn before_entered(
     requires given { AreArguments terms.old argued.now.arguments at.arguments }
     requires there { AreThere terms.old (supply_of supply.old) }
     requires rest { AreIn terms.old rest.items }
-    ensures { Comes result (before_entering program.now body.now.here (call_line call.now) (Some at.routine) (given_as at.arguments (supply_of supply.old)) (conditions_of terms.old rest.items))
-        (entering_events program.now body.now.here (call_line call.now) (Some at.routine) (given_as at.arguments (supply_of supply.old)) (conditions_of terms.old rest.items)) terms.old terms.new (supply_of supply.new) }
+    ensures { Comes result (before_entering program.now body.now.here (call_line call.now) (Some at.routine) (argued_at at.arguments (supply_of supply.old)) (conditions_of terms.old rest.items))
+        (entering_events program.now body.now.here (call_line call.now) (Some at.routine) (argued_at at.arguments (supply_of supply.old)) (conditions_of terms.old rest.items)) terms.old terms.new (supply_of supply.new) }
 {
     let given = argued.arguments.as_slice();
     let fresh = changes(program, body.alloc, terms, supply, call.routine, given)?;
