@@ -4,3 +4,4 @@ pub mod Changing
 pub mod Fresh
 pub mod Each
 pub mod Entered
+pub mod Performed

@@ -351,3 +351,15 @@ after_is a [] [] h = refl
 after_is a (p ∷ ps) (q ∷ qs) h = let head = h.0 in let term = h.1.0.is_tree in let others = after_is a ps qs h.1.1 in λ i. (head i, term i) ∷ others i
 after_is a [] (q ∷ qs) h = absurd h
 after_is a (p ∷ ps) [] h = absurd h
+
+pub own_after : (a : Arena) (ps : List (Head × TermId)) (qs : List (Head × Term)) → AreAfter a ps qs → AreAfter a ps (after_in a ps)
+own_after a ps qs h = subst (λ (l : List (Head × Term)). AreAfter a ps l) (sym (after_is a ps qs h)) h
+
+pub own_fit : (p : Program) (a : Arena) (ps : List (Head × TermId)) (qs : List (Head × Term)) → AreAfter a ps qs → FitHeads p qs → FitHeads p (after_in a ps)
+own_fit p a ps qs h fit = subst (λ (l : List (Head × Term)). FitHeads p l) (sym (after_is a ps qs h)) fit
+
+pub arguments_are : (a : Arena) (ts : List code_argument.Argument) (xs : List argument.Argument) → AreArguments a ts xs → map (argument_in a) ts ≡ xs
+arguments_are a [] [] h = refl
+arguments_are a (t ∷ ts) (x ∷ xs) h = let first = argument_is a t x h.0 in let others = arguments_are a ts xs h.1 in λ i. first i ∷ others i
+arguments_are a [] (x ∷ xs) h = absurd h
+arguments_are a (t ∷ ts) [] h = absurd h

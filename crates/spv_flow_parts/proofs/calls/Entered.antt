@@ -1,7 +1,8 @@
 -- The conditions before a call, behind what was made for it.
-use Rattle.std.proofs.Common.{◌≡◌, ℕ, ◌+◌, Bool, true, false, List, [], ◌∷◌, ◌++◌, map, length, Option, Some, None, Ok, Err, IfOk, IsErrAnd, refl, sym, ap, subst, ◌∙◌}
+use Rattle.std.proofs.Common.{◌≡◌, ℕ, suc, nat_eq, arith, ◌+◌, Bool, true, false, List, [], ◌∷◌, ◌++◌, map, length, Option, Some, None, Result, Ok, Err, IfOk, IsErrAnd, refl, sym, ap, subst, ◌∙◌}
 use Rattle.std.specs.Prelude.{Vec}
 use Rattle.std.specs.Global.{Global}
+use Rattle.std.proofs.lemmas.Bool.Decides.{nat_tests}
 use Rattle.std.proofs.lemmas.List.{length-map, append_assoc}
 use Rattle.spv_logic.specs.declared.conditions.RoutineId.{RoutineId}
 use Rattle.spv_logic.specs.declared.conditions.TermId.{TermId}
@@ -30,7 +31,10 @@ use Rattle.spv_assign.specs.creation_trace.Events.{Answers, Event, HasTerms, Wal
 use Rattle.spv_assign.specs.creation_trace.StatementEvents.{counted, in_order, pair_terms, several}
 use Rattle.spv_assign.proofs.creation_trace.Walks.{adds_nothing, nothing_walked}
 use Rattle.spv_flow_parts.specs.Walks.{AreThese, Comes, ComesTo, IsMade, Listed, made_of}
-use Rattle.spv_flow_parts.specs.calls.Arguments.{AreChanged, argued_at, called_with}
+use Rattle.spv_flow_parts.specs.declared.leaves.valued.Called as code_called
+use Rattle.spv_flow_parts.specs.declared.calls.passed.Argument as code_argument
+use Rattle.spv_flow_parts.specs.calls.Arguments.{AreAfter, AreArguments, AreChanged, MakesCall, argued_at, argument_in, called_with}
+use Rattle.spv_flow_parts.proofs.calls.Each.{after_in, after_is, arguments_are}
 use Rattle.spv_flow_parts.specs.calls.Events.{argument_events, at_call_events, entering_events, perform_events}
 use Rattle.spv_flow_parts.specs.leaves.Values.{call_events}
 use Rattle.spv_flow_parts.proofs.Steps.{append_nil, comes_as, comes_last, exit, went, AreThese-Extends}
@@ -61,6 +65,13 @@ none_replaced (c ∷ cs) =
     let goal = same_term c.claim.goal in
     let others = none_replaced cs in
     λ i. record { claim = record { given = given i; goal = goal i }; origin = c.origin } ∷ others i
+
+pub is_empty : {X : Type 0} (xs : List X) → nat_eq (length xs) 0 ≡ true → xs ≡ []
+is_empty [] e = refl
+is_empty (x ∷ xs) e = absurd (some (length xs) e)
+  where
+    some : (n : ℕ) → nat_eq (suc n) 0 ≡ true → ⊥
+    some n e = grind (arith, nat_tests)
 
 -- ---- conditions whose terms are there
 
@@ -144,14 +155,24 @@ module _ (p : Program) (here : Option RoutineId) (line : ℕ) (r : Routine) (xs 
         pub replaced_stops : (o : Listed) (e : GenFault) → IsErrAnd o (λ f. f ≡ e) → x ≡ Err e → Comes o goal all_events a d m
         replaced_stops o e is failed = exit o e goal m (e1 ∷ e2 ∷ []) e3 (e4 ∷ []) is w2 comes_so.grows (subst (λ (y : Listed). Answers y e3 c d) failed comes_so.walk)
 
-        pub entered : (v : Vec Condition Global) → x ≡ Ok v → (o : Listed) → (AreThese d v.items (replaced w.after cs) → ComesTo o (before_calls here (called_with p r line xs w.in_exit ∷ []) (replaced w.after cs)) (call_events here (called_with p r line xs w.in_exit ∷ []) (replaced w.after cs)) d d)
+        pub entered : (v : Vec Condition Global) → x ≡ Ok v → (o : Listed) → (Extends c d → AreThese d v.items (replaced w.after cs) → ComesTo o (before_calls here (called_with p r line xs w.in_exit ∷ []) (replaced w.after cs)) (call_events here (called_with p r line xs w.in_exit ∷ []) (replaced w.after cs)) d d)
             → Comes o goal all_events a d m
         entered v is o front =
             let made = ok_made is comes_so.made in
             let w3 = went (e1 ∷ e2 ∷ []) e3 w2 (subst (λ (y : Listed). Answers y e3 c d) is comes_so.walk) in
             comes_last o goal m (e1 ∷ e2 ∷ e3 ∷ []) e4 w3
             (comes_as goal m o (record { conditions = goal.conditions; supply = m }) (counted (length (wanted_entry here line (entry_at_call p r xs)) + length (replaced w.after cs))) e4 (ap (λ (s : Supply). record { conditions = goal.conditions; supply = s }) are.supply)
-            (ap (λ k. counted (length (wanted_entry here line (entry_at_call p r xs)) + k)) (length-map cs _)) (front made.conditions m made.there))
+            (ap (λ k. counted (length (wanted_entry here line (entry_at_call p r xs)) + k)) (length-map cs _)) (front comes_so.grows made.conditions m made.there))
           where
             ok_made : x ≡ Ok v → IfOk x (λ l. IsMade d m l.items (record { conditions = replaced w.after cs; supply = m })) → IsMade d m v.items (record { conditions = replaced w.after cs; supply = m })
             ok_made is h = subst (λ (y : Listed). IfOk y (λ l. IsMade d m l.items (record { conditions = replaced w.after cs; supply = m }))) is h
+
+-- a call with the terms of what it changes
+pub made_call : (p : Program) (r : Routine) (xs : List argument.Argument) (line line' : ℕ) (a b : Arena) (o : Result code_called.Called GenFault) (ps : List (Head × TermId)) (qs : List (Head × Term)) → line ≡ line' → AreAfter a ps qs
+    → MakesCall o (called_with p r line xs (after_in a ps)) (at_call_events p r xs (after_in a ps)) a b → MakesCall o (called_with p r line' xs qs) (at_call_events p r xs qs) a b
+made_call p r xs line line' a b o ps qs same h made =
+    subst (λ k. MakesCall o (called_with p r k xs qs) (at_call_events p r xs qs) a b) same
+    (subst (λ (l : List (Head × Term)). MakesCall o (called_with p r line xs l) (at_call_events p r xs l) a b) (after_is a ps qs h) made)
+
+pub own_arguments : (a : Arena) (ts : List code_argument.Argument) (xs : List argument.Argument) → AreArguments a ts xs → AreArguments a ts (map (argument_in a) ts)
+own_arguments a ts xs h = subst (λ (l : List argument.Argument). AreArguments a ts l) (sym (arguments_are a ts xs h)) h

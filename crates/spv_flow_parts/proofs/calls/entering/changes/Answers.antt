@@ -45,12 +45,12 @@ add_items-requires g c = (
 pub returns-in_err-add_items-clause-walk : goal.returns-in_err-add_items-clause-walk
 returns-in_err-add_items-clause-walk g c =
     same_stop c.from_residual-in_err-add_items.result c.in_err-add_items.field-0.0 _ _ _ c.from_residual-in_err-add_items.ensures.1
-    (items_stop c.args.program.now g.at.routine g.at.arguments (supply_of c.args.supply.now) c.args.terms.now _ c.add_places.new.terms _ _ c.in_ok-add_places.ensures c.in_err-add_items.field-0.0 c.add_items.new.terms _ _ (items_of c.args.program.now g.at.program g.at.routine c.requires.0 _ _ _ _ _ _ c.in_err-add_items.ensures))
+    (items_stop c.args.program.now g.at.routine g.at.arguments (supply_of c.args.supply.now) c.args.terms.now _ c.add_places.new.terms _ _ c.in_ok-add_places.ensures c.in_err-add_items.field-0.0 c.add_items.new.terms _ _ (items_of c.args.program.now g.at.program g.at.routine c.requires.0 _ _ _ _ _ _ _ c.in_err-add_items.ensures))
 
 pub returns-clause-walk : goal.returns-clause-walk
-returns-clause-walk g c = (all_added c.args.program.now g.at.routine g.at.arguments (supply_of c.args.supply.now) c.args.terms.now _ c.add_places.new.terms _ _ c.in_ok-add_places.ensures c.add_items.new.terms _ _ (items_of c.args.program.now g.at.program g.at.routine c.requires.0 _ _ _ _ _ _ c.in_ok-add_items.ensures)).walk
+returns-clause-walk g c = (all_added c.args.program.now g.at.routine g.at.arguments (supply_of c.args.supply.now) c.args.terms.now _ c.add_places.new.terms _ _ c.in_ok-add_places.ensures c.add_items.new.terms _ _ (items_of c.args.program.now g.at.program g.at.routine c.requires.0 _ _ _ _ _ _ _ c.in_ok-add_items.ensures)).walk
 
 pub returns-clause-changed : goal.returns-clause-changed
 returns-clause-changed g c =
     are_changed _ _ _ _ _ _ c.new.ensures.items c.new-2.ensures.items
-    (all_added c.args.program.now g.at.routine g.at.arguments (supply_of c.args.supply.now) c.args.terms.now _ c.add_places.new.terms _ _ c.in_ok-add_places.ensures c.add_items.new.terms _ _ (items_of c.args.program.now g.at.program g.at.routine c.requires.0 _ _ _ _ _ _ c.in_ok-add_items.ensures))
+    (all_added c.args.program.now g.at.routine g.at.arguments (supply_of c.args.supply.now) c.args.terms.now _ c.add_places.new.terms _ _ c.in_ok-add_places.ensures c.add_items.new.terms _ _ (items_of c.args.program.now g.at.program g.at.routine c.requires.0 _ _ _ _ _ _ _ c.in_ok-add_items.ensures))
