@@ -9,7 +9,7 @@ ghost use Rattle.spv_term.specs.substitution.Images.{head_at};
 ghost use Rattle.spv_program.specs.Places as plain;
 ghost use Rattle.spv_program.specs.Programs.{routine_in};
 ghost use Rattle.spv_program.specs.Statements.{Assign, New};
-ghost use Rattle.spv_program.specs.Terms.{alone, binary};
+ghost use Rattle.spv_program.specs.Terms.{alone, binary, ternary};
 ghost use Rattle.spv_program.specs.Typing.{statement_ok};
 ghost use Rattle.spv_meaning.specs.Before as meaning;
 ghost use Rattle.spv_assign.specs.Conditions.{AreIn, conditions_of};
@@ -25,7 +25,7 @@ use crate::calls::{place, value};
 use crate::leaves::in_front;
 use spv_assign::creation_trace::GenFault;
 use spv_assign::limited_steps::{assumed, binary, limited, made, negated, replaced};
-use spv_assign::structures::{Target, extend, pointer_to, whole_with};
+use spv_assign::structures::{Target, whole_with};
 use spv_assign::supply::Supply;
 use spv_effects::mod_sets::sort_of;
 use spv_logic::names::Symbol;
@@ -90,19 +90,19 @@ fn title_of(program: &Program, t: TypeId) -> Symbol
     }
 }
 
-// That a pointer leads to no cell of a class.
-fn no_member(terms: &mut Terms, pointer: TermId, class: TermId) -> Result<TermId, GenFault>
+// That a pointer leads to no cell of its type.
+fn no_member(terms: &mut Terms, pointer: TermId, t: TypeId) -> Result<TermId, GenFault>
     requires pointer { pointer.0 < length terms.old.nodes }
-    requires class { class.0 < length terms.old.nodes }
-    requires sorts { term_sort terms.old.shapes terms.old.decls (binary head.PointerTo (tree terms.old pointer) (tree terms.old class)) ≡ Some Sort.Bool }
-    ensures { MakesTerm result (meaning.negated (binary head.PointerTo (tree terms.old pointer) (tree terms.old class))) terms.old terms.new }
+    requires sort { sort_at terms.old pointer ≡ Sort.Ptr t }
+    requires class { t.0 < length terms.old.shapes }
+    ensures { MakesTerm result (meaning.negated (binary head.PointerTo (tree terms.old pointer) (alone (head.ClassVar t 0)))) terms.old terms.new }
 {
-    let member = pointer_to(terms, pointer, class);
-    let member = limited(terms, member)?;
+    let class = made(terms, Head::ClassVar(t, 0), &[])?;
+    let member = binary(terms, Head::PointerTo, pointer, class)?;
     negated(terms, member)
 }
 
-// That a pointer to cells of a type is not NIL.
+// That a pointer is not NIL.
 fn not_nil(terms: &mut Terms, pointer: TermId, t: TypeId) -> Result<TermId, GenFault>
     requires pointer { pointer.0 < length terms.old.nodes }
     requires sort { sort_at terms.old pointer ≡ Sort.Ptr t }
@@ -112,6 +112,29 @@ fn not_nil(terms: &mut Terms, pointer: TermId, t: TypeId) -> Result<TermId, GenF
     let nil = made(terms, Head::Nil(t), &[])?;
     let equal = binary(terms, Head::Eq, pointer, nil)?;
     negated(terms, equal)
+}
+
+// Conditions with a class extended by a cell.
+fn with_cell(
+    alloc: Global,
+    terms: &mut Terms,
+    t: TypeId,
+    pointer: TermId,
+    content: TermId,
+    rest: Vec<Condition>,
+) -> Result<Vec<Condition>, GenFault>
+    requires class { t.0 < length terms.old.shapes }
+    requires pointer { pointer.0 < length terms.old.nodes }
+    requires pointer_sort { sort_at terms.old pointer ≡ Sort.Ptr t }
+    requires content { content.0 < length terms.old.nodes }
+    requires content_sort { sort_at terms.old content ≡ sort_of_type terms.old.shapes t }
+    requires rest { AreIn terms.old rest.items }
+    ensures { ComesTo result (meaning.replaced ((head.ClassVar t 0, ternary head.Extend (alone (head.ClassVar t 0)) (tree terms.old pointer) (tree terms.old content)) ∷ []) (conditions_of terms.old rest.items))
+        (replacing_events ((head.ClassVar t 0, ternary head.Extend (alone (head.ClassVar t 0)) (tree terms.old pointer) (tree terms.old content)) ∷ []) (conditions_of terms.old rest.items)) terms.old terms.new }
+{
+    let class = made(terms, Head::ClassVar(t, 0), &[])?;
+    let extended = made(terms, Head::Extend, &[class, pointer, content])?;
+    replaced(terms, alloc, &[(class, extended)], rest)
 }
 
 // The conditions before the creation of a cell at a place, where the pointer to it and its content are fresh.
@@ -135,14 +158,11 @@ fn before_creation(
     ensures { ComesTo result (meaning.before_creation t (target_in terms.old target.now) (tree terms.old pointer) (tree terms.old content) (conditions_of terms.old rest.items))
         (creation_events t (target_in terms.old target.now) (tree terms.old pointer) (tree terms.old content) (conditions_of terms.old rest.items)) terms.old terms.new }
 {
-    let behind = with_place(alloc, terms, target, pointer, rest)?;
-    let class = made(terms, Head::ClassVar(t, 0), &[])?;
-    let extended = extend(terms, class, pointer, content);
-    let extended = limited(terms, extended)?;
-    let behind = replaced(terms, alloc, &[(class, extended)], behind)?;
-    let none = no_member(terms, pointer, class)?;
+    let placed = with_place(alloc, terms, target, pointer, rest)?;
+    let extended = with_cell(alloc, terms, t, pointer, content, placed)?;
+    let none = no_member(terms, pointer, t)?;
     let there = not_nil(terms, pointer, t)?;
-    let behind = assumed(alloc, none, behind)?;
+    let behind = assumed(alloc, none, extended)?;
     assumed(alloc, there, behind)
 }
 

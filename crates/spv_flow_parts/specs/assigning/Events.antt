@@ -38,19 +38,19 @@ abbrev pub creation_events : TypeId → Target → Term → Term → List Condit
 creation_events t place pointer content conditions =
     let class = alone (head.ClassVar t 0) in
     let to_place = (place.root, whole_with place pointer) ∷ [] in
-    in_order (several (pointer ∷ content ∷ [])
-    ∷ replacing_events to_place conditions
+    in_order (replacing_events to_place conditions
     ∷ replacing_events ((head.ClassVar t 0, ternary head.Extend class pointer content) ∷ []) (replaced to_place conditions)
     ∷ several (negated (binary head.PointerTo pointer class) ∷ negated (binary head.Eq pointer (alone (head.Nil t))) ∷ [])
     ∷ [])
 
--- the place, its creation, and the calls of the place in front
+-- the place, the pointer and the content of the cell, its creation, and the calls of the place in front
 abbrev pub new_events : Program → Option RoutineId → Designator → TypeId → Made → List Event
 new_events p here d t q =
     let place = placed p (routine_in p here) q.supply d in
     let pointer = fresh_variable (first_name d) (sort.Ptr t) place.supply in
     let content = fresh_variable (title_of p t) (sort_of p.forms t) pointer.supply in
     in_order (place_events p (routine_in p here) q.supply d
+    ∷ several (alone pointer.head ∷ alone content.head ∷ [])
     ∷ creation_events t place.target (alone pointer.head) (alone content.head) q.conditions
     ∷ call_events here place.calls (before_creation t place.target (alone pointer.head) (alone content.head) q.conditions)
     ∷ [])
