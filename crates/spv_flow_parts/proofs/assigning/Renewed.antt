@@ -10,6 +10,7 @@ use Rattle.spv_logic.specs.declared.conditions.RoutineId.{RoutineId}
 use Rattle.spv_logic.specs.declared.operators.Head.{Head}
 use Rattle.spv_logic.specs.declared.types.Sort.{Sort}
 use Rattle.spv_logic.specs.declared.types.Sort.TheVariants as sort
+use Rattle.spv_logic.specs.declared.types.Shape.{Shape}
 use Rattle.spv_logic.specs.declared.types.TypeId.{TypeId}
 use Rattle.spv_logic.specs.Sorts.{sort_in_range, term_sort}
 use Rattle.spv_logic.specs.Terms.{Term}
@@ -154,3 +155,16 @@ module _ (p : Program) (here : Option RoutineId) (line : ℕ) (d : Designator) (
               (comes_as so m o (record { conditions = before_calls here to.calls created; supply = m }) e4 e4
               (let e = supply ∙ ap (λ (y : Fresh). y.supply) equal in λ i. record { conditions = before_calls here to.calls created; supply = e i }) refl
               (front (Extends-trans (Extends-trans q_walked.grows r_walked.grows) come.grows) made.conditions m made.there))
+
+-- ---- types
+
+pub type_there : (p : Program) (t : TypeId) (ss : List Shape) → ss ≡ shapes p → type_exists p.forms t ≡ true → t.0 < length ss
+type_there p t ss same e =
+    let below : nat_lt t.0 (length ss) ≡ true = ap (λ (s : List Shape). nat_lt t.0 (length s)) same ∙ shape_there p.forms t e in
+    grind (arith, nat_tests)
+
+pub pointer_there : (p : Program) (t : TypeId) (ss : List Shape) → ss ≡ shapes p → type_exists p.forms t ≡ true → sort_in_range ss (sort.Ptr t) ≡ true
+pointer_there p t ss same e = ap (λ (s : List Shape). nat_lt t.0 (length s)) same ∙ shape_there p.forms t e
+
+pub content_there : (p : Program) (t : TypeId) (ss : List Shape) → ss ≡ shapes p → declarations_ok p ≡ true → type_exists p.forms t ≡ true → sort_in_range ss (sort_of p.forms t) ≡ true
+content_there p t ss same declared e = ap (λ (s : List Shape). sort_in_range s (sort_of p.forms t)) same ∙ sort_there p.forms t (left_true (forms_ok p.forms) _ declared) e
