@@ -190,14 +190,6 @@ pub fn before_new(
     let sort = sort_of(program.forms.as_slice(), t);
     let fresh = supply.fresh_variable(terms, title_of(program, t), sort);
     let content = limited(terms, fresh)?;
-    let created = before_creation(
-        body.alloc,
-        terms,
-        t,
-        &to.target,
-        pointer,
-        content,
-        rest,
-    )?;
+    let created = before_creation(body.alloc, terms, t, &to.target, pointer, content, rest)?;
     in_front(body.alloc, body.here, to.calls.as_slice(), created)
 }

@@ -1,9 +1,9 @@
 -- The conditions before an assignment, behind what was made for it.
-use Rattle.std.proofs.Common.{◌≡◌, Bool, true, false, ◌&&◌, List, [], ◌∷◌, ◌++◌, Option, Some, None, Ok, Err, IfOk, IsErrAnd, refl, sym, ap, subst, ◌∙◌}
+use Rattle.std.proofs.Common.{◌≡◌, true, ◌&&◌, List, [], ◌∷◌, Option, Some, None, Ok, Err, IfOk, IsErrAnd, refl, sym, ap, subst, ◌∙◌}
 use Rattle.std.specs.Prelude.{Vec}
 use Rattle.std.specs.Global.{Global}
 use Rattle.std.proofs.lemmas.Bool.{false≢true}
-use Rattle.spv_logic.proofs.list.Tests.{left_true, right_true}
+use Rattle.spv_logic.proofs.list.Tests.{right_true}
 use Rattle.spv_logic.proofs.Equality.{sort_eq-true}
 use Rattle.spv_logic.specs.declared.conditions.TermId.{TermId}
 use Rattle.spv_logic.specs.declared.conditions.RoutineId.{RoutineId}
@@ -14,11 +14,11 @@ use Rattle.spv_logic.specs.Sorts.{term_sort}
 use Rattle.spv_logic.specs.Terms.{Term}
 use Rattle.spv_logic.specs.Conditions as logic
 use Rattle.spv_term.specs.declared.nodes.Condition.{Condition}
-use Rattle.spv_term.specs.Arena.{Arena, Extends, sort_at, tree}
+use Rattle.spv_term.specs.Arena.{Arena, Extends, tree}
 use Rattle.spv_term.proofs.ArenaLemmas.{Extends-trans}
 use Rattle.spv_term.specs.substitution.Images.{head_at}
 use Rattle.spv_program.specs.Types.{sort_of}
-use Rattle.spv_program.specs.Programs.{Routine, Program, routine_in, shapes}
+use Rattle.spv_program.specs.Programs.{Program, routine_in, shapes}
 use Rattle.spv_program.specs.Expressions.{Designator, Expression}
 use Rattle.spv_program.specs.ExpressionTypes.{designator_type, expression_sort, may_write, sort_of_type}
 use Rattle.spv_program.specs.ExpressionTerms.{Placed, Valued, placed, valued}
@@ -40,7 +40,6 @@ use Rattle.spv_assign.specs.declared.structures.places.Target.{Target}
 use Rattle.spv_assign.specs.structures.Targets.{target_in}
 use Rattle.spv_flow_parts.specs.Walks.{AreThese, Comes, ComesTo, IsMade, Listed, made_of}
 use Rattle.spv_flow_parts.specs.leaves.Values.{call_events}
-use Rattle.spv_flow_parts.specs.calls.Arguments.{IsExpression, IsPlace}
 use Rattle.spv_flow_parts.specs.calls.Events.{place_events, value_events}
 use Rattle.spv_flow_parts.specs.assigning.Events.{assign_events}
 use Rattle.spv_flow_parts.proofs.Steps.{comes_as, comes_last, exit, went}

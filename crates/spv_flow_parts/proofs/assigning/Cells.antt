@@ -1,5 +1,5 @@
 -- The terms of a creation: the class with its cell, and that the pointer was none to it and is not NIL.
-use Rattle.std.proofs.Common.{◌≡◌, ◌<◌, ◌&&◌, true, cond, List, [], ◌∷◌, ◌++◌, length, Option, Some, None, Result, Ok, Err, IfOk, IsErrAnd, IsSome, is_some, refl, sym, ap, subst, ◌∙◌}
+use Rattle.std.proofs.Common.{◌≡◌, ◌<◌, true, cond, List, [], ◌∷◌, length, Option, Some, None, Result, Ok, Err, IfOk, IsErrAnd, refl, ap, subst, ◌∙◌}
 use Rattle.std.specs.Cmp.Derive.{both_true}
 use Rattle.std.proofs.lemmas.Bool.{or_left, or_right}
 use Rattle.spv_logic.specs.declared.conditions.TermId.{TermId}
@@ -14,11 +14,11 @@ use Rattle.spv_logic.specs.Terms.{Term, no_terms, sort_eq, terms}
 use Rattle.spv_logic.specs.Shapes.{sort_of_type}
 use Rattle.spv_logic.specs.Sorts.{result_sort}
 use Rattle.spv_logic.proofs.Equality.{sort_eq-refl}
-use Rattle.spv_term.specs.Arena.{Arena, Extends, tree, sort_at}
+use Rattle.spv_term.specs.Arena.{Arena, Extends, tree}
 use Rattle.spv_term.proofs.ArenaLemmas.{Extends-trans}
 use Rattle.spv_term.specs.substitution.Parts.{is_part, is_part_of_some}
 use Rattle.spv_term.proofs.substitution.PartLemmas.{is_part-refl, part_of_args}
-use Rattle.spv_program.specs.Terms.{alone, binary, unary}
+use Rattle.spv_program.specs.Terms.{binary, unary}
 use Rattle.spv_meaning.specs.Before.{negated}
 use Rattle.spv_assign.specs.declared.creation_trace.faults.GenFault.{GenFault}
 use Rattle.spv_assign.specs.creation_trace.Events.{Walked, Stops, Answers}

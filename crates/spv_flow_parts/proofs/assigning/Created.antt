@@ -1,5 +1,5 @@
 -- The conditions before the creation of a cell at a place.
-use Rattle.std.proofs.Common.{◌≡◌, ◌<◌, ◌≤◌, ℕ, List, [], ◌∷◌, length, Ok, Err, IfOk, IfErr, IsErrAnd, refl, sym, ap, subst, ◌∙◌, arith}
+use Rattle.std.proofs.Common.{◌≡◌, ◌<◌, ◌≤◌, ℕ, List, [], ◌∷◌, length, Ok, Err, IfOk, IfErr, IsErrAnd, refl, ap, subst, ◌∙◌, arith}
 use Rattle.std.specs.Prelude.{Vec}
 use Rattle.std.specs.Global.{Global}
 use Rattle.spv_logic.specs.declared.conditions.TermId.{TermId}
@@ -10,28 +10,28 @@ use Rattle.spv_logic.specs.Terms.{Term}
 use Rattle.spv_logic.specs.Conditions as logic
 use Rattle.spv_term.specs.declared.nodes.Condition.{Condition}
 use Rattle.spv_term.specs.Arena.{Arena, Extends, tree}
-use Rattle.spv_term.proofs.ArenaLemmas.{Extends-refl, Extends-trans, tree-Extends}
+use Rattle.spv_term.proofs.ArenaLemmas.{Extends-trans, tree-Extends}
 use Rattle.spv_program.specs.Places as place
 use Rattle.spv_program.specs.Places.{whole_with}
 use Rattle.spv_program.specs.Terms.{alone, binary, ternary}
 use Rattle.spv_program.specs.Supplies.{Supply, full_supply}
 use Rattle.spv_assign.specs.supply.Numbers.{AreThere}
 use Rattle.spv_assign.proofs.supply.FreshLemmas.{AreThere-Extends}
-use Rattle.spv_assign.specs.Conditions.{AreIn, Assumes, conditions_of}
+use Rattle.spv_assign.specs.Conditions.{Assumes, conditions_of}
 use Rattle.spv_meaning.specs.Before.{Made, all_assuming, before_creation, negated, replaced}
 use Rattle.spv_assign.specs.declared.creation_trace.faults.GenFault.{GenFault}
 use Rattle.spv_assign.specs.declared.creation_trace.faults.GenFault.TheVariants as fault
-use Rattle.spv_assign.specs.creation_trace.Events.{Answers, Event, Walked, Stops}
+use Rattle.spv_assign.specs.creation_trace.Events.{Event, Walked, Stops}
 use Rattle.spv_assign.specs.creation_trace.StatementEvents.{in_order, one, replacing_events, several}
 use Rattle.spv_assign.proofs.creation_trace.Walks.{nothing_walked}
 use Rattle.spv_assign.proofs.limited_steps.Renamings.{stops_at_one, stops_at_two, walked_two}
 use Rattle.spv_assign.specs.declared.structures.places.Target.{Target}
 use Rattle.spv_assign.specs.limited_steps.Makes.{IsTerm}
 use Rattle.spv_assign.specs.structures.Targets.{target_in}
-use Rattle.spv_flow_parts.specs.Walks.{AreThese, Comes, ComesTo, IsMade, Listed, MakesTerm}
+use Rattle.spv_flow_parts.specs.Walks.{AreThese, Comes, ComesTo, Listed}
 use Rattle.spv_flow_parts.specs.assigning.Events.{creation_events}
 use Rattle.spv_flow_parts.proofs.Conditions.{under_term}
-use Rattle.spv_flow_parts.proofs.Steps.{append_nil, comes_never, exit, went, AreThese-Extends, IsTerm-Extends}
+use Rattle.spv_flow_parts.proofs.Steps.{comes_never, exit, went, AreThese-Extends, IsTerm-Extends}
 
 nothing_taken : (a : Arena) → AreThere a full_supply
 nothing_taken a = record { names = λ x k low high. absurd (none k low high); classes = λ t k low high. absurd (none k low high) }

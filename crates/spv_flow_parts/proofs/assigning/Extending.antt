@@ -1,5 +1,5 @@
 -- A class extended by a cell, in conditions.
-use Rattle.std.proofs.Common.{◌≡◌, ◌<◌, true, List, [], ◌∷◌, length, Option, Some, Ok, Err, IsErrAnd, refl, sym, ap, subst, ◌∙◌, arith}
+use Rattle.std.proofs.Common.{◌≡◌, ◌<◌, List, [], ◌∷◌, length, IsErrAnd, sym, ap, subst, ◌∙◌, arith}
 use Rattle.spv_logic.specs.declared.conditions.TermId.{TermId}
 use Rattle.spv_logic.specs.declared.types.TypeId.{TypeId}
 use Rattle.spv_logic.specs.declared.types.Sort.TheVariants as sort
@@ -11,17 +11,16 @@ use Rattle.spv_logic.specs.Substitution.{is_variable}
 use Rattle.spv_term.specs.declared.nodes.Condition.{Condition}
 use Rattle.spv_term.specs.Arena.{Arena, Extends, tree, sort_at}
 use Rattle.spv_term.proofs.ArenaLemmas.{Extends-trans, tree-Extends, sort_at-Extends, length-Extends}
-use Rattle.spv_term.specs.substitution.Images.{head_of, IsPair, ArePairs}
+use Rattle.spv_term.specs.substitution.Images.{head_of, ArePairs}
 use Rattle.spv_program.specs.Terms.{alone, ternary}
 use Rattle.spv_program.specs.Supplies.{Supply}
-use Rattle.spv_assign.specs.supply.Numbers.{AreThere}
 use Rattle.spv_assign.proofs.supply.FreshLemmas.{AreThere-Extends}
 use Rattle.spv_assign.specs.Conditions.{AreIn, all_terms_in, conditions_of, pairs_of}
 use Rattle.spv_assign.proofs.Growing.{conditions_of-Extends, AreIn-Extends}
 use Rattle.spv_meaning.specs.Before.{Made, replaced}
 use Rattle.spv_assign.specs.declared.creation_trace.faults.GenFault.{GenFault}
 use Rattle.spv_assign.specs.creation_trace.Events.{Event, Walked, Stops}
-use Rattle.spv_assign.specs.creation_trace.StatementEvents.{in_order, one, pair_terms, replacing_events, several}
+use Rattle.spv_assign.specs.creation_trace.StatementEvents.{one, pair_terms, replacing_events, several}
 use Rattle.spv_assign.proofs.creation_trace.Walks.{nothing_walked}
 use Rattle.spv_assign.specs.limited_steps.Makes.{IsTerm}
 use Rattle.spv_assign.proofs.limited_steps.Renamings.{stops_at_one, stops_at_two, walked_two}

@@ -1,5 +1,5 @@
 -- A term at a place, in conditions.
-use Rattle.std.proofs.Common.{◌≡◌, ◌<◌, true, List, [], ◌∷◌, ◌++◌, length, Option, Some, option_map, Ok, Err, IsErrAnd, IsSome, is_some, refl, sym, ap, subst, ◌∙◌}
+use Rattle.std.proofs.Common.{◌≡◌, ◌<◌, List, [], ◌∷◌, length, Some, option_map, Ok, IsErrAnd, IsSome, is_some, refl, sym, ap, subst, ◌∙◌}
 use Rattle.std.proofs.lemmas.Bool.{or_left, or_right}
 use Rattle.spv_logic.specs.declared.conditions.TermId.{TermId}
 use Rattle.spv_logic.specs.declared.operators.Head.{Head}
@@ -9,7 +9,7 @@ use Rattle.spv_logic.specs.Conditions as logic
 use Rattle.spv_term.specs.declared.nodes.Condition.{Condition}
 use Rattle.spv_term.specs.Arena.{Arena, IsArena, Extends, tree, sort_at}
 use Rattle.spv_term.proofs.ArenaLemmas.{tree-Extends, sort_at-Extends, term_sort-tree}
-use Rattle.spv_term.specs.substitution.Images.{head_at, head_of, IsPair, ArePairs}
+use Rattle.spv_term.specs.substitution.Images.{head_at, head_of, ArePairs}
 use Rattle.spv_term.specs.substitution.Parts.{is_part, is_part_of}
 use Rattle.spv_term.proofs.substitution.ImageLemmas.{variable_alone}
 use Rattle.spv_term.proofs.substitution.PartLemmas.{is_part-refl}
@@ -17,14 +17,13 @@ use Rattle.spv_program.specs.Places.{present, whole_with}
 use Rattle.spv_program.specs.Terms.{alone}
 use Rattle.spv_program.specs.Supplies.{Supply}
 use Rattle.spv_program.proofs.SortFacts.{some_is}
-use Rattle.spv_assign.specs.supply.Numbers.{AreThere}
 use Rattle.spv_assign.proofs.supply.FreshLemmas.{AreThere-Extends, variable_result}
 use Rattle.spv_assign.specs.Conditions.{AreIn, all_terms_in, conditions_of, pairs_of}
 use Rattle.spv_assign.proofs.Growing.{conditions_of-Extends}
 use Rattle.spv_meaning.specs.Before.{Made, replaced}
 use Rattle.spv_assign.specs.declared.creation_trace.faults.GenFault.{GenFault}
 use Rattle.spv_assign.specs.creation_trace.Events.{Event, HasTerms, Walked, Stops}
-use Rattle.spv_assign.specs.creation_trace.StatementEvents.{in_order, one, pair_terms, replacing_events, several}
+use Rattle.spv_assign.specs.creation_trace.StatementEvents.{one, pair_terms, replacing_events, several}
 use Rattle.spv_assign.proofs.creation_trace.Walks.{nothing_walked}
 use Rattle.spv_assign.proofs.creation_trace.Covering.{AreCovered, covered_more, covered_nothing, covered_stops}
 use Rattle.spv_assign.specs.declared.structures.places.Target.{Target}

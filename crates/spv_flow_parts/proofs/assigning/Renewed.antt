@@ -1,5 +1,5 @@
 -- The conditions before NEW, behind what was made for it.
-use Rattle.std.proofs.Common.{◌≡◌, ℕ, ◌<◌, Bool, true, false, ◌&&◌, nat_lt, length, List, [], ◌∷◌, ◌++◌, Option, Some, None, Ok, Err, IfOk, IsErrAnd, refl, sym, ap, subst, ◌∙◌, arith}
+use Rattle.std.proofs.Common.{◌≡◌, ℕ, ◌<◌, true, ◌&&◌, nat_lt, length, List, [], ◌∷◌, Option, Some, None, Ok, Err, IfOk, IsErrAnd, refl, sym, ap, subst, ◌∙◌, arith}
 use Rattle.std.specs.Prelude.{Vec}
 use Rattle.std.specs.Global.{Global}
 use Rattle.std.proofs.lemmas.Bool.{false≢true}
@@ -7,20 +7,17 @@ use Rattle.std.proofs.lemmas.Bool.Decides.{nat_tests}
 use Rattle.spv_logic.proofs.list.Tests.{left_true, right_true}
 use Rattle.spv_logic.specs.declared.conditions.TermId.{TermId}
 use Rattle.spv_logic.specs.declared.conditions.RoutineId.{RoutineId}
-use Rattle.spv_logic.specs.declared.operators.Head.{Head}
-use Rattle.spv_logic.specs.declared.types.Sort.{Sort}
 use Rattle.spv_logic.specs.declared.types.Sort.TheVariants as sort
 use Rattle.spv_logic.specs.declared.types.Shape.{Shape}
 use Rattle.spv_logic.specs.declared.types.TypeId.{TypeId}
-use Rattle.spv_logic.specs.Sorts.{sort_in_range, term_sort}
+use Rattle.spv_logic.specs.Sorts.{sort_in_range}
 use Rattle.spv_logic.specs.Terms.{Term}
 use Rattle.spv_logic.specs.Conditions as logic
 use Rattle.spv_term.specs.declared.nodes.Condition.{Condition}
-use Rattle.spv_term.specs.Arena.{Arena, Extends, sort_at, tree}
+use Rattle.spv_term.specs.Arena.{Arena, Extends, tree}
 use Rattle.spv_term.proofs.ArenaLemmas.{Extends-trans}
-use Rattle.spv_program.specs.declared.types.TypeForm.{TypeForm}
-use Rattle.spv_program.specs.Types.{form_at, forms_ok, same_type, shapes_of, sort_of, target_of, type_exists}
-use Rattle.spv_program.specs.Programs.{Routine, Program, routine_in, shapes}
+use Rattle.spv_program.specs.Types.{form_at, forms_ok, sort_of, target_of, type_exists}
+use Rattle.spv_program.specs.Programs.{Program, routine_in, shapes}
 use Rattle.spv_program.specs.Expressions.{Designator}
 use Rattle.spv_program.specs.ExpressionTypes.{designator_type, may_write}
 use Rattle.spv_program.specs.ExpressionTerms.{Placed, placed}

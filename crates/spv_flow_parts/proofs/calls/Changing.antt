@@ -1,14 +1,11 @@
 -- What a call changes: its VAR parameters and the items of its VAR groups, one after the other.
-use Rattle.std.proofs.Common.{◌≡◌, ◌<◌, true, false, List, [], ◌∷◌, ◌++◌, map, Bool, Result, Ok, Err, OnOk, IsErrAnd, refl, sym, ap, subst, ◌∙◌, arith}
+use Rattle.std.proofs.Common.{◌≡◌, true, false, List, [], ◌∷◌, ◌++◌, Bool, Result, Ok, Err, IsErrAnd, refl, sym, ap, subst, ◌∙◌}
 use Rattle.std.specs.Prelude.{⊤}
 use Rattle.std.proofs.lemmas.List.{append_assoc}
-use Rattle.spv_logic.specs.declared.conditions.TermId.{TermId}
 use Rattle.spv_logic.specs.declared.operators.Head.{Head}
 use Rattle.spv_logic.specs.Terms.{Term}
 use Rattle.spv_term.specs.Arena.{Arena, Extends}
 use Rattle.spv_term.proofs.ArenaLemmas.{Extends-refl, Extends-trans}
-use Rattle.spv_term.specs.substitution.Images.{ArePairs}
-use Rattle.spv_program.specs.declared.types.Item.{Item}
 use Rattle.spv_program.specs.Programs.{Formal, GlobalItem, Routine, Program}
 use Rattle.spv_program.specs.Changes.{var_items}
 use Rattle.spv_program.specs.Supplies.{Supply}

@@ -1,5 +1,5 @@
 -- What a call changes: all VAR parameters, and all items of VAR groups.
-use Rattle.std.proofs.Common.{◌≡◌, ℕ, zero, suc, Bool, true, false, cond, filter, List, [], ◌∷◌, ◌++◌, map, length, slice_get, Result, Ok, Err, OnOk, IsErrAnd, Some, refl, sym, ap, subst, ◌∙◌}
+use Rattle.std.proofs.Common.{◌≡◌, ℕ, zero, suc, Bool, true, false, cond, filter, List, [], ◌∷◌, ◌++◌, map, length, slice_get, Result, Ok, Err, IsErrAnd, Some, refl, sym, ap, subst, ◌∙◌}
 use Rattle.std.specs.Prelude.{⊤}
 use Rattle.std.specs.List.{list_all}
 use Rattle.std.specs.Cmp.Derive.{both_true}
@@ -11,7 +11,6 @@ use Rattle.spv_logic.specs.Terms.{Term}
 use Rattle.spv_logic.specs.declared.types.Shape.{Shape}
 use Rattle.spv_logic.specs.Sorts.{head_in_range, sort_in_range, term_sort}
 use Rattle.spv_term.specs.Arena.{Arena, Extends, tree}
-use Rattle.spv_term.proofs.ArenaLemmas.{Extends-trans}
 use Rattle.spv_term.specs.substitution.Images.{ArePairs}
 use Rattle.spv_program.specs.declared.types.Item.{Item}
 use Rattle.spv_program.specs.declared.types.Item.TheVariants.{Variable, Class}
@@ -21,7 +20,7 @@ use Rattle.spv_program.specs.Changes.{var_items}
 use Rattle.spv_program.specs.Calls as argument
 use Rattle.spv_program.specs.Supplies.{Supply}
 use Rattle.spv_program.specs.Terms.{item_head}
-use Rattle.spv_program.specs.Typing.{declarations_ok, heading_ok, item_exists, result_ok, types_exist, routine_ok, well_typed}
+use Rattle.spv_program.specs.Typing.{declarations_ok, heading_ok, item_exists, result_ok, types_exist, routine_ok}
 use Rattle.spv_expression_terms.specs.makeable_terms.Laws.{heading_ok_in}
 use Rattle.spv_expression_terms.proofs.makeable_terms.Ranges.{shape_there, sort_there}
 use Rattle.spv_expression_terms.proofs.makeable_terms.Scopes.{variable_there}
@@ -33,7 +32,6 @@ use Rattle.spv_expression_terms.specs.term_walk.Laws.{HasNamesOf, variable_scope
 use Rattle.spv_program.proofs.SortFacts.{nothing_there, some_is}
 use Rattle.spv_meaning.specs.Before.{Changed, changed_items, changed_places}
 use Rattle.spv_assign.specs.supply.Numbers.{AreThere}
-use Rattle.spv_assign.specs.structures.Targets.{IsTarget, target_in}
 use Rattle.spv_assign.specs.Conditions.{pairs_of}
 use Rattle.spv_assign.specs.declared.creation_trace.faults.GenFault.{GenFault}
 use Rattle.spv_assign.specs.creation_trace.Events.{Stops}

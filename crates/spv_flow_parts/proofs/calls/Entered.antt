@@ -14,28 +14,24 @@ use Rattle.spv_logic.specs.Conditions as logic
 use Rattle.spv_term.specs.declared.nodes.Condition.{Condition}
 use Rattle.spv_term.specs.Arena.{AllBelow, Arena, Extends, tree}
 use Rattle.spv_term.proofs.ArenaLemmas.{Extends-refl, Extends-trans}
-use Rattle.spv_term.specs.substitution.Images.{ArePairs}
-use Rattle.spv_program.specs.Programs.{Routine, Program, routine_at, routine_in}
-use Rattle.spv_program.specs.Expressions.{Call, call}
+use Rattle.spv_program.specs.Programs.{Routine, Program}
 use Rattle.spv_program.specs.Calls as argument
 use Rattle.spv_program.specs.Calls.{entry_at_call, exit_at_call, replacing}
 use Rattle.spv_program.specs.Supplies.{Supply}
-use Rattle.spv_program.specs.ExpressionTerms.{Argued, Called, argued}
-use Rattle.spv_assign.specs.supply.Numbers.{AreThere}
 use Rattle.spv_assign.proofs.supply.FreshLemmas.{AreThere-Extends}
-use Rattle.spv_assign.specs.Conditions.{AreIn, all_terms_in, conditions_of, pairs_of, terms_in}
+use Rattle.spv_assign.specs.Conditions.{AreIn, all_terms_in, conditions_of, pairs_of}
 use Rattle.spv_assign.proofs.Growing.{conditions_of-Extends}
-use Rattle.spv_meaning.specs.Before.{Changed, Made, before_call, before_calls, before_entering, changed_places, replaced, wanted_entry}
+use Rattle.spv_meaning.specs.Before.{Changed, Made, before_calls, before_entering, changed_places, replaced, wanted_entry}
 use Rattle.spv_assign.specs.declared.creation_trace.faults.GenFault.{GenFault}
 use Rattle.spv_assign.specs.creation_trace.Events.{Answers, Event, HasTerms, Walked, Stops}
 use Rattle.spv_assign.specs.creation_trace.StatementEvents.{counted, in_order, pair_terms, several}
 use Rattle.spv_assign.proofs.creation_trace.Walks.{adds_nothing, nothing_walked}
-use Rattle.spv_flow_parts.specs.Walks.{AreThese, Comes, ComesTo, IsMade, Listed, made_of}
+use Rattle.spv_flow_parts.specs.Walks.{AreThese, Comes, ComesTo, IsMade, Listed}
 use Rattle.spv_flow_parts.specs.declared.leaves.valued.Called as code_called
 use Rattle.spv_flow_parts.specs.declared.calls.passed.Argument as code_argument
 use Rattle.spv_flow_parts.specs.calls.Arguments.{AreAfter, AreArguments, AreChanged, MakesCall, argued_at, argument_in, called_with}
 use Rattle.spv_flow_parts.proofs.calls.Each.{after_in, after_is, arguments_are}
-use Rattle.spv_flow_parts.specs.calls.Events.{argument_events, at_call_events, entering_events, perform_events}
+use Rattle.spv_flow_parts.specs.calls.Events.{at_call_events, entering_events}
 use Rattle.spv_flow_parts.specs.leaves.Values.{call_events}
 use Rattle.spv_flow_parts.proofs.Steps.{append_nil, comes_as, comes_last, exit, went, AreThese-Extends}
 use Rattle.spv_flow_parts.proofs.Pairs.{pairs_of-Extends}

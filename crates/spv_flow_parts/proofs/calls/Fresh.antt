@@ -1,14 +1,13 @@
 -- What a call changes: one VAR parameter, and one item of a VAR group.
-use Rattle.std.proofs.Common.{◌≡◌, ◌<◌, true, false, List, [], ◌∷◌, ◌++◌, length, Option, Some, option_map, Result, Ok, Err, OnOk, IsErrAnd, IsSome, is_some, refl, sym, ap, subst, ◌∙◌, arith}
+use Rattle.std.proofs.Common.{◌≡◌, true, false, List, [], ◌∷◌, ◌++◌, Some, option_map, Result, Ok, IsErrAnd, IsSome, is_some, refl, sym, ap, subst, ◌∙◌}
 use Rattle.std.specs.Prelude.{⊤}
 use Rattle.std.proofs.lemmas.Bool.{or_left, or_right}
 use Rattle.spv_logic.specs.declared.conditions.TermId.{TermId}
 use Rattle.spv_logic.specs.declared.operators.Head.{Head}
 use Rattle.spv_logic.specs.Terms.{Term}
 use Rattle.spv_logic.specs.Sorts.{term_sort, variable_sort}
-use Rattle.spv_logic.specs.Substitution.{is_variable}
 use Rattle.spv_term.specs.Arena.{Arena, IsArena, Extends, tree, sort_at}
-use Rattle.spv_term.proofs.ArenaLemmas.{Extends-trans, tree-Extends, sort_at-Extends, length-Extends, term_sort-tree}
+use Rattle.spv_term.proofs.ArenaLemmas.{Extends-trans, tree-Extends, sort_at-Extends, term_sort-tree}
 use Rattle.spv_term.specs.substitution.Images.{head_at, head_of, IsPair, ArePairs}
 use Rattle.spv_term.specs.substitution.Parts.{is_part, is_part_of}
 use Rattle.spv_term.proofs.substitution.ImageLemmas.{variable_alone}
@@ -28,8 +27,8 @@ use Rattle.spv_assign.specs.Conditions.{pairs_of}
 use Rattle.spv_assign.specs.declared.creation_trace.faults.GenFault.{GenFault}
 use Rattle.spv_assign.specs.creation_trace.Events.{HasTerms, Walked, Stops}
 use Rattle.spv_assign.specs.creation_trace.StatementEvents.{one, several}
-use Rattle.spv_assign.proofs.creation_trace.Walks.{has_extends, walked_behind, stopped_behind, adds_in_turn}
-use Rattle.spv_assign.proofs.creation_trace.Covering.{AreCovered, covered_more, covered_nothing, covered_stops, covered_walked}
+use Rattle.spv_assign.proofs.creation_trace.Walks.{walked_behind, stopped_behind}
+use Rattle.spv_assign.proofs.creation_trace.Covering.{AreCovered, covered_more, covered_nothing, covered_stops}
 use Rattle.spv_assign.specs.declared.structures.places.Target.{Target}
 use Rattle.spv_assign.specs.structures.Making.{GivesTerm}
 use Rattle.spv_assign.specs.structures.Steps.{steps_in}

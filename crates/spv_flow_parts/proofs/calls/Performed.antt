@@ -1,5 +1,5 @@
 -- The conditions before a call of a procedure, with the calls in its arguments in front.
-use Rattle.std.proofs.Common.{◌≡◌, Bool, true, false, cond, not, ◌&&◌, List, [], ◌∷◌, ◌++◌, map, Option, Some, None, option_and_then, Ok, Err, IfOk, IsErrAnd, refl, sym, ap, subst, ◌∙◌}
+use Rattle.std.proofs.Common.{◌≡◌, Bool, true, false, cond, not, List, [], ◌∷◌, Option, Some, None, option_and_then, Ok, Err, IsErrAnd, refl, sym, ap, subst, ◌∙◌}
 use Rattle.std.specs.Prelude.{Vec}
 use Rattle.std.specs.Global.{Global}
 use Rattle.std.proofs.lemmas.Bool.{false≢true}
@@ -11,32 +11,29 @@ use Rattle.spv_logic.specs.declared.conditions.RoutineId.{RoutineId}
 use Rattle.spv_logic.specs.Conditions as logic
 use Rattle.spv_term.specs.declared.nodes.Condition.{Condition}
 use Rattle.spv_term.specs.Arena.{Arena, Extends}
-use Rattle.spv_term.proofs.ArenaLemmas.{Extends-trans}
-use Rattle.spv_program.specs.Types.{form_at, sort_of, same_places, bounds_of, same_bounds}
+use Rattle.spv_program.specs.Types.{form_at, sort_of, bounds_of, same_bounds}
 use Rattle.spv_program.specs.Programs.{Formal, Routine, Program, routine_at, routine_in}
 use Rattle.spv_program.specs.Expressions.{Arguments, Call, call, no_arguments, by_value, by_place}
 use Rattle.spv_program.specs.ExpressionTypes.{arguments_fit, callee, designator_type, expression_sort, may_write, stands_for}
 use Rattle.spv_program.specs.FormulaTypes.{is_sort}
-use Rattle.spv_program.specs.ExpressionTerms.{Argued, argued, placed, valued}
+use Rattle.spv_program.specs.ExpressionTerms.{Argued, argued, placed}
 use Rattle.spv_program.specs.Calls as argument
 use Rattle.spv_program.specs.Places.{present}
 use Rattle.spv_program.specs.Laws.{HasSort}
 use Rattle.spv_program.specs.Statements.{Empty}
 use Rattle.spv_program.specs.Supplies.{Supply}
 use Rattle.spv_program.specs.Typing.{is_procedure}
-use Rattle.spv_program.proofs.SortFacts.{behind, chosen, is_sort-true, nothing_there, passed, some_is}
+use Rattle.spv_program.proofs.SortFacts.{is_sort-true}
 use Rattle.spv_program.proofs.ExpressionSorting.{place_sorted, value_sorted}
-use Rattle.spv_assign.specs.supply.Numbers.{AreThere}
 use Rattle.spv_assign.specs.Conditions.{AreIn, conditions_of}
 use Rattle.spv_assign.proofs.Growing.{conditions_of-Extends}
 use Rattle.spv_meaning.specs.Before.{Made, before_call, before_calls, before_entering}
 use Rattle.spv_assign.specs.declared.creation_trace.faults.GenFault.{GenFault}
-use Rattle.spv_assign.specs.creation_trace.Events.{Answers, Event, Walked, Stops}
-use Rattle.spv_assign.specs.creation_trace.StatementEvents.{in_order}
+use Rattle.spv_assign.specs.creation_trace.Events.{Event, Walked, Stops}
 use Rattle.spv_assign.proofs.creation_trace.Walks.{nothing_walked}
-use Rattle.spv_flow_parts.specs.Walks.{AreThese, Comes, ComesTo, IsMade, Listed, made_of}
+use Rattle.spv_flow_parts.specs.Walks.{AreThese, Comes, ComesTo, Listed, made_of}
 use Rattle.spv_flow_parts.specs.leaves.Values.{call_events}
-use Rattle.spv_flow_parts.specs.calls.Arguments.{FitFormals, IsCallOf, argued_at, arguments_in, call_line, called_routine}
+use Rattle.spv_flow_parts.specs.calls.Arguments.{FitFormals, argued_at, arguments_in, call_line, called_routine}
 use Rattle.spv_flow_parts.specs.calls.Events.{argument_events, entering_events, perform_events}
 use Rattle.spv_flow_parts.proofs.Steps.{comes_as, comes_last, exit, went}
 

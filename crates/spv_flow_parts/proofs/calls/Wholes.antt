@@ -15,7 +15,7 @@ use Rattle.spv_logic.specs.Terms.{Term, no_terms, sort_eq}
 use Rattle.spv_logic.specs.Shapes.{element_sort, fields_of, content_sort, pointer_sort, field_sort_of}
 use Rattle.spv_logic.specs.Sorts.{variable_sort, with_sort, with_sorts, sort_before, takes, result_sort, term_sort}
 use Rattle.spv_logic.specs.Substitution.{is_variable}
-use Rattle.spv_logic.proofs.Equality.{sort_eq-true, sort_eq-refl}
+use Rattle.spv_logic.proofs.Equality.{sort_eq-refl}
 use Rattle.spv_term.specs.declared.nodes.TermFault.{TermFault}
 use Rattle.spv_term.specs.declared.nodes.TermFault.TheVariants.{Size}
 use Rattle.spv_term.specs.Arena.{Arena, Extends, tree}
@@ -31,7 +31,6 @@ use Rattle.spv_assign.specs.supply.Numbers.{Taken, IsFresh, AreThere}
 use Rattle.spv_assign.proofs.supply.FreshLemmas.{variable_result}
 use Rattle.spv_assign.specs.declared.structures.places.Target.{Target}
 use Rattle.spv_assign.specs.structures.Making.{GivesTerm}
-use Rattle.spv_assign.specs.structures.Steps.{steps_in}
 use Rattle.spv_assign.specs.structures.Targets.{IsTarget, target_in}
 use Rattle.spv_assign.specs.limited_steps.Makes.{Makes}
 use Rattle.spv_assign.proofs.limited_steps.Limits.{only_part, lacks_one}

@@ -1,8 +1,6 @@
-use Rattle.std.proofs.Common.{◌≡◌, Some, ap, refl, sym, subst, ◌∙◌}
-use Rattle.spv_logic.specs.Sorts.{term_sort}
+use Rattle.std.proofs.Common.{◌≡◌, refl, sym, subst, ◌∙◌}
 use Rattle.spv_term.specs.Arena.{tree}
 use Rattle.spv_term.proofs.ArenaLemmas.{Extends-trans}
-use Rattle.spv_program.specs.Places.{present}
 use Rattle.spv_program.specs.Programs.{routine_in}
 use Rattle.spv_program.specs.ExpressionTerms.{placed, valued}
 use Rattle.spv_program.specs.Supplies.{Supply}

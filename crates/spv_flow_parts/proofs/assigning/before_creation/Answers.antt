@@ -2,7 +2,7 @@ use Rattle.std.proofs.Common.{◌<◌, Some, List, length, ap, subst, sym, ◌�
 use Rattle.spv_logic.specs.declared.types.Shape.{Shape}
 use Rattle.spv_logic.specs.Shapes.{sort_of_type}
 use Rattle.spv_term.proofs.ArenaLemmas.{Extends-trans, length-Extends, sort_at-Extends}
-use Rattle.spv_flow_parts.proofs.assigning.Created.{comes_grows, comes_these, placed_stops, placed_these, cell_stops, member_stops, nil_stops, created_never, created_comes}
+use Rattle.spv_flow_parts.proofs.assigning.Created.{comes_grows, comes_these, placed_stops, cell_stops, member_stops, nil_stops, created_never, created_comes}
 use Rattle.spv_flow_parts.proofs.assigning.before_creation.Goals as goal
 
 pub with_place-requires-clause-sorts : goal.with_place-requires-clause-sorts

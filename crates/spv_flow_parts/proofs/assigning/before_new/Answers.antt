@@ -1,11 +1,10 @@
-use Rattle.std.proofs.Common.{◌≡◌, ◌<◌, List, length, [], ◌∷◌, Some, nat_lt, true, ap, refl, sym, subst, ◌∙◌, arith}
-use Rattle.std.proofs.lemmas.Bool.Decides.{nat_tests}
+use Rattle.std.proofs.Common.{◌≡◌, List, [], ◌∷◌, Some, true, ap, refl, sym, subst, ◌∙◌, arith}
 use Rattle.spv_logic.specs.declared.types.Shape.{Shape}
 use Rattle.spv_logic.specs.declared.types.Sort.TheVariants.{Ptr}
 use Rattle.spv_logic.specs.Shapes.{sort_of_type}
 use Rattle.spv_logic.specs.Sorts.{sort_in_range}
 use Rattle.spv_term.proofs.ArenaLemmas.{Extends-trans, length-Extends, sort_at-Extends, tree-Extends}
-use Rattle.spv_program.specs.Programs.{Program, routine_in, shapes}
+use Rattle.spv_program.specs.Programs.{Program, routine_in}
 use Rattle.spv_program.specs.ExpressionTerms.{placed}
 use Rattle.spv_program.specs.Supplies.{Fresh, fresh_variable}
 use Rattle.spv_program.specs.Types.{sort_of}

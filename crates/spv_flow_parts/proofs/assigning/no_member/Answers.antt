@@ -1,11 +1,11 @@
-use Rattle.std.proofs.Common.{Some, ap, sym, is_some, ◌∙◌}
+use Rattle.std.proofs.Common.{ap, sym, is_some, ◌∙◌}
 use Rattle.spv_logic.specs.declared.operators.Head.TheVariants as head
 use Rattle.spv_term.specs.Arena.{tree}
 use Rattle.spv_term.proofs.ArenaLemmas.{sort_at-Extends}
 use Rattle.spv_program.proofs.SortFacts.{some_is}
 use Rattle.spv_program.specs.Terms.{alone, binary}
 use Rattle.spv_meaning.specs.Before.{negated}
-use Rattle.spv_flow_parts.proofs.assigning.Cells.{part_stops, under_head, second_inside, over_stops, over_made, equal_sort, member_sort}
+use Rattle.spv_flow_parts.proofs.assigning.Cells.{part_stops, under_head, second_inside, over_stops, over_made, member_sort}
 use Rattle.spv_flow_parts.proofs.assigning.no_member.Goals as goal
 
 pub returns-in_err-class : goal.returns-in_err-class

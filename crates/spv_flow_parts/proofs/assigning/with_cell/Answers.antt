@@ -1,7 +1,7 @@
-use Rattle.std.proofs.Common.{List, is_some, ap, sym, ◌∙◌, arith}
+use Rattle.std.proofs.Common.{List, is_some, ap, sym, ◌∙◌}
 use Rattle.spv_logic.specs.declared.types.Shape.{Shape}
 use Rattle.spv_logic.specs.Shapes.{sort_of_type}
-use Rattle.spv_term.proofs.ArenaLemmas.{length-Extends, sort_at-Extends}
+use Rattle.spv_term.proofs.ArenaLemmas.{sort_at-Extends}
 use Rattle.spv_program.proofs.SortFacts.{some_is}
 use Rattle.spv_flow_parts.proofs.Conditions.{replaced_comes}
 use Rattle.spv_flow_parts.proofs.assigning.Cells.{extend_sort}

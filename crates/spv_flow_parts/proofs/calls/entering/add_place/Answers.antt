@@ -1,4 +1,4 @@
-use Rattle.std.proofs.Common.{Result, Ok, ap, ◌∙◌, ◌∷◌, [], subst}
+use Rattle.std.proofs.Common.{ap, ◌∙◌, ◌∷◌, []}
 use Rattle.spv_logic.specs.declared.operators.Head.TheVariants.{Var}
 use Rattle.spv_program.specs.Programs.{Program}
 use Rattle.spv_program.specs.Supplies.{fresh_variable}

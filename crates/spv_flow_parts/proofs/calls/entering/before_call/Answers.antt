@@ -1,7 +1,6 @@
-use Rattle.std.proofs.Common.{map, ap, sym, subst, ◌∙◌}
+use Rattle.std.proofs.Common.{map, sym, subst, ◌∙◌}
 use Rattle.spv_program.specs.Programs.{routine_in}
 use Rattle.spv_program.specs.ExpressionTerms.{argued}
-use Rattle.spv_program.specs.Calls as argument
 use Rattle.spv_assign.specs.supply.Numbers.{supply_of}
 use Rattle.spv_assign.proofs.Growing.{AreIn-Extends}
 use Rattle.spv_flow_parts.specs.calls.Arguments.{FitFormals, argument_in, arguments_in}
