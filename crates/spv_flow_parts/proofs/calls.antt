@@ -25,3 +25,9 @@ pub mod OneStep
 pub mod Reading
 pub mod Whole
 pub mod CallWith
+pub mod Wholes
+pub mod Changing
+pub mod Fresh
+pub mod Each
+pub mod Entered
+pub mod Performed

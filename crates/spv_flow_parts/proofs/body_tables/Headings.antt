@@ -16,7 +16,7 @@ each_heading p [] n h = refl
 each_heading p (r ∷ rs) zero h = left_true (heading_ok p r) _ (left_true (routine_ok p r) (list_all (routine_ok p) rs) h)
 each_heading p (r ∷ rs) (suc n) h = each_heading p rs n (right_true (routine_ok p r) (list_all (routine_ok p) rs) h)
 
-heading_there : (p : Program) (here : Option RoutineId) → list_all (routine_ok p) p.routines ≡ true → heading_ok_in p (routine_in p here) ≡ true
+pub heading_there : (p : Program) (here : Option RoutineId) → list_all (routine_ok p) p.routines ≡ true → heading_ok_in p (routine_in p here) ≡ true
 heading_there p None h = refl
 heading_there p (Some id) h = each_heading p p.routines id.0 h
 

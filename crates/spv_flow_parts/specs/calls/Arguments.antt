@@ -321,7 +321,7 @@ pub record AddsChanged (r : Result ⊤ GenFault) (w : Changed) (a b : Arena) (ol
   pub grows : Extends a b
   pub walk : Answers r (several (pair_terms w.after)) a b
   pub in_exit : (before : List (Head × Term)) → AreAfter a old.in_exit.items before → OnOk r (AreAfter b new.in_exit.items (before ++ w.in_exit))
-  pub after : OnOk r (pairs_of b new.after.items ≡ pairs_of a old.after.items ++ w.after)
+  pub after : ArePairs a old.after.items → OnOk r (pairs_of b new.after.items ≡ pairs_of a old.after.items ++ w.after)
   pub fit : ArePairs a old.after.items → OnOk r (ArePairs b new.after.items)
   pub supply : OnOk r (n ≡ w.supply)
   pub there : OnOk r (AreThere b n)

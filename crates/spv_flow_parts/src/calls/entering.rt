@@ -1,24 +1,29 @@
 // The conditions before a call of a procedure.
 
-ghost use Rattle.std.specs.Prelude.{◌≡◌, ◌++◌, [], ◌∷◌, map, IfOk, IsTrue, List, OnOk, Some};
+ghost use Rattle.std.specs.Prelude.{◌≡◌, ◌++◌, [], ◌∷◌, length, map, IfOk, IsTrue, List, OnOk, Some};
 ghost use Rattle.spv_logic.specs.declared.conditions.RoutineId.{RoutineId};
+ghost use Rattle.spv_logic.specs.Sorts.{head_in_range, sort_in_range, term_sort};
 ghost use Rattle.spv_term.specs.Arena.{Extends};
-ghost use Rattle.spv_program.specs.Programs as programs;
+ghost use Rattle.spv_term.specs.substitution.Images.{ArePairs};
 ghost use Rattle.spv_program.specs.Programs.{routine_in, shapes};
 ghost use Rattle.spv_program.specs.Calls as plain;
 ghost use Rattle.spv_program.specs.Changes.{var_items};
-ghost use Rattle.spv_program.specs.ExpressionTerms.{Argued};
+ghost use Rattle.spv_program.specs.Places.{present};
+ghost use Rattle.spv_program.specs.Terms.{item_head};
+ghost use Rattle.spv_program.specs.Types.{sort_of};
 ghost use Rattle.spv_program.specs.Statements.{Perform};
 ghost use Rattle.spv_program.specs.Typing.{statement_ok};
 ghost use Rattle.spv_program.specs.typed.ProgramViews.{formal_of, global_of};
+ghost use Rattle.spv_meaning.specs.Before as meaning;
 ghost use Rattle.spv_meaning.specs.Before.{before, before_entering, changed_items, changed_places};
 ghost use Rattle.spv_expression_terms.specs.term_walk.Laws.{HasNamesOf, variable_scope};
-ghost use Rattle.spv_assign.specs.Conditions.{AreIn, conditions_of};
+ghost use Rattle.spv_assign.specs.Conditions.{AreIn, all_terms_in, conditions_of, pairs_of};
+ghost use Rattle.spv_assign.specs.structures.Targets.{IsTarget, target_in};
 ghost use Rattle.spv_assign.specs.creation_trace.Events.{Answers};
 ghost use Rattle.spv_assign.specs.creation_trace.StatementEvents.{pair_terms, several};
 ghost use Rattle.spv_assign.specs.supply.Numbers.{AreThere, supply_of};
-ghost use Rattle.spv_flow_parts.specs.Walks.{Comes, made_of};
-ghost use Rattle.spv_flow_parts.specs.calls.Arguments.{Calling, AddsChanged, AreArguments, AreChanged, IsArgued, IsAtCall, MayMake, call_line, called_routine, changed_by_places};
+ghost use Rattle.spv_flow_parts.specs.Walks.{Comes, ComesTo, made_of};
+ghost use Rattle.spv_flow_parts.specs.calls.Arguments.{Calling, AddsChanged, AreArguments, AreChanged, IsArgument, IsAtCall, MayMake, argument_in, call_line, called_routine, changed_by_places, argued_at};
 ghost use Rattle.spv_flow_parts.specs.calls.Events.{entering_events, perform_events};
 
 use crate::Body;
@@ -29,11 +34,10 @@ use crate::calls::values::arguments;
 use crate::leaves::in_front;
 use spv_assign::creation_trace::GenFault;
 use spv_assign::limited_steps::{fresh_pair, limited, replaced};
-use spv_assign::structures::whole_with;
+use spv_assign::structures::{Target, whole_with};
 use spv_assign::supply::Supply;
 use spv_effects::mod_sets::sort_of;
 use spv_logic::{Head, RoutineId, Sort};
-use spv_program::TypeForm;
 use spv_program::ordered_map::Named;
 use spv_program::typed::{Call, Formal, GlobalItem, Program};
 use spv_term::{Condition, TermId, Terms};
@@ -61,10 +65,56 @@ fn push(
     Ok(())
 }
 
-// Each VAR parameter is a fresh variable, and the root of its argument is its whole with that variable at the argument's place.
-fn add_places(
+// A VAR parameter is a fresh variable, and the root of its argument is its whole with that variable at the argument's place.
+fn add_place(
+    program: &Program,
     alloc: Global,
-    forms: &[TypeForm],
+    terms: &mut Terms,
+    supply: &mut Supply,
+    formal: &Formal,
+    d: &Target,
+    changed: &mut Changed,
+) -> Result<(), GenFault>
+    requires types { IsTrue (sort_in_range terms.old.shapes (sort_of program.now.forms formal.now.of)) }
+    requires target { IsTarget terms.old d.now }
+    requires sorts { term_sort terms.old.shapes terms.old.decls (present (target_in terms.old d.now)) ≡ Some (sort_of program.now.forms formal.now.of) }
+    requires there { AreThere terms.old (supply_of supply.old) }
+    ensures { AddsChanged result (changed_by_places program.now (formal_of formal.now ∷ []) (plain.AtPlace (target_in terms.old d.now) ∷ []) (supply_of supply.old)) terms.old terms.new changed.old changed.new (supply_of supply.new) }
+{
+    terms.law_arena();
+    let sort = sort_of(program.forms.as_slice(), formal.of);
+    let fresh = supply.fresh_variable(terms, formal.name, sort);
+    let y = limited(terms, fresh)?;
+    let whole = whole_with(terms, alloc, d, y);
+    let whole = limited(terms, whole)?;
+    push(changed, Head::Var(formal.name, sort, 0), y, d.root, whole)?;
+    Ok(())
+}
+
+fn add_argument(
+    program: &Program,
+    alloc: Global,
+    terms: &mut Terms,
+    supply: &mut Supply,
+    formal: &Formal,
+    given: &Argument,
+    changed: &mut Changed,
+) -> Result<(), GenFault>
+    requires types { IsTrue (sort_in_range terms.old.shapes (sort_of program.now.forms formal.now.of)) }
+    requires given { IsArgument terms.old given.now (argument_in terms.old given.now) }
+    requires sorts { term_sort terms.old.shapes terms.old.decls (plain.present_argument (argument_in terms.old given.now)) ≡ Some (sort_of program.now.forms formal.now.of) }
+    requires there { AreThere terms.old (supply_of supply.old) }
+    ensures { AddsChanged result (changed_by_places program.now (formal_of formal.now ∷ []) (argument_in terms.old given.now ∷ []) (supply_of supply.old)) terms.old terms.new changed.old changed.new (supply_of supply.new) }
+{
+    match given {
+        Argument::Given(_) => Ok(()),
+        Argument::AtPlace(d) => add_place(program, alloc, terms, supply, formal, d, changed),
+    }
+}
+
+fn add_places(
+    program: &Program,
+    alloc: Global,
     terms: &mut Terms,
     supply: &mut Supply,
     formals: &[Formal],
@@ -72,28 +122,50 @@ fn add_places(
     changed: &mut Changed,
 ) -> Result<(), GenFault>
     ghost at: { Calling }
-    requires at { IsAtCall at.program terms.old at.number at.routine at.arguments }
+    requires at { IsAtCall program.now terms.old at.number at.routine at.arguments }
     requires formals { map formal_of formals.now ≡ at.routine.formals }
-    requires forms { forms.now ≡ at.program.forms }
+    requires long { length given.now ≡ length formals.now }
     requires given { AreArguments terms.old given.now at.arguments }
     requires there { AreThere terms.old (supply_of supply.old) }
-    ensures { AddsChanged result (changed_by_places at.program at.routine.formals at.arguments (supply_of supply.old)) terms.old terms.new changed.old changed.new (supply_of supply.new) }
+    ensures { AddsChanged result (changed_by_places program.now at.routine.formals at.arguments (supply_of supply.old)) terms.old terms.new changed.old changed.new (supply_of supply.new) }
 {
     for place in 0..formals.len() {
-        if let Argument::AtPlace(d) = &given[place] {
-            let formal = formals[place];
-            let sort = sort_of(forms, formal.of);
-            let fresh = supply.fresh_variable(terms, formal.name, sort);
-            let y = limited(terms, fresh)?;
-            let whole = whole_with(terms, alloc, d, y);
-            let whole = limited(terms, whole)?;
-            push(changed, Head::Var(formal.name, sort, 0), y, d.root, whole)?;
-        }
+        add_argument(
+            program,
+            alloc,
+            terms,
+            supply,
+            &formals[place],
+            &given[place],
+            changed,
+        )?;
     }
     Ok(())
 }
 
-// Each item of a VAR group is a fresh one.
+// An item of a VAR group is a fresh one.
+fn add_item(
+    terms: &mut Terms,
+    supply: &mut Supply,
+    variables: &Named<Sort>,
+    global: &GlobalItem,
+    changed: &mut Changed,
+) -> Result<(), GenFault>
+    ghost at: { Calling }
+    requires variables { HasNamesOf variables.now (variable_scope at.program (Some at.routine)) }
+    requires types { IsTrue (head_in_range terms.old.shapes (item_head at.program (Some at.routine) global.now.item)) }
+    requires there { AreThere terms.old (supply_of supply.old) }
+    ensures { AddsChanged result (changed_items at.program at.routine (var_items (global_of global.now ∷ [])) (supply_of supply.old)) terms.old terms.new changed.old changed.new (supply_of supply.new) }
+{
+    if !global.is_var {
+        return Ok(());
+    }
+    let head = item_head(variables, global.item);
+    let (name, y) = fresh_pair(terms, supply, head)?;
+    push(changed, head, y, name, y)?;
+    Ok(())
+}
+
 fn add_items(
     terms: &mut Terms,
     supply: &mut Supply,
@@ -102,21 +174,19 @@ fn add_items(
     changed: &mut Changed,
 ) -> Result<(), GenFault>
     ghost at: { Calling }
-    requires arena { terms.old.shapes ≡ shapes at.program }
+    requires at { IsAtCall at.program terms.old at.number at.routine at.arguments }
     requires variables { HasNamesOf variables.now (variable_scope at.program (Some at.routine)) }
+    requires globals { map global_of globals.now ≡ at.routine.globals }
     requires there { AreThere terms.old (supply_of supply.old) }
-    ensures { AddsChanged result (changed_items at.program at.routine (var_items (map global_of globals.now)) (supply_of supply.old)) terms.old terms.new changed.old changed.new (supply_of supply.new) }
+    ensures { AddsChanged result (changed_items at.program at.routine (var_items at.routine.globals) (supply_of supply.old)) terms.old terms.new changed.old changed.new (supply_of supply.new) }
 {
     for global in globals {
-        if global.is_var {
-            let head = item_head(variables, global.item);
-            let (name, y) = fresh_pair(terms, supply, head)?;
-            push(changed, head, y, name, y)?;
-        }
+        add_item(terms, supply, variables, global, changed)?;
     }
     Ok(())
 }
 
+// What a call changes: its VAR parameters, and the items of its VAR groups.
 fn changes(
     program: &Program,
     alloc: Global,
@@ -126,6 +196,8 @@ fn changes(
     given: &[Argument],
 ) -> Result<Changed, GenFault>
     ghost at: { Calling }
+    requires program { at.program ≡ program.now }
+    requires number { at.number ≡ number }
     requires at { IsAtCall program.now terms.old number at.routine at.arguments }
     requires given { AreArguments terms.old given.now at.arguments }
     requires there { AreThere terms.old (supply_of supply.old) }
@@ -138,10 +210,9 @@ fn changes(
         in_exit: Vec::new(alloc),
         after: Vec::new(alloc),
     };
-    let forms = program.forms.as_slice();
     add_places(
+        program,
         alloc,
-        forms,
         terms,
         supply,
         routine.formals.as_slice(),
@@ -159,6 +230,24 @@ fn changes(
     Ok(changed)
 }
 
+// What is wanted after a call, with what it changes in place of what stood there.
+fn with_changes(
+    terms: &mut Terms,
+    alloc: Global,
+    after: &[(TermId, TermId)],
+    rest: Vec<Condition>,
+) -> Result<Vec<Condition>, GenFault>
+    requires rest { AreIn terms.old rest.items }
+    requires after { ArePairs terms.old after.now }
+    ensures { ComesTo result (meaning.replaced (pairs_of terms.old after.now) (conditions_of terms.old rest.items))
+        (several (all_terms_in (meaning.replaced (pairs_of terms.old after.now) (conditions_of terms.old rest.items)))) terms.old terms.new }
+{
+    if after.is_empty() {
+        return Ok(rest);
+    }
+    replaced(terms, alloc, after, rest)
+}
+
 /// The conditions before a call whose arguments were made.
 pub fn before_entered(
     program: &Program,
@@ -170,11 +259,12 @@ pub fn before_entered(
     rest: Vec<Condition>,
 ) -> Result<Vec<Condition>, GenFault>
     ghost at: { Calling }
-    requires at { IsAtCall program.now terms.old (called_routine call.now) at.routine at.given.arguments }
-    requires argued { IsArgued terms.old (supply_of supply.old) argued.now at.given }
+    requires at { IsAtCall program.now terms.old (called_routine call.now) at.routine at.arguments }
+    requires given { AreArguments terms.old argued.now.arguments at.arguments }
+    requires there { AreThere terms.old (supply_of supply.old) }
     requires rest { AreIn terms.old rest.items }
-    ensures { Comes result (before_entering program.now body.now.here (call_line call.now) (Some at.routine) at.given (conditions_of terms.old rest.items))
-        (entering_events program.now body.now.here (call_line call.now) (Some at.routine) at.given (conditions_of terms.old rest.items)) terms.old terms.new (supply_of supply.new) }
+    ensures { Comes result (before_entering program.now body.now.here (call_line call.now) (Some at.routine) (argued_at at.arguments (supply_of supply.old)) (conditions_of terms.old rest.items))
+        (entering_events program.now body.now.here (call_line call.now) (Some at.routine) (argued_at at.arguments (supply_of supply.old)) (conditions_of terms.old rest.items)) terms.old terms.new (supply_of supply.new) }
 {
     let given = argued.arguments.as_slice();
     let fresh = changes(program, body.alloc, terms, supply, call.routine, given)?;
@@ -187,11 +277,7 @@ pub fn before_entered(
         given,
         fresh.in_exit.as_slice(),
     )?;
-    let behind = if fresh.after.is_empty() {
-        rest
-    } else {
-        replaced(terms, body.alloc, fresh.after.as_slice(), rest)?
-    };
+    let behind = with_changes(terms, body.alloc, fresh.after.as_slice(), rest)?;
     in_front(body.alloc, body.here, &[one], behind)
 }
 
