@@ -4,3 +4,4 @@ pub mod Conditions
 pub mod LoopLemmas
 pub mod Pairs
 pub mod Roots
+pub mod condition_sorts

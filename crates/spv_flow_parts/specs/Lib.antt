@@ -4,3 +4,4 @@ pub mod for_loops
 pub mod leaves
 pub mod calls
 pub mod body_tables
+pub mod Sorted

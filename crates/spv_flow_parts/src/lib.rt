@@ -15,7 +15,7 @@ mod renaming;
 mod values;
 
 pub use bodies::Body;
-pub use laws::law_changed;
+pub use laws::{law_changed, law_sorted_conditions};
 pub use lists::{copied, known, ways};
 pub use loops::end_of_loop;
 pub use notes::{note, noted, wanted, wanted_note};
