@@ -1,5 +1,4 @@
-pub mod whole_variables
-pub mod Plain
-pub mod Covered
+pub mod Leaves
 pub mod Making
 pub mod Laws
+pub mod Steps

@@ -2,6 +2,7 @@
 //! of conditions, and the renaming of what a loop changes.
 #![tactic(auto)]
 
+pub mod assigning;
 mod bodies;
 pub mod body_tables;
 pub mod calls;

@@ -217,7 +217,7 @@ fn add_initial_items(
 }
 
 // The variable or class of an item.
-pub(crate) fn item_head(variables: &Named<Sort>, item: Item) -> Head
+pub fn item_head(variables: &Named<Sort>, item: Item) -> Head
     ensures { (p : programs.Program) (r : programs.Routine) → HasNamesOf variables.now (variable_scope p (Some r)) → result ≡ item_head p (Some r) item }
 {
     match item {

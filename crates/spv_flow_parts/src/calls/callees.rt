@@ -1,16 +1,26 @@
-// The names that ENTRY and EXIT of a routine see.
+// What ENTRY and EXIT of a routine see, and their terms.
 
 ghost use Rattle.std.specs.Prelude.{◌≡◌, ◌&&◌, ◌||◌, not, IfOk, OnOk, Some, is_some};
 ghost use Rattle.spv_logic.specs.declared.names.names.Symbol.{Symbol};
 ghost use Rattle.spv_program.specs.Lists.{found, same_name};
+ghost use Rattle.spv_program.specs.Programs as programs;
+ghost use Rattle.spv_program.specs.Programs.{routine_at};
 ghost use Rattle.spv_program.specs.Scopes.{entry_scope, exit_scope, is_value_parameter};
+ghost use Rattle.spv_program.specs.Terms.{entry_term, exit_term};
 ghost use Rattle.spv_program.specs.typed.ProgramViews.{routine_of};
+ghost use Rattle.spv_program.specs.typed.FormulaViews.{annotation_of};
 ghost use Rattle.spv_expression_terms.specs.term_walk.Laws.{HasNamesOf, variable_scope};
+ghost use Rattle.spv_flow_parts.specs.Walks.{MakesTerm};
+ghost use Rattle.spv_flow_parts.specs.calls.Arguments.{IsOver};
 
-use crate::body_tables::{add_formals, add_initial, add_names, add_result};
-use spv_logic::Sort;
+use crate::body_tables::{add_formals, add_initial, add_names, add_result, variables_of};
+use spv_assign::creation_trace::GenFault;
+use spv_assign::limited_steps::limited;
+use spv_expression_terms::term_walk::{exit_formula_term, formula_term};
+use spv_logic::{RoutineId, Sort};
 use spv_program::ordered_map::Named;
-use spv_program::typed::{Formal, Program, Routine};
+use spv_program::typed::{Annotation, Formal, Program, Routine};
+use spv_term::{TermId, Terms};
 use std::alloc::{AllocError, Global};
 
 // The names that ENTRY sees, with the sorts of what they stand for.
@@ -67,4 +77,46 @@ pub(crate) fn start_names(alloc: Global, routine: &Routine) -> Result<Named<()>,
         put_start(&mut table, formal)?;
     }
     Ok(table)
+}
+
+/// The term of ENTRY of the routine with this number.
+pub fn entry_formula(
+    program: &Program,
+    alloc: Global,
+    terms: &mut Terms,
+    number: RoutineId,
+    entry: &Annotation,
+) -> Result<TermId, GenFault>
+    ghost routine: { programs.Routine }
+    requires over { IsOver program.now terms.old }
+    requires there { routine_at program.now number ≡ Some routine }
+    requires entry { routine.entry ≡ Some (annotation_of entry.now) }
+    ensures { MakesTerm result (entry_term program.now routine (annotation_of entry.now)) terms.old terms.new }
+{
+    let routine = program.routines.get(number.0 as usize);
+    let names = entry_names(alloc, program, routine)?;
+    let made = formula_term(terms, alloc, &names, &entry.formula);
+    limited(terms, made)
+}
+
+/// The term of EXIT of the routine with this number, with the value parameters as they were at the beginning.
+pub fn exit_formula(
+    program: &Program,
+    alloc: Global,
+    terms: &mut Terms,
+    number: RoutineId,
+    exit: &Annotation,
+) -> Result<TermId, GenFault>
+    ghost routine: { programs.Routine }
+    requires over { IsOver program.now terms.old }
+    requires there { routine_at program.now number ≡ Some routine }
+    requires exit { routine.exit ≡ Some (annotation_of exit.now) }
+    ensures { MakesTerm result (exit_term program.now routine (annotation_of exit.now)) terms.old terms.new }
+{
+    let routine = program.routines.get(number.0 as usize);
+    let variables = variables_of(alloc, program, Some(number))?;
+    let names = exit_names(alloc, program, routine, &variables)?;
+    let starts = start_names(alloc, routine)?;
+    let made = exit_formula_term(terms, alloc, &names, &starts, &exit.formula);
+    limited(terms, made)
 }

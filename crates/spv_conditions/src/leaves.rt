@@ -1,34 +1,30 @@
-// The leaves.
+// Assignments, NEW, calls and expressions of a well typed program, as leaves of the walk over statements.
 
-ghost use Rattle.std.specs.Prelude.{⊤};
-ghost use Rattle.spv_flow_parts.specs.leaves.Laws.{IsMainBlock};
-ghost use Rattle.spv_conditions.specs.whole_variables.Plain.{plain_making, plain_taking};
-ghost use Rattle.spv_conditions.specs.whole_variables.PlainLaws.{plain_leaves_right, plain_tests_right};
+ghost use Rattle.std.specs.Prelude.{IsTrue};
+ghost use Rattle.spv_program.specs.Typing.{well_typed};
+ghost use Rattle.spv_conditions.specs.Leaves.{leaf_making, leaf_taking};
 
-use crate::whole_variables::assigning::before_assign;
 use spv_assign::creation_trace::GenFault;
 use spv_assign::supply::Supply;
 use spv_effects::mod_sets::changed;
+use spv_flow_parts::assigning::{before_assign, before_new};
+use spv_flow_parts::calls::{before_call, value};
 use spv_flow_parts::leaves::{Leaves, Valued, in_front};
-use spv_flow_parts::{Body, note, value};
+use spv_flow_parts::{Body, note};
 use spv_logic::Head;
-use spv_logic::list::List;
 use spv_program::typed::{Annotation, Expression, Program, Statement, StatementForm};
 use spv_term::{Condition, TermId, Terms};
 
-/// Leaves that take assignments to whole variables and expressions, all without calls. Their rules are right where the main
-/// block of a well typed program runs.
+/// Leaves that take each assignment, NEW, call and expression of a well typed program.
 #[derive(Clone, Copy, Debug)]
-pub struct PlainLeaves;
+pub(crate) struct ProgramLeaves;
 
-impl Leaves for PlainLeaves {
-    ghost takes = { plain_taking };
+impl Leaves for ProgramLeaves {
+    ghost takes = { leaf_taking };
 
-    ghost making = { plain_making };
+    ghost making = { leaf_making };
 
-    ghost fits = { λ leaves p here. ⊤ };
-
-    ghost holds = { IsMainBlock };
+    ghost fits = { λ leaves p here. IsTrue (well_typed p) };
 
     fn leaf(
         &mut self,
@@ -39,11 +35,10 @@ impl Leaves for PlainLeaves {
         s: &Statement,
         rest: Vec<Condition>,
     ) -> Result<Vec<Condition>, GenFault> {
-        let _ = supply;
         match &s.form {
-            StatementForm::Assign(d, e) => before_assign(program, body, terms, d, e, rest),
-            StatementForm::Perform(_) => unreachable!(),
-            StatementForm::New(_, _, _) => unreachable!(),
+            StatementForm::Assign(d, e) => before_assign(program, body, terms, supply, d, e, rest),
+            StatementForm::Perform(c) => before_call(program, body, terms, supply, c, rest),
+            StatementForm::New(_, d, t) => before_new(program, body, terms, supply, d, *t, rest),
             StatementForm::Block(_) => unreachable!(),
             StatementForm::If(_, _, _, _) => unreachable!(),
             StatementForm::Case(_, _, _) => unreachable!(),
@@ -62,12 +57,7 @@ impl Leaves for PlainLeaves {
         supply: &mut Supply,
         e: &Expression,
     ) -> Result<Valued, GenFault> {
-        let _ = supply;
-        let term = value(program, body, terms, e)?;
-        Ok(Valued {
-            term,
-            calls: List::new(body.alloc),
-        })
+        value(program, body, terms, supply, e)
     }
 
     fn before_test(
@@ -99,8 +89,4 @@ impl Leaves for PlainLeaves {
     ) -> Result<Vec<Head>, GenFault> {
         Ok(changed(body.alloc, program, body.here, &body.roots, s)?)
     }
-
-    ghost leaf_right = { plain_leaves_right };
-
-    ghost before_test_right = { plain_tests_right };
 }

@@ -1,0 +1,151 @@
+//! The conditions before assignments and NEW.
+
+ghost use Rattle.std.specs.Prelude.{◌≡◌, IfOk, IsTrue};
+ghost use Rattle.std.specs.Option.{unwrap_or};
+ghost use Rattle.spv_program.specs.Programs.{routine_in};
+ghost use Rattle.spv_program.specs.Statements.{Assign, New};
+ghost use Rattle.spv_program.specs.Typing.{statement_ok};
+ghost use Rattle.spv_meaning.specs.Before as meaning;
+ghost use Rattle.spv_assign.specs.Conditions.{AreIn, conditions_of};
+ghost use Rattle.spv_assign.specs.supply.Numbers.{AreThere, supply_of};
+ghost use Rattle.spv_assign.specs.structures.Targets.{IsTarget, target_in};
+ghost use Rattle.spv_term.specs.Arena.{tree};
+ghost use Rattle.spv_flow_parts.specs.Walks.{Comes, ComesTo, made_of};
+ghost use Rattle.spv_flow_parts.specs.calls.Arguments.{MayMake};
+ghost use Rattle.spv_flow_parts.specs.assigning.Events.{assign_events, new_events};
+
+use crate::Body;
+use crate::calls::{place, value};
+use crate::leaves::in_front;
+use spv_assign::creation_trace::GenFault;
+use spv_assign::limited_steps::{assumed, binary, limited, made, negated, replaced};
+use spv_assign::structures::{Target, extend, pointer_to, whole_with};
+use spv_assign::supply::Supply;
+use spv_effects::mod_sets::sort_of;
+use spv_logic::names::Symbol;
+use spv_logic::{Head, Sort, TypeId};
+use spv_program::typed::{Designator, Expression, Program};
+use spv_term::{Condition, TermId, Terms};
+use std::alloc::Global;
+
+// Conditions with the whole of a place changed: what stands at the place is this term.
+fn with_place(
+    alloc: Global,
+    terms: &mut Terms,
+    target: &Target,
+    v: TermId,
+    rest: Vec<Condition>,
+) -> Result<Vec<Condition>, GenFault>
+{
+    let whole = whole_with(terms, alloc, target, v);
+    let whole = limited(terms, whole)?;
+    replaced(terms, alloc, &[(target.root, whole)], rest)
+}
+
+/// The conditions before an assignment: the place and then the value are evaluated, with their calls in front, and the whole
+/// that the place is in takes the value there.
+pub fn before_assign(
+    program: &Program,
+    body: &Body,
+    terms: &mut Terms,
+    supply: &mut Supply,
+    d: &Designator,
+    e: &Expression,
+    rest: Vec<Condition>,
+) -> Result<Vec<Condition>, GenFault>
+    requires may { MayMake program.now body.now terms.old (supply_of supply.old) }
+    requires typed { IsTrue (statement_ok program.now (routine_in program.now body.now.here) (Assign d.now e.now)) }
+    requires rest { AreIn terms.old rest.items }
+    ensures { Comes result (meaning.before program.now body.now.here (Assign d.now e.now) (made_of terms.old rest.items (supply_of supply.old)))
+        (assign_events program.now body.now.here d.now e.now (made_of terms.old rest.items (supply_of supply.old))) terms.old terms.new (supply_of supply.new) }
+{
+    let to = place(program, body, terms, supply, d)?;
+    let v = value(program, body, terms, supply, e)?;
+    let changed = with_place(body.alloc, terms, &to.target, v.term, rest)?;
+    let behind = in_front(body.alloc, body.here, v.calls.as_slice(), changed)?;
+    in_front(body.alloc, body.here, to.calls.as_slice(), behind)
+}
+
+// The first name of a type; one that is never printed where it has none.
+fn title_of(program: &Program, t: TypeId) -> Symbol
+    ensures { result ≡ meaning.title_of program.now t }
+{
+    match program.titles.as_slice().get(t.0 as usize) {
+        Some(Some(name)) => *name,
+        Some(None) => Symbol(0),
+        None => Symbol(0),
+    }
+}
+
+// That a pointer leads to no cell of a class.
+fn no_member(terms: &mut Terms, pointer: TermId, class: TermId) -> Result<TermId, GenFault>
+{
+    let member = pointer_to(terms, pointer, class);
+    let member = limited(terms, member)?;
+    negated(terms, member)
+}
+
+// That a pointer to cells of a type is not NIL.
+fn not_nil(terms: &mut Terms, pointer: TermId, t: TypeId) -> Result<TermId, GenFault>
+{
+    let nil = made(terms, Head::Nil(t), &[])?;
+    let equal = binary(terms, Head::Eq, pointer, nil)?;
+    negated(terms, equal)
+}
+
+// The conditions before the creation of a cell at a place, where the pointer to it and its content are fresh.
+fn before_creation(
+    alloc: Global,
+    terms: &mut Terms,
+    t: TypeId,
+    target: &Target,
+    pointer: TermId,
+    content: TermId,
+    rest: Vec<Condition>,
+) -> Result<Vec<Condition>, GenFault>
+{
+    let behind = with_place(alloc, terms, target, pointer, rest)?;
+    let class = made(terms, Head::ClassVar(t, 0), &[])?;
+    let extended = extend(terms, class, pointer, content);
+    let extended = limited(terms, extended)?;
+    let behind = replaced(terms, alloc, &[(class, extended)], behind)?;
+    let none = no_member(terms, pointer, class)?;
+    let there = not_nil(terms, pointer, t)?;
+    let behind = assumed(alloc, none, behind)?;
+    assumed(alloc, there, behind)
+}
+
+/// The conditions before NEW: the place is evaluated, with its calls in front; it becomes a fresh pointer, and the class of its
+/// type is extended by a cell that was none of its members.
+pub fn before_new(
+    program: &Program,
+    body: &Body,
+    terms: &mut Terms,
+    supply: &mut Supply,
+    d: &Designator,
+    t: TypeId,
+    rest: Vec<Condition>,
+) -> Result<Vec<Condition>, GenFault>
+    requires may { MayMake program.now body.now terms.old (supply_of supply.old) }
+    requires typed { IsTrue (statement_ok program.now (routine_in program.now body.now.here) (New d.now.line d.now t)) }
+    requires rest { AreIn terms.old rest.items }
+    ensures { Comes result (meaning.before program.now body.now.here (New d.now.line d.now t) (made_of terms.old rest.items (supply_of supply.old)))
+        (new_events program.now body.now.here d.now t (made_of terms.old rest.items (supply_of supply.old))) terms.old terms.new (supply_of supply.new) }
+{
+    let to = place(program, body, terms, supply, d)?;
+    let fresh = supply.fresh_variable(terms, d.name, Sort::Ptr(t));
+    let pointer = limited(terms, fresh)?;
+    let sort = sort_of(program.forms.as_slice(), t);
+    let fresh = supply.fresh_variable(terms, title_of(program, t), sort);
+    let content = limited(terms, fresh)?;
+    let created = before_creation(
+        body.alloc,
+        terms,
+        t,
+        &to.target,
+        pointer,
+        content,
+        rest,
+    )?;
+    in_front(body.alloc, body.here, to.calls.as_slice(), created)
+}
