@@ -1,7 +1,8 @@
-pub mod Inside
-pub mod Calls
-pub mod Covered
 pub mod Symbols
+pub mod Taken
+pub mod Chains
+pub mod Entering
 pub mod Mains
 pub mod Limits
 pub mod Correct
+pub mod condition_sorts

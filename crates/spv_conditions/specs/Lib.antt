@@ -1,5 +1,5 @@
-pub mod whole_variables
-pub mod Plain
-pub mod Covered
+pub mod Leaves
 pub mod Making
+pub mod Steps
+pub mod Sorted
 pub mod Laws

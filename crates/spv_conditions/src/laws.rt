@@ -3,6 +3,7 @@
 ghost use Rattle.spv_logic.specs.Conditions.{Meaning};
 ghost use Rattle.spv_conditions.specs.Laws.{TrueConditionsGiveCorrectIn};
 ghost use Rattle.spv_conditions.specs.Making.{MeetsNoOther, MeetsOne};
+ghost use Rattle.spv_conditions.specs.Sorted.{ConditionsAreSorted};
 
 use spv_assign::limits::law_one_limit;
 use spv_term::World;
@@ -23,3 +24,8 @@ pub fn law_limits()
 {
     law_one_limit();
 }
+
+/// Each formula of the conditions of a well typed program is of sort Bool.
+pub fn law_sorted_conditions()
+    ensures { ConditionsAreSorted }
+{}

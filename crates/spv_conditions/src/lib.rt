@@ -1,13 +1,13 @@
 //! The conditions of a program.
 #![tactic(auto)]
 
-mod covering;
+mod blocks;
 mod laws;
+mod leaves;
 mod making;
 mod opening;
-pub mod whole_variables;
+mod routines;
 
-pub use covering::is_covered;
-pub use laws::{law_conditions, law_limits};
+pub use laws::{law_conditions, law_limits, law_sorted_conditions};
 pub use making::{ProgramConditions, conditions};
 pub use opening::{MOST_TERMS, empty_arena};

@@ -6,4 +6,3 @@ pub mod Blocks
 pub mod Cases
 pub mod Loops
 pub mod Fors
-pub mod Rules

@@ -1,10 +1,8 @@
 //! The conditions before statements whose assignments, calls, expressions and annotations others make terms and conditions of.
 #![tactic(auto)]
 
-mod laws;
 pub mod statement_rules;
 mod walk;
 
-pub use laws::law_before;
 pub use spv_flow_parts::leaves::Leaves;
 pub use walk::before;

@@ -7,4 +7,5 @@ mod tables;
 pub use bodies::body_of;
 pub(crate) use bodies::variables_of;
 pub use laws::law_stands;
-pub(crate) use tables::{add_formals, add_initial, add_names, add_result, item_sort};
+pub use tables::item_sort;
+pub(crate) use tables::{add_formals, add_initial, add_names, add_result};

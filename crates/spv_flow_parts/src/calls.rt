@@ -7,6 +7,8 @@ mod passed;
 mod places;
 mod values;
 
+pub use at_call::{add_pair, item_head};
+pub use callees::{entry_formula, exit_formula};
 pub use entering::{before_call, before_entered};
 pub use passed::{Argued, Argument, Placed};
 pub use values::{arguments, place, value};

@@ -12,8 +12,7 @@ use Rattle.spv_meaning.specs.Correct.{Correct}
 use Rattle.spv_assign.specs.Conditions.{conditions_of, AreIn}
 use Rattle.spv_assign.specs.declared.creation_trace.faults.GenFault.TheVariants as limit
 use Rattle.spv_assign.specs.creation_trace.Events.{Walked}
-use Rattle.spv_conditions.specs.Covered.{is_covered}
-use Rattle.spv_conditions.specs.Making.{main_events, empty_arena, MeetsLimit, IsWithinLimits}
+use Rattle.spv_conditions.specs.Making.{program_events, empty_arena, MeetsLimit, IsWithinLimits}
 use Rattle.spv_verdicts.specs.Verdicts.{Limits}
 use Rattle.spv_verdicts.specs.declared.answers.verdicts.Decided.{Decided}
 use Rattle.spv_verdicts.specs.declared.answers.verdicts.Verdict.{Verdict}
@@ -24,7 +23,7 @@ use Rattle.spv_reports.specs.declared.report.ProgramNames.{ProgramNames}
 use Rattle.spv_reports.specs.declared.mode.Mode.{Mode}
 use Rattle.spv_reports.specs.declared.mode.Mode.TheVariants.{Verify, Conditions}
 use Rattle.spv_reports.specs.declared.fault.ReportFault.{ReportFault}
-use Rattle.spv_reports.specs.declared.fault.ReportFault.TheVariants.{Form, Stopped, NotTaken}
+use Rattle.spv_reports.specs.declared.fault.ReportFault.TheVariants.{Stopped, NotTaken}
 
 -- what contracts see of a report: the names of its program, its conditions over an arena, what it is for, what was decided of each
 -- condition, and whether a page of it has proofs
@@ -113,24 +112,14 @@ ProvedIsCorrectIn r world = IsTrue (has_verdicts r.mode) → IsTrue (all_proved 
 
 -- ---- what is taken so far, and why there is no report
 
--- what a program with a report is not refused for: its conditions are made so far, they meet no limit, and where verdicts are wanted it
--- is verified so far
+-- what a program with a report is not refused for: its conditions meet no limit, and where verdicts are wanted it is verified so far
 pub record IsNotRefused (p : Program) (r : Findings) : Type 0 where
-  pub covered : IsTrue (is_covered p)
-  pub within : Walked (main_events p) (empty_arena p) r.arena
+  pub within : Walked (program_events p) (empty_arena p) r.arena
   pub taken : IsTakenFor r.mode p
 
--- verdicts are wanted on a program that is not verified so far; want of memory has no cause
-abbrev pub IsNotTakenIn : Mode → Program → ReportFault → Type 0
-IsNotTakenIn mode p NotTaken = (has_verdicts mode ≡ true) × (is_taken p ≡ false)
-IsNotTakenIn mode p (Stopped limit.Memory) = ⊤
-IsNotTakenIn mode p _ = ⊥
-
--- the program is of no form whose conditions are made, or they meet a limit, or verdicts are wanted and it is not verified so far; want
--- of memory has no cause
+-- verdicts are wanted and the program is not verified so far; or its conditions meet a limit, and no verdicts are wanted or it is verified
+-- so far; want of memory has no cause
 abbrev pub IsReportFault : Program → Mode → ReportFault → Type 0
-IsReportFault p mode Form = is_covered p ≡ false
 IsReportFault p mode (Stopped limit.Memory) = ⊤
-IsReportFault p mode (Stopped e) = (is_covered p ≡ true) × MeetsLimit e p
-IsReportFault p mode NotTaken =
-    (is_covered p ≡ true) × IsWithinLimits p × (has_verdicts mode ≡ true) × (is_taken p ≡ false)
+IsReportFault p mode (Stopped e) = IsTakenFor mode p × MeetsLimit e p
+IsReportFault p mode NotTaken = (has_verdicts mode ≡ true) × (is_taken p ≡ false)

@@ -11,9 +11,6 @@ use thiserror::Error;
 /// Why there is no report of a program.
 #[derive(Clone, Copy, PartialEq, Eq, Debug, Error)]
 pub enum ReportFault {
-    /// It has a form of which no conditions are made so far.
-    #[error("no conditions are made of this form of program")]
-    Form,
     /// Its conditions meet a limit, or there is no memory left.
     #[error("{0}")]
     Stopped(GenFault),

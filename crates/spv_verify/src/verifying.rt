@@ -48,8 +48,8 @@ fn report_of(alloc: Global, text: &[u8], mode: Mode) -> Result<Report, VerifyFau
 }
 
 /// The report of a text with a verdict on each condition, found within these limits. Or what the text is refused for: its first fault, in the order of reading,
-/// names and types, frames; and where it has none, that no conditions are made of such a program, that they are too many or too large,
-/// or that no such program is verified so far. Memory: there was not enough of it.
+/// names and types, frames; and where it has none, that no such program is verified so far, or that its conditions are too many or too
+/// large. Memory: there was not enough of it.
 pub fn verify(alloc: Global, text: &[u8], limits: Limits) -> Result<Report, VerifyFault>
     ensures report { IfOk result (IsReportOf text.now) }
     ensures mode { IfOk result (λ r. r.mode ≡ mode.Verify limits) }
@@ -59,7 +59,7 @@ pub fn verify(alloc: Global, text: &[u8], limits: Limits) -> Result<Report, Veri
     report_of(alloc, text, Mode::Verify(limits))
 }
 
-/// The report of a text with its conditions alone. Or what the text is refused for, as for `verify`; but each program of whose form conditions are made has them.
+/// The report of a text with its conditions alone. Or what the text is refused for, as for `verify`; but each program has conditions.
 pub fn list(alloc: Global, text: &[u8]) -> Result<Report, VerifyFault>
     ensures report { IfOk result (IsReportOf text.now) }
     ensures mode { IfOk result (λ r. r.mode ≡ mode.Conditions) }

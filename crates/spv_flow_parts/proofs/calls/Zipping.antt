@@ -31,7 +31,7 @@ use Rattle.spv_assign.specs.creation_trace.Events.{Stops}
 use Rattle.spv_assign.specs.creation_trace.StatementEvents.{pair_terms, several}
 use Rattle.spv_assign.specs.limited_steps.Makes.{IsTerm}
 use Rattle.spv_flow_parts.specs.declared.calls.passed.Argument as code_argument
-use Rattle.spv_flow_parts.specs.calls.Arguments.{AddsPairs, AreArguments, ArePresent, FitFormals, IsArgument, IsAtCall, argument_in}
+use Rattle.spv_flow_parts.specs.calls.Arguments.{IsOver, AddsPairs, AreArguments, ArePresent, FitFormals, IsArgument, IsAtCall, argument_in}
 use Rattle.spv_flow_parts.proofs.calls.Building.{PairsSoFar, pairs_begin, pairs_end, pairs_next, pairs_stop, pairs_stop_walk}
 use Rattle.spv_flow_parts.proofs.calls.Passing.{AreArguments-Extends, argument_is, argument_itself, given_at, given_count, present_at, present_count, sort_at_place, texts_count}
 
@@ -52,6 +52,9 @@ type_somewhere p (f ∷ formals) (suc n) d h low =
 module _ (p : Program) (old : Arena) (number : RoutineId) (r : Routine) (arguments : List Argument) (at : IsAtCall p old number r arguments) where
   pub right_declarations : declarations_ok p ≡ true
   right_declarations = left_true (declarations_ok p) _ at.typed
+
+  pub over_at : IsOver p old
+  over_at = record { typed = at.typed; shapes_are = at.shapes_are; decls_are = at.decls_are }
 
   pub right_routine : routine_ok p r ≡ true
   right_routine = routine_right p p.routines number.0 r (left_true (list_all (routine_ok p) p.routines) _ (right_true (declarations_ok p) _ at.typed)) at.routine

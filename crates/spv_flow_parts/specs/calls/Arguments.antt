@@ -181,6 +181,12 @@ pub record AddsCalls (r : Result ⊤ GenFault) (w : MadeCalls) (events : List Ev
 
 -- ---- callees
 
+-- a well typed program, and an arena for its terms
+pub record IsOver (p : Program) (a : Arena) : Type 0 where
+  pub typed : IsTrue (well_typed p)
+  pub shapes_are : a.shapes ≡ shapes p
+  pub decls_are : a.decls ≡ p.symbols
+
 -- the arguments of a call
 abbrev pub arguments_in : Call → Arguments
 arguments_in (call r line given) = given

@@ -97,8 +97,8 @@ pub(crate) fn add_own(
     }
 }
 
-// The sort of what an INITIAL name stands for.
-pub(crate) fn item_sort(variables: &Named<Sort>, item: Item) -> Sort
+/// The sort of what an INITIAL name stands for.
+pub fn item_sort(variables: &Named<Sort>, item: Item) -> Sort
     ensures { result ≡ item_sort_in variables.now item }
 {
     match item {

@@ -28,7 +28,7 @@ ghost use Rattle.spv_flow_parts.specs.calls.Arguments.{Calling, AddsCalls, AddsP
 ghost use Rattle.spv_flow_parts.specs.calls.Events.{at_call_events, entry_events, exit_events, made_at_call};
 
 use crate::body_tables::{item_sort, variables_of};
-use crate::calls::callees::{entry_names, exit_names, start_names};
+use crate::calls::callees::{entry_formula, exit_formula};
 use crate::calls::passed::Argument;
 use crate::leaves::Called;
 use spv_assign::creation_trace::GenFault;
@@ -36,7 +36,6 @@ use spv_assign::limited_steps::{limited, made};
 use spv_assign::structures::present;
 use spv_assign::supply::Supply;
 use spv_effects::mod_sets::sort_of;
-use spv_expression_terms::term_walk::{exit_formula_term, formula_term};
 use spv_logic::list::List;
 use spv_logic::names::Symbol;
 use spv_logic::{Head, RoutineId, Sort};
@@ -54,8 +53,8 @@ fn push_pair(pairs: &mut Vec<(TermId, TermId)>, from: TermId, to: TermId) -> Res
     Ok(())
 }
 
-// A variable, class or start value, and what stands in its place, behind the pairs that are there.
-fn add_pair(
+/// A variable or class and what stands in its place, behind the pairs that are there.
+pub fn add_pair(
     terms: &mut Terms,
     pairs: &mut Vec<(TermId, TermId)>,
     head: Head,
@@ -153,24 +152,6 @@ fn with_pairs(
     limited(terms, answer)
 }
 
-// The term of ENTRY.
-fn entry_term(
-    program: &Program,
-    alloc: Global,
-    terms: &mut Terms,
-    routine: &Routine,
-    entry: &Annotation,
-) -> Result<TermId, GenFault>
-    ghost at: { Calling }
-    requires at { IsCallable program.now terms.old (routine_of routine.now) at.arguments }
-    requires entry { (routine_of routine.now).entry ≡ Some (annotation_of entry.now) }
-    ensures { MakesTerm result (entry_term program.now (routine_of routine.now) (annotation_of entry.now)) terms.old terms.new }
-{
-    let names = entry_names(alloc, program, routine)?;
-    let f = formula_term(terms, alloc, &names, &entry.formula);
-    limited(terms, f)
-}
-
 // ENTRY with what stands for the parameters in their places.
 fn entry_at_call(
     program: &Program,
@@ -189,7 +170,7 @@ fn entry_at_call(
     ensures { MakesBy result (substitute_term (plain.replacing (plain.at_call program.now (routine_of routine.now).formals at.arguments)) (entry_term program.now (routine_of routine.now) (annotation_of entry.now)))
         (entry_events program.now (routine_of routine.now) at.arguments (Some (annotation_of entry.now))) terms.old terms.new }
 {
-    let f = entry_term(program, alloc, terms, routine, entry)?;
+    let f = entry_formula(program, alloc, terms, routine, entry)?;
     let forms = program.forms.as_slice();
     let pairs = at_call(alloc, forms, terms, routine.formals.as_slice(), now)?;
     with_pairs(alloc, terms, f, pairs.as_slice())
@@ -357,8 +338,8 @@ fn add_initial_items(
     Ok(())
 }
 
-// The variable or class of an item.
-pub(crate) fn item_head(variables: &Named<Sort>, item: Item) -> Head
+/// The variable or class of an item, where these are the variables of its routine's body.
+pub fn item_head(variables: &Named<Sort>, item: Item) -> Head
     ensures { (p : programs.Program) (r : programs.Routine) → HasNamesOf variables.now (variable_scope p (Some r)) → result ≡ item_head p (Some r) item }
 {
     match item {
@@ -383,27 +364,6 @@ fn add_after(
         add_pair(terms, pairs, *head, *t)?;
     }
     Ok(())
-}
-
-// The term of EXIT, where these are the variables of the routine's body.
-fn exit_term(
-    program: &Program,
-    alloc: Global,
-    terms: &mut Terms,
-    routine: &Routine,
-    variables: &Named<Sort>,
-    exit: &Annotation,
-) -> Result<TermId, GenFault>
-    ghost at: { Calling }
-    requires at { IsAtCall program.now terms.old at.number (routine_of routine.now) at.arguments }
-    requires variables { HasNamesOf variables.now (variable_scope program.now (Some (routine_of routine.now))) }
-    requires exit { (routine_of routine.now).exit ≡ Some (annotation_of exit.now) }
-    ensures { MakesTerm result (exit_term program.now (routine_of routine.now) (annotation_of exit.now)) terms.old terms.new }
-{
-    let names = exit_names(alloc, program, routine, variables)?;
-    let starts = start_names(alloc, routine)?;
-    let f = exit_formula_term(terms, alloc, &names, &starts, &exit.formula);
-    limited(terms, f)
 }
 
 // What is replaced in EXIT: the starts of the value parameters, INITIAL names, and what `after` has.
@@ -465,7 +425,7 @@ fn exit_at_call(
         (exit_events program.now (routine_of routine.now) at.arguments at.after (Some (annotation_of exit.now))) terms.old terms.new }
 {
     let variables = variables_of(alloc, program, Some(number))?;
-    let f = exit_term(program, alloc, terms, routine, &variables, exit)?;
+    let f = exit_formula(program, alloc, terms, routine, &variables, exit)?;
     let pairs = exit_pairs(
         program, alloc, terms, routine, &variables, given, now, after,
     )?;

@@ -3,7 +3,6 @@
 ghost use Rattle.std.specs.Prelude.{◌≡◌, List, Option, Some, IfOk, IfErr, IsTrue};
 ghost use Rattle.spv_logic.specs.declared.conditions.RoutineId.{RoutineId};
 ghost use Rattle.spv_logic.specs.Conditions as logic;
-ghost use Rattle.spv_logic.specs.Conditions.{Meaning};
 ghost use Rattle.spv_term.specs.Arena.{Arena, sort_at};
 ghost use Rattle.spv_program.specs.Changes.{changed_heads};
 ghost use Rattle.spv_program.specs.ExpressionTerms as plain;
@@ -17,13 +16,11 @@ ghost use Rattle.spv_assign.specs.supply.Numbers.{AreThere, supply_of};
 ghost use Rattle.spv_assign.specs.Conditions.{AreIn};
 ghost use Rattle.spv_meaning.specs.Before as meaning;
 ghost use Rattle.spv_meaning.specs.Before.{before_calls};
-ghost use Rattle.spv_meaning.specs.Levels.{Here};
 ghost use Rattle.spv_assign.specs.declared.creation_trace.faults.GenFault.TheVariants.{Memory};
 ghost use Rattle.spv_flow_parts.specs.Standing.{AreNotes, IsBody, Stands};
 ghost use Rattle.spv_flow_parts.specs.Walks.{AreThese, Comes, ComesTo, MakesTerm, made_of};
 ghost use Rattle.spv_flow_parts.specs.leaves.Parts.{Making, Taking};
 ghost use Rattle.spv_flow_parts.specs.leaves.Values.{AreCalls, MakesValue, call_events};
-ghost use Rattle.spv_flow_parts.specs.leaves.Laws.{LeavesAreRight, TestsAreRight};
 
 use crate::Body;
 use crate::leaves::valued::Valued;
@@ -37,16 +34,13 @@ use spv_term::{Condition, TermId, Terms};
 /// walk over statements asks for them, in the order of the rules.
 ///
 /// `takes` says which statements and expressions of a body are taken, `making` what is made for them, in order. `fits` is
-/// what a value has to have at hand for a body, beside what is looked up in that. `holds` says where a body has to run for
-/// its rules to be right, which the last two members prove for every world.
+/// what a value has to have at hand for a body, beside what is looked up in that.
 pub trait Leaves {
     ghost takes: { programs.Program → Option RoutineId → Taking };
 
     ghost making: { programs.Program → Option RoutineId → Making };
 
     ghost fits: { Self → programs.Program → Option RoutineId → Type 0 };
-
-    ghost holds: { programs.Program → Here → Type 0 };
 
     /// The conditions before an assignment, a NEW or a call, where these stand behind it.
     fn leaf(
@@ -124,8 +118,4 @@ pub trait Leaves {
         ensures fits { fits self.new program.now body.now.here }
         ensures heads { IfOk result (λ heads. heads.items ≡ changed_heads program.now (routine_in program.now body.now.here) s.now) }
         ensures err { IfErr result (λ e. e ≡ Memory) };
-
-    ghost leaf_right: { (p : programs.Program) (world : Meaning) (here : Here) → holds p here → LeavesAreRight p world here (takes p here.routine) };
-
-    ghost before_test_right: { (p : programs.Program) (world : Meaning) (here : Here) → holds p here → TestsAreRight p world here (takes p here.routine) };
 }

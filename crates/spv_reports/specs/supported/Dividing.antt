@@ -6,7 +6,7 @@ use Rattle.spv_program.specs.Expressions.{Expression, Designator, Selectors, Cal
 use Rattle.spv_program.specs.Formulas as formula
 use Rattle.spv_program.specs.Formulas.{Formula, Formulas, Annotation, no_formulas, formulas}
 use Rattle.spv_program.specs.Statements.{Statement, Arms, Empty, Assign, Perform, New, Sequence, If, Case, While, Repeat, For, Assert, no_arms, arm}
-use Rattle.spv_program.specs.Programs.{Main}
+use Rattle.spv_program.specs.Programs.{Main, Routine}
 
 abbrev pub is_division : Arithmetic → Bool
 is_division Plus = false
@@ -101,3 +101,7 @@ abbrev mutual
 -- the main block, with its ENTRY and EXIT
 abbrev pub main_divides : Main → Bool
 main_divides m = annotation_divides m.entry || (annotation_divides m.exit || statement_divides m.body)
+
+-- a routine's body, with its ENTRY and EXIT
+abbrev pub routine_divides : Routine → Bool
+routine_divides r = annotation_divides r.entry || (annotation_divides r.exit || statement_divides r.body)

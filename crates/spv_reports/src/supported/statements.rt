@@ -2,12 +2,14 @@
 
 ghost use Rattle.std.specs.Prelude.{◌≡◌, ◌||◌};
 ghost use Rattle.spv_reports.specs.supported.Dividing as spec;
-ghost use Rattle.spv_program.specs.typed.ProgramViews.{main_of};
+ghost use Rattle.spv_program.specs.typed.ProgramViews.{main_of, routine_of};
 ghost use Rattle.spv_program.specs.typed.StatementViews.{arms_of, block_of};
 
 use crate::supported::expressions::{arguments_divide, expression_divides, selectors_divide};
 use crate::supported::formulas::{annotation_divides, formula_divides};
-use spv_program::typed::{Arm, Call, Counting, Designator, Main, Statement, StatementForm};
+use spv_program::typed::{
+    Arm, Call, Counting, Designator, Main, Routine, Statement, StatementForm,
+};
 
 // Whether it stands in a place.
 fn place_divides(place: &Designator) -> bool
@@ -95,4 +97,12 @@ pub(crate) fn main_divides(main: &Main) -> bool
 {
     annotation_divides(&main.entry)
         || (annotation_divides(&main.exit) || statement_divides(&main.body))
+}
+
+// Whether it stands in a routine's body or its annotations.
+pub(crate) fn routine_divides(routine: &Routine) -> bool
+    ensures { result ≡ spec.routine_divides (routine_of routine.now) }
+{
+    annotation_divides(&routine.entry)
+        || (annotation_divides(&routine.exit) || statement_divides(&routine.body))
 }

@@ -9,8 +9,7 @@ use Rattle.spv_program.specs.Programs.{Program}
 use Rattle.spv_meaning.specs.ProgramConditions as program
 use Rattle.spv_assign.specs.Conditions.{conditions_of, AreIn}
 use Rattle.spv_assign.specs.creation_trace.Events.{Walked}
-use Rattle.spv_conditions.specs.Covered.{is_covered}
-use Rattle.spv_conditions.specs.Making.{main_events, empty_arena}
+use Rattle.spv_conditions.specs.Making.{program_events, empty_arena}
 use Rattle.spv_reports.specs.declared.mode.Mode.{Mode}
 use Rattle.spv_verify.specs.declared.reporting.making.Parts.{Parts}
 use Rattle.spv_reports.specs.Reports.{AreVerdictsIn, IsTakenFor}
@@ -22,11 +21,10 @@ AreFormulasIn a (c ∷ conditions) = AreFormulas a.shapes a.decls (formulas_of (
 
 -- the conditions are those of the program, and the verdicts are right
 pub record AreParts (p : Program) (mode : Mode) (x : Parts) : Type 0 where
-  pub covered : is_covered p ≡ true
   pub taken : IsTakenFor mode p
   pub sound : IsArena x.terms
   pub grows : Extends (empty_arena p) x.terms
   pub in_range : AreIn x.terms x.conditions.items
   pub conditions : conditions_of x.terms x.conditions.items ≡ program.conditions_of p
-  pub within : Walked (main_events p) (empty_arena p) x.terms
+  pub within : Walked (program_events p) (empty_arena p) x.terms
   pub verdicts : AreVerdictsIn mode x.terms x.conditions.items x.verdicts.items

@@ -4,11 +4,10 @@ use Rattle.spv_tree.specs.declared.syntax.programs.Program.{Program as Tree}
 use Rattle.spv_program.specs.Programs.{Program}
 use Rattle.spv_effects.specs.frame_walk.FrameWalk.{frame_fault}
 use Rattle.spv_assign.specs.declared.creation_trace.faults.GenFault.{GenFault}
-use Rattle.spv_conditions.specs.Covered.{is_covered}
-use Rattle.spv_conditions.specs.Making.{MeetsLimit, IsWithinLimits}
+use Rattle.spv_conditions.specs.Making.{MeetsLimit}
 use Rattle.spv_reports.specs.declared.mode.Mode.{Mode}
 use Rattle.spv_reports.specs.supported.Taken.{is_taken}
-use Rattle.spv_reports.specs.Reports.{Findings, IsNotRefused, IsReportOn, has_verdicts}
+use Rattle.spv_reports.specs.Reports.{Findings, IsNotRefused, IsReportOn, IsTakenFor, has_verdicts}
 use Rattle.spv_verify.specs.declared.refused.refusal.Refusal.{Refusal}
 use Rattle.spv_verify.specs.declared.refused.refusal.Refusal.TheVariants as refusal
 use Rattle.spv_verify.specs.declared.refused.fault.VerifyFault.{VerifyFault}
@@ -18,27 +17,21 @@ use Rattle.spv_verify.specs.tree_reports.Walks.{IsSound, IsWalkRefusal, IsFrameR
 
 -- ---- refusals
 
--- no conditions are made of a program of such a form
-abbrev pub IsFormRefusal : Program → Refusal → Type 0
-IsFormRefusal p r = (is_covered p ≡ false) × (r ≡ refusal.Form 1 [])
-
 -- the conditions of the program meet a limit
-pub record IsLimitRefusal (p : Program) (r : Refusal) : Type 0 where
-  pub covered : is_covered p ≡ true
+pub record IsLimitRefusal (mode : Mode) (p : Program) (r : Refusal) : Type 0 where
+  pub taken : IsTakenFor mode p
   pub limit : GenFault
   pub meets : MeetsLimit limit p
   pub told : limit_refusal limit ≡ Some r
 
 -- verdicts are wanted, and the program is none of those that are verified so far
 pub record IsNotTakenRefusal (mode : Mode) (p : Program) (r : Refusal) : Type 0 where
-  pub covered : is_covered p ≡ true
-  pub within : IsWithinLimits p
   pub asked : has_verdicts mode ≡ true
   pub taken : is_taken p ≡ false
   pub told : r ≡ refusal.Form 1 []
 
 abbrev pub IsProgramRefusal : Mode → Program → Refusal → Type 0
-IsProgramRefusal mode p r = IsFormRefusal p r ⊎ (IsLimitRefusal p r ⊎ IsNotTakenRefusal mode p r)
+IsProgramRefusal mode p r = IsLimitRefusal mode p r ⊎ IsNotTakenRefusal mode p r
 
 -- a tree is refused so: for a fault of names, types or frames, or for one of its program
 abbrev pub IsTreeRefusal : Mode → List (List ℕ) → Tree → Refusal → Type 0

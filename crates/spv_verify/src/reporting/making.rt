@@ -1,18 +1,19 @@
 // The report on a program is made.
 
-ghost use Rattle.std.specs.Prelude.{◌≡◌, map, None, IsTrue, IfErr, IfOk};
+ghost use Rattle.std.specs.Prelude.{◌≡◌, map, None, IsFalse, IsTrue, IfErr, IfOk};
 ghost use Rattle.spv_program.specs.Typing.{well_typed};
 ghost use Rattle.spv_effects.specs.frame_walk.FrameWalk.{frame_fault};
-ghost use Rattle.spv_conditions.specs.Covered.{is_covered};
 ghost use Rattle.spv_verify.specs.reporting.Parts.{AreParts};
-ghost use Rattle.spv_reports.specs.Reports.{IsNotRefused, IsReportFault, IsReportOn};
+ghost use Rattle.spv_reports.specs.Reports.{IsNotRefused, IsReportFault, IsReportOn, IsTakenFor};
+ghost use Rattle.spv_reports.specs.declared.fault.ReportFault.TheVariants.{NotTaken};
 
 use crate::reporting::deciding::decided;
 use spv_assign::creation_trace::GenFault;
-use spv_conditions::{conditions, is_covered};
+use spv_conditions::conditions;
 use spv_logic::list::List;
 use spv_logic::names::{Names, Symbol};
 use spv_program::typed::{Program, Routine};
+use spv_reports::supported::is_taken;
 use spv_reports::{Mode, ProgramNames, Report, ReportFault};
 use spv_rule_soundness::condition_sorts::law_sorted_conditions;
 use spv_term::{Condition, Terms};
@@ -27,45 +28,44 @@ pub(crate) struct Parts {
     pub(crate) verdicts: Vec<Decided>,
 }
 
-// The conditions of a program of a form whose conditions are made, and the verdicts on them.
+// Whether verdicts are wanted on a program that is not verified so far.
+fn is_not_taken(program: &Program, mode: &Mode) -> bool
+    ensures taken { IsFalse result → IsTakenFor mode.now program.now }
+    ensures not_taken { IsTrue result → IsReportFault program.now mode.now NotTaken }
+{
+    match mode {
+        Mode::Verify(_) => !is_taken(program),
+        Mode::Conditions => false,
+    }
+}
+
+// The conditions of a program, and the verdicts on them.
 #[tactic(auto, using(crate::proofs::reporting::Formulas::all_formulas))]
-fn made_parts(alloc: Global, program: &Program, mode: &Mode) -> Result<Parts, ReportFault>
+fn make_parts(alloc: Global, program: &Program, mode: &Mode) -> Result<Parts, ReportFault>
     requires typed { IsTrue (well_typed program.now) }
-    requires covered { IsTrue (is_covered program.now) }
     ensures parts { IfOk result (AreParts program.now mode.now) }
     ensures fault { IfErr result (IsReportFault program.now mode.now) }
 {
+    if is_not_taken(program, mode) {
+        return Err(ReportFault::NotTaken);
+    }
     let made = match conditions(alloc, program) {
         Ok(made) => made,
         Err(fault) => return Err(ReportFault::Stopped(fault)),
     };
     made.terms.law_arena();
     law_sorted_conditions();
-    match decided(alloc, program, mode, &made.terms, made.list.as_slice()) {
-        Ok(verdicts) => Ok(Parts {
-            terms: made.terms,
-            conditions: made.list,
-            verdicts,
-        }),
-        Err(fault) => Err(fault),
-    }
-}
-
-// The same of any program.
-fn make_parts(alloc: Global, program: &Program, mode: &Mode) -> Result<Parts, ReportFault>
-    requires typed { IsTrue (well_typed program.now) }
-    ensures parts { IfOk result (AreParts program.now mode.now) }
-    ensures fault { IfErr result (IsReportFault program.now mode.now) }
-{
-    if !is_covered(program) {
-        return Err(ReportFault::Form);
-    }
-    made_parts(alloc, program, mode)
+    let verdicts = decided(alloc, mode, &made.terms, made.list.as_slice())?;
+    Ok(Parts {
+        terms: made.terms,
+        conditions: made.list,
+        verdicts,
+    })
 }
 
 /// The report on a program, for what its mode says: the conditions of the definition, in its order, and in the mode `Verify` a
-/// verdict on each, within its limits. `Form`: it has routines, or its main block assigns to parts, creates cells or calls. `Stopped`: the
-/// conditions meet a limit, or there is no memory left. `NotTaken`, in the mode `Verify` alone: it is no program that is verified so far.
+/// verdict on each, within its limits. `NotTaken`, in the mode `Verify` alone: it is no program that is verified so far. `Stopped`: the
+/// conditions meet a limit, or there is no memory left.
 pub fn report_on(
     alloc: Global,
     names: Names,

@@ -25,7 +25,6 @@ fn told(alloc: Global, fault: ReportFault) -> VerifyFault
     ensures { (p : plain.Program) (mode : Mode) → IsReportFault p mode fault → IsProgramCause mode p result }
 {
     match fault {
-        ReportFault::Form => VerifyFault::Refused(Refusal::Form(1, List::new(alloc))),
         ReportFault::Stopped(limit) => of_limits(alloc, limit),
         ReportFault::NotTaken => VerifyFault::Refused(Refusal::Form(1, List::new(alloc))),
     }
@@ -82,8 +81,8 @@ fn typed_program(alloc: Global, tree: &Program, names: &Names) -> Result<Typed, 
 }
 
 /// The report of a text's tree, for what its mode says; or what the text is refused for: its first fault of names and types, else of
-/// frames; and where it has none, that no conditions are made of such a program, that they are too many or too large, or, where verdicts
-/// are wanted, that no such program is verified so far. The tree is well formed, as each tree is that a reading answers, and the names are those of the table.
+/// frames; and where it has none, that verdicts are wanted and no such program is verified so far, or that its conditions are too many or too
+/// large. The tree is well formed, as each tree is that a reading answers, and the names are those of the table.
 /// Memory: there was not enough of it.
 pub fn report_of(
     alloc: Global,

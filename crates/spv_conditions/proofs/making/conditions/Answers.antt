@@ -1,6 +1,7 @@
-use Rattle.spv_conditions.proofs.Mains.{limit_of}
+use Rattle.spv_assign.specs.supply.Numbers.{supply_of}
+use Rattle.spv_conditions.proofs.Mains.{limit_of, may_begin}
 use Rattle.spv_conditions.proofs.making.conditions.Goals as goal
 
-pub returns-clause-limit : goal.returns-clause-limit
-returns-clause-limit c =
-    limit_of c.args.program.now c.in_ok-terms.terms c.main_conditions-made.new.terms c.in_ok-terms.ensures c.law_arena.ensures c.in-Err.fault c.in-Err.ensures
+pub all_conditions-made-requires : goal.all_conditions-made-requires
+all_conditions-made-requires c =
+    record { may = may_begin c.args.program.now c.in_ok-terms.terms (supply_of c.new-supply.result) c.requires.typed c.in_ok-terms.ensures c.new-supply.ensures }
