@@ -1,8 +1,6 @@
-use Rattle.std.proofs.Common.{◌≡◌, List, map, ap, subst, ◌∙◌}
-use Rattle.spv_program.specs.declared.types.TypeForm.{TypeForm}
-use Rattle.spv_program.specs.Programs.{Program, Routine}
-use Rattle.spv_program.specs.Scopes.{Scope}
-use Rattle.spv_program.specs.typed.ProgramViews.{formal_of, routine_of}
+use Rattle.std.proofs.Common.{ap, ◌∙◌}
+use Rattle.spv_program.specs.Programs.{Program}
+use Rattle.spv_program.specs.typed.ProgramViews.{routine_of}
 use Rattle.spv_flow_parts.proofs.body_tables.Scoping.{formals_put, variables_put, entry_found}
 use Rattle.spv_flow_parts.proofs.calls.callees.entry_names.Goals as goal
 
