@@ -6,3 +6,4 @@ pub mod Mains
 pub mod Limits
 pub mod Correct
 pub mod condition_sorts
+pub mod Beginning

@@ -217,6 +217,29 @@ fn add_starts(
     Ok(())
 }
 
+// INITIAL names and their items, and the starts of value parameters and these.
+fn add_beginning(
+    program: &Program,
+    terms: &mut Terms,
+    variables: &Named<Sort>,
+    routine: &Routine,
+    pairs: &mut Vec<(TermId, TermId)>,
+) -> Result<(), GenFault>
+    ghost of: { Heading }
+    requires program { of.program ≡ program.now }
+    requires routine { of.routine ≡ routine_of routine.now }
+    requires over { IsOver of.program terms.old }
+    requires there { IsTrue (routine_ok of.program of.routine) }
+    requires variables { HasNamesOf variables.now (variable_scope of.program (Some of.routine)) }
+    ensures { AddsPairs result (beginning_pairs of.program of.routine) terms.old terms.new pairs.old.items pairs.new.items }
+{
+    let initial = routine.initial.as_slice();
+    add_items(terms, variables, initial, pairs)?;
+    let forms = program.forms.as_slice();
+    let formals = routine.formals.as_slice();
+    add_starts(terms, forms, formals, pairs)
+}
+
 // What is replaced where a routine begins.
 fn pairs_at_beginning(
     program: &Program,
@@ -232,14 +255,7 @@ fn pairs_at_beginning(
     ensures { MakesPairs result (beginning_pairs program.now (routine_of routine.now)) terms.old terms.new }
 {
     let mut pairs = Vec::new(body.alloc);
-    add_items(
-        terms,
-        &body.variables,
-        routine.initial.as_slice(),
-        &mut pairs,
-    )?;
-    let forms = program.forms.as_slice();
-    add_starts(terms, forms, routine.formals.as_slice(), &mut pairs)?;
+    add_beginning(program, terms, &body.variables, routine, &mut pairs)?;
     Ok(pairs)
 }
 
