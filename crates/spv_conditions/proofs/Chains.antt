@@ -1,14 +1,11 @@
 -- Conditions that are made one after the other.
-use Rattle.std.proofs.Common.{◌≡◌, List, [], ◌∷◌, ◌++◌, Ok, Err, IfErr, IsErrAnd, Vec, Result, sym, ap, subst}
+use Rattle.std.proofs.Common.{◌≡◌, List, [], ◌∷◌, ◌++◌, Ok, Err, IsErrAnd, Vec, sym, subst}
 use Rattle.std.specs.Global.{Global}
 use Rattle.spv_term.specs.declared.nodes.Condition.{Condition}
-use Rattle.spv_term.specs.Arena.{Arena, Extends}
+use Rattle.spv_term.specs.Arena.{Arena}
 use Rattle.spv_program.specs.Supplies.{Supply}
 use Rattle.spv_meaning.specs.Before.{Made}
-use Rattle.spv_assign.specs.Conditions.{AreIn}
-use Rattle.spv_assign.specs.supply.Numbers.{AreThere}
 use Rattle.spv_assign.specs.declared.creation_trace.faults.GenFault.{GenFault}
-use Rattle.spv_assign.specs.declared.creation_trace.faults.GenFault.TheVariants as fault
 use Rattle.spv_assign.specs.creation_trace.Events.{Event, Stops}
 use Rattle.spv_assign.specs.creation_trace.StatementEvents.{in_order}
 use Rattle.spv_assign.proofs.creation_trace.Walks.{stopped_first}

@@ -1,5 +1,5 @@
 -- The conditions of a routine, step by step.
-use Rattle.std.proofs.Common.{◌≡◌, ℕ, ◌&&◌, true, List, [], ◌∷◌, ◌++◌, Option, Some, None, option_map, Ok, Err, IfOk, IfErr, IsErrAnd, Vec, Result, refl, sym, ap, subst, ◌∙◌}
+use Rattle.std.proofs.Common.{◌≡◌, true, List, [], ◌∷◌, Option, Some, option_map, Ok, Err, IfOk, IfErr, IsErrAnd, Vec, refl, sym, ap, subst, ◌∙◌}
 use Rattle.std.specs.Global.{Global}
 use Rattle.spv_logic.proofs.list.Tests.{left_true, right_true}
 use Rattle.spv_logic.specs.declared.conditions.TermId.{TermId}
@@ -13,10 +13,9 @@ use Rattle.spv_program.specs.Formulas.{Annotation}
 use Rattle.spv_program.specs.FormulaTypes.{annotation_ok}
 use Rattle.spv_program.specs.Programs.{Routine, Program, routine_at, routine_in}
 use Rattle.spv_program.specs.Scopes.{entry_scope, exit_scope}
-use Rattle.spv_program.specs.Statements.{Statement}
 use Rattle.spv_program.specs.Supplies.{Supply}
 use Rattle.spv_program.specs.Terms.{entry_term, exit_term}
-use Rattle.spv_program.specs.Typing.{body_ok, declarations_ok, heading_ok, main_ok, routine_ok, statement_ok, well_typed}
+use Rattle.spv_program.specs.Typing.{declarations_ok, heading_ok, main_ok, routine_ok, statement_ok, well_typed}
 use Rattle.std.specs.List.{list_all}
 use Rattle.spv_meaning.specs.Before.{Made, before, assuming_if_there, replaced, wanted}
 use Rattle.spv_meaning.specs.ProgramConditions.{wanted_exit, routine_conditions}
@@ -39,7 +38,7 @@ use Rattle.spv_flow_parts.specs.calls.Arguments.{IsOver, MayMake}
 use Rattle.spv_flow_parts.proofs.Steps.{AreThese-Extends, comes_last, comes_never, comes_not, stopped_at, went}
 use Rattle.spv_flow_parts.proofs.Conditions.{replaced_comes}
 use Rattle.spv_conditions.specs.Making.{beginning_pairs, behind_routine, entered_made, entered_parts, entry_events, events, exit_events, inside_parts, routine_events, under_entry}
-use Rattle.spv_conditions.specs.Steps.{GivesEntry, IsRoutine, MayBegin}
+use Rattle.spv_conditions.specs.Steps.{MayBegin}
 use Rattle.spv_conditions.proofs.Chains.{comes_first, comes_stopped, comes_then, made_is}
 
 -- ---- what is right

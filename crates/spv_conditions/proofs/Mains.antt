@@ -1,12 +1,11 @@
 -- The conditions of the main block, and of all routines and the main block one after the other.
-use Rattle.std.proofs.Common.{◌≡◌, ◌<◌, ◌≤◌, arith, drop, get_or, ℕ, ◌+◌, suc, zero, ◌&&◌, true, List, [], ◌∷◌, ◌++◌, map, length, Option, Some, None, option_map, Ok, Err, IfOk, IfErr, IsErrAnd, Vec, Result, refl, sym, ap, subst, ◌∙◌}
+use Rattle.std.proofs.Common.{◌≡◌, ◌<◌, ◌≤◌, arith, drop, get_or, ℕ, ◌+◌, suc, true, List, [], ◌∷◌, ◌++◌, map, length, Option, None, option_map, Ok, Err, IfOk, IfErr, IsErrAnd, Vec, refl, sym, ap, subst, ◌∙◌}
 use Rattle.std.specs.Global.{Global}
 use Rattle.std.proofs.lemmas.List.{append_assoc, drop_all, drop_more, length-append}
 use Rattle.spv_logic.proofs.list.Tests.{left_true, right_true}
 use Rattle.spv_logic.specs.declared.conditions.TermId.{TermId}
 use Rattle.spv_logic.specs.declared.conditions.Kind.TheVariants as kind
 use Rattle.spv_logic.specs.declared.conditions.RoutineId.{RoutineId}
-use Rattle.spv_logic.specs.Terms.{Term}
 use Rattle.spv_logic.specs.Conditions as logic
 use Rattle.spv_term.specs.declared.nodes.Condition.{Condition}
 use Rattle.spv_term.specs.Arena.{Arena, Extends, IsArena, tree}
@@ -15,14 +14,14 @@ use Rattle.spv_program.specs.declared.typed.programs.Routine.{Routine as Routine
 use Rattle.spv_program.specs.typed.ProgramViews.{routine_of}
 use Rattle.spv_program.specs.Formulas.{Annotation}
 use Rattle.spv_program.specs.FormulaTypes.{annotation_ok}
-use Rattle.spv_program.specs.Programs.{Routine, Program, routine_at, routine_in}
+use Rattle.spv_program.specs.Programs.{Routine, Program, routine_in}
 use Rattle.spv_program.specs.Scopes.{body_scope}
 use Rattle.spv_program.specs.Statements.{Statement}
 use Rattle.spv_program.specs.Supplies.{Supply, full_supply}
 use Rattle.spv_program.specs.Typing.{statement_ok, well_typed}
 use Rattle.spv_expression_terms.specs.makeable_terms.Laws.{heading_ok_in}
 use Rattle.spv_meaning.specs.Before.{Made, annotation_term, assuming_if_there, before, wanted_if_there}
-use Rattle.spv_meaning.specs.ProgramConditions.{conditions_from, main_conditions, routine_conditions}
+use Rattle.spv_meaning.specs.ProgramConditions.{conditions_from, routine_conditions}
 use Rattle.spv_assign.specs.Conditions.{AreIn, conditions_of}
 use Rattle.spv_assign.specs.supply.Numbers.{AreThere}
 use Rattle.spv_assign.proofs.supply.FreshLemmas.{AreThere-Extends}
@@ -33,13 +32,13 @@ use Rattle.spv_assign.specs.creation_trace.StatementEvents.{counted, in_order, o
 use Rattle.spv_assign.proofs.creation_trace.Walks.{answered_behind, stopped_first}
 use Rattle.spv_flow_parts.specs.declared.bodies.Body.{Body}
 use Rattle.spv_flow_parts.specs.Standing.{AreNotes, IsBody, Stands}
-use Rattle.spv_flow_parts.specs.Walks.{AreThese, Comes, ComesTo, IsMade, IsNoted, IsThere, Listed, made_of}
+use Rattle.spv_flow_parts.specs.Walks.{AreThese, Comes, ComesTo, IsNoted, IsThere, Listed, made_of}
 use Rattle.spv_flow_parts.specs.calls.Arguments.{IsOver, MayMake}
 use Rattle.spv_flow_parts.proofs.Conditions.{joined_comes, long_conditions}
 use Rattle.spv_flow_parts.proofs.LoopLemmas.{note_there, note_term}
 use Rattle.spv_flow_parts.proofs.Steps.{AreThese-Extends, comes_never, comes_not}
-use Rattle.spv_conditions.specs.Making.{after_main, after_routine, all_made, behind_main, empty_arena, events, events_from, inside_main, last_main, main_events, main_made, one_routine, program_events, routine_events, supply_from, IsLimit}
-use Rattle.spv_conditions.specs.Steps.{IsRoutine, MayBegin}
+use Rattle.spv_conditions.specs.Making.{after_main, after_routine, all_made, behind_main, empty_arena, events, events_from, inside_main, last_main, main_events, main_made, one_routine, program_events, supply_from, IsLimit}
+use Rattle.spv_conditions.specs.Steps.{MayBegin}
 use Rattle.spv_conditions.proofs.Chains.{comes_first, comes_stopped, comes_then, made_is}
 use Rattle.spv_conditions.proofs.Entering.{known_under, over_then, right_declarations, right_main}
 

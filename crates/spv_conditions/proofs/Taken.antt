@@ -8,7 +8,6 @@ use Rattle.spv_logic.specs.declared.conditions.RoutineId.{RoutineId}
 use Rattle.spv_logic.specs.declared.types.Sort.{Sort}
 use Rattle.spv_logic.specs.declared.types.Sort.TheVariants as sort
 use Rattle.spv_program.specs.Lists.{all_differ}
-use Rattle.spv_program.specs.Expressions.{Expression}
 use Rattle.spv_program.specs.Statements.{Statement, Arms, Empty, Assign, Perform, New, Sequence, If, Case, While, Repeat, For, Assert, no_arms, arm}
 use Rattle.spv_program.specs.Programs.{Routine, Program, routine_in}
 use Rattle.spv_program.specs.Scopes.{body_scope, name_type}

@@ -1,5 +1,5 @@
 -- Assignments, NEW, calls and expressions of a well typed program: which are taken, and what is made for them.
-use Rattle.std.specs.Prelude.{Bool, false, List, [], Option, is_some, ◌&&◌}
+use Rattle.std.specs.Prelude.{Bool, false, List, [], Option, is_some}
 use Rattle.spv_logic.specs.declared.conditions.RoutineId.{RoutineId}
 use Rattle.spv_program.specs.Statements.{Statement, Assign, Perform, New}
 use Rattle.spv_program.specs.Programs.{Program, routine_in}

@@ -1,5 +1,5 @@
 -- What is made for the conditions of a program, in order, and the limit that may be met.
-use Rattle.std.specs.Prelude.{◌≡◌, ⊤, ℕ, suc, ◌+◌, List, [], ◌∷◌, ◌++◌, map, filter, not, length, Option, Some, None, option_map, IfOk, IsTrue}
+use Rattle.std.specs.Prelude.{◌≡◌, ⊤, ℕ, suc, ◌+◌, List, [], ◌∷◌, ◌++◌, map, filter, not, length, Option, Some, None, option_map}
 use Rattle.spv_logic.specs.declared.conditions.Kind.TheVariants as kind
 use Rattle.spv_logic.specs.declared.conditions.RoutineId.{RoutineId}
 use Rattle.spv_logic.specs.declared.names.names.Symbol.{Symbol}
@@ -7,7 +7,7 @@ use Rattle.spv_logic.specs.declared.operators.Head.{Head}
 use Rattle.spv_logic.specs.declared.operators.Head.TheVariants as head
 use Rattle.spv_logic.specs.Terms.{Term}
 use Rattle.spv_logic.specs.Conditions.{Condition}
-use Rattle.spv_term.specs.Arena.{Arena, IsArena, Extends}
+use Rattle.spv_term.specs.Arena.{Arena, IsArena}
 use Rattle.spv_program.specs.Statements.{Statement}
 use Rattle.spv_program.specs.Programs.{Formal, Routine, Program, shapes}
 use Rattle.spv_program.specs.Supplies.{Supply, full_supply}
@@ -20,10 +20,9 @@ use Rattle.spv_meaning.specs.Before.{Made, before, annotation_term, assuming_if_
 use Rattle.spv_meaning.specs.ProgramConditions.{initial_pairs, start_pairs, wanted_exit, routine_conditions, main_conditions, conditions_from}
 use Rattle.spv_assign.specs.declared.creation_trace.faults.GenFault.{GenFault}
 use Rattle.spv_assign.specs.declared.creation_trace.faults.GenFault.TheVariants as fault
-use Rattle.spv_assign.specs.creation_trace.Events.{Event, Answers, Stops}
+use Rattle.spv_assign.specs.creation_trace.Events.{Event, Stops}
 use Rattle.spv_assign.specs.creation_trace.StatementEvents.{counted, in_order, one_if_there, replacing_events}
 use Rattle.spv_flow.specs.statement_rules.Events.{events_by}
-use Rattle.spv_flow_parts.specs.Walks.{AreThese, Listed}
 use Rattle.spv_assign.specs.limits.Laws.{IsMadeWhole}
 use Rattle.spv_conditions.specs.Leaves.{leaf_making}
 

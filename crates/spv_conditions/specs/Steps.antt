@@ -1,5 +1,5 @@
 -- Where the conditions of a routine or of the main block are made, and what is made on the way.
-use Rattle.std.specs.Prelude.{◌≡◌, ⊤, ◌<◌, List, length, Option, Some, Result, IfOk, IsTrue, Vec}
+use Rattle.std.specs.Prelude.{◌≡◌, List, Option, Some, Result, IfOk, Vec}
 use Rattle.std.specs.Global.{Global}
 use Rattle.std.specs.Prelude.{option_map}
 use Rattle.spv_logic.specs.declared.conditions.RoutineId.{RoutineId}

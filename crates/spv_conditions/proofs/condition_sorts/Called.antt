@@ -1,5 +1,5 @@
 -- ENTRY and EXIT of a call are truth values, where its arguments fit.
-use Rattle.std.proofs.Common.{◌≡◌, Bool, true, false, not, ◌&&◌, List, [], ◌∷◌, ◌++◌, map, Option, Some, None, option_map, refl, sym, ap, subst, ◌∙◌, cond}
+use Rattle.std.proofs.Common.{◌≡◌, Bool, true, not, ◌&&◌, List, [], ◌∷◌, ◌++◌, map, Option, Some, None, option_map, refl, sym, ap, subst, ◌∙◌, cond}
 use Rattle.std.specs.List.{list_all}
 use Rattle.std.specs.Option.{option_and_then}
 use Rattle.std.proofs.lemmas.Bool.{false≢true}
@@ -12,10 +12,8 @@ use Rattle.spv_logic.specs.declared.types.Sort.TheVariants as sort
 use Rattle.spv_logic.specs.declared.operators.Head.{Head}
 use Rattle.spv_logic.specs.declared.operators.Head.TheVariants as head
 use Rattle.spv_logic.specs.declared.conditions.RoutineId.{RoutineId}
-use Rattle.spv_logic.specs.declared.conditions.Kind.TheVariants as kind
 use Rattle.spv_logic.specs.Terms.{Term, sort_eq}
-use Rattle.spv_logic.specs.Sorts.{variable_sort}
-use Rattle.spv_logic.specs.Substitution.{is_variable, substitute}
+use Rattle.spv_logic.specs.Substitution.{substitute}
 use Rattle.spv_logic.specs.Conditions.{Condition}
 use Rattle.spv_program.specs.declared.types.Item.{Item}
 use Rattle.spv_program.specs.declared.types.Item.TheVariants.{Variable, Class}
@@ -24,26 +22,24 @@ use Rattle.spv_program.specs.declared.operators.Comparison.{Comparison}
 use Rattle.spv_program.specs.declared.operators.Comparison.TheVariants.{Equal, NotEqual, Less, AtMost, Greater, AtLeast}
 use Rattle.spv_program.specs.Formulas.{Annotation}
 use Rattle.spv_program.specs.Expressions.{Expression, Designator, Selectors, Call, Arguments, Numeral, Boolean, NilOf, Read, Result, Through, Negative, Calculated, Compared, Negated, Joined, designator, no_selectors, at_index, at_field, at_cell, call, no_arguments, by_value, by_place}
-use Rattle.spv_program.specs.Programs.{Formal, Routine, Program, shapes, routine_at}
-use Rattle.spv_program.specs.Scopes.{name_type, body_scope, entry_scope, exit_scope, item_sort}
+use Rattle.spv_program.specs.Programs.{Formal, Routine, Program, routine_at}
+use Rattle.spv_program.specs.Scopes.{name_type, entry_scope, exit_scope, item_sort}
 use Rattle.spv_program.specs.FormulaTypes.{is_sort, annotation_ok, numbers, compared_sort}
 use Rattle.spv_program.specs.ExpressionTypes.{comparable, is_nil, may_read, may_write, stands_for, result_type, sort_of_type, expression_sort, designator_type, selected_type, callee, arguments_fit}
 use Rattle.spv_program.specs.Typing.{declarations_ok, heading_ok, body_ok, routine_ok, well_typed}
 use Rattle.spv_program.specs.Laws.{HasSort}
 use Rattle.spv_program.specs.Supplies.{Supply, fresh_variable}
-use Rattle.spv_program.specs.Places.{present}
 use Rattle.spv_program.specs.Terms.{alone, item_head, entry_term, exit_term}
-use Rattle.spv_program.specs.Calls.{Argument, Given, AtPlace, replacing, present_argument, formal_head, at_call, starts_at_call, initial_at_call, entry_at_call, exit_at_call}
-use Rattle.spv_program.specs.ExpressionTerms.{Called, Argued, Placed, Valued, valued, placed, selected, called, argued, called_in, with_call, at_start, to_element, to_field, to_cell, read_at, result_head, sort_of_result}
-use Rattle.spv_program.proofs.SortFacts.{is_sort-true, test_passes, two_there, nothing_there, some_is, behind, passed, chosen, failed}
+use Rattle.spv_program.specs.Calls.{Argument, Given, AtPlace, replacing, present_argument, at_call, starts_at_call, initial_at_call, entry_at_call, exit_at_call}
+use Rattle.spv_program.specs.ExpressionTerms.{Called, Argued, Placed, valued, placed, selected, called, argued, called_in, with_call, at_start, to_element, to_field, to_cell, read_at, result_head, sort_of_result}
+use Rattle.spv_program.proofs.SortFacts.{is_sort-true, test_passes, two_there, some_is, behind, passed, chosen, failed}
 use Rattle.spv_program.proofs.FormulaSorting.{scope_sorted, exit_sorted, one_of, two_numbers, two_truths}
 use Rattle.spv_program.proofs.ExpressionSorting.{mapped, same_types, value_sorted, place_sorted}
-use Rattle.spv_meaning.specs.Before.{before_calls, wanted_entry, assuming_if_there, wanted}
+use Rattle.spv_meaning.specs.Before.{before_calls, wanted_entry, assuming_if_there}
 use Rattle.spv_meaning.proofs.RoutineStarts.{item_passes}
 use Rattle.spv_rule_soundness.specs.condition_sorts.Sorted.{IsTruth, AreSorted}
 use Rattle.spv_conditions.proofs.condition_sorts.Substituted.{AllKeep, substituted, pairs_keep}
 use Rattle.spv_conditions.proofs.condition_sorts.Lists.{IfTruth, appended, assumed_there}
-use Rattle.spv_conditions.proofs.condition_sorts.Heads.{sort_alone}
 
 -- ---- routines
 
@@ -202,15 +198,13 @@ module _ (p : Program) (typed : well_typed p ≡ true) (here : Option Routine) w
   arguments_sorted n [] (by_place d others) h = absurd (false≢true h)
   arguments_sorted n (f ∷ formals) no_arguments h = absurd (false≢true h)
   arguments_sorted n (f ∷ formals) (by_value e others) h =
-      let more = right_true (not f.by_place) _ h in
-      (
+      let more = right_true (not f.by_place) _ h in (
         value_sorted p here n e (sort_of p.forms f.of) (is_sort-true (sort_of p.forms f.of) (expression_sort p here e) (left_true (is_sort (sort_of p.forms f.of) (expression_sort p here e)) _ more)),
         arguments_sorted (valued p here n e).supply formals others (right_true (is_sort (sort_of p.forms f.of) (expression_sort p here e)) _ more),
       )
   arguments_sorted n (f ∷ formals) (by_place d others) h =
       let more = right_true (may_write here d) _ (right_true f.by_place _ h) in
-      let k = stood_for p f.of (designator_type p here d) (left_true (stands_for p f.of (designator_type p here d)) _ more) in
-      (
+      let k = stood_for p f.of (designator_type p here d) (left_true (stands_for p f.of (designator_type p here d)) _ more) in (
         place_sorted p here n d k.type k.is ∙ ap Some k.same,
         arguments_sorted (placed p here n d).supply formals others (right_true (stands_for p f.of (designator_type p here d)) _ more),
       )
@@ -219,11 +213,13 @@ module _ (p : Program) (typed : well_typed p ≡ true) (here : Option Routine) w
   one_truth : (line : _) (r : Routine) → RoutineRight p r → (given : Argued) → AreFitting p r.formals given.arguments → AreTruthCalls p given.calls → AreTruthCalls p (with_call p r line given).calls
   one_truth line r right given fit truths =
       let value = fresh_variable r.name (sort_of_result p r) given.supply in
-      calls_both p given.calls _ truths
-      (record {
-        needs = needs_truth p r right given.arguments fit;
-        gives = gives_truth p r right given.arguments fit ((result_head p r, alone value.head) ∷ []) (refl, tt);
-      }, tt)
+      calls_both p given.calls _ truths (
+        record {
+          needs = needs_truth p r right given.arguments fit;
+          gives = gives_truth p r right given.arguments fit ((result_head p r, alone value.head) ∷ []) (refl, tt);
+        },
+        tt,
+      )
 
   -- the sorts of two things that are compared are there
   both_there : (comparable : Sort → Bool) (o : Comparison) (a b : Option Sort) (r : Sort) (P : Type 0) → ((s t : Sort) → a ≡ Some s → b ≡ Some t → P) → compared_sort comparable o a b ≡ Some r → P

@@ -1,16 +1,14 @@
 -- What a call of a procedure changes keeps its sort, and so does the class that NEW extends.
-use Rattle.std.proofs.Common.{◌≡◌, Bool, true, false, cond, List, [], ◌∷◌, ◌++◌, Option, Some, None, refl, sym, ap, subst, ◌∙◌}
+use Rattle.std.proofs.Common.{◌≡◌, true, cond, List, [], ◌∷◌, Option, Some, None, refl, sym, ap, ◌∙◌}
 use Rattle.std.specs.Cmp.Derive.{both_true}
-use Rattle.std.proofs.lemmas.Bool.{false≢true, eqb-true}
+use Rattle.std.proofs.lemmas.Bool.{false≢true}
 use Rattle.spv_logic.proofs.Equality.{sort_eq-refl}
 use Rattle.spv_logic.specs.declared.types.TypeId.{TypeId}
-use Rattle.spv_logic.specs.declared.types.Sort.{Sort}
 use Rattle.spv_logic.specs.declared.types.Sort.TheVariants as sort
-use Rattle.spv_logic.specs.declared.operators.Head.{Head}
 use Rattle.spv_logic.specs.declared.operators.Head.TheVariants as head
 use Rattle.spv_logic.specs.declared.conditions.RoutineId.{RoutineId}
 use Rattle.spv_logic.specs.Terms.{Term, sort_eq}
-use Rattle.spv_logic.specs.Sorts.{variable_sort, sort_before, with_sorts, result_sort, term_sort}
+use Rattle.spv_logic.specs.Sorts.{sort_before, with_sorts, result_sort, term_sort}
 use Rattle.spv_logic.specs.Substitution.{is_variable}
 use Rattle.spv_logic.specs.Conditions.{Condition}
 use Rattle.spv_program.specs.declared.types.Item.{Item}
@@ -23,11 +21,10 @@ use Rattle.spv_program.specs.ExpressionTypes.{callee}
 use Rattle.spv_program.specs.Typing.{is_procedure, is_type, leads_to}
 use Rattle.spv_program.specs.Laws.{HasSort}
 use Rattle.spv_program.specs.Supplies.{Supply, fresh_like}
-use Rattle.spv_program.specs.Places.{whole_with}
 use Rattle.spv_program.specs.Terms.{alone, ternary, item_head}
 use Rattle.spv_program.specs.Calls.{Argument, Given, AtPlace, formal_head, entry_at_call, exit_at_call}
 use Rattle.spv_program.specs.ExpressionTerms.{Argued, Placed, valued, placed, selected, argued, at_start, to_element, to_field, to_cell, read_at}
-use Rattle.spv_program.proofs.SortFacts.{sort_is, some_is}
+use Rattle.spv_program.proofs.SortFacts.{sort_is}
 use Rattle.spv_program.proofs.ExpressionSorting.{same_types, target_there}
 use Rattle.spv_meaning.specs.Before.{Changed, changed_items, changed_places, before_entering, wanted_entry, assuming_if_there, replaced}
 use Rattle.spv_rule_soundness.specs.condition_sorts.Sorted.{AreSorted}

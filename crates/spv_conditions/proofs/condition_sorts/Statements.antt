@@ -2,7 +2,6 @@
 use Rattle.std.proofs.Common.{◌≡◌, ℕ, true, List, [], ◌∷◌, ◌++◌, fold, ℤ, pos, Option, Some, None, option_map, refl, sym, ap, subst, ◌∙◌}
 use Rattle.std.specs.List.{list_all}
 use Rattle.std.specs.Ordering.{int_eq}
-use Rattle.std.proofs.lemmas.Bool.{false≢true}
 use Rattle.std.proofs.Common.{Bool, false, filter, not, cond, map, suc, ◌+◌, arith}
 use Rattle.spv_logic.specs.declared.names.names.Symbol.{Symbol}
 use Rattle.spv_logic.specs.declared.types.TypeId.{TypeId}
@@ -12,10 +11,9 @@ use Rattle.spv_program.specs.Lists.{item_at}
 use Rattle.spv_program.specs.Expressions.{Designator, Call, call}
 use Rattle.spv_program.specs.Programs.{Formal, routine_at, routine_in}
 use Rattle.spv_program.specs.Scopes.{entry_scope, exit_scope, item_sort}
-use Rattle.spv_program.specs.Typing.{leads_to}
 use Rattle.spv_program.specs.Supplies.{fresh_variable}
 use Rattle.spv_program.specs.Places.{whole_with}
-use Rattle.spv_program.specs.Terms.{unary, ternary, entry_term, exit_term}
+use Rattle.spv_program.specs.Terms.{ternary, entry_term}
 use Rattle.spv_program.specs.Calls.{formal_head}
 use Rattle.spv_program.specs.ExpressionTerms.{placed, argued}
 use Rattle.spv_meaning.specs.Before.{before_entering, first_name, title_of}
@@ -41,7 +39,7 @@ use Rattle.spv_program.specs.declared.types.Item.TheVariants.{Variable}
 use Rattle.spv_program.specs.Lists.{all_differ}
 use Rattle.spv_program.specs.Types.{sort_of}
 use Rattle.spv_program.specs.Formulas.{Annotation}
-use Rattle.spv_program.specs.Expressions.{Expression, designator, no_selectors, at_index, at_field, at_cell}
+use Rattle.spv_program.specs.Expressions.{Expression}
 use Rattle.spv_program.specs.Statements.{Counting, Statement, Arms, Empty, Assign, Perform, New, Sequence, If, Case, While, Repeat, For, Assert, no_arms, arm}
 use Rattle.spv_program.specs.Programs.{Routine, Program, shapes}
 use Rattle.spv_program.specs.Scopes.{name_type, body_scope, sort_or_int}
@@ -53,8 +51,8 @@ use Rattle.spv_program.specs.Laws.{HasSort}
 use Rattle.spv_program.specs.Supplies.{Supply, fresh_like, full_supply}
 use Rattle.spv_program.specs.Terms.{alone, binary, numeral, item_head, body_term}
 use Rattle.spv_program.specs.Calls.{replacing}
-use Rattle.spv_program.specs.ExpressionTerms.{Called, valued}
-use Rattle.spv_program.proofs.SortFacts.{sort_one, sort_two, equation_sort, is_sort-true, some_is}
+use Rattle.spv_program.specs.ExpressionTerms.{valued}
+use Rattle.spv_program.proofs.SortFacts.{sort_one, sort_two, equation_sort, is_sort-true}
 use Rattle.spv_program.proofs.FormulaSorting.{scope_sorted}
 use Rattle.spv_program.proofs.ExpressionSorting.{mapped, value_sorted, place_sorted}
 use Rattle.spv_meaning.specs.Before.{Made, assuming_if_there, all_assuming, replaced, annotation_term, wanted, wanted_if_there, wanted_with, before_calls, negated, renamed, standing_for, next_term, within_term, past_term, is_label, before, before_arms}

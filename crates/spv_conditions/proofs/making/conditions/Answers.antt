@@ -1,5 +1,5 @@
 use Rattle.spv_assign.specs.supply.Numbers.{supply_of}
-use Rattle.spv_conditions.proofs.Mains.{limit_of, may_begin}
+use Rattle.spv_conditions.proofs.Mains.{may_begin}
 use Rattle.spv_conditions.proofs.making.conditions.Goals as goal
 
 pub all_conditions-made-requires : goal.all_conditions-made-requires

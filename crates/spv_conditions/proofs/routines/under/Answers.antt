@@ -1,4 +1,4 @@
-use Rattle.std.proofs.Common.{List, option_map, subst, IfOk, IfErr}
+use Rattle.std.proofs.Common.{List, option_map, subst, IfOk}
 use Rattle.spv_term.specs.declared.nodes.Condition.{Condition}
 use Rattle.spv_term.specs.Arena.{tree}
 use Rattle.spv_assign.specs.Conditions.{AreIn, conditions_of}
