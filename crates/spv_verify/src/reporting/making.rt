@@ -9,13 +9,12 @@ ghost use Rattle.spv_reports.specs.declared.fault.ReportFault.TheVariants.{NotTa
 
 use crate::reporting::deciding::decided;
 use spv_assign::creation_trace::GenFault;
-use spv_conditions::conditions;
+use spv_conditions::{conditions, law_sorted_conditions};
 use spv_logic::list::List;
 use spv_logic::names::{Names, Symbol};
 use spv_program::typed::{Program, Routine};
 use spv_reports::supported::is_taken;
 use spv_reports::{Mode, ProgramNames, Report, ReportFault};
-use spv_rule_soundness::condition_sorts::law_sorted_conditions;
 use spv_term::{Condition, Terms};
 use spv_verdicts::answers::Decided;
 use std::alloc::{AllocError, Global};
