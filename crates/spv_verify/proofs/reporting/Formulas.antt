@@ -1,5 +1,5 @@
 -- The formulas of a program's conditions over an arena are of sort Bool.
-use Rattle.std.proofs.Common.{◌≡◌, Bool, true, false, ◌||◌, List, [], ◌∷◌, ◌++◌, Some, refl, sym, ap, subst}
+use Rattle.std.proofs.Common.{◌≡◌, Bool, true, false, ◌||◌, List, [], ◌∷◌, ◌++◌, refl, sym, ap, subst}
 use Rattle.std.proofs.lemmas.Bool.{false≢true}
 use Rattle.spv_logic.specs.declared.types.Sort.TheVariants as sort
 use Rattle.spv_logic.specs.declared.types.Shape.{Shape}
@@ -16,8 +16,8 @@ use Rattle.spv_models.specs.leaf_models.Laws.{AreFormulas}
 use Rattle.spv_program.specs.Programs.{Program, shapes}
 use Rattle.spv_program.specs.Typing.{well_typed}
 use Rattle.spv_meaning.specs.ProgramConditions as program
-use Rattle.spv_assign.specs.Conditions.{condition_of, conditions_of}
-use Rattle.spv_rule_soundness.specs.condition_sorts.Sorted.{IsTruth, AreTruths, IsSorted, AreSorted}
+use Rattle.spv_assign.specs.Conditions.{conditions_of}
+use Rattle.spv_rule_soundness.specs.condition_sorts.Sorted.{IsTruth, AreTruths, AreSorted}
 use Rattle.spv_conditions.specs.Sorted.{ConditionsAreSorted}
 use Rattle.spv_term.specs.Arena.{Extends}
 use Rattle.spv_conditions.specs.Making.{empty_arena}
