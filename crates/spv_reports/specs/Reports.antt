@@ -12,7 +12,7 @@ use Rattle.spv_meaning.specs.Correct.{Correct}
 use Rattle.spv_assign.specs.Conditions.{conditions_of, AreIn}
 use Rattle.spv_assign.specs.declared.creation_trace.faults.GenFault.TheVariants as limit
 use Rattle.spv_assign.specs.creation_trace.Events.{Walked}
-use Rattle.spv_conditions.specs.Making.{program_events, empty_arena, MeetsLimit, IsWithinLimits}
+use Rattle.spv_conditions.specs.Making.{program_events, empty_arena, MeetsLimit}
 use Rattle.spv_verdicts.specs.Verdicts.{Limits}
 use Rattle.spv_verdicts.specs.declared.answers.verdicts.Decided.{Decided}
 use Rattle.spv_verdicts.specs.declared.answers.verdicts.Verdict.{Verdict}

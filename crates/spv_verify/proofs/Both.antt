@@ -1,5 +1,5 @@
 -- No text is refused and has a report.
-use Rattle.std.proofs.Common.{◌≡◌, inl, inr, ℕ, ◌≤◌, Bool, true, false, List, [], length, Some, sym, ap, ◌∙◌, subst, arith}
+use Rattle.std.proofs.Common.{◌≡◌, inl, inr, ℕ, ◌≤◌, true, List, [], length, Some, sym, ap, ◌∙◌, subst, arith}
 use Rattle.std.proofs.lemmas.Bool.{false≢true}
 use Rattle.std.proofs.lemmas.Option.{none-some}
 use Rattle.spv_lexer.specs.declared.LexFault.TheVariants as lex
@@ -14,7 +14,6 @@ use Rattle.spv_type_soundness.proofs.well_typed.Outcomes.{no_fault, same_value}
 use Rattle.spv_effects.specs.frame_walk.FrameWalk.{frame_fault}
 use Rattle.spv_reports.specs.supported.Taken.{is_taken}
 use Rattle.spv_assign.specs.declared.creation_trace.faults.GenFault.{GenFault}
-use Rattle.spv_conditions.specs.Covered.{is_covered}
 use Rattle.spv_conditions.specs.Making.{MeetsLimit, IsWithinLimits, MeetsNoOther}
 use Rattle.spv_reports.specs.declared.mode.Mode.{Mode}
 use Rattle.spv_reports.specs.declared.mode.Mode.TheVariants.{Verify, Conditions}
@@ -46,9 +45,6 @@ sound_not_refused : (names : List (List ℕ)) (tree : TextTree) (p : Program) (r
 sound_not_refused names tree p r sound (inl type) = no_fault (sym type.stops ∙ sound.typed)
 sound_not_refused names tree p r sound (inr (q, typed, frame)) = none-some _ (sym sound.framed ∙ ap frame_fault (one_program names tree p q sound typed) ∙ frame.stops)
 
-never : (b : Bool) → b ≡ true → b ≡ false → ⊥
-never b h k = false≢true (sym k ∙ h)
-
 -- where there are verdicts, the program is one of those that are verified so far
 taken_there : (mode : Mode) (p : Program) → has_verdicts mode ≡ true → IsTakenFor mode p → is_taken p ≡ true
 taken_there (Verify limits) p asked is = is
@@ -63,9 +59,8 @@ module _ (one : MeetsNoOther) (p : Program) (f : Findings) (is : IsReportOn p f)
 
   -- the program of a report has no refusal
   pub program_not_refused : (r : Refusal) → IsProgramRefusal f.mode p r → ⊥
-  program_not_refused r (inl form) = never (is_covered p) not_refused.covered form.0
-  program_not_refused r (inr (inl limits)) = no_limit limits.limit r limits.meets limits.told
-  program_not_refused r (inr (inr other)) = never (is_taken p) (taken_there f.mode p other.asked not_refused.taken) other.taken
+  program_not_refused r (inl limits) = no_limit limits.limit r limits.meets limits.told
+  program_not_refused r (inr other) = false≢true (sym other.taken ∙ taken_there f.mode p other.asked not_refused.taken)
 
   pub tree_not_refused : (names : List (List ℕ)) (tree : TextTree) (r : Refusal) → IsSound names tree p → IsTreeRefusal f.mode names tree r → ⊥
   tree_not_refused names tree r sound (inl walk) = sound_not_refused names tree p r sound walk

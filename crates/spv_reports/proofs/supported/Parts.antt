@@ -1,32 +1,19 @@
--- What the code's expressions, formulas, statements and types are made of.
-use Rattle.std.proofs.Common.{◌≡◌, ◌≤◌, ◌<◌, ℕ, zero, suc, Bool, true, false, List, [], ◌∷◌, length, map, get_or, refl, sym, ap, ◌∙◌, arith}
-use Rattle.spv_program.specs.declared.types.TypeForm.{TypeForm}
-use Rattle.spv_program.specs.declared.types.TypeForm.TheVariants.{Record}
+-- Sizes of what the code's expressions, formulas and statements are made of.
+use Rattle.std.proofs.Common.{◌≤◌, ◌<◌, ℕ, zero, suc, List, [], ◌∷◌, length, get_or, arith}
 use Rattle.spv_program.specs.Expressions.{no_selectors, no_arguments}
 use Rattle.spv_program.specs.Formulas.{Formula}
 use Rattle.spv_program.specs.Statements.{Statement}
-use Rattle.spv_program.specs.Types.{form_at}
 use Rattle.spv_program.specs.declared.typed.expressions.Selector.{Selector}
 use Rattle.spv_program.specs.declared.typed.expressions.Selector.TheVariants as selector
 use Rattle.spv_program.specs.declared.typed.expressions.Argument.{Argument}
 use Rattle.spv_program.specs.declared.typed.expressions.Argument.TheVariants as argument
 use Rattle.spv_program.specs.declared.typed.statements.Arm.{Arm}
-use Rattle.spv_program.specs.declared.typed.programs.Routine.{Routine}
 use Rattle.spv_program.specs.typed.ExpressionViews.{selector_before, selectors_of, argument_before, arguments_of}
 use Rattle.spv_program.specs.typed.FormulaViews.{formulas_of}
 use Rattle.spv_program.specs.typed.StatementViews.{arms_of, block_of}
-use Rattle.spv_program.specs.typed.ProgramViews.{routine_of}
 use Rattle.spv_program.specs.typed.Model.ExpressionSizes.{selectors_size, arguments_size}
 use Rattle.spv_program.specs.typed.Model.FormulaSizes.{formula_size, formulas_size}
 use Rattle.spv_program.specs.typed.Model.StatementSizes.{arms_size, statement_size}
-use Rattle.spv_meaning.specs.Assignments.{has_no_routines}
-use Rattle.spv_reports.specs.supported.Taken.{is_simple_form}
-
-pub some_routines : (rs : List Routine) → 0 < length rs → has_no_routines (map routine_of rs) ≡ false
-some_routines [] h = absurd (omega arith)
-some_routines (r ∷ rs) h = refl
-
--- ---- sizes
 
 pub selector_within : (ss : List Selector) (i : ℕ) (d : Selector) → i < length ss → selectors_size (selector_before (get_or ss i d) no_selectors) ≤ selectors_size (selectors_of ss)
 selector_within [] i d h = absurd (omega arith)
@@ -58,21 +45,3 @@ pub arm_within : (arms : List Arm) (i : ℕ) (d : Arm) → i < length arms → s
 arm_within [] i d h = absurd (omega arith)
 arm_within (a ∷ arms) zero d h = omega arith
 arm_within (a ∷ arms) (suc i) d h = omega (arith, arm_within arms i d (omega arith))
-
--- ---- types
-
-form_is : (forms : List TypeForm) (n : ℕ) → get_or forms n (Record []) ≡ form_at forms n
-form_is [] n = refl
-form_is (f ∷ forms) zero = refl
-form_is (f ∷ forms) (suc n) = form_is forms n
-
-form_outside : (forms : List TypeForm) (n : ℕ) → length forms ≤ n → form_at forms n ≡ Record []
-form_outside [] n over = refl
-form_outside (f ∷ forms) zero over = absurd (omega arith)
-form_outside (f ∷ forms) (suc n) over = form_outside forms n (omega arith)
-
-pub simple_there : (forms : List TypeForm) (n : ℕ) (f : TypeForm) (b : Bool) → b ≡ is_simple_form f → f ≡ get_or forms n (Record []) → b ≡ is_simple_form (form_at forms n)
-simple_there forms n f b h is = h ∙ ap is_simple_form (is ∙ form_is forms n)
-
-pub simple_outside : (forms : List TypeForm) (n : ℕ) → length forms ≤ n → false ≡ is_simple_form (form_at forms n)
-simple_outside forms n over = ap is_simple_form (sym (form_outside forms n over))

@@ -1,5 +1,5 @@
 -- The formulas of a program's conditions over an arena are of sort Bool.
-use Rattle.std.proofs.Common.{◌≡◌, Bool, true, false, ◌||◌, List, [], ◌∷◌, ◌++◌, Some, refl, sym, ap, subst}
+use Rattle.std.proofs.Common.{◌≡◌, Bool, true, false, ◌||◌, List, [], ◌∷◌, ◌++◌, refl, sym, ap, subst}
 use Rattle.std.proofs.lemmas.Bool.{false≢true}
 use Rattle.spv_logic.specs.declared.types.Sort.TheVariants as sort
 use Rattle.spv_logic.specs.declared.types.Shape.{Shape}
@@ -16,11 +16,10 @@ use Rattle.spv_models.specs.leaf_models.Laws.{AreFormulas}
 use Rattle.spv_program.specs.Programs.{Program, shapes}
 use Rattle.spv_program.specs.Typing.{well_typed}
 use Rattle.spv_meaning.specs.ProgramConditions as program
-use Rattle.spv_assign.specs.Conditions.{condition_of, conditions_of}
-use Rattle.spv_rule_soundness.specs.condition_sorts.Sorted.{IsTruth, AreTruths, IsSorted, AreSorted}
-use Rattle.spv_rule_soundness.specs.condition_sorts.Laws.{ConditionsAreSorted}
+use Rattle.spv_assign.specs.Conditions.{conditions_of}
+use Rattle.spv_rule_soundness.specs.condition_sorts.Sorted.{IsTruth, AreTruths, AreSorted}
+use Rattle.spv_conditions.specs.Sorted.{ConditionsAreSorted}
 use Rattle.spv_term.specs.Arena.{Extends}
-use Rattle.spv_conditions.specs.Covered.{is_covered}
 use Rattle.spv_conditions.specs.Making.{empty_arena}
 use Rattle.spv_verify.specs.reporting.Parts.{AreFormulasIn}
 
@@ -48,7 +47,7 @@ module _ (p : Program) (a : Arena) (same_shapes : a.shapes ≡ shapes p) (same_d
     formulas_in cs all.1,
   )
 
-pub all_formulas : (p : Program) (a : Arena) (cs : List Condition) → ConditionsAreSorted → well_typed p ≡ true → is_covered p ≡ true → Extends (empty_arena p) a → conditions_of a cs ≡ program.conditions_of p
+pub all_formulas : (p : Program) (a : Arena) (cs : List Condition) → ConditionsAreSorted → well_typed p ≡ true → Extends (empty_arena p) a → conditions_of a cs ≡ program.conditions_of p
     → AreFormulasIn a cs
-all_formulas p a cs law typed covered grows same =
-    formulas_in p a grows.shapes grows.decls cs (subst (λ (conditions : List logic.Condition). AreSorted p conditions) (sym same) (law p typed covered))
+all_formulas p a cs law typed grows same =
+    formulas_in p a grows.shapes grows.decls cs (subst (λ (conditions : List logic.Condition). AreSorted p conditions) (sym same) (law p typed))

@@ -20,7 +20,7 @@ use Rattle.spv_assign.specs.declared.creation_trace.faults.GenFault.TheVariants 
 use Rattle.spv_verify.specs.declared.refused.refusal.Refusal.TheVariants as refusal
 use Rattle.spv_reports.specs.declared.mode.Mode.{Mode}
 use Rattle.spv_reports.specs.declared.fault.ReportFault.{ReportFault}
-use Rattle.spv_reports.specs.declared.fault.ReportFault.TheVariants.{Form, Stopped, NotTaken}
+use Rattle.spv_reports.specs.declared.fault.ReportFault.TheVariants.{Stopped, NotTaken}
 use Rattle.spv_reports.specs.Reports.{Findings, IsReportFault}
 use Rattle.spv_verify.specs.tree_reports.Walks.{IsTypeCause, IsFrameCause, is_typed_as}
 use Rattle.spv_verify.specs.tree_reports.Programs.{IsProgramRefusal, IsProgramCause, IsFramedCause, IsTreeCause, IsFramedReport, IsTreeReport}
@@ -60,18 +60,15 @@ pub program_told : (mode : Mode) (names : List (List ℕ)) (p : Program) (v : Ve
 program_told mode names p (Refused r) framed is = inr (framed, is)
 program_told mode names p Memory framed is = tt
 
-pub form_told : (p : Program) (mode : Mode) (fault : ReportFault) (detail : List ℕ) → fault ≡ Form → detail ≡ [] → IsReportFault p mode fault → IsProgramRefusal mode p (refusal.Form 1 detail)
-form_told p mode fault detail e d is = inl (subst (IsReportFault p mode) e is, ap (refusal.Form 1) d)
-
 not_taken : (p : Program) (mode : Mode) (detail : List ℕ) → detail ≡ [] → IsReportFault p mode NotTaken → IsProgramRefusal mode p (refusal.Form 1 detail)
-not_taken p mode detail d (covered, within, asked, other) = inr (inr (record { covered = covered; within = within; asked = asked; taken = other; told = ap (refusal.Form 1) d }))
+not_taken p mode detail d (asked, other) = inr (record { asked = asked; taken = other; told = ap (refusal.Form 1) d })
 
 pub not_taken_told : (p : Program) (mode : Mode) (fault : ReportFault) (detail : List ℕ) → fault ≡ NotTaken → detail ≡ [] → IsReportFault p mode fault → IsProgramRefusal mode p (refusal.Form 1 detail)
 not_taken_told p mode fault detail e d is = not_taken p mode detail d (subst (IsReportFault p mode) e is)
 
 limit_met : (p : Program) (mode : Mode) (e : GenFault) (v : VerifyFault) → Tells (limit_refusal e) v → IsReportFault p mode (Stopped e) → IsProgramCause mode p v
-limit_met p mode (limit.Conditions n) (Refused r) tells (covered, meets) = inr (inl (record { covered = covered; limit = limit.Conditions n; meets = meets; told = tells }))
-limit_met p mode (limit.Terms n) (Refused r) tells (covered, meets) = inr (inl (record { covered = covered; limit = limit.Terms n; meets = meets; told = tells }))
+limit_met p mode (limit.Conditions n) (Refused r) tells (taken, meets) = inl (record { taken = taken; limit = limit.Conditions n; meets = meets; told = tells })
+limit_met p mode (limit.Terms n) (Refused r) tells (taken, meets) = inl (record { taken = taken; limit = limit.Terms n; meets = meets; told = tells })
 limit_met p mode limit.Memory (Refused r) tells is = absurd (none-some _ tells)
 limit_met p mode e Memory tells is = tt
 

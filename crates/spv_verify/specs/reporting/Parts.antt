@@ -1,5 +1,5 @@
 -- The parts of a report that are made of its program.
-use Rattle.std.specs.Prelude.{◌≡◌, true, List, [], ◌∷◌}
+use Rattle.std.specs.Prelude.{◌≡◌, List, [], ◌∷◌}
 use Rattle.spv_term.specs.declared.nodes.Condition.{Condition}
 use Rattle.spv_term.specs.Arena.{Arena, IsArena, Extends}
 use Rattle.spv_proof_rules.specs.Stand.{question}
