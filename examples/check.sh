@@ -1,6 +1,6 @@
 #!/bin/sh
 # Compares pages with those that are kept in this folder: NAME.lst is what `verify` writes of NAME.pas, and its status is
-# that of the page's RESULT; NAME.cnd is what `conditions` writes, with status 8. The last line says how many pages were
+# that of the page's RESULT, or that of a refusal; NAME.cnd is what `conditions` writes, with status 8. The last line says how many pages were
 # compared, and how many are as they should be. The status is 0 where all are, and 1 where one is not.
 #
 # SPV names the program to run, as in `SPV=/tmp/spv examples/check.sh`; without it that is `spv` in the folder above.
@@ -47,6 +47,7 @@ for wanted in *.lst; do
         'RESULT PROVED') compare verify "${wanted%.lst}.pas" "$wanted" 0 ;;
         'RESULT UNPROVED') compare verify "${wanted%.lst}.pas" "$wanted" 1 ;;
         'RESULT GAVE UP') compare verify "${wanted%.lst}.pas" "$wanted" 2 ;;
+        'REFUSED '*) compare verify "${wanted%.lst}.pas" "$wanted" 3 ;;
         *) echo "$wanted: no RESULT at its end"; failed=$((failed + 1)) ;;
     esac
 done
