@@ -25,7 +25,7 @@ fn one_is_one(alloc: Global, most: u32) -> Result<(Terms, TermId, TermId), TermF
 }
 
 // What the check of a proof comes to, of a goal without hypotheses.
-fn checked(
+pub(crate) fn checked(
     alloc: Global,
     terms: &mut Terms,
     goal: TermId,

@@ -1,10 +1,14 @@
 //! What no clause says of the crates that prove conditions.
 #![tactic(auto)]
 
+#[cfg(test)]
+mod arrays;
 mod checks;
 #[cfg(test)]
 mod formulas;
 pub mod rules;
+#[cfg(test)]
+mod schemas;
 #[cfg(test)]
 mod splits;
 #[cfg(test)]
