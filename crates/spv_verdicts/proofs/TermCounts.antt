@@ -1,5 +1,5 @@
 -- The terms that count for the limit of terms.
-use Rattle.std.proofs.Common.{◌≡◌, ◌<◌, true, List, [], ◌∷◌, length, refl, ap, ◌∙◌, arith}
+use Rattle.std.proofs.Common.{◌≡◌, ◌<◌, ℕ, true, List, [], ◌∷◌, length, refl, ap, ◌∙◌, arith}
 use Rattle.spv_logic.specs.Terms.{Term, term_eq}
 use Rattle.spv_logic.proofs.Equality.{term_eq-refl}
 use Rattle.spv_term.specs.Arena.{Arena, trees_of}
@@ -16,7 +16,7 @@ use Rattle.spv_search_terms.specs.subterms.Gaining.{Stops}
 use Rattle.spv_search_terms.proofs.subterms.GainLemmas.{longer}
 use Rattle.spv_models.specs.split_trees.Paths.{atoms}
 use Rattle.spv_search_terms.specs.condition_copy.Copies.{base_terms, all_terms}
-use Rattle.spv_verdicts.specs.Verdicts.{search_terms, most_terms, HasTooManyTerms}
+use Rattle.spv_verdicts.specs.Verdicts.{search_terms, HasTooManyTerms}
 
 terms-parts : {A : Type 0} (xs ts : List Term) (u : Term) → has (with_terms xs ts) u ≡ true → (has xs u ≡ true → A) → (has ts u ≡ true → A) → A
 terms-parts xs [] u h f g = f h
@@ -39,11 +39,11 @@ module _ (q : Question) where
   atoms-there t h =
       terms-parts (passing (is_atom (is_truth q)) parts) equations t h (λ k. parts-there t (passing-parts (is_atom (is_truth q)) parts t k).among) (λ k. with_terms-has (all_terms q.sequent) equations t k)
 
-  pub copies-stop : most_terms < length (all_terms q.sequent) → HasTooManyTerms q most_terms
-  copies-stop h = let more = longer (all_terms q.sequent) equations in record { limit = refl; more = omega (arith, h, more) }
+  pub copies-stop : (most : ℕ) → most < length (all_terms q.sequent) → HasTooManyTerms q most most
+  copies-stop most h = let more = longer (all_terms q.sequent) equations in record { limit = refl; more = omega (arith, h, more) }
 
-  pub asks-stop : (a : Arena) → trees_of a.nodes ≡ all_terms q.sequent → a.most ≡ most_terms → Stops a equations → HasTooManyTerms q most_terms
-  asks-stop a e f s =
+  pub asks-stop : (most : ℕ) (a : Arena) → trees_of a.nodes ≡ all_terms q.sequent → a.most ≡ most → Stops a equations → HasTooManyTerms q most most
+  asks-stop most a e f s =
       let more = s.more in
       let same : length (with_terms (trees_of a.nodes) equations) ≡ length (search_terms q) = ap (λ xs. length (with_terms xs equations)) e in
       record { limit = refl; more = omega (arith, more, same, f) }

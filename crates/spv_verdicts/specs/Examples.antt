@@ -6,7 +6,7 @@ use Rattle.spv_logic.specs.declared.operators.Head.TheVariants.{Var}
 use Rattle.spv_logic.specs.Terms.{Term, term, no_terms}
 use Rattle.spv_term.specs.Arena.{Arena}
 use Rattle.spv_proof_rules.specs.Effects.{Question}
-use Rattle.spv_verdicts.specs.Verdicts.{Limits, Verdict, Unproved, GaveUp, NotAccepted, WideForm, TooManyInstances, TooManyTerms, IsRight}
+use Rattle.spv_verdicts.specs.Verdicts.{Limits, Verdict, Unproved, GaveUp, NotAccepted, WideForm, TooManyInstances, TooManyTerms, IsRight, most_terms}
 
 abbrev pub p : Term
 p = term (Var (record { 0 = 0 }) sort.Bool 0) no_terms
@@ -15,7 +15,7 @@ abbrev pub claim : Question
 claim = record { shapes = []; decls = []; at = λ t. p; sequent = record { given = []; goal = p }; rules = [] }
 
 abbrev pub limits : Limits
-limits = record { splits = 0; instances = 0; pivots = 0 }
+limits = record { splits = 0; instances = 0; pivots = 0; terms = most_terms }
 
 -- in whatever arena
 abbrev pub IsRightHere : Verdict → Type 0

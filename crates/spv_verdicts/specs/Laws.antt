@@ -10,7 +10,7 @@ use Rattle.spv_search_terms.specs.subterms.Gaining.{Stops}
 use Rattle.spv_models.specs.split_trees.Trees.{Tree}
 use Rattle.spv_models.specs.split_trees.Paths.{atoms}
 use Rattle.spv_search_terms.specs.condition_copy.Copies.{all_terms}
-use Rattle.spv_verdicts.specs.Verdicts.{Limits, Splits, TooManyTerms, IsReached, search_terms, most_terms}
+use Rattle.spv_verdicts.specs.Verdicts.{Limits, Splits, TooManyTerms, IsReached, search_terms}
 
 -- ---- terms
 
@@ -24,12 +24,12 @@ HasAtoms = (q : Question) (t : Term) → is_among (atoms q) t ≡ true → is_am
 
 -- where a copy of the condition has no room, there are too many terms
 abbrev pub CopiesTooMany : Type 0
-CopiesTooMany = (a : Arena) (q : Question) (limits : Limits) → most_terms < length (all_terms q.sequent) → IsReached a q limits (TooManyTerms most_terms)
+CopiesTooMany = (a : Arena) (q : Question) (limits : Limits) → limits.terms < length (all_terms q.sequent) → IsReached a q limits (TooManyTerms limits.terms)
 
 -- so there are where the equations of the atoms have no room in the arena of such a copy
 abbrev pub AsksTooMany : Type 0
-AsksTooMany = (a : Arena) (q : Question) (limits : Limits) → trees_of a.nodes ≡ all_terms q.sequent → a.most ≡ most_terms → Stops a (all_equations q.shapes q.decls (subterms (formulas_of q.sequent)))
-    → IsReached a q limits (TooManyTerms most_terms)
+AsksTooMany = (a : Arena) (q : Question) (limits : Limits) → trees_of a.nodes ≡ all_terms q.sequent → a.most ≡ limits.terms → Stops a (all_equations q.shapes q.decls (subterms (formulas_of q.sequent)))
+    → IsReached a q limits (TooManyTerms limits.terms)
 
 -- ---- splits
 

@@ -1,6 +1,7 @@
 pub mod Exact
 pub mod Rows
 pub mod Verdicts
+pub mod Schemas
 pub mod Laws
 pub mod Examples
 pub mod answers

@@ -31,11 +31,13 @@ use Rattle.spv_verdicts.specs.Rows.{relation_heads, readable, AreRows, IsBegun}
 
 -- ---- verdicts
 
--- how many splits a search may make, how many instances of rules it may add, and how many steps a check of its tableau may make
+-- how many splits a search may make, how many instances of rules it may add, how many steps a check of its tableau may make, and how many
+-- terms it may have
 pub record Limits : Type 0 where
   pub splits : ℕ
   pub instances : ℕ
   pub pivots : ℕ
+  pub terms : ℕ
 
 -- an instance of a rule: the rule's number, and the terms of its variables in their order
 pub record Instance : Type 0 where
@@ -139,12 +141,12 @@ pub record HasWideValue (a : Arena) (q : Question) (table : List (Term × Fracti
 abbrev pub search_terms : Question → List Term
 search_terms q = with_terms (all_terms q.sequent) (all_equations q.shapes q.decls (subterms (formulas_of q.sequent)))
 
--- the limit of terms in each search
+-- the limit of terms where none is given
 abbrev pub most_terms : ℕ
 most_terms = 1000000
 
-pub record HasTooManyTerms (q : Question) (n : ℕ) : Type 0 where
-  pub limit : n ≡ most_terms
+pub record HasTooManyTerms (q : Question) (most n : ℕ) : Type 0 where
+  pub limit : n ≡ most
   pub more : n < length (search_terms q)
 
 -- a search comes to no limit of instances, since there are no rules, and to no sum of a proof
@@ -156,7 +158,7 @@ IsReached a q limits (WideForm t) = HasWideForm q t
 IsReached a q limits (WidePivot s steps o) = HasWidePivot a q s steps o
 IsReached a q limits (WideEvaluation table t w) = HasWideValue a q table t w
 IsReached a q limits (Pivots s steps) = HasAllPivots a q limits.pivots s steps
-IsReached a q limits (TooManyTerms n) = HasTooManyTerms q n
+IsReached a q limits (TooManyTerms n) = HasTooManyTerms q limits.terms n
 
 -- ---- when each verdict may come
 

@@ -10,6 +10,7 @@ use Rattle.spv_proof_rules.specs.Stand.{question, In, StepsIn, NodesIn}
 use Rattle.spv_search_terms.specs.condition_copy.Copies.{IsSameClaim}
 use Rattle.spv_verdicts.specs.Verdicts as verdicts
 use Rattle.spv_verdicts.specs.Verdicts.{Limits, IsRight}
+use Rattle.spv_verdicts.specs.Schemas.{IsRightWith}
 use Rattle.spv_verdicts.specs.declared.answers.trees.SplitNode.{SplitNode}
 use Rattle.spv_verdicts.specs.declared.answers.trees.SplitNode.TheVariants as node
 use Rattle.spv_verdicts.specs.declared.answers.verdicts.Instance.{Instance}
@@ -124,3 +125,11 @@ pub record IsDecided (a : Arena) (c : Condition) (limits : Limits) (d : Decided)
   pub decls : d.terms.decls ≡ a.decls
   pub terms_in : VerdictIn d.terms d.verdict
   pub right : IsRight d.terms (question d.terms d.condition) limits (verdict_in d.terms d.verdict)
+
+-- the same where facts of schemas are at hand: the verdict is right of the condition and what is refuted with it
+pub record IsDecidedWith (a : Arena) (c : Condition) (limits : Limits) (d : Decided) : Type 0 where
+  pub claim : IsSameClaim a c d.terms d.condition
+  pub shapes : d.terms.shapes ≡ a.shapes
+  pub decls : d.terms.decls ≡ a.decls
+  pub terms_in : VerdictIn d.terms d.verdict
+  pub right : IsRightWith d.terms (question d.terms d.condition) limits (verdict_in d.terms d.verdict)

@@ -1,6 +1,7 @@
 // How much a search may do.
 
 ghost use Rattle.std.specs.Prelude.{◌≡◌, ◌≤◌};
+ghost use Rattle.spv_verdicts.specs.Verdicts.{most_terms};
 
 use std::marker::Model;
 
@@ -10,6 +11,7 @@ pub struct Limits {
     splits: u64,
     instances: u64,
     pivots: u64,
+    terms: u32,
 }
 
 impl Model for Limits {
@@ -18,23 +20,38 @@ impl Model for Limits {
 
     ghost Value = { spec.Limits };
 
-    ghost view = { λ l. record { splits = l.splits; instances = l.instances; pivots = l.pivots } };
+    ghost view = { λ l. record { splits = l.splits; instances = l.instances; pivots = l.pivots; terms = l.terms } };
 
     ghost invariant = { λ l. l.pivots ≤ 1000000 };
 }
 
 impl Limits {
-    /// At most so many splits, at most so many instances of rules, and at most so many steps in each check of the tableau.
+    /// At most so many splits, at most so many instances of rules, at most so many steps in each check of the tableau, and at most 1000000
+    /// terms.
     pub fn new(splits: u64, instances: u64, pivots: u64) -> Limits
         requires { pivots ≤ 1000000 }
         ensures splits { result.splits ≡ splits }
         ensures instances { result.instances ≡ instances }
         ensures pivots { result.pivots ≡ pivots }
+        ensures terms { result.terms ≡ most_terms }
     {
         Limits {
             splits,
             instances,
             pivots,
+            terms: 1_000_000,
+        }
+    }
+
+    /// The same limits for a search that may have so many terms.
+    pub fn with_terms(&self, terms: u32) -> Limits
+        ensures { result ≡ record { splits = self.now.splits; instances = self.now.instances; pivots = self.now.pivots; terms = terms } }
+    {
+        Limits {
+            splits: self.splits,
+            instances: self.instances,
+            pivots: self.pivots,
+            terms,
         }
     }
 
@@ -58,5 +75,11 @@ impl Limits {
         ensures most { result ≤ 1000000 }
     {
         self.pivots
+    }
+    /// How many terms a search may have.
+    pub fn terms(&self) -> u32
+        ensures { result ≡ self.now.terms }
+    {
+        self.terms
     }
 }
