@@ -13,7 +13,7 @@ use Rattle.spv_assign.specs.Conditions.{conditions_of, AreIn}
 use Rattle.spv_assign.specs.declared.creation_trace.faults.GenFault.TheVariants as limit
 use Rattle.spv_assign.specs.creation_trace.Events.{Walked}
 use Rattle.spv_conditions.specs.Making.{program_events, empty_arena, MeetsLimit}
-use Rattle.spv_verdicts.specs.Verdicts.{Limits}
+use Rattle.spv_verdicts.specs.Verdicts.{Limits, most_terms}
 use Rattle.spv_verdicts.specs.declared.answers.verdicts.Decided.{Decided}
 use Rattle.spv_verdicts.specs.declared.answers.verdicts.Verdict.{Verdict}
 use Rattle.spv_verdicts.specs.declared.answers.verdicts.Verdict.TheVariants.{Proved, Unproved, GaveUp, NotAccepted}
@@ -43,7 +43,7 @@ findings named arena conditions mode verdicts =
 
 -- the limits of a search where none are given
 abbrev pub default_limits : Limits
-default_limits = record { splits = 20000; instances = 400; pivots = 5000 }
+default_limits = record { splits = 20000; instances = 400; pivots = 5000; terms = most_terms }
 
 abbrev pub has_verdicts : Mode → Bool
 has_verdicts (Verify limits) = true

@@ -17,7 +17,7 @@ use Rattle.spv_models.specs.leaf_models.Tables.{formulas_of, Falsifies}
 use Rattle.spv_models.specs.split_trees.Trees.{Tree, Trees, Open, Closed, Split, no_trees, trees, splits, has_open}
 use Rattle.spv_models.specs.split_trees.Paths.{atoms, facts, IsLive}
 use Rattle.spv_search_terms.specs.condition_copy.Copies.{base_terms}
-use Rattle.spv_verdicts.specs.Verdicts.{Limits, Instance, Round, Limit, Splits, TooManyTerms, Verdict, Proved, Unproved, GaveUp, NotAccepted, condition_atoms, IsReached}
+use Rattle.spv_verdicts.specs.Verdicts.{Limits, Instance, Round, Limit, Splits, TooManyTerms, Verdict, Proved, Unproved, GaveUp, NotAccepted, condition_atoms, most_terms, IsReached}
 
 -- ---- what is refuted
 
@@ -88,8 +88,8 @@ counted_terms q =
     with_terms (with_terms base_terms (subterms (formulas_of q.sequent ++ further_facts q)))
     (all_equations q.shapes q.decls (subterms (formulas_of (enlarged q).sequent)))
 
-pub record HasTooManyCounted (q : Question) (most n : ℕ) : Type 0 where
-  pub limit : n ≡ most
+pub record HasTooManyCounted (q : Question) (n : ℕ) : Type 0 where
+  pub limit : n ≡ most_terms
   pub more : n < length (counted_terms q)
 
 -- ---- when each verdict may come
@@ -97,7 +97,7 @@ pub record HasTooManyCounted (q : Question) (most n : ℕ) : Type 0 where
 -- forms, operations, values and steps are those of a search that refutes all together
 abbrev pub IsReachedWith : Arena → Question → Limits → Limit → Type 0
 IsReachedWith a q limits (Splits tree) = IsKeptOn q limits.splits tree
-IsReachedWith a q limits (TooManyTerms n) = HasTooManyCounted q limits.terms n
+IsReachedWith a q limits (TooManyTerms n) = HasTooManyCounted q n
 IsReachedWith a q limits l = IsReached a (enlarged q) limits l
 
 -- without rules no instance is added

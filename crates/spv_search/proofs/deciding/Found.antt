@@ -35,21 +35,21 @@ pub decided_of : (limits : Limits) (o : Opened) (v : Verdict) → IsFound o.term
 decided_of limits o v f a c h = record { claim = h.claim; shapes = h.shapes; decls = h.decls; terms_in = f.terms_in; right = f.right }
 
 -- where it was opened for a condition, what it finds is decided of that one
-pub ready_decides : {E : Type 0} (a : Arena) (c : Condition) (limits : Limits) (most : ℕ) (p : Opening) (o : Opened) (r : Result Decided E) → p ≡ opening.Ready o → most ≡ limits.pivots → IsOpening a c most p → IfOk r (IsFoundFor limits o) → IfOk r (IsDecided a c limits)
-ready_decides a c limits most p o (Err e) is same h f = tt
-ready_decides a c limits most p o (Ok d) is same h f = f a c (subst (λ (n : ℕ). IsOpened a c n o) same (subst (λ (x : Opening). IsOpening a c most x) is h))
+pub ready_decides : {E : Type 0} (a : Arena) (c : Condition) (limits : Limits) (p : Opening) (o : Opened) (r : Result Decided E) → p ≡ opening.Ready o → IsOpening a c limits p → IfOk r (IsFoundFor limits o) → IfOk r (IsDecided a c limits)
+ready_decides a c limits p o (Err e) is h f = tt
+ready_decides a c limits p o (Ok d) is h f = f a c (subst (λ (x : Opening). IsOpening a c limits x) is h)
 
 -- where there are too many terms, or a form does not fit, no round is made
-pub too_many_decides : (a : Arena) (c : Condition) (limits : Limits) (most : ℕ) (p : Opening) (b : Arena) (d : Condition) (rounds : List Round) → p ≡ opening.Terms b d → IsOpening a c most p → rounds ≡ []
-    → IsDecided a c limits (record { terms = b; condition = d; verdict = verdict.GaveUp rounds (limit.Terms 1000000) })
-too_many_decides a c limits most p b d rounds is h none =
-    let k : HasTooMany a c b d = subst (IsOpening a c most) is h in
-    let f : IsFound b d limits (verdict.GaveUp rounds (limit.Terms 1000000)) = given_up b d limits (limit.Terms 1000000) tt k.many rounds none in
+pub too_many_decides : (a : Arena) (c : Condition) (limits : Limits) (p : Opening) (b : Arena) (d : Condition) (rounds : List Round) → p ≡ opening.Terms b d → IsOpening a c limits p → rounds ≡ []
+    → IsDecided a c limits (record { terms = b; condition = d; verdict = verdict.GaveUp rounds (limit.Terms limits.terms) })
+too_many_decides a c limits p b d rounds is h none =
+    let k : HasTooMany a c limits.terms b d = subst (IsOpening a c limits) is h in
+    let f : IsFound b d limits (verdict.GaveUp rounds (limit.Terms limits.terms)) = given_up b d limits (limit.Terms limits.terms) tt k.many rounds none in
     record { claim = k.copy.claim; shapes = k.copy.shapes; decls = k.copy.decls; terms_in = f.terms_in; right = f.right }
 
-pub too_wide_decides : (a : Arena) (c : Condition) (limits : Limits) (most : ℕ) (p : Opening) (b : Arena) (d : Condition) (t : TermId) (rounds : List Round) → p ≡ opening.Wide b d t → IsOpening a c most p → rounds ≡ []
+pub too_wide_decides : (a : Arena) (c : Condition) (limits : Limits) (p : Opening) (b : Arena) (d : Condition) (t : TermId) (rounds : List Round) → p ≡ opening.Wide b d t → IsOpening a c limits p → rounds ≡ []
     → IsDecided a c limits (record { terms = b; condition = d; verdict = verdict.GaveUp rounds (limit.Number (wide.Form t)) })
-too_wide_decides a c limits most p b d t rounds is h none =
-    let k : HasWide a c b d t = subst (IsOpening a c most) is h in
+too_wide_decides a c limits p b d t rounds is h none =
+    let k : HasWide a c b d t = subst (IsOpening a c limits) is h in
     let f : IsFound b d limits (verdict.GaveUp rounds (limit.Number (wide.Form t))) = given_up b d limits (limit.Number (wide.Form t)) k.within k.wide rounds none in
     record { claim = k.copy.claim; shapes = k.copy.shapes; decls = k.copy.decls; terms_in = f.terms_in; right = f.right }

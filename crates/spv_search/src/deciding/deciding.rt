@@ -60,13 +60,13 @@ pub fn decide(
     requires formulas { AreFormulas terms.now.shapes terms.now.decls (formulas_of (question terms.now condition.now).sequent) }
     ensures decided { IfOk result (IsDecided terms.now condition.now limits.now) }
 {
-    let opening = open(alloc, terms, condition, limits.pivots())?;
+    let opening = open(alloc, terms, condition, limits)?;
     match opening {
         Opening::Ready(opened) => find(alloc, opened, limits),
         Opening::Terms { terms, condition } => Ok(Decided {
             terms,
             condition,
-            verdict: Verdict::GaveUp(List::new(alloc), Limit::Terms(1000000)),
+            verdict: Verdict::GaveUp(List::new(alloc), Limit::Terms(limits.terms())),
         }),
         Opening::Wide {
             terms,

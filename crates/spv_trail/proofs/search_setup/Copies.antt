@@ -17,7 +17,6 @@ use Rattle.spv_search_terms.specs.declared.condition_copy.filling.Copied.{Copied
 use Rattle.spv_search_terms.specs.condition_copy.Copies.{all_terms, IsCopy}
 use Rattle.spv_search_terms.specs.declared.split_candidates.asking.Questions.{Questions}
 use Rattle.spv_search_terms.specs.split_candidates.Asking.{IsAsked}
-use Rattle.spv_verdicts.specs.Verdicts.{most_terms}
 use Rattle.spv_verdicts.proofs.TermCounts.{copies-stop, asks-stop}
 use Rattle.spv_trail.specs.search_setup.Openings.{AreAsked, HasTooMany, IsCopied}
 
@@ -52,19 +51,19 @@ module _ (a : Arena) (c : Condition) where
 
   -- ---- too many terms
 
-  pub copy_too_many : (most : ℕ) (k : Copied) → IsCopy a c most k → most_terms < length (all_terms (sequent a c)) → HasTooMany a c k.terms k.condition
-  copy_too_many most k h many =
-      let here = copied most k h in
-      record { copy = here; many = copies-stop (question k.terms k.condition) (subst (λ (s : Sequent). most_terms < length (all_terms s)) (sym here.claim.claim) many) }
+  pub copy_too_many : (limit most : ℕ) (k : Copied) → IsCopy a c limit k → most < length (all_terms (sequent a c)) → HasTooMany a c most k.terms k.condition
+  copy_too_many limit most k h many =
+      let here = copied limit k h in
+      record { copy = here; many = copies-stop (question k.terms k.condition) most (subst (λ (s : Sequent). most < length (all_terms s)) (sym here.claim.claim) many) }
 
-  pub asks_too_many : (k : Copied) (b : Arena) → IsCopy a c most_terms k → Extends k.terms b
-      → Stops k.terms (all_equations k.terms.shapes k.terms.decls (subterms (formulas_of (sequent k.terms k.condition)))) → HasTooMany a c b k.condition
-  asks_too_many k b h more stops =
-      let here = copied_on k.terms b k.condition more (copied most_terms k h) in
+  pub asks_too_many : (most : ℕ) (k : Copied) (b : Arena) → IsCopy a c most k → Extends k.terms b
+      → Stops k.terms (all_equations k.terms.shapes k.terms.decls (subterms (formulas_of (sequent k.terms k.condition)))) → HasTooMany a c most b k.condition
+  asks_too_many most k b h more stops =
+      let here = copied_on k.terms b k.condition more (copied most k h) in
       let same : sequent b k.condition ≡ sequent k.terms k.condition = same_claim k.terms b k.condition more h.condition.given_in h.condition.goal_in in
       let equations : all_equations b.shapes b.decls (subterms (formulas_of (sequent b k.condition))) ≡ all_equations k.terms.shapes k.terms.decls (subterms (formulas_of (sequent k.terms k.condition))) =
       λ i. all_equations (more.shapes i) (more.decls i) (subterms (formulas_of (same i))) in
-      record { copy = here; many = asks-stop (question b k.condition) k.terms (h.terms ∙ ap all_terms (sym here.claim.claim)) h.most (subst (Stops k.terms) (sym equations) stops) }
+      record { copy = here; many = asks-stop (question b k.condition) most k.terms (h.terms ∙ ap all_terms (sym here.claim.claim)) h.most (subst (Stops k.terms) (sym equations) stops) }
 
 -- ---- what is asked
 

@@ -17,7 +17,7 @@ use Rattle.spv_share.specs.Relations.{AreNodes}
 use Rattle.spv_models.specs.split_trees.Paths as search
 use Rattle.spv_trail.specs.backtracking.Paths.{IsAskedOf, IsGround}
 use Rattle.spv_trail.specs.trail_states.Laws.{IsOpenedFor}
-use Rattle.spv_verdicts.specs.Verdicts.{HasTooManyTerms, HasWideForm, most_terms}
+use Rattle.spv_verdicts.specs.Verdicts.{Limits, HasTooManyTerms, HasWideForm}
 use Rattle.spv_trail.specs.declared.search_setup.outcomes.Opened.{Opened}
 use Rattle.spv_trail.specs.declared.search_setup.outcomes.Opening.{Opening}
 use Rattle.spv_trail.specs.declared.search_setup.outcomes.Opening.TheVariants as opening
@@ -31,9 +31,9 @@ pub record IsCopied (a : Arena) (c : Condition) (b : Arena) (d : Condition) : Ty
   pub decls : b.decls ≡ a.decls
 
 -- so it does, and a search for a proof of it has more terms than it may have
-pub record HasTooMany (a : Arena) (c : Condition) (b : Arena) (d : Condition) : Type 0 where
+pub record HasTooMany (a : Arena) (c : Condition) (most : ℕ) (b : Arena) (d : Condition) : Type 0 where
   pub copy : IsCopied a c b d
-  pub many : HasTooManyTerms (question b d) most_terms
+  pub many : HasTooManyTerms (question b d) most most
 
 -- so it does, and this term of the arena is an atom: a relation of whole numbers, one of whose forms does not fit
 pub record HasWide (a : Arena) (c : Condition) (b : Arena) (d : Condition) (t : TermId) : Type 0 where
@@ -94,8 +94,8 @@ pub record IsOpened (a : Arena) (c : Condition) (most : ℕ) (o : Opened) : Type
   pub untold : share.told o.both ≡ []
   pub pivots : o.both.standing.tableau.pivots ≡ most
 
--- what comes of opening a search: it was opened, it has too many terms, or a form does not fit
-abbrev pub IsOpening : Arena → Condition → ℕ → Opening → Type 0
-IsOpening a c most (opening.Ready o) = IsOpened a c most o
-IsOpening a c most (opening.Terms b d) = HasTooMany a c b d
-IsOpening a c most (opening.Wide b d t) = HasWide a c b d t
+-- what comes of opening a search within limits: it was opened, it has too many terms, or a form does not fit
+abbrev pub IsOpening : Arena → Condition → Limits → Opening → Type 0
+IsOpening a c limits (opening.Ready o) = IsOpened a c limits.pivots o
+IsOpening a c limits (opening.Terms b d) = HasTooMany a c limits.terms b d
+IsOpening a c limits (opening.Wide b d t) = HasWide a c b d t

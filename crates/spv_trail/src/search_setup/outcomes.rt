@@ -29,7 +29,7 @@ pub struct Opened {
 pub enum Opening {
     /// The search may begin.
     Ready(Opened),
-    /// The search would have more than 1000000 terms.
+    /// The search would have more terms than its limits say.
     Terms {
         /// An arena of the condition, which may have more terms than a search.
         terms: Terms,

@@ -21,4 +21,4 @@ open_sides-requires-clause-asked c =
     asked_there c.args.copied.terms c.ask.new.terms c.args.copied.condition c.in-Ok.questions c.in-Ok.ensures.grows c.requires.copy.condition.given_in c.requires.copy.condition.goal_in c.in-Ok.ensures.asked
 
 pub returns-in-Err-Size : goal.returns-in-Err-Size
-returns-in-Err-Size c = asks_too_many c.args.terms.now c.args.condition.now c.args.copied c.ask.new.terms c.requires.copy c.in-Err-Size.ensures.grows (c.in-Err-Size.ensures.size (ap Err c.in-Err-Size.field-0-is))
+returns-in-Err-Size c = asks_too_many c.args.terms.now c.args.condition.now _ c.args.copied c.ask.new.terms c.requires.copy c.in-Err-Size.ensures.grows (c.in-Err-Size.ensures.size (ap Err c.in-Err-Size.field-0-is))
