@@ -121,9 +121,9 @@ map_there (Some x) h f = f x h
 
 -- ---- a text is not refused and reported
 
-never_told : HaveNotBoth → (told : Option (List ℕ)) (m : Mode) (f : Findings) → f.mode ≡ m → IfSome told (λ text. IsReportOf text f) → IsThere told (λ text. (r : Refusal) × IsRefused m text r) → ⊥
-never_told never None m f same is h = h
-never_told never (Some text) m f same is (r, h) = never text f r is (subst (λ (n : Mode). IsRefused n text r) (sym same) h)
+never_told : HaveNotBoth → (told : Option (List ℕ)) (f : Findings) → IfSome told (λ text. IsReportOf text f) → IsThere told (λ text. (r : Refusal) × IsRefused text r) → ⊥
+never_told never None f is h = h
+never_told never (Some text) f is (r, h) = never text f r is h
 
 rose_not : (old new : ℕ) → Rose old new → DidNotRise old new → ⊥
 rose_not old new rose (low, below) = let a : raised old ≤ new = rose in let b : new ≤ old = low in let c : new < 2 ^ 64 - 1 = below in omega (arith, a, b, c)
@@ -241,9 +241,9 @@ module _ (o : Reading) (w : Writing) (ran : Ran) where
 
   -- ---- completeness
 
-  pub complete_status : (c : Option Command) → HasRunFor c o w ran → IsThere c (λ d. IsThere (o.told d.file) (λ text. (r : Refusal) → IsRefused d.mode text r → ⊥))
+  pub complete_status : (c : Option Command) → HasRunFor c o w ran → IsThere c (λ d. IsThere (o.told d.file) (λ text. (r : Refusal) → IsRefused text r → ⊥))
       → DidNotRise o.faults_before o.faults_after → DidNotRise w.faults_before w.faults_after → IsOneOf (0 ∷ 1 ∷ 2 ∷ 6 ∷ 8 ∷ []) ran.status
-  complete_status = by_case (λ c. IsThere c (λ d. IsThere (o.told d.file) (λ text. (r : Refusal) → IsRefused d.mode text r → ⊥))
+  complete_status = by_case (λ c. IsThere c (λ d. IsThere (o.told d.file) (λ text. (r : Refusal) → IsRefused text r → ⊥))
       → DidNotRise o.faults_before o.faults_after → DidNotRise w.faults_before w.faults_after → IsOneOf (0 ∷ 1 ∷ 2 ∷ 6 ∷ 8 ∷ []) ran.status)
       (λ unread none s written h d k. absurd h)
       (λ unread none s cut h d k. absurd h)
@@ -251,9 +251,9 @@ module _ (o : Reading) (w : Writing) (ran : Ran) where
       (λ file f is r s cut h d k. absurd (rose_not w.faults_before w.faults_after cut.rose k))
       (λ file m h d k. not_of (0 ∷ 1 ∷ 2 ∷ 6 ∷ 8 ∷ []) refl (sym m.status))
     where
-      never : (told : Option (List ℕ)) (m : Mode) (r : Refusal) → IfSome told (λ text. IsRefused m text r) → IsThere told (λ text. (r : Refusal) → IsRefused m text r → ⊥) → ⊥
-      never None m r is h = h
-      never (Some text) m r is h = h r is
+      never : (told : Option (List ℕ)) (r : Refusal) → IfSome told (λ text. IsRefused text r) → IsThere told (λ text. (r : Refusal) → IsRefused text r → ⊥) → ⊥
+      never None r is h = h
+      never (Some text) r is h = h r is
 
       by_verdicts : (b n : Bool) → IsOneOf (0 ∷ 1 ∷ 2 ∷ 6 ∷ 8 ∷ []) (cond b 0 (cond n 2 1))
       by_verdicts true n = refl
@@ -264,23 +264,23 @@ module _ (o : Reading) (w : Writing) (ran : Ran) where
       by_mode (mode.Verify limits) verdicts = by_verdicts (all_proved verdicts) (none_unproved verdicts)
       by_mode mode.Conditions verdicts = refl
 
-      found : (c : Command) (f : Found) → IsFound o c f → IsThere (o.told c.file) (λ text. (r : Refusal) → IsRefused c.mode text r → ⊥) → DidNotRise o.faults_before o.faults_after
+      found : (c : Command) (f : Found) → IsFound o c f → IsThere (o.told c.file) (λ text. (r : Refusal) → IsRefused text r → ⊥) → DidNotRise o.faults_before o.faults_after
           → IsOneOf (0 ∷ 1 ∷ 2 ∷ 6 ∷ 8 ∷ []) (status f)
       found c ReadFailed is h d = absurd (rose_not o.faults_before o.faults_after is.rose d)
-      found c (Refusing r) is h d = absurd (never (o.told c.file) c.mode r is.1 h)
+      found c (Refusing r) is h d = absurd (never (o.told c.file) r is.1 h)
       found c (Reporting r) is h d = by_mode r.mode r.verdicts
 
   -- ---- refusals
 
-  pub refused : HaveNotBoth → (c : Option Command) → HasRunFor c o w ran → IsThere c (λ d. IsThere (o.told d.file) (λ text. (r : Refusal) × IsRefused d.mode text r)) → DidNotRise o.faults_before o.faults_after → IsOneOf (3 ∷ 5 ∷ 6 ∷ []) ran.status
-  refused never = by_case (λ c. IsThere c (λ d. IsThere (o.told d.file) (λ text. (r : Refusal) × IsRefused d.mode text r)) → DidNotRise o.faults_before o.faults_after → IsOneOf (3 ∷ 5 ∷ 6 ∷ []) ran.status)
+  pub refused : HaveNotBoth → (c : Option Command) → HasRunFor c o w ran → IsThere c (λ d. IsThere (o.told d.file) (λ text. (r : Refusal) × IsRefused text r)) → DidNotRise o.faults_before o.faults_after → IsOneOf (3 ∷ 5 ∷ 6 ∷ []) ran.status
+  refused never = by_case (λ c. IsThere c (λ d. IsThere (o.told d.file) (λ text. (r : Refusal) × IsRefused text r)) → DidNotRise o.faults_before o.faults_after → IsOneOf (3 ∷ 5 ∷ 6 ∷ []) ran.status)
       (λ unread none s written h d. absurd h)
       (λ unread none s cut h d. absurd h)
       (λ file f is r s written h d. not_of (3 ∷ 5 ∷ 6 ∷ []) (found file f is h d) (sym s))
       (λ file f is r s cut h d. not_of (3 ∷ 5 ∷ 6 ∷ []) refl (sym s))
       (λ file m h d. not_of (3 ∷ 5 ∷ 6 ∷ []) refl (sym m.status))
     where
-      found : (c : Command) (f : Found) → IsFound o c f → IsThere (o.told c.file) (λ text. (r : Refusal) × IsRefused c.mode text r) → DidNotRise o.faults_before o.faults_after → IsOneOf (3 ∷ 5 ∷ 6 ∷ []) (status f)
+      found : (c : Command) (f : Found) → IsFound o c f → IsThere (o.told c.file) (λ text. (r : Refusal) × IsRefused text r) → DidNotRise o.faults_before o.faults_after → IsOneOf (3 ∷ 5 ∷ 6 ∷ []) (status f)
       found file ReadFailed is h d = absurd (rose_not o.faults_before o.faults_after is.rose d)
       found file (Refusing r) is h d = refl
-      found c (Reporting r) (read, findings, same, told) h d = absurd (never_told never (o.told c.file) c.mode r same told h)
+      found c (Reporting r) (read, findings, same, told) h d = absurd (never_told never (o.told c.file) r told h)

@@ -24,7 +24,7 @@ IsTold words told P = IsThere (command_of words) (λ c. IsThere (told c.file) (P
 
 -- a refusal of the text of the command's file, where that is told, and its line
 abbrev pub IsRefusalLine : (List ℕ → Option (List ℕ)) → Command → List ℕ → Type 0
-IsRefusalLine told c line = (r : Refusal) × IfSome (told c.file) (λ text. IsRefused c.mode text r) × (line ≡ refusal_line c.file r)
+IsRefusalLine told c line = (r : Refusal) × IfSome (told c.file) (λ text. IsRefused text r) × (line ≡ refusal_line c.file r)
 
 -- what is due where there is no page: the line of the words, of a read that failed, or of a refusal
 abbrev pub IsDueLine : Option Command → (List ℕ → Option (List ℕ)) → ℕ → ℕ → List ℕ → Type 0

@@ -68,7 +68,7 @@ pub record IsUnwritten (w : Writing) : Type 0 where
 -- what is found of a file; a text that is told is refused so, or has this report
 abbrev pub IsFound : Reading → Command → Found → Type 0
 IsFound o c ReadFailed = IsReadBadly o c.file
-IsFound o c (Refusing r) = IsReadWhole o c.file × IfSome (o.told c.file) (λ text. IsRefused c.mode text r)
+IsFound o c (Refusing r) = IsReadWhole o c.file × IfSome (o.told c.file) (λ text. IsRefused text r)
 IsFound o c (Reporting r) = IsReadWhole o c.file × IsReport r × (r.mode ≡ c.mode) × IfSome (o.told c.file) (λ text. IsReportOf text r)
 
 abbrev pub output : List ℕ → Found → List ℕ

@@ -39,7 +39,7 @@ fn report_of(alloc: Global, mode: Mode, text: &[u8]) -> Result<Report, VerifyFau
     ensures report { IfOk result (IsReportOf text.now) }
     ensures mode { IfOk result (λ r. r.mode ≡ mode) }
     ensures findings { IfOk result IsReport }
-    ensures cause { IfErr result (IsCause mode text.now) }
+    ensures cause { IfErr result (IsCause text.now) }
 {
     match mode {
         Mode::Verify(limits) => verify(alloc, text, limits),

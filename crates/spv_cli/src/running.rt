@@ -224,15 +224,15 @@ pub fn run<W: World, T: Texts, K: Sink>(
         (λ c. AreVerdictsIn c.mode r.arena r.conditions r.verdicts)) }
 
     // Status 3 comes exactly where the told text is refused, but for a failed write and want of memory.
-    ensures refused { IsTold (map string_bytes words.now) (T.told texts.old) (λ c text. (r : Refusal) × IsRefused c.mode text r)
+    ensures refused { IsTold (map string_bytes words.now) (T.told texts.old) (λ c text. (r : Refusal) × IsRefused text r)
         → DidNotRise (T.faults texts.old) (T.faults texts.new) → IsOneOf (3 ∷ 5 ∷ 6 ∷ []) result.status }
     ensures refusal { result.status ≡ 3 → IsThere (command_of (map string_bytes words.now))
         (λ c. (line : List ℕ) × IsRefusalLine (T.told texts.old) c line × (K.written sink.new ≡ added (K.written sink.old) line)) }
 
     // A text that is not refused has a report, but for want of memory; and one of the statuses of a report, but for a failed write.
-    ensures complete { IsTold (map string_bytes words.now) (T.told texts.old) (λ c text. (r : Refusal) → IsRefused c.mode text r → ⊥)
+    ensures complete { IsTold (map string_bytes words.now) (T.told texts.old) (λ c text. (r : Refusal) → IsRefused text r → ⊥)
         → DidNotRise (T.faults texts.old) (T.faults texts.new) → IsSome result.report ⊎ (result.status ≡ 6) }
-    ensures complete_status { IsTold (map string_bytes words.now) (T.told texts.old) (λ c text. (r : Refusal) → IsRefused c.mode text r → ⊥)
+    ensures complete_status { IsTold (map string_bytes words.now) (T.told texts.old) (λ c text. (r : Refusal) → IsRefused text r → ⊥)
         → DidNotRise (T.faults texts.old) (T.faults texts.new) → DidNotRise (K.faults sink.old) (K.faults sink.new)
         → IsOneOf (0 ∷ 1 ∷ 2 ∷ 6 ∷ 8 ∷ []) result.status }
 

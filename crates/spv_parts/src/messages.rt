@@ -38,13 +38,12 @@ fn show_types(alloc: Global, out: &mut Vec<u8>) -> Result<(), AllocError> {
     add(alloc, Refusal::Control(12, List::new(alloc)), out)
 }
 
-// Those of frames, of limits, and of what is not built yet.
+// Those of frames and of limits.
 fn show_frames(alloc: Global, out: &mut Vec<u8>) -> Result<(), AllocError> {
     add(alloc, Refusal::Alias(13, List::new(alloc)), out)?;
     add(alloc, Refusal::Global(14, List::new(alloc)), out)?;
     add(alloc, Refusal::Function(15, List::new(alloc)), out)?;
-    add(alloc, Refusal::Size(1, List::new(alloc)), out)?;
-    add(alloc, Refusal::Form(1, List::new(alloc)), out)
+    add(alloc, Refusal::Size(1, List::new(alloc)), out)
 }
 
 /// Adds the message of each refusal and fault.
@@ -54,7 +53,7 @@ pub fn show(alloc: Global, out: &mut Vec<u8>) -> Result<(), AllocError> {
     show_frames(alloc, out)?;
     add_fault(
         alloc,
-        VerifyFault::Refused(Refusal::Form(1, List::new(alloc))),
+        VerifyFault::Refused(Refusal::Size(1, List::new(alloc))),
         out,
     )?;
     add_fault(alloc, VerifyFault::Memory, out)

@@ -9,22 +9,23 @@ use Rattle.spv_term.specs.declared.nodes.Condition.{Condition}
 use Rattle.spv_term.specs.Arena.{Arena, sequent}
 use Rattle.spv_proof_rules.specs.Stand.{question}
 use Rattle.spv_proof_rules.proofs.Soundness.{accepted_true}
-use Rattle.spv_verdicts.specs.Verdicts.{Limits, IsRight}
+use Rattle.spv_verdicts.specs.Verdicts.{Limits}
+use Rattle.spv_verdicts.specs.Schemas.{IsRightWith}
 use Rattle.spv_verdicts.specs.declared.answers.verdicts.Decided.{Decided}
 use Rattle.spv_verdicts.specs.declared.answers.verdicts.Verdict.{Verdict}
 use Rattle.spv_verdicts.specs.declared.answers.verdicts.Verdict.TheVariants.{Proved, Unproved, GaveUp, NotAccepted}
-use Rattle.spv_verdicts.specs.answers.Views.{IsDecided, verdict_in}
+use Rattle.spv_verdicts.specs.answers.Views.{IsDecidedWith, verdict_in}
 use Rattle.spv_reports.specs.Reports.{is_proved}
 
 -- the copy that was decided claims the same, over the same types and symbols
-pub proved_true : (a : Arena) (c : Condition) (limits : Limits) (d : Decided) (world : Meaning) → shapes_ok a.shapes ≡ true → IsDecided a c limits d → is_proved d.verdict ≡ true
+pub proved_true : (a : Arena) (c : Condition) (limits : Limits) (d : Decided) (world : Meaning) → shapes_ok a.shapes ≡ true → IsDecidedWith a c limits d → is_proved d.verdict ≡ true
     → TrueIn a.shapes a.decls world (sequent a c)
 proved_true a c limits d world ok is proved = here (copied d.verdict is.right proved)
   where
     shapes_there : shapes_ok d.terms.shapes ≡ true
     shapes_there = subst (λ (s : List Shape). shapes_ok s ≡ true) (sym is.shapes) ok
 
-    copied : (v : Verdict) → IsRight d.terms (question d.terms d.condition) limits (verdict_in d.terms v) → is_proved v ≡ true → TrueIn d.terms.shapes d.terms.decls world (sequent d.terms d.condition)
+    copied : (v : Verdict) → IsRightWith d.terms (question d.terms d.condition) limits (verdict_in d.terms v) → is_proved v ≡ true → TrueIn d.terms.shapes d.terms.decls world (sequent d.terms d.condition)
     copied (Proved nodes) right proved = accepted_true world (question d.terms d.condition) shapes_there nodes right
     copied (Unproved u) right proved = absurd (false≢true proved)
     copied (GaveUp rounds l) right proved = absurd (false≢true proved)

@@ -1,2 +1,1 @@
-pub mod supported
 pub mod Reports

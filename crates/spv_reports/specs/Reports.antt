@@ -10,20 +10,16 @@ use Rattle.spv_program.specs.Programs.{Program, shapes}
 use Rattle.spv_meaning.specs.ProgramConditions as program
 use Rattle.spv_meaning.specs.Correct.{Correct}
 use Rattle.spv_assign.specs.Conditions.{conditions_of, AreIn}
-use Rattle.spv_assign.specs.declared.creation_trace.faults.GenFault.TheVariants as limit
 use Rattle.spv_assign.specs.creation_trace.Events.{Walked}
-use Rattle.spv_conditions.specs.Making.{program_events, empty_arena, MeetsLimit}
+use Rattle.spv_conditions.specs.Making.{program_events, empty_arena}
 use Rattle.spv_verdicts.specs.Verdicts.{Limits, most_terms}
 use Rattle.spv_verdicts.specs.declared.answers.verdicts.Decided.{Decided}
 use Rattle.spv_verdicts.specs.declared.answers.verdicts.Verdict.{Verdict}
 use Rattle.spv_verdicts.specs.declared.answers.verdicts.Verdict.TheVariants.{Proved, Unproved, GaveUp, NotAccepted}
-use Rattle.spv_verdicts.specs.answers.Views.{IsDecided}
-use Rattle.spv_reports.specs.supported.Taken.{is_taken}
+use Rattle.spv_verdicts.specs.answers.Views.{IsDecidedWith}
 use Rattle.spv_reports.specs.declared.report.ProgramNames.{ProgramNames}
 use Rattle.spv_reports.specs.declared.mode.Mode.{Mode}
 use Rattle.spv_reports.specs.declared.mode.Mode.TheVariants.{Verify, Conditions}
-use Rattle.spv_reports.specs.declared.fault.ReportFault.{ReportFault}
-use Rattle.spv_reports.specs.declared.fault.ReportFault.TheVariants.{Stopped, NotTaken}
 
 -- what contracts see of a report: the names of its program, its conditions over an arena, what it is for, what was decided of each
 -- condition, and whether a page of it has proofs
@@ -49,17 +45,12 @@ abbrev pub has_verdicts : Mode → Bool
 has_verdicts (Verify limits) = true
 has_verdicts Conditions = false
 
--- where verdicts are wanted, the program is one of those that are verified so far
-abbrev pub IsTakenFor : Mode → Program → Type 0
-IsTakenFor (Verify limits) p = is_taken p ≡ true
-IsTakenFor Conditions p = ⊤
-
 -- ---- verdicts
 
 -- within these limits one decision on each condition, and in that order
 abbrev pub AreVerdicts : Arena → Limits → List Condition → List Decided → Type 0
 AreVerdicts a limits [] [] = Unit {0}
-AreVerdicts a limits (c ∷ cs) (d ∷ ds) = IsDecided a c limits d × AreVerdicts a limits cs ds
+AreVerdicts a limits (c ∷ cs) (d ∷ ds) = IsDecidedWith a c limits d × AreVerdicts a limits cs ds
 AreVerdicts a limits _ _ = ⊥
 
 -- a report of conditions alone has no verdict; every other one has a right one on each condition, in their order, within its limits
@@ -110,16 +101,8 @@ pub record IsReport (r : Findings) : Type 0 where
 abbrev pub ProvedIsCorrectIn : Findings → Meaning → Type 0
 ProvedIsCorrectIn r world = IsTrue (has_verdicts r.mode) → IsTrue (all_proved r.verdicts) → (p : Program) → IsReportOn p r → Correct p world
 
--- ---- what is taken so far, and why there is no report
+-- ---- what a program with a report is not refused for
 
--- what a program with a report is not refused for: its conditions meet no limit, and where verdicts are wanted it is verified so far
+-- its conditions meet no limit
 pub record IsNotRefused (p : Program) (r : Findings) : Type 0 where
   pub within : Walked (program_events p) (empty_arena p) r.arena
-  pub taken : IsTakenFor r.mode p
-
--- verdicts are wanted and the program is not verified so far; or its conditions meet a limit, and no verdicts are wanted or it is verified
--- so far; want of memory has no cause
-abbrev pub IsReportFault : Program → Mode → ReportFault → Type 0
-IsReportFault p mode (Stopped limit.Memory) = ⊤
-IsReportFault p mode (Stopped e) = IsTakenFor mode p × MeetsLimit e p
-IsReportFault p mode NotTaken = (has_verdicts mode ≡ true) × (is_taken p ≡ false)

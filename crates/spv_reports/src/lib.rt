@@ -1,14 +1,11 @@
 //! Reports: a program's conditions, and where verdicts are wanted what was decided of each.
 #![tactic(auto)]
 
-mod fault;
 mod limits;
 mod mode;
 mod report;
-pub mod supported;
 mod verdicts;
 
-pub use fault::ReportFault;
 pub use limits::default_limits;
 pub use mode::Mode;
 pub use report::{ProgramNames, Report, law_report};

@@ -1,6 +1,5 @@
 -- No text is refused and has a report.
-use Rattle.std.proofs.Common.{◌≡◌, inl, inr, ℕ, ◌≤◌, true, List, [], length, Some, sym, ap, ◌∙◌, subst, arith}
-use Rattle.std.proofs.lemmas.Bool.{false≢true}
+use Rattle.std.proofs.Common.{◌≡◌, inl, inr, ℕ, ◌≤◌, List, [], length, Some, sym, ap, ◌∙◌, subst, arith}
 use Rattle.std.proofs.lemmas.Option.{none-some}
 use Rattle.spv_lexer.specs.declared.LexFault.TheVariants as lex
 use Rattle.spv_parser.specs.declared.refused.SyntaxFault.TheVariants as syntax
@@ -12,12 +11,9 @@ use Rattle.spv_tree.specs.syntax.Reads.{Reads}
 use Rattle.spv_program.specs.Programs.{Program}
 use Rattle.spv_type_soundness.proofs.well_typed.Outcomes.{no_fault, same_value}
 use Rattle.spv_effects.specs.frame_walk.FrameWalk.{frame_fault}
-use Rattle.spv_reports.specs.supported.Taken.{is_taken}
 use Rattle.spv_assign.specs.declared.creation_trace.faults.GenFault.{GenFault}
 use Rattle.spv_conditions.specs.Making.{MeetsLimit, IsWithinLimits, MeetsNoOther}
-use Rattle.spv_reports.specs.declared.mode.Mode.{Mode}
-use Rattle.spv_reports.specs.declared.mode.Mode.TheVariants.{Verify, Conditions}
-use Rattle.spv_reports.specs.Reports.{Findings, IsReportOn, IsNotRefused, IsTakenFor, has_verdicts}
+use Rattle.spv_reports.specs.Reports.{Findings, IsReportOn, IsNotRefused}
 use Rattle.spv_verify.specs.declared.refused.refusal.Refusal.{Refusal}
 use Rattle.spv_verify.specs.refused.Told.{text_refusal, limit_refusal}
 use Rattle.spv_verify.specs.tree_reports.Walks.{IsSound, IsWalkRefusal, is_typed_as}
@@ -45,11 +41,6 @@ sound_not_refused : (names : List (List ℕ)) (tree : TextTree) (p : Program) (r
 sound_not_refused names tree p r sound (inl type) = no_fault (sym type.stops ∙ sound.typed)
 sound_not_refused names tree p r sound (inr (q, typed, frame)) = none-some _ (sym sound.framed ∙ ap frame_fault (one_program names tree p q sound typed) ∙ frame.stops)
 
--- where there are verdicts, the program is one of those that are verified so far
-taken_there : (mode : Mode) (p : Program) → has_verdicts mode ≡ true → IsTakenFor mode p → is_taken p ≡ true
-taken_there (Verify limits) p asked is = is
-taken_there Conditions p asked is = absurd (false≢true asked)
-
 module _ (one : MeetsNoOther) (p : Program) (f : Findings) (is : IsReportOn p f) (not_refused : IsNotRefused p f) where
   within : IsWithinLimits p
   within = record { arena = f.arena; sound = is.sound; walked = not_refused.within }
@@ -58,20 +49,19 @@ module _ (one : MeetsNoOther) (p : Program) (f : Findings) (is : IsReportOn p f)
   no_limit e r meets told = none-some _ (sym (ap limit_refusal (one p e meets within)) ∙ told)
 
   -- the program of a report has no refusal
-  pub program_not_refused : (r : Refusal) → IsProgramRefusal f.mode p r → ⊥
-  program_not_refused r (inl limits) = no_limit limits.limit r limits.meets limits.told
-  program_not_refused r (inr other) = false≢true (sym other.taken ∙ taken_there f.mode p other.asked not_refused.taken)
+  pub program_not_refused : (r : Refusal) → IsProgramRefusal p r → ⊥
+  program_not_refused r limits = no_limit limits.limit r limits.meets limits.told
 
-  pub tree_not_refused : (names : List (List ℕ)) (tree : TextTree) (r : Refusal) → IsSound names tree p → IsTreeRefusal f.mode names tree r → ⊥
+  pub tree_not_refused : (names : List (List ℕ)) (tree : TextTree) (r : Refusal) → IsSound names tree p → IsTreeRefusal names tree r → ⊥
   tree_not_refused names tree r sound (inl walk) = sound_not_refused names tree p r sound walk
   tree_not_refused names tree r sound (inr (q, other, refused)) =
-      program_not_refused r (subst (λ (x : Program). IsProgramRefusal f.mode x r) (sym (one_program names tree p q sound other.typed)) refused)
+      program_not_refused r (subst (λ (x : Program). IsProgramRefusal x r) (sym (one_program names tree p q sound other.typed)) refused)
 
 pub not_both : TextsHaveOneTree Reads → MeetsNoOther → HaveNotBoth
 not_both trees one text f r of (inl reading) = by_reading text f r of reading.fault reading.stops reading.told
 not_both trees one text f r of (inr (tree, tree_is, refused)) =
     tree_not_refused one of.program f of.is_on of.not_refused (names_of text) of.of_text.tree r of.of_text.sound
-    (subst (λ (t : TextTree). IsTreeRefusal f.mode (names_of text) t r) (trees [] text tree of.of_text.tree tree_is of.of_text.is_tree) refused)
+    (subst (λ (t : TextTree). IsTreeRefusal (names_of text) t r) (trees [] text tree of.of_text.tree tree_is of.of_text.is_tree) refused)
 
 pub is_one_program : TextsHaveOneTree Reads → IsOneProgram
 is_one_program trees text p q h k =

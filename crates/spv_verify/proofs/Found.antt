@@ -18,17 +18,17 @@ pub reading_cause : (text : List ℕ) (fault : LanguageFault) (v : VerifyFault) 
 reading_cause text fault (Refused r) stops tells = record { fault = fault; stops = stops; told = tells }
 reading_cause text fault Memory stops tells = tt
 
-pub cause_of_reading : (mode : Mode) (text : List ℕ) (v : VerifyFault) → IsReadingCause text v → IsCause mode text v
-cause_of_reading mode text (Refused r) is = inl is
-cause_of_reading mode text Memory is = tt
+pub cause_of_reading : (text : List ℕ) (v : VerifyFault) → IsReadingCause text v → IsCause text v
+cause_of_reading text (Refused r) is = inl is
+cause_of_reading text Memory is = tt
 
 -- what is found of the tree of a text, with the names of the text, said of the text
 module _ (mode : Mode) (text : List ℕ) (tree : Tree) (tree_is : IsTextTree text tree) (names : List (List ℕ)) (same : names ≡ names_with [] text) where
-  tree_cause : (v : VerifyFault) → IsTreeCause mode names tree v → IsCause mode text v
-  tree_cause (Refused r) is = inr (tree, tree_is, subst (λ n. IsTreeCause mode n tree (Refused r)) same is)
+  tree_cause : (v : VerifyFault) → IsTreeCause names tree v → IsCause text v
+  tree_cause (Refused r) is = inr (tree, tree_is, subst (λ n. IsTreeCause n tree (Refused r)) same is)
   tree_cause Memory is = tt
 
-  pub tree_causes : {T : Type 0} (r : Result T VerifyFault) → IfErr r (IsTreeCause mode names tree) → IfErr r (IsCause mode text)
+  pub tree_causes : {T : Type 0} (r : Result T VerifyFault) → IfErr r (IsTreeCause names tree) → IfErr r (IsCause text)
   tree_causes (Ok x) h = tt
   tree_causes (Err v) h = tree_cause v h
 

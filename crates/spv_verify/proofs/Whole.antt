@@ -7,7 +7,6 @@ use Rattle.spv_parser.specs.declared.language.fault.LanguageFault.{LanguageFault
 use Rattle.spv_parser.specs.declared.language.fault.LanguageFault.TheVariants.{Tokens, Tree}
 use Rattle.spv_parser.specs.language.Texts.{IsShort, IsFaultOf}
 use Rattle.spv_tree.specs.syntax.Reads.{Reads}
-use Rattle.spv_reports.specs.declared.mode.Mode.{Mode}
 use Rattle.spv_reports.specs.Reports.{Findings}
 use Rattle.spv_verify.specs.declared.refused.refusal.Refusal.{Refusal}
 use Rattle.spv_verify.specs.Refusals.{IsRefused, IsReportOf}
@@ -46,6 +45,6 @@ fault_whole text (Tree (syntax.TooDeep line)) is = subst (λ t. IsFaultOf Reads 
 fault_whole text (Tree (syntax.Syntax line)) is = subst (λ t. IsFaultOf Reads [] t (Tree (syntax.Syntax line))) (whole text is.0.short) is
 fault_whole text (Tree syntax.Memory) is = subst (λ t. IsFaultOf Reads [] t (Tree syntax.Memory)) (whole text is.0.short) is
 
-pub refused_whole : (mode : Mode) (text : List ℕ) (r : Refusal) → IsRefused mode (take 4194305 text) r → IsRefused mode text r
-refused_whole mode text r (inl reading) = inl (record { fault = reading.fault; stops = fault_whole text reading.fault reading.stops; told = reading.told })
-refused_whole mode text r (inr (tree, tree_is, refused)) = subst (λ t. IsRefused mode t r) (whole text tree_is.cut.short) (inr (tree, tree_is, refused))
+pub refused_whole : (text : List ℕ) (r : Refusal) → IsRefused (take 4194305 text) r → IsRefused text r
+refused_whole text r (inl reading) = inl (record { fault = reading.fault; stops = fault_whole text reading.fault reading.stops; told = reading.told })
+refused_whole text r (inr (tree, tree_is, refused)) = subst (λ t. IsRefused t r) (whole text tree_is.cut.short) (inr (tree, tree_is, refused))

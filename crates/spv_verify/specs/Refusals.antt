@@ -5,7 +5,6 @@ use Rattle.spv_tree.specs.syntax.Reads.{Reads}
 use Rattle.spv_parser.specs.declared.language.fault.LanguageFault.{LanguageFault}
 use Rattle.spv_parser.specs.language.Texts.{names_with, IsTreeOf, IsFaultOf}
 use Rattle.spv_program.specs.Programs.{Program}
-use Rattle.spv_reports.specs.declared.mode.Mode.{Mode}
 use Rattle.spv_reports.specs.Reports.{Findings, IsNotRefused, IsReportOn}
 use Rattle.spv_verify.specs.declared.refused.refusal.Refusal.{Refusal}
 use Rattle.spv_verify.specs.refused.Told.{text_refusal}
@@ -35,8 +34,8 @@ pub record IsReadingRefusal (text : List ℕ) (r : Refusal) : Type 0 where
   pub told : text_refusal fault ≡ Some r
 
 -- the text is refused so: for a fault of reading, or for one of its tree
-abbrev pub IsRefused : Mode → List ℕ → Refusal → Type 0
-IsRefused mode text r = IsReadingRefusal text r ⊎ ((tree : Tree) × IsTextTree text tree × IsTreeRefusal mode (names_of text) tree r)
+abbrev pub IsRefused : List ℕ → Refusal → Type 0
+IsRefused text r = IsReadingRefusal text r ⊎ ((tree : Tree) × IsTextTree text tree × IsTreeRefusal (names_of text) tree r)
 
 -- ---- reports
 
@@ -50,7 +49,7 @@ pub record IsReportOf (text : List ℕ) (r : Findings) : Type 0 where
 
 -- no text is refused and has a report
 abbrev pub HaveNotBoth : Type 0
-HaveNotBoth = (text : List ℕ) (f : Findings) (r : Refusal) → IsReportOf text f → IsRefused f.mode text r → ⊥
+HaveNotBoth = (text : List ℕ) (f : Findings) (r : Refusal) → IsReportOf text f → IsRefused text r → ⊥
 
 -- a text is one program
 abbrev pub IsOneProgram : Type 0

@@ -35,7 +35,7 @@ fn report_of(alloc: Global, text: &[u8], mode: Mode) -> Result<Report, VerifyFau
     ensures report { IfOk result (IsReportOf text.now) }
     ensures mode { IfOk result (λ r. r.mode ≡ mode) }
     ensures findings { IfOk result IsReport }
-    ensures cause { IfErr result (IsCause mode text.now) }
+    ensures cause { IfErr result (IsCause text.now) }
 {
     let mut names = Names::new(alloc);
     let tree = match tree_of(alloc, text, &mut names) {
@@ -48,23 +48,22 @@ fn report_of(alloc: Global, text: &[u8], mode: Mode) -> Result<Report, VerifyFau
 }
 
 /// The report of a text with a verdict on each condition, found within these limits. Or what the text is refused for: its first fault, in the order of reading,
-/// names and types, frames; and where it has none, that no such program is verified so far, or that its conditions are too many or too
-/// large. Memory: there was not enough of it.
+/// names and types, frames; and where it has none, that its conditions are too many or too large. Memory: there was not enough of it.
 pub fn verify(alloc: Global, text: &[u8], limits: Limits) -> Result<Report, VerifyFault>
     ensures report { IfOk result (IsReportOf text.now) }
     ensures mode { IfOk result (λ r. r.mode ≡ mode.Verify limits) }
     ensures findings { IfOk result IsReport }
-    ensures cause { IfErr result (IsCause (mode.Verify limits) text.now) }
+    ensures cause { IfErr result (IsCause text.now) }
 {
     report_of(alloc, text, Mode::Verify(limits))
 }
 
-/// The report of a text with its conditions alone. Or what the text is refused for, as for `verify`; but each program has conditions.
+/// The report of a text with its conditions alone. Or what the text is refused for, as for `verify`.
 pub fn list(alloc: Global, text: &[u8]) -> Result<Report, VerifyFault>
     ensures report { IfOk result (IsReportOf text.now) }
     ensures mode { IfOk result (λ r. r.mode ≡ mode.Conditions) }
     ensures findings { IfOk result IsReport }
-    ensures cause { IfErr result (IsCause mode.Conditions text.now) }
+    ensures cause { IfErr result (IsCause text.now) }
 {
     report_of(alloc, text, Mode::Conditions)
 }

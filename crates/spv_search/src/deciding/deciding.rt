@@ -66,7 +66,7 @@ pub fn decide(
         Opening::Terms { terms, condition } => Ok(Decided {
             terms,
             condition,
-            verdict: Verdict::GaveUp(List::new(alloc), Limit::Terms(limits.terms())),
+            verdict: Verdict::GaveUp(List::new(alloc), Limit::Terms(u64::from(limits.terms()))),
         }),
         Opening::Wide {
             terms,

@@ -17,11 +17,9 @@ use Rattle.spv_verify.specs.declared.refused.fault.VerifyFault.TheVariants.{Refu
 use Rattle.spv_verify.specs.refused.Told.{Tells, type_refusal, frame_refusal, limit_refusal}
 use Rattle.spv_assign.specs.declared.creation_trace.faults.GenFault.{GenFault}
 use Rattle.spv_assign.specs.declared.creation_trace.faults.GenFault.TheVariants as limit
-use Rattle.spv_verify.specs.declared.refused.refusal.Refusal.TheVariants as refusal
 use Rattle.spv_reports.specs.declared.mode.Mode.{Mode}
-use Rattle.spv_reports.specs.declared.fault.ReportFault.{ReportFault}
-use Rattle.spv_reports.specs.declared.fault.ReportFault.TheVariants.{Stopped, NotTaken}
-use Rattle.spv_reports.specs.Reports.{Findings, IsReportFault}
+use Rattle.spv_reports.specs.Reports.{Findings}
+use Rattle.spv_conditions.specs.Making.{IsLimit}
 use Rattle.spv_verify.specs.tree_reports.Walks.{IsTypeCause, IsFrameCause, is_typed_as}
 use Rattle.spv_verify.specs.tree_reports.Programs.{IsProgramRefusal, IsProgramCause, IsFramedCause, IsTreeCause, IsFramedReport, IsTreeReport}
 
@@ -46,44 +44,35 @@ frame_cause names p (frames.GlobalMissing line i) (Refused r) stops tells = reco
 frame_cause names p (frames.FunctionWrites line x) (Refused r) stops tells = record { fault = frames.FunctionWrites line x; stops = stops; told = tells }
 frame_cause names p frames.Memory (Refused r) stops tells = absurd (none-some _ tells)
 
-pub type_tree_cause : (mode : Mode) (names : List (List ℕ)) (tree : Tree) (v : VerifyFault) → IsTypeCause names tree v → IsTreeCause mode names tree v
-type_tree_cause mode names tree (Refused r) is = inl (inl is)
-type_tree_cause mode names tree Memory is = tt
+pub type_tree_cause : (names : List (List ℕ)) (tree : Tree) (v : VerifyFault) → IsTypeCause names tree v → IsTreeCause names tree v
+type_tree_cause names tree (Refused r) is = inl (inl is)
+type_tree_cause names tree Memory is = tt
 
 -- ---- of a program
 
-pub frame_told : (mode : Mode) (names : List (List ℕ)) (p : Program) (v : VerifyFault) → IsFrameCause names p v → IsFramedCause mode names p v
-frame_told mode names p (Refused r) is = inl is
-frame_told mode names p Memory is = tt
+pub frame_told : (names : List (List ℕ)) (p : Program) (v : VerifyFault) → IsFrameCause names p v → IsFramedCause names p v
+frame_told names p (Refused r) is = inl is
+frame_told names p Memory is = tt
 
-pub program_told : (mode : Mode) (names : List (List ℕ)) (p : Program) (v : VerifyFault) → frame_fault p ≡ None → IsProgramCause mode p v → IsFramedCause mode names p v
-program_told mode names p (Refused r) framed is = inr (framed, is)
-program_told mode names p Memory framed is = tt
+pub program_told : (names : List (List ℕ)) (p : Program) (v : VerifyFault) → frame_fault p ≡ None → IsProgramCause p v → IsFramedCause names p v
+program_told names p (Refused r) framed is = inr (framed, is)
+program_told names p Memory framed is = tt
 
-not_taken : (p : Program) (mode : Mode) (detail : List ℕ) → detail ≡ [] → IsReportFault p mode NotTaken → IsProgramRefusal mode p (refusal.Form 1 detail)
-not_taken p mode detail d (asked, other) = inr (record { asked = asked; taken = other; told = ap (refusal.Form 1) d })
-
-pub not_taken_told : (p : Program) (mode : Mode) (fault : ReportFault) (detail : List ℕ) → fault ≡ NotTaken → detail ≡ [] → IsReportFault p mode fault → IsProgramRefusal mode p (refusal.Form 1 detail)
-not_taken_told p mode fault detail e d is = not_taken p mode detail d (subst (IsReportFault p mode) e is)
-
-limit_met : (p : Program) (mode : Mode) (e : GenFault) (v : VerifyFault) → Tells (limit_refusal e) v → IsReportFault p mode (Stopped e) → IsProgramCause mode p v
-limit_met p mode (limit.Conditions n) (Refused r) tells (taken, meets) = inl (record { taken = taken; limit = limit.Conditions n; meets = meets; told = tells })
-limit_met p mode (limit.Terms n) (Refused r) tells (taken, meets) = inl (record { taken = taken; limit = limit.Terms n; meets = meets; told = tells })
-limit_met p mode limit.Memory (Refused r) tells is = absurd (none-some _ tells)
-limit_met p mode e Memory tells is = tt
-
-pub limit_told : (p : Program) (mode : Mode) (fault : ReportFault) (e : GenFault) (v : VerifyFault) → fault ≡ Stopped e → Tells (limit_refusal e) v → IsReportFault p mode fault → IsProgramCause mode p v
-limit_told p mode fault e v is tells met = limit_met p mode e v tells (subst (IsReportFault p mode) is met)
+pub limit_told : (p : Program) (e : GenFault) (v : VerifyFault) → Tells (limit_refusal e) v → IsLimit e p → IsProgramCause p v
+limit_told p (limit.Conditions n) (Refused r) tells meets = record { limit = limit.Conditions n; meets = meets; told = tells }
+limit_told p (limit.Terms n) (Refused r) tells meets = record { limit = limit.Terms n; meets = meets; told = tells }
+limit_told p limit.Memory (Refused r) tells is = absurd (none-some _ tells)
+limit_told p e Memory tells is = tt
 
 -- ---- of a tree
 
 module _ (mode : Mode) (names : List (List ℕ)) (tree : Tree) (p : Program) (typed : is_typed_as names tree p) where
-  framed_tree_cause : (v : VerifyFault) → IsFramedCause mode names p v → IsTreeCause mode names tree v
+  framed_tree_cause : (v : VerifyFault) → IsFramedCause names p v → IsTreeCause names tree v
   framed_tree_cause (Refused r) (inl frame) = inl (inr (p, typed, frame))
   framed_tree_cause (Refused r) (inr (framed, is)) = inr (p, record { typed = typed; framed = framed }, is)
   framed_tree_cause Memory is = tt
 
-  pub framed_tree_causes : {T : Type 0} (r : Result T VerifyFault) → IfErr r (IsFramedCause mode names p) → IfErr r (IsTreeCause mode names tree)
+  pub framed_tree_causes : {T : Type 0} (r : Result T VerifyFault) → IfErr r (IsFramedCause names p) → IfErr r (IsTreeCause names tree)
   framed_tree_causes (Ok x) h = tt
   framed_tree_causes (Err v) h = framed_tree_cause v h
 

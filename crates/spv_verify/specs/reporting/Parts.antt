@@ -12,7 +12,7 @@ use Rattle.spv_assign.specs.creation_trace.Events.{Walked}
 use Rattle.spv_conditions.specs.Making.{program_events, empty_arena}
 use Rattle.spv_reports.specs.declared.mode.Mode.{Mode}
 use Rattle.spv_verify.specs.declared.reporting.making.Parts.{Parts}
-use Rattle.spv_reports.specs.Reports.{AreVerdictsIn, IsTakenFor}
+use Rattle.spv_reports.specs.Reports.{AreVerdictsIn}
 
 -- the formulas of conditions are of sort Bool
 abbrev pub AreFormulasIn : Arena → List Condition → Type 0
@@ -21,7 +21,6 @@ AreFormulasIn a (c ∷ conditions) = AreFormulas a.shapes a.decls (formulas_of (
 
 -- the conditions are those of the program, and the verdicts are right
 pub record AreParts (p : Program) (mode : Mode) (x : Parts) : Type 0 where
-  pub taken : IsTakenFor mode p
   pub sound : IsArena x.terms
   pub grows : Extends (empty_arena p) x.terms
   pub in_range : AreIn x.terms x.conditions.items

@@ -1,15 +1,13 @@
 -- What a program without faults is refused for, and reports of trees.
-use Rattle.std.specs.Prelude.{◌≡◌, ⊤, ℕ, ◌⊎◌, true, false, List, [], Some, None}
+use Rattle.std.specs.Prelude.{◌≡◌, ⊤, ℕ, ◌⊎◌, List, Some, None}
 use Rattle.spv_tree.specs.declared.syntax.programs.Program.{Program as Tree}
 use Rattle.spv_program.specs.Programs.{Program}
 use Rattle.spv_effects.specs.frame_walk.FrameWalk.{frame_fault}
 use Rattle.spv_assign.specs.declared.creation_trace.faults.GenFault.{GenFault}
 use Rattle.spv_conditions.specs.Making.{MeetsLimit}
 use Rattle.spv_reports.specs.declared.mode.Mode.{Mode}
-use Rattle.spv_reports.specs.supported.Taken.{is_taken}
-use Rattle.spv_reports.specs.Reports.{Findings, IsNotRefused, IsReportOn, IsTakenFor, has_verdicts}
+use Rattle.spv_reports.specs.Reports.{Findings, IsNotRefused, IsReportOn}
 use Rattle.spv_verify.specs.declared.refused.refusal.Refusal.{Refusal}
-use Rattle.spv_verify.specs.declared.refused.refusal.Refusal.TheVariants as refusal
 use Rattle.spv_verify.specs.declared.refused.fault.VerifyFault.{VerifyFault}
 use Rattle.spv_verify.specs.declared.refused.fault.VerifyFault.TheVariants.{Refused, Memory}
 use Rattle.spv_verify.specs.refused.Told.{limit_refusal}
@@ -18,24 +16,14 @@ use Rattle.spv_verify.specs.tree_reports.Walks.{IsSound, IsWalkRefusal, IsFrameR
 -- ---- refusals
 
 -- the conditions of the program meet a limit
-pub record IsLimitRefusal (mode : Mode) (p : Program) (r : Refusal) : Type 0 where
-  pub taken : IsTakenFor mode p
+pub record IsProgramRefusal (p : Program) (r : Refusal) : Type 0 where
   pub limit : GenFault
   pub meets : MeetsLimit limit p
   pub told : limit_refusal limit ≡ Some r
 
--- verdicts are wanted, and the program is none of those that are verified so far
-pub record IsNotTakenRefusal (mode : Mode) (p : Program) (r : Refusal) : Type 0 where
-  pub asked : has_verdicts mode ≡ true
-  pub taken : is_taken p ≡ false
-  pub told : r ≡ refusal.Form 1 []
-
-abbrev pub IsProgramRefusal : Mode → Program → Refusal → Type 0
-IsProgramRefusal mode p r = IsLimitRefusal mode p r ⊎ IsNotTakenRefusal mode p r
-
--- a tree is refused so: for a fault of names, types or frames, or for one of its program
-abbrev pub IsTreeRefusal : Mode → List (List ℕ) → Tree → Refusal → Type 0
-IsTreeRefusal mode names tree r = IsWalkRefusal names tree r ⊎ ((p : Program) × IsSound names tree p × IsProgramRefusal mode p r)
+-- a tree is refused so: for a fault of names, types or frames, or for a limit that the conditions of its program meet
+abbrev pub IsTreeRefusal : List (List ℕ) → Tree → Refusal → Type 0
+IsTreeRefusal names tree r = IsWalkRefusal names tree r ⊎ ((p : Program) × IsSound names tree p × IsProgramRefusal p r)
 
 -- ---- reports
 
@@ -58,14 +46,14 @@ pub record IsTreeReport (names : List (List ℕ)) (tree : Tree) (mode : Mode) (r
 
 -- ---- what code answers: the refusal, or want of memory, which has no cause
 
-abbrev pub IsProgramCause : Mode → Program → VerifyFault → Type 0
-IsProgramCause mode p (Refused r) = IsProgramRefusal mode p r
-IsProgramCause mode p Memory = ⊤
+abbrev pub IsProgramCause : Program → VerifyFault → Type 0
+IsProgramCause p (Refused r) = IsProgramRefusal p r
+IsProgramCause p Memory = ⊤
 
-abbrev pub IsFramedCause : Mode → List (List ℕ) → Program → VerifyFault → Type 0
-IsFramedCause mode names p (Refused r) = IsFrameRefusal names p r ⊎ ((frame_fault p ≡ None) × IsProgramRefusal mode p r)
-IsFramedCause mode names p Memory = ⊤
+abbrev pub IsFramedCause : List (List ℕ) → Program → VerifyFault → Type 0
+IsFramedCause names p (Refused r) = IsFrameRefusal names p r ⊎ ((frame_fault p ≡ None) × IsProgramRefusal p r)
+IsFramedCause names p Memory = ⊤
 
-abbrev pub IsTreeCause : Mode → List (List ℕ) → Tree → VerifyFault → Type 0
-IsTreeCause mode names tree (Refused r) = IsTreeRefusal mode names tree r
-IsTreeCause mode names tree Memory = ⊤
+abbrev pub IsTreeCause : List (List ℕ) → Tree → VerifyFault → Type 0
+IsTreeCause names tree (Refused r) = IsTreeRefusal names tree r
+IsTreeCause names tree Memory = ⊤

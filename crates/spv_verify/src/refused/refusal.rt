@@ -66,9 +66,6 @@ pub enum Refusal {
     /// The conditions of the program, or their terms, are more than there may be. The line is 1, and the limit is told.
     #[error("the conditions are too many or too large")]
     Size(u32, List<u8>),
-    /// A program of the language that is not of the form that is accepted so far. The line is 1.
-    #[error("the program is not of the form")]
-    Form(u32, List<u8>),
 }
 
 impl Refusal {
@@ -95,7 +92,6 @@ impl Refusal {
             Refusal::Global(line, _) => *line,
             Refusal::Function(line, _) => *line,
             Refusal::Size(line, _) => *line,
-            Refusal::Form(line, _) => *line,
         }
     }
 
@@ -122,7 +118,6 @@ impl Refusal {
             Refusal::Global(_, detail) => detail.as_slice(),
             Refusal::Function(_, detail) => detail.as_slice(),
             Refusal::Size(_, detail) => detail.as_slice(),
-            Refusal::Form(_, detail) => detail.as_slice(),
         }
     }
 
@@ -149,7 +144,6 @@ impl Refusal {
             Refusal::Global(_, _) => b"16 GLOBAL",
             Refusal::Function(_, _) => b"17 FUNCTION",
             Refusal::Size(_, _) => b"19 SIZE",
-            Refusal::Form(_, _) => b"22 FORM",
         }
     }
 }

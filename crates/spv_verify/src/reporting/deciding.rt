@@ -6,7 +6,7 @@ ghost use Rattle.spv_verify.specs.reporting.Parts.{AreFormulasIn};
 ghost use Rattle.spv_reports.specs.Reports.{AreVerdicts, AreVerdictsIn};
 
 use spv_reports::Mode;
-use spv_search::deciding::decide;
+use spv_search::schemas::decide_with_facts;
 use spv_term::{Condition, Terms};
 use spv_verdicts::answers::{Decided, Limits};
 use std::alloc::{AllocError, Global};
@@ -24,7 +24,7 @@ fn decide_all(
 {
     let mut verdicts = Vec::new(alloc);
     for condition in conditions {
-        verdicts.push(decide(alloc, terms, condition, limits)?)?;
+        verdicts.push(decide_with_facts(alloc, terms, condition, limits)?)?;
     }
     Ok(verdicts)
 }

@@ -1,11 +1,11 @@
 // The report on a program is made.
 
-ghost use Rattle.std.specs.Prelude.{◌≡◌, map, None, IsFalse, IsTrue, IfErr, IfOk};
+ghost use Rattle.std.specs.Prelude.{◌≡◌, map, None, IsTrue, IfErr, IfOk};
 ghost use Rattle.spv_program.specs.Typing.{well_typed};
 ghost use Rattle.spv_effects.specs.frame_walk.FrameWalk.{frame_fault};
 ghost use Rattle.spv_verify.specs.reporting.Parts.{AreParts};
-ghost use Rattle.spv_reports.specs.Reports.{IsNotRefused, IsReportFault, IsReportOn, IsTakenFor};
-ghost use Rattle.spv_reports.specs.declared.fault.ReportFault.TheVariants.{NotTaken};
+ghost use Rattle.spv_conditions.specs.Making.{IsLimit};
+ghost use Rattle.spv_reports.specs.Reports.{IsNotRefused, IsReportOn};
 
 use crate::reporting::deciding::decided;
 use spv_assign::creation_trace::GenFault;
@@ -13,8 +13,7 @@ use spv_conditions::{conditions, law_sorted_conditions};
 use spv_logic::list::List;
 use spv_logic::names::{Names, Symbol};
 use spv_program::typed::{Program, Routine};
-use spv_reports::supported::is_taken;
-use spv_reports::{Mode, ProgramNames, Report, ReportFault};
+use spv_reports::{Mode, ProgramNames, Report};
 use spv_term::{Condition, Terms};
 use spv_verdicts::answers::Decided;
 use std::alloc::{AllocError, Global};
@@ -27,31 +26,14 @@ pub(crate) struct Parts {
     pub(crate) verdicts: Vec<Decided>,
 }
 
-// Whether verdicts are wanted on a program that is not verified so far.
-fn is_not_taken(program: &Program, mode: &Mode) -> bool
-    ensures taken { IsFalse result → IsTakenFor mode.now program.now }
-    ensures not_taken { IsTrue result → IsReportFault program.now mode.now NotTaken }
-{
-    match mode {
-        Mode::Verify(_) => !is_taken(program),
-        Mode::Conditions => false,
-    }
-}
-
 // The conditions of a program, and the verdicts on them.
 #[tactic(auto, using(crate::proofs::reporting::Formulas::all_formulas))]
-fn make_parts(alloc: Global, program: &Program, mode: &Mode) -> Result<Parts, ReportFault>
+fn make_parts(alloc: Global, program: &Program, mode: &Mode) -> Result<Parts, GenFault>
     requires typed { IsTrue (well_typed program.now) }
     ensures parts { IfOk result (AreParts program.now mode.now) }
-    ensures fault { IfErr result (IsReportFault program.now mode.now) }
+    ensures fault { IfErr result (λ e. IsLimit e program.now) }
 {
-    if is_not_taken(program, mode) {
-        return Err(ReportFault::NotTaken);
-    }
-    let made = match conditions(alloc, program) {
-        Ok(made) => made,
-        Err(fault) => return Err(ReportFault::Stopped(fault)),
-    };
+    let made = conditions(alloc, program)?;
     made.terms.law_arena();
     law_sorted_conditions();
     let verdicts = decided(alloc, mode, &made.terms, made.list.as_slice())?;
@@ -63,30 +45,24 @@ fn make_parts(alloc: Global, program: &Program, mode: &Mode) -> Result<Parts, Re
 }
 
 /// The report on a program, for what its mode says: the conditions of the definition, in its order, and in the mode `Verify` a
-/// verdict on each, within its limits. `NotTaken`, in the mode `Verify` alone: it is no program that is verified so far. `Stopped`: the
-/// conditions meet a limit, or there is no memory left.
+/// verdict on each, within its limits. Else the limit that the conditions meet, or that there is no memory left.
 pub fn report_on(
     alloc: Global,
     names: Names,
     program: &Program,
     mode: Mode,
-) -> Result<Report, ReportFault>
+) -> Result<Report, GenFault>
     requires typed { IsTrue (well_typed program.now) }
     requires framed { frame_fault program.now ≡ None }
     ensures names { IfOk result (λ r. r.named.names ≡ names) }
     ensures mode { IfOk result (λ r. r.mode ≡ mode) }
     ensures program { IfOk result (IsReportOn program.now) }
     ensures not_refused { IfOk result (IsNotRefused program.now) }
-    ensures fault { IfErr result (IsReportFault program.now mode) }
+    ensures fault { IfErr result (λ e. IsLimit e program.now) }
 {
-    let named = match named_by(alloc, names, program) {
-        Ok(named) => named,
-        Err(_) => return Err(ReportFault::Stopped(GenFault::Memory)),
-    };
-    match make_parts(alloc, program, &mode) {
-        Ok(parts) => Ok(Report::new(named, parts.terms, parts.conditions, mode, parts.verdicts)),
-        Err(fault) => Err(fault),
-    }
+    let named = named_by(alloc, names, program)?;
+    let parts = make_parts(alloc, program, &mode)?;
+    Ok(Report::new(named, parts.terms, parts.conditions, mode, parts.verdicts))
 }
 
 // The names that a program gives, of which this is the table.

@@ -3,32 +3,18 @@
 ghost use Rattle.std.specs.Prelude.{◌≡◌, IfErr, IfOk, IsTrue, None, OnOk};
 ghost use Rattle.spv_effects.specs.frame_walk.FrameWalk.{frame_fault};
 ghost use Rattle.spv_tree.specs.syntax.Reads.{well_formed};
-ghost use Rattle.spv_program.specs.Programs as plain;
 ghost use Rattle.spv_program.specs.Typing.{well_typed};
-ghost use Rattle.spv_reports.specs.declared.mode.Mode.{Mode};
-ghost use Rattle.spv_reports.specs.Reports.{IsReportFault};
-ghost use Rattle.spv_verify.specs.tree_reports.Programs.{IsFramedCause, IsFramedReport, IsProgramCause, IsTreeCause, IsTreeReport};
+ghost use Rattle.spv_verify.specs.tree_reports.Programs.{IsFramedCause, IsFramedReport, IsTreeCause, IsTreeReport};
 ghost use Rattle.spv_verify.specs.tree_reports.Walks.{IsFrameCause, IsTypeCause, is_typed_as};
 
-use crate::refused::{Refusal, VerifyFault, of_frames, of_limits, of_types};
+use crate::refused::{VerifyFault, of_frames, of_limits, of_types};
 use crate::reporting::report_on;
 use spv_frame_check::checked;
-use spv_logic::list::List;
 use spv_logic::names::Names;
-use spv_reports::{Mode, Report, ReportFault};
+use spv_reports::{Mode, Report};
 use spv_tree::syntax::Program;
 use spv_types::{Typed, typed};
 use std::alloc::Global;
-
-// What a program without a report is refused for.
-fn told(alloc: Global, fault: ReportFault) -> VerifyFault
-    ensures { (p : plain.Program) (mode : Mode) → IsReportFault p mode fault → IsProgramCause mode p result }
-{
-    match fault {
-        ReportFault::Stopped(limit) => of_limits(alloc, limit),
-        ReportFault::NotTaken => VerifyFault::Refused(Refusal::Form(1, List::new(alloc))),
-    }
-}
 
 // Whether a typed program keeps the rules of frames; else what it is refused for.
 #[tactic(auto, using(crate::proofs::tree_reports::Causes::frame_cause))]
@@ -56,12 +42,12 @@ fn framed_report(
 ) -> Result<Report, VerifyFault>
     requires typed { IsTrue (well_typed program.now) }
     ensures report { IfOk result (IsFramedReport names program.now mode) }
-    ensures cause { IfErr result (IsFramedCause mode names program.now) }
+    ensures cause { IfErr result (IsFramedCause names program.now) }
 {
     match check_frames(alloc, program, &names) {
         Ok(()) => match report_on(alloc, names, program, mode) {
             Ok(report) => Ok(report),
-            Err(fault) => Err(told(alloc, fault)),
+            Err(fault) => Err(of_limits(alloc, fault)),
         },
         Err(fault) => Err(fault),
     }
@@ -81,8 +67,8 @@ fn typed_program(alloc: Global, tree: &Program, names: &Names) -> Result<Typed, 
 }
 
 /// The report of a text's tree, for what its mode says; or what the text is refused for: its first fault of names and types, else of
-/// frames; and where it has none, that verdicts are wanted and no such program is verified so far, or that its conditions are too many or too
-/// large. The tree is well formed, as each tree is that a reading answers, and the names are those of the table.
+/// frames; and where it has none, that its conditions are too many or too large. The tree is well formed, as each tree is that a reading
+/// answers, and the names are those of the table.
 /// Memory: there was not enough of it.
 pub fn report_of(
     alloc: Global,
@@ -92,7 +78,7 @@ pub fn report_of(
 ) -> Result<Report, VerifyFault>
     requires formed { IsTrue (well_formed tree.now) }
     ensures report { IfOk result (IsTreeReport names tree.now mode) }
-    ensures cause { IfErr result (IsTreeCause mode names tree.now) }
+    ensures cause { IfErr result (IsTreeCause names tree.now) }
 {
     let program = match typed_program(alloc, tree, &names) {
         Ok(program) => program,

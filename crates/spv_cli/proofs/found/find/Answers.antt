@@ -17,7 +17,7 @@ returns-in-Ok-report_of-clause-found g c =
 pub returns-in-Err-Refused-clause-found : goal.returns-in-Err-Refused-clause-found
 returns-in-Err-Refused-clause-found g c =
     let r = c.in-Err-Refused.refusal in
-    let here : IsRefused c.args.mode c.deref.result.now r = subst (IsCause c.args.mode c.deref.result.now) c.in-Err-Refused.field-0-is c.in-Err-Refused.ensures.cause in (
+    let here : IsRefused c.deref.result.now r = subst (IsCause c.deref.result.now) c.in-Err-Refused.field-0-is c.in-Err-Refused.ensures.cause in (
       record { asked = c.in-Ok.ensures.asked_ok; faults = c.in-Ok.ensures.faults_ok },
-      if_told (g.T.Texts.told c.args.texts.now c.args.file.now) c.in-Ok.text.items (λ text. IsRefused c.args.mode text r) c.in-Ok.ensures.text (λ text h. refused_whole c.args.mode text r h) (subst (λ t. IsRefused c.args.mode t r) c.deref.ensures.value here),
+      if_told (g.T.Texts.told c.args.texts.now c.args.file.now) c.in-Ok.text.items (λ text. IsRefused text r) c.in-Ok.ensures.text (λ text h. refused_whole text r h) (subst (λ t. IsRefused t r) c.deref.ensures.value here),
     )

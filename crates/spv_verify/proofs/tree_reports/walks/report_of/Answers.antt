@@ -9,7 +9,7 @@ pub framed_report-answer-requires : goal.framed_report-answer-requires
 framed_report-answer-requires c = record { typed = subst (λ p. IsTrue (well_typed p)) (sym c.program.ensures) c.law_well_typed.ensures }
 
 pub returns-in-Err-clause-cause : goal.returns-in-Err-clause-cause
-returns-in-Err-clause-cause c = type_tree_cause c.args.mode c.args.names c.args.tree.now c.in-Err.fault c.in-Err.ensures.cause
+returns-in-Err-clause-cause c = type_tree_cause c.args.names c.args.tree.now c.in-Err.fault c.in-Err.ensures.cause
 
 pub returns-clause-report : goal.returns-clause-report
 returns-clause-report c =
@@ -21,4 +21,4 @@ pub returns-clause-cause : goal.returns-clause-cause
 returns-clause-cause c =
     let r = c.framed_report-answer.result in
     framed_tree_causes c.args.mode c.args.names c.args.tree.now c.in-Ok.program c.in-Ok.ensures.typed r
-    (subst (λ p. IfErr r (IsFramedCause c.args.mode c.args.names p)) c.program.ensures c.framed_report-answer.ensures.cause)
+    (subst (λ p. IfErr r (IsFramedCause c.args.names p)) c.program.ensures c.framed_report-answer.ensures.cause)
