@@ -6,7 +6,7 @@ use Rattle.std.proofs.lemmas.Bool.{false≢true}
 use Rattle.std.proofs.lemmas.Map.Keys.{IsDistinct-push}
 use Rattle.std.proofs.lemmas.Map.Made.{length-le_from_is_member}
 use Rattle.spv_logic.specs.declared.operators.Head.{Head}
-use Rattle.spv_logic.specs.declared.operators.Head.TheVariants.{Num, True, False}
+use Rattle.spv_logic.specs.declared.operators.Head.TheVariants.{Num, Not, True, False}
 use Rattle.spv_logic.specs.Terms.{Term, Terms, term, no_terms, terms, term_eq}
 use Rattle.spv_logic.specs.Formulas.{negation}
 use Rattle.spv_logic.proofs.Equality.{term_eq-true, term_eq-refl}
@@ -144,20 +144,16 @@ module _ (all : List Term) (inside : IsInside all) where
 alone_or : (k h : Head) (ts : Terms) (others : List Term) → has (term k no_terms ∷ others) (term h ts) ≡ true → (has others (term h ts) ≡ true → ts ≡ no_terms) → ts ≡ no_terms
 alone_or k h ts others m next = or_cases (term_eq (term h ts) (term k no_terms)) (has others (term h ts)) m (λ e. rest_is h k ts no_terms (term_eq-true (term h ts) (term k no_terms) e)) next
 
+abbrev from_one : List Term
+from_one = term (Num (pos 1)) no_terms ∷ term True no_terms ∷ term False no_terms ∷ []
+
+abbrev from_truth : List Term
+from_truth = term True no_terms ∷ term False no_terms ∷ []
+
 -- 0, 1, TRUE and FALSE have no arguments
 base-alone : (h : Head) (ts : Terms) → has base_terms (term h ts) ≡ true → ts ≡ no_terms
 base-alone h ts m =
-    alone_or (Num (pos 0)) h ts (one ∷ truth ∷ falsity ∷ []) m
-    (λ k. alone_or (Num (pos 1)) h ts (truth ∷ falsity ∷ []) k (λ l. alone_or True h ts (falsity ∷ []) l (λ n. alone_or False h ts [] n (λ o. absurd (false≢true o)))))
-  where
-    abbrev one : Term
-    one = term (Num (pos 1)) no_terms
-
-    abbrev truth : Term
-    truth = term True no_terms
-
-    abbrev falsity : Term
-    falsity = term False no_terms
+    alone_or (Num (pos 0)) h ts from_one m (λ k. alone_or (Num (pos 1)) h ts from_truth k (λ l. alone_or True h ts (term False no_terms ∷ []) l (λ n. alone_or False h ts [] n (λ o. absurd (false≢true o)))))
 
 module _ (q : Question) where
   abbrev goal_false : Term
@@ -185,7 +181,7 @@ module _ (q : Question) where
       (λ k. arguments-more counted_parts parts ts (with_terms-has base_terms counted_parts) (subterms-inside (formulas_of q.sequent ++ further_facts q) h ts k))
 
   all-inside : IsInside all
-  all-inside = one_inside parts _ (terms q.sequent.goal no_terms) parts-inside (goal-there, tt)
+  all-inside = one_inside parts Not (terms q.sequent.goal no_terms) parts-inside (goal-there, tt)
 
   formula-there : (f : Term) → has (formulas_of q.sequent ++ further_facts q) f ≡ true → has all f ≡ true
   formula-there f m = has-with_term parts goal_false f (with_terms-has base_terms counted_parts f (subterms-has (formulas_of q.sequent ++ further_facts q) f m))

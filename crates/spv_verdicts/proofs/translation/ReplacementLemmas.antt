@@ -152,10 +152,11 @@ all-replaced q falsity steps is s = record { shapes = refl; decls = refl; at = r
 -- ---- the table as it grows
 
 -- one hypothesis more
-given-more : (place n : ℕ) → given_behind place n ++ step.Given (place + n + 1) ∷ [] ≡ given_behind place (n + 1)
-given-more place zero = 
+pub given-more : (place n : ℕ) → given_behind place n ++ step.Given (place + n + 1) ∷ [] ≡ given_behind place (n + 1)
+given-more place zero =
     let same : place + 0 + 1 ≡ suc place = omega arith in
     ap (λ k. step.Given k ∷ []) same
 given-more place (suc n) =
     let same : place + suc n + 1 ≡ suc place + n + 1 = omega arith in
-    ap (λ k. (step.Given (suc place) ∷ given_behind (suc place) n) ++ step.Given k ∷ []) same ∙ ap (λ ss. step.Given (suc place) ∷ ss) (given-more (suc place) n)
+    let next : suc (n + 1) ≡ suc n + 1 = omega arith in
+    ap (λ k. (step.Given (suc place) ∷ given_behind (suc place) n) ++ step.Given k ∷ []) same ∙ (ap (λ ss. step.Given (suc place) ∷ ss) (given-more (suc place) n) ∙ ap (given_behind place) next)
