@@ -1,10 +1,15 @@
 -- The atoms of a condition are the first ones of what is refuted with facts of schemas, so a branch of the latter begins with one of the former.
-use Rattle.std.proofs.Common.{◌≡◌, ℕ, zero, suc, Bool, true, false, cond, List, [], ◌∷◌, ◌++◌, map, take, length, refl, sym, ap, ◌∙◌, Some}
+use Rattle.std.proofs.Common.{◌≡◌, ℕ, zero, suc, Bool, true, false, cond, List, [], ◌∷◌, ◌++◌, map, take, length, refl, sym, ap, ◌∙◌, subst, Some}
 use Rattle.std.specs.Prelude.{slice_get, Ok}
 use Rattle.std.proofs.lemmas.List.{append-nil, append_assoc, take-map, take_at}
 use Rattle.spv_whole.specs.Fraction.{Fraction}
 use Rattle.spv_logic.specs.declared.operators.Head.TheVariants.{False}
 use Rattle.spv_logic.specs.Terms.{Term, term, no_terms}
+use Rattle.spv_logic.specs.declared.conditions.TermId.{TermId}
+use Rattle.spv_term.specs.declared.nodes.Condition.{Condition}
+use Rattle.spv_term.specs.Arena.{Arena}
+use Rattle.spv_proof_rules.specs.Stand.{question}
+use Rattle.spv_verdicts.specs.answers.Views.{case_in, branch_in}
 use Rattle.spv_logic.specs.Formulas.{negation}
 use Rattle.spv_atoms.specs.Atoms.{atoms_in, with_term, with_terms, with_atoms}
 use Rattle.spv_atoms.proofs.Members.{has}
@@ -85,3 +90,10 @@ own-survives q branch table s = record {
   atoms = sym (take-map (λ p. p.0) (length (condition_atoms q)) branch) ∙ (ap (take (length (condition_atoms q))) s.atoms ∙ own-first q);
   truths = λ i p at. s.truths i p (taken-there (length (condition_atoms q)) branch i p at);
 }
+
+-- the same over ids
+pub own-cases : (a : Arena) (c : Condition) (branch own : List (TermId × Bool)) → own ≡ take (length (condition_atoms (question a c))) branch → (table : List (Term × Fraction)) → Survives (enlarged (question a c)) (branch_in a branch) table
+    → SurvivesFacts (question a c) (branch_in a own) table
+own-cases a c branch own first table s =
+    let same : take (length (condition_atoms (question a c))) (branch_in a branch) ≡ branch_in a own = take-map (case_in a) (length (condition_atoms (question a c))) branch ∙ ap (branch_in a) (sym first) in
+    subst (λ cases. SurvivesFacts (question a c) cases table) same (own-survives (question a c) (branch_in a branch) table s)

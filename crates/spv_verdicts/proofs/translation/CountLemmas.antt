@@ -1,8 +1,9 @@
 -- A search that refutes all together has at most one term more than those that count.
-use Rattle.std.proofs.Common.{◌≡◌, ℕ, ◌≤◌, Bool, true, false, cond, List, [], ◌∷◌, ◌++◌, length, refl, sym, ap, ◌∙◌, subst, pos}
+use Rattle.std.proofs.Common.{◌≡◌, ℕ, ◌+◌, ◌≤◌, Bool, true, false, cond, List, [], ◌∷◌, ◌++◌, length, refl, sym, ap, ◌∙◌, subst, pos, arith}
 use Rattle.std.specs.Cmp.{IsEquivalence}
 use Rattle.std.specs.List.{IsDistinct}
 use Rattle.std.proofs.lemmas.Bool.{false≢true}
+use Rattle.std.proofs.lemmas.List.{length_push}
 use Rattle.std.proofs.lemmas.Map.Keys.{IsDistinct-push}
 use Rattle.std.proofs.lemmas.Map.Made.{length-le_from_is_member}
 use Rattle.spv_logic.specs.declared.operators.Head.{Head}
@@ -12,7 +13,7 @@ use Rattle.spv_logic.specs.Formulas.{negation}
 use Rattle.spv_logic.proofs.Equality.{term_eq-true, term_eq-refl}
 use Rattle.spv_atoms.specs.Atoms.{with_term, with_terms}
 use Rattle.spv_atoms.specs.Order.{order, order_all}
-use Rattle.spv_atoms.proofs.Members.{has, or_cases, or_left, or_right, has-left, has-right, has-parts, has-with_term, with_term-has, has-with_terms, with_terms-has, has_one}
+use Rattle.spv_atoms.proofs.Members.{has, or_cases, or_left, or_right, has-left, has-right, has-parts, has-with_term, with_term-known, with_term-has, has-with_terms, with_terms-has, has_one}
 use Rattle.spv_proof_rules.specs.Effects.{Question}
 use Rattle.spv_models.specs.leaf_models.Atoms.{all_equations}
 use Rattle.spv_models.specs.leaf_models.Subterms.{enters_each, with_subterms, subterms}
@@ -190,17 +191,17 @@ module _ (q : Question) where
   refuted-there f m =
       has-parts (refuted q) (term False no_terms ∷ []) f m
       (λ k. has-parts q.sequent.given (goal_false ∷ further_facts q) f k
-          (λ l. formula-there f (has-left (formulas_of q.sequent) (further_facts q) f (has-left q.sequent.given (q.sequent.goal ∷ []) f l)))
-          (λ l. or_cases (term_eq f goal_false) (has (further_facts q) f) l (λ e. ap (has all) (term_eq-true f goal_false e) ∙ with_term-has parts goal_false)
-              (λ n. formula-there f (has-right (formulas_of q.sequent) (further_facts q) f n))))
+      (λ l. formula-there f (has-left (formulas_of q.sequent) (further_facts q) f (has-left q.sequent.given (q.sequent.goal ∷ []) f l)))
+      (λ l. or_cases (term_eq f goal_false) (has (further_facts q) f) l (λ e. ap (has all) (term_eq-true f goal_false e) ∙ with_term-has parts goal_false)
+      (λ n. formula-there f (has-right (formulas_of q.sequent) (further_facts q) f n))))
       (λ k. has-with_term parts goal_false f (has-with_terms base_terms counted_parts f (ap (has base_terms) (has_one f (term False no_terms) k) ∙ refl)))
 
   term-there : (u : Term) → has (search_terms (enlarged q)) u ≡ true → has (with_term (counted_terms q) goal_false) u ≡ true
   term-there u m =
       terms-parts (all_terms (enlarged q).sequent) equations u m
       (λ k. terms-parts base_terms (subterms (formulas_of (enlarged q).sequent)) u k
-          (λ l. has-with_term (counted_terms q) goal_false u (has-with_terms parts equations u (has-with_terms base_terms counted_parts u l)))
-          (λ l. from_all (with_subterms-within all all-inside (formulas_of (enlarged q).sequent) [] refuted-there (λ v n. absurd (false≢true n)) u l)))
+      (λ l. has-with_term (counted_terms q) goal_false u (has-with_terms parts equations u (has-with_terms base_terms counted_parts u l)))
+      (λ l. from_all (with_subterms-within all all-inside (formulas_of (enlarged q).sequent) [] refuted-there (λ v n. absurd (false≢true n)) u l)))
       (λ k. has-with_term (counted_terms q) goal_false u (with_terms-has parts equations u k))
     where
       from_all : has all u ≡ true → has (with_term (counted_terms q) goal_false) u ≡ true
@@ -210,3 +211,13 @@ module _ (q : Question) where
   few-terms =
       length-le_from_is_member term_laws (search_terms (enlarged q)) (with_term (counted_terms q) goal_false)
       (distinct-with_terms (all_terms (enlarged q).sequent) equations (distinct-with_terms base_terms (subterms (formulas_of (enlarged q).sequent)) distinct-base)) term-there
+
+  pub one-more : length (search_terms (enlarged q)) ≤ length (counted_terms q) + 1
+  one-more = by_case (has (counted_terms q) goal_false) few-terms
+    where
+      by_case : (b : Bool) → length (search_terms (enlarged q)) ≤ length (cond b (counted_terms q) (counted_terms q ++ goal_false ∷ [])) → length (search_terms (enlarged q)) ≤ length (counted_terms q) + 1
+      by_case true h = omega (arith, h)
+      by_case false h = let e = length_push (counted_terms q) goal_false in omega (arith, h, e)
+
+  pub none-more : has (counted_terms q) goal_false ≡ true → length (search_terms (enlarged q)) ≤ length (counted_terms q)
+  none-more h = subst (λ xs. length (search_terms (enlarged q)) ≤ length xs) (with_term-known (counted_terms q) goal_false h) few-terms

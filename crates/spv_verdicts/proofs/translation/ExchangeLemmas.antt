@@ -1,11 +1,13 @@
 -- Proofs in which other steps stand where hypotheses were cited lead to where the first ones do.
-use Rattle.std.proofs.Common.{◌≡◌, ℕ, Bool, true, List, [], ◌∷◌, ◌++◌, refl, sym, ap, ◌∙◌, Option, Some, None}
+use Rattle.std.proofs.Common.{◌≡◌, ℕ, suc, Bool, true, ◌&&◌, List, [], ◌∷◌, ◌++◌, refl, sym, ap, ◌∙◌, Option, Some, None}
+use Rattle.std.specs.Prelude.{nat_eq}
 use Rattle.spv_logic.specs.Terms.{Term}
 use Rattle.spv_logic.specs.Conditions.{Sequent}
 use Rattle.spv_atoms.specs.declared.proofs.Step.{Step}
 use Rattle.spv_atoms.specs.declared.proofs.Step.TheVariants as step
 use Rattle.spv_atoms.specs.declared.proofs.Split.{Split}
 use Rattle.spv_atoms.specs.declared.proofs.ProofNode.{ProofNode}
+use Rattle.spv_atoms.specs.Shape.{has_cases, parts_of, in_order, is_tree}
 use Rattle.spv_proof_rules.specs.Effects.{Question, Effect, Adds, Ends, Fails, effect}
 use Rattle.spv_proof_rules.specs.Accepted.{Path, Open, Closed, Broken, closed_if_last, on_effect, walk, after_node, on_opened, closes, accepts}
 use Rattle.spv_verdicts.specs.translation.Exchanged.{exchanged_step, exchanged_steps, exchanged_node, exchanged_nodes, Exchanges}
@@ -86,3 +88,14 @@ module _ (e q : Question) (table : List Step) (x : Exchanges e q table) where
 
   pub accepts-exchanged : (nodes : List ProofNode) → accepts e nodes ≡ true → accepts q (exchanged_nodes table nodes) ≡ true
   accepts-exchanged nodes h = sym (closes-exchanged ([] ∷ []) nodes) ∙ h
+
+-- ---- the nodes stand as they did
+
+order-stays : (table : List Step) (place : ℕ) (wanted : List ℕ) (nodes : List ProofNode) → in_order place wanted (exchanged_nodes table nodes) ≡ in_order place wanted nodes
+order-stays table place [] [] = refl
+order-stays table place [] (n ∷ nodes) = refl
+order-stays table place (w ∷ others) [] = refl
+order-stays table place (w ∷ others) (n ∷ nodes) = ap (λ b. nat_eq w place && (has_cases n.split && b)) (order-stays table (suc place) (parts_of n.split ++ others) nodes)
+
+pub tree-stays : (table : List Step) (nodes : List ProofNode) → is_tree nodes ≡ true → is_tree (exchanged_nodes table nodes) ≡ true
+tree-stays table nodes h = order-stays table 0 (0 ∷ []) nodes ∙ h

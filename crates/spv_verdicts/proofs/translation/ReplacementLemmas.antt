@@ -14,6 +14,7 @@ use Rattle.spv_logic.specs.Sorts.{term_sort}
 use Rattle.spv_schemas.specs.declared.kinds.SchemaKind.{SchemaKind}
 use Rattle.spv_schemas.specs.Kinds.{kinds, kind_of_number}
 use Rattle.spv_schemas.specs.Instances.{SchemaInstance, instance_fact, subjects, fields_for, instances_of, schemas, schema_facts}
+use Rattle.spv_atoms.specs.declared.proofs.Stated.TheVariants.{Is}
 use Rattle.spv_atoms.specs.declared.proofs.Step.{Step}
 use Rattle.spv_atoms.specs.declared.proofs.Step.TheVariants as step
 use Rattle.spv_proof_rules.specs.Effects.{Question, Adds, Fails, is_truth, effect, given_effect, adds_known, evaluated, fact_of_kind, schema_stated}
@@ -160,3 +161,8 @@ given-more place (suc n) =
     let same : place + suc n + 1 ≡ suc place + n + 1 = omega arith in
     let next : suc (n + 1) ≡ suc n + 1 = omega arith in
     ap (λ k. (step.Given (suc place) ∷ given_behind (suc place) n) ++ step.Given k ∷ []) same ∙ (ap (λ ss. step.Given (suc place) ∷ ss) (given-more (suc place) n) ∙ ap (given_behind place) next)
+
+pub table-more : (falsity : TermId) (n k : ℕ) (before after : List Step) → before ≡ step.Eval (Is falsity false) [] ∷ given_behind 0 n → k ≡ n + 1 → after ≡ before ++ step.Given k ∷ [] → after ≡ step.Eval (Is falsity false) [] ∷ given_behind 0 (n + 1)
+table-more falsity n k before after h e add =
+    let number : k ≡ 0 + n + 1 = omega arith in
+    add ∙ (ap (λ ss. ss ++ step.Given k ∷ []) h ∙ (ap (λ m. (step.Eval (Is falsity false) [] ∷ given_behind 0 n) ++ step.Given m ∷ []) number ∙ ap (λ ss. step.Eval (Is falsity false) [] ∷ ss) (given-more 0 n)))

@@ -1,5 +1,5 @@
 -- What is true of what is refuted together with facts of schemas.
-use Rattle.std.specs.Prelude.{◌≡◌, ℕ, ◌≤◌, Bool, true, List, take, length}
+use Rattle.std.specs.Prelude.{◌≡◌, ℕ, ◌+◌, ◌≤◌, Bool, true, List, take, length}
 use Rattle.spv_whole.specs.Fraction.{Fraction}
 use Rattle.spv_logic.specs.declared.conditions.TermId.{TermId}
 use Rattle.spv_logic.specs.declared.operators.Head.TheVariants.{False}
@@ -10,6 +10,7 @@ use Rattle.spv_atoms.specs.declared.proofs.ProofNode.{ProofNode}
 use Rattle.spv_atoms.specs.Atoms.{with_term}
 use Rattle.spv_proof_rules.specs.Effects.{Question}
 use Rattle.spv_proof_rules.specs.Accepted.{walk, closes, accepts}
+use Rattle.spv_models.specs.leaf_models.Subterms.{is_among}
 use Rattle.spv_models.specs.split_trees.Trees.{Tree}
 use Rattle.spv_models.specs.split_trees.Kept.{IsKept}
 use Rattle.spv_verdicts.specs.Verdicts.{condition_atoms, search_terms, Survives}
@@ -52,6 +53,14 @@ BranchSurvives = (q : Question) (branch : List (Term × Bool)) (table : List (Te
 
 -- ---- terms
 
--- a search that refutes all together has no terms but those that count, and that the goal is false
+-- a search that refutes all together has no more terms than those that count and the negation of the goal
 abbrev pub CountsAreClose : Type 0
 CountsAreClose = (q : Question) → length (search_terms (enlarged q)) ≤ length (with_term (counted_terms q) (negation q.sequent.goal))
+
+-- so it has at most one more than those that count
+abbrev pub AtMostOneMore : Type 0
+AtMostOneMore = (q : Question) → length (search_terms (enlarged q)) ≤ length (counted_terms q) + 1
+
+-- and none where that negation counts
+abbrev pub NoneMore : Type 0
+NoneMore = (q : Question) → is_among (counted_terms q) (negation q.sequent.goal) ≡ true → length (search_terms (enlarged q)) ≤ length (counted_terms q)

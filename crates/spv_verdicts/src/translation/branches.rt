@@ -29,7 +29,7 @@ pub fn own_branch(
         (λ own. own ≡ take (length (condition_atoms (question terms.now condition.now))) branch.now) }
     ensures survives { IfOk result
         (λ own. (table : Items (Term × Fraction)) → Survives (enlarged (question terms.now condition.now)) (branch_in terms.now branch.now) table
-            → SurvivesFacts (question terms.now condition.now) (branch_in terms.now own) table) }
+        → SurvivesFacts (question terms.now condition.now) (branch_in terms.now own) table) }
     ensures terms { IfOk result (λ own. CasesIn terms.now branch.now → CasesIn terms.now own) }
 {
     let count = atoms_of(alloc, terms, condition)?.len().min(branch.len());

@@ -16,11 +16,7 @@ use spv_logic::list::List;
 use std::alloc::{AllocError, Global};
 
 // A copy of the step that takes a step's place.
-fn exchanged_step(
-    alloc: Global,
-    replacements: &[Step],
-    step: &Step,
-) -> Result<Step, AllocError>
+fn exchanged_step(alloc: Global, replacements: &[Step], step: &Step) -> Result<Step, AllocError>
     ensures { IfOk result (λ s. s ≡ exchanged_step replacements.now step.now) }
 {
     if let Step::Given(k) = step {

@@ -1,6 +1,6 @@
 // What is true of what is refuted together with facts of schemas, each law the contract of a function that does nothing.
 
-ghost use Rattle.spv_verdicts.specs.translation.Laws.{BranchSurvives, CountsAreClose, ExchangedIsAccepted, ExchangedIsKept, ExchangedLeads, ExchangedCloses, ReplacementsExchange};
+ghost use Rattle.spv_verdicts.specs.translation.Laws.{AtMostOneMore, BranchSurvives, CountsAreClose, ExchangedIsAccepted, ExchangedIsKept, ExchangedLeads, ExchangedCloses, NoneMore, ReplacementsExchange};
 
 /// Where steps that take the place of hypotheses do the same, each list of steps leads to where the one
 /// with these steps does, and so does each proof: one that is accepted of one question is then accepted of the other.
@@ -26,7 +26,10 @@ pub fn law_branch()
     ensures { BranchSurvives }
 {}
 
-/// A search that refutes all together has at most one term more than those that count: that the goal is false.
+/// A search that refutes all together has at most one term more than those that count, the negation of the
+/// goal, and no more where that counts too.
 pub fn law_counted_terms()
-    ensures { CountsAreClose }
+    ensures close { CountsAreClose }
+    ensures one_more { AtMostOneMore }
+    ensures none_more { NoneMore }
 {}

@@ -5,4 +5,4 @@ use Rattle.spv_verdicts.specs.translation.Replacements.{given_behind}
 use Rattle.spv_verdicts.proofs.translation.replacements.replacements_of.Given as goal
 
 abbrev pub invariant-loop-place : goal.invariant-loop-place
-invariant-loop-place l = l.steps.items ≡ Eval (Is l.falsity false) [] ∷ given_behind 0 l.place
+invariant-loop-place l = l.steps.items ≡ Eval (Is l.fn.falsity false) [] ∷ given_behind 0 l.place
