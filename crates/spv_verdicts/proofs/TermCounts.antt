@@ -18,7 +18,7 @@ use Rattle.spv_models.specs.split_trees.Paths.{atoms}
 use Rattle.spv_search_terms.specs.condition_copy.Copies.{base_terms, all_terms}
 use Rattle.spv_verdicts.specs.Verdicts.{search_terms, HasTooManyTerms}
 
-terms-parts : {A : Type 0} (xs ts : List Term) (u : Term) → has (with_terms xs ts) u ≡ true → (has xs u ≡ true → A) → (has ts u ≡ true → A) → A
+pub terms-parts : {A : Type 0} (xs ts : List Term) (u : Term) → has (with_terms xs ts) u ≡ true → (has xs u ≡ true → A) → (has ts u ≡ true → A) → A
 terms-parts xs [] u h f g = f h
 terms-parts xs (t ∷ ts) u h f g =
     terms-parts (with_term xs t) ts u h

@@ -1,3 +1,3 @@
-mod AtomLemmas
+pub mod AtomLemmas
 pub mod ShownLemmas
 mod LoopLemmas

@@ -7,3 +7,4 @@ pub mod Examples
 pub mod answers
 pub mod model_check
 pub mod candidate_models
+pub mod translation

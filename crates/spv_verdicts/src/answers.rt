@@ -6,6 +6,7 @@ mod limits;
 mod trees;
 mod verdicts;
 
+pub(crate) use growing::number_of;
 pub use growing::{Grown, grown_tree};
 pub use laws::{law_closed, law_tree};
 pub use limits::Limits;

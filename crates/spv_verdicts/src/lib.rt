@@ -5,5 +5,6 @@ pub mod answers;
 pub mod candidate_models;
 mod laws;
 pub mod model_check;
+pub mod translation;
 
 pub use laws::{law_examples, law_splits, law_terms};

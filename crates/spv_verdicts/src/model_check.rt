@@ -3,5 +3,6 @@
 mod evaluating;
 mod faults;
 
+pub(crate) use evaluating::atoms_of;
 pub use evaluating::surviving;
 pub use faults::SurvivingFault;

@@ -70,7 +70,7 @@ fn place_node(
 }
 
 // A number of 32 bits; want of memory where it has more.
-fn number_of(place: usize) -> Result<u32, AllocError>
+pub(crate) fn number_of(place: usize) -> Result<u32, AllocError>
     ensures { IfOk result (λ n. n ≡ place) }
 {
     if place > u32::MAX as usize {

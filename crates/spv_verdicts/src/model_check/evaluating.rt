@@ -69,7 +69,11 @@ fn add_atoms(terms: &Terms, fs: &[TermId], out: &mut Vec<TermId>) -> Result<(), 
 }
 
 // The atoms of a condition.
-fn atoms_of(alloc: Global, terms: &Terms, condition: &Condition) -> Result<Vec<TermId>, AllocError>
+pub(crate) fn atoms_of(
+    alloc: Global,
+    terms: &Terms,
+    condition: &Condition,
+) -> Result<Vec<TermId>, AllocError>
     requires given { AllBelow (length terms.now.nodes) condition.now.given }
     requires goal { condition.now.goal.0 < length terms.now.nodes }
     ensures atoms { IfOk result

@@ -1,0 +1,4 @@
+pub mod Exchanged
+pub mod ExchangedTrees
+pub mod Replacements
+pub mod Laws
