@@ -8,7 +8,7 @@ pub returns-clause-atoms : goal.returns-clause-atoms
 returns-clause-atoms c = atoms-there
 
 pub returns-clause-copies : goal.returns-clause-copies
-returns-clause-copies c a q limits h = copies-stop q h
+returns-clause-copies c a q limits h = copies-stop q limits.terms h
 
 pub returns-clause-asks : goal.returns-clause-asks
-returns-clause-asks c a q limits e f s = asks-stop q a e f s
+returns-clause-asks c a q limits e f s = asks-stop q limits.terms a e f s
