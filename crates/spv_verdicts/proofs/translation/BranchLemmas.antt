@@ -1,6 +1,6 @@
 -- The atoms of a condition are the first ones of what is refuted with facts of schemas, so a branch of the latter begins with one of the former.
-use Rattle.std.proofs.Common.{◌≡◌, ℕ, zero, suc, Bool, true, false, cond, List, [], ◌∷◌, ◌++◌, map, take, length, refl, sym, ap, ◌∙◌, subst, Some}
-use Rattle.std.specs.Prelude.{slice_get, Ok}
+use Rattle.std.proofs.Common.{◌≡◌, ℕ, zero, suc, Bool, true, false, cond, List, [], ◌∷◌, ◌++◌, take, length, refl, sym, ap, ◌∙◌, subst, Some}
+use Rattle.std.specs.Prelude.{slice_get}
 use Rattle.std.proofs.lemmas.List.{append-nil, append_assoc, take-map, take_at}
 use Rattle.spv_whole.specs.Fraction.{Fraction}
 use Rattle.spv_logic.specs.declared.operators.Head.TheVariants.{False}
@@ -13,7 +13,6 @@ use Rattle.spv_verdicts.specs.answers.Views.{case_in, branch_in}
 use Rattle.spv_logic.specs.Formulas.{negation}
 use Rattle.spv_atoms.specs.Atoms.{atoms_in, with_term, with_terms, with_atoms}
 use Rattle.spv_atoms.proofs.Members.{has}
-use Rattle.spv_table.specs.Values.{holds, listed_in}
 use Rattle.spv_proof_rules.specs.Effects.{Question, is_truth}
 use Rattle.spv_verdicts.specs.Verdicts.{with_all_atoms, condition_atoms, Survives}
 use Rattle.spv_verdicts.specs.Schemas.{enlarged, further_facts, SurvivesFacts}

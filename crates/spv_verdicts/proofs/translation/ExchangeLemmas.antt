@@ -10,7 +10,7 @@ use Rattle.spv_atoms.specs.declared.proofs.ProofNode.{ProofNode}
 use Rattle.spv_atoms.specs.Shape.{has_cases, parts_of, in_order, is_tree}
 use Rattle.spv_proof_rules.specs.Effects.{Question, Effect, Adds, Ends, Fails, effect}
 use Rattle.spv_proof_rules.specs.Accepted.{Path, Open, Closed, Broken, closed_if_last, on_effect, walk, after_node, on_opened, closes, accepts}
-use Rattle.spv_verdicts.specs.translation.Exchanged.{exchanged_step, exchanged_steps, exchanged_node, exchanged_nodes, Exchanges}
+use Rattle.spv_verdicts.specs.translation.Exchanged.{exchanged_step, exchanged_steps, exchanged_nodes, Exchanges}
 
 -- a question with other hypotheses and another goal
 abbrev with_sequent : Question → Sequent → Question

@@ -1,6 +1,6 @@
 -- Where the terms of a proof and of the steps that take the place of hypotheses are in an arena, so are those of what comes of both.
 use Rattle.std.proofs.Common.{ℕ, zero, suc, List, [], ◌∷◌, ◌++◌, take}
-use Rattle.std.specs.Prelude.{Bool, false, slice_index_or}
+use Rattle.std.specs.Prelude.{Bool, slice_index_or}
 use Rattle.spv_logic.specs.declared.conditions.TermId.{TermId}
 use Rattle.spv_term.specs.Arena.{Arena}
 use Rattle.spv_atoms.specs.declared.proofs.Step.{Step}

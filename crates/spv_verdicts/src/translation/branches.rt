@@ -1,4 +1,4 @@
-// The branch of a condition, of one that has the atoms of what is refuted together with it too.
+// The branch of a condition, taken from one of what is refuted together with facts of schemas.
 
 ghost use Rattle.std.specs.Prelude.{◌≡◌, ◌<◌, Bool, List as Items, take, length, IfOk};
 ghost use Rattle.spv_whole.specs.Fraction.{Fraction};
@@ -14,9 +14,9 @@ use spv_logic::list::List;
 use spv_term::{Condition, TermId, Terms};
 use std::alloc::{AllocError, Global};
 
-/// The atoms of a condition with their truths, of a branch that has the atoms of what is refuted together
-/// with facts of schemas: those of the condition come first. In a table that survives with that branch it survives with
-/// this one.
+/// The atoms of a condition with their truths, from a branch of what is refuted together with facts of
+/// schemas: there the condition's own atoms come first, in their order. A table that survives with that branch survives for the
+/// condition with this one.
 pub fn own_branch(
     alloc: Global,
     terms: &Terms,

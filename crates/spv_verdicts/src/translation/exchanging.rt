@@ -1,6 +1,6 @@
 // Proofs and trees in which other steps stand where hypotheses were cited.
 
-ghost use Rattle.std.specs.Prelude.{◌≡◌, map, IfOk};
+ghost use Rattle.std.specs.Prelude.{◌≡◌, IfOk};
 ghost use Rattle.spv_logic.specs.declared.conditions.TermId.{TermId};
 ghost use Rattle.spv_logic.specs.Terms.{Term};
 ghost use Rattle.spv_term.specs.Arena.{Arena};

@@ -11,9 +11,9 @@ use spv_logic::list::List;
 use spv_term::TermId;
 use std::alloc::{AllocError, Global};
 
-/// The step for each number of a hypothesis of what claims that a condition is refuted together with
-/// facts of schemas. The condition has so many hypotheses; `falsity` is FALSE, and the last steps are those that
-/// state these facts. Where a number would be too large the answer is want of memory.
+/// For each number of a hypothesis, from 0, of what claims that a condition is refuted together with facts
+/// of schemas: the step that does the same for the condition. The condition has so many hypotheses; `falsity` is FALSE, and `facts`
+/// are steps that state these facts, in order. Where a number would be too large the answer is want of memory.
 pub fn replacements_of(
     alloc: Global,
     hypotheses: usize,
