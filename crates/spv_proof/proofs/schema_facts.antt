@@ -6,3 +6,6 @@ pub mod Fields
 pub mod Fitted
 pub mod Divided
 pub mod Saying
+pub mod Grouping
+pub mod Relating
+pub mod Linking

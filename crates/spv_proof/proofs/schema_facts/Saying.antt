@@ -124,10 +124,6 @@ module _ (a : Arena) (ok : IsArena a) (us : List Term) where
       ∙ (λ j. if (first_passes a ok (has_field a.shapes (Some g)) c.whole [] i.whole ∙ sym t) j then (about_put_other (i.is j ∷ []) g) else None)
       ∙ ap (λ b. if there then (if b then None else Some (equation (one (head.Field g) (two (head.Put c.field) (at c.base) (at c.value))) (one (head.Field g) (at c.base)))) else None) (sym s)
 
-  pub same_field : (c : FieldChange) → IsFieldChange a c → us ≡ at c.whole ∷ [] → (g : Symbol) → nat_eq g.0 c.field.0 ≡ true → fitting a FieldPutOther us (Some g) ≡ None
-  same_field c i e g s =
-      tested c i e g true (is_some (field_sort_of (fields_of a.shapes (sort_at a c.whole)) g.0)) (sym s) refl ∙ choose_none (is_some (field_sort_of (fields_of a.shapes (sort_at a c.whole)) g.0)) None refl
-
   pub no_such_field : (c : FieldChange) → IsFieldChange a c → us ≡ at c.whole ∷ [] → (g : Symbol) (there : Bool)
       → there ≡ is_some (field_sort_of (fields_of a.shapes (sort_at a c.whole)) g.0) → there ≡ false → fitting a FieldPutOther us (Some g) ≡ None
   no_such_field c i e g there t f =

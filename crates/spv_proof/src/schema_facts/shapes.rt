@@ -161,8 +161,8 @@ pub(crate) fn extended(terms: &Terms, ts: &[TermId]) -> Option<Change>
     }
 }
 
-// The only one of some ids.
-fn single(ids: &[TermId]) -> Option<TermId>
+/// The only one of some ids.
+pub(crate) fn single(ids: &[TermId]) -> Option<TermId>
     ensures there { IfSome result (λ t. ids.now ≡ t ∷ []) }
     ensures missing { IfNone result (length ids.now ≡ 1 → ⊥) }
 {
