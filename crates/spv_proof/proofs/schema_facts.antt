@@ -9,3 +9,5 @@ pub mod Saying
 pub mod Grouping
 pub mod Relating
 pub mod Linking
+pub mod FirstTerms
+pub mod Partnering

@@ -4,8 +4,8 @@ mod building;
 mod divisions;
 mod facts;
 mod groups;
-mod instances;
 mod kinds;
+mod listing;
 mod making;
 mod pieces;
 mod relations;
@@ -13,6 +13,6 @@ mod shapes;
 mod sketches;
 mod uses;
 
-pub use instances::{Instance, instances};
 pub(crate) use kinds::kind_of;
+pub use listing::{Instance, instances};
 pub use making::fact;

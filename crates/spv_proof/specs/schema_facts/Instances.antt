@@ -10,7 +10,7 @@ use Rattle.spv_schemas.specs.declared.kinds.SchemaKind.{SchemaKind}
 use Rattle.spv_schemas.specs.Instances.{SchemaInstance, instance_fact, is_taken_apart, fields_for}
 use Rattle.spv_term.specs.Arena.{Arena, AllBelow, tree}
 use Rattle.spv_proof.specs.declared.schema_facts.groups.Link.{Link}
-use Rattle.spv_proof.specs.declared.schema_facts.instances.Instance.{Instance}
+use Rattle.spv_proof.specs.declared.schema_facts.listing.Instance.{Instance}
 use Rattle.spv_proof.specs.declared.schema_facts.uses.Subject.{Subject}
 use Rattle.spv_proof.specs.declared.schema_facts.uses.Subject.TheVariants.{Any, Field, TakenApart, Array, Class, Division}
 use Rattle.spv_proof.specs.schema_facts.Uses.{subject_of, is_partner}

@@ -39,6 +39,13 @@ subject_of ModOfNonPositive = Division Divisors
 subject_of DivOfNumerals = Division Quotients
 subject_of ModOfNumerals = Division Remainders
 
+-- whether it is two terms
+abbrev pub is_paired : Subject → Bool
+is_paired Array = true
+is_paired (Class h) = true
+is_paired (Division r) = true
+is_paired _ = false
+
 -- whether an instance about a first term is about a second one too, where there is a fact
 abbrev pub is_partner : (Term → Option Sort) → List Term → Subject → Term → Term → Bool
 is_partner sorts us Array s t = is_index sorts us s t

@@ -19,8 +19,8 @@ use spv_logic::names::Symbol;
 use spv_logic::{Field, Head, Shape, Sort, TypeId};
 use spv_term::{TermId, Terms};
 
-// Whether two heads are the same.
-fn same_head(left: Head, right: Head) -> bool
+/// Whether two heads are the same.
+pub(crate) fn same_head(left: Head, right: Head) -> bool
     ensures { result ≡ head_eq left right }
 {
     left == right

@@ -8,6 +8,7 @@ ghost use Rattle.spv_proof.specs.schema_facts.Uses.{AreUses, ArePartners, subjec
 
 use crate::schema_facts::groups::{Groups, Link, Links};
 use crate::schema_facts::relations::{Relation, links, table};
+use crate::schema_facts::shapes::same_head;
 use spv_logic::{Head, Sort};
 use spv_schemas::SchemaKind;
 use spv_term::{TermId, Terms};
@@ -31,7 +32,7 @@ pub(crate) enum Subject {
 }
 
 /// What the instances of a kind are about.
-pub(crate) fn subject(kind: SchemaKind) -> Subject
+pub(crate) fn subject_for(kind: SchemaKind) -> Subject
     ensures { result ≡ subject_of kind }
 {
     match kind {
@@ -98,6 +99,7 @@ impl Uses {
         requires list { list.0 < length terms.now.nodes }
         ensures { result ≡ is_taken_apart (map (tree terms.now) self.now.ids.items) (tree terms.now list) }
     {
+        terms.law_arena();
         self.lists.has(Link {
             key: list.0,
             member: list,
@@ -111,7 +113,7 @@ impl Uses {
         ensures { ArePartners terms.now self.now.ids.items Array array result.now }
     {
         terms.law_arena();
-        if terms.node(array).head != Head::Store {
+        if !same_head(terms.node(array).head, Head::Store) {
             return &[];
         }
         match terms.sort(array) {
@@ -127,7 +129,7 @@ impl Uses {
         ensures { ArePartners terms.now self.now.ids.items (Class head) class result.now }
     {
         terms.law_arena();
-        if terms.node(class).head != head {
+        if !same_head(terms.node(class).head, head) {
             return &[];
         }
         match terms.sort(class) {
@@ -138,7 +140,7 @@ impl Uses {
 
     // What a number is divided by.
     fn divisors(&self, relation: Relation, dividend: TermId) -> &[Link]
-        ensures { (a : Arena) → AreUses a self.now → dividend.0 < length a.nodes
+        ensures { (a : Arena) → IsArena a → AreUses a self.now → dividend.0 < length a.nodes
             → ArePartners a self.now.ids.items (Division relation) dividend result.now }
     {
         match relation {
@@ -155,6 +157,7 @@ impl Uses {
         requires first { first.0 < length terms.now.nodes }
         ensures { ArePartners terms.now self.now.ids.items subject first result.now }
     {
+        terms.law_arena();
         match subject {
             Subject::Array => self.indices(terms, first),
             Subject::Class(head) => self.pointers(terms, head, first),

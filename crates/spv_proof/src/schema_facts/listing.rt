@@ -12,7 +12,7 @@ ghost use Rattle.spv_proof.specs.schema_facts.Uses.{AreUses, AllLinksIn, subject
 
 use crate::schema_facts::groups::Link;
 use crate::schema_facts::kinds::{kind_of, of_kind};
-use crate::schema_facts::uses::{Subject, Uses, subject};
+use crate::schema_facts::uses::{Subject, Uses, subject_for};
 use spv_logic::list::List;
 use spv_logic::names::Symbol;
 use spv_logic::{Field, Shape, Sort};
@@ -50,10 +50,11 @@ fn add(
     ensures { OnOk result (Adds terms.now found.old.items found.new.items
         (filter (is_instance terms.now) (instance kind (map (tree terms.now) ts.now) field ∷ []))) }
 {
-    if has_fact(terms, kind, ts, field) {
-        let about = List::from_vec(Vec::from_slice(*found.allocator(), ts)?);
-        found.push(Instance { kind, about, field })?;
+    if !has_fact(terms, kind, ts, field) {
+        return Ok(());
     }
+    let about = List::from_vec(Vec::from_slice(*found.allocator(), ts)?);
+    found.push(Instance { kind, about, field })?;
     Ok(())
 }
 
@@ -81,6 +82,7 @@ fn fields(terms: &Terms, whole: TermId) -> &[Field]
     requires { whole.0 < length terms.now.nodes }
     ensures { map (λ field. Some field.name) result.now ≡ names_in terms.now.shapes (Some (sort_at terms.now whole)) }
 {
+    terms.law_arena();
     match terms.sort(whole) {
         Sort::Whole(t) => match terms.shapes().get(t) {
             Shape::Record(fields) => fields.as_slice(),
@@ -117,7 +119,7 @@ fn add_first(
     ensures { OnOk result (Adds terms.now found.old.items found.new.items
         (instances_at terms.now (map (tree terms.now) uses.now.ids.items) kind (tree terms.now first))) }
 {
-    let subject = subject(kind);
+    let subject = subject_for(kind);
     match subject {
         Subject::Any => add(found, terms, kind, &[first], None),
         Subject::Field => add_fields(found, terms, first),
@@ -128,7 +130,7 @@ fn add_first(
                 Ok(())
             }
         }
-        Subject::Array | Subject::Class(_) | Subject::Division(_) => {
+        _ => {
             let links = uses.partners(terms, subject, first);
             add_pairs(found, terms, kind, first, links)
         }
