@@ -1,16 +1,20 @@
 -- The list of instances, by the first of their terms.
-use Rattle.std.proofs.Common.{◌≡◌, ℕ, ◌+◌, ◌<◌, Bool, true, false, ◌&&◌, ◌||◌, cond, List, [], ◌∷◌, ◌++◌, map, filter, length, take, get_or, refl, sym, ap, ◌∙◌, subst, Option, Some, None, is_some, if◌then◌else◌}
+use Rattle.std.proofs.Common.{◌≡◌, ℕ, zero, suc, ◌+◌, ◌-◌, ◌<◌, ◌≤◌, arith, slice_get, Bool, true, false, ◌&&◌, ◌||◌, cond, List, [], ◌∷◌, ◌++◌, map, filter, length, take, get_or, refl, sym, ap, ◌∙◌, subst, Option, Some, None, is_some, if◌then◌else◌}
 use Rattle.std.specs.List.{flat_map}
 use Rattle.std.proofs.lemmas.List.{map-append, append_assoc, take_more, append-nil}
 use Rattle.std.proofs.lemmas.Bool.{false≢true}
 use Rattle.std.proofs.lemmas.List.Elements.{filter-append}
+use Rattle.std.proofs.lemmas.List.Folds.{flat_map-map}
+use Rattle.std.proofs.lemmas.Option.{slice_get-get_or}
 use Rattle.spv_logic.specs.declared.conditions.TermId.{TermId}
 use Rattle.spv_logic.specs.declared.names.names.Symbol.{Symbol}
 use Rattle.spv_logic.specs.declared.types.Sort.{Sort}
+use Rattle.spv_logic.specs.declared.types.Field.{Field as RecordField}
 use Rattle.spv_logic.specs.Terms.{Term}
 use Rattle.spv_logic.specs.Sorts.{term_sort}
 use Rattle.spv_schemas.specs.declared.kinds.SchemaKind.{SchemaKind}
 use Rattle.spv_schemas.specs.declared.kinds.SchemaKind.TheVariants.{SelectStoreSame, SelectStoreOther, FieldPutSame, FieldPutOther, CellSetCellSame, CellSetCellOther, PointerToSetCell, CellExtendSame, CellExtendOther, PointerToExtend, PointerToNil, CarCons, CdrCons, AtomCons, ConsCarCdr, DivMod, ModOfNonNegative, ModOfNonPositive, DivOfNumerals, ModOfNumerals}
+use Rattle.spv_schemas.specs.Kinds.{kinds, kind_of_number}
 use Rattle.spv_schemas.specs.Instances.{SchemaInstance, instances_of, subjects, is_any, is_taken_apart, each, fields_for, names_in}
 use Rattle.spv_term.specs.Arena.{Arena, AllBelow, tree}
 use Rattle.spv_proof.specs.declared.schema_facts.groups.Link.{Link}
@@ -22,13 +26,13 @@ use Rattle.spv_proof.specs.schema_facts.Uses.{ArePartners, has_pair, is_paired, 
 
 -- ---- lists
 
+mapped_choice : {X Y : Type 0} (f : X → Y) (b : Bool) (x : X) (ys : List Y) (xs : List X) → ys ≡ map f xs → cond b (f x ∷ ys) ys ≡ map f (cond b (x ∷ xs) xs)
+mapped_choice f true x ys xs e = ap (λ zs. f x ∷ zs) e
+mapped_choice f false x ys xs e = e
+
 filter_mapped : {X Y : Type 0} (p : Y → Bool) (f : X → Y) (xs : List X) → filter p (map f xs) ≡ map f (filter (λ x. p (f x)) xs)
 filter_mapped p f [] = refl
-filter_mapped p f (x ∷ xs) = by_case (p (f x)) (f x) (filter p (map f xs)) (filter (λ y. p (f y)) xs) x refl (filter_mapped p f xs)
-  where
-    by_case : {X Y : Type 0} (b : Bool) (y : Y) (ys : List Y) (zs : List X) (z : X) → {f : X → Y} → f z ≡ y → ys ≡ map f zs → cond b (y ∷ ys) ys ≡ map f (cond b (z ∷ zs) zs)
-    by_case true y ys zs z e h = (λ i. sym e i ∷ h i)
-    by_case false y ys zs z e h = h
+filter_mapped p f (x ∷ xs) = mapped_choice f (p (f x)) x (filter p (map f xs)) (filter (λ y. p (f y)) xs) (filter_mapped p f xs)
 
 filter_joined : {X Y : Type 0} (p : Y → Bool) (f : X → List Y) (xs : List X) → filter p (flat_map f xs) ≡ flat_map (λ x. filter p (f x)) xs
 filter_joined p f [] = refl
@@ -164,6 +168,57 @@ paired_else TakenApart n m k = absurd (k refl)
 paired_else Array n m k = refl
 paired_else (Class h) n m k = refl
 paired_else (Division r) n m k = refl
+
+-- ---- the ends of lists
+
+take_end : {X : Type 0} (xs : List X) (i : ℕ) → length xs ≤ i → take i xs ≡ xs
+take_end [] zero h = refl
+take_end [] (suc i) h = refl
+take_end (x ∷ xs) zero h = absurd (omega arith)
+take_end (x ∷ xs) (suc i) h = ap (λ ys. x ∷ ys) (take_end xs i (omega arith))
+
+take_next : {X : Type 0} (xs : List X) (i : ℕ) (x : X) → slice_get xs i ≡ Some x → take i xs ++ x ∷ [] ≡ take (suc i) xs
+take_next [] i x e = absurd (cc)
+take_next (y ∷ xs) zero x e = let k : y ≡ x = cc in ap (λ z. z ∷ []) (sym k)
+take_next (y ∷ xs) (suc i) x e = ap (λ ys. y ∷ ys) (take_next xs i x e)
+
+-- the fields of a record, to the last
+pub fields_listed : (a : Arena) (s : Term) (fields : List RecordField) (names : List (Option Symbol)) → map (λ field. Some field.name) fields ≡ names → (i : ℕ) → length fields ≤ i
+    → filter (is_instance a) (map (λ field. instance FieldPutOther (s ∷ []) (Some field.name)) (take i fields)) ≡ filter (is_instance a) (map (instance FieldPutOther (s ∷ [])) names)
+fields_listed a s fields names e i h =
+    ap (λ fs. filter (is_instance a) (map (λ field. instance FieldPutOther (s ∷ []) (Some field.name)) fs)) (take_end fields i h)
+    ∙ ap (filter (is_instance a)) (map_twice (instance FieldPutOther (s ∷ [])) (λ field. Some field.name) fields ∙ ap (map (instance FieldPutOther (s ∷ []))) e)
+
+-- the used terms, to the last
+pub kind_listed : (a : Arena) (kind : SchemaKind) (used ids : List TermId) → ids ≡ used → (i : ℕ) → length ids ≤ i
+    → flat_map (λ t. instances_at a (map (tree a) used) kind (tree a t)) (take i ids) ≡ instances_of a.shapes a.decls (map (tree a) used) kind
+kind_listed a kind used ids e i h =
+    let us : List Term = map (tree a) used in
+    ap (flat_map (λ t. instances_at a us kind (tree a t))) (take_end ids i h ∙ e)
+    ∙ (sym (flat_map-map (instances_at a us kind) (tree a) used) ∙ sym (of_kind_by_first a us kind))
+
+pub kinds_next : (n : ℕ) (kind : SchemaKind) → kind_of_number n ≡ Some kind → take (n - 1) kinds ++ kind ∷ [] ≡ take (n + 1 - 1) kinds
+kinds_next zero kind e = absurd (cc)
+kinds_next (suc m) kind e =
+    let before : suc m - 1 ≡ m = omega arith in
+    let after : suc m + 1 - 1 ≡ suc m = omega arith in
+    ap (λ k. take k kinds ++ kind ∷ []) before ∙ (take_next kinds m kind e ∙ ap (λ k. take k kinds) (sym after))
+
+pub kinds_there : (n : ℕ) → 1 ≤ n → n < 21 → kind_of_number n ≡ None → ⊥
+kinds_there zero l h e = omega arith
+kinds_there (suc m) l h e =
+    let below : m < 20 = omega arith in
+    let there : slice_get kinds m ≡ Some (get_or kinds m DivMod) = slice_get-get_or kinds m DivMod below in
+    let wrong : None ≡ Some (get_or kinds m DivMod) = sym e ∙ there in cc
+
+pub next_kind : (a : Arena) (used ids : List TermId) → ids ≡ used → (n : ℕ) (kind : SchemaKind) → kind_of_number n ≡ Some kind
+    → flat_map (instances_of a.shapes a.decls (map (tree a) used)) (take (n - 1) kinds) ++ instances_of a.shapes a.decls (map (tree a) ids) kind
+    ≡ flat_map (instances_of a.shapes a.decls (map (tree a) used)) (take (n + 1 - 1) kinds)
+next_kind a used ids same n kind e =
+    let of_kind : SchemaKind → List SchemaInstance = instances_of a.shapes a.decls (map (tree a) used) in
+    ap (λ ts. flat_map of_kind (take (n - 1) kinds) ++ instances_of a.shapes a.decls (map (tree a) ts) kind) same
+    ∙ (ap (λ is. flat_map of_kind (take (n - 1) kinds) ++ is) (sym (append-nil (of_kind kind)))
+    ∙ (sym (flat_append of_kind (take (n - 1) kinds) (kind ∷ [])) ∙ ap (flat_map of_kind) (kinds_next n kind e)))
 
 -- ---- instances more
 

@@ -1,5 +1,5 @@
 -- Which used terms instances are about beside a first one.
-use Rattle.std.proofs.Common.{◌≡◌, ℕ, zero, suc, ◌<◌, get_or, arith, Bool, true, false, ◌&&◌, ◌||◌, cond, List, [], ◌∷◌, map, filter, length, slice_get, refl, sym, ap, ◌∙◌, subst, nat_eq, Option, Some, None, is_some, inl, inr}
+use Rattle.std.proofs.Common.{◌≡◌, ℕ, zero, suc, ◌<◌, get_or, arith, Bool, true, false, ◌&&◌, ◌||◌, cond, List, [], ◌∷◌, map, filter, length, slice_get, refl, sym, ap, ◌∙◌, subst, nat_eq, Option, Some, None, is_some, ◌⊎◌, inl, inr}
 use Rattle.std.specs.List.{list_any}
 use Rattle.std.proofs.lemmas.Bool.{false≢true}
 use Rattle.spv_logic.specs.declared.conditions.TermId.{TermId}
@@ -35,13 +35,13 @@ use Rattle.spv_proof.proofs.schema_facts.Fitted.{class_told}
 
 -- ---- lists
 
+chosen_in : (n : ℕ) (b : Bool) (t : TermId) (ts : List TermId) → t.0 < n → AllBelow n ts → AllBelow n (cond b (t ∷ ts) ts)
+chosen_in n true t ts h k = (h, k)
+chosen_in n false t ts h k = k
+
 filter_in : (n : ℕ) (p : TermId → Bool) (ts : List TermId) → AllBelow n ts → AllBelow n (filter p ts)
 filter_in n p [] h = tt
-filter_in n p (t ∷ ts) h = by_case (p t)
-  where
-    by_case : (b : Bool) → AllBelow n (cond b (t ∷ filter p ts) (filter p ts))
-    by_case true = (h.0, filter_in n p ts h.1)
-    by_case false = filter_in n p ts h.1
+filter_in n p (t ∷ ts) h = chosen_in n (p t) t (filter p ts) h.0 (filter_in n p ts h.1)
 
 none_pass : {X : Type 0} (p : X → Bool) → ((x : X) → p x ≡ false) → (xs : List X) → filter p xs ≡ []
 none_pass p n [] = refl

@@ -119,6 +119,7 @@ fn add_first(
     ensures { OnOk result (Adds terms.now found.old.items found.new.items
         (instances_at terms.now (map (tree terms.now) uses.now.ids.items) kind (tree terms.now first))) }
 {
+    terms.law_arena();
     let subject = subject_for(kind);
     match subject {
         Subject::Any => add(found, terms, kind, &[first], None),
