@@ -1,5 +1,5 @@
 -- The list of instances, by the first of their terms.
-use Rattle.std.proofs.Common.{◌≡◌, ℕ, zero, suc, ◌+◌, ◌-◌, ◌<◌, ◌≤◌, arith, slice_get, Bool, true, false, ◌&&◌, ◌||◌, cond, List, [], ◌∷◌, ◌++◌, map, filter, length, take, get_or, refl, sym, ap, ◌∙◌, subst, Option, Some, None, is_some, if◌then◌else◌}
+use Rattle.std.proofs.Common.{◌≡◌, ℕ, zero, suc, ◌+◌, ◌-◌, ◌<◌, ◌≤◌, arith, slice_get, Bool, true, false, cond, List, [], ◌∷◌, ◌++◌, map, filter, length, take, get_or, refl, sym, ap, ◌∙◌, subst, Option, Some, None, if◌then◌else◌}
 use Rattle.std.specs.List.{flat_map}
 use Rattle.std.proofs.lemmas.List.{map-append, append_assoc, take_more, append-nil}
 use Rattle.std.proofs.lemmas.Bool.{false≢true}
@@ -22,7 +22,7 @@ use Rattle.spv_proof.specs.declared.schema_facts.listing.Instance.{Instance}
 use Rattle.spv_proof.specs.declared.schema_facts.uses.Subject.{Subject}
 use Rattle.spv_proof.specs.declared.schema_facts.uses.Subject.TheVariants.{Any, Field, TakenApart, Array, Class, Division}
 use Rattle.spv_proof.specs.schema_facts.Instances.{Adds, AllIn, instance, instance_in, instances_at, is_instance, pair, subjects_at}
-use Rattle.spv_proof.specs.schema_facts.Uses.{ArePartners, has_pair, is_paired, is_partner, subject_of}
+use Rattle.spv_proof.specs.schema_facts.Uses.{ArePartners, is_paired, is_partner, subject_of}
 
 -- ---- lists
 

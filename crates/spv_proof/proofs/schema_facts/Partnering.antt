@@ -10,14 +10,14 @@ use Rattle.spv_logic.specs.declared.types.Shape.{Shape}
 use Rattle.spv_logic.specs.declared.types.Decl.{Decl}
 use Rattle.spv_logic.specs.declared.operators.Head.{Head}
 use Rattle.spv_logic.specs.declared.operators.Head.TheVariants as head
-use Rattle.spv_logic.specs.Terms.{Term, Terms, term, no_terms, terms, head_eq, term_eq}
+use Rattle.spv_logic.specs.Terms.{Term, Terms, term, head_eq, term_eq}
 use Rattle.spv_logic.proofs.Equality.{head_eq-refl}
 use Rattle.spv_logic.specs.Shapes.{element_sort}
 use Rattle.spv_logic.specs.Sorts.{term_sort, result_sort, first_sort, with_sort, takes}
 use Rattle.spv_schemas.specs.declared.kinds.SchemaKind.{SchemaKind}
 use Rattle.spv_schemas.specs.declared.kinds.SchemaKind.TheVariants.{SelectStoreSame, SelectStoreOther, CellSetCellSame, CellSetCellOther, PointerToSetCell, CellExtendSame, CellExtendOther, PointerToExtend}
 use Rattle.spv_schemas.specs.Facts.{one, two, about_store, about_set_cell, about_extend, of_shape, if_formula}
-use Rattle.spv_schemas.specs.Instances.{indexes, points, is_used, is_taken_apart}
+use Rattle.spv_schemas.specs.Instances.{indexes, points, is_taken_apart}
 use Rattle.spv_term.specs.declared.nodes.Node.{Node}
 use Rattle.spv_term.specs.Arena.{Arena, IsArena, AllBelow, sort_at, sorts_at, tree, trees}
 use Rattle.spv_term.proofs.ArenaLemmas.{tree-node, sort-node, term_sort-tree}

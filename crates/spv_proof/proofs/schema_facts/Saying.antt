@@ -6,7 +6,7 @@ use Rattle.spv_logic.specs.declared.types.TypeId.{TypeId}
 use Rattle.spv_logic.specs.declared.types.Sort.{Sort}
 use Rattle.spv_logic.specs.declared.types.Sort.TheVariants as sort
 use Rattle.spv_logic.specs.declared.operators.Head.TheVariants as head
-use Rattle.spv_logic.specs.Terms.{Term, term, no_terms, terms}
+use Rattle.spv_logic.specs.Terms.{Term, term, no_terms}
 use Rattle.spv_logic.specs.Formulas.{negation, equation}
 use Rattle.spv_logic.specs.Shapes.{field_sort_of, fields_of, is_list}
 use Rattle.spv_logic.specs.Sorts.{term_sort}
@@ -21,7 +21,7 @@ use Rattle.spv_proof.specs.declared.schema_facts.facts.FieldChange.{FieldChange}
 use Rattle.spv_proof.specs.declared.schema_facts.facts.Pair.{Pair}
 use Rattle.spv_proof.specs.declared.schema_facts.facts.SchemaFact.{SchemaFact}
 use Rattle.spv_proof.specs.declared.schema_facts.facts.SchemaFact.TheVariants.{MembersExtended, NilIsNoMember, PartIs, SamePart, NoAtom, PairOfParts}
-use Rattle.spv_proof.specs.schema_facts.Facts.{said, Says}
+use Rattle.spv_proof.specs.schema_facts.Facts.{Says}
 use Rattle.spv_proof.specs.schema_facts.Shapes.{IsFieldChange, IsPair, IsFitting, pointer_fits}
 use Rattle.spv_proof.specs.schema_facts.Kinds.{fitting}
 use Rattle.spv_proof.proofs.schema_facts.Fitted.{sort_there, first_passes, class_changed, choose_none}

@@ -1,5 +1,5 @@
 -- Instances of schemas over an arena.
-use Rattle.std.specs.Prelude.{◌≡◌, Bool, List, [], ◌∷◌, ◌++◌, map, filter, length, Option, Some, None, is_some, if◌then◌else◌}
+use Rattle.std.specs.Prelude.{◌≡◌, Bool, List, [], ◌∷◌, ◌++◌, map, filter, length, Option, None, is_some, if◌then◌else◌}
 use Rattle.std.specs.List.{flat_map}
 use Rattle.spv_logic.specs.declared.conditions.TermId.{TermId}
 use Rattle.spv_logic.specs.declared.names.names.Symbol.{Symbol}
@@ -12,7 +12,7 @@ use Rattle.spv_term.specs.Arena.{Arena, AllBelow, tree}
 use Rattle.spv_proof.specs.declared.schema_facts.groups.Link.{Link}
 use Rattle.spv_proof.specs.declared.schema_facts.listing.Instance.{Instance}
 use Rattle.spv_proof.specs.declared.schema_facts.uses.Subject.{Subject}
-use Rattle.spv_proof.specs.declared.schema_facts.uses.Subject.TheVariants.{Any, Field, TakenApart, Array, Class, Division}
+use Rattle.spv_proof.specs.declared.schema_facts.uses.Subject.TheVariants.{Any, Field, TakenApart}
 use Rattle.spv_proof.specs.schema_facts.Uses.{subject_of, is_partner}
 
 abbrev pub instance : SchemaKind → List Term → Option Symbol → SchemaInstance

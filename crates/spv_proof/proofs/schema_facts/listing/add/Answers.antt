@@ -1,4 +1,4 @@
-use Rattle.std.proofs.Common.{◌≡◌, length, sym, ap, ◌∙◌, subst, map}
+use Rattle.std.proofs.Common.{length, sym, ap, ◌∙◌, subst, map}
 use Rattle.spv_term.specs.Arena.{AllBelow, tree}
 use Rattle.spv_proof.specs.schema_facts.Instances.{instance}
 use Rattle.spv_proof.proofs.schema_facts.FirstTerms.{adds_one}

@@ -1,4 +1,4 @@
-use Rattle.std.proofs.Common.{◌≡◌, ◌<◌, length, sym, ap, ◌∙◌, subst, slice_get, Some, map}
+use Rattle.std.proofs.Common.{◌≡◌, ◌<◌, length, sym, ap, ◌∙◌, subst, slice_get, Some}
 use Rattle.spv_logic.specs.declared.types.Shape.TheVariants as shape
 use Rattle.spv_proof.proofs.schema_facts.Fields.{whole_there, names_there, no_names_there}
 use Rattle.spv_proof.proofs.schema_facts.listing.fields.Goals as goal
