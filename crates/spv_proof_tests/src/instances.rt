@@ -36,7 +36,12 @@ fn a_quotient_calls_for_four_facts(rt: HostRuntime) -> Result<(), Fail> {
     let (terms, a, k, quotient) = divided(rt.alloc())?;
     let found = instances(rt.alloc(), &terms, &[a, k, quotient])?;
     assert_eq!(rt; found.len(), 4);
-    assert!(rt; found.as_slice().iter().all(|instance| is_about(instance, a, k)));
+    assert!(rt;
+        found
+            .as_slice()
+            .iter()
+            .all(|instance| is_about(instance, a, k))
+    );
     let mut kinds = found.as_slice().iter().map(|instance| instance.kind);
     assert!(rt; matches!(kinds.next(), Some(SchemaKind::DivMod)));
     assert!(rt; matches!(kinds.next(), Some(SchemaKind::ModOfNonNegative)));
