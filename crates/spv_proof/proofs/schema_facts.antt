@@ -6,3 +6,8 @@ pub mod Fields
 pub mod Fitted
 pub mod Divided
 pub mod Saying
+pub mod Grouping
+pub mod Relating
+pub mod Linking
+pub mod FirstTerms
+pub mod Partnering

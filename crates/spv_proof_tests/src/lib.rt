@@ -6,6 +6,8 @@ mod arrays;
 mod checks;
 #[cfg(test)]
 mod formulas;
+#[cfg(test)]
+mod instances;
 pub mod rules;
 #[cfg(test)]
 mod schemas;

@@ -1,5 +1,5 @@
 -- Which fields a record has.
-use Rattle.std.proofs.Common.{◌≡◌, ℕ, zero, suc, ◌<◌, true, false, List, [], ◌∷◌, length, slice_get, refl, sym, ap, ◌∙◌, Option, Some, None, is_some, nat_eq, nat_lt, arith}
+use Rattle.std.proofs.Common.{◌≡◌, ℕ, zero, suc, ◌<◌, true, false, List, [], ◌∷◌, map, length, slice_get, refl, sym, ap, ◌∙◌, Option, Some, None, is_some, nat_eq, nat_lt, arith}
 use Rattle.std.proofs.lemmas.Bool.Decides.{nat_tests}
 use Rattle.std.specs.List.{find}
 use Rattle.std.specs.Option.{option_map}
@@ -12,6 +12,7 @@ use Rattle.spv_logic.specs.declared.types.Shape.{Shape}
 use Rattle.spv_logic.specs.declared.types.Shape.TheVariants as shape
 use Rattle.spv_logic.specs.Shapes.{shape_at, fields_of_shape, fields_of, field_sort_of}
 use Rattle.spv_logic.specs.Sorts.{sort_in_range}
+use Rattle.spv_schemas.specs.Instances.{named, names_in}
 use Rattle.spv_term.specs.Arena.{Arena, IsArena, sort_at}
 use Rattle.spv_term.proofs.SortLemmas.{field_sort-find}
 use Rattle.spv_term.proofs.RangeLemmas.{NamesTypes-arena}
@@ -55,3 +56,18 @@ no_fields (shape.Record fields) name n = absurd (n fields refl)
 pub no_field : (shapes : List Shape) (r : Sort) (k : TypeId) (s : Shape) → r ≡ sort.Whole k → slice_get shapes k.0 ≡ Some s
     → ((fields : List Field) → s ≡ shape.Record fields → ⊥) → (name : ℕ) → false ≡ is_some (field_sort_of (fields_of shapes r) name)
 no_field shapes r k s e f n name = no_fields s name n ∙ ap (λ fs. is_some (field_sort_of fs name)) (sym (fields_are shapes r k s e f))
+
+pub names_there : (shapes : List Shape) (r : Sort) (k : TypeId) (s : Shape) → r ≡ sort.Whole k → slice_get shapes k.0 ≡ Some s
+    → (fields : List Field) → s ≡ shape.Record fields → map (λ field. Some field.name) fields ≡ names_in shapes (Some r)
+names_there shapes r k s e f fields g = sym (ap named (fields_are shapes r k s e f ∙ ap fields_of_shape g))
+
+no_names : (s : Shape) → ((fields : List Field) → s ≡ shape.Record fields → ⊥) → [] ≡ named (fields_of_shape s)
+no_names shape.Int n = refl
+no_names shape.Bool n = refl
+no_names (shape.Pointer t) n = refl
+no_names (shape.Array e) n = refl
+no_names (shape.Record fields) n = absurd (n fields refl)
+
+pub no_names_there : (shapes : List Shape) (r : Sort) (k : TypeId) (s : Shape) → r ≡ sort.Whole k → slice_get shapes k.0 ≡ Some s
+    → ((fields : List Field) → s ≡ shape.Record fields → ⊥) → [] ≡ names_in shapes (Some r)
+no_names_there shapes r k s e f n = no_names s n ∙ sym (ap named (fields_are shapes r k s e f))

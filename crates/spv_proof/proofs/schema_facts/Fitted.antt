@@ -96,7 +96,7 @@ module _ (a : Arena) (ok : IsArena a) where
       failing e = record { fact = told false e; is = tt }
 
   -- a changed class is one
-  class_told : (c : Sort) (given : List Sort) (s : Sort) → class_change a.shapes c given ≡ Some s → (t : TypeId) × (c ≡ sort.Class t) × (s ≡ sort.Class t)
+  pub class_told : (c : Sort) (given : List Sort) (s : Sort) → class_change a.shapes c given ≡ Some s → (t : TypeId) × (c ≡ sort.Class t) × (s ≡ sort.Class t)
   class_told (sort.Class t) given s h = (t, refl, sym (takes-result (sort.Class t ∷ sort.Ptr t ∷ sort_of_type a.shapes t ∷ []) given (sort.Class t) s h))
   class_told sort.Int given s h = absurd (cc)
   class_told sort.Bool given s h = absurd (cc)

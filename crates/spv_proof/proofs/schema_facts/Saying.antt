@@ -1,31 +1,28 @@
 -- What each kind says of terms that have its shape and sorts that fit it.
-use Rattle.std.proofs.Common.{◌≡◌, ◌<◌, Bool, true, false, List, [], ◌∷◌, map, length, refl, sym, ap, ◌∙◌, subst, Option, Some, None, is_some, nat_eq, pos, if◌then◌else◌}
+use Rattle.std.proofs.Common.{◌≡◌, ◌<◌, Bool, true, false, List, [], ◌∷◌, map, length, refl, sym, ap, ◌∙◌, subst, Option, Some, None, is_some, nat_eq, if◌then◌else◌}
 use Rattle.spv_logic.specs.declared.conditions.TermId.{TermId}
 use Rattle.spv_logic.specs.declared.names.names.Symbol.{Symbol}
 use Rattle.spv_logic.specs.declared.types.TypeId.{TypeId}
 use Rattle.spv_logic.specs.declared.types.Sort.{Sort}
 use Rattle.spv_logic.specs.declared.types.Sort.TheVariants as sort
-use Rattle.spv_logic.specs.declared.operators.Head.{Head}
 use Rattle.spv_logic.specs.declared.operators.Head.TheVariants as head
-use Rattle.spv_logic.specs.Terms.{Term, term, no_terms, terms}
+use Rattle.spv_logic.specs.Terms.{Term, term, no_terms}
 use Rattle.spv_logic.specs.Formulas.{negation, equation}
 use Rattle.spv_logic.specs.Shapes.{field_sort_of, fields_of, is_list}
 use Rattle.spv_logic.specs.Sorts.{term_sort}
 use Rattle.spv_schemas.specs.declared.kinds.SchemaKind.{SchemaKind}
-use Rattle.spv_schemas.specs.declared.kinds.SchemaKind.TheVariants.{SelectStoreSame, SelectStoreOther, FieldPutSame, FieldPutOther, CellSetCellSame, CellSetCellOther, PointerToSetCell, CellExtendSame, CellExtendOther, PointerToExtend, PointerToNil, CarCons, CdrCons, AtomCons, ConsCarCdr, DivMod, ModOfNonNegative, ModOfNonPositive, DivOfNumerals, ModOfNumerals}
+use Rattle.spv_schemas.specs.declared.kinds.SchemaKind.TheVariants.{FieldPutSame, FieldPutOther, PointerToExtend, PointerToNil, CarCons, CdrCons, AtomCons, ConsCarCdr}
 use Rattle.spv_schemas.specs.Facts as facts
-use Rattle.spv_schemas.specs.Facts.{one, two, three, implication, numeral, between, nil_of, about_store, about_set_cell, about_extend, about_put_other}
+use Rattle.spv_schemas.specs.Facts.{one, two, implication, nil_of, about_extend, about_put_other}
 use Rattle.spv_schemas.specs.SortsThatFit.{first_fits, is_class, has_field}
 use Rattle.spv_term.specs.Arena.{Arena, IsArena, AllBelow, sort_at, tree}
 use Rattle.spv_proof.specs.declared.schema_facts.facts.Change.{Change}
 use Rattle.spv_proof.specs.declared.schema_facts.facts.FieldChange.{FieldChange}
 use Rattle.spv_proof.specs.declared.schema_facts.facts.Pair.{Pair}
-use Rattle.spv_proof.specs.declared.schema_facts.facts.Division.{Division}
-use Rattle.spv_proof.specs.declared.schema_facts.facts.NumeralDivision.{NumeralDivision}
 use Rattle.spv_proof.specs.declared.schema_facts.facts.SchemaFact.{SchemaFact}
-use Rattle.spv_proof.specs.declared.schema_facts.facts.SchemaFact.TheVariants.{SamePlace, OtherPlace, MembersStay, MembersExtended, NilIsNoMember, PartIs, SamePart, NoAtom, PairOfParts, Dividend, RemainderAbove, RemainderBelow, QuotientIs, RemainderIs}
-use Rattle.spv_proof.specs.schema_facts.Facts.{said, Says, IsSaid}
-use Rattle.spv_proof.specs.schema_facts.Shapes.{IsChange, IsFieldChange, IsPair, IsFitting, IsDivided, AreDivided, index_fits, pointer_fits}
+use Rattle.spv_proof.specs.declared.schema_facts.facts.SchemaFact.TheVariants.{MembersExtended, NilIsNoMember, PartIs, SamePart, NoAtom, PairOfParts}
+use Rattle.spv_proof.specs.schema_facts.Facts.{Says}
+use Rattle.spv_proof.specs.schema_facts.Shapes.{IsFieldChange, IsPair, IsFitting, pointer_fits}
 use Rattle.spv_proof.specs.schema_facts.Kinds.{fitting}
 use Rattle.spv_proof.proofs.schema_facts.Fitted.{sort_there, first_passes, class_changed, choose_none}
 use Rattle.spv_proof.proofs.schema_facts.Fields.{class_there}
@@ -42,38 +39,6 @@ module _ (a : Arena) (ok : IsArena a) (us : List Term) where
   sorts = term_sort a.shapes a.decls
 
   -- ---- changes
-
-  same_place : (h read : Head) (c : Change) → IsChange a h c
-      → implication (equation (at c.place) (at c.other)) (equation (two read (three h (at c.base) (at c.place) (at c.value)) (at c.other)) (at c.value)) ≡ said (tree a) (SamePlace read c)
-  same_place h read c i = ap (λ w. implication (equation (at c.place) (at c.other)) (equation (two read w (at c.other)) (at c.value))) (sym i.is)
-
-  other_place : (h read : Head) (c : Change) → IsChange a h c
-      → implication (negation (equation (at c.place) (at c.other))) (equation (two read (three h (at c.base) (at c.place) (at c.value)) (at c.other)) (two read (at c.base) (at c.other))) ≡ said (tree a) (OtherPlace read c)
-  other_place h read c i = ap (λ w. implication (negation (equation (at c.place) (at c.other))) (equation (two read w (at c.other)) (two read (at c.base) (at c.other)))) (sym i.is)
-
-  pub store_same : (c : Change) → IsFitting a head.Store about_store index_fits us (Some c) → Says a (fitting a SelectStoreSame us None) (SamePlace head.Select c)
-  store_same c f = record { is = f.fact facts.select_store_same ∙ ap Some (same_place head.Store head.Select c f.is); within = ((refl, refl), f.is.within) }
-
-  pub store_other : (c : Change) → IsFitting a head.Store about_store index_fits us (Some c) → Says a (fitting a SelectStoreOther us None) (OtherPlace head.Select c)
-  store_other c f = record { is = f.fact facts.select_store_other ∙ ap Some (other_place head.Store head.Select c f.is); within = ((refl, refl), f.is.within) }
-
-  pub set_cell_same : (c : Change) → IsFitting a head.SetCell about_set_cell pointer_fits us (Some c) → Says a (fitting a CellSetCellSame us None) (SamePlace head.Cell c)
-  set_cell_same c f = record { is = f.fact (facts.cell_same head.SetCell) ∙ ap Some (same_place head.SetCell head.Cell c f.is); within = ((refl, refl), f.is.within) }
-
-  pub set_cell_other : (c : Change) → IsFitting a head.SetCell about_set_cell pointer_fits us (Some c) → Says a (fitting a CellSetCellOther us None) (OtherPlace head.Cell c)
-  set_cell_other c f = record { is = f.fact (facts.cell_other head.SetCell) ∙ ap Some (other_place head.SetCell head.Cell c f.is); within = ((refl, refl), f.is.within) }
-
-  pub members_stay : (c : Change) → IsFitting a head.SetCell about_set_cell pointer_fits us (Some c) → Says a (fitting a PointerToSetCell us None) (MembersStay c)
-  members_stay c f = record {
-    is = f.fact facts.pointer_to_set_cell ∙ ap Some (ap (λ w. equation (two head.PointerTo (at c.other) w) (two head.PointerTo (at c.other) (at c.base))) (sym f.is.is));
-    within = f.is.within;
-  }
-
-  pub extend_same : (c : Change) → IsFitting a head.Extend about_extend pointer_fits us (Some c) → Says a (fitting a CellExtendSame us None) (SamePlace head.Cell c)
-  extend_same c f = record { is = f.fact (facts.cell_same head.Extend) ∙ ap Some (same_place head.Extend head.Cell c f.is); within = ((refl, refl), f.is.within) }
-
-  pub extend_other : (c : Change) → IsFitting a head.Extend about_extend pointer_fits us (Some c) → Says a (fitting a CellExtendOther us None) (OtherPlace head.Cell c)
-  extend_other c f = record { is = f.fact (facts.cell_other head.Extend) ∙ ap Some (other_place head.Extend head.Cell c f.is); within = ((refl, refl), f.is.within) }
 
   nil_at : (t : TermId) (k : TypeId) → t.0 < length a.nodes → sort_at a t ≡ sort.Class k → nil_of (sorts (at t)) ≡ term (head.Nil k) no_terms
   nil_at t k h e = ap nil_of (sort_there a ok t h ∙ ap Some e)
@@ -159,10 +124,6 @@ module _ (a : Arena) (ok : IsArena a) (us : List Term) where
       ∙ (λ j. if (first_passes a ok (has_field a.shapes (Some g)) c.whole [] i.whole ∙ sym t) j then (about_put_other (i.is j ∷ []) g) else None)
       ∙ ap (λ b. if there then (if b then None else Some (equation (one (head.Field g) (two (head.Put c.field) (at c.base) (at c.value))) (one (head.Field g) (at c.base)))) else None) (sym s)
 
-  pub same_field : (c : FieldChange) → IsFieldChange a c → us ≡ at c.whole ∷ [] → (g : Symbol) → nat_eq g.0 c.field.0 ≡ true → fitting a FieldPutOther us (Some g) ≡ None
-  same_field c i e g s =
-      tested c i e g true (is_some (field_sort_of (fields_of a.shapes (sort_at a c.whole)) g.0)) (sym s) refl ∙ choose_none (is_some (field_sort_of (fields_of a.shapes (sort_at a c.whole)) g.0)) None refl
-
   pub no_such_field : (c : FieldChange) → IsFieldChange a c → us ≡ at c.whole ∷ [] → (g : Symbol) (there : Bool)
       → there ≡ is_some (field_sort_of (fields_of a.shapes (sort_at a c.whole)) g.0) → there ≡ false → fitting a FieldPutOther us (Some g) ≡ None
   no_such_field c i e g there t f =
@@ -179,66 +140,7 @@ module _ (a : Arena) (ok : IsArena a) (us : List Term) where
     within = ((refl, refl), i.whole, i.base);
   }
 
-  -- ---- divisions
-
-  pub dividend_said : (d : Division) → IsDivided a us (Some d) → Says a (fitting a DivMod us None) (Dividend d)
-  dividend_said d f = record {
-    is = f.fact facts.div_mod
-        ∙ ap Some (ap (λ w. equation (at d.dividend) (two head.Add (two head.Mul w (two head.Div (at d.dividend) w)) (two head.Mod (at d.dividend) w))) (sym f.is.is));
-    within = (f.is.dividend, f.is.divisor);
-  }
-
-  pub above_said : (d : Division) → IsDivided a us (Some d) → Says a (fitting a ModOfNonNegative us None) (RemainderAbove d)
-  above_said d f = record {
-    is = f.fact facts.mod_of_non_negative
-        ∙ ap Some (λ i. implication (two head.Le (numeral (pos 0)) (at d.dividend)) (between (numeral (pos 0)) (two head.Mod (at d.dividend) (sym f.is.is i)) (numeral (sym f.is.greatest i))));
-    within = ((refl, f.is.greatest_fits), f.is.dividend, f.is.divisor);
-  }
-
-  pub below_said : (d : Division) → IsDivided a us (Some d) → Says a (fitting a ModOfNonPositive us None) (RemainderBelow d)
-  below_said d f = record {
-    is = f.fact facts.mod_of_non_positive
-        ∙ ap Some (λ i. implication (two head.Le (at d.dividend) (numeral (pos 0))) (between (numeral (sym f.is.least i)) (two head.Mod (at d.dividend) (sym f.is.is i)) (numeral (pos 0))));
-    within = ((refl, f.is.least_fits), f.is.dividend, f.is.divisor);
-  }
-
-  pub quotient_said : (d : NumeralDivision) → AreDivided a us (Some d) → Says a (fitting a DivOfNumerals us None) (QuotientIs d)
-  quotient_said d f = record {
-    is = f.fact facts.div_of_numerals ∙ ap Some (λ i. equation (two head.Div (sym f.is.dividend_is i) (sym f.is.divisor_is i)) (numeral (sym f.is.quotient i)));
-    within = ((refl, f.is.quotient_fits), f.is.dividend, f.is.divisor);
-  }
-
-  pub remainder_said : (d : NumeralDivision) → AreDivided a us (Some d) → Says a (fitting a ModOfNumerals us None) (RemainderIs d)
-  remainder_said d f = record {
-    is = f.fact facts.mod_of_numerals ∙ ap Some (λ i. equation (two head.Mod (sym f.is.dividend_is i) (sym f.is.divisor_is i)) (numeral (sym f.is.remainder i)));
-    within = ((refl, f.is.remainder_fits), f.is.dividend, f.is.divisor);
-  }
-
 -- ---- where there is nothing to be said
-
-pub unsaid : (a : Arena) (us : List Term) (kind k : SchemaKind) → kind ≡ k → fitting a k us None ≡ None → (r : Option SchemaFact) → r ≡ None → IsSaid a (fitting a kind us None) r
-unsaid a us kind k e none r f = subst (IsSaid a (fitting a kind us None)) (sym f) (ap (λ x. fitting a x us None) e ∙ none)
-
-put_missing : (us : List Term) → ((f : Symbol) (x y : Term) → us ≡ two (head.Put f) x y ∷ [] → ⊥) → facts.about_put us ≡ None
-put_missing (term (head.Put f) (terms x (terms y no_terms)) ∷ []) n = absurd (n f x y refl)
-put_missing us n = refl
-
-cons_missing : (make : Term → Term → Term) (us : List Term) → ((x y : Term) → us ≡ two head.Cons x y ∷ [] → ⊥) → facts.about_cons make us ≡ None
-cons_missing make (term head.Cons (terms x (terms y no_terms)) ∷ []) n = absurd (n x y refl)
-cons_missing make us n = refl
-
-module _ (a : Arena) (us : List Term) where
-  pub no_put : ((f : Symbol) (x y : Term) → us ≡ two (head.Put f) x y ∷ [] → ⊥) → fitting a FieldPutSame us None ≡ None
-  no_put n = choose_none (first_fits (term_sort a.shapes a.decls) (λ s. true) us) (facts.about_put us) (put_missing us n)
-
-  pub no_car : ((x y : Term) → us ≡ two head.Cons x y ∷ [] → ⊥) → fitting a CarCons us None ≡ None
-  no_car n = choose_none (first_fits (term_sort a.shapes a.decls) (λ s. true) us) (facts.about_cons facts.car_cons us) (cons_missing facts.car_cons us n)
-
-  pub no_cdr : ((x y : Term) → us ≡ two head.Cons x y ∷ [] → ⊥) → fitting a CdrCons us None ≡ None
-  no_cdr n = choose_none (first_fits (term_sort a.shapes a.decls) (λ s. true) us) (facts.about_cons facts.cdr_cons us) (cons_missing facts.cdr_cons us n)
-
-  pub no_pair : ((x y : Term) → us ≡ two head.Cons x y ∷ [] → ⊥) → fitting a AtomCons us None ≡ None
-  no_pair n = choose_none (first_fits (term_sort a.shapes a.decls) (λ s. true) us) (facts.about_cons facts.atom_cons us) (cons_missing facts.atom_cons us n)
 
 no_list : (s : Sort) → (s ≡ sort.List → ⊥) → is_list s ≡ false
 no_list sort.List n = absurd (n refl)

@@ -85,38 +85,24 @@ fn without_field(terms: &Terms, kind: SchemaKind, ts: &[TermId]) -> Option<Schem
     terms.law_arena();
     match kind {
         SchemaKind::SelectStoreSame => {
-            let c = stored(terms, ts)?;
-            Some(SchemaFact::SamePlace(Head::Select, c))
+            Some(SchemaFact::SamePlace(Head::Select, stored(terms, ts)?))
         }
         SchemaKind::SelectStoreOther => {
-            let c = stored(terms, ts)?;
-            Some(SchemaFact::OtherPlace(Head::Select, c))
+            Some(SchemaFact::OtherPlace(Head::Select, stored(terms, ts)?))
         }
         SchemaKind::FieldPutSame => {
             let c = put(terms, ts)?;
             Some(SchemaFact::PartIs(Head::Field(c.field), c.whole, c.value))
         }
         SchemaKind::FieldPutOther => None,
-        SchemaKind::CellSetCellSame => {
-            let c = set(terms, ts)?;
-            Some(SchemaFact::SamePlace(Head::Cell, c))
-        }
-        SchemaKind::CellSetCellOther => {
-            let c = set(terms, ts)?;
-            Some(SchemaFact::OtherPlace(Head::Cell, c))
-        }
-        SchemaKind::PointerToSetCell => {
-            let c = set(terms, ts)?;
-            Some(SchemaFact::MembersStay(c))
-        }
-        SchemaKind::CellExtendSame => {
-            let c = extended(terms, ts)?;
-            Some(SchemaFact::SamePlace(Head::Cell, c))
-        }
-        SchemaKind::CellExtendOther => {
-            let c = extended(terms, ts)?;
-            Some(SchemaFact::OtherPlace(Head::Cell, c))
-        }
+        SchemaKind::CellSetCellSame => Some(SchemaFact::SamePlace(Head::Cell, set(terms, ts)?)),
+        SchemaKind::CellSetCellOther => Some(SchemaFact::OtherPlace(Head::Cell, set(terms, ts)?)),
+        SchemaKind::PointerToSetCell => Some(SchemaFact::MembersStay(set(terms, ts)?)),
+        SchemaKind::CellExtendSame => Some(SchemaFact::SamePlace(Head::Cell, extended(terms, ts)?)),
+        SchemaKind::CellExtendOther => Some(SchemaFact::OtherPlace(
+            Head::Cell,
+            extended(terms, ts)?,
+        )),
         SchemaKind::PointerToExtend => members_extended(terms, ts),
         SchemaKind::PointerToNil => nil_is_no_member(terms, ts),
         SchemaKind::CarCons => {
@@ -127,31 +113,13 @@ fn without_field(terms: &Terms, kind: SchemaKind, ts: &[TermId]) -> Option<Schem
             let p = cons(terms, ts)?;
             Some(SchemaFact::PartIs(Head::Cdr, p.whole, p.second))
         }
-        SchemaKind::AtomCons => {
-            let p = cons(terms, ts)?;
-            Some(SchemaFact::NoAtom(p.whole))
-        }
+        SchemaKind::AtomCons => Some(SchemaFact::NoAtom(cons(terms, ts)?.whole)),
         SchemaKind::ConsCarCdr => pair_of_parts(terms, ts),
-        SchemaKind::DivMod => {
-            let d = divided(terms, ts)?;
-            Some(SchemaFact::Dividend(d))
-        }
-        SchemaKind::ModOfNonNegative => {
-            let d = divided(terms, ts)?;
-            Some(SchemaFact::RemainderAbove(d))
-        }
-        SchemaKind::ModOfNonPositive => {
-            let d = divided(terms, ts)?;
-            Some(SchemaFact::RemainderBelow(d))
-        }
-        SchemaKind::DivOfNumerals => {
-            let d = numerals(terms, ts)?;
-            Some(SchemaFact::QuotientIs(d))
-        }
-        SchemaKind::ModOfNumerals => {
-            let d = numerals(terms, ts)?;
-            Some(SchemaFact::RemainderIs(d))
-        }
+        SchemaKind::DivMod => Some(SchemaFact::Dividend(divided(terms, ts)?)),
+        SchemaKind::ModOfNonNegative => Some(SchemaFact::RemainderAbove(divided(terms, ts)?)),
+        SchemaKind::ModOfNonPositive => Some(SchemaFact::RemainderBelow(divided(terms, ts)?)),
+        SchemaKind::DivOfNumerals => Some(SchemaFact::QuotientIs(numerals(terms, ts)?)),
+        SchemaKind::ModOfNumerals => Some(SchemaFact::RemainderIs(numerals(terms, ts)?)),
     }
 }
 

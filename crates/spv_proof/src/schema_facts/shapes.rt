@@ -19,8 +19,8 @@ use spv_logic::names::Symbol;
 use spv_logic::{Field, Head, Shape, Sort, TypeId};
 use spv_term::{TermId, Terms};
 
-// Whether two heads are the same.
-fn same_head(left: Head, right: Head) -> bool
+/// Whether two heads are the same.
+pub(crate) fn same_head(left: Head, right: Head) -> bool
     ensures { result ≡ head_eq left right }
 {
     left == right
@@ -161,8 +161,8 @@ pub(crate) fn extended(terms: &Terms, ts: &[TermId]) -> Option<Change>
     }
 }
 
-// The only one of some ids.
-fn single(ids: &[TermId]) -> Option<TermId>
+/// The only one of some ids.
+pub(crate) fn single(ids: &[TermId]) -> Option<TermId>
     ensures there { IfSome result (λ t. ids.now ≡ t ∷ []) }
     ensures missing { IfNone result (length ids.now ≡ 1 → ⊥) }
 {
