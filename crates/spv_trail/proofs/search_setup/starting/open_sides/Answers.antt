@@ -1,4 +1,4 @@
-use Rattle.std.proofs.Common.{sym, subst}
+use Rattle.std.proofs.Common.{sym, subst, ◌∙◌}
 use Rattle.spv_arithmetic_side.specs.declared.slack_rows.row.RowFault.{RowFault}
 use Rattle.spv_arithmetic_side.specs.slack_rows.Rows.{IsWideAmong}
 use Rattle.spv_share.specs.Relations.{AreNodes}
@@ -20,7 +20,7 @@ returns-in-Ok c = record {
   opened = c.in-Ok.ensures.sides.opened;
   both = c.in-Ok.ensures.sides.both;
   untold = c.in-Ok.ensures.sides.untold;
-  pivots = c.in-Ok.ensures.sides.pivots;
+  pivots = c.in-Ok.ensures.sides.pivots ∙ c.pivots.ensures.value;
 }
 
 pub returns-in-Err-Wide : goal.returns-in-Err-Wide
