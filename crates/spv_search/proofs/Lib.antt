@@ -14,3 +14,4 @@ pub mod Turns
 pub mod Calls
 pub mod Advance
 pub mod Ends
+pub mod schemas

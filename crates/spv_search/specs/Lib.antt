@@ -3,3 +3,4 @@ pub mod Searching
 pub mod Finding
 pub mod Walking
 pub mod deciding
+pub mod schemas

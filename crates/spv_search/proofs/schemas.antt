@@ -1,0 +1,7 @@
+pub mod Formulas
+pub mod Found
+pub mod Making
+pub mod Owning
+pub mod Refuting
+pub mod Stating
+pub mod Told

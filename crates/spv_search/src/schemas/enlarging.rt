@@ -1,0 +1,141 @@
+// A condition with all that is refuted with it.
+
+ghost use Rattle.std.specs.Prelude.{◌≡◌, ◌<◌, ◌++◌, [], ◌∷◌, map, length, IfOk, OnOk};
+ghost use Rattle.std.specs.List.{filter_map};
+ghost use Rattle.spv_schemas.specs.Instances.{instance_fact};
+ghost use Rattle.spv_term.specs.Arena.{AllBelow, Extends, tree};
+ghost use Rattle.spv_proof_rules.specs.Stand.{question};
+ghost use Rattle.spv_proof.specs.schema_facts.Instances.{AllIn, instance_in};
+ghost use Rattle.spv_models.specs.leaf_models.Laws.{AreFormulas};
+ghost use Rattle.spv_models.specs.leaf_models.Tables.{formulas_of};
+ghost use Rattle.spv_verdicts.specs.Schemas.{further_facts, used};
+ghost use Rattle.spv_search.specs.schemas.Enlarging.{IsEnlarged};
+
+use spv_logic::Head;
+use spv_logic::list::List;
+use spv_proof::schema_facts::{Instance, fact, instances};
+use spv_schemas::laws::law_schema;
+use spv_search_terms::condition_copy::copy_condition;
+use spv_search_terms::subterms::{IdSet, made, subterms};
+use spv_term::{Condition, TermFault, TermId, Terms};
+use std::alloc::{AllocError, Global};
+
+/// A condition in an arena of its own, whose hypotheses are all that is refuted with another one, and whose goal is FALSE.
+#[derive(Drop)]
+pub struct Enlarged {
+    /// The arena.
+    pub terms: Terms,
+    /// The condition: the hypotheses of the other one, that its goal is false, and the facts of schemas about the terms that it uses.
+    pub condition: Condition,
+}
+
+/// The terms that a condition uses: the different subterms of its formulas, in the order of their first appearance, arguments first.
+pub fn used_terms(alloc: Global, terms: &Terms, condition: &Condition) -> Result<IdSet, AllocError>
+    requires given { AllBelow (length terms.now.nodes) condition.now.given }
+    requires goal { condition.now.goal.0 < length terms.now.nodes }
+    ensures used { IfOk result (λ ids. map (tree terms.now) ids ≡ used (question terms.now condition.now)) }
+    ensures in_range { IfOk result (AllBelow (length terms.now.nodes)) }
+{
+    let mut roots = Vec::new(alloc);
+    roots.extend_from_slice(condition.given.as_slice())?;
+    roots.push(condition.goal)?;
+    subterms(alloc, terms, roots.as_slice())
+}
+
+// One term more.
+fn push(made: &mut Vec<TermId>, t: TermId) -> Result<(), AllocError>
+    ensures { OnOk result (made.new.items ≡ made.old.items ++ t ∷ []) }
+{
+    made.push(t)?;
+    Ok(())
+}
+
+// The facts of instances, each made behind its subterms.
+fn facts_of(alloc: Global, terms: &mut Terms, found: &[Instance]) -> Result<Vec<TermId>, TermFault>
+    requires { AllIn terms.old found.now }
+    ensures facts { IfOk result (λ made. map (tree terms.new) made.items
+        ≡ filter_map (instance_fact terms.old.shapes terms.old.decls) (map (instance_in terms.old) found.now)) }
+    ensures in_range { IfOk result (λ made. AllBelow (length terms.new.nodes) made.items) }
+    ensures grows { Extends terms.old terms.new }
+{
+    let mut made = Vec::new(alloc);
+    for instance in found {
+        let about = instance.about.as_slice();
+        if let Some(t) = fact(alloc, terms, instance.kind, about, instance.field)? {
+            push(&mut made, t)?;
+        }
+    }
+    Ok(made)
+}
+
+// The facts of schemas about the terms that a condition uses.
+fn further_facts(
+    alloc: Global,
+    terms: &mut Terms,
+    condition: &Condition,
+) -> Result<Vec<TermId>, TermFault>
+    requires given { AllBelow (length terms.old.nodes) condition.now.given }
+    requires goal { condition.now.goal.0 < length terms.old.nodes }
+    ensures facts { IfOk result (λ made. map (tree terms.new) made.items ≡ further_facts (question terms.old condition.now)) }
+    ensures in_range { IfOk result (λ made. AllBelow (length terms.new.nodes) made.items) }
+    ensures grows { Extends terms.old terms.new }
+{
+    let used = used_terms(alloc, terms, condition)?;
+    let found = instances(alloc, terms, used.as_slice())?;
+    Ok(facts_of(alloc, terms, found.as_slice())?)
+}
+
+// Hypotheses, one more, and others behind it.
+fn joined(
+    alloc: Global,
+    first: &[TermId],
+    one: TermId,
+    others: &[TermId],
+) -> Result<List<TermId>, AllocError>
+    ensures { IfOk result (λ ids. ids ≡ first.now ++ one ∷ others.now) }
+{
+    let mut ids = Vec::new(alloc);
+    ids.extend_from_slice(first)?;
+    ids.push(one)?;
+    ids.extend_from_slice(others)?;
+    Ok(List::from_vec(ids))
+}
+
+// The same, where no term may be missing for want of ids.
+fn made_in_own(alloc: Global, terms: &Terms, condition: &Condition) -> Result<Enlarged, TermFault>
+    requires given { AllBelow (length terms.now.nodes) condition.now.given }
+    requires goal { condition.now.goal.0 < length terms.now.nodes }
+    requires formulas { AreFormulas terms.now.shapes terms.now.decls (formulas_of (question terms.now condition.now).sequent) }
+    ensures { IfOk result (λ e. IsEnlarged terms.now condition.now e.terms e.condition) }
+{
+    let copied = copy_condition(alloc, terms, condition, u32::MAX)?;
+    let mut own = copied.terms;
+    let claim = copied.condition;
+    let facts = further_facts(alloc, &mut own, &claim)?;
+    own.law_arena();
+    let denied = made(&mut own, Head::Not, &[claim.goal])?;
+    let given = joined(alloc, claim.given.as_slice(), denied, facts.as_slice())?;
+    Ok(Enlarged {
+        terms: own,
+        condition: Condition {
+            given,
+            goal: copied.base.falsity,
+            origin: claim.origin,
+        },
+    })
+}
+
+/// A condition with all that is refuted with it. There is no memory where all these terms are more than there are ids.
+pub fn enlarge(alloc: Global, terms: &Terms, condition: &Condition) -> Result<Enlarged, AllocError>
+    requires given { AllBelow (length terms.now.nodes) condition.now.given }
+    requires goal { condition.now.goal.0 < length terms.now.nodes }
+    requires formulas { AreFormulas terms.now.shapes terms.now.decls (formulas_of (question terms.now condition.now).sequent) }
+    ensures enlarged { IfOk result (λ e. IsEnlarged terms.now condition.now e.terms e.condition) }
+    ensures formulas { IfOk result (λ e. AreFormulas e.terms.shapes e.terms.decls (formulas_of (question e.terms e.condition).sequent)) }
+{
+    law_schema();
+    match made_in_own(alloc, terms, condition) {
+        Ok(enlarged) => Ok(enlarged),
+        Err(_) => Err(AllocError),
+    }
+}
