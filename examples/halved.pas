@@ -1,5 +1,5 @@
 PROGRAM halved;
-{ DIV is not verified yet; its conditions can be read }
+{ a quotient, and what is left }
 VAR n, h: INTEGER;
 ENTRY n >= 0;
 EXIT (2 * h <= n) AND (n < 2 * h + 2);
