@@ -14,4 +14,3 @@ pub mod Turns
 pub mod Calls
 pub mod Advance
 pub mod Ends
-pub mod schemas
