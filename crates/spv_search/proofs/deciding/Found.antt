@@ -1,9 +1,10 @@
 -- What a search asks of its condition is there where it was opened, and what it finds is decided.
-use Rattle.std.proofs.Common.{◌≡◌, ℕ, List, [], Bool, sym, subst, Result, Ok, Err, IfOk}
+use Rattle.std.proofs.Common.{◌≡◌, ℕ, ◌<◌, List, [], Bool, length, sym, subst, Result, Ok, Err, IfOk}
 use Rattle.spv_logic.specs.declared.conditions.TermId.{TermId}
 use Rattle.spv_term.specs.declared.nodes.Condition.{Condition}
 use Rattle.spv_term.specs.Arena.{Arena}
-use Rattle.spv_verdicts.specs.Verdicts.{Limits}
+use Rattle.spv_proof_rules.specs.Stand.{question}
+use Rattle.spv_verdicts.specs.Verdicts.{Limits, HasTooManyTerms, search_terms}
 use Rattle.spv_verdicts.specs.declared.answers.verdicts.Round.{Round}
 use Rattle.spv_verdicts.specs.declared.answers.verdicts.Wide.TheVariants as wide
 use Rattle.spv_verdicts.specs.declared.answers.verdicts.Limit.TheVariants as limit
@@ -40,11 +41,12 @@ ready_decides a c limits p o (Err e) is h f = tt
 ready_decides a c limits p o (Ok d) is h f = f a c (subst (λ (x : Opening). IsOpening a c limits x) is h)
 
 -- where there are too many terms, or a form does not fit, no round is made
-pub too_many_decides : (a : Arena) (c : Condition) (limits : Limits) (p : Opening) (b : Arena) (d : Condition) (rounds : List Round) → p ≡ opening.Terms b d → IsOpening a c limits p → rounds ≡ []
-    → IsDecided a c limits (record { terms = b; condition = d; verdict = verdict.GaveUp rounds (limit.Terms limits.terms) })
-too_many_decides a c limits p b d rounds is h none =
+pub too_many_decides : (a : Arena) (c : Condition) (limits : Limits) (p : Opening) (b : Arena) (d : Condition) (rounds : List Round) (n : ℕ) → n ≡ limits.terms → p ≡ opening.Terms b d → IsOpening a c limits p → rounds ≡ []
+    → IsDecided a c limits (record { terms = b; condition = d; verdict = verdict.GaveUp rounds (limit.Terms n) })
+too_many_decides a c limits p b d rounds n same is h none =
     let k : HasTooMany a c limits.terms b d = subst (IsOpening a c limits) is h in
-    let f : IsFound b d limits (verdict.GaveUp rounds (limit.Terms limits.terms)) = given_up b d limits (limit.Terms limits.terms) tt k.many rounds none in
+    let many : HasTooManyTerms (question b d) limits.terms n = record { limit = same; more = subst (λ (m : ℕ). m < length (search_terms (question b d))) (sym same) k.many.more } in
+    let f : IsFound b d limits (verdict.GaveUp rounds (limit.Terms n)) = given_up b d limits (limit.Terms n) tt many rounds none in
     record { claim = k.copy.claim; shapes = k.copy.shapes; decls = k.copy.decls; terms_in = f.terms_in; right = f.right }
 
 pub too_wide_decides : (a : Arena) (c : Condition) (limits : Limits) (p : Opening) (b : Arena) (d : Condition) (t : TermId) (rounds : List Round) → p ≡ opening.Wide b d t → IsOpening a c limits p → rounds ≡ []

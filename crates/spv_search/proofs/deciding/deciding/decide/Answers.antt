@@ -1,3 +1,4 @@
+use Rattle.std.proofs.Common.{◌∙◌}
 use Rattle.spv_search.proofs.deciding.Found.{ready_decides, too_many_decides, too_wide_decides}
 use Rattle.spv_search.proofs.deciding.deciding.decide.Goals as goal
 
@@ -8,7 +9,7 @@ returns-in-Ready c = record {
 
 pub returns-in-Terms : goal.returns-in-Terms
 returns-in-Terms c = record {
-  decided = too_many_decides c.args.terms.now c.args.condition.now c.args.limits.now c.in_ok-opening.opening c.in-Terms.terms c.in-Terms.condition c.new.result c.in-Terms.is c.in_ok-opening.ensures c.new.ensures;
+  decided = too_many_decides c.args.terms.now c.args.condition.now c.args.limits.now c.in_ok-opening.opening c.in-Terms.terms c.in-Terms.condition c.new.result c.from.result (c.from.ensures ∙ c.terms.ensures) c.in-Terms.is c.in_ok-opening.ensures c.new.ensures;
 }
 
 pub returns-in-Wide : goal.returns-in-Wide
