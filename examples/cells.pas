@@ -1,5 +1,5 @@
 PROGRAM cells;
-{ pointers are not verified yet; conditions to work out by hand }
+{ the cell of another pointer is given a value; conditions to work out by hand }
 TYPE Ref = ^Node; Node = RECORD val: INTEGER END;
 VAR p, q: Ref;
 ENTRY p <> q;

@@ -5,6 +5,6 @@ mod laws;
 mod passes;
 mod tables;
 
-pub use connectives::{Connectives, connectives_of};
+pub use connectives::{Connectives, arguments_of, connectives_of, is_marked};
 pub use laws::law_same;
 pub use passes::{clash, listed_clash, loud, started, value_at};

@@ -2,6 +2,7 @@
 
 mod heuristic;
 mod mending;
+mod mirrors;
 mod parts;
 mod ranking;
 mod splitting;

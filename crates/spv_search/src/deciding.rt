@@ -3,3 +3,4 @@
 mod deciding;
 
 pub use deciding::decide;
+pub(crate) use deciding::decide_near;

@@ -93,7 +93,7 @@ fn explore(
 
 /// What a search for a proof of a condition finds within limits, where both sides were opened for its atoms and its questions and were told
 /// nothing: a proof; the truths of its atoms in a table that falsifies it; or the limit that was reached. `subterms` are those of its formulas, and
-/// `listed` says which of them a table lists. The terms of the verdict are in the arena.
+/// `listed` says which of them a table lists. The heuristic advises which atom a branch splits on. The terms of the verdict are in the arena.
 pub fn search(
     alloc: Global,
     terms: &Terms,
@@ -104,19 +104,20 @@ pub fn search(
     ground: &Ground,
     both: Both,
     limits: &Limits,
+    heuristic: &Heuristic,
 ) -> Result<Verdict, AllocError>
     requires given { AllBelow (length terms.now.nodes) condition.now.given }
     requires goal { condition.now.goal.0 < length terms.now.nodes }
     requires listed { AreListed terms.now condition.now subterms.now listed.now }
+    requires heuristic { IsHeuristic terms.now heuristic.now }
     requires set_up { IsSetUp terms.now condition.now atoms.now ground.now limits.now both }
     requires both { IsBoth terms.now both }
     requires untold { told both ≡ [] }
     ensures { IfOk result (IsFound terms.now condition.now limits.now) }
 {
-    let heuristic = Heuristic::new(alloc, terms, condition, atoms)?;
     let (mut path, end) = BranchTrail::begin(alloc, terms, condition, ground, both)?;
     explore(
-        alloc, terms, condition, subterms, listed, atoms, ground, limits, &heuristic, &mut path,
+        alloc, terms, condition, subterms, listed, atoms, ground, limits, heuristic, &mut path,
         end,
     )
 }

@@ -79,7 +79,7 @@ module _ (a : Arena) (ok : IsArena a) (ids : List TermId) (are : AreConnectives 
       new_count : length found ≡ length a.nodes → length new ≡ length a.nodes
       new_count count = ap length set ∙ (length-set found t.0 (or_else (given_at own s v t) (of_node found (slice_get a.nodes t.0))) ∙ count)
 
-      new_filled : (given : Term → Option Bool) → Gives a own s v given → IsFilled a given ids k found → IsFilled a given ids (k + 1) new
+      pub new_filled : (given : Term → Option Bool) → Gives a own s v given → IsFilled a given ids k found → IsFilled a given ids (k + 1) new
       new_filled given gives filled = record {
         count = new_count filled.count;
         others = λ u h c. new_other u (apart u c) ∙ filled.others u h c;
@@ -102,7 +102,7 @@ module _ (a : Arena) (ok : IsArena a) (ids : List TermId) (are : AreConnectives 
               let same : u ≡ t = same_Some u t (sym e ∙ (ap (slice_get ids) here ∙ is)) in
               subst (λ (x : TermId). at new x.0 ≡ valued_in a given x) (sym same) value_here
 
-      new_quiet : (given : Term → Option Bool) → Gives a own s v given → IsFilled a given ids k found → QuietBefore a given ids k → opposite (of_node found (slice_get a.nodes t.0)) (given_at own s v t) ≡ false
+      pub new_quiet : (given : Term → Option Bool) → Gives a own s v given → IsFilled a given ids k found → QuietBefore a given ids k → opposite (of_node found (slice_get a.nodes t.0)) (given_at own s v t) ≡ false
           → QuietBefore a given ids (k + 1)
       new_quiet given gives filled quiet c = record { each = λ i u h e. by_case i u e (before_or_at i k h) }
         where
@@ -132,14 +132,14 @@ module _ (a : Arena) (ok : IsArena a) (ids : List TermId) (are : AreConnectives 
 -- ---- the start
 
 module _ (a : Arena) (own start : List (Option Bool)) (started : AreStarted a own start) (s : TermId) (v : Bool) (inside : s.0 < length a.nodes) where
-  given_here : (t : TermId) → t.0 ≡ s.0 → given_at own s v t ≡ Some v
+  pub given_here : (t : TermId) → t.0 ≡ s.0 → given_at own s v t ≡ Some v
   given_here t e = ap (λ b. cond b (Some v) (at own t.0)) (here (eqb_tells t.0 s.0))
     where
       here : ((nat_eq t.0 s.0 ≡ true) × (t.0 ≡ s.0)) ⊎ ((nat_eq t.0 s.0 ≡ false) × (t.0 ≢ s.0)) → nat_eq t.0 s.0 ≡ true
       here (inl x) = x.0
       here (inr x) = absurd (x.1 e)
 
-  given_there : (t : TermId) → t.0 ≢ s.0 → given_at own s v t ≡ at own t.0
+  pub given_there : (t : TermId) → t.0 ≢ s.0 → given_at own s v t ≡ at own t.0
   given_there t other = ap (λ b. cond b (Some v) (at own t.0)) (there (eqb_tells t.0 s.0))
     where
       there : ((nat_eq t.0 s.0 ≡ true) × (t.0 ≡ s.0)) ⊎ ((nat_eq t.0 s.0 ≡ false) × (t.0 ≢ s.0)) → nat_eq t.0 s.0 ≡ false
@@ -234,7 +234,7 @@ module _ (a : Arena) (ok : IsArena a) (ids : List TermId) (are : AreConnectives 
 -- ---- where each term has what is listed: a term past the end has another value
 
 module _ (a : Arena) (own start : List (Option Bool)) (started : AreStarted a own start) (s : TermId) (v : Bool) (past : s.0 ≡ length a.nodes) where
-  listed_at : (t : TermId) → t.0 < length a.nodes → given_at own s v t ≡ at own t.0
+  pub listed_at : (t : TermId) → t.0 < length a.nodes → given_at own s v t ≡ at own t.0
   listed_at t h = ap (λ b. cond b (Some v) (at own t.0)) (there (eqb_tells t.0 s.0))
     where
       there : ((nat_eq t.0 s.0 ≡ true) × (t.0 ≡ s.0)) ⊎ ((nat_eq t.0 s.0 ≡ false) × (t.0 ≢ s.0)) → nat_eq t.0 s.0 ≡ false

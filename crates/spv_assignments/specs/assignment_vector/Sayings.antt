@@ -1,5 +1,5 @@
 -- What facts say of the terms of an arena, by their ids.
-use Rattle.std.specs.Prelude.{◌≡◌, ℕ, ◌<◌, Bool, false, ◌&&◌, ◌||◌, List, length, None, Some, slice_get}
+use Rattle.std.specs.Prelude.{◌≡◌, ⊤, ℕ, ◌<◌, Bool, false, ◌&&◌, ◌||◌, List, length, None, Some, slice_get, slice_index_or}
 use Rattle.std.specs.List.{list_any}
 use Rattle.spv_logic.specs.declared.conditions.TermId.{TermId}
 use Rattle.spv_logic.specs.Terms.{Term}
@@ -49,11 +49,31 @@ order s t = record { low = s; high = t }
 abbrev pub same_order : Order → Order → Bool
 same_order p q = same_id p.low q.low && same_id p.high q.high
 
+-- whether a term is marked
+abbrev pub is_marked : List Bool → TermId → Bool
+is_marked marks t = slice_index_or marks t.0 false
+
+-- none of so many terms is
+pub record HasNoMarks (n : ℕ) (marks : List Bool) : Type 0 where
+  pub count : length marks ≡ n
+  pub none : (t : TermId) → is_marked marks t ≡ false
+
 -- whether this is said
 abbrev pub says : Sayings → RowConstraint → Bool
-says given (Affirms t) = list_any (same_id t) given.affirmed
-says given (Denies t) = list_any (same_id t) given.denied
+says given (Affirms t) = is_marked given.affirmed t
+says given (Denies t) = is_marked given.denied t
 says given (Orders s t) = list_any (same_order (order s t)) given.orders
+
+-- it is of so many terms that something may be said
+pub record IsOfTerms (n : ℕ) (given : Sayings) : Type 0 where
+  pub affirmed : length given.affirmed ≡ n
+  pub denied : length given.denied ≡ n
+
+-- this is said of one of them
+abbrev pub IsWithin : Sayings → RowConstraint → Type 0
+IsWithin given (Affirms t) = t.0 < length given.affirmed
+IsWithin given (Denies t) = t.0 < length given.denied
+IsWithin given (Orders s t) = ⊤
 
 -- nothing is said
 pub record IsEmpty (given : Sayings) : Type 0 where

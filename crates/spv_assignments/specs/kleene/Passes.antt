@@ -86,6 +86,29 @@ pub record AreConnectives (a : Arena) (ids : List TermId) : Type 0 where
   pub rising : (i j : ℕ) (s t : TermId) → slice_get ids i ≡ Some s → slice_get ids j ≡ Some t → s.0 < t.0 → i < j
   pub all : (t : TermId) → t.0 < length a.nodes → connects a t ≡ true → StandsAt ids t
 
+-- ---- arguments of connectives
+
+-- whether a term is marked; past the end it is
+abbrev pub is_marked : List Bool → TermId → Bool
+is_marked marks t = slice_index_or marks t.0 true
+
+-- what was marked still is
+pub record Keeps (old new : List Bool) : Type 0 where
+  pub each : (t : TermId) → is_marked old t ≡ true → is_marked new t ≡ true
+
+-- a term is marked, and what was so before
+pub record Marks (old new : List Bool) (t : TermId) : Type 0 where
+  pub here : is_marked new t ≡ true
+  pub kept : Keeps old new
+
+-- all of these terms are marked
+pub record MarksAll (marks : List Bool) (ids : List TermId) : Type 0 where
+  pub each : (i : ℕ) (t : TermId) → slice_get ids i ≡ Some t → is_marked marks t ≡ true
+
+-- each argument of a connective is marked
+pub record MarksArguments (a : Arena) (marks : List Bool) : Type 0 where
+  pub each : (t : TermId) (n : Node) → slice_get a.nodes t.0 ≡ Some n → connects a t ≡ true → MarksAll marks n.args
+
 -- ---- what a pass finds
 
 -- whether the value computed for a term of the arena is opposite to the given one
@@ -149,3 +172,14 @@ pub record HasPassed (a : Arena) (own : List (Option Bool)) (s : TermId) (v : Bo
 -- it has come to the end: no connective clashes
 pub record NoConnectiveClashes (a : Arena) (own : List (Option Bool)) (s : TermId) (v : Bool) : Type 0 where
   pub quiet : (given : Term → Option Bool) → Gives a own s v given → (t : TermId) → t.0 < length a.nodes → connects a t ≡ true → clashes_at a given t ≡ false
+
+-- a pass has come to the end, and found no connective that clashes
+pub record PassesAll (a : Arena) (own : List (Option Bool)) (s : TermId) (v : Bool) (ids : List TermId) : Type 0 where
+  pub found : List (Option Bool)
+  pub passed : HasPassed a own s v ids (length ids) found
+
+-- a pass where nothing is supposed has
+pub record PassesListed (a : Arena) (own : List (Option Bool)) (ids : List TermId) : Type 0 where
+  pub past : TermId
+  pub is_past : past.0 ≡ length a.nodes
+  pub all : PassesAll a own past true ids

@@ -74,7 +74,7 @@ pub(crate) fn sayings_of(
     ensures { IfOk result (AreSaid terms.now (facts_of terms.now known.now)) }
 {
     terms.law_arena();
-    let mut sayings = Sayings::new(alloc);
+    let mut sayings = Sayings::new(alloc, terms.len())?;
     for k in known {
         let saying = saying_of(terms, *k);
         sayings.put(saying)?;

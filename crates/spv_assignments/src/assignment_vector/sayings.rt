@@ -1,10 +1,9 @@
 // What is said of the terms of an arena, found by their ids.
 
-ghost use Rattle.std.specs.Prelude.{◌≡◌, [], OnOk, IfOk};
+ghost use Rattle.std.specs.Prelude.{◌≡◌, ◌<◌, ℕ, [], true, length, slice_set, OnOk, IfOk};
 ghost use Rattle.std.specs.List.{list_any};
 ghost use Rattle.indexmap.specs.IndexSet.{insert_key};
-ghost use Rattle.spv_atoms.specs.Order.{same_id};
-ghost use Rattle.spv_assignments.specs.assignment_vector.Sayings.{Adds, IsEmpty, order, same_order, says};
+ghost use Rattle.spv_assignments.specs.assignment_vector.Sayings.{Adds, HasNoMarks, is_marked, IsEmpty, IsOfTerms, IsWithin, order, same_order, says};
 
 use indexmap::IndexSet;
 use spv_term::TermId;
@@ -22,44 +21,45 @@ pub(crate) enum RowConstraint {
     Orders(TermId, TermId),
 }
 
-/// Terms of which one thing is said. A look-up goes by a hash.
+/// Terms of an arena of which one thing is said, each marked at its id.
 #[derive(Drop)]
 pub(crate) struct Ids {
-    ids: IndexSet<TermId>,
+    marks: Vec<bool>,
 }
 
 impl Model for Ids {
-    ghost use Rattle.std.specs.Prelude.{List};
-    ghost use Rattle.spv_logic.specs.declared.conditions.TermId.{TermId};
+    ghost use Rattle.std.specs.Prelude.{Bool, List};
 
-    ghost Value = { List TermId };
+    ghost Value = { List Bool };
 
-    ghost view = { λ m. m.ids.keys };
+    ghost view = { λ m. m.marks.items };
 }
 
 impl Ids {
-    // No terms.
-    fn new(alloc: Global) -> Ids
-        ensures { result ≡ [] }
+    // No terms, of so many.
+    fn new(alloc: Global, count: u32) -> Result<Ids, AllocError>
+        ensures { IfOk result (HasNoMarks count) }
     {
-        Ids {
-            ids: IndexSet::new(alloc),
-        }
+        let marks = vec![in alloc; false; count as usize]?;
+        Ok(Ids { marks })
     }
 
     // Whether a term is among them.
     fn has(&self, t: TermId) -> bool
-        ensures { result ≡ list_any (same_id t) self.now }
+        ensures { result ≡ is_marked self.now t }
     {
-        self.ids.contains(&t)
+        match self.marks.get(t.0 as usize) {
+            Some(mark) => *mark,
+            None => false,
+        }
     }
 
     // One term more.
-    fn put(&mut self, t: TermId) -> Result<(), AllocError>
-        ensures { OnOk result (self.new ≡ insert_key same_id self.old t) }
+    fn put(&mut self, t: TermId)
+        requires { t.0 < length self.old }
+        ensures { self.new ≡ slice_set self.old t.0 true }
     {
-        self.ids.insert_full(t)?;
-        Ok(())
+        self.marks[t.0 as usize] = true;
     }
 }
 
@@ -120,15 +120,16 @@ pub(crate) struct Sayings {
 }
 
 impl Sayings {
-    // Nothing is said.
-    pub(crate) fn new(alloc: Global) -> Sayings
-        ensures { IsEmpty result }
+    // Nothing is said, of so many terms.
+    pub(crate) fn new(alloc: Global, count: u32) -> Result<Sayings, AllocError>
+        ensures empty { IfOk result IsEmpty }
+        ensures count { IfOk result (IsOfTerms count) }
     {
-        Sayings {
-            affirmed: Ids::new(alloc),
-            denied: Ids::new(alloc),
+        Ok(Sayings {
+            affirmed: Ids::new(alloc, count)?,
+            denied: Ids::new(alloc, count)?,
             orders: Pairs::new(alloc),
-        }
+        })
     }
 
     // Whether this is said.
@@ -144,12 +145,15 @@ impl Sayings {
 
     // That this is said too.
     pub(crate) fn put(&mut self, s: RowConstraint) -> Result<(), AllocError>
-        ensures { OnOk result (Adds s self.old self.new) }
+        requires there { IsWithin self.old s }
+        ensures adds { OnOk result (Adds s self.old self.new) }
+        ensures count { OnOk result ((n : ℕ) → IsOfTerms n self.old → IsOfTerms n self.new) }
     {
         match s {
             RowConstraint::Affirms(t) => self.affirmed.put(t),
             RowConstraint::Denies(t) => self.denied.put(t),
-            RowConstraint::Orders(low, high) => self.orders.put(low, high),
+            RowConstraint::Orders(low, high) => self.orders.put(low, high)?,
         }
+        Ok(())
     }
 }

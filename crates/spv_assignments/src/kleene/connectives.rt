@@ -3,7 +3,7 @@
 ghost use Rattle.std.specs.Prelude.{◌≡◌, ◌<◌, ◌++◌, ◌∷◌, [], length, IfOk, OnOk, if◌then◌else◌};
 ghost use Rattle.spv_term.specs.Arena.{tree};
 ghost use Rattle.spv_assignments.specs.kleene.Passes as spec;
-ghost use Rattle.spv_assignments.specs.kleene.Passes.{AreConnectives, ArePlain};
+ghost use Rattle.spv_assignments.specs.kleene.Passes.{AreConnectives, ArePlain, Keeps, Marks, MarksAll, MarksArguments};
 
 use spv_atoms::numeral_relation;
 use spv_search_terms::head_index::is_connective;
@@ -85,4 +85,46 @@ pub fn connectives_of(alloc: Global, terms: &Terms) -> Result<Connectives, Alloc
     let ids = connective_ids(alloc, terms)?;
     let plain = plain_values(alloc, terms)?;
     Ok(Connectives { ids, plain })
+}
+
+// Marks a term.
+fn mark(marks: &mut Vec<bool>, t: TermId)
+    ensures { Marks marks.old.items marks.new.items t }
+{
+    let place = t.0 as usize;
+    if place < marks.len() {
+        marks[place] = true;
+    }
+}
+
+// Marks these terms.
+fn mark_all(marks: &mut Vec<bool>, ids: &[TermId])
+    ensures all { MarksAll marks.new.items ids.now }
+    ensures kept { Keeps marks.old.items marks.new.items }
+{
+    for t in ids {
+        mark(marks, *t);
+    }
+}
+
+/// Beside each term whether it is an argument of a connective.
+pub fn arguments_of(alloc: Global, terms: &Terms, ids: &[TermId]) -> Result<Vec<bool>, AllocError>
+    requires ids { AreConnectives terms.now ids.now }
+    ensures arguments { IfOk result (λ marks. MarksArguments terms.now marks.items) }
+{
+    let mut marks = vec![in alloc; false; terms.len() as usize]?;
+    for t in ids {
+        mark_all(&mut marks, terms.node(*t).args.as_slice());
+    }
+    Ok(marks)
+}
+
+/// Whether a term is marked; past the end it is.
+pub fn is_marked(marks: &[bool], t: TermId) -> bool
+    ensures { result ≡ spec.is_marked marks.now t }
+{
+    match marks.get(t.0 as usize) {
+        Some(marked) => *marked,
+        None => true,
+    }
 }

@@ -4,10 +4,11 @@ ghost use Rattle.std.specs.Prelude.{◌≡◌, ◌<◌, true, length, slice_get,
 ghost use Rattle.spv_term.specs.Arena.{tree};
 ghost use Rattle.spv_proof_rules.specs.Evaluation as evaluation;
 ghost use Rattle.spv_assignments.specs.kleene.Passes as spec;
-ghost use Rattle.spv_assignments.specs.kleene.Passes.{AreConnectives, ArePlain, AreQuiet, AreStarted, Clashes, ClashesListed, HasPassed, IsLoud, NoConnectiveClashes, NoneClashes, NoneClashesListed};
+ghost use Rattle.spv_assignments.specs.kleene.Passes.{AreConnectives, ArePlain, AreQuiet, AreStarted, Clashes, ClashesListed, HasPassed, IsLoud, MarksArguments, NoConnectiveClashes, NoneClashes, NoneClashesListed, PassesAll, PassesListed};
 
-use crate::kleene::connectives::Connectives;
+use crate::kleene::connectives::{Connectives, is_marked};
 use crate::kleene::tables::{connected, opposite, or_else};
+use spv_search_terms::head_index::is_connective;
 use spv_term::{TermId, Terms};
 use std::alloc::{AllocError, Global};
 
@@ -85,6 +86,7 @@ fn first_clash(
     requires start { HasPassed terms.now own.now s v ids.now 0 start.items }
     ensures clash { IfSome result (Clashes terms.now own.now s v) }
     ensures none { IfNone result (NoConnectiveClashes terms.now own.now s v) }
+    ensures passed { IfNone result (PassesAll terms.now own.now s v ids.now) }
 {
     terms.law_arena();
     let mut found = start;
@@ -116,11 +118,13 @@ fn copied(
 }
 
 /// The first term that clashes, where one term is given this value, and each other one the listed value: its computed value is opposite to the
-/// given one. `start` has the values of the terms that are no connectives.
+/// given one. `start` has the values of the terms that are no connectives, and `arguments` says which terms are arguments of connectives. No term
+/// clashes where nothing is supposed.
 pub fn clash(
     alloc: Global,
     terms: &Terms,
     connectives: &Connectives,
+    arguments: &[bool],
     own: &[Option<bool>],
     start: &[Option<bool>],
     s: TermId,
@@ -128,15 +132,21 @@ pub fn clash(
 ) -> Result<Option<TermId>, AllocError>
     requires ids { AreConnectives terms.now connectives.now.ids.items }
     requires plain { ArePlain terms.now connectives.now.plain.items }
+    requires arguments { MarksArguments terms.now arguments.now }
     requires quiet { AreQuiet terms.now own.now }
     requires start { AreStarted terms.now own.now start.now }
+    requires passed { PassesListed terms.now own.now connectives.now.ids.items }
     requires s { s.0 < length terms.now.nodes }
     ensures clash { IfOk result (λ found. IfSome found (Clashes terms.now own.now s v)) }
     ensures none { IfOk result (λ found. IfNone found (NoneClashes terms.now own.now s v)) }
 {
+    terms.law_arena();
     let own_value = value_at(connectives.plain.as_slice(), s);
     if opposite(own_value, Some(v)) {
         return Ok(Some(s));
+    }
+    if !is_marked(arguments, s) && !is_connective(terms, s) {
+        return Ok(None);
     }
     let begun = copied(alloc, start, s, v)?;
     Ok(first_clash(terms, connectives.ids.as_slice(), own, s, v, begun))
@@ -164,6 +174,7 @@ pub fn listed_clash(
     requires start { AreStarted terms.now own.now start.now }
     ensures clash { IfOk result (λ found. IfSome found (ClashesListed terms.now own.now)) }
     ensures none { IfOk result (λ found. IfNone found (NoneClashesListed terms.now own.now)) }
+    ensures passed { IfOk result (λ found. IfNone found (PassesListed terms.now own.now connectives.now.ids.items)) }
 {
     let begun = copied_all(alloc, start)?;
     let none = TermId(terms.len());

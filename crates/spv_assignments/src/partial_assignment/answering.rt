@@ -2,7 +2,7 @@
 
 ghost use Rattle.std.specs.Prelude.{◌≡◌, ◌<◌, is_some, length, List, IfOk};
 ghost use Rattle.spv_logic.specs.Terms.{Term};
-ghost use Rattle.spv_assignments.specs.kleene.Passes.{AreConnectives, ArePlain, AreQuiet, AreStarted, at};
+ghost use Rattle.spv_assignments.specs.kleene.Passes.{AreConnectives, ArePlain, AreQuiet, AreStarted, at, MarksArguments, PassesListed};
 ghost use Rattle.spv_assignments.specs.partial_assignment.Following.{AreListed, IsKnowledge};
 ghost use Rattle.spv_assignments.specs.partial_assignment.Answers.{IsSupposition, Say, TellsClash};
 
@@ -41,18 +41,30 @@ fn clashes(
     alloc: Global,
     terms: &Terms,
     connectives: &Connectives,
+    arguments: &[bool],
     own: &[Option<bool>],
     start: &[Option<bool>],
     s: &Supposition,
 ) -> Result<bool, AllocError>
     requires ids { AreConnectives terms.now connectives.now.ids.items }
     requires plain { ArePlain terms.now connectives.now.plain.items }
+    requires arguments { MarksArguments terms.now arguments.now }
     requires quiet { AreQuiet terms.now own.now }
     requires start { AreStarted terms.now own.now start.now }
+    requires passed { PassesListed terms.now own.now connectives.now.ids.items }
     requires s { s.now.term.0 < length terms.now.nodes }
     ensures { IfOk result (TellsClash terms.now own.now s.now) }
 {
-    let found = clash(alloc, terms, connectives, own, start, s.term, s.value)?;
+    let found = clash(
+        alloc,
+        terms,
+        connectives,
+        arguments,
+        own,
+        start,
+        s.term,
+        s.value,
+    )?;
     match found {
         Some(_) => Ok(true),
         None => Ok(false),
@@ -74,14 +86,17 @@ pub(crate) fn answer(
     alloc: Global,
     terms: &Terms,
     connectives: &Connectives,
+    arguments: &[bool],
     lists: &Listed,
     start: &[Option<bool>],
     t: TermId,
 ) -> Result<Option<bool>, AllocError>
     requires ids { AreConnectives terms.now connectives.now.ids.items }
     requires plain { ArePlain terms.now connectives.now.plain.items }
+    requires arguments { MarksArguments terms.now arguments.now }
     requires quiet { AreQuiet terms.now lists.now.cores.items }
     requires start { AreStarted terms.now lists.now.cores.items start.now }
+    requires passed { PassesListed terms.now lists.now.cores.items connectives.now.ids.items }
     requires t { t.0 < length terms.now.nodes }
     ensures { IfOk result (λ o. (facts : List Term) → IsKnowledge terms.now facts
         → AreListed terms.now facts lists.now.direct.items lists.now.cores.items lists.now.all.items
@@ -93,14 +108,30 @@ pub(crate) fn answer(
     }
     let cores = lists.cores.as_slice();
     let supposed = denied(terms, t);
-    if clashes(alloc, terms, connectives, cores, start, &supposed)? {
+    if clashes(
+        alloc,
+        terms,
+        connectives,
+        arguments,
+        cores,
+        start,
+        &supposed,
+    )? {
         return Ok(Some(true));
     }
     let affirmed = Supposition {
         term: t,
         value: true,
     };
-    if clashes(alloc, terms, connectives, cores, start, &affirmed)? {
+    if clashes(
+        alloc,
+        terms,
+        connectives,
+        arguments,
+        cores,
+        start,
+        &affirmed,
+    )? {
         return Ok(Some(false));
     }
     Ok(None)

@@ -3,12 +3,12 @@
 ghost use Rattle.std.specs.Prelude.{◌≡◌, ◌<◌, length, List, None, IfOk};
 ghost use Rattle.spv_logic.specs.Terms.{Term};
 ghost use Rattle.spv_term.specs.Arena.{AllBelow};
-ghost use Rattle.spv_assignments.specs.kleene.Passes.{AreConnectives, ArePlain, AreQuiet, AreStarted, at};
+ghost use Rattle.spv_assignments.specs.kleene.Passes.{AreConnectives, ArePlain, AreQuiet, AreStarted, at, MarksArguments, PassesListed};
 ghost use Rattle.spv_assignments.specs.partial_assignment.Following.{AreListed, IsKnowledge};
 ghost use Rattle.spv_assignments.specs.partial_assignment.Facts.{facts_of};
 ghost use Rattle.spv_assignments.specs.partial_assignment.Says.{FollowsAmong, IsClash, Says};
 
-use crate::kleene::{Connectives, listed_clash, loud, started, value_at};
+use crate::kleene::{Connectives, arguments_of, listed_clash, loud, started, value_at};
 use crate::partial_assignment::answering::answer;
 use crate::partial_assignment::facts::Known;
 use crate::partial_assignment::lists::Listed;
@@ -31,21 +31,24 @@ fn first_question(
     alloc: Global,
     terms: &Terms,
     connectives: &Connectives,
+    arguments: &[bool],
     lists: &Listed,
     start: &[Option<bool>],
     questions: &[TermId],
 ) -> Result<Following, AllocError>
     requires ids { AreConnectives terms.now connectives.now.ids.items }
     requires plain { ArePlain terms.now connectives.now.plain.items }
+    requires arguments { MarksArguments terms.now arguments.now }
     requires quiet { AreQuiet terms.now lists.now.cores.items }
     requires start { AreStarted terms.now lists.now.cores.items start.now }
+    requires passed { PassesListed terms.now lists.now.cores.items connectives.now.ids.items }
     requires questions { AllBelow (length terms.now.nodes) questions.now }
     ensures { IfOk result (λ f. (facts : List Term) → IsKnowledge terms.now facts
         → AreListed terms.now facts lists.now.direct.items lists.now.cores.items lists.now.all.items
         → AreQuiet terms.now lists.now.direct.items → FollowsAmong terms.now facts questions.now f) }
 {
     for t in questions {
-        let found = answer(alloc, terms, connectives, lists, start, *t)?;
+        let found = answer(alloc, terms, connectives, arguments, lists, start, *t)?;
         if let Some(truth) = found {
             return Ok(Following::Question(*t, truth));
         }
@@ -93,10 +96,12 @@ pub fn next(
     if let Some(t) = found {
         return Ok(contradiction(direct, t));
     }
+    let arguments = arguments_of(alloc, terms, connectives.ids.as_slice())?;
     first_question(
         alloc,
         terms,
         connectives,
+        arguments.as_slice(),
         lists,
         start.as_slice(),
         questions,

@@ -1,4 +1,4 @@
-// The formulas of a condition in the order in which they are looked at: the goal, and the others by how near to it their variables are.
+// The formulas of a condition in the order in which they are looked at: the goal, and the others by how near to it their terms are.
 
 ghost use Rattle.std.specs.Prelude.{◌<◌, length, IfOk, OnOk};
 ghost use Rattle.spv_term.specs.Arena.{AllBelow};
@@ -16,40 +16,64 @@ fn is_name(terms: &Terms, t: TermId) -> bool
     node.args.as_slice().is_empty() && !matches!(node.head, Head::Num(_) | Head::True | Head::False)
 }
 
-// The variables among these terms.
-fn names_among(alloc: Global, terms: &Terms, ids: &[TermId]) -> Result<Vec<TermId>, AllocError>
-    requires { AllBelow (length terms.now.nodes) ids.now }
+// Whether a term looks into others: an element, a field, the content of a cell, a part of a list, or what a symbol or a division makes of numbers.
+fn is_view(terms: &Terms, t: TermId) -> bool
+    requires { t.0 < length terms.now.nodes }
 {
-    let mut names = Vec::new(alloc);
-    for t in ids {
-        if is_name(terms, *t) {
-            names.push(*t)?;
+    let node = terms.node(t);
+    match node.head {
+        Head::App(_) => !node.args.as_slice().is_empty(),
+        Head::Select | Head::Field(_) | Head::Cell | Head::PointerTo => true,
+        Head::Car | Head::Cdr | Head::Atom | Head::Div | Head::Mod => true,
+        _ => false,
+    }
+}
+
+// The terms by which formulas are near to each other: what looks into others, and the variables.
+#[derive(Drop)]
+struct Signs {
+    views: Vec<Vec<TermId>>,
+    names: Vec<Vec<TermId>>,
+}
+
+impl Signs {
+    // Those of no formula.
+    fn new(alloc: Global) -> Signs {
+        Signs {
+            views: Vec::new(alloc),
+            names: Vec::new(alloc),
         }
     }
-    Ok(names)
+
+    // Those of one formula more, whose subterms these are.
+    fn add(&mut self, alloc: Global, terms: &Terms, ids: &[TermId]) -> Result<(), AllocError>
+        requires { AllBelow (length terms.now.nodes) ids.now }
+    {
+        let mut views = Vec::new(alloc);
+        let mut names = Vec::new(alloc);
+        for t in ids {
+            if is_view(terms, *t) {
+                views.push(*t)?;
+            } else if is_name(terms, *t) {
+                names.push(*t)?;
+            }
+        }
+        self.views.push(views)?;
+        self.names.push(names)?;
+        Ok(())
+    }
 }
 
-// The variables of a formula.
-fn names_of(alloc: Global, terms: &Terms, f: TermId) -> Result<Vec<TermId>, AllocError>
-    requires { f.0 < length terms.now.nodes }
-{
-    let found = subterms(alloc, terms, &[f])?;
-    names_among(alloc, terms, found.as_slice())
-}
-
-// The variables of each of these formulas.
-fn all_names(
-    alloc: Global,
-    terms: &Terms,
-    formulas: &[TermId],
-) -> Result<Vec<Vec<TermId>>, AllocError>
+// The terms by which these formulas are near to each other.
+fn signs_of(alloc: Global, terms: &Terms, formulas: &[TermId]) -> Result<Signs, AllocError>
     requires { AllBelow (length terms.now.nodes) formulas.now }
 {
-    let mut names = Vec::new(alloc);
+    let mut signs = Signs::new(alloc);
     for f in formulas {
-        names.push(names_of(alloc, terms, *f)?)?;
+        let found = subterms(alloc, terms, &[*f])?;
+        signs.add(alloc, terms, found.as_slice())?;
     }
-    Ok(names)
+    Ok(signs)
 }
 
 // Lists for so many terms, all of them empty.
@@ -127,7 +151,7 @@ impl Ranking {
         Ok(())
     }
 
-    // Puts the formulas behind the others that share a variable with this one.
+    // Puts the formulas behind the others that share one of their terms with this one.
     fn add_near(
         &mut self,
         names: &[Vec<TermId>],
@@ -146,7 +170,7 @@ impl Ranking {
         Ok(())
     }
 
-    // Goes on from each formula in order to those that share a variable with it.
+    // Goes on from each formula in order to those that share one of their terms with it.
     fn spread(
         &mut self,
         names: &[Vec<TermId>],
@@ -205,23 +229,39 @@ fn placed(
     Ok(list)
 }
 
-/// The goal of a condition, and behind it its hypotheses, each conjunction in its parts; the nearer the variables of one are to the goal's, the
-/// earlier it comes.
+// The formula that a search is about: the goal of its condition, or the hypothesis of this number from 1.
+fn focus_of(condition: &Condition, focus: usize) -> TermId {
+    let given = condition.given.as_slice();
+    if focus == 0 || focus > given.len() {
+        return condition.goal;
+    }
+    given[focus - 1]
+}
+
+/// The goal of a condition and its hypotheses, each conjunction in its parts. The one that the search is about comes first: the goal, where `focus` is
+/// 0, or the hypothesis of this number. Behind it come those that are linked to it by terms that look into others, the nearer the earlier, and
+/// then those that are linked by variables.
 pub(crate) fn ranked(
     alloc: Global,
     terms: &Terms,
     condition: &Condition,
+    focus: usize,
 ) -> Result<Vec<TermId>, AllocError>
     requires given { AllBelow (length terms.now.nodes) condition.now.given }
     requires goal { condition.now.goal.0 < length terms.now.nodes }
     ensures { IfOk result (λ fs. AllBelow (length terms.now.nodes) fs.items) }
 {
     let formulas = formulas_of(alloc, terms, condition)?;
-    let names = all_names(alloc, terms, formulas.as_slice())?;
-    let mut uses = uses_of(alloc, terms.len(), names.as_slice())?;
+    let signs = signs_of(alloc, terms, formulas.as_slice())?;
+    let views = signs.views.as_slice();
+    let names = signs.names.as_slice();
     let mut ranking = Ranking::new(alloc, formulas.len())?;
-    ranking.add(0)?;
-    ranking.spread(names.as_slice(), &mut uses)?;
+    let first = focus_of(condition, focus);
+    if let Some(place) = formulas.as_slice().iter().position(|f| *f == first) {
+        ranking.add(place)?;
+    }
+    ranking.spread(views, &mut uses_of(alloc, terms.len(), views)?)?;
+    ranking.spread(names, &mut uses_of(alloc, terms.len(), names)?)?;
     ranking.fill(formulas.len())?;
     placed(alloc, terms, formulas.as_slice(), ranking.order.as_slice())
 }

@@ -9,14 +9,15 @@ ghost use Rattle.spv_verdicts.specs.answers.Views.{IsDecided};
 ghost use Rattle.spv_search.specs.deciding.Finding.{HasOpened, IsFoundFor};
 
 use crate::search;
+use spv_decisions::heuristic::Heuristic;
 use spv_logic::list::List;
 use spv_term::{Condition, Terms};
 use spv_trail::search_setup::{Opened, Opening, open};
 use spv_verdicts::answers::{Decided, Limit, Limits, Verdict, Wide};
 use std::alloc::{AllocError, Global};
 
-// What a search finds that was opened.
-fn find(alloc: Global, opened: Opened, limits: &Limits) -> Result<Decided, AllocError>
+// What a search finds that was opened, and is about the formula of this number.
+fn find(alloc: Global, opened: Opened, limits: &Limits, focus: usize) -> Result<Decided, AllocError>
     requires { HasOpened limits.now opened }
     ensures { IfOk result (IsFoundFor limits.now opened) }
 {
@@ -29,6 +30,7 @@ fn find(alloc: Global, opened: Opened, limits: &Limits) -> Result<Decided, Alloc
         ground,
         both,
     } = opened;
+    let heuristic = Heuristic::new(alloc, &terms, &condition, atoms.as_slice(), focus)?;
     let verdict = search(
         alloc,
         &terms,
@@ -39,6 +41,7 @@ fn find(alloc: Global, opened: Opened, limits: &Limits) -> Result<Decided, Alloc
         &ground,
         both,
         limits,
+        &heuristic,
     )?;
     Ok(Decided {
         terms,
@@ -47,13 +50,15 @@ fn find(alloc: Global, opened: Opened, limits: &Limits) -> Result<Decided, Alloc
     })
 }
 
-/// Searches a proof of a condition, within limits. The answer has the condition in an arena of its own, in which it claims the same, and what was found:
+/// Searches a proof of a condition, within limits, looking first at its goal, where `focus` is 0, or at the hypothesis of this number from 1, and at
+/// what is near to it. The answer has the condition in an arena of its own, in which it claims the same, and what was found:
 /// a proof, a table that falsifies it, or the limit that was reached.
-pub fn decide(
+pub(crate) fn decide_near(
     alloc: Global,
     terms: &Terms,
     condition: &Condition,
     limits: &Limits,
+    focus: usize,
 ) -> Result<Decided, AllocError>
     requires given { AllBelow (length terms.now.nodes) condition.now.given }
     requires goal { condition.now.goal.0 < length terms.now.nodes }
@@ -62,7 +67,7 @@ pub fn decide(
 {
     let opening = open(alloc, terms, condition, limits)?;
     match opening {
-        Opening::Ready(opened) => find(alloc, opened, limits),
+        Opening::Ready(opened) => find(alloc, opened, limits, focus),
         Opening::Terms { terms, condition } => Ok(Decided {
             terms,
             condition,
@@ -78,4 +83,20 @@ pub fn decide(
             verdict: Verdict::GaveUp(List::new(alloc), Limit::Number(Wide::Form(atom))),
         }),
     }
+}
+
+/// Searches a proof of a condition, within limits. The answer has the condition in an arena of its own, in which it claims the same, and what was found:
+/// a proof, a table that falsifies it, or the limit that was reached.
+pub fn decide(
+    alloc: Global,
+    terms: &Terms,
+    condition: &Condition,
+    limits: &Limits,
+) -> Result<Decided, AllocError>
+    requires given { AllBelow (length terms.now.nodes) condition.now.given }
+    requires goal { condition.now.goal.0 < length terms.now.nodes }
+    requires formulas { AreFormulas terms.now.shapes terms.now.decls (formulas_of (question terms.now condition.now).sequent) }
+    ensures decided { IfOk result (IsDecided terms.now condition.now limits.now) }
+{
+    decide_near(alloc, terms, condition, limits, 0)
 }

@@ -9,7 +9,7 @@ ghost use Rattle.spv_search_terms.specs.condition_copy.Copies.{IsSameClaim};
 ghost use Rattle.spv_verdicts.specs.answers.Views.{IsDecidedWith};
 ghost use Rattle.spv_verdicts.specs.Schemas.{enlarged};
 
-use crate::deciding::decide;
+use crate::deciding::decide_near;
 use crate::schemas::enlarging::enlarge;
 use crate::schemas::telling::of_condition;
 use spv_logic::list::List;
@@ -68,7 +68,13 @@ pub fn decide_with_facts(
         terms: own,
         condition: claim,
         verdict,
-    } = decide(alloc, &enlarged.terms, &enlarged.condition, &wider)?;
+    } = decide_near(
+        alloc,
+        &enlarged.terms,
+        &enlarged.condition,
+        &wider,
+        condition.given.as_slice().len() + 1,
+    )?;
     let told = own_condition(alloc, terms, condition, &own, &claim)?;
     let verdict = of_condition(alloc, &own, &told, claim.goal, limits, verdict)?;
     Ok(Decided {
