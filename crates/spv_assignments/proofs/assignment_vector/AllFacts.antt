@@ -1,5 +1,5 @@
 -- The sayings of all facts, one after the other.
-use Rattle.std.proofs.Common.{◌≡◌, ◌<◌, ℕ, ◌+◌, Bool, true, false, ◌||◌, List, [], length, drop, get_or, refl, sym, ap, ◌∙◌}
+use Rattle.std.proofs.Common.{◌≡◌, ◌<◌, ℕ, ◌+◌, Bool, true, false, ◌||◌, List, [], length, drop, get_or, refl, sym, ap, ◌∙◌, arith}
 use Rattle.std.proofs.lemmas.List.{at_drop_more}
 use Rattle.std.proofs.lemmas.Option.{slice_get-get_or}
 use Rattle.spv_logic.specs.Terms.{Term, term_eq}
@@ -9,7 +9,8 @@ use Rattle.spv_assignments.specs.declared.partial_assignment.facts.Known.{Known}
 use Rattle.spv_assignments.specs.partial_assignment.Facts.{fact_of, facts_of}
 use Rattle.spv_assignments.specs.declared.assignment_vector.sayings.RowConstraint.{RowConstraint}
 use Rattle.spv_assignments.specs.declared.assignment_vector.sayings.Sayings.{Sayings}
-use Rattle.spv_assignments.specs.assignment_vector.Sayings.{meaning, Fits, IsRowConstraint, same_saying, says, IsEmpty, Adds, AreSaid, AreThere}
+use Rattle.spv_assignments.specs.assignment_vector.Sayings.{meaning, Fits, IsRowConstraint, same_saying, says, IsEmpty, IsOfTerms, IsWithin, Adds, AreSaid, AreThere}
+use Rattle.spv_assignments.specs.declared.assignment_vector.sayings.RowConstraint.TheVariants.{Affirms, Denies, Orders}
 use Rattle.spv_assignments.proofs.assignment_vector.Meanings.{same_meaning}
 
 or_false : (b : Bool) → b ≡ (b || false)
@@ -21,6 +22,17 @@ or_false false = refl
 -- what is said so far, and what the rest of the facts says
 pub record SaidSoFar (a : Arena) (facts rest : List Term) (given : Sayings) : Type 0 where
   pub each : (s : RowConstraint) → Fits a s → (says given s || cites rest (meaning a s)) ≡ cites facts (meaning a s)
+
+-- and it is of the terms of an arena that something may be said
+pub record SaidOf (a : Arena) (facts rest : List Term) (given : Sayings) : Type 0 where
+  pub so_far : SaidSoFar a facts rest given
+  pub count : IsOfTerms (length a.nodes) given
+
+-- what is said of terms of the arena may be said
+pub within : (a : Arena) (given : Sayings) (s : RowConstraint) → IsOfTerms (length a.nodes) given → Fits a s → IsWithin given s
+within a given (Affirms t) count h = let inside : t.0 < length a.nodes = h.0 in omega (arith, inside, count.affirmed)
+within a given (Denies t) count h = let inside : t.0 < length a.nodes = h in omega (arith, inside, count.denied)
+within a given (Orders s t) count h = tt
 
 or_more : (x y z : Bool) → ((x || y) || z) ≡ (x || (y || z))
 or_more true y z = refl

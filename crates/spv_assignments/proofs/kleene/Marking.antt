@@ -15,11 +15,10 @@ use Rattle.spv_term.proofs.ArenaLemmas.{node_of}
 use Rattle.spv_term.proofs.NodeLemmas.{id_from}
 use Rattle.spv_atoms.specs.Tables.{or_else, computed}
 use Rattle.spv_atoms.specs.Atoms as atoms
-use Rattle.spv_atoms.specs.Order.{same_id}
 use Rattle.spv_atoms.specs.Valued.{valued_in}
 use Rattle.spv_atoms.proofs.Walks.{term_eq-ids}
 use Rattle.spv_proof_rules.specs.Evaluation.{opposite}
-use Rattle.spv_assignments.specs.kleene.Passes.{connects, connected, plain_at, at, given_at, first_found, second_found, of_node, clashes_at, Gives, AreConnectives, AreStarted, AreQuiet, IsFilled, QuietBefore, HasPassed, NoConnectiveClashes, NoneClashes, is_marked, Keeps, Marks, MarksAll, MarksArguments, PassesAll, PassesListed}
+use Rattle.spv_assignments.specs.kleene.Passes.{connects, connected, plain_at, at, given_at, first_found, second_found, of_node, Gives, AreConnectives, AreStarted, AreQuiet, IsFilled, QuietBefore, NoneClashes, is_marked, Keeps, Marks, MarksAll, MarksArguments, PassesListed}
 use Rattle.spv_assignments.proofs.kleene.Heads.{plain_value}
 use Rattle.spv_assignments.proofs.kleene.Filling.{next_computed, new_filled, new_quiet, given_here, given_there, listed_at, none_clashes}
 
@@ -214,8 +213,7 @@ module _ (a : Arena) (ok : IsArena a) (ids : List TermId) (are : AreConnectives 
         let below : k < length ids = omega (arith, h) in
         let t : TermId = slice_index_or ids k (record { 0 = 0 }) in
         let is : slice_get ids k ≡ Some t = slice_get-get_or ids k (record { 0 = 0 }) below in
-        let so_far = to k (omega (arith, h)) in
-        (
+        let so_far = to k (omega (arith, h)) in (
           simp unary_clauses at (new_filled a ok ids are own s v k changed changed t is (set_is k below t is) given gives so_far.0),
           simp unary_clauses at (new_quiet a ok ids are own s v k changed changed t is (set_is k below t is) given gives so_far.0 so_far.1 (quiet_is k below t is)),
         )

@@ -99,6 +99,9 @@ impl Pairs {
     fn has(&self, low: TermId, high: TermId) -> bool
         ensures { result ≡ list_any (same_order (order low high)) self.now }
     {
+        if self.pairs.is_empty() {
+            return false;
+        }
         self.pairs.contains(&Order { low, high })
     }
 

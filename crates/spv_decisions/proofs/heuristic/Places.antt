@@ -1,12 +1,11 @@
 -- Atoms at places, and terms that are there.
-use Rattle.std.proofs.Common.{◌≡◌, ℕ, zero, suc, ◌+◌, ◌<◌, Bool, List, [], ◌∷◌, ◌++◌, length, get_or, sym, ap, ◌∙◌, subst, Option, Some, None, inl, inr}
+use Rattle.std.proofs.Common.{◌≡◌, ℕ, zero, suc, ◌<◌, Bool, List, [], ◌∷◌, ◌++◌, length, get_or, sym, ap, ◌∙◌, subst, Option, Some, inl, inr}
 use Rattle.std.specs.Prelude.{slice_get}
 use Rattle.std.proofs.lemmas.Option.{slice_get-get_or, same_Some}
 use Rattle.spv_logic.specs.declared.conditions.TermId.{TermId}
-use Rattle.spv_term.specs.declared.nodes.Condition.{Condition}
 use Rattle.spv_term.specs.Arena.{Arena, AllBelow}
 use Rattle.spv_term.proofs.TreeLemmas.{AllBelow-append, AllBelow-at}
-use Rattle.spv_assignments.specs.kleene.Passes.{at, StandsAt}
+use Rattle.spv_assignments.specs.kleene.Passes.{StandsAt}
 use Rattle.spv_assignments.specs.declared.partial_assignment.facts.Known.{Known}
 use Rattle.spv_decisions.specs.declared.decision.choosing.Choice.{Choice}
 use Rattle.spv_decisions.specs.declared.decision.choosing.Choice.TheVariants.{Split}

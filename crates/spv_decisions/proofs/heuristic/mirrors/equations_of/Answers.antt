@@ -1,0 +1,6 @@
+use Rattle.std.proofs.Common.{length, arith}
+use Rattle.spv_decisions.proofs.heuristic.Places.{item_in}
+use Rattle.spv_decisions.proofs.heuristic.mirrors.equations_of.Goals as goal
+
+pub sides-requires : goal.sides-requires
+sides-requires c = item_in (length c.args.terms.now.nodes) c.args.ids.now c.loop-t.t-index (record { 0 = 0 }) c.requires (omega (arith, c.loop-t-test.true))
