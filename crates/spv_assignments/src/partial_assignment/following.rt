@@ -56,6 +56,41 @@ fn first_question(
     Ok(Following::Nothing)
 }
 
+// A question whose truth follows, looked for from a place on, and then before it.
+fn question_from(
+    alloc: Global,
+    terms: &Terms,
+    connectives: &Connectives,
+    arguments: &[bool],
+    lists: &Listed,
+    start: &[Option<bool>],
+    questions: &[TermId],
+    place: usize,
+) -> Result<Following, AllocError>
+    requires ids { AreConnectives terms.now connectives.now.ids.items }
+    requires plain { ArePlain terms.now connectives.now.plain.items }
+    requires arguments { MarksArguments terms.now arguments.now }
+    requires quiet { AreQuiet terms.now lists.now.cores.items }
+    requires start { AreStarted terms.now lists.now.cores.items start.now }
+    requires passed { PassesListed terms.now lists.now.cores.items connectives.now.ids.items }
+    requires questions { AllBelow (length terms.now.nodes) questions.now }
+    ensures { IfOk result (λ f. (facts : List Term) → IsKnowledge terms.now facts
+        → AreListed terms.now facts lists.now.direct.items lists.now.cores.items lists.now.all.items
+        → AreQuiet terms.now lists.now.direct.items → FollowsAmong terms.now facts questions.now f) }
+{
+    let count = questions.len();
+    let middle = if place < count { place } else { 0 };
+    let behind = &questions[middle..];
+    let found = first_question(alloc, terms, connectives, arguments, lists, start, behind)?;
+    match found {
+        Following::Nothing => {
+            let before = &questions[..middle];
+            first_question(alloc, terms, connectives, arguments, lists, start, before)
+        }
+        _ => Ok(found),
+    }
+}
+
 // A term clashes that has a truth by a fact.
 fn contradiction(direct: &[Option<bool>], t: TermId) -> Following
     requires { at direct.now t.0 ≡ None → ⊥ }
@@ -67,7 +102,8 @@ fn contradiction(direct: &[Option<bool>], t: TermId) -> Following
     }
 }
 
-/// What follows from facts by evaluation: the truth of a question that has no value, a contradiction, or nothing. All facts are cited.
+/// What follows from facts by evaluation: the truth of a question that has no value, a contradiction, or nothing. All facts are cited. Questions are
+/// looked at from a place on, and then those before it: which of several that follow is told is a free choice.
 pub fn next(
     alloc: Global,
     terms: &Terms,
@@ -75,6 +111,7 @@ pub fn next(
     known: &[Known],
     lists: &Listed,
     questions: &[TermId],
+    place: usize,
 ) -> Result<Following, AllocError>
     requires ids { AreConnectives terms.now connectives.now.ids.items }
     requires plain { ArePlain terms.now connectives.now.plain.items }
@@ -97,7 +134,7 @@ pub fn next(
         return Ok(contradiction(direct, t));
     }
     let arguments = arguments_of(alloc, terms, connectives.ids.as_slice())?;
-    first_question(
+    question_from(
         alloc,
         terms,
         connectives,
@@ -105,5 +142,6 @@ pub fn next(
         lists,
         start.as_slice(),
         questions,
+        place,
     )
 }

@@ -112,6 +112,36 @@ fn uses_of(
     Ok(uses)
 }
 
+// Puts the formulas on top of those that wait that share one of its terms with this one, those of its first term last.
+fn push_near(
+    waiting: &mut Vec<usize>,
+    signs: &[Vec<TermId>],
+    uses: &mut Vec<Vec<usize>>,
+    formula: usize,
+) -> Result<(), AllocError> {
+    let Some(own) = signs.get(formula) else {
+        return Ok(());
+    };
+    let count = own.len();
+    for k in 0..count {
+        let t = own[count - 1 - k];
+        if let Some(list) = uses.get_mut(t.0 as usize) {
+            push_turned(waiting, list.as_slice())?;
+            list.clear();
+        }
+    }
+    Ok(())
+}
+
+// Puts these formulas on top of those that wait, the last one first.
+fn push_turned(waiting: &mut Vec<usize>, formulas: &[usize]) -> Result<(), AllocError> {
+    let count = formulas.len();
+    for k in 0..count {
+        waiting.push(formulas[count - 1 - k])?;
+    }
+    Ok(())
+}
+
 // The formulas that are in order so far, by their places, and which ones they are.
 #[derive(Drop)]
 struct Ranking {
@@ -165,6 +195,43 @@ impl Ranking {
             if let Some(list) = uses.get_mut(t.0 as usize) {
                 self.add_all(list.as_slice())?;
                 list.clear();
+            }
+        }
+        Ok(())
+    }
+
+    // Puts the formula on top of those that wait behind the others, and on top of those that wait what it shares a term with; whether one waited.
+    fn take(
+        &mut self,
+        waiting: &mut Vec<usize>,
+        signs: &[Vec<TermId>],
+        uses: &mut Vec<Vec<usize>>,
+    ) -> Result<bool, AllocError> {
+        let Some(formula) = waiting.pop() else {
+            return Ok(false);
+        };
+        self.add(formula)?;
+        push_near(waiting, signs, uses, formula)?;
+        Ok(true)
+    }
+
+    // Goes from a formula to those that share one of its terms with it, and from each of these on, before the next one: what a term is made of
+    // stands before it, so what is said of inner terms comes before what is said of those around them. Each term leads to others once.
+    fn descend(
+        &mut self,
+        alloc: Global,
+        terms: &Terms,
+        signs: &[Vec<TermId>],
+        uses: &mut Vec<Vec<usize>>,
+        first: usize,
+    ) -> Result<(), AllocError> {
+        let mut waiting = Vec::new(alloc);
+        waiting.push(first)?;
+        for _ in 0..signs.len() {
+            for _ in 0..terms.len() {
+                if !self.take(&mut waiting, signs, uses)? {
+                    return Ok(());
+                }
             }
         }
         Ok(())
@@ -239,8 +306,8 @@ fn focus_of(condition: &Condition, focus: usize) -> TermId {
 }
 
 /// The goal of a condition and its hypotheses, each conjunction in its parts. The one that the search is about comes first: the goal, where `focus` is
-/// 0, or the hypothesis of this number. Behind it come those that are linked to it by terms that look into others, the nearer the earlier, and
-/// then those that are linked by variables.
+/// 0, or the hypothesis of this number. Behind it come those that are linked to it by terms that look into others, inner terms first, and then those
+/// that are linked by variables, the nearer the earlier.
 pub(crate) fn ranked(
     alloc: Global,
     terms: &Terms,
@@ -258,9 +325,9 @@ pub(crate) fn ranked(
     let mut ranking = Ranking::new(alloc, formulas.len())?;
     let first = focus_of(condition, focus);
     if let Some(place) = formulas.as_slice().iter().position(|f| *f == first) {
-        ranking.add(place)?;
+        let mut uses = uses_of(alloc, terms.len(), views)?;
+        ranking.descend(alloc, terms, views, &mut uses, place)?;
     }
-    ranking.spread(views, &mut uses_of(alloc, terms.len(), views)?)?;
     ranking.spread(names, &mut uses_of(alloc, terms.len(), names)?)?;
     ranking.fill(formulas.len())?;
     placed(alloc, terms, formulas.as_slice(), ranking.order.as_slice())

@@ -22,15 +22,15 @@ use std::alloc::{AllocError, Global};
 
 /// A condition in an arena of its own, whose hypotheses are all that is refuted with another one, and whose goal is FALSE.
 #[derive(Drop)]
-pub struct Enlarged {
+pub(crate) struct Enlarged {
     /// The arena.
-    pub terms: Terms,
+    pub(crate) terms: Terms,
     /// The condition: the hypotheses of the other one, that its goal is false, and the facts of schemas about the terms that it uses.
-    pub condition: Condition,
+    pub(crate) condition: Condition,
 }
 
 /// The terms that a condition uses: the different subterms of its formulas, in the order of their first appearance, arguments first.
-pub fn used_terms(alloc: Global, terms: &Terms, condition: &Condition) -> Result<IdSet, AllocError>
+pub(crate) fn used_terms(alloc: Global, terms: &Terms, condition: &Condition) -> Result<IdSet, AllocError>
     requires given { AllBelow (length terms.now.nodes) condition.now.given }
     requires goal { condition.now.goal.0 < length terms.now.nodes }
     ensures used { IfOk result (λ ids. map (tree terms.now) ids ≡ used (question terms.now condition.now)) }
@@ -101,7 +101,7 @@ fn joined(
     Ok(List::from_vec(ids))
 }
 
-// The same, where no term may be missing for want of ids.
+// A condition with all that is refuted with it. `Size` comes where all these terms are more than there are ids.
 fn made_in_own(alloc: Global, terms: &Terms, condition: &Condition) -> Result<Enlarged, TermFault>
     requires given { AllBelow (length terms.now.nodes) condition.now.given }
     requires goal { condition.now.goal.0 < length terms.now.nodes }
@@ -126,7 +126,7 @@ fn made_in_own(alloc: Global, terms: &Terms, condition: &Condition) -> Result<En
 }
 
 /// A condition with all that is refuted with it. There is no memory where all these terms are more than there are ids.
-pub fn enlarge(alloc: Global, terms: &Terms, condition: &Condition) -> Result<Enlarged, AllocError>
+pub(crate) fn enlarge(alloc: Global, terms: &Terms, condition: &Condition) -> Result<Enlarged, AllocError>
     requires given { AllBelow (length terms.now.nodes) condition.now.given }
     requires goal { condition.now.goal.0 < length terms.now.nodes }
     requires formulas { AreFormulas terms.now.shapes terms.now.decls (formulas_of (question terms.now condition.now).sequent) }

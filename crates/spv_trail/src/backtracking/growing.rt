@@ -29,6 +29,11 @@ pub(crate) enum Growth {
     Ended(End),
 }
 
+// The place of a term; that of the first one where it is not there.
+fn place_of(ids: &[TermId], t: TermId) -> usize {
+    ids.iter().position(|id| *id == t).unwrap_or(0)
+}
+
 impl BranchTrail {
     // A question has this truth, since it follows.
     fn follow(
@@ -120,13 +125,14 @@ impl BranchTrail {
         }))
     }
 
-    // Adds what follows next.
+    // Adds what follows next. The questions are looked at from a place on, which becomes that of the one that follows.
     fn grow_once(
         &mut self,
         alloc: Global,
         terms: &Terms,
         condition: &Condition,
         ground: &Ground,
+        place: &mut usize,
     ) -> Result<Growth, AllocError>
         requires asked { IsAskedOf terms.now condition.now ground.now self.old.both }
         requires told { WasTold terms.now condition.now self.old }
@@ -141,10 +147,14 @@ impl BranchTrail {
             self.known.as_slice(),
             &self.lists,
             ground.questions.as_slice(),
+            *place,
         )?;
         match found {
             Following::Nothing => Ok(Growth::Done),
-            Following::Question(t, truth) => self.follow(alloc, terms, condition, ground, t, truth),
+            Following::Question(t, truth) => {
+                *place = place_of(ground.questions.as_slice(), t);
+                self.follow(alloc, terms, condition, ground, t, truth)
+            }
             Following::Clash(t, truth) => self.contradict(alloc, terms, condition, t, truth),
         }
     }
@@ -163,8 +173,9 @@ impl BranchTrail {
             → IsGrownOrEnded terms.now condition.now ground.now.questions.items cases self.new o) }
         ensures goes { OnOk result (GoesOn terms.now self.old self.new) }
     {
+        let mut place = 0;
         loop {
-            match self.grow_once(alloc, terms, condition, ground)? {
+            match self.grow_once(alloc, terms, condition, ground, &mut place)? {
                 Growth::Done => return Ok(None),
                 Growth::More => {}
                 Growth::Ended(end) => return Ok(Some(end)),

@@ -26,8 +26,8 @@ returns-in-Some-found c =
     c.as_slice-direct.result.now c.as_slice-cores.result.now c.as_slice-direct.ensures.value c.as_slice-cores.ensures.value c.in_default.ensures.quiet c.in-Some-found.t
     (of_some (ClashesListed c.args.terms.now c.as_slice-cores.result.now) c.in_ok-found.found c.in-Some-found.t c.in-Some-found.is c.in_ok-found.ensures.clash) c.contradiction-in-Some-found.result c.contradiction-in-Some-found.ensures
 
-pub first_question-requires-clause-quiet : goal.first_question-requires-clause-quiet
-first_question-requires-clause-quiet c =
+pub question_from-requires-clause-quiet : goal.question_from-requires-clause-quiet
+question_from-requires-clause-quiet c =
     quiet_cores c.args.terms.now c.law_arena.ensures (facts_of c.args.terms.now c.args.known.now) c.requires.known c.args.lists.now.direct.items c.args.lists.now.cores.items c.args.lists.now.all.items c.requires.lists c.args.questions.now
     c.as_slice-direct.result.now c.args.lists.now.cores.items c.as_slice-direct.ensures.value refl c.in_default.ensures.quiet
 
@@ -35,4 +35,4 @@ pub returns : goal.returns
 returns c =
     says_end c.args.terms.now c.law_arena.ensures (facts_of c.args.terms.now c.args.known.now) c.requires.known c.args.lists.now.direct.items c.args.lists.now.cores.items c.args.lists.now.all.items c.requires.lists c.args.questions.now
     c.as_slice-direct.result.now c.as_slice-cores.result.now c.as_slice-direct.ensures.value c.as_slice-cores.ensures.value c.in_default.ensures.quiet
-    (of_none c.in_ok-found.found c.in_default-found.is c.in_ok-found.ensures.none) c.first_question.result c.first_question.ensures
+    (of_none c.in_ok-found.found c.in_default-found.is c.in_ok-found.ensures.none) c.question_from.result c.question_from.ensures

@@ -1,6 +1,6 @@
 use Rattle.std.proofs.Common.{◌∙◌}
 use Rattle.spv_search.proofs.deciding.Found.{ready_decides, too_many_decides, too_wide_decides}
-use Rattle.spv_search.proofs.deciding.deciding.decide.Goals as goal
+use Rattle.spv_search.proofs.deciding.deciding.decide_near.Goals as goal
 
 pub returns-in-Ready : goal.returns-in-Ready
 returns-in-Ready c = record {
