@@ -1,0 +1,9 @@
+//! Conditions in progress: what is given in front of several of them stands once.
+
+mod listing;
+mod pending;
+mod queues;
+mod replacing;
+mod steps;
+
+pub use pending::Pending;
