@@ -1,4 +1,4 @@
-use Rattle.std.proofs.Common.{rules, ◌<◌, ◌+◌, ◌*◌, ◌-◌, [], ◌∷◌, drop, option_map, arith, subst, sym, refl, ap, Ok, Err}
+use Rattle.std.proofs.Common.{rules, ℕ, ◌≡◌, ◌<◌, ◌+◌, ◌*◌, ◌-◌, [], ◌∷◌, drop, option_map, arith, subst, sym, refl, ap, Ok, Err}
 use Rattle.spv_program.specs.typed.FormulaViews.{annotation_of}
 use Rattle.spv_program.specs.typed.StatementViews.{arms_of, counting_of, block_of}
 use Rattle.spv_assign.specs.supply.Numbers.{supply_of}
@@ -13,7 +13,7 @@ use Rattle.spv_flow.specs.Walking.{AreTakenArms, MayWalk, MayWalkArms}
 use Rattle.spv_flow.proofs.Sizes.{statement_within, arm_within}
 use Rattle.spv_flow.proofs.Growing.{may_walk_as, same_items}
 use Rattle.spv_flow.proofs.Right.{each_taken, arm_taken, each_arm_taken}
-use Rattle.spv_flow.proofs.Blocks.{one_before, next_fits, block_stops, block_goes_on}
+use Rattle.spv_flow.proofs.Blocks.{one_before, next_fits, block_stops, block_goes_on, block_comes}
 use Rattle.spv_flow.proofs.Ifs.{if_tested, if_test_stops, if_never, if_first_fits, if_first_stops, if_second_fits, if_second_stops, test_there, test_sort, first_in, second_in, if_comes}
 use Rattle.spv_flow.proofs.Cases.{case_value_fits, case_value_stops, arms_fit, case_arms_stop, case_comes, arm_never, arm_fits, arm_stops, one_arm_at, about_there, about_sort, so_far_then, first_then, arm_comes, ArmsSoFar, next_arms, arms_begin, case_fits, arms_stop, arms_go_on}
 use Rattle.spv_flow.proofs.Loops.{while_test, while_begin_stops, while_inside_fits, while_turn_stops, while_stands, while_numbers, while_test_there, while_note, while_turn_in, while_rest_in, while_comes, repeat_test, repeat_begin_stops, repeat_inside_fits, repeat_turn_stops, repeat_stands, repeat_numbers, repeat_note, repeat_turn_in, repeat_comes}
@@ -324,6 +324,11 @@ block-returns-in_err-made-clause-made g t c =
 pub block-loop-place-preserved : goal.block-loop-place-preserved
 block-loop-place-preserved g t c =
     (c.in_ok-made.ensures.ready, block_goes_on (g.L.Leaves.making c.args.program.now c.args.body.now.here) (g.L.Leaves.takes c.args.program.now c.args.body.now.here) c.args.program.now c.args.body.now c.args.terms.now c.loop-place.terms (supply_of c.args.supply.now) (supply_of c.loop-place.supply) c.args.statements.now (drop c.loop-place.place c.args.statements.now) c.args.rest.items c.loop-place.made.items c.requires.fits c.loop-place.invariant.1 c.in_ok-made.made c.index-statements-place.result c.loop-place.made.items (drop (c.loop-place.place - 1) c.args.statements.now) c.statement.new.terms (supply_of c.statement.new.supply) refl (one_before c.args.statements.now c.loop-place.place c.index-statements-place.result _ c.loop-place-test.true c.loop-place.auto.place c.index-statements-place.is) c.in_ok-made.ensures.made)
+
+pub block-returns-clause-made : goal.block-returns-clause-made
+block-returns-clause-made g t c =
+    let none : c.loop-place.place ≡ 0 = omega (arith, c.loop-place-test.false) in
+    block_comes (g.L.Leaves.making c.args.program.now c.args.body.now.here) (g.L.Leaves.takes c.args.program.now c.args.body.now.here) c.args.program.now c.args.body.now c.args.terms.now c.loop-place.terms (supply_of c.args.supply.now) (supply_of c.loop-place.supply) c.args.statements.now (drop c.loop-place.place c.args.statements.now) c.args.rest.items c.loop-place.made.items c.requires.fits c.loop-place.invariant.1 c.loop-place.made refl (ap (λ (k : ℕ). drop k c.args.statements.now) none)
 
 pub arms-loop-case-init : goal.arms-loop-case-init
 arms-loop-case-init g t c =
