@@ -1,6 +1,5 @@
 -- Conditions that are made one after the other.
-use Rattle.std.proofs.Common.{◌≡◌, List, [], ◌∷◌, ◌++◌, Ok, Err, IsErrAnd, Vec, sym, subst}
-use Rattle.std.specs.Global.{Global}
+use Rattle.std.proofs.Common.{◌≡◌, List, [], ◌∷◌, ◌++◌, Ok, Err, IsErrAnd, sym, subst}
 use Rattle.spv_term.specs.declared.nodes.Condition.{Condition}
 use Rattle.spv_term.specs.Arena.{Arena}
 use Rattle.spv_program.specs.Supplies.{Supply}

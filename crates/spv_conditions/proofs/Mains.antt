@@ -1,6 +1,5 @@
 -- The conditions of the main block, and of all routines and the main block one after the other.
-use Rattle.std.proofs.Common.{◌≡◌, ◌<◌, ◌≤◌, arith, drop, get_or, ℕ, ◌+◌, suc, true, List, [], ◌∷◌, ◌++◌, map, length, Option, None, option_map, Ok, Err, IfOk, IfErr, IsErrAnd, Vec, refl, sym, ap, subst, ◌∙◌}
-use Rattle.std.specs.Global.{Global}
+use Rattle.std.proofs.Common.{◌≡◌, ◌<◌, ◌≤◌, arith, drop, get_or, ℕ, ◌+◌, suc, true, List, [], ◌∷◌, ◌++◌, map, length, Option, None, option_map, Ok, Err, IfOk, IfErr, IsErrAnd, refl, sym, ap, subst, ◌∙◌}
 use Rattle.std.proofs.lemmas.List.{append_assoc, drop_all, drop_more, length-append}
 use Rattle.spv_logic.proofs.list.Tests.{left_true, right_true}
 use Rattle.spv_logic.specs.declared.conditions.TermId.{TermId}

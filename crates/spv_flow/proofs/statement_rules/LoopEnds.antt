@@ -1,5 +1,5 @@
 -- The conditions of a loop behind those before its body.
-use Rattle.std.proofs.Common.{◌≡◌, List, [], ◌∷◌, length, Ok, Err, IsErrAnd, Option, Vec, Global, sym, ap, subst, ◌∙◌}
+use Rattle.std.proofs.Common.{◌≡◌, List, [], ◌∷◌, length, Ok, Err, IsErrAnd, Option, sym, ap, subst, ◌∙◌}
 use Rattle.spv_logic.specs.declared.conditions.RoutineId.{RoutineId}
 use Rattle.spv_logic.specs.declared.operators.Head.{Head}
 use Rattle.spv_logic.specs.declared.types.Shape.{Shape}

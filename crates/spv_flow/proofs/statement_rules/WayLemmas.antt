@@ -1,5 +1,5 @@
 -- Conditions before a statement that goes one of two ways.
-use Rattle.std.proofs.Common.{◌≡◌, ◌<◌, ◌+◌, List, [], ◌∷◌, length, Ok, Err, IsErrAnd, Option, Vec, Global, refl, subst, ◌∙◌}
+use Rattle.std.proofs.Common.{◌≡◌, ◌<◌, ◌+◌, List, [], ◌∷◌, length, Ok, Err, IsErrAnd, Option, refl, subst, ◌∙◌}
 use Rattle.std.proofs.lemmas.List.{length-map, length-append}
 use Rattle.spv_logic.specs.declared.conditions.TermId.{TermId}
 use Rattle.spv_logic.specs.declared.conditions.RoutineId.{RoutineId}

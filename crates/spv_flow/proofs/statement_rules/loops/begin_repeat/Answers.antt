@@ -1,9 +1,8 @@
-use Rattle.std.proofs.Common.{refl, subst, sym, option_map}
+use Rattle.std.proofs.Common.{refl, option_map}
 use Rattle.spv_program.specs.Programs.{routine_in}
 use Rattle.spv_program.specs.ExpressionTerms.{valued}
 use Rattle.spv_program.specs.typed.FormulaViews.{annotation_of}
 use Rattle.spv_assign.specs.supply.Numbers.{supply_of}
-use Rattle.spv_assign.specs.Conditions.{AreIn}
 use Rattle.spv_assign.proofs.Growing.{AreIn-Extends}
 use Rattle.spv_flow.proofs.statement_rules.LoopBegins.{first_stops, turning_stops, calling_stops, repeat_begins}
 use Rattle.spv_flow.proofs.statement_rules.loops.begin_repeat.Goals as goal

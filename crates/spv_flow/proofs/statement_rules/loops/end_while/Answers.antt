@@ -1,7 +1,7 @@
-use Rattle.std.proofs.Common.{refl, subst, sym, option_map}
+use Rattle.std.proofs.Common.{refl, option_map}
 use Rattle.spv_program.specs.typed.FormulaViews.{annotation_of}
 use Rattle.spv_assign.specs.supply.Numbers.{supply_of}
-use Rattle.spv_assign.specs.Conditions.{conditions_of, AreIn}
+use Rattle.spv_assign.specs.Conditions.{conditions_of}
 use Rattle.spv_assign.specs.creation_trace.StatementEvents.{loop_names}
 use Rattle.spv_flow_parts.proofs.Steps.{Stands-Extends}
 use Rattle.spv_flow_parts.proofs.LoopLemmas.{IsNoted-Extends}
