@@ -1,2 +1,3 @@
-pub mod Steps
 pub mod Lists
+pub mod Steps
+pub mod Staying

@@ -4,6 +4,8 @@ mod listing;
 mod pending;
 mod queues;
 mod replacing;
+mod staying;
 mod steps;
+mod substituting;
 
 pub use pending::Pending;

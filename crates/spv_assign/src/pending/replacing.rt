@@ -11,7 +11,7 @@ ghost use Rattle.spv_assign.specs.pending.Steps.{AreSteps, conditions_in};
 
 use crate::pending::queues::{ids, with_ids};
 use crate::pending::steps::Step;
-use spv_term::substitution::substitute_all;
+use crate::pending::substituting::images_of;
 use spv_term::{TermFault, TermId, Terms};
 use std::alloc::Global;
 use std::collections::VecDeque;
@@ -40,7 +40,7 @@ pub(crate) fn replaced(
         (all_terms_in (before.replaced (pairs_of terms.old pairs.now) (conditions_of terms.old (conditions_in steps.now.items)))) }
 {
     let list = ids(alloc, steps)?;
-    let images = substitute_all(terms, alloc, list.as_slice(), pairs)?;
+    let images = images_of(terms, alloc, list.as_slice(), pairs)?;
     let made = with_ids(alloc, steps, images.as_slice())?;
     Ok(made)
 }
