@@ -1,5 +1,5 @@
 -- What conditions over an arena claim, and the ids in them.
-use Rattle.std.specs.Prelude.{◌≡◌, ◌<◌, List, [], ◌∷◌, ◌++◌, map, take, drop, length, slice_index_or}
+use Rattle.std.specs.Prelude.{◌≡◌, ◌<◌, List, [], ◌∷◌, ◌++◌, map, length}
 use Rattle.std.specs.List.{flat_map}
 use Rattle.spv_logic.specs.declared.conditions.TermId.{TermId}
 use Rattle.spv_logic.specs.declared.types.Sort.{Sort}
@@ -49,23 +49,6 @@ ids_in c = c.given ++ c.goal ∷ []
 
 abbrev pub all_ids_in : List Condition → List TermId
 all_ids_in conditions = flat_map ids_in conditions
-
--- a condition with the first of these ids in the place of its own
-abbrev pub with_ids : Condition → List TermId → Condition
-with_ids c ids = record {
-  given = take (length c.given) ids;
-  goal = slice_index_or ids (length c.given) c.goal;
-  origin = c.origin;
-}
-
--- the ids behind those of a condition
-abbrev pub ids_behind : Condition → List TermId → List TermId
-ids_behind c ids = drop 1 (drop (length c.given) ids)
-
--- conditions with these ids in the place of their own, in order
-abbrev pub all_with_ids : List Condition → List TermId → List Condition
-all_with_ids [] ids = []
-all_with_ids (c ∷ conditions) ids = with_ids c ids ∷ all_with_ids conditions (ids_behind c ids)
 
 -- one hypothesis more, in front
 abbrev pub with_given : TermId → Condition → Condition

@@ -4,12 +4,11 @@
 
 mod assigning;
 pub mod creation_trace;
-mod hypotheses;
 pub mod limited_steps;
 pub mod limits;
-mod pieces;
+pub mod pending;
 pub mod structures;
 pub mod supply;
 
-pub use assigning::{before_assign, replaced};
-pub use hypotheses::assuming;
+pub use assigning::before_assign;
+pub use pending::Pending;

@@ -1,10 +1,10 @@
 -- Conditions that are made one after the other.
-use Rattle.std.proofs.Common.{◌≡◌, List, [], ◌∷◌, ◌++◌, Ok, Err, IsErrAnd, Vec, sym, subst}
-use Rattle.std.specs.Global.{Global}
+use Rattle.std.proofs.Common.{◌≡◌, List, [], ◌∷◌, ◌++◌, Ok, Err, IsErrAnd, sym, subst}
 use Rattle.spv_term.specs.declared.nodes.Condition.{Condition}
 use Rattle.spv_term.specs.Arena.{Arena}
 use Rattle.spv_program.specs.Supplies.{Supply}
 use Rattle.spv_meaning.specs.Before.{Made}
+use Rattle.spv_assign.specs.declared.pending.pending.Pending.{Pending}
 use Rattle.spv_assign.specs.declared.creation_trace.faults.GenFault.{GenFault}
 use Rattle.spv_assign.specs.creation_trace.Events.{Event, Stops}
 use Rattle.spv_assign.specs.creation_trace.StatementEvents.{in_order}
@@ -17,7 +17,7 @@ pub made_is : (a : Arena) (n : Supply) (items : List Condition) (m : Made) → I
 made_is a n items m h = let same = h.conditions.same in let left = h.supply in λ i. record { conditions = same i; supply = left i }
 
 -- a last step behind the others
-pub comes_then : (r : Listed) (m w : Made) (n k : Supply) (done : List (List Event)) (last : List Event) (cs : Vec Condition Global) (a b c : Arena)
+pub comes_then : (r : Listed) (m w : Made) (n k : Supply) (done : List (List Event)) (last : List Event) (cs : Pending) (a b c : Arena)
     → Comes (Ok cs) w (in_order done) a b k → Comes r m last b c n → Comes r m (in_order (done ++ last ∷ [])) a c n
 comes_then r m w n k done last cs a b c first h = comes_last r m n done last first.walk h
 

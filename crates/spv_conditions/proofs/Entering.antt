@@ -1,6 +1,5 @@
 -- The conditions of a routine, step by step.
-use Rattle.std.proofs.Common.{◌≡◌, true, List, [], ◌∷◌, Option, Some, option_map, Ok, Err, IfOk, IfErr, IsErrAnd, Vec, refl, sym, ap, subst, ◌∙◌}
-use Rattle.std.specs.Global.{Global}
+use Rattle.std.proofs.Common.{◌≡◌, true, List, [], ◌∷◌, Option, Some, option_map, Ok, Err, IfOk, IfErr, IsErrAnd, refl, sym, ap, subst, ◌∙◌}
 use Rattle.spv_logic.proofs.list.Tests.{left_true, right_true}
 use Rattle.spv_logic.specs.declared.conditions.TermId.{TermId}
 use Rattle.spv_logic.specs.declared.conditions.Kind.TheVariants as kind
@@ -22,6 +21,7 @@ use Rattle.spv_meaning.specs.ProgramConditions.{wanted_exit, routine_conditions}
 use Rattle.spv_meaning.proofs.RoutineStarts.{item_passes}
 use Rattle.spv_expression_terms.specs.makeable_terms.Laws.{heading_ok_in}
 use Rattle.spv_logic.specs.declared.operators.Head.{Head}
+use Rattle.spv_assign.specs.declared.pending.pending.Pending.{Pending}
 use Rattle.spv_assign.specs.Conditions.{AreIn, all_terms_in, conditions_of, pairs_of}
 use Rattle.spv_assign.specs.supply.Numbers.{AreThere}
 use Rattle.spv_assign.proofs.supply.FreshLemmas.{AreThere-Extends}
@@ -137,7 +137,7 @@ module _ (p : Program) (id : RoutineId) (r : Routine) (n : Supply) (a0 a1 : Aren
       comes_stopped result (before p (Some id) r.body (behind_routine p id r n)) wanted_behind m n (exit_events p r ∷ []) (events p (Some id) r.body (behind_routine p id r n) ∷ []) e a0 a1 is
       (comes_first (Err e) wanted_behind n (exit_events p r) a0 a1 h)
 
-  pub inside_comes : (result : Listed) (exit : Vec Condition Global) (here : Option RoutineId) (a2 : Arena) (m : Supply) → here ≡ Some id → Comes (Ok exit) (record { conditions = wanted_exit p id r r.exit; supply = n }) (exit_events p r) a0 a1 n
+  pub inside_comes : (result : Listed) (exit : Pending) (here : Option RoutineId) (a2 : Arena) (m : Supply) → here ≡ Some id → Comes (Ok exit) (record { conditions = wanted_exit p id r r.exit; supply = n }) (exit_events p r) a0 a1 n
       → Comes result (before p here r.body (made_of a1 exit.items n)) (events p here r.body (made_of a1 exit.items n)) a1 a2 m
       → Comes result (before p (Some id) r.body (behind_routine p id r n)) (in_order (inside_parts p id r n)) a0 a2 m
   inside_comes result exit here a2 m e first h =
@@ -154,7 +154,7 @@ module _ (p : Program) (id : RoutineId) (r : Routine) (n : Supply) (a0 a1 : Aren
       → Comes result (entered_made p id r n) (in_order (entered_parts p id r n)) a0 a1 m
   entered_stops result e m k is h = comes_stopped result (entered_made p id r n) inside m k (inside_parts p id r n) (entry_events p r ∷ []) e a0 a1 is h
 
-  pub entered_comes : (result : Listed) (conditions : Vec Condition Global) (a2 : Arena) (k : Supply) → Comes (Ok conditions) inside (in_order (inside_parts p id r n)) a0 a1 k
+  pub entered_comes : (result : Listed) (conditions : Pending) (a2 : Arena) (k : Supply) → Comes (Ok conditions) inside (in_order (inside_parts p id r n)) a0 a1 k
       → ComesTo result (assuming_if_there (option_map (entry_term p r) r.entry) (conditions_of a1 conditions.items)) (entry_events p r) a1 a2
       → Comes result (entered_made p id r n) (in_order (entered_parts p id r n)) a0 a2 k
   entered_comes result conditions a2 k first h =
@@ -168,7 +168,7 @@ module _ (p : Program) (id : RoutineId) (r : Routine) (n : Supply) (a0 a1 : Aren
   routine_stops result e m k is h =
       comes_stopped result (routine_conditions p id r n) (entered_made p id r n) m k (entered_parts p id r n) (replacing_events (beginning_pairs p r) (under_entry p id r n) ∷ []) e a0 a1 is h
 
-  pub routine_comes : (result : Listed) (conditions : Vec Condition Global) (a2 : Arena) (k : Supply) → Comes (Ok conditions) (entered_made p id r n) (in_order (entered_parts p id r n)) a0 a1 k
+  pub routine_comes : (result : Listed) (conditions : Pending) (a2 : Arena) (k : Supply) → Comes (Ok conditions) (entered_made p id r n) (in_order (entered_parts p id r n)) a0 a1 k
       → ComesTo result (replaced (beginning_pairs p r) (conditions_of a1 conditions.items)) (replacing_events (beginning_pairs p r) (conditions_of a1 conditions.items)) a1 a2
       → Comes result (routine_conditions p id r n) (routine_events p id r n) a0 a2 k
   routine_comes result conditions a2 k first h =

@@ -1,6 +1,5 @@
 -- The conditions of the main block, and of all routines and the main block one after the other.
-use Rattle.std.proofs.Common.{◌≡◌, ◌<◌, ◌≤◌, arith, drop, get_or, ℕ, ◌+◌, suc, true, List, [], ◌∷◌, ◌++◌, map, length, Option, None, option_map, Ok, Err, IfOk, IfErr, IsErrAnd, Vec, refl, sym, ap, subst, ◌∙◌}
-use Rattle.std.specs.Global.{Global}
+use Rattle.std.proofs.Common.{◌≡◌, ◌<◌, ◌≤◌, arith, drop, get_or, ℕ, ◌+◌, suc, true, List, [], ◌∷◌, ◌++◌, map, length, Option, None, option_map, Ok, Err, IfOk, IfErr, IsErrAnd, refl, sym, ap, subst, ◌∙◌}
 use Rattle.std.proofs.lemmas.List.{append_assoc, drop_all, drop_more, length-append}
 use Rattle.spv_logic.proofs.list.Tests.{left_true, right_true}
 use Rattle.spv_logic.specs.declared.conditions.TermId.{TermId}
@@ -22,6 +21,7 @@ use Rattle.spv_program.specs.Typing.{statement_ok, well_typed}
 use Rattle.spv_expression_terms.specs.makeable_terms.Laws.{heading_ok_in}
 use Rattle.spv_meaning.specs.Before.{Made, annotation_term, assuming_if_there, before, wanted_if_there}
 use Rattle.spv_meaning.specs.ProgramConditions.{conditions_from, routine_conditions}
+use Rattle.spv_assign.specs.declared.pending.pending.Pending.{Pending}
 use Rattle.spv_assign.specs.Conditions.{AreIn, conditions_of}
 use Rattle.spv_assign.specs.supply.Numbers.{AreThere}
 use Rattle.spv_assign.proofs.supply.FreshLemmas.{AreThere-Extends}
@@ -139,7 +139,7 @@ module _ (p : Program) (n : Supply) (a0 a1 : Arena) where
       → Comes result (before p None p.main.body (behind_main p n)) (in_order (inside_main p n)) a0 a1 m
   inside_main_stops result e m is h = comes_stopped result inner (behind_main p n) m n (exit_term ∷ []) (block ∷ []) e a0 a1 is (comes_first (Err e) (behind_main p n) n exit_term a0 a1 h)
 
-  pub inside_main_comes : (result : Listed) (exit : Vec Condition Global) (here : Option RoutineId) (s : Statement) (a2 : Arena) (m : Supply) → here ≡ None → s ≡ p.main.body → Comes (Ok exit) (behind_main p n) (one_if_there (annotation_term p None p.main.exit)) a0 a1 n
+  pub inside_main_comes : (result : Listed) (exit : Pending) (here : Option RoutineId) (s : Statement) (a2 : Arena) (m : Supply) → here ≡ None → s ≡ p.main.body → Comes (Ok exit) (behind_main p n) (one_if_there (annotation_term p None p.main.exit)) a0 a1 n
       → Comes result (before p here s (made_of a1 exit.items n)) (events p here s (made_of a1 exit.items n)) a1 a2 m
       → Comes result (before p None p.main.body (behind_main p n)) (in_order (inside_main p n)) a0 a2 m
   inside_main_comes result exit here s a2 m e is first h =
@@ -152,7 +152,7 @@ module _ (p : Program) (n : Supply) (a0 a1 : Arena) where
       → Comes result (main_made p n) (main_events p n) a0 a1 m
   main_stops result e m k is h = comes_stopped result (main_made p n) inner m k (inside_main p n) (one_if_there (annotation_term p None p.main.entry) ∷ []) e a0 a1 is h
 
-  pub main_comes : (result : Listed) (conditions : Vec Condition Global) (a2 : Arena) (k : Supply) → Comes (Ok conditions) (before p None p.main.body (behind_main p n)) (in_order (inside_main p n)) a0 a1 k
+  pub main_comes : (result : Listed) (conditions : Pending) (a2 : Arena) (k : Supply) → Comes (Ok conditions) (before p None p.main.body (behind_main p n)) (in_order (inside_main p n)) a0 a1 k
       → ComesTo result (assuming_if_there (annotation_term p None p.main.entry) (conditions_of a1 conditions.items)) (one_if_there (annotation_term p None p.main.entry)) a1 a2
       → Comes result (main_made p n) (main_events p n) a0 a2 k
   main_comes result conditions a2 k first h =
@@ -163,7 +163,7 @@ module _ (p : Program) (n : Supply) (a0 a1 : Arena) where
 -- ---- behind those that are there
 
 -- one list behind another that was made before
-pub joined_behind : (m w : Made) (k : Supply) (done : List Event) (a b : Arena) (so_far one : List Condition) (result : Listed) (first : Vec Condition Global) → first.items ≡ one → Comes (Ok first) w done a b k → AreIn a so_far
+pub joined_behind : (m w : Made) (k : Supply) (done : List Event) (a b : Arena) (so_far one : List Condition) (result : Listed) (first : Pending) → first.items ≡ one → Comes (Ok first) w done a b k → AreIn a so_far
     → IfOk result (λ all. all.items ≡ so_far ++ one) → Answers result (counted (length so_far + length one)) b b → m ≡ record { conditions = conditions_of a so_far ++ w.conditions; supply = w.supply }
     → Comes result m (in_order (done ∷ counted (length so_far + length w.conditions) ∷ [])) a b k
 joined_behind m w k done a b so_far one result first is h within items walk same =
@@ -213,7 +213,7 @@ module _ (p : Program) (number : ℕ) (r : Routine) (routines : List Routine) (i
   abbrev made : Made
   made = routine_conditions p id r n
 
-  pub left_goes_on : (all : Vec Condition Global) (k : Supply) (b : Arena) → Comes (Ok all) (after_routine p (record { 0 = number }) r (made_of a items n)) (in_order (one_routine p (record { 0 = number }) r (length items) n)) a b k
+  pub left_goes_on : (all : Pending) (k : Supply) (b : Arena) → Comes (Ok all) (after_routine p (record { 0 = number }) r (made_of a items n)) (in_order (one_routine p (record { 0 = number }) r (length items) n)) a b k
       → Left p (suc number) routines all.items k n0 b a0
   left_goes_on all k b h = record {
     within = h.made.conditions.in_range;
@@ -263,7 +263,7 @@ module _ (p : Program) (codes : List RoutineText) (place : ℕ) (code d : Routin
   same_id : id ≡ record { 0 = place }
   same_id = λ i. record { 0 = same i }
 
-  pub codes_go_on : (all : Vec Condition Global) (k : Supply) (b : Arena) → Comes (Ok all) (after_routine p id (routine_of code) (made_of a items n)) (in_order (one_routine p id (routine_of code) (length items) n)) a b k
+  pub codes_go_on : (all : Pending) (k : Supply) (b : Arena) → Comes (Ok all) (after_routine p id (routine_of code) (made_of a items n)) (in_order (one_routine p id (routine_of code) (length items) n)) a b k
       → Left p (place + 1) (map routine_of (drop (place + 1) codes)) all.items k n0 b a0
   codes_go_on all k b h =
       let next : suc place ≡ place + 1 = omega arith in

@@ -11,12 +11,13 @@ ghost use Rattle.spv_flow_parts.specs.calls.Arguments.{MayMake};
 ghost use Rattle.spv_conditions.specs.Making.{events};
 
 use crate::leaves::ProgramLeaves;
+use spv_assign::Pending;
 use spv_assign::creation_trace::GenFault;
 use spv_assign::supply::Supply;
 use spv_flow::before;
 use spv_flow_parts::Body;
 use spv_program::typed::{Program, Statement};
-use spv_term::{Condition, Terms};
+use spv_term::Terms;
 
 /// The conditions before a well typed body, where these stand behind it.
 pub(crate) fn before_body(
@@ -25,8 +26,8 @@ pub(crate) fn before_body(
     terms: &mut Terms,
     supply: &mut Supply,
     s: &Statement,
-    rest: Vec<Condition>,
-) -> Result<Vec<Condition>, GenFault>
+    rest: Pending,
+) -> Result<Pending, GenFault>
     requires may { MayMake program.now body.now terms.old (supply_of supply.old) }
     requires typed { IsTrue (statement_ok program.now (routine_in program.now body.now.here) s.now) }
     requires rest { AreIn terms.old rest.items }

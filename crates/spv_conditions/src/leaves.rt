@@ -4,6 +4,7 @@ ghost use Rattle.std.specs.Prelude.{IsTrue};
 ghost use Rattle.spv_program.specs.Typing.{well_typed};
 ghost use Rattle.spv_conditions.specs.Leaves.{leaf_making, leaf_taking};
 
+use spv_assign::Pending;
 use spv_assign::creation_trace::GenFault;
 use spv_assign::supply::Supply;
 use spv_effects::mod_sets::changed;
@@ -13,7 +14,7 @@ use spv_flow_parts::leaves::{Leaves, Valued, in_front};
 use spv_flow_parts::{Body, note};
 use spv_logic::Head;
 use spv_program::typed::{Annotation, Expression, Program, Statement, StatementForm};
-use spv_term::{Condition, TermId, Terms};
+use spv_term::{TermId, Terms};
 
 /// Leaves that take each assignment, NEW, call and expression of a well typed program.
 #[derive(Clone, Copy, Debug)]
@@ -33,8 +34,8 @@ impl Leaves for ProgramLeaves {
         terms: &mut Terms,
         supply: &mut Supply,
         s: &Statement,
-        rest: Vec<Condition>,
-    ) -> Result<Vec<Condition>, GenFault> {
+        rest: Pending,
+    ) -> Result<Pending, GenFault> {
         match &s.form {
             StatementForm::Assign(d, e) => before_assign(program, body, terms, supply, d, e, rest),
             StatementForm::Perform(c) => before_call(program, body, terms, supply, c, rest),
@@ -65,8 +66,8 @@ impl Leaves for ProgramLeaves {
         program: &Program,
         body: &Body,
         tested: &Valued,
-        rest: Vec<Condition>,
-    ) -> Result<Vec<Condition>, GenFault> {
+        rest: Pending,
+    ) -> Result<Pending, GenFault> {
         let _ = program;
         in_front(body.alloc, body.here, tested.calls.as_slice(), rest)
     }

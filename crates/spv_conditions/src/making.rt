@@ -22,6 +22,7 @@ ghost use Rattle.spv_conditions.specs.Steps.{IsRoutine, MayBegin};
 use crate::blocks::before_body;
 use crate::opening::empty_arena;
 use crate::routines::routine_conditions;
+use spv_assign::Pending;
 use spv_assign::creation_trace::GenFault;
 use spv_assign::limited_steps::joined;
 use spv_assign::supply::Supply;
@@ -47,7 +48,7 @@ fn inside(
     body: &Body,
     terms: &mut Terms,
     supply: &mut Supply,
-) -> Result<Vec<Condition>, GenFault>
+) -> Result<Pending, GenFault>
     requires may { MayBegin program.now terms.old (supply_of supply.old) }
     requires body { IsBody program.now body.now }
     requires here { body.now.here ≡ None }
@@ -59,11 +60,7 @@ fn inside(
 }
 
 // The condition that EXIT of the main block is true, where there is one.
-fn exit_condition(
-    program: &Program,
-    body: &Body,
-    terms: &mut Terms,
-) -> Result<Vec<Condition>, GenFault>
+fn exit_condition(program: &Program, body: &Body, terms: &mut Terms) -> Result<Pending, GenFault>
     requires over { IsOver program.now terms.old }
     requires body { IsBody program.now body.now }
     requires here { body.now.here ≡ None }
@@ -78,8 +75,8 @@ fn under(
     program: &Program,
     body: &Body,
     terms: &mut Terms,
-    conditions: Vec<Condition>,
-) -> Result<Vec<Condition>, GenFault>
+    conditions: Pending,
+) -> Result<Pending, GenFault>
     requires over { IsOver program.now terms.old }
     requires body { IsBody program.now body.now }
     requires here { body.now.here ≡ None }
@@ -88,7 +85,7 @@ fn under(
         (one_if_there (annotation_term program.now None program.now.main.entry)) terms.old terms.new }
 {
     let entry = noted(program, body, terms, &program.main.entry)?;
-    known(body.alloc, entry, conditions.as_slice())
+    known(entry, conditions)
 }
 
 // The conditions of the main block, under its ENTRY.
@@ -97,7 +94,7 @@ fn main_conditions(
     alloc: Global,
     terms: &mut Terms,
     supply: &mut Supply,
-) -> Result<Vec<Condition>, GenFault>
+) -> Result<Pending, GenFault>
     requires may { MayBegin program.now terms.old (supply_of supply.old) }
     ensures { Comes result (main_made program.now (supply_of supply.old)) (main_events program.now (supply_of supply.old)) terms.old terms.new (supply_of supply.new) }
 {
@@ -114,8 +111,8 @@ fn with_routine(
     supply: &mut Supply,
     number: RoutineId,
     routine: &Routine,
-    so_far: Vec<Condition>,
-) -> Result<Vec<Condition>, GenFault>
+    so_far: Pending,
+) -> Result<Pending, GenFault>
     requires may { MayBegin program.now terms.old (supply_of supply.old) }
     requires routine { IsRoutine program.now number (routine_of routine.now) }
     requires so_far { AreIn terms.old so_far.items }
@@ -132,8 +129,8 @@ fn with_main(
     alloc: Global,
     terms: &mut Terms,
     supply: &mut Supply,
-    so_far: Vec<Condition>,
-) -> Result<Vec<Condition>, GenFault>
+    so_far: Pending,
+) -> Result<Pending, GenFault>
     requires may { MayBegin program.now terms.old (supply_of supply.old) }
     requires so_far { AreIn terms.old so_far.items }
     ensures { Comes result (after_main program.now (made_of terms.old so_far.items (supply_of supply.old)))
@@ -159,11 +156,11 @@ fn all_conditions(
     alloc: Global,
     terms: &mut Terms,
     supply: &mut Supply,
-) -> Result<Vec<Condition>, GenFault>
+) -> Result<Pending, GenFault>
     requires may { MayBegin program.now terms.old (supply_of supply.old) }
     ensures { Comes result (all_made program.now (supply_of supply.old)) (events_from program.now 0 program.now.routines 0 (supply_of supply.old)) terms.old terms.new (supply_of supply.new) }
 {
-    let mut all = Vec::new(alloc);
+    let mut all = Pending::new(alloc);
     let routines = program.routines.as_slice();
     for number in 0..routines.len() {
         let Some(id) = routine_id(number) else {
@@ -190,7 +187,10 @@ pub fn conditions(alloc: Global, program: &Program) -> Result<ProgramConditions,
     let made = all_conditions(program, alloc, &mut terms, &mut supply);
     terms.law_arena();
     match made {
-        Ok(list) => Ok(ProgramConditions { terms, list }),
+        Ok(made) => {
+            let list = made.conditions(alloc)?;
+            Ok(ProgramConditions { terms, list })
+        }
         Err(fault) => Err(fault),
     }
 }

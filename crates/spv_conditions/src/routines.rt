@@ -22,6 +22,7 @@ ghost use Rattle.spv_conditions.specs.Making.{beginning_pairs, behind_routine, e
 ghost use Rattle.spv_conditions.specs.Steps.{GivesEntry, Heading, IsRoutine, MakesPairs, MayBegin};
 
 use crate::blocks::before_body;
+use spv_assign::Pending;
 use spv_assign::creation_trace::GenFault;
 use spv_assign::limited_steps::{made, replaced};
 use spv_assign::supply::Supply;
@@ -34,7 +35,7 @@ use spv_logic::{Head, Kind, RoutineId, Sort};
 use spv_program::ordered_map::Named;
 use spv_program::typed::{Formal, Program, Routine};
 use spv_program::{Item, TypeForm};
-use spv_term::{Condition, TermId, Terms};
+use spv_term::{TermId, Terms};
 use std::alloc::Global;
 
 // The condition that EXIT of a routine is true, where there is one.
@@ -44,7 +45,7 @@ fn exit_condition(
     terms: &mut Terms,
     number: RoutineId,
     routine: &Routine,
-) -> Result<Vec<Condition>, GenFault>
+) -> Result<Pending, GenFault>
     requires over { IsOver program.now terms.old }
     requires routine { IsRoutine program.now number (routine_of routine.now) }
     requires body { IsBody program.now body.now }
@@ -52,7 +53,7 @@ fn exit_condition(
     ensures { ComesTo result (wanted_exit program.now number (routine_of routine.now) (routine_of routine.now).exit) (exit_events program.now (routine_of routine.now)) terms.old terms.new }
 {
     match &routine.exit {
-        None => Ok(Vec::new(body.alloc)),
+        None => Ok(Pending::new(body.alloc)),
         Some(exit) => {
             let variables = &body.variables;
             let term = exit_formula(program, body.alloc, terms, routine, variables, exit)?;
@@ -87,7 +88,7 @@ fn inside(
     supply: &mut Supply,
     number: RoutineId,
     routine: &Routine,
-) -> Result<Vec<Condition>, GenFault>
+) -> Result<Pending, GenFault>
     requires may { MayBegin program.now terms.old (supply_of supply.old) }
     requires routine { IsRoutine program.now number (routine_of routine.now) }
     requires body { IsBody program.now body.now }
@@ -106,8 +107,8 @@ fn under(
     terms: &mut Terms,
     number: RoutineId,
     routine: &Routine,
-    conditions: Vec<Condition>,
-) -> Result<Vec<Condition>, GenFault>
+    conditions: Pending,
+) -> Result<Pending, GenFault>
     requires over { IsOver program.now terms.old }
     requires routine { IsRoutine program.now number (routine_of routine.now) }
     requires conditions { AreIn terms.old conditions.items }
@@ -115,7 +116,7 @@ fn under(
         (entry_events program.now (routine_of routine.now)) terms.old terms.new }
 {
     let entry = entry_if_there(program, alloc, terms, number, routine)?;
-    known(alloc, entry, conditions.as_slice())
+    known(entry, conditions)
 }
 
 // A pair of two variables or classes of one sort, behind those that are there.
@@ -266,8 +267,8 @@ fn at_beginning(
     terms: &mut Terms,
     number: RoutineId,
     routine: &Routine,
-    conditions: Vec<Condition>,
-) -> Result<Vec<Condition>, GenFault>
+    conditions: Pending,
+) -> Result<Pending, GenFault>
     requires over { IsOver program.now terms.old }
     requires routine { IsRoutine program.now number (routine_of routine.now) }
     requires body { IsBody program.now body.now }
@@ -277,7 +278,7 @@ fn at_beginning(
         (replacing_events (beginning_pairs program.now (routine_of routine.now)) (conditions_of terms.old conditions.items)) terms.old terms.new }
 {
     let pairs = pairs_at_beginning(program, body, terms, number, routine)?;
-    replaced(terms, body.alloc, pairs.as_slice(), conditions)
+    replaced(terms, body.alloc, pairs.as_slice(), &conditions)
 }
 
 // EXIT brought in front of the body, under ENTRY.
@@ -288,7 +289,7 @@ fn entered(
     supply: &mut Supply,
     number: RoutineId,
     routine: &Routine,
-) -> Result<Vec<Condition>, GenFault>
+) -> Result<Pending, GenFault>
     requires may { MayBegin program.now terms.old (supply_of supply.old) }
     requires routine { IsRoutine program.now number (routine_of routine.now) }
     requires body { IsBody program.now body.now }
@@ -309,7 +310,7 @@ pub(crate) fn routine_conditions(
     supply: &mut Supply,
     number: RoutineId,
     routine: &Routine,
-) -> Result<Vec<Condition>, GenFault>
+) -> Result<Pending, GenFault>
     requires may { MayBegin program.now terms.old (supply_of supply.old) }
     requires routine { IsRoutine program.now number (routine_of routine.now) }
     ensures { Comes result (whole.routine_conditions program.now number (routine_of routine.now) (supply_of supply.old))

@@ -1,5 +1,5 @@
 -- The conditions before a block, from its last statement to its first.
-use Rattle.std.proofs.Common.{◌≡◌, ◌<◌, ◌≤◌, ◌-◌, ◌+◌, ℕ, List, [], ◌∷◌, ◌++◌, length, get_or, take, drop, arith, Ok, Err, IsErrAnd, Option, Vec, Global, refl, sym, ap, subst, ◌∙◌}
+use Rattle.std.proofs.Common.{◌≡◌, ◌<◌, ◌≤◌, ◌-◌, ◌+◌, ℕ, List, [], ◌∷◌, ◌++◌, length, get_or, take, drop, arith, Ok, Err, IsErrAnd, Option, refl, sym, ap, subst, ◌∙◌}
 use Rattle.std.proofs.lemmas.List.{drop_more, take-append-drop}
 use Rattle.spv_logic.specs.declared.conditions.RoutineId.{RoutineId}
 use Rattle.spv_term.specs.declared.nodes.Condition.{Condition}
@@ -8,6 +8,7 @@ use Rattle.spv_term.proofs.ArenaLemmas.{Extends-trans}
 use Rattle.spv_program.specs.Statements.{Statement}
 use Rattle.spv_program.specs.Programs.{Program}
 use Rattle.spv_program.specs.Supplies.{Supply}
+use Rattle.spv_assign.specs.declared.pending.pending.Pending.{Pending}
 use Rattle.spv_assign.specs.supply.Numbers.{AreThere}
 use Rattle.spv_assign.specs.Conditions.{AreIn}
 use Rattle.spv_program.specs.typed.StatementViews.{block_of}
@@ -68,7 +69,7 @@ module _ (by : Making) (taking : Taking) (p : Program) (body : Body) (old a : Ar
   next_at r s given b m same c =
       walks_behind r by p here s (made_of a given n) q1 a b m (ap (λ (l : List Condition). made_of a l n) same ∙ made_is items q1 so_far.made) c
 
-  pub block_goes_on : (v : Vec Condition Global) (s : Statement) (given : List Condition) (next : List Statement) (b : Arena) (m : Supply) → given ≡ items → next ≡ s ∷ done → WalksBy (Ok v) by p body.here s (made_of a given n) a b m
+  pub block_goes_on : (v : Pending) (s : Statement) (given : List Condition) (next : List Statement) (b : Arena) (m : Supply) → given ≡ items → next ≡ s ∷ done → WalksBy (Ok v) by p body.here s (made_of a given n) a b m
       → BlockSoFar by p body.here next (made_of old rest start) old b m v.items
   block_goes_on v s given next b m same is c =
       let k = next_at (Ok v) s given b m same c in
@@ -87,7 +88,7 @@ module _ (by : Making) (taking : Taking) (p : Program) (body : Body) (old a : Ar
       comes_not (before p here (block_of all) q0) l r g (events_by by p here (block_of all) q0) err (Extends-trans so_far.walked.grows k.grows)
       (subst (λ (l : List Statement). Stops g (events_by by p here (block_of l) q0) old b) whole (stops_in_front by p here (take place all) (s ∷ done) q0 g old b stops))
 
-  pub block_comes : (v : Vec Condition Global) → v.items ≡ items → done ≡ all → WalksBy (Ok v) by p body.here (block_of all) (made_of old rest start) old a n
+  pub block_comes : (v : Pending) → v.items ≡ items → done ≡ all → WalksBy (Ok v) by p body.here (block_of all) (made_of old rest start) old a n
   block_comes v same is = record {
     grows = so_far.walked.grows;
     walk = subst (λ (l : List Statement). Walked (events_by by p here (block_of l) q0) old a) is so_far.walked;

@@ -1,5 +1,5 @@
 -- The conditions before a CASE.
-use Rattle.std.proofs.Common.{◌≡◌, ◌<◌, ◌+◌, ℕ, ℤ, List, [], ◌∷◌, ◌++◌, length, drop, get_or, Ok, Err, IsErrAnd, Option, Some, Vec, Global, refl, sym, ap, subst, ◌∙◌, arith}
+use Rattle.std.proofs.Common.{◌≡◌, ◌<◌, ◌+◌, ℕ, ℤ, List, [], ◌∷◌, ◌++◌, length, drop, get_or, Ok, Err, IsErrAnd, Option, Some, refl, sym, ap, subst, ◌∙◌, arith}
 use Rattle.std.proofs.lemmas.List.{append_assoc, drop_more, length-append, length-map}
 use Rattle.spv_logic.specs.declared.conditions.TermId.{TermId}
 use Rattle.spv_logic.specs.declared.conditions.RoutineId.{RoutineId}
@@ -15,6 +15,7 @@ use Rattle.spv_program.specs.Programs.{Program, routine_in}
 use Rattle.spv_program.specs.Supplies.{Supply}
 use Rattle.spv_program.specs.ExpressionTypes.{expression_sort}
 use Rattle.spv_program.specs.ExpressionTerms.{Valued, valued}
+use Rattle.spv_assign.specs.declared.pending.pending.Pending.{Pending}
 use Rattle.spv_assign.specs.supply.Numbers.{AreThere}
 use Rattle.spv_assign.specs.Conditions.{conditions_of, AreIn}
 use Rattle.spv_assign.proofs.Growing.{AreIn-Extends, conditions_of-Extends}
@@ -109,7 +110,7 @@ module _ (by : Making) (taking : Taking) (p : Program) (body : Body) (a0 : Arena
         let d = arms_at (Err g) a2 m c in
         exit r g goal k (te ∷ []) arm_part (calling ∷ []) is w1 d.grows d.walk
 
-    pub case_comes : (v : Vec Condition Global) (r : Listed) (a2 : Arena) (m : Supply) → WalksArms (Ok v) by p body (tree a1 about.term) arms (made_of a1 rest n1) a1 a2 m
+    pub case_comes : (v : Pending) (r : Listed) (a2 : Arena) (m : Supply) → WalksArms (Ok v) by p body (tree a1 about.term) arms (made_of a1 rest n1) a1 a2 m
         → PutsInFront r body.here about v.items → WalksBy r by p body.here (Case line e arms) (made_of a0 rest n) a0 a2 m
     case_comes v r a2 m c puts =
         let d = arms_at (Ok v) a2 m c in
@@ -157,7 +158,7 @@ module _ (by : Making) (taking : Taking) (p : Program) (body : Body) (a0 : Arena
       → Comes r (one_arm_made p body (tree a0 about) case.labels case.body.value (conditions_of a0 so_far) (made_of a0 rest n)) (in_order (one_arm_events by p body (tree a0 about) case.labels case.body.value (length so_far) (made_of a0 rest n))) a0 a1 k
   arm_stops r g k m a1 is c = exit r g arm_goal k [] (events_by by p at s q) ending is (nothing_walked a0) c.grows c.walk
 
-  module _ (a1 : Arena) (m : Supply) (v : Vec Condition Global) (c : WalksBy (Ok v) by p body.here case.body.value (made_of a0 rest n) a0 a1 m) where
+  module _ (a1 : Arena) (m : Supply) (v : Pending) (c : WalksBy (Ok v) by p body.here case.body.value (made_of a0 rest n) a0 a1 m) where
     pub about_there : about.0 < length a1.nodes
     about_there = let longer = length-Extends c.grows in let there = h.value in omega (arith, longer, there)
 
@@ -281,7 +282,7 @@ module _ (by : Making) (taking : Taking) (p : Program) (body : Body) (about : Te
       comes_not (before_arms p in_body z all (made_of old rest start)) k r g (arm_events_by by p in_body z all 0 (made_of old rest start)) is (Extends-trans more d.grows)
       (subst (λ (l : List Event). Stops g l old b) parted (stopped_among so_far.done three (next_events (length items + length taken.conditions) taken.supply ∷ []) g old a b so_far.walked d.walk))
 
-  pub arms_go_on : (v : Vec Condition Global) (m : Supply) (b : Arena)
+  pub arms_go_on : (v : Pending) (m : Supply) (b : Arena)
       → Comes (Ok v) (one_arm_made p body (tree a about) case.labels case.body.value (conditions_of a items) (made_of a rest n)) (in_order (one_arm_events by p body (tree a about) case.labels case.body.value (length items) (made_of a rest n))) a b m
       → ArmsSoFar by p body.here (tree old about) all others (made_of old rest start) old b m v.items
   arms_go_on v m b c =
@@ -312,7 +313,7 @@ module _ (by : Making) (taking : Taking) (p : Program) (body : Body) (about : Te
         supply_is = ap (λ (k : Supply). (before_arms p in_body z others (made_with cs k)).supply) left ∙ so_far.supply_is;
       }
 
-pub arms_come : (by : Making) (p : Program) (body : Body) (about : TermId) (all left : Arms) (rest : List Condition) (old a : Arena) (start n : Supply) (items : List Condition) (v : Vec Condition Global) → left ≡ no_arms → v.items ≡ items
+pub arms_come : (by : Making) (p : Program) (body : Body) (about : TermId) (all left : Arms) (rest : List Condition) (old a : Arena) (start n : Supply) (items : List Condition) (v : Pending) → left ≡ no_arms → v.items ≡ items
     → ArmsSoFar by p body.here (tree old about) all left (made_of old rest start) old a n items → WalksArms (Ok v) by p body (tree old about) all (made_of old rest start) old a n
 arms_come by p body about all left rest old a start n items v none same h = from (subst (λ (l : Arms). ArmsSoFar by p body.here (tree old about) all l (made_of old rest start) old a n v.items) none
     (subst (λ (l : List Condition). ArmsSoFar by p body.here (tree old about) all left (made_of old rest start) old a n l) (sym same) h))

@@ -1,5 +1,5 @@
 -- The conditions before a FOR.
-use Rattle.std.proofs.Common.{◌≡◌, ℕ, List, [], ◌∷◌, ◌++◌, Ok, Err, IsErrAnd, Option, Vec, Global, sym, ap, subst, ◌∙◌}
+use Rattle.std.proofs.Common.{◌≡◌, ℕ, List, [], ◌∷◌, ◌++◌, Ok, Err, IsErrAnd, Option, sym, ap, subst, ◌∙◌}
 use Rattle.spv_logic.specs.declared.conditions.Kind.TheVariants as kind
 use Rattle.spv_logic.specs.declared.conditions.RoutineId.{RoutineId}
 use Rattle.spv_logic.specs.declared.operators.Head.{Head}
@@ -13,6 +13,7 @@ use Rattle.spv_program.specs.Programs.{Program, routine_in}
 use Rattle.spv_program.specs.Supplies.{Supply}
 use Rattle.spv_program.specs.Terms.{alone}
 use Rattle.spv_program.specs.ExpressionTerms.{Valued, valued}
+use Rattle.spv_assign.specs.declared.pending.pending.Pending.{Pending}
 use Rattle.spv_assign.specs.supply.Numbers.{AreThere}
 use Rattle.spv_assign.specs.Conditions.{conditions_of, AreIn, all_terms_in}
 use Rattle.spv_assign.proofs.Growing.{conditions_of-Extends}
@@ -151,7 +152,7 @@ module _ (by : Making) (taking : Taking) (p : Program) (body : Body) (a0 : Arena
         let c1 = turn_at (Err g) a2 m c in
         for_walks r (exit r g goal k (for_begin p here f count te tf) inside last err b.walk c1.grows c1.walk)
 
-    module _ (a2 : Arena) (m : Supply) (made : Vec Condition Global) (c : WalksBy (Ok made) by p body.here s (made_of a1 o.behind.items n1) a1 a2 m) where
+    module _ (a2 : Arena) (m : Supply) (made : Pending) (c : WalksBy (Ok made) by p body.here s (made_of a1 o.behind.items n1) a1 a2 m) where
       c1 : WalksBy (Ok made) by p here s again a1 a2 m
       c1 = turn_at (Ok made) a2 m c
 

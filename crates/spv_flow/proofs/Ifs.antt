@@ -1,5 +1,5 @@
 -- The conditions before an IF.
-use Rattle.std.proofs.Common.{◌≡◌, ◌<◌, ℕ, List, [], ◌∷◌, length, Ok, Err, IsErrAnd, Option, Some, Vec, Global, refl, sym, ap, subst, ◌∙◌}
+use Rattle.std.proofs.Common.{◌≡◌, ◌<◌, ℕ, List, [], ◌∷◌, length, Ok, Err, IsErrAnd, Option, Some, refl, sym, ap, subst, ◌∙◌}
 use Rattle.spv_logic.specs.declared.conditions.RoutineId.{RoutineId}
 use Rattle.spv_logic.specs.declared.types.Sort.TheVariants as sort
 use Rattle.spv_logic.specs.Conditions as logic
@@ -12,6 +12,7 @@ use Rattle.spv_program.specs.Programs.{Program, routine_in}
 use Rattle.spv_program.specs.Supplies.{Supply}
 use Rattle.spv_program.specs.ExpressionTypes.{expression_sort}
 use Rattle.spv_program.specs.ExpressionTerms.{Valued, valued}
+use Rattle.spv_assign.specs.declared.pending.pending.Pending.{Pending}
 use Rattle.spv_assign.specs.Conditions.{conditions_of, AreIn}
 use Rattle.spv_meaning.specs.Before.{Made, before}
 use Rattle.spv_assign.specs.declared.creation_trace.faults.GenFault.{GenFault}
@@ -95,7 +96,7 @@ module _ (by : Making) (taking : Taking) (p : Program) (body : Body) (a0 : Arena
         let c1 = first_at (Err g) given a2 m same c in
         exit r g goal k (te ∷ []) (events_by by p here s q0) (events_by by p here t q1 ∷ last) is w1 c1.grows c1.walk
 
-    module _ (given : List Condition) (same : given ≡ rest) (a2 : Arena) (m : Supply) (one_way : Vec Condition Global) (c : WalksBy (Ok one_way) by p body.here s (made_of a1 given n1) a1 a2 m) where
+    module _ (given : List Condition) (same : given ≡ rest) (a2 : Arena) (m : Supply) (one_way : Pending) (c : WalksBy (Ok one_way) by p body.here s (made_of a1 given n1) a1 a2 m) where
       c1 : WalksBy (Ok one_way) by p here s q0 a1 a2 m
       c1 = first_at (Ok one_way) given a2 m same c
 
@@ -117,7 +118,7 @@ module _ (by : Making) (taking : Taking) (p : Program) (body : Body) (a0 : Arena
           let d1 = second_at (Err g) a3 m2 d in
           exit r g goal k (te ∷ events_by by p here s q0 ∷ []) (events_by by p here t q1) last is w2 d1.grows d1.walk
 
-      module _ (sorted : expression_sort p (routine_in p body.here) e ≡ Some (sort_at a1 test.term)) (a3 : Arena) (m2 : Supply) (other_way : Vec Condition Global) (d : WalksBy (Ok other_way) by p body.here t (made_of a2 rest m) a2 a3 m2) where
+      module _ (sorted : expression_sort p (routine_in p body.here) e ≡ Some (sort_at a1 test.term)) (a3 : Arena) (m2 : Supply) (other_way : Pending) (d : WalksBy (Ok other_way) by p body.here t (made_of a2 rest m) a2 a3 m2) where
         d1 : WalksBy (Ok other_way) by p here t q1 a2 a3 m2
         d1 = second_at (Ok other_way) a3 m2 d
 

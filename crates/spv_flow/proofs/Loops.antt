@@ -1,5 +1,5 @@
 -- The conditions before a WHILE and a REPEAT.
-use Rattle.std.proofs.Common.{◌≡◌, ℕ, List, [], ◌∷◌, length, Ok, Err, IsErrAnd, Option, Vec, Global, sym, ap, subst, ◌∙◌}
+use Rattle.std.proofs.Common.{◌≡◌, ℕ, List, [], ◌∷◌, length, Ok, Err, IsErrAnd, Option, sym, ap, subst, ◌∙◌}
 use Rattle.spv_logic.specs.declared.conditions.Kind.TheVariants as kind
 use Rattle.spv_logic.specs.declared.conditions.RoutineId.{RoutineId}
 use Rattle.spv_logic.specs.Conditions as logic
@@ -12,6 +12,7 @@ use Rattle.spv_program.specs.Statements.{Statement, While, Repeat}
 use Rattle.spv_program.specs.Programs.{Program, routine_in}
 use Rattle.spv_program.specs.Supplies.{Supply}
 use Rattle.spv_program.specs.ExpressionTerms.{Valued, valued}
+use Rattle.spv_assign.specs.declared.pending.pending.Pending.{Pending}
 use Rattle.spv_assign.specs.supply.Numbers.{AreThere}
 use Rattle.spv_assign.specs.Conditions.{conditions_of, AreIn}
 use Rattle.spv_assign.proofs.Growing.{conditions_of-Extends}
@@ -109,7 +110,7 @@ module _ (by : Making) (taking : Taking) (p : Program) (body : Body) (a0 : Arena
         let c1 = turn_at (Err g) a2 m c in
         while_walks r (exit r g (goal whole) k (while_begin p here f te) (events_by by p here s again) (last whole) err b.walk c1.grows c1.walk)
 
-    module _ (a2 : Arena) (m : Supply) (v : Vec Condition Global) (c : WalksBy (Ok v) by p body.here s (made_of a1 o.behind.items n1) a1 a2 m) where
+    module _ (a2 : Arena) (m : Supply) (v : Pending) (c : WalksBy (Ok v) by p body.here s (made_of a1 o.behind.items n1) a1 a2 m) where
       c1 : WalksBy (Ok v) by p here s again a1 a2 m
       c1 = turn_at (Ok v) a2 m c
 
@@ -233,7 +234,7 @@ module _ (by : Making) (taking : Taking) (p : Program) (body : Body) (a0 : Arena
         let c1 = round_at (Err g) a2 m c in
         repeat_walks r (exit r g (wanted whole) k begin inside (end whole ∷ []) err b.walk c1.grows c1.walk)
 
-    module _ (a2 : Arena) (m : Supply) (v : Vec Condition Global) (c : WalksBy (Ok v) by p body.here s (made_of a1 o.behind.items n1) a1 a2 m) where
+    module _ (a2 : Arena) (m : Supply) (v : Pending) (c : WalksBy (Ok v) by p body.here s (made_of a1 o.behind.items n1) a1 a2 m) where
       d1 : WalksBy (Ok v) by p at s behind a1 a2 m
       d1 = round_at (Ok v) a2 m c
 

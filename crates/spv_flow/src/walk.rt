@@ -20,6 +20,7 @@ use crate::statement_rules::{
     Begun, BegunFor, begin_for, begin_repeat, begin_while, end_for, end_repeat, end_while,
     tested_ways, with_arm,
 };
+use spv_assign::Pending;
 use spv_assign::creation_trace::GenFault;
 use spv_assign::supply::Supply;
 use spv_flow_parts::leaves::{Leaves, before_assert};
@@ -27,7 +28,7 @@ use spv_flow_parts::{Body, copied};
 use spv_program::typed::{
     Annotation, Arm, Counting, Expression, Program, Statement, StatementForm,
 };
-use spv_term::{Condition, TermId, Terms};
+use spv_term::{TermId, Terms};
 
 #[cycle(statements)]
 fn statement<L: Leaves>(
@@ -37,8 +38,8 @@ fn statement<L: Leaves>(
     terms: &mut Terms,
     supply: &mut Supply,
     s: &Statement,
-    rest: Vec<Condition>,
-) -> Result<Vec<Condition>, GenFault>
+    rest: Pending,
+) -> Result<Pending, GenFault>
     requires ready { L.fits leaves.old program.now body.now.here }
     requires fits { MayWalk (L.takes program.now body.now.here) program.now body.now terms.old (supply_of supply.old) s.now rest.items }
     ensures ready { L.fits leaves.new program.now body.now.here }
@@ -56,10 +57,10 @@ fn statement<L: Leaves>(
             leaves, program, body, terms, supply, *line, e, cases, &rest,
         ),
         StatementForm::While(line, f, e, inside) => while_loop(
-            leaves, program, body, terms, supply, s, *line, f, e, inside, &rest,
+            leaves, program, body, terms, supply, s, *line, f, e, inside, rest,
         ),
         StatementForm::Repeat(line, f, inside, e) => repeat_loop(
-            leaves, program, body, terms, supply, s, *line, f, e, inside, &rest,
+            leaves, program, body, terms, supply, s, *line, f, e, inside, rest,
         ),
         StatementForm::For(line, f, count, inside) => for_loop(
             leaves, program, body, terms, supply, s, *line, f, count, inside, &rest,
@@ -77,8 +78,8 @@ fn block<L: Leaves>(
     terms: &mut Terms,
     supply: &mut Supply,
     statements: &[Statement],
-    rest: Vec<Condition>,
-) -> Result<Vec<Condition>, GenFault>
+    rest: Pending,
+) -> Result<Pending, GenFault>
     requires ready { L.fits leaves.old program.now body.now.here }
     requires fits { MayWalk (L.takes program.now body.now.here) program.now body.now terms.old (supply_of supply.old) (block_of statements.now) rest.items }
     ensures ready { L.fits leaves.new program.now body.now.here }
@@ -110,8 +111,8 @@ fn conditional<L: Leaves>(
     e: &Expression,
     a: &Statement,
     b: &Statement,
-    rest: Vec<Condition>,
-) -> Result<Vec<Condition>, GenFault>
+    rest: Pending,
+) -> Result<Pending, GenFault>
     requires ready { L.fits leaves.old program.now body.now.here }
     requires fits { MayWalk (L.takes program.now body.now.here) program.now body.now terms.old (supply_of supply.old) (If line e.now a.now b.now) rest.items }
     ensures ready { L.fits leaves.new program.now body.now.here }
@@ -119,18 +120,10 @@ fn conditional<L: Leaves>(
 {
     let _ = line;
     let test = leaves.test(program, body, terms, supply, e)?;
-    let kept = copied(body.alloc, rest.as_slice())?;
+    let kept = copied(body.alloc, &rest)?;
     let first = statement(leaves, program, body, terms, supply, a, kept)?;
     let second = statement(leaves, program, body, terms, supply, b, rest)?;
-    tested_ways(
-        leaves,
-        program,
-        body,
-        terms,
-        &test,
-        first.as_slice(),
-        second.as_slice(),
-    )
+    tested_ways(leaves, program, body, terms, &test, first, second)
 }
 
 #[cycle(statements)]
@@ -143,12 +136,12 @@ fn selection<L: Leaves>(
     line: u32,
     e: &Expression,
     cases: &[Arm],
-    rest: &[Condition],
-) -> Result<Vec<Condition>, GenFault>
+    rest: &Pending,
+) -> Result<Pending, GenFault>
     requires ready { L.fits leaves.old program.now body.now.here }
-    requires fits { MayWalk (L.takes program.now body.now.here) program.now body.now terms.old (supply_of supply.old) (Case line e.now (arms_of cases.now)) rest.now }
+    requires fits { MayWalk (L.takes program.now body.now.here) program.now body.now terms.old (supply_of supply.old) (Case line e.now (arms_of cases.now)) rest.now.items }
     ensures ready { L.fits leaves.new program.now body.now.here }
-    ensures made { WalksBy result (L.making program.now body.now.here) program.now body.now.here (Case line e.now (arms_of cases.now)) (made_of terms.old rest.now (supply_of supply.old)) terms.old terms.new (supply_of supply.new) }
+    ensures made { WalksBy result (L.making program.now body.now.here) program.now body.now.here (Case line e.now (arms_of cases.now)) (made_of terms.old rest.now.items (supply_of supply.old)) terms.old terms.new (supply_of supply.new) }
 {
     let _ = line;
     let about = leaves.test(program, body, terms, supply, e)?;
@@ -168,14 +161,14 @@ fn arms<L: Leaves>(
     supply: &mut Supply,
     about: TermId,
     cases: &[Arm],
-    rest: &[Condition],
-) -> Result<Vec<Condition>, GenFault>
+    rest: &Pending,
+) -> Result<Pending, GenFault>
     requires ready { L.fits leaves.old program.now body.now.here }
-    requires fits { MayWalkArms (L.takes program.now body.now.here) program.now body.now terms.old (supply_of supply.old) about (arms_of cases.now) rest.now }
+    requires fits { MayWalkArms (L.takes program.now body.now.here) program.now body.now terms.old (supply_of supply.old) about (arms_of cases.now) rest.now.items }
     ensures ready { L.fits leaves.new program.now body.now.here }
-    ensures made { WalksArms result (L.making program.now body.now.here) program.now body.now (tree terms.old about) (arms_of cases.now) (made_of terms.old rest.now (supply_of supply.old)) terms.old terms.new (supply_of supply.new) }
+    ensures made { WalksArms result (L.making program.now body.now.here) program.now body.now (tree terms.old about) (arms_of cases.now) (made_of terms.old rest.now.items (supply_of supply.old)) terms.old terms.new (supply_of supply.new) }
 {
-    let mut made = Vec::new(body.alloc);
+    let mut made = Pending::new(body.alloc);
     for case in cases {
         made = one_arm(
             leaves, program, body, terms, supply, about, case, rest, made,
@@ -193,28 +186,21 @@ fn one_arm<L: Leaves>(
     supply: &mut Supply,
     about: TermId,
     case: &Arm,
-    rest: &[Condition],
-    so_far: Vec<Condition>,
-) -> Result<Vec<Condition>, GenFault>
+    rest: &Pending,
+    so_far: Pending,
+) -> Result<Pending, GenFault>
     requires ready { L.fits leaves.old program.now body.now.here }
-    requires fits { MayWalkArms (L.takes program.now body.now.here) program.now body.now terms.old (supply_of supply.old) about (arms_of (case.now ∷ [])) rest.now }
+    requires fits { MayWalkArms (L.takes program.now body.now.here) program.now body.now terms.old (supply_of supply.old) about (arms_of (case.now ∷ [])) rest.now.items }
     requires so_far { AreIn terms.old so_far.items }
     ensures ready { L.fits leaves.new program.now body.now.here }
     ensures made { Comes result
-        (one_arm_made program.now body.now (tree terms.old about) case.now.labels case.now.body.value (conditions_of terms.old so_far.items) (made_of terms.old rest.now (supply_of supply.old)))
-        (in_order (one_arm_events (L.making program.now body.now.here) program.now body.now (tree terms.old about) case.now.labels case.now.body.value (length so_far.items) (made_of terms.old rest.now (supply_of supply.old))))
+        (one_arm_made program.now body.now (tree terms.old about) case.now.labels case.now.body.value (conditions_of terms.old so_far.items) (made_of terms.old rest.now.items (supply_of supply.old)))
+        (in_order (one_arm_events (L.making program.now body.now.here) program.now body.now (tree terms.old about) case.now.labels case.now.body.value (length so_far.items) (made_of terms.old rest.now.items (supply_of supply.old))))
         terms.old terms.new (supply_of supply.new) }
 {
     let kept = copied(body.alloc, rest)?;
     let first = statement(leaves, program, body, terms, supply, &case.body, kept)?;
-    with_arm(
-        body.alloc,
-        terms,
-        about,
-        case.labels.as_slice(),
-        so_far,
-        first,
-    )
+    with_arm(terms, about, case.labels.as_slice(), so_far, first)
 }
 
 #[cycle(statements)]
@@ -229,13 +215,13 @@ fn while_loop<L: Leaves>(
     f: &Option<Annotation>,
     e: &Expression,
     inside: &Statement,
-    rest: &[Condition],
-) -> Result<Vec<Condition>, GenFault>
+    rest: Pending,
+) -> Result<Pending, GenFault>
     requires ready { L.fits leaves.old program.now body.now.here }
     requires is { whole.now ≡ While line (option_map annotation_of f.now) e.now inside.now }
-    requires fits { MayWalk (L.takes program.now body.now.here) program.now body.now terms.old (supply_of supply.old) whole.now rest.now }
+    requires fits { MayWalk (L.takes program.now body.now.here) program.now body.now terms.old (supply_of supply.old) whole.now rest.items }
     ensures ready { L.fits leaves.new program.now body.now.here }
-    ensures made { WalksBy result (L.making program.now body.now.here) program.now body.now.here whole.now (made_of terms.old rest.now (supply_of supply.old)) terms.old terms.new (supply_of supply.new) }
+    ensures made { WalksBy result (L.making program.now body.now.here) program.now body.now.here whole.now (made_of terms.old rest.items (supply_of supply.old)) terms.old terms.new (supply_of supply.new) }
 {
     let _ = line;
     let Begun {
@@ -244,16 +230,7 @@ fn while_loop<L: Leaves>(
     } = begin_while(leaves, program, body, terms, supply, f, e)?;
     let round = statement(leaves, program, body, terms, supply, inside, behind)?;
     end_while(
-        leaves,
-        program,
-        body,
-        terms,
-        supply,
-        whole,
-        f,
-        &known,
-        round.as_slice(),
-        rest,
+        leaves, program, body, terms, supply, whole, f, &known, round, rest,
     )
 }
 
@@ -269,13 +246,13 @@ fn repeat_loop<L: Leaves>(
     f: &Option<Annotation>,
     e: &Expression,
     inside: &Statement,
-    rest: &[Condition],
-) -> Result<Vec<Condition>, GenFault>
+    rest: Pending,
+) -> Result<Pending, GenFault>
     requires ready { L.fits leaves.old program.now body.now.here }
     requires is { whole.now ≡ Repeat line (option_map annotation_of f.now) inside.now e.now }
-    requires fits { MayWalk (L.takes program.now body.now.here) program.now body.now terms.old (supply_of supply.old) whole.now rest.now }
+    requires fits { MayWalk (L.takes program.now body.now.here) program.now body.now terms.old (supply_of supply.old) whole.now rest.items }
     ensures ready { L.fits leaves.new program.now body.now.here }
-    ensures made { WalksBy result (L.making program.now body.now.here) program.now body.now.here whole.now (made_of terms.old rest.now (supply_of supply.old)) terms.old terms.new (supply_of supply.new) }
+    ensures made { WalksBy result (L.making program.now body.now.here) program.now body.now.here whole.now (made_of terms.old rest.items (supply_of supply.old)) terms.old terms.new (supply_of supply.new) }
 {
     let _ = line;
     let Begun {
@@ -284,15 +261,7 @@ fn repeat_loop<L: Leaves>(
     } = begin_repeat(leaves, program, body, terms, supply, f, e, rest)?;
     let turn = statement(leaves, program, body, terms, supply, inside, behind)?;
     end_repeat(
-        leaves,
-        program,
-        body,
-        terms,
-        supply,
-        whole,
-        f,
-        known.note,
-        turn.as_slice(),
+        leaves, program, body, terms, supply, whole, f, known.note, turn,
     )
 }
 
@@ -308,13 +277,13 @@ fn for_loop<L: Leaves>(
     f: &Option<Annotation>,
     count: &Counting,
     inside: &Statement,
-    rest: &[Condition],
-) -> Result<Vec<Condition>, GenFault>
+    rest: &Pending,
+) -> Result<Pending, GenFault>
     requires ready { L.fits leaves.old program.now body.now.here }
     requires is { whole.now ≡ For line (option_map annotation_of f.now) (counting_of count.now) inside.now }
-    requires fits { MayWalk (L.takes program.now body.now.here) program.now body.now terms.old (supply_of supply.old) whole.now rest.now }
+    requires fits { MayWalk (L.takes program.now body.now.here) program.now body.now terms.old (supply_of supply.old) whole.now rest.now.items }
     ensures ready { L.fits leaves.new program.now body.now.here }
-    ensures made { WalksBy result (L.making program.now body.now.here) program.now body.now.here whole.now (made_of terms.old rest.now (supply_of supply.old)) terms.old terms.new (supply_of supply.new) }
+    ensures made { WalksBy result (L.making program.now body.now.here) program.now body.now.here whole.now (made_of terms.old rest.now.items (supply_of supply.old)) terms.old terms.new (supply_of supply.new) }
 {
     let _ = line;
     let BegunFor {
@@ -323,17 +292,7 @@ fn for_loop<L: Leaves>(
     } = begin_for(leaves, program, body, terms, supply, f, count)?;
     let turn = statement(leaves, program, body, terms, supply, inside, behind)?;
     end_for(
-        leaves,
-        program,
-        body,
-        terms,
-        supply,
-        whole,
-        f,
-        count,
-        &known,
-        turn.as_slice(),
-        rest,
+        leaves, program, body, terms, supply, whole, f, count, &known, &turn, rest,
     )
 }
 
@@ -347,8 +306,8 @@ pub fn before<L: Leaves>(
     terms: &mut Terms,
     supply: &mut Supply,
     s: &Statement,
-    rest: Vec<Condition>,
-) -> Result<Vec<Condition>, GenFault>
+    rest: Pending,
+) -> Result<Pending, GenFault>
     requires fits { L.fits leaves.old program.now body.now.here }
     requires stands { Stands program.now body.now terms.old }
     requires taken { IsTaken program.now body.now.here (L.takes program.now body.now.here) s.now }

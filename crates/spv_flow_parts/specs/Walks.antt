@@ -1,6 +1,5 @@
 -- What a part of the walk answers, and what was made on the way.
-use Rattle.std.specs.Prelude.{◌≡◌, ℕ, ◌<◌, ⊤, List, [], ◌++◌, length, Option, Some, None, Result, IfOk, Vec}
-use Rattle.std.specs.Global.{Global}
+use Rattle.std.specs.Prelude.{◌≡◌, ℕ, ◌<◌, ⊤, List, [], ◌++◌, length, Option, Some, None, Result, IfOk}
 use Rattle.spv_logic.specs.declared.conditions.TermId.{TermId}
 use Rattle.spv_logic.specs.declared.conditions.Kind.{Kind}
 use Rattle.spv_logic.specs.declared.conditions.Kind.TheVariants as kind
@@ -18,6 +17,7 @@ use Rattle.spv_assign.specs.supply.Numbers.{AreThere}
 use Rattle.spv_assign.specs.Conditions.{conditions_of, pairs_of, AreIn}
 use Rattle.spv_meaning.specs.Before.{Made, Renamed, annotation_term, replaced, assuming_if_there, wanted_if_there}
 use Rattle.spv_assign.specs.declared.creation_trace.faults.GenFault.{GenFault}
+use Rattle.spv_assign.specs.declared.pending.pending.Pending.{Pending}
 use Rattle.spv_assign.specs.creation_trace.Events.{Event, Answers}
 use Rattle.spv_assign.specs.creation_trace.StatementEvents.{one}
 use Rattle.spv_assign.specs.limited_steps.Makes.{IsTerm}
@@ -65,7 +65,7 @@ pub record IsMade (a : Arena) (n : Supply) (items : List Condition) (m : Made) :
   pub there : AreThere a n
 
 abbrev pub Listed : Type 0
-Listed = Result (Vec Condition Global) GenFault
+Listed = Result Pending GenFault
 
 -- these conditions were made by these events, or the limit was met that they meet first
 pub record Comes (r : Listed) (m : Made) (events : List Event) (a b : Arena) (n : Supply) : Type 0 where

@@ -23,6 +23,7 @@ ghost use Rattle.spv_flow_parts.specs.assigning.Events.{assign_events, creation_
 use crate::Body;
 use crate::calls::{place, value};
 use crate::leaves::in_front;
+use spv_assign::Pending;
 use spv_assign::creation_trace::GenFault;
 use spv_assign::limited_steps::{assumed, binary, limited, made, negated, replaced};
 use spv_assign::structures::{Target, whole_with};
@@ -31,7 +32,7 @@ use spv_effects::mod_sets::sort_of;
 use spv_logic::names::Symbol;
 use spv_logic::{Head, Sort, TypeId};
 use spv_program::typed::{Designator, Expression, Program};
-use spv_term::{Condition, TermId, Terms};
+use spv_term::{TermId, Terms};
 use std::alloc::Global;
 
 // Conditions with the whole of a place changed: what stands at the place is this term.
@@ -40,8 +41,8 @@ fn with_place(
     terms: &mut Terms,
     target: &Target,
     v: TermId,
-    rest: Vec<Condition>,
-) -> Result<Vec<Condition>, GenFault>
+    rest: Pending,
+) -> Result<Pending, GenFault>
     requires target { IsTarget terms.old target.now }
     requires v { v.0 < length terms.old.nodes }
     requires sorts { term_sort terms.old.shapes terms.old.decls (plain.present (target_in terms.old target.now)) ≡ Some (sort_at terms.old v) }
@@ -52,7 +53,7 @@ fn with_place(
     terms.law_arena();
     let whole = whole_with(terms, alloc, target, v);
     let whole = limited(terms, whole)?;
-    replaced(terms, alloc, &[(target.root, whole)], rest)
+    replaced(terms, alloc, &[(target.root, whole)], &rest)
 }
 
 /// The conditions before an assignment: the place and then the value are evaluated, with their calls in front, and the whole
@@ -64,8 +65,8 @@ pub fn before_assign(
     supply: &mut Supply,
     d: &Designator,
     e: &Expression,
-    rest: Vec<Condition>,
-) -> Result<Vec<Condition>, GenFault>
+    rest: Pending,
+) -> Result<Pending, GenFault>
     requires may { MayMake program.now body.now terms.old (supply_of supply.old) }
     requires typed { IsTrue (statement_ok program.now (routine_in program.now body.now.here) (Assign d.now e.now)) }
     requires rest { AreIn terms.old rest.items }
@@ -121,8 +122,8 @@ fn with_cell(
     t: TypeId,
     pointer: TermId,
     content: TermId,
-    rest: Vec<Condition>,
-) -> Result<Vec<Condition>, GenFault>
+    rest: Pending,
+) -> Result<Pending, GenFault>
     requires class { t.0 < length terms.old.shapes }
     requires pointer { pointer.0 < length terms.old.nodes }
     requires pointer_sort { sort_at terms.old pointer ≡ Sort.Ptr t }
@@ -134,7 +135,7 @@ fn with_cell(
 {
     let class = made(terms, Head::ClassVar(t, 0), &[])?;
     let extended = made(terms, Head::Extend, &[class, pointer, content])?;
-    replaced(terms, alloc, &[(class, extended)], rest)
+    replaced(terms, alloc, &[(class, extended)], &rest)
 }
 
 // The conditions before the creation of a cell at a place, where the pointer to it and its content are fresh.
@@ -145,8 +146,8 @@ fn before_creation(
     target: &Target,
     pointer: TermId,
     content: TermId,
-    rest: Vec<Condition>,
-) -> Result<Vec<Condition>, GenFault>
+    rest: Pending,
+) -> Result<Pending, GenFault>
     requires class { t.0 < length terms.old.shapes }
     requires target { IsTarget terms.old target.now }
     requires sorts { term_sort terms.old.shapes terms.old.decls (plain.present (target_in terms.old target.now)) ≡ Some (Sort.Ptr t) }
@@ -162,8 +163,8 @@ fn before_creation(
     let extended = with_cell(alloc, terms, t, pointer, content, placed)?;
     let none = no_member(terms, pointer, t)?;
     let there = not_nil(terms, pointer, t)?;
-    let behind = assumed(alloc, none, extended)?;
-    assumed(alloc, there, behind)
+    let behind = assumed(none, extended)?;
+    assumed(there, behind)
 }
 
 /// The conditions before NEW: the place is evaluated, with its calls in front; it becomes a fresh pointer, and the class of its
@@ -175,8 +176,8 @@ pub fn before_new(
     supply: &mut Supply,
     d: &Designator,
     t: TypeId,
-    rest: Vec<Condition>,
-) -> Result<Vec<Condition>, GenFault>
+    rest: Pending,
+) -> Result<Pending, GenFault>
     ghost line: { ℕ }
     requires may { MayMake program.now body.now terms.old (supply_of supply.old) }
     requires typed { IsTrue (statement_ok program.now (routine_in program.now body.now.here) (New line d.now t)) }

@@ -15,12 +15,13 @@ use crate::bodies::Body;
 use crate::lists::known;
 use crate::notes::wanted_note;
 use crate::renaming::{renamed, replaced_in};
+use spv_assign::Pending;
 use spv_assign::creation_trace::GenFault;
 use spv_assign::limited_steps::joined;
 use spv_assign::supply::Supply;
 use spv_logic::{Head, Kind};
 use spv_program::typed::{Annotation, Program};
-use spv_term::{Condition, TermId, Terms};
+use spv_term::{TermId, Terms};
 use std::alloc::Global;
 
 // Conditions under what is known, with what a loop changes renamed.
@@ -30,20 +31,20 @@ fn renamed_uses(
     supply: &mut Supply,
     heads: &[Head],
     h: Option<TermId>,
-    uses: &[Condition],
-) -> Result<Vec<Condition>, GenFault>
+    uses: Pending,
+) -> Result<Pending, GenFault>
     requires heads { AllRenamed terms.old.shapes heads.now }
     requires there { AreThere terms.old (supply_of supply.old) }
     requires known { IsThere terms.old h }
-    requires uses { AreIn terms.old uses.now }
+    requires uses { AreIn terms.old uses.items }
     ensures { Comes result
-        (renamed_made (option_map (tree terms.old) h) (before.renamed heads.now (supply_of supply.old)) (conditions_of terms.old uses.now))
-        (replacing_events (before.renamed heads.now (supply_of supply.old)).pairs (assuming_if_there (option_map (tree terms.old) h) (conditions_of terms.old uses.now)))
+        (renamed_made (option_map (tree terms.old) h) (before.renamed heads.now (supply_of supply.old)) (conditions_of terms.old uses.items))
+        (replacing_events (before.renamed heads.now (supply_of supply.old)).pairs (assuming_if_there (option_map (tree terms.old) h) (conditions_of terms.old uses.items)))
         terms.old terms.new (supply_of supply.new) }
 {
     let pairs = renamed(alloc, terms, supply, heads)?;
-    let under = known(alloc, h, uses)?;
-    replaced_in(alloc, terms, pairs.as_slice(), under.as_slice())
+    let under = known(h, uses)?;
+    replaced_in(alloc, terms, pairs.as_slice(), &under)
 }
 
 /// The conditions of a loop with this annotation, whose term is there: those under it, with what the loop changes
@@ -56,14 +57,14 @@ pub fn end_of_loop(
     heads: &[Head],
     f: &Option<Annotation>,
     note: Option<TermId>,
-    uses: &[Condition],
-) -> Result<Vec<Condition>, GenFault>
+    uses: Pending,
+) -> Result<Pending, GenFault>
     requires heads { AllRenamed terms.old.shapes heads.now }
     requires there { AreThere terms.old (supply_of supply.old) }
     requires note { IsNoted terms.old program.now body.now.here note (option_map annotation_of f.now) }
-    requires uses { AreIn terms.old uses.now }
-    ensures { Comes result (loop_made program.now body.now.here (option_map annotation_of f.now) (before.renamed heads.now (supply_of supply.old)) (conditions_of terms.old uses.now))
-        (loop_events program.now body.now.here (option_map annotation_of f.now) (before.renamed heads.now (supply_of supply.old)) (conditions_of terms.old uses.now))
+    requires uses { AreIn terms.old uses.items }
+    ensures { Comes result (loop_made program.now body.now.here (option_map annotation_of f.now) (before.renamed heads.now (supply_of supply.old)) (conditions_of terms.old uses.items))
+        (loop_events program.now body.now.here (option_map annotation_of f.now) (before.renamed heads.now (supply_of supply.old)) (conditions_of terms.old uses.items))
         terms.old terms.new (supply_of supply.new) }
 {
     let _ = program;

@@ -14,13 +14,13 @@ ghost use Rattle.spv_flow_parts.specs.Standing.{AreNotes, Stands};
 ghost use Rattle.spv_flow_parts.specs.Walks.{AreThese, IsNoted, MakesTerm, wanted_item};
 
 use crate::bodies::Body;
+use spv_assign::Pending;
 use spv_assign::creation_trace::GenFault;
 use spv_assign::limited_steps::limited;
 use spv_expression_terms::term_walk::formula_term;
-use spv_logic::list::List;
 use spv_logic::{Kind, Origin, RoutineId};
 use spv_program::typed::{Annotation, Program};
-use spv_term::{Condition, TermId, Terms};
+use spv_term::{TermId, Terms};
 use std::alloc::{AllocError, Global};
 
 /// The term of an annotation of a body.
@@ -64,20 +64,15 @@ fn wanted_one(
     kind: Kind,
     goal: TermId,
     line: u32,
-) -> Result<Vec<Condition>, AllocError>
+) -> Result<Pending, AllocError>
     ensures { IfOk result (λ cs. cs.items ≡ wanted_item here kind goal line ∷ []) }
 {
-    let mut made = Vec::new(alloc);
-    made.push(Condition {
-        given: List::new(alloc),
-        goal,
-        origin: Origin {
-            routine: here,
-            kind,
-            line,
-        },
-    })?;
-    Ok(made)
+    let origin = Origin {
+        routine: here,
+        kind,
+        line,
+    };
+    Pending::one(alloc, goal, origin)
 }
 
 /// The condition that a formula of this line is true.
@@ -87,7 +82,7 @@ pub fn wanted(
     kind: Kind,
     goal: TermId,
     line: u32,
-) -> Result<Vec<Condition>, GenFault>
+) -> Result<Pending, GenFault>
     ensures item { IfOk result (λ cs. cs.items ≡ wanted_item here kind goal line ∷ []) }
     ensures err { IfErr result (λ e. e ≡ Memory) }
 {
@@ -101,13 +96,13 @@ pub fn wanted_note(
     kind: Kind,
     f: &Option<Annotation>,
     note: Option<TermId>,
-) -> Result<Vec<Condition>, GenFault>
+) -> Result<Pending, GenFault>
     ensures conditions { (a : Arena) (p : plain.Program) → IsNoted a p here note (option_map annotation_of f.now)
         → IfOk result (λ cs. AreThese a cs.items (wanted_if_there p here kind (option_map annotation_of f.now))) }
     ensures err { IfErr result (λ e. e ≡ Memory) }
 {
     match (f, note) {
         (Some(a), Some(term)) => wanted(alloc, here, kind, term, a.line),
-        _ => Ok(Vec::new(alloc)),
+        _ => Ok(Pending::new(alloc)),
     }
 }

@@ -11,12 +11,12 @@ ghost use Rattle.spv_assign.specs.creation_trace.StatementEvents.{pair_terms, se
 ghost use Rattle.spv_flow_parts.specs.Standing.{AllRenamed};
 ghost use Rattle.spv_flow_parts.specs.Walks.{AreRenamed, ComesTo};
 
-use crate::lists::copied;
+use spv_assign::Pending;
 use spv_assign::creation_trace::GenFault;
 use spv_assign::limited_steps::{fresh_pair, replaced};
 use spv_assign::supply::Supply;
 use spv_logic::Head;
-use spv_term::{Condition, TermId, Terms};
+use spv_term::{TermId, Terms};
 use std::alloc::{AllocError, Global};
 
 fn push(pairs: &mut Vec<(TermId, TermId)>, pair: (TermId, TermId)) -> Result<(), AllocError>
@@ -52,13 +52,12 @@ pub fn replaced_in(
     alloc: Global,
     terms: &mut Terms,
     pairs: &[(TermId, TermId)],
-    rest: &[Condition],
-) -> Result<Vec<Condition>, GenFault>
-    requires rest { AreIn terms.old rest.now }
+    rest: &Pending,
+) -> Result<Pending, GenFault>
+    requires rest { AreIn terms.old rest.now.items }
     requires pairs { ArePairs terms.old pairs.now }
-    ensures { ComesTo result (before.replaced (pairs_of terms.old pairs.now) (conditions_of terms.old rest.now))
-        (several (all_terms_in (before.replaced (pairs_of terms.old pairs.now) (conditions_of terms.old rest.now)))) terms.old terms.new }
+    ensures { ComesTo result (before.replaced (pairs_of terms.old pairs.now) (conditions_of terms.old rest.now.items))
+        (several (all_terms_in (before.replaced (pairs_of terms.old pairs.now) (conditions_of terms.old rest.now.items)))) terms.old terms.new }
 {
-    let own = copied(alloc, rest)?;
-    replaced(terms, alloc, pairs, own)
+    replaced(terms, alloc, pairs, rest)
 }

@@ -10,7 +10,8 @@ ghost use Rattle.spv_assign.specs.creation_trace.StatementEvents.{several};
 
 use crate::creation_trace::GenFault;
 use crate::limited_steps::making::limited;
-use spv_term::{Condition, TermId, Terms};
+use crate::pending::Pending;
+use spv_term::{TermId, Terms};
 use std::alloc::Global;
 
 /// Conditions with the second terms of pairs in the place of the first ones, all at once.
@@ -18,16 +19,16 @@ pub fn replaced(
     terms: &mut Terms,
     alloc: Global,
     pairs: &[(TermId, TermId)],
-    rest: Vec<Condition>,
-) -> Result<Vec<Condition>, GenFault>
-    requires rest { AreIn terms.old rest.items }
+    rest: &Pending,
+) -> Result<Pending, GenFault>
+    requires rest { AreIn terms.old rest.now.items }
     requires pairs { ArePairs terms.old pairs.now }
     ensures conditions { IfOk result (λ cs. conditions_of terms.new cs.items
-        ≡ before.replaced (pairs_of terms.old pairs.now) (conditions_of terms.old rest.items)) }
+        ≡ before.replaced (pairs_of terms.old pairs.now) (conditions_of terms.old rest.now.items)) }
     ensures in_range { IfOk result (λ cs. AreIn terms.new cs.items) }
     ensures grows { Extends terms.old terms.new }
-    ensures walk { Answers result (several (all_terms_in (before.replaced (pairs_of terms.old pairs.now) (conditions_of terms.old rest.items)))) terms.old terms.new }
+    ensures walk { Answers result (several (all_terms_in (before.replaced (pairs_of terms.old pairs.now) (conditions_of terms.old rest.now.items)))) terms.old terms.new }
 {
-    let made = crate::replaced(terms, alloc, pairs, rest);
+    let made = rest.replaced(terms, alloc, pairs);
     limited(terms, made)
 }

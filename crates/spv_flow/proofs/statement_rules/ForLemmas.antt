@@ -1,5 +1,5 @@
 -- FOR loops.
-use Rattle.std.proofs.Common.{◌≡◌, List, [], ◌∷◌, ◌++◌, Result, Ok, Err, IfOk, IsErrAnd, Option, Vec, Global, refl, sym, ap, subst, ◌∙◌}
+use Rattle.std.proofs.Common.{◌≡◌, List, [], ◌∷◌, ◌++◌, Result, Ok, Err, IfOk, IsErrAnd, Option, refl, sym, ap, subst, ◌∙◌}
 use Rattle.spv_logic.specs.declared.conditions.Kind.TheVariants as kind
 use Rattle.spv_logic.specs.declared.conditions.TermId.{TermId}
 use Rattle.spv_logic.specs.declared.conditions.RoutineId.{RoutineId}
@@ -19,6 +19,7 @@ use Rattle.spv_program.specs.Statements.{Counting}
 use Rattle.spv_program.specs.Supplies.{Supply}
 use Rattle.spv_program.specs.Terms.{alone}
 use Rattle.spv_program.specs.ExpressionTerms.{Called, Valued, valued}
+use Rattle.spv_assign.specs.declared.pending.pending.Pending.{Pending}
 use Rattle.spv_assign.proofs.supply.FreshLemmas.{AreThere-Extends}
 use Rattle.spv_assign.specs.Conditions.{all_terms_in}
 use Rattle.spv_meaning.specs.Before.{Made, Renamed, before_calls, renamed, next_term, annotation_term, wanted_with}
@@ -183,7 +184,7 @@ module _ (p : Program) (here : Option RoutineId) (f : Option Annotation) (count 
             let j = put (Err g) a4 comes in
             for_not r g a4 n is (Extends-trans w3.grows j.grows) (stopped_at (te ∷ tf ∷ note_event ∷ counter_event ∷ []) (several (all_terms_in wanted)) [] g a0 a3 a4 w3 j.walk)
 
-        pub for_begins : (v : Vec Condition Global) (a4 : Arena) (o : BegunFor) → o.terms ≡ record { first = ends.first; last = ends.last; note = note; variable = c.variable } → o.behind.items ≡ v.items
+        pub for_begins : (v : Pending) (a4 : Arena) (o : BegunFor) → o.terms ≡ record { first = ends.first; last = ends.last; note = note; variable = c.variable } → o.behind.items ≡ v.items
             → ComesTo (Ok v) (wanted_with p here kind.Preserved (head_at a3 c.variable) (tree a3 c.next) f) (several (all_terms_in (wanted_with p here kind.Preserved (head_at a3 c.variable) (tree a3 c.next) f))) a3 a4
             → BeginsFor (Ok o) p here f count w u (next_wanted p here f count) (for_begin p here f count te tf) a0 a4 n
         for_begins v a4 o terms_are items_are comes =
@@ -230,7 +231,7 @@ last_calls_stop r g here t items is puts a first last cs first_are last_are thes
     comes_not (made_with (before_calls here (first ++ last) cs) n) n r g (in_order (end_call_events here first last cs)) is k.grows
     (stopped_at [] (call_events here last cs) (call_events here first (before_calls here last cs) ∷ []) g a a a (nothing_walked a) k.walk)
 
-pub both_calls_come : (r : Listed) (v : Vec Condition Global) (here : Option RoutineId) (t : ForTerms) (items : List Condition) → PutsInFront (Ok v) here t.last items → PutsInFront r here t.first v.items → PutsBoth r here t items
+pub both_calls_come : (r : Listed) (v : Pending) (here : Option RoutineId) (t : ForTerms) (items : List Condition) → PutsInFront (Ok v) here t.last items → PutsInFront r here t.first v.items → PutsBoth r here t items
 both_calls_come r v here t items last_puts first_puts a first last cs first_are last_are these n there =
     let k = last_puts a last cs last_are these n there in
     let j = first_puts a first (before_calls here last cs) first_are k.made.conditions n there in
@@ -256,7 +257,7 @@ module _ (p : Program) (here : Option RoutineId) (f : Option Annotation) (count 
       comes_not (for_made p here f count w u fresh turn cs) m r g (in_order (for_end p here f count w u fresh turn cs)) is k.grows
       (stopped_at [] ended_by (end_call_events here w.calls u.calls ended.conditions) g a a b (nothing_walked a) k.walk)
 
-  pub for_end_comes : (r : Listed) (v : Vec Condition Global) → IsValueOf a t.first w sort.Int → IsValueOf a t.last u sort.Int
+  pub for_end_comes : (r : Listed) (v : Pending) → IsValueOf a t.first w sort.Int → IsValueOf a t.last u sort.Int
       → Comes (Ok v) (ended_made p here f count.direction (number_head count.variable) w.term u.term fresh turn cs) (ended_events p here f count.direction (number_head count.variable) w.term u.term fresh turn cs) a b m
       → PutsBoth r here t v.items → EndsFor r p here f count w u fresh turn cs a b m
   for_end_comes r v first last k puts =

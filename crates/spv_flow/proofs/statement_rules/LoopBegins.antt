@@ -1,5 +1,5 @@
 -- What is made of a loop before its body is walked.
-use Rattle.std.proofs.Common.{◌≡◌, List, [], ◌∷◌, length, Result, Ok, Err, IfOk, IsErrAnd, Option, Some, Vec, Global, sym, ap, subst, ◌∙◌}
+use Rattle.std.proofs.Common.{◌≡◌, List, [], ◌∷◌, length, Result, Ok, Err, IfOk, IsErrAnd, Option, Some, sym, ap, subst, ◌∙◌}
 use Rattle.spv_logic.specs.declared.conditions.Kind.TheVariants as kind
 use Rattle.spv_logic.specs.declared.conditions.TermId.{TermId}
 use Rattle.spv_logic.specs.declared.conditions.RoutineId.{RoutineId}
@@ -17,6 +17,7 @@ use Rattle.spv_program.specs.Supplies.{Supply}
 use Rattle.spv_program.specs.ExpressionTypes.{expression_sort}
 use Rattle.spv_program.specs.ExpressionTerms.{Valued}
 use Rattle.spv_program.proofs.SortFacts.{some_is}
+use Rattle.spv_assign.specs.declared.pending.pending.Pending.{Pending}
 use Rattle.spv_assign.proofs.supply.FreshLemmas.{AreThere-Extends}
 use Rattle.spv_assign.specs.Conditions.{conditions_of, AreIn}
 use Rattle.spv_meaning.specs.Before.{before_calls, negated, annotation_term, wanted_if_there}
@@ -178,7 +179,7 @@ module _ (p : Program) (here : Option RoutineId) (f : Option Annotation) (te : L
           let k = turned (Err g) a2 comes in
           begins_not p here f w goal all n r g is (Extends-trans h.grows k.grows) (stopped_among (while_begin p here f te) last (calling ∷ []) g a0 a1 a2 h.walk k.walk)
 
-      module _ (a2 : Arena) (v : Vec Condition Global)
+      module _ (a2 : Arena) (v : Pending)
           (comes : ComesTo (Ok v) (ways_made (negated (tree a1 o.terms.test.term)) (tree a1 o.terms.test.term) (conditions_of a1 given) (conditions_of a1 rest)) (in_order (ways_events (tree a1 o.terms.test.term) (conditions_of a1 given) (conditions_of a1 rest))) a1 a2) where
         k : Comes (Ok v) (made_with uses n) (in_order last) a1 a2 n
         k = turned (Ok v) a2 comes
@@ -199,7 +200,7 @@ module _ (p : Program) (here : Option RoutineId) (f : Option Annotation) (te : L
             begins_not p here f w goal all n r g is (Extends-trans h.grows k.grows)
             (stopped_at (te ∷ one_if_there (annotation_term p here f) ∷ one (negated x) ∷ counted (length uses) ∷ []) calling [] g a0 a2 a2 walked j.walk)
 
-        pub repeat_begins : (made : Begun) (u : Vec Condition Global) → made.terms ≡ o.terms → made.behind.items ≡ u.items → PutsInFront (Ok u) here o.terms.test v.items
+        pub repeat_begins : (made : Begun) (u : Pending) → made.terms ≡ o.terms → made.behind.items ≡ u.items → PutsInFront (Ok u) here o.terms.test v.items
             → Begins (Ok made) p here f w (before_calls here w.calls (repeat_uses p here f w.term (conditions_of a0 rest))) (repeat_begin p here f te w (conditions_of a0 rest)) a0 a2 n
         repeat_begins made u terms_are items_are puts =
             let j = called (Ok u) puts in

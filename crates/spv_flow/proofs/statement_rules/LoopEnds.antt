@@ -1,5 +1,5 @@
 -- The conditions of a loop behind those before its body.
-use Rattle.std.proofs.Common.{◌≡◌, List, [], ◌∷◌, length, Ok, Err, IsErrAnd, Option, Vec, Global, sym, ap, subst, ◌∙◌}
+use Rattle.std.proofs.Common.{◌≡◌, List, [], ◌∷◌, length, Ok, Err, IsErrAnd, Option, sym, ap, subst, ◌∙◌}
 use Rattle.spv_logic.specs.declared.conditions.RoutineId.{RoutineId}
 use Rattle.spv_logic.specs.declared.operators.Head.{Head}
 use Rattle.spv_logic.specs.declared.types.Shape.{Shape}
@@ -11,6 +11,7 @@ use Rattle.spv_program.specs.Formulas.{Annotation}
 use Rattle.spv_program.specs.Programs.{Program}
 use Rattle.spv_program.specs.Supplies.{Supply}
 use Rattle.spv_program.specs.ExpressionTerms.{Valued}
+use Rattle.spv_assign.specs.declared.pending.pending.Pending.{Pending}
 use Rattle.spv_assign.specs.supply.Numbers.{AreThere}
 use Rattle.spv_assign.specs.Conditions.{conditions_of, AreIn}
 use Rattle.spv_meaning.specs.Before.{Renamed, negated, renamed}
@@ -66,7 +67,7 @@ module _ (p : Program) (here : Option RoutineId) (f : Option Annotation) (fresh 
       comes_not (loop_made p here f fresh behind) n r g (in_order (while_end p here f fresh w turn cs)) is k.grows
       (stopped_among [] first (loop_events p here f fresh behind ∷ []) g a0 a0 a1 (nothing_walked a0) k.walk)
 
-  module _ (v : Vec Condition Global) (n : Supply) (numbers : AreThere a0 n) (comes : ComesTo (Ok v) (tested_made here w turn cs) (in_order (tested_events here w turn cs)) a0 a1) where
+  module _ (v : Pending) (n : Supply) (numbers : AreThere a0 n) (comes : ComesTo (Ok v) (tested_made here w turn cs) (in_order (tested_events here w turn cs)) a0 a1) where
     k : Comes (Ok v) (made_with behind n) (in_order first) a0 a1 n
     k = counted_so (Ok v) n (comes n numbers)
 

@@ -1,5 +1,5 @@
 -- Conditions before a statement that goes one of two ways.
-use Rattle.std.proofs.Common.{◌≡◌, ◌<◌, ◌+◌, List, [], ◌∷◌, length, Ok, Err, IsErrAnd, Option, Vec, Global, refl, subst, ◌∙◌}
+use Rattle.std.proofs.Common.{◌≡◌, ◌<◌, ◌+◌, List, [], ◌∷◌, length, Ok, Err, IsErrAnd, Option, refl, subst, ◌∙◌}
 use Rattle.std.proofs.lemmas.List.{length-map, length-append}
 use Rattle.spv_logic.specs.declared.conditions.TermId.{TermId}
 use Rattle.spv_logic.specs.declared.conditions.RoutineId.{RoutineId}
@@ -11,6 +11,7 @@ use Rattle.spv_term.specs.Arena.{Arena, Extends, tree}
 use Rattle.spv_term.proofs.ArenaLemmas.{sort_at-Extends}
 use Rattle.spv_program.specs.Supplies.{Supply}
 use Rattle.spv_program.specs.ExpressionTerms.{Called, Valued}
+use Rattle.spv_assign.specs.declared.pending.pending.Pending.{Pending}
 use Rattle.spv_assign.specs.supply.Numbers.{AreThere}
 use Rattle.spv_assign.proofs.supply.FreshLemmas.{AreThere-Extends}
 use Rattle.spv_assign.specs.Conditions.{conditions_of, AreIn}
@@ -95,7 +96,7 @@ module _ (here : Option RoutineId) (t : code.Valued) (w : Valued) (s : Sort) (cs
       let k = at_term (Err g) h n there in
       comes_not (made_with (tested_made here w cs ds) n) n r g (in_order tested) err k.grows (stopped_among [] first (call_events here w.calls uses ∷ []) g a0 a0 a1 (nothing_walked a0) k.walk)
 
-  pub tested_comes : (r : Listed) (v : Vec Condition Global) → ComesTo (Ok v) (ways_made (tree a0 t.term) (negated (tree a0 t.term)) cs ds) (in_order (ways_events (tree a0 t.term) cs ds)) a0 a1
+  pub tested_comes : (r : Listed) (v : Pending) → ComesTo (Ok v) (ways_made (tree a0 t.term) (negated (tree a0 t.term)) cs ds) (in_order (ways_events (tree a0 t.term) cs ds)) a0 a1
       → PutsInFront r here t v.items → ComesTo r (tested_made here w cs ds) (in_order (tested_events here w cs ds)) a0 a1
   tested_comes r v h puts n there =
       let k = at_term (Ok v) h n there in

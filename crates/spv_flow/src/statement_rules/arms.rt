@@ -7,22 +7,21 @@ ghost use Rattle.spv_assign.specs.creation_trace.StatementEvents.{in_order};
 ghost use Rattle.spv_flow_parts.specs.Walks.{ComesTo};
 ghost use Rattle.spv_flow.specs.statement_rules.Rules.{arm_events, arm_made};
 
+use spv_assign::Pending;
 use spv_assign::creation_trace::GenFault;
 use spv_assign::limited_steps::{assumed, is_label, joined};
 use spv_logic::Sort;
-use spv_term::{Condition, TermId, Terms};
-use std::alloc::Global;
+use spv_term::{TermId, Terms};
 
 /// The conditions of the arms so far, and behind them those before one more arm, under the hypothesis that the value is
 /// one of its labels.
 pub fn with_arm(
-    alloc: Global,
     terms: &mut Terms,
     t: TermId,
     labels: &[i64],
-    so_far: Vec<Condition>,
-    first: Vec<Condition>,
-) -> Result<Vec<Condition>, GenFault>
+    so_far: Pending,
+    first: Pending,
+) -> Result<Pending, GenFault>
     requires t { t.0 < length terms.old.nodes }
     requires sort { sort_at terms.old t ≡ Sort.Int }
     requires so_far { AreIn terms.old so_far.items }
@@ -33,6 +32,6 @@ pub fn with_arm(
         terms.old terms.new }
 {
     let test = is_label(terms, t, labels)?;
-    let under = assumed(alloc, test, first)?;
+    let under = assumed(test, first)?;
     joined(so_far, under)
 }

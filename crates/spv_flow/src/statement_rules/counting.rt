@@ -18,6 +18,7 @@ ghost use Rattle.spv_flow_parts.specs.leaves.Values.{AreCalls};
 ghost use Rattle.spv_flow.specs.statement_rules.Events.{end_call_events};
 ghost use Rattle.spv_flow.specs.statement_rules.Rules.{BeginsFor, EndsBegin, EndsFor, IsCounted, IsValueOf, MayEndFor, for_begin, next_wanted};
 
+use spv_assign::Pending;
 use spv_assign::creation_trace::GenFault;
 use spv_assign::supply::Supply;
 use spv_flow_parts::Body;
@@ -25,7 +26,7 @@ use spv_flow_parts::for_loops::{counter, end_of_for, wanted_put};
 use spv_flow_parts::leaves::{Leaves, Valued, noted};
 use spv_logic::{Kind, Sort};
 use spv_program::typed::{Annotation, Counting, Program, Statement};
-use spv_term::{Condition, TermId, Terms};
+use spv_term::{TermId, Terms};
 
 /// The terms of a FOR.
 #[derive(Debug, Drop)]
@@ -46,7 +47,7 @@ pub struct BegunFor {
     /// Its terms.
     pub terms: ForTerms,
     /// The conditions behind its body.
-    pub behind: Vec<Condition>,
+    pub behind: Pending,
 }
 
 /// The terms of the two ends of a FOR.
@@ -132,8 +133,8 @@ fn behind_ends<L: Leaves>(
     program: &Program,
     body: &Body,
     t: &ForTerms,
-    rest: Vec<Condition>,
-) -> Result<Vec<Condition>, GenFault>
+    rest: Pending,
+) -> Result<Pending, GenFault>
     requires fits { L.fits leaves.old program.now body.now.here }
     ensures fits { L.fits leaves.new program.now body.now.here }
     ensures made { (a : Arena) (first last : List plain.Called) (cs : List logic.Condition) → AreCalls a t.now.first.calls first → AreCalls a t.now.last.calls last → AreThese a rest.items cs
@@ -155,18 +156,18 @@ pub fn end_for<L: Leaves>(
     f: &Option<Annotation>,
     count: &Counting,
     t: &ForTerms,
-    turn: &[Condition],
-    rest: &[Condition],
-) -> Result<Vec<Condition>, GenFault>
+    turn: &Pending,
+    rest: &Pending,
+) -> Result<Pending, GenFault>
     requires fits { L.fits leaves.old program.now body.now.here }
     requires stands { Stands program.now body.now terms.old }
     requires there { AreThere terms.old (supply_of supply.old) }
     requires known { MayEndFor terms.old program.now body.now.here t.now (option_map annotation_of f.now) (counting_of count.now) }
-    requires turn { AreIn terms.old turn.now }
-    requires rest { AreIn terms.old rest.now }
+    requires turn { AreIn terms.old turn.now.items }
+    requires rest { AreIn terms.old rest.now.items }
     ensures fits { L.fits leaves.new program.now body.now.here }
     ensures made { (w u : plain.Valued) → IsValueOf terms.old t.now.first w Sort.Int → IsValueOf terms.old t.now.last u Sort.Int → EndsFor result program.now body.now.here
-        (option_map annotation_of f.now) (counting_of count.now) w u (loop_names program.now body.now.here whole.now (supply_of supply.old)) (conditions_of terms.old turn.now) (conditions_of terms.old rest.now)
+        (option_map annotation_of f.now) (counting_of count.now) w u (loop_names program.now body.now.here whole.now (supply_of supply.old)) (conditions_of terms.old turn.now.items) (conditions_of terms.old rest.now.items)
         terms.old terms.new (supply_of supply.new) }
 {
     let heads = leaves.changed(program, body, whole)?;

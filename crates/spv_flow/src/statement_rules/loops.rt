@@ -15,13 +15,14 @@ ghost use Rattle.spv_flow_parts.specs.Walks.{Comes, IsNoted, loop_made};
 ghost use Rattle.spv_flow.specs.statement_rules.Rules.{Begins, HasValue, IsTested, IsValueOf, repeat_begin, repeat_uses, tested_made, while_begin, while_end};
 
 use crate::statement_rules::ways::{tested_ways, turned_ways};
+use spv_assign::Pending;
 use spv_assign::creation_trace::GenFault;
 use spv_assign::supply::Supply;
 use spv_flow_parts::leaves::{Leaves, Valued, noted};
 use spv_flow_parts::{Body, end_of_loop, wanted_note};
 use spv_logic::{Kind, Sort};
 use spv_program::typed::{Annotation, Expression, Program, Statement};
-use spv_term::{Condition, TermId, Terms};
+use spv_term::{TermId, Terms};
 
 /// The terms of a loop with a test.
 #[derive(Debug, Drop)]
@@ -38,7 +39,7 @@ pub struct Begun {
     /// Its terms.
     pub terms: LoopTerms,
     /// The conditions behind its body.
-    pub behind: Vec<Condition>,
+    pub behind: Pending,
 }
 
 /// What is made of a WHILE before its body is walked: the terms of its test and of its annotation, which is wanted behind
@@ -80,24 +81,24 @@ pub fn begin_repeat<L: Leaves>(
     supply: &mut Supply,
     f: &Option<Annotation>,
     e: &Expression,
-    rest: &[Condition],
+    rest: Pending,
 ) -> Result<Begun, GenFault>
     requires fits { L.fits leaves.old program.now body.now.here }
     requires stands { Stands program.now body.now terms.old }
     requires tested { IsTested (L.takes program.now body.now.here) program.now body.now.here e.now (option_map annotation_of f.now) }
     requires there { AreThere terms.old (supply_of supply.old) }
-    requires rest { AreIn terms.old rest.now }
+    requires rest { AreIn terms.old rest.items }
     ensures fits { L.fits leaves.new program.now body.now.here }
     ensures begun { let w : plain.Valued = valued program.now (routine_in program.now body.now.here) (supply_of supply.old) e.now in
         Begins result program.now body.now.here (option_map annotation_of f.now) w
-        (before_calls body.now.here w.calls (repeat_uses program.now body.now.here (option_map annotation_of f.now) w.term (conditions_of terms.old rest.now)))
-        (repeat_begin program.now body.now.here (option_map annotation_of f.now) ((L.making program.now body.now.here).test e.now (supply_of supply.old)) w (conditions_of terms.old rest.now)) terms.old terms.new (supply_of supply.new) }
+        (before_calls body.now.here w.calls (repeat_uses program.now body.now.here (option_map annotation_of f.now) w.term (conditions_of terms.old rest.items)))
+        (repeat_begin program.now body.now.here (option_map annotation_of f.now) ((L.making program.now body.now.here).test e.now (supply_of supply.old)) w (conditions_of terms.old rest.items)) terms.old terms.new (supply_of supply.new) }
 {
     let Begun {
         terms: known,
         behind: again,
     } = begin_while(leaves, program, body, terms, supply, f, e)?;
-    let uses = turned_ways(body.alloc, terms, known.test.term, again.as_slice(), rest)?;
+    let uses = turned_ways(terms, known.test.term, again, rest)?;
     let behind = leaves.before_test(program, body, &known.test, uses)?;
     Ok(Begun {
         terms: known,
@@ -116,17 +117,17 @@ pub fn end_repeat<L: Leaves>(
     whole: &Statement,
     f: &Option<Annotation>,
     note: Option<TermId>,
-    uses: &[Condition],
-) -> Result<Vec<Condition>, GenFault>
+    uses: Pending,
+) -> Result<Pending, GenFault>
     requires fits { L.fits leaves.old program.now body.now.here }
     requires stands { Stands program.now body.now terms.old }
     requires there { AreThere terms.old (supply_of supply.old) }
     requires note { IsNoted terms.old program.now body.now.here note (option_map annotation_of f.now) }
-    requires uses { AreIn terms.old uses.now }
+    requires uses { AreIn terms.old uses.items }
     ensures fits { L.fits leaves.new program.now body.now.here }
     ensures made { Comes result
-        (loop_made program.now body.now.here (option_map annotation_of f.now) (loop_names program.now body.now.here whole.now (supply_of supply.old)) (conditions_of terms.old uses.now))
-        (loop_events program.now body.now.here (option_map annotation_of f.now) (loop_names program.now body.now.here whole.now (supply_of supply.old)) (conditions_of terms.old uses.now))
+        (loop_made program.now body.now.here (option_map annotation_of f.now) (loop_names program.now body.now.here whole.now (supply_of supply.old)) (conditions_of terms.old uses.items))
+        (loop_events program.now body.now.here (option_map annotation_of f.now) (loop_names program.now body.now.here whole.now (supply_of supply.old)) (conditions_of terms.old uses.items))
         terms.old terms.new (supply_of supply.new) }
 {
     let heads = leaves.changed(program, body, whole)?;
@@ -153,34 +154,24 @@ pub fn end_while<L: Leaves>(
     whole: &Statement,
     f: &Option<Annotation>,
     t: &LoopTerms,
-    turn: &[Condition],
-    rest: &[Condition],
-) -> Result<Vec<Condition>, GenFault>
+    turn: Pending,
+    rest: Pending,
+) -> Result<Pending, GenFault>
     requires fits { L.fits leaves.old program.now body.now.here }
     requires stands { Stands program.now body.now terms.old }
     requires there { AreThere terms.old (supply_of supply.old) }
     requires tested { HasValue terms.old t.now.test Sort.Bool }
     requires note { IsNoted terms.old program.now body.now.here t.now.note (option_map annotation_of f.now) }
-    requires turn { AreIn terms.old turn.now }
-    requires rest { AreIn terms.old rest.now }
+    requires turn { AreIn terms.old turn.items }
+    requires rest { AreIn terms.old rest.items }
     ensures fits { L.fits leaves.new program.now body.now.here }
     ensures made { (w : plain.Valued) → IsValueOf terms.old t.now.test w Sort.Bool → Comes result
         (loop_made program.now body.now.here (option_map annotation_of f.now) (loop_names program.now body.now.here whole.now (supply_of supply.old))
-        (tested_made body.now.here w (conditions_of terms.old turn.now) (conditions_of terms.old rest.now)))
+        (tested_made body.now.here w (conditions_of terms.old turn.items) (conditions_of terms.old rest.items)))
         (in_order (while_end program.now body.now.here (option_map annotation_of f.now) (loop_names program.now body.now.here whole.now (supply_of supply.old)) w
-        (conditions_of terms.old turn.now) (conditions_of terms.old rest.now)))
+        (conditions_of terms.old turn.items) (conditions_of terms.old rest.items)))
         terms.old terms.new (supply_of supply.new) }
 {
     let uses = tested_ways(leaves, program, body, terms, &t.test, turn, rest)?;
-    end_repeat(
-        leaves,
-        program,
-        body,
-        terms,
-        supply,
-        whole,
-        f,
-        t.note,
-        uses.as_slice(),
-    )
+    end_repeat(leaves, program, body, terms, supply, whole, f, t.note, uses)
 }

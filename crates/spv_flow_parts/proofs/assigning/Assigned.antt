@@ -28,6 +28,7 @@ use Rattle.spv_program.specs.Places.{present, whole_with}
 use Rattle.spv_program.specs.Statements.{Assign}
 use Rattle.spv_program.specs.Supplies.{Supply}
 use Rattle.spv_program.proofs.ExpressionSorting.{place_sorted}
+use Rattle.spv_assign.specs.declared.pending.pending.Pending.{Pending}
 use Rattle.spv_assign.specs.supply.Numbers.{AreThere}
 use Rattle.spv_assign.specs.Conditions.{AreIn, conditions_of}
 use Rattle.spv_assign.proofs.Growing.{conditions_of-Extends}
@@ -126,7 +127,7 @@ module _ (p : Program) (here : Option RoutineId) (d : Designator) (e : Expressio
         pub put_stops : (o : Listed) (f : GenFault) → IsErrAnd o (λ g. g ≡ f) → x ≡ Err f → Comes o so all a k m
         put_stops o f is failed = exit o f so m (e1 ∷ e2 ∷ []) e3 (e4 ∷ e5 ∷ []) is w2 put.grows (subst (λ (y : Listed). Answers y e3 c k) failed put.walk)
 
-        module _ (cv : Vec Condition Global) (is_ok : x ≡ Ok cv) where
+        module _ (cv : Pending) (is_ok : x ≡ Ok cv) where
           put_made : IsMade k m cv.items (record { conditions = changed; supply = m })
           put_made = subst (λ (y : Listed). IfOk y (λ l. IsMade k m l.items (record { conditions = changed; supply = m }))) is_ok put.made
 
@@ -140,7 +141,7 @@ module _ (p : Program) (here : Option RoutineId) (d : Designator) (e : Expressio
             pub front_stops : (o : Listed) (f : GenFault) → IsErrAnd o (λ g. g ≡ f) → z ≡ Err f → Comes o so all a k m
             front_stops o f is failed = exit o f so m (e1 ∷ e2 ∷ e3 ∷ []) e4 (e5 ∷ []) is w3 fronted.grows (subst (λ (y : Listed). Answers y e4 k k) failed fronted.walk)
 
-            pub assigned : (cw : Vec Condition Global) → z ≡ Ok cw → (o : Listed)
+            pub assigned : (cw : Pending) → z ≡ Ok cw → (o : Listed)
                 → (Extends b k → AreThese k cw.items (before_calls here v.calls changed) → ComesTo o (before_calls here to.calls (before_calls here v.calls changed)) e5 k k)
                 → Comes o so all a k m
             assigned cw is o last =

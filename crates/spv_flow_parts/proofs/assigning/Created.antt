@@ -15,6 +15,7 @@ use Rattle.spv_program.specs.Places as place
 use Rattle.spv_program.specs.Places.{whole_with}
 use Rattle.spv_program.specs.Terms.{alone, binary, ternary}
 use Rattle.spv_program.specs.Supplies.{Supply, full_supply}
+use Rattle.spv_assign.specs.declared.pending.pending.Pending.{Pending}
 use Rattle.spv_assign.specs.supply.Numbers.{AreThere}
 use Rattle.spv_assign.proofs.supply.FreshLemmas.{AreThere-Extends}
 use Rattle.spv_assign.specs.Conditions.{Assumes, conditions_of}
@@ -40,10 +41,10 @@ nothing_taken a = record { names = λ x k low high. absurd (none k low high); cl
     none k low high = omega (arith, low, high)
 
 -- the conditions that come, whatever was taken
-pub comes_these : (v : Vec Condition Global) (cs : List logic.Condition) (events : List Event) (a b : Arena) → ComesTo (Ok v) cs events a b → AreThese b v.items cs
+pub comes_these : (v : Pending) (cs : List logic.Condition) (events : List Event) (a b : Arena) → ComesTo (Ok v) cs events a b → AreThese b v.items cs
 comes_these v cs events a b comes = (comes full_supply (nothing_taken a)).made.conditions
 
-pub comes_grows : (v : Vec Condition Global) (cs : List logic.Condition) (events : List Event) (a b : Arena) → ComesTo (Ok v) cs events a b → Extends a b
+pub comes_grows : (v : Pending) (cs : List logic.Condition) (events : List Event) (a b : Arena) → ComesTo (Ok v) cs events a b → Extends a b
 comes_grows v cs events a b comes = (comes full_supply (nothing_taken a)).grows
 
 module _ (t : TypeId) (d : Target) (pointer content : TermId) (a : Arena) (p_there : pointer.0 < length a.nodes) (c_there : content.0 < length a.nodes) (rest : List Condition) where
@@ -92,7 +93,7 @@ module _ (t : TypeId) (d : Target) (pointer content : TermId) (a : Arena) (p_the
   pub placed_stops : (o : Listed) (e : GenFault) (b : Arena) → IsErrAnd o (λ f. f ≡ e) → ComesTo (Err e) placed e1 a b → ComesTo o created all a b
   placed_stops o e b is comes n numbers = exit o e (so n) n [] e1 (e2 ∷ e3 ∷ []) is (nothing_walked a) (comes n numbers).grows (comes n numbers).walk
 
-  module _ (b : Arena) (v : Vec Condition Global) (first : ComesTo (Ok v) placed e1 a b) where
+  module _ (b : Arena) (v : Pending) (first : ComesTo (Ok v) placed e1 a b) where
     pub placed_these : AreThese b v.items placed
     placed_these = comes_these v placed e1 a b first
 
@@ -116,7 +117,7 @@ module _ (t : TypeId) (d : Target) (pointer content : TermId) (a : Arena) (p_the
         let second = cell_is (λ ps l. Comes (Err e) (record { conditions = replaced ps l; supply = n }) (replacing_events ps l) b c n) (comes n (AreThere-Extends a b n one_come.grows numbers)) in
         exit o e (so n) n (e1 ∷ []) e2 (e3 ∷ []) is w1 second.grows second.walk
 
-    module _ (c : Arena) (w : Vec Condition Global) (second : ComesTo (Ok w) (replaced cell_then (conditions_of b v.items)) (replacing_events cell_then (conditions_of b v.items)) b c) where
+    module _ (c : Arena) (w : Pending) (second : ComesTo (Ok w) (replaced cell_then (conditions_of b v.items)) (replacing_events cell_then (conditions_of b v.items)) b c) where
       two_come : Comes (Ok w) (record { conditions = extended; supply = full_supply }) e2 b c full_supply
       two_come = cell_is (λ ps l. Comes (Ok w) (record { conditions = replaced ps l; supply = full_supply }) (replacing_events ps l) b c full_supply) (second full_supply (nothing_taken b))
 
@@ -151,7 +152,7 @@ module _ (t : TypeId) (d : Target) (pointer content : TermId) (a : Arena) (p_the
           pub created_never : (o : Listed) (e : GenFault) → IsErrAnd o (λ f. f ≡ e) → e ≡ fault.Memory → ComesTo o created all a m
           created_never o e is memory n numbers = comes_never (so n) n o e all is memory all_walked.grows
 
-          pub created_comes : (u : Vec Condition Global) → Assumes x w.items u.items → (o : Listed) → IfOk o (λ l. Assumes y u.items l.items) → IfErr o (λ e. e ≡ fault.Memory) → ComesTo o created all a m
+          pub created_comes : (u : Pending) → Assumes x w.items u.items → (o : Listed) → IfOk o (λ l. Assumes y u.items l.items) → IfErr o (λ e. e ≡ fault.Memory) → ComesTo o created all a m
           created_comes u under (Ok l) assumes err n numbers = record {
             grows = all_walked.grows;
             walk = all_walked;

@@ -28,6 +28,7 @@ use Rattle.spv_program.specs.Terms.{alone}
 use Rattle.spv_program.specs.Typing.{declarations_ok, is_type, leads_to}
 use Rattle.spv_program.proofs.ExpressionSorting.{same_types, target_there}
 use Rattle.spv_expression_terms.proofs.makeable_terms.Ranges.{form_is_right, shape_there, sort_there, target_exists}
+use Rattle.spv_assign.specs.declared.pending.pending.Pending.{Pending}
 use Rattle.spv_assign.specs.supply.Numbers.{AreThere}
 use Rattle.spv_assign.specs.Conditions.{AreIn, conditions_of}
 use Rattle.spv_assign.proofs.Growing.{conditions_of-Extends}
@@ -145,7 +146,7 @@ module _ (p : Program) (here : Option RoutineId) (line : ℕ) (d : Designator) (
           pub creation_stops : (o : Listed) (f : GenFault) → IsErrAnd o (λ g. g ≡ f) → z ≡ Err f → Comes o so all a j m
           creation_stops o f is failed = exit o f so m (e1 ∷ e2 ∷ []) e3 (e4 ∷ []) is w2 come.grows (subst (λ (y : Listed). Answers y e3 k j) failed come.walk)
 
-          pub renewed : (v : Vec Condition Global) → z ≡ Ok v → (o : Listed) → (Extends b j → AreThese j v.items created → ComesTo o (before_calls here to.calls created) e4 j j) → Comes o so all a j m
+          pub renewed : (v : Pending) → z ≡ Ok v → (o : Listed) → (Extends b j → AreThese j v.items created → ComesTo o (before_calls here to.calls created) e4 j j) → Comes o so all a j m
           renewed v is o front =
               let made = subst (λ (y : Listed). IfOk y (λ l. IsMade j m l.items (record { conditions = created; supply = m }))) is come.made in
               comes_last o so m (e1 ∷ e2 ∷ e3 ∷ []) e4 (went (e1 ∷ e2 ∷ []) e3 w2 (subst (λ (y : Listed). Answers y e3 k j) is come.walk))

@@ -18,6 +18,7 @@ use Rattle.spv_program.specs.Programs.{Routine, Program}
 use Rattle.spv_program.specs.Calls as argument
 use Rattle.spv_program.specs.Calls.{entry_at_call, exit_at_call, replacing}
 use Rattle.spv_program.specs.Supplies.{Supply}
+use Rattle.spv_assign.specs.declared.pending.pending.Pending.{Pending}
 use Rattle.spv_assign.proofs.supply.FreshLemmas.{AreThere-Extends}
 use Rattle.spv_assign.specs.Conditions.{AreIn, all_terms_in, conditions_of, pairs_of}
 use Rattle.spv_assign.proofs.Growing.{conditions_of-Extends}
@@ -82,7 +83,7 @@ these_there a (c ∷ items) h =
     (given_there a c.given (tree a c.goal ∷ all_terms_in (conditions_of a items)) h.0.given (record { id = c.goal; there = h.0.goal; is_tree = refl }, these_there a items h.1))
 
 -- where nothing is changed, what is wanted stays
-pub none_comes : (v : Vec Condition Global) (a : Arena) (after : List (TermId × TermId)) (rest : List Condition) → v.items ≡ rest → after ≡ [] → AreIn a rest
+pub none_comes : (v : Pending) (a : Arena) (after : List (TermId × TermId)) (rest : List Condition) → v.items ≡ rest → after ≡ [] → AreIn a rest
     → ComesTo (Ok v) (replaced (pairs_of a after) (conditions_of a rest)) (several (all_terms_in (replaced (pairs_of a after) (conditions_of a rest)))) a a
 none_comes v a after rest is none within n there =
     subst (λ (cs : List logic.Condition). Comes (Ok v) (record { conditions = cs; supply = n }) (several (all_terms_in cs)) a a n) (sym same) (record {
@@ -151,7 +152,7 @@ module _ (p : Program) (here : Option RoutineId) (line : ℕ) (r : Routine) (xs 
         pub replaced_stops : (o : Listed) (e : GenFault) → IsErrAnd o (λ f. f ≡ e) → x ≡ Err e → Comes o goal all_events a d m
         replaced_stops o e is failed = exit o e goal m (e1 ∷ e2 ∷ []) e3 (e4 ∷ []) is w2 comes_so.grows (subst (λ (y : Listed). Answers y e3 c d) failed comes_so.walk)
 
-        pub entered : (v : Vec Condition Global) → x ≡ Ok v → (o : Listed) → (Extends c d → AreThese d v.items (replaced w.after cs) → ComesTo o (before_calls here (called_with p r line xs w.in_exit ∷ []) (replaced w.after cs)) (call_events here (called_with p r line xs w.in_exit ∷ []) (replaced w.after cs)) d d)
+        pub entered : (v : Pending) → x ≡ Ok v → (o : Listed) → (Extends c d → AreThese d v.items (replaced w.after cs) → ComesTo o (before_calls here (called_with p r line xs w.in_exit ∷ []) (replaced w.after cs)) (call_events here (called_with p r line xs w.in_exit ∷ []) (replaced w.after cs)) d d)
             → Comes o goal all_events a d m
         entered v is o front =
             let made = ok_made is comes_so.made in

@@ -25,6 +25,7 @@ use Rattle.spv_program.specs.Supplies.{Supply}
 use Rattle.spv_program.specs.Typing.{is_procedure}
 use Rattle.spv_program.proofs.SortFacts.{is_sort-true}
 use Rattle.spv_program.proofs.ExpressionSorting.{place_sorted, value_sorted}
+use Rattle.spv_assign.specs.declared.pending.pending.Pending.{Pending}
 use Rattle.spv_assign.specs.Conditions.{AreIn, conditions_of}
 use Rattle.spv_assign.proofs.Growing.{conditions_of-Extends}
 use Rattle.spv_meaning.specs.Before.{Made, before_call, before_calls, before_entering}
@@ -148,7 +149,7 @@ module _ (p : Program) (here : Option RoutineId) (n : Supply) (a : Arena) (rest 
         let stops = same_entering c r is xs_are m_is (λ x y. Comes (Err e) x y b d k) h in
         exit o e (so c) k (made_events c ∷ []) (entering_events p here line (routine_at p i) (given_in c) cs) (_ ∷ []) told (went [] (made_events c) (nothing_walked a) walked) stops.grows stops.walk
 
-    pub performed : (c : Call) (r : Routine) → Walked (made_events c) a b → routine_at p (called_routine c) ≡ Some r → xs ≡ (given_in c).arguments → m ≡ (given_in c).supply → (o : Listed) (v : Vec Condition Global) (d : Arena) (k : Supply)
+    pub performed : (c : Call) (r : Routine) → Walked (made_events c) a b → routine_at p (called_routine c) ≡ Some r → xs ≡ (given_in c).arguments → m ≡ (given_in c).supply → (o : Listed) (v : Pending) (d : Arena) (k : Supply)
         → Comes (Ok v) (before_entering p here (call_line c) (Some r) (argued_at xs m) (conditions_of b rest)) (entering_events p here (call_line c) (Some r) (argued_at xs m) (conditions_of b rest)) b d k
         → ((ds : List logic.Condition) → Extends b d → AreThese d v.items ds → ComesTo o (before_calls here (given_in c).calls ds) (call_events here (given_in c).calls ds) d d)
         → Comes o (so c) (all c) a d k

@@ -21,6 +21,7 @@ use Rattle.spv_program.specs.Programs.{Program}
 use Rattle.spv_program.specs.Supplies.{Supply, Fresh, fresh_like}
 use Rattle.spv_program.specs.Calls.{replacing}
 use Rattle.spv_program.specs.Terms.{alone}
+use Rattle.spv_assign.specs.declared.pending.pending.Pending.{Pending}
 use Rattle.spv_assign.specs.supply.Numbers.{Taken, AreThere, supply_of}
 use Rattle.spv_assign.specs.Conditions.{conditions_of, pairs_of, AreIn, all_terms_in}
 use Rattle.spv_assign.proofs.Growing.{AreIn-Extends, conditions_of-Extends}
@@ -110,7 +111,7 @@ module _ (x : Symbol) (n0 : Supply) (pairs : List (TermId × TermId)) (rest : Li
         → Comes r goal (left_events ps last h cs) a0 a2 n
     behind_stops r g n a2 is c = let k = behind_at (Err g) a2 c in exit r g goal n (l1 ∷ []) l2 (l3 ∷ []) is w1 k.grows k.walk
 
-    module _ (a2 : Arena) (behind : Vec Condition Global)
+    module _ (a2 : Arena) (behind : Pending)
         (c : ComesTo (Ok behind) (replaced (pairs_of a1 (p ∷ [])) (conditions_of a1 rest)) (several (all_terms_in (replaced (pairs_of a1 (p ∷ [])) (conditions_of a1 rest)))) a1 a2) where
       k2 : Comes (Ok behind) (made_with (replaced one_pair cs) (supply_of taken)) l2 a1 a2 (supply_of taken)
       k2 = behind_at (Ok behind) a2 c
@@ -212,7 +213,7 @@ module _ (p : Program) (here : Option RoutineId) (f : Option Annotation) (note :
       → Comes r ended all_events a0 a1 n
   begun_stops r g n a1 is c = let k = begun_at (Err g) a1 c in exit r g ended n [] e1 (e2 ∷ e3 ∷ (e4 ++ e5)) is (nothing_walked a0) k.grows k.walk
 
-  module _ (a1 : Arena) (begun : Vec Condition Global)
+  module _ (a1 : Arena) (begun : Pending)
       (c1 : ComesTo (Ok begun) (wanted_with p here kind.Invariant (head_at a0 variable) (tree a0 first) f) (several (all_terms_in (wanted_with p here kind.Invariant (head_at a0 variable) (tree a0 first) f))) a0 a1) where
     k1 : Comes (Ok begun) (made_with begun_cs n0) e1 a0 a1 n0
     k1 = begun_at (Ok begun) a1 c1
@@ -256,7 +257,7 @@ module _ (p : Program) (here : Option RoutineId) (f : Option Annotation) (note :
           → ComesTo (Err g) (replaced (pairs_of a2 given) (conditions_of a2 turn)) (several (all_terms_in (replaced (pairs_of a2 given) (conditions_of a2 turn)))) a2 a3 → Comes r ended all_events a0 a3 n
       inside_stops r g n a3 is c = let k = inside_at (Err g) a3 c in exit r g ended n (e1 ∷ e2 ∷ []) e3 (e4 ++ e5) is walk2 k.grows k.walk
 
-      module _ (a3 : Arena) (inside : Vec Condition Global)
+      module _ (a3 : Arena) (inside : Pending)
           (c3 : ComesTo (Ok inside) (replaced (pairs_of a2 given) (conditions_of a2 turn)) (several (all_terms_in (replaced (pairs_of a2 given) (conditions_of a2 turn)))) a2 a3) where
         k3 : Comes (Ok inside) (made_with inside_cs n2) e3 a2 a3 n2
         k3 = inside_at (Ok inside) a3 c3
@@ -296,7 +297,7 @@ module _ (p : Program) (here : Option RoutineId) (f : Option Annotation) (note :
             let k = outside_at (Err g) a4 n4 c in
             comes_not ended n r g all_events is (Extends-trans more3 k.grows) (stopped_among (e1 ∷ e2 ∷ e3 ∷ []) e4 e5 g a0 a3 a4 walk3 k.walk)
 
-        module _ (a4 : Arena) (n4 : Supply) (outside : Vec Condition Global)
+        module _ (a4 : Arena) (n4 : Supply) (outside : Pending)
             (c4 : Comes (Ok outside) (left_made (pairs_of a3 given) (fresh_like counted_head n2) counted_head (conditions_of a3 rest)) (left_events (pairs_of a3 given) (fresh_like counted_head n2) counted_head (conditions_of a3 rest)) a3 a4 n4) where
           k4 : Comes (Ok outside) (made_with outside_cs last_one.supply) (in_order e4) a3 a4 n4
           k4 = outside_at (Ok outside) a4 n4 c4

@@ -11,6 +11,7 @@ use Rattle.spv_term.specs.Arena.{AllBelow, Arena, Extends}
 use Rattle.spv_term.proofs.ArenaLemmas.{Extends-refl, length-Extends}
 use Rattle.spv_program.specs.Supplies.{Supply, full_supply}
 use Rattle.spv_program.specs.ExpressionTerms.{Called}
+use Rattle.spv_assign.specs.declared.pending.pending.Pending.{Pending}
 use Rattle.spv_assign.specs.supply.Numbers.{AreThere}
 use Rattle.spv_assign.specs.Conditions.{Assumes}
 use Rattle.spv_meaning.specs.Before.{assuming, assuming_if_there, before_calls, wanted, wanted_entry}
@@ -124,7 +125,7 @@ module _ (here : Option RoutineId) (done : List code.Called) (rest items : List 
         → Comes r (record { conditions = before_calls here (d ∷ ds) cs; supply = n }) (counted (length (wanted_entry here d.line d.needs) + length (before_calls here ds cs))) a a n
     one_more a n there d ds cs is h these = comes a d (before_calls here ds cs) is (so_far.each a ds cs h these).these n there
 
-  pub calls_go_on : (v : Vec Condition Global) (next : List code.Called) → next ≡ c ∷ done
+  pub calls_go_on : (v : Pending) (next : List code.Called) → next ≡ c ∷ done
       → ((a : Arena) (d : Called) (cs : List logic.Condition) → IsCall a c d → AreThese a items cs → ComesTo (Ok v) (before_one here d cs) (counted (length (wanted_entry here d.line d.needs) + length cs)) a a)
       → CallsSoFar here next rest v.items
   calls_go_on v next e comes = subst (λ (l : List code.Called). CallsSoFar here l rest v.items) (sym e) (record { each = by })
@@ -154,7 +155,7 @@ module _ (here : Option RoutineId) (done : List code.Called) (rest items : List 
           stopped_behind g (call_events here es cs) (counted (length (wanted_entry here d.line d.needs) + length (before_calls here es cs))) a a a (so_far.each a es cs k.1 these).walked
           (one_more (Err g) comes a n there d es cs k.0 k.1 these).walk
 
-pub calls_come : (here : Option RoutineId) (done all : List code.Called) (rest items : List Condition) (v : Vec Condition Global) → done ≡ all → v.items ≡ items → CallsSoFar here done rest items
+pub calls_come : (here : Option RoutineId) (done all : List code.Called) (rest items : List Condition) (v : Pending) → done ≡ all → v.items ≡ items → CallsSoFar here done rest items
     → (a : Arena) (ds : List Called) (cs : List logic.Condition) → AreCalls a all ds → AreThese a rest cs → ComesTo (Ok v) (before_calls here ds cs) (call_events here ds cs) a a
 calls_come here done all rest items v is same so_far a ds cs h these n there =
     let k = so_far.each a ds cs (subst (λ (l : List code.Called). AreCalls a l ds) (sym is) h) these in

@@ -32,6 +32,7 @@ use crate::calls::at_call::{called, item_head};
 use crate::calls::passed::{Argued, Argument};
 use crate::calls::values::arguments;
 use crate::leaves::in_front;
+use spv_assign::Pending;
 use spv_assign::creation_trace::GenFault;
 use spv_assign::limited_steps::{fresh_pair, limited, replaced};
 use spv_assign::structures::{Target, whole_with};
@@ -40,7 +41,7 @@ use spv_effects::mod_sets::sort_of;
 use spv_logic::{Head, RoutineId, Sort};
 use spv_program::ordered_map::Named;
 use spv_program::typed::{Call, Formal, GlobalItem, Program};
-use spv_term::{Condition, TermId, Terms};
+use spv_term::{TermId, Terms};
 use std::alloc::{AllocError, Global};
 
 // Fresh variables for what a call changes: in EXIT, and in what is wanted after the call.
@@ -235,8 +236,8 @@ fn with_changes(
     terms: &mut Terms,
     alloc: Global,
     after: &[(TermId, TermId)],
-    rest: Vec<Condition>,
-) -> Result<Vec<Condition>, GenFault>
+    rest: Pending,
+) -> Result<Pending, GenFault>
     requires rest { AreIn terms.old rest.items }
     requires after { ArePairs terms.old after.now }
     ensures { ComesTo result (meaning.replaced (pairs_of terms.old after.now) (conditions_of terms.old rest.items))
@@ -245,7 +246,7 @@ fn with_changes(
     if after.is_empty() {
         return Ok(rest);
     }
-    replaced(terms, alloc, after, rest)
+    replaced(terms, alloc, after, &rest)
 }
 
 /// The conditions before a call whose arguments were made.
@@ -256,8 +257,8 @@ pub fn before_entered(
     supply: &mut Supply,
     call: &Call,
     argued: &Argued,
-    rest: Vec<Condition>,
-) -> Result<Vec<Condition>, GenFault>
+    rest: Pending,
+) -> Result<Pending, GenFault>
     ghost at: { Calling }
     requires at { IsAtCall program.now terms.old (called_routine call.now) at.routine at.arguments }
     requires given { AreArguments terms.old argued.now.arguments at.arguments }
@@ -288,8 +289,8 @@ pub fn before_call(
     terms: &mut Terms,
     supply: &mut Supply,
     call: &Call,
-    rest: Vec<Condition>,
-) -> Result<Vec<Condition>, GenFault>
+    rest: Pending,
+) -> Result<Pending, GenFault>
     requires may { MayMake program.now body.now terms.old (supply_of supply.old) }
     requires typed { IsTrue (statement_ok program.now (routine_in program.now body.now.here) (Perform call.now)) }
     requires rest { AreIn terms.old rest.items }

@@ -20,42 +20,37 @@ ghost use Rattle.spv_flow_parts.specs.for_loops.Counting as rule;
 
 use crate::for_loops::terms::{EndTerms, ends, put_if_there};
 use crate::known;
+use spv_assign::Pending;
 use spv_assign::creation_trace::GenFault;
 use spv_assign::limited_steps::joined;
 use spv_program::Direction;
-use spv_term::{Condition, TermId, Terms};
+use spv_term::{TermId, Terms};
 use std::alloc::Global;
 
 // Conditions under a test, and under what is known.
-fn side(
-    alloc: Global,
-    h: Option<TermId>,
-    test: TermId,
-    conditions: &[Condition],
-) -> Result<Vec<Condition>, GenFault>
-    ensures conditions { (a : Arena) (x : Option Term) (y : Term) (cs : List logic.Condition) → IsThere a h → option_map (tree a) h ≡ x → IsTerm a test y → AreThese a conditions.now cs
+fn side(h: Option<TermId>, test: TermId, conditions: Pending) -> Result<Pending, GenFault>
+    ensures conditions { (a : Arena) (x : Option Term) (y : Term) (cs : List logic.Condition) → IsThere a h → option_map (tree a) h ≡ x → IsTerm a test y → AreThese a conditions.items cs
         → IfOk result (λ all. AreThese a all.items (rule.side x y cs)) }
     ensures err { IfErr result (λ e. e ≡ Memory) }
 {
-    let under = known(alloc, Some(test), conditions)?;
-    known(alloc, h, under.as_slice())
+    let under = known(Some(test), conditions)?;
+    known(h, under)
 }
 
 // The conditions of the beginning, of the turns and of what is behind, one behind the other.
 fn joined_sides(
-    alloc: Global,
     h: Option<TermId>,
     e: EndTerms,
-    begun: Vec<Condition>,
-    inside: &[Condition],
-    outside: &[Condition],
-) -> Result<Vec<Condition>, GenFault>
+    begun: Pending,
+    inside: Pending,
+    outside: Pending,
+) -> Result<Pending, GenFault>
     ensures { (a : Arena) (x : Option Term) (y z : Term) (bs cs ds : List logic.Condition) → IsThere a h → option_map (tree a) h ≡ x → IsTerm a e.within y → IsTerm a e.past z
-        → AreThese a begun.items bs → AreThese a inside.now cs → AreThese a outside.now ds
+        → AreThese a begun.items bs → AreThese a inside.items cs → AreThese a outside.items ds
         → ComesTo result (bs ++ (rule.side x y cs ++ rule.side x z ds)) (counted (length bs + (length cs + length ds))) a a }
 {
-    let first = side(alloc, h, e.within, inside)?;
-    let second = side(alloc, h, e.past, outside)?;
+    let first = side(h, e.within, inside)?;
+    let second = side(h, e.past, outside)?;
     let both = joined(first, second)?;
     joined(begun, both)
 }
@@ -69,10 +64,10 @@ pub(crate) fn close(
     direction: Direction,
     variable: TermId,
     end: TermId,
-    begun: Vec<Condition>,
-    inside: &[Condition],
-    outside: &[Condition],
-) -> Result<Vec<Condition>, GenFault>
+    begun: Pending,
+    inside: Pending,
+    outside: Pending,
+) -> Result<Pending, GenFault>
     requires pairs { ArePairs terms.old pairs.now }
     requires note { IsThere terms.old note }
     requires variable { variable.0 < length terms.old.nodes }
@@ -80,16 +75,16 @@ pub(crate) fn close(
     requires end { end.0 < length terms.old.nodes }
     requires end_sort { sort_at terms.old end ≡ sort.Int }
     requires begun { AreIn terms.old begun.items }
-    requires inside { AreIn terms.old inside.now }
-    requires outside { AreIn terms.old outside.now }
+    requires inside { AreIn terms.old inside.items }
+    requires outside { AreIn terms.old outside.items }
     ensures { ComesTo result
         (closed (pairs_of terms.old pairs.now) (option_map (tree terms.old) note) direction (substitute (replacing (pairs_of terms.old pairs.now)) (tree terms.old variable)) (tree terms.old end)
-        (conditions_of terms.old begun.items) (conditions_of terms.old inside.now) (conditions_of terms.old outside.now))
+        (conditions_of terms.old begun.items) (conditions_of terms.old inside.items) (conditions_of terms.old outside.items))
         (closing_events (pairs_of terms.old pairs.now) (option_map (tree terms.old) note) direction (substitute (replacing (pairs_of terms.old pairs.now)) (tree terms.old variable)) (tree terms.old end)
-        (conditions_of terms.old begun.items) (conditions_of terms.old inside.now) (conditions_of terms.old outside.now))
+        (conditions_of terms.old begun.items) (conditions_of terms.old inside.items) (conditions_of terms.old outside.items))
         terms.old terms.new }
 {
     let h = put_if_there(alloc, terms, pairs, note)?;
     let e = ends(alloc, terms, pairs, direction, variable, end)?;
-    joined_sides(alloc, h, e, begun, inside, outside)
+    joined_sides(h, e, begun, inside, outside)
 }

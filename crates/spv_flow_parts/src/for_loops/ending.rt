@@ -19,6 +19,7 @@ ghost use Rattle.spv_flow_parts.specs.for_loops.Counting.{ended_events, ended_ma
 
 use crate::for_loops::closing::close;
 use crate::{Body, renamed, replaced_in, wanted_note};
+use spv_assign::Pending;
 use spv_assign::creation_trace::GenFault;
 use spv_assign::limited_steps::fresh_pair;
 use spv_assign::supply::Supply;
@@ -26,7 +27,7 @@ use spv_logic::names::Symbol;
 use spv_logic::{Head, Kind, Sort};
 use spv_program::Direction;
 use spv_program::typed::{Annotation, Program};
-use spv_term::{Condition, TermId, Terms};
+use spv_term::{TermId, Terms};
 use std::alloc::Global;
 
 /// The condition that an annotation is true, with a term in the place of a variable; none where there is no annotation.
@@ -39,7 +40,7 @@ pub fn wanted_put(
     note: Option<TermId>,
     variable: TermId,
     t: TermId,
-) -> Result<Vec<Condition>, GenFault>
+) -> Result<Pending, GenFault>
     requires note { IsNoted terms.old program.now body.now.here note (option_map annotation_of f.now) }
     requires pair { ArePairs terms.old ((variable, t) ∷ []) }
     ensures { ComesTo result (wanted_with program.now body.now.here kind (head_at terms.old variable) (tree terms.old t) (option_map annotation_of f.now))
@@ -47,7 +48,7 @@ pub fn wanted_put(
 {
     let _ = program;
     let first = wanted_note(body.alloc, body.here, kind, f, note)?;
-    replaced_in(body.alloc, terms, &[(variable, t)], first.as_slice())
+    replaced_in(body.alloc, terms, &[(variable, t)], &first)
 }
 
 // Conditions behind a loop, whose variable they see as a fresh one, with what the loop changes renamed.
@@ -57,18 +58,18 @@ fn left_behind(
     supply: &mut Supply,
     x: Symbol,
     pairs: &[(TermId, TermId)],
-    rest: &[Condition],
-) -> Result<Vec<Condition>, GenFault>
+    rest: &Pending,
+) -> Result<Pending, GenFault>
     requires there { AreThere terms.old (supply_of supply.old) }
     requires pairs { ArePairs terms.old pairs.now }
-    requires rest { AreIn terms.old rest.now }
-    ensures { Comes result (left_made (pairs_of terms.old pairs.now) (fresh_like (number_head x) (supply_of supply.old)) (number_head x) (conditions_of terms.old rest.now))
-        (left_events (pairs_of terms.old pairs.now) (fresh_like (number_head x) (supply_of supply.old)) (number_head x) (conditions_of terms.old rest.now))
+    requires rest { AreIn terms.old rest.now.items }
+    ensures { Comes result (left_made (pairs_of terms.old pairs.now) (fresh_like (number_head x) (supply_of supply.old)) (number_head x) (conditions_of terms.old rest.now.items))
+        (left_events (pairs_of terms.old pairs.now) (fresh_like (number_head x) (supply_of supply.old)) (number_head x) (conditions_of terms.old rest.now.items))
         terms.old terms.new (supply_of supply.new) }
 {
     let last = fresh_pair(terms, supply, Head::Var(x, Sort::Int, 0))?;
     let behind = replaced_in(alloc, terms, &[last], rest)?;
-    replaced_in(alloc, terms, pairs, behind.as_slice())
+    replaced_in(alloc, terms, pairs, &behind)
 }
 
 /// The conditions of a FOR, where the terms of its ends, of its variable and of its annotation are there, and the
@@ -86,9 +87,9 @@ pub fn end_of_for(
     variable: TermId,
     first: TermId,
     end: TermId,
-    turn: &[Condition],
-    rest: &[Condition],
-) -> Result<Vec<Condition>, GenFault>
+    turn: &Pending,
+    rest: &Pending,
+) -> Result<Pending, GenFault>
     requires heads { AllRenamed terms.old.shapes heads.now }
     requires there { AreThere terms.old (supply_of supply.old) }
     requires note { IsNoted terms.old program.now body.now.here note (option_map annotation_of f.now) }
@@ -98,11 +99,11 @@ pub fn end_of_for(
     requires first_sort { sort_at terms.old first ≡ sort.Int }
     requires end { end.0 < length terms.old.nodes }
     requires end_sort { sort_at terms.old end ≡ sort.Int }
-    requires turn { AreIn terms.old turn.now }
-    requires rest { AreIn terms.old rest.now }
+    requires turn { AreIn terms.old turn.now.items }
+    requires rest { AreIn terms.old rest.now.items }
     ensures { Comes result
-        (ended_made program.now body.now.here (option_map annotation_of f.now) direction (number_head x) (tree terms.old first) (tree terms.old end) (before.renamed heads.now (supply_of supply.old)) (conditions_of terms.old turn.now) (conditions_of terms.old rest.now))
-        (ended_events program.now body.now.here (option_map annotation_of f.now) direction (number_head x) (tree terms.old first) (tree terms.old end) (before.renamed heads.now (supply_of supply.old)) (conditions_of terms.old turn.now) (conditions_of terms.old rest.now))
+        (ended_made program.now body.now.here (option_map annotation_of f.now) direction (number_head x) (tree terms.old first) (tree terms.old end) (before.renamed heads.now (supply_of supply.old)) (conditions_of terms.old turn.now.items) (conditions_of terms.old rest.now.items))
+        (ended_events program.now body.now.here (option_map annotation_of f.now) direction (number_head x) (tree terms.old first) (tree terms.old end) (before.renamed heads.now (supply_of supply.old)) (conditions_of terms.old turn.now.items) (conditions_of terms.old rest.now.items))
         terms.old terms.new (supply_of supply.new) }
 {
     let begun = wanted_put(
@@ -120,15 +121,6 @@ pub fn end_of_for(
     let inside = replaced_in(body.alloc, terms, pairs, turn)?;
     let outside = left_behind(body.alloc, terms, supply, x, pairs, rest)?;
     close(
-        body.alloc,
-        terms,
-        pairs,
-        note,
-        direction,
-        variable,
-        end,
-        begun,
-        inside.as_slice(),
-        outside.as_slice(),
+        body.alloc, terms, pairs, note, direction, variable, end, begun, inside, outside,
     )
 }

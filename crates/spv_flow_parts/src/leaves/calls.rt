@@ -13,25 +13,22 @@ ghost use Rattle.spv_flow_parts.specs.leaves.Values.{AreCalls, IsCall, IsTermIfT
 
 use crate::leaves::valued::Called;
 use crate::wanted;
+use spv_assign::Pending;
 use spv_assign::creation_trace::GenFault;
 use spv_assign::limited_steps::{assumed, joined};
 use spv_logic::{Kind, RoutineId};
-use spv_term::{Condition, TermId};
+use spv_term::TermId;
 use std::alloc::Global;
 
 // Conditions under what a call gives, where it gives something.
-fn under_gives(
-    alloc: Global,
-    gives: Option<TermId>,
-    rest: Vec<Condition>,
-) -> Result<Vec<Condition>, GenFault>
+fn under_gives(gives: Option<TermId>, rest: Pending) -> Result<Pending, GenFault>
     ensures conditions { (a : Arena) (x : Option Term) (cs : List logic.Condition) → IsTermIfThere a gives x → AreThese a rest.items cs
         → IfOk result (λ all. AreThese a all.items (assuming_if_there x cs)) }
     ensures err { IfErr result (λ e. e ≡ Memory) }
 {
     match gives {
         None => Ok(rest),
-        Some(h) => assumed(alloc, h, rest),
+        Some(h) => assumed(h, rest),
     }
 }
 
@@ -41,12 +38,12 @@ fn wanted_needs(
     here: Option<RoutineId>,
     needs: Option<TermId>,
     line: u32,
-) -> Result<Vec<Condition>, GenFault>
+) -> Result<Pending, GenFault>
     ensures conditions { (a : Arena) (x : Option Term) (l : ℕ) → IsTermIfThere a needs x → line ≡ l → IfOk result (λ all. AreThese a all.items (wanted_entry here l x)) }
     ensures err { IfErr result (λ e. e ≡ Memory) }
 {
     match needs {
-        None => Ok(Vec::new(alloc)),
+        None => Ok(Pending::new(alloc)),
         Some(t) => wanted(alloc, here, Kind::Entry, t, line),
     }
 }
@@ -55,12 +52,12 @@ fn one_call(
     alloc: Global,
     here: Option<RoutineId>,
     call: &Called,
-    rest: Vec<Condition>,
-) -> Result<Vec<Condition>, GenFault>
+    rest: Pending,
+) -> Result<Pending, GenFault>
     ensures { (a : Arena) (d : plain.Called) (cs : List logic.Condition) → IsCall a call.now d → AreThese a rest.items cs
         → ComesTo result (before_one here d cs) (counted (length (wanted_entry here d.line d.needs) + length cs)) a a }
 {
-    let under = under_gives(alloc, call.gives, rest)?;
+    let under = under_gives(call.gives, rest)?;
     let first = wanted_needs(alloc, here, call.needs, call.line)?;
     joined(first, under)
 }
@@ -71,8 +68,8 @@ pub fn in_front(
     alloc: Global,
     here: Option<RoutineId>,
     calls: &[Called],
-    rest: Vec<Condition>,
-) -> Result<Vec<Condition>, GenFault>
+    rest: Pending,
+) -> Result<Pending, GenFault>
     ensures { (a : Arena) (ds : List plain.Called) (cs : List logic.Condition) → AreCalls a calls.now ds → AreThese a rest.items cs
         → ComesTo result (before_calls here ds cs) (call_events here ds cs) a a }
 {

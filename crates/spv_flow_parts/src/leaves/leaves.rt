@@ -24,11 +24,12 @@ ghost use Rattle.spv_flow_parts.specs.leaves.Values.{AreCalls, MakesValue, call_
 
 use crate::Body;
 use crate::leaves::valued::Valued;
+use spv_assign::Pending;
 use spv_assign::creation_trace::GenFault;
 use spv_assign::supply::Supply;
 use spv_logic::Head;
 use spv_program::typed::{Annotation, Expression, Program, Statement};
-use spv_term::{Condition, TermId, Terms};
+use spv_term::{TermId, Terms};
 
 /// How assignments, NEW and calls, expressions with their calls, and annotations of a body become terms and conditions. A
 /// walk over statements asks for them, in the order of the rules.
@@ -50,8 +51,8 @@ pub trait Leaves {
         terms: &mut Terms,
         supply: &mut Supply,
         s: &Statement,
-        rest: Vec<Condition>,
-    ) -> Result<Vec<Condition>, GenFault>
+        rest: Pending,
+    ) -> Result<Pending, GenFault>
         requires fits { fits self.old program.now body.now.here }
         requires stands { Stands program.now body.now terms.old }
         requires takes { IsTrue ((takes program.now body.now.here).leaf s.now) }
@@ -85,8 +86,8 @@ pub trait Leaves {
         program: &Program,
         body: &Body,
         tested: &Valued,
-        rest: Vec<Condition>,
-    ) -> Result<Vec<Condition>, GenFault>
+        rest: Pending,
+    ) -> Result<Pending, GenFault>
         requires fits { fits self.old program.now body.now.here }
         ensures fits { fits self.new program.now body.now.here }
         ensures made { (a : Arena) (calls : List plain.Called) (cs : List logic.Condition) → AreCalls a tested.now.calls calls → AreThese a rest.items cs

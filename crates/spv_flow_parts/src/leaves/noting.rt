@@ -15,11 +15,12 @@ ghost use Rattle.spv_flow_parts.specs.Walks.{Comes, IsNoted, made_of};
 
 use crate::leaves::leaves::Leaves;
 use crate::{Body, wanted};
+use spv_assign::Pending;
 use spv_assign::creation_trace::GenFault;
 use spv_assign::limited_steps::{assumed, joined};
 use spv_logic::Kind;
 use spv_program::typed::{Annotation, Program};
-use spv_term::{Condition, TermId, Terms};
+use spv_term::{TermId, Terms};
 
 /// The term of an annotation of a body, where there is one.
 pub fn noted<L: Leaves>(
@@ -50,8 +51,8 @@ pub fn before_assert<L: Leaves>(
     body: &Body,
     terms: &mut Terms,
     a: &Annotation,
-    rest: Vec<Condition>,
-) -> Result<Vec<Condition>, GenFault>
+    rest: Pending,
+) -> Result<Pending, GenFault>
     requires fits { L.fits leaves.old program.now body.now.here }
     requires stands { Stands program.now body.now terms.old }
     requires typed { AreNotes program.now body.now.here (Some (annotation_of a.now)) }
@@ -61,7 +62,7 @@ pub fn before_assert<L: Leaves>(
         (events program.now body.now.here (statement.Assert (annotation_of a.now)) (made_of terms.old rest.items n)) terms.old terms.new n }
 {
     let term = leaves.note(program, body, terms, a)?;
-    let under = assumed(body.alloc, term, rest)?;
+    let under = assumed(term, rest)?;
     let first = wanted(body.alloc, body.here, Kind::Assert, term, a.line)?;
     joined(first, under)
 }

@@ -1,10 +1,5 @@
-use Rattle.std.proofs.Common.{List, option_map, subst, IfOk, ap}
-use Rattle.spv_term.specs.declared.nodes.Condition.{Condition}
-use Rattle.spv_term.specs.Arena.{tree}
+use Rattle.std.proofs.Common.{ap}
 use Rattle.spv_program.specs.Programs.{Program}
-use Rattle.spv_assign.specs.Conditions.{AreIn, conditions_of}
-use Rattle.spv_meaning.specs.Before.{assuming_if_there}
-use Rattle.spv_flow_parts.specs.Walks.{AreThese}
 use Rattle.spv_conditions.proofs.Mains.{entry_as, main_stands, note_stops, under_main}
 use Rattle.spv_conditions.proofs.making.under.Goals as goal
 
@@ -27,6 +22,5 @@ returns c =
     let b = c.noted.new.terms in
     under_main c.args.program.now c.args.body.now.here c.requires.here _ c.in_ok-entry.entry c.args.terms.now b n made.note made.grows made.walk numbers c.args.program.now.main.entry (ap (λ (q : Program). q.main.entry) c.program.view_is)
     c.args.conditions.items c.known.result c.requires.conditions
-    (λ there within.
-    subst (λ (l : List Condition). AreIn b l → IfOk c.known.result (λ cs. AreThese b cs.items (assuming_if_there (option_map (tree b) c.in_ok-entry.entry) (conditions_of b l)))) c.as_slice.ensures.value (c.known.ensures.conditions b there) within)
+    (c.known.ensures.conditions b)
     c.known.ensures.err

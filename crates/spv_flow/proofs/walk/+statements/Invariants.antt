@@ -43,4 +43,4 @@ invariant-block-loop-place g l =
 abbrev pub invariant-arms-loop-case : goal.invariant-arms-loop-case
 invariant-arms-loop-case g l =
     g.L.Leaves.fits l.leaves l.program l.body.here
-    × ArmsSoFar (g.L.Leaves.making l.program l.body.here) l.program l.body.here (tree l.fn.terms l.fn.about) (arms_of l.cases) (arms_of (drop l.case-index l.cases)) (made_of l.fn.terms l.rest (supply_of l.fn.supply)) l.fn.terms l.terms (supply_of l.supply) l.made.items
+    × ArmsSoFar (g.L.Leaves.making l.program l.body.here) l.program l.body.here (tree l.fn.terms l.fn.about) (arms_of l.cases) (arms_of (drop l.case-index l.cases)) (made_of l.fn.terms l.rest.items (supply_of l.fn.supply)) l.fn.terms l.terms (supply_of l.supply) l.made.items

@@ -17,7 +17,7 @@ changed-requires-clause-body g c = c.requires.stands.body
 
 pub returns-in_err-heads-clause-made : goal.returns-in_err-heads-clause-made
 returns-in_err-heads-clause-made g c =
-    λ w u first last. for_never c.args.program.now c.args.body.now.here (option_map annotation_of c.args.f.now) (counting_of c.args.count.now) c.args.t.now w u (loop_names c.args.program.now c.args.body.now.here c.args.whole.now (supply_of c.args.supply.now)) (conditions_of c.args.terms.now c.args.turn.now) (conditions_of c.args.terms.now c.args.rest.now) c.args.terms.now c.args.terms.now (supply_of c.args.supply.now) c.from_residual.result c.in_err-heads.field-0.0 c.from_residual.ensures.1 c.in_err-heads.ensures.err
+    λ w u first last. for_never c.args.program.now c.args.body.now.here (option_map annotation_of c.args.f.now) (counting_of c.args.count.now) c.args.t.now w u (loop_names c.args.program.now c.args.body.now.here c.args.whole.now (supply_of c.args.supply.now)) (conditions_of c.args.terms.now c.args.turn.now.items) (conditions_of c.args.terms.now c.args.rest.now.items) c.args.terms.now c.args.terms.now (supply_of c.args.supply.now) c.from_residual.result c.in_err-heads.field-0.0 c.from_residual.ensures.1 c.in_err-heads.ensures.err
 
 pub end_of_for-requires-clause-heads : goal.end_of_for-requires-clause-heads
 end_of_for-requires-clause-heads g c =
@@ -47,13 +47,13 @@ end_of_for-requires-clause-end_sort g c = c.requires.known.last_number
 pub returns-in_err-made-clause-made : goal.returns-in_err-made-clause-made
 returns-in_err-made-clause-made g c =
     λ w u first last.
-    for_end_stops c.args.program.now c.args.body.now.here (option_map annotation_of c.args.f.now) (counting_of c.args.count.now) c.args.t.now w u (loop_names c.args.program.now c.args.body.now.here c.args.whole.now (supply_of c.args.supply.now)) (conditions_of c.args.terms.now c.args.turn.now) (conditions_of c.args.terms.now c.args.rest.now) c.args.terms.now c.end_of_for.new.terms (supply_of c.end_of_for.new.supply) c.from_residual-in_err-made.result c.in_err-made.field-0.0 c.from_residual-in_err-made.ensures.1
-    (ended_so (Err c.in_err-made.field-0.0) c.args.program.now c.args.body.now.here (option_map annotation_of c.args.f.now) (counting_of c.args.count.now) (changed_heads c.args.program.now (routine_in c.args.program.now c.args.body.now.here) c.args.whole.now) c.in_ok-heads.heads.items c.as_slice.result.now (tree c.args.terms.now c.args.t.now.first.term) (tree c.args.terms.now c.args.t.now.last.term) w.term u.term (supply_of c.args.supply.now) (supply_of c.end_of_for.new.supply) (conditions_of c.args.terms.now c.args.turn.now) (conditions_of c.args.terms.now c.args.rest.now) c.args.terms.now c.end_of_for.new.terms
+    for_end_stops c.args.program.now c.args.body.now.here (option_map annotation_of c.args.f.now) (counting_of c.args.count.now) c.args.t.now w u (loop_names c.args.program.now c.args.body.now.here c.args.whole.now (supply_of c.args.supply.now)) (conditions_of c.args.terms.now c.args.turn.now.items) (conditions_of c.args.terms.now c.args.rest.now.items) c.args.terms.now c.end_of_for.new.terms (supply_of c.end_of_for.new.supply) c.from_residual-in_err-made.result c.in_err-made.field-0.0 c.from_residual-in_err-made.ensures.1
+    (ended_so (Err c.in_err-made.field-0.0) c.args.program.now c.args.body.now.here (option_map annotation_of c.args.f.now) (counting_of c.args.count.now) (changed_heads c.args.program.now (routine_in c.args.program.now c.args.body.now.here) c.args.whole.now) c.in_ok-heads.heads.items c.as_slice.result.now (tree c.args.terms.now c.args.t.now.first.term) (tree c.args.terms.now c.args.t.now.last.term) w.term u.term (supply_of c.args.supply.now) (supply_of c.end_of_for.new.supply) (conditions_of c.args.terms.now c.args.turn.now.items) (conditions_of c.args.terms.now c.args.rest.now.items) c.args.terms.now c.end_of_for.new.terms
     c.in_ok-heads.ensures.heads c.as_slice.ensures.value first.term.is_tree last.term.is_tree c.in_err-made.ensures)
 
 pub returns-clause-made : goal.returns-clause-made
 returns-clause-made g c =
     λ w u first last.
-    for_end_comes c.args.program.now c.args.body.now.here (option_map annotation_of c.args.f.now) (counting_of c.args.count.now) c.args.t.now w u (loop_names c.args.program.now c.args.body.now.here c.args.whole.now (supply_of c.args.supply.now)) (conditions_of c.args.terms.now c.args.turn.now) (conditions_of c.args.terms.now c.args.rest.now) c.args.terms.now c.end_of_for.new.terms (supply_of c.end_of_for.new.supply) c.behind_ends.result c.in_ok-made.made first last
-    (ended_so (Ok c.in_ok-made.made) c.args.program.now c.args.body.now.here (option_map annotation_of c.args.f.now) (counting_of c.args.count.now) (changed_heads c.args.program.now (routine_in c.args.program.now c.args.body.now.here) c.args.whole.now) c.in_ok-heads.heads.items c.as_slice.result.now (tree c.args.terms.now c.args.t.now.first.term) (tree c.args.terms.now c.args.t.now.last.term) w.term u.term (supply_of c.args.supply.now) (supply_of c.end_of_for.new.supply) (conditions_of c.args.terms.now c.args.turn.now) (conditions_of c.args.terms.now c.args.rest.now) c.args.terms.now c.end_of_for.new.terms
+    for_end_comes c.args.program.now c.args.body.now.here (option_map annotation_of c.args.f.now) (counting_of c.args.count.now) c.args.t.now w u (loop_names c.args.program.now c.args.body.now.here c.args.whole.now (supply_of c.args.supply.now)) (conditions_of c.args.terms.now c.args.turn.now.items) (conditions_of c.args.terms.now c.args.rest.now.items) c.args.terms.now c.end_of_for.new.terms (supply_of c.end_of_for.new.supply) c.behind_ends.result c.in_ok-made.made first last
+    (ended_so (Ok c.in_ok-made.made) c.args.program.now c.args.body.now.here (option_map annotation_of c.args.f.now) (counting_of c.args.count.now) (changed_heads c.args.program.now (routine_in c.args.program.now c.args.body.now.here) c.args.whole.now) c.in_ok-heads.heads.items c.as_slice.result.now (tree c.args.terms.now c.args.t.now.first.term) (tree c.args.terms.now c.args.t.now.last.term) w.term u.term (supply_of c.args.supply.now) (supply_of c.end_of_for.new.supply) (conditions_of c.args.terms.now c.args.turn.now.items) (conditions_of c.args.terms.now c.args.rest.now.items) c.args.terms.now c.end_of_for.new.terms
     c.in_ok-heads.ensures.heads c.as_slice.ensures.value first.term.is_tree last.term.is_tree c.in_ok-made.ensures) c.behind_ends.ensures.made

@@ -1,13 +1,12 @@
-use Rattle.std.proofs.Common.{subst, sym, option_map}
+use Rattle.std.proofs.Common.{refl, option_map}
 use Rattle.spv_program.specs.typed.FormulaViews.{annotation_of}
-use Rattle.spv_assign.specs.Conditions.{AreIn}
 use Rattle.spv_flow_parts.proofs.for_loops.Endings.{put_comes}
 use Rattle.spv_flow_parts.proofs.for_loops.ending.wanted_put.Goals as goal
 
 pub replaced_in-requires-clause-rest : goal.replaced_in-requires-clause-rest
-replaced_in-requires-clause-rest c = subst (AreIn c.args.terms.now) (sym c.as_slice.ensures.value) (c.in_ok-first.ensures.conditions c.args.terms.now c.args.program.now c.requires.note).in_range
+replaced_in-requires-clause-rest c = (c.in_ok-first.ensures.conditions c.args.terms.now c.args.program.now c.requires.note).in_range
 
 pub returns : goal.returns
 returns c =
-    put_comes c.args.program.now c.args.body.now.here c.args.kind (option_map annotation_of c.args.f.now) c.args.variable c.args.t c.args.terms.now c.replaced_in.new.terms c.in_ok-first.first.items c.as_slice.result.now
-    c.replaced_in.result c.as_slice.ensures.value (c.in_ok-first.ensures.conditions c.args.terms.now c.args.program.now c.requires.note) c.replaced_in.ensures
+    put_comes c.args.program.now c.args.body.now.here c.args.kind (option_map annotation_of c.args.f.now) c.args.variable c.args.t c.args.terms.now c.replaced_in.new.terms c.in_ok-first.first.items c.in_ok-first.first.items
+    c.replaced_in.result refl (c.in_ok-first.ensures.conditions c.args.terms.now c.args.program.now c.requires.note) c.replaced_in.ensures

@@ -1,0 +1,4 @@
+pub mod InFront
+pub mod WrittenOut
+pub mod Images
+pub mod Unchanged
