@@ -27,3 +27,6 @@ returns-in-Ended-clause-told c =
 
 pub returns-in-Ended-clause-goes : goal.returns-in-Ended-clause-goes
 returns-in-Ended-clause-goes c = goes_on_then c.args.terms.now c.args.self.now c.loop-end.self c.grow_once.new.self c.loop-end.invariant.goes c.in_ok-grow_once.ensures.goes
+
+pub grow_once-requires-clause-told : goal.grow_once-requires-clause-told
+grow_once-requires-clause-told c = record { cases = c.requires.told.cases; path_told = c.loop-end.invariant.path_told c.requires.told.cases c.requires.told.path_told }
