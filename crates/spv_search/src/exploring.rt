@@ -117,7 +117,6 @@ pub fn search(
 {
     let (mut path, end) = BranchTrail::begin(alloc, terms, condition, ground, both)?;
     explore(
-        alloc, terms, condition, subterms, listed, atoms, ground, limits, heuristic, &mut path,
-        end,
+        alloc, terms, condition, subterms, listed, atoms, ground, limits, heuristic, &mut path, end,
     )
 }

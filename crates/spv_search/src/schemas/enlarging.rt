@@ -30,7 +30,11 @@ pub(crate) struct Enlarged {
 }
 
 /// The terms that a condition uses: the different subterms of its formulas, in the order of their first appearance, arguments first.
-pub(crate) fn used_terms(alloc: Global, terms: &Terms, condition: &Condition) -> Result<IdSet, AllocError>
+pub(crate) fn used_terms(
+    alloc: Global,
+    terms: &Terms,
+    condition: &Condition,
+) -> Result<IdSet, AllocError>
     requires given { AllBelow (length terms.now.nodes) condition.now.given }
     requires goal { condition.now.goal.0 < length terms.now.nodes }
     ensures used { IfOk result (λ ids. map (tree terms.now) ids ≡ used (question terms.now condition.now)) }
@@ -126,7 +130,11 @@ fn made_in_own(alloc: Global, terms: &Terms, condition: &Condition) -> Result<En
 }
 
 /// A condition with all that is refuted with it. There is no memory where all these terms are more than there are ids.
-pub(crate) fn enlarge(alloc: Global, terms: &Terms, condition: &Condition) -> Result<Enlarged, AllocError>
+pub(crate) fn enlarge(
+    alloc: Global,
+    terms: &Terms,
+    condition: &Condition,
+) -> Result<Enlarged, AllocError>
     requires given { AllBelow (length terms.now.nodes) condition.now.given }
     requires goal { condition.now.goal.0 < length terms.now.nodes }
     requires formulas { AreFormulas terms.now.shapes terms.now.decls (formulas_of (question terms.now condition.now).sequent) }
