@@ -1,4 +1,5 @@
 use Rattle.std.proofs.Common.{refl, inr}
+use Rattle.spv_cli.specs.Words.{command_view}
 use Rattle.spv_cli.proofs.Told.{reading_of}
 use Rattle.spv_cli.proofs.running.perform.Goals as goal
 
@@ -7,6 +8,6 @@ returns-in_default-output g c =
     inr (record {
       status = refl;
       report = refl;
-      reading = reading_of _ (record { mode = c.args.mode; file = c.args.file.now }) c.in-Ok.found c.in-Ok.ensures.found;
+      reading = reading_of _ (command_view c.args.command) c.in-Ok.found c.in-Ok.ensures.found;
       writing = record { written = refl; faults = refl };
     })
