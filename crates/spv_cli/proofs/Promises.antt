@@ -1,5 +1,5 @@
 -- What a run promises follows from what it does.
-use Rattle.std.proofs.Common.{ap, ◌≡◌, inl, inr, ℕ, ◌≤◌, ◌<◌, ◌-◌, ◌^◌, Bool, true, false, cond, List, [], ◌∷◌, Option, Some, None, IfSome, refl, sym, ◌∙◌, subst, arith}
+use Rattle.std.proofs.Common.{ap, ◌≡◌, inl, inr, ℕ, ◌≤◌, ◌<◌, ◌-◌, ◌^◌, Bool, true, false, cond, List, [], ◌∷◌, ◌++◌, Option, Some, None, IfSome, refl, sym, ◌∙◌, subst, arith}
 use Rattle.std.specs.Prelude.{option_and_then}
 use Rattle.std.proofs.lemmas.Bool.{false≢true}
 use Rattle.spv_io.specs.Faults.{raised, Rose, DidNotRise}
@@ -10,7 +10,7 @@ use Rattle.spv_meaning.specs.Correct.{Correct}
 use Rattle.spv_reports.specs.declared.mode.Mode.{Mode}
 use Rattle.spv_verdicts.specs.declared.answers.verdicts.Decided.{Decided}
 use Rattle.spv_reports.specs.declared.mode.Mode.TheVariants as mode
-use Rattle.spv_reports.specs.Reports.{AreVerdictsIn, Findings, IsReportOn, has_verdicts, all_proved, none_unproved}
+use Rattle.spv_reports.specs.Reports.{AreVerdictsIn, Findings, IsReport, IsReportOn, has_verdicts, all_proved, none_unproved}
 use Rattle.spv_reports.proofs.Reports.{proved_correct}
 use Rattle.spv_listing.specs.Page.{page}
 use Rattle.spv_verify.specs.declared.refused.refusal.Refusal.{Refusal}
@@ -19,9 +19,10 @@ use Rattle.spv_cli.specs.declared.found.Found.{Found}
 use Rattle.spv_cli.specs.declared.found.Found.TheVariants.{ReadFailed, Refusing, Reporting}
 use Rattle.spv_cli.specs.declared.running.Ran.{Ran}
 use Rattle.spv_cli.specs.Commands.{Command, files_asked}
-use Rattle.spv_cli.specs.Output.{words_line, status_in}
-use Rattle.spv_cli.specs.Runs.{Reading, Writing, IsUnread, IsWritten, IsCut, IsFound, IsOutOfMemory, IsRefusedIn, HasRunFor, output, program_text, status, report}
+use Rattle.spv_cli.specs.Output.{read_fault_line, words_line, status_in}
+use Rattle.spv_cli.specs.Runs.{AreAskedInPart, AreAskedUpTo, Reading, Writing, IsUnread, IsWritten, IsCut, IsFound, IsOutOfMemory, IsRefusedIn, HasRunFor, named_all, output, program_text, status, report}
 use Rattle.spv_cli.specs.Promises.{IsOneOf, IsThere, IsDueFor}
+use Rattle.spv_cli.proofs.Told.{reading_of}
 
 -- ---- what is found, by the status
 
@@ -38,6 +39,16 @@ found_status (Reporting r) = by_mode r.mode
     by_mode : (m : Mode) → IsOneOf (0 ∷ 1 ∷ 2 ∷ 3 ∷ 4 ∷ 8 ∷ []) (status_in m r.verdicts)
     by_mode (mode.Verify limits) = by_verdicts (all_proved r.verdicts) (none_unproved r.verdicts)
     by_mode mode.Conditions = refl
+
+-- the status of a page
+page_found : (m : Mode) (verdicts : List Decided) → IsOneOf (0 ∷ 1 ∷ 2 ∷ 8 ∷ []) (status_in m verdicts)
+page_found (mode.Verify limits) verdicts = by_verdicts (all_proved verdicts) (none_unproved verdicts)
+  where
+    by_verdicts : (b n : Bool) → IsOneOf (0 ∷ 1 ∷ 2 ∷ 8 ∷ []) (cond b 0 (cond n 2 1))
+    by_verdicts true n = refl
+    by_verdicts false true = refl
+    by_verdicts false false = refl
+page_found mode.Conditions verdicts = refl
 
 -- another status
 not_of : (numbers : List ℕ) {s t : ℕ} → IsOneOf numbers s → s ≡ t → IsOneOf numbers t
@@ -133,6 +144,14 @@ rose_not old new rose (low, below) = let a : raised old ≤ new = rose in let b 
 refused_there : (told : List ℕ → Option (List ℕ)) (c : Command) (file : List ℕ) (r : Refusal) → IsRefusedIn told c file r → IfSome (program_text told c) (λ text. IsRefused text r)
 refused_there told c file r is = subst (λ (o : Option (List ℕ)). IfSome (option_and_then told o) (λ text. IsRefused text r)) (sym is.0) is.1
 
+some_none : (c : Command) → ◌≡◌ {A = Option Command} (Some c) None → ⊥
+some_none c e = cc
+
+-- of no files none come first
+no_first : (first rest : List (List ℕ)) → first ++ rest ≡ [] → first ≡ []
+no_first [] rest e = refl
+no_first (file ∷ first) rest e = cc
+
 -- ---- runs, by their cases
 
 module _ (o : Reading) (w : Writing) (ran : Ran) where
@@ -149,6 +168,78 @@ module _ (o : Reading) (w : Writing) (ran : Ran) where
   by_case P none none_cut done done_cut memory (Some c) (inl (f, is, (r, inr (s, cut)))) = done_cut c f is r s cut
   by_case P none none_cut done done_cut memory None (inr m) = memory None m
   by_case P none none_cut done done_cut memory (Some c) (inr m) = memory (Some c) m
+
+  -- ---- words
+
+  pub words_only : (c : Option Command) → HasRunFor c o w ran → ran.status ≡ 7 → c ≡ None
+  words_only = by_case (λ c. ran.status ≡ 7 → c ≡ None)
+      (λ unread none s written e. refl)
+      (λ unread none s cut e. refl)
+      (λ c f is r s written e. absurd (false≢true (not_of (0 ∷ 1 ∷ 2 ∷ 3 ∷ 4 ∷ 8 ∷ []) (found_status f) (sym s ∙ e))))
+      (λ c f is r s cut e. absurd (false≢true (not_of (5 ∷ []) refl (sym s ∙ e))))
+      (λ c m e. absurd (false≢true (not_of (6 ∷ []) refl (sym m.status ∙ e))))
+
+  pub words : (c : Option Command) → HasRunFor c o w ran → c ≡ None → IsOneOf (5 ∷ 6 ∷ 7 ∷ []) ran.status
+  words = by_case (λ c. c ≡ None → IsOneOf (5 ∷ 6 ∷ 7 ∷ []) ran.status)
+      (λ unread none s written e. not_of (5 ∷ 6 ∷ 7 ∷ []) refl (sym s))
+      (λ unread none s cut e. not_of (5 ∷ 6 ∷ 7 ∷ []) refl (sym s))
+      (λ c f is r s written e. absurd (some_none c e))
+      (λ c f is r s cut e. absurd (some_none c e))
+      (λ c m e. not_of (5 ∷ 6 ∷ 7 ∷ []) refl (sym m.status))
+
+  -- ---- reading
+
+  pub unread : (c : Option Command) → HasRunFor c o w ran → c ≡ None → o.asked_after ≡ o.asked_before
+  unread = by_case (λ c. c ≡ None → o.asked_after ≡ o.asked_before)
+      (λ unread none s written e. unread.asked)
+      (λ unread none s cut e. unread.asked)
+      (λ c f is r s written e. absurd (some_none c e))
+      (λ c f is r s cut e. absurd (some_none c e))
+      memory
+    where
+      memory : (c : Option Command) → IsOutOfMemory o w (files_asked c) ran → c ≡ None → o.asked_after ≡ o.asked_before
+      memory None m e = m.reading.asked.asked ∙ ap (named_all o.asked_before) (no_first m.reading.asked.first m.reading.asked.rest (sym m.reading.asked.are_first))
+      memory (Some c) m e = absurd (some_none c e)
+
+  pub once : (c : Option Command) → HasRunFor c o w ran → IfSome c (λ d. AreAskedInPart o.asked_before o.asked_after d.files)
+  once = by_case (λ c. IfSome c (λ d. AreAskedInPart o.asked_before o.asked_after d.files))
+      (λ unread none s written. tt)
+      (λ unread none s cut. tt)
+      (λ c f is r s written. (reading_of o c f is).asked)
+      (λ c f is r s cut. (reading_of o c f is).asked)
+      memory
+    where
+      memory : (c : Option Command) → IsOutOfMemory o w (files_asked c) ran → IfSome c (λ d. AreAskedInPart o.asked_before o.asked_after d.files)
+      memory None m = tt
+      memory (Some c) m = m.reading.asked
+
+  pub asked : (c : Option Command) → HasRunFor c o w ran → IsOneOf (0 ∷ 1 ∷ 2 ∷ 3 ∷ 8 ∷ []) ran.status → IsThere c (λ d. o.asked_after ≡ named_all o.asked_before d.files)
+  asked = by_case (λ c. IsOneOf (0 ∷ 1 ∷ 2 ∷ 3 ∷ 8 ∷ []) ran.status → IsThere c (λ d. o.asked_after ≡ named_all o.asked_before d.files))
+      (λ unread none s written e. absurd (false≢true (not_of (0 ∷ 1 ∷ 2 ∷ 3 ∷ 8 ∷ []) e s)))
+      (λ unread none s cut e. absurd (false≢true (not_of (0 ∷ 1 ∷ 2 ∷ 3 ∷ 8 ∷ []) e s)))
+      (λ c f is r s written e. found c f is (not_of (0 ∷ 1 ∷ 2 ∷ 3 ∷ 8 ∷ []) e s))
+      (λ c f is r s cut e. absurd (false≢true (not_of (0 ∷ 1 ∷ 2 ∷ 3 ∷ 8 ∷ []) e s)))
+      (λ c m e. absurd (false≢true (not_of (0 ∷ 1 ∷ 2 ∷ 3 ∷ 8 ∷ []) e m.status)))
+    where
+      found : (c : Command) (f : Found) → IsFound o c f → IsOneOf (0 ∷ 1 ∷ 2 ∷ 3 ∷ 8 ∷ []) (status f) → o.asked_after ≡ named_all o.asked_before c.files
+      found c (ReadFailed file) is e = absurd (false≢true e)
+      found c (Refusing file r) is e = is.0.asked
+      found c (Reporting r) is e = is.0.asked
+
+  pub read_fault_told : (c : Option Command) → HasRunFor c o w ran → ran.status ≡ 4
+      → IsThere c (λ d. (file : List ℕ) × AreAskedUpTo o.asked_before o.asked_after d.files file × (w.written_after ≡ added w.written_before (read_fault_line file)))
+  read_fault_told = by_case (λ c. ran.status ≡ 4 → IsThere c (λ d. (file : List ℕ) × AreAskedUpTo o.asked_before o.asked_after d.files file × (w.written_after ≡ added w.written_before (read_fault_line file))))
+      (λ unread none s written e. absurd (false≢true (not_of (7 ∷ []) refl (sym s ∙ e))))
+      (λ unread none s cut e. absurd (false≢true (not_of (5 ∷ []) refl (sym s ∙ e))))
+      (λ c f is r s written e. found c f is written.written (sym s ∙ e))
+      (λ c f is r s cut e. absurd (false≢true (not_of (5 ∷ []) refl (sym s ∙ e))))
+      (λ c m e. absurd (false≢true (not_of (6 ∷ []) refl (sym m.status ∙ e))))
+    where
+      found : (c : Command) (f : Found) → IsFound o c f → w.written_after ≡ added w.written_before (output f) → status f ≡ 4
+          → (file : List ℕ) × AreAskedUpTo o.asked_before o.asked_after c.files file × (w.written_after ≡ added w.written_before (read_fault_line file))
+      found c (ReadFailed file) is out e = (file.now, is.asked, out)
+      found c (Refusing file r) is out e = absurd (false≢true (not_of (3 ∷ []) refl e))
+      found c (Reporting r) is out e = absurd (false≢true (not_of (0 ∷ 1 ∷ 2 ∷ 8 ∷ []) (page_found r.mode r.verdicts) e))
 
   -- ---- reports
 
@@ -179,9 +270,10 @@ module _ (o : Reading) (w : Writing) (ran : Ran) where
   pub listed : (c : Option Command) → HasRunFor c o w ran → ran.status ≡ 8 → IsThere ran.report IsListReport
   listed = by_status 8 IsListReport false≢true (at_eight o)
 
-  -- verdicts are right within the limits of the words
-  pub right_verdicts : (c : Option Command) → HasRunFor c o w ran → IfSome ran.report (λ r. IsThere c (λ d. AreVerdictsIn d.mode r.arena r.conditions r.verdicts))
-  right_verdicts = by_case (λ c. IfSome ran.report (λ r. IsThere c (λ d. AreVerdictsIn d.mode r.arena r.conditions r.verdicts)))
+  -- what is true of each report that is found is true of the report
+  of_report : (Q : Command → Findings → Type 0) → ((d : Command) (r : Findings) → IsReport r → r.mode ≡ d.mode → r.proofs ≡ d.proofs → IfSome (program_text o.told d) (λ text. IsReportOf text r) → Q d r)
+      → (c : Option Command) → HasRunFor c o w ran → IfSome ran.report (λ r. IsThere c (λ d. Q d r))
+  of_report Q of = by_case (λ c. IfSome ran.report (λ r. IsThere c (λ d. Q d r)))
       (λ unread none s written. if_same _ none tt)
       (λ unread none s cut. if_same _ none tt)
       (λ c f is r s written. if_same _ r (found c f is))
@@ -191,10 +283,24 @@ module _ (o : Reading) (w : Writing) (ran : Ran) where
       if_same : (P : Findings → Type 0) {o p : Option Findings} → o ≡ p → IfSome p P → IfSome o P
       if_same P {o} {p} e h = subst (λ q. IfSome q P) (sym e) h
 
-      found : (d : Command) (f : Found) → IsFound o d f → IfSome (report f) (λ r. AreVerdictsIn d.mode r.arena r.conditions r.verdicts)
+      found : (d : Command) (f : Found) → IsFound o d f → IfSome (report f) (λ r. Q d r)
       found d (ReadFailed file) is = tt
       found d (Refusing file r) is = tt
-      found d (Reporting r) (read, report, same, proofs, told) = subst (λ (m : Mode). AreVerdictsIn m r.arena r.conditions r.verdicts) same report.is_on.verdicts
+      found d (Reporting r) (read, report, same, proofs, told) = of d r report same proofs told
+
+  pub of_text : (c : Option Command) → HasRunFor c o w ran → IfSome ran.report (λ r. IsThere c (λ d. IfSome (program_text o.told d) (λ text. IsReportOf text r)))
+  of_text = of_report (λ d r. IfSome (program_text o.told d) (λ text. IsReportOf text r)) (λ d r report same proofs told. told)
+
+  pub same_mode : (c : Option Command) → HasRunFor c o w ran → IfSome ran.report (λ r. IsThere c (λ d. r.mode ≡ d.mode))
+  same_mode = of_report (λ d r. r.mode ≡ d.mode) (λ d r report same proofs told. same)
+
+  pub same_proofs : (c : Option Command) → HasRunFor c o w ran → IfSome ran.report (λ r. IsThere c (λ d. r.proofs ≡ d.proofs))
+  same_proofs = of_report (λ d r. r.proofs ≡ d.proofs) (λ d r report same proofs told. proofs)
+
+  -- verdicts are right within the limits of the words
+  pub right_verdicts : (c : Option Command) → HasRunFor c o w ran → IfSome ran.report (λ r. IsThere c (λ d. AreVerdictsIn d.mode r.arena r.conditions r.verdicts))
+  right_verdicts = of_report (λ d r. AreVerdictsIn d.mode r.arena r.conditions r.verdicts)
+      (λ d r report same proofs told. subst (λ (m : Mode). AreVerdictsIn m r.arena r.conditions r.verdicts) same report.is_on.verdicts)
 
   pub correct : (c : Option Command) → HasRunFor c o w ran → ran.status ≡ 0 → IsThere ran.report (λ r. (world : Meaning) (p : Program) → IsReportOn p r → Correct p world)
   correct c has e = map_there ran.report (proved c has e) (λ r h world p is. proved_correct r world h.0 h.1 p is)

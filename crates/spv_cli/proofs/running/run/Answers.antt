@@ -1,4 +1,4 @@
-use Rattle.spv_cli.proofs.Promises.{complete_status, correct, correct_of_text, gave_up, listed, map_there, page_written, part_written, proved, refused, right_verdicts, unproved}
+use Rattle.spv_cli.proofs.Promises.{asked, complete_status, correct, correct_of_text, gave_up, listed, map_there, of_text, once, page_written, part_written, proved, read_fault_told, refused, right_verdicts, same_mode, same_proofs, unproved, unread, words, words_only}
 use Rattle.spv_cli.proofs.running.run.Goals as goal
 
 pub returns-clause-correct : goal.returns-clause-correct
@@ -36,3 +36,30 @@ returns-clause-verdicts g c = right_verdicts _ _ c.attempt.result _ c.attempt.en
 
 pub returns-clause-complete_status : goal.returns-clause-complete_status
 returns-clause-complete_status g c = complete_status _ _ c.attempt.result _ c.attempt.ensures
+
+pub returns-clause-words_only : goal.returns-clause-words_only
+returns-clause-words_only g c = words_only _ _ c.attempt.result _ c.attempt.ensures
+
+pub returns-clause-words : goal.returns-clause-words
+returns-clause-words g c = words _ _ c.attempt.result _ c.attempt.ensures
+
+pub returns-clause-of_text : goal.returns-clause-of_text
+returns-clause-of_text g c = of_text _ _ c.attempt.result _ c.attempt.ensures
+
+pub returns-clause-mode : goal.returns-clause-mode
+returns-clause-mode g c = same_mode _ _ c.attempt.result _ c.attempt.ensures
+
+pub returns-clause-proofs : goal.returns-clause-proofs
+returns-clause-proofs g c = same_proofs _ _ c.attempt.result _ c.attempt.ensures
+
+pub returns-clause-read_fault_line : goal.returns-clause-read_fault_line
+returns-clause-read_fault_line g c = read_fault_told _ _ c.attempt.result _ c.attempt.ensures
+
+pub returns-clause-unread : goal.returns-clause-unread
+returns-clause-unread g c = unread _ _ c.attempt.result _ c.attempt.ensures
+
+pub returns-clause-asked : goal.returns-clause-asked
+returns-clause-asked g c = asked _ _ c.attempt.result _ c.attempt.ensures
+
+pub returns-clause-once : goal.returns-clause-once
+returns-clause-once g c = once _ _ c.attempt.result _ c.attempt.ensures
