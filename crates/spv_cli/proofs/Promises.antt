@@ -1,5 +1,5 @@
 -- What a run promises follows from what it does.
-use Rattle.std.proofs.Common.{ap, ◌≡◌, inl, inr, ℕ, ◌≤◌, ◌<◌, ◌-◌, ◌^◌, Bool, true, false, cond, List, [], ◌∷◌, ◌++◌, Option, Some, None, IfSome, refl, sym, ◌∙◌, subst, arith}
+use Rattle.std.proofs.Common.{ap, ◌≡◌, inl, inr, ◌⊎◌, ℕ, ◌≤◌, ◌<◌, ◌-◌, ◌^◌, Bool, true, false, cond, List, [], ◌∷◌, ◌++◌, Option, Some, None, IfSome, IsSome, refl, sym, ◌∙◌, subst, arith}
 use Rattle.std.specs.Prelude.{option_and_then}
 use Rattle.std.proofs.lemmas.Bool.{false≢true}
 use Rattle.spv_io.specs.Faults.{raised, Rose, DidNotRise}
@@ -19,9 +19,9 @@ use Rattle.spv_cli.specs.declared.found.Found.{Found}
 use Rattle.spv_cli.specs.declared.found.Found.TheVariants.{ReadFailed, Refusing, Reporting}
 use Rattle.spv_cli.specs.declared.running.Ran.{Ran}
 use Rattle.spv_cli.specs.Commands.{Command, files_asked}
-use Rattle.spv_cli.specs.Output.{read_fault_line, words_line, status_in}
+use Rattle.spv_cli.specs.Output.{read_fault_line, refusal_line, words_line, status_in}
 use Rattle.spv_cli.specs.Runs.{AreAskedInPart, AreAskedUpTo, Reading, Writing, IsUnread, IsWritten, IsCut, IsFound, IsOutOfMemory, IsRefusedIn, HasRunFor, named_all, output, program_text, status, report}
-use Rattle.spv_cli.specs.Promises.{IsOneOf, IsThere, IsDueFor}
+use Rattle.spv_cli.specs.Promises.{IsOneOf, IsThere, IsDueFor, IsRefusalLine}
 use Rattle.spv_cli.proofs.Told.{reading_of}
 
 -- ---- what is found, by the status
@@ -136,6 +136,10 @@ map_there (Some x) h f = f x h
 never_told : HaveNotBoth → (told : Option (List ℕ)) (f : Findings) → IfSome told (λ text. IsReportOf text f) → IsThere told (λ text. (r : Refusal) × IsRefused text r) → ⊥
 never_told never None f is h = h
 never_told never (Some text) f is (r, h) = never text f r is h
+
+not_refused : (told : Option (List ℕ)) (r : Refusal) → IfSome told (λ text. IsRefused text r) → IsThere told (λ text. (r : Refusal) → IsRefused text r → ⊥) → ⊥
+not_refused None r is h = h
+not_refused (Some text) r is h = h r is
 
 rose_not : (old new : ℕ) → Rose old new → DidNotRise old new → ⊥
 rose_not old new rose (low, below) = let a : raised old ≤ new = rose in let b : new ≤ old = low in let c : new < 2 ^ 64 - 1 = below in omega (arith, a, b, c)
@@ -363,10 +367,6 @@ module _ (o : Reading) (w : Writing) (ran : Ran) where
       (λ c f is r s cut h d k. absurd (rose_not w.faults_before w.faults_after cut.rose k))
       (λ c m h d k. not_of (0 ∷ 1 ∷ 2 ∷ 6 ∷ 8 ∷ []) refl (sym m.status))
     where
-      never : (told : Option (List ℕ)) (r : Refusal) → IfSome told (λ text. IsRefused text r) → IsThere told (λ text. (r : Refusal) → IsRefused text r → ⊥) → ⊥
-      never None r is h = h
-      never (Some text) r is h = h r is
-
       by_verdicts : (b n : Bool) → IsOneOf (0 ∷ 1 ∷ 2 ∷ 6 ∷ 8 ∷ []) (cond b 0 (cond n 2 1))
       by_verdicts true n = refl
       by_verdicts false true = refl
@@ -379,7 +379,7 @@ module _ (o : Reading) (w : Writing) (ran : Ran) where
       found : (c : Command) (f : Found) → IsFound o c f → IsThere (program_text o.told c) (λ text. (r : Refusal) → IsRefused text r → ⊥) → DidNotRise o.faults_before o.faults_after
           → IsOneOf (0 ∷ 1 ∷ 2 ∷ 6 ∷ 8 ∷ []) (status f)
       found c (ReadFailed file) is h d = absurd (rose_not o.faults_before o.faults_after is.rose d)
-      found c (Refusing file r) is h d = absurd (never (program_text o.told c) r (refused_there o.told c file.now r is.1) h)
+      found c (Refusing file r) is h d = absurd (not_refused (program_text o.told c) r (refused_there o.told c file.now r is.1) h)
       found c (Reporting r) is h d = by_mode r.mode r.verdicts
 
   -- ---- refusals
@@ -396,3 +396,137 @@ module _ (o : Reading) (w : Writing) (ran : Ran) where
       found c (ReadFailed file) is h d = absurd (rose_not o.faults_before o.faults_after is.rose d)
       found c (Refusing file r) is h d = refl
       found c (Reporting r) (read, findings, same, proofs, told) h d = absurd (never_told never (program_text o.told c) r told h)
+
+  -- ---- the other statuses, and what is told outside
+
+  pub statuses : (c : Option Command) → HasRunFor c o w ran → IsOneOf (0 ∷ 1 ∷ 2 ∷ 3 ∷ 4 ∷ 5 ∷ 6 ∷ 7 ∷ 8 ∷ []) ran.status
+  statuses = by_case (λ c. IsOneOf (0 ∷ 1 ∷ 2 ∷ 3 ∷ 4 ∷ 5 ∷ 6 ∷ 7 ∷ 8 ∷ []) ran.status)
+      (λ unread none s written. not_of (0 ∷ 1 ∷ 2 ∷ 3 ∷ 4 ∷ 5 ∷ 6 ∷ 7 ∷ 8 ∷ []) refl (sym s))
+      (λ unread none s cut. not_of (0 ∷ 1 ∷ 2 ∷ 3 ∷ 4 ∷ 5 ∷ 6 ∷ 7 ∷ 8 ∷ []) refl (sym s))
+      (λ c f is r s written. not_of (0 ∷ 1 ∷ 2 ∷ 3 ∷ 4 ∷ 5 ∷ 6 ∷ 7 ∷ 8 ∷ []) (found f) (sym s))
+      (λ c f is r s cut. not_of (0 ∷ 1 ∷ 2 ∷ 3 ∷ 4 ∷ 5 ∷ 6 ∷ 7 ∷ 8 ∷ []) refl (sym s))
+      (λ c m. not_of (0 ∷ 1 ∷ 2 ∷ 3 ∷ 4 ∷ 5 ∷ 6 ∷ 7 ∷ 8 ∷ []) refl (sym m.status))
+    where
+      by_verdicts : (b n : Bool) → IsOneOf (0 ∷ 1 ∷ 2 ∷ 3 ∷ 4 ∷ 5 ∷ 6 ∷ 7 ∷ 8 ∷ []) (cond b 0 (cond n 2 1))
+      by_verdicts true n = refl
+      by_verdicts false true = refl
+      by_verdicts false false = refl
+
+      by_mode : (m : Mode) (verdicts : List Decided) → IsOneOf (0 ∷ 1 ∷ 2 ∷ 3 ∷ 4 ∷ 5 ∷ 6 ∷ 7 ∷ 8 ∷ []) (status_in m verdicts)
+      by_mode (mode.Verify limits) verdicts = by_verdicts (all_proved verdicts) (none_unproved verdicts)
+      by_mode mode.Conditions verdicts = refl
+
+      found : (f : Found) → IsOneOf (0 ∷ 1 ∷ 2 ∷ 3 ∷ 4 ∷ 5 ∷ 6 ∷ 7 ∷ 8 ∷ []) (status f)
+      found (ReadFailed file) = refl
+      found (Refusing file r) = refl
+      found (Reporting r) = by_mode r.mode r.verdicts
+
+  pub reported : (c : Option Command) → HasRunFor c o w ran → IsSome ran.report → IsOneOf (0 ∷ 1 ∷ 2 ∷ 5 ∷ 8 ∷ []) ran.status
+  reported = by_case (λ c. IsSome ran.report → IsOneOf (0 ∷ 1 ∷ 2 ∷ 5 ∷ 8 ∷ []) ran.status)
+      (λ unread none s written h. absurd (false≢true (subst IsSome none h)))
+      (λ unread none s cut h. not_of (0 ∷ 1 ∷ 2 ∷ 5 ∷ 8 ∷ []) refl (sym s))
+      (λ c f is r s written h. not_of (0 ∷ 1 ∷ 2 ∷ 5 ∷ 8 ∷ []) (found f (subst IsSome r h)) (sym s))
+      (λ c f is r s cut h. not_of (0 ∷ 1 ∷ 2 ∷ 5 ∷ 8 ∷ []) refl (sym s))
+      (λ c m h. absurd (false≢true (subst IsSome m.report h)))
+    where
+      by_verdicts : (b n : Bool) → IsOneOf (0 ∷ 1 ∷ 2 ∷ 5 ∷ 8 ∷ []) (cond b 0 (cond n 2 1))
+      by_verdicts true n = refl
+      by_verdicts false true = refl
+      by_verdicts false false = refl
+
+      by_mode : (m : Mode) (verdicts : List Decided) → IsOneOf (0 ∷ 1 ∷ 2 ∷ 5 ∷ 8 ∷ []) (status_in m verdicts)
+      by_mode (mode.Verify limits) verdicts = by_verdicts (all_proved verdicts) (none_unproved verdicts)
+      by_mode mode.Conditions verdicts = refl
+
+      found : (f : Found) → IsSome (report f) → IsOneOf (0 ∷ 1 ∷ 2 ∷ 5 ∷ 8 ∷ []) (status f)
+      found (ReadFailed file) h = absurd (false≢true h)
+      found (Refusing file r) h = absurd (false≢true h)
+      found (Reporting r) h = by_mode r.mode r.verdicts
+
+  pub read_fault : (c : Option Command) → HasRunFor c o w ran → ran.status ≡ 4 → Rose o.faults_before o.faults_after
+  read_fault = by_case (λ c. ran.status ≡ 4 → Rose o.faults_before o.faults_after)
+      (λ unread none s written e. absurd (false≢true (not_of (7 ∷ []) refl (sym s ∙ e))))
+      (λ unread none s cut e. absurd (false≢true (not_of (5 ∷ []) refl (sym s ∙ e))))
+      (λ c f is r s written e. found c f is (sym s ∙ e))
+      (λ c f is r s cut e. absurd (false≢true (not_of (5 ∷ []) refl (sym s ∙ e))))
+      (λ c m e. absurd (false≢true (not_of (6 ∷ []) refl (sym m.status ∙ e))))
+    where
+      found : (c : Command) (f : Found) → IsFound o c f → status f ≡ 4 → Rose o.faults_before o.faults_after
+      found c (ReadFailed file) is e = is.rose
+      found c (Refusing file r) is e = absurd (false≢true (not_of (3 ∷ []) refl e))
+      found c (Reporting r) is e = absurd (false≢true (not_of (0 ∷ 1 ∷ 2 ∷ 8 ∷ []) (page_found r.mode r.verdicts) e))
+
+  pub write_fault : (c : Option Command) → HasRunFor c o w ran → ran.status ≡ 5 → Rose w.faults_before w.faults_after
+  write_fault = by_case (λ c. ran.status ≡ 5 → Rose w.faults_before w.faults_after)
+      (λ unread none s written e. absurd (false≢true (not_of (7 ∷ []) refl (sym s ∙ e))))
+      (λ unread none s cut e. cut.rose)
+      (λ c f is r s written e. absurd (false≢true (not_of (0 ∷ 1 ∷ 2 ∷ 3 ∷ 4 ∷ 8 ∷ []) (found_status f) (sym s ∙ e))))
+      (λ c f is r s cut e. cut.rose)
+      (λ c m e. absurd (false≢true (not_of (6 ∷ []) refl (sym m.status ∙ e))))
+
+  pub texts_sound : (c : Option Command) → HasRunFor c o w ran → IsOneOf (0 ∷ 1 ∷ 2 ∷ 3 ∷ 7 ∷ 8 ∷ []) ran.status → o.faults_after ≡ o.faults_before
+  texts_sound = by_case (λ c. IsOneOf (0 ∷ 1 ∷ 2 ∷ 3 ∷ 7 ∷ 8 ∷ []) ran.status → o.faults_after ≡ o.faults_before)
+      (λ unread none s written e. unread.faults)
+      (λ unread none s cut e. unread.faults)
+      (λ c f is r s written e. found c f is (not_of (0 ∷ 1 ∷ 2 ∷ 3 ∷ 7 ∷ 8 ∷ []) e s))
+      (λ c f is r s cut e. absurd (false≢true (not_of (0 ∷ 1 ∷ 2 ∷ 3 ∷ 7 ∷ 8 ∷ []) e s)))
+      (λ c m e. absurd (false≢true (not_of (0 ∷ 1 ∷ 2 ∷ 3 ∷ 7 ∷ 8 ∷ []) e m.status)))
+    where
+      found : (c : Command) (f : Found) → IsFound o c f → IsOneOf (0 ∷ 1 ∷ 2 ∷ 3 ∷ 7 ∷ 8 ∷ []) (status f) → o.faults_after ≡ o.faults_before
+      found c (ReadFailed file) is e = absurd (false≢true e)
+      found c (Refusing file r) is e = is.0.faults
+      found c (Reporting r) is e = is.0.faults
+
+  pub sink_sound : (c : Option Command) → HasRunFor c o w ran → IsOneOf (0 ∷ 1 ∷ 2 ∷ 3 ∷ 4 ∷ 6 ∷ 7 ∷ 8 ∷ []) ran.status → w.faults_after ≡ w.faults_before
+  sink_sound = by_case (λ c. IsOneOf (0 ∷ 1 ∷ 2 ∷ 3 ∷ 4 ∷ 6 ∷ 7 ∷ 8 ∷ []) ran.status → w.faults_after ≡ w.faults_before)
+      (λ unread none s written e. written.faults)
+      (λ unread none s cut e. absurd (false≢true (not_of (0 ∷ 1 ∷ 2 ∷ 3 ∷ 4 ∷ 6 ∷ 7 ∷ 8 ∷ []) e s)))
+      (λ c f is r s written e. written.faults)
+      (λ c f is r s cut e. absurd (false≢true (not_of (0 ∷ 1 ∷ 2 ∷ 3 ∷ 4 ∷ 6 ∷ 7 ∷ 8 ∷ []) e s)))
+      (λ c m e. m.writing.faults)
+
+  pub words_told : (c : Option Command) → HasRunFor c o w ran → ran.status ≡ 7 → w.written_after ≡ added w.written_before words_line
+  words_told = by_case (λ c. ran.status ≡ 7 → w.written_after ≡ added w.written_before words_line)
+      (λ unread none s written e. written.written)
+      (λ unread none s cut e. absurd (false≢true (not_of (5 ∷ []) refl (sym s ∙ e))))
+      (λ c f is r s written e. absurd (false≢true (not_of (0 ∷ 1 ∷ 2 ∷ 3 ∷ 4 ∷ 8 ∷ []) (found_status f) (sym s ∙ e))))
+      (λ c f is r s cut e. absurd (false≢true (not_of (5 ∷ []) refl (sym s ∙ e))))
+      (λ c m e. absurd (false≢true (not_of (6 ∷ []) refl (sym m.status ∙ e))))
+
+  pub unwritten : (c : Option Command) → HasRunFor c o w ran → ran.status ≡ 6 → w.written_after ≡ w.written_before
+  unwritten = by_case (λ c. ran.status ≡ 6 → w.written_after ≡ w.written_before)
+      (λ unread none s written e. absurd (false≢true (not_of (7 ∷ []) refl (sym s ∙ e))))
+      (λ unread none s cut e. absurd (false≢true (not_of (5 ∷ []) refl (sym s ∙ e))))
+      (λ c f is r s written e. absurd (false≢true (not_of (0 ∷ 1 ∷ 2 ∷ 3 ∷ 4 ∷ 8 ∷ []) (found_status f) (sym s ∙ e))))
+      (λ c f is r s cut e. absurd (false≢true (not_of (5 ∷ []) refl (sym s ∙ e))))
+      (λ c m e. m.writing.written)
+
+  pub refusal_told : (c : Option Command) → HasRunFor c o w ran → ran.status ≡ 3
+      → IsThere c (λ d. (line : List ℕ) × IsRefusalLine o.told d line × (w.written_after ≡ added w.written_before line))
+  refusal_told = by_case (λ c. ran.status ≡ 3 → IsThere c (λ d. (line : List ℕ) × IsRefusalLine o.told d line × (w.written_after ≡ added w.written_before line)))
+      (λ unread none s written e. absurd (false≢true (not_of (7 ∷ []) refl (sym s ∙ e))))
+      (λ unread none s cut e. absurd (false≢true (not_of (5 ∷ []) refl (sym s ∙ e))))
+      (λ c f is r s written e. found c f is written.written (sym s ∙ e))
+      (λ c f is r s cut e. absurd (false≢true (not_of (5 ∷ []) refl (sym s ∙ e))))
+      (λ c m e. absurd (false≢true (not_of (6 ∷ []) refl (sym m.status ∙ e))))
+    where
+      found : (c : Command) (f : Found) → IsFound o c f → w.written_after ≡ added w.written_before (output f) → status f ≡ 3
+          → (line : List ℕ) × IsRefusalLine o.told c line × (w.written_after ≡ added w.written_before line)
+      found c (ReadFailed file) is out e = absurd (false≢true (not_of (4 ∷ []) refl e))
+      found c (Refusing file r) is out e = (refusal_line file.now r, (file.now, r, is.1, refl), out)
+      found c (Reporting r) is out e = absurd (false≢true (not_of (0 ∷ 1 ∷ 2 ∷ 8 ∷ []) (page_found r.mode r.verdicts) e))
+
+  pub complete : (c : Option Command) → HasRunFor c o w ran → IsThere c (λ d. IsThere (program_text o.told d) (λ text. (r : Refusal) → IsRefused text r → ⊥))
+      → DidNotRise o.faults_before o.faults_after → IsSome ran.report ⊎ (ran.status ≡ 6)
+  complete = by_case (λ c. IsThere c (λ d. IsThere (program_text o.told d) (λ text. (r : Refusal) → IsRefused text r → ⊥))
+      → DidNotRise o.faults_before o.faults_after → IsSome ran.report ⊎ (ran.status ≡ 6))
+      (λ unread none s written h d. absurd h)
+      (λ unread none s cut h d. absurd h)
+      (λ c f is r s written h d. inl (subst IsSome (sym r) (found c f is h d)))
+      (λ c f is r s cut h d. inl (subst IsSome (sym r) (found c f is h d)))
+      (λ c m h d. inr m.status)
+    where
+      found : (c : Command) (f : Found) → IsFound o c f → IsThere (program_text o.told c) (λ text. (r : Refusal) → IsRefused text r → ⊥) → DidNotRise o.faults_before o.faults_after → IsSome (report f)
+      found c (ReadFailed file) is h d = absurd (rose_not o.faults_before o.faults_after is.rose d)
+      found c (Refusing file r) is h d = absurd (not_refused (program_text o.told c) r (refused_there o.told c file.now r is.1) h)
+      found c (Reporting r) is h d = refl

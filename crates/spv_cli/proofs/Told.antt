@@ -1,6 +1,7 @@
 -- A text that is read up to one byte above its limit, and a report of it with proofs or without.
-use Rattle.std.proofs.Common.{◌≡◌, ◌∙◌, inl, inr, ℕ, ◌<◌, Bool, List, [], ◌∷◌, ◌++◌, length, map, take, get_or, Option, Some, None, IfSome, Vec, Global, Bor, refl, sym, ap, subst, arith}
+use Rattle.std.proofs.Common.{◌≡◌, ◌∙◌, inl, inr, ℕ, ◌<◌, Bool, List, [], ◌∷◌, ◌++◌, length, map, take, get_or, Option, Some, None, IfSome, Result, Ok, Err, IfOk, Vec, Global, Bor, refl, sym, ap, subst, arith}
 use Rattle.std.specs.Prelude.{option_and_then}
+use Rattle.std.specs.declared.alloc.AllocError.{AllocError}
 use Rattle.std.proofs.lemmas.List.{append-nil, append_assoc}
 use Rattle.spv_reports.specs.Reports.{Findings}
 use Rattle.spv_reports.proofs.Reports.{same_report_on}
@@ -9,8 +10,10 @@ use Rattle.spv_verify.specs.Refusals.{IsRefused, IsReportOf}
 use Rattle.spv_verify.proofs.Whole.{refused_whole, report_whole}
 use Rattle.spv_cli.specs.declared.found.Found.{Found}
 use Rattle.spv_cli.specs.declared.found.Found.TheVariants.{ReadFailed, Refusing, Reporting}
+use Rattle.spv_cli.specs.declared.reading.Gathered.{Gathered}
+use Rattle.spv_cli.specs.declared.reading.Gathered.TheVariants.{Texts}
 use Rattle.spv_cli.specs.Commands.{Command, program_file}
-use Rattle.spv_cli.specs.Gathering.{AreFirstOf, AreTextsOf, IsTextFound}
+use Rattle.spv_cli.specs.Gathering.{AreFirstOf, AreTextsOf, HasGathered, IsTextFound}
 use Rattle.spv_cli.specs.Runs.{Reading, AreAskedInPart, AreAskedUpTo, AreReadInPart, AreReadWhole, IsFound}
 
 -- whether a page has proofs changes nothing of what a report is of
@@ -62,6 +65,19 @@ found_in o mode proofs [] texts d e f read are lt found = absurd (omega arith)
 found_in o mode proofs (x ∷ files) [] d e f read are lt found = absurd are
 found_in o mode proofs (x ∷ files) (t ∷ texts) d e f read are lt found =
     found_text o (record { mode = mode; proofs = proofs; files = x.now ∷ map (λ file. file.now) files }) x.now t.items f read refl are.0 found
+
+pub found_result : (o : Reading) (mode : Mode) (proofs : Bool) (slice files : List (Bor (List ℕ))) (g : Gathered) (read : Vec (Vec ℕ Global) Global) (d : Bor (List ℕ)) (e : Vec ℕ Global) (text : List ℕ) (result : Result Found AllocError)
+    → HasGathered o (map (λ file. file.now) slice) g → g ≡ Texts read → slice ≡ files → 0 < length files → d ≡ get_or files 0 d → e ≡ get_or read.items 0 e → text ≡ e.items
+    → IfOk result (IsTextFound mode proofs d.now text) → IfOk result (IsFound o (record { mode = mode; proofs = proofs; files = map (λ file. file.now) files }))
+found_result o mode proofs slice files g read d e text (Ok f) has is same some file first bytes found =
+    let gathered : HasGathered o (map (λ file. file.now) files) g = subst (λ (s : List (Bor (List ℕ))). HasGathered o (map (λ file. file.now) s) g) same has in
+    let texts : HasGathered o (map (λ file. file.now) files) (Texts read) = subst (HasGathered o (map (λ file. file.now) files)) is gathered in
+    let here : IsTextFound mode proofs d.now (get_or read.items 0 e).items f =
+        subst (λ (t : List ℕ). IsTextFound mode proofs d.now t f) (bytes ∙ ap (λ (t : Vec ℕ Global). t.items) first) found in
+    let there : IsTextFound mode proofs (get_or files 0 d).now (get_or read.items 0 e).items f =
+        subst (λ (b : Bor (List ℕ)). IsTextFound mode proofs b.now (get_or read.items 0 e).items f) file here in
+    found_in o mode proofs files read.items d e f texts.0 texts.1 some there
+found_result o mode proofs slice files g read d e text (Err fault) has is same some file first bytes found = tt
 
 -- what is found is found by reading the first of the files
 in_part : (before after : Option (List (List ℕ))) (files : List (List ℕ)) (file : List ℕ) → AreAskedUpTo before after files file → AreAskedInPart before after files
