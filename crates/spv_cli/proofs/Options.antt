@@ -1,13 +1,13 @@
 -- Options that `clap` found have values of their kind.
-use Rattle.std.proofs.Common.{◌≡◌, ◌⊎◌, ◌∙◌, ◌<◌, ◌^◌, ℕ, zero, suc, Bool, true, false, List, [], ◌∷◌, length, map, Option, Some, None, IfSome, refl, sym, ap, subst, inl, inr, arith, codes}
-use Rattle.std.specs.Prelude.{⊤, option_map, slice_get, unwrap_or, ◌≤◌}
+use Rattle.std.proofs.Common.{◌≡◌, ◌∙◌, ◌<◌, ℕ, zero, suc, Bool, true, false, List, [], ◌∷◌, length, map, Option, Some, None, IfSome, refl, sym, ap, subst, inl, inr, arith, codes}
+use Rattle.std.specs.Prelude.{⊤, option_map, slice_get, unwrap_or}
 use Rattle.std.specs.List.{All, slice_index_or}
 use Rattle.std.specs.Str.{bytes_eq}
 use Rattle.std.specs.Borrow.{Bor}
 use Rattle.std.proofs.lemmas.Bool.{cases_lt, false≢true}
 use Rattle.std.proofs.lemmas.Slice.Eq.{bytes_eq-Decides}
 use Rattle.std.proofs.lemmas.List.Elements.{All-get_or}
-use Rattle.clap.specs.Facts.{args_of, groups_of, Entry, EntryPasses, IsParsed, PassesArg, parser_of, parser_of_value}
+use Rattle.clap.specs.Facts.{args_of, groups_of, Entry, EntryPasses, IsParsed, PassesArg, parser_of_value}
 use Rattle.clap.specs.Built.{IsAuto, IsParsedFrom, SameRules}
 use Rattle.clap.specs.Matches.{matched_of, one_text, found_of, has_subcommand}
 use Rattle.clap.specs.Values.{Accepts, read_as, reading_of, IsUnsignedIn}
@@ -16,7 +16,6 @@ use Rattle.clap.specs.Simple.{App, app_of}
 use Rattle.clap.specs.declared.builder.value_parser.Reading.{Reading}
 use Rattle.clap.specs.declared.builder.arg.Arg.{Arg}
 use Rattle.clap.specs.declared.builder.command.Command.{Command}
-use Rattle.clap.specs.declared.builder.command.Command.TheViews.{out-Command}
 use Rattle.clap.specs.declared.builder.value_parser.ValueParser.{ValueParser}
 use Rattle.clap.specs.declared.builder.value_parser.ValueParser.TheVariants as vp
 use Rattle.clap.specs.declared.parser.matches.ArgMatches.{ArgMatches}
@@ -25,7 +24,7 @@ use Rattle.clap.specs.declared.parser.matches.MatchedArg.{MatchedArg}
 use Rattle.clap.proofs.CallerLemmas.{entry_by_id}
 use Rattle.clap.proofs.SimpleLemmas.{all_simple, plain_fields, simple_groups}
 use Rattle.spv_cli.specs.Arguments.{spv, rules}
-use Rattle.spv_cli.specs.Words.{AreOptions, IsLimit, IsBoolText}
+use Rattle.spv_cli.specs.Words.{AreOptions, IsBoolText}
 
 -- ---- the parser of an argument
 

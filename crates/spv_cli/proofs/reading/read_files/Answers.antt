@@ -1,11 +1,9 @@
-use Rattle.std.proofs.Common.{◌≡◌, ◌∙◌, ◌++◌, ◌+◌, ◌∷◌, ℕ, List, [], Option, Some, Err, Bor, map, take, sym, ap, subst, inl, IfSome}
+use Rattle.std.proofs.Common.{◌≡◌, ◌∙◌, ◌+◌, ℕ, List, [], Option, Some, Err, Bor, map, ap, subst, inl}
 use Rattle.std.specs.Prelude.{slice_get}
 use Rattle.std.specs.List.{slice_index_or}
 use Rattle.std.proofs.lemmas.Option.{slice_get-get_or}
-use Rattle.spv_io.specs.Texts.{named}
 use Rattle.spv_io.proofs.Pieces.{on_err}
 use Rattle.spv_cli.specs.Gathering.{AreFirstOf}
-use Rattle.spv_cli.specs.Runs.{named_all}
 use Rattle.spv_cli.proofs.InOrder.{asked_in_part, asked_up_to, map_last, more_asked, more_texts, rose_from}
 use Rattle.spv_cli.proofs.reading.read_files.Goals as goal
 

@@ -1,4 +1,4 @@
-use Rattle.std.proofs.Common.{◌∙◌, refl, ap, codes}
+use Rattle.std.proofs.Common.{◌∙◌, ap, codes}
 use Rattle.clap.specs.Words.{found_of, one_text}
 use Rattle.spv_cli.specs.Commands.{given_or}
 use Rattle.spv_cli.proofs.ByRows.{limits_found}
