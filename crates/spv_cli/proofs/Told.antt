@@ -32,13 +32,6 @@ pub if_told : (told : Option (List ℕ)) (bytes : List ℕ) (P : List ℕ → Ty
 if_told None bytes P same grow here = tt
 if_told (Some text) bytes P same grow here = grow text (subst P same here)
 
--- where there is a file, there is a text
-pub some_text : (told : List ℕ → Option (List ℕ)) (files : List (Bor (List ℕ))) (texts : List (Vec ℕ Global)) → AreTextsOf told (map (λ file. file.now) files) (map (λ text. text.items) texts)
-    → 0 < length files → 0 < length texts
-some_text told [] texts are lt = absurd (omega arith)
-some_text told (file ∷ files) [] are lt = absurd are
-some_text told (file ∷ files) (bytes ∷ texts) are lt = omega arith
-
 -- what is found of the first text is found of the files
 found_text : (o : Reading) (c : Command) (file bytes : List ℕ) (f : Found) → AreReadWhole o c.files → program_file c ≡ Some file → AreFirstOf o.told file bytes → IsTextFound c.mode c.proofs file bytes f
     → IsFound o c f
