@@ -66,9 +66,9 @@ found_result o mode proofs slice files g read d e text (Ok f) has is same some f
     let gathered : HasGathered o (map (λ file. file.now) files) g = subst (λ (s : List (Bor (List ℕ))). HasGathered o (map (λ file. file.now) s) g) same has in
     let texts : HasGathered o (map (λ file. file.now) files) (Texts read) = subst (HasGathered o (map (λ file. file.now) files)) is gathered in
     let here : IsTextFound mode proofs d.now (get_or read.items 0 e).items f =
-        subst (λ (t : List ℕ). IsTextFound mode proofs d.now t f) (bytes ∙ ap (λ (t : Vec ℕ Global). t.items) first) found in
+    subst (λ (t : List ℕ). IsTextFound mode proofs d.now t f) (bytes ∙ ap (λ (t : Vec ℕ Global). t.items) first) found in
     let there : IsTextFound mode proofs (get_or files 0 d).now (get_or read.items 0 e).items f =
-        subst (λ (b : Bor (List ℕ)). IsTextFound mode proofs b.now (get_or read.items 0 e).items f) file here in
+    subst (λ (b : Bor (List ℕ)). IsTextFound mode proofs b.now (get_or read.items 0 e).items f) file here in
     found_in o mode proofs files read.items d e f texts.0 texts.1 some there
 found_result o mode proofs slice files g read d e text (Err fault) has is same some file first bytes found = tt
 

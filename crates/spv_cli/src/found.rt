@@ -45,12 +45,7 @@ fn report_of(alloc: Global, mode: Mode, text: &[u8]) -> Result<Report, VerifyFau
 
 // The same report, of which a page has proofs where they are wanted.
 #[tactic(auto, using(crate::proofs::Told::same_report_of, spv_reports::proofs::Reports::same_report))]
-fn report_with(
-    alloc: Global,
-    mode: Mode,
-    proofs: bool,
-    text: &[u8],
-) -> Result<Report, VerifyFault>
+fn report_with(alloc: Global, mode: Mode, proofs: bool, text: &[u8]) -> Result<Report, VerifyFault>
     ensures report { IfOk result (IsReportOf text.now) }
     ensures mode { IfOk result (λ r. r.mode ≡ mode) }
     ensures proofs { IfOk result (λ r. r.proofs ≡ proofs) }

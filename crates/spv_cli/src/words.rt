@@ -182,12 +182,7 @@ fn command_in<'a>(
 {
     let files = files_in(alloc, matches)?;
     match matches.get_str("mode") {
-        Some(word) => Ok(command_named(
-            word,
-            limits_in(matches),
-            proofs_in(matches),
-            files,
-        )),
+        Some(word) => Ok(command_named(word, limits_in(matches), proofs_in(matches), files)),
         None => Ok(None),
     }
 }
