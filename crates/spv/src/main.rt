@@ -1,4 +1,4 @@
-//! `spv verify FILE`: main alone. It hands the words, the files and the standard output to the run, and
+//! `spv`: main alone. It hands the words, the files and the standard output to the run, and
 //! ends with its status.
 #![tactic(auto)]
 

@@ -1,5 +1,6 @@
 -- What a run promises follows from what it does.
-use Rattle.std.proofs.Common.{ap, ◌≡◌, inl, inr, ℕ, ◌≤◌, ◌<◌, ◌-◌, ◌^◌, Bool, true, false, cond, List, [], ◌∷◌, Option, Some, None, IfSome, refl, sym, ◌∙◌, subst, arith}
+use Rattle.std.proofs.Common.{ap, ◌≡◌, inl, inr, ◌⊎◌, ℕ, ◌≤◌, ◌<◌, ◌-◌, ◌^◌, Bool, true, false, cond, List, [], ◌∷◌, ◌++◌, Option, Some, None, IfSome, IsSome, refl, sym, ◌∙◌, subst, arith}
+use Rattle.std.specs.Prelude.{option_and_then}
 use Rattle.std.proofs.lemmas.Bool.{false≢true}
 use Rattle.spv_io.specs.Faults.{raised, Rose, DidNotRise}
 use Rattle.spv_io.specs.Sink.{added, AddsPrefix}
@@ -9,7 +10,7 @@ use Rattle.spv_meaning.specs.Correct.{Correct}
 use Rattle.spv_reports.specs.declared.mode.Mode.{Mode}
 use Rattle.spv_verdicts.specs.declared.answers.verdicts.Decided.{Decided}
 use Rattle.spv_reports.specs.declared.mode.Mode.TheVariants as mode
-use Rattle.spv_reports.specs.Reports.{AreVerdictsIn, Findings, IsReportOn, has_verdicts, all_proved, none_unproved}
+use Rattle.spv_reports.specs.Reports.{AreVerdictsIn, Findings, IsReport, IsReportOn, has_verdicts, all_proved, none_unproved}
 use Rattle.spv_reports.proofs.Reports.{proved_correct}
 use Rattle.spv_listing.specs.Page.{page}
 use Rattle.spv_verify.specs.declared.refused.refusal.Refusal.{Refusal}
@@ -17,16 +18,17 @@ use Rattle.spv_verify.specs.Refusals.{IsProgramOf, IsRefused, IsReportOf, HaveNo
 use Rattle.spv_cli.specs.declared.found.Found.{Found}
 use Rattle.spv_cli.specs.declared.found.Found.TheVariants.{ReadFailed, Refusing, Reporting}
 use Rattle.spv_cli.specs.declared.running.Ran.{Ran}
-use Rattle.spv_cli.specs.Commands.{Command}
-use Rattle.spv_cli.specs.Output.{words_line, status_in}
-use Rattle.spv_cli.specs.Runs.{Reading, Writing, IsUnread, IsWritten, IsCut, IsFound, IsOutOfMemory, HasRunFor, output, status, report}
-use Rattle.spv_cli.specs.Promises.{IsOneOf, IsThere, IsDueFor}
+use Rattle.spv_cli.specs.Commands.{Command, files_asked}
+use Rattle.spv_cli.specs.Output.{read_fault_line, refusal_line, words_line, status_in}
+use Rattle.spv_cli.specs.Runs.{AreAskedInPart, AreAskedUpTo, Reading, Writing, IsUnread, IsWritten, IsCut, IsFound, IsOutOfMemory, IsRefusedIn, HasRunFor, named_all, output, program_text, status, report}
+use Rattle.spv_cli.specs.Promises.{IsOneOf, IsThere, IsDueFor, IsRefusalLine}
+use Rattle.spv_cli.proofs.Told.{reading_of}
 
 -- ---- what is found, by the status
 
 found_status : (f : Found) → IsOneOf (0 ∷ 1 ∷ 2 ∷ 3 ∷ 4 ∷ 8 ∷ []) (status f)
-found_status ReadFailed = refl
-found_status (Refusing r) = refl
+found_status (ReadFailed file) = refl
+found_status (Refusing file r) = refl
 found_status (Reporting r) = by_mode r.mode
   where
     by_verdicts : (b n : Bool) → IsOneOf (0 ∷ 1 ∷ 2 ∷ 3 ∷ 4 ∷ 8 ∷ []) (cond b 0 (cond n 2 1))
@@ -37,6 +39,16 @@ found_status (Reporting r) = by_mode r.mode
     by_mode : (m : Mode) → IsOneOf (0 ∷ 1 ∷ 2 ∷ 3 ∷ 4 ∷ 8 ∷ []) (status_in m r.verdicts)
     by_mode (mode.Verify limits) = by_verdicts (all_proved r.verdicts) (none_unproved r.verdicts)
     by_mode mode.Conditions = refl
+
+-- the status of a page
+page_found : (m : Mode) (verdicts : List Decided) → IsOneOf (0 ∷ 1 ∷ 2 ∷ 8 ∷ []) (status_in m verdicts)
+page_found (mode.Verify limits) verdicts = by_verdicts (all_proved verdicts) (none_unproved verdicts)
+  where
+    by_verdicts : (b n : Bool) → IsOneOf (0 ∷ 1 ∷ 2 ∷ 8 ∷ []) (cond b 0 (cond n 2 1))
+    by_verdicts true n = refl
+    by_verdicts false true = refl
+    by_verdicts false false = refl
+page_found mode.Conditions verdicts = refl
 
 -- another status
 not_of : (numbers : List ℕ) {s t : ℕ} → IsOneOf numbers s → s ≡ t → IsOneOf numbers t
@@ -50,8 +62,8 @@ abbrev pub IsProvedReport : Findings → Type 0
 IsProvedReport r = (has_verdicts r.mode ≡ true) × (all_proved r.verdicts ≡ true)
 
 at_zero : (o : Reading) (c : Command) (f : Found) → IsFound o c f → status f ≡ 0 → IsThere (report f) IsProvedReport
-at_zero o c ReadFailed is e = absurd (false≢true (not_of (4 ∷ []) refl e))
-at_zero o c (Refusing r) is e = absurd (false≢true (not_of (3 ∷ []) refl e))
+at_zero o c (ReadFailed file) is e = absurd (false≢true (not_of (4 ∷ []) refl e))
+at_zero o c (Refusing file r) is e = absurd (false≢true (not_of (3 ∷ []) refl e))
 at_zero o c (Reporting r) is e = by_mode r.mode refl e
   where
     by_verdicts : (b n : Bool) → ◌≡◌ {A = ℕ} (cond b 0 (cond n 2 1)) 0 → b ≡ true
@@ -74,8 +86,8 @@ abbrev pub IsListReport : Findings → Type 0
 IsListReport r = (has_verdicts r.mode ≡ false) × (r.verdicts ≡ [])
 
 at_one : (o : Reading) (c : Command) (f : Found) → IsFound o c f → status f ≡ 1 → IsThere (report f) IsUnprovedReport
-at_one o c ReadFailed is e = absurd (false≢true (not_of (4 ∷ []) refl e))
-at_one o c (Refusing r) is e = absurd (false≢true (not_of (3 ∷ []) refl e))
+at_one o c (ReadFailed file) is e = absurd (false≢true (not_of (4 ∷ []) refl e))
+at_one o c (Refusing file r) is e = absurd (false≢true (not_of (3 ∷ []) refl e))
 at_one o c (Reporting r) is e = by_mode r.mode refl e
   where
     by_verdicts : (b n : Bool) → ◌≡◌ {A = ℕ} (cond b 0 (cond n 2 1)) 1 → n ≡ false
@@ -88,8 +100,8 @@ at_one o c (Reporting r) is e = by_mode r.mode refl e
     by_mode mode.Conditions same e = absurd (false≢true (not_of (8 ∷ []) refl e))
 
 at_two : (o : Reading) (c : Command) (f : Found) → IsFound o c f → status f ≡ 2 → IsThere (report f) IsGivenUpReport
-at_two o c ReadFailed is e = absurd (false≢true (not_of (4 ∷ []) refl e))
-at_two o c (Refusing r) is e = absurd (false≢true (not_of (3 ∷ []) refl e))
+at_two o c (ReadFailed file) is e = absurd (false≢true (not_of (4 ∷ []) refl e))
+at_two o c (Refusing file r) is e = absurd (false≢true (not_of (3 ∷ []) refl e))
 at_two o c (Reporting r) is e = by_mode r.mode refl e
   where
     by_verdicts : (b n : Bool) → ◌≡◌ {A = ℕ} (cond b 0 (cond n 2 1)) 2 → (n ≡ true) × (b ≡ false)
@@ -102,8 +114,8 @@ at_two o c (Reporting r) is e = by_mode r.mode refl e
     by_mode mode.Conditions same e = absurd (false≢true (not_of (8 ∷ []) refl e))
 
 at_eight : (o : Reading) (c : Command) (f : Found) → IsFound o c f → status f ≡ 8 → IsThere (report f) IsListReport
-at_eight o c ReadFailed is e = absurd (false≢true (not_of (4 ∷ []) refl e))
-at_eight o c (Refusing r) is e = absurd (false≢true (not_of (3 ∷ []) refl e))
+at_eight o c (ReadFailed file) is e = absurd (false≢true (not_of (4 ∷ []) refl e))
+at_eight o c (Refusing file r) is e = absurd (false≢true (not_of (3 ∷ []) refl e))
 at_eight o c (Reporting r) is e = by_mode r.mode refl is.1.is_on.verdicts e
   where
     by_verdicts : (b n : Bool) → ◌≡◌ {A = ℕ} (cond b 0 (cond n 2 1)) 8 → ⊥
@@ -125,8 +137,24 @@ never_told : HaveNotBoth → (told : Option (List ℕ)) (f : Findings) → IfSom
 never_told never None f is h = h
 never_told never (Some text) f is (r, h) = never text f r is h
 
+not_refused : (told : Option (List ℕ)) (r : Refusal) → IfSome told (λ text. IsRefused text r) → IsThere told (λ text. (r : Refusal) → IsRefused text r → ⊥) → ⊥
+not_refused None r is h = h
+not_refused (Some text) r is h = h r is
+
 rose_not : (old new : ℕ) → Rose old new → DidNotRise old new → ⊥
 rose_not old new rose (low, below) = let a : raised old ≤ new = rose in let b : new ≤ old = low in let c : new < 2 ^ 64 - 1 = below in omega (arith, a, b, c)
+
+-- what is refused is the text of the program
+refused_there : (told : List ℕ → Option (List ℕ)) (c : Command) (file : List ℕ) (r : Refusal) → IsRefusedIn told c file r → IfSome (program_text told c) (λ text. IsRefused text r)
+refused_there told c file r is = subst (λ (o : Option (List ℕ)). IfSome (option_and_then told o) (λ text. IsRefused text r)) (sym is.0) is.1
+
+some_none : (c : Command) → ◌≡◌ {A = Option Command} (Some c) None → ⊥
+some_none c e = cc
+
+-- of no files none come first
+no_first : (first rest : List (List ℕ)) → first ++ rest ≡ [] → first ≡ []
+no_first [] rest e = refl
+no_first (file ∷ first) rest e = cc
 
 -- ---- runs, by their cases
 
@@ -134,15 +162,88 @@ module _ (o : Reading) (w : Writing) (ran : Ran) where
   by_case : (P : Option Command → Type 0)
       → (IsUnread o → ran.report ≡ None → ran.status ≡ 7 → IsWritten w words_line → P None)
       → (IsUnread o → ran.report ≡ None → ran.status ≡ 5 → IsCut w words_line → P None)
-      → ((c : Command) (f : Found) → IsFound o c f → ran.report ≡ report f → ran.status ≡ status f → IsWritten w (output c.file f) → P (Some c))
-      → ((c : Command) (f : Found) → IsFound o c f → ran.report ≡ report f → ran.status ≡ 5 → IsCut w (output c.file f) → P (Some c))
-      → ((c : Command) → IsOutOfMemory o w c.file ran → P (Some c))
+      → ((c : Command) (f : Found) → IsFound o c f → ran.report ≡ report f → ran.status ≡ status f → IsWritten w (output f) → P (Some c))
+      → ((c : Command) (f : Found) → IsFound o c f → ran.report ≡ report f → ran.status ≡ 5 → IsCut w (output f) → P (Some c))
+      → ((c : Option Command) → IsOutOfMemory o w (files_asked c) ran → P c)
       → (c : Option Command) → HasRunFor c o w ran → P c
-  by_case P none none_cut done done_cut memory None (unread, (empty, inl (s, written))) = none unread empty s written
-  by_case P none none_cut done done_cut memory None (unread, (empty, inr (s, cut))) = none_cut unread empty s cut
-  by_case P none none_cut done done_cut memory (Some file) (inl (f, is, (r, inl (s, written)))) = done file f is r s written
-  by_case P none none_cut done done_cut memory (Some file) (inl (f, is, (r, inr (s, cut)))) = done_cut file f is r s cut
-  by_case P none none_cut done done_cut memory (Some file) (inr m) = memory file m
+  by_case P none none_cut done done_cut memory None (inl (unread, (empty, inl (s, written)))) = none unread empty s written
+  by_case P none none_cut done done_cut memory None (inl (unread, (empty, inr (s, cut)))) = none_cut unread empty s cut
+  by_case P none none_cut done done_cut memory (Some c) (inl (f, is, (r, inl (s, written)))) = done c f is r s written
+  by_case P none none_cut done done_cut memory (Some c) (inl (f, is, (r, inr (s, cut)))) = done_cut c f is r s cut
+  by_case P none none_cut done done_cut memory None (inr m) = memory None m
+  by_case P none none_cut done done_cut memory (Some c) (inr m) = memory (Some c) m
+
+  -- ---- words
+
+  pub words_only : (c : Option Command) → HasRunFor c o w ran → ran.status ≡ 7 → c ≡ None
+  words_only = by_case (λ c. ran.status ≡ 7 → c ≡ None)
+      (λ unread none s written e. refl)
+      (λ unread none s cut e. refl)
+      (λ c f is r s written e. absurd (false≢true (not_of (0 ∷ 1 ∷ 2 ∷ 3 ∷ 4 ∷ 8 ∷ []) (found_status f) (sym s ∙ e))))
+      (λ c f is r s cut e. absurd (false≢true (not_of (5 ∷ []) refl (sym s ∙ e))))
+      (λ c m e. absurd (false≢true (not_of (6 ∷ []) refl (sym m.status ∙ e))))
+
+  pub words : (c : Option Command) → HasRunFor c o w ran → c ≡ None → IsOneOf (5 ∷ 6 ∷ 7 ∷ []) ran.status
+  words = by_case (λ c. c ≡ None → IsOneOf (5 ∷ 6 ∷ 7 ∷ []) ran.status)
+      (λ unread none s written e. not_of (5 ∷ 6 ∷ 7 ∷ []) refl (sym s))
+      (λ unread none s cut e. not_of (5 ∷ 6 ∷ 7 ∷ []) refl (sym s))
+      (λ c f is r s written e. absurd (some_none c e))
+      (λ c f is r s cut e. absurd (some_none c e))
+      (λ c m e. not_of (5 ∷ 6 ∷ 7 ∷ []) refl (sym m.status))
+
+  -- ---- reading
+
+  pub unread : (c : Option Command) → HasRunFor c o w ran → c ≡ None → o.asked_after ≡ o.asked_before
+  unread = by_case (λ c. c ≡ None → o.asked_after ≡ o.asked_before)
+      (λ unread none s written e. unread.asked)
+      (λ unread none s cut e. unread.asked)
+      (λ c f is r s written e. absurd (some_none c e))
+      (λ c f is r s cut e. absurd (some_none c e))
+      memory
+    where
+      memory : (c : Option Command) → IsOutOfMemory o w (files_asked c) ran → c ≡ None → o.asked_after ≡ o.asked_before
+      memory None m e = m.reading.asked.asked ∙ ap (named_all o.asked_before) (no_first m.reading.asked.first m.reading.asked.rest (sym m.reading.asked.are_first))
+      memory (Some c) m e = absurd (some_none c e)
+
+  pub once : (c : Option Command) → HasRunFor c o w ran → IfSome c (λ d. AreAskedInPart o.asked_before o.asked_after d.files)
+  once = by_case (λ c. IfSome c (λ d. AreAskedInPart o.asked_before o.asked_after d.files))
+      (λ unread none s written. tt)
+      (λ unread none s cut. tt)
+      (λ c f is r s written. (reading_of o c f is).asked)
+      (λ c f is r s cut. (reading_of o c f is).asked)
+      memory
+    where
+      memory : (c : Option Command) → IsOutOfMemory o w (files_asked c) ran → IfSome c (λ d. AreAskedInPart o.asked_before o.asked_after d.files)
+      memory None m = tt
+      memory (Some c) m = m.reading.asked
+
+  pub asked : (c : Option Command) → HasRunFor c o w ran → IsOneOf (0 ∷ 1 ∷ 2 ∷ 3 ∷ 8 ∷ []) ran.status → IsThere c (λ d. o.asked_after ≡ named_all o.asked_before d.files)
+  asked = by_case (λ c. IsOneOf (0 ∷ 1 ∷ 2 ∷ 3 ∷ 8 ∷ []) ran.status → IsThere c (λ d. o.asked_after ≡ named_all o.asked_before d.files))
+      (λ unread none s written e. absurd (false≢true (not_of (0 ∷ 1 ∷ 2 ∷ 3 ∷ 8 ∷ []) e s)))
+      (λ unread none s cut e. absurd (false≢true (not_of (0 ∷ 1 ∷ 2 ∷ 3 ∷ 8 ∷ []) e s)))
+      (λ c f is r s written e. found c f is (not_of (0 ∷ 1 ∷ 2 ∷ 3 ∷ 8 ∷ []) e s))
+      (λ c f is r s cut e. absurd (false≢true (not_of (0 ∷ 1 ∷ 2 ∷ 3 ∷ 8 ∷ []) e s)))
+      (λ c m e. absurd (false≢true (not_of (0 ∷ 1 ∷ 2 ∷ 3 ∷ 8 ∷ []) e m.status)))
+    where
+      found : (c : Command) (f : Found) → IsFound o c f → IsOneOf (0 ∷ 1 ∷ 2 ∷ 3 ∷ 8 ∷ []) (status f) → o.asked_after ≡ named_all o.asked_before c.files
+      found c (ReadFailed file) is e = absurd (false≢true e)
+      found c (Refusing file r) is e = is.0.asked
+      found c (Reporting r) is e = is.0.asked
+
+  pub read_fault_told : (c : Option Command) → HasRunFor c o w ran → ran.status ≡ 4
+      → IsThere c (λ d. (file : List ℕ) × AreAskedUpTo o.asked_before o.asked_after d.files file × (w.written_after ≡ added w.written_before (read_fault_line file)))
+  read_fault_told = by_case (λ c. ran.status ≡ 4 → IsThere c (λ d. (file : List ℕ) × AreAskedUpTo o.asked_before o.asked_after d.files file × (w.written_after ≡ added w.written_before (read_fault_line file))))
+      (λ unread none s written e. absurd (false≢true (not_of (7 ∷ []) refl (sym s ∙ e))))
+      (λ unread none s cut e. absurd (false≢true (not_of (5 ∷ []) refl (sym s ∙ e))))
+      (λ c f is r s written e. found c f is written.written (sym s ∙ e))
+      (λ c f is r s cut e. absurd (false≢true (not_of (5 ∷ []) refl (sym s ∙ e))))
+      (λ c m e. absurd (false≢true (not_of (6 ∷ []) refl (sym m.status ∙ e))))
+    where
+      found : (c : Command) (f : Found) → IsFound o c f → w.written_after ≡ added w.written_before (output f) → status f ≡ 4
+          → (file : List ℕ) × AreAskedUpTo o.asked_before o.asked_after c.files file × (w.written_after ≡ added w.written_before (read_fault_line file))
+      found c (ReadFailed file) is out e = (file.now, is.asked, out)
+      found c (Refusing file r) is out e = absurd (false≢true (not_of (3 ∷ []) refl e))
+      found c (Reporting r) is out e = absurd (false≢true (not_of (0 ∷ 1 ∷ 2 ∷ 8 ∷ []) (page_found r.mode r.verdicts) e))
 
   -- ---- reports
 
@@ -150,9 +251,9 @@ module _ (o : Reading) (w : Writing) (ran : Ran) where
   proved = by_case (λ c. ran.status ≡ 0 → IsThere ran.report IsProvedReport)
       (λ unread none s written e. absurd (false≢true (not_of (7 ∷ []) refl (sym s ∙ e))))
       (λ unread none s cut e. absurd (false≢true (not_of (5 ∷ []) refl (sym s ∙ e))))
-      (λ file f is r s written e. there IsProvedReport r (at_zero o file f is (sym s ∙ e)))
-      (λ file f is r s cut e. absurd (false≢true (not_of (5 ∷ []) refl (sym s ∙ e))))
-      (λ file m e. absurd (false≢true (not_of (6 ∷ []) refl (sym m.status ∙ e))))
+      (λ c f is r s written e. there IsProvedReport r (at_zero o c f is (sym s ∙ e)))
+      (λ c f is r s cut e. absurd (false≢true (not_of (5 ∷ []) refl (sym s ∙ e))))
+      (λ c m e. absurd (false≢true (not_of (6 ∷ []) refl (sym m.status ∙ e))))
 
   -- what a status says of the report
   by_status : (n : ℕ) (P : Findings → Type 0) → (IsOneOf (5 ∷ 6 ∷ 7 ∷ []) n → ⊥) → ((c : Command) (f : Found) → IsFound o c f → status f ≡ n → IsThere (report f) P)
@@ -160,9 +261,9 @@ module _ (o : Reading) (w : Writing) (ran : Ran) where
   by_status n P other at = by_case (λ c. ran.status ≡ n → IsThere ran.report P)
       (λ unread none s written e. absurd (other (not_of (5 ∷ 6 ∷ 7 ∷ []) refl (sym s ∙ e))))
       (λ unread none s cut e. absurd (other (not_of (5 ∷ 6 ∷ 7 ∷ []) refl (sym s ∙ e))))
-      (λ file f is r s written e. there P r (at file f is (sym s ∙ e)))
-      (λ file f is r s cut e. absurd (other (not_of (5 ∷ 6 ∷ 7 ∷ []) refl (sym s ∙ e))))
-      (λ file m e. absurd (other (not_of (5 ∷ 6 ∷ 7 ∷ []) refl (sym m.status ∙ e))))
+      (λ c f is r s written e. there P r (at c f is (sym s ∙ e)))
+      (λ c f is r s cut e. absurd (other (not_of (5 ∷ 6 ∷ 7 ∷ []) refl (sym s ∙ e))))
+      (λ c m e. absurd (other (not_of (5 ∷ 6 ∷ 7 ∷ []) refl (sym m.status ∙ e))))
 
   pub unproved : (c : Option Command) → HasRunFor c o w ran → ran.status ≡ 1 → IsThere ran.report IsUnprovedReport
   unproved = by_status 1 IsUnprovedReport false≢true (at_one o)
@@ -173,30 +274,45 @@ module _ (o : Reading) (w : Writing) (ran : Ran) where
   pub listed : (c : Option Command) → HasRunFor c o w ran → ran.status ≡ 8 → IsThere ran.report IsListReport
   listed = by_status 8 IsListReport false≢true (at_eight o)
 
-  -- verdicts are right within the limits of the words
-  pub right_verdicts : (c : Option Command) → HasRunFor c o w ran → IfSome ran.report (λ r. IsThere c (λ d. AreVerdictsIn d.mode r.arena r.conditions r.verdicts))
-  right_verdicts = by_case (λ c. IfSome ran.report (λ r. IsThere c (λ d. AreVerdictsIn d.mode r.arena r.conditions r.verdicts)))
+  -- what is true of each report that is found is true of the report
+  of_report : (Q : Command → Findings → Type 0) → ((d : Command) (r : Findings) → IsReport r → r.mode ≡ d.mode → r.proofs ≡ d.proofs → IfSome (program_text o.told d) (λ text. IsReportOf text r) → Q d r)
+      → (c : Option Command) → HasRunFor c o w ran → IfSome ran.report (λ r. IsThere c (λ d. Q d r))
+  of_report Q of = by_case (λ c. IfSome ran.report (λ r. IsThere c (λ d. Q d r)))
       (λ unread none s written. if_same _ none tt)
       (λ unread none s cut. if_same _ none tt)
-      (λ file f is r s written. if_same _ r (found file f is))
-      (λ file f is r s cut. if_same _ r (found file f is))
-      (λ file m. if_same _ m.report tt)
+      (λ c f is r s written. if_same _ r (found c f is))
+      (λ c f is r s cut. if_same _ r (found c f is))
+      (λ c m. if_same _ m.report tt)
     where
       if_same : (P : Findings → Type 0) {o p : Option Findings} → o ≡ p → IfSome p P → IfSome o P
       if_same P {o} {p} e h = subst (λ q. IfSome q P) (sym e) h
 
-      found : (d : Command) (f : Found) → IsFound o d f → IfSome (report f) (λ r. AreVerdictsIn d.mode r.arena r.conditions r.verdicts)
-      found d ReadFailed is = tt
-      found d (Refusing r) is = tt
-      found d (Reporting r) (read, report, same, told) = subst (λ (m : Mode). AreVerdictsIn m r.arena r.conditions r.verdicts) same report.is_on.verdicts
+      found : (d : Command) (f : Found) → IsFound o d f → IfSome (report f) (λ r. Q d r)
+      found d (ReadFailed file) is = tt
+      found d (Refusing file r) is = tt
+      found d (Reporting r) (read, report, same, proofs, told) = of d r report same proofs told
+
+  pub of_text : (c : Option Command) → HasRunFor c o w ran → IfSome ran.report (λ r. IsThere c (λ d. IfSome (program_text o.told d) (λ text. IsReportOf text r)))
+  of_text = of_report (λ d r. IfSome (program_text o.told d) (λ text. IsReportOf text r)) (λ d r report same proofs told. told)
+
+  pub same_mode : (c : Option Command) → HasRunFor c o w ran → IfSome ran.report (λ r. IsThere c (λ d. r.mode ≡ d.mode))
+  same_mode = of_report (λ d r. r.mode ≡ d.mode) (λ d r report same proofs told. same)
+
+  pub same_proofs : (c : Option Command) → HasRunFor c o w ran → IfSome ran.report (λ r. IsThere c (λ d. r.proofs ≡ d.proofs))
+  same_proofs = of_report (λ d r. r.proofs ≡ d.proofs) (λ d r report same proofs told. proofs)
+
+  -- verdicts are right within the limits of the words
+  pub right_verdicts : (c : Option Command) → HasRunFor c o w ran → IfSome ran.report (λ r. IsThere c (λ d. AreVerdictsIn d.mode r.arena r.conditions r.verdicts))
+  right_verdicts = of_report (λ d r. AreVerdictsIn d.mode r.arena r.conditions r.verdicts)
+      (λ d r report same proofs told. subst (λ (m : Mode). AreVerdictsIn m r.arena r.conditions r.verdicts) same report.is_on.verdicts)
 
   pub correct : (c : Option Command) → HasRunFor c o w ran → ran.status ≡ 0 → IsThere ran.report (λ r. (world : Meaning) (p : Program) → IsReportOn p r → Correct p world)
   correct c has e = map_there ran.report (proved c has e) (λ r h world p is. proved_correct r world h.0 h.1 p is)
 
   -- the program of the told text is correct
   pub correct_of_text : IsOneProgram → (c : Option Command) → HasRunFor c o w ran → ran.status ≡ 0
-      → IsThere c (λ d. IfSome (o.told d.file) (λ text. (world : Meaning) (p : Program) → IsProgramOf text p → Correct p world))
-  correct_of_text one = by_case (λ c. ran.status ≡ 0 → IsThere c (λ d. IfSome (o.told d.file) (λ text. (world : Meaning) (p : Program) → IsProgramOf text p → Correct p world)))
+      → IsThere c (λ d. IfSome (program_text o.told d) (λ text. (world : Meaning) (p : Program) → IsProgramOf text p → Correct p world))
+  correct_of_text one = by_case (λ c. ran.status ≡ 0 → IsThere c (λ d. IfSome (program_text o.told d) (λ text. (world : Meaning) (p : Program) → IsProgramOf text p → Correct p world)))
       (λ unread none s written e. absurd (false≢true (not_of (7 ∷ []) refl (sym s ∙ e))))
       (λ unread none s cut e. absurd (false≢true (not_of (5 ∷ []) refl (sym s ∙ e))))
       (λ d f is r s written e. found d f is (sym s ∙ e))
@@ -208,53 +324,49 @@ module _ (o : Reading) (w : Writing) (ran : Ran) where
       of None r same proved is = tt
       of (Some text) r same proved is = λ world p of_text. proved_correct r world same proved p (subst (λ (q : Program). IsReportOn q r) (one text is.program p is.of_text of_text) is.is_on)
 
-      found : (d : Command) (f : Found) → IsFound o d f → status f ≡ 0 → IfSome (o.told d.file) (λ text. (world : Meaning) (p : Program) → IsProgramOf text p → Correct p world)
-      found d ReadFailed is e = absurd (false≢true (not_of (4 ∷ []) refl e))
-      found d (Refusing r) is e = absurd (false≢true (not_of (3 ∷ []) refl e))
-      found d (Reporting r) (read, report, same, told) e = let h = at_zero o d (Reporting r) (read, report, same, told) e in of (o.told d.file) r h.0 h.1 told
+      found : (d : Command) (f : Found) → IsFound o d f → status f ≡ 0 → IfSome (program_text o.told d) (λ text. (world : Meaning) (p : Program) → IsProgramOf text p → Correct p world)
+      found d (ReadFailed file) is e = absurd (false≢true (not_of (4 ∷ []) refl e))
+      found d (Refusing file r) is e = absurd (false≢true (not_of (3 ∷ []) refl e))
+      found d (Reporting r) (read, report, same, proofs, told) e = let h = at_zero o d (Reporting r) (read, report, same, proofs, told) e in of (program_text o.told d) r h.0 h.1 told
 
   pub page_written : (c : Option Command) → HasRunFor c o w ran → IsOneOf (0 ∷ 1 ∷ 2 ∷ 8 ∷ []) ran.status → IsThere ran.report (λ r. w.written_after ≡ added w.written_before (page r))
   page_written = by_case (λ c. IsOneOf (0 ∷ 1 ∷ 2 ∷ 8 ∷ []) ran.status → IsThere ran.report (λ r. w.written_after ≡ added w.written_before (page r)))
       (λ unread none s written e. absurd (false≢true (not_of (0 ∷ 1 ∷ 2 ∷ 8 ∷ []) e s)))
       (λ unread none s cut e. absurd (false≢true (not_of (0 ∷ 1 ∷ 2 ∷ 8 ∷ []) e s)))
-      (λ file f is r s written e. there (λ r. w.written_after ≡ added w.written_before (page r)) r (found file f (not_of (0 ∷ 1 ∷ 2 ∷ 8 ∷ []) e s) written.written))
-      (λ file f is r s cut e. absurd (false≢true (not_of (0 ∷ 1 ∷ 2 ∷ 8 ∷ []) e s)))
-      (λ file m e. absurd (false≢true (not_of (0 ∷ 1 ∷ 2 ∷ 8 ∷ []) e m.status)))
+      (λ c f is r s written e. there (λ r. w.written_after ≡ added w.written_before (page r)) r (found f (not_of (0 ∷ 1 ∷ 2 ∷ 8 ∷ []) e s) written.written))
+      (λ c f is r s cut e. absurd (false≢true (not_of (0 ∷ 1 ∷ 2 ∷ 8 ∷ []) e s)))
+      (λ c m e. absurd (false≢true (not_of (0 ∷ 1 ∷ 2 ∷ 8 ∷ []) e m.status)))
     where
-      found : (c : Command) (f : Found) → IsOneOf (0 ∷ 1 ∷ 2 ∷ 8 ∷ []) (status f) → w.written_after ≡ added w.written_before (output c.file f) → IsThere (report f) (λ r. w.written_after ≡ added w.written_before (page r))
-      found file ReadFailed e h = absurd (false≢true e)
-      found file (Refusing r) e h = absurd (false≢true e)
-      found file (Reporting r) e h = h
+      found : (f : Found) → IsOneOf (0 ∷ 1 ∷ 2 ∷ 8 ∷ []) (status f) → w.written_after ≡ added w.written_before (output f) → IsThere (report f) (λ r. w.written_after ≡ added w.written_before (page r))
+      found (ReadFailed file) e h = absurd (false≢true e)
+      found (Refusing file r) e h = absurd (false≢true e)
+      found (Reporting r) e h = h
 
-  pub part_written : (c : Option Command) → HasRunFor c o w ran → ran.status ≡ 5 → (text : List ℕ) × IsDueFor c o.told o.faults_before o.faults_after ran.report text × AddsPrefix w.written_before w.written_after text
-  part_written = by_case (λ c. ran.status ≡ 5 → (text : List ℕ) × IsDueFor c o.told o.faults_before o.faults_after ran.report text × AddsPrefix w.written_before w.written_after text)
+  pub part_written : (c : Option Command) → HasRunFor c o w ran → ran.status ≡ 5 → (text : List ℕ) × IsDueFor c o ran.report text × AddsPrefix w.written_before w.written_after text
+  part_written = by_case (λ c. ran.status ≡ 5 → (text : List ℕ) × IsDueFor c o ran.report text × AddsPrefix w.written_before w.written_after text)
       (λ unread none s written e. absurd (false≢true (not_of (7 ∷ []) refl (sym s ∙ e))))
-      (λ unread none s cut e. (words_line, subst (λ r. IsDueFor None o.told o.faults_before o.faults_after r words_line) (sym none) refl, cut.prefix))
-      (λ file f is r s written e. absurd (false≢true (not_of (0 ∷ 1 ∷ 2 ∷ 3 ∷ 4 ∷ 8 ∷ []) (found_status f) (sym s ∙ e))))
-      (λ file f is r s cut e. (output file.file f, subst (λ p. IsDueFor (Some file) o.told o.faults_before o.faults_after p (output file.file f)) (sym r) (due file f is), cut.prefix))
-      (λ file m e. absurd (false≢true (not_of (6 ∷ []) refl (sym m.status ∙ e))))
+      (λ unread none s cut e. (words_line, subst (λ r. IsDueFor None o r words_line) (sym none) refl, cut.prefix))
+      (λ c f is r s written e. absurd (false≢true (not_of (0 ∷ 1 ∷ 2 ∷ 3 ∷ 4 ∷ 8 ∷ []) (found_status f) (sym s ∙ e))))
+      (λ c f is r s cut e. (output f, subst (λ p. IsDueFor (Some c) o p (output f)) (sym r) (due c f is), cut.prefix))
+      (λ c m e. absurd (false≢true (not_of (6 ∷ []) refl (sym m.status ∙ e))))
     where
-      due : (c : Command) (f : Found) → IsFound o c f → IsDueFor (Some c) o.told o.faults_before o.faults_after (report f) (output c.file f)
-      due file ReadFailed is = inl (refl, is.rose)
-      due file (Refusing r) is = inr (r, is.1, refl)
-      due file (Reporting r) is = refl
+      due : (c : Command) (f : Found) → IsFound o c f → IsDueFor (Some c) o (report f) (output f)
+      due c (ReadFailed file) is = inl (file.now, is, refl)
+      due c (Refusing file r) is = inr (file.now, r, is.1, refl)
+      due c (Reporting r) is = refl
 
   -- ---- completeness
 
-  pub complete_status : (c : Option Command) → HasRunFor c o w ran → IsThere c (λ d. IsThere (o.told d.file) (λ text. (r : Refusal) → IsRefused text r → ⊥))
+  pub complete_status : (c : Option Command) → HasRunFor c o w ran → IsThere c (λ d. IsThere (program_text o.told d) (λ text. (r : Refusal) → IsRefused text r → ⊥))
       → DidNotRise o.faults_before o.faults_after → DidNotRise w.faults_before w.faults_after → IsOneOf (0 ∷ 1 ∷ 2 ∷ 6 ∷ 8 ∷ []) ran.status
-  complete_status = by_case (λ c. IsThere c (λ d. IsThere (o.told d.file) (λ text. (r : Refusal) → IsRefused text r → ⊥))
+  complete_status = by_case (λ c. IsThere c (λ d. IsThere (program_text o.told d) (λ text. (r : Refusal) → IsRefused text r → ⊥))
       → DidNotRise o.faults_before o.faults_after → DidNotRise w.faults_before w.faults_after → IsOneOf (0 ∷ 1 ∷ 2 ∷ 6 ∷ 8 ∷ []) ran.status)
       (λ unread none s written h d k. absurd h)
       (λ unread none s cut h d k. absurd h)
-      (λ file f is r s written h d k. not_of (0 ∷ 1 ∷ 2 ∷ 6 ∷ 8 ∷ []) (found file f is h d) (sym s))
-      (λ file f is r s cut h d k. absurd (rose_not w.faults_before w.faults_after cut.rose k))
-      (λ file m h d k. not_of (0 ∷ 1 ∷ 2 ∷ 6 ∷ 8 ∷ []) refl (sym m.status))
+      (λ c f is r s written h d k. not_of (0 ∷ 1 ∷ 2 ∷ 6 ∷ 8 ∷ []) (found c f is h d) (sym s))
+      (λ c f is r s cut h d k. absurd (rose_not w.faults_before w.faults_after cut.rose k))
+      (λ c m h d k. not_of (0 ∷ 1 ∷ 2 ∷ 6 ∷ 8 ∷ []) refl (sym m.status))
     where
-      never : (told : Option (List ℕ)) (r : Refusal) → IfSome told (λ text. IsRefused text r) → IsThere told (λ text. (r : Refusal) → IsRefused text r → ⊥) → ⊥
-      never None r is h = h
-      never (Some text) r is h = h r is
-
       by_verdicts : (b n : Bool) → IsOneOf (0 ∷ 1 ∷ 2 ∷ 6 ∷ 8 ∷ []) (cond b 0 (cond n 2 1))
       by_verdicts true n = refl
       by_verdicts false true = refl
@@ -264,23 +376,157 @@ module _ (o : Reading) (w : Writing) (ran : Ran) where
       by_mode (mode.Verify limits) verdicts = by_verdicts (all_proved verdicts) (none_unproved verdicts)
       by_mode mode.Conditions verdicts = refl
 
-      found : (c : Command) (f : Found) → IsFound o c f → IsThere (o.told c.file) (λ text. (r : Refusal) → IsRefused text r → ⊥) → DidNotRise o.faults_before o.faults_after
+      found : (c : Command) (f : Found) → IsFound o c f → IsThere (program_text o.told c) (λ text. (r : Refusal) → IsRefused text r → ⊥) → DidNotRise o.faults_before o.faults_after
           → IsOneOf (0 ∷ 1 ∷ 2 ∷ 6 ∷ 8 ∷ []) (status f)
-      found c ReadFailed is h d = absurd (rose_not o.faults_before o.faults_after is.rose d)
-      found c (Refusing r) is h d = absurd (never (o.told c.file) r is.1 h)
+      found c (ReadFailed file) is h d = absurd (rose_not o.faults_before o.faults_after is.rose d)
+      found c (Refusing file r) is h d = absurd (not_refused (program_text o.told c) r (refused_there o.told c file.now r is.1) h)
       found c (Reporting r) is h d = by_mode r.mode r.verdicts
 
   -- ---- refusals
 
-  pub refused : HaveNotBoth → (c : Option Command) → HasRunFor c o w ran → IsThere c (λ d. IsThere (o.told d.file) (λ text. (r : Refusal) × IsRefused text r)) → DidNotRise o.faults_before o.faults_after → IsOneOf (3 ∷ 5 ∷ 6 ∷ []) ran.status
-  refused never = by_case (λ c. IsThere c (λ d. IsThere (o.told d.file) (λ text. (r : Refusal) × IsRefused text r)) → DidNotRise o.faults_before o.faults_after → IsOneOf (3 ∷ 5 ∷ 6 ∷ []) ran.status)
+  pub refused : HaveNotBoth → (c : Option Command) → HasRunFor c o w ran → IsThere c (λ d. IsThere (program_text o.told d) (λ text. (r : Refusal) × IsRefused text r)) → DidNotRise o.faults_before o.faults_after → IsOneOf (3 ∷ 5 ∷ 6 ∷ []) ran.status
+  refused never = by_case (λ c. IsThere c (λ d. IsThere (program_text o.told d) (λ text. (r : Refusal) × IsRefused text r)) → DidNotRise o.faults_before o.faults_after → IsOneOf (3 ∷ 5 ∷ 6 ∷ []) ran.status)
       (λ unread none s written h d. absurd h)
       (λ unread none s cut h d. absurd h)
-      (λ file f is r s written h d. not_of (3 ∷ 5 ∷ 6 ∷ []) (found file f is h d) (sym s))
-      (λ file f is r s cut h d. not_of (3 ∷ 5 ∷ 6 ∷ []) refl (sym s))
-      (λ file m h d. not_of (3 ∷ 5 ∷ 6 ∷ []) refl (sym m.status))
+      (λ c f is r s written h d. not_of (3 ∷ 5 ∷ 6 ∷ []) (found c f is h d) (sym s))
+      (λ c f is r s cut h d. not_of (3 ∷ 5 ∷ 6 ∷ []) refl (sym s))
+      (λ c m h d. not_of (3 ∷ 5 ∷ 6 ∷ []) refl (sym m.status))
     where
-      found : (c : Command) (f : Found) → IsFound o c f → IsThere (o.told c.file) (λ text. (r : Refusal) × IsRefused text r) → DidNotRise o.faults_before o.faults_after → IsOneOf (3 ∷ 5 ∷ 6 ∷ []) (status f)
-      found file ReadFailed is h d = absurd (rose_not o.faults_before o.faults_after is.rose d)
-      found file (Refusing r) is h d = refl
-      found c (Reporting r) (read, findings, same, told) h d = absurd (never_told never (o.told c.file) r told h)
+      found : (c : Command) (f : Found) → IsFound o c f → IsThere (program_text o.told c) (λ text. (r : Refusal) × IsRefused text r) → DidNotRise o.faults_before o.faults_after → IsOneOf (3 ∷ 5 ∷ 6 ∷ []) (status f)
+      found c (ReadFailed file) is h d = absurd (rose_not o.faults_before o.faults_after is.rose d)
+      found c (Refusing file r) is h d = refl
+      found c (Reporting r) (read, findings, same, proofs, told) h d = absurd (never_told never (program_text o.told c) r told h)
+
+  -- ---- the other statuses, and what is told outside
+
+  pub statuses : (c : Option Command) → HasRunFor c o w ran → IsOneOf (0 ∷ 1 ∷ 2 ∷ 3 ∷ 4 ∷ 5 ∷ 6 ∷ 7 ∷ 8 ∷ []) ran.status
+  statuses = by_case (λ c. IsOneOf (0 ∷ 1 ∷ 2 ∷ 3 ∷ 4 ∷ 5 ∷ 6 ∷ 7 ∷ 8 ∷ []) ran.status)
+      (λ unread none s written. not_of (0 ∷ 1 ∷ 2 ∷ 3 ∷ 4 ∷ 5 ∷ 6 ∷ 7 ∷ 8 ∷ []) refl (sym s))
+      (λ unread none s cut. not_of (0 ∷ 1 ∷ 2 ∷ 3 ∷ 4 ∷ 5 ∷ 6 ∷ 7 ∷ 8 ∷ []) refl (sym s))
+      (λ c f is r s written. not_of (0 ∷ 1 ∷ 2 ∷ 3 ∷ 4 ∷ 5 ∷ 6 ∷ 7 ∷ 8 ∷ []) (found f) (sym s))
+      (λ c f is r s cut. not_of (0 ∷ 1 ∷ 2 ∷ 3 ∷ 4 ∷ 5 ∷ 6 ∷ 7 ∷ 8 ∷ []) refl (sym s))
+      (λ c m. not_of (0 ∷ 1 ∷ 2 ∷ 3 ∷ 4 ∷ 5 ∷ 6 ∷ 7 ∷ 8 ∷ []) refl (sym m.status))
+    where
+      by_verdicts : (b n : Bool) → IsOneOf (0 ∷ 1 ∷ 2 ∷ 3 ∷ 4 ∷ 5 ∷ 6 ∷ 7 ∷ 8 ∷ []) (cond b 0 (cond n 2 1))
+      by_verdicts true n = refl
+      by_verdicts false true = refl
+      by_verdicts false false = refl
+
+      by_mode : (m : Mode) (verdicts : List Decided) → IsOneOf (0 ∷ 1 ∷ 2 ∷ 3 ∷ 4 ∷ 5 ∷ 6 ∷ 7 ∷ 8 ∷ []) (status_in m verdicts)
+      by_mode (mode.Verify limits) verdicts = by_verdicts (all_proved verdicts) (none_unproved verdicts)
+      by_mode mode.Conditions verdicts = refl
+
+      found : (f : Found) → IsOneOf (0 ∷ 1 ∷ 2 ∷ 3 ∷ 4 ∷ 5 ∷ 6 ∷ 7 ∷ 8 ∷ []) (status f)
+      found (ReadFailed file) = refl
+      found (Refusing file r) = refl
+      found (Reporting r) = by_mode r.mode r.verdicts
+
+  pub reported : (c : Option Command) → HasRunFor c o w ran → IsSome ran.report → IsOneOf (0 ∷ 1 ∷ 2 ∷ 5 ∷ 8 ∷ []) ran.status
+  reported = by_case (λ c. IsSome ran.report → IsOneOf (0 ∷ 1 ∷ 2 ∷ 5 ∷ 8 ∷ []) ran.status)
+      (λ unread none s written h. absurd (false≢true (subst IsSome none h)))
+      (λ unread none s cut h. not_of (0 ∷ 1 ∷ 2 ∷ 5 ∷ 8 ∷ []) refl (sym s))
+      (λ c f is r s written h. not_of (0 ∷ 1 ∷ 2 ∷ 5 ∷ 8 ∷ []) (found f (subst IsSome r h)) (sym s))
+      (λ c f is r s cut h. not_of (0 ∷ 1 ∷ 2 ∷ 5 ∷ 8 ∷ []) refl (sym s))
+      (λ c m h. absurd (false≢true (subst IsSome m.report h)))
+    where
+      by_verdicts : (b n : Bool) → IsOneOf (0 ∷ 1 ∷ 2 ∷ 5 ∷ 8 ∷ []) (cond b 0 (cond n 2 1))
+      by_verdicts true n = refl
+      by_verdicts false true = refl
+      by_verdicts false false = refl
+
+      by_mode : (m : Mode) (verdicts : List Decided) → IsOneOf (0 ∷ 1 ∷ 2 ∷ 5 ∷ 8 ∷ []) (status_in m verdicts)
+      by_mode (mode.Verify limits) verdicts = by_verdicts (all_proved verdicts) (none_unproved verdicts)
+      by_mode mode.Conditions verdicts = refl
+
+      found : (f : Found) → IsSome (report f) → IsOneOf (0 ∷ 1 ∷ 2 ∷ 5 ∷ 8 ∷ []) (status f)
+      found (ReadFailed file) h = absurd (false≢true h)
+      found (Refusing file r) h = absurd (false≢true h)
+      found (Reporting r) h = by_mode r.mode r.verdicts
+
+  pub read_fault : (c : Option Command) → HasRunFor c o w ran → ran.status ≡ 4 → Rose o.faults_before o.faults_after
+  read_fault = by_case (λ c. ran.status ≡ 4 → Rose o.faults_before o.faults_after)
+      (λ unread none s written e. absurd (false≢true (not_of (7 ∷ []) refl (sym s ∙ e))))
+      (λ unread none s cut e. absurd (false≢true (not_of (5 ∷ []) refl (sym s ∙ e))))
+      (λ c f is r s written e. found c f is (sym s ∙ e))
+      (λ c f is r s cut e. absurd (false≢true (not_of (5 ∷ []) refl (sym s ∙ e))))
+      (λ c m e. absurd (false≢true (not_of (6 ∷ []) refl (sym m.status ∙ e))))
+    where
+      found : (c : Command) (f : Found) → IsFound o c f → status f ≡ 4 → Rose o.faults_before o.faults_after
+      found c (ReadFailed file) is e = is.rose
+      found c (Refusing file r) is e = absurd (false≢true (not_of (3 ∷ []) refl e))
+      found c (Reporting r) is e = absurd (false≢true (not_of (0 ∷ 1 ∷ 2 ∷ 8 ∷ []) (page_found r.mode r.verdicts) e))
+
+  pub write_fault : (c : Option Command) → HasRunFor c o w ran → ran.status ≡ 5 → Rose w.faults_before w.faults_after
+  write_fault = by_case (λ c. ran.status ≡ 5 → Rose w.faults_before w.faults_after)
+      (λ unread none s written e. absurd (false≢true (not_of (7 ∷ []) refl (sym s ∙ e))))
+      (λ unread none s cut e. cut.rose)
+      (λ c f is r s written e. absurd (false≢true (not_of (0 ∷ 1 ∷ 2 ∷ 3 ∷ 4 ∷ 8 ∷ []) (found_status f) (sym s ∙ e))))
+      (λ c f is r s cut e. cut.rose)
+      (λ c m e. absurd (false≢true (not_of (6 ∷ []) refl (sym m.status ∙ e))))
+
+  pub texts_sound : (c : Option Command) → HasRunFor c o w ran → IsOneOf (0 ∷ 1 ∷ 2 ∷ 3 ∷ 7 ∷ 8 ∷ []) ran.status → o.faults_after ≡ o.faults_before
+  texts_sound = by_case (λ c. IsOneOf (0 ∷ 1 ∷ 2 ∷ 3 ∷ 7 ∷ 8 ∷ []) ran.status → o.faults_after ≡ o.faults_before)
+      (λ unread none s written e. unread.faults)
+      (λ unread none s cut e. unread.faults)
+      (λ c f is r s written e. found c f is (not_of (0 ∷ 1 ∷ 2 ∷ 3 ∷ 7 ∷ 8 ∷ []) e s))
+      (λ c f is r s cut e. absurd (false≢true (not_of (0 ∷ 1 ∷ 2 ∷ 3 ∷ 7 ∷ 8 ∷ []) e s)))
+      (λ c m e. absurd (false≢true (not_of (0 ∷ 1 ∷ 2 ∷ 3 ∷ 7 ∷ 8 ∷ []) e m.status)))
+    where
+      found : (c : Command) (f : Found) → IsFound o c f → IsOneOf (0 ∷ 1 ∷ 2 ∷ 3 ∷ 7 ∷ 8 ∷ []) (status f) → o.faults_after ≡ o.faults_before
+      found c (ReadFailed file) is e = absurd (false≢true e)
+      found c (Refusing file r) is e = is.0.faults
+      found c (Reporting r) is e = is.0.faults
+
+  pub sink_sound : (c : Option Command) → HasRunFor c o w ran → IsOneOf (0 ∷ 1 ∷ 2 ∷ 3 ∷ 4 ∷ 6 ∷ 7 ∷ 8 ∷ []) ran.status → w.faults_after ≡ w.faults_before
+  sink_sound = by_case (λ c. IsOneOf (0 ∷ 1 ∷ 2 ∷ 3 ∷ 4 ∷ 6 ∷ 7 ∷ 8 ∷ []) ran.status → w.faults_after ≡ w.faults_before)
+      (λ unread none s written e. written.faults)
+      (λ unread none s cut e. absurd (false≢true (not_of (0 ∷ 1 ∷ 2 ∷ 3 ∷ 4 ∷ 6 ∷ 7 ∷ 8 ∷ []) e s)))
+      (λ c f is r s written e. written.faults)
+      (λ c f is r s cut e. absurd (false≢true (not_of (0 ∷ 1 ∷ 2 ∷ 3 ∷ 4 ∷ 6 ∷ 7 ∷ 8 ∷ []) e s)))
+      (λ c m e. m.writing.faults)
+
+  pub words_told : (c : Option Command) → HasRunFor c o w ran → ran.status ≡ 7 → w.written_after ≡ added w.written_before words_line
+  words_told = by_case (λ c. ran.status ≡ 7 → w.written_after ≡ added w.written_before words_line)
+      (λ unread none s written e. written.written)
+      (λ unread none s cut e. absurd (false≢true (not_of (5 ∷ []) refl (sym s ∙ e))))
+      (λ c f is r s written e. absurd (false≢true (not_of (0 ∷ 1 ∷ 2 ∷ 3 ∷ 4 ∷ 8 ∷ []) (found_status f) (sym s ∙ e))))
+      (λ c f is r s cut e. absurd (false≢true (not_of (5 ∷ []) refl (sym s ∙ e))))
+      (λ c m e. absurd (false≢true (not_of (6 ∷ []) refl (sym m.status ∙ e))))
+
+  pub unwritten : (c : Option Command) → HasRunFor c o w ran → ran.status ≡ 6 → w.written_after ≡ w.written_before
+  unwritten = by_case (λ c. ran.status ≡ 6 → w.written_after ≡ w.written_before)
+      (λ unread none s written e. absurd (false≢true (not_of (7 ∷ []) refl (sym s ∙ e))))
+      (λ unread none s cut e. absurd (false≢true (not_of (5 ∷ []) refl (sym s ∙ e))))
+      (λ c f is r s written e. absurd (false≢true (not_of (0 ∷ 1 ∷ 2 ∷ 3 ∷ 4 ∷ 8 ∷ []) (found_status f) (sym s ∙ e))))
+      (λ c f is r s cut e. absurd (false≢true (not_of (5 ∷ []) refl (sym s ∙ e))))
+      (λ c m e. m.writing.written)
+
+  pub refusal_told : (c : Option Command) → HasRunFor c o w ran → ran.status ≡ 3
+      → IsThere c (λ d. (line : List ℕ) × IsRefusalLine o.told d line × (w.written_after ≡ added w.written_before line))
+  refusal_told = by_case (λ c. ran.status ≡ 3 → IsThere c (λ d. (line : List ℕ) × IsRefusalLine o.told d line × (w.written_after ≡ added w.written_before line)))
+      (λ unread none s written e. absurd (false≢true (not_of (7 ∷ []) refl (sym s ∙ e))))
+      (λ unread none s cut e. absurd (false≢true (not_of (5 ∷ []) refl (sym s ∙ e))))
+      (λ c f is r s written e. found c f is written.written (sym s ∙ e))
+      (λ c f is r s cut e. absurd (false≢true (not_of (5 ∷ []) refl (sym s ∙ e))))
+      (λ c m e. absurd (false≢true (not_of (6 ∷ []) refl (sym m.status ∙ e))))
+    where
+      found : (c : Command) (f : Found) → IsFound o c f → w.written_after ≡ added w.written_before (output f) → status f ≡ 3
+          → (line : List ℕ) × IsRefusalLine o.told c line × (w.written_after ≡ added w.written_before line)
+      found c (ReadFailed file) is out e = absurd (false≢true (not_of (4 ∷ []) refl e))
+      found c (Refusing file r) is out e = (refusal_line file.now r, (file.now, r, is.1, refl), out)
+      found c (Reporting r) is out e = absurd (false≢true (not_of (0 ∷ 1 ∷ 2 ∷ 8 ∷ []) (page_found r.mode r.verdicts) e))
+
+  pub complete : (c : Option Command) → HasRunFor c o w ran → IsThere c (λ d. IsThere (program_text o.told d) (λ text. (r : Refusal) → IsRefused text r → ⊥))
+      → DidNotRise o.faults_before o.faults_after → IsSome ran.report ⊎ (ran.status ≡ 6)
+  complete = by_case (λ c. IsThere c (λ d. IsThere (program_text o.told d) (λ text. (r : Refusal) → IsRefused text r → ⊥))
+      → DidNotRise o.faults_before o.faults_after → IsSome ran.report ⊎ (ran.status ≡ 6))
+      (λ unread none s written h d. absurd h)
+      (λ unread none s cut h d. absurd h)
+      (λ c f is r s written h d. inl (subst IsSome (sym r) (found c f is h d)))
+      (λ c f is r s cut h d. inl (subst IsSome (sym r) (found c f is h d)))
+      (λ c m h d. inr m.status)
+    where
+      found : (c : Command) (f : Found) → IsFound o c f → IsThere (program_text o.told c) (λ text. (r : Refusal) → IsRefused text r → ⊥) → DidNotRise o.faults_before o.faults_after → IsSome (report f)
+      found c (ReadFailed file) is h d = absurd (rose_not o.faults_before o.faults_after is.rose d)
+      found c (Refusing file r) is h d = absurd (not_refused (program_text o.told c) r (refused_there o.told c file.now r is.1) h)
+      found c (Reporting r) is h d = refl

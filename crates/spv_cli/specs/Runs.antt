@@ -1,15 +1,16 @@
 -- What a run finds and does.
-use Rattle.std.specs.Prelude.{◌≡◌, ℕ, ◌⊎◌, List, Option, Some, None, IfSome}
+use Rattle.std.specs.Prelude.{◌≡◌, ◌++◌, ℕ, ◌⊎◌, List, [], ◌∷◌, Option, Some, None, IfSome, fold, option_and_then}
 use Rattle.spv_io.specs.Faults.{Rose}
 use Rattle.spv_io.specs.Sink.{added, AddsPrefix}
 use Rattle.spv_io.specs.Texts.{named}
 use Rattle.spv_reports.specs.Reports.{Findings, IsReport}
 use Rattle.spv_listing.specs.Page.{page}
+use Rattle.spv_verify.specs.declared.refused.refusal.Refusal.{Refusal}
 use Rattle.spv_verify.specs.Refusals.{IsRefused, IsReportOf}
 use Rattle.spv_cli.specs.declared.found.Found.{Found}
 use Rattle.spv_cli.specs.declared.found.Found.TheVariants.{ReadFailed, Refusing, Reporting}
 use Rattle.spv_cli.specs.declared.running.Ran.{Ran}
-use Rattle.spv_cli.specs.Commands.{Command, command_of}
+use Rattle.spv_cli.specs.Commands.{Command, command_of, files_asked, program_file}
 use Rattle.spv_cli.specs.Output.{words_line, read_fault_line, refusal_line, page_status}
 
 -- ---- what the objects outside tell
@@ -34,19 +35,38 @@ pub record IsUnread (o : Reading) : Type 0 where
   pub asked : o.asked_after ≡ o.asked_before
   pub faults : o.faults_after ≡ o.faults_before
 
--- the file was read, without a fault
-pub record IsReadWhole (o : Reading) (file : List ℕ) : Type 0 where
-  pub asked : o.asked_after ≡ named o.asked_before file
+-- the names so far with those of files behind them, where they are told
+abbrev pub named_all : Option (List (List ℕ)) → List (List ℕ) → Option (List (List ℕ))
+named_all asked files = fold named asked files
+
+-- the names of the first of these files were asked for, in their order
+pub record AreAskedInPart (before after : Option (List (List ℕ))) (files : List (List ℕ)) : Type 0 where
+  pub first : List (List ℕ)
+  pub rest : List (List ℕ)
+  pub are_first : files ≡ first ++ rest
+  pub asked : after ≡ named_all before first
+
+-- those up to this one
+pub record AreAskedUpTo (before after : Option (List (List ℕ))) (files : List (List ℕ)) (file : List ℕ) : Type 0 where
+  pub first : List (List ℕ)
+  pub rest : List (List ℕ)
+  pub are_first : files ≡ first ++ file ∷ rest
+  pub asked : after ≡ named_all before (first ++ file ∷ [])
+
+-- the files were read in their order, without a fault
+pub record AreReadWhole (o : Reading) (files : List (List ℕ)) : Type 0 where
+  pub asked : o.asked_after ≡ named_all o.asked_before files
   pub faults : o.faults_after ≡ o.faults_before
 
--- the file was read, and there was a fault
-pub record IsReadBadly (o : Reading) (file : List ℕ) : Type 0 where
-  pub asked : o.asked_after ≡ named o.asked_before file
+-- the files were read in their order up to this one, where there was a fault
+pub record IsReadBadly (o : Reading) (files : List (List ℕ)) (file : List ℕ) : Type 0 where
+  pub asked : AreAskedUpTo o.asked_before o.asked_after files file
   pub rose : Rose o.faults_before o.faults_after
 
--- the file was read at most once
-abbrev pub MayBeRead : Reading → List ℕ → Type 0
-MayBeRead o file = IsUnread o ⊎ (IsReadWhole o file ⊎ IsReadBadly o file)
+-- the first of the files were read in their order, maybe with a fault at the last one
+pub record AreReadInPart (o : Reading) (files : List (List ℕ)) : Type 0 where
+  pub asked : AreAskedInPart o.asked_before o.asked_after files
+  pub faults : (o.faults_after ≡ o.faults_before) ⊎ Rose o.faults_before o.faults_after
 
 -- all of the output was written, without a fault
 pub record IsWritten (w : Writing) (output : List ℕ) : Type 0 where
@@ -65,20 +85,30 @@ pub record IsUnwritten (w : Writing) : Type 0 where
 
 -- ---- what is found, and what is due then
 
--- what is found of a file; a text that is told is refused so, or has this report
-abbrev pub IsFound : Reading → Command → Found → Type 0
-IsFound o c ReadFailed = IsReadBadly o c.file
-IsFound o c (Refusing r) = IsReadWhole o c.file × IfSome (o.told c.file) (λ text. IsRefused text r)
-IsFound o c (Reporting r) = IsReadWhole o c.file × IsReport r × (r.mode ≡ c.mode) × IfSome (o.told c.file) (λ text. IsReportOf text r)
+-- what is told of the text of a command's program
+abbrev pub program_text : (List ℕ → Option (List ℕ)) → Command → Option (List ℕ)
+program_text told c = option_and_then told (program_file c)
 
-abbrev pub output : List ℕ → Found → List ℕ
-output file ReadFailed = read_fault_line file
-output file (Refusing r) = refusal_line file r
-output file (Reporting r) = page r
+-- the text of this file of a command is refused so, where it is told; it is the program's
+abbrev pub IsRefusedIn : (List ℕ → Option (List ℕ)) → Command → List ℕ → Refusal → Type 0
+IsRefusedIn told c file r = (program_file c ≡ Some file) × IfSome (told file) (λ text. IsRefused text r)
+
+-- what is found of the files of a command: this one cannot be read; or the text of this one is refused so; or they have this report, which is that of
+-- the program's text, and has proofs where these are wanted
+abbrev pub IsFound : Reading → Command → Found → Type 0
+IsFound o c (ReadFailed file) = IsReadBadly o c.files file.now
+IsFound o c (Refusing file r) = AreReadWhole o c.files × IsRefusedIn o.told c file.now r
+IsFound o c (Reporting r) =
+    AreReadWhole o c.files × IsReport r × (r.mode ≡ c.mode) × (r.proofs ≡ c.proofs) × IfSome (program_text o.told c) (λ text. IsReportOf text r)
+
+abbrev pub output : Found → List ℕ
+output (ReadFailed file) = read_fault_line file.now
+output (Refusing file r) = refusal_line file.now r
+output (Reporting r) = page r
 
 abbrev pub status : Found → ℕ
-status ReadFailed = 4
-status (Refusing r) = 3
+status (ReadFailed file) = 4
+status (Refusing file r) = 3
 status (Reporting r) = page_status r
 
 abbrev pub report : Found → Option Findings
@@ -92,18 +122,21 @@ abbrev pub IsAnswered : Writing → List ℕ → ℕ → Option Findings → Ran
 IsAnswered w text s r ran =
     (ran.report ≡ r) × (((ran.status ≡ s) × IsWritten w text) ⊎ ((ran.status ≡ 5) × IsCut w text))
 
--- there was no memory: nothing was written, and the file was read at most once
-pub record IsOutOfMemory (o : Reading) (w : Writing) (file : List ℕ) (ran : Ran) : Type 0 where
+-- there was no memory: nothing was written, and the first of the files were read
+pub record IsOutOfMemory (o : Reading) (w : Writing) (files : List (List ℕ)) (ran : Ran) : Type 0 where
   pub status : ran.status ≡ 6
   pub report : ran.report ≡ None
-  pub reading : MayBeRead o file
+  pub reading : AreReadInPart o files
   pub writing : IsUnwritten w
 
--- what a run does for the file of a command, or for none
+-- what a run does for a command, or for none, where there is memory
+abbrev pub HasDone : Option Command → Reading → Writing → Ran → Type 0
+HasDone None o w ran = IsUnread o × IsAnswered w words_line 7 None ran
+HasDone (Some c) o w ran = (f : Found) × IsFound o c f × IsAnswered w (output f) (status f) (report f) ran
+
+-- what it does, maybe without memory
 abbrev pub HasRunFor : Option Command → Reading → Writing → Ran → Type 0
-HasRunFor None o w ran = IsUnread o × IsAnswered w words_line 7 None ran
-HasRunFor (Some c) o w ran =
-    ((f : Found) × IsFound o c f × IsAnswered w (output c.file f) (status f) (report f) ran) ⊎ IsOutOfMemory o w c.file ran
+HasRunFor command o w ran = HasDone command o w ran ⊎ IsOutOfMemory o w (files_asked command) ran
 
 -- what a run does
 abbrev pub HasRun : List (List ℕ) → Reading → Writing → Ran → Type 0

@@ -2,8 +2,12 @@
 #![tactic(auto)]
 
 mod found;
+mod laws;
 mod output;
+mod reading;
 mod running;
+mod words;
 
+pub use laws::{law_commands, law_no_commands};
 pub use running::{Ran, run};
 pub use spv_verify::{Mode, Refusal, Report, law_report};

@@ -1,26 +1,25 @@
 // The run: words, reading, output.
 
-ghost use Rattle.std.specs.Prelude.{◌≡◌, ◌⊎◌, ◌<◌, ◌≤◌, ℕ, false, List, [], ◌∷◌, None, Some, IsSome, IfSome, IsTrue, length, map, OnOk, OnErr, option_map, string_bytes};
+ghost use Rattle.std.specs.Prelude.{◌≡◌, ◌⊎◌, ◌<◌, ◌≤◌, ℕ, false, List, [], ◌∷◌, None, Some, IsSome, IfSome, IsTrue, length, map, OnOk, OnErr, string_bytes};
 ghost use Rattle.spv_io.specs.Faults.{Rose, DidNotRise};
 ghost use Rattle.spv_io.specs.Sink.{added, AddsPrefix};
-ghost use Rattle.spv_io.specs.Texts.{named};
 ghost use Rattle.spv_meaning.specs.Correct.{Correct};
 ghost use Rattle.spv_logic.specs.Conditions.{Meaning};
 ghost use Rattle.spv_program.specs.Programs.{Program};
 ghost use Rattle.spv_reports.specs.Reports.{AreVerdictsIn, IsReport, IsReportOn, all_proved, has_verdicts, none_unproved};
 ghost use Rattle.spv_listing.specs.Page.{page};
 ghost use Rattle.spv_verify.specs.declared.refused.refusal.Refusal.{Refusal};
-ghost use Rattle.spv_cli.specs.Commands as spec;
 ghost use Rattle.spv_cli.specs.Commands.{command_of};
 ghost use Rattle.spv_cli.specs.Words.{command_view};
 ghost use Rattle.spv_cli.specs.Output.{words_line, read_fault_line};
 ghost use Rattle.spv_verify.specs.Refusals.{IsProgramOf, IsRefused, IsReportOf};
-ghost use Rattle.spv_cli.specs.Runs.{IsAnswered, HasRunFor, HasRun};
+ghost use Rattle.spv_cli.specs.Runs.{AreAskedInPart, AreAskedUpTo, IsAnswered, HasRunFor, HasRun, named_all, program_text};
 ghost use Rattle.spv_cli.specs.Promises.{IsOneOf, IsThere, IsTold, IsRefusalLine, IsDueFor};
 
-use crate::found::{NoMemory, find, into_report, output, status};
+use crate::found::{find, into_report, output, status};
+use crate::words::{Command, read_words};
 use spv_io::{Failed, Sink, Texts};
-use spv_reports::{Mode, Report, default_limits};
+use spv_reports::Report;
 use spv_term::World;
 use spv_verify::law_not_both;
 use std::alloc::{AllocError, Global};
@@ -35,52 +34,6 @@ pub struct Ran {
     pub status: u8,
     /// The report, where a page was due.
     pub report: Option<Report>,
-}
-
-// What the words ask of a file, if they are a command.
-#[derive(Drop)]
-struct Command<'a> {
-    mode: Mode,
-    file: &'a str,
-}
-
-// What a word asks.
-fn mode_of(word: &str) -> Option<Mode>
-    ensures { result ≡ spec.mode_of word.now }
-{
-    if word == "verify" {
-        return Some(Mode::Verify(default_limits()));
-    }
-    if word == "conditions" {
-        return Some(Mode::Conditions);
-    }
-    None
-}
-
-// The command of a mode and a file.
-fn command_in(mode: Option<Mode>, file: &str) -> Option<Command<'_>>
-    ensures { option_map command_view result ≡ spec.command_in mode file.now }
-{
-    match mode {
-        None => None,
-        Some(mode) => {
-            if file.starts_with("-") {
-                None
-            } else {
-                Some(Command { mode, file })
-            }
-        }
-    }
-}
-
-// The command that the words are, if they are one.
-fn read_words(words: &[String]) -> Option<Command<'_>>
-    ensures { option_map command_view result ≡ command_of (map string_bytes words.now) }
-{
-    match words {
-        [_, mode, file] => command_in(mode_of(mode.as_str()), file.as_str()),
-        _ => None,
-    }
 }
 
 // The length of the first line, with its end.
@@ -126,15 +79,25 @@ fn answer<K: Sink>(sink: &mut K, text: &[u8], status: u8, report: Option<Report>
     }
 }
 
-// Does what is asked of a file.
+// How a run ends that found no memory: nothing was written.
+fn out_of_memory() -> Ran
+    ensures { result ≡ record { status = 6; report = None } }
+{
+    Ran {
+        status: 6,
+        report: None,
+    }
+}
+
+// Does what a command asks.
 fn perform<T: Texts, K: Sink>(
     alloc: Global,
-    mode: Mode,
-    file: &str,
+    command: Command<'_>,
     texts: &mut T,
     sink: &mut K,
 ) -> Ran
-    ensures { HasRunFor (Some (record { mode = mode; file = file.now })) (record {
+    requires { 0 < length command.files.items }
+    ensures { HasRunFor (Some (command_view command.entry)) (record {
       told = T.told texts.old;
       asked_before = T.asked texts.old;
       asked_after = T.asked texts.new;
@@ -147,15 +110,11 @@ fn perform<T: Texts, K: Sink>(
       faults_after = K.faults sink.new;
     }) result }
 {
-    let out_of_memory = Ran {
-        status: 6,
-        report: None,
+    let Ok(found) = find(alloc, command, texts) else {
+        return out_of_memory();
     };
-    let Ok(found) = find(alloc, mode, file, texts) else {
-        return out_of_memory;
-    };
-    let Ok(text) = output(alloc, file, &found) else {
-        return out_of_memory;
+    let Ok(text) = output(alloc, &found) else {
+        return out_of_memory();
     };
     let status = status(&found);
     answer(sink, &text, status, into_report(found))
@@ -176,13 +135,14 @@ fn attempt<T: Texts, K: Sink>(alloc: Global, words: &[String], texts: &mut T, si
       faults_after = K.faults sink.new;
     }) result }
 {
-    match read_words(words) {
-        Some(command) => perform(alloc, command.mode, command.file, texts, sink),
-        None => answer(sink, b"WORDS\n", 7, None),
+    match read_words(alloc, words) {
+        Ok(Some(command)) => perform(alloc, command, texts, sink),
+        Ok(None) => answer(sink, b"WORDS\n", 7, None),
+        Err(AllocError) => out_of_memory(),
     }
 }
 
-/// Runs `verify FILE` or `conditions FILE`, whose words these are behind the program's name: reads the file, makes its conditions,
+/// Runs the command that these words are, of which the first is the program's name: reads its files, makes the conditions of its program,
 /// decides them where that is asked, and writes the page, or one line that says why there is none. Nothing is written until all of the
 /// output is made, and then a line at a time. No member of the world is run: it says for which meaning of the symbols the program is
 /// claimed to be correct.
@@ -193,9 +153,9 @@ pub fn run<W: World, T: Texts, K: Sink>(
     sink: &mut K,
     world: &W,
 ) -> Ran
-    // Words that are no command end with 7, and no others do, unless a write fails.
+    // Words that are no command end with 7, and no others do, unless a write fails or there is no memory to read them.
     ensures words_only { result.status ≡ 7 → command_of (map string_bytes words.now) ≡ None }
-    ensures words { command_of (map string_bytes words.now) ≡ None → IsOneOf (5 ∷ 7 ∷ []) result.status }
+    ensures words { command_of (map string_bytes words.now) ≡ None → IsOneOf (5 ∷ 6 ∷ 7 ∷ []) result.status }
 
     // Status 0 comes only where all is proved. The program that the report is on is correct then, in the world at hand and in every other;
     // and so is the program that the told text is.
@@ -203,7 +163,7 @@ pub fn run<W: World, T: Texts, K: Sink>(
     ensures correct { result.status ≡ 0 → IsThere result.report (λ r. (p : Program) → IsReportOn p r → Correct p (W.apply world.now)) }
     ensures correct_everywhere { result.status ≡ 0 → IsThere result.report (λ r. (m : Meaning) (p : Program) → IsReportOn p r → Correct p m) }
     ensures correct_text { result.status ≡ 0 → IsThere (command_of (map string_bytes words.now))
-        (λ c. IfSome (T.told texts.old c.file) (λ text. (m : Meaning) (p : Program) → IsProgramOf text p → Correct p m)) }
+        (λ c. IfSome (program_text (T.told texts.old) c) (λ text. (m : Meaning) (p : Program) → IsProgramOf text p → Correct p m)) }
 
     // With status 1 a condition is unproved; with 2 none is, and the search gave up on one.
     ensures unproved { result.status ≡ 1 → IsThere result.report (λ r. IsTrue (has_verdicts r.mode) × (none_unproved r.verdicts ≡ false)) }
@@ -211,10 +171,12 @@ pub fn run<W: World, T: Texts, K: Sink>(
         (λ r. IsTrue (has_verdicts r.mode) × IsTrue (none_unproved r.verdicts) × (all_proved r.verdicts ≡ false)) }
     ensures listed { result.status ≡ 8 → IsThere result.report (λ r. (has_verdicts r.mode ≡ false) × (r.verdicts ≡ [])) }
 
-    // A report is that of the told text, for what the words ask, and its conditions are those of its program.
+    // A report is that of the told text, for what the words ask, and its conditions are those of its program. Its page has proofs where the
+    // words want them.
     ensures of_text { IfSome result.report (λ r. IsThere (command_of (map string_bytes words.now))
-        (λ c. IfSome (T.told texts.old c.file) (λ text. IsReportOf text r))) }
+        (λ c. IfSome (program_text (T.told texts.old) c) (λ text. IsReportOf text r))) }
     ensures mode { IfSome result.report (λ r. IsThere (command_of (map string_bytes words.now)) (λ c. r.mode ≡ c.mode)) }
+    ensures proofs { IfSome result.report (λ r. IsThere (command_of (map string_bytes words.now)) (λ c. r.proofs ≡ c.proofs)) }
     ensures findings { IfSome result.report IsReport }
     ensures reported { IsSome result.report → IsOneOf (0 ∷ 1 ∷ 2 ∷ 5 ∷ 8 ∷ []) result.status }
 
@@ -224,15 +186,15 @@ pub fn run<W: World, T: Texts, K: Sink>(
         (λ c. AreVerdictsIn c.mode r.arena r.conditions r.verdicts)) }
 
     // Status 3 comes exactly where the told text is refused, but for a failed write and want of memory.
-    ensures refused { IsTold (map string_bytes words.now) (T.told texts.old) (λ c text. (r : Refusal) × IsRefused text r)
+    ensures refused { IsTold (map string_bytes words.now) (T.told texts.old) (λ text. (r : Refusal) × IsRefused text r)
         → DidNotRise (T.faults texts.old) (T.faults texts.new) → IsOneOf (3 ∷ 5 ∷ 6 ∷ []) result.status }
     ensures refusal { result.status ≡ 3 → IsThere (command_of (map string_bytes words.now))
         (λ c. (line : List ℕ) × IsRefusalLine (T.told texts.old) c line × (K.written sink.new ≡ added (K.written sink.old) line)) }
 
     // A text that is not refused has a report, but for want of memory; and one of the statuses of a report, but for a failed write.
-    ensures complete { IsTold (map string_bytes words.now) (T.told texts.old) (λ c text. (r : Refusal) → IsRefused text r → ⊥)
+    ensures complete { IsTold (map string_bytes words.now) (T.told texts.old) (λ text. (r : Refusal) → IsRefused text r → ⊥)
         → DidNotRise (T.faults texts.old) (T.faults texts.new) → IsSome result.report ⊎ (result.status ≡ 6) }
-    ensures complete_status { IsTold (map string_bytes words.now) (T.told texts.old) (λ c text. (r : Refusal) → IsRefused text r → ⊥)
+    ensures complete_status { IsTold (map string_bytes words.now) (T.told texts.old) (λ text. (r : Refusal) → IsRefused text r → ⊥)
         → DidNotRise (T.faults texts.old) (T.faults texts.new) → DidNotRise (K.faults sink.old) (K.faults sink.new)
         → IsOneOf (0 ∷ 1 ∷ 2 ∷ 6 ∷ 8 ∷ []) result.status }
 
@@ -246,19 +208,26 @@ pub fn run<W: World, T: Texts, K: Sink>(
     ensures page { IsOneOf (0 ∷ 1 ∷ 2 ∷ 8 ∷ []) result.status → IsThere result.report
         (λ r. K.written sink.new ≡ added (K.written sink.old) (page r)) }
     ensures read_fault_line { result.status ≡ 4 → IsThere (command_of (map string_bytes words.now))
-        (λ c. K.written sink.new ≡ added (K.written sink.old) (read_fault_line c.file)) }
+        (λ c. (file : List ℕ) × AreAskedUpTo (T.asked texts.old) (T.asked texts.new) c.files file
+        × (K.written sink.new ≡ added (K.written sink.old) (read_fault_line file))) }
     ensures words_line { result.status ≡ 7 → K.written sink.new ≡ added (K.written sink.old) words_line }
     ensures memory { result.status ≡ 6 → K.written sink.new ≡ K.written sink.old }
     ensures cut { result.status ≡ 5 → (output : List ℕ)
-        × IsDueFor (command_of (map string_bytes words.now)) (T.told texts.old) (T.faults texts.old) (T.faults texts.new) result.report output
+        × IsDueFor (command_of (map string_bytes words.now)) (record {
+          told = T.told texts.old;
+          asked_before = T.asked texts.old;
+          asked_after = T.asked texts.new;
+          faults_before = T.faults texts.old;
+          faults_after = T.faults texts.new;
+        }) result.report output
         × AddsPrefix (K.written sink.old) (K.written sink.new) output }
 
-    // The file is read at most once, and only for a command.
+    // The files are read in their order, each at most once, and only for a command: all of them where none of the reads fails, and up to
+    // the one that is told where one does (above).
     ensures unread { command_of (map string_bytes words.now) ≡ None → T.asked texts.new ≡ T.asked texts.old }
-    ensures asked { IsOneOf (0 ∷ 1 ∷ 2 ∷ 3 ∷ 4 ∷ 8 ∷ []) result.status → IsThere (command_of (map string_bytes words.now))
-        (λ c. T.asked texts.new ≡ named (T.asked texts.old) c.file) }
-    ensures once { IfSome (command_of (map string_bytes words.now))
-        (λ c. (T.asked texts.new ≡ T.asked texts.old) ⊎ (T.asked texts.new ≡ named (T.asked texts.old) c.file)) }
+    ensures asked { IsOneOf (0 ∷ 1 ∷ 2 ∷ 3 ∷ 8 ∷ []) result.status → IsThere (command_of (map string_bytes words.now))
+        (λ c. T.asked texts.new ≡ named_all (T.asked texts.old) c.files) }
+    ensures once { IfSome (command_of (map string_bytes words.now)) (λ c. AreAskedInPart (T.asked texts.old) (T.asked texts.new) c.files) }
 
     ensures statuses { IsOneOf (0 ∷ 1 ∷ 2 ∷ 3 ∷ 4 ∷ 5 ∷ 6 ∷ 7 ∷ 8 ∷ []) result.status }
 {

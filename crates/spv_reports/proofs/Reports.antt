@@ -20,7 +20,7 @@ use Rattle.spv_verdicts.specs.Verdicts.{Limits}
 use Rattle.spv_verdicts.specs.declared.answers.verdicts.Decided.{Decided}
 use Rattle.spv_reports.specs.declared.mode.Mode.{Mode}
 use Rattle.spv_reports.specs.declared.mode.Mode.TheVariants.{Verify, Conditions}
-use Rattle.spv_reports.specs.Reports.{Findings, IsReport, AreVerdicts, AreVerdictsIn, has_verdicts, is_proved, all_proved, ProvedIsCorrectIn}
+use Rattle.spv_reports.specs.Reports.{Findings, IsReport, IsReportOn, AreVerdicts, AreVerdictsIn, has_verdicts, is_proved, all_proved, ProvedIsCorrectIn}
 use Rattle.spv_reports.proofs.Proved.{proved_true}
 
 -- proved conditions are true in every world
@@ -52,19 +52,19 @@ proved_correct r world has proved p is =
     conditions_correct world p is.typed (framed_right p is.framed) (subst (AllTrueIn (shapes p) p.symbols world) is.conditions all)
 
 -- whether a page has proofs changes nothing of what a report is on
-pub same_report : (r : Findings) (proofs : Bool) → IsReport r → IsReport (record r { proofs = proofs })
-same_report r proofs q = record {
-  program = q.program;
-  is_on = record {
-    typed = q.is_on.typed;
-    framed = q.is_on.framed;
-    sound = q.is_on.sound;
-    shapes = q.is_on.shapes;
-    decls = q.is_on.decls;
-    titles = q.is_on.titles;
-    routines = q.is_on.routines;
-    in_range = q.is_on.in_range;
-    conditions = q.is_on.conditions;
-    verdicts = q.is_on.verdicts;
-  };
+pub same_report_on : (p : Program) (r : Findings) (proofs : Bool) → IsReportOn p r → IsReportOn p (record r { proofs = proofs })
+same_report_on p r proofs is = record {
+  typed = is.typed;
+  framed = is.framed;
+  sound = is.sound;
+  shapes = is.shapes;
+  decls = is.decls;
+  titles = is.titles;
+  routines = is.routines;
+  in_range = is.in_range;
+  conditions = is.conditions;
+  verdicts = is.verdicts;
 }
+
+pub same_report : (r : Findings) (proofs : Bool) → IsReport r → IsReport (record r { proofs = proofs })
+same_report r proofs is = record { program = is.program; is_on = same_report_on is.program r proofs is.is_on }

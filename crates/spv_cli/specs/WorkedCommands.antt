@@ -1,0 +1,77 @@
+-- Lists of words, and the commands that they are, worked by hand.
+use Rattle.std.specs.Prelude.{◌≡◌, ℕ, Bool, true, false, List, [], ◌∷◌, Option, Some, None, codes}
+use Rattle.spv_verdicts.specs.Verdicts.{Limits}
+use Rattle.spv_reports.specs.declared.mode.Mode.{Mode}
+use Rattle.spv_reports.specs.declared.mode.Mode.TheVariants.{Verify, Conditions}
+use Rattle.spv_reports.specs.Reports.{default_limits}
+use Rattle.spv_cli.specs.Commands.{Command, command_of}
+
+-- the program's name, and words behind it
+abbrev called : List (List ℕ) → Option Command
+called words = command_of (codes "spv" ∷ words)
+
+-- one file is asked for
+abbrev asks : Mode → Bool → List ℕ → Option Command
+asks mode proofs file = Some (record { mode = mode; proofs = proofs; files = file ∷ [] })
+
+-- the usual limits, but for these
+abbrev within : ℕ → ℕ → ℕ → Limits
+within splits instances pivots = record default_limits { splits = splits; instances = instances; pivots = pivots }
+
+-- ---- commands
+
+abbrev pub OneFile : Type 0
+OneFile = called (codes "verify" ∷ codes "a.pas" ∷ []) ≡ asks (Verify default_limits) false (codes "a.pas")
+
+abbrev pub ConditionsAlone : Type 0
+ConditionsAlone = called (codes "conditions" ∷ codes "a.pas" ∷ []) ≡ asks Conditions false (codes "a.pas")
+
+abbrev pub WithProofs : Type 0
+WithProofs = called (codes "verify" ∷ codes "a.pas" ∷ codes "--proofs" ∷ []) ≡ asks (Verify default_limits) true (codes "a.pas")
+
+-- options may stand anywhere, and their number behind `=` or a blank
+abbrev pub EachLimit : Type 0
+EachLimit =
+    called (codes "--pivots=0" ∷ codes "verify" ∷ codes "--splits" ∷ codes "1000000" ∷ codes "a.pas" ∷ codes "--instances" ∷ codes "007" ∷ [])
+    ≡ asks (Verify (within 1000000 7 0)) false (codes "a.pas")
+
+-- behind `--` a word is no option
+abbrev pub BehindDashes : Type 0
+BehindDashes = called (codes "verify" ∷ codes "--" ∷ codes "--proofs" ∷ []) ≡ asks (Verify default_limits) false (codes "--proofs")
+
+-- a mode that has no use for an option takes it all the same
+abbrev pub UnusedOption : Type 0
+UnusedOption = called (codes "conditions" ∷ codes "a.pas" ∷ codes "--splits" ∷ codes "3" ∷ []) ≡ asks Conditions false (codes "a.pas")
+
+-- ---- no commands
+
+abbrev pub NoWords : Type 0
+NoWords = (command_of [] ≡ None) × (called [] ≡ None) × (called (codes "verify" ∷ []) ≡ None)
+
+abbrev pub OtherMode : Type 0
+OtherMode = (called (codes "prove" ∷ codes "a.pas" ∷ []) ≡ None) × (called (codes "Verify" ∷ codes "a.pas" ∷ []) ≡ None)
+
+abbrev pub TwoFiles : Type 0
+TwoFiles = called (codes "verify" ∷ codes "a.pas" ∷ codes "b.pas" ∷ []) ≡ None
+
+-- a word that begins with `-` is an option, and has to be one of the four
+abbrev pub OtherOption : Type 0
+OtherOption =
+    (called (codes "verify" ∷ codes "-a.pas" ∷ []) ≡ None)
+    × (called (codes "verify" ∷ codes "a.pas" ∷ codes "--proof" ∷ []) ≡ None)
+    × (called (codes "--help" ∷ []) ≡ None)
+
+-- a limit is a number in its range
+abbrev pub BadLimit : Type 0
+BadLimit =
+    (called (codes "verify" ∷ codes "a.pas" ∷ codes "--splits" ∷ codes "x" ∷ []) ≡ None)
+    × (called (codes "verify" ∷ codes "a.pas" ∷ codes "--splits=1000001" ∷ []) ≡ None)
+    × (called (codes "verify" ∷ codes "a.pas" ∷ codes "--instances=20001" ∷ []) ≡ None)
+    × (called (codes "verify" ∷ codes "a.pas" ∷ codes "--pivots=1000001" ∷ []) ≡ None)
+    × (called (codes "verify" ∷ codes "a.pas" ∷ codes "--pivots" ∷ []) ≡ None)
+
+-- no option stands twice
+abbrev pub TwiceGiven : Type 0
+TwiceGiven =
+    (called (codes "verify" ∷ codes "a.pas" ∷ codes "--proofs" ∷ codes "--proofs" ∷ []) ≡ None)
+    × (called (codes "verify" ∷ codes "a.pas" ∷ codes "--splits=1" ∷ codes "--splits=1" ∷ []) ≡ None)
