@@ -9,7 +9,8 @@ use Rattle.clap.specs.declared.parser.matches.Found.{Found}
 use Rattle.clap.proofs.WalkLemmas.{first_value-rows, one_text-rows, raw_values-rows}
 use Rattle.spv_verdicts.specs.Verdicts.{Limits}
 use Rattle.spv_reports.specs.Reports.{default_limits}
-use Rattle.spv_cli.specs.Commands.{Command, command_in, command_named, files_in, given_or, is_true, limits_in, proofs_in}
+use Rattle.spv_cli.specs.Commands.{Command, ModeRow, command_if, command_in, command_named, command_with, files_in, given_or, is_true, limits_in, mode_named, proofs_in}
+use Rattle.spv_cli.specs.declared.words.ModeRow.{ModeRow as Row}
 use Rattle.spv_cli.specs.Words.{IsBoolText}
 
 pub flag_is : (o : Option (List ℕ)) (flag : Bool) → IfSome o IsBoolText → (o ≡ None → flag ≡ false) → (o ≡ Some (codes "true") → flag ≡ true) → (o ≡ Some (codes "false") → flag ≡ false) → flag ≡ is_true o
@@ -58,3 +59,40 @@ command_found f word l proofs files mode limits option names =
 
 pub no_mode : (f : Found) → None ≡ first_value f (codes "mode") → None ≡ command_in (rows_of f)
 no_mode f mode = ap (λ (o : Option (List ℕ)). option_and_then (named_by f) o) (mode ∙ first_value-rows f (codes "mode"))
+
+-- ---- modes
+
+same_either_way : (x y : List ℕ) → bytes_eq x y ≡ false → bytes_eq y x ≡ false
+same_either_way x y e = by_case (bytes_eq y x) refl
+  where
+    by_case : (b : Bool) → bytes_eq y x ≡ b → b ≡ false
+    by_case true f = sym ((bytes_eq-Decides x y).1 (sym ((bytes_eq-Decides y x).0 f))) ∙ e
+    by_case false f = refl
+
+-- a word that is none of the modes'
+pub none_named : (word : List ℕ) → bytes_eq word (codes "verify") ≡ false → bytes_eq word (codes "simplify") ≡ false → bytes_eq word (codes "conditions") ≡ false → bytes_eq word (codes "drill") ≡ false
+    → ◌≡◌ {A = Option Row} None (option_map (λ (m : ModeRow). record { fewest = m.fewest; most = m.most; verb = m.verb }) (mode_named word))
+none_named word a b c d =
+    rw (same_either_way word (codes "verify") a, same_either_way word (codes "simplify") b, same_either_way word (codes "conditions") c, same_either_way word (codes "drill") d) refl
+
+abbrev row_of : ModeRow → Row
+row_of m = record { fewest = m.fewest; most = m.most; verb = m.verb }
+
+module _ (word : List ℕ) (l : Limits) (proofs : Bool) (files : List (List ℕ)) where
+  pub named_command : (row : Row) (c : Option Command) → ◌≡◌ {A = Option Row} (Some row) (option_map (λ (m : ModeRow). record { fewest = m.fewest; most = m.most; verb = m.verb }) (mode_named word))
+      → c ≡ command_if row.fewest row.most row.verb l proofs files → c ≡ command_named word l proofs files
+  named_command row c is e = e ∙ by_case (mode_named word) is
+    where
+      same : (a b : Row) → ◌≡◌ {A = Option Row} (Some a) (Some b) → a ≡ b
+      same a b h = cc
+
+      by_case : (o : Option ModeRow) → ◌≡◌ {A = Option Row} (Some row) (option_map row_of o) → command_if row.fewest row.most row.verb l proofs files ≡ option_and_then (λ m. command_with m l proofs files) o
+      by_case None h = absurd (cc)
+      by_case (Some m) h = ap (λ (r : Row). command_if r.fewest r.most r.verb l proofs files) (same row (row_of m) h)
+
+  pub no_command : ◌≡◌ {A = Option Row} None (option_map (λ (m : ModeRow). record { fewest = m.fewest; most = m.most; verb = m.verb }) (mode_named word)) → None ≡ command_named word l proofs files
+  no_command is = by_case (mode_named word) is
+    where
+      by_case : (o : Option ModeRow) → ◌≡◌ {A = Option Row} None (option_map row_of o) → None ≡ option_and_then (λ m. command_with m l proofs files) o
+      by_case None h = refl
+      by_case (Some m) h = absurd (cc)

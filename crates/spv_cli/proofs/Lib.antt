@@ -1,6 +1,8 @@
 pub mod Options
 pub mod ByRows
 pub mod Lines
+pub mod Numbers
+pub mod Pieces
 pub mod InOrder
 pub mod Told
 pub mod Promises

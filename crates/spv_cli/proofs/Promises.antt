@@ -1,11 +1,10 @@
 -- What a run promises follows from what it does.
 use Rattle.std.proofs.Common.{ap, ◌≡◌, inl, inr, ◌⊎◌, ℕ, ◌≤◌, ◌<◌, ◌-◌, ◌^◌, Bool, true, false, cond, List, [], ◌∷◌, ◌++◌, Option, Some, None, IfSome, IsSome, refl, sym, ◌∙◌, subst, arith}
-use Rattle.std.specs.Prelude.{option_and_then}
 use Rattle.std.proofs.lemmas.Bool.{false≢true}
 use Rattle.spv_io.specs.Faults.{raised, Rose, DidNotRise}
 use Rattle.spv_io.specs.Sink.{added, AddsPrefix}
 use Rattle.spv_logic.specs.Conditions.{Meaning}
-use Rattle.spv_program.specs.Programs.{Program}
+use Rattle.spv_program.specs.Programs.{Program, shapes}
 use Rattle.spv_meaning.specs.Correct.{Correct}
 use Rattle.spv_reports.specs.declared.mode.Mode.{Mode}
 use Rattle.spv_verdicts.specs.declared.answers.verdicts.Decided.{Decided}
@@ -14,13 +13,19 @@ use Rattle.spv_reports.specs.Reports.{AreVerdictsIn, Findings, IsReport, IsRepor
 use Rattle.spv_reports.proofs.Reports.{proved_correct}
 use Rattle.spv_listing.specs.Page.{page}
 use Rattle.spv_verify.specs.declared.refused.refusal.Refusal.{Refusal}
-use Rattle.spv_verify.specs.Refusals.{IsProgramOf, IsRefused, IsReportOf, HaveNotBoth, IsOneProgram}
+use Rattle.spv_verify.specs.declared.texts.TextKind.{TextKind}
+use Rattle.spv_verify.specs.texts.Trees.{kind_of}
+use Rattle.spv_verify.specs.Refusals.{names_of, IsProgramOf, IsRefused, IsReportOf, HaveNotBoth, IsOneList, IsOneProgram}
+use Rattle.spv_proof_rules.specs.Rules.{Rule, RulesHold}
+use Rattle.spv_rules.specs.RuleSets.{rules_in}
+use Rattle.spv_verify.specs.declared.refused.fault.Which.{Which}
+use Rattle.spv_verify.specs.tree_reports.RuleFiles.{AreRulesOf}
 use Rattle.spv_cli.specs.declared.found.Found.{Found}
 use Rattle.spv_cli.specs.declared.found.Found.TheVariants.{ReadFailed, Refusing, Reporting}
 use Rattle.spv_cli.specs.declared.running.Ran.{Ran}
 use Rattle.spv_cli.specs.Commands.{Command, files_asked}
 use Rattle.spv_cli.specs.Output.{read_fault_line, refusal_line, words_line, status_in}
-use Rattle.spv_cli.specs.Runs.{AreAskedInPart, AreAskedUpTo, Reading, Writing, IsUnread, IsWritten, IsCut, IsFound, IsOutOfMemory, IsRefusedIn, HasRunFor, named_all, output, program_text, status, report}
+use Rattle.spv_cli.specs.Runs.{AreAskedInPart, AreAskedUpTo, Reading, Writing, IsUnread, IsWritten, IsCut, IsFound, IsOutOfMemory, HasRunFor, Sources, named_all, output, sources, status, report}
 use Rattle.spv_cli.specs.Promises.{IsOneOf, IsThere, IsDueFor, IsRefusalLine}
 use Rattle.spv_cli.proofs.Told.{reading_of}
 
@@ -38,17 +43,24 @@ found_status (Reporting r) = by_mode r.mode
 
     by_mode : (m : Mode) → IsOneOf (0 ∷ 1 ∷ 2 ∷ 3 ∷ 4 ∷ 8 ∷ []) (status_in m r.verdicts)
     by_mode (mode.Verify limits) = by_verdicts (all_proved r.verdicts) (none_unproved r.verdicts)
+    by_mode (mode.Simplify limits) = by_verdicts (all_proved r.verdicts) (none_unproved r.verdicts)
     by_mode mode.Conditions = refl
+    by_mode (mode.Drill load limits) = by_verdicts (all_proved r.verdicts) (none_unproved r.verdicts)
 
 -- the status of a page
 page_found : (m : Mode) (verdicts : List Decided) → IsOneOf (0 ∷ 1 ∷ 2 ∷ 8 ∷ []) (status_in m verdicts)
-page_found (mode.Verify limits) verdicts = by_verdicts (all_proved verdicts) (none_unproved verdicts)
+page_found m verdicts = by_mode m
   where
     by_verdicts : (b n : Bool) → IsOneOf (0 ∷ 1 ∷ 2 ∷ 8 ∷ []) (cond b 0 (cond n 2 1))
     by_verdicts true n = refl
     by_verdicts false true = refl
     by_verdicts false false = refl
-page_found mode.Conditions verdicts = refl
+
+    by_mode : (m : Mode) → IsOneOf (0 ∷ 1 ∷ 2 ∷ 8 ∷ []) (status_in m verdicts)
+    by_mode (mode.Verify limits) = by_verdicts (all_proved verdicts) (none_unproved verdicts)
+    by_mode (mode.Simplify limits) = by_verdicts (all_proved verdicts) (none_unproved verdicts)
+    by_mode mode.Conditions = refl
+    by_mode (mode.Drill load limits) = by_verdicts (all_proved verdicts) (none_unproved verdicts)
 
 -- another status
 not_of : (numbers : List ℕ) {s t : ℕ} → IsOneOf numbers s → s ≡ t → IsOneOf numbers t
@@ -73,6 +85,8 @@ at_zero o c (Reporting r) is e = by_mode r.mode refl e
 
     by_mode : (m : Mode) → r.mode ≡ m → status_in m r.verdicts ≡ 0 → IsProvedReport r
     by_mode (mode.Verify limits) same e = (ap has_verdicts same, by_verdicts (all_proved r.verdicts) (none_unproved r.verdicts) e)
+    by_mode (mode.Simplify limits) same e = (ap has_verdicts same, by_verdicts (all_proved r.verdicts) (none_unproved r.verdicts) e)
+    by_mode (mode.Drill load limits) same e = (ap has_verdicts same, by_verdicts (all_proved r.verdicts) (none_unproved r.verdicts) e)
     by_mode mode.Conditions same e = absurd (false≢true (not_of (8 ∷ []) refl e))
 
 -- what stands in a report with status 1, with status 2, and with status 8
@@ -97,6 +111,8 @@ at_one o c (Reporting r) is e = by_mode r.mode refl e
 
     by_mode : (m : Mode) → r.mode ≡ m → status_in m r.verdicts ≡ 1 → IsUnprovedReport r
     by_mode (mode.Verify limits) same e = (ap has_verdicts same, by_verdicts (all_proved r.verdicts) (none_unproved r.verdicts) e)
+    by_mode (mode.Simplify limits) same e = (ap has_verdicts same, by_verdicts (all_proved r.verdicts) (none_unproved r.verdicts) e)
+    by_mode (mode.Drill load limits) same e = (ap has_verdicts same, by_verdicts (all_proved r.verdicts) (none_unproved r.verdicts) e)
     by_mode mode.Conditions same e = absurd (false≢true (not_of (8 ∷ []) refl e))
 
 at_two : (o : Reading) (c : Command) (f : Found) → IsFound o c f → status f ≡ 2 → IsThere (report f) IsGivenUpReport
@@ -111,6 +127,8 @@ at_two o c (Reporting r) is e = by_mode r.mode refl e
 
     by_mode : (m : Mode) → r.mode ≡ m → status_in m r.verdicts ≡ 2 → IsGivenUpReport r
     by_mode (mode.Verify limits) same e = let k = by_verdicts (all_proved r.verdicts) (none_unproved r.verdicts) e in (ap has_verdicts same, k.0, k.1)
+    by_mode (mode.Simplify limits) same e = let k = by_verdicts (all_proved r.verdicts) (none_unproved r.verdicts) e in (ap has_verdicts same, k.0, k.1)
+    by_mode (mode.Drill load limits) same e = let k = by_verdicts (all_proved r.verdicts) (none_unproved r.verdicts) e in (ap has_verdicts same, k.0, k.1)
     by_mode mode.Conditions same e = absurd (false≢true (not_of (8 ∷ []) refl e))
 
 at_eight : (o : Reading) (c : Command) (f : Found) → IsFound o c f → status f ≡ 8 → IsThere (report f) IsListReport
@@ -123,8 +141,10 @@ at_eight o c (Reporting r) is e = by_mode r.mode refl is.1.is_on.verdicts e
     by_verdicts false true e = false≢true (not_of (2 ∷ []) refl e)
     by_verdicts false false e = false≢true (not_of (1 ∷ []) refl e)
 
-    by_mode : (m : Mode) → r.mode ≡ m → AreVerdictsIn m r.arena r.conditions r.verdicts → status_in m r.verdicts ≡ 8 → IsListReport r
+    by_mode : (m : Mode) → r.mode ≡ m → AreVerdictsIn m (rules_in r.rules) r.arena r.conditions r.verdicts → status_in m r.verdicts ≡ 8 → IsListReport r
     by_mode (mode.Verify limits) same right e = absurd (by_verdicts (all_proved r.verdicts) (none_unproved r.verdicts) e)
+    by_mode (mode.Simplify limits) same right e = absurd (by_verdicts (all_proved r.verdicts) (none_unproved r.verdicts) e)
+    by_mode (mode.Drill load limits) same right e = absurd (by_verdicts (all_proved r.verdicts) (none_unproved r.verdicts) e)
     by_mode mode.Conditions same right e = (ap has_verdicts same, right)
 
 pub map_there : {X : Type 0} (o : Option X) {P Q : X → Type 0} → IsThere o P → ((x : X) → P x → Q x) → IsThere o Q
@@ -133,20 +153,22 @@ map_there (Some x) h f = f x h
 
 -- ---- a text is not refused and reported
 
-never_told : HaveNotBoth → (told : Option (List ℕ)) (f : Findings) → IfSome told (λ text. IsReportOf text f) → IsThere told (λ text. (r : Refusal) × IsRefused text r) → ⊥
-never_told never None f is h = h
-never_told never (Some text) f is (r, h) = never text f r is h
+abbrev HasRefusal : TextKind → Sources → Type 0
+HasRefusal kind s = (w : Which) × (r : Refusal) × IsRefused kind s.text s.rules w r
 
-not_refused : (told : Option (List ℕ)) (r : Refusal) → IfSome told (λ text. IsRefused text r) → IsThere told (λ text. (r : Refusal) → IsRefused text r → ⊥) → ⊥
-not_refused None r is h = h
-not_refused (Some text) r is h = h r is
+abbrev IsUnrefused : TextKind → Sources → Type 0
+IsUnrefused kind s = (w : Which) (r : Refusal) → IsRefused kind s.text s.rules w r → ⊥
+
+never_told : HaveNotBoth → (kind : TextKind) (told : Option Sources) (f : Findings) → IfSome told (λ s. IsReportOf kind s.text s.rules f) → IsThere told (HasRefusal kind) → ⊥
+never_told never kind None f is h = h
+never_told never kind (Some s) f is (w, r, h) = never kind s.text s.rules f w r is h
+
+not_refused : (kind : TextKind) (told : Option Sources) (w : Which) (r : Refusal) → IfSome told (λ s. IsRefused kind s.text s.rules w r) → IsThere told (IsUnrefused kind) → ⊥
+not_refused kind None w r is h = h
+not_refused kind (Some s) w r is h = h w r is
 
 rose_not : (old new : ℕ) → Rose old new → DidNotRise old new → ⊥
 rose_not old new rose (low, below) = let a : raised old ≤ new = rose in let b : new ≤ old = low in let c : new < 2 ^ 64 - 1 = below in omega (arith, a, b, c)
-
--- what is refused is the text of the program
-refused_there : (told : List ℕ → Option (List ℕ)) (c : Command) (file : List ℕ) (r : Refusal) → IsRefusedIn told c file r → IfSome (program_text told c) (λ text. IsRefused text r)
-refused_there told c file r is = subst (λ (o : Option (List ℕ)). IfSome (option_and_then told o) (λ text. IsRefused text r)) (sym is.0) is.1
 
 some_none : (c : Command) → ◌≡◌ {A = Option Command} (Some c) None → ⊥
 some_none c e = cc
@@ -275,7 +297,7 @@ module _ (o : Reading) (w : Writing) (ran : Ran) where
   listed = by_status 8 IsListReport false≢true (at_eight o)
 
   -- what is true of each report that is found is true of the report
-  of_report : (Q : Command → Findings → Type 0) → ((d : Command) (r : Findings) → IsReport r → r.mode ≡ d.mode → r.proofs ≡ d.proofs → IfSome (program_text o.told d) (λ text. IsReportOf text r) → Q d r)
+  of_report : (Q : Command → Findings → Type 0) → ((d : Command) (r : Findings) → IsReport r → r.mode ≡ d.mode → r.proofs ≡ d.proofs → IfSome (sources o.told d) (λ s. IsReportOf (kind_of d.mode) s.text s.rules r) → Q d r)
       → (c : Option Command) → HasRunFor c o w ran → IfSome ran.report (λ r. IsThere c (λ d. Q d r))
   of_report Q of = by_case (λ c. IfSome ran.report (λ r. IsThere c (λ d. Q d r)))
       (λ unread none s written. if_same _ none tt)
@@ -292,8 +314,8 @@ module _ (o : Reading) (w : Writing) (ran : Ran) where
       found d (Refusing file r) is = tt
       found d (Reporting r) (read, report, same, proofs, told) = of d r report same proofs told
 
-  pub of_text : (c : Option Command) → HasRunFor c o w ran → IfSome ran.report (λ r. IsThere c (λ d. IfSome (program_text o.told d) (λ text. IsReportOf text r)))
-  of_text = of_report (λ d r. IfSome (program_text o.told d) (λ text. IsReportOf text r)) (λ d r report same proofs told. told)
+  pub of_text : (c : Option Command) → HasRunFor c o w ran → IfSome ran.report (λ r. IsThere c (λ d. IfSome (sources o.told d) (λ s. IsReportOf (kind_of d.mode) s.text s.rules r)))
+  of_text = of_report (λ d r. IfSome (sources o.told d) (λ s. IsReportOf (kind_of d.mode) s.text s.rules r)) (λ d r report same proofs told. told)
 
   pub same_mode : (c : Option Command) → HasRunFor c o w ran → IfSome ran.report (λ r. IsThere c (λ d. r.mode ≡ d.mode))
   same_mode = of_report (λ d r. r.mode ≡ d.mode) (λ d r report same proofs told. same)
@@ -302,32 +324,41 @@ module _ (o : Reading) (w : Writing) (ran : Ran) where
   same_proofs = of_report (λ d r. r.proofs ≡ d.proofs) (λ d r report same proofs told. proofs)
 
   -- verdicts are right within the limits of the words
-  pub right_verdicts : (c : Option Command) → HasRunFor c o w ran → IfSome ran.report (λ r. IsThere c (λ d. AreVerdictsIn d.mode r.arena r.conditions r.verdicts))
-  right_verdicts = of_report (λ d r. AreVerdictsIn d.mode r.arena r.conditions r.verdicts)
-      (λ d r report same proofs told. subst (λ (m : Mode). AreVerdictsIn m r.arena r.conditions r.verdicts) same report.is_on.verdicts)
+  pub right_verdicts : (c : Option Command) → HasRunFor c o w ran → IfSome ran.report (λ r. IsThere c (λ d. AreVerdictsIn d.mode (rules_in r.rules) r.arena r.conditions r.verdicts))
+  right_verdicts = of_report (λ d r. AreVerdictsIn d.mode (rules_in r.rules) r.arena r.conditions r.verdicts)
+      (λ d r report same proofs told. subst (λ (m : Mode). AreVerdictsIn m (rules_in r.rules) r.arena r.conditions r.verdicts) same report.is_on.verdicts)
 
-  pub correct : (c : Option Command) → HasRunFor c o w ran → ran.status ≡ 0 → IsThere ran.report (λ r. (world : Meaning) (p : Program) → IsReportOn p r → Correct p world)
-  correct c has e = map_there ran.report (proved c has e) (λ r h world p is. proved_correct r world h.0 h.1 p is)
+  pub correct : (c : Option Command) → HasRunFor c o w ran → ran.status ≡ 0
+      → IsThere ran.report (λ r. (world : Meaning) (p : Program) → IsReportOn p r → RulesHold (shapes p) p.symbols world (rules_in r.rules) → Correct p world)
+  correct c has e = map_there ran.report (proved c has e) (λ r h world p is hold. proved_correct r world h.0 h.1 p is hold)
 
-  -- the program of the told text is correct
-  pub correct_of_text : IsOneProgram → (c : Option Command) → HasRunFor c o w ran → ran.status ≡ 0
-      → IsThere c (λ d. IfSome (program_text o.told d) (λ text. (world : Meaning) (p : Program) → IsProgramOf text p → Correct p world))
-  correct_of_text one = by_case (λ c. ran.status ≡ 0 → IsThere c (λ d. IfSome (program_text o.told d) (λ text. (world : Meaning) (p : Program) → IsProgramOf text p → Correct p world)))
+  -- the program of the told text is correct where the rules of the told rule file hold
+  abbrev IsCorrectUnder : TextKind → Sources → Type 0
+  IsCorrectUnder kind s =
+      (world : Meaning) (p : Program) (rules : List Rule) → IsProgramOf kind s.text p → AreRulesOf (names_of s.text) p s.rules rules → RulesHold (shapes p) p.symbols world rules
+      → Correct p world
+
+  pub correct_of_text : IsOneProgram → IsOneList → (c : Option Command) → HasRunFor c o w ran → ran.status ≡ 0 → IsThere c (λ d. IfSome (sources o.told d) (IsCorrectUnder (kind_of d.mode)))
+  correct_of_text one one_list = by_case (λ c. ran.status ≡ 0 → IsThere c (λ d. IfSome (sources o.told d) (IsCorrectUnder (kind_of d.mode))))
       (λ unread none s written e. absurd (false≢true (not_of (7 ∷ []) refl (sym s ∙ e))))
       (λ unread none s cut e. absurd (false≢true (not_of (5 ∷ []) refl (sym s ∙ e))))
       (λ d f is r s written e. found d f is (sym s ∙ e))
       (λ d f is r s cut e. absurd (false≢true (not_of (5 ∷ []) refl (sym s ∙ e))))
       (λ d m e. absurd (false≢true (not_of (6 ∷ []) refl (sym m.status ∙ e))))
     where
-      of : (told : Option (List ℕ)) (r : Findings) → has_verdicts r.mode ≡ true → all_proved r.verdicts ≡ true → IfSome told (λ text. IsReportOf text r)
-          → IfSome told (λ text. (world : Meaning) (p : Program) → IsProgramOf text p → Correct p world)
-      of None r same proved is = tt
-      of (Some text) r same proved is = λ world p of_text. proved_correct r world same proved p (subst (λ (q : Program). IsReportOn q r) (one text is.program p is.of_text of_text) is.is_on)
+      of : (kind : TextKind) (told : Option Sources) (r : Findings) → has_verdicts r.mode ≡ true → all_proved r.verdicts ≡ true → IfSome told (λ s. IsReportOf kind s.text s.rules r)
+          → IfSome told (IsCorrectUnder kind)
+      of kind None r same proved is = tt
+      of kind (Some s) r same proved is = λ world p rules of_text are hold.
+          let here : is.program ≡ p = one kind s.text is.program p is.of_text of_text in
+          let under : AreRulesOf (names_of s.text) p s.rules (rules_in r.rules) = subst (λ (q : Program). AreRulesOf (names_of s.text) q s.rules (rules_in r.rules)) here is.under in
+          let list : rules ≡ rules_in r.rules = one_list (names_of s.text) p s.rules rules (rules_in r.rules) are under in
+          proved_correct r world same proved p (subst (λ (q : Program). IsReportOn q r) here is.is_on) (subst (RulesHold (shapes p) p.symbols world) list hold)
 
-      found : (d : Command) (f : Found) → IsFound o d f → status f ≡ 0 → IfSome (program_text o.told d) (λ text. (world : Meaning) (p : Program) → IsProgramOf text p → Correct p world)
+      found : (d : Command) (f : Found) → IsFound o d f → status f ≡ 0 → IfSome (sources o.told d) (IsCorrectUnder (kind_of d.mode))
       found d (ReadFailed file) is e = absurd (false≢true (not_of (4 ∷ []) refl e))
       found d (Refusing file r) is e = absurd (false≢true (not_of (3 ∷ []) refl e))
-      found d (Reporting r) (read, report, same, proofs, told) e = let h = at_zero o d (Reporting r) (read, report, same, proofs, told) e in of (program_text o.told d) r h.0 h.1 told
+      found d (Reporting r) (read, report, same, proofs, told) e = let h = at_zero o d (Reporting r) (read, report, same, proofs, told) e in of (kind_of d.mode) (sources o.told d) r h.0 h.1 told
 
   pub page_written : (c : Option Command) → HasRunFor c o w ran → IsOneOf (0 ∷ 1 ∷ 2 ∷ 8 ∷ []) ran.status → IsThere ran.report (λ r. w.written_after ≡ added w.written_before (page r))
   page_written = by_case (λ c. IsOneOf (0 ∷ 1 ∷ 2 ∷ 8 ∷ []) ran.status → IsThere ran.report (λ r. w.written_after ≡ added w.written_before (page r)))
@@ -357,9 +388,9 @@ module _ (o : Reading) (w : Writing) (ran : Ran) where
 
   -- ---- completeness
 
-  pub complete_status : (c : Option Command) → HasRunFor c o w ran → IsThere c (λ d. IsThere (program_text o.told d) (λ text. (r : Refusal) → IsRefused text r → ⊥))
+  pub complete_status : (c : Option Command) → HasRunFor c o w ran → IsThere c (λ d. IsThere (sources o.told d) (IsUnrefused (kind_of d.mode)))
       → DidNotRise o.faults_before o.faults_after → DidNotRise w.faults_before w.faults_after → IsOneOf (0 ∷ 1 ∷ 2 ∷ 6 ∷ 8 ∷ []) ran.status
-  complete_status = by_case (λ c. IsThere c (λ d. IsThere (program_text o.told d) (λ text. (r : Refusal) → IsRefused text r → ⊥))
+  complete_status = by_case (λ c. IsThere c (λ d. IsThere (sources o.told d) (IsUnrefused (kind_of d.mode)))
       → DidNotRise o.faults_before o.faults_after → DidNotRise w.faults_before w.faults_after → IsOneOf (0 ∷ 1 ∷ 2 ∷ 6 ∷ 8 ∷ []) ran.status)
       (λ unread none s written h d k. absurd h)
       (λ unread none s cut h d k. absurd h)
@@ -374,28 +405,30 @@ module _ (o : Reading) (w : Writing) (ran : Ran) where
 
       by_mode : (m : Mode) (verdicts : List Decided) → IsOneOf (0 ∷ 1 ∷ 2 ∷ 6 ∷ 8 ∷ []) (status_in m verdicts)
       by_mode (mode.Verify limits) verdicts = by_verdicts (all_proved verdicts) (none_unproved verdicts)
+      by_mode (mode.Simplify limits) verdicts = by_verdicts (all_proved verdicts) (none_unproved verdicts)
+      by_mode (mode.Drill load limits) verdicts = by_verdicts (all_proved verdicts) (none_unproved verdicts)
       by_mode mode.Conditions verdicts = refl
 
-      found : (c : Command) (f : Found) → IsFound o c f → IsThere (program_text o.told c) (λ text. (r : Refusal) → IsRefused text r → ⊥) → DidNotRise o.faults_before o.faults_after
+      found : (c : Command) (f : Found) → IsFound o c f → IsThere (sources o.told c) (IsUnrefused (kind_of c.mode)) → DidNotRise o.faults_before o.faults_after
           → IsOneOf (0 ∷ 1 ∷ 2 ∷ 6 ∷ 8 ∷ []) (status f)
       found c (ReadFailed file) is h d = absurd (rose_not o.faults_before o.faults_after is.rose d)
-      found c (Refusing file r) is h d = absurd (not_refused (program_text o.told c) r (refused_there o.told c file.now r is.1) h)
+      found c (Refusing file r) is h d = absurd (not_refused (kind_of c.mode) (sources o.told c) is.1.0 r is.1.2 h)
       found c (Reporting r) is h d = by_mode r.mode r.verdicts
 
   -- ---- refusals
 
-  pub refused : HaveNotBoth → (c : Option Command) → HasRunFor c o w ran → IsThere c (λ d. IsThere (program_text o.told d) (λ text. (r : Refusal) × IsRefused text r)) → DidNotRise o.faults_before o.faults_after → IsOneOf (3 ∷ 5 ∷ 6 ∷ []) ran.status
-  refused never = by_case (λ c. IsThere c (λ d. IsThere (program_text o.told d) (λ text. (r : Refusal) × IsRefused text r)) → DidNotRise o.faults_before o.faults_after → IsOneOf (3 ∷ 5 ∷ 6 ∷ []) ran.status)
+  pub refused : HaveNotBoth → (c : Option Command) → HasRunFor c o w ran → IsThere c (λ d. IsThere (sources o.told d) (HasRefusal (kind_of d.mode))) → DidNotRise o.faults_before o.faults_after → IsOneOf (3 ∷ 5 ∷ 6 ∷ []) ran.status
+  refused never = by_case (λ c. IsThere c (λ d. IsThere (sources o.told d) (HasRefusal (kind_of d.mode))) → DidNotRise o.faults_before o.faults_after → IsOneOf (3 ∷ 5 ∷ 6 ∷ []) ran.status)
       (λ unread none s written h d. absurd h)
       (λ unread none s cut h d. absurd h)
       (λ c f is r s written h d. not_of (3 ∷ 5 ∷ 6 ∷ []) (found c f is h d) (sym s))
       (λ c f is r s cut h d. not_of (3 ∷ 5 ∷ 6 ∷ []) refl (sym s))
       (λ c m h d. not_of (3 ∷ 5 ∷ 6 ∷ []) refl (sym m.status))
     where
-      found : (c : Command) (f : Found) → IsFound o c f → IsThere (program_text o.told c) (λ text. (r : Refusal) × IsRefused text r) → DidNotRise o.faults_before o.faults_after → IsOneOf (3 ∷ 5 ∷ 6 ∷ []) (status f)
+      found : (c : Command) (f : Found) → IsFound o c f → IsThere (sources o.told c) (HasRefusal (kind_of c.mode)) → DidNotRise o.faults_before o.faults_after → IsOneOf (3 ∷ 5 ∷ 6 ∷ []) (status f)
       found c (ReadFailed file) is h d = absurd (rose_not o.faults_before o.faults_after is.rose d)
       found c (Refusing file r) is h d = refl
-      found c (Reporting r) (read, findings, same, proofs, told) h d = absurd (never_told never (program_text o.told c) r told h)
+      found c (Reporting r) (read, findings, same, proofs, told) h d = absurd (never_told never (kind_of c.mode) (sources o.told c) r told h)
 
   -- ---- the other statuses, and what is told outside
 
@@ -414,6 +447,8 @@ module _ (o : Reading) (w : Writing) (ran : Ran) where
 
       by_mode : (m : Mode) (verdicts : List Decided) → IsOneOf (0 ∷ 1 ∷ 2 ∷ 3 ∷ 4 ∷ 5 ∷ 6 ∷ 7 ∷ 8 ∷ []) (status_in m verdicts)
       by_mode (mode.Verify limits) verdicts = by_verdicts (all_proved verdicts) (none_unproved verdicts)
+      by_mode (mode.Simplify limits) verdicts = by_verdicts (all_proved verdicts) (none_unproved verdicts)
+      by_mode (mode.Drill load limits) verdicts = by_verdicts (all_proved verdicts) (none_unproved verdicts)
       by_mode mode.Conditions verdicts = refl
 
       found : (f : Found) → IsOneOf (0 ∷ 1 ∷ 2 ∷ 3 ∷ 4 ∷ 5 ∷ 6 ∷ 7 ∷ 8 ∷ []) (status f)
@@ -436,6 +471,8 @@ module _ (o : Reading) (w : Writing) (ran : Ran) where
 
       by_mode : (m : Mode) (verdicts : List Decided) → IsOneOf (0 ∷ 1 ∷ 2 ∷ 5 ∷ 8 ∷ []) (status_in m verdicts)
       by_mode (mode.Verify limits) verdicts = by_verdicts (all_proved verdicts) (none_unproved verdicts)
+      by_mode (mode.Simplify limits) verdicts = by_verdicts (all_proved verdicts) (none_unproved verdicts)
+      by_mode (mode.Drill load limits) verdicts = by_verdicts (all_proved verdicts) (none_unproved verdicts)
       by_mode mode.Conditions verdicts = refl
 
       found : (f : Found) → IsSome (report f) → IsOneOf (0 ∷ 1 ∷ 2 ∷ 5 ∷ 8 ∷ []) (status f)
@@ -516,9 +553,9 @@ module _ (o : Reading) (w : Writing) (ran : Ran) where
       found c (Refusing file r) is out e = (refusal_line file.now r, (file.now, r, is.1, refl), out)
       found c (Reporting r) is out e = absurd (false≢true (not_of (0 ∷ 1 ∷ 2 ∷ 8 ∷ []) (page_found r.mode r.verdicts) e))
 
-  pub complete : (c : Option Command) → HasRunFor c o w ran → IsThere c (λ d. IsThere (program_text o.told d) (λ text. (r : Refusal) → IsRefused text r → ⊥))
+  pub complete : (c : Option Command) → HasRunFor c o w ran → IsThere c (λ d. IsThere (sources o.told d) (IsUnrefused (kind_of d.mode)))
       → DidNotRise o.faults_before o.faults_after → IsSome ran.report ⊎ (ran.status ≡ 6)
-  complete = by_case (λ c. IsThere c (λ d. IsThere (program_text o.told d) (λ text. (r : Refusal) → IsRefused text r → ⊥))
+  complete = by_case (λ c. IsThere c (λ d. IsThere (sources o.told d) (IsUnrefused (kind_of d.mode)))
       → DidNotRise o.faults_before o.faults_after → IsSome ran.report ⊎ (ran.status ≡ 6))
       (λ unread none s written h d. absurd h)
       (λ unread none s cut h d. absurd h)
@@ -526,7 +563,7 @@ module _ (o : Reading) (w : Writing) (ran : Ran) where
       (λ c f is r s cut h d. inl (subst IsSome (sym r) (found c f is h d)))
       (λ c m h d. inr m.status)
     where
-      found : (c : Command) (f : Found) → IsFound o c f → IsThere (program_text o.told c) (λ text. (r : Refusal) → IsRefused text r → ⊥) → DidNotRise o.faults_before o.faults_after → IsSome (report f)
+      found : (c : Command) (f : Found) → IsFound o c f → IsThere (sources o.told c) (IsUnrefused (kind_of c.mode)) → DidNotRise o.faults_before o.faults_after → IsSome (report f)
       found c (ReadFailed file) is h d = absurd (rose_not o.faults_before o.faults_after is.rose d)
-      found c (Refusing file r) is h d = absurd (not_refused (program_text o.told c) r (refused_there o.told c file.now r is.1) h)
+      found c (Refusing file r) is h d = absurd (not_refused (kind_of c.mode) (sources o.told c) is.1.0 r is.1.2 h)
       found c (Reporting r) is h d = refl

@@ -1,13 +1,18 @@
 -- What reading the files of a command gives.
-use Rattle.std.specs.Prelude.{◌≡◌, ⊤, ℕ, Bool, List, [], ◌∷◌, Option, IfSome, map, take}
+use Rattle.std.specs.Prelude.{◌≡◌, ⊤, ℕ, List, [], ◌∷◌, Option, None, IfSome, map, slice_get, take}
 use Rattle.spv_reports.specs.declared.mode.Mode.{Mode}
 use Rattle.spv_reports.specs.Reports.{IsReport}
+use Rattle.spv_verify.specs.texts.Trees.{kind_of}
 use Rattle.spv_verify.specs.Refusals.{IsRefused, IsReportOf}
 use Rattle.spv_cli.specs.declared.found.Found.{Found}
 use Rattle.spv_cli.specs.declared.found.Found.TheVariants.{ReadFailed, Refusing, Reporting}
 use Rattle.spv_cli.specs.declared.reading.Gathered.{Gathered}
 use Rattle.spv_cli.specs.declared.reading.Gathered.TheVariants.{Failed, Texts}
-use Rattle.spv_cli.specs.Runs.{Reading, AreReadWhole, IsReadBadly}
+use Rattle.spv_reports.specs.declared.mode.Mode.TheVariants.{Drill}
+use Rattle.spv_cli.specs.Commands.{Command}
+use Rattle.spv_cli.specs.Drill.{drill_text}
+use Rattle.spv_verify.specs.declared.refused.fault.Which.{Which}
+use Rattle.spv_cli.specs.Runs.{name_of, Reading, AreReadWhole, IsReadBadly}
 
 -- these are the first bytes of the text of a file, where it is told: as many as a program may have, and one more
 abbrev pub AreFirstOf : (List ℕ → Option (List ℕ)) → List ℕ → List ℕ → Type 0
@@ -23,8 +28,17 @@ abbrev pub HasGathered : Reading → List (List ℕ) → Gathered → Type 0
 HasGathered o files (Failed file) = IsReadBadly o files file.now
 HasGathered o files (Texts texts) = AreReadWhole o files × AreTextsOf o.told files (map (λ text. text.items) texts.items)
 
--- what is found of the text of a program, which is that of this file: it is refused so, or has this report
-abbrev pub IsTextFound : Mode → Bool → List ℕ → List ℕ → Found → Type 0
-IsTextFound mode proofs file text (ReadFailed other) = ⊥
-IsTextFound mode proofs file text (Refusing other r) = (other.now ≡ file) × IsRefused text r
-IsTextFound mode proofs file text (Reporting r) = IsReport r × (r.mode ≡ mode) × (r.proofs ≡ proofs) × IsReportOf text r
+-- what is found of these texts: one is refused so, or they have this report
+abbrev pub IsTextFound : Command → List ℕ → Option (List ℕ) → Found → Type 0
+IsTextFound c text rules (ReadFailed other) = ⊥
+IsTextFound c text rules (Refusing other r) = (w : Which) × (other.now ≡ name_of c.files w) × IsRefused (kind_of c.mode) text rules w r
+IsTextFound c text rules (Reporting r) = IsReport r × (r.mode ≡ c.mode) × (r.proofs ≡ c.proofs) × IsReportOf (kind_of c.mode) text rules r
+
+-- what is found of the texts that a command asks of, where these were read: of a generated one, or of those
+abbrev pub IsSourceFound : Mode → Command → List (List ℕ) → Found → Type 0
+IsSourceFound (Drill load limits) c texts f = IsTextFound c (drill_text load) None f
+IsSourceFound mode c [] f = ⊥
+IsSourceFound mode c (text ∷ texts) f = IsTextFound c text (slice_get texts 0) f
+
+abbrev pub IsAskedFound : Command → List (List ℕ) → Found → Type 0
+IsAskedFound c texts f = IsSourceFound c.mode c texts f

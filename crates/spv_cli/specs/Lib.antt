@@ -2,6 +2,7 @@ pub mod Arguments
 pub mod Commands
 pub mod WorkedCommands
 pub mod Output
+pub mod Drill
 pub mod Runs
 pub mod Gathering
 pub mod Promises

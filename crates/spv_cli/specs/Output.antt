@@ -2,7 +2,7 @@
 use Rattle.std.specs.Prelude.{ℕ, List, [], ◌∷◌, ◌++◌, codes, decimal, if◌then◌else◌}
 use Rattle.spv_verdicts.specs.declared.answers.verdicts.Decided.{Decided}
 use Rattle.spv_reports.specs.declared.mode.Mode.{Mode}
-use Rattle.spv_reports.specs.declared.mode.Mode.TheVariants.{Verify, Conditions}
+use Rattle.spv_reports.specs.declared.mode.Mode.TheVariants.{Verify, Simplify, Conditions, Drill}
 use Rattle.spv_reports.specs.Reports.{Findings, all_proved, none_unproved}
 use Rattle.spv_verify.specs.declared.refused.refusal.Refusal.{Refusal}
 use Rattle.spv_verify.specs.refused.Refusals.{reason, line_of, detail_of}
@@ -28,7 +28,9 @@ verdict_status verdicts = if all_proved verdicts then 0 else (if none_unproved v
 
 abbrev pub status_in : Mode → List Decided → ℕ
 status_in (Verify limits) verdicts = verdict_status verdicts
+status_in (Simplify limits) verdicts = verdict_status verdicts
 status_in Conditions verdicts = 8
+status_in (Drill load limits) verdicts = verdict_status verdicts
 
 -- the status of a page
 abbrev pub page_status : Findings → ℕ

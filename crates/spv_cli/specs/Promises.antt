@@ -3,10 +3,12 @@ use Rattle.std.specs.Prelude.{◌≡◌, ℕ, ◌⊎◌, List, Option, Some, Non
 use Rattle.std.specs.List.{list_any}
 use Rattle.spv_reports.specs.Reports.{Findings}
 use Rattle.spv_listing.specs.Page.{page}
+use Rattle.spv_verify.specs.declared.texts.TextKind.{TextKind}
+use Rattle.spv_verify.specs.texts.Trees.{kind_of}
 use Rattle.spv_verify.specs.declared.refused.refusal.Refusal.{Refusal}
 use Rattle.spv_cli.specs.Commands.{Command, command_of}
 use Rattle.spv_cli.specs.Output.{words_line, read_fault_line, refusal_line}
-use Rattle.spv_cli.specs.Runs.{Reading, IsReadBadly, IsRefusedIn, program_text}
+use Rattle.spv_cli.specs.Runs.{Reading, IsReadBadly, IsRefusedIn, Sources, sources}
 
 -- a number is one of these
 abbrev pub IsOneOf : List ℕ → ℕ → Type 0
@@ -17,11 +19,11 @@ abbrev pub IsThere : {X : Type 0} → Option X → (X → Type 0) → Type 0
 IsThere None P = ⊥
 IsThere (Some x) P = P x
 
--- the text of the command's program is told, and this is true of it
-abbrev pub IsTold : List (List ℕ) → (List ℕ → Option (List ℕ)) → (List ℕ → Type 0) → Type 0
-IsTold words told P = IsThere (command_of words) (λ c. IsThere (program_text told c) P)
+-- the texts that the command asks of are told, and this is true of what the first is read as, and of them
+abbrev pub IsTold : List (List ℕ) → (List ℕ → Option (List ℕ)) → (TextKind → Sources → Type 0) → Type 0
+IsTold words told P = IsThere (command_of words) (λ c. IsThere (sources told c) (P (kind_of c.mode)))
 
--- a refusal of the text of a file of the command, and its line
+-- a refusal of a text that the command asks of, and its line
 abbrev pub IsRefusalLine : (List ℕ → Option (List ℕ)) → Command → List ℕ → Type 0
 IsRefusalLine told c line = (file : List ℕ) × (r : Refusal) × IsRefusedIn told c file r × (line ≡ refusal_line file r)
 

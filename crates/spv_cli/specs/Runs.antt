@@ -1,16 +1,22 @@
 -- What a run finds and does.
-use Rattle.std.specs.Prelude.{◌≡◌, ◌++◌, ℕ, ◌⊎◌, List, [], ◌∷◌, Option, Some, None, IfSome, fold, option_and_then}
+use Rattle.std.specs.Prelude.{◌≡◌, ◌++◌, ◌<◌, ⊤, ℕ, ◌⊎◌, List, [], ◌∷◌, Option, Some, None, IfSome, codes, fold, option_and_then, option_map, slice_get, unwrap_or}
 use Rattle.spv_io.specs.Faults.{Rose}
 use Rattle.spv_io.specs.Sink.{added, AddsPrefix}
 use Rattle.spv_io.specs.Texts.{named}
 use Rattle.spv_reports.specs.Reports.{Findings, IsReport}
 use Rattle.spv_listing.specs.Page.{page}
 use Rattle.spv_verify.specs.declared.refused.refusal.Refusal.{Refusal}
+use Rattle.spv_verify.specs.declared.refused.fault.Which.{Which}
+use Rattle.spv_verify.specs.declared.refused.fault.Which.TheVariants as which
+use Rattle.spv_reports.specs.declared.mode.Mode.{Mode}
+use Rattle.spv_reports.specs.declared.mode.Mode.TheVariants.{Drill}
+use Rattle.spv_verify.specs.texts.Trees.{kind_of}
 use Rattle.spv_verify.specs.Refusals.{IsRefused, IsReportOf}
 use Rattle.spv_cli.specs.declared.found.Found.{Found}
 use Rattle.spv_cli.specs.declared.found.Found.TheVariants.{ReadFailed, Refusing, Reporting}
 use Rattle.spv_cli.specs.declared.running.Ran.{Ran}
-use Rattle.spv_cli.specs.Commands.{Command, command_of, files_asked, program_file}
+use Rattle.spv_cli.specs.Commands.{Command, command_of, files_asked}
+use Rattle.spv_cli.specs.Drill.{drill_text}
 use Rattle.spv_cli.specs.Output.{words_line, read_fault_line, refusal_line, page_status}
 
 -- ---- what the objects outside tell
@@ -85,21 +91,52 @@ pub record IsUnwritten (w : Writing) : Type 0 where
 
 -- ---- what is found, and what is due then
 
--- what is told of the text of a command's program
-abbrev pub program_text : (List ℕ → Option (List ℕ)) → Command → Option (List ℕ)
-program_text told c = option_and_then told (program_file c)
+-- the texts that a command asks of: a program or a formula, and maybe a rule file
+pub record Sources : Type 0 where
+  pub text : List ℕ
+  pub rules : Option (List ℕ)
 
--- the text of this file of a command is refused so, where it is told; it is the program's
+abbrev pub alone : List ℕ → Sources
+alone text = record { text = text; rules = None }
+
+abbrev pub ruled_by : List ℕ → List ℕ → Sources
+ruled_by text rules = record { text = text; rules = Some rules }
+
+-- what is told of files, where it is told of both
+abbrev pub told_of : (List ℕ → Option (List ℕ)) → List (List ℕ) → Option Sources
+told_of told [] = None
+told_of told (file ∷ []) = option_map alone (told file)
+told_of told (file ∷ rules ∷ others) = option_and_then (λ text. option_map (ruled_by text) (told rules)) (told file)
+
+-- the texts of a command: the one that it generates, or what is told of its files
+abbrev pub sources_for : (List ℕ → Option (List ℕ)) → Mode → List (List ℕ) → Option Sources
+sources_for told (Drill load limits) files = Some (alone (drill_text load))
+sources_for told _ files = told_of told files
+
+abbrev pub sources : (List ℕ → Option (List ℕ)) → Command → Option Sources
+sources told c = sources_for told c.mode c.files
+
+-- the name by which a text is told: that of its file; a generated one has none, and a rule file always has
+abbrev pub name_of : List (List ℕ) → Which → List ℕ
+name_of files which.Program = unwrap_or (slice_get files 0) (codes "DRILL")
+name_of files which.Rules = unwrap_or (slice_get files 1) (codes "RULES")
+
+-- one of the texts that a command asks of, which is told by this name, is refused so, where they are told
 abbrev pub IsRefusedIn : (List ℕ → Option (List ℕ)) → Command → List ℕ → Refusal → Type 0
-IsRefusedIn told c file r = (program_file c ≡ Some file) × IfSome (told file) (λ text. IsRefused text r)
+IsRefusedIn told c file r = (w : Which) × (file ≡ name_of c.files w) × IfSome (sources told c) (λ s. IsRefused (kind_of c.mode) s.text s.rules w r)
 
--- what is found of the files of a command: this one cannot be read; or the text of this one is refused so; or they have this report, which is that of
--- the program's text, and has proofs where these are wanted
+-- a command that asks of a file has one
+abbrev pub HasSource : Mode → ℕ → Type 0
+HasSource (Drill load limits) n = ⊤
+HasSource _ n = 0 < n
+
+-- what is found of the files of a command: this one cannot be read; or one of the texts that it asks of is refused so; or it has this report, which is
+-- that of the texts, and has proofs where these are wanted
 abbrev pub IsFound : Reading → Command → Found → Type 0
 IsFound o c (ReadFailed file) = IsReadBadly o c.files file.now
 IsFound o c (Refusing file r) = AreReadWhole o c.files × IsRefusedIn o.told c file.now r
 IsFound o c (Reporting r) =
-    AreReadWhole o c.files × IsReport r × (r.mode ≡ c.mode) × (r.proofs ≡ c.proofs) × IfSome (program_text o.told c) (λ text. IsReportOf text r)
+    AreReadWhole o c.files × IsReport r × (r.mode ≡ c.mode) × (r.proofs ≡ c.proofs) × IfSome (sources o.told c) (λ s. IsReportOf (kind_of c.mode) s.text s.rules r)
 
 abbrev pub output : Found → List ℕ
 output (ReadFailed file) = read_fault_line file.now

@@ -7,6 +7,8 @@ use Rattle.clap.specs.Matches.{one_text}
 use Rattle.clap.specs.declared.parser.matches.Found.{Found}
 use Rattle.spv_cli.specs.declared.words.Command.{Command as Words}
 use Rattle.spv_cli.specs.Arguments.{most_splits, most_instances, most_pivots}
+use Rattle.spv_cli.specs.declared.drill.Procedure.{Procedure as Made}
+use Rattle.spv_cli.specs.Drill.{Procedure}
 use Rattle.spv_cli.specs.Commands.{Command}
 
 abbrev pub command_view : Words → Command
@@ -29,3 +31,7 @@ pub record AreOptions (f : Found) : Type 0 where
   pub instances : IsLimit f (codes "instances") most_instances
   pub pivots : IsLimit f (codes "pivots") most_pivots
   pub proofs : IfSome (one_text f (codes "proofs")) IsBoolText
+
+-- a generated procedure
+abbrev pub procedure_view : Made → Procedure
+procedure_view p = record { number = p.number; factor = p.factor; summand = p.summand }

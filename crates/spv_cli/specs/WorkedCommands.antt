@@ -2,7 +2,7 @@
 use Rattle.std.specs.Prelude.{◌≡◌, ℕ, Bool, true, false, List, [], ◌∷◌, Option, Some, None, codes}
 use Rattle.spv_verdicts.specs.Verdicts.{Limits}
 use Rattle.spv_reports.specs.declared.mode.Mode.{Mode}
-use Rattle.spv_reports.specs.declared.mode.Mode.TheVariants.{Verify, Conditions}
+use Rattle.spv_reports.specs.declared.mode.Mode.TheVariants.{Verify, Simplify, Conditions}
 use Rattle.spv_reports.specs.Reports.{default_limits}
 use Rattle.spv_cli.specs.Commands.{Command, command_of}
 
@@ -14,6 +14,10 @@ called words = command_of (codes "spv" ∷ words)
 abbrev asks : Mode → Bool → List ℕ → Option Command
 asks mode proofs file = Some (record { mode = mode; proofs = proofs; files = file ∷ [] })
 
+-- and a rule file behind it
+abbrev asks_both : Mode → List ℕ → List ℕ → Option Command
+asks_both mode file rules = Some (record { mode = mode; proofs = false; files = file ∷ rules ∷ [] })
+
 -- the usual limits, but for these
 abbrev within : ℕ → ℕ → ℕ → Limits
 within splits instances pivots = record default_limits { splits = splits; instances = instances; pivots = pivots }
@@ -22,6 +26,12 @@ within splits instances pivots = record default_limits { splits = splits; instan
 
 abbrev pub OneFile : Type 0
 OneFile = called (codes "verify" ∷ codes "a.pas" ∷ []) ≡ asks (Verify default_limits) false (codes "a.pas")
+
+-- a rule file stands behind the program or the formula
+abbrev pub RulesBehind : Type 0
+RulesBehind =
+    (called (codes "verify" ∷ codes "a.pas" ∷ codes "b.rules" ∷ []) ≡ asks_both (Verify default_limits) (codes "a.pas") (codes "b.rules"))
+    × (called (codes "simplify" ∷ codes "a.fml" ∷ codes "b.rules" ∷ []) ≡ asks_both (Simplify default_limits) (codes "a.fml") (codes "b.rules"))
 
 abbrev pub ConditionsAlone : Type 0
 ConditionsAlone = called (codes "conditions" ∷ codes "a.pas" ∷ []) ≡ asks Conditions false (codes "a.pas")
@@ -51,8 +61,12 @@ NoWords = (command_of [] ≡ None) × (called [] ≡ None) × (called (codes "ve
 abbrev pub OtherMode : Type 0
 OtherMode = (called (codes "prove" ∷ codes "a.pas" ∷ []) ≡ None) × (called (codes "Verify" ∷ codes "a.pas" ∷ []) ≡ None)
 
-abbrev pub TwoFiles : Type 0
-TwoFiles = called (codes "verify" ∷ codes "a.pas" ∷ codes "b.pas" ∷ []) ≡ None
+-- a program has one rule file at most, and one for its conditions alone is none
+abbrev pub ManyFiles : Type 0
+ManyFiles =
+    (called (codes "verify" ∷ codes "a.pas" ∷ codes "b.rules" ∷ codes "c.rules" ∷ []) ≡ None)
+    × (called (codes "simplify" ∷ codes "a.fml" ∷ codes "b.rules" ∷ codes "c.rules" ∷ []) ≡ None)
+    × (called (codes "conditions" ∷ codes "a.pas" ∷ codes "b.rules" ∷ []) ≡ None)
 
 -- a word that begins with `-` is an option, and has to be one of the four
 abbrev pub OtherOption : Type 0

@@ -1,22 +1,25 @@
 // What is found of a command's files, and what is due then.
 
-ghost use Rattle.std.specs.Prelude.{◌≡◌, ◌<◌, IfErr, IfOk, OnErr, length, map};
+ghost use Rattle.std.specs.Prelude.{◌≡◌, ◌<◌, IfErr, IfOk, OnErr, drop, length, map, slice_get};
+ghost use Rattle.std.specs.Option.{option_copied};
 ghost use Rattle.spv_reports.specs.Reports.{IsReport};
 ghost use Rattle.spv_verify.specs.Causes.{IsCause};
 ghost use Rattle.spv_verify.specs.Refusals.{IsReportOf};
-ghost use Rattle.spv_cli.specs.Gathering.{IsTextFound};
+ghost use Rattle.spv_verify.specs.texts.Trees.{kind_of};
+ghost use Rattle.spv_cli.specs.Gathering.{IsAskedFound, IsTextFound};
 ghost use Rattle.spv_cli.specs.Output as due;
 ghost use Rattle.spv_cli.specs.Runs as spec;
-ghost use Rattle.spv_cli.specs.Runs.{AreReadInPart, IsFound};
+ghost use Rattle.spv_cli.specs.Runs.{AreReadInPart, HasSource, IsFound};
 ghost use Rattle.spv_cli.specs.Words.{command_view};
 
+use crate::drill::drill_text;
 use crate::output::{read_fault_line, refusal_line};
 use crate::reading::{Gathered, read_files};
 use crate::words::Command;
 use spv_io::Texts;
 use spv_reports::{Decided, Mode, Report, all_proved, none_unproved};
-use spv_verify::refused::{Refusal, VerifyFault};
-use spv_verify::{list, verify};
+use spv_verify::refused::{Refusal, VerifyFault, Which};
+use spv_verify::report_of;
 use std::alloc::{AllocError, Global};
 
 /// What is found of the files of a command.
@@ -30,48 +33,95 @@ pub(crate) enum Found<'a> {
     Reporting(Report),
 }
 
-// The report of a text, for what its mode says.
-fn report_of(alloc: Global, mode: Mode, text: &[u8]) -> Result<Report, VerifyFault>
-    ensures report { IfOk result (IsReportOf text.now) }
-    ensures mode { IfOk result (λ r. r.mode ≡ mode) }
-    ensures findings { IfOk result IsReport }
-    ensures cause { IfErr result (IsCause text.now) }
-{
-    match mode {
-        Mode::Verify(limits) => verify(alloc, text, limits),
-        Mode::Conditions => list(alloc, text),
-    }
-}
-
-// The same report, of which a page has proofs where they are wanted.
+// The report of texts, for what its mode says, of which a page has proofs where they are wanted.
 #[tactic(auto, using(crate::proofs::Told::same_report_of, spv_reports::proofs::Reports::same_report))]
-fn report_with(alloc: Global, mode: Mode, proofs: bool, text: &[u8]) -> Result<Report, VerifyFault>
-    ensures report { IfOk result (IsReportOf text.now) }
+fn report_with(
+    alloc: Global,
+    mode: Mode,
+    proofs: bool,
+    text: &[u8],
+    rules: Option<&[u8]>,
+) -> Result<Report, VerifyFault>
+    ensures report { IfOk result (IsReportOf (kind_of mode) text.now (option_copied rules.entry)) }
     ensures mode { IfOk result (λ r. r.mode ≡ mode) }
     ensures proofs { IfOk result (λ r. r.proofs ≡ proofs) }
     ensures findings { IfOk result IsReport }
-    ensures cause { IfErr result (IsCause text.now) }
+    ensures cause { IfErr result (IsCause (kind_of mode) text.now (option_copied rules.entry)) }
 {
-    match report_of(alloc, mode, text) {
+    match report_of(alloc, text, rules, mode) {
         Ok(report) => Ok(report.with_proofs(proofs)),
         Err(fault) => Err(fault),
     }
 }
 
-// What is found of the text of a program, which is that of this file.
+// The name by which a text is told.
+fn name_of<'a>(files: &[&'a str], which: Which) -> &'a str
+    ensures { result.now ≡ spec.name_of (map (λ file. file.now) files.now) which }
+{
+    match which {
+        Which::Program => match files.first() {
+            Some(file) => file,
+            None => "DRILL",
+        },
+        Which::Rules => match files.get(1) {
+            Some(file) => file,
+            None => "RULES",
+        },
+    }
+}
+
+// What is found of these texts.
 fn look<'a>(
     alloc: Global,
-    mode: Mode,
-    proofs: bool,
-    file: &'a str,
+    command: Command<'a>,
     text: &[u8],
+    rules: Option<&[u8]>,
 ) -> Result<Found<'a>, AllocError>
-    ensures { IfOk result (IsTextFound mode proofs file.entry.now text.now) }
+    ensures { IfOk result (IsTextFound (command_view command.entry) text.now (option_copied rules.entry)) }
 {
-    match report_with(alloc, mode, proofs, text) {
+    let Command {
+        mode,
+        proofs,
+        files,
+    } = command;
+    match report_with(alloc, mode, proofs, text, rules) {
         Ok(report) => Ok(Found::Reporting(report)),
-        Err(VerifyFault::Refused(refusal)) => Ok(Found::Refusing(file, refusal)),
+        Err(VerifyFault::Refused(which, refusal)) => {
+            let name = name_of(files.as_slice(), which);
+            Ok(Found::Refusing(name, refusal))
+        }
         Err(VerifyFault::Memory) => Err(AllocError),
+    }
+}
+
+// The rule file, where two files were read.
+fn rules_of(read: &[Vec<u8>]) -> Option<&[u8]>
+    requires { 0 < length read.now }
+    ensures { option_copied result ≡ slice_get (drop 1 (map (λ text. text.items) read.now)) 0 }
+{
+    match read.get(1) {
+        Some(rules) => Some(rules.as_slice()),
+        None => None,
+    }
+}
+
+// What is found of the texts that a command asks of: a generated one, or those that were read.
+fn look_at<'a>(
+    alloc: Global,
+    command: Command<'a>,
+    read: &[Vec<u8>],
+) -> Result<Found<'a>, AllocError>
+    requires { HasSource command.mode (length read.now) }
+    ensures { IfOk result (IsAskedFound (command_view command.entry) (map (λ text. text.items) read.now)) }
+{
+    match &command.mode {
+        Mode::Drill(load, _) => {
+            let text = drill_text(alloc, *load)?;
+            look(alloc, command, text.as_slice(), None)
+        }
+        Mode::Verify(_) | Mode::Simplify(_) | Mode::Conditions => {
+            look(alloc, command, read[0].as_slice(), rules_of(read))
+        }
     }
 }
 
@@ -81,7 +131,7 @@ pub(crate) fn find<'a, T: Texts>(
     command: Command<'a>,
     texts: &mut T,
 ) -> Result<Found<'a>, AllocError>
-    requires { 0 < length command.files.items }
+    requires { HasSource command.mode (length command.files.items) }
     ensures found { IfOk result (IsFound (record {
       told = T.told texts.old;
       asked_before = T.asked texts.old;
@@ -99,13 +149,7 @@ pub(crate) fn find<'a, T: Texts>(
 {
     match read_files(alloc, command.files.as_slice(), texts)? {
         Gathered::Failed(file) => Ok(Found::ReadFailed(file)),
-        Gathered::Texts(read) => look(
-            alloc,
-            command.mode,
-            command.proofs,
-            command.files[0],
-            &read[0],
-        ),
+        Gathered::Texts(read) => look_at(alloc, command, read.as_slice()),
     }
 }
 
@@ -138,7 +182,7 @@ fn page_status(mode: &Mode, verdicts: &[Decided]) -> u8
     ensures { result ≡ due.status_in mode.now verdicts.now }
 {
     match mode {
-        Mode::Verify(_) => verdict_status(verdicts),
+        Mode::Verify(_) | Mode::Simplify(_) | Mode::Drill(_, _) => verdict_status(verdicts),
         Mode::Conditions => 8,
     }
 }

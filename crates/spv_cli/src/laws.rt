@@ -1,10 +1,11 @@
 // Lists of words, worked by hand: each law is the contract of a function that does nothing.
 
-ghost use Rattle.spv_cli.specs.WorkedCommands.{BadLimit, BehindDashes, ConditionsAlone, EachLimit, NoWords, OneFile, OtherMode, OtherOption, TwiceGiven, TwoFiles, UnusedOption, WithProofs};
+ghost use Rattle.spv_cli.specs.WorkedCommands.{BadLimit, BehindDashes, ConditionsAlone, EachLimit, ManyFiles, NoWords, OneFile, OtherMode, OtherOption, RulesBehind, TwiceGiven, UnusedOption, WithProofs};
 
 /// Words that are commands.
 pub fn law_commands()
     ensures one_file { OneFile }
+    ensures rules { RulesBehind }
     ensures conditions { ConditionsAlone }
     ensures proofs { WithProofs }
     ensures limits { EachLimit }
@@ -16,7 +17,7 @@ pub fn law_commands()
 pub fn law_no_commands()
     ensures no_words { NoWords }
     ensures mode { OtherMode }
-    ensures two_files { TwoFiles }
+    ensures many_files { ManyFiles }
     ensures option { OtherOption }
     ensures limit { BadLimit }
     ensures twice { TwiceGiven }

@@ -1,6 +1,7 @@
 //! The whole run: from the words to the status, with everything in between.
 #![tactic(auto)]
 
+mod drill;
 mod found;
 mod laws;
 mod output;

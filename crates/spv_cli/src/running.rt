@@ -8,12 +8,18 @@ ghost use Rattle.spv_logic.specs.Conditions.{Meaning};
 ghost use Rattle.spv_program.specs.Programs.{Program};
 ghost use Rattle.spv_reports.specs.Reports.{AreVerdictsIn, IsReport, IsReportOn, all_proved, has_verdicts, none_unproved};
 ghost use Rattle.spv_listing.specs.Page.{page};
+ghost use Rattle.spv_proof_rules.specs.Rules.{Rule, RulesHold};
+ghost use Rattle.spv_rules.specs.RuleSets.{rules_in};
+ghost use Rattle.spv_program.specs.Programs.{shapes};
 ghost use Rattle.spv_verify.specs.declared.refused.refusal.Refusal.{Refusal};
+ghost use Rattle.spv_verify.specs.declared.refused.fault.Which.{Which};
+ghost use Rattle.spv_verify.specs.tree_reports.RuleFiles.{AreRulesOf};
 ghost use Rattle.spv_cli.specs.Commands.{command_of};
 ghost use Rattle.spv_cli.specs.Words.{command_view};
 ghost use Rattle.spv_cli.specs.Output.{words_line, read_fault_line};
-ghost use Rattle.spv_verify.specs.Refusals.{IsProgramOf, IsRefused, IsReportOf};
-ghost use Rattle.spv_cli.specs.Runs.{AreAskedInPart, AreAskedUpTo, IsAnswered, HasRunFor, HasRun, named_all, program_text};
+ghost use Rattle.spv_verify.specs.texts.Trees.{kind_of};
+ghost use Rattle.spv_verify.specs.Refusals.{IsProgramOf, IsRefused, IsReportOf, names_of};
+ghost use Rattle.spv_cli.specs.Runs.{AreAskedInPart, AreAskedUpTo, HasSource, IsAnswered, HasRunFor, HasRun, named_all, sources};
 ghost use Rattle.spv_cli.specs.Promises.{IsOneOf, IsThere, IsTold, IsRefusalLine, IsDueFor};
 
 use crate::found::{find, into_report, output, status};
@@ -96,7 +102,7 @@ fn perform<T: Texts, K: Sink>(
     texts: &mut T,
     sink: &mut K,
 ) -> Ran
-    requires { 0 < length command.files.items }
+    requires { HasSource command.mode (length command.files.items) }
     ensures { HasRunFor (Some (command_view command.entry)) (record {
       told = T.told texts.old;
       asked_before = T.asked texts.old;
@@ -157,13 +163,17 @@ pub fn run<W: World, T: Texts, K: Sink>(
     ensures words_only { result.status ≡ 7 → command_of (map string_bytes words.now) ≡ None }
     ensures words { command_of (map string_bytes words.now) ≡ None → IsOneOf (5 ∷ 6 ∷ 7 ∷ []) result.status }
 
-    // Status 0 comes only where all is proved. The program that the report is on is correct then, in the world at hand and in every other;
-    // and so is the program that the told text is.
+    // Status 0 comes only where all is proved. The program that the report is on is correct then, in the world at hand and in every other in
+    // which its rules hold; and so is the program that the text is which the command asks of (what is told of its first file, or the one that it
+    // generates), where the rules hold that the rule file has. Without a rule file there are none.
     ensures proved { result.status ≡ 0 → IsThere result.report (λ r. IsTrue (has_verdicts r.mode) × IsTrue (all_proved r.verdicts)) }
-    ensures correct { result.status ≡ 0 → IsThere result.report (λ r. (p : Program) → IsReportOn p r → Correct p (W.apply world.now)) }
-    ensures correct_everywhere { result.status ≡ 0 → IsThere result.report (λ r. (m : Meaning) (p : Program) → IsReportOn p r → Correct p m) }
+    ensures correct { result.status ≡ 0 → IsThere result.report
+        (λ r. (p : Program) → IsReportOn p r → RulesHold (shapes p) p.symbols (W.apply world.now) (rules_in r.rules) → Correct p (W.apply world.now)) }
+    ensures correct_everywhere { result.status ≡ 0 → IsThere result.report
+        (λ r. (m : Meaning) (p : Program) → IsReportOn p r → RulesHold (shapes p) p.symbols m (rules_in r.rules) → Correct p m) }
     ensures correct_text { result.status ≡ 0 → IsThere (command_of (map string_bytes words.now))
-        (λ c. IfSome (program_text (T.told texts.old) c) (λ text. (m : Meaning) (p : Program) → IsProgramOf text p → Correct p m)) }
+        (λ c. IfSome (sources (T.told texts.old) c) (λ s. (m : Meaning) (p : Program) (rules : List Rule) → IsProgramOf (kind_of c.mode) s.text p
+        → AreRulesOf (names_of s.text) p s.rules rules → RulesHold (shapes p) p.symbols m rules → Correct p m)) }
 
     // With status 1 a condition is unproved; with 2 none is, and the search gave up on one.
     ensures unproved { result.status ≡ 1 → IsThere result.report (λ r. IsTrue (has_verdicts r.mode) × (none_unproved r.verdicts ≡ false)) }
@@ -171,10 +181,10 @@ pub fn run<W: World, T: Texts, K: Sink>(
         (λ r. IsTrue (has_verdicts r.mode) × IsTrue (none_unproved r.verdicts) × (all_proved r.verdicts ≡ false)) }
     ensures listed { result.status ≡ 8 → IsThere result.report (λ r. (has_verdicts r.mode ≡ false) × (r.verdicts ≡ [])) }
 
-    // A report is that of the told text, for what the words ask, and its conditions are those of its program. Its page has proofs where the
+    // A report is that of the told texts, for what the words ask, and its conditions are those of its program. Its page has proofs where the
     // words want them.
     ensures of_text { IfSome result.report (λ r. IsThere (command_of (map string_bytes words.now))
-        (λ c. IfSome (program_text (T.told texts.old) c) (λ text. IsReportOf text r))) }
+        (λ c. IfSome (sources (T.told texts.old) c) (λ s. IsReportOf (kind_of c.mode) s.text s.rules r))) }
     ensures mode { IfSome result.report (λ r. IsThere (command_of (map string_bytes words.now)) (λ c. r.mode ≡ c.mode)) }
     ensures proofs { IfSome result.report (λ r. IsThere (command_of (map string_bytes words.now)) (λ c. r.proofs ≡ c.proofs)) }
     ensures findings { IfSome result.report IsReport }
@@ -183,18 +193,18 @@ pub fn run<W: World, T: Texts, K: Sink>(
     // Each verdict is right, within the limits of the words: what is proved has a proof that is accepted, what is unproved has a table
     // that falsifies its condition, and where the search gave up its limit was reached.
     ensures verdicts { IfSome result.report (λ r. IsThere (command_of (map string_bytes words.now))
-        (λ c. AreVerdictsIn c.mode r.arena r.conditions r.verdicts)) }
+        (λ c. AreVerdictsIn c.mode (rules_in r.rules) r.arena r.conditions r.verdicts)) }
 
-    // Status 3 comes exactly where the told text is refused, but for a failed write and want of memory.
-    ensures refused { IsTold (map string_bytes words.now) (T.told texts.old) (λ text. (r : Refusal) × IsRefused text r)
+    // Status 3 comes exactly where one of the told texts is refused, but for a failed write and want of memory.
+    ensures refused { IsTold (map string_bytes words.now) (T.told texts.old) (λ kind s. (w : Which) × (r : Refusal) × IsRefused kind s.text s.rules w r)
         → DidNotRise (T.faults texts.old) (T.faults texts.new) → IsOneOf (3 ∷ 5 ∷ 6 ∷ []) result.status }
     ensures refusal { result.status ≡ 3 → IsThere (command_of (map string_bytes words.now))
         (λ c. (line : List ℕ) × IsRefusalLine (T.told texts.old) c line × (K.written sink.new ≡ added (K.written sink.old) line)) }
 
-    // A text that is not refused has a report, but for want of memory; and one of the statuses of a report, but for a failed write.
-    ensures complete { IsTold (map string_bytes words.now) (T.told texts.old) (λ text. (r : Refusal) → IsRefused text r → ⊥)
+    // Where none of the texts is refused there is a report, but for want of memory; and one of the statuses of a report, but for a failed write.
+    ensures complete { IsTold (map string_bytes words.now) (T.told texts.old) (λ kind s. (w : Which) (r : Refusal) → IsRefused kind s.text s.rules w r → ⊥)
         → DidNotRise (T.faults texts.old) (T.faults texts.new) → IsSome result.report ⊎ (result.status ≡ 6) }
-    ensures complete_status { IsTold (map string_bytes words.now) (T.told texts.old) (λ text. (r : Refusal) → IsRefused text r → ⊥)
+    ensures complete_status { IsTold (map string_bytes words.now) (T.told texts.old) (λ kind s. (w : Which) (r : Refusal) → IsRefused kind s.text s.rules w r → ⊥)
         → DidNotRise (T.faults texts.old) (T.faults texts.new) → DidNotRise (K.faults sink.old) (K.faults sink.new)
         → IsOneOf (0 ∷ 1 ∷ 2 ∷ 6 ∷ 8 ∷ []) result.status }
 

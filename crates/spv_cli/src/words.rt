@@ -1,16 +1,17 @@
 // The words of a command, read by `clap`.
 
-ghost use Rattle.std.specs.Prelude.{◌≡◌, ◌<◌, false, IfOk, IfSome, length, map, option_map, string_bytes};
+ghost use Rattle.std.specs.Prelude.{◌≡◌, ◌<◌, ◌≤◌, false, Some, IfOk, IfSome, length, map, option_map, string_bytes};
 ghost use Rattle.clap.specs.Words.{app_of, found_of, one_text, rows_of, rule_of};
 ghost use Rattle.spv_cli.specs.Arguments as arguments;
 ghost use Rattle.spv_cli.specs.Commands as spec;
 ghost use Rattle.spv_cli.specs.Commands.{command_of};
+ghost use Rattle.spv_cli.specs.Runs.{HasSource};
 ghost use Rattle.spv_cli.specs.Words.{AreOptions, IsNumber, command_view};
 
 use clap::builder::ValueParser;
 use clap::error::ErrorKind;
 use clap::{Arg, ArgAction, ArgMatches};
-use spv_reports::{Limits, Mode, default_limits};
+use spv_reports::{Limits, Load, Mode, default_limits};
 use std::alloc::{AllocError, Global};
 
 /// What the words ask.
@@ -103,34 +104,117 @@ fn limits_in(matches: &ArgMatches<'_>) -> Limits
     )
 }
 
-// A mode that a word names: what is asked, and how many files it takes.
-#[derive(Drop)]
-struct Named {
-    mode: Mode,
-    fewest: usize,
-    most: usize,
+/// What a mode asks.
+#[derive(Clone, Copy, Debug)]
+pub(crate) enum Verb {
+    /// Verdicts on the conditions of a program.
+    Verify,
+    /// A verdict on the one condition of a formula text.
+    Simplify,
+    /// The conditions of a program.
+    Conditions,
+    /// How many of the conditions of a generated program are proved.
+    Drill,
 }
 
-// The mode that a word names, within these limits.
-fn mode_named(word: &str, limits: Limits) -> Option<Named>
-    ensures row { result ≡ option_map (λ m. record { mode = m.mode limits; fewest = m.fewest; most = m.most }) (spec.mode_named word.now) }
-    ensures some_file { IfSome result (λ named. 0 < named.fewest) }
+// A mode that a word names: how many FILES it takes, and what is asked.
+#[derive(Clone, Copy)]
+struct ModeRow {
+    fewest: usize,
+    most: usize,
+    verb: Verb,
+}
+
+// A mode that takes one file, and maybe more up to this number.
+fn from_one(most: usize, verb: Verb) -> ModeRow
+    ensures { result ≡ record { fewest = 1; most = most; verb = verb } }
+{
+    ModeRow {
+        fewest: 1,
+        most,
+        verb,
+    }
+}
+
+// The mode that a word names.
+#[tactic(auto, using(crate::proofs::ByRows::none_named))]
+fn mode_named(word: &str) -> Option<ModeRow>
+    ensures row { result ≡ option_map (λ m. record { fewest = m.fewest; most = m.most; verb = m.verb }) (spec.mode_named word.now) }
+    ensures some { IfSome result (λ row. 0 < row.fewest) }
 {
     if word == "verify" {
-        return Some(Named {
-            mode: Mode::Verify(limits),
-            fewest: 1,
-            most: 1,
-        });
+        return Some(from_one(2, Verb::Verify));
+    }
+    if word == "simplify" {
+        return Some(from_one(2, Verb::Simplify));
     }
     if word == "conditions" {
-        return Some(Named {
-            mode: Mode::Conditions,
-            fewest: 1,
-            most: 1,
+        return Some(from_one(1, Verb::Conditions));
+    }
+    if word == "drill" {
+        return Some(ModeRow {
+            fewest: 2,
+            most: 2,
+            verb: Verb::Drill,
         });
     }
     None
+}
+
+// ---- loads
+
+// The number that digits say with one more, if it is one, and the number this one at most.
+fn behind_digit(n: u64, byte: u8, most: u64) -> Option<u64>
+    ensures number { result ≡ spec.behind_digit most (Some n) byte }
+    ensures within { IfSome result (λ m. m ≤ most) }
+{
+    if !byte.is_ascii_digit() {
+        return None;
+    }
+    let next = u128::from(n) * 10 + u128::from(byte - b'0');
+    if next <= u128::from(most) {
+        Some(next as u64)
+    } else {
+        None
+    }
+}
+
+// The number that plain digits say, if it is this one at most.
+fn plain_number(text: &str, most: u64) -> Option<u64>
+    ensures number { result ≡ spec.plain_number most text.now }
+    ensures within { IfSome result (λ n. n ≤ most) }
+{
+    let bytes = text.as_bytes();
+    if bytes.is_empty() {
+        return None;
+    }
+    let mut number = 0;
+    for byte in bytes {
+        match behind_digit(number, *byte, most) {
+            Some(next) => number = next,
+            None => return None,
+        }
+    }
+    Some(number)
+}
+
+// The load that two words say.
+fn load_in(words: &[&str]) -> Option<Load>
+    ensures { result ≡ spec.load_in (map (λ word. word.now) words.now) }
+{
+    if words.len() != 2 {
+        return None;
+    }
+    let number = plain_number(words[0], u64::MAX)?;
+    let size = plain_number(words[1], 60)?;
+    if 1 <= size {
+        Some(Load {
+            number,
+            size: size as u32,
+        })
+    } else {
+        None
+    }
 }
 
 // Whether proofs are wanted.
@@ -151,7 +235,54 @@ fn files_in<'a>(alloc: Global, matches: &ArgMatches<'a>) -> Result<Vec<&'a str>,
     }
 }
 
-// The command with this word for its mode, if there is such a mode, and it takes so many files.
+// What is asked of FILES, of which there are so many as it takes.
+fn command_for<'a>(
+    verb: Verb,
+    limits: Limits,
+    proofs: bool,
+    mut files: Vec<&'a str>,
+) -> Option<Command<'a>>
+    requires { 0 < length files.items }
+    ensures command { option_map command_view result ≡ spec.command_for verb limits proofs (map (λ file. file.now) files.entry.items) }
+    ensures source { IfSome result (λ c. HasSource c.mode (length c.files.items)) }
+{
+    let mode = match verb {
+        Verb::Verify => Mode::Verify(limits),
+        Verb::Simplify => Mode::Simplify(limits),
+        Verb::Conditions => Mode::Conditions,
+        Verb::Drill => {
+            let load = load_in(files.as_slice())?;
+            files.clear();
+            Mode::Drill(load, limits)
+        }
+    };
+    Some(Command {
+        mode,
+        proofs,
+        files,
+    })
+}
+
+// What is asked in this mode, if it takes so many FILES.
+fn command_with<'a>(
+    row: ModeRow,
+    limits: Limits,
+    proofs: bool,
+    files: Vec<&'a str>,
+) -> Option<Command<'a>>
+    requires { 0 < row.fewest }
+    ensures command { option_map command_view result ≡ spec.command_if row.fewest row.most row.verb limits proofs (map (λ file. file.now) files.entry.items) }
+    ensures source { IfSome result (λ c. HasSource c.mode (length c.files.items)) }
+{
+    if row.fewest <= files.len() && files.len() <= row.most {
+        command_for(row.verb, limits, proofs, files)
+    } else {
+        None
+    }
+}
+
+// The command with this word for its mode, if there is such a mode, and it takes so many FILES.
+#[tactic(auto, using(crate::proofs::ByRows::named_command, crate::proofs::ByRows::no_command))]
 fn command_named<'a>(
     word: &str,
     limits: Limits,
@@ -159,15 +290,11 @@ fn command_named<'a>(
     files: Vec<&'a str>,
 ) -> Option<Command<'a>>
     ensures command { option_map command_view result ≡ spec.command_named word.now limits proofs (map (λ file. file.now) files.entry.items) }
-    ensures some_file { IfSome result (λ c. 0 < length c.files.items) }
+    ensures source { IfSome result (λ c. HasSource c.mode (length c.files.items)) }
 {
-    match mode_named(word, limits) {
-        Some(named) if named.fewest <= files.len() && files.len() <= named.most => Some(Command {
-            mode: named.mode,
-            proofs,
-            files,
-        }),
-        _ => None,
+    match mode_named(word) {
+        Some(row) => command_with(row, limits, proofs, files),
+        None => None,
     }
 }
 
@@ -178,7 +305,7 @@ fn command_in<'a>(
 ) -> Result<Option<Command<'a>>, AllocError>
     requires { AreOptions (found_of matches.now) }
     ensures command { IfOk result (λ c. option_map command_view c ≡ spec.command_in (rows_of (found_of matches.now))) }
-    ensures some_file { IfOk result (λ c. IfSome c (λ c. 0 < length c.files.items)) }
+    ensures source { IfOk result (λ c. IfSome c (λ c. HasSource c.mode (length c.files.items))) }
 {
     let files = files_in(alloc, matches)?;
     match matches.get_str("mode") {
@@ -193,7 +320,7 @@ pub(crate) fn read_words<'a>(
     words: &'a [String],
 ) -> Result<Option<Command<'a>>, AllocError>
     ensures command { IfOk result (λ c. option_map command_view c ≡ command_of (map string_bytes words.now)) }
-    ensures some_file { IfOk result (λ c. IfSome c (λ c. 0 < length c.files.items)) }
+    ensures source { IfOk result (λ c. IfSome c (λ c. HasSource c.mode (length c.files.items))) }
 {
     let command = spv_command(alloc)?;
     match command.try_get_matches_from(words) {

@@ -14,7 +14,8 @@ use Rattle.spv_assign.specs.Conditions.{conditions_of}
 use Rattle.spv_verdicts.specs.declared.answers.verdicts.Decided.{Decided}
 use Rattle.spv_verdicts.specs.answers.Views.{VerdictIn}
 use Rattle.spv_reports.specs.declared.mode.Mode.{Mode}
-use Rattle.spv_reports.specs.declared.mode.Mode.TheVariants.{Verify, Conditions}
+use Rattle.spv_reports.specs.declared.mode.Mode.TheVariants.{Verify, Simplify, Conditions, Drill}
+use Rattle.spv_reports.specs.declared.mode.Load.{Load}
 use Rattle.spv_reports.specs.declared.report.ProgramNames.{ProgramNames}
 use Rattle.spv_reports.specs.Reports.{Findings}
 use Rattle.spv_listing.specs.printed.Printed.{line, name_in, term_text}
@@ -87,13 +88,26 @@ abbrev pub verdicts_page : Bool → ProgramNames → Arena → List IdCondition 
 verdicts_page proofs named a conditions verdicts =
     line (codes "SPV LISTING 1") ++ blocks proofs named 1 (conditions_of a conditions) verdicts ++ total_lines verdicts
 
+abbrev pub listing_of : Findings → List ℕ
+listing_of r = verdicts_page r.proofs r.named r.arena r.conditions r.verdicts
+
 -- of conditions alone
 abbrev pub conditions_page : ProgramNames → Arena → List IdCondition → List ℕ
 conditions_page named a conditions = line (codes "SPV CONDITIONS 1") ++ claims named 1 (conditions_of a conditions) ++ count (length conditions)
 
+-- of a generated program, of which the verdicts are counted alone
+abbrev pub load_line : Load → List ℕ
+load_line load = line (codes "NUMBER " ++ decimal load.number ++ codes " SIZE " ++ decimal load.size)
+
+abbrev pub drill_page : Load → ℕ → List Decided → List ℕ
+drill_page load conditions verdicts =
+    line (codes "SPV DRILL 1") ++ load_line load ++ line (codes "CONDITIONS " ++ decimal conditions) ++ total_lines verdicts
+
 abbrev pub page_in : Mode → Findings → List ℕ
-page_in (Verify limits) r = verdicts_page r.proofs r.named r.arena r.conditions r.verdicts
+page_in (Verify limits) r = listing_of r
+page_in (Simplify limits) r = listing_of r
 page_in Conditions r = conditions_page r.named r.arena r.conditions
+page_in (Drill load limits) r = drill_page load (length r.conditions) r.verdicts
 
 -- the page of a report, by what it is for
 abbrev pub page : Findings → List ℕ

@@ -1,35 +1,36 @@
 // The page of a report, line by line.
 
-ghost use Rattle.std.specs.Prelude.{◌≡◌, ◌<◌, ◌++◌, map, length, IfOk, OnOk};
+ghost use Rattle.std.specs.Prelude.{◌≡◌, ◌<◌, ◌++◌, map, length, IfOk, IsTrue, OnOk};
 ghost use Rattle.std.specs.List.{flat_map};
 ghost use Rattle.spv_assign.specs.Conditions.{AreIn, IsIn, condition_of, conditions_of};
 ghost use Rattle.spv_verdicts.specs.answers.Views.{VerdictIn};
+ghost use Rattle.spv_reports.specs.Reports.{has_verdicts};
 ghost use Rattle.spv_listing.specs.printed.Printed.{line};
 ghost use Rattle.spv_listing.specs.Page as spec;
-ghost use Rattle.spv_listing.specs.Page.{heading, routine_text, given_line, goal_line, claim_lines, condition_lines, blocks, claims, count, AreDecided};
+ghost use Rattle.spv_listing.specs.Page.{heading, routine_text, given_line, goal_line, claim_lines, condition_lines, blocks, claims, count, listing_of, AreDecided};
 ghost use Rattle.spv_term.specs.Arena.{AllBelow, tree};
 
 use crate::printed::{push_decimal, push_name, push_term};
 use crate::verdict_pages::{push_totals, push_verdict};
-use spv_reports::{Mode, ProgramNames, Report};
+use spv_reports::{Load, Mode, ProgramNames, Report};
 use spv_term::{Condition, Kind, Origin, RoutineId, TermId, Terms};
 use spv_verdicts::answers::Decided;
 use std::alloc::{AllocError, Global};
 
-/// The page of a report: a heading, each condition with its hypotheses and its goal, in the mode `Verify` with its verdict, and the
-/// totals. Each line ends with byte 10.
+/// The page of a report: a heading, each condition with its hypotheses and its goal, in the modes `Verify` and `Simplify` with its
+/// verdict, and the totals; in the mode `Drill` the number of conditions stands in their place. Each line ends with byte 10.
 pub fn page(alloc: Global, report: &Report) -> Result<Vec<u8>, AllocError>
     ensures { IfOk result (λ p. p.items ≡ spec.page report.now) }
 {
     report.law_findings();
     match report.mode() {
-        Mode::Verify(_) => verdicts_page(
+        Mode::Verify(_) => listing(alloc, report),
+        Mode::Simplify(_) => listing(alloc, report),
+        Mode::Drill(load, _) => drill_page(
             alloc,
-            report.named(),
-            report.terms(),
-            report.conditions(),
+            *load,
+            report.conditions().len() as u64,
             report.verdicts(),
-            report.proofs(),
         ),
         Mode::Conditions => conditions_page(
             alloc,
@@ -38,6 +39,22 @@ pub fn page(alloc: Global, report: &Report) -> Result<Vec<u8>, AllocError>
             report.conditions(),
         ),
     }
+}
+
+// The page of a report that has verdicts.
+fn listing(alloc: Global, report: &Report) -> Result<Vec<u8>, AllocError>
+    requires { IsTrue (has_verdicts report.now.mode) }
+    ensures { IfOk result (λ p. p.items ≡ listing_of report.now) }
+{
+    report.law_findings();
+    verdicts_page(
+        alloc,
+        report.named(),
+        report.terms(),
+        report.conditions(),
+        report.verdicts(),
+        report.proofs(),
+    )
 }
 
 // The page of conditions with their verdicts.
@@ -73,6 +90,36 @@ fn conditions_page(
     push_claims(&mut out, named, terms, conditions)?;
     push_count(&mut out, conditions.len() as u64)?;
     Ok(out)
+}
+
+// The page of a generated program, with so many conditions.
+fn drill_page(
+    alloc: Global,
+    load: Load,
+    conditions: u64,
+    verdicts: &[Decided],
+) -> Result<Vec<u8>, AllocError>
+    ensures { IfOk result (λ p. p.items ≡ spec.drill_page load conditions verdicts.now) }
+{
+    let mut out = Vec::from_slice(alloc, b"SPV DRILL 1\n")?;
+    push_load(&mut out, load)?;
+    out.extend_from_slice(b"CONDITIONS ")?;
+    push_decimal(&mut out, conditions)?;
+    out.extend_from_slice(b"\n")?;
+    push_totals(&mut out, verdicts)?;
+    Ok(out)
+}
+
+// The line that tells which program was generated.
+fn push_load(out: &mut Vec<u8>, load: Load) -> Result<(), AllocError>
+    ensures { OnOk result (out.new.items ≡ out.old.items ++ spec.load_line load) }
+{
+    out.extend_from_slice(b"NUMBER ")?;
+    push_decimal(out, load.number)?;
+    out.extend_from_slice(b" SIZE ")?;
+    push_decimal(out, load.size as u64)?;
+    out.extend_from_slice(b"\n")?;
+    Ok(())
 }
 
 // Each condition, numbered from 1.

@@ -1,7 +1,7 @@
 // The messages of refusals, and of what else leaves a text without a report.
 
 use spv_logic::list::List;
-use spv_verify::refused::{Refusal, VerifyFault};
+use spv_verify::refused::{Refusal, VerifyFault, Which};
 use std::alloc::{AllocError, Global};
 
 // Adds the message of a refusal.
@@ -46,14 +46,20 @@ fn show_frames(alloc: Global, out: &mut Vec<u8>) -> Result<(), AllocError> {
     add(alloc, Refusal::Size(1, List::new(alloc)), out)
 }
 
+// That of rules.
+fn show_rules(alloc: Global, out: &mut Vec<u8>) -> Result<(), AllocError> {
+    add(alloc, Refusal::Unbound(16, List::new(alloc)), out)
+}
+
 /// Adds the message of each refusal and fault.
 pub fn show(alloc: Global, out: &mut Vec<u8>) -> Result<(), AllocError> {
     show_reading(alloc, out)?;
     show_types(alloc, out)?;
     show_frames(alloc, out)?;
+    show_rules(alloc, out)?;
     add_fault(
         alloc,
-        VerifyFault::Refused(Refusal::Size(1, List::new(alloc))),
+        VerifyFault::Refused(Which::Rules, Refusal::Size(1, List::new(alloc))),
         out,
     )?;
     add_fault(alloc, VerifyFault::Memory, out)

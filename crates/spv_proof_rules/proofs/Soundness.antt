@@ -13,13 +13,21 @@ use Rattle.spv_logic.specs.declared.names.names.Symbol.{Symbol}
 use Rattle.spv_logic.specs.declared.conditions.TermId.{TermId}
 use Rattle.spv_logic.specs.declared.types.Shape.{Shape}
 use Rattle.spv_logic.specs.declared.types.Decl.{Decl}
+use Rattle.spv_logic.specs.declared.types.Sort.{Sort}
+use Rattle.spv_logic.specs.declared.operators.Head.{Head}
 use Rattle.spv_logic.specs.declared.operators.Head.TheVariants.{Eq, Lt, Le, True, False}
-use Rattle.spv_logic.specs.Values.{Value, Number, value_eq, number_of}
-use Rattle.spv_logic.specs.Terms.{Term, Terms, term, no_terms, terms, head_eq, term_eq, eval, eval_all, worth}
+use Rattle.spv_logic.specs.declared.operators.Head.TheVariants as head
+use Rattle.spv_logic.specs.Values.{Value, Number, value_eq, number_of, truth_of}
+use Rattle.spv_logic.specs.Terms.{Term, Terms, term, no_terms, terms, head_eq, sort_eq, term_eq, eval, eval_all, worth}
 use Rattle.spv_logic.specs.Shapes.{shapes_ok}
 use Rattle.spv_logic.specs.Formulas.{negation, equation}
+use Rattle.spv_logic.specs.Fits.{fits, on_sort}
+use Rattle.spv_logic.specs.Sorts.{term_sort, variable_sort}
+use Rattle.spv_logic.specs.Substitution.{substitute, under, value_under}
 use Rattle.spv_logic.specs.Conditions.{Meaning, Valuation, Sequent, IsValuation, TrueIn, answers, holds}
-use Rattle.spv_logic.proofs.Equality.{value_eq-true, value_eq-refl, term_eq-true, head_eq-true}
+use Rattle.spv_logic.proofs.Equality.{value_eq-true, value_eq-refl, sort_eq-true, term_eq-true, head_eq-true}
+use Rattle.spv_logic.proofs.Sorting.{eval-fits}
+use Rattle.spv_logic.proofs.Substitution.{eval-substitute}
 use Rattle.spv_schemas.specs.declared.kinds.SchemaKind.{SchemaKind}
 use Rattle.spv_schemas.specs.Kinds.{kind_of_number}
 use Rattle.spv_schemas.proofs.Soundness as schemas
@@ -37,7 +45,8 @@ use Rattle.spv_atoms.proofs.Truths.{Known}
 use Rattle.spv_atoms.proofs.Truths as truths
 use Rattle.spv_proof_rules.specs.Sums.{Comparison, Equals, IsBelow, IsAtMost, comparison, negated, Reading, difference, is_at_most_zero, read_true, read_false, sides_pass, read_if, read_relation, read_by, read_cited, cited_reading, refutes}
 use Rattle.spv_proof_rules.specs.Evaluation.{sides, evaluates}
-use Rattle.spv_proof_rules.specs.Effects.{Question, Effect, Adds, Ends, Fails, is_number, adds_if, adds_known, numbered, fact_before, cited, sides_of, exchanged, joined, is_fact, all_equal, congruent, at_most, is_empty, linear, stated, evaluated, is_negation_of, contrary, is_false, impossible, ends_if, end_of_one, end_of_two, end_of, fact_of_kind, schema_stated, effect}
+use Rattle.spv_proof_rules.specs.Rules.{Rule, placed, have_sorts, instance, instance_of, numbered_rule, RuleHolds, RulesHold}
+use Rattle.spv_proof_rules.specs.Effects.{Question, Effect, Adds, Ends, Fails, is_number, adds_if, adds_known, numbered, fact_before, cited, sides_of, exchanged, joined, is_fact, all_equal, congruent, at_most, is_empty, linear, stated, evaluated, is_negation_of, contrary, is_false, impossible, ends_if, end_of_one, end_of_two, end_of, fact_of_kind, schema_stated, rule_stated, effect}
 use Rattle.spv_proof_rules.specs.Accepted.{Path, Open, Closed, Broken, closed_if_last, on_effect, walk, two_cases, three_cases, cases_by_sides, cases_of, opened_if, after_node, on_opened, closes, accepts}
 use Rattle.spv_proof_rules.proofs.Combinations.{Says, no_refutation}
 use Rattle.spv_proof_rules.proofs.Evaluating as evaluating
@@ -52,6 +61,12 @@ all_get : (test : Term → Bool) (xs : List Term) (k : ℕ) (t : Term) → list_
 all_get test [] k t h e = cc
 all_get test (x ∷ xs) zero t h e = let same : x ≡ t = cc in ap test (sym same) ∙ left_true _ _ h
 all_get test (x ∷ xs) (suc k) t h e = all_get test xs k t (right_true (test x) _ h) e
+
+-- ---- sorts
+
+sort_told : (o : Option Sort) (s : Sort) → on_sort o (sort_eq s) ≡ true → o ≡ Some s
+sort_told None s h = absurd (false≢true h)
+sort_told (Some t) s h = ap Some (sym (sort_eq-true s t h))
 
 -- ---- bounds of whole numbers
 
@@ -88,6 +103,9 @@ not_not false h = absurd (false≢true (sym h))
 module _ (shapes : List Shape) (ok : shapes_ok shapes ≡ true) (decls : List Decl) (world : Meaning) (v : Valuation) (typed : IsValuation shapes v) where
   abbrev worth_of : Term → Value
   worth_of t = eval (answers shapes decls world) v t
+
+  abbrev symbols : Meaning
+  symbols = answers shapes decls world
 
   abbrev true_in : Term → Bool
   true_in t = holds (answers shapes decls world) v t
@@ -372,9 +390,60 @@ module _ (shapes : List Shape) (ok : shapes_ok shapes ≡ true) (decls : List De
   no_case facts [] h some none = some
   no_case facts (t ∷ cases) h some none = elim some [ inl e ↦ none.0 (all_append true_in facts (t ∷ []) h (both_true e refl)) | inr others ↦ no_case facts cases h others none.1 ]
 
-  module _ (at : TermId → Term) (c : Sequent) (given_true : list_all true_in c.given ≡ true) (goal_false : true_in c.goal ≡ false) where
+  -- ---- rules
+
+  -- a valuation stays one where terms of their sorts stand in the place of variables
+  placed_fits : (xs : List Head) (ts : List Term) → have_sorts shapes decls xs ts ≡ true → (h : Head) (w : Value) → fits shapes w (variable_sort h) ≡ true
+      → fits shapes (value_under symbols v (placed xs ts h) w) (variable_sort h) ≡ true
+  placed_fits [] [] e h w old = old
+  placed_fits [] (t ∷ ts) e h w old = absurd (false≢true e)
+  placed_fits (x ∷ xs) [] e h w old = old
+  placed_fits (x ∷ xs) (t ∷ ts) e h w old =
+      by_case (head_eq x h) refl (placed_fits xs ts (right_true (on_sort (term_sort shapes decls t) (sort_eq (variable_sort x))) _ e) h w old)
+    where
+      by_case : (b : Bool) → head_eq x h ≡ b → fits shapes (value_under symbols v (placed xs ts h) w) (variable_sort h) ≡ true
+          → fits shapes (value_under symbols v (cond b (Some t) (placed xs ts h)) w) (variable_sort h) ≡ true
+      by_case true same others =
+          let one : fits shapes (worth_of t) (variable_sort x) ≡ true = eval-fits shapes ok decls world v typed t (variable_sort x) (sort_told (term_sort shapes decls t) (variable_sort x) (left_true _ _ e)) in
+          ap (λ k. fits shapes (worth_of t) (variable_sort k)) (sym (head_eq-true x h same)) ∙ one
+      by_case false same others = others
+
+  placed_valuation : (xs : List Head) (ts : List Term) → have_sorts shapes decls xs ts ≡ true → IsValuation shapes (under symbols (placed xs ts) v)
+  placed_valuation xs ts e = record {
+    variables = λ x s n. placed_fits xs ts e (head.Var x s n) (v (head.Var x s n)) (typed.variables x s n);
+    classes = λ t n. placed_fits xs ts e (head.ClassVar t n) (v (head.ClassVar t n)) (typed.classes t n);
+    starts = λ x s. placed_fits xs ts e (head.Start x s) (v (head.Start x s)) (typed.starts x s);
+  }
+
+  -- an instance of a rule that holds is true
+  instance_true : (r : Rule) → RuleHolds shapes decls world r → (ts : List Term) (t : Term) → instance shapes decls r ts ≡ Some t → true_in t ≡ true
+  instance_true r hold ts t = by_case (have_sorts shapes decls r.replaced ts) refl
+    where
+      by_case : (b : Bool) → have_sorts shapes decls r.replaced ts ≡ b → cond b (Some (substitute (placed r.replaced ts) r.formula)) None ≡ Some t → true_in t ≡ true
+      by_case true e same =
+          let is : substitute (placed r.replaced ts) r.formula ≡ t = cc in
+          ap true_in (sym is) ∙ ap truth_of (eval-substitute symbols (placed r.replaced ts) v r.formula) ∙ hold (under symbols (placed r.replaced ts) v) (placed_valuation r.replaced ts e)
+      by_case false e same = cc
+
+  rule_holds : (rules : List Rule) → RulesHold shapes decls world rules → (k : ℕ) (r : Rule) → slice_get rules k ≡ Some r → RuleHolds shapes decls world r
+  rule_holds [] hold k r e = cc
+  rule_holds (s ∷ rules) hold zero r e = let same : s ≡ r = cc in subst (RuleHolds shapes decls world) same hold.0
+  rule_holds (s ∷ rules) hold (suc k) r e = rule_holds rules hold.1 k r e
+
+  numbered_holds : (rules : List Rule) → RulesHold shapes decls world rules → (number : ℕ) (r : Rule) → numbered_rule rules number ≡ Some r → RuleHolds shapes decls world r
+  numbered_holds rules hold zero r e = cc
+  numbered_holds rules hold (suc k) r e = rule_holds rules hold k r e
+
+  stated_true : (rules : List Rule) → RulesHold shapes decls world rules → (number : ℕ) (ts : List Term) (t : Term) → instance_of shapes decls (numbered_rule rules number) ts ≡ Some t → true_in t ≡ true
+  stated_true rules hold number ts t = by_case (numbered_rule rules number) refl
+    where
+      by_case : (o : Option Rule) → numbered_rule rules number ≡ o → instance_of shapes decls o ts ≡ Some t → true_in t ≡ true
+      by_case None e same = cc
+      by_case (Some r) e same = instance_true r (numbered_holds rules hold number r e) ts t same
+
+  module _ (at : TermId → Term) (c : Sequent) (rules : List Rule) (hold : RulesHold shapes decls world rules) (given_true : list_all true_in c.given ≡ true) (goal_false : true_in c.goal ≡ false) where
     abbrev asked : Question
-    asked = record { shapes = shapes; decls = decls; at = at; sequent = c; rules = [] }
+    asked = record { shapes = shapes; decls = decls; at = at; sequent = c; rules = rules }
 
     linear_right : (facts : List Term) (r : Relation) (first second : List (Fraction × ℕ)) → list_all true_in facts ≡ true → EffectIsRight (linear asked facts r first second)
     linear_right facts (AtMost s t) first second h = adds_right _ (at_most (at s) (at t)) (λ e. at_most_right facts (at s) (at t) first second h e)
@@ -396,7 +465,7 @@ module _ (shapes : List Shape) (ok : shapes_ok shapes ≡ true) (decls : List De
         adds_right (congruent facts (at t) (at u) ks) (equation (at t) (at u)) (λ e. equal_true (at t) (at u) (congruent_worth facts (at t) (at u) ks h e))
     effect_right facts (step.Linear r first second) h = linear_right facts r first second h
     effect_right facts (step.Schema kind ts field) h = known_true (schema_stated asked kind ts field) (λ t e. schema_true (kind_of_number kind) (map at ts) field t e)
-    effect_right facts (step.Rule r ts) h = tt
+    effect_right facts (step.Rule number ts) h = known_true (rule_stated asked number ts) (λ t e. stated_true rules hold number (map at ts) t e)
     effect_right facts (step.Eval s ks) h = evaluated_right (stated asked s) (cited facts ks) (λ all e. cited_true facts ks all h e)
     effect_right facts (step.Contra i j) h = end_of_right facts i j h
 
@@ -447,12 +516,12 @@ module _ (shapes : List Shape) (ok : shapes_ok shapes ≡ true) (decls : List De
     no_proof : (nodes : List ProofNode) → accepts asked nodes ≡ true → ⊥
     no_proof nodes e = (none_passes nodes ([] ∷ []) e).0 refl
 
--- what an accepted proof shows is true in every world
-pub accepted_true : (world : Meaning) (q : Question) → shapes_ok q.shapes ≡ true → (nodes : List ProofNode) → accepts q nodes ≡ true → TrueIn q.shapes q.decls world q.sequent
-accepted_true world q ok nodes e v typed =
+-- what an accepted proof shows is true in every world in which its rules hold
+pub accepted_true : (world : Meaning) (q : Question) → shapes_ok q.shapes ≡ true → RulesHold q.shapes q.decls world q.rules → (nodes : List ProofNode) → accepts q nodes ≡ true → TrueIn q.shapes q.decls world q.sequent
+accepted_true world q ok hold nodes e v typed =
     by_cases (list_all (holds (answers q.shapes q.decls world) v) q.sequent.given) (holds (answers q.shapes q.decls world) v q.sequent.goal) refl refl
   where
     by_cases : (g h : Bool) → list_all (holds (answers q.shapes q.decls world) v) q.sequent.given ≡ g → holds (answers q.shapes q.decls world) v q.sequent.goal ≡ h → (not g || h) ≡ true
     by_cases true true a b = refl
-    by_cases true false a b = absurd (no_proof q.shapes ok q.decls world v typed q.at q.sequent a b nodes e)
+    by_cases true false a b = absurd (no_proof q.shapes ok q.decls world v typed q.at q.sequent q.rules hold a b nodes e)
     by_cases false h a b = refl

@@ -22,7 +22,8 @@ use Rattle.spv_atoms.specs.Steps.{Part, Number, Fact, OtherFact, Facts, One, Sev
 use Rattle.spv_atoms.specs.Atoms as atoms
 use Rattle.spv_atoms.proofs.Steps.{of_each-map}
 use Rattle.spv_proof_rules.specs.Sums.{refutes}
-use Rattle.spv_proof_rules.specs.Effects.{Question, Adds, is_truth, is_number, adds_if, adds_known, at_most, cited, congruent, effect, evaluated, fact_of_kind, given_effect, is_empty, linear, schema_stated, stated}
+use Rattle.spv_proof_rules.specs.Rules.{Rule, numbered_rule, instance_of}
+use Rattle.spv_proof_rules.specs.Effects.{Question, Adds, is_truth, is_number, adds_if, adds_known, at_most, cited, congruent, effect, evaluated, fact_of_kind, given_effect, is_empty, linear, rule_stated, schema_stated, stated}
 use Rattle.spv_proof_rules.specs.Stand.{PartIn, RelationIn, StatedIn, StepIn}
 
 module _ {old new : Arena} (more : Extends old new) where
@@ -55,12 +56,12 @@ module _ {old new : Arena} (more : Extends old new) where
 
   -- ---- what it does, where what is to be shown is the same
 
-  module _ (c d : Sequent) (same : c ≡ d) where
+  module _ (c d : Sequent) (same : c ≡ d) (rules : List Rule) where
     abbrev now : Question
-    now = record { shapes = new.shapes; decls = new.decls; at = tree new; sequent = c; rules = [] }
+    now = record { shapes = new.shapes; decls = new.decls; at = tree new; sequent = c; rules = rules }
 
     abbrev past : Question
-    past = record { shapes = old.shapes; decls = old.decls; at = tree old; sequent = d; rules = [] }
+    past = record { shapes = old.shapes; decls = old.decls; at = tree old; sequent = d; rules = rules }
 
     pub truth-Extends : is_truth now ≡ is_truth past
     truth-Extends = λ i. atoms.is_truth (more.shapes i) (more.decls i)
@@ -95,6 +96,11 @@ module _ {old new : Arena} (more : Extends old new) where
             let us = map_tree-Extends more ts h in
             λ i. schema_fact (more.shapes i) (more.decls i) kind (us i) field
 
+    pub rule-Extends : (number : ℕ) (ts : List TermId) → AllBelow (length old.nodes) ts → rule_stated now number ts ≡ rule_stated past number ts
+    rule-Extends number ts h =
+        let us = map_tree-Extends more ts h in
+        λ i. instance_of (more.shapes i) (more.decls i) (numbered_rule rules number) (us i)
+
     pub effect-Extends : (facts : List Term) (s : Step) → StepIn old s → effect now facts s ≡ effect past facts s
     effect-Extends facts (step.Given k) h = ap (λ q. given_effect q k) same
     effect-Extends facts (step.Refl t) h = ap (λ x. Adds (equation x x)) (tree-Extends more t h)
@@ -106,6 +112,6 @@ module _ {old new : Arena} (more : Extends old new) where
         λ i. adds_if (congruent facts (x i) (y i) ks) (equation (x i) (y i))
     effect-Extends facts (step.Linear r first second) h = linear-Extends facts r first second h
     effect-Extends facts (step.Schema kind ts field) h = ap adds_known (schema-Extends kind ts field h)
-    effect-Extends facts (step.Rule r ts) h = refl
+    effect-Extends facts (step.Rule number ts) h = ap adds_known (rule-Extends number ts h)
     effect-Extends facts (step.Eval s ks) h = λ i. evaluated (truth-Extends i) (stated-Extends s h i) (cited facts ks)
     effect-Extends facts (step.Contra i j) h = refl

@@ -5,7 +5,6 @@ use Rattle.spv_logic.specs.declared.names.names.Symbol.{Symbol}
 use Rattle.spv_logic.specs.declared.conditions.TermId.{TermId}
 use Rattle.spv_logic.specs.declared.types.Shape.{Shape}
 use Rattle.spv_logic.specs.declared.types.Decl.{Decl}
-use Rattle.spv_logic.specs.declared.operators.Head.{Head}
 use Rattle.spv_logic.specs.declared.operators.Head.TheVariants.{Le, True, False}
 use Rattle.spv_logic.specs.Terms.{Term, Terms, term, no_terms, terms, head_eq, term_eq}
 use Rattle.spv_logic.specs.Formulas.{negation, equation}
@@ -22,15 +21,10 @@ use Rattle.spv_atoms.specs.declared.proofs.Step.TheVariants as step
 use Rattle.spv_atoms.specs.Tables.{numeral_relation}
 use Rattle.spv_atoms.specs.Atoms as atoms
 use Rattle.spv_proof_rules.specs.Sums.{negated, refutes}
+use Rattle.spv_proof_rules.specs.Rules.{Rule, numbered_rule, instance_of}
 use Rattle.spv_proof_rules.specs.Evaluation.{sides, evaluates}
 
--- a rule that a proof may cite: what its instances replace, in the order of their terms, and the formula that they are instances of
-pub record Rule : Type 0 where
-  pub replaced : List Head
-  pub formula : Term
-
--- what a proof is to show: a sequent, over terms by their ids, over types and declared symbols, and under rules, of which there are
--- none yet
+-- what a proof is to show: a sequent, over terms by their ids, over types and declared symbols, and under rules
 pub record Question : Type 0 where
   pub shapes : List Shape
   pub decls : List Decl
@@ -153,6 +147,12 @@ fact_of_kind q (Some kind) ts field = schema_fact q.shapes q.decls kind ts field
 abbrev pub schema_stated : Question → ℕ → List TermId → Option Symbol → Option Term
 schema_stated q number ts field = fact_of_kind q (kind_of_number number) (map q.at ts) field
 
+-- ---- rules
+
+-- what the rule of this number, from 1, says of these terms, which need not be those of the sequent
+abbrev pub rule_stated : Question → ℕ → List TermId → Option Term
+rule_stated q number ts = instance_of q.shapes q.decls (numbered_rule q.rules number) (map q.at ts)
+
 -- ---- the end of a path
 
 abbrev pub is_negation_of : Option Term → Term → Bool
@@ -191,7 +191,7 @@ end_of facts s (Some k) = end_of_two s (numbered facts k)
 
 -- ---- steps
 
--- what a step does after these facts; of rules none follows so far
+-- what a step does after these facts
 abbrev pub effect : Question → List Term → Step → Effect
 effect q facts (step.Given k) = given_effect q.sequent k
 effect q facts (step.Refl t) = Adds (equation (q.at t) (q.at t))
@@ -200,6 +200,6 @@ effect q facts (step.Trans i j) = joined (sides_of (numbered facts i)) (sides_of
 effect q facts (step.Cong t u ks) = adds_if (congruent facts (q.at t) (q.at u) ks) (equation (q.at t) (q.at u))
 effect q facts (step.Linear r first second) = linear q facts r first second
 effect q facts (step.Schema kind ts field) = adds_known (schema_stated q kind ts field)
-effect q facts (step.Rule r ts) = Fails
+effect q facts (step.Rule number ts) = adds_known (rule_stated q number ts)
 effect q facts (step.Eval s ks) = evaluated (is_truth q) (stated q s) (cited facts ks)
 effect q facts (step.Contra i j) = end_of facts (numbered facts i) j

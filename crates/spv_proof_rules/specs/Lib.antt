@@ -1,5 +1,6 @@
 pub mod Sums
 pub mod Evaluation
+pub mod Rules
 pub mod Effects
 pub mod Accepted
 pub mod Stops

@@ -11,7 +11,7 @@ use Rattle.spv_atoms.specs.declared.proofs.Split.{Split}
 use Rattle.spv_atoms.specs.declared.proofs.ProofNode.{ProofNode}
 use Rattle.spv_atoms.specs.Atoms.{is_atom}
 use Rattle.spv_proof_rules.specs.Sums.{refutes}
-use Rattle.spv_proof_rules.specs.Effects.{Question, Effect, Adds, Ends, Fails, is_truth, is_number, is_empty, at_most, schema_stated, effect}
+use Rattle.spv_proof_rules.specs.Effects.{Question, Effect, Adds, Ends, Fails, is_truth, is_number, is_empty, at_most, schema_stated, rule_stated, effect}
 use Rattle.spv_proof_rules.specs.Accepted.{Path, Open, Closed, Broken, closed_if_last, cases_of}
 use Rattle.spv_proof_rules.specs.Stops.{Stop, TooMany, Halt, kept, all_kept, layers_if, halt_in}
 
@@ -108,9 +108,10 @@ abbrev pub on_trial : List Term → Trial → (Term → Outcome Path) → Path �
 on_trial known (Does e) go last = on_does known e go last
 on_trial known (Halts h) go last = stops h.known h.stop
 
--- the terms that a step makes beforehand: those of a fact of a schema, which may be new
+-- the terms that a step makes beforehand: those of a fact of a schema or of an instance of a rule, which may be new
 abbrev pub made_by : Question → Step → List Term
 made_by q (step.Schema kind ts field) = layers_if (schema_stated q kind ts field)
+made_by q (step.Rule number ts) = layers_if (rule_stated q number ts)
 made_by q _ = []
 
 abbrev pub where_made : {T : Type 0} → Result (List Term) (List Term) → (List Term → Outcome T) → Outcome T

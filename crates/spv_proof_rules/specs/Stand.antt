@@ -11,12 +11,17 @@ use Rattle.spv_atoms.specs.declared.proofs.Step.{Step}
 use Rattle.spv_atoms.specs.declared.proofs.Split.{Split}
 use Rattle.spv_atoms.specs.declared.proofs.ProofNode.{ProofNode}
 use Rattle.spv_atoms.specs.Steps.{Part, One, Several, Sums, States, OfNaming}
+use Rattle.spv_proof_rules.specs.Rules.{Rule}
 use Rattle.spv_proof_rules.specs.Effects.{Question}
 use Rattle.spv_proof_rules.specs.Accepted.{accepts}
 
 -- what is to be shown of a condition
 abbrev pub question : Arena → Condition → Question
 question a c = record { shapes = a.shapes; decls = a.decls; at = tree a; sequent = sequent a c; rules = [] }
+
+-- and under rules
+abbrev pub question_under : List Rule → Arena → Condition → Question
+question_under rules a c = record { shapes = a.shapes; decls = a.decls; at = tree a; sequent = sequent a c; rules = rules }
 
 -- a term is in the arena
 abbrev pub In : Arena → TermId → Type 0

@@ -4,15 +4,16 @@ ghost use Rattle.std.specs.Prelude.{◌≡◌, true, false};
 ghost use Rattle.spv_logic.specs.Conditions.{Meaning};
 ghost use Rattle.spv_proof_rules.specs.Examples as examples;
 ghost use Rattle.spv_proof_rules.specs.SchemaExamples as schemas;
-ghost use Rattle.spv_proof_rules.specs.Laws.{AcceptedIsTrueIn, ProvedIsTrueIn, UnstoppedIsExact, TermsStay};
+ghost use Rattle.spv_proof_rules.specs.Laws.{AcceptedIsTrueIn, ProvedIsTrueIn, ProvedUnderIsTrueIn, UnstoppedIsExact, TermsStay};
 
 use spv_logic::World;
 
-/// What an accepted proof shows is true: in every world at once, and in one that is at hand.
+/// What an accepted proof shows is true where its rules hold: in every world at once, and in one that is at hand.
 pub fn law_check<W: World>(world: &W)
     ensures every_world { (m : Meaning) → AcceptedIsTrueIn m }
     ensures this_world { AcceptedIsTrueIn (W.apply world.now) }
     ensures conditions { (m : Meaning) → ProvedIsTrueIn m }
+    ensures under_rules { (m : Meaning) → ProvedUnderIsTrueIn m }
 {
     let _ = world;
 }

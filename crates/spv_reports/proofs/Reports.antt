@@ -1,5 +1,5 @@
 -- A report whose verdicts are all Proved makes its program correct.
-use Rattle.std.proofs.Common.{◌≡◌, Bool, true, not, List, [], ◌∷◌, Option, None, is_some, sym, ap, subst, ◌∙◌}
+use Rattle.std.proofs.Common.{◌≡◌, Bool, true, not, List, [], ◌∷◌, Option, Some, None, is_some, sym, ap, subst, ◌∙◌}
 use Rattle.std.proofs.lemmas.Bool.{false≢true}
 use Rattle.spv_logic.proofs.list.Tests.{left_true, right_true}
 use Rattle.spv_logic.specs.Shapes.{shapes_ok}
@@ -16,37 +16,40 @@ use Rattle.spv_effects.proofs.frame_laws.Framed.{framed_is}
 use Rattle.spv_meaning.specs.ProgramConditions.{AllTrueIn}
 use Rattle.spv_assign.specs.Conditions.{conditions_of}
 use Rattle.spv_conditions.proofs.Correct.{conditions_correct}
+use Rattle.spv_proof_rules.specs.Rules.{Rule, RulesHold}
 use Rattle.spv_verdicts.specs.Verdicts.{Limits}
+use Rattle.spv_rules.specs.RuleSets.{rules_in}
 use Rattle.spv_verdicts.specs.declared.answers.verdicts.Decided.{Decided}
-use Rattle.spv_reports.specs.declared.mode.Mode.{Mode}
-use Rattle.spv_reports.specs.declared.mode.Mode.TheVariants.{Verify, Conditions}
-use Rattle.spv_reports.specs.Reports.{Findings, IsReport, IsReportOn, AreVerdicts, AreVerdictsIn, has_verdicts, is_proved, all_proved, ProvedIsCorrectIn}
+use Rattle.spv_reports.specs.Reports.{Findings, IsReport, IsReportOn, AreVerdicts, AreVerdictsWithin, limits_of, is_proved, all_proved, ProvedIsCorrectIn}
 use Rattle.spv_reports.proofs.Proved.{proved_true}
 
--- proved conditions are true in every world
-all_true : (a : Arena) (limits : Limits) (world : Meaning) → shapes_ok a.shapes ≡ true → (cs : List Condition) (ds : List Decided) → AreVerdicts a limits cs ds → all_proved ds ≡ true
-    → AllTrueIn a.shapes a.decls world (conditions_of a cs)
-all_true a limits world ok [] [] right proved = tt
-all_true a limits world ok [] (d ∷ ds) right proved = absurd right
-all_true a limits world ok (c ∷ cs) [] right proved = absurd right
-all_true a limits world ok (c ∷ cs) (d ∷ ds) right proved = (
-  proved_true a c limits d world ok right.0 (left_true _ _ proved),
-  all_true a limits world ok cs ds right.1 (right_true (is_proved d.verdict) _ proved),
+-- proved conditions are true in every world in which the rules hold
+all_true : (rules : List Rule) (a : Arena) (limits : Limits) (world : Meaning) → shapes_ok a.shapes ≡ true → RulesHold a.shapes a.decls world rules
+    → (cs : List Condition) (ds : List Decided) → AreVerdicts rules a limits cs ds → all_proved ds ≡ true → AllTrueIn a.shapes a.decls world (conditions_of a cs)
+all_true rules a limits world ok hold [] [] right proved = tt
+all_true rules a limits world ok hold [] (d ∷ ds) right proved = absurd right
+all_true rules a limits world ok hold (c ∷ cs) [] right proved = absurd right
+all_true rules a limits world ok hold (c ∷ cs) (d ∷ ds) right proved = (
+  proved_true rules a c limits d world ok hold right.0 (left_true _ _ proved),
+  all_true rules a limits world ok hold cs ds right.1 (right_true (is_proved d.verdict) _ proved),
 )
 
 -- with verdicts, they are on the conditions
-all_right : (mode : Mode) (a : Arena) (world : Meaning) → shapes_ok a.shapes ≡ true → (cs : List Condition) (ds : List Decided) → has_verdicts mode ≡ true → AreVerdictsIn mode a cs ds → all_proved ds ≡ true
-    → AllTrueIn a.shapes a.decls world (conditions_of a cs)
-all_right (Verify limits) a world ok cs ds has right proved = all_true a limits world ok cs ds right proved
-all_right Conditions a world ok cs ds has right proved = absurd (false≢true has)
+all_right : (o : Option Limits) (rules : List Rule) (a : Arena) (world : Meaning) → shapes_ok a.shapes ≡ true → RulesHold a.shapes a.decls world rules
+    → (cs : List Condition) (ds : List Decided) → is_some o ≡ true → AreVerdictsWithin o rules a cs ds → all_proved ds ≡ true → AllTrueIn a.shapes a.decls world (conditions_of a cs)
+all_right (Some limits) rules a world ok hold cs ds has right proved = all_true rules a limits world ok hold cs ds right proved
+all_right None rules a world ok hold cs ds has right proved = absurd (false≢true has)
 
 -- where the walk meets no fault, the rules of frames hold
 framed_right : (p : Program) → frame_fault p ≡ None → framed p ≡ true
 framed_right p e = sym (framed_is p) ∙ ap (λ (o : Option FrameFault). not (is_some o)) e
 
 pub proved_correct : (r : Findings) (world : Meaning) → ProvedIsCorrectIn r world
-proved_correct r world has proved p is =
-    let here : AllTrueIn r.arena.shapes r.arena.decls world (conditions_of r.arena r.conditions) = all_right r.mode r.arena world is.sound.shapes r.conditions r.verdicts has is.verdicts proved in
+proved_correct r world has proved p is hold =
+    let hold_here : RulesHold r.arena.shapes r.arena.decls world (rules_in r.rules) =
+    subst (λ (s : List Shape). RulesHold s r.arena.decls world (rules_in r.rules)) (sym is.shapes) (subst (λ (d : List Decl). RulesHold (shapes p) d world (rules_in r.rules)) (sym is.decls) hold) in
+    let here : AllTrueIn r.arena.shapes r.arena.decls world (conditions_of r.arena r.conditions) =
+    all_right (limits_of r.mode) (rules_in r.rules) r.arena world is.sound.shapes hold_here r.conditions r.verdicts has is.verdicts proved in
     let there : AllTrueIn (shapes p) r.arena.decls world (conditions_of r.arena r.conditions) = subst (λ (s : List Shape). AllTrueIn s r.arena.decls world (conditions_of r.arena r.conditions)) is.shapes here in
     let all : AllTrueIn (shapes p) p.symbols world (conditions_of r.arena r.conditions) = subst (λ (d : List Decl). AllTrueIn (shapes p) d world (conditions_of r.arena r.conditions)) is.decls there in
     conditions_correct world p is.typed (framed_right p is.framed) (subst (AllTrueIn (shapes p) p.symbols world) is.conditions all)

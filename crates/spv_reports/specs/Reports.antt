@@ -1,5 +1,5 @@
 -- Reports, and what each keeps.
-use Rattle.std.specs.Prelude.{◌≡◌, ⊤, Bool, true, false, not, List, [], ◌∷◌, map, None, IsTrue}
+use Rattle.std.specs.Prelude.{◌≡◌, ⊤, Bool, true, false, not, List, [], ◌∷◌, map, Option, Some, None, is_some, IsTrue}
 use Rattle.std.specs.List.{list_all}
 use Rattle.spv_logic.specs.Conditions.{Meaning}
 use Rattle.spv_term.specs.declared.nodes.Condition.{Condition}
@@ -12,28 +12,31 @@ use Rattle.spv_meaning.specs.Correct.{Correct}
 use Rattle.spv_assign.specs.Conditions.{conditions_of, AreIn}
 use Rattle.spv_assign.specs.creation_trace.Events.{Walked}
 use Rattle.spv_conditions.specs.Making.{program_events, empty_arena}
+use Rattle.spv_proof_rules.specs.Rules.{Rule, RulesHold}
 use Rattle.spv_verdicts.specs.Verdicts.{Limits, most_terms}
 use Rattle.spv_verdicts.specs.declared.answers.verdicts.Decided.{Decided}
 use Rattle.spv_verdicts.specs.declared.answers.verdicts.Verdict.{Verdict}
 use Rattle.spv_verdicts.specs.declared.answers.verdicts.Verdict.TheVariants.{Proved, Unproved, GaveUp, NotAccepted}
-use Rattle.spv_verdicts.specs.answers.Views.{IsDecidedWith}
+use Rattle.spv_rules.specs.RuleSets.{RuleSet, rules_in}
+use Rattle.spv_rounds.specs.Right.{IsDecidedUnder}
 use Rattle.spv_reports.specs.declared.report.ProgramNames.{ProgramNames}
 use Rattle.spv_reports.specs.declared.mode.Mode.{Mode}
-use Rattle.spv_reports.specs.declared.mode.Mode.TheVariants.{Verify, Conditions}
+use Rattle.spv_reports.specs.declared.mode.Mode.TheVariants.{Verify, Simplify, Conditions, Drill}
 
--- what contracts see of a report: the names of its program, its conditions over an arena, what it is for, what was decided of each
--- condition, and whether a page of it has proofs
+-- what contracts see of a report: the names of its program, its conditions over an arena, the rules under which they were decided over an
+-- arena of their own, what it is for, what was decided of each condition, and whether a page of it has proofs
 pub record Findings : Type 0 where
   pub named : ProgramNames
   pub arena : Arena
   pub conditions : List Condition
+  pub rules : RuleSet
   pub mode : Mode
   pub verdicts : List Decided
   pub proofs : Bool
 
-abbrev pub findings : ProgramNames → Arena → List Condition → Mode → List Decided → Findings
-findings named arena conditions mode verdicts =
-    record { named = named; arena = arena; conditions = conditions; mode = mode; verdicts = verdicts; proofs = false }
+abbrev pub findings : ProgramNames → Arena → List Condition → RuleSet → Mode → List Decided → Findings
+findings named arena conditions rules mode verdicts =
+    record { named = named; arena = arena; conditions = conditions; rules = rules; mode = mode; verdicts = verdicts; proofs = false }
 
 -- ---- what a report is for
 
@@ -41,22 +44,31 @@ findings named arena conditions mode verdicts =
 abbrev pub default_limits : Limits
 default_limits = record { splits = 20000; instances = 400; pivots = 5000; terms = most_terms }
 
+-- the limits of the searches for verdicts, where these are wanted
+abbrev pub limits_of : Mode → Option Limits
+limits_of (Verify limits) = Some limits
+limits_of (Simplify limits) = Some limits
+limits_of Conditions = None
+limits_of (Drill load limits) = Some limits
+
 abbrev pub has_verdicts : Mode → Bool
-has_verdicts (Verify limits) = true
-has_verdicts Conditions = false
+has_verdicts mode = is_some (limits_of mode)
 
 -- ---- verdicts
 
--- within these limits one decision on each condition, and in that order
-abbrev pub AreVerdicts : Arena → Limits → List Condition → List Decided → Type 0
-AreVerdicts a limits [] [] = Unit {0}
-AreVerdicts a limits (c ∷ cs) (d ∷ ds) = IsDecidedWith a c limits d × AreVerdicts a limits cs ds
-AreVerdicts a limits _ _ = ⊥
+-- under these rules and within these limits one decision on each condition, and in that order
+abbrev pub AreVerdicts : List Rule → Arena → Limits → List Condition → List Decided → Type 0
+AreVerdicts rules a limits [] [] = Unit {0}
+AreVerdicts rules a limits (c ∷ cs) (d ∷ ds) = IsDecidedUnder rules a c limits d × AreVerdicts rules a limits cs ds
+AreVerdicts rules a limits _ _ = ⊥
+
+abbrev pub AreVerdictsWithin : Option Limits → List Rule → Arena → List Condition → List Decided → Type 0
+AreVerdictsWithin (Some limits) rules a conditions verdicts = AreVerdicts rules a limits conditions verdicts
+AreVerdictsWithin None rules a conditions verdicts = verdicts ≡ []
 
 -- a report of conditions alone has no verdict; every other one has a right one on each condition, in their order, within its limits
-abbrev pub AreVerdictsIn : Mode → Arena → List Condition → List Decided → Type 0
-AreVerdictsIn (Verify limits) a conditions verdicts = AreVerdicts a limits conditions verdicts
-AreVerdictsIn Conditions a conditions verdicts = verdicts ≡ []
+abbrev pub AreVerdictsIn : Mode → List Rule → Arena → List Condition → List Decided → Type 0
+AreVerdictsIn mode rules a conditions verdicts = AreVerdictsWithin (limits_of mode) rules a conditions verdicts
 
 abbrev pub is_proved : Verdict → Bool
 is_proved (Proved nodes) = true
@@ -90,16 +102,18 @@ pub record IsReportOn (p : Program) (r : Findings) : Type 0 where
   pub routines : r.named.routines ≡ map (λ q. q.name) p.routines
   pub in_range : AreIn r.arena r.conditions
   pub conditions : conditions_of r.arena r.conditions ≡ program.conditions_of p
-  pub verdicts : AreVerdictsIn r.mode r.arena r.conditions r.verdicts
+  pub verdicts : AreVerdictsIn r.mode (rules_in r.rules) r.arena r.conditions r.verdicts
 
 -- what is true of every report
 pub record IsReport (r : Findings) : Type 0 where
   pub program : Program
   pub is_on : IsReportOn program r
 
--- the program that a report is on is correct in a world where the report has verdicts and all of them are Proved
+-- where the report has verdicts and all of them are Proved, the program that it is on is correct in a world in which its rules hold
 abbrev pub ProvedIsCorrectIn : Findings → Meaning → Type 0
-ProvedIsCorrectIn r world = IsTrue (has_verdicts r.mode) → IsTrue (all_proved r.verdicts) → (p : Program) → IsReportOn p r → Correct p world
+ProvedIsCorrectIn r world =
+    IsTrue (has_verdicts r.mode) → IsTrue (all_proved r.verdicts) → (p : Program) → IsReportOn p r → RulesHold (shapes p) p.symbols world (rules_in r.rules)
+    → Correct p world
 
 -- ---- what a program with a report is not refused for
 

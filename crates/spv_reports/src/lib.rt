@@ -7,7 +7,7 @@ mod report;
 mod verdicts;
 
 pub use limits::default_limits;
-pub use mode::Mode;
+pub use mode::{Load, Mode};
 pub use report::{ProgramNames, Report, law_report};
 pub use spv_verdicts::answers::{Decided, Limit, Limits, Unproved, Verdict, Wide};
 pub use verdicts::{all_proved, is_proved, is_unproved, none_unproved};

@@ -7,6 +7,7 @@ ghost use Rattle.spv_reports.specs.Reports.{findings, IsReport, ProvedIsCorrectI
 use crate::mode::Mode;
 use spv_logic::list::List;
 use spv_logic::names::{Names, Symbol};
+use spv_rules::Rules;
 use spv_term::{Condition, Terms, World};
 use spv_verdicts::answers::Decided;
 use std::marker::Model;
@@ -23,13 +24,14 @@ pub struct ProgramNames {
     pub routines: List<Symbol>,
 }
 
-/// What was found out about a program: its verification conditions, and where verdicts were wanted what was decided of each. That there
-/// is a program whose conditions these are, and that the verdicts are right, are facts of this type.
+/// What was found out about a program: its verification conditions, and where verdicts were wanted what was decided of each under its
+/// rules. That there is a program whose conditions these are, and that the verdicts are right, are facts of this type.
 #[derive(Drop)]
 pub struct Report {
     named: ProgramNames,
     terms: Terms,
     conditions: Vec<Condition>,
+    rules: Rules,
     mode: Mode,
     verdicts: Vec<Decided>,
     proofs: bool,
@@ -44,6 +46,7 @@ impl Model for Report {
       named = r.named;
       arena = r.terms;
       conditions = r.conditions.items;
+      rules = r.rules;
       mode = r.mode;
       verdicts = r.verdicts.items;
       proofs = r.proofs;
@@ -53,6 +56,7 @@ impl Model for Report {
       named = r.named;
       arena = r.terms;
       conditions = r.conditions.items;
+      rules = r.rules;
       mode = r.mode;
       verdicts = r.verdicts.items;
       proofs = r.proofs;
@@ -60,21 +64,23 @@ impl Model for Report {
 }
 
 impl Report {
-    /// The report with these conditions and verdicts, which are those of a program. A page of it has no proofs.
+    /// The report with these conditions and verdicts, which are those of a program, under these rules. A page of it has no proofs.
     pub fn new(
         named: ProgramNames,
         terms: Terms,
         conditions: Vec<Condition>,
+        rules: Rules,
         mode: Mode,
         verdicts: Vec<Decided>,
     ) -> Report
-        requires report { IsReport (findings named terms conditions.items mode verdicts.items) }
-        ensures findings { result ≡ findings named terms conditions.items mode verdicts.items }
+        requires report { IsReport (findings named terms conditions.items rules mode verdicts.items) }
+        ensures findings { result ≡ findings named terms conditions.items rules mode verdicts.items }
     {
         Report {
             named,
             terms,
             conditions,
+            rules,
             mode,
             verdicts,
             proofs: false,
@@ -119,6 +125,13 @@ impl Report {
         &self.conditions
     }
 
+    /// The rules under which the conditions were decided.
+    pub fn rules(&self) -> &Rules
+        ensures { result.now ≡ self.now.rules }
+    {
+        &self.rules
+    }
+
     /// What the report is for.
     pub fn mode(&self) -> &Mode
         ensures { result.now ≡ self.now.mode }
@@ -141,8 +154,8 @@ impl Report {
     }
 }
 
-/// Where a report has verdicts and each is Proved, the program that it is on is correct: in every world at once, and in one that is at
-/// hand.
+/// Where a report has verdicts and each is Proved, the program that it is on is correct in each world in which the rules of the report
+/// hold: said of every world at once, and of one that is at hand.
 pub fn law_report<W: World>(report: &Report, world: &W)
     ensures every_world { (m : Meaning) → ProvedIsCorrectIn report.now m }
     ensures this_world { ProvedIsCorrectIn report.now (W.apply world.now) }

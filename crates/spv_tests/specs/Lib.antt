@@ -1,1 +1,2 @@
 pub mod reasons_tests
+pub mod proof_tests

@@ -1,3 +1,4 @@
+pub mod texts
 pub mod refused
 pub mod reporting
 pub mod tree_reports

@@ -1,14 +1,20 @@
--- When a text is refused, and when a report is its report.
-use Rattle.std.specs.Prelude.{◌≡◌, ℕ, ◌⊎◌, List, [], Some}
-use Rattle.spv_tree.specs.declared.syntax.programs.Program.{Program as Tree}
-use Rattle.spv_tree.specs.syntax.Reads.{Reads}
+-- When a text is refused, with a rule file or without one, and when a report is its report. A text is a program or a formula text, as it is read.
+use Rattle.std.specs.Prelude.{◌≡◌, ℕ, ◌⊎◌, List, [], Option, Some}
 use Rattle.spv_parser.specs.declared.language.fault.LanguageFault.{LanguageFault}
 use Rattle.spv_parser.specs.language.Texts.{names_with, IsTreeOf, IsFaultOf}
 use Rattle.spv_program.specs.Programs.{Program}
+use Rattle.spv_proof_rules.specs.Rules.{Rule}
+use Rattle.spv_rules.specs.RuleSets.{rules_in}
 use Rattle.spv_reports.specs.Reports.{Findings, IsNotRefused, IsReportOn}
+use Rattle.spv_verify.specs.declared.texts.TextKind.{TextKind}
+use Rattle.spv_verify.specs.declared.texts.TextTree.{TextTree}
 use Rattle.spv_verify.specs.declared.refused.refusal.Refusal.{Refusal}
+use Rattle.spv_verify.specs.declared.refused.fault.Which.{Which}
+use Rattle.spv_verify.specs.declared.refused.fault.Which.TheVariants as which
+use Rattle.spv_verify.specs.texts.Trees.{ReadsText}
 use Rattle.spv_verify.specs.refused.Told.{text_refusal}
 use Rattle.spv_verify.specs.tree_reports.Walks.{IsSound}
+use Rattle.spv_verify.specs.tree_reports.RuleFiles.{names_under, AreRulesOf}
 use Rattle.spv_verify.specs.tree_reports.Programs.{IsTreeRefusal}
 
 -- the names of a text, in the order in which they first stand there
@@ -16,41 +22,53 @@ abbrev pub names_of : List ℕ → List (List ℕ)
 names_of text = names_with [] text
 
 -- the text has this tree
-abbrev pub IsTextTree : List ℕ → Tree → Type 0
-IsTextTree text tree = IsTreeOf Reads [] text tree
+abbrev pub IsTextTree : TextKind → List ℕ → TextTree → Type 0
+IsTextTree kind text tree = IsTreeOf (ReadsText kind) [] text tree
 
 -- the text is this program, which has no fault of names, types and frames
-pub record IsProgramOf (text : List ℕ) (p : Program) : Type 0 where
-  pub tree : Tree
-  pub is_tree : IsTextTree text tree
+pub record IsProgramOf (kind : TextKind) (text : List ℕ) (p : Program) : Type 0 where
+  pub tree : TextTree
+  pub is_tree : IsTextTree kind text tree
   pub sound : IsSound (names_of text) tree p
 
 -- ---- refusals
 
 -- the text is refused so for a fault of reading
-pub record IsReadingRefusal (text : List ℕ) (r : Refusal) : Type 0 where
+pub record IsReadingRefusal (kind : TextKind) (text : List ℕ) (r : Refusal) : Type 0 where
   pub fault : LanguageFault
-  pub stops : IsFaultOf Reads [] text fault
+  pub stops : IsFaultOf (ReadsText kind) [] text fault
   pub told : text_refusal fault ≡ Some r
 
--- the text is refused so: for a fault of reading, or for one of its tree
-abbrev pub IsRefused : List ℕ → Refusal → Type 0
-IsRefused text r = IsReadingRefusal text r ⊎ ((tree : Tree) × IsTextTree text tree × IsTreeRefusal (names_of text) tree r)
+-- with this rule file, or without one, one of the two texts is refused so: the first for a fault of reading, or one of them for a fault of its tree
+abbrev pub IsRefused : TextKind → List ℕ → Option (List ℕ) → Which → Refusal → Type 0
+IsRefused kind text rules w r =
+    ((w ≡ which.Program) × IsReadingRefusal kind text r) ⊎ ((tree : TextTree) × IsTextTree kind text tree × IsTreeRefusal (names_of text) tree rules w r)
 
 -- ---- reports
 
--- the report is on the program of the text, which is not refused, with its names
-pub record IsReportOf (text : List ℕ) (r : Findings) : Type 0 where
+-- the report is on the program of the text under the rules of the rule file; neither is refused; and it has the names of both
+pub record IsReportOf (kind : TextKind) (text : List ℕ) (rules : Option (List ℕ)) (r : Findings) : Type 0 where
   pub program : Program
-  pub of_text : IsProgramOf text program
+  pub of_text : IsProgramOf kind text program
   pub is_on : IsReportOn program r
   pub not_refused : IsNotRefused program r
-  pub names : r.named.names ≡ names_of text
+  pub names : r.named.names ≡ names_under (names_of text) rules
+  pub under : AreRulesOf (names_of text) program rules (rules_in r.rules)
+
+-- ---- laws
 
 -- no text is refused and has a report
 abbrev pub HaveNotBoth : Type 0
-HaveNotBoth = (text : List ℕ) (f : Findings) (r : Refusal) → IsReportOf text f → IsRefused text r → ⊥
+HaveNotBoth =
+    (kind : TextKind) (text : List ℕ) (rules : Option (List ℕ)) (f : Findings) (w : Which) (r : Refusal) → IsReportOf kind text rules f
+    → IsRefused kind text rules w r → ⊥
 
 -- a text is one program
 abbrev pub IsOneProgram : Type 0
-IsOneProgram = (text : List ℕ) (p q : Program) → IsProgramOf text p → IsProgramOf text q → p ≡ q
+IsOneProgram = (kind : TextKind) (text : List ℕ) (p q : Program) → IsProgramOf kind text p → IsProgramOf kind text q → p ≡ q
+
+-- for a program a rule file is one list of rules
+abbrev pub IsOneList : Type 0
+IsOneList =
+    (names : List (List ℕ)) (p : Program) (rules : Option (List ℕ)) (first second : List Rule) → AreRulesOf names p rules first
+    → AreRulesOf names p rules second → first ≡ second

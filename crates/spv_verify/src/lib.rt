@@ -3,9 +3,10 @@
 
 pub mod refused;
 pub mod reporting;
+pub mod texts;
 pub mod tree_reports;
 mod verifying;
 
-pub use crate::refused::{Refusal, VerifyFault};
-pub use spv_reports::{Limits, Mode, Report, default_limits, law_report};
-pub use verifying::{law_not_both, list, verify};
+pub use crate::refused::{Refusal, VerifyFault, Which};
+pub use spv_reports::{Limits, Load, Mode, Report, default_limits, law_report};
+pub use verifying::{law_not_both, list, report_of, simplify, verify};

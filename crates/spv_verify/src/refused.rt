@@ -5,6 +5,7 @@ mod fault;
 mod refusal;
 mod told;
 
-pub use fault::VerifyFault;
+pub(crate) use fault::fault_of;
+pub use fault::{TextFault, VerifyFault, Which};
 pub use refusal::Refusal;
-pub use told::{of_frames, of_limits, of_text, of_types};
+pub use told::{of_frames, of_limits, of_rules, of_text, of_types};

@@ -2,5 +2,6 @@
 
 mod deciding;
 mod making;
+mod rounds;
 
 pub use making::report_on;

@@ -1,5 +1,7 @@
-//! The report of a text's tree: the walks over names, types and frames, and then the report of the program.
+//! The report of a text's tree: the walks over names, types and frames, then the rules of a rule file, and then the report of the program.
 
+mod arenas;
+mod rule_files;
 mod walks;
 
 pub use walks::report_of;

@@ -20,3 +20,4 @@ pub mod UntypedStatements
 pub mod UnframedPrograms
 pub mod typed_texts
 pub mod frame_texts
+pub mod rule_texts

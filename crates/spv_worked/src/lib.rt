@@ -7,6 +7,7 @@ pub mod conditions;
 pub mod doubts;
 pub mod evaluated;
 pub mod frame_texts;
+pub mod rule_texts;
 pub mod runs;
 pub mod typed_texts;
 pub mod typing;

@@ -11,7 +11,7 @@ use Rattle.spv_term.proofs.ListLemmas.{slice_get-append_left, slice_get_push}
 use Rattle.spv_atoms.specs.declared.proofs.Relation.TheVariants.{AtMost, Equal}
 use Rattle.spv_atoms.specs.declared.proofs.Step.{Step}
 use Rattle.spv_atoms.specs.declared.proofs.Step.TheVariants as step
-use Rattle.spv_proof_rules.specs.Effects.{Question, Effect, Adds, Ends, Fails, effect, numbered, adds_if, adds_known, cited, sides_of, exchanged, joined, congruent, evaluated, is_truth, schema_stated, stated}
+use Rattle.spv_proof_rules.specs.Effects.{Question, Effect, Adds, Ends, Fails, effect, numbered, adds_if, adds_known, cited, sides_of, exchanged, joined, congruent, evaluated, is_truth, rule_stated, schema_stated, stated}
 use Rattle.spv_proof_rules.specs.Evaluation.{evaluates}
 use Rattle.spv_proof_rules.specs.Accepted.{Open, Closed, closed_if_last, on_effect, walk}
 use Rattle.spv_derivations.specs.declared.derivation.entries.Part.{Part}
@@ -290,7 +290,7 @@ ends_path q before (s ∷ steps) h = by_effect (effect q before s) refl h (λ t 
     is_end (step.Linear (AtMost s t) first second) e = absurd (not_if _ _ e)
     is_end (step.Linear (Equal s t) first second) e = absurd (not_if _ _ e)
     is_end (step.Schema kind ts field) e = absurd (not_known (schema_stated q kind ts field) e)
-    is_end (step.Rule r ts) e = absurd (cc)
+    is_end (step.Rule number ts) e = absurd (not_known (rule_stated q number ts) e)
     is_end (step.Eval c ks) e = absurd (not_evaluated (is_truth q) (stated q c) (cited before ks) e)
 
     by_effect : (e : Effect) → effect q before s ≡ e → on_effect e (λ t. walk q (before ++ t ∷ []) steps) (closed_if_last steps) ≡ Closed → ((t : Term) → walk q (before ++ t ∷ []) steps ≡ Closed → EndsPath steps) → EndsPath (s ∷ steps)

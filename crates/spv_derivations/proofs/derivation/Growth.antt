@@ -120,7 +120,7 @@ module _ {old new : Arena} (more : Extends old new) where
   part-Extends t Above h f = comparison-Extends t h f
 
   adding-Extends : (before : List Term) (s : Step) (t : Term) → Adding old before s t → Adding new before s t
-  adding-Extends before s t h = record { terms = StepIn-Extends more s h.terms; adds = λ c. effect-Extends more c c refl before s h.terms ∙ h.adds c }
+  adding-Extends before s t h = record { terms = StepIn-Extends more s h.terms; adds = λ c. effect-Extends more c c refl [] before s h.terms ∙ h.adds c }
 
   may_follow-Extends : (before : List Term) (e : Entry) → MayFollow old before e → MayFollow new before e
   may_follow-Extends before (Told t part why) h = (below-Extends more t.0 h.0, part-Extends t part h.0 h.1)
@@ -128,7 +128,7 @@ module _ {old new : Arena} (more : Extends old new) where
 
   fact-Extends : (before : List Term) (e : Entry) → MayFollow old before e → fact_of new before e ≡ fact_of old before e
   fact-Extends before (Told t part why) h = ap (λ x. literal x part) (tree-Extends more t h.0)
-  fact-Extends before (Derived s) h = ap added_by (effect-Extends more any_sequent any_sequent refl before s h.1.terms)
+  fact-Extends before (Derived s) h = ap added_by (effect-Extends more any_sequent any_sequent refl [] before s h.1.terms)
 
   follow-Extends : (before : List Term) (es : List Entry) → Follow old before es → Follow new before es
   follow-Extends before [] f = tt

@@ -122,8 +122,8 @@ module _ {old new : Arena} (more : Extends old new) where
     after-Extends accepted.Closed (Some s) h = refl
     after-Extends (accepted.Open facts) None h = refl
     after-Extends (accepted.Open facts) (Some s) h =
-        let n = number-Extends more (sequent new c) (sequent old c) (sequent-Extends more c ci) in
-        let b = truth-Extends more (sequent new c) (sequent old c) (sequent-Extends more c ci) in
+        let n = number-Extends more (sequent new c) (sequent old c) (sequent-Extends more c ci) [] in
+        let b = truth-Extends more (sequent new c) (sequent old c) (sequent-Extends more c ci) [] in
         let t = tree-Extends more s.atom h in
         (λ i. branches_if (is_atom (b i) (t i) && nat_eq (length s.parts) (length (accepted.cases_by_sides (n i) (sides (t i)) (t i)))) facts (accepted.cases_by_sides (n i) (sides (t i)) (t i)))
     after-Extends accepted.Broken o h = refl

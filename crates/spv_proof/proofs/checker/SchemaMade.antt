@@ -1,5 +1,5 @@
 -- The fact of a schema that a step adds.
-use Rattle.std.proofs.Common.{◌≡◌, ℕ, ◌<◌, List, map, length, Option, Some, IfSome, refl, sym, ap, ◌∙◌, subst}
+use Rattle.std.proofs.Common.{◌≡◌, ℕ, ◌<◌, List, [], map, length, Option, Some, IfSome, refl, sym, ap, ◌∙◌, subst}
 use Rattle.std.specs.Option.{option_map}
 use Rattle.spv_logic.specs.declared.names.names.Symbol.{Symbol}
 use Rattle.spv_logic.specs.declared.conditions.TermId.{TermId}
@@ -24,5 +24,5 @@ fact_is_made {old} {new} more c step number ts field e within kind o f g us same
     subst (λ s. IsMade new c s made) (sym e) (
       there,
       told ∙ (ap (λ k. fact_of_kind (question old c) k (map (tree old) ts) field) (sym g ∙ f)
-          ∙ sym (schema-Extends more (sequent new c) (sequent new c) refl number ts field (subst (StepIn old) e within))),
+          ∙ sym (schema-Extends more (sequent new c) (sequent new c) refl [] number ts field (subst (StepIn old) e within))),
     )

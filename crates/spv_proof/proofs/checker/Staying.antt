@@ -13,7 +13,7 @@ use Rattle.spv_atoms.specs.declared.proofs.Step.TheVariants as step
 use Rattle.spv_proof_rules.specs.Stand.{question, RelationIn, StepIn}
 use Rattle.spv_proof_rules.specs.Stops.{layers_if}
 use Rattle.spv_proof_rules.specs.Outcomes.{does_unless, halt_at_most, halt_by, halt_equal, halt_of_sums, made_by, trial}
-use Rattle.spv_proof_rules.proofs.Staying.{below-Extends, number-Extends, schema-Extends, effect-Extends}
+use Rattle.spv_proof_rules.proofs.Staying.{below-Extends, number-Extends, schema-Extends, rule-Extends, effect-Extends}
 use Rattle.spv_proof_steps.specs.Candidates.{IsBool, AllFormulas}
 use Rattle.spv_proof_steps.proofs.StepLemmas.{AllBelow-formulas}
 use Rattle.spv_proof.specs.checker.Ends.{ConditionIn}
@@ -42,12 +42,12 @@ module _ {old new : Arena} (more : Extends old new) where
     halts-Extends : (known facts : List Term) (r : Relation) (first second : List (Fraction × ℕ)) → RelationIn old r
         → halt_of_sums new.most (question new c) known facts r first second ≡ halt_of_sums old.most (question old c) known facts r first second
     halts-Extends known facts (AtMost s t) first second h =
-        let n = number-Extends more (sequent new c) (sequent old c) sequent-Extends in
+        let n = number-Extends more (sequent new c) (sequent old c) sequent-Extends [] in
         let a = tree-Extends more s h.0 in
         let b = tree-Extends more t h.1 in
         (λ i. halt_at_most (n i) (more.most i) known facts (a i) (b i) first second)
     halts-Extends known facts (Equal s t) first second h =
-        let n = number-Extends more (sequent new c) (sequent old c) sequent-Extends in
+        let n = number-Extends more (sequent new c) (sequent old c) sequent-Extends [] in
         let a = tree-Extends more s h.0 in
         let b = tree-Extends more t h.1 in
         (λ i. halt_equal (n i) (more.most i) known facts (a i) (b i) first second)
@@ -57,10 +57,11 @@ module _ {old new : Arena} (more : Extends old new) where
     halt-Extends known facts _ h = refl
 
     pub made-Extends : (s : Step) → StepIn old s → made_by (question new c) s ≡ made_by (question old c) s
-    made-Extends (step.Schema kind ts field) h = ap layers_if (schema-Extends more (sequent new c) (sequent old c) sequent-Extends kind ts field h)
+    made-Extends (step.Schema kind ts field) h = ap layers_if (schema-Extends more (sequent new c) (sequent old c) sequent-Extends [] kind ts field h)
+    made-Extends (step.Rule number ts) h = ap layers_if (rule-Extends more (sequent new c) (sequent old c) sequent-Extends [] number ts h)
     made-Extends _ h = refl
 
     -- a step comes to the same
     pub trial-Extends : (known facts : List Term) (s : Step) → StepIn old s → trial new.most (question new c) known facts s ≡ trial old.most (question old c) known facts s
     trial-Extends known facts s h =
-        (λ i. does_unless (halt-Extends known facts s h i) (effect-Extends more (sequent new c) (sequent old c) sequent-Extends facts s h i))
+        (λ i. does_unless (halt-Extends known facts s h i) (effect-Extends more (sequent new c) (sequent old c) sequent-Extends [] facts s h i))

@@ -38,7 +38,8 @@ pub enum Path {
     Broken,
 }
 
-// The fact of a schema that a step adds, which is made behind its subterms; no other step makes a term beforehand.
+// The fact of a schema that a step adds, which is made behind its subterms; no other step makes a term beforehand, since there are no rules.
+#[tactic(auto, using(crate::proofs::checker::NoRules::none_made))]
 fn made(alloc: Global, terms: &mut Terms, step: &Step) -> Result<Option<TermId>, CheckStop>
     requires { StepIn terms.old step.now }
     ensures fact { IfOk result (λ fact. (c : Condition) → IsMade terms.new c step.now fact) }
@@ -55,7 +56,8 @@ fn made(alloc: Global, terms: &mut Terms, step: &Step) -> Result<Option<TermId>,
     }
 }
 
-// What a step does after these facts, or why the check ends there. Rules are still to come.
+// What a step does after these facts, or why the check ends there. There are no rules here, so of a rule nothing follows.
+#[tactic(auto, using(crate::proofs::checker::NoRules::none_numbered))]
 fn trial(
     alloc: Global,
     terms: &mut Terms,

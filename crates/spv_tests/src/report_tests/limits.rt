@@ -9,7 +9,7 @@ use std::test::Fail;
 
 // The report of a text where no search may split.
 fn unsplit(alloc: Global, text: &[u8]) -> Result<Report, VerifyFault> {
-    verify(alloc, text, Limits::new(0, 400, 5000))
+    verify(alloc, text, None, Limits::new(0, 400, 5000))
 }
 
 // Whether a search gave up where no split was left, with one node, which is open.
@@ -64,6 +64,7 @@ fn a_check_without_steps(rt: HostRuntime) -> Result<(), Fail> {
     let report = verify(
         rt.alloc(),
         b"PROGRAM v; VAR x, y: INTEGER; ENTRY x + y >= 1; EXIT FALSE; BEGIN END.",
+        None,
         Limits::new(20000, 400, 0),
     )?;
     assert!(rt; matches!(report.verdicts(), [decided] if has_no_step(decided)));

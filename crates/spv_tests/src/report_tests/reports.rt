@@ -30,6 +30,7 @@ fn an_assigned_variable(rt: HostRuntime) -> Result<(), Fail> {
     let report = verify(
         rt.alloc(),
         b"PROGRAM one;\nVAR x: INTEGER;\nEXIT x = 1;\nBEGIN x := 1 END.",
+        None,
         default_limits(),
     )?;
     is_correct_if_proved(&report);
@@ -51,6 +52,7 @@ fn a_variable_that_is_not_set(rt: HostRuntime) -> Result<(), Fail> {
     let report = verify(
         rt.alloc(),
         b"PROGRAM one; VAR x: INTEGER; EXIT x = 1; BEGIN END.",
+        None,
         default_limits(),
     )?;
     assert!(rt; matches!(report.verdicts(), [decided] if has_one_false_atom(decided)));
@@ -60,7 +62,12 @@ fn a_variable_that_is_not_set(rt: HostRuntime) -> Result<(), Fail> {
 
 #[test]
 fn no_claim(rt: HostRuntime) -> Result<(), Fail> {
-    let report = verify(rt.alloc(), b"PROGRAM one; BEGIN END.", default_limits())?;
+    let report = verify(
+        rt.alloc(),
+        b"PROGRAM one; BEGIN END.",
+        None,
+        default_limits(),
+    )?;
     assert!(rt; report.conditions().is_empty());
     assert!(rt; all_proved(report.verdicts()));
     Ok(())

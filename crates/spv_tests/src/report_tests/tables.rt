@@ -36,6 +36,7 @@ fn a_sum_is_positive(rt: HostRuntime) -> Result<(), Fail> {
     let report = verify(
         rt.alloc(),
         b"PROGRAM v; VAR x, y: INTEGER; ENTRY x + y >= 1; EXIT FALSE; BEGIN END.",
+        None,
         default_limits(),
     )?;
     assert!(rt; matches!(report.verdicts(), [decided] if has_positive_sum(decided)));
@@ -55,6 +56,7 @@ fn a_symbol_need_not_be_injective(rt: HostRuntime) -> Result<(), Fail> {
     let report = verify(
         rt.alloc(),
         b"PROGRAM d; VAR x, y: INTEGER; DECLARE F(INTEGER): INTEGER; ENTRY F(x) = F(y); EXIT x = y; BEGIN END.",
+        None,
         default_limits(),
     )?;
     assert!(rt; matches!(report.verdicts(), [decided] if is_not_injective(decided)));

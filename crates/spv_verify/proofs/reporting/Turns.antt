@@ -8,7 +8,8 @@ use Rattle.spv_models.specs.leaf_models.Laws.{AreFormulas}
 use Rattle.spv_models.specs.leaf_models.Tables.{formulas_of}
 use Rattle.spv_verdicts.specs.Verdicts.{Limits}
 use Rattle.spv_verdicts.specs.declared.answers.verdicts.Decided.{Decided}
-use Rattle.spv_verdicts.specs.answers.Views.{IsDecidedWith}
+use Rattle.spv_proof_rules.specs.Rules.{Rule}
+use Rattle.spv_rounds.specs.Right.{IsDecidedUnder}
 use Rattle.spv_verify.specs.reporting.Parts.{AreFormulasIn}
 use Rattle.spv_reports.specs.Reports.{AreVerdicts}
 
@@ -26,10 +27,10 @@ formulas_item a (c ∷ cs) zero d all h = all.0
 formulas_item a (c ∷ cs) (suc k) d all h = formulas_item a cs k d all.1 (omega (arith, h))
 
 -- one condition more was decided
-pub verdicts_more : (a : Arena) (limits : Limits) (cs : List Condition) (k : ℕ) (ds : List Decided) (c : Condition) (d : Decided) → k < length cs → c ≡ get_or cs k c → AreVerdicts a limits (take k cs) ds → IsDecidedWith a c limits d
-    → AreVerdicts a limits (take (suc k) cs) (ds ++ d ∷ [])
-verdicts_more a limits [] k ds c d h is right decided = absurd (nowhere k h)
-verdicts_more a limits (b ∷ cs) zero [] c d h is right decided = (subst (λ (x : Condition). IsDecidedWith a x limits d) is decided, tt)
-verdicts_more a limits (b ∷ cs) zero (e ∷ ds) c d h is right decided = absurd right
-verdicts_more a limits (b ∷ cs) (suc k) [] c d h is right decided = absurd right
-verdicts_more a limits (b ∷ cs) (suc k) (e ∷ ds) c d h is right decided = (right.0, verdicts_more a limits cs k ds c d (omega (arith, h)) is right.1 decided)
+pub verdicts_more : (rules : List Rule) (a : Arena) (limits : Limits) (cs : List Condition) (k : ℕ) (ds : List Decided) (c : Condition) (d : Decided) → k < length cs → c ≡ get_or cs k c
+    → AreVerdicts rules a limits (take k cs) ds → IsDecidedUnder rules a c limits d → AreVerdicts rules a limits (take (suc k) cs) (ds ++ d ∷ [])
+verdicts_more rules a limits [] k ds c d h is right decided = absurd (nowhere k h)
+verdicts_more rules a limits (b ∷ cs) zero [] c d h is right decided = (subst (λ (x : Condition). IsDecidedUnder rules a x limits d) is decided, tt)
+verdicts_more rules a limits (b ∷ cs) zero (e ∷ ds) c d h is right decided = absurd right
+verdicts_more rules a limits (b ∷ cs) (suc k) [] c d h is right decided = absurd right
+verdicts_more rules a limits (b ∷ cs) (suc k) (e ∷ ds) c d h is right decided = (right.0, verdicts_more rules a limits cs k ds c d (omega (arith, h)) is right.1 decided)

@@ -1,7 +1,7 @@
 -- The parts of a refusal: its number and word, its line, and what is told behind it.
 use Rattle.std.specs.Prelude.{ℕ, List, codes}
 use Rattle.spv_verify.specs.declared.refused.refusal.Refusal.{Refusal}
-use Rattle.spv_verify.specs.declared.refused.refusal.Refusal.TheVariants.{Byte, Comment, Numeral, Length, Syntax, Depth, Profile, Undeclared, Twice, Typing, Count, Alias, Nested, Parameter, Control, Global, Function, Size}
+use Rattle.spv_verify.specs.declared.refused.refusal.Refusal.TheVariants.{Byte, Comment, Numeral, Length, Syntax, Depth, Profile, Undeclared, Twice, Typing, Count, Alias, Nested, Parameter, Control, Global, Function, Size, Unbound}
 
 -- the number and the word of a refusal
 abbrev pub reason : Refusal → List ℕ
@@ -23,6 +23,7 @@ reason (Control line detail) = codes "15 CONTROL"
 reason (Global line detail) = codes "16 GLOBAL"
 reason (Function line detail) = codes "17 FUNCTION"
 reason (Size line detail) = codes "19 SIZE"
+reason (Unbound line detail) = codes "20 UNBOUND"
 
 abbrev pub line_of : Refusal → ℕ
 line_of (Byte line detail) = line
@@ -43,6 +44,7 @@ line_of (Control line detail) = line
 line_of (Global line detail) = line
 line_of (Function line detail) = line
 line_of (Size line detail) = line
+line_of (Unbound line detail) = line
 
 -- what is told behind the line
 abbrev pub detail_of : Refusal → List ℕ
@@ -64,3 +66,4 @@ detail_of (Control line detail) = detail
 detail_of (Global line detail) = detail
 detail_of (Function line detail) = detail
 detail_of (Size line detail) = detail
+detail_of (Unbound line detail) = detail

@@ -16,9 +16,14 @@ use Rattle.spv_effects.specs.declared.frame_walk.faults.FrameFault.TheVariants a
 use Rattle.spv_assign.specs.declared.creation_trace.faults.GenFault.{GenFault}
 use Rattle.spv_assign.specs.declared.creation_trace.faults.GenFault.TheVariants as limits
 use Rattle.spv_verify.specs.declared.refused.refusal.Refusal.{Refusal}
-use Rattle.spv_verify.specs.declared.refused.refusal.Refusal.TheVariants.{Byte, Comment, Numeral, Length, Syntax, Depth, Profile, Undeclared, Twice, Typing, Count, Alias, Nested, Parameter, Control, Global, Function, Size}
+use Rattle.spv_verify.specs.declared.refused.refusal.Refusal.TheVariants.{Byte, Comment, Numeral, Length, Syntax, Depth, Profile, Undeclared, Twice, Typing, Count, Alias, Nested, Parameter, Control, Global, Function, Size, Unbound}
+use Rattle.spv_rule_files.specs.declared.faults.RuleFault.{RuleFault}
+use Rattle.spv_rule_files.specs.declared.faults.RuleFault.TheVariants as rules
+use Rattle.spv_verify.specs.declared.refused.fault.Which.{Which}
+use Rattle.spv_verify.specs.declared.refused.fault.TextFault.{TextFault}
+use Rattle.spv_verify.specs.declared.refused.fault.TextFault.TheVariants.{Refused, Memory}
 use Rattle.spv_verify.specs.declared.refused.fault.VerifyFault.{VerifyFault}
-use Rattle.spv_verify.specs.declared.refused.fault.VerifyFault.TheVariants.{Refused, Memory}
+use Rattle.spv_verify.specs.declared.refused.fault.VerifyFault.TheVariants as verify
 use Rattle.spv_verify.specs.refused.Details.{left_out_text, name_text, item_text, items_text, conditions_text, terms_text}
 
 abbrev pub token_refusal : LexFault → Option Refusal
@@ -58,17 +63,28 @@ frame_refusal names titles (frames.GlobalMissing line item) = Some (Global line 
 frame_refusal names titles (frames.FunctionWrites line x) = Some (Function line (name_text names x))
 frame_refusal names titles frames.Memory = None
 
+-- of a rule file with a fault of names, types and variables
+abbrev pub rule_refusal : List (List ℕ) → RuleFault → Option Refusal
+rule_refusal names (rules.Typing fault) = type_refusal names fault
+rule_refusal names (rules.Unbound line x) = Some (Unbound line (name_text names x))
+rule_refusal names rules.Memory = None
+
 -- of a program whose conditions meet a limit
 abbrev pub limit_refusal : GenFault → Option Refusal
 limit_refusal (limits.Conditions most) = Some (Size 1 (conditions_text most))
 limit_refusal (limits.Terms most) = Some (Size 1 (terms_text most))
 limit_refusal limits.Memory = None
 
-abbrev pub told : Result Refusal AllocError → VerifyFault
+abbrev pub told : Result Refusal AllocError → TextFault
 told (Ok r) = Refused r
 told (Err e) = Memory
 
 -- the refusal that is told is this one; want of memory says nothing
-abbrev pub Tells : Option Refusal → VerifyFault → Type 0
+abbrev pub Tells : Option Refusal → TextFault → Type 0
 Tells o (Refused r) = o ≡ Some r
 Tells o Memory = ⊤
+
+-- the fault of one of the texts as a reason why there is no report
+abbrev pub fault_of : Which → TextFault → VerifyFault
+fault_of which (Refused r) = verify.Refused which r
+fault_of which Memory = verify.Memory

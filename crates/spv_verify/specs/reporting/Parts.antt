@@ -1,5 +1,6 @@
 -- The parts of a report that are made of its program.
 use Rattle.std.specs.Prelude.{◌≡◌, List, [], ◌∷◌}
+use Rattle.spv_proof_rules.specs.Rules.{Rule}
 use Rattle.spv_term.specs.declared.nodes.Condition.{Condition}
 use Rattle.spv_term.specs.Arena.{Arena, IsArena, Extends}
 use Rattle.spv_proof_rules.specs.Stand.{question}
@@ -19,11 +20,11 @@ abbrev pub AreFormulasIn : Arena → List Condition → Type 0
 AreFormulasIn a [] = Unit {0}
 AreFormulasIn a (c ∷ conditions) = AreFormulas a.shapes a.decls (formulas_of (question a c).sequent) × AreFormulasIn a conditions
 
--- the conditions are those of the program, and the verdicts are right
-pub record AreParts (p : Program) (mode : Mode) (x : Parts) : Type 0 where
+-- the conditions are those of the program, and the verdicts are right under these rules
+pub record AreParts (p : Program) (mode : Mode) (rules : List Rule) (x : Parts) : Type 0 where
   pub sound : IsArena x.terms
   pub grows : Extends (empty_arena p) x.terms
   pub in_range : AreIn x.terms x.conditions.items
   pub conditions : conditions_of x.terms x.conditions.items ≡ program.conditions_of p
   pub within : Walked (program_events p) (empty_arena p) x.terms
-  pub verdicts : AreVerdictsIn mode x.terms x.conditions.items x.verdicts.items
+  pub verdicts : AreVerdictsIn mode rules x.terms x.conditions.items x.verdicts.items

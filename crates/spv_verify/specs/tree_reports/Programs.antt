@@ -1,17 +1,23 @@
 -- What a program without faults is refused for, and reports of trees.
-use Rattle.std.specs.Prelude.{◌≡◌, ⊤, ℕ, ◌⊎◌, List, Some, None}
-use Rattle.spv_tree.specs.declared.syntax.programs.Program.{Program as Tree}
+use Rattle.std.specs.Prelude.{◌≡◌, ⊤, ℕ, ◌⊎◌, List, Option, Some}
 use Rattle.spv_program.specs.Programs.{Program}
-use Rattle.spv_effects.specs.frame_walk.FrameWalk.{frame_fault}
 use Rattle.spv_assign.specs.declared.creation_trace.faults.GenFault.{GenFault}
 use Rattle.spv_conditions.specs.Making.{MeetsLimit}
+use Rattle.spv_proof_rules.specs.Rules.{Rule}
+use Rattle.spv_rules.specs.RuleSets.{RuleSet, rules_in}
 use Rattle.spv_reports.specs.declared.mode.Mode.{Mode}
 use Rattle.spv_reports.specs.Reports.{Findings, IsNotRefused, IsReportOn}
 use Rattle.spv_verify.specs.declared.refused.refusal.Refusal.{Refusal}
+use Rattle.spv_verify.specs.declared.refused.fault.TextFault.{TextFault}
+use Rattle.spv_verify.specs.declared.refused.fault.TextFault.TheVariants as text
+use Rattle.spv_verify.specs.declared.refused.fault.Which.{Which}
+use Rattle.spv_verify.specs.declared.refused.fault.Which.TheVariants as which
 use Rattle.spv_verify.specs.declared.refused.fault.VerifyFault.{VerifyFault}
 use Rattle.spv_verify.specs.declared.refused.fault.VerifyFault.TheVariants.{Refused, Memory}
+use Rattle.spv_verify.specs.declared.texts.TextTree.{TextTree}
 use Rattle.spv_verify.specs.refused.Told.{limit_refusal}
-use Rattle.spv_verify.specs.tree_reports.Walks.{IsSound, IsWalkRefusal, IsFrameRefusal}
+use Rattle.spv_verify.specs.tree_reports.Walks.{IsSound, IsWalkRefusal}
+use Rattle.spv_verify.specs.tree_reports.RuleFiles.{names_under, AreRulesOf, IsRulesRefusal}
 
 -- ---- refusals
 
@@ -21,39 +27,50 @@ pub record IsProgramRefusal (p : Program) (r : Refusal) : Type 0 where
   pub meets : MeetsLimit limit p
   pub told : limit_refusal limit ≡ Some r
 
--- a tree is refused so: for a fault of names, types or frames, or for a limit that the conditions of its program meet
-abbrev pub IsTreeRefusal : List (List ℕ) → Tree → Refusal → Type 0
-IsTreeRefusal names tree r = IsWalkRefusal names tree r ⊎ ((p : Program) × IsSound names tree p × IsProgramRefusal p r)
+-- a program without faults is refused so: its rule file for a fault, or where that has none, the program for a limit that its conditions meet
+abbrev pub IsRuledRefusal : List (List ℕ) → Program → Option (List ℕ) → Which → Refusal → Type 0
+IsRuledRefusal names p rules which.Rules r = IsRulesRefusal names p rules r
+IsRuledRefusal names p rules which.Program r = ((list : List Rule) × AreRulesOf names p rules list) × IsProgramRefusal p r
+
+-- a tree is refused so: for a fault of names, types or frames; or where there is none, as its program is
+abbrev pub IsTreeRefusal : List (List ℕ) → TextTree → Option (List ℕ) → Which → Refusal → Type 0
+IsTreeRefusal names tree rules w r =
+    ((w ≡ which.Program) × IsWalkRefusal names tree r) ⊎ ((p : Program) × IsSound names tree p × IsRuledRefusal names p rules w r)
 
 -- ---- reports
 
--- a report for this, with these names, on a program that has no fault of frames
-pub record IsFramedReport (names : List (List ℕ)) (p : Program) (mode : Mode) (r : Findings) : Type 0 where
-  pub framed : frame_fault p ≡ None
+-- a report for this, with these names and under these rules, on a program
+pub record IsLimitedReport (names : List (List ℕ)) (p : Program) (rules : RuleSet) (mode : Mode) (r : Findings) : Type 0 where
   pub is_on : IsReportOn p r
   pub not_refused : IsNotRefused p r
   pub names_same : r.named.names ≡ names
+  pub rules_same : r.rules ≡ rules
   pub mode_same : r.mode ≡ mode
 
--- a report for this, with these names, on the program that a tree is
-pub record IsTreeReport (names : List (List ℕ)) (tree : Tree) (mode : Mode) (r : Findings) : Type 0 where
+-- a report for this on a program, under the rules of a rule file, where these are the names of the program
+pub record IsRuledReport (names : List (List ℕ)) (p : Program) (rules : Option (List ℕ)) (mode : Mode) (r : Findings) : Type 0 where
+  pub is_on : IsReportOn p r
+  pub not_refused : IsNotRefused p r
+  pub names_same : r.named.names ≡ names_under names rules
+  pub under : AreRulesOf names p rules (rules_in r.rules)
+  pub mode_same : r.mode ≡ mode
+
+-- the same on the program that a tree is
+pub record IsTreeReport (names : List (List ℕ)) (tree : TextTree) (rules : Option (List ℕ)) (mode : Mode) (r : Findings) : Type 0 where
   pub program : Program
   pub sound : IsSound names tree program
-  pub is_on : IsReportOn program r
-  pub not_refused : IsNotRefused program r
-  pub names_same : r.named.names ≡ names
-  pub mode_same : r.mode ≡ mode
+  pub ruled : IsRuledReport names program rules mode r
 
 -- ---- what code answers: the refusal, or want of memory, which has no cause
 
-abbrev pub IsProgramCause : Program → VerifyFault → Type 0
-IsProgramCause p (Refused r) = IsProgramRefusal p r
-IsProgramCause p Memory = ⊤
+abbrev pub IsProgramCause : Program → TextFault → Type 0
+IsProgramCause p (text.Refused r) = IsProgramRefusal p r
+IsProgramCause p text.Memory = ⊤
 
-abbrev pub IsFramedCause : List (List ℕ) → Program → VerifyFault → Type 0
-IsFramedCause names p (Refused r) = IsFrameRefusal names p r ⊎ ((frame_fault p ≡ None) × IsProgramRefusal p r)
-IsFramedCause names p Memory = ⊤
+abbrev pub IsRuledCause : List (List ℕ) → Program → Option (List ℕ) → VerifyFault → Type 0
+IsRuledCause names p rules (Refused w r) = IsRuledRefusal names p rules w r
+IsRuledCause names p rules Memory = ⊤
 
-abbrev pub IsTreeCause : List (List ℕ) → Tree → VerifyFault → Type 0
-IsTreeCause names tree (Refused r) = IsTreeRefusal names tree r
-IsTreeCause names tree Memory = ⊤
+abbrev pub IsTreeCause : List (List ℕ) → TextTree → Option (List ℕ) → VerifyFault → Type 0
+IsTreeCause names tree rules (Refused w r) = IsTreeRefusal names tree rules w r
+IsTreeCause names tree rules Memory = ⊤

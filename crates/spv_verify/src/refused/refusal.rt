@@ -66,6 +66,9 @@ pub enum Refusal {
     /// The conditions of the program, or their terms, are more than there may be. The line is 1, and the limit is told.
     #[error("the conditions are too many or too large")]
     Size(u32, List<u8>),
+    /// A variable of a rule that is not in the trigger of the rule. The line is that where it first stands in the rule; its name is told.
+    #[error("line {0}: this variable is not in the trigger of its rule")]
+    Unbound(u32, List<u8>),
 }
 
 impl Refusal {
@@ -92,6 +95,7 @@ impl Refusal {
             Refusal::Global(line, _) => *line,
             Refusal::Function(line, _) => *line,
             Refusal::Size(line, _) => *line,
+            Refusal::Unbound(line, _) => *line,
         }
     }
 
@@ -118,6 +122,7 @@ impl Refusal {
             Refusal::Global(_, detail) => detail.as_slice(),
             Refusal::Function(_, detail) => detail.as_slice(),
             Refusal::Size(_, detail) => detail.as_slice(),
+            Refusal::Unbound(_, detail) => detail.as_slice(),
         }
     }
 
@@ -144,6 +149,7 @@ impl Refusal {
             Refusal::Global(_, _) => b"16 GLOBAL",
             Refusal::Function(_, _) => b"17 FUNCTION",
             Refusal::Size(_, _) => b"19 SIZE",
+            Refusal::Unbound(_, _) => b"20 UNBOUND",
         }
     }
 }

@@ -1,4 +1,4 @@
-// What a fault of reading, of names and types, or of frames is told as.
+// What a fault of reading, of names and types, of frames, or of rules is told as.
 
 ghost use Rattle.std.specs.Prelude.{◌≡◌, IfOk, Some};
 ghost use Rattle.spv_verify.specs.refused.Told as spec;
@@ -8,7 +8,7 @@ use crate::refused::details::{
     conditions_detail, item_detail, items_detail, name_detail, number_detail, terms_detail,
     word_detail,
 };
-use crate::refused::fault::VerifyFault;
+use crate::refused::fault::TextFault;
 use crate::refused::refusal::Refusal;
 use spv_assign::creation_trace::GenFault;
 use spv_effects::frame_walk::FrameFault;
@@ -17,6 +17,7 @@ use spv_logic::list::List;
 use spv_logic::names::{Names, Symbol};
 use spv_parser::SyntaxFault;
 use spv_parser::language::LanguageFault;
+use spv_rule_files::RuleFault;
 use spv_typing::TypeFault;
 use std::alloc::{AllocError, Global};
 
@@ -107,6 +108,17 @@ fn frame_refusal(
     }
 }
 
+// The refusal of a fault in a rule file.
+fn rule_refusal(alloc: Global, names: &Names, fault: RuleFault) -> Result<Refusal, AllocError>
+    ensures { IfOk result (λ r. spec.rule_refusal names.now fault ≡ Some r) }
+{
+    match fault {
+        RuleFault::Typing(fault) => type_refusal(alloc, names, fault),
+        RuleFault::Unbound(line, x) => Ok(Refusal::Unbound(line, name_detail(alloc, names, x)?)),
+        RuleFault::Memory => Err(AllocError),
+    }
+}
+
 // The refusal of a program whose conditions meet a limit.
 fn limit_refusal(alloc: Global, fault: GenFault) -> Result<Refusal, AllocError>
     ensures { IfOk result (λ r. spec.limit_refusal fault ≡ Some r) }
@@ -119,24 +131,24 @@ fn limit_refusal(alloc: Global, fault: GenFault) -> Result<Refusal, AllocError>
 }
 
 // A refusal that could be made, or want of memory.
-fn told(refusal: Result<Refusal, AllocError>) -> VerifyFault
+fn told(refusal: Result<Refusal, AllocError>) -> TextFault
     ensures { result ≡ spec.told refusal }
 {
     match refusal {
-        Ok(refusal) => VerifyFault::Refused(refusal),
-        Err(_) => VerifyFault::Memory,
+        Ok(refusal) => TextFault::Refused(refusal),
+        Err(_) => TextFault::Memory,
     }
 }
 
 /// What a text without a tree is told to be refused for. Memory: there was not enough of it, then or now.
-pub fn of_text(alloc: Global, fault: LanguageFault) -> VerifyFault
+pub fn of_text(alloc: Global, fault: LanguageFault) -> TextFault
     ensures { Tells (spec.text_refusal fault) result }
 {
     told(text_refusal(alloc, fault))
 }
 
 /// What a tree with a fault of names and types is told to be refused for; its names are those of the table.
-pub fn of_types(alloc: Global, names: &Names, fault: TypeFault) -> VerifyFault
+pub fn of_types(alloc: Global, names: &Names, fault: TypeFault) -> TextFault
     ensures { Tells (spec.type_refusal names.now fault) result }
 {
     told(type_refusal(alloc, names, fault))
@@ -148,14 +160,21 @@ pub fn of_frames(
     names: &Names,
     titles: &[Option<Symbol>],
     fault: FrameFault,
-) -> VerifyFault
+) -> TextFault
     ensures { Tells (spec.frame_refusal names.now titles.now fault) result }
 {
     told(frame_refusal(alloc, names, titles, fault))
 }
 
+/// What a rule file with a fault of names, types and variables is told to be refused for; its names are those of the table.
+pub fn of_rules(alloc: Global, names: &Names, fault: RuleFault) -> TextFault
+    ensures { Tells (spec.rule_refusal names.now fault) result }
+{
+    told(rule_refusal(alloc, names, fault))
+}
+
 /// What a program is told to be refused for whose conditions, or their terms, are more than there may be.
-pub fn of_limits(alloc: Global, fault: GenFault) -> VerifyFault
+pub fn of_limits(alloc: Global, fault: GenFault) -> TextFault
     ensures { Tells (spec.limit_refusal fault) result }
 {
     told(limit_refusal(alloc, fault))

@@ -1,7 +1,9 @@
 // The report on a program is made.
 
 ghost use Rattle.std.specs.Prelude.{◌≡◌, map, None, IsTrue, IfErr, IfOk};
+ghost use Rattle.spv_program.specs.Programs.{shapes};
 ghost use Rattle.spv_program.specs.Typing.{well_typed};
+ghost use Rattle.spv_rules.specs.RuleSets.{rules_in};
 ghost use Rattle.spv_effects.specs.frame_walk.FrameWalk.{frame_fault};
 ghost use Rattle.spv_verify.specs.reporting.Parts.{AreParts};
 ghost use Rattle.spv_conditions.specs.Making.{IsLimit};
@@ -14,6 +16,7 @@ use spv_logic::list::List;
 use spv_logic::names::{Names, Symbol};
 use spv_program::typed::{Program, Routine};
 use spv_reports::{Mode, ProgramNames, Report};
+use spv_rules::Rules;
 use spv_term::{Condition, Terms};
 use spv_verdicts::answers::Decided;
 use std::alloc::{AllocError, Global};
@@ -26,17 +29,24 @@ pub(crate) struct Parts {
     pub(crate) verdicts: Vec<Decided>,
 }
 
-// The conditions of a program, and the verdicts on them.
+// The conditions of a program, and the verdicts on them under rules.
 #[tactic(auto, using(crate::proofs::reporting::Formulas::all_formulas))]
-fn make_parts(alloc: Global, program: &Program, mode: &Mode) -> Result<Parts, GenFault>
+fn make_parts(
+    alloc: Global,
+    program: &Program,
+    rules: &Rules,
+    mode: &Mode,
+) -> Result<Parts, GenFault>
     requires typed { IsTrue (well_typed program.now) }
-    ensures parts { IfOk result (AreParts program.now mode.now) }
+    requires shapes { rules.now.arena.shapes ≡ shapes program.now }
+    requires decls { rules.now.arena.decls ≡ program.now.symbols }
+    ensures parts { IfOk result (AreParts program.now mode.now (rules_in rules.now)) }
     ensures fault { IfErr result (λ e. IsLimit e program.now) }
 {
     let made = conditions(alloc, program)?;
     made.terms.law_arena();
     law_sorted_conditions();
-    let verdicts = decided(alloc, mode, &made.terms, made.list.as_slice())?;
+    let verdicts = decided(alloc, mode, &made.terms, made.list.as_slice(), rules)?;
     Ok(Parts {
         terms: made.terms,
         conditions: made.list,
@@ -44,25 +54,37 @@ fn make_parts(alloc: Global, program: &Program, mode: &Mode) -> Result<Parts, Ge
     })
 }
 
-/// The report on a program, for what its mode says: the conditions of the definition, in its order, and in the mode `Verify` a
-/// verdict on each, within its limits. Else the limit that the conditions meet, or that there is no memory left.
+/// The report on a program under rules over its types and symbols, for what its mode says: the conditions of the definition, in its
+/// order, and but for the mode `Conditions` a verdict on each, within its limits. Else the limit that the conditions meet, or that there
+/// is no memory left.
 pub fn report_on(
     alloc: Global,
     names: Names,
     program: &Program,
+    rules: Rules,
     mode: Mode,
 ) -> Result<Report, GenFault>
     requires typed { IsTrue (well_typed program.now) }
     requires framed { frame_fault program.now ≡ None }
+    requires shapes { rules.arena.shapes ≡ shapes program.now }
+    requires decls { rules.arena.decls ≡ program.now.symbols }
     ensures names { IfOk result (λ r. r.named.names ≡ names) }
+    ensures rules { IfOk result (λ r. r.rules ≡ rules) }
     ensures mode { IfOk result (λ r. r.mode ≡ mode) }
     ensures program { IfOk result (IsReportOn program.now) }
     ensures not_refused { IfOk result (IsNotRefused program.now) }
     ensures fault { IfErr result (λ e. IsLimit e program.now) }
 {
     let named = named_by(alloc, names, program)?;
-    let parts = make_parts(alloc, program, &mode)?;
-    Ok(Report::new(named, parts.terms, parts.conditions, mode, parts.verdicts))
+    let parts = make_parts(alloc, program, &rules, &mode)?;
+    Ok(Report::new(
+        named,
+        parts.terms,
+        parts.conditions,
+        rules,
+        mode,
+        parts.verdicts,
+    ))
 }
 
 // The names that a program gives, of which this is the table.

@@ -25,3 +25,7 @@ returns-clause-dashes c = refl
 pub returns-clause-unused : goal.returns-clause-unused
 unfolding clap_on_literals
 returns-clause-unused c = refl
+
+pub returns-clause-rules : goal.returns-clause-rules
+unfolding clap_on_literals
+returns-clause-rules c = (refl, refl)

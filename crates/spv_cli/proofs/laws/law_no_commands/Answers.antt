@@ -10,9 +10,9 @@ pub returns-clause-mode : goal.returns-clause-mode
 unfolding clap_on_literals
 returns-clause-mode c = (refl, refl)
 
-pub returns-clause-two_files : goal.returns-clause-two_files
+pub returns-clause-many_files : goal.returns-clause-many_files
 unfolding clap_on_literals
-returns-clause-two_files c = refl
+returns-clause-many_files c = (refl, refl, refl)
 
 pub returns-clause-option : goal.returns-clause-option
 unfolding clap_on_literals

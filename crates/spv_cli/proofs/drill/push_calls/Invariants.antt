@@ -1,0 +1,8 @@
+use Rattle.std.proofs.Common.{◌≡◌, ◌++◌, take, map}
+use Rattle.std.specs.List.{flat_map}
+use Rattle.spv_cli.specs.Drill.{call}
+use Rattle.spv_cli.specs.Words.{procedure_view}
+use Rattle.spv_cli.proofs.drill.push_calls.Given as goal
+
+abbrev pub invariant-loop-p : goal.invariant-loop-p
+invariant-loop-p l = l.out.items ≡ l.initial.out.items ++ flat_map call (map procedure_view (take l.p-index l.all))

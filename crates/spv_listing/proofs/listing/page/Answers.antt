@@ -1,6 +1,0 @@
-use Rattle.spv_listing.proofs.Findings.{decided_in}
-use Rattle.spv_listing.proofs.listing.page.Goals as goal
-
-pub verdicts_page-requires-clause-verdicts : goal.verdicts_page-requires-clause-verdicts
-verdicts_page-requires-clause-verdicts c =
-    decided_in c.args.report.now c.mode.result.now c.in-Verify.field-0 c.conditions.result.now c.verdicts.result.now c.law_findings.ensures c.in-Verify.is c.mode.ensures c.conditions.ensures c.verdicts.ensures

@@ -1,0 +1,4 @@
+pub mod Exchanging
+pub mod NoRules
+pub mod Kept
+pub mod Branching

@@ -1,0 +1,5 @@
+use Rattle.spv_rounds.proofs.calling.FreshLemmas.{other_lengths}
+use Rattle.spv_rounds.proofs.calling.choosing.same_terms.Goals as goal
+
+pub returns-then-left-right : goal.returns-then-left-right
+returns-then-left-right c = other_lengths c.args.left.now c.args.right.now c.if-left-right.true

@@ -1,0 +1,4 @@
+pub mod EndLemmas
+pub mod CallLemmas
+pub mod SurviveLemmas
+pub mod TurnLemmas

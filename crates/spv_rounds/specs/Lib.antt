@@ -1,0 +1,10 @@
+pub mod Claims
+pub mod Rounds
+pub mod Right
+pub mod Laws
+pub mod moving
+pub mod knowing
+pub mod telling
+pub mod calling
+pub mod growing
+pub mod judging

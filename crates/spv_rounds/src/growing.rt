@@ -1,0 +1,6 @@
+//! One round more.
+
+mod rounds;
+mod saying;
+
+pub use rounds::grow;

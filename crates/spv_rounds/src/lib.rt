@@ -1,0 +1,12 @@
+//! What is decided of a condition under rules: rounds of instances.
+#![tactic(auto)]
+
+pub mod calling;
+pub mod growing;
+pub mod judging;
+pub mod knowing;
+mod laws;
+pub mod moving;
+pub mod telling;
+
+pub use laws::{law_kept, law_no_rules, law_proved};

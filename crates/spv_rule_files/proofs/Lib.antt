@@ -1,0 +1,12 @@
+pub mod Loops
+pub mod Meanings
+pub mod Knowing
+pub mod NewVariables
+pub mod Sizes
+pub mod Carried
+pub mod Parts
+pub mod Naming
+pub mod Classless
+pub mod Programs
+pub mod Knowns
+pub mod Soundness

@@ -1,0 +1,4 @@
+pub mod Heads
+pub mod Variables
+pub mod Soundness
+pub mod Made

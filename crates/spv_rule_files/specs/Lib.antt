@@ -1,0 +1,11 @@
+pub mod Outcomes
+pub mod Scopes
+pub mod Variables
+pub mod VariableNames
+pub mod Starts
+pub mod Forms
+pub mod Triggers
+pub mod Rules
+pub mod Stated
+pub mod Right
+pub mod rule_terms

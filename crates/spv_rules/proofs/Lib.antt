@@ -1,0 +1,3 @@
+pub mod SortTests
+pub mod Growing
+pub mod Placed

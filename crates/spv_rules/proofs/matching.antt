@@ -1,0 +1,7 @@
+mod Sequences
+mod Meetings
+mod Walks
+mod Pieces
+mod Adding
+mod Ruling
+mod Fitting

@@ -1,0 +1,3 @@
+pub mod RuleSets
+pub mod matching
+pub mod making

@@ -1,0 +1,4 @@
+pub mod Pieces
+pub mod KeptFaults
+pub mod Sketching
+pub mod Fitting

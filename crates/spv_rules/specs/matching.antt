@@ -1,0 +1,4 @@
+pub mod Matches
+pub mod Examples
+pub mod Views
+pub mod Laws

@@ -1,0 +1,2 @@
+pub mod TwoWays
+pub mod NameCount
