@@ -1,5 +1,6 @@
 -- What is true of rounds.
-use Rattle.std.specs.Prelude.{◌≡◌, ℕ, true, List, [], map, length, Option, Some, None}
+use Rattle.std.specs.Prelude.{◌≡◌, ℕ, ◌^◌, ◌<◌, Bool, true, List, [], map, length, Option, Some, None}
+use Rattle.spv_whole.specs.Fraction.{Fraction}
 use Rattle.spv_logic.specs.declared.conditions.TermId.{TermId}
 use Rattle.spv_logic.specs.declared.operators.Head.TheVariants.{False}
 use Rattle.spv_logic.specs.Terms.{Term, term, no_terms}
@@ -8,14 +9,20 @@ use Rattle.spv_atoms.specs.declared.proofs.Step.TheVariants as step
 use Rattle.spv_atoms.specs.declared.proofs.ProofNode.{ProofNode}
 use Rattle.spv_proof_rules.specs.Accepted.{accepts}
 use Rattle.spv_proof_rules.specs.Effects.{Question, rule_stated}
-use Rattle.spv_verdicts.specs.Verdicts.{Round}
+use Rattle.spv_term.specs.Arena.{Arena}
+use Rattle.spv_table.specs.Tables.{IsTable}
+use Rattle.spv_table.specs.Values.{listed_in}
+use Rattle.spv_models.specs.leaf_models.Subterms.{is_among}
+use Rattle.spv_verdicts.specs.Exact.{is_exactly_true}
+use Rattle.spv_verdicts.specs.Verdicts.{Limits, Instance, Round, Splits, Unproved}
 use Rattle.spv_models.specs.split_trees.Trees.{Tree}
-use Rattle.spv_verdicts.specs.Schemas.{IsKeptOn}
+use Rattle.spv_models.specs.split_trees.Paths.{atoms}
+use Rattle.spv_verdicts.specs.Schemas.{IsKeptOn, IsReachedWith, IsRightWith, enlarged}
 use Rattle.spv_verdicts.specs.translation.ExchangedTrees.{exchanged_tree}
-use Rattle.spv_rounds.specs.Right.{IsKeptUnder}
+use Rattle.spv_rounds.specs.Right.{IsKeptUnder, IsReachedUnder, IsRightUnder}
 use Rattle.spv_verdicts.specs.translation.Exchanged.{exchanged_nodes}
 use Rattle.spv_verdicts.specs.translation.Replacements.{replacements}
-use Rattle.spv_rounds.specs.Claims.{claim}
+use Rattle.spv_rounds.specs.Claims.{claim, formulas}
 use Rattle.spv_rounds.specs.Rounds.{AreRounds}
 
 -- without rules no round is made
@@ -44,3 +51,32 @@ AnsweredUnder = (q : Question) (fs : List Term) (falsity : TermId) (steps : List
 abbrev pub KeptUnder : Type 0
 KeptUnder = (q : Question) (fs : List Term) (falsity : TermId) (steps : List Step) → q.at falsity ≡ term False no_terms → StepsSay q steps fs
     → (limit : ℕ) (tree : Tree) → IsKeptOn (claim q fs) limit tree → IsKeptUnder q fs limit (exchanged_tree (replacements (length q.sequent.given) falsity steps) tree)
+
+-- ---- splits
+
+-- where facts of schemas are at hand, a search that gave up for want of splits was allowed fewer than 3 to the power of the number of atoms of
+-- all that is refuted: allowed as many, it decides or meets another limit
+abbrev pub SplitsAreFewWith : Type 0
+SplitsAreFewWith = (a : Arena) (q : Question) (limits : Limits) (tree : Tree) → IsReachedWith a q limits (Splits tree) → limits.splits < 3 ^ length (atoms (enlarged q))
+
+-- and under rules, where these instances were added
+abbrev pub SplitsAreFewUnder : Type 0
+SplitsAreFewUnder = (a : Arena) (q : Question) (limits : Limits) (instances : List Instance) (tree : Tree) → IsReachedUnder a q limits instances (Splits tree)
+    → limits.splits < 3 ^ length (atoms (enlarged (claim q (formulas q instances))))
+
+-- ---- tables
+
+-- in each table in which the hypotheses are true, by exact numbers, the goal is
+abbrev pub IsTrueInEachTable : Question → Type 0
+IsTrueInEachTable q = (table : List (Term × Fraction)) → IsTable q.shapes q.decls table → ((f : Term) → is_among q.sequent.given f ≡ true → is_exactly_true (listed_in table) f ≡ true)
+    → is_exactly_true (listed_in table) q.sequent.goal ≡ true
+
+-- such a condition is never Unproved, where facts of schemas are at hand
+abbrev pub TrueIsNotUnproved : Type 0
+TrueIsNotUnproved = (a : Arena) (q : Question) (limits : Limits) (branch : List (Term × Bool)) (table : List (Term × Fraction)) (instances : List Instance) → IsTrueInEachTable q
+    → IsRightWith a q limits (Unproved branch table instances) → ⊥
+
+-- and under rules, whatever they are
+abbrev pub TrueIsNotUnprovedUnder : Type 0
+TrueIsNotUnprovedUnder = (a : Arena) (q : Question) (limits : Limits) (branch : List (Term × Bool)) (table : List (Term × Fraction)) (instances : List Instance) → IsTrueInEachTable q
+    → IsRightUnder a q limits (Unproved branch table instances) → ⊥

@@ -9,4 +9,4 @@ mod laws;
 pub mod moving;
 pub mod telling;
 
-pub use laws::{law_kept, law_no_rules, law_proved};
+pub use laws::{law_kept, law_no_rules, law_proved, law_splits, law_true_in_each_table};

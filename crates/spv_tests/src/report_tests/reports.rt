@@ -5,6 +5,7 @@ use spv_reports::{
 };
 use spv_term::{Kind, PlainWorld};
 use spv_verify::{list, verify};
+use std::alloc::{AllocError, Global};
 use std::test::Fail;
 
 // Whether a report holds the three names of its text, and its EXIT on line 3 as a condition.
@@ -81,5 +82,25 @@ fn conditions_alone(rt: HostRuntime) -> Result<(), Fail> {
     )?;
     assert!(rt; report.verdicts().is_empty());
     assert_eq!(rt; report.conditions().len(), 1);
+    Ok(())
+}
+
+// A program that doubles a variable so many times.
+fn doubling(alloc: Global, times: usize) -> Result<Vec<u8>, AllocError> {
+    let mut text = Vec::new(alloc);
+    text.extend_from_slice(b"PROGRAM twice; VAR x: INTEGER; ENTRY x = 0; EXIT x = 0; BEGIN\n")?;
+    for _ in 0..times {
+        text.extend_from_slice(b"x := x + x;\n")?;
+    }
+    text.extend_from_slice(b"END.")?;
+    Ok(text)
+}
+
+#[test]
+fn a_shared_term_is_one(rt: HostRuntime) -> Result<(), Fail> {
+    let text = doubling(rt.alloc(), 40)?;
+    let report = verify(rt.alloc(), text.as_slice(), None, default_limits())?;
+    assert!(rt; report.terms().len() <= 200);
+    assert!(rt; all_proved(report.verdicts()));
     Ok(())
 }

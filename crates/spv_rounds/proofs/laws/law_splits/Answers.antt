@@ -1,0 +1,9 @@
+use Rattle.spv_rounds.specs.Claims.{formulas}
+use Rattle.spv_rounds.proofs.FewSplits.{few-with, few-under}
+use Rattle.spv_rounds.proofs.laws.law_splits.Goals as goal
+
+pub returns-clause-with_facts : goal.returns-clause-with_facts
+returns-clause-with_facts c a q limits tree kept = few-with q limits.splits tree kept
+
+pub returns-clause-under_rules : goal.returns-clause-under_rules
+returns-clause-under_rules c a q limits instances tree reached = few-under q (formulas q instances) limits.splits tree reached.1
