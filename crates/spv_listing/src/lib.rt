@@ -1,6 +1,7 @@
 //! Listings: the page of a report.
 #![tactic(auto)]
 
+mod lengths;
 mod listing;
 pub mod printed;
 pub mod verdict_pages;

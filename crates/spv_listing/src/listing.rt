@@ -10,6 +10,7 @@ ghost use Rattle.spv_listing.specs.Page as spec;
 ghost use Rattle.spv_listing.specs.Page.{heading, routine_text, given_line, goal_line, claim_lines, condition_lines, blocks, claims, count, listing_of, AreDecided};
 ghost use Rattle.spv_term.specs.Arena.{AllBelow, tree};
 
+use crate::lengths::is_too_long;
 use crate::printed::{push_decimal, push_name, push_term};
 use crate::verdict_pages::{push_totals, push_verdict};
 use spv_reports::{Load, Mode, ProgramNames, Report};
@@ -18,7 +19,8 @@ use spv_verdicts::answers::Decided;
 use std::alloc::{AllocError, Global};
 
 /// The page of a report: a heading, each condition with its hypotheses and its goal, in the modes `Verify` and `Simplify` with its
-/// verdict, and the totals; in the mode `Drill` the number of conditions stands in their place. Each line ends with byte 10.
+/// verdict, and the totals; in the mode `Drill` the number of conditions stands in their place. Each line ends with byte 10. Memory: there
+/// was not enough of it, or the page would have more than 4 GiB.
 pub fn page(alloc: Global, report: &Report) -> Result<Vec<u8>, AllocError>
     ensures { IfOk result (λ p. p.items ≡ spec.page report.now) }
 {
@@ -32,13 +34,19 @@ pub fn page(alloc: Global, report: &Report) -> Result<Vec<u8>, AllocError>
             report.conditions().len() as u64,
             report.verdicts(),
         ),
-        Mode::Conditions => conditions_page(
-            alloc,
-            report.named(),
-            report.terms(),
-            report.conditions(),
-        ),
+        Mode::Conditions => claims_of(alloc, report),
     }
+}
+
+// The page of a report of conditions alone.
+fn claims_of(alloc: Global, report: &Report) -> Result<Vec<u8>, AllocError>
+    ensures { IfOk result (λ p. p.items ≡ spec.conditions_page report.now.named report.now.arena report.now.conditions) }
+{
+    report.law_findings();
+    if is_too_long(alloc, report)? {
+        return Err(AllocError);
+    }
+    conditions_page(alloc, report.named(), report.terms(), report.conditions())
 }
 
 // The page of a report that has verdicts.
@@ -47,6 +55,9 @@ fn listing(alloc: Global, report: &Report) -> Result<Vec<u8>, AllocError>
     ensures { IfOk result (λ p. p.items ≡ listing_of report.now) }
 {
     report.law_findings();
+    if is_too_long(alloc, report)? {
+        return Err(AllocError);
+    }
     verdicts_page(
         alloc,
         report.named(),
