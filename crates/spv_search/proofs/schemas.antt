@@ -1,3 +1,4 @@
+pub mod Counting
 pub mod Formulas
 pub mod Found
 pub mod Making

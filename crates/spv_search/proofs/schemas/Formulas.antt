@@ -1,5 +1,5 @@
 -- All that is refuted with a condition are formulas.
-use Rattle.std.proofs.Common.{◌≡◌, Bool, true, false, ◌||◌, List, [], ◌∷◌, ◌++◌, map, Option, Some, None, refl, sym, ap, ◌∙◌, subst}
+use Rattle.std.proofs.Common.{◌≡◌, Bool, true, false, ◌||◌, List, [], ◌∷◌, ◌++◌, Option, Some, None, IfSome, refl, sym, ap, subst}
 use Rattle.std.specs.List.{cons_option, filter_map}
 use Rattle.std.proofs.lemmas.Bool.{false≢true}
 use Rattle.spv_logic.specs.declared.types.Sort.TheVariants as sort
@@ -15,7 +15,7 @@ use Rattle.spv_logic.proofs.Equality.{sort_eq-true, term_eq-true, term_eq-refl}
 use Rattle.spv_schemas.specs.Instances.{SchemaInstance, instance_fact, schemas}
 use Rattle.spv_schemas.specs.Laws.{FactsAreFormulas}
 use Rattle.spv_term.specs.declared.nodes.Condition.{Condition}
-use Rattle.spv_term.specs.Arena.{Arena, sequent}
+use Rattle.spv_term.specs.Arena.{Arena}
 use Rattle.spv_atoms.specs.Atoms.{has_sort, is_truth}
 use Rattle.spv_atoms.proofs.Members.{or_right}
 use Rattle.spv_proof_rules.specs.Stand.{question}
@@ -23,6 +23,7 @@ use Rattle.spv_models.specs.leaf_models.Laws.{AreFormulas}
 use Rattle.spv_models.specs.leaf_models.Subterms.{is_among}
 use Rattle.spv_models.specs.leaf_models.Tables.{formulas_of}
 use Rattle.spv_verdicts.specs.Schemas.{enlarged, further_facts, used}
+use Rattle.spv_search.specs.declared.schemas.enlarging.Enlarged.{Enlarged}
 use Rattle.spv_search.specs.schemas.Enlarging.{IsEnlarged}
 
 -- ---- lists of formulas
@@ -89,3 +90,8 @@ enlarged-formulas law a c are b d e =
     subst (λ (r : Sequent). AreFormulas b.shapes b.decls (formulas_of r)) (sym e.claim)
     (subst (λ (ds : List Decl). AreFormulas b.shapes ds (formulas_of (enlarged q).sequent)) (sym e.decls)
     (subst (λ (ss : List Shape). AreFormulas ss x (formulas_of (enlarged q).sequent)) (sym e.shapes) there))
+
+pub enlarged-formulas-if : FactsAreFormulas → (a : Arena) (c : Condition) → AreFormulas a.shapes a.decls (formulas_of (question a c).sequent) → (o : Option Enlarged) → IfSome o (λ e. IsEnlarged a c e.terms e.condition)
+    → IfSome o (λ e. AreFormulas e.terms.shapes e.terms.decls (formulas_of (question e.terms e.condition).sequent))
+enlarged-formulas-if law a c are None h = tt
+enlarged-formulas-if law a c are (Some e) h = enlarged-formulas law a c are e.terms e.condition h

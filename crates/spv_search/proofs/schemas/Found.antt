@@ -1,24 +1,45 @@
 -- What was found of what claims that all is refuted with a condition, and what is decided of that one.
-use Rattle.std.proofs.Common.{◌≡◌, [], sym, ap, ◌∙◌, subst}
+use Rattle.std.proofs.Common.{◌≡◌, ℕ, List, [], IfOk, Result, Ok, Err, sym, ap, ◌∙◌, subst}
+use Rattle.std.specs.declared.alloc.AllocError.{AllocError}
 use Rattle.spv_logic.specs.Conditions.{Sequent}
-use Rattle.spv_logic.specs.declared.types.Shape.{Shape}
-use Rattle.spv_logic.specs.declared.types.Decl.{Decl}
 use Rattle.spv_logic.specs.declared.operators.Head.TheVariants.{False}
-use Rattle.spv_logic.specs.Terms.{Term, term, no_terms}
+use Rattle.spv_logic.specs.Terms.{term, no_terms}
 use Rattle.spv_term.specs.declared.nodes.Condition.{Condition}
-use Rattle.spv_term.specs.Arena.{Arena, sequent}
+use Rattle.spv_term.specs.Arena.{Arena, sequent, tree}
 use Rattle.spv_proof_rules.specs.Effects.{Question}
 use Rattle.spv_proof_rules.specs.Stand.{question}
 use Rattle.spv_search_terms.specs.condition_copy.Copies.{IsSameClaim, StandsFor}
-use Rattle.spv_verdicts.specs.Schemas.{enlarged}
-use Rattle.spv_verdicts.specs.Verdicts.{Limits, IsRight}
+use Rattle.spv_verdicts.specs.Schemas.{enlarged, HasTooManyCounted, IsReachedWith, IsRightWith}
+use Rattle.spv_verdicts.specs.Verdicts as verdicts
+use Rattle.spv_verdicts.specs.Verdicts.{Limits, Limit, Splits, TooManyInstances, WideForm, WidePivot, WideSum, WideEvaluation, Pivots, TooManyTerms, Proved, Unproved, GaveUp, NotAccepted, IsRight}
 use Rattle.spv_verdicts.specs.declared.answers.verdicts.Decided.{Decided}
 use Rattle.spv_verdicts.specs.declared.answers.verdicts.Verdict.{Verdict}
-use Rattle.spv_verdicts.specs.answers.Views.{IsDecided, IsDecidedWith, verdict_in}
-use Rattle.spv_search.specs.schemas.Enlarging.{IsEnlarged}
-use Rattle.spv_search.specs.schemas.Telling.{IsFoundOf, IsToldWith, wider}
+use Rattle.spv_verdicts.specs.declared.answers.verdicts.Round.{Round}
+use Rattle.spv_verdicts.specs.declared.answers.verdicts.Limit.TheVariants as limit
+use Rattle.spv_verdicts.specs.declared.answers.verdicts.Verdict.TheVariants as verdict
+use Rattle.spv_verdicts.specs.answers.Views.{IsDecided, IsDecidedWith, RoundsIn, rounds_in, verdict_in}
+use Rattle.spv_search.specs.schemas.Enlarging.{IsEnlarged, IsEnough}
+use Rattle.spv_search.specs.schemas.Telling.{IsFoundOf, IsToldWith}
+use Rattle.spv_search.proofs.schemas.Counting.{too-many-there}
 
-module _ (a : Arena) (c : Condition) (e : Arena) (d : Condition) (is : IsEnlarged a c e d) (limits most : Limits) (same : most ≡ wider limits) (x : Decided) (found : IsDecided e d most x) where
+-- no verdict on a condition speaks of the limit of terms
+other-limit : (a : Arena) (q : Question) (limits : Limits) (n : ℕ) (l : Limit) → IsReachedWith a q (record { splits = limits.splits; instances = limits.instances; pivots = limits.pivots; terms = n }) l → IsReachedWith a q limits l
+other-limit a q limits n (Splits tree) r = r
+other-limit a q limits n TooManyInstances r = r
+other-limit a q limits n (WideForm t) r = r
+other-limit a q limits n (WidePivot s steps o) r = r
+other-limit a q limits n (WideSum nodes w) r = r
+other-limit a q limits n (WideEvaluation table t w) r = r
+other-limit a q limits n (Pivots s steps) r = r
+other-limit a q limits n (TooManyTerms m) r = r
+
+other-terms : (a : Arena) (q : Question) (limits : Limits) (n : ℕ) (v : verdicts.Verdict) → IsRightWith a q (record { splits = limits.splits; instances = limits.instances; pivots = limits.pivots; terms = n }) v → IsRightWith a q limits v
+other-terms a q limits n (Proved nodes) r = r
+other-terms a q limits n (Unproved branch table instances) r = r
+other-terms a q limits n (GaveUp rounds l) r = record { reached = other-limit a q limits n l r.reached; no_rounds = r.no_rounds }
+other-terms a q limits n NotAccepted r = r
+
+module _ (a : Arena) (c : Condition) (e : Arena) (d : Condition) (is : IsEnlarged a c e d) (most : Limits) (x : Decided) (found : IsDecided e d most x) where
   -- the search's own copy claims the same
   pub claim-there : sequent x.terms x.condition ≡ (enlarged (question a c)).sequent
   claim-there = found.claim.claim ∙ is.claim
@@ -45,11 +66,37 @@ module _ (a : Arena) (c : Condition) (e : Arena) (d : Condition) (is : IsEnlarge
     questions : question x.terms x.condition ≡ enlarged (question x.terms own)
     questions = λ i. record { shapes = x.terms.shapes; decls = x.terms.decls; at = (question x.terms own).at; sequent = sequents i; rules = [] }
 
-    pub found-there : IsFoundOf x.terms own limits x.verdict
-    found-there = record {
-      terms_in = found.terms_in;
-      right = subst (λ (m : Limits). IsRight x.terms (enlarged (question x.terms own)) m (verdict_in x.terms x.verdict)) same (subst (λ (q : Question). IsRight x.terms q most (verdict_in x.terms x.verdict)) questions found.right);
+    pub found-there : IsFoundOf x.terms own most x.verdict
+    found-there = record { terms_in = found.terms_in; right = subst (λ (q : Question). IsRight x.terms q most (verdict_in x.terms x.verdict)) questions found.right }
+
+    pub enough-there : (limits : Limits) (n : ℕ) → most ≡ record { splits = limits.splits; instances = limits.instances; pivots = limits.pivots; terms = n } → IsEnough (question a c) n → IsEnough (question x.terms own) most.terms
+    enough-there limits n is enough =
+        let as-question : record (question a c) { at = tree x.terms } ≡ question x.terms own =
+        λ i. record { shapes = sym shapes-there i; decls = sym decls-there i; at = tree x.terms; sequent = sym told.claim i; rules = [] } in
+        subst (IsEnough (question x.terms own)) (sym (ap (λ (m : Limits). m.terms) is)) (subst (λ (q : Question). IsEnough q n) as-question enough)
+
+    -- the limit of terms of a search is none of the condition's
+    pub decided-there : (limits : Limits) (n : ℕ) → most ≡ record { splits = limits.splits; instances = limits.instances; pivots = limits.pivots; terms = n } → (v : Verdict) → IsToldWith x.terms own most v
+        → IsDecidedWith a c limits (record { terms = x.terms; condition = own; verdict = v })
+    decided-there limits n is v right = record {
+      claim = told;
+      shapes = shapes-there;
+      decls = decls-there;
+      terms_in = right.terms_in;
+      right = other-terms x.terms (question x.terms own) limits n (verdict_in x.terms v) (subst (λ (m : Limits). IsRightWith x.terms (question x.terms own) m (verdict_in x.terms v)) is right.right);
     }
 
-    pub decided-there : (v : Verdict) → IsToldWith x.terms own limits v → IsDecidedWith a c limits (record { terms = x.terms; condition = own; verdict = v })
-    decided-there v right = record { claim = told; shapes = shapes-there; decls = decls-there; terms_in = right.terms_in; right = right.right }
+-- that more terms count than may, told of a copy of the condition
+pub gave-up-terms : (a : Arena) (c : Condition) (k : Arena) (d : Condition) → IsSameClaim a c k d → k.shapes ≡ a.shapes → k.decls ≡ a.decls → HasTooManyCounted (question a c) 1000000 → (rounds : List Round) → rounds ≡ [] → (limits : Limits)
+    → IsDecidedWith a c limits (record { terms = k; condition = d; verdict = verdict.GaveUp rounds (limit.Terms 1000000) })
+gave-up-terms a c k d same same_shapes same_decls many rounds none limits = record {
+  claim = same;
+  shapes = same_shapes;
+  decls = same_decls;
+  terms_in = (subst (RoundsIn k) (sym none) tt, tt);
+  right = record { reached = too-many-there a c k d same same_shapes same_decls many; no_rounds = ap (rounds_in k) none };
+}
+
+pub decided-any : (a : Arena) (c : Condition) (limits : Limits) (r : Result Decided AllocError) → IfOk r (λ d. (m : Limits) → IsDecidedWith a c m d) → IfOk r (IsDecidedWith a c limits)
+decided-any a c limits (Ok d) h = h limits
+decided-any a c limits (Err e) h = tt

@@ -1,18 +1,18 @@
 -- A condition in an arena of its own, with what is refuted with it.
-use Rattle.std.proofs.Common.{◌≡◌, ◌<◌, Bool, true, ◌||◌, List, [], ◌∷◌, ◌++◌, map, length, is_some, IsSome, refl, sym, ap, ◌∙◌, subst, arith}
+use Rattle.std.proofs.Common.{◌≡◌, ◌<◌, true, ◌||◌, List, [], ◌∷◌, ◌++◌, map, length, is_some, IsSome, sym, ap, ◌∙◌, subst, arith}
 use Rattle.std.proofs.lemmas.List.{map-append}
 use Rattle.spv_logic.specs.declared.conditions.TermId.{TermId}
 use Rattle.spv_logic.specs.declared.types.Sort.TheVariants as sort
 use Rattle.spv_logic.specs.declared.types.Sort.{Sort}
 use Rattle.spv_logic.specs.declared.operators.Head.TheVariants.{False, Not}
-use Rattle.spv_logic.specs.Terms.{Term, term, no_terms, terms, term_eq}
+use Rattle.spv_logic.specs.Terms.{Term, term, no_terms, term_eq}
 use Rattle.spv_logic.specs.Formulas.{negation}
 use Rattle.spv_logic.specs.Conditions.{Sequent}
 use Rattle.spv_logic.specs.Sorts.{result_sort}
 use Rattle.spv_logic.proofs.Equality.{sort_eq-true, term_eq-refl}
 use Rattle.spv_schemas.specs.Instances.{schema_facts}
 use Rattle.spv_term.specs.declared.nodes.Condition.{Condition}
-use Rattle.spv_term.specs.Arena.{Arena, IsArena, AllBelow, Extends, tree, trees, sort_at, sorts_at, sequent}
+use Rattle.spv_term.specs.Arena.{Arena, IsArena, AllBelow, Extends, tree, trees, sort_at, sorts_at}
 use Rattle.spv_term.proofs.ArenaLemmas.{IsWellSorted-arena, Extends-trans, AllBelow-Extends, map_tree-Extends, tree-Extends, length-Extends}
 use Rattle.spv_term.proofs.TreeLemmas.{AllBelow-append}
 use Rattle.spv_atoms.specs.Atoms.{has_sort, is_truth}

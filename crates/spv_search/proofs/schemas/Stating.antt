@@ -3,18 +3,18 @@ use Rattle.std.proofs.Common.{◌≡◌, List, [], ◌∷◌, map, length, Optio
 use Rattle.std.proofs.lemmas.List.{length-map}
 use Rattle.spv_logic.specs.declared.conditions.TermId.{TermId}
 use Rattle.spv_logic.specs.declared.operators.Head.TheVariants.{False}
-use Rattle.spv_logic.specs.Terms.{Term, term, no_terms}
+use Rattle.spv_logic.specs.Terms.{term, no_terms}
 use Rattle.spv_schemas.specs.declared.kinds.SchemaKind.{SchemaKind}
-use Rattle.spv_schemas.specs.Instances.{SchemaInstance, schemas}
+use Rattle.spv_schemas.specs.Instances.{schemas}
 use Rattle.spv_schemas.specs.Laws.{NumbersTellKinds}
 use Rattle.spv_term.specs.declared.nodes.Condition.{Condition}
-use Rattle.spv_term.specs.Arena.{Arena, AllBelow, tree}
+use Rattle.spv_term.specs.Arena.{Arena, tree}
 use Rattle.spv_atoms.specs.declared.proofs.Step.{Step}
 use Rattle.spv_proof_rules.specs.Stand.{question, StepsIn}
 use Rattle.spv_verdicts.specs.Schemas.{enlarged, used}
 use Rattle.spv_verdicts.specs.translation.Exchanged.{Exchanges}
 use Rattle.spv_verdicts.specs.translation.Laws.{ReplacementsExchange}
-use Rattle.spv_verdicts.specs.translation.Replacements.{instance_by, replacements, stated_instance, StateFacts}
+use Rattle.spv_verdicts.specs.translation.Replacements.{instance_by, replacements, stated_instance}
 use Rattle.spv_proof.specs.declared.schema_facts.listing.Instance.{Instance}
 use Rattle.spv_proof.specs.schema_facts.Instances.{AllIn, instance_in}
 use Rattle.spv_search.specs.schemas.Telling.{schema_step}

@@ -1,16 +1,11 @@
 -- What was found of all that is refuted with a condition, told of the condition.
-use Rattle.std.proofs.Common.{◌≡◌, ℕ, suc, ◌<◌, ◌≤◌, Bool, true, false, List, [], ◌∷◌, ◌++◌, map, length, Some, refl, sym, ap, ◌∙◌, subst, arith}
-use Rattle.std.specs.List.{list_any}
-use Rattle.std.specs.Prelude.{if◌then◌else◌}
+use Rattle.std.proofs.Common.{◌≡◌, ℕ, ◌<◌, Bool, List, length, refl, sym, ap, ◌∙◌, subst}
 use Rattle.spv_whole.specs.Fraction.{Fraction}
 use Rattle.spv_proof_rules.specs.Accepted.{accepts}
-use Rattle.std.proofs.lemmas.List.{length-map, length-append}
 use Rattle.spv_logic.specs.declared.conditions.TermId.{TermId}
-use Rattle.spv_logic.specs.Terms.{Term, term_eq}
-use Rattle.spv_logic.specs.Formulas.{negation}
+use Rattle.spv_logic.specs.Terms.{Term}
 use Rattle.spv_term.specs.declared.nodes.Condition.{Condition}
 use Rattle.spv_term.specs.Arena.{Arena, tree}
-use Rattle.spv_atoms.specs.Atoms.{with_term}
 use Rattle.spv_atoms.specs.declared.proofs.Step.{Step}
 use Rattle.spv_atoms.specs.declared.proofs.ProofNode.{ProofNode}
 use Rattle.spv_proof_rules.specs.Effects.{Question}
@@ -18,9 +13,8 @@ use Rattle.spv_proof_rules.specs.Stand.{question}
 use Rattle.spv_models.specs.split_trees.Trees.{Tree}
 use Rattle.spv_verdicts.specs.Verdicts as verdicts
 use Rattle.spv_verdicts.specs.Verdicts.{Limits, IsReached, search_terms}
-use Rattle.spv_verdicts.specs.Schemas.{enlarged, counted_terms, HasTooManyCounted, IsKeptOn, IsReachedWith, SurvivesFacts}
+use Rattle.spv_verdicts.specs.Schemas.{enlarged, IsKeptOn, IsReachedWith, SurvivesFacts}
 use Rattle.spv_verdicts.specs.declared.answers.trees.SplitNode.{SplitNode}
-use Rattle.spv_verdicts.specs.declared.answers.verdicts.Instance.{Instance}
 use Rattle.spv_verdicts.specs.declared.answers.verdicts.Round.{Round}
 use Rattle.spv_verdicts.specs.declared.answers.verdicts.Unproved.{Unproved}
 use Rattle.spv_verdicts.specs.declared.answers.verdicts.Wide.{Wide}
@@ -29,12 +23,13 @@ use Rattle.spv_verdicts.specs.declared.answers.verdicts.Limit.{Limit}
 use Rattle.spv_verdicts.specs.declared.answers.verdicts.Limit.TheVariants as limit
 use Rattle.spv_verdicts.specs.declared.answers.verdicts.Verdict.TheVariants as verdict
 use Rattle.spv_verdicts.specs.answers.Nodes.{tree_at}
-use Rattle.spv_verdicts.specs.answers.Views.{CasesIn, SplitNodesIn, branch_in, instances_in, limit_in, pairs_in, wide_in}
+use Rattle.spv_verdicts.specs.answers.Views.{CasesIn, SplitNodesIn, branch_in, pairs_in, wide_in}
 use Rattle.spv_proof_rules.specs.Stand.{NodesIn}
 use Rattle.spv_verdicts.specs.translation.Exchanged.{Exchanges, exchanged_nodes}
 use Rattle.spv_verdicts.specs.translation.ExchangedTrees.{exchanged_tree}
-use Rattle.spv_verdicts.specs.translation.Laws.{AtMostOneMore, ExchangedIsAccepted, ExchangedIsKept}
-use Rattle.spv_search.specs.schemas.Telling.{IsFoundOf, IsLimitOf, IsLimitWith, IsToldWith, wider}
+use Rattle.spv_verdicts.specs.translation.Laws.{ExchangedIsAccepted, ExchangedIsKept}
+use Rattle.spv_search.specs.schemas.Enlarging.{IsEnough}
+use Rattle.spv_search.specs.schemas.Telling.{IsFoundOf, IsLimitOf, IsLimitWith, IsToldWith}
 
 module _ (a : Arena) (c : Condition) (limits : Limits) where
   abbrev q : Question
@@ -42,18 +37,8 @@ module _ (a : Arena) (c : Condition) (limits : Limits) where
 
   -- ---- limits
 
-  pub told-terms : AtMostOneMore → (n : ℕ) → IsLimitOf a c limits (limit.Terms n) → IsLimitWith a c limits (limit.Terms 1000000)
-  told-terms one_more n l = record {
-    terms_in = tt;
-    reached = record {
-      limit = refl;
-      more =
-          let is = l.reached.limit in
-          let more = l.reached.more in
-          let most = one_more q in
-          omega (arith, is, more, most);
-    };
-  }
+  pub told-terms : IsEnough q limits.terms → (n : ℕ) → IsLimitOf a c limits (limit.Terms n) → IsLimitWith a c limits (limit.Terms 1000000)
+  told-terms enough n l = record { terms_in = tt; reached = record { limit = refl; more = enough (subst (λ m. m < length (search_terms (enlarged q))) l.reached.limit l.reached.more) } }
 
   pub told-splits : ExchangedIsKept → (table : List Step) → Exchanges (enlarged q) q table → (old new : List SplitNode) → ((at : TermId → Term) → tree_at at new ≡ exchanged_tree table (tree_at at old)) → SplitNodesIn a new
       → IsLimitOf a c limits (limit.Splits old) → IsLimitWith a c limits (limit.Splits new)
@@ -62,7 +47,7 @@ module _ (a : Arena) (c : Condition) (limits : Limits) where
     reached = subst (λ (t : Tree). IsKeptOn q limits.splits t) (sym (is (tree a))) (kept q table ex limits.splits (tree_at (tree a) old) l.reached);
   }
 
-  wide-kept : (w : Wide) → IsReached a (enlarged q) (wider limits) (wide_in a w) → IsReachedWith a q limits (wide_in a w)
+  wide-kept : (w : Wide) → IsReached a (enlarged q) limits (wide_in a w) → IsReachedWith a q limits (wide_in a w)
   wide-kept (wide.Form t) r = r
   wide-kept (wide.Pivot e) r = r
   wide-kept (wide.Sum nodes op x y) r = r

@@ -16,14 +16,10 @@ use Rattle.spv_verdicts.specs.answers.Views.{LimitIn, VerdictIn, limit_in, verdi
 abbrev pub schema_step : Instance → Step
 schema_step i = step.Schema (number_of_kind i.kind) i.about i.field
 
--- the same limits, but one term more than there may be
-abbrev pub wider : Limits → Limits
-wider limits = record limits { terms = 1000001 }
-
 -- a verdict is right of what claims that all is refuted, and its terms are in the arena
 pub record IsFoundOf (a : Arena) (c : Condition) (limits : Limits) (v : Verdict) : Type 0 where
   pub terms_in : VerdictIn a v
-  pub right : IsRight a (enlarged (question a c)) (wider limits) (verdict_in a v)
+  pub right : IsRight a (enlarged (question a c)) limits (verdict_in a v)
 
 -- a verdict is right of the condition, where facts of schemas are at hand
 pub record IsToldWith (a : Arena) (c : Condition) (limits : Limits) (v : Verdict) : Type 0 where
@@ -33,7 +29,7 @@ pub record IsToldWith (a : Arena) (c : Condition) (limits : Limits) (v : Verdict
 -- the same of limits
 pub record IsLimitOf (a : Arena) (c : Condition) (limits : Limits) (l : Limit) : Type 0 where
   pub terms_in : LimitIn a l
-  pub reached : IsReached a (enlarged (question a c)) (wider limits) (limit_in a l)
+  pub reached : IsReached a (enlarged (question a c)) limits (limit_in a l)
 
 pub record IsLimitWith (a : Arena) (c : Condition) (limits : Limits) (l : Limit) : Type 0 where
   pub terms_in : LimitIn a l

@@ -7,15 +7,17 @@ ghost use Rattle.spv_models.specs.leaf_models.Laws.{AreFormulas};
 ghost use Rattle.spv_models.specs.leaf_models.Tables.{formulas_of};
 ghost use Rattle.spv_search_terms.specs.condition_copy.Copies.{IsSameClaim};
 ghost use Rattle.spv_verdicts.specs.answers.Views.{IsDecidedWith};
-ghost use Rattle.spv_verdicts.specs.Schemas.{enlarged};
+ghost use Rattle.spv_verdicts.specs.Schemas.{HasTooManyCounted, enlarged};
+ghost use Rattle.spv_verdicts.specs.Verdicts.{Limits};
 
 use crate::deciding::decide_near;
 use crate::schemas::enlarging::enlarge;
 use crate::schemas::telling::of_condition;
 use spv_logic::list::List;
 use spv_proof_steps::candidates::negated;
+use spv_search_terms::condition_copy::copy_condition;
 use spv_term::{Condition, Terms};
-use spv_verdicts::answers::{Decided, Limits};
+use spv_verdicts::answers::{Decided, Limit, Limits, Verdict};
 use std::alloc::{AllocError, Global};
 
 // The condition of which another one, of another arena, claims that all is refuted: there its hypotheses come first, and then that its
@@ -48,6 +50,23 @@ fn own_condition(
     }
 }
 
+// That more terms count than may, told of a condition in an arena of its own.
+fn too_many(alloc: Global, terms: &Terms, condition: &Condition) -> Result<Decided, AllocError>
+    requires given { AllBelow (length terms.now.nodes) condition.now.given }
+    requires goal { condition.now.goal.0 < length terms.now.nodes }
+    requires many { HasTooManyCounted (question terms.now condition.now) 1000000 }
+    ensures { IfOk result (λ d. (limits : Limits) → IsDecidedWith terms.now condition.now limits d) }
+{
+    match copy_condition(alloc, terms, condition, u32::MAX) {
+        Ok(copied) => Ok(Decided {
+            terms: copied.terms,
+            condition: copied.condition,
+            verdict: Verdict::GaveUp(List::new(alloc), Limit::Terms(1_000_000)),
+        }),
+        Err(_) => Err(AllocError),
+    }
+}
+
 /// Searches a proof of a condition, within limits, where facts of schemas about the terms that it uses are at hand. The answer has the
 /// condition in an arena of its own, in which it claims the same, and what was found: a proof; a table that falsifies it, in which all
 /// of these facts are true; or the limit that was reached.
@@ -62,8 +81,10 @@ pub fn decide_with_facts(
     requires formulas { AreFormulas terms.now.shapes terms.now.decls (formulas_of (question terms.now condition.now).sequent) }
     ensures decided { IfOk result (IsDecidedWith terms.now condition.now limits.now) }
 {
-    let enlarged = enlarge(alloc, terms, condition)?;
-    let wider = limits.with_terms(1_000_001);
+    let Some(enlarged) = enlarge(alloc, terms, condition)? else {
+        return too_many(alloc, terms, condition);
+    };
+    let searched = limits.with_terms(enlarged.most);
     let Decided {
         terms: own,
         condition: claim,
@@ -72,11 +93,11 @@ pub fn decide_with_facts(
         alloc,
         &enlarged.terms,
         &enlarged.condition,
-        &wider,
+        &searched,
         condition.given.as_slice().len() + 1,
     )?;
     let told = own_condition(alloc, terms, condition, &own, &claim)?;
-    let verdict = of_condition(alloc, &own, &told, claim.goal, limits, verdict)?;
+    let verdict = of_condition(alloc, &own, &told, claim.goal, &searched, verdict)?;
     Ok(Decided {
         terms: own,
         condition: told,

@@ -11,6 +11,7 @@ ghost use Rattle.spv_proof.specs.schema_facts.Instances.{AllIn, instance_in};
 ghost use Rattle.spv_verdicts.specs.Schemas.{enlarged};
 ghost use Rattle.spv_verdicts.specs.translation.Exchanged.{Exchanges};
 ghost use Rattle.spv_verdicts.specs.translation.Replacements.{stated_instance};
+ghost use Rattle.spv_search.specs.schemas.Enlarging.{IsEnough};
 ghost use Rattle.spv_search.specs.schemas.Telling.{IsFoundOf, IsLimitOf, IsLimitWith, IsToldWith, schema_step};
 
 use crate::schemas::enlarging::used_terms;
@@ -22,8 +23,8 @@ use spv_schemas::laws::law_kinds;
 use spv_term::{Condition, TermId, Terms};
 use spv_verdicts::answers::{Limit, Limits, Unproved, Verdict};
 use spv_verdicts::translation::{
-    exchanged_proof, exchanged_tree, law_branch, law_counted_terms, law_exchange, law_kept,
-    law_replacements, own_branch, replacements_of,
+    exchanged_proof, exchanged_tree, law_branch, law_exchange, law_kept, law_replacements,
+    own_branch, replacements_of,
 };
 use std::alloc::{AllocError, Global};
 
@@ -111,12 +112,12 @@ fn limit_of(
     requires given { AllBelow (length terms.now.nodes) condition.now.given }
     requires goal { condition.now.goal.0 < length terms.now.nodes }
     requires falsity { StandsFor terms.now falsity (term False no_terms) }
+    requires enough { IsEnough (question terms.now condition.now) limits.now.terms }
     requires reached { IsLimitOf terms.now condition.now limits.now limit }
     ensures { IfOk result (IsLimitWith terms.now condition.now limits.now) }
 {
     let _ = limits;
     law_kept();
-    law_counted_terms();
     match limit {
         Limit::Splits(tree) => {
             let steps = replacements(alloc, terms, condition, falsity)?;
@@ -142,6 +143,7 @@ pub(crate) fn of_condition(
     requires given { AllBelow (length terms.now.nodes) condition.now.given }
     requires goal { condition.now.goal.0 < length terms.now.nodes }
     requires falsity { StandsFor terms.now falsity (term False no_terms) }
+    requires enough { IsEnough (question terms.now condition.now) limits.now.terms }
     requires found { IsFoundOf terms.now condition.now limits.now verdict }
     ensures { IfOk result (IsToldWith terms.now condition.now limits.now) }
 {

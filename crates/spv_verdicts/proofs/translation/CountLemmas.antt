@@ -36,7 +36,7 @@ term_eq-symm t u = by_case (term_eq t u) (term_eq u t) refl refl
     by_case false true e f = absurd (false≢true (sym e ∙ (ap (term_eq t) (term_eq-true u t f) ∙ term_eq-refl t)))
 
 -- a term is equal to no more than itself
-term_laws : IsEquivalence term_eq
+pub term_laws : IsEquivalence term_eq
 term_laws = record { refl = term_eq-refl; symm = term_eq-symm; congr = λ t u v e. ap (λ x. term_eq x v) (term_eq-true t u e) }
 
 distinct-with_term : (xs : List Term) (t : Term) → IsDistinct term_eq xs → IsDistinct term_eq (with_term xs t)
@@ -60,7 +60,7 @@ distinct-base = distinct-with_terms [] base_terms distinct-nothing
 -- ---- terms with their arguments
 
 -- the arguments of each term are among the terms
-abbrev IsInside : List Term → Type 0
+abbrev pub IsInside : List Term → Type 0
 IsInside xs = (h : Head) (ts : Terms) → has xs (term h ts) ≡ true → ArgumentsIn xs ts
 
 arguments-more : (xs ys : List Term) (ts : Terms) → ((u : Term) → has xs u ≡ true → has ys u ≡ true) → ArgumentsIn xs ts → ArgumentsIn ys ts
@@ -135,7 +135,7 @@ module _ (all : List Term) (inside : IsInside all) where
     order_all-within no_terms done there within = within
     order_all-within (terms t ts) done there within = order_all-within ts (order enters_each t done) there.1 (order-within t done there.0 within)
 
-  with_subterms-within : (fs done : List Term) → ((f : Term) → has fs f ≡ true → has all f ≡ true) → ((u : Term) → has done u ≡ true → has all u ≡ true) → (u : Term) → has (with_subterms done fs) u ≡ true → has all u ≡ true
+  pub with_subterms-within : (fs done : List Term) → ((f : Term) → has fs f ≡ true → has all f ≡ true) → ((u : Term) → has done u ≡ true → has all u ≡ true) → (u : Term) → has (with_subterms done fs) u ≡ true → has all u ≡ true
   with_subterms-within [] done there within = within
   with_subterms-within (f ∷ fs) done there within =
       with_subterms-within fs (order enters_each f done) (λ g k. there g (or_right (term_eq g f) (has fs g) k)) (order-within f done (there f (or_left (term_eq f f) (has fs f) (term_eq-refl f))) within)
@@ -160,13 +160,13 @@ module _ (q : Question) where
   abbrev goal_false : Term
   goal_false = negation q.sequent.goal
 
-  abbrev counted_parts : List Term
+  abbrev pub counted_parts : List Term
   counted_parts = subterms (formulas_of q.sequent ++ further_facts q)
 
   abbrev equations : List Term
   equations = all_equations q.shapes q.decls (subterms (formulas_of (enlarged q).sequent))
 
-  abbrev parts : List Term
+  abbrev pub parts : List Term
   parts = with_terms base_terms counted_parts
 
   abbrev all : List Term
@@ -176,7 +176,7 @@ module _ (q : Question) where
   goal-there = with_terms-has base_terms counted_parts q.sequent.goal (subterms-has (formulas_of q.sequent ++ further_facts q) q.sequent.goal
       (has-left (formulas_of q.sequent) (further_facts q) q.sequent.goal (has-right q.sequent.given (q.sequent.goal ∷ []) q.sequent.goal (or_left (term_eq q.sequent.goal q.sequent.goal) false (term_eq-refl q.sequent.goal)))))
 
-  parts-inside : IsInside parts
+  pub parts-inside : IsInside parts
   parts-inside h ts m =
       terms-parts base_terms counted_parts (term h ts) m (λ k. subst (ArgumentsIn parts) (sym (base-alone h ts k)) tt)
       (λ k. arguments-more counted_parts parts ts (with_terms-has base_terms counted_parts) (subterms-inside (formulas_of q.sequent ++ further_facts q) h ts k))

@@ -1,5 +1,4 @@
 use Rattle.std.proofs.Common.{Some, None, ◌++◌, length, take, refl, ap, ◌∙◌}
-use Rattle.spv_logic.specs.declared.conditions.TermId.{TermId}
 use Rattle.spv_search.proofs.schemas.Owning.{denied-in, never-none, own-claim}
 use Rattle.spv_search.proofs.schemas.deciding.own_condition.Goals as goal
 

@@ -2,7 +2,8 @@ use Rattle.std.proofs.Common.{◌<◌, ◌+◌, drop, List, ◌∷◌, map, leng
 use Rattle.std.proofs.lemmas.List.{drop_more}
 use Rattle.spv_logic.specs.declared.conditions.TermId.{TermId}
 use Rattle.spv_schemas.specs.Facts.{schema_fact}
-use Rattle.spv_term.specs.Arena.{AllBelow, tree}
+use Rattle.spv_term.specs.Arena.{AllBelow, tree, trees_of}
+use Rattle.spv_proof_rules.specs.Stops.{all_kept, layers_if}
 use Rattle.spv_search.proofs.schemas.Making.{Making, next-about, none-made, one-made}
 use Rattle.spv_search.proofs.schemas.enlarging.facts_of.Goals.{in-Some+in_ok-push, in_default}
 use Rattle.spv_search.proofs.schemas.enlarging.facts_of.Goals as goal
@@ -22,12 +23,14 @@ loop-instance-preserved c =
     let x = c.instance-item.result in
     let rest = drop_more found k x c.loop-instance-test.true ∙ ap (λ y. y ∷ drop (k + 1) found) (sym c.instance-item.is) in
     let said = c.in_ok-t.ensures.fact ∙ ap (λ (ts : List TermId). schema_fact c.loop-instance.terms.shapes c.loop-instance.terms.decls x.kind (map (tree c.loop-instance.terms) ts) x.field) c.as_slice-about.ensures in
+    let gained = ap (λ (ts : List TermId). all_kept c.loop-instance.terms.most (trees_of c.loop-instance.terms.nodes)
+    (layers_if (schema_fact c.loop-instance.terms.shapes c.loop-instance.terms.decls x.kind (map (tree c.loop-instance.terms) ts) x.field))) (sym c.as_slice-about.ensures) ∙ c.in_ok-t.ensures.all in
     elim c.match-branch-2.branch [
       | in-Some+in_ok-push w ↦
           subst (λ (ts : List TermId). Making a c.fact.new.terms found ts (drop (k + 1) found)) (sym (ap (λ (v : Vec TermId Global). v.items) w.made-is ∙ w.in_ok-push.ensures))
-          (one-made a c.loop-instance.terms found made _ x _ rest c.loop-instance.invariant c.fact.new.terms c.in_ok-t.ensures.grows c.in_ok-t.field-0 said w.in-Some.t w.in-Some.is
+          (one-made a c.loop-instance.terms found made _ x _ rest c.loop-instance.invariant c.fact.new.terms c.in_ok-t.ensures.grows c.in_ok-t.field-0 said gained w.in-Some.t w.in-Some.is
           (subst (λ (o : Option TermId). IfSome o (λ t. t.0 < length c.fact.new.terms.nodes)) w.in-Some.is c.in_ok-t.ensures.in_range))
       | in_default w ↦
           subst (λ (ts : List TermId). Making a c.fact.new.terms found ts (drop (k + 1) found)) (sym (ap (λ (v : Vec TermId Global). v.items) w.made-is))
-          (none-made a c.loop-instance.terms found made _ x _ rest c.loop-instance.invariant c.fact.new.terms c.in_ok-t.ensures.grows c.in_ok-t.field-0 said w.in_default.is)
+          (none-made a c.loop-instance.terms found made _ x _ rest c.loop-instance.invariant c.fact.new.terms c.in_ok-t.ensures.grows c.in_ok-t.field-0 said gained w.in_default.is)
     ]

@@ -1,9 +1,7 @@
 use Rattle.std.proofs.Common.{List, sym, ap, subst, ◌∙◌}
 use Rattle.spv_atoms.specs.declared.proofs.Step.{Step}
 use Rattle.spv_proof_rules.specs.Stand.{StepsIn}
-use Rattle.spv_models.specs.split_trees.Trees.{Tree}
 use Rattle.spv_verdicts.specs.answers.Nodes.{tree_at}
-use Rattle.spv_verdicts.specs.answers.Views.{SplitNodesIn}
 use Rattle.spv_verdicts.specs.translation.ExchangedTrees.{exchanged_tree}
 use Rattle.spv_verdicts.specs.declared.answers.verdicts.Limit.{Limit}
 use Rattle.spv_search.specs.schemas.Telling.{IsLimitOf}
@@ -21,5 +19,5 @@ returns-in_ok-exchanged_tree-in-Splits c =
 
 pub returns-in-Terms : goal.returns-in-Terms
 returns-in-Terms c =
-    told-terms c.args.terms.now c.args.condition.now c.args.limits.now c.law_counted_terms.ensures.one_more c.in-Terms.field-0
+    told-terms c.args.terms.now c.args.condition.now c.args.limits.now c.requires.enough c.in-Terms.field-0
     (subst (λ (x : Limit). IsLimitOf c.args.terms.now c.args.condition.now c.args.limits.now x) c.in-Terms.is c.requires.reached)

@@ -1,11 +1,8 @@
-use Rattle.std.proofs.Common.{List, map, length, sym, ap, ◌∙◌, subst}
-use Rattle.spv_atoms.specs.declared.proofs.Step.{Step}
-use Rattle.spv_logic.specs.declared.conditions.TermId.{TermId}
+use Rattle.std.proofs.Common.{map, length, sym, ap, ◌∙◌, subst}
 use Rattle.spv_schemas.specs.Instances.{schemas}
 use Rattle.spv_term.specs.Arena.{tree}
 use Rattle.spv_proof_rules.specs.Stand.{StepsIn}
 use Rattle.spv_verdicts.specs.translation.Replacements.{replacements}
-use Rattle.spv_proof.specs.declared.schema_facts.listing.Instance.{Instance}
 use Rattle.spv_search.specs.schemas.Telling.{schema_step}
 use Rattle.spv_search.proofs.schemas.Stating.{steps-exchange, steps-in}
 use Rattle.spv_search.proofs.schemas.telling.replacements.Goals as goal
