@@ -32,46 +32,50 @@ use Rattle.spv_verdicts.specs.declared.candidate_models.trying.Tried.TheVariants
 use Rattle.spv_trail.specs.declared.backtracking.path.BranchTrail.{BranchTrail}
 use Rattle.spv_search.specs.declared.consulting.Next.{Next}
 use Rattle.spv_search.specs.Finding.{IsFoundAlways, IsNext, IsTableFor, MayBeSplitIf}
+use Rattle.spv_search.specs.schemas.Guessing.{term_of}
 use Rattle.spv_search.proofs.Tables.{table_in, flags_many}
 use Rattle.spv_search.proofs.NoRules.{unproved}
 
 -- ---- what the table of both sides lists
 
-terms_first : (a : Arena) (values : List (TermId × Fraction)) → map (λ (p : Term × Fraction). p.0) (pairs_in a values) ≡ map (λ (p : TermId × Fraction). tree a p.0) values
+pub terms_first : (a : Arena) (values : List (TermId × Fraction)) → map (λ (p : Term × Fraction). p.0) (pairs_in a values) ≡ map (term_of a) values
 terms_first a [] = refl
 terms_first a (p ∷ values) = ap (λ ts. tree a p.0 ∷ ts) (terms_first a values)
 
-abbrev term_of : Arena → TermId × Fraction → Term
-term_of a p = tree a p.0
-
-pushed : (a : Arena) (b : Bool) (values : List (TermId × Fraction)) (t : TermId) (x : Fraction) → map (term_of a) (with_value_if b values t x) ≡ map (term_of a) values ++ only_if b (tree a t)
+pub pushed : (a : Arena) (b : Bool) (values : List (TermId × Fraction)) (t : TermId) (x : Fraction) → map (term_of a) (with_value_if b values t x) ≡ map (term_of a) values ++ only_if b (tree a t)
 pushed a true values t x = map-append (term_of a) values ((t, x) ∷ [])
 pushed a false values t x = sym (append-nil (map (term_of a) values))
 
-none_first : (ids : List TermId) → take 0 ids ≡ []
+pub none_first : (ids : List TermId) → take 0 ids ≡ []
 none_first [] = refl
 none_first (t ∷ ids) = refl
 
-all_first : (ids : List TermId) → take (length ids) ids ≡ ids
+pub all_first : (ids : List TermId) → take (length ids) ids ≡ ids
 all_first [] = refl
 all_first (t ∷ ids) = ap (λ ts. t ∷ ts) (all_first ids)
 
-module _ (a : Arena) (b : Both) (ids : List TermId) (flags : List Bool) (flags_are : flags ≡ map (λ t. is_listed (tree a t)) ids) (places : List ℕ) where
-  flag_is : (n : ℕ) → n < length ids → flag_at flags n ≡ is_listed (tree a (id_at ids n))
-  flag_is n within = ap (λ fs. flag_at fs n) flags_are ∙ get_or-map (λ t. is_listed (tree a t)) ids n (record { 0 = 0 }) false within
+module _ (a : Arena) (ids : List TermId) where
+  pub flag_is : (flags : List Bool) → flags ≡ map (λ t. is_listed (tree a t)) ids → (n : ℕ) → n < length ids → flag_at flags n ≡ is_listed (tree a (id_at ids n))
+  flag_is flags flags_are n within = ap (λ fs. flag_at fs n) flags_are ∙ get_or-map (λ t. is_listed (tree a t)) ids n (record { 0 = 0 }) false within
 
+  -- one more of the terms, if a table lists it
+  pub passing_next : (n : ℕ) → n < length ids → passing is_listed (map (tree a) (take n ids)) ++ only_if (is_listed (tree a (id_at ids n))) (tree a (id_at ids n)) ≡ passing is_listed (map (tree a) (take (suc n) ids))
+  passing_next n within =
+      ap (λ ts. passing is_listed (map (tree a) (take n ids)) ++ ts) (sym (append-nil (only_if (is_listed (tree a (id_at ids n))) (tree a (id_at ids n)))))
+      ∙ (sym (passing-append is_listed (map (tree a) (take n ids)) (tree a (id_at ids n) ∷ []))
+      ∙ ap (passing is_listed) (sym (map-append (tree a) (take n ids) (id_at ids n ∷ [])) ∙ ap (map (tree a)) (sym one_more)))
+    where
+      one_more : take (suc n) ids ≡ take n ids ++ id_at ids n ∷ []
+      one_more = let next : suc n ≡ n + 1 = omega arith in ap (λ (k : ℕ). take k ids) next ∙ take_more ids n (record { 0 = 0 }) (omega (arith, within))
+
+module _ (a : Arena) (b : Both) (ids : List TermId) (flags : List Bool) (flags_are : flags ≡ map (λ t. is_listed (tree a t)) ids) (places : List ℕ) where
   lists_to : (n : ℕ) → n ≤ length ids → map (term_of a) (listed_to a b ids flags places n) ≡ passing is_listed (map (tree a) (take n ids))
   lists_to zero within = ap (λ (ts : List TermId). passing is_listed (map (tree a) ts)) (sym (none_first ids))
   lists_to (suc n) within =
       pushed a (flag_at flags n) (listed_to a b ids flags places n) (id_at ids n) (number_of a b (id_at ids n) (place_at places n))
       ∙ (ap (λ ts. ts ++ only_if (flag_at flags n) (tree a (id_at ids n))) (lists_to n (omega (arith, within)))
-      ∙ (ap (λ (d : Bool). passing is_listed (map (tree a) (take n ids)) ++ only_if d (tree a (id_at ids n))) (flag_is n (omega (arith, within)))
-      ∙ (ap (λ ts. passing is_listed (map (tree a) (take n ids)) ++ ts) (sym (append-nil (only_if (is_listed (tree a (id_at ids n))) (tree a (id_at ids n)))))
-      ∙ (sym (passing-append is_listed (map (tree a) (take n ids)) (tree a (id_at ids n) ∷ []))
-      ∙ ap (passing is_listed) (sym (map-append (tree a) (take n ids) (id_at ids n ∷ [])) ∙ ap (map (tree a)) (sym one_more))))))
-    where
-      one_more : take (suc n) ids ≡ take n ids ++ id_at ids n ∷ []
-      one_more = let next : suc n ≡ n + 1 = omega arith in ap (λ (k : ℕ). take k ids) next ∙ take_more ids n (record { 0 = 0 }) (omega (arith, within))
+      ∙ (ap (λ (d : Bool). passing is_listed (map (tree a) (take n ids)) ++ only_if d (tree a (id_at ids n))) (flag_is a ids flags flags_are n (omega (arith, within)))
+      ∙ passing_next a ids n (omega (arith, within))))
 
 pub is_table_for : (a : Arena) (c : Condition) (b : Both) (ids : List TermId) (flags : List Bool) (table : Table) → AreListed a c ids flags → IsFullTable a b ids flags table.values → IsTableFor a c table
 is_table_for a c b ids flags table listed full = record {

@@ -33,7 +33,7 @@ pairs_push : (a : Arena) (values : List (TermId × Fraction)) (t : TermId) (x : 
 pairs_push a [] t x h k = (k, tt)
 pairs_push a (p ∷ values) t x h k = (h.0, pairs_push a values t x h.1 k)
 
-pairs_if : (a : Arena) (b : Bool) (values : List (TermId × Fraction)) (t : TermId) (x : Fraction) → PairsIn a values → t.0 < length a.nodes → PairsIn a (with_value_if b values t x)
+pub pairs_if : (a : Arena) (b : Bool) (values : List (TermId × Fraction)) (t : TermId) (x : Fraction) → PairsIn a values → t.0 < length a.nodes → PairsIn a (with_value_if b values t x)
 pairs_if a true values t x h k = pairs_push a values t x h k
 pairs_if a false values t x h k = h
 

@@ -1,6 +1,7 @@
 pub mod Counting
 pub mod Formulas
 pub mod Found
+pub mod Guessed
 pub mod Making
 pub mod Owning
 pub mod Refuting

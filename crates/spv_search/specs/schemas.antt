@@ -1,2 +1,3 @@
 pub mod Enlarging
+pub mod Guessing
 pub mod Telling

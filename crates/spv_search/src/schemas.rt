@@ -3,6 +3,10 @@
 
 mod deciding;
 mod enlarging;
+mod guessing;
+mod numbers;
 mod telling;
+mod trying;
+mod weighing;
 
-pub use deciding::decide_with_facts;
+pub use deciding::{decide_from, decide_with_facts};

@@ -1,11 +1,11 @@
 -- What was found of what claims that all is refuted with a condition, and what is decided of that one.
-use Rattle.std.proofs.Common.{◌≡◌, ℕ, List, [], IfOk, Result, Ok, Err, sym, ap, ◌∙◌, subst}
+use Rattle.std.proofs.Common.{◌≡◌, ℕ, ◌<◌, List, [], length, IfOk, Result, Ok, Err, refl, sym, ap, ◌∙◌, subst}
 use Rattle.std.specs.declared.alloc.AllocError.{AllocError}
 use Rattle.spv_logic.specs.Conditions.{Sequent}
 use Rattle.spv_logic.specs.declared.operators.Head.TheVariants.{False}
 use Rattle.spv_logic.specs.Terms.{term, no_terms}
 use Rattle.spv_term.specs.declared.nodes.Condition.{Condition}
-use Rattle.spv_term.specs.Arena.{Arena, sequent, tree}
+use Rattle.spv_term.specs.Arena.{AllBelow, Arena, sequent, tree}
 use Rattle.spv_proof_rules.specs.Effects.{Question}
 use Rattle.spv_proof_rules.specs.Stand.{question}
 use Rattle.spv_search_terms.specs.condition_copy.Copies.{IsSameClaim, StandsFor}
@@ -13,12 +13,15 @@ use Rattle.spv_verdicts.specs.Schemas.{enlarged, HasTooManyCounted, IsReachedWit
 use Rattle.spv_verdicts.specs.Verdicts as verdicts
 use Rattle.spv_verdicts.specs.Verdicts.{Limits, Limit, Splits, TooManyInstances, WideForm, WidePivot, WideSum, WideEvaluation, Pivots, TooManyTerms, Proved, Unproved, GaveUp, NotAccepted, IsRight}
 use Rattle.spv_verdicts.specs.declared.answers.verdicts.Decided.{Decided}
+use Rattle.spv_verdicts.specs.declared.answers.verdicts.Unproved.{Unproved}
 use Rattle.spv_verdicts.specs.declared.answers.verdicts.Verdict.{Verdict}
 use Rattle.spv_verdicts.specs.declared.answers.verdicts.Round.{Round}
 use Rattle.spv_verdicts.specs.declared.answers.verdicts.Limit.TheVariants as limit
 use Rattle.spv_verdicts.specs.declared.answers.verdicts.Verdict.TheVariants as verdict
 use Rattle.spv_verdicts.specs.answers.Views.{IsDecided, IsDecidedWith, RoundsIn, rounds_in, verdict_in}
+use Rattle.spv_search.specs.Finding.{IsFound}
 use Rattle.spv_search.specs.schemas.Enlarging.{IsEnlarged, IsEnough}
+use Rattle.spv_search.specs.schemas.Guessing.{IsUnprovedBy}
 use Rattle.spv_search.specs.schemas.Telling.{IsFoundOf, IsToldWith}
 use Rattle.spv_search.proofs.schemas.Counting.{too-many-there}
 
@@ -100,3 +103,19 @@ gave-up-terms a c k d same same_shapes same_decls many rounds none limits = reco
 pub decided-any : (a : Arena) (c : Condition) (limits : Limits) (r : Result Decided AllocError) → IfOk r (λ d. (m : Limits) → IsDecidedWith a c m d) → IfOk r (IsDecidedWith a c limits)
 decided-any a c limits (Ok d) h = h limits
 decided-any a c limits (Err e) h = tt
+
+-- a table that falsifies all that is refuted: the search's own copy is that of the condition with what is refuted
+module _ (e : Arena) (d : Condition) (given_in : AllBelow (length e.nodes) d.given) (goal_in : d.goal.0 < length e.nodes) (u : Unproved) (found : IsUnprovedBy e d u) where
+  abbrev pub at_once : Decided
+  at_once = record { terms = e; condition = d; verdict = verdict.Unproved u }
+
+  pub decided-at-once : (most : Limits) → IsDecided e d most at_once
+  decided-at-once most =
+      let is : IsFound e d most (verdict.Unproved u) = found most in
+      record {
+        claim = record { given_in = given_in; goal_in = goal_in; claim = refl; origin = refl };
+        shapes = refl;
+        decls = refl;
+        terms_in = is.terms_in;
+        right = is.right;
+      }

@@ -1,6 +1,6 @@
 // Deciding a condition with facts of schemas at hand.
 
-ghost use Rattle.std.specs.Prelude.{◌≡◌, ◌<◌, length, IfOk};
+ghost use Rattle.std.specs.Prelude.{◌≡◌, ◌<◌, length, IfOk, IfSome};
 ghost use Rattle.spv_term.specs.Arena.{AllBelow, sequent};
 ghost use Rattle.spv_proof_rules.specs.Stand.{question};
 ghost use Rattle.spv_models.specs.leaf_models.Laws.{AreFormulas};
@@ -9,15 +9,20 @@ ghost use Rattle.spv_search_terms.specs.condition_copy.Copies.{IsSameClaim};
 ghost use Rattle.spv_verdicts.specs.answers.Views.{IsDecidedWith};
 ghost use Rattle.spv_verdicts.specs.Schemas.{HasTooManyCounted, enlarged};
 ghost use Rattle.spv_verdicts.specs.Verdicts.{Limits};
+ghost use Rattle.spv_search.specs.schemas.Enlarging.{IsEnlarged, IsEnough};
+ghost use Rattle.spv_search.specs.schemas.Guessing.{IsUnprovedBy};
 
 use crate::deciding::decide_near;
-use crate::schemas::enlarging::enlarge;
+use crate::schemas::enlarging::{Enlarged, enlarge};
+use crate::schemas::numbers::carried;
 use crate::schemas::telling::of_condition;
+use crate::schemas::trying::shown_near;
 use spv_logic::list::List;
 use spv_proof_steps::candidates::negated;
 use spv_search_terms::condition_copy::copy_condition;
+use spv_table::Table;
 use spv_term::{Condition, Terms};
-use spv_verdicts::answers::{Decided, Limit, Limits, Verdict};
+use spv_verdicts::answers::{Decided, Limit, Limits, Unproved, Verdict};
 use std::alloc::{AllocError, Global};
 
 // The condition of which another one, of another arena, claims that all is refuted: there its hypotheses come first, and then that its
@@ -103,4 +108,89 @@ pub fn decide_with_facts(
         condition: told,
         verdict,
     })
+}
+
+// What a table shows of all that is refuted with a condition, told of the condition.
+fn shown(
+    alloc: Global,
+    terms: &Terms,
+    condition: &Condition,
+    limits: &Limits,
+    enlarged: Enlarged,
+    found: Unproved,
+) -> Result<Decided, AllocError>
+    requires enlarged { IsEnlarged terms.now condition.now enlarged.terms enlarged.condition }
+    requires enough { IsEnough (question terms.now condition.now) enlarged.most }
+    requires found { IsUnprovedBy enlarged.terms enlarged.condition found }
+    ensures { IfOk result (IsDecidedWith terms.now condition.now limits.now) }
+{
+    let searched = limits.with_terms(enlarged.most);
+    let told = own_condition(
+        alloc,
+        terms,
+        condition,
+        &enlarged.terms,
+        &enlarged.condition,
+    )?;
+    let verdict = of_condition(
+        alloc,
+        &enlarged.terms,
+        &told,
+        enlarged.condition.goal,
+        &searched,
+        Verdict::Unproved(found),
+    )?;
+    Ok(Decided {
+        terms: enlarged.terms,
+        condition: told,
+        verdict,
+    })
+}
+
+// What is decided of a condition by a table near to one of before, if one falsifies it.
+fn decide_near_table(
+    alloc: Global,
+    terms: &Terms,
+    condition: &Condition,
+    limits: &Limits,
+    table: &Table,
+) -> Result<Option<Decided>, AllocError>
+    requires given { AllBelow (length terms.now.nodes) condition.now.given }
+    requires goal { condition.now.goal.0 < length terms.now.nodes }
+    requires formulas { AreFormulas terms.now.shapes terms.now.decls (formulas_of (question terms.now condition.now).sequent) }
+    ensures { IfOk result (λ o. IfSome o (IsDecidedWith terms.now condition.now limits.now)) }
+{
+    let Some(enlarged) = enlarge(alloc, terms, condition)? else {
+        return Ok(None);
+    };
+    let before = carried(alloc, terms, condition, table)?;
+    let found = shown_near(alloc, &enlarged, before)?;
+    match found {
+        Some(found) => {
+            let decided = shown(alloc, terms, condition, limits, enlarged, found)?;
+            Ok(Some(decided))
+        }
+        None => Ok(None),
+    }
+}
+
+/// What `decide_with_facts` decides of a condition, where a table is at hand in which most of its hypotheses may be true: before a search begins, tables
+/// near to it are tried, and one that falsifies the condition and all facts of schemas is the answer. Any table may be given.
+pub fn decide_from(
+    alloc: Global,
+    terms: &Terms,
+    condition: &Condition,
+    limits: &Limits,
+    table: &Table,
+) -> Result<Decided, AllocError>
+    requires given { AllBelow (length terms.now.nodes) condition.now.given }
+    requires goal { condition.now.goal.0 < length terms.now.nodes }
+    requires formulas { AreFormulas terms.now.shapes terms.now.decls (formulas_of (question terms.now condition.now).sequent) }
+    ensures decided { IfOk result (IsDecidedWith terms.now condition.now limits.now) }
+{
+    let near = decide_near_table(alloc, terms, condition, limits, table)?;
+    match near {
+        Some(decided) => Ok(decided),
+        None => decide_with_facts(alloc, terms, condition, limits),
+    }
 }

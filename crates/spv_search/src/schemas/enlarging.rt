@@ -8,6 +8,7 @@ ghost use Rattle.spv_proof_rules.specs.Stand.{question};
 ghost use Rattle.spv_proof.specs.schema_facts.Instances.{AllIn, instance_in};
 ghost use Rattle.spv_models.specs.leaf_models.Laws.{AreFormulas};
 ghost use Rattle.spv_models.specs.leaf_models.Tables.{formulas_of};
+ghost use Rattle.spv_search_terms.specs.subterms.Walk.{AreBehind};
 ghost use Rattle.spv_verdicts.specs.Schemas.{HasTooManyCounted, further_facts, used};
 ghost use Rattle.spv_search.specs.schemas.Enlarging.{GainsParts, IsEnlarged, IsEnough};
 
@@ -45,6 +46,7 @@ pub(crate) fn used_terms(
     requires goal { condition.now.goal.0 < length terms.now.nodes }
     ensures used { IfOk result (λ ids. map (tree terms.now) ids ≡ used (question terms.now condition.now)) }
     ensures in_range { IfOk result (AllBelow (length terms.now.nodes)) }
+    ensures behind { IfOk result (AreBehind terms.now) }
 {
     let mut roots = Vec::new(alloc);
     roots.extend_from_slice(condition.given.as_slice())?;

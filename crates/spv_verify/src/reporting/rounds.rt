@@ -6,6 +6,7 @@ ghost use Rattle.spv_proof_rules.specs.Stand.{question};
 ghost use Rattle.spv_models.specs.leaf_models.Laws.{AreFormulas};
 ghost use Rattle.spv_models.specs.leaf_models.Tables.{formulas_of};
 ghost use Rattle.spv_rules.specs.RuleSets.{rules_in};
+ghost use Rattle.spv_verdicts.specs.answers.Views.{IsDecidedWith};
 ghost use Rattle.spv_rounds.specs.Right.{IsDecidedByRounds, IsDecidedUnder};
 ghost use Rattle.spv_rounds.specs.knowing.Known.{IsKnown};
 ghost use Rattle.spv_rounds.specs.judging.Judged.{Judged};
@@ -13,10 +14,23 @@ ghost use Rattle.spv_rounds.specs.judging.Judged.{Judged};
 use spv_rounds::judging::turn_by;
 use spv_rounds::knowing::{Known, begin};
 use spv_rules::Rules;
-use spv_search::schemas::decide_with_facts;
+use spv_search::schemas::{decide_from, decide_with_facts};
 use spv_term::{Condition, Terms};
 use spv_verdicts::answers::{Decided, Limits};
 use std::alloc::{AllocError, Global};
+
+// What is decided of what is known: first by a table near to that of the last round, in which all was true that was known before it.
+fn decide_known(alloc: Global, known: &Known, limits: &Limits) -> Result<Decided, AllocError>
+    requires given { AllBelow (length known.now.terms.nodes) known.now.claim.given }
+    requires goal { known.now.claim.goal.0 < length known.now.terms.nodes }
+    requires formulas { AreFormulas known.now.terms.shapes known.now.terms.decls (formulas_of (question known.now.terms known.now.claim).sequent) }
+    ensures { IfOk result (IsDecidedWith known.now.terms known.now.claim limits.now) }
+{
+    match known.rounds.as_slice().last() {
+        Some(round) => decide_from(alloc, &known.terms, &known.claim, limits, &round.table),
+        None => decide_with_facts(alloc, &known.terms, &known.claim, limits),
+    }
+}
 
 // One search, and what it makes: a verdict, or a round more.
 fn turn(
@@ -32,7 +46,7 @@ fn turn(
     requires decls { rules.now.arena.decls ≡ terms.now.decls }
     ensures { IfOk result (λ o. Judged (rules_in rules.now) terms.now condition.now limits.now known.old o known.new) }
 {
-    let decided = decide_with_facts(alloc, &known.terms, &known.claim, limits)?;
+    let decided = decide_known(alloc, known, limits)?;
     turn_by(alloc, rules, terms, condition, limits, known, decided)
 }
 
