@@ -3,9 +3,10 @@ use Rattle.std.proofs.Common.{◌≡◌, ℕ, zero, suc, ◌+◌, ◌<◌, ◌^�
 use Rattle.std.specs.Prelude.{unsigned_abs}
 use Rattle.std.specs.List.{list_any, position}
 use Rattle.std.specs.Option.{option_map}
-use Rattle.std.proofs.lemmas.Bool.{cases_lt}
+use Rattle.std.proofs.lemmas.Bool.{cases_lt, eqb-true}
 use Rattle.std.proofs.lemmas.Bool.Decides.{nat_tests}
 use Rattle.std.proofs.lemmas.List.{length_push, take-map, take_all, drop_more}
+use Rattle.std.proofs.lemmas.List.Quantifiers.{position-Some}
 use Rattle.std.proofs.lemmas.Option.{slice_get-get_or, slice_get_within, same_Some, slice_get-map}
 use Rattle.spv_whole.specs.Fraction.{Fraction}
 use Rattle.spv_whole.proofs.Units.{whole-IsLowest}
@@ -17,11 +18,11 @@ use Rattle.spv_term.specs.Arena.{Arena, IsArena, AllBelow, tree, trees}
 use Rattle.spv_term.proofs.ArenaLemmas.{tree-node, args_in_range}
 use Rattle.spv_term.proofs.TreeLemmas.{AllBelow-at}
 use Rattle.spv_term.proofs.ListLemmas.{slice_get_push, slice_get-append_left}
-use Rattle.spv_atoms.specs.Order.{order, enters_in, same_id, has_meaning, has_meaning_head, is_sum_head}
+use Rattle.spv_atoms.specs.Order.{order, order_all, enters_in, same_id, has_meaning, has_meaning_head, is_sum_head}
 use Rattle.spv_atoms.specs.declared.walk.Through.TheVariants.{Meanings}
 use Rattle.spv_atoms.specs.Found.{IsReady, AreReady}
 use Rattle.spv_atoms.proofs.Members.{AllIn}
-use Rattle.spv_atoms.proofs.Layers.{listed, arguments, Layered, order_layered, order_has}
+use Rattle.spv_atoms.proofs.Layers.{listed, arguments, Layered, order_layered, order_all_layered, order_has}
 use Rattle.spv_atoms.proofs.Walks.{has-trees, term_eq-ids}
 use Rattle.spv_atoms.proofs.Places.{place_of}
 use Rattle.spv_table.specs.declared.kept.Kept.{Kept}
@@ -62,6 +63,12 @@ module _ (a : Arena) (ok : IsArena a) (t : TermId) (pairs : List (TermId × Frac
 
 pub looked_up : (all : List Kept) (k : ℕ) (kept : Kept) → k < length all → kept ≡ get_or all k kept → slice_get all k ≡ Some kept
 looked_up all k kept h e = slice_get-get_or all k kept h ∙ ap (λ (f : Kept). Some f) (sym e)
+
+-- the place of a term that was found
+pub placed : (t : TermId) (ids : List TermId) (o : Option ℕ) (k : ℕ) → o ≡ position (same_id t) ids → o ≡ Some k → slice_get ids k ≡ Some t
+placed t ids o k at e =
+    let facts = position-Some (same_id t) ids k t (sym at ∙ e) in
+    slice_get-get_or ids k t facts.0 ∙ ap (λ (u : TermId). Some u) (sym (ap (λ n. record { 0 = n }) (eqb-true t.0 (get_or ids k t).0 facts.1)))
 
 pub beside : (t : TermId) (ids : List TermId) (count : ℕ) (o : Option ℕ) → IsReady ids count t → o ≡ position (same_id t) ids → (all : List Kept) (k : ℕ) (kept : Kept) → o ≡ Some k → slice_get all k ≡ Some kept → IsBeside ids all t kept
 beside t ids count o ready at all k kept e f = record { place = k; id_there = place_of t ids count o ready at k e; kept_there = f }
@@ -120,6 +127,10 @@ module _ (a : Arena) (ok : IsArena a) where
     order_ready t_in count e =
         ap (λ xs. list_any (same_id t) xs) (take_all count ids (omega (arith, e)))
         ∙ (has-trees a ok t ids t_in ids_in ∙ (ap (λ xs. list_any (term_eq (tree a t)) xs) ordered ∙ order_has (enters_in a Meanings) (tree a t)))
+
+  -- the same for several terms, one after the other
+  pub order_all_behind : (ids roots : List TermId) → AllBelow (length a.nodes) ids → map (tree a) ids ≡ order_all (enters_in a Meanings) (trees a roots) [] → AreBehindArguments a ids
+  order_all_behind ids roots ids_in ordered = layered_behind ids ids_in (subst (Layered (enters_in a Meanings)) (sym ordered) (order_all_layered (enters_in a Meanings) (trees a roots)))
 
   -- ---- one term
 

@@ -168,8 +168,8 @@ fn kept_at(
     }
 }
 
-// What is kept of terms in order, each behind its arguments.
-fn all_kept(
+/// What is kept of terms in order, each behind its arguments.
+pub(crate) fn all_kept(
     alloc: Global,
     terms: &Terms,
     values: &[(TermId, Frac)],

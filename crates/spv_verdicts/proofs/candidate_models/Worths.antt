@@ -14,7 +14,7 @@ use Rattle.spv_term.specs.declared.nodes.Node.{Node}
 use Rattle.spv_term.specs.Arena.{Arena, AllBelow, IsArena, tree, trees, trees_in, trees_of}
 use Rattle.spv_term.proofs.ArenaLemmas.{tree-node, args_in_range}
 use Rattle.spv_term.proofs.ListLemmas.{slice_get-append_left, slice_get_push}
-use Rattle.spv_term.proofs.TreeLemmas.{AllBelow-at}
+use Rattle.spv_term.proofs.TreeLemmas.{AllBelow-append, AllBelow-at}
 use Rattle.spv_table.specs.Kept.{PairsIn}
 use Rattle.spv_table.specs.Values.{value}
 use Rattle.spv_search_terms.specs.head_index.Chains.{head_of}
@@ -73,6 +73,10 @@ key_is listed a ok t n at ids e xs h = ap (map (value listed)) (arguments-node a
 
 pub arguments_in : (a : Arena) → IsArena a → (t : TermId) (n : Node) → slice_get a.nodes t.0 ≡ Some n → (ids : List TermId) → ids ≡ n.args → AllBelow (length a.nodes) ids
 arguments_in a ok t n at ids e = subst (AllBelow (length a.nodes)) (sym e) (args_in_range a ok t n at)
+
+-- the arguments of one term more
+pub more_in : (n : ℕ) (old new args : List TermId) → new ≡ old ++ args → AllBelow n old → AllBelow n args → AllBelow n new
+more_in n old new args e h k = subst (AllBelow n) (sym e) (AllBelow-append n old args h k)
 
 -- ---- entries one by one
 

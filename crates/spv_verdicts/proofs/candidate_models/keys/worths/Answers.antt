@@ -1,10 +1,7 @@
-use Rattle.std.proofs.Common.{length, arith}
+use Rattle.std.proofs.Common.{arith}
 use Rattle.spv_table.specs.Kept.{listed_over}
-use Rattle.spv_verdicts.proofs.candidate_models.Worths.{all_worth, item_in, one_worth}
+use Rattle.spv_verdicts.proofs.candidate_models.Worths.{all_worth, one_worth}
 use Rattle.spv_verdicts.proofs.candidate_models.keys.worths.Goals as goal
-
-pub push_worth-requires-clause-t : goal.push_worth-requires-clause-t
-push_worth-requires-clause-t c = item_in (length c.args.terms.now.nodes) c.args.ids.now c.loop-t.t-index (record { 0 = 0 }) c.requires.ids (omega (arith, c.loop-t-test.true))
 
 pub loop-t-preserved : goal.loop-t-preserved
 loop-t-preserved c =
