@@ -1,2 +1,2 @@
+pub mod flat
 pub mod reasons_tests
-pub mod proof_tests
