@@ -4,4 +4,5 @@ mod arenas;
 mod copying;
 mod filling;
 
+pub use copying::copy_all;
 pub use filling::{Base, Copied, copy_condition};

@@ -72,8 +72,9 @@ fn push(images: &mut Vec<TermId>, one: TermId) -> Result<(), AllocError>
     Ok(())
 }
 
-/// Makes the image of each of these terms, where before each its arguments stand.
-pub(crate) fn copy_all(
+/// Makes the image of each of these terms of one arena in another one over the same types and symbols, where before each its arguments stand: the images,
+/// one beside each. `Size` comes only where the other arena has no room for one of them.
+pub fn copy_all(
     alloc: Global,
     terms: &Terms,
     order: &IdSet,
