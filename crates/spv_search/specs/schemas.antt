@@ -1,3 +1,6 @@
+pub mod Asking
 pub mod Enlarging
 pub mod Guessing
+pub mod Stages
 pub mod Telling
+pub mod Waiting

@@ -29,11 +29,11 @@ use Rattle.spv_search.specs.schemas.Enlarging.{IsEnlarged}
 -- ---- lists of formulas
 
 module _ (shapes : List Shape) (decls : List Decl) where
-  abbrev AllTruths : List Term → Type 0
+  abbrev pub AllTruths : List Term → Type 0
   AllTruths [] = Unit {0}
   AllTruths (f ∷ fs) = (is_truth shapes decls f ≡ true) × AllTruths fs
 
-  each-truth : (fs : List Term) → AllTruths fs → AreFormulas shapes decls fs
+  pub each-truth : (fs : List Term) → AllTruths fs → AreFormulas shapes decls fs
   each-truth [] all f h = absurd (false≢true h)
   each-truth (g ∷ fs) all f h = by (term_eq f g) refl h (λ k. each-truth fs all.1 f k)
     where
@@ -45,7 +45,7 @@ module _ (shapes : List Shape) (decls : List Decl) where
   truths-each [] are = tt
   truths-each (g ∷ fs) are = (are g (ap (λ b. b || is_among fs g) (term_eq-refl g)), truths-each fs (λ f h. are f (or_right (term_eq f g) (is_among fs f) h)))
 
-  both : (fs gs : List Term) → AllTruths fs → AllTruths gs → AllTruths (fs ++ gs)
+  pub both : (fs gs : List Term) → AllTruths fs → AllTruths gs → AllTruths (fs ++ gs)
   both [] gs all more = more
   both (f ∷ fs) gs all more = (all.0, both fs gs all.1 more)
 

@@ -13,7 +13,7 @@ use Rattle.spv_verdicts.specs.Schemas.{enlarged, HasTooManyCounted, IsReachedWit
 use Rattle.spv_verdicts.specs.Verdicts as verdicts
 use Rattle.spv_verdicts.specs.Verdicts.{Limits, Limit, Splits, TooManyInstances, WideForm, WidePivot, WideSum, WideEvaluation, Pivots, TooManyTerms, Proved, Unproved, GaveUp, NotAccepted, IsRight}
 use Rattle.spv_verdicts.specs.declared.answers.verdicts.Decided.{Decided}
-use Rattle.spv_verdicts.specs.declared.answers.verdicts.Unproved.{Unproved}
+use Rattle.spv_verdicts.specs.declared.answers.verdicts.Unproved.{Unproved as Falsified}
 use Rattle.spv_verdicts.specs.declared.answers.verdicts.Verdict.{Verdict}
 use Rattle.spv_verdicts.specs.declared.answers.verdicts.Round.{Round}
 use Rattle.spv_verdicts.specs.declared.answers.verdicts.Limit.TheVariants as limit
@@ -105,7 +105,7 @@ decided-any a c limits (Ok d) h = h limits
 decided-any a c limits (Err e) h = tt
 
 -- a table that falsifies all that is refuted: the search's own copy is that of the condition with what is refuted
-module _ (e : Arena) (d : Condition) (given_in : AllBelow (length e.nodes) d.given) (goal_in : d.goal.0 < length e.nodes) (u : Unproved) (found : IsUnprovedBy e d u) where
+module _ (e : Arena) (d : Condition) (given_in : AllBelow (length e.nodes) d.given) (goal_in : d.goal.0 < length e.nodes) (u : Falsified) (found : IsUnprovedBy e d u) where
   abbrev pub at_once : Decided
   at_once = record { terms = e; condition = d; verdict = verdict.Unproved u }
 

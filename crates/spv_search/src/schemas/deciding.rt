@@ -12,9 +12,9 @@ ghost use Rattle.spv_verdicts.specs.Verdicts.{Limits};
 ghost use Rattle.spv_search.specs.schemas.Enlarging.{IsEnlarged, IsEnough};
 ghost use Rattle.spv_search.specs.schemas.Guessing.{IsUnprovedBy};
 
-use crate::deciding::decide_near;
 use crate::schemas::enlarging::{Enlarged, enlarge};
 use crate::schemas::numbers::carried;
+use crate::schemas::stages::decide_in_stages;
 use crate::schemas::telling::of_condition;
 use crate::schemas::trying::shown_near;
 use spv_logic::list::List;
@@ -94,7 +94,7 @@ pub fn decide_with_facts(
         terms: own,
         condition: claim,
         verdict,
-    } = decide_near(
+    } = decide_in_stages(
         alloc,
         &enlarged.terms,
         &enlarged.condition,

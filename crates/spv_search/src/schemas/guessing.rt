@@ -22,6 +22,16 @@ enum Mark {
     Open,
 }
 
+// Where the way of one that looks into an array, a record or a class goes on behind a change.
+enum Way {
+    // It ends at this content.
+    Here(TermId),
+    // It goes on into what was there before.
+    Before(TermId),
+    // Nothing is known of it.
+    Unknown,
+}
+
 // A term, and the number that it is to have.
 #[derive(Clone, Copy)]
 struct Aim {
@@ -183,14 +193,100 @@ impl Guess {
         None
     }
 
-    // The number of a term that a table lists.
-    fn listed(&self, terms: &Terms, ids: &[TermId], t: TermId) -> Frac {
-        if let Some(number) = self.chosen.at(t) {
+    // Where the way from a changed array, record or class to what it was before ends for one that looks into it: at what was put there.
+    fn seen(&self, terms: &Terms, look: &Node) -> Option<Frac> {
+        let Some(mut whole) = look.args.as_slice().first().copied() else {
+            return None;
+        };
+        for _ in 0..terms.len() {
+            let Some(changed) = node_of(terms, whole) else {
+                return None;
+            };
+            match self.through(look, changed) {
+                Way::Here(content) => return self.worth.at(content),
+                Way::Before(before) => whole = before,
+                Way::Unknown => return self.before(terms, look, whole),
+            }
+        }
+        None
+    }
+
+    // The way of one that looks into an array, a record or a class through its last change.
+    fn through(&self, look: &Node, changed: &Node) -> Way {
+        match (look.head, changed.head) {
+            (Head::Select, Head::Store) | (Head::Cell, Head::SetCell) => {
+                match (look.args.as_slice(), changed.args.as_slice()) {
+                    ([_, index], [before, place, content]) => {
+                        if are_same(self.worth.at(*index), self.worth.at(*place)) {
+                            Way::Here(*content)
+                        } else {
+                            Way::Before(*before)
+                        }
+                    }
+                    _ => Way::Unknown,
+                }
+            }
+            (Head::Field(field), Head::Put(place)) => match changed.args.as_slice() {
+                [before, content] => {
+                    if field == place {
+                        Way::Here(*content)
+                    } else {
+                        Way::Before(*before)
+                    }
+                }
+                _ => Way::Unknown,
+            },
+            _ => Way::Unknown,
+        }
+    }
+
+    // What was seen of one that looks as this one does into what was there before all changes, if one was weighed.
+    fn before(&self, terms: &Terms, look: &Node, whole: TermId) -> Option<Frac> {
+        for number in 0..terms.len() {
+            let t = TermId(number);
+            if let Some(known) = self.chosen.at(t) {
+                let Some(other) = node_of(terms, t) else {
+                    return None;
+                };
+                if other.head == look.head && self.looks_into(other, whole, look) {
+                    return Some(known);
+                }
+            }
+        }
+        None
+    }
+
+    // Whether one looks into this at the place at which another one looks.
+    fn looks_into(&self, one: &Node, whole: TermId, other: &Node) -> bool {
+        match (one.args.as_slice(), other.args.as_slice()) {
+            ([into, place], [_, other_place]) => {
+                into.0 == whole.0 && are_same(self.worth.at(*place), self.worth.at(*other_place))
+            }
+            ([into], [_]) => into.0 == whole.0,
+            _ => false,
+        }
+    }
+
+    // The number of a term by what it looks at, or one that it has to have as another one, or the usual one.
+    fn unknown(&self, terms: &Terms, ids: &[TermId], t: TermId) -> Frac {
+        let seen = match node_of(terms, t) {
+            Some(node) => self.seen(terms, node),
+            None => None,
+        };
+        if let Some(number) = seen {
             return number;
         }
         match self.alike(terms, ids, t) {
             Some(number) => number,
             None => usual(terms, self.above, t),
+        }
+    }
+
+    // The number of a term that a table lists.
+    fn listed(&self, terms: &Terms, ids: &[TermId], t: TermId) -> Frac {
+        match self.chosen.at(t) {
+            Some(number) => number,
+            None => self.unknown(terms, ids, t),
         }
     }
 
@@ -376,6 +472,50 @@ impl Guess {
         }
         let most = MOST_LOOKS / each;
         if most < MOST_TURNS { most } else { MOST_TURNS }
+    }
+
+    // Whether a term has the head of a node, arguments that are worth the same, and another number.
+    fn is_apart(&self, terms: &Terms, node: &Node, number: Frac, t: TermId) -> bool {
+        is_off(self.worth.at(t), number) && self.is_alike(terms, node, t)
+    }
+
+    // Puts a term and the first of others from which it is apart behind terms, if there is one.
+    fn push_apart(
+        &self,
+        terms: &Terms,
+        others: &[TermId],
+        t: TermId,
+        apart: &mut Vec<TermId>,
+    ) -> Result<(), AllocError> {
+        let Some(node) = node_of(terms, t) else {
+            return Ok(());
+        };
+        let number = self.at(t);
+        for u in others {
+            if self.is_apart(terms, node, number, *u) {
+                apart.push(t)?;
+                apart.push(*u)?;
+                return Ok(());
+            }
+        }
+        Ok(())
+    }
+
+    /// Those of these terms that are flagged, have the head of another one of them and arguments that are worth the same, and another number.
+    pub(crate) fn apart(
+        &self,
+        alloc: Global,
+        terms: &Terms,
+        ids: &[TermId],
+        flags: &[bool],
+    ) -> Result<Vec<TermId>, AllocError> {
+        let mut apart = Vec::new(alloc);
+        for place in 0..ids.len() {
+            if flags.get(place).copied().unwrap_or(false) {
+                self.push_apart(terms, &ids[..place], ids[place], &mut apart)?;
+            }
+        }
+        Ok(apart)
     }
 
     /// A guess of what these terms are worth, where before each its arguments stand, and of which those that are flagged are listed by a table: a

@@ -7,7 +7,7 @@ ghost use Rattle.spv_models.specs.leaf_models.Subterms.{is_listed};
 ghost use Rattle.spv_table.specs.Kept.{PairsIn};
 ghost use Rattle.spv_branch_theory.specs.model_construction.Numbers.{with_value_if};
 ghost use Rattle.spv_search.specs.Finding.{IsTableFor};
-ghost use Rattle.spv_search.specs.schemas.Guessing.{term_of, IsUnprovedBy};
+ghost use Rattle.spv_search.specs.schemas.Guessing.{term_of, IsTrialOf, IsUnprovedBy};
 
 use crate::schemas::enlarging::{Enlarged, used_terms};
 use crate::schemas::guessing::Guess;
@@ -109,6 +109,60 @@ fn shown_by(
         })),
         _ => Ok(None),
     }
+}
+
+/// What comes of a table near to numbers of before.
+#[derive(Drop)]
+pub(crate) enum Trial {
+    /// It shows the condition false.
+    Shown(Unproved),
+    /// These terms are of one head with others and of arguments that are worth the same, and have other numbers.
+    Apart(Vec<TermId>),
+    /// It does not.
+    NotShown,
+}
+
+// What comes of a table in which these terms are apart.
+fn tried_by(
+    alloc: Global,
+    terms: &Terms,
+    condition: &Condition,
+    table: Table,
+    apart: Vec<TermId>,
+) -> Result<Trial, AllocError>
+    requires given { AllBelow (length terms.now.nodes) condition.now.given }
+    requires goal { condition.now.goal.0 < length terms.now.nodes }
+    requires table { IsTableFor terms.now condition.now table }
+    ensures { IfOk result (IsTrialOf terms.now condition.now) }
+{
+    if !apart.is_empty() {
+        return Ok(Trial::Apart(apart));
+    }
+    match shown_by(alloc, terms, condition, table)? {
+        Some(found) => Ok(Trial::Shown(found)),
+        None => Ok(Trial::NotShown),
+    }
+}
+
+/// What comes of a table near to numbers of before, where applications of one head are looked at first.
+pub(crate) fn tried_near(
+    alloc: Global,
+    terms: &Terms,
+    condition: &Condition,
+    before: Numbers,
+) -> Result<Trial, AllocError>
+    requires given { AllBelow (length terms.now.nodes) condition.now.given }
+    requires goal { condition.now.goal.0 < length terms.now.nodes }
+    ensures { IfOk result (IsTrialOf terms.now condition.now) }
+{
+    let used = used_terms(alloc, terms, condition)?;
+    let flags = listed(alloc, terms, &used)?;
+    let ids = used.as_slice();
+    let marks = flags.as_slice();
+    let guess = Guess::new(alloc, terms, condition, before, ids, marks)?;
+    let apart = guess.apart(alloc, terms, ids, marks)?;
+    let table = table_by(alloc, terms, &guess, ids, marks)?;
+    tried_by(alloc, terms, condition, table, apart)
 }
 
 /// What a table near to numbers of before shows of a condition, if it falsifies it.
