@@ -2,9 +2,7 @@
 
 ghost use Rattle.std.specs.Prelude.{◌≡◌, ◌<◌, length, IfOk};
 
-use crate::rules::{
-    law_ends, law_equations, law_evaluations, law_multiples, law_splits,
-};
+use crate::rules::{law_ends, law_equations, law_evaluations, law_multiples, law_splits};
 use spv_atoms::{atoms, law_form, law_truth, truth};
 use spv_frac::rational::{law_number, law_products, law_signs, law_sums, law_whole};
 use spv_logic::list::List;

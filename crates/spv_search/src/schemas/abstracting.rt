@@ -113,12 +113,7 @@ fn remade(terms: &mut Terms, t: TermId, args: &[TermId]) -> Result<TermId, TermF
 }
 
 // What a term becomes, whose arguments have become others.
-fn image(
-    alloc: Global,
-    terms: &mut Terms,
-    images: &Images,
-    t: TermId,
-) -> Result<TermId, TermFault>
+fn image(alloc: Global, terms: &mut Terms, images: &Images, t: TermId) -> Result<TermId, TermFault>
     ensures grows { Extends terms.old terms.new }
 {
     if !is_there(terms, t) {

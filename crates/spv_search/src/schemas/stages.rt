@@ -17,9 +17,9 @@ ghost use Rattle.spv_search.specs.schemas.Stages.{CopyGrows, IsOutcomeOf, IsStag
 use crate::deciding::decide_near;
 use crate::schemas::abstracting::{abstracted, exchanged, fitting, is_asked, variables_for};
 use crate::schemas::choosing::{applications, are_many, numbers_and_truths, without};
+use crate::schemas::images::Images;
 use crate::schemas::numbers::Numbers;
 use crate::schemas::relevance::{all_places, near, with_these};
-use crate::schemas::images::Images;
 use crate::schemas::returning::Return;
 use crate::schemas::testing::{are_there, proof_of};
 use crate::schemas::trying::{Trial, tried_near};
@@ -231,12 +231,7 @@ fn tested(
 }
 
 // The condition is proved by the proof of what stands for it, if the checker accepts it with what its terms become.
-fn proved(
-    alloc: Global,
-    stage: Stage,
-    from: &Terms,
-    proof: &Proof,
-) -> Result<Outcome, AllocError>
+fn proved(alloc: Global, stage: Stage, from: &Terms, proof: &Proof) -> Result<Outcome, AllocError>
     requires shapes { stage.terms.shapes ≡ from.now.shapes }
     requires decls { stage.terms.decls ≡ from.now.decls }
     ensures { (a : Arena) (c : Condition) (limits : Limits) → IsOwn a c stage.terms stage.condition → IfOk result (IsOutcomeOf a c limits) }
@@ -275,12 +270,7 @@ fn numbers_of(
 }
 
 // The condition is false in a table near to that of what stands for it, if this is seen of it there.
-fn unproved(
-    alloc: Global,
-    stage: Stage,
-    from: &Terms,
-    table: &Table,
-) -> Result<Outcome, AllocError>
+fn unproved(alloc: Global, stage: Stage, from: &Terms, table: &Table) -> Result<Outcome, AllocError>
     requires shapes { stage.terms.shapes ≡ from.now.shapes }
     requires decls { stage.terms.decls ≡ from.now.decls }
     requires given { AllBelow (length stage.terms.nodes) stage.condition.given }

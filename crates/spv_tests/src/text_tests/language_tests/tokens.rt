@@ -1,7 +1,7 @@
 //! The tokens of a tree are those of its text.
 
-use crate::text_tests::language_tests::texts::{formula_of, program_of, rules_of};
 use crate::flat::Flat;
+use crate::text_tests::language_tests::texts::{formula_of, program_of, rules_of};
 use spv_logic::names::Names;
 use spv_tree::tokens::TokenKind;
 use std::alloc::Global;
