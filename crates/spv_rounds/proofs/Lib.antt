@@ -4,3 +4,9 @@ pub mod Kept
 pub mod Branching
 pub mod FewSplits
 pub mod Exactly
+pub mod RemainingTerms
+pub mod RemainingFacts
+pub mod RefutedTerms
+pub mod RefutedAtoms
+pub mod RefutedTables
+pub mod ArrayTables

@@ -4,25 +4,28 @@ use Rattle.spv_whole.specs.Fraction.{Fraction}
 use Rattle.spv_logic.specs.declared.conditions.TermId.{TermId}
 use Rattle.spv_logic.specs.declared.operators.Head.TheVariants.{False}
 use Rattle.spv_logic.specs.Terms.{Term, term, no_terms}
+use Rattle.spv_atoms.specs.Order.{passing}
 use Rattle.spv_atoms.specs.declared.proofs.Step.{Step}
 use Rattle.spv_atoms.specs.declared.proofs.Step.TheVariants as step
 use Rattle.spv_atoms.specs.declared.proofs.ProofNode.{ProofNode}
 use Rattle.spv_proof_rules.specs.Accepted.{accepts}
-use Rattle.spv_proof_rules.specs.Effects.{Question, rule_stated}
+use Rattle.spv_proof_rules.specs.Effects.{Question, is_truth, rule_stated}
 use Rattle.spv_term.specs.Arena.{Arena}
 use Rattle.spv_table.specs.Tables.{IsTable}
 use Rattle.spv_table.specs.Values.{listed_in}
-use Rattle.spv_models.specs.leaf_models.Subterms.{is_among}
+use Rattle.spv_models.specs.leaf_models.Subterms.{is_among, is_listed, subterms}
+use Rattle.spv_models.specs.leaf_models.Tables.{formulas_of, Falsifies}
 use Rattle.spv_verdicts.specs.Exact.{is_exactly_true}
-use Rattle.spv_verdicts.specs.Verdicts.{Limits, Instance, Round, Splits, Unproved}
+use Rattle.spv_verdicts.specs.Verdicts.{Limits, Instance, Round, Splits, Unproved, with_all_atoms}
 use Rattle.spv_models.specs.split_trees.Trees.{Tree}
 use Rattle.spv_models.specs.split_trees.Paths.{atoms}
-use Rattle.spv_verdicts.specs.Schemas.{IsKeptOn, IsReachedWith, IsRightWith, enlarged}
+use Rattle.spv_verdicts.specs.Schemas.{IsKeptOn, IsReachedWith, IsRightWith, enlarged, further_facts}
 use Rattle.spv_verdicts.specs.translation.ExchangedTrees.{exchanged_tree}
 use Rattle.spv_rounds.specs.Right.{IsKeptUnder, IsReachedUnder, IsRightUnder}
 use Rattle.spv_verdicts.specs.translation.Exchanged.{exchanged_nodes}
 use Rattle.spv_verdicts.specs.translation.Replacements.{replacements}
-use Rattle.spv_rounds.specs.Claims.{claim, formulas}
+use Rattle.spv_rounds.specs.Atoms.{facts_with, stated_with, atoms_with, listed_with, IsFailureIn}
+use Rattle.spv_rounds.specs.Claims.{claim, formulas, FalsifiesWith}
 use Rattle.spv_rounds.specs.Rounds.{AreRounds}
 
 -- without rules no round is made
@@ -55,14 +58,14 @@ KeptUnder = (q : Question) (fs : List Term) (falsity : TermId) (steps : List Ste
 -- ---- splits
 
 -- where facts of schemas are at hand, a search that gave up for want of splits was allowed fewer than 3 to the power of the number of atoms of
--- all that is refuted: allowed as many, it decides or meets another limit
+-- the condition and these facts: allowed as many, it decides or meets another limit
 abbrev pub SplitsAreFewWith : Type 0
-SplitsAreFewWith = (a : Arena) (q : Question) (limits : Limits) (tree : Tree) → IsReachedWith a q limits (Splits tree) → limits.splits < 3 ^ length (atoms (enlarged q))
+SplitsAreFewWith = (a : Arena) (q : Question) (limits : Limits) (tree : Tree) → IsReachedWith a q limits (Splits tree) → limits.splits < 3 ^ length (atoms_with q [])
 
--- and under rules, where these instances were added
+-- and under rules, where these instances were added, of the atoms of what they say too
 abbrev pub SplitsAreFewUnder : Type 0
 SplitsAreFewUnder = (a : Arena) (q : Question) (limits : Limits) (instances : List Instance) (tree : Tree) → IsReachedUnder a q limits instances (Splits tree)
-    → limits.splits < 3 ^ length (atoms (enlarged (claim q (formulas q instances))))
+    → limits.splits < 3 ^ length (atoms_with q (formulas q instances))
 
 -- ---- tables
 
@@ -80,3 +83,38 @@ TrueIsNotUnproved = (a : Arena) (q : Question) (limits : Limits) (branch : List 
 abbrev pub TrueIsNotUnprovedUnder : Type 0
 TrueIsNotUnprovedUnder = (a : Arena) (q : Question) (limits : Limits) (branch : List (Term × Bool)) (table : List (Term × Fraction)) (instances : List Instance) → IsTrueInEachTable q
     → IsRightUnder a q limits (Unproved branch table instances) → ⊥
+
+-- ---- atoms and tables
+
+-- the facts of schemas that are refuted together with what instances say are those about the terms that the condition and these formulas use
+abbrev pub FactsAreOfUsed : Type 0
+FactsAreOfUsed = (q : Question) (fs : List Term) → further_facts (claim q fs) ≡ facts_with q fs
+
+-- the atoms of all that is refuted where facts of schemas are at hand, as a list, are those of the condition and of the facts
+abbrev pub AtomsAreDefinedWith : Type 0
+AtomsAreDefinedWith = (q : Question) → atoms (enlarged q) ≡ atoms_with q []
+
+-- and under rules those of the condition, of what instances say and of the facts
+abbrev pub AtomsAreDefinedUnder : Type 0
+AtomsAreDefinedUnder = (q : Question) (fs : List Term) → atoms (enlarged (claim q fs)) ≡ atoms_with q fs
+
+-- so are the terms that a table has to list
+abbrev pub ListedAreDefinedWith : Type 0
+ListedAreDefinedWith = (q : Question) → passing is_listed (subterms (formulas_of (enlarged q).sequent)) ≡ listed_with q []
+
+abbrev pub ListedAreDefinedUnder : Type 0
+ListedAreDefinedUnder = (q : Question) (fs : List Term) → passing is_listed (subterms (formulas_of (enlarged (claim q fs)).sequent)) ≡ listed_with q fs
+
+-- no atom of a formula, nor of an argument of sort Bool, is missing
+abbrev pub AllAtomsAreThere : Type 0
+AllAtomsAreThere = (q : Question) (fs : List Term) (t : Term) → is_among (with_all_atoms (is_truth q) [] (stated_with q fs)) t ≡ true → is_among (atoms_with q fs) t ≡ true
+
+-- a table falsifies all that is refuted exactly where the condition fails in it: with the facts of schemas true
+abbrev pub FailuresWith : Type 0
+FailuresWith = (q : Question) (table : List (Term × Fraction))
+    → (Falsifies q.shapes q.decls (enlarged q).sequent table → IsFailureIn q [] table) × (IsFailureIn q [] table → Falsifies q.shapes q.decls (enlarged q).sequent table)
+
+-- and under rules with what instances say true
+abbrev pub FailuresUnder : Type 0
+FailuresUnder = (q : Question) (instances : List Instance) (table : List (Term × Fraction))
+    → (FalsifiesWith q instances table → IsFailureIn q (formulas q instances) table) × (IsFailureIn q (formulas q instances) table → FalsifiesWith q instances table)

@@ -2,6 +2,8 @@ pub mod Claims
 pub mod Rounds
 pub mod Right
 pub mod Laws
+pub mod Atoms
+pub mod Examples
 pub mod moving
 pub mod knowing
 pub mod telling

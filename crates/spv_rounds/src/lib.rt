@@ -9,4 +9,7 @@ mod laws;
 pub mod moving;
 pub mod telling;
 
-pub use laws::{law_kept, law_no_rules, law_proved, law_splits, law_true_in_each_table};
+pub use laws::{
+    law_array_examples, law_atoms, law_kept, law_no_rules, law_proved, law_splits, law_tables,
+    law_true_in_each_table,
+};
