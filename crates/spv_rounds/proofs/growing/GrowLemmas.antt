@@ -1,6 +1,6 @@
 -- What is known grows by a round.
-use Rattle.std.proofs.Common.{◌≡◌, ℕ, suc, ◌+◌, ◌<◌, ◌≤◌, Bool, true, List, [], ◌∷◌, ◌++◌, map, length, Option, Some, None, Ok, refl, sym, ap, ◌∙◌, subst, arith}
-use Rattle.std.specs.List.{list_all, cons_option, filter_map, flat_map}
+use Rattle.std.proofs.Common.{◌≡◌, suc, ◌+◌, ◌<◌, ◌≤◌, true, List, [], ◌∷◌, ◌++◌, map, length, Option, Some, None, refl, sym, ap, ◌∙◌, subst, arith}
+use Rattle.std.specs.List.{list_all, cons_option, filter_map}
 use Rattle.std.proofs.lemmas.List.{append_assoc, append-nil, map-append, map_push, length-append, length-map}
 use Rattle.std.proofs.lemmas.List.Elements.{filter_map-append}
 use Rattle.spv_whole.specs.Fraction.{Fraction}
@@ -13,7 +13,7 @@ use Rattle.spv_logic.specs.Formulas.{negation}
 use Rattle.spv_logic.specs.Terms.{Term, term, no_terms}
 use Rattle.spv_logic.proofs.list.Tests.{left_true, right_true}
 use Rattle.spv_term.specs.declared.nodes.Condition.{Condition}
-use Rattle.spv_term.specs.Arena.{Arena, AllBelow, Extends, tree, sequent}
+use Rattle.spv_term.specs.Arena.{Arena, AllBelow, Extends, tree}
 use Rattle.spv_term.proofs.TreeLemmas.{AllBelow-append}
 use Rattle.spv_term.proofs.ArenaLemmas.{AllBelow-Extends, map_tree-Extends, tree-Extends, length-Extends, KeepsOld-Extends}
 use Rattle.spv_atoms.specs.Atoms.{is_truth}
@@ -30,7 +30,7 @@ use Rattle.spv_verdicts.specs.declared.answers.verdicts.Round.{Round}
 use Rattle.spv_verdicts.specs.answers.Views.{InstancesIn, RoundsIn, instance_in, instances_in, pairs_in, round_in, rounds_in}
 use Rattle.spv_rounds.specs.Claims.{formula_of, formulas, AllSay, claim}
 use Rattle.spv_rounds.specs.Rounds.{IsRound, AreRounds, members_of}
-use Rattle.spv_rounds.specs.moving.Moves.{AllMoved, PairsMoved, InstanceMoved, InstancesMoved, RoundsMoved}
+use Rattle.spv_rounds.specs.moving.Moves.{PairsMoved, InstancesMoved, RoundsMoved}
 use Rattle.spv_rounds.specs.declared.knowing.known.Known.{Known}
 use Rattle.spv_rounds.specs.knowing.Known.{IsClaim, RoundsStand, IsKnown, members_in}
 use Rattle.spv_rounds.specs.growing.Growth.{says, AreSaid, RoundFound, Grew}

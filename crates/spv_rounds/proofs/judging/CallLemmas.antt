@@ -1,17 +1,16 @@
 -- What was found is what a table calls for.
-use Rattle.std.proofs.Common.{◌≡◌, ℕ, zero, suc, ◌<◌, Bool, true, false, cond, ◌&&◌, not, List, [], ◌∷◌, ◌++◌, map, filter, length, Option, Some, None, is_some, IsSome, Result, Ok, Err, IfErr, refl, sym, ap, ◌∙◌, subst, slice_get}
-use Rattle.std.specs.List.{list_all, list_any, cons_option, filter_map}
+use Rattle.std.proofs.Common.{◌≡◌, ℕ, zero, suc, Bool, true, false, cond, List, [], ◌∷◌, ◌++◌, map, filter, length, Option, Some, None, is_some, Result, Ok, Err, IfErr, refl, sym, ap, ◌∙◌, subst, slice_get}
+use Rattle.std.specs.List.{list_all, cons_option, filter_map}
 use Rattle.std.specs.Result.{IsErrAnd}
 use Rattle.std.specs.Cmp.Derive.{both_true}
 use Rattle.std.proofs.lemmas.Bool.{false≢true}
 use Rattle.spv_logic.proofs.list.Tests.{left_true, right_true}
-use Rattle.spv_logic.specs.declared.conditions.TermId.{TermId}
 use Rattle.spv_logic.specs.Terms.{Term}
 use Rattle.spv_term.specs.declared.nodes.Condition.{Condition}
 use Rattle.spv_term.specs.Arena.{Arena, IsArena, tree, sequent}
 use Rattle.spv_table.specs.declared.table.Table.{Table}
 use Rattle.spv_table.specs.Kept.{listed_over}
-use Rattle.spv_proof_rules.specs.Rules.{Rule, instance_of, numbered_rule}
+use Rattle.spv_proof_rules.specs.Rules.{Rule}
 use Rattle.spv_proof_rules.specs.Effects.{Question}
 use Rattle.spv_models.specs.leaf_models.Subterms.{subterms}
 use Rattle.spv_models.specs.leaf_models.Tables.{formulas_of}
@@ -25,10 +24,10 @@ use Rattle.spv_rules.specs.matching.Laws.{FoundInstancesSay}
 use Rattle.spv_verdicts.specs.Verdicts as verdicts
 use Rattle.spv_verdicts.specs.declared.answers.verdicts.Instance.{Instance}
 use Rattle.spv_verdicts.specs.answers.Views.{InstancesIn, instances_in, pairs_in}
-use Rattle.spv_rounds.specs.Claims.{formula_of, formulas, AllSay}
-use Rattle.spv_rounds.specs.Rounds.{of_found, is_new, matched, called}
+use Rattle.spv_rounds.specs.Claims.{formula_of, AllSay}
+use Rattle.spv_rounds.specs.Rounds.{of_found, is_new, matched}
 use Rattle.spv_rounds.specs.declared.knowing.known.Settled.{Settled}
-use Rattle.spv_rounds.specs.knowing.Known.{IsSettled, members_in}
+use Rattle.spv_rounds.specs.knowing.Known.{IsSettled}
 use Rattle.spv_rounds.specs.telling.Told.{settled_question, settled_members}
 use Rattle.spv_rounds.specs.calling.Calling.{fresh}
 use Rattle.spv_rounds.specs.judging.Judged.{Calls}

@@ -1,5 +1,5 @@
 -- What is told of a condition decides it.
-use Rattle.std.proofs.Common.{◌≡◌, ◌≤◌, true, List, length, Result, Ok, Err, IfOk}
+use Rattle.std.proofs.Common.{◌≡◌, ◌≤◌, true, List, length}
 use Rattle.spv_term.specs.declared.nodes.Condition.{Condition}
 use Rattle.spv_term.specs.Arena.{Arena}
 use Rattle.spv_atoms.specs.declared.proofs.ProofNode.{ProofNode}

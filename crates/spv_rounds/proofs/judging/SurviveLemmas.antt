@@ -1,10 +1,7 @@
 -- A table in which all holds makes a verdict.
-use Rattle.std.proofs.Common.{◌≡◌, ℕ, zero, suc, ◌+◌, ◌<◌, ◌≤◌, Bool, List, [], ◌∷◌, ◌++◌, map, take, drop, length, Option, Some, None, Ok, Err, refl, sym, ap, ◌∙◌, subst, arith, slice_get}
+use Rattle.std.proofs.Common.{◌≡◌, ℕ, suc, ◌+◌, ◌<◌, ◌≤◌, Bool, List, [], ◌∷◌, ◌++◌, map, take, drop, length, Ok, Err, sym, ap, ◌∙◌, subst, arith, slice_get}
 use Rattle.std.proofs.lemmas.List.{append-nil, length-map, length-append, length-take, take-map, take-append-drop, map-append, map_push}
-use Rattle.std.proofs.lemmas.List.Elements.{filter_map-append}
-use Rattle.spv_whole.specs.Fraction.{Fraction}
 use Rattle.spv_logic.specs.declared.conditions.TermId.{TermId}
-use Rattle.spv_logic.specs.Terms.{Term}
 use Rattle.spv_term.specs.declared.nodes.Condition.{Condition}
 use Rattle.spv_term.specs.Arena.{Arena, tree}
 use Rattle.spv_table.specs.declared.operations.WideValue.{WideValue}
@@ -22,9 +19,9 @@ use Rattle.spv_verdicts.specs.declared.answers.verdicts.Wide.TheVariants as wide
 use Rattle.spv_verdicts.specs.declared.answers.verdicts.Limit.TheVariants as limit
 use Rattle.spv_verdicts.specs.declared.answers.verdicts.Verdict.TheVariants as verdict
 use Rattle.spv_verdicts.specs.answers.Views.{InstancesIn, RoundsIn, CasesIn, branch_in, case_in, instance_in, instances_in, pairs_in, round_in, rounds_in}
-use Rattle.spv_rounds.specs.Claims.{formula_of, formulas, AllSay, FalsifiesWith}
+use Rattle.spv_rounds.specs.Claims.{formulas, AllSay, FalsifiesWith}
 use Rattle.spv_rounds.specs.Rounds.{called, matched, IsRound, AreRounds, members_of}
-use Rattle.spv_rounds.specs.Right.{HasWideValueUnder, searched, in_match, IsDecidedByRounds}
+use Rattle.spv_rounds.specs.Right.{in_match, IsDecidedByRounds}
 use Rattle.spv_rounds.specs.declared.knowing.known.Settled.{Settled}
 use Rattle.spv_rounds.specs.knowing.Known.{IsSettled, members_in}
 use Rattle.spv_rounds.specs.telling.Told.{all_members, settled_question, settled_members}

@@ -1,9 +1,6 @@
 -- What was decided of the claim is found of the condition with its rounds.
-use Rattle.std.proofs.Common.{◌≡◌, ◌<◌, ◌≤◌, Option, Some, None, Result, Ok, Err, IfOk, List, [], ◌∷◌, ◌++◌, length, refl, sym, ap, ◌∙◌, subst}
-use Rattle.spv_logic.specs.declared.operators.Head.TheVariants.{False}
-use Rattle.spv_logic.specs.Formulas.{negation}
-use Rattle.spv_logic.specs.Conditions.{Sequent}
-use Rattle.spv_logic.specs.Terms.{Term, term, no_terms}
+use Rattle.std.proofs.Common.{◌≡◌, ◌<◌, Option, Some, None, Result, Ok, Err, IfOk, List, [], length, sym, ap, ◌∙◌, subst}
+use Rattle.spv_logic.specs.Terms.{Term}
 use Rattle.spv_term.specs.declared.nodes.Condition.{Condition}
 use Rattle.spv_term.specs.Arena.{Arena, Extends, tree, sequent}
 use Rattle.spv_proof_rules.specs.Rules.{Rule}
@@ -13,11 +10,9 @@ use Rattle.spv_verdicts.specs.Verdicts as verdicts
 use Rattle.spv_verdicts.specs.Verdicts.{Limits}
 use Rattle.spv_verdicts.specs.Schemas.{IsRightWith}
 use Rattle.spv_verdicts.specs.declared.answers.verdicts.Decided.{Decided}
-use Rattle.spv_verdicts.specs.declared.answers.verdicts.Verdict.{Verdict}
 use Rattle.spv_verdicts.specs.answers.Views.{IsDecidedWith, VerdictIn, rounds_in, verdict_in}
 use Rattle.spv_rounds.specs.Claims.{formulas, claim}
 use Rattle.spv_rounds.specs.Rounds.{members_of}
-use Rattle.spv_rounds.specs.moving.Moves.{RoundsMoved}
 use Rattle.spv_rounds.specs.declared.knowing.known.Known.{Known}
 use Rattle.spv_rounds.specs.declared.knowing.known.Settled.{Settled}
 use Rattle.spv_rounds.specs.knowing.Known.{IsClaim, IsKnown, IsSettled, RoundsStand, members_in}

@@ -1,11 +1,11 @@
 -- What rules say of the terms of instances, made in an arena.
-use Rattle.std.specs.Prelude.{◌≡◌, ◌+◌, ◌<◌, ◌++◌, ◌∷◌, [], Bool, true, List, map, length, Option, Some}
+use Rattle.std.specs.Prelude.{◌≡◌, ◌+◌, true, List, map, length, Option, Some}
 use Rattle.std.specs.List.{list_all}
 use Rattle.spv_logic.specs.declared.conditions.TermId.{TermId}
 use Rattle.spv_logic.specs.declared.types.Shape.{Shape}
 use Rattle.spv_logic.specs.declared.types.Decl.{Decl}
 use Rattle.spv_logic.specs.Terms.{Term}
-use Rattle.spv_term.specs.Arena.{Arena, AllBelow, Extends, tree}
+use Rattle.spv_term.specs.Arena.{Arena, AllBelow, tree}
 use Rattle.spv_atoms.specs.Atoms.{is_truth}
 use Rattle.spv_proof_rules.specs.Rules.{Rule, numbered_rule, instance_of}
 use Rattle.spv_verdicts.specs.Verdicts as verdicts

@@ -1,11 +1,10 @@
 -- What was found where all is refuted, and which verdict on a condition under rules that makes.
-use Rattle.std.specs.Prelude.{◌≡◌, ◌<◌, ◌≤◌, List, map, length, Option, Some, None, Ok, Result}
+use Rattle.std.specs.Prelude.{◌≡◌, ◌<◌, List, length, Option, Some, None, Ok}
 use Rattle.spv_term.specs.declared.nodes.Condition.{Condition}
 use Rattle.spv_term.specs.Arena.{Arena}
 use Rattle.spv_table.specs.declared.table.Table.{Table}
 use Rattle.spv_table.specs.Kept.{PairsIn}
 use Rattle.spv_proof_rules.specs.Rules.{Rule}
-use Rattle.spv_proof_rules.specs.Stand.{NodesIn}
 use Rattle.spv_verdicts.specs.Verdicts.{Limits}
 use Rattle.spv_verdicts.specs.Schemas.{IsReachedWith, IsRightWith, IsUnprovedWith}
 use Rattle.spv_verdicts.specs.declared.answers.verdicts.Decided.{Decided}

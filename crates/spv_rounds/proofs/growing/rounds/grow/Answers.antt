@@ -1,4 +1,4 @@
-use Rattle.std.proofs.Common.{List, ◌++◌, ◌∙◌, ap, sym, subst}
+use Rattle.std.proofs.Common.{List, ◌++◌, ◌∙◌, ap, subst}
 use Rattle.spv_logic.specs.declared.conditions.TermId.{TermId}
 use Rattle.spv_rules.specs.RuleSets.{rules_in}
 use Rattle.spv_verdicts.specs.declared.answers.verdicts.Instance.{Instance}

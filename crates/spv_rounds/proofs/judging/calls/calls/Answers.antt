@@ -1,10 +1,8 @@
-use Rattle.std.proofs.Common.{List, ◌∙◌, ap, sym, subst, Result}
+use Rattle.std.proofs.Common.{List, ◌∙◌, subst, Result}
 use Rattle.spv_rules.specs.RuleSets.{rules_in}
 use Rattle.spv_rules.specs.matching.Matches.{Wide}
 use Rattle.spv_rules.specs.matching.Matches as matching
 use Rattle.spv_rules.specs.matching.Views.{IsMatchFault}
-use Rattle.spv_rules.specs.declared.matching.instances.Instance.{Instance}
-use Rattle.spv_verdicts.specs.declared.answers.verdicts.Round.{Round}
 use Rattle.spv_rounds.specs.calling.Calling.{fresh}
 use Rattle.spv_rounds.proofs.judging.CallLemmas.{same-outcome, table-calls, handed-on}
 use Rattle.spv_rounds.proofs.judging.calls.calls.Goals as goal

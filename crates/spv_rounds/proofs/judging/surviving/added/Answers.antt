@@ -1,4 +1,4 @@
-use Rattle.std.proofs.Common.{◌≡◌, ◌+◌, ◌<◌, ◌≤◌, suc, length, arith, ap, sym, ◌∙◌}
+use Rattle.std.proofs.Common.{◌≡◌, ◌+◌, ◌<◌, ◌≤◌, suc, length, arith, ap, ◌∙◌}
 use Rattle.spv_rules.specs.RuleSets.{rules_in}
 use Rattle.spv_rounds.specs.Rounds.{members_of}
 use Rattle.spv_rounds.specs.knowing.Known.{members_in}

@@ -1,4 +1,4 @@
-use Rattle.std.proofs.Common.{◌≡◌, ℕ, ◌≤◌, length, ap, sym, ◌∙◌, subst}
+use Rattle.std.proofs.Common.{ℕ, ◌≤◌, length, ap, sym, ◌∙◌, subst}
 use Rattle.spv_rules.specs.RuleSets.{rules_in}
 use Rattle.spv_rounds.specs.Rounds.{members_of}
 use Rattle.spv_rounds.specs.telling.Told.{settled_members}

@@ -1,9 +1,7 @@
-use Rattle.std.proofs.Common.{List, Bool, ◌∙◌, ap, length, take, subst, sym}
-use Rattle.spv_logic.specs.declared.conditions.TermId.{TermId}
+use Rattle.std.proofs.Common.{◌∙◌, ap, length, take, subst, sym}
 use Rattle.spv_proof_rules.specs.Stand.{question}
 use Rattle.spv_verdicts.specs.Verdicts.{condition_atoms}
 use Rattle.spv_verdicts.specs.answers.Views.{CasesIn}
-use Rattle.spv_verdicts.specs.declared.answers.verdicts.Round.{Round}
 use Rattle.spv_rounds.specs.telling.Told.{all_members}
 use Rattle.spv_rounds.proofs.judging.SurviveLemmas.{survives}
 use Rattle.spv_rounds.proofs.judging.surviving.survived.Goals as goal
