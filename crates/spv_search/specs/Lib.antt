@@ -3,4 +3,3 @@ pub mod Searching
 pub mod Finding
 pub mod Walking
 pub mod deciding
-pub mod schemas

@@ -2,5 +2,4 @@
 
 mod deciding;
 
-pub use deciding::decide;
-pub(crate) use deciding::decide_near;
+pub use deciding::{decide, decide_near};

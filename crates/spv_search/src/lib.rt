@@ -10,7 +10,6 @@ mod consulting;
 pub mod deciding;
 mod exploring;
 mod resting;
-pub mod schemas;
 mod stating;
 mod stopping;
 mod surveying;

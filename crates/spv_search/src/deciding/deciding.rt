@@ -53,7 +53,7 @@ fn find(alloc: Global, opened: Opened, limits: &Limits, focus: usize) -> Result<
 /// Searches a proof of a condition, within limits, looking first at its goal, where `focus` is 0, or at the hypothesis of this number from 1, and at
 /// what is near to it. The answer has the condition in an arena of its own, in which it claims the same, and what was found:
 /// a proof, a table that falsifies it, or the limit that was reached.
-pub(crate) fn decide_near(
+pub fn decide_near(
     alloc: Global,
     terms: &Terms,
     condition: &Condition,

@@ -11,10 +11,10 @@ ghost use Rattle.spv_rounds.specs.Right.{IsDecidedByRounds, IsDecidedUnder};
 ghost use Rattle.spv_rounds.specs.knowing.Known.{IsKnown};
 ghost use Rattle.spv_rounds.specs.judging.Judged.{Judged};
 
+use spv_fact_search::{decide_from, decide_with_facts};
 use spv_rounds::judging::turn_by;
 use spv_rounds::knowing::{Known, begin};
 use spv_rules::Rules;
-use spv_search::schemas::{decide_from, decide_with_facts};
 use spv_term::{Condition, Terms};
 use spv_verdicts::answers::{Decided, Limits};
 use std::alloc::{AllocError, Global};

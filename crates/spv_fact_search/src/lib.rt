@@ -1,0 +1,20 @@
+//! Deciding a condition with facts of schemas at hand: all that is refuted with it is put together, searched through, and the answer told of
+//! the condition.
+#![tactic(auto)]
+
+mod abstracting;
+mod choosing;
+mod deciding;
+mod enlarging;
+mod guessing;
+mod images;
+mod numbers;
+mod relevance;
+mod returning;
+mod stages;
+mod telling;
+mod testing;
+mod trying;
+mod weighing;
+
+pub use deciding::{decide_from, decide_with_facts};

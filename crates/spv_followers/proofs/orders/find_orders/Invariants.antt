@@ -1,5 +1,0 @@
-use Rattle.spv_followers.specs.Followers.{AreOrders}
-use Rattle.spv_followers.proofs.orders.find_orders.Given as goal
-
-abbrev pub invariant-loop-place : goal.invariant-loop-place
-invariant-loop-place l = AreOrders l.terms l.place l.orders

@@ -1,6 +1,0 @@
-use Rattle.std.proofs.Common.{drop}
-use Rattle.spv_search.specs.schemas.Asking.{AreTruthsThere}
-use Rattle.spv_search.proofs.schemas.abstracting.are_truths_there.Given as goal
-
-abbrev pub invariant-loop-t : goal.invariant-loop-t
-invariant-loop-t l = AreTruthsThere l.terms (drop l.t-index l.ts) → AreTruthsThere l.terms l.ts

@@ -1,5 +1,0 @@
-use Rattle.spv_term.specs.Arena.{Extends}
-use Rattle.spv_search.proofs.schemas.abstracting.exchanged.Given as goal
-
-abbrev pub invariant-loop-number : goal.invariant-loop-number
-invariant-loop-number l = Extends l.initial.terms l.terms

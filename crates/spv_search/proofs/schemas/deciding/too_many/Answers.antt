@@ -1,7 +1,0 @@
-use Rattle.spv_search.proofs.schemas.Found.{gave-up-terms}
-use Rattle.spv_search.proofs.schemas.deciding.too_many.Goals as goal
-
-pub returns-in-Ok : goal.returns-in-Ok
-returns-in-Ok c limits =
-    let k = c.in-Ok.ensures.copy in
-    gave-up-terms c.args.terms.now c.args.condition.now c.in-Ok.copied.terms c.in-Ok.copied.condition k.condition k.shapes k.decls c.requires.many _ c.new.ensures limits

@@ -1,5 +1,0 @@
-use Rattle.spv_search.proofs.schemas.Staged.{own-copy}
-use Rattle.spv_search.proofs.schemas.stages.own_copy.Goals as goal
-
-pub returns-in-Ok : goal.returns-in-Ok
-returns-in-Ok c = own-copy c.args.terms.now c.args.condition.now _ c.in-Ok.copied c.in-Ok.ensures.copy

@@ -1,6 +1,0 @@
-use Rattle.std.proofs.Common.{◌≡◌, map, take}
-use Rattle.spv_search.specs.schemas.Telling.{schema_step}
-use Rattle.spv_search.proofs.schemas.telling.steps_of.Given as goal
-
-abbrev pub invariant-loop-instance : goal.invariant-loop-instance
-invariant-loop-instance l = l.steps.items ≡ map schema_step (take l.instance-index l.found)
