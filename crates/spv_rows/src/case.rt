@@ -51,6 +51,16 @@ impl Case {
         Ok(())
     }
 
+    // Adds a line so many times, with its number from 1 on in the place of the first sign `#`.
+    fn number(&mut self, alloc: Global, count: u64, text: &str) -> Result<(), AllocError> {
+        let (before, behind) = text.split_once('#').unwrap_or((text, ""));
+        for number in 1..=count {
+            let line = format!(in alloc; "{before}{number}{behind}\n")?;
+            self.add(line.as_str().as_bytes())?;
+        }
+        Ok(())
+    }
+
     // Adds the bytes from one to another.
     fn add_range(&mut self, from: u8, to: u8) -> Result<(), AllocError> {
         for byte in from..=to {
@@ -67,13 +77,23 @@ impl Case {
     }
 
     // Reads a line whose first word takes two numbers, or a number and a text; whether it is one.
-    fn set_pair(&mut self, word: &str, first: u64, second: &str) -> Result<bool, AllocError> {
+    fn set_pair(
+        &mut self,
+        alloc: Global,
+        word: &str,
+        first: u64,
+        second: &str,
+    ) -> Result<bool, AllocError> {
         if word == "times" {
             self.repeat(first, second, b"")?;
             return Ok(true);
         }
         if word == "lines" {
             self.repeat(first, second, b"\n")?;
+            return Ok(true);
+        }
+        if word == "numbered" {
+            self.number(alloc, first, second)?;
             return Ok(true);
         }
         if word == "read" {
@@ -122,7 +142,7 @@ impl Case {
             self.room = number as usize;
             return Ok(true);
         }
-        self.set_pair(word, number, second)
+        self.set_pair(alloc, word, number, second)
     }
 
     /// The case with what a line of it says. A line that cannot be read is printed.
@@ -147,5 +167,25 @@ impl Case {
         let ran = run(alloc, words, &mut texts, &mut sink, &PlainWorld);
         out.extend_from_slice(sink.bytes())?;
         shown::add_end(alloc, out, ran.status, ran.report.is_some())
+    }
+
+    /// Runs `spv` with these words over the file that was begun last, once for each text that it begins with, from the empty one on and without
+    /// itself, and prints the same of each.
+    pub fn run_cut(
+        self,
+        alloc: Global,
+        words: &[String],
+        out: &mut Vec<u8>,
+    ) -> Result<(), AllocError> {
+        let Some((name, text)) = self.files.last() else {
+            return Ok(());
+        };
+        for size in 0..text.len() {
+            let mut cut = Case::new(alloc);
+            cut.begin(alloc, name.as_str())?;
+            cut.add(&text.as_slice()[..size])?;
+            cut.run(alloc, words, out)?;
+        }
+        Ok(())
     }
 }

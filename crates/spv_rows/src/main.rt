@@ -9,12 +9,14 @@
 //!     +TEXT             adds a text without a line end
 //!     times N TEXT      adds a text so many times
 //!     lines N TEXT      adds a line so many times
+//!     numbered N TEXT   adds a line so many times, with its number from 1 on in the place of its first `#`
 //!     bytes N M         adds the bytes from N to M
 //!     read N            lets the read of this number fail, counted from 1
 //!     write N COUNT     lets the write of this number fail, counted from 1, after so many bytes
 //!     room N            the bytes that the sink takes in all; 100000 where nothing is said
 //!     run WORD ..       runs `spv` with these words
 //!     call WORD ..      the same without the program's name before them
+//!     cut WORD ..       runs `spv` with these words for each text that the file begins with, but itself
 //!
 //! After a run nothing is left of the case. Any other line is printed as one that cannot be read.
 #![tactic(auto)]
@@ -37,6 +39,12 @@ fn step(alloc: Global, case: Case, line: &str, out: &mut Vec<u8>) -> Result<Case
         shown::add_line(out, line)?;
         let words = shown::words_of(alloc, word == "run", rest)?;
         case.run(alloc, &words, out)?;
+        return Ok(Case::new(alloc));
+    }
+    if word == "cut" {
+        shown::add_line(out, line)?;
+        let words = shown::words_of(alloc, true, rest)?;
+        case.run_cut(alloc, &words, out)?;
         return Ok(Case::new(alloc));
     }
     case.with_line(alloc, line, out)
