@@ -15,14 +15,14 @@ use spv_assign::Pending;
 use spv_assign::creation_trace::GenFault;
 use spv_assign::supply::Supply;
 use spv_flow::before;
-use spv_flow_parts::Body;
-use spv_program::typed::{Program, Statement};
+use spv_flow_parts::{Body, IndexedProgram};
+use spv_program::typed::Statement;
 use spv_term::Terms;
 
 /// The conditions before a well typed body, where these stand behind it.
 pub(crate) fn before_body(
-    program: &Program,
-    body: &Body,
+    program: &IndexedProgram<'_>,
+    body: &Body<'_>,
     terms: &mut Terms,
     supply: &mut Supply,
     s: &Statement,

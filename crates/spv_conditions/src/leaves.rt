@@ -7,13 +7,13 @@ ghost use Rattle.spv_conditions.specs.Leaves.{leaf_making, leaf_taking};
 use spv_assign::Pending;
 use spv_assign::creation_trace::GenFault;
 use spv_assign::supply::Supply;
-use spv_effects::mod_sets::changed;
+use spv_effects::mod_sets::{all_roots, changed};
 use spv_flow_parts::assigning::{before_assign, before_new};
 use spv_flow_parts::calls::{before_call, value};
 use spv_flow_parts::leaves::{Leaves, Valued, in_front};
-use spv_flow_parts::{Body, note};
+use spv_flow_parts::{Body, IndexedProgram, note};
 use spv_logic::Head;
-use spv_program::typed::{Annotation, Expression, Program, Statement, StatementForm};
+use spv_program::typed::{Annotation, Expression, Statement, StatementForm};
 use spv_term::{TermId, Terms};
 
 /// Leaves that take each assignment, NEW, call and expression of a well typed program.
@@ -29,8 +29,8 @@ impl Leaves for ProgramLeaves {
 
     fn leaf(
         &mut self,
-        program: &Program,
-        body: &Body,
+        program: &IndexedProgram<'_>,
+        body: &Body<'_>,
         terms: &mut Terms,
         supply: &mut Supply,
         s: &Statement,
@@ -52,8 +52,8 @@ impl Leaves for ProgramLeaves {
 
     fn test(
         &mut self,
-        program: &Program,
-        body: &Body,
+        program: &IndexedProgram<'_>,
+        body: &Body<'_>,
         terms: &mut Terms,
         supply: &mut Supply,
         e: &Expression,
@@ -63,8 +63,8 @@ impl Leaves for ProgramLeaves {
 
     fn before_test(
         &mut self,
-        program: &Program,
-        body: &Body,
+        program: &IndexedProgram<'_>,
+        body: &Body<'_>,
         tested: &Valued,
         rest: Pending,
     ) -> Result<Pending, GenFault> {
@@ -74,8 +74,8 @@ impl Leaves for ProgramLeaves {
 
     fn note(
         &mut self,
-        program: &Program,
-        body: &Body,
+        program: &IndexedProgram<'_>,
+        body: &Body<'_>,
         terms: &mut Terms,
         a: &Annotation,
     ) -> Result<TermId, GenFault> {
@@ -84,10 +84,11 @@ impl Leaves for ProgramLeaves {
 
     fn changed(
         &mut self,
-        program: &Program,
-        body: &Body,
+        program: &IndexedProgram<'_>,
+        body: &Body<'_>,
         s: &Statement,
     ) -> Result<Vec<Head>, GenFault> {
-        Ok(changed(body.alloc, program, body.here, &body.roots, s)?)
+        let roots = all_roots(body.alloc, program.program(), body.here)?;
+        Ok(changed(body.alloc, program.program(), body.here, &roots, s)?)
     }
 }

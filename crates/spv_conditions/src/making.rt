@@ -27,7 +27,7 @@ use spv_assign::creation_trace::GenFault;
 use spv_assign::limited_steps::joined;
 use spv_assign::supply::Supply;
 use spv_flow_parts::body_tables::body_of;
-use spv_flow_parts::{Body, known, noted, wanted_note};
+use spv_flow_parts::{Body, IndexedProgram, known, noted, wanted_note};
 use spv_logic::{Kind, RoutineId};
 use spv_program::typed::{Program, Routine};
 use spv_term::{Condition, Terms};
@@ -44,8 +44,8 @@ pub struct ProgramConditions {
 
 // EXIT brought in front of the main block.
 fn inside(
-    program: &Program,
-    body: &Body,
+    program: &IndexedProgram<'_>,
+    body: &Body<'_>,
     terms: &mut Terms,
     supply: &mut Supply,
 ) -> Result<Pending, GenFault>
@@ -56,24 +56,30 @@ fn inside(
         (in_order (inside_main program.now (supply_of supply.old))) terms.old terms.new (supply_of supply.new) }
 {
     let exit = exit_condition(program, body, terms)?;
-    before_body(program, body, terms, supply, &program.main.body, exit)
+    let main = &program.program().main;
+    before_body(program, body, terms, supply, &main.body, exit)
 }
 
 // The condition that EXIT of the main block is true, where there is one.
-fn exit_condition(program: &Program, body: &Body, terms: &mut Terms) -> Result<Pending, GenFault>
+fn exit_condition(
+    program: &IndexedProgram<'_>,
+    body: &Body<'_>,
+    terms: &mut Terms,
+) -> Result<Pending, GenFault>
     requires over { IsOver program.now terms.old }
     requires body { IsBody program.now body.now }
     requires here { body.now.here ≡ None }
     ensures { ComesTo result (wanted_if_there program.now None Exit program.now.main.exit) (one_if_there (annotation_term program.now None program.now.main.exit)) terms.old terms.new }
 {
-    let note = noted(program, body, terms, &program.main.exit)?;
-    wanted_note(body.alloc, None, Kind::Exit, &program.main.exit, note)
+    let main = &program.program().main;
+    let note = noted(program, body, terms, &main.exit)?;
+    wanted_note(body.alloc, None, Kind::Exit, &main.exit, note)
 }
 
 // Conditions under ENTRY of the main block.
 fn under(
-    program: &Program,
-    body: &Body,
+    program: &IndexedProgram<'_>,
+    body: &Body<'_>,
     terms: &mut Terms,
     conditions: Pending,
 ) -> Result<Pending, GenFault>
@@ -84,13 +90,14 @@ fn under(
     ensures { ComesTo result (assuming_if_there (annotation_term program.now None program.now.main.entry) (conditions_of terms.old conditions.items))
         (one_if_there (annotation_term program.now None program.now.main.entry)) terms.old terms.new }
 {
-    let entry = noted(program, body, terms, &program.main.entry)?;
+    let main = &program.program().main;
+    let entry = noted(program, body, terms, &main.entry)?;
     known(entry, conditions)
 }
 
 // The conditions of the main block, under its ENTRY.
 fn main_conditions(
-    program: &Program,
+    program: &IndexedProgram<'_>,
     alloc: Global,
     terms: &mut Terms,
     supply: &mut Supply,
@@ -105,7 +112,7 @@ fn main_conditions(
 
 // The conditions of a routine behind those of the routines before it.
 fn with_routine(
-    program: &Program,
+    program: &IndexedProgram<'_>,
     alloc: Global,
     terms: &mut Terms,
     supply: &mut Supply,
@@ -125,7 +132,7 @@ fn with_routine(
 
 // The conditions of the main block behind those of all routines.
 fn with_main(
-    program: &Program,
+    program: &IndexedProgram<'_>,
     alloc: Global,
     terms: &mut Terms,
     supply: &mut Supply,
@@ -152,7 +159,7 @@ fn routine_id(place: usize) -> Option<RoutineId>
 
 // The conditions of all routines, in order, and of the main block.
 fn all_conditions(
-    program: &Program,
+    program: &IndexedProgram<'_>,
     alloc: Global,
     terms: &mut Terms,
     supply: &mut Supply,
@@ -161,7 +168,7 @@ fn all_conditions(
     ensures { Comes result (all_made program.now (supply_of supply.old)) (events_from program.now 0 program.now.routines 0 (supply_of supply.old)) terms.old terms.new (supply_of supply.new) }
 {
     let mut all = Pending::new(alloc);
-    let routines = program.routines.as_slice();
+    let routines = program.program().routines.as_slice();
     for number in 0..routines.len() {
         let Some(id) = routine_id(number) else {
             return Err(GenFault::Memory);
@@ -184,7 +191,8 @@ pub fn conditions(alloc: Global, program: &Program) -> Result<ProgramConditions,
 {
     let mut terms = empty_arena(alloc, program)?;
     let mut supply = Supply::new(alloc);
-    let made = all_conditions(program, alloc, &mut terms, &mut supply);
+    let indexed = IndexedProgram::new(alloc, program)?;
+    let made = all_conditions(&indexed, alloc, &mut terms, &mut supply);
     terms.law_arena();
     match made {
         Ok(made) => {

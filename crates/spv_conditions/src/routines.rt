@@ -27,21 +27,22 @@ use spv_assign::creation_trace::GenFault;
 use spv_assign::limited_steps::{made, replaced};
 use spv_assign::supply::Supply;
 use spv_effects::mod_sets::sort_of;
+use spv_expression_terms::sort_table::SortTable;
 use spv_flow_parts::body_tables::{body_of, item_sort};
 use spv_flow_parts::calls::{add_pair, entry_formula, exit_formula, item_head};
-use spv_flow_parts::{Body, known, wanted};
+use spv_flow_parts::{Body, IndexedProgram, known, wanted};
 use spv_logic::names::Symbol;
 use spv_logic::{Head, Kind, RoutineId, Sort};
 use spv_program::ordered_map::Named;
-use spv_program::typed::{Formal, Program, Routine};
+use spv_program::typed::{Formal, Routine};
 use spv_program::{Item, TypeForm};
 use spv_term::{TermId, Terms};
 use std::alloc::Global;
 
 // The condition that EXIT of a routine is true, where there is one.
 fn exit_condition(
-    program: &Program,
-    body: &Body,
+    program: &IndexedProgram<'_>,
+    body: &Body<'_>,
     terms: &mut Terms,
     number: RoutineId,
     routine: &Routine,
@@ -64,7 +65,7 @@ fn exit_condition(
 
 // ENTRY of a routine, where there is one.
 fn entry_if_there(
-    program: &Program,
+    program: &IndexedProgram<'_>,
     alloc: Global,
     terms: &mut Terms,
     number: RoutineId,
@@ -82,8 +83,8 @@ fn entry_if_there(
 
 // EXIT brought in front of the body.
 fn inside(
-    program: &Program,
-    body: &Body,
+    program: &IndexedProgram<'_>,
+    body: &Body<'_>,
     terms: &mut Terms,
     supply: &mut Supply,
     number: RoutineId,
@@ -102,7 +103,7 @@ fn inside(
 
 // Conditions under ENTRY of a routine.
 fn under(
-    program: &Program,
+    program: &IndexedProgram<'_>,
     alloc: Global,
     terms: &mut Terms,
     number: RoutineId,
@@ -140,7 +141,7 @@ fn add_names(
 // An INITIAL name, and its item.
 fn add_item(
     terms: &mut Terms,
-    variables: &Named<Sort>,
+    variables: &SortTable<'_>,
     name: Symbol,
     item: Item,
     pairs: &mut Vec<(TermId, TermId)>,
@@ -157,7 +158,7 @@ fn add_item(
 // Each INITIAL name, and its item.
 fn add_items(
     terms: &mut Terms,
-    variables: &Named<Sort>,
+    variables: &SortTable<'_>,
     initial: &[(Symbol, Item)],
     pairs: &mut Vec<(TermId, TermId)>,
 ) -> Result<(), GenFault>
@@ -220,9 +221,9 @@ fn add_starts(
 
 // INITIAL names and their items, and the starts of value parameters and these.
 fn add_beginning(
-    program: &Program,
+    program: &IndexedProgram<'_>,
     terms: &mut Terms,
-    variables: &Named<Sort>,
+    variables: &SortTable<'_>,
     routine: &Routine,
     pairs: &mut Vec<(TermId, TermId)>,
 ) -> Result<(), GenFault>
@@ -236,15 +237,15 @@ fn add_beginning(
 {
     let initial = routine.initial.as_slice();
     add_items(terms, variables, initial, pairs)?;
-    let forms = program.forms.as_slice();
+    let forms = program.program().forms.as_slice();
     let formals = routine.formals.as_slice();
     add_starts(terms, forms, formals, pairs)
 }
 
 // What is replaced where a routine begins.
 fn pairs_at_beginning(
-    program: &Program,
-    body: &Body,
+    program: &IndexedProgram<'_>,
+    body: &Body<'_>,
     terms: &mut Terms,
     number: RoutineId,
     routine: &Routine,
@@ -262,8 +263,8 @@ fn pairs_at_beginning(
 
 // Conditions with the names as they are where the routine begins.
 fn at_beginning(
-    program: &Program,
-    body: &Body,
+    program: &IndexedProgram<'_>,
+    body: &Body<'_>,
     terms: &mut Terms,
     number: RoutineId,
     routine: &Routine,
@@ -283,8 +284,8 @@ fn at_beginning(
 
 // EXIT brought in front of the body, under ENTRY.
 fn entered(
-    program: &Program,
-    body: &Body,
+    program: &IndexedProgram<'_>,
+    body: &Body<'_>,
     terms: &mut Terms,
     supply: &mut Supply,
     number: RoutineId,
@@ -304,7 +305,7 @@ fn entered(
 /// The conditions of the routine with this number: its EXIT brought in front of its body, under its ENTRY, with all names as
 /// they are at the beginning.
 pub(crate) fn routine_conditions(
-    program: &Program,
+    program: &IndexedProgram<'_>,
     alloc: Global,
     terms: &mut Terms,
     supply: &mut Supply,

@@ -24,17 +24,15 @@ use spv_assign::Pending;
 use spv_assign::creation_trace::GenFault;
 use spv_assign::supply::Supply;
 use spv_flow_parts::leaves::{Leaves, before_assert};
-use spv_flow_parts::{Body, copied};
-use spv_program::typed::{
-    Annotation, Arm, Counting, Expression, Program, Statement, StatementForm,
-};
+use spv_flow_parts::{Body, IndexedProgram, copied};
+use spv_program::typed::{Annotation, Arm, Counting, Expression, Statement, StatementForm};
 use spv_term::{TermId, Terms};
 
 #[cycle(statements)]
 fn statement<L: Leaves>(
     leaves: &mut L,
-    program: &Program,
-    body: &Body,
+    program: &IndexedProgram<'_>,
+    body: &Body<'_>,
     terms: &mut Terms,
     supply: &mut Supply,
     s: &Statement,
@@ -73,8 +71,8 @@ fn statement<L: Leaves>(
 #[cycle(statements)]
 fn block<L: Leaves>(
     leaves: &mut L,
-    program: &Program,
-    body: &Body,
+    program: &IndexedProgram<'_>,
+    body: &Body<'_>,
     terms: &mut Terms,
     supply: &mut Supply,
     statements: &[Statement],
@@ -103,8 +101,8 @@ fn block<L: Leaves>(
 #[cycle(statements)]
 fn conditional<L: Leaves>(
     leaves: &mut L,
-    program: &Program,
-    body: &Body,
+    program: &IndexedProgram<'_>,
+    body: &Body<'_>,
     terms: &mut Terms,
     supply: &mut Supply,
     line: u32,
@@ -129,8 +127,8 @@ fn conditional<L: Leaves>(
 #[cycle(statements)]
 fn selection<L: Leaves>(
     leaves: &mut L,
-    program: &Program,
-    body: &Body,
+    program: &IndexedProgram<'_>,
+    body: &Body<'_>,
     terms: &mut Terms,
     supply: &mut Supply,
     line: u32,
@@ -155,8 +153,8 @@ fn selection<L: Leaves>(
 #[cycle(statements)]
 fn arms<L: Leaves>(
     leaves: &mut L,
-    program: &Program,
-    body: &Body,
+    program: &IndexedProgram<'_>,
+    body: &Body<'_>,
     terms: &mut Terms,
     supply: &mut Supply,
     about: TermId,
@@ -180,8 +178,8 @@ fn arms<L: Leaves>(
 #[cycle(statements)]
 fn one_arm<L: Leaves>(
     leaves: &mut L,
-    program: &Program,
-    body: &Body,
+    program: &IndexedProgram<'_>,
+    body: &Body<'_>,
     terms: &mut Terms,
     supply: &mut Supply,
     about: TermId,
@@ -206,8 +204,8 @@ fn one_arm<L: Leaves>(
 #[cycle(statements)]
 fn while_loop<L: Leaves>(
     leaves: &mut L,
-    program: &Program,
-    body: &Body,
+    program: &IndexedProgram<'_>,
+    body: &Body<'_>,
     terms: &mut Terms,
     supply: &mut Supply,
     whole: &Statement,
@@ -237,8 +235,8 @@ fn while_loop<L: Leaves>(
 #[cycle(statements)]
 fn repeat_loop<L: Leaves>(
     leaves: &mut L,
-    program: &Program,
-    body: &Body,
+    program: &IndexedProgram<'_>,
+    body: &Body<'_>,
     terms: &mut Terms,
     supply: &mut Supply,
     whole: &Statement,
@@ -268,8 +266,8 @@ fn repeat_loop<L: Leaves>(
 #[cycle(statements)]
 fn for_loop<L: Leaves>(
     leaves: &mut L,
-    program: &Program,
-    body: &Body,
+    program: &IndexedProgram<'_>,
+    body: &Body<'_>,
     terms: &mut Terms,
     supply: &mut Supply,
     whole: &Statement,
@@ -301,8 +299,8 @@ fn for_loop<L: Leaves>(
 /// `Terms` where the arena is full, whichever is met first in the order of `events_by`.
 pub fn before<L: Leaves>(
     leaves: &mut L,
-    program: &Program,
-    body: &Body,
+    program: &IndexedProgram<'_>,
+    body: &Body<'_>,
     terms: &mut Terms,
     supply: &mut Supply,
     s: &Statement,

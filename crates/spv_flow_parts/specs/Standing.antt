@@ -13,14 +13,12 @@ use Rattle.spv_program.specs.Expressions.{Expression, Designator}
 use Rattle.spv_program.specs.Formulas.{Annotation}
 use Rattle.spv_program.specs.Programs.{Program, shapes, routine_in}
 use Rattle.spv_program.specs.Scopes.{body_scope}
-use Rattle.spv_program.specs.Changes.{all_roots}
 use Rattle.spv_program.specs.ExpressionTypes.{expression_sort, designator_type}
 use Rattle.spv_program.specs.FormulaTypes.{annotation_ok}
 use Rattle.spv_program.specs.Typing.{declarations_ok}
 use Rattle.spv_expression_terms.specs.term_walk.ExpressionTerms.{expression_term, place_term}
 use Rattle.spv_expression_terms.specs.term_walk.Laws.{HasNamesOf, variable_scope, variable_head}
 use Rattle.spv_expression_terms.specs.makeable_terms.Laws.{heading_ok_in}
-use Rattle.spv_effects.specs.mod_sets.Roots.{rows_of}
 use Rattle.spv_rule_soundness.specs.control.Blocks.{is_whole, calls_nothing}
 use Rattle.spv_flow_parts.specs.declared.bodies.Body.{Body}
 
@@ -28,7 +26,6 @@ use Rattle.spv_flow_parts.specs.declared.bodies.Body.{Body}
 pub record IsBody (p : Program) (b : Body) : Type 0 where
   pub names : HasNamesOf b.names (body_scope p (routine_in p b.here))
   pub variables : HasNamesOf b.variables (variable_scope p (routine_in p b.here))
-  pub roots : rows_of b.roots ≡ all_roots p (routine_in p b.here)
 
 -- a body of a program whose declarations and headings are right, and an arena for the terms of the program
 pub record Stands (p : Program) (b : Body) (a : Arena) : Type 0 where

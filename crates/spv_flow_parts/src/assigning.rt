@@ -20,9 +20,9 @@ ghost use Rattle.spv_flow_parts.specs.Walks.{Comes, ComesTo, MakesTerm, made_of}
 ghost use Rattle.spv_flow_parts.specs.calls.Arguments.{MayMake};
 ghost use Rattle.spv_flow_parts.specs.assigning.Events.{assign_events, creation_events, new_events};
 
-use crate::Body;
 use crate::calls::{place, value};
 use crate::leaves::in_front;
+use crate::{Body, IndexedProgram};
 use spv_assign::Pending;
 use spv_assign::creation_trace::GenFault;
 use spv_assign::limited_steps::{assumed, binary, limited, made, negated, replaced};
@@ -31,7 +31,7 @@ use spv_assign::supply::Supply;
 use spv_effects::mod_sets::sort_of;
 use spv_logic::names::Symbol;
 use spv_logic::{Head, Sort, TypeId};
-use spv_program::typed::{Designator, Expression, Program};
+use spv_program::typed::{Designator, Expression};
 use spv_term::{TermId, Terms};
 use std::alloc::Global;
 
@@ -59,8 +59,8 @@ fn with_place(
 /// The conditions before an assignment: the place and then the value are evaluated, with their calls in front, and the whole
 /// that the place is in takes the value there.
 pub fn before_assign(
-    program: &Program,
-    body: &Body,
+    program: &IndexedProgram<'_>,
+    body: &Body<'_>,
     terms: &mut Terms,
     supply: &mut Supply,
     d: &Designator,
@@ -81,10 +81,10 @@ pub fn before_assign(
 }
 
 // The first name of a type; one that is never printed where it has none.
-fn title_of(program: &Program, t: TypeId) -> Symbol
+fn title_of(program: &IndexedProgram<'_>, t: TypeId) -> Symbol
     ensures { result ≡ meaning.title_of program.now t }
 {
-    match program.titles.as_slice().get(t.0 as usize) {
+    match program.program().titles.as_slice().get(t.0 as usize) {
         Some(Some(name)) => *name,
         Some(None) => Symbol(0),
         None => Symbol(0),
@@ -170,8 +170,8 @@ fn before_creation(
 /// The conditions before NEW: the place is evaluated, with its calls in front; it becomes a fresh pointer, and the class of its
 /// type is extended by a cell that was none of its members.
 pub fn before_new(
-    program: &Program,
-    body: &Body,
+    program: &IndexedProgram<'_>,
+    body: &Body<'_>,
     terms: &mut Terms,
     supply: &mut Supply,
     d: &Designator,
@@ -188,7 +188,7 @@ pub fn before_new(
     let to = place(program, body, terms, supply, d)?;
     let fresh = supply.fresh_variable(terms, d.name, Sort::Ptr(t));
     let pointer = limited(terms, fresh)?;
-    let sort = sort_of(program.forms.as_slice(), t);
+    let sort = sort_of(program.program().forms.as_slice(), t);
     let fresh = supply.fresh_variable(terms, title_of(program, t), sort);
     let content = limited(terms, fresh)?;
     let created = before_creation(body.alloc, terms, t, &to.target, pointer, content, rest)?;

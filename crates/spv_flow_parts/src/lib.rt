@@ -7,6 +7,7 @@ mod bodies;
 pub mod body_tables;
 pub mod calls;
 pub mod for_loops;
+mod indexed;
 mod laws;
 pub mod leaves;
 mod lists;
@@ -16,6 +17,7 @@ mod renaming;
 mod values;
 
 pub use bodies::Body;
+pub use indexed::IndexedProgram;
 pub use laws::law_changed;
 pub use lists::{copied, known, ways};
 pub use loops::end_of_loop;

@@ -11,6 +11,7 @@ ghost use Rattle.spv_assign.specs.creation_trace.StatementEvents.{loop_events, r
 ghost use Rattle.spv_flow_parts.specs.Standing.{AllRenamed};
 ghost use Rattle.spv_flow_parts.specs.Walks.{Comes, IsNoted, IsThere, loop_made, renamed_made};
 
+use crate::IndexedProgram;
 use crate::bodies::Body;
 use crate::lists::known;
 use crate::notes::wanted_note;
@@ -20,7 +21,7 @@ use spv_assign::creation_trace::GenFault;
 use spv_assign::limited_steps::joined;
 use spv_assign::supply::Supply;
 use spv_logic::{Head, Kind};
-use spv_program::typed::{Annotation, Program};
+use spv_program::typed::Annotation;
 use spv_term::{TermId, Terms};
 use std::alloc::Global;
 
@@ -50,8 +51,8 @@ fn renamed_uses(
 /// The conditions of a loop with this annotation, whose term is there: those under it, with what the loop changes
 /// renamed, behind the one of its beginning.
 pub fn end_of_loop(
-    program: &Program,
-    body: &Body,
+    program: &IndexedProgram<'_>,
+    body: &Body<'_>,
     terms: &mut Terms,
     supply: &mut Supply,
     heads: &[Head],

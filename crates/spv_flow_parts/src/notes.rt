@@ -13,20 +13,21 @@ ghost use Rattle.spv_assign.specs.creation_trace.StatementEvents.{one_if_there};
 ghost use Rattle.spv_flow_parts.specs.Standing.{AreNotes, Stands};
 ghost use Rattle.spv_flow_parts.specs.Walks.{AreThese, IsNoted, MakesTerm, wanted_item};
 
+use crate::IndexedProgram;
 use crate::bodies::Body;
 use spv_assign::Pending;
 use spv_assign::creation_trace::GenFault;
 use spv_assign::limited_steps::limited;
 use spv_expression_terms::term_walk::formula_term;
 use spv_logic::{Kind, Origin, RoutineId};
-use spv_program::typed::{Annotation, Program};
+use spv_program::typed::Annotation;
 use spv_term::{TermId, Terms};
 use std::alloc::{AllocError, Global};
 
 /// The term of an annotation of a body.
 pub fn note(
-    program: &Program,
-    body: &Body,
+    program: &IndexedProgram<'_>,
+    body: &Body<'_>,
     terms: &mut Terms,
     a: &Annotation,
 ) -> Result<TermId, GenFault>
@@ -41,8 +42,8 @@ pub fn note(
 
 /// The term of an annotation of a body, where there is one.
 pub fn noted(
-    program: &Program,
-    body: &Body,
+    program: &IndexedProgram<'_>,
+    body: &Body<'_>,
     terms: &mut Terms,
     f: &Option<Annotation>,
 ) -> Result<Option<TermId>, GenFault>

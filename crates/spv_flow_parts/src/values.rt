@@ -7,17 +7,18 @@ ghost use Rattle.spv_program.specs.Programs.{routine_in};
 ghost use Rattle.spv_flow_parts.specs.Standing.{IsValue, IsVariable, Stands, value_of, variable_of};
 ghost use Rattle.spv_flow_parts.specs.Walks.{MakesTerm};
 
+use crate::IndexedProgram;
 use crate::bodies::Body;
 use spv_assign::creation_trace::GenFault;
 use spv_assign::limited_steps::limited;
 use spv_expression_terms::term_walk::{expression_term, place_term};
-use spv_program::typed::{Designator, Expression, Program};
+use spv_program::typed::{Designator, Expression};
 use spv_term::{TermId, Terms};
 
 /// The term of an expression that calls nothing.
 pub fn value(
-    program: &Program,
-    body: &Body,
+    program: &IndexedProgram<'_>,
+    body: &Body<'_>,
     terms: &mut Terms,
     e: &Expression,
 ) -> Result<TermId, GenFault>
@@ -33,8 +34,8 @@ pub fn value(
 
 /// The term of a variable.
 pub fn variable(
-    program: &Program,
-    body: &Body,
+    program: &IndexedProgram<'_>,
+    body: &Body<'_>,
     terms: &mut Terms,
     d: &Designator,
 ) -> Result<TermId, GenFault>

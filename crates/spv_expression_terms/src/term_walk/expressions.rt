@@ -11,6 +11,7 @@ ghost use Rattle.spv_expression_terms.specs.term_walk.Selectors.{step_of, steps_
 ghost use Rattle.spv_expression_terms.specs.term_walk.Written.{Adds, Writes};
 
 use crate::postfix::Piece;
+use crate::sort_table::SortTable;
 use crate::term_walk::classes::write_classes;
 use crate::term_walk::heads::{
     arithmetic_head, connective_head, truth_head, variable_head, write, write_numeral,
@@ -18,9 +19,8 @@ use crate::term_walk::heads::{
 use crate::term_walk::outer_calls::{
     behind_one, first_head, for_first, for_other_selectors, for_others, for_selector,
 };
-use spv_logic::{Head, Sort};
+use spv_logic::Head;
 use spv_program::Comparison;
-use spv_program::ordered_map::Named;
 use spv_program::typed::{Designator, Expression, ExpressionForm, Selector, Through};
 use std::alloc::AllocError;
 
@@ -35,7 +35,7 @@ struct Operand<'v, 'e> {
 #[cycle(expressions)]
 pub(crate) fn expression(
     pieces: &mut Vec<Piece>,
-    names: &Named<Sort>,
+    names: &SortTable<'_>,
     variables: &[Head],
     e: &Expression,
 ) -> Result<(), AllocError>
@@ -104,7 +104,7 @@ pub(crate) fn expression(
 #[cycle(expressions)]
 fn two(
     pieces: &mut Vec<Piece>,
-    names: &Named<Sort>,
+    names: &SortTable<'_>,
     head: Head,
     a: Operand,
     b: Operand,
@@ -123,7 +123,7 @@ fn two(
 #[cycle(expressions)]
 fn different(
     pieces: &mut Vec<Piece>,
-    names: &Named<Sort>,
+    names: &SortTable<'_>,
     a: Operand,
     b: Operand,
 ) -> Result<(), AllocError>
@@ -140,7 +140,7 @@ fn different(
 #[cycle(expressions)]
 fn compared(
     pieces: &mut Vec<Piece>,
-    names: &Named<Sort>,
+    names: &SortTable<'_>,
     operator: Comparison,
     a: Operand,
     b: Operand,
@@ -164,7 +164,7 @@ fn compared(
 #[cycle(expressions)]
 pub(crate) fn place(
     pieces: &mut Vec<Piece>,
-    names: &Named<Sort>,
+    names: &SortTable<'_>,
     variables: &[Head],
     d: &Designator,
 ) -> Result<(), AllocError>
@@ -185,7 +185,7 @@ pub(crate) fn place(
 #[cycle(expressions)]
 fn path(
     pieces: &mut Vec<Piece>,
-    names: &Named<Sort>,
+    names: &SortTable<'_>,
     variables: &[Head],
     root: Head,
     selectors: &[Selector],
@@ -203,7 +203,7 @@ fn path(
 #[cycle(expressions)]
 fn through(
     pieces: &mut Vec<Piece>,
-    names: &Named<Sort>,
+    names: &SortTable<'_>,
     variables: &[Head],
     t: &Through,
 ) -> Result<(), AllocError>
@@ -224,7 +224,7 @@ fn through(
 #[cycle(expressions)]
 fn write_step(
     pieces: &mut Vec<Piece>,
-    names: &Named<Sort>,
+    names: &SortTable<'_>,
     variables: &[Head],
     selector: &Selector,
 ) -> Result<(), AllocError>
@@ -245,7 +245,7 @@ fn write_step(
 #[cycle(expressions)]
 fn write_steps(
     pieces: &mut Vec<Piece>,
-    names: &Named<Sort>,
+    names: &SortTable<'_>,
     variables: &[Head],
     selectors: &[Selector],
 ) -> Result<(), AllocError>

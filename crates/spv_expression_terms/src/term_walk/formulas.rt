@@ -10,10 +10,11 @@ ghost use Rattle.spv_expression_terms.specs.term_walk.Numerals.{FormulaFits, For
 ghost use Rattle.spv_expression_terms.specs.term_walk.Written.{Writes, WritesAll};
 
 use crate::postfix::Piece;
+use crate::sort_table::SortTable;
 use crate::term_walk::heads::{
     arithmetic_head, connective_head, known_head, name_head, truth_head, write, write_numeral,
 };
-use spv_logic::{Head, Sort};
+use spv_logic::Head;
 use spv_program::Comparison;
 use spv_program::ordered_map::Named;
 use spv_program::typed::{Formula, FormulaForm};
@@ -23,7 +24,7 @@ use std::alloc::AllocError;
 #[cycle(formulas)]
 pub(crate) fn formula(
     pieces: &mut Vec<Piece>,
-    names: &Named<Sort>,
+    names: &SortTable<'_>,
     starts: &Named<()>,
     f: &Formula,
 ) -> Result<(), AllocError>
@@ -64,7 +65,7 @@ pub(crate) fn formula(
 #[cycle(formulas)]
 fn one(
     pieces: &mut Vec<Piece>,
-    names: &Named<Sort>,
+    names: &SortTable<'_>,
     starts: &Named<()>,
     head: Head,
     f: &Formula,
@@ -80,7 +81,7 @@ fn one(
 #[cycle(formulas)]
 fn two(
     pieces: &mut Vec<Piece>,
-    names: &Named<Sort>,
+    names: &SortTable<'_>,
     starts: &Named<()>,
     head: Head,
     f: &Formula,
@@ -100,7 +101,7 @@ fn two(
 #[cycle(formulas)]
 fn different(
     pieces: &mut Vec<Piece>,
-    names: &Named<Sort>,
+    names: &SortTable<'_>,
     starts: &Named<()>,
     f: &Formula,
     g: &Formula,
@@ -118,7 +119,7 @@ fn different(
 #[cycle(formulas)]
 fn compared(
     pieces: &mut Vec<Piece>,
-    names: &Named<Sort>,
+    names: &SortTable<'_>,
     starts: &Named<()>,
     operator: Comparison,
     f: &Formula,
@@ -143,7 +144,7 @@ fn compared(
 #[cycle(formulas)]
 fn operands(
     pieces: &mut Vec<Piece>,
-    names: &Named<Sort>,
+    names: &SortTable<'_>,
     starts: &Named<()>,
     fs: &[Formula],
 ) -> Result<(), AllocError>
@@ -160,7 +161,7 @@ fn operands(
 #[cycle(formulas)]
 fn all(
     pieces: &mut Vec<Piece>,
-    names: &Named<Sort>,
+    names: &SortTable<'_>,
     starts: &Named<()>,
     head: Head,
     fs: &[Formula],

@@ -11,6 +11,7 @@ ghost use Rattle.spv_expression_terms.specs.term_walk.Names.{head_in};
 ghost use Rattle.spv_expression_terms.specs.term_walk.Written.{Writes, WritesHead};
 
 use crate::postfix::{Piece, put};
+use crate::sort_table::SortTable;
 use spv_logic::names::Symbol;
 use spv_logic::{Head, Sort};
 use spv_program::ordered_map::Named;
@@ -41,24 +42,24 @@ pub(crate) fn truth_head(b: bool) -> Head
 }
 
 // The sort of a name, of one that is not there that of a number.
-fn sort_of_name(names: &Named<Sort>, x: Symbol) -> Sort
+fn sort_of_name(names: &SortTable<'_>, x: Symbol) -> Sort
     ensures { result ≡ sort_or_int (found names.now x) }
 {
     match names.get(x) {
-        Some(sort) => *sort,
+        Some(sort) => sort,
         None => Sort::Int,
     }
 }
 
 // The head of a variable's name.
-pub(crate) fn variable_head(names: &Named<Sort>, x: Symbol) -> Head
+pub(crate) fn variable_head(names: &SortTable<'_>, x: Symbol) -> Head
     ensures { result ≡ name_in names.now x }
 {
     Head::Var(x, sort_of_name(names, x), 0)
 }
 
 // The head of a name; those among `starts` stand for what they were at the entry.
-pub(crate) fn name_head(names: &Named<Sort>, starts: &Named<()>, x: Symbol) -> Head
+pub(crate) fn name_head(names: &SortTable<'_>, starts: &Named<()>, x: Symbol) -> Head
     ensures { result ≡ head_in names.now starts.now x }
 {
     if starts.has(x) {

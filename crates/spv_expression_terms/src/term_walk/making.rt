@@ -14,11 +14,12 @@ ghost use Rattle.spv_expression_terms.specs.term_walk.Names.{head_in};
 ghost use Rattle.spv_expression_terms.specs.term_walk.OuterCalls.{filled, filled_place};
 
 use crate::postfix::built;
+use crate::sort_table::SortTable;
 use crate::term_walk::writing::{
     write_exit_formula, write_expression, write_filled, write_filled_place, write_formula,
     write_place,
 };
-use spv_logic::{Head, Sort};
+use spv_logic::Head;
 use spv_program::ordered_map::Named;
 use spv_program::typed::{Designator, Expression, Formula};
 use spv_term::{TermFault, TermId, Terms};
@@ -30,7 +31,7 @@ use std::alloc::Global;
 pub fn formula_term(
     terms: &mut Terms,
     alloc: Global,
-    names: &Named<Sort>,
+    names: &SortTable<'_>,
     f: &Formula,
 ) -> Result<TermId, TermFault>
     requires { IsWellSorted terms.old.shapes terms.old.decls (spec.formula_term (name_in names.now) f.now) }
@@ -52,7 +53,7 @@ pub fn formula_term(
 pub fn exit_formula_term(
     terms: &mut Terms,
     alloc: Global,
-    names: &Named<Sort>,
+    names: &SortTable<'_>,
     starts: &Named<()>,
     f: &Formula,
 ) -> Result<TermId, TermFault>
@@ -75,7 +76,7 @@ pub fn exit_formula_term(
 pub fn expression_term(
     terms: &mut Terms,
     alloc: Global,
-    names: &Named<Sort>,
+    names: &SortTable<'_>,
     e: &Expression,
 ) -> Result<TermId, TermFault>
     requires calls { IsTrue (plain.has_no_calls e.now) }
@@ -98,7 +99,7 @@ pub fn expression_term(
 pub fn place_term(
     terms: &mut Terms,
     alloc: Global,
-    names: &Named<Sort>,
+    names: &SortTable<'_>,
     d: &Designator,
 ) -> Result<TermId, TermFault>
     requires calls { IsTrue (plain.place_has_no_calls d.now) }
@@ -121,7 +122,7 @@ pub fn place_term(
 pub fn filled_term(
     terms: &mut Terms,
     alloc: Global,
-    names: &Named<Sort>,
+    names: &SortTable<'_>,
     variables: &[Head],
     e: &Expression,
 ) -> Result<TermId, TermFault>
@@ -145,7 +146,7 @@ pub fn filled_term(
 pub fn filled_place_term(
     terms: &mut Terms,
     alloc: Global,
-    names: &Named<Sort>,
+    names: &SortTable<'_>,
     variables: &[Head],
     d: &Designator,
 ) -> Result<TermId, TermFault>

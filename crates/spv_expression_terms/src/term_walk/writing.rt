@@ -9,9 +9,10 @@ ghost use Rattle.spv_expression_terms.specs.term_walk.OuterCalls.{filled, filled
 ghost use Rattle.spv_expression_terms.specs.term_walk.Numerals.{FormulaFits, ExpressionFits, PlaceFits};
 
 use crate::postfix::Piece;
+use crate::sort_table::SortTable;
 use crate::term_walk::expressions::{expression, place};
 use crate::term_walk::formulas::formula;
-use spv_logic::{Head, Sort};
+use spv_logic::Head;
 use spv_program::ordered_map::Named;
 use spv_program::typed::{Designator, Expression, Formula};
 use std::alloc::AllocError;
@@ -20,7 +21,7 @@ use std::alloc::AllocError;
 #[tactic(auto, using(crate::proofs::term_walk::Ends::ends_at))]
 pub fn write_formula(
     pieces: &mut Vec<Piece>,
-    names: &Named<Sort>,
+    names: &SortTable<'_>,
     f: &Formula,
 ) -> Result<(), AllocError>
     ensures written { OnOk result (pieces.new.items ≡ pieces.old.items ++ postfix (formula_term (name_in names.now) f.now)) }
@@ -35,7 +36,7 @@ pub fn write_formula(
 #[tactic(auto, using(crate::proofs::term_walk::Ends::ends_at))]
 pub fn write_exit_formula(
     pieces: &mut Vec<Piece>,
-    names: &Named<Sort>,
+    names: &SortTable<'_>,
     starts: &Named<()>,
     f: &Formula,
 ) -> Result<(), AllocError>
@@ -50,7 +51,7 @@ pub fn write_exit_formula(
 #[tactic(auto, using(crate::proofs::term_walk::Ends::ends_at))]
 pub fn write_filled(
     pieces: &mut Vec<Piece>,
-    names: &Named<Sort>,
+    names: &SortTable<'_>,
     variables: &[Head],
     e: &Expression,
 ) -> Result<(), AllocError>
@@ -64,7 +65,7 @@ pub fn write_filled(
 /// variables. Where a call stood, it would write FALSE.
 pub fn write_expression(
     pieces: &mut Vec<Piece>,
-    names: &Named<Sort>,
+    names: &SortTable<'_>,
     e: &Expression,
 ) -> Result<(), AllocError>
     ensures written { OnOk result (pieces.new.items ≡ pieces.old.items ++ postfix (expression_term (name_in names.now) e.now)) }
@@ -78,7 +79,7 @@ pub fn write_expression(
 #[tactic(auto, using(crate::proofs::term_walk::Ends::ends_at))]
 pub fn write_filled_place(
     pieces: &mut Vec<Piece>,
-    names: &Named<Sort>,
+    names: &SortTable<'_>,
     variables: &[Head],
     d: &Designator,
 ) -> Result<(), AllocError>
@@ -91,7 +92,7 @@ pub fn write_filled_place(
 /// Writes the term of what stands at a place, whose selectors make no calls, behind what is there.
 pub fn write_place(
     pieces: &mut Vec<Piece>,
-    names: &Named<Sort>,
+    names: &SortTable<'_>,
     d: &Designator,
 ) -> Result<(), AllocError>
     ensures written { OnOk result (pieces.new.items ≡ pieces.old.items ++ postfix (place_term (name_in names.now) d.now)) }

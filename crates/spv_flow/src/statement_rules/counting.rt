@@ -21,11 +21,11 @@ ghost use Rattle.spv_flow.specs.statement_rules.Rules.{BeginsFor, EndsBegin, End
 use spv_assign::Pending;
 use spv_assign::creation_trace::GenFault;
 use spv_assign::supply::Supply;
-use spv_flow_parts::Body;
 use spv_flow_parts::for_loops::{counter, end_of_for, wanted_put};
 use spv_flow_parts::leaves::{Leaves, Valued, noted};
+use spv_flow_parts::{Body, IndexedProgram};
 use spv_logic::{Kind, Sort};
-use spv_program::typed::{Annotation, Counting, Program, Statement};
+use spv_program::typed::{Annotation, Counting, Statement};
 use spv_term::{TermId, Terms};
 
 /// The terms of a FOR.
@@ -59,8 +59,8 @@ pub(crate) struct ForEnds {
 
 fn for_ends<L: Leaves>(
     leaves: &mut L,
-    program: &Program,
-    body: &Body,
+    program: &IndexedProgram<'_>,
+    body: &Body<'_>,
     terms: &mut Terms,
     supply: &mut Supply,
     count: &Counting,
@@ -83,8 +83,8 @@ fn for_ends<L: Leaves>(
 /// annotation, with the next value in the place of the variable, as what is wanted behind the body.
 pub fn begin_for<L: Leaves>(
     leaves: &mut L,
-    program: &Program,
-    body: &Body,
+    program: &IndexedProgram<'_>,
+    body: &Body<'_>,
     terms: &mut Terms,
     supply: &mut Supply,
     f: &Option<Annotation>,
@@ -130,8 +130,8 @@ pub fn begin_for<L: Leaves>(
 // The calls of both ends in front of conditions, those of the first end in front of all.
 fn behind_ends<L: Leaves>(
     leaves: &mut L,
-    program: &Program,
-    body: &Body,
+    program: &IndexedProgram<'_>,
+    body: &Body<'_>,
     t: &ForTerms,
     rest: Pending,
 ) -> Result<Pending, GenFault>
@@ -148,8 +148,8 @@ fn behind_ends<L: Leaves>(
 /// behind it, with the calls of its ends in front.
 pub fn end_for<L: Leaves>(
     leaves: &mut L,
-    program: &Program,
-    body: &Body,
+    program: &IndexedProgram<'_>,
+    body: &Body<'_>,
     terms: &mut Terms,
     supply: &mut Supply,
     whole: &Statement,

@@ -19,9 +19,9 @@ use spv_assign::Pending;
 use spv_assign::creation_trace::GenFault;
 use spv_assign::supply::Supply;
 use spv_flow_parts::leaves::{Leaves, Valued, noted};
-use spv_flow_parts::{Body, end_of_loop, wanted_note};
+use spv_flow_parts::{Body, IndexedProgram, end_of_loop, wanted_note};
 use spv_logic::{Kind, Sort};
-use spv_program::typed::{Annotation, Expression, Program, Statement};
+use spv_program::typed::{Annotation, Expression, Statement};
 use spv_term::{TermId, Terms};
 
 /// The terms of a loop with a test.
@@ -46,8 +46,8 @@ pub struct Begun {
 /// the body.
 pub fn begin_while<L: Leaves>(
     leaves: &mut L,
-    program: &Program,
-    body: &Body,
+    program: &IndexedProgram<'_>,
+    body: &Body<'_>,
     terms: &mut Terms,
     supply: &mut Supply,
     f: &Option<Annotation>,
@@ -75,8 +75,8 @@ pub fn begin_while<L: Leaves>(
 /// behind the body, where it goes on or ends, with the calls of the test in front.
 pub fn begin_repeat<L: Leaves>(
     leaves: &mut L,
-    program: &Program,
-    body: &Body,
+    program: &IndexedProgram<'_>,
+    body: &Body<'_>,
     terms: &mut Terms,
     supply: &mut Supply,
     f: &Option<Annotation>,
@@ -110,8 +110,8 @@ pub fn begin_repeat<L: Leaves>(
 /// changes renamed, behind the one of its beginning.
 pub fn end_repeat<L: Leaves>(
     leaves: &mut L,
-    program: &Program,
-    body: &Body,
+    program: &IndexedProgram<'_>,
+    body: &Body<'_>,
     terms: &mut Terms,
     supply: &mut Supply,
     whole: &Statement,
@@ -147,8 +147,8 @@ pub fn end_repeat<L: Leaves>(
 /// the negated test, with the calls of the test in front of both.
 pub fn end_while<L: Leaves>(
     leaves: &mut L,
-    program: &Program,
-    body: &Body,
+    program: &IndexedProgram<'_>,
+    body: &Body<'_>,
     terms: &mut Terms,
     supply: &mut Supply,
     whole: &Statement,

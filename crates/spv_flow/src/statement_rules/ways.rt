@@ -13,9 +13,8 @@ use spv_assign::Pending;
 use spv_assign::creation_trace::GenFault;
 use spv_assign::limited_steps::negated;
 use spv_flow_parts::leaves::{Leaves, Valued};
-use spv_flow_parts::{Body, ways};
+use spv_flow_parts::{Body, IndexedProgram, ways};
 use spv_logic::Sort;
-use spv_program::typed::Program;
 use spv_term::{TermId, Terms};
 
 // Conditions under a test, and behind them others under its negation.
@@ -61,8 +60,8 @@ pub(crate) fn turned_ways(
 /// Conditions under a test, and behind them others under its negation, with the calls of the test in front of both.
 pub fn tested_ways<L: Leaves>(
     leaves: &mut L,
-    program: &Program,
-    body: &Body,
+    program: &IndexedProgram<'_>,
+    body: &Body<'_>,
     terms: &mut Terms,
     test: &Valued,
     first: Pending,

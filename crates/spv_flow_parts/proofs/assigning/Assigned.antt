@@ -1,7 +1,5 @@
 -- The conditions before an assignment, behind what was made for it.
 use Rattle.std.proofs.Common.{◌≡◌, true, ◌&&◌, List, [], ◌∷◌, Option, Some, None, Ok, Err, IfOk, IsErrAnd, refl, sym, ap, subst, ◌∙◌}
-use Rattle.std.specs.Prelude.{Vec}
-use Rattle.std.specs.Global.{Global}
 use Rattle.std.proofs.lemmas.Bool.{false≢true}
 use Rattle.spv_logic.proofs.list.Tests.{right_true}
 use Rattle.spv_logic.proofs.Equality.{sort_eq-true}

@@ -1,20 +1,13 @@
 -- Names that are put into a table one after the other.
-use Rattle.std.proofs.Common.{◌≡◌, Bool, true, false, cond, List, [], ◌∷◌, ◌++◌, Result, Ok, Err, OnOk, Option, Some, None, is_some, refl, sym, ap, subst, ◌∙◌}
+use Rattle.std.proofs.Common.{◌≡◌, Bool, true, false, cond, [], ◌∷◌, ◌++◌, Result, Ok, Err, OnOk, Option, Some, None, is_some, refl, sym, ap, subst, ◌∙◌}
 use Rattle.std.proofs.lemmas.Bool.{false≢true}
 use Rattle.spv_logic.specs.declared.names.names.Symbol.{Symbol}
 use Rattle.spv_logic.specs.declared.types.Sort.{Sort}
 use Rattle.spv_program.specs.Lists.{same_name, found, first_of}
 use Rattle.spv_program.specs.Scopes.{Scope}
 use Rattle.spv_meaning.proofs.Maps.{same_names}
+use Rattle.spv_expression_terms.proofs.sort_table.Levels.{found_append}
 use Rattle.spv_flow_parts.specs.body_tables.Tables.{Puts, sorted_name}
-
-pub found_append : {X : Type 0} (xs ys : List (Symbol × X)) (x : Symbol) → found (xs ++ ys) x ≡ first_of (found xs x) (found ys x)
-found_append [] ys x = refl
-found_append (e ∷ xs) ys x = by (same_name e.0 x) (found_append xs ys x)
-  where
-    by : (b : Bool) → found (xs ++ ys) x ≡ first_of (found xs x) (found ys x) → cond b (Some e.1) (found (xs ++ ys) x) ≡ first_of (cond b (Some e.1) (found xs x)) (found ys x)
-    by true h = refl
-    by false h = h
 
 pub first_none : {X : Type 0} (o : Option X) → first_of o None ≡ o
 first_none None = refl

@@ -1,6 +1,6 @@
 -- What the tables of a body find.
 use Rattle.std.proofs.Common.{◌≡◌, Bool, true, false, cond, List, [], ◌∷◌, ◌++◌, map, Option, Some, None, option_map, refl, sym, ap, subst, ◌∙◌}
-use Rattle.std.proofs.lemmas.List.{map-append}
+use Rattle.std.proofs.lemmas.List.{append_assoc, map-append}
 use Rattle.spv_logic.specs.declared.names.names.Symbol.{Symbol}
 use Rattle.spv_logic.specs.declared.types.TypeId.{TypeId}
 use Rattle.spv_logic.specs.declared.types.Sort.{Sort}
@@ -16,7 +16,8 @@ use Rattle.spv_program.specs.declared.typed.programs.Routine.{Routine as Routine
 use Rattle.spv_program.specs.typed.ProgramViews.{formal_of, routine_of}
 use Rattle.spv_expression_terms.specs.term_walk.Laws.{HasNamesOf, variable_scope}
 use Rattle.spv_flow_parts.specs.body_tables.Tables.{Puts, formal_name, sorts_of, item_sort_in, initial_sorts, initial_in}
-use Rattle.spv_flow_parts.proofs.body_tables.Putting.{found_append, first_none, first_again, more_put}
+use Rattle.spv_expression_terms.proofs.sort_table.Levels.{found_append}
+use Rattle.spv_flow_parts.proofs.body_tables.Putting.{first_none, first_again, more_put}
 
 -- ---- a loop over what is put
 
@@ -96,35 +97,42 @@ initial_put p (Some r) variables a b h k = subst (λ (more : Scope). Puts a b mo
 
 -- ---- whole tables
 
-pub variables_found : (p : Program) (here : Option Routine) (a b c : Scope) → a ≡ [] → Puts a b (with_sorts_of p (own_names_in here)) → Puts b c (with_sorts_of p p.variables) → HasNamesOf c (variable_scope p here)
-variables_found p here a b c none h k = record {
-  each = λ x. (more_put a b c (with_sorts_of p (own_names_in here)) (with_sorts_of p p.variables) h k).each x ∙ ap (λ (l : Scope). first_of (found l x) (found (variable_scope p here) x)) none;
-}
-
-pub names_found : (p : Program) (here : Option Routine) (a b c d : Scope) → a ≡ [] → Puts a b (with_sorts_of p (own_names_in here)) → Puts b c (initial_names p here) → Puts c d (with_sorts_of p p.variables) → HasNamesOf d (body_scope p here)
-names_found p here a b c d none h k l = record {
+-- a table of its own, in front of one that all share
+pub in_front : (start own shared whole more last : Scope) → start ≡ [] → Puts start own more → HasNamesOf shared last → whole ≡ own ++ shared → HasNamesOf whole (more ++ last)
+in_front start own shared whole more last none h k is = record {
   each = λ x.
-      (more_put a b d (with_sorts_of p (own_names_in here)) (initial_names p here ++ with_sorts_of p p.variables) h (more_put b c d (initial_names p here) (with_sorts_of p p.variables) k l)).each x
-      ∙ ap (λ (l : Scope). first_of (found l x) (found (body_scope p here) x)) none;
+      ap (λ (l : Scope). found l x) is
+      ∙ found_append own shared x
+      ∙ ap (λ (o : Option Sort). first_of o (found shared x)) (h.each x ∙ ap (λ (l : Scope). first_of (found l x) (found more x)) none)
+      ∙ ap (first_of (found more x)) (k.each x)
+      ∙ sym (found_append more last x);
 }
 
--- ---- what ENTRY and EXIT see
+module _ (p : Program) (start shared whole : Scope) (none : start ≡ []) (k : HasNamesOf shared (with_sorts_of p p.variables)) where
+  pub variables_found : (here : Option Routine) (own : Scope) → Puts start own (with_sorts_of p (own_names_in here)) → whole ≡ own ++ shared → HasNamesOf whole (variable_scope p here)
+  variables_found here own h is = in_front start own shared whole (with_sorts_of p (own_names_in here)) (with_sorts_of p p.variables) none h k is
 
-pub entry_found : (p : Program) (r : Routine) (a b c : Scope) → a ≡ [] → Puts a b (sorts_of p.forms (map formal_name r.formals)) → Puts b c (with_sorts_of p p.variables) → HasNamesOf c (entry_scope p r)
-entry_found p r a b c none h k = record {
-  each = λ x. (more_put a b c (sorts_of p.forms (map formal_name r.formals)) (with_sorts_of p p.variables) h k).each x ∙ ap (λ (l : Scope). first_of (found l x) (found (entry_scope p r) x)) none;
-}
+  pub names_found : (here : Option Routine) (own all : Scope) → Puts start own (with_sorts_of p (own_names_in here)) → Puts own all (initial_names p here) → whole ≡ all ++ shared → HasNamesOf whole (body_scope p here)
+  names_found here own all h l is =
+      let names = with_sorts_of p (own_names_in here) in
+      subst (HasNamesOf whole) (append_assoc names (initial_names p here) (with_sorts_of p p.variables))
+      (in_front start all shared whole (names ++ initial_names p here) (with_sorts_of p p.variables) none (more_put start own all names (initial_names p here) h l) k is)
 
-pub exit_found : (p : Program) (r : Routine) (variables a b c d e : Scope) → HasNamesOf variables (variable_scope p (Some r)) → a ≡ [] → Puts a b (sorts_of p.forms (map formal_name r.formals))
-    → Puts b c (sorts_of p.forms (result_name r.name r.result)) → Puts c d (initial_sorts variables r.initial) → Puts d e (with_sorts_of p p.variables) → HasNamesOf e (exit_scope p r)
-exit_found p r variables a b c d e names none h k l m =
-    let own = sorts_of p.forms (map formal_name r.formals) in
-    let result = sorts_of p.forms (result_name r.name r.result) in
-    let initial = initial_put p (Some r) variables c d names l in
-    let all = more_put a b e own (result ++ (initial_names p (Some r) ++ with_sorts_of p p.variables)) h
-    (more_put b c e result (initial_names p (Some r) ++ with_sorts_of p p.variables) k
-    (more_put c d e (initial_names p (Some r)) (with_sorts_of p p.variables) initial m)) in
-    record { each = λ x. all.each x ∙ ap (λ (l : Scope). first_of (found l x) (found (exit_scope p r) x)) none }
+  -- ---- what ENTRY and EXIT see
+
+  pub entry_found : (r : Routine) (own : Scope) → Puts start own (sorts_of p.forms (map formal_name r.formals)) → whole ≡ own ++ shared → HasNamesOf whole (entry_scope p r)
+  entry_found r own h is = in_front start own shared whole (sorts_of p.forms (map formal_name r.formals)) (with_sorts_of p p.variables) none h k is
+
+  pub exit_found : (r : Routine) (variables b c own : Scope) → HasNamesOf variables (variable_scope p (Some r)) → Puts start b (sorts_of p.forms (map formal_name r.formals))
+      → Puts b c (sorts_of p.forms (result_name r.name r.result)) → Puts c own (initial_sorts variables r.initial) → whole ≡ own ++ shared → HasNamesOf whole (exit_scope p r)
+  exit_found r variables b c own names h l m is =
+      let formals = sorts_of p.forms (map formal_name r.formals) in
+      let result = sorts_of p.forms (result_name r.name r.result) in
+      let initial = initial_names p (Some r) in
+      let last = with_sorts_of p p.variables in
+      subst (HasNamesOf whole) (append_assoc formals (result ++ initial) last ∙ ap (λ (s : Scope). formals ++ s) (append_assoc result initial last))
+      (in_front start own shared whole (formals ++ (result ++ initial)) last none
+      (more_put start b own formals (result ++ initial) h (more_put b c own result initial l (initial_put p (Some r) variables c own names m))) k is)
 
 -- the parameters of a routine, by what was handed on
 pub formals_put : (p : Program) (forms : List TypeForm) (r : RoutineText) (given : List FormalText) (a b : Scope) → forms ≡ p.forms → given ≡ r.formals

@@ -1,7 +1,5 @@
 -- The conditions before a call, behind what was made for it.
 use Rattle.std.proofs.Common.{◌≡◌, ℕ, suc, nat_eq, arith, ◌+◌, Bool, true, false, List, [], ◌∷◌, ◌++◌, map, length, Option, Some, None, Result, Ok, Err, IfOk, IsErrAnd, refl, sym, ap, subst, ◌∙◌}
-use Rattle.std.specs.Prelude.{Vec}
-use Rattle.std.specs.Global.{Global}
 use Rattle.std.proofs.lemmas.Bool.Decides.{nat_tests}
 use Rattle.std.proofs.lemmas.List.{length-map, append_assoc}
 use Rattle.spv_logic.specs.declared.conditions.RoutineId.{RoutineId}

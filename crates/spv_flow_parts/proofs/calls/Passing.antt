@@ -38,7 +38,7 @@ use Rattle.spv_flow_parts.specs.body_tables.Tables.{formal_name}
 use Rattle.spv_flow_parts.specs.leaves.Values.{IsTermIfThere}
 use Rattle.spv_flow_parts.specs.calls.Arguments.{AreAfter, AreArguments, ArePresent, FitFormals, IsArgument, argument_in}
 use Rattle.spv_flow_parts.proofs.Steps.{IsTerm-Extends}
-use Rattle.spv_flow_parts.proofs.body_tables.Putting.{found_append}
+use Rattle.spv_expression_terms.proofs.sort_table.Levels.{found_append}
 
 -- ---- arenas that grow
 

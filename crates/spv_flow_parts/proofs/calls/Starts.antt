@@ -4,7 +4,7 @@ use Rattle.std.specs.List.{list_any}
 use Rattle.spv_logic.specs.declared.names.names.Symbol.{Symbol}
 use Rattle.spv_program.specs.Lists.{same_name, found, first_of}
 use Rattle.spv_program.specs.Programs.{Formal}
-use Rattle.spv_flow_parts.proofs.body_tables.Putting.{found_append}
+use Rattle.spv_expression_terms.proofs.sort_table.Levels.{found_append}
 
 abbrev pub is_start : Symbol → Formal → Bool
 is_start x f = same_name f.name x && not f.by_place

@@ -7,6 +7,7 @@ ghost use Rattle.spv_program.specs.typed.ProgramViews.{formal_of, routine_of};
 ghost use Rattle.spv_flow_parts.specs.body_tables.Tables.{Puts, formal_name, initial_sorts, item_sort_in, sorted_name, sorts_of};
 
 use spv_effects::mod_sets::sort_of;
+use spv_expression_terms::sort_table::SortTable;
 use spv_logic::names::Symbol;
 use spv_logic::{RoutineId, Sort, TypeId};
 use spv_program::ordered_map::Named;
@@ -98,12 +99,12 @@ pub(crate) fn add_own(
 }
 
 /// The sort of what an INITIAL name stands for.
-pub fn item_sort(variables: &Named<Sort>, item: Item) -> Sort
+pub fn item_sort(variables: &SortTable<'_>, item: Item) -> Sort
     ensures { result ≡ item_sort_in variables.now item }
 {
     match item {
         Item::Variable(x) => match variables.get(x) {
-            Some(s) => *s,
+            Some(s) => s,
             None => Sort::Int,
         },
         Item::Class(t) => Sort::Class(t),
@@ -113,7 +114,7 @@ pub fn item_sort(variables: &Named<Sort>, item: Item) -> Sort
 /// Puts INITIAL names, where nothing stands there.
 pub(crate) fn add_initial(
     table: &mut Named<Sort>,
-    variables: &Named<Sort>,
+    variables: &SortTable<'_>,
     items: &[(Symbol, Item)],
 ) -> Result<(), AllocError>
     ensures { OnOk result (Puts table.old table.new (initial_sorts variables.now items.now)) }

@@ -27,6 +27,7 @@ ghost use Rattle.spv_flow_parts.specs.leaves.Values.{IsTermIfThere};
 ghost use Rattle.spv_flow_parts.specs.calls.Arguments.{Calling, AddsCalls, AddsPairs, AreAfter, AreArguments, ArePresent, FitHeads, HaveSorts, IsArgument, IsAtCall, IsCallable, MakesBy, MakesCall, argument_in, call_line, called_routine, called_with, initial_pair, one_call, pairs_at_exit};
 ghost use Rattle.spv_flow_parts.specs.calls.Events.{at_call_events, entry_events, exit_events, made_at_call};
 
+use crate::IndexedProgram;
 use crate::body_tables::{item_sort, variables_of};
 use crate::calls::callees::{entry_formula, exit_formula};
 use crate::calls::passed::Argument;
@@ -36,11 +37,12 @@ use spv_assign::limited_steps::{limited, made};
 use spv_assign::structures::present;
 use spv_assign::supply::Supply;
 use spv_effects::mod_sets::sort_of;
+use spv_expression_terms::sort_table::SortTable;
 use spv_logic::list::List;
 use spv_logic::names::Symbol;
 use spv_logic::{Head, RoutineId, Sort};
 use spv_program::ordered_map::Named;
-use spv_program::typed::{Annotation, Call, Formal, Program, Routine};
+use spv_program::typed::{Annotation, Call, Formal, Routine};
 use spv_program::{Item, TypeForm};
 use spv_term::substitution::substitute;
 use spv_term::{TermId, Terms};
@@ -154,7 +156,7 @@ fn with_pairs(
 
 // ENTRY with what stands for the parameters in their places.
 fn entry_at_call(
-    program: &Program,
+    program: &IndexedProgram<'_>,
     alloc: Global,
     terms: &mut Terms,
     routine: &Routine,
@@ -171,7 +173,7 @@ fn entry_at_call(
         (entry_events program.now (routine_of routine.now) at.arguments (Some (annotation_of entry.now))) terms.old terms.new }
 {
     let f = entry_formula(program, alloc, terms, routine, entry)?;
-    let forms = program.forms.as_slice();
+    let forms = program.program().forms.as_slice();
     let pairs = at_call(alloc, forms, terms, routine.formals.as_slice(), now)?;
     with_pairs(alloc, terms, f, pairs.as_slice())
 }
@@ -275,7 +277,7 @@ fn passed_or_itself(
 // What stands at the call for an item that an INITIAL name has.
 fn item_at_call(
     terms: &mut Terms,
-    variables: &Named<Sort>,
+    variables: &SortTable<'_>,
     formals: &[Formal],
     now: &[TermId],
     item: Item,
@@ -295,7 +297,7 @@ fn item_at_call(
 // An INITIAL name, and what its item is at the call.
 fn add_initial_item(
     terms: &mut Terms,
-    variables: &Named<Sort>,
+    variables: &SortTable<'_>,
     formals: &[Formal],
     now: &[TermId],
     name: Symbol,
@@ -318,7 +320,7 @@ fn add_initial_item(
 // The INITIAL names, and what their items are at the call.
 fn add_initial_items(
     terms: &mut Terms,
-    variables: &Named<Sort>,
+    variables: &SortTable<'_>,
     formals: &[Formal],
     now: &[TermId],
     initial: &[(Symbol, Item)],
@@ -339,7 +341,7 @@ fn add_initial_items(
 }
 
 /// The variable or class of an item, where these are the variables of its routine's body.
-pub fn item_head(variables: &Named<Sort>, item: Item) -> Head
+pub fn item_head(variables: &SortTable<'_>, item: Item) -> Head
     ensures { (p : programs.Program) (r : programs.Routine) → HasNamesOf variables.now (variable_scope p (Some r)) → result ≡ item_head p (Some r) item }
 {
     match item {
@@ -368,11 +370,11 @@ fn add_after(
 
 // What is replaced in EXIT: the starts of the value parameters, INITIAL names, and what `after` has.
 fn exit_pairs(
-    program: &Program,
+    program: &IndexedProgram<'_>,
     alloc: Global,
     terms: &mut Terms,
     routine: &Routine,
-    variables: &Named<Sort>,
+    variables: &SortTable<'_>,
     given: &[Argument],
     now: &[TermId],
     after: &[(Head, TermId)],
@@ -391,7 +393,7 @@ fn exit_pairs(
     ensures pairs { IfOk result (λ ps. pairs_of terms.new ps.items ≡ pairs_at_exit program.now (routine_of routine.now) at.arguments at.after) }
     ensures fit { IfOk result (λ ps. ArePairs terms.new ps.items) }
 {
-    let forms = program.forms.as_slice();
+    let forms = program.program().forms.as_slice();
     let formals = routine.formals.as_slice();
     let mut pairs = Vec::new(alloc);
     add_starts(forms, terms, formals, given, &mut pairs)?;
@@ -403,7 +405,7 @@ fn exit_pairs(
 
 // EXIT with the arguments at the starts of the value parameters, INITIAL names as they are at the call, and what `after` says.
 fn exit_at_call(
-    program: &Program,
+    program: &IndexedProgram<'_>,
     alloc: Global,
     terms: &mut Terms,
     number: RoutineId,
@@ -434,7 +436,7 @@ fn exit_at_call(
 
 // ENTRY at the call, where the routine has one.
 fn needs_of(
-    program: &Program,
+    program: &IndexedProgram<'_>,
     alloc: Global,
     terms: &mut Terms,
     routine: &Routine,
@@ -455,7 +457,7 @@ fn needs_of(
 
 // EXIT at the call, where the routine has one.
 fn gives_of(
-    program: &Program,
+    program: &IndexedProgram<'_>,
     alloc: Global,
     terms: &mut Terms,
     number: RoutineId,
@@ -485,7 +487,7 @@ fn gives_of(
 
 // A call of the routine with this number, with these arguments, where `after` says what stands for its result, its VAR parameters and its VAR items.
 pub(crate) fn called(
-    program: &Program,
+    program: &IndexedProgram<'_>,
     alloc: Global,
     terms: &mut Terms,
     number: RoutineId,
@@ -500,7 +502,7 @@ pub(crate) fn called(
     requires fit { FitHeads program.now at.after }
     ensures { MakesCall result (called_with program.now at.routine line at.arguments at.after) (at_call_events program.now at.routine at.arguments at.after) terms.old terms.new }
 {
-    let routine = program.routines.get(number.0 as usize);
+    let routine = program.program().routines.get(number.0 as usize);
     let args = present_arguments(alloc, terms, given)?;
     let now = args.as_slice();
     let needs = needs_of(program, alloc, terms, routine, now)?;
@@ -514,11 +516,11 @@ pub(crate) fn called(
 }
 
 // The sort of a function's result.
-fn result_sort(program: &Program, routine: &Routine) -> Sort
+fn result_sort(program: &IndexedProgram<'_>, routine: &Routine) -> Sort
     ensures { result ≡ sort_of_result program.now (routine_of routine.now) }
 {
     match routine.result {
-        Some(t) => sort_of(program.forms.as_slice(), t),
+        Some(t) => sort_of(program.program().forms.as_slice(), t),
         None => Sort::Int,
     }
 }
@@ -542,7 +544,7 @@ fn fresh_value(
 
 // A call of a function, behind those in its arguments: its value is a fresh variable that has the function's name.
 pub(crate) fn function_call(
-    program: &Program,
+    program: &IndexedProgram<'_>,
     alloc: Global,
     terms: &mut Terms,
     supply: &mut Supply,
@@ -559,7 +561,7 @@ pub(crate) fn function_call(
         (made_at_call program.now (Some at.routine) (record { arguments = at.arguments; calls = []; supply = supply_of supply.old })) terms.old terms.new
         variables.old variables.new calls.old calls.new (supply_of supply.new) }
 {
-    let routine = program.routines.get(call.routine.0 as usize);
+    let routine = program.program().routines.get(call.routine.0 as usize);
     let sort = result_sort(program, routine);
     let value = fresh_value(terms, supply, routine.name, sort)?;
     terms.law_arena();

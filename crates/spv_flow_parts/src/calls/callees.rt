@@ -12,48 +12,48 @@ ghost use Rattle.spv_expression_terms.specs.term_walk.Laws.{HasNamesOf, variable
 ghost use Rattle.spv_flow_parts.specs.Walks.{MakesTerm};
 ghost use Rattle.spv_flow_parts.specs.calls.Arguments.{IsOver};
 
-use crate::body_tables::{add_formals, add_initial, add_names, add_result};
+use crate::IndexedProgram;
+use crate::body_tables::{add_formals, add_initial, add_result};
 use spv_assign::creation_trace::GenFault;
 use spv_assign::limited_steps::limited;
+use spv_expression_terms::sort_table::SortTable;
 use spv_expression_terms::term_walk::{exit_formula_term, formula_term};
 use spv_logic::Sort;
 use spv_program::ordered_map::Named;
-use spv_program::typed::{Annotation, Formal, Program, Routine};
+use spv_program::typed::{Annotation, Formal, Routine};
 use spv_term::{TermId, Terms};
 use std::alloc::{AllocError, Global};
 
 // The names that ENTRY sees, with the sorts of what they stand for.
-fn entry_names(
+fn entry_names<'i>(
     alloc: Global,
-    program: &Program,
+    program: &'i IndexedProgram<'_>,
     routine: &Routine,
-) -> Result<Named<Sort>, AllocError>
+) -> Result<SortTable<'i>, AllocError>
     ensures { IfOk result (λ table. HasNamesOf table (entry_scope program.now (routine_of routine.now))) }
 {
-    let mut table = Named::new(alloc);
-    let forms = program.forms.as_slice();
-    add_formals(&mut table, forms, routine.formals.as_slice())?;
-    add_names(&mut table, forms, program.variables.as_slice())?;
-    Ok(table)
+    let mut own = Named::new(alloc);
+    let forms = program.program().forms.as_slice();
+    add_formals(&mut own, forms, routine.formals.as_slice())?;
+    Ok(SortTable::in_front(own, program.sorts()))
 }
 
 // The names that EXIT sees, where these are the variables of the routine's body.
-fn exit_names(
+fn exit_names<'i>(
     alloc: Global,
-    program: &Program,
+    program: &'i IndexedProgram<'_>,
     routine: &Routine,
-    variables: &Named<Sort>,
-) -> Result<Named<Sort>, AllocError>
+    variables: &SortTable<'_>,
+) -> Result<SortTable<'i>, AllocError>
     requires { HasNamesOf variables.now (variable_scope program.now (Some (routine_of routine.now))) }
     ensures { IfOk result (λ table. HasNamesOf table (exit_scope program.now (routine_of routine.now))) }
 {
-    let mut table = Named::new(alloc);
-    let forms = program.forms.as_slice();
-    add_formals(&mut table, forms, routine.formals.as_slice())?;
-    add_result(&mut table, forms, routine.name, routine.result)?;
-    add_initial(&mut table, variables, routine.initial.as_slice())?;
-    add_names(&mut table, forms, program.variables.as_slice())?;
-    Ok(table)
+    let mut own = Named::new(alloc);
+    let forms = program.program().forms.as_slice();
+    add_formals(&mut own, forms, routine.formals.as_slice())?;
+    add_result(&mut own, forms, routine.name, routine.result)?;
+    add_initial(&mut own, variables, routine.initial.as_slice())?;
+    Ok(SortTable::in_front(own, program.sorts()))
 }
 
 // Puts a parameter, where it is a value parameter and nothing stands under its name.
@@ -80,7 +80,7 @@ fn start_names(alloc: Global, routine: &Routine) -> Result<Named<()>, AllocError
 
 /// The term of a routine's ENTRY.
 pub fn entry_formula(
-    program: &Program,
+    program: &IndexedProgram<'_>,
     alloc: Global,
     terms: &mut Terms,
     routine: &Routine,
@@ -98,11 +98,11 @@ pub fn entry_formula(
 
 /// The term of a routine's EXIT, with the value parameters as they were at the beginning, where these are the variables of its body.
 pub fn exit_formula(
-    program: &Program,
+    program: &IndexedProgram<'_>,
     alloc: Global,
     terms: &mut Terms,
     routine: &Routine,
-    variables: &Named<Sort>,
+    variables: &SortTable<'_>,
     exit: &Annotation,
 ) -> Result<TermId, GenFault>
     requires over { IsOver program.now terms.old }

@@ -26,21 +26,22 @@ ghost use Rattle.spv_flow_parts.specs.Walks.{Comes, ComesTo, made_of};
 ghost use Rattle.spv_flow_parts.specs.calls.Arguments.{Calling, AddsChanged, AreArguments, AreChanged, IsArgument, IsAtCall, MayMake, argument_in, call_line, called_routine, changed_by_places, argued_at};
 ghost use Rattle.spv_flow_parts.specs.calls.Events.{entering_events, perform_events};
 
-use crate::Body;
 use crate::body_tables::variables_of;
 use crate::calls::at_call::{called, item_head};
 use crate::calls::passed::{Argued, Argument};
 use crate::calls::values::arguments;
 use crate::leaves::in_front;
+use crate::{Body, IndexedProgram};
 use spv_assign::Pending;
 use spv_assign::creation_trace::GenFault;
 use spv_assign::limited_steps::{fresh_pair, limited, replaced};
 use spv_assign::structures::{Target, whole_with};
 use spv_assign::supply::Supply;
 use spv_effects::mod_sets::sort_of;
+use spv_expression_terms::sort_table::SortTable;
 use spv_logic::{Head, RoutineId, Sort};
 use spv_program::ordered_map::Named;
-use spv_program::typed::{Call, Formal, GlobalItem, Program};
+use spv_program::typed::{Call, Formal, GlobalItem};
 use spv_term::{TermId, Terms};
 use std::alloc::{AllocError, Global};
 
@@ -68,7 +69,7 @@ fn push(
 
 // A VAR parameter is a fresh variable, and the root of its argument is its whole with that variable at the argument's place.
 fn add_place(
-    program: &Program,
+    program: &IndexedProgram<'_>,
     alloc: Global,
     terms: &mut Terms,
     supply: &mut Supply,
@@ -83,7 +84,7 @@ fn add_place(
     ensures { AddsChanged result (changed_by_places program.now (formal_of formal.now ∷ []) (plain.AtPlace (target_in terms.old d.now) ∷ []) (supply_of supply.old)) terms.old terms.new changed.old changed.new (supply_of supply.new) }
 {
     terms.law_arena();
-    let sort = sort_of(program.forms.as_slice(), formal.of);
+    let sort = sort_of(program.program().forms.as_slice(), formal.of);
     let fresh = supply.fresh_variable(terms, formal.name, sort);
     let y = limited(terms, fresh)?;
     let whole = whole_with(terms, alloc, d, y);
@@ -93,7 +94,7 @@ fn add_place(
 }
 
 fn add_argument(
-    program: &Program,
+    program: &IndexedProgram<'_>,
     alloc: Global,
     terms: &mut Terms,
     supply: &mut Supply,
@@ -114,7 +115,7 @@ fn add_argument(
 }
 
 fn add_places(
-    program: &Program,
+    program: &IndexedProgram<'_>,
     alloc: Global,
     terms: &mut Terms,
     supply: &mut Supply,
@@ -148,7 +149,7 @@ fn add_places(
 fn add_item(
     terms: &mut Terms,
     supply: &mut Supply,
-    variables: &Named<Sort>,
+    variables: &SortTable<'_>,
     global: &GlobalItem,
     changed: &mut Changed,
 ) -> Result<(), GenFault>
@@ -170,7 +171,7 @@ fn add_item(
 fn add_items(
     terms: &mut Terms,
     supply: &mut Supply,
-    variables: &Named<Sort>,
+    variables: &SortTable<'_>,
     globals: &[GlobalItem],
     changed: &mut Changed,
 ) -> Result<(), GenFault>
@@ -189,7 +190,7 @@ fn add_items(
 
 // What a call changes: its VAR parameters, and the items of its VAR groups.
 fn changes(
-    program: &Program,
+    program: &IndexedProgram<'_>,
     alloc: Global,
     terms: &mut Terms,
     supply: &mut Supply,
@@ -206,7 +207,7 @@ fn changes(
     ensures walk { Answers result (several (pair_terms (changed_places program.now at.routine at.routine.formals at.arguments (supply_of supply.old)).after)) terms.old terms.new }
     ensures changed { IfOk result (λ c. AreChanged terms.new (supply_of supply.new) c.in_exit.items c.after.items (changed_places program.now at.routine at.routine.formals at.arguments (supply_of supply.old))) }
 {
-    let routine = program.routines.get(number.0 as usize);
+    let routine = program.program().routines.get(number.0 as usize);
     let mut changed = Changed {
         in_exit: Vec::new(alloc),
         after: Vec::new(alloc),
@@ -251,8 +252,8 @@ fn with_changes(
 
 /// The conditions before a call whose arguments were made.
 pub fn before_entered(
-    program: &Program,
-    body: &Body,
+    program: &IndexedProgram<'_>,
+    body: &Body<'_>,
     terms: &mut Terms,
     supply: &mut Supply,
     call: &Call,
@@ -284,8 +285,8 @@ pub fn before_entered(
 
 /// The conditions before a call, with the calls in its arguments in front.
 pub fn before_call(
-    program: &Program,
-    body: &Body,
+    program: &IndexedProgram<'_>,
+    body: &Body<'_>,
     terms: &mut Terms,
     supply: &mut Supply,
     call: &Call,

@@ -31,7 +31,7 @@ pub(crate) struct Way {
 }
 
 // The place that a name is.
-pub(crate) fn start(body: &Body, terms: &mut Terms, name: Symbol) -> Result<Way, GenFault>
+pub(crate) fn start(body: &Body<'_>, terms: &mut Terms, name: Symbol) -> Result<Way, GenFault>
     requires types { IsTrue (sort_in_range terms.old.shapes (sort_or_int (found body.now.variables name))) }
     ensures grows { Extends terms.old terms.new }
     ensures walk { Answers result (one (alone (name_in body.now.variables name))) terms.old terms.new }
@@ -39,7 +39,7 @@ pub(crate) fn start(body: &Body, terms: &mut Terms, name: Symbol) -> Result<Way,
     ensures same { IfOk result (λ w. target_in terms.new w.target ≡ record { root = name_in body.now.variables name; pointer = None; path = [] }) }
 {
     let sort = match body.variables.get(name) {
-        Some(s) => *s,
+        Some(s) => s,
         None => Sort::Int,
     };
     let root = made(terms, Head::Var(name, sort, 0), &[])?;

@@ -15,11 +15,11 @@ ghost use Rattle.spv_flow_parts.specs.leaves.Values.{MakesValue};
 ghost use Rattle.spv_flow_parts.specs.calls.Arguments.{AddsArgument, AddsArguments, AddsCalls, AddsPlace, AddsStep, AddsValue, AreSelectors, AreSteps, FitParameters, IsCallOf, IsExpression, IsFunctionAt, IsFunctionCall, IsPlace, IsWay, MakesArguments, MakesPlace, MayMake, argued_at, arguments_at, arguments_in, call_made, called_routine, placed_at};
 ghost use Rattle.spv_flow_parts.specs.calls.Events.{argument_events, call_events, calls_in_value, made_at_call, made_events, place_events, step_events, value_events};
 
-use crate::Body;
 use crate::calls::at_call::function_call;
 use crate::calls::passed::{Argued, Argument, Placed};
 use crate::calls::places::{Way, start, to_cell, to_element, to_field};
 use crate::leaves::{Called, Valued};
+use crate::{Body, IndexedProgram};
 use spv_assign::creation_trace::GenFault;
 use spv_assign::limited_steps::limited;
 use spv_assign::structures::Target;
@@ -28,15 +28,15 @@ use spv_expression_terms::term_walk::filled_term;
 use spv_logic::Head;
 use spv_logic::list::List;
 use spv_program::typed::{
-    Argument as ArgumentText, Call, Designator, Expression, ExpressionForm, Program, Selector,
+    Argument as ArgumentText, Call, Designator, Expression, ExpressionForm, Selector,
 };
 use spv_term::{TermId, Terms};
 use std::alloc::Global;
 
 /// The term of an expression, with the calls that are made in it.
 pub fn value(
-    program: &Program,
-    body: &Body,
+    program: &IndexedProgram<'_>,
+    body: &Body<'_>,
     terms: &mut Terms,
     supply: &mut Supply,
     e: &Expression,
@@ -54,8 +54,8 @@ pub fn value(
 
 /// The place of a designator, with the calls that are made in its selectors. What stands there is made on the way.
 pub fn place(
-    program: &Program,
-    body: &Body,
+    program: &IndexedProgram<'_>,
+    body: &Body<'_>,
     terms: &mut Terms,
     supply: &mut Supply,
     d: &Designator,
@@ -72,8 +72,8 @@ pub fn place(
 
 /// The arguments of a call, from left to right, with the calls that are made in them.
 pub fn arguments(
-    program: &Program,
-    body: &Body,
+    program: &IndexedProgram<'_>,
+    body: &Body<'_>,
     terms: &mut Terms,
     supply: &mut Supply,
     call: &Call,
@@ -99,8 +99,8 @@ pub fn arguments(
 // The term of an expression.
 #[cycle(values)]
 fn add_value(
-    program: &Program,
-    body: &Body,
+    program: &IndexedProgram<'_>,
+    body: &Body<'_>,
     terms: &mut Terms,
     supply: &mut Supply,
     calls: &mut List<Called>,
@@ -121,8 +121,8 @@ fn add_value(
 // The outermost calls of an expression, in order.
 #[cycle(values)]
 fn add_calls(
-    program: &Program,
-    body: &Body,
+    program: &IndexedProgram<'_>,
+    body: &Body<'_>,
     terms: &mut Terms,
     supply: &mut Supply,
     calls: &mut List<Called>,
@@ -183,8 +183,8 @@ fn add_calls(
 // The outermost calls of selectors, in order.
 #[cycle(values)]
 fn add_selector_calls(
-    program: &Program,
-    body: &Body,
+    program: &IndexedProgram<'_>,
+    body: &Body<'_>,
     terms: &mut Terms,
     supply: &mut Supply,
     calls: &mut List<Called>,
@@ -206,8 +206,8 @@ fn add_selector_calls(
 // The outermost calls of a selector.
 #[cycle(values)]
 fn add_index_calls(
-    program: &Program,
-    body: &Body,
+    program: &IndexedProgram<'_>,
+    body: &Body<'_>,
     terms: &mut Terms,
     supply: &mut Supply,
     calls: &mut List<Called>,
@@ -230,8 +230,8 @@ fn add_index_calls(
 // A call, behind those in its arguments.
 #[cycle(values)]
 fn add_call(
-    program: &Program,
-    body: &Body,
+    program: &IndexedProgram<'_>,
+    body: &Body<'_>,
     terms: &mut Terms,
     supply: &mut Supply,
     calls: &mut List<Called>,
@@ -266,7 +266,7 @@ fn add_call(
 
 // A call with these arguments.
 fn call_with(
-    program: &Program,
+    program: &IndexedProgram<'_>,
     alloc: Global,
     terms: &mut Terms,
     supply: &mut Supply,
@@ -287,8 +287,8 @@ fn call_with(
 // The arguments of a call, from left to right.
 #[cycle(values)]
 fn add_arguments(
-    program: &Program,
-    body: &Body,
+    program: &IndexedProgram<'_>,
+    body: &Body<'_>,
     terms: &mut Terms,
     supply: &mut Supply,
     calls: &mut List<Called>,
@@ -310,8 +310,8 @@ fn add_arguments(
 // An argument: a value for a value parameter, a place for a VAR parameter.
 #[cycle(values)]
 fn add_argument(
-    program: &Program,
-    body: &Body,
+    program: &IndexedProgram<'_>,
+    body: &Body<'_>,
     terms: &mut Terms,
     supply: &mut Supply,
     calls: &mut List<Called>,
@@ -337,8 +337,8 @@ fn add_argument(
 // The place of a designator.
 #[cycle(values)]
 fn add_place(
-    program: &Program,
-    body: &Body,
+    program: &IndexedProgram<'_>,
+    body: &Body<'_>,
     terms: &mut Terms,
     supply: &mut Supply,
     calls: &mut List<Called>,
@@ -359,8 +359,8 @@ fn add_place(
 // A step further: into an array or a record, or to the cell that a pointer leads to.
 #[cycle(values)]
 fn step(
-    program: &Program,
-    body: &Body,
+    program: &IndexedProgram<'_>,
+    body: &Body<'_>,
     terms: &mut Terms,
     supply: &mut Supply,
     calls: &mut List<Called>,

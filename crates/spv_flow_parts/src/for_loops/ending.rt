@@ -18,7 +18,7 @@ ghost use Rattle.spv_flow_parts.specs.Walks.{Comes, ComesTo, IsNoted};
 ghost use Rattle.spv_flow_parts.specs.for_loops.Counting.{ended_events, ended_made, left_events, left_made, number_head};
 
 use crate::for_loops::closing::close;
-use crate::{Body, renamed, replaced_in, wanted_note};
+use crate::{Body, IndexedProgram, renamed, replaced_in, wanted_note};
 use spv_assign::Pending;
 use spv_assign::creation_trace::GenFault;
 use spv_assign::limited_steps::fresh_pair;
@@ -26,14 +26,14 @@ use spv_assign::supply::Supply;
 use spv_logic::names::Symbol;
 use spv_logic::{Head, Kind, Sort};
 use spv_program::Direction;
-use spv_program::typed::{Annotation, Program};
+use spv_program::typed::Annotation;
 use spv_term::{TermId, Terms};
 use std::alloc::Global;
 
 /// The condition that an annotation is true, with a term in the place of a variable; none where there is no annotation.
 pub fn wanted_put(
-    program: &Program,
-    body: &Body,
+    program: &IndexedProgram<'_>,
+    body: &Body<'_>,
     terms: &mut Terms,
     kind: Kind,
     f: &Option<Annotation>,
@@ -75,8 +75,8 @@ fn left_behind(
 /// The conditions of a FOR, where the terms of its ends, of its variable and of its annotation are there, and the
 /// conditions before its body are made.
 pub fn end_of_for(
-    program: &Program,
-    body: &Body,
+    program: &IndexedProgram<'_>,
+    body: &Body<'_>,
     terms: &mut Terms,
     supply: &mut Supply,
     heads: &[Head],

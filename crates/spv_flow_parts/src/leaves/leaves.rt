@@ -22,13 +22,13 @@ ghost use Rattle.spv_flow_parts.specs.Walks.{AreThese, Comes, ComesTo, MakesTerm
 ghost use Rattle.spv_flow_parts.specs.leaves.Parts.{Making, Taking};
 ghost use Rattle.spv_flow_parts.specs.leaves.Values.{AreCalls, MakesValue, call_events};
 
-use crate::Body;
 use crate::leaves::valued::Valued;
+use crate::{Body, IndexedProgram};
 use spv_assign::Pending;
 use spv_assign::creation_trace::GenFault;
 use spv_assign::supply::Supply;
 use spv_logic::Head;
-use spv_program::typed::{Annotation, Expression, Program, Statement};
+use spv_program::typed::{Annotation, Expression, Statement};
 use spv_term::{TermId, Terms};
 
 /// How assignments, NEW and calls, expressions with their calls, and annotations of a body become terms and conditions. A
@@ -46,8 +46,8 @@ pub trait Leaves {
     /// The conditions before an assignment, a NEW or a call, where these stand behind it.
     fn leaf(
         &mut self,
-        program: &Program,
-        body: &Body,
+        program: &IndexedProgram<'_>,
+        body: &Body<'_>,
         terms: &mut Terms,
         supply: &mut Supply,
         s: &Statement,
@@ -65,8 +65,8 @@ pub trait Leaves {
     /// The term of an expression, with the calls that are made in it.
     fn test(
         &mut self,
-        program: &Program,
-        body: &Body,
+        program: &IndexedProgram<'_>,
+        body: &Body<'_>,
         terms: &mut Terms,
         supply: &mut Supply,
         e: &Expression,
@@ -83,8 +83,8 @@ pub trait Leaves {
     /// The calls of an expression in front of conditions: what each needs is wanted, and what it gives is known from there on.
     fn before_test(
         &mut self,
-        program: &Program,
-        body: &Body,
+        program: &IndexedProgram<'_>,
+        body: &Body<'_>,
         tested: &Valued,
         rest: Pending,
     ) -> Result<Pending, GenFault>
@@ -96,8 +96,8 @@ pub trait Leaves {
     /// The term of an annotation.
     fn note(
         &mut self,
-        program: &Program,
-        body: &Body,
+        program: &IndexedProgram<'_>,
+        body: &Body<'_>,
         terms: &mut Terms,
         a: &Annotation,
     ) -> Result<TermId, GenFault>
@@ -110,8 +110,8 @@ pub trait Leaves {
     /// The variables and classes that a statement may change, in the order in which loops rename them.
     fn changed(
         &mut self,
-        program: &Program,
-        body: &Body,
+        program: &IndexedProgram<'_>,
+        body: &Body<'_>,
         s: &Statement,
     ) -> Result<Vec<Head>, GenFault>
         requires fits { fits self.old program.now body.now.here }

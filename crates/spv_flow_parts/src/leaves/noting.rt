@@ -14,19 +14,19 @@ ghost use Rattle.spv_flow_parts.specs.Standing.{AreNotes, Stands};
 ghost use Rattle.spv_flow_parts.specs.Walks.{Comes, IsNoted, made_of};
 
 use crate::leaves::leaves::Leaves;
-use crate::{Body, wanted};
+use crate::{Body, IndexedProgram, wanted};
 use spv_assign::Pending;
 use spv_assign::creation_trace::GenFault;
 use spv_assign::limited_steps::{assumed, joined};
 use spv_logic::Kind;
-use spv_program::typed::{Annotation, Program};
+use spv_program::typed::Annotation;
 use spv_term::{TermId, Terms};
 
 /// The term of an annotation of a body, where there is one.
 pub fn noted<L: Leaves>(
     leaves: &mut L,
-    program: &Program,
-    body: &Body,
+    program: &IndexedProgram<'_>,
+    body: &Body<'_>,
     terms: &mut Terms,
     f: &Option<Annotation>,
 ) -> Result<Option<TermId>, GenFault>
@@ -47,8 +47,8 @@ pub fn noted<L: Leaves>(
 /// The conditions before an ASSERT: its own first, and it is known in those behind it.
 pub fn before_assert<L: Leaves>(
     leaves: &mut L,
-    program: &Program,
-    body: &Body,
+    program: &IndexedProgram<'_>,
+    body: &Body<'_>,
     terms: &mut Terms,
     a: &Annotation,
     rest: Pending,

@@ -1,5 +1,6 @@
 // Terms in the arena.
 
+use spv_expression_terms::sort_table::SortTable;
 use spv_expression_terms::term_walk::{exit_formula_term, expression_term, formula_term};
 use spv_logic::list::List;
 use spv_logic::{Decl, Sort};
@@ -16,7 +17,7 @@ fn arena(alloc: Global) -> Terms {
 }
 
 // The number of the term of TRUE.
-fn truth(terms: &mut Terms, alloc: Global, names: &Named<Sort>) -> Result<u32, TermFault> {
+fn truth(terms: &mut Terms, alloc: Global, names: &SortTable<'_>) -> Result<u32, TermFault> {
     let formula = Formula {
         form: FormulaForm::Boolean(true),
     };
@@ -28,7 +29,7 @@ fn truth(terms: &mut Terms, alloc: Global, names: &Named<Sort>) -> Result<u32, T
 fn exit_truth(
     terms: &mut Terms,
     alloc: Global,
-    names: &Named<Sort>,
+    names: &SortTable<'_>,
     starts: &Named<()>,
 ) -> Result<u32, TermFault> {
     let formula = Formula {
@@ -39,7 +40,7 @@ fn exit_truth(
 }
 
 // The number of the term of 7.
-fn seven(terms: &mut Terms, alloc: Global, names: &Named<Sort>) -> Result<u32, TermFault> {
+fn seven(terms: &mut Terms, alloc: Global, names: &SortTable<'_>) -> Result<u32, TermFault> {
     let expression = Expression {
         form: ExpressionForm::Numeral(7),
     };
@@ -51,7 +52,7 @@ fn seven(terms: &mut Terms, alloc: Global, names: &Named<Sort>) -> Result<u32, T
 fn are_made(
     terms: &mut Terms,
     alloc: Global,
-    names: &Named<Sort>,
+    names: &SortTable<'_>,
     starts: &Named<()>,
 ) -> Result<bool, TermFault> {
     let first = truth(terms, alloc, names)?;
@@ -63,7 +64,8 @@ fn are_made(
 // The same in an arena of its own.
 fn are_made_anew(alloc: Global) -> bool {
     let mut terms = arena(alloc);
-    let names: Named<Sort> = Named::new(alloc);
+    let none: Named<Sort> = Named::new(alloc);
+    let names = SortTable::of(alloc, &none);
     let starts: Named<()> = Named::new(alloc);
     match are_made(&mut terms, alloc, &names, &starts) {
         Ok(made) => made,

@@ -1,6 +1,7 @@
 // Terms in postfix order.
 
 use spv_expression_terms::postfix::Piece;
+use spv_expression_terms::sort_table::SortTable;
 use spv_expression_terms::term_walk::{has_no_calls, write_expression, write_formula};
 use spv_logic::names::Symbol;
 use spv_logic::{Head, Sort, TypeId};
@@ -25,7 +26,8 @@ fn comparison(alloc: Global) -> Result<Formula, AllocError> {
 
 // The pieces of a formula.
 fn formula_pieces(alloc: Global, formula: &Formula) -> Result<Vec<Piece>, AllocError> {
-    let names: Named<Sort> = Named::new(alloc);
+    let none: Named<Sort> = Named::new(alloc);
+    let names = SortTable::of(alloc, &none);
     let mut pieces = Vec::new(alloc);
     write_formula(&mut pieces, &names, formula)?;
     Ok(pieces)
@@ -64,7 +66,8 @@ fn field_of_cell(alloc: Global) -> Result<Expression, AllocError> {
 
 // The pieces of an expression, where it makes no call.
 fn expression_pieces(alloc: Global, expression: &Expression) -> Result<Vec<Piece>, AllocError> {
-    let names: Named<Sort> = Named::new(alloc);
+    let none: Named<Sort> = Named::new(alloc);
+    let names = SortTable::of(alloc, &none);
     let mut pieces = Vec::new(alloc);
     if has_no_calls(expression) {
         write_expression(&mut pieces, &names, expression)?;

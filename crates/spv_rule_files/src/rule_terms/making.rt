@@ -18,6 +18,7 @@ ghost use Rattle.spv_rule_files.specs.rule_terms.Sound.{AreSound, IsSound};
 use crate::rule_terms::writing::write_stated;
 use crate::{TypedRule, trigger};
 use spv_expression_terms::postfix::built;
+use spv_expression_terms::sort_table::SortTable;
 use spv_expression_terms::term_walk::formula_term;
 use spv_logic::list::List;
 use spv_logic::names::Symbol;
@@ -73,7 +74,8 @@ fn trigger_made(terms: &mut Terms, alloc: Global, rule: &TypedRule) -> Result<Te
     ensures grows { Extends terms.old terms.new }
 {
     let found = trigger(rule.form.leading()).unwrap();
-    formula_term(terms, alloc, &rule.variables, found)
+    let names = SortTable::of(alloc, &rule.variables);
+    formula_term(terms, alloc, &names, found)
 }
 
 // What a rule says.
@@ -84,7 +86,7 @@ fn stated_made(terms: &mut Terms, alloc: Global, rule: &TypedRule) -> Result<Ter
     ensures grows { Extends terms.old terms.new }
 {
     let mut pieces = Vec::new(alloc);
-    write_stated(&mut pieces, rule)?;
+    write_stated(alloc, &mut pieces, rule)?;
     built(terms, alloc, pieces.as_slice())
 }
 

@@ -10,17 +10,17 @@ ghost use Rattle.spv_rule_files.specs.Stated.{stated, unguarded};
 
 use crate::{RuleForm, TypedRule};
 use spv_expression_terms::postfix::{Piece, put};
+use spv_expression_terms::sort_table::SortTable;
 use spv_expression_terms::term_walk::write_formula;
-use spv_logic::{Head, Sort};
-use spv_program::ordered_map::Named;
+use spv_logic::Head;
 use spv_program::typed::Formula;
-use std::alloc::AllocError;
+use std::alloc::{AllocError, Global};
 
 // Writes the term of "these two are equal".
 #[tactic(auto, using(spv_expression_terms::proofs::postfix::Postfixes::puts_binary))]
 fn write_equal(
     pieces: &mut Vec<Piece>,
-    names: &Named<Sort>,
+    names: &SortTable<'_>,
     left: &Formula,
     right: &Formula,
 ) -> Result<(), AllocError>
@@ -37,7 +37,7 @@ fn write_equal(
 // Writes the term of what a rule says, without its condition.
 fn write_unguarded(
     pieces: &mut Vec<Piece>,
-    names: &Named<Sort>,
+    names: &SortTable<'_>,
     form: &RuleForm,
 ) -> Result<(), AllocError>
     ensures written { OnOk result (pieces.new.items ≡ pieces.old.items ++ postfix (formula_term (name_in names.now) (unguarded form.now))) }
@@ -53,7 +53,7 @@ fn write_unguarded(
 #[tactic(auto, using(spv_expression_terms::proofs::postfix::Postfixes::puts_binary))]
 fn write_implied(
     pieces: &mut Vec<Piece>,
-    names: &Named<Sort>,
+    names: &SortTable<'_>,
     guard: &Formula,
     form: &RuleForm,
 ) -> Result<(), AllocError>
@@ -68,12 +68,17 @@ fn write_implied(
 }
 
 // Writes the term of what a rule says.
-pub(crate) fn write_stated(pieces: &mut Vec<Piece>, rule: &TypedRule) -> Result<(), AllocError>
+pub(crate) fn write_stated(
+    alloc: Global,
+    pieces: &mut Vec<Piece>,
+    rule: &TypedRule,
+) -> Result<(), AllocError>
     ensures written { OnOk result (pieces.new.items ≡ pieces.old.items ++ postfix (formula_term (name_in rule.now.variables) (stated rule.now))) }
     ensures numerals { OnOk result (FormulaFits (stated rule.now)) }
 {
+    let names = SortTable::of(alloc, &rule.variables);
     match &rule.guard {
-        None => write_unguarded(pieces, &rule.variables, &rule.form),
-        Some(guard) => write_implied(pieces, &rule.variables, guard, &rule.form),
+        None => write_unguarded(pieces, &names, &rule.form),
+        Some(guard) => write_implied(pieces, &names, guard, &rule.form),
     }
 }

@@ -18,7 +18,7 @@ add_starts-requires g c = (
   (
     c.requires.1.1.1.0,
     (
-      c.as_slice-forms.ensures ∙ ap (λ (p : Program). p.forms) (c.program.view_is ∙ sym c.requires.0),
+      c.as_slice-forms.ensures ∙ ap (λ (p : Program). p.forms) ((c.behind-program.view_is ∙ c.program.ensures) ∙ sym c.requires.0),
       ap (map formal_of) c.as_slice-formals.ensures ∙ ap (λ (r : Routine). r.formals) (sym c.requires.1.0),
     ),
   ),

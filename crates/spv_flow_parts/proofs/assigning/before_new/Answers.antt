@@ -36,12 +36,12 @@ returns-in_err-pointer g c =
 
 pub fresh_variable-fresh-requires-2 : goal.fresh_variable-fresh-requires-2
 fresh_variable-fresh-requires-2 g c =
-    subst (λ s. sort_in_range c.fresh_variable-fresh.new.terms.shapes s ≡ true) (sym (c.sort_of-sort.ensures ∙ ap (λ forms. sort_of forms c.args.t) (c.as_slice.ensures ∙ ap (λ (p : Program). p.forms) c.program.view_is)))
+    subst (λ s. sort_in_range c.fresh_variable-fresh.new.terms.shapes s ≡ true) (sym (c.sort_of-sort.ensures ∙ ap (λ forms. sort_of forms c.args.t) (c.as_slice.ensures ∙ ap (λ (p : Program). p.forms) (c.behind-program.view_is ∙ c.program.ensures))))
     (content_there c.args.program.now c.args.t c.fresh_variable-fresh.new.terms.shapes ((Extends-trans c.in_ok-to.ensures.grows c.fresh_variable-fresh.ensures.grows).shapes ∙ c.requires.0.stands.shapes) c.requires.0.stands.declarations (is_creation c.args.program.now c.args.body.now.here c.args.d.now c.args.t c.requires.0.stands.declarations c.requires.1.0).exists)
 
 pub returns-in_err-content : goal.returns-in_err-content
 returns-in_err-content g c =
-    content_stops c.args.program.now c.args.body.now.here g.line c.args.d.now c.args.t (supply_of c.args.supply.now) c.args.terms.now c.args.rest.items c.requires.1.1 c.place.new.terms c.in_ok-to.ensures.walk _ (λ i. fresh_variable (ap first_name c.d.view_is i) (Ptr c.args.t) (c.in_ok-to.ensures.place.supply i)) c.fresh_variable-fresh.new.terms (c.in_ok-pointer.ensures.walk c.place.new.terms (_ ∷ []) (fresh_makes c.place.new.terms c.fresh_variable-fresh.new.terms c.fresh_variable-fresh.new.self (supply_of c.place.new.supply) _ c.fresh_variable-fresh.result c.fresh_variable-fresh.ensures.fresh c.fresh_variable-fresh.ensures.grows c.fresh_variable-fresh.ensures.only c.fresh_variable-fresh.ensures.size c.in_ok-to.ensures.place.there)) _ (λ i. fresh_variable (c.title_of.ensures i) ((c.sort_of-sort.ensures ∙ ap (λ forms. sort_of forms c.args.t) (c.as_slice.ensures ∙ ap (λ (p : Program). p.forms) c.program.view_is)) i) (((ok_at _ c.fresh_variable-fresh.result c.in_ok-pointer.pointer c.in_ok-pointer.ensures.same c.fresh_variable-fresh.ensures.fresh).supply ∙ ap (λ (x : Fresh). x.supply) (λ i. fresh_variable (ap first_name c.d.view_is i) (Ptr c.args.t) (c.in_ok-to.ensures.place.supply i))) i))
+    content_stops c.args.program.now c.args.body.now.here g.line c.args.d.now c.args.t (supply_of c.args.supply.now) c.args.terms.now c.args.rest.items c.requires.1.1 c.place.new.terms c.in_ok-to.ensures.walk _ (λ i. fresh_variable (ap first_name c.d.view_is i) (Ptr c.args.t) (c.in_ok-to.ensures.place.supply i)) c.fresh_variable-fresh.new.terms (c.in_ok-pointer.ensures.walk c.place.new.terms (_ ∷ []) (fresh_makes c.place.new.terms c.fresh_variable-fresh.new.terms c.fresh_variable-fresh.new.self (supply_of c.place.new.supply) _ c.fresh_variable-fresh.result c.fresh_variable-fresh.ensures.fresh c.fresh_variable-fresh.ensures.grows c.fresh_variable-fresh.ensures.only c.fresh_variable-fresh.ensures.size c.in_ok-to.ensures.place.there)) _ (λ i. fresh_variable (c.title_of.ensures i) ((c.sort_of-sort.ensures ∙ ap (λ forms. sort_of forms c.args.t) (c.as_slice.ensures ∙ ap (λ (p : Program). p.forms) (c.behind-program.view_is ∙ c.program.ensures))) i) (((ok_at _ c.fresh_variable-fresh.result c.in_ok-pointer.pointer c.in_ok-pointer.ensures.same c.fresh_variable-fresh.ensures.fresh).supply ∙ ap (λ (x : Fresh). x.supply) (λ i. fresh_variable (ap first_name c.d.view_is i) (Ptr c.args.t) (c.in_ok-to.ensures.place.supply i))) i))
     c.from_residual-in_err-content.result c.in_err-content.field-0.0 c.fresh_variable-fresh-2.new.terms (supply_of c.fresh_variable-fresh-2.new.self) c.from_residual-in_err-content.ensures.1 c.fresh_variable-fresh-2.ensures.grows (c.in_err-content.ensures.walk c.fresh_variable-fresh.new.terms (_ ∷ []) (fresh_makes c.fresh_variable-fresh.new.terms c.fresh_variable-fresh-2.new.terms c.fresh_variable-fresh-2.new.self (supply_of c.fresh_variable-fresh.new.self) _ c.fresh_variable-fresh-2.result c.fresh_variable-fresh-2.ensures.fresh c.fresh_variable-fresh-2.ensures.grows c.fresh_variable-fresh-2.ensures.only c.fresh_variable-fresh-2.ensures.size (c.fresh_variable-fresh.ensures.there c.in_ok-to.ensures.place.there)))
 
 pub before_creation-requires-clause-class : goal.before_creation-requires-clause-class
@@ -66,7 +66,7 @@ before_creation-requires-clause-content g c = (ok_at _ c.fresh_variable-fresh-2.
 
 pub before_creation-requires-clause-content_sort : goal.before_creation-requires-clause-content_sort
 before_creation-requires-clause-content_sort g c =
-    ok_at _ c.fresh_variable-fresh-2.result c.in_ok-content.content c.in_ok-content.ensures.same c.fresh_variable-fresh-2.ensures.sort ∙ (c.sort_of-sort.ensures ∙ ap (λ forms. sort_of forms c.args.t) (c.as_slice.ensures ∙ ap (λ (p : Program). p.forms) c.program.view_is))
+    ok_at _ c.fresh_variable-fresh-2.result c.in_ok-content.content c.in_ok-content.ensures.same c.fresh_variable-fresh-2.ensures.sort ∙ (c.sort_of-sort.ensures ∙ ap (λ forms. sort_of forms c.args.t) (c.as_slice.ensures ∙ ap (λ (p : Program). p.forms) (c.behind-program.view_is ∙ c.program.ensures)))
     ∙ sym (ap (λ (s : List Shape). sort_of_type s c.args.t) ((Extends-trans (Extends-trans c.in_ok-to.ensures.grows c.fresh_variable-fresh.ensures.grows) c.fresh_variable-fresh-2.ensures.grows).shapes ∙ c.requires.0.stands.shapes) ∙ sort_is c.args.program.now.forms c.args.t)
 
 pub before_creation-requires-clause-rest : goal.before_creation-requires-clause-rest
@@ -74,13 +74,13 @@ before_creation-requires-clause-rest g c = AreIn-Extends (Extends-trans (Extends
 
 pub returns-in_err-created : goal.returns-in_err-created
 returns-in_err-created g c =
-    creation_stops c.args.program.now c.args.body.now.here g.line c.args.d.now c.args.t (supply_of c.args.supply.now) c.args.terms.now c.args.rest.items c.requires.1.1 c.place.new.terms c.in_ok-to.ensures.walk _ (λ i. fresh_variable (ap first_name c.d.view_is i) (Ptr c.args.t) (c.in_ok-to.ensures.place.supply i)) c.fresh_variable-fresh.new.terms (c.in_ok-pointer.ensures.walk c.place.new.terms (_ ∷ []) (fresh_makes c.place.new.terms c.fresh_variable-fresh.new.terms c.fresh_variable-fresh.new.self (supply_of c.place.new.supply) _ c.fresh_variable-fresh.result c.fresh_variable-fresh.ensures.fresh c.fresh_variable-fresh.ensures.grows c.fresh_variable-fresh.ensures.only c.fresh_variable-fresh.ensures.size c.in_ok-to.ensures.place.there)) _ (λ i. fresh_variable (c.title_of.ensures i) ((c.sort_of-sort.ensures ∙ ap (λ forms. sort_of forms c.args.t) (c.as_slice.ensures ∙ ap (λ (p : Program). p.forms) c.program.view_is)) i) (((ok_at _ c.fresh_variable-fresh.result c.in_ok-pointer.pointer c.in_ok-pointer.ensures.same c.fresh_variable-fresh.ensures.fresh).supply ∙ ap (λ (x : Fresh). x.supply) (λ i. fresh_variable (ap first_name c.d.view_is i) (Ptr c.args.t) (c.in_ok-to.ensures.place.supply i))) i)) c.fresh_variable-fresh-2.new.terms (c.in_ok-content.ensures.walk c.fresh_variable-fresh.new.terms (_ ∷ []) (fresh_makes c.fresh_variable-fresh.new.terms c.fresh_variable-fresh-2.new.terms c.fresh_variable-fresh-2.new.self (supply_of c.fresh_variable-fresh.new.self) _ c.fresh_variable-fresh-2.result c.fresh_variable-fresh-2.ensures.fresh c.fresh_variable-fresh-2.ensures.grows c.fresh_variable-fresh-2.ensures.only c.fresh_variable-fresh-2.ensures.size (c.fresh_variable-fresh.ensures.there c.in_ok-to.ensures.place.there))) (supply_of c.fresh_variable-fresh-2.new.self) (ok_at _ c.fresh_variable-fresh-2.result c.in_ok-content.content c.in_ok-content.ensures.same c.fresh_variable-fresh-2.ensures.fresh).supply (c.fresh_variable-fresh-2.ensures.there (c.fresh_variable-fresh.ensures.there c.in_ok-to.ensures.place.there))
+    creation_stops c.args.program.now c.args.body.now.here g.line c.args.d.now c.args.t (supply_of c.args.supply.now) c.args.terms.now c.args.rest.items c.requires.1.1 c.place.new.terms c.in_ok-to.ensures.walk _ (λ i. fresh_variable (ap first_name c.d.view_is i) (Ptr c.args.t) (c.in_ok-to.ensures.place.supply i)) c.fresh_variable-fresh.new.terms (c.in_ok-pointer.ensures.walk c.place.new.terms (_ ∷ []) (fresh_makes c.place.new.terms c.fresh_variable-fresh.new.terms c.fresh_variable-fresh.new.self (supply_of c.place.new.supply) _ c.fresh_variable-fresh.result c.fresh_variable-fresh.ensures.fresh c.fresh_variable-fresh.ensures.grows c.fresh_variable-fresh.ensures.only c.fresh_variable-fresh.ensures.size c.in_ok-to.ensures.place.there)) _ (λ i. fresh_variable (c.title_of.ensures i) ((c.sort_of-sort.ensures ∙ ap (λ forms. sort_of forms c.args.t) (c.as_slice.ensures ∙ ap (λ (p : Program). p.forms) (c.behind-program.view_is ∙ c.program.ensures))) i) (((ok_at _ c.fresh_variable-fresh.result c.in_ok-pointer.pointer c.in_ok-pointer.ensures.same c.fresh_variable-fresh.ensures.fresh).supply ∙ ap (λ (x : Fresh). x.supply) (λ i. fresh_variable (ap first_name c.d.view_is i) (Ptr c.args.t) (c.in_ok-to.ensures.place.supply i))) i)) c.fresh_variable-fresh-2.new.terms (c.in_ok-content.ensures.walk c.fresh_variable-fresh.new.terms (_ ∷ []) (fresh_makes c.fresh_variable-fresh.new.terms c.fresh_variable-fresh-2.new.terms c.fresh_variable-fresh-2.new.self (supply_of c.fresh_variable-fresh.new.self) _ c.fresh_variable-fresh-2.result c.fresh_variable-fresh-2.ensures.fresh c.fresh_variable-fresh-2.ensures.grows c.fresh_variable-fresh-2.ensures.only c.fresh_variable-fresh-2.ensures.size (c.fresh_variable-fresh.ensures.there c.in_ok-to.ensures.place.there))) (supply_of c.fresh_variable-fresh-2.new.self) (ok_at _ c.fresh_variable-fresh-2.result c.in_ok-content.content c.in_ok-content.ensures.same c.fresh_variable-fresh-2.ensures.fresh).supply (c.fresh_variable-fresh-2.ensures.there (c.fresh_variable-fresh.ensures.there c.in_ok-to.ensures.place.there))
     c.in_ok-to.to.target (target_stays (Extends-trans c.fresh_variable-fresh.ensures.grows c.fresh_variable-fresh-2.ensures.grows) c.in_ok-to.to.target c.in_ok-to.ensures.place.target ∙ c.in_ok-to.ensures.place.same) c.in_ok-pointer.pointer c.in_ok-content.content (tree-Extends c.fresh_variable-fresh-2.ensures.grows c.in_ok-pointer.pointer (ok_at _ c.fresh_variable-fresh.result c.in_ok-pointer.pointer c.in_ok-pointer.ensures.same c.fresh_variable-fresh.ensures.fresh).there ∙ (ok_at _ c.fresh_variable-fresh.result c.in_ok-pointer.pointer c.in_ok-pointer.ensures.same c.fresh_variable-fresh.ensures.fresh).is_tree) (ok_at _ c.fresh_variable-fresh-2.result c.in_ok-content.content c.in_ok-content.ensures.same c.fresh_variable-fresh-2.ensures.fresh).is_tree
     _ c.before_creation.new.terms c.in_err-created.ensures c.from_residual-in_err-created.result c.in_err-created.field-0.0 c.from_residual-in_err-created.ensures.1 refl
 
 pub returns : goal.returns
 returns g c =
-    renewed c.args.program.now c.args.body.now.here g.line c.args.d.now c.args.t (supply_of c.args.supply.now) c.args.terms.now c.args.rest.items c.requires.1.1 c.place.new.terms c.in_ok-to.ensures.walk _ (λ i. fresh_variable (ap first_name c.d.view_is i) (Ptr c.args.t) (c.in_ok-to.ensures.place.supply i)) c.fresh_variable-fresh.new.terms (c.in_ok-pointer.ensures.walk c.place.new.terms (_ ∷ []) (fresh_makes c.place.new.terms c.fresh_variable-fresh.new.terms c.fresh_variable-fresh.new.self (supply_of c.place.new.supply) _ c.fresh_variable-fresh.result c.fresh_variable-fresh.ensures.fresh c.fresh_variable-fresh.ensures.grows c.fresh_variable-fresh.ensures.only c.fresh_variable-fresh.ensures.size c.in_ok-to.ensures.place.there)) _ (λ i. fresh_variable (c.title_of.ensures i) ((c.sort_of-sort.ensures ∙ ap (λ forms. sort_of forms c.args.t) (c.as_slice.ensures ∙ ap (λ (p : Program). p.forms) c.program.view_is)) i) (((ok_at _ c.fresh_variable-fresh.result c.in_ok-pointer.pointer c.in_ok-pointer.ensures.same c.fresh_variable-fresh.ensures.fresh).supply ∙ ap (λ (x : Fresh). x.supply) (λ i. fresh_variable (ap first_name c.d.view_is i) (Ptr c.args.t) (c.in_ok-to.ensures.place.supply i))) i)) c.fresh_variable-fresh-2.new.terms (c.in_ok-content.ensures.walk c.fresh_variable-fresh.new.terms (_ ∷ []) (fresh_makes c.fresh_variable-fresh.new.terms c.fresh_variable-fresh-2.new.terms c.fresh_variable-fresh-2.new.self (supply_of c.fresh_variable-fresh.new.self) _ c.fresh_variable-fresh-2.result c.fresh_variable-fresh-2.ensures.fresh c.fresh_variable-fresh-2.ensures.grows c.fresh_variable-fresh-2.ensures.only c.fresh_variable-fresh-2.ensures.size (c.fresh_variable-fresh.ensures.there c.in_ok-to.ensures.place.there))) (supply_of c.fresh_variable-fresh-2.new.self) (ok_at _ c.fresh_variable-fresh-2.result c.in_ok-content.content c.in_ok-content.ensures.same c.fresh_variable-fresh-2.ensures.fresh).supply (c.fresh_variable-fresh-2.ensures.there (c.fresh_variable-fresh.ensures.there c.in_ok-to.ensures.place.there))
+    renewed c.args.program.now c.args.body.now.here g.line c.args.d.now c.args.t (supply_of c.args.supply.now) c.args.terms.now c.args.rest.items c.requires.1.1 c.place.new.terms c.in_ok-to.ensures.walk _ (λ i. fresh_variable (ap first_name c.d.view_is i) (Ptr c.args.t) (c.in_ok-to.ensures.place.supply i)) c.fresh_variable-fresh.new.terms (c.in_ok-pointer.ensures.walk c.place.new.terms (_ ∷ []) (fresh_makes c.place.new.terms c.fresh_variable-fresh.new.terms c.fresh_variable-fresh.new.self (supply_of c.place.new.supply) _ c.fresh_variable-fresh.result c.fresh_variable-fresh.ensures.fresh c.fresh_variable-fresh.ensures.grows c.fresh_variable-fresh.ensures.only c.fresh_variable-fresh.ensures.size c.in_ok-to.ensures.place.there)) _ (λ i. fresh_variable (c.title_of.ensures i) ((c.sort_of-sort.ensures ∙ ap (λ forms. sort_of forms c.args.t) (c.as_slice.ensures ∙ ap (λ (p : Program). p.forms) (c.behind-program.view_is ∙ c.program.ensures))) i) (((ok_at _ c.fresh_variable-fresh.result c.in_ok-pointer.pointer c.in_ok-pointer.ensures.same c.fresh_variable-fresh.ensures.fresh).supply ∙ ap (λ (x : Fresh). x.supply) (λ i. fresh_variable (ap first_name c.d.view_is i) (Ptr c.args.t) (c.in_ok-to.ensures.place.supply i))) i)) c.fresh_variable-fresh-2.new.terms (c.in_ok-content.ensures.walk c.fresh_variable-fresh.new.terms (_ ∷ []) (fresh_makes c.fresh_variable-fresh.new.terms c.fresh_variable-fresh-2.new.terms c.fresh_variable-fresh-2.new.self (supply_of c.fresh_variable-fresh.new.self) _ c.fresh_variable-fresh-2.result c.fresh_variable-fresh-2.ensures.fresh c.fresh_variable-fresh-2.ensures.grows c.fresh_variable-fresh-2.ensures.only c.fresh_variable-fresh-2.ensures.size (c.fresh_variable-fresh.ensures.there c.in_ok-to.ensures.place.there))) (supply_of c.fresh_variable-fresh-2.new.self) (ok_at _ c.fresh_variable-fresh-2.result c.in_ok-content.content c.in_ok-content.ensures.same c.fresh_variable-fresh-2.ensures.fresh).supply (c.fresh_variable-fresh-2.ensures.there (c.fresh_variable-fresh.ensures.there c.in_ok-to.ensures.place.there))
     c.in_ok-to.to.target (target_stays (Extends-trans c.fresh_variable-fresh.ensures.grows c.fresh_variable-fresh-2.ensures.grows) c.in_ok-to.to.target c.in_ok-to.ensures.place.target ∙ c.in_ok-to.ensures.place.same) c.in_ok-pointer.pointer c.in_ok-content.content (tree-Extends c.fresh_variable-fresh-2.ensures.grows c.in_ok-pointer.pointer (ok_at _ c.fresh_variable-fresh.result c.in_ok-pointer.pointer c.in_ok-pointer.ensures.same c.fresh_variable-fresh.ensures.fresh).there ∙ (ok_at _ c.fresh_variable-fresh.result c.in_ok-pointer.pointer c.in_ok-pointer.ensures.same c.fresh_variable-fresh.ensures.fresh).is_tree) (ok_at _ c.fresh_variable-fresh-2.result c.in_ok-content.content c.in_ok-content.ensures.same c.fresh_variable-fresh-2.ensures.fresh).is_tree
     _ c.before_creation.new.terms c.in_ok-created.ensures c.in_ok-created.created refl c.in_front.result
     (λ more these. c.in_front.ensures c.before_creation.new.terms _ _ (AreCalls-Extends c.as_slice-2.result.now _ more (subst (λ l. AreCalls c.place.new.terms l (placed c.args.program.now (routine_in c.args.program.now c.args.body.now.here) (supply_of c.args.supply.now) c.args.d.now).calls) (sym c.as_slice-2.ensures) c.in_ok-to.ensures.place.calls)) these)

@@ -26,7 +26,7 @@ at_call-requires g c = (
   (
     ap (map formal_of) c.as_slice.ensures ∙ ap (λ (r : Routine). r.formals) (sym c.requires.1.0),
     (
-      c.as_slice-forms.ensures ∙ ap (λ (p : Program). p.forms) (c.program.view_is ∙ sym c.requires.0),
+      c.as_slice-forms.ensures ∙ ap (λ (p : Program). p.forms) ((c.behind-program.view_is ∙ c.program.ensures) ∙ sym c.requires.0),
       ArePresent-Extends c.in_ok-f.ensures.grows c.args.now.now g.at.arguments c.requires.1.1.1.1,
     ),
   ),

@@ -19,7 +19,7 @@ add_starts-requires g c = (
   at_as c.args.program.now g.at.program c.args.terms.now g.at.number (routine_of c.args.routine.now) g.at.routine g.at.arguments c.requires.0 c.requires.1.0 c.requires.1.1.0,
   (
     (ap (map formal_of) c.as_slice-formals.ensures ∙ ap (λ (r : Routine). r.formals) (sym c.requires.1.0)),
-    ((c.as_slice-forms.ensures ∙ ap (λ (p : Program). p.forms) (c.program.view_is ∙ sym c.requires.0)), c.requires.1.1.1.1.0),
+    ((c.as_slice-forms.ensures ∙ ap (λ (p : Program). p.forms) ((c.behind-program.view_is ∙ c.program.ensures) ∙ sym c.requires.0)), c.requires.1.1.1.1.0),
   ),
 )
 

@@ -13,18 +13,18 @@ use Rattle.spv_flow_parts.proofs.calls.at_call.function_call.Goals as goal
 
 pub get-routine-requires : goal.get-routine-requires
 get-routine-requires g c =
-    routine_there c.program.inside.routines c.args.program.now.routines c.call.inside.routine.0 g.at.routine (ap (λ (p : Program). p.routines) c.program.view_is)
+    routine_there c.behind-program.inside.routines c.args.program.now.routines c.call.inside.routine.0 g.at.routine (ap (λ (p : Program). p.routines) (c.behind-program.view_is ∙ c.program.ensures))
     (subst (λ (n : RoutineId). IsAtCall c.args.program.now c.args.terms.now n g.at.routine g.at.arguments) (sym (ap called_routine c.call.view_is)) c.requires.0).routine
 
 pub fresh_value-requires-clause-types : goal.fresh_value-requires-clause-types
 fresh_value-requires-clause-types g c =
     result_range_of c.args.program.now c.args.terms.now c.call.inside.routine g.at.routine g.at.arguments c.result_sort-sort.result
     (subst (λ (n : RoutineId). IsAtCall c.args.program.now c.args.terms.now n g.at.routine g.at.arguments) (sym (ap called_routine c.call.view_is)) c.requires.0)
-    (c.result_sort-sort.ensures ∙ ap (sort_of_result c.args.program.now) (routine_same c.program.inside.routines c.args.program.now.routines c.call.inside.routine.0 g.at.routine c.get-routine.result.now (ap (λ (p : Program). p.routines) c.program.view_is) (subst (λ (n : RoutineId). IsAtCall c.args.program.now c.args.terms.now n g.at.routine g.at.arguments) (sym (ap called_routine c.call.view_is)) c.requires.0).routine c.get-routine.ensures))
+    (c.result_sort-sort.ensures ∙ ap (sort_of_result c.args.program.now) (routine_same c.behind-program.inside.routines c.args.program.now.routines c.call.inside.routine.0 g.at.routine c.get-routine.result.now (ap (λ (p : Program). p.routines) (c.behind-program.view_is ∙ c.program.ensures)) (subst (λ (n : RoutineId). IsAtCall c.args.program.now c.args.terms.now n g.at.routine g.at.arguments) (sym (ap called_routine c.call.view_is)) c.requires.0).routine c.get-routine.ensures))
 
 pub returns-in_err-value : goal.returns-in_err-value
 returns-in_err-value g c =
-    value_stops c.args.program.now g.at.routine (call_line c.args.call.now) g.at.arguments (supply_of c.args.supply.now) c.get-routine.result.now.name c.result_sort-sort.result (ap (λ (r : Routine). r.name) (routine_same c.program.inside.routines c.args.program.now.routines c.call.inside.routine.0 g.at.routine c.get-routine.result.now (ap (λ (p : Program). p.routines) c.program.view_is) (subst (λ (n : RoutineId). IsAtCall c.args.program.now c.args.terms.now n g.at.routine g.at.arguments) (sym (ap called_routine c.call.view_is)) c.requires.0).routine c.get-routine.ensures)) (c.result_sort-sort.ensures ∙ ap (sort_of_result c.args.program.now) (routine_same c.program.inside.routines c.args.program.now.routines c.call.inside.routine.0 g.at.routine c.get-routine.result.now (ap (λ (p : Program). p.routines) c.program.view_is) (subst (λ (n : RoutineId). IsAtCall c.args.program.now c.args.terms.now n g.at.routine g.at.arguments) (sym (ap called_routine c.call.view_is)) c.requires.0).routine c.get-routine.ensures))
+    value_stops c.args.program.now g.at.routine (call_line c.args.call.now) g.at.arguments (supply_of c.args.supply.now) c.get-routine.result.now.name c.result_sort-sort.result (ap (λ (r : Routine). r.name) (routine_same c.behind-program.inside.routines c.args.program.now.routines c.call.inside.routine.0 g.at.routine c.get-routine.result.now (ap (λ (p : Program). p.routines) (c.behind-program.view_is ∙ c.program.ensures)) (subst (λ (n : RoutineId). IsAtCall c.args.program.now c.args.terms.now n g.at.routine g.at.arguments) (sym (ap called_routine c.call.view_is)) c.requires.0).routine c.get-routine.ensures)) (c.result_sort-sort.ensures ∙ ap (sort_of_result c.args.program.now) (routine_same c.behind-program.inside.routines c.args.program.now.routines c.call.inside.routine.0 g.at.routine c.get-routine.result.now (ap (λ (p : Program). p.routines) (c.behind-program.view_is ∙ c.program.ensures)) (subst (λ (n : RoutineId). IsAtCall c.args.program.now c.args.terms.now n g.at.routine g.at.arguments) (sym (ap called_routine c.call.view_is)) c.requires.0).routine c.get-routine.ensures))
     c.from_residual.result c.in_err-value.field-0.0 c.args.terms.now c.fresh_value.new.terms c.args.variables.now c.args.variables.now c.args.calls.now c.args.calls.now _ c.from_residual.ensures.1 c.in_err-value.ensures.made
 
 pub node-requires : goal.node-requires
@@ -38,13 +38,13 @@ called-requires g c = (
   (
     AreArguments-Extends c.in_ok-value.ensures.made.grows c.args.given.now g.at.arguments c.requires.1.0,
     (
-      after_is c.args.program.now g.at.routine (call_line c.args.call.now) g.at.arguments (supply_of c.args.supply.now) c.get-routine.result.now.name c.result_sort-sort.result (ap (λ (r : Routine). r.name) (routine_same c.program.inside.routines c.args.program.now.routines c.call.inside.routine.0 g.at.routine c.get-routine.result.now (ap (λ (p : Program). p.routines) c.program.view_is) (subst (λ (n : RoutineId). IsAtCall c.args.program.now c.args.terms.now n g.at.routine g.at.arguments) (sym (ap called_routine c.call.view_is)) c.requires.0).routine c.get-routine.ensures)) (c.result_sort-sort.ensures ∙ ap (sort_of_result c.args.program.now) (routine_same c.program.inside.routines c.args.program.now.routines c.call.inside.routine.0 g.at.routine c.get-routine.result.now (ap (λ (p : Program). p.routines) c.program.view_is) (subst (λ (n : RoutineId). IsAtCall c.args.program.now c.args.terms.now n g.at.routine g.at.arguments) (sym (ap called_routine c.call.view_is)) c.requires.0).routine c.get-routine.ensures))
+      after_is c.args.program.now g.at.routine (call_line c.args.call.now) g.at.arguments (supply_of c.args.supply.now) c.get-routine.result.now.name c.result_sort-sort.result (ap (λ (r : Routine). r.name) (routine_same c.behind-program.inside.routines c.args.program.now.routines c.call.inside.routine.0 g.at.routine c.get-routine.result.now (ap (λ (p : Program). p.routines) (c.behind-program.view_is ∙ c.program.ensures)) (subst (λ (n : RoutineId). IsAtCall c.args.program.now c.args.terms.now n g.at.routine g.at.arguments) (sym (ap called_routine c.call.view_is)) c.requires.0).routine c.get-routine.ensures)) (c.result_sort-sort.ensures ∙ ap (sort_of_result c.args.program.now) (routine_same c.behind-program.inside.routines c.args.program.now.routines c.call.inside.routine.0 g.at.routine c.get-routine.result.now (ap (λ (p : Program). p.routines) (c.behind-program.view_is ∙ c.program.ensures)) (subst (λ (n : RoutineId). IsAtCall c.args.program.now c.args.terms.now n g.at.routine g.at.arguments) (sym (ap called_routine c.call.view_is)) c.requires.0).routine c.get-routine.ensures))
           c.args.terms.now c.fresh_value.new.terms c.in_ok-value.value c.in_ok-value.ensures.made,
-      after_fits c.args.program.now g.at.routine (call_line c.args.call.now) g.at.arguments (supply_of c.args.supply.now) c.get-routine.result.now.name c.result_sort-sort.result (ap (λ (r : Routine). r.name) (routine_same c.program.inside.routines c.args.program.now.routines c.call.inside.routine.0 g.at.routine c.get-routine.result.now (ap (λ (p : Program). p.routines) c.program.view_is) (subst (λ (n : RoutineId). IsAtCall c.args.program.now c.args.terms.now n g.at.routine g.at.arguments) (sym (ap called_routine c.call.view_is)) c.requires.0).routine c.get-routine.ensures)) (c.result_sort-sort.ensures ∙ ap (sort_of_result c.args.program.now) (routine_same c.program.inside.routines c.args.program.now.routines c.call.inside.routine.0 g.at.routine c.get-routine.result.now (ap (λ (p : Program). p.routines) c.program.view_is) (subst (λ (n : RoutineId). IsAtCall c.args.program.now c.args.terms.now n g.at.routine g.at.arguments) (sym (ap called_routine c.call.view_is)) c.requires.0).routine c.get-routine.ensures))
+      after_fits c.args.program.now g.at.routine (call_line c.args.call.now) g.at.arguments (supply_of c.args.supply.now) c.get-routine.result.now.name c.result_sort-sort.result (ap (λ (r : Routine). r.name) (routine_same c.behind-program.inside.routines c.args.program.now.routines c.call.inside.routine.0 g.at.routine c.get-routine.result.now (ap (λ (p : Program). p.routines) (c.behind-program.view_is ∙ c.program.ensures)) (subst (λ (n : RoutineId). IsAtCall c.args.program.now c.args.terms.now n g.at.routine g.at.arguments) (sym (ap called_routine c.call.view_is)) c.requires.0).routine c.get-routine.ensures)) (c.result_sort-sort.ensures ∙ ap (sort_of_result c.args.program.now) (routine_same c.behind-program.inside.routines c.args.program.now.routines c.call.inside.routine.0 g.at.routine c.get-routine.result.now (ap (λ (p : Program). p.routines) (c.behind-program.view_is ∙ c.program.ensures)) (subst (λ (n : RoutineId). IsAtCall c.args.program.now c.args.terms.now n g.at.routine g.at.arguments) (sym (ap called_routine c.call.view_is)) c.requires.0).routine c.get-routine.ensures))
           c.args.terms.now c.fresh_value.new.terms c.in_ok-value.value c.in_ok-value.ensures.made
           (result_range_in c.args.program.now c.args.terms.now c.call.inside.routine g.at.routine g.at.arguments c.result_sort-sort.result
           (subst (λ (n : RoutineId). IsAtCall c.args.program.now c.args.terms.now n g.at.routine g.at.arguments) (sym (ap called_routine c.call.view_is)) c.requires.0)
-          (c.result_sort-sort.ensures ∙ ap (sort_of_result c.args.program.now) (routine_same c.program.inside.routines c.args.program.now.routines c.call.inside.routine.0 g.at.routine c.get-routine.result.now (ap (λ (p : Program). p.routines) c.program.view_is) (subst (λ (n : RoutineId). IsAtCall c.args.program.now c.args.terms.now n g.at.routine g.at.arguments) (sym (ap called_routine c.call.view_is)) c.requires.0).routine c.get-routine.ensures))),
+          (c.result_sort-sort.ensures ∙ ap (sort_of_result c.args.program.now) (routine_same c.behind-program.inside.routines c.args.program.now.routines c.call.inside.routine.0 g.at.routine c.get-routine.result.now (ap (λ (p : Program). p.routines) (c.behind-program.view_is ∙ c.program.ensures)) (subst (λ (n : RoutineId). IsAtCall c.args.program.now c.args.terms.now n g.at.routine g.at.arguments) (sym (ap called_routine c.call.view_is)) c.requires.0).routine c.get-routine.ensures))),
     ),
   ),
 )
@@ -52,10 +52,10 @@ called-requires g c = (
 pub returns-in_err-one : goal.returns-in_err-one
 returns-in_err-one g c =
     subst (λ (l : ℕ). AddsCalls c.from_residual-in_err-one.result (one_call c.args.program.now g.at.routine l g.at.arguments (supply_of c.args.supply.now)) (made_at_call c.args.program.now (Some g.at.routine) (record { arguments = g.at.arguments; calls = []; supply = supply_of c.args.supply.now })) c.args.terms.now c.called.new.terms c.args.variables.now c.args.variables.now c.args.calls.now c.args.calls.now (supply_of c.fresh_value.new.supply)) (ap call_line c.call.view_is)
-    (call_stops c.args.program.now g.at.routine c.call.inside.line g.at.arguments (supply_of c.args.supply.now) c.get-routine.result.now.name c.result_sort-sort.result (ap (λ (r : Routine). r.name) (routine_same c.program.inside.routines c.args.program.now.routines c.call.inside.routine.0 g.at.routine c.get-routine.result.now (ap (λ (p : Program). p.routines) c.program.view_is) (subst (λ (n : RoutineId). IsAtCall c.args.program.now c.args.terms.now n g.at.routine g.at.arguments) (sym (ap called_routine c.call.view_is)) c.requires.0).routine c.get-routine.ensures)) (c.result_sort-sort.ensures ∙ ap (sort_of_result c.args.program.now) (routine_same c.program.inside.routines c.args.program.now.routines c.call.inside.routine.0 g.at.routine c.get-routine.result.now (ap (λ (p : Program). p.routines) c.program.view_is) (subst (λ (n : RoutineId). IsAtCall c.args.program.now c.args.terms.now n g.at.routine g.at.arguments) (sym (ap called_routine c.call.view_is)) c.requires.0).routine c.get-routine.ensures)) c.args.terms.now c.fresh_value.new.terms c.in_ok-value.value c.in_ok-value.ensures.made c.called.new.terms _ refl c.from_residual-in_err-one.result c.in_err-one.field-0.0 c.args.variables.now c.args.variables.now c.args.calls.now c.args.calls.now _ c.from_residual-in_err-one.ensures.1 c.in_err-one.ensures)
+    (call_stops c.args.program.now g.at.routine c.call.inside.line g.at.arguments (supply_of c.args.supply.now) c.get-routine.result.now.name c.result_sort-sort.result (ap (λ (r : Routine). r.name) (routine_same c.behind-program.inside.routines c.args.program.now.routines c.call.inside.routine.0 g.at.routine c.get-routine.result.now (ap (λ (p : Program). p.routines) (c.behind-program.view_is ∙ c.program.ensures)) (subst (λ (n : RoutineId). IsAtCall c.args.program.now c.args.terms.now n g.at.routine g.at.arguments) (sym (ap called_routine c.call.view_is)) c.requires.0).routine c.get-routine.ensures)) (c.result_sort-sort.ensures ∙ ap (sort_of_result c.args.program.now) (routine_same c.behind-program.inside.routines c.args.program.now.routines c.call.inside.routine.0 g.at.routine c.get-routine.result.now (ap (λ (p : Program). p.routines) (c.behind-program.view_is ∙ c.program.ensures)) (subst (λ (n : RoutineId). IsAtCall c.args.program.now c.args.terms.now n g.at.routine g.at.arguments) (sym (ap called_routine c.call.view_is)) c.requires.0).routine c.get-routine.ensures)) c.args.terms.now c.fresh_value.new.terms c.in_ok-value.value c.in_ok-value.ensures.made c.called.new.terms _ refl c.from_residual-in_err-one.result c.in_err-one.field-0.0 c.args.variables.now c.args.variables.now c.args.calls.now c.args.calls.now _ c.from_residual-in_err-one.ensures.1 c.in_err-one.ensures)
 
 pub returns : goal.returns
 returns g c =
     subst (λ (l : ℕ). AddsCalls (Ok tt) (one_call c.args.program.now g.at.routine l g.at.arguments (supply_of c.args.supply.now)) (made_at_call c.args.program.now (Some g.at.routine) (record { arguments = g.at.arguments; calls = []; supply = supply_of c.args.supply.now })) c.args.terms.now c.called.new.terms c.args.variables.now c.push-2.new.self c.args.calls.now c.push.new.self (supply_of c.fresh_value.new.supply)) (ap call_line c.call.view_is)
-    (call_added c.args.program.now g.at.routine c.call.inside.line g.at.arguments (supply_of c.args.supply.now) c.get-routine.result.now.name c.result_sort-sort.result (ap (λ (r : Routine). r.name) (routine_same c.program.inside.routines c.args.program.now.routines c.call.inside.routine.0 g.at.routine c.get-routine.result.now (ap (λ (p : Program). p.routines) c.program.view_is) (subst (λ (n : RoutineId). IsAtCall c.args.program.now c.args.terms.now n g.at.routine g.at.arguments) (sym (ap called_routine c.call.view_is)) c.requires.0).routine c.get-routine.ensures)) (c.result_sort-sort.ensures ∙ ap (sort_of_result c.args.program.now) (routine_same c.program.inside.routines c.args.program.now.routines c.call.inside.routine.0 g.at.routine c.get-routine.result.now (ap (λ (p : Program). p.routines) c.program.view_is) (subst (λ (n : RoutineId). IsAtCall c.args.program.now c.args.terms.now n g.at.routine g.at.arguments) (sym (ap called_routine c.call.view_is)) c.requires.0).routine c.get-routine.ensures)) c.args.terms.now c.fresh_value.new.terms c.in_ok-value.value c.in_ok-value.ensures.made c.called.new.terms _ refl tt c.in_ok-one.one c.node.result.now.head c.args.variables.now c.push-2.new.self c.args.calls.now c.push.new.self _ c.in_ok-one.ensures
-    (head_made c.fresh_value.new.terms c.in_ok-value.value c.node.result.now _ c.law_arena.ensures c.node.ensures (value_term c.args.program.now g.at.routine c.call.inside.line g.at.arguments (supply_of c.args.supply.now) c.get-routine.result.now.name c.result_sort-sort.result (ap (λ (r : Routine). r.name) (routine_same c.program.inside.routines c.args.program.now.routines c.call.inside.routine.0 g.at.routine c.get-routine.result.now (ap (λ (p : Program). p.routines) c.program.view_is) (subst (λ (n : RoutineId). IsAtCall c.args.program.now c.args.terms.now n g.at.routine g.at.arguments) (sym (ap called_routine c.call.view_is)) c.requires.0).routine c.get-routine.ensures)) (c.result_sort-sort.ensures ∙ ap (sort_of_result c.args.program.now) (routine_same c.program.inside.routines c.args.program.now.routines c.call.inside.routine.0 g.at.routine c.get-routine.result.now (ap (λ (p : Program). p.routines) c.program.view_is) (subst (λ (n : RoutineId). IsAtCall c.args.program.now c.args.terms.now n g.at.routine g.at.arguments) (sym (ap called_routine c.call.view_is)) c.requires.0).routine c.get-routine.ensures)) c.args.terms.now c.fresh_value.new.terms c.in_ok-value.value c.in_ok-value.ensures.made)) c.in_ok-push-2.ensures.ok c.in_ok-push.ensures.ok c.in_ok-value.ensures.supply c.in_ok-value.ensures.there)
+    (call_added c.args.program.now g.at.routine c.call.inside.line g.at.arguments (supply_of c.args.supply.now) c.get-routine.result.now.name c.result_sort-sort.result (ap (λ (r : Routine). r.name) (routine_same c.behind-program.inside.routines c.args.program.now.routines c.call.inside.routine.0 g.at.routine c.get-routine.result.now (ap (λ (p : Program). p.routines) (c.behind-program.view_is ∙ c.program.ensures)) (subst (λ (n : RoutineId). IsAtCall c.args.program.now c.args.terms.now n g.at.routine g.at.arguments) (sym (ap called_routine c.call.view_is)) c.requires.0).routine c.get-routine.ensures)) (c.result_sort-sort.ensures ∙ ap (sort_of_result c.args.program.now) (routine_same c.behind-program.inside.routines c.args.program.now.routines c.call.inside.routine.0 g.at.routine c.get-routine.result.now (ap (λ (p : Program). p.routines) (c.behind-program.view_is ∙ c.program.ensures)) (subst (λ (n : RoutineId). IsAtCall c.args.program.now c.args.terms.now n g.at.routine g.at.arguments) (sym (ap called_routine c.call.view_is)) c.requires.0).routine c.get-routine.ensures)) c.args.terms.now c.fresh_value.new.terms c.in_ok-value.value c.in_ok-value.ensures.made c.called.new.terms _ refl tt c.in_ok-one.one c.node.result.now.head c.args.variables.now c.push-2.new.self c.args.calls.now c.push.new.self _ c.in_ok-one.ensures
+    (head_made c.fresh_value.new.terms c.in_ok-value.value c.node.result.now _ c.law_arena.ensures c.node.ensures (value_term c.args.program.now g.at.routine c.call.inside.line g.at.arguments (supply_of c.args.supply.now) c.get-routine.result.now.name c.result_sort-sort.result (ap (λ (r : Routine). r.name) (routine_same c.behind-program.inside.routines c.args.program.now.routines c.call.inside.routine.0 g.at.routine c.get-routine.result.now (ap (λ (p : Program). p.routines) (c.behind-program.view_is ∙ c.program.ensures)) (subst (λ (n : RoutineId). IsAtCall c.args.program.now c.args.terms.now n g.at.routine g.at.arguments) (sym (ap called_routine c.call.view_is)) c.requires.0).routine c.get-routine.ensures)) (c.result_sort-sort.ensures ∙ ap (sort_of_result c.args.program.now) (routine_same c.behind-program.inside.routines c.args.program.now.routines c.call.inside.routine.0 g.at.routine c.get-routine.result.now (ap (λ (p : Program). p.routines) (c.behind-program.view_is ∙ c.program.ensures)) (subst (λ (n : RoutineId). IsAtCall c.args.program.now c.args.terms.now n g.at.routine g.at.arguments) (sym (ap called_routine c.call.view_is)) c.requires.0).routine c.get-routine.ensures)) c.args.terms.now c.fresh_value.new.terms c.in_ok-value.value c.in_ok-value.ensures.made)) c.in_ok-push-2.ensures.ok c.in_ok-push.ensures.ok c.in_ok-value.ensures.supply c.in_ok-value.ensures.there)

@@ -17,7 +17,7 @@ found p rs n x r same at is = routine_found rs n.0 x r at (ap (λ (l : List Rout
 
 pub add_places-requires : goal.add_places-requires
 add_places-requires g c =
-    let formals = ap (map formal_of) c.as_slice.ensures ∙ ap (λ (r : Routine). r.formals) (found c.args.program.now c.program.inside.routines c.args.number c.get-routine.result.now g.at.routine (ap (λ (p : Program). p.routines) c.program.view_is) c.get-routine.ensures c.requires.1.1.0.routine) in (
+    let formals = ap (map formal_of) c.as_slice.ensures ∙ ap (λ (r : Routine). r.formals) (found c.args.program.now c.behind-program.inside.routines c.args.number c.get-routine.result.now g.at.routine (ap (λ (p : Program). p.routines) (c.behind-program.view_is ∙ c.program.ensures)) c.get-routine.ensures c.requires.1.1.0.routine) in (
       (subst (λ (k : RoutineId). IsAtCall c.args.program.now c.args.terms.now k g.at.routine g.at.arguments) (sym c.requires.1.0) c.requires.1.1.0),
       (
         formals,
@@ -38,7 +38,7 @@ add_items-requires g c = (
   subst (λ (q : Program). IsAtCall q c.add_places.new.terms g.at.number g.at.routine g.at.arguments) (sym c.requires.0) (IsAtCall-Extends c.args.program.now g.at.number g.at.routine g.at.arguments c.in_ok-add_places.ensures.grows (subst (λ (k : RoutineId). IsAtCall c.args.program.now c.args.terms.now k g.at.routine g.at.arguments) (sym c.requires.1.0) c.requires.1.1.0)),
   (
     subst (λ (q : Program). HasNamesOf c.in_ok-variables.variables (variable_scope q (Some g.at.routine))) (sym c.requires.0) (names_at c.args.program.now c.args.number g.at.routine c.in_ok-variables.variables c.requires.1.1.0.routine c.in_ok-variables.ensures),
-    (ap (map global_of) c.as_slice-2.ensures ∙ ap (λ (r : Routine). r.globals) (found c.args.program.now c.program.inside.routines c.args.number c.get-routine.result.now g.at.routine (ap (λ (p : Program). p.routines) c.program.view_is) c.get-routine.ensures c.requires.1.1.0.routine), c.in_ok-add_places.ensures.there),
+    (ap (map global_of) c.as_slice-2.ensures ∙ ap (λ (r : Routine). r.globals) (found c.args.program.now c.behind-program.inside.routines c.args.number c.get-routine.result.now g.at.routine (ap (λ (p : Program). p.routines) (c.behind-program.view_is ∙ c.program.ensures)) c.get-routine.ensures c.requires.1.1.0.routine), c.in_ok-add_places.ensures.there),
   ),
 )
 
