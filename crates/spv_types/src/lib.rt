@@ -1,6 +1,7 @@
 //! Typed programs: a text's tree with each name resolved, or the first fault of names and types in it.
 #![tactic(auto)]
 
+pub mod frames;
 mod main_block;
 mod program;
 mod texts;

@@ -1,10 +1,10 @@
 //! Whole texts, from their bytes on.
 
-use spv_frames::{Framed, framed};
 use spv_logic::TypeId;
 use spv_logic::names::{Names, Symbol};
 use spv_parser::language::program;
 use spv_program::Item;
+use spv_types::frames::{Framed, framed};
 use spv_types::{Typed, typed};
 use std::alloc::Global;
 use std::test::Fail;

@@ -4,10 +4,10 @@ ghost use Rattle.std.specs.Prelude.{◌≡◌, IfOk, IfErr, None};
 ghost use Rattle.spv_effects.specs.frame_walk.FrameWalk.{frame_fault};
 ghost use Rattle.spv_frame_check.specs.Answers.{Stops};
 
-use crate::framed_programs::Framed;
+use crate::Typed;
+use crate::frames::framed_programs::Framed;
 use spv_effects::frame_walk::FrameFault;
 use spv_frame_check::checked;
-use spv_types::Typed;
 use std::alloc::Global;
 
 /// The program with what each of its routines reads and writes, where the walk over frames meets no fault; else the first

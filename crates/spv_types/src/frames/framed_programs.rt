@@ -4,9 +4,9 @@ ghost use Rattle.std.specs.Prelude.{◌≡◌, IsTrue, map};
 ghost use Rattle.spv_program.specs.Frames as plain;
 ghost use Rattle.spv_program.specs.Typing.{well_typed};
 
+use crate::Typed;
 use spv_frame_check::Effects;
 use spv_logic::list::List;
-use spv_types::Typed;
 use std::marker::Model;
 
 /// A typed program whose routines use what their GLOBAL lists have, whose functions change nothing, and in which no two roots meet
@@ -18,7 +18,7 @@ pub struct Framed {
 }
 
 impl Model for Framed {
-    ghost use Rattle.spv_frames.specs.Framed.{Framed, IsFramed};
+    ghost use Rattle.spv_types.specs.frames.Framed.{Framed, IsFramed};
 
     ghost Value = { Framed };
 

@@ -3,7 +3,7 @@ use Rattle.spv_program.specs.Programs.{Program}
 use Rattle.spv_effects.specs.declared.frame_walk.faults.FrameFault.{FrameFault}
 use Rattle.spv_effects.specs.frame_walk.FrameWalk.{frame_fault}
 use Rattle.spv_effects.proofs.frame_laws.Framed.{framed_is}
-use Rattle.spv_frames.proofs.framing.framed.Goals as goal
+use Rattle.spv_types.proofs.frames.framing.framed.Goals as goal
 
 pub of-requires-clause-framed : goal.of-requires-clause-framed
 of-requires-clause-framed c =

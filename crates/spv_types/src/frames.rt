@@ -1,5 +1,4 @@
 //! Frames: programs whose routines use what their lists have, change nothing as functions, and whose calls keep roots apart.
-#![tactic(auto)]
 
 mod framed_programs;
 mod framing;
