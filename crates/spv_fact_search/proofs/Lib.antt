@@ -2,7 +2,6 @@ pub mod Asked
 pub mod Counting
 pub mod Formulas
 pub mod Found
-pub mod Growing
 pub mod Guessed
 pub mod Making
 pub mod Owning
@@ -10,4 +9,3 @@ pub mod Refuting
 pub mod Staged
 pub mod Stating
 pub mod Told
-pub mod Trees

@@ -17,7 +17,7 @@ use Rattle.spv_fact_search.specs.Asking.{IsOwn}
 use Rattle.spv_fact_search.specs.Stages.{CopyGrows, StageGrows}
 use Rattle.spv_fact_search.specs.declared.stages.Stage.{Stage}
 use Rattle.spv_fact_search.specs.Guessing.{IsUnprovedBy}
-use Rattle.spv_fact_search.proofs.Growing.{claim-Extends, proof_grows}
+use Rattle.spv_trimming.proofs.Growing.{claim-Extends, proof_grows}
 
 is-true : (b : Bool) → IsTrue b → b ≡ true
 is-true b e = cc

@@ -3,4 +3,3 @@ pub mod Enlarging
 pub mod Guessing
 pub mod Stages
 pub mod Telling
-pub mod Waiting

@@ -5,11 +5,11 @@ ghost use Rattle.spv_term.specs.Arena.{Extends};
 ghost use Rattle.spv_fact_search.specs.Asking.{AreTruthsThere, HasSortOf, HaveSortsOf, IsAsked, IsTruthThere};
 
 use crate::images::Images;
-use crate::testing::is_there;
 use spv_logic::names::Symbol;
 use spv_search_terms::head_index::is_truth;
 use spv_search_terms::subterms::made;
 use spv_term::{Condition, Head, Sort, TermFault, TermId, Terms};
+use spv_trimming::testing::is_there;
 use std::alloc::{AllocError, Global};
 
 // A variable for a number or a truth; of other sorts none is made.

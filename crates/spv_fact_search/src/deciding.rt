@@ -22,6 +22,7 @@ use spv_proof_steps::candidates::negated;
 use spv_search_terms::condition_copy::copy_condition;
 use spv_table::Table;
 use spv_term::{Condition, Terms};
+use spv_trimming::with_shorter_proof;
 use spv_verdicts::answers::{Decided, Limit, Limits, Unproved, Verdict};
 use std::alloc::{AllocError, Global};
 
@@ -90,17 +91,18 @@ pub fn decide_with_facts(
         return too_many(alloc, terms, condition);
     };
     let searched = limits.with_terms(enlarged.most);
-    let Decided {
-        terms: own,
-        condition: claim,
-        verdict,
-    } = decide_in_stages(
+    let found = decide_in_stages(
         alloc,
         &enlarged.terms,
         &enlarged.condition,
         &searched,
         condition.given.as_slice().len() + 1,
     )?;
+    let Decided {
+        terms: own,
+        condition: claim,
+        verdict,
+    } = with_shorter_proof(alloc, found)?;
     let told = own_condition(alloc, terms, condition, &own, &claim)?;
     let verdict = of_condition(alloc, &own, &told, claim.goal, &searched, verdict)?;
     Ok(Decided {

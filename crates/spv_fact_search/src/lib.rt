@@ -13,7 +13,6 @@ mod relevance;
 mod returning;
 mod stages;
 mod telling;
-mod testing;
 mod trying;
 mod weighing;
 

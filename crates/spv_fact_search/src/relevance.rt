@@ -1,9 +1,9 @@
 // The hypotheses of a condition that are near to its first ones: those that share a variable with one that is near. Variables stand for applications.
 
-use crate::testing::is_there;
 use spv_logic::list::List;
 use spv_search_terms::subterms::{IdSet, subterms};
 use spv_term::{Condition, TermId, Terms};
+use spv_trimming::testing::is_there;
 use std::alloc::{AllocError, Global};
 
 // The terms of a list, each once.

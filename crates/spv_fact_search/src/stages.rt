@@ -20,7 +20,6 @@ use crate::images::Images;
 use crate::numbers::Numbers;
 use crate::relevance::{all_places, near, with_these};
 use crate::returning::Return;
-use crate::testing::{are_there, proof_of};
 use crate::trying::{Trial, tried_near};
 use spv_atoms::{Proof, ProofNode};
 use spv_search::deciding::decide_near;
@@ -28,6 +27,7 @@ use spv_search_terms::condition_copy::{Copied, copy_all, copy_condition};
 use spv_search_terms::subterms::subterms;
 use spv_table::Table;
 use spv_term::{Condition, TermFault, TermId, Terms};
+use spv_trimming::testing::{are_there, proof_of};
 use spv_verdicts::answers::{Decided, Limits, Verdict};
 use std::alloc::{AllocError, Global};
 

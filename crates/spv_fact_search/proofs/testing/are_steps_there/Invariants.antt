@@ -1,6 +1,0 @@
-use Rattle.std.proofs.Common.{drop, length}
-use Rattle.spv_proof_rules.specs.Stand.{StepsIn}
-use Rattle.spv_fact_search.proofs.testing.are_steps_there.Given as goal
-
-abbrev pub invariant-loop-step : goal.invariant-loop-step
-invariant-loop-step l = StepsIn l.terms (drop l.step-index l.steps) → StepsIn l.terms l.steps

@@ -1,5 +1,0 @@
-use Rattle.std.proofs.Common.{◌≡◌, ◌++◌, drop}
-use Rattle.spv_fact_search.proofs.testing.push_parts.Given as goal
-
-abbrev pub invariant-loop-place : goal.invariant-loop-place
-invariant-loop-place l = l.waiting.items ≡ drop l.place l.parts ++ l.initial.waiting.items
