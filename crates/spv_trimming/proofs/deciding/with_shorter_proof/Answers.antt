@@ -10,6 +10,6 @@ trimmed-requires c = record {
 
 pub returns-in_ok-shorter-in-Proved : goal.returns-in_ok-shorter-in-Proved
 returns-in_ok-shorter-in-Proved c = record {
-  decided = stays-decided c.args.decided.terms c.trimmed-in-Proved.new.terms c.args.decided.condition c.args.decided.verdict c.in_ok-shorter-in-Proved.shorter c.trimmed-in-Proved.ensures.grows
+  decided = stays-decided c.args.decided.terms c.trimmed.new.terms c.args.decided.condition c.args.decided.verdict c.in_ok-shorter-in-Proved.shorter c.trimmed.ensures.grows
       c.in_ok-shorter-in-Proved.ensures.proof;
 }
