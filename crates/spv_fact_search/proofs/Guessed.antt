@@ -17,8 +17,7 @@ use Rattle.spv_table.specs.Kept.{PairsIn}
 use Rattle.spv_models.specs.leaf_models.Subterms.{is_listed}
 use Rattle.spv_branch_theory.specs.model_construction.Numbers.{id_at, flag_at, with_value_if}
 use Rattle.spv_verdicts.specs.Schemas.{used}
-use Rattle.spv_search.specs.Finding.{IsTableFor}
-use Rattle.spv_fact_search.specs.Guessing.{term_of}
+use Rattle.spv_search.specs.Finding.{IsTableFor, term_of}
 use Rattle.spv_search.proofs.Consulted.{terms_first, none_first, all_first, flag_is, passing_next, pushed}
 use Rattle.spv_search.proofs.Tables.{pairs_if}
 

@@ -1,19 +1,12 @@
 -- A table that was guessed, and what it shows.
-use Rattle.std.specs.Prelude.{List, ⊤}
-use Rattle.spv_whole.specs.Fraction.{Fraction}
-use Rattle.spv_logic.specs.declared.conditions.TermId.{TermId}
-use Rattle.spv_logic.specs.Terms.{Term}
+use Rattle.std.specs.Prelude.{⊤}
 use Rattle.spv_term.specs.declared.nodes.Condition.{Condition}
-use Rattle.spv_term.specs.Arena.{Arena, tree}
+use Rattle.spv_term.specs.Arena.{Arena}
 use Rattle.spv_verdicts.specs.declared.answers.verdicts.Unproved.{Unproved}
 use Rattle.spv_verdicts.specs.declared.answers.verdicts.Verdict.TheVariants as verdict
 use Rattle.spv_search.specs.Finding.{IsFoundAlways}
 use Rattle.spv_fact_search.specs.declared.trying.Trial.{Trial}
 use Rattle.spv_fact_search.specs.declared.trying.Trial.TheVariants as trial
-
--- the term of an entry of a table
-abbrev pub term_of : Arena → TermId × Fraction → Term
-term_of a p = tree a p.0
 
 -- what a table shows of a condition is a right verdict on it, whatever the limits are
 abbrev pub IsUnprovedBy : Arena → Condition → Unproved → Type 0

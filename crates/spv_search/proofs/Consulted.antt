@@ -31,8 +31,7 @@ use Rattle.spv_verdicts.specs.declared.candidate_models.trying.Tried.{Tried}
 use Rattle.spv_verdicts.specs.declared.candidate_models.trying.Tried.TheVariants as tried
 use Rattle.spv_trail.specs.declared.backtracking.path.BranchTrail.{BranchTrail}
 use Rattle.spv_search.specs.declared.consulting.Next.{Next}
-use Rattle.spv_search.specs.Finding.{IsFoundAlways, IsNext, IsTableFor, MayBeSplitIf}
-use Rattle.spv_search.specs.schemas.Guessing.{term_of}
+use Rattle.spv_search.specs.Finding.{IsFoundAlways, IsNext, IsTableFor, MayBeSplitIf, term_of}
 use Rattle.spv_search.proofs.Tables.{table_in, flags_many}
 use Rattle.spv_search.proofs.NoRules.{unproved}
 

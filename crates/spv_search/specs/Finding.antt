@@ -1,9 +1,10 @@
 -- What a search finds.
 use Rattle.std.specs.Prelude.{◌≡◌, ◌<◌, ⊤, List, Bool, true, false, Option, Some, None}
+use Rattle.spv_whole.specs.Fraction.{Fraction}
 use Rattle.spv_logic.specs.declared.conditions.TermId.{TermId}
 use Rattle.spv_logic.specs.Terms.{Term}
 use Rattle.spv_term.specs.declared.nodes.Condition.{Condition}
-use Rattle.spv_term.specs.Arena.{Arena}
+use Rattle.spv_term.specs.Arena.{Arena, tree}
 use Rattle.spv_proof_rules.specs.Stand.{question}
 use Rattle.spv_simplex.specs.declared.checked.Checked.{Checked}
 use Rattle.spv_simplex.specs.declared.checked.Checked.TheVariants.{Wide, Pivots}
@@ -30,6 +31,10 @@ use Rattle.spv_trail.specs.declared.backtracking.path.Ground.{Ground}
 use Rattle.spv_trail.specs.declared.backtracking.path.BranchTrail.{BranchTrail}
 use Rattle.spv_trail.specs.declared.backtracking.marks.TrailMark.{TrailMark}
 use Rattle.spv_search.specs.Searching.{IsArrived, IsRunning, room_left}
+
+-- the term of an entry of a table
+abbrev pub term_of : Arena → TermId × Fraction → Term
+term_of a p = tree a p.0
 
 -- ---- verdicts
 
