@@ -1,3 +1,4 @@
+pub mod statement_parser
 pub mod Causes
 pub mod Marks
 pub mod Stopped

@@ -9,6 +9,7 @@ mod programs;
 mod refused;
 mod routine_marks;
 pub mod rule_parser;
+pub mod statement_parser;
 
 pub use parser::{formula, program, rules};
 pub use refused::SyntaxFault;

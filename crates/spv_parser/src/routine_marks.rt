@@ -7,10 +7,10 @@ ghost use Rattle.spv_grammar.specs.reading.StatementReaders.{read_block};
 ghost use Rattle.spv_grammar.specs.reading.RoutineReaders as routine;
 ghost use Rattle.spv_formula_parser.specs.primitives.Faults.{IsStop};
 
+use crate::statement_parser::statements::block;
 use spv_formula_parser::primitives::fault::{Fault, unexpected};
 use spv_formula_parser::primitives::front::past_sign;
 use spv_routine_parser::routines::{begins_heading, mark};
-use spv_statement_parser::statements::block;
 use spv_tree::syntax::{Block, RoutineMark};
 use spv_tree::tokens::{Sign, Token};
 use std::alloc::Global;

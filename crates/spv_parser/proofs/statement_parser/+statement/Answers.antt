@@ -3,8 +3,8 @@ use Rattle.spv_grammar.specs.reading.StatementReaders.{read_lower, read_arm}
 use Rattle.spv_formula_parser.proofs.primitives.Exits.{same_fault}
 use Rattle.spv_formula_parser.proofs.primitives.Turns.{turn, stopped, failed, over, when_absent, when_there}
 use Rattle.spv_formula_parser.proofs.FormulaLists.{read_list}
-use Rattle.spv_statement_parser.proofs.StatementLists.{put-more_statements, put-more_arms, one_lower}
-use Rattle.spv_statement_parser.proofs.+statement.Goals as goal
+use Rattle.spv_parser.proofs.statement_parser.StatementLists.{put-more_statements, put-more_arms, one_lower}
+use Rattle.spv_parser.proofs.statement_parser.+statement.Goals as goal
 
 -- ---- levels
 

@@ -8,7 +8,7 @@ ghost use Rattle.spv_grammar.specs.reading.Readers.{Stop, Read, Halted, several_
 ghost use Rattle.spv_grammar.specs.reading.FormulaReaders.{read_designator, read_inner, read_formula};
 ghost use Rattle.spv_grammar.specs.reading.StatementReaders.{read_call, read_creation, read_becomes, read_action};
 ghost use Rattle.spv_formula_parser.specs.primitives.Faults.{IsStop};
-ghost use Rattle.spv_statement_parser.specs.Compound.{read_assigned};
+ghost use Rattle.spv_parser.specs.statement_parser.Compound.{read_assigned};
 
 use spv_formula_parser::factors::{designator, selectors};
 use spv_formula_parser::formulas::{formula, inner};

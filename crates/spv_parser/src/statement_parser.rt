@@ -1,5 +1,4 @@
 //! Statements and blocks from tokens.
-#![tactic(auto)]
 
 mod actions;
 mod loops;

@@ -7,7 +7,7 @@ ghost use Rattle.spv_grammar.specs.reading.StatementReaders.{direction_of, read_
 ghost use Rattle.spv_grammar.specs.reading.Readers.{Stop, Read, Halted};
 ghost use Rattle.spv_formula_parser.specs.primitives.Faults.{IsStop};
 
-use crate::statements::{boxed, more_statements};
+use crate::statement_parser::statements::{boxed, more_statements};
 use spv_formula_parser::formulas::formula;
 use spv_formula_parser::primitives::fault::{Fault, unexpected};
 use spv_formula_parser::primitives::front::{after, first_line, front, name, past_sign, past_word};

@@ -5,7 +5,7 @@ use Rattle.spv_tree.specs.syntax.Statements.{no_more_statements, more_statements
 use Rattle.spv_grammar.specs.reading.Readers.{behind}
 use Rattle.spv_grammar.specs.reading.StatementReaders.{read_lower, read_more_statements, read_arm, read_more_arms}
 use Rattle.spv_formula_parser.specs.primitives.Lists.{ItemsSoFar}
-use Rattle.spv_statement_parser.proofs.+statement.Given as goal
+use Rattle.spv_parser.proofs.statement_parser.+statement.Given as goal
 
 -- each level has twenty places, one for each function
 abbrev pub decreases-statements::statement : goal.decreases-statements::statement

@@ -7,10 +7,10 @@ ghost use Rattle.spv_grammar.specs.reading.FormulaReaders.{read_formula};
 ghost use Rattle.spv_grammar.specs.reading.StatementReaders.{read_more_statements, read_block_behind, read_arm, read_more_arms, read_otherwise, read_conditional, read_selection, read_lower, read_statement, read_block};
 ghost use Rattle.spv_grammar.specs.reading.Readers.{Stop, Read, Halted};
 ghost use Rattle.spv_formula_parser.specs.primitives.Faults.{IsStop};
-ghost use Rattle.spv_statement_parser.specs.Compound.{read_compound, read_with_invariant, read_assertion};
+ghost use Rattle.spv_parser.specs.statement_parser.Compound.{read_compound, read_with_invariant, read_assertion};
 
-use crate::actions::{action, creation};
-use crate::loops::repetition;
+use crate::statement_parser::actions::{action, creation};
+use crate::statement_parser::loops::repetition;
 use spv_formula_parser::formulas::formula;
 use spv_formula_parser::primitives::constants::{begins_constant, constants};
 use spv_formula_parser::primitives::fault::{Fault, out_of_levels};
