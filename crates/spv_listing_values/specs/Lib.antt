@@ -1,0 +1,16 @@
+pub mod Written
+pub mod Lines
+pub mod Page
+pub mod Scanning
+pub mod Reading
+pub mod Forms
+pub mod Worked
+pub mod Exact
+pub mod Mapped
+pub mod Places
+pub mod Waiting
+pub mod Blanks
+pub mod Ways
+pub mod Parts
+pub mod Interned
+pub mod Entries
