@@ -31,7 +31,7 @@ lines_append (l ∷ a) b s = lines_append a b (with_line s l)
 some_is : {X : Type 0} (f : X → Reading → Reading) (o : Option X) (x : X) (s : Reading) → o ≡ Some x → with_some f o s ≡ f x s
 some_is f o x s e = ap (λ o. with_some f o s) e
 
-last_is : {X : Type 0} (f : X → X) (xs : List X) (x : X) → on_last f (xs ++ x ∷ []) ≡ xs ++ f x ∷ []
+pub last_is : {X : Type 0} (f : X → X) (xs : List X) (x : X) → on_last f (xs ++ x ∷ []) ≡ xs ++ f x ∷ []
 last_is f [] x = refl
 last_is f (y ∷ []) x = refl
 last_is f (y ∷ z ∷ xs) x = ap (λ ys. y ∷ ys) (last_is f (z ∷ xs) x)

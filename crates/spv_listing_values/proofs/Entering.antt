@@ -12,7 +12,7 @@ abbrev pub entering : List Flat → List Text → Entered
 entering fs ps = record { flats = fs; places = ps }
 
 -- what was entered before stays in front
-entered_front : (fs : List Flat) (front more : List Text) (t : Written)
+pub entered_front : (fs : List Flat) (front more : List Text) (t : Written)
     → entered (entering fs (front ++ more)) t ≡ entering (entered (entering fs more) t).flats (front ++ (entered (entering fs more) t).places)
 entered_front fs front more (written h ts) =
     let a = all_entered (entering fs []) ts in

@@ -24,3 +24,11 @@ pub mod TermForms
 pub mod Letters
 pub mod Judging
 pub mod Folded
+pub mod Enters
+pub mod Keeps
+pub mod Telling
+pub mod Gained
+pub mod Following
+pub mod Within
+pub mod LinesBehind
+pub mod Turns

@@ -14,3 +14,6 @@ pub mod Ways
 pub mod Parts
 pub mod Interned
 pub mod Entries
+pub mod Told
+pub mod Kept
+pub mod Followed

@@ -20,6 +20,12 @@ use Rattle.spv_listing_values.specs.declared.data.Limit.TheVariants as limit
 use Rattle.spv_listing_values.specs.declared.data.Verdict.{Verdict}
 use Rattle.spv_listing_values.specs.declared.data.Verdict.TheVariants.{Proved, Unproved, GaveUp}
 use Rattle.spv_listing_values.specs.declared.data.Claim.{Claim}
+use Rattle.spv_listing_values.specs.declared.keywords.LimitWord.{LimitWord}
+use Rattle.spv_listing_values.specs.declared.keywords.LimitWord.TheVariants as limit_word
+use Rattle.spv_listing_values.specs.declared.keywords.StepWord.{StepWord}
+use Rattle.spv_listing_values.specs.declared.keywords.StepWord.TheVariants as step_word
+use Rattle.spv_listing_values.specs.declared.keywords.LineWord.{LineWord}
+use Rattle.spv_listing_values.specs.declared.keywords.LineWord.TheVariants as line_word
 use Rattle.spv_listing_values.specs.Written.{Alone, Applied, Written, written}
 use Rattle.spv_listing_values.specs.Scanning.{lines_in}
 
@@ -92,16 +98,9 @@ header_of routine k line = do
 
 -- ---- limits
 
-pub data LimitWord : Type 0 where
-  Splits : LimitWord
-  Instances : LimitWord
-  Pivots : LimitWord
-  Terms : LimitWord
-  Number : LimitWord
-
 abbrev pub limit_words : List (List ℕ × LimitWord)
 limit_words =
-    (codes "SPLITS", Splits) ∷ (codes "INSTANCES", Instances) ∷ (codes "PIVOTS", Pivots) ∷ (codes "TERMS", Terms) ∷ (codes "NUMBER", Number) ∷ []
+    (codes "SPLITS", limit_word.Splits) ∷ (codes "INSTANCES", limit_word.Instances) ∷ (codes "PIVOTS", limit_word.Pivots) ∷ (codes "TERMS", limit_word.Terms) ∷ (codes "NUMBER", limit_word.Number) ∷ []
 
 abbrev pub operations : List (List ℕ × Op)
 operations = (codes "ADD", op.Add) ∷ (codes "SUB", op.Sub) ∷ (codes "MUL", op.Mul) ∷ (codes "DIV", op.Div) ∷ (codes "CMP", op.Cmp) ∷ []
@@ -114,32 +113,20 @@ wide_of o left right = do
   Some (limit.Wide o left right)
 
 abbrev pub limit_by : LimitWord → List Written → Option (Limit Written)
-limit_by Splits (n ∷ []) = option_map limit.Splits (number_in (2 ^ 64) n)
-limit_by Instances (n ∷ []) = option_map limit.Instances (number_in (2 ^ 64) n)
-limit_by Pivots (n ∷ []) = option_map limit.Pivots (number_in (2 ^ 64) n)
-limit_by Terms (n ∷ []) = Some limit.Terms
-limit_by Number (o ∷ t ∷ []) = Some (limit.Form t)
-limit_by Number (o ∷ left ∷ right ∷ []) = wide_of o left right
+limit_by limit_word.Splits (n ∷ []) = option_map limit.Splits (number_in (2 ^ 64) n)
+limit_by limit_word.Instances (n ∷ []) = option_map limit.Instances (number_in (2 ^ 64) n)
+limit_by limit_word.Pivots (n ∷ []) = option_map limit.Pivots (number_in (2 ^ 64) n)
+limit_by limit_word.Terms (n ∷ []) = Some limit.Terms
+limit_by limit_word.Number (o ∷ t ∷ []) = Some (limit.Form t)
+limit_by limit_word.Number (o ∷ left ∷ right ∷ []) = wide_of o left right
 limit_by _ _ = None
 
 -- ---- steps of proofs
 
-pub data StepWord : Type 0 where
-  Given : StepWord
-  Refl : StepWord
-  Symm : StepWord
-  Trans : StepWord
-  Cong : StepWord
-  Linear : StepWord
-  Schema : StepWord
-  Rule : StepWord
-  Eval : StepWord
-  Contra : StepWord
-
 abbrev pub step_words : List (List ℕ × StepWord)
 step_words =
-    (codes "GIVEN", Given) ∷ (codes "REFL", Refl) ∷ (codes "SYMM", Symm) ∷ (codes "TRANS", Trans) ∷ (codes "CONG", Cong)
-    ∷ (codes "LINEAR", Linear) ∷ (codes "SCHEMA", Schema) ∷ (codes "RULE", Rule) ∷ (codes "EVAL", Eval) ∷ (codes "CONTRA", Contra) ∷ []
+    (codes "GIVEN", step_word.Given) ∷ (codes "REFL", step_word.Refl) ∷ (codes "SYMM", step_word.Symm) ∷ (codes "TRANS", step_word.Trans) ∷ (codes "CONG", step_word.Cong)
+    ∷ (codes "LINEAR", step_word.Linear) ∷ (codes "SCHEMA", step_word.Schema) ∷ (codes "RULE", step_word.Rule) ∷ (codes "EVAL", step_word.Eval) ∷ (codes "CONTRA", step_word.Contra) ∷ []
 
 -- the number of a fact, of a hypothesis or of a rule
 abbrev pub fact_in : Written → Option ℕ
@@ -196,20 +183,20 @@ abbrev pub schema_of : ℕ → List Written → Step Written
 schema_of k ts = if nat_eq k 4 then step.Schema k (but_last ts) (Some (last_text ts)) else step.Schema k ts None
 
 abbrev pub step_by : StepWord → List Written → Option (Step Written)
-step_by Given (k ∷ []) = option_map step.Given (fact_in k)
-step_by Refl (t ∷ []) = Some (step.Refl t)
-step_by Symm (i ∷ []) = option_map step.Symm (fact_in i)
-step_by Trans (i ∷ j ∷ []) = do
+step_by step_word.Given (k ∷ []) = option_map step.Given (fact_in k)
+step_by step_word.Refl (t ∷ []) = Some (step.Refl t)
+step_by step_word.Symm (i ∷ []) = option_map step.Symm (fact_in i)
+step_by step_word.Trans (i ∷ j ∷ []) = do
   i ← fact_in i
   j ← fact_in j
   Some (step.Trans i j)
-step_by Cong (t ∷ u ∷ facts) = option_map (step.Cong t u) (facts_in facts)
-step_by Linear (r ∷ ts) = linear_of r ts
-step_by Schema (k ∷ ts) = option_map (λ k. schema_of k ts) (number_in (2 ^ 8) k)
-step_by Rule (r ∷ ts) = option_map (λ r. step.Rule r ts) (fact_in r)
-step_by Eval (f ∷ facts) = option_map (step.Eval f) (facts_in facts)
-step_by Contra (i ∷ []) = option_map (λ i. step.Contra i None) (fact_in i)
-step_by Contra (i ∷ j ∷ []) = do
+step_by step_word.Cong (t ∷ u ∷ facts) = option_map (step.Cong t u) (facts_in facts)
+step_by step_word.Linear (r ∷ ts) = linear_of r ts
+step_by step_word.Schema (k ∷ ts) = option_map (λ k. schema_of k ts) (number_in (2 ^ 8) k)
+step_by step_word.Rule (r ∷ ts) = option_map (λ r. step.Rule r ts) (fact_in r)
+step_by step_word.Eval (f ∷ facts) = option_map (step.Eval f) (facts_in facts)
+step_by step_word.Contra (i ∷ []) = option_map (λ i. step.Contra i None) (fact_in i)
+step_by step_word.Contra (i ∷ j ∷ []) = do
   i ← fact_in i
   j ← fact_in j
   Some (step.Contra i (Some j))
@@ -326,25 +313,11 @@ with_case v = v
 
 -- ---- lines
 
-pub data LineWord : Type 0 where
-  HeadingWord : LineWord
-  GivenWord : LineWord
-  GoalWord : LineWord
-  ProvedWord : LineWord
-  UnprovedWord : LineWord
-  GaveWord : LineWord
-  BranchWord : LineWord
-  InstanceWord : LineWord
-  ValueWord : LineWord
-  StepsWord : LineWord
-  SplitWord : LineWord
-  CaseWord : LineWord
-
 abbrev pub line_words : List (List ℕ × LineWord)
 line_words =
-    (codes "CONDITION", HeadingWord) ∷ (codes "GIVEN", GivenWord) ∷ (codes "GOAL", GoalWord) ∷ (codes "PROVED", ProvedWord)
-    ∷ (codes "UNPROVED", UnprovedWord) ∷ (codes "GAVE", GaveWord) ∷ (codes "BRANCH", BranchWord) ∷ (codes "INSTANCE", InstanceWord)
-    ∷ (codes "VALUE", ValueWord) ∷ (codes "STEP", StepsWord) ∷ (codes "SPLIT", SplitWord) ∷ (codes "CASE", CaseWord) ∷ []
+    (codes "CONDITION", line_word.Heading) ∷ (codes "GIVEN", line_word.Given) ∷ (codes "GOAL", line_word.Goal) ∷ (codes "PROVED", line_word.Proved)
+    ∷ (codes "UNPROVED", line_word.Unproved) ∷ (codes "GAVE", line_word.Gave) ∷ (codes "BRANCH", line_word.Branch) ∷ (codes "INSTANCE", line_word.Instance)
+    ∷ (codes "VALUE", line_word.Value) ∷ (codes "STEP", line_word.Step) ∷ (codes "SPLIT", line_word.Split) ∷ (codes "CASE", line_word.Case) ∷ []
 
 -- where the items say something, what is read with it; else what was read before
 abbrev pub with_some : {X : Type 0} → (X → Reading → Reading) → Option X → Reading → Reading
@@ -367,18 +340,18 @@ limit_of [] = None
 limit_of (w ∷ ts) = named limit_words (text_of w) >>= λ w. limit_by w ts
 
 abbrev pub line_by : LineWord → List Written → Reading → Reading
-line_by HeadingWord (k ∷ routine ∷ annotation ∷ w ∷ line ∷ []) s = with_some with_header (header_of routine annotation line) s
-line_by GivenWord (t ∷ []) s = asking (with_given t) s
-line_by GoalWord (t ∷ []) s = asking (with_goal t) s
-line_by ProvedWord [] s = with_verdict (Proved []) s
-line_by UnprovedWord [] s = with_verdict (Unproved [] [] []) s
-line_by GaveWord (up ∷ ts) s = with_some (λ l. with_verdict (GaveUp l)) (limit_of ts) s
-line_by BranchWord (t ∷ []) s = judged (with_branch t) s
-line_by InstanceWord (r ∷ ts) s = with_some (λ i. judged (with_instance i)) (instance_of r ts) s
-line_by ValueWord (t ∷ x ∷ []) s = with_some (λ row. judged (with_value row)) (row_of t x) s
-line_by StepsWord ts s = with_some (λ p. judged (on_node (with_step p))) (step_of ts) s
-line_by SplitWord (n ∷ atom ∷ []) s = with_some (λ n. judged (on_node (with_split n atom))) (fact_in n) s
-line_by CaseWord (i ∷ []) s = judged with_case s
+line_by line_word.Heading (k ∷ routine ∷ annotation ∷ w ∷ line ∷ []) s = with_some with_header (header_of routine annotation line) s
+line_by line_word.Given (t ∷ []) s = asking (with_given t) s
+line_by line_word.Goal (t ∷ []) s = asking (with_goal t) s
+line_by line_word.Proved [] s = with_verdict (Proved []) s
+line_by line_word.Unproved [] s = with_verdict (Unproved [] [] []) s
+line_by line_word.Gave (up ∷ ts) s = with_some (λ l. with_verdict (GaveUp l)) (limit_of ts) s
+line_by line_word.Branch (t ∷ []) s = judged (with_branch t) s
+line_by line_word.Instance (r ∷ ts) s = with_some (λ i. judged (with_instance i)) (instance_of r ts) s
+line_by line_word.Value (t ∷ x ∷ []) s = with_some (λ row. judged (with_value row)) (row_of t x) s
+line_by line_word.Step ts s = with_some (λ p. judged (on_node (with_step p))) (step_of ts) s
+line_by line_word.Split (n ∷ atom ∷ []) s = with_some (λ n. judged (on_node (with_split n atom))) (fact_in n) s
+line_by line_word.Case (i ∷ []) s = judged with_case s
 line_by _ _ s = s
 
 -- one line more

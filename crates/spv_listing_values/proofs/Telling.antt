@@ -1,0 +1,288 @@
+-- What the items of a line say, item by item.
+use Rattle.std.proofs.Common.{◌≡◌, ℕ, zero, suc, ◌+◌, ◌-◌, ◌<◌, ◌≤◌, Bool, true, false, if◌then◌else◌, Option, Some, None, List, [], ◌∷◌, ◌++◌, map, length, take, drop, get_or, option_map, option_and_then, IfSome, refl, sym, ap, subst, ◌∙◌, append_assoc, append-nil, arith}
+use Rattle.std.proofs.lemmas.List.{drop_more, drop_all, take_more, take_all, map-append, length-map, take-map, drop-map, length-drop, take_rest}
+use Rattle.spv_whole.specs.Fraction.{Fraction}
+use Rattle.spv_listing_values.specs.declared.data.Step.TheVariants as step
+use Rattle.spv_listing_values.specs.declared.keywords.LimitWord.TheVariants as limit_word
+use Rattle.spv_listing_values.specs.declared.texts.Text.{Text}
+use Rattle.spv_listing_values.specs.declared.scanning.Item.{Item}
+use Rattle.spv_listing_values.specs.Written.{Written}
+use Rattle.spv_listing_values.specs.Reading.{text_of, fact_in, facts_in, fraction_in, multiples_in, is_stroke, in_front, behind, limit_by, linear_of, but_last, last_text}
+use Rattle.spv_listing_values.specs.Places.{Flat, tree}
+use Rattle.spv_listing_values.specs.Told.{Enters, Says, StandInFront, operation_in}
+use Rattle.spv_listing_values.proofs.Enters.{enters_none}
+
+-- the next item is the first of those that are left
+pub next_item : {X : Type 0} (xs : List X) (i : ℕ) (x : X) → i < length xs → x ≡ get_or xs i x → drop i xs ≡ x ∷ drop (i + 1) xs
+next_item xs i x h is = drop_more xs i x h ∙ ap (λ y. y ∷ drop (i + 1) xs) (sym is)
+
+module _ (w : Item → Written) where
+  -- ---- facts
+
+  abbrev pub FactsSoFar : List Item → ℕ → List ℕ → Type 0
+  FactsSoFar items i facts = facts_in (map w items) ≡ option_map (λ more. facts ++ more) (facts_in (map w (drop i items)))
+
+  all_left : {X : Type 0} (o : Option (List X)) → o ≡ option_map (λ more. [] ++ more) o
+  all_left None = refl
+  all_left (Some xs) = refl
+
+  pub facts_first : (items : List Item) → FactsSoFar items 0 []
+  facts_first items = all_left (facts_in (map w items))
+
+  one_fact : (o : Option (List ℕ)) (facts : List ℕ) (n : ℕ) → option_map (λ more. facts ++ more) (option_and_then (λ ns. Some (n ∷ ns)) o) ≡ option_map (λ more. (facts ++ n ∷ []) ++ more) o
+  one_fact None facts n = refl
+  one_fact (Some ns) facts n = ap (λ (ms : List ℕ). Some ms) (sym (append_assoc facts (n ∷ []) ns))
+
+  facts_step : (x : Item) (items : List Item) → facts_in (map w (x ∷ items)) ≡ option_and_then (λ n. option_and_then (λ ns. Some (n ∷ ns)) (facts_in (map w items))) (fact_in (w x))
+  facts_step x items = refl
+
+  pub facts_more : (items : List Item) (i : ℕ) (facts : List ℕ) (x : Item) (n : ℕ) → FactsSoFar items i facts → i < length items → x ≡ get_or items i x → Some n ≡ fact_in (w x)
+      → FactsSoFar items (i + 1) (facts ++ n ∷ [])
+  facts_more items i facts x n so_far h is e =
+      so_far
+      ∙ (ap (λ (l : List Item). option_map (λ more. facts ++ more) (facts_in (map w l))) (next_item items i x h is)
+      ∙ (ap (λ (o : Option ℕ). option_map (λ more. facts ++ more) (option_and_then (λ n. option_and_then (λ ns. Some (n ∷ ns)) (facts_in (map w (drop (i + 1) items)))) o)) (sym e)
+      ∙ one_fact (facts_in (map w (drop (i + 1) items))) facts n))
+
+  pub facts_none : (items : List Item) (i : ℕ) (facts : List ℕ) (x : Item) → FactsSoFar items i facts → i < length items → x ≡ get_or items i x → None ≡ fact_in (w x)
+      → None ≡ facts_in (map w items)
+  facts_none items i facts x so_far h is e =
+      sym
+      (so_far
+      ∙ (ap (λ (l : List Item). option_map (λ more. facts ++ more) (facts_in (map w l))) (next_item items i x h is)
+      ∙ ap (λ (o : Option ℕ). option_map (λ more. facts ++ more) (option_and_then (λ n. option_and_then (λ ns. Some (n ∷ ns)) (facts_in (map w (drop (i + 1) items)))) o)) (sym e)))
+
+  pub facts_end : (items : List Item) (i : ℕ) (facts : List ℕ) → FactsSoFar items i facts → length items ≤ i → Some facts ≡ facts_in (map w items)
+  facts_end items i facts so_far h =
+      sym
+      (so_far
+      ∙ (ap (λ (l : List Item). option_map (λ more. facts ++ more) (facts_in (map w l))) (drop_all i items h) ∙ ap (λ (ns : List ℕ). Some ns) (append-nil facts)))
+
+  -- ---- multiples
+
+  pub record MultiplesSoFar (items : List Item) (i : ℕ) (ms : List (Fraction × ℕ)) : Type 0 where
+    pub within : i ≤ length items
+    pub is : multiples_in (map w items) ≡ option_map (λ more. ms ++ more) (multiples_in (map w (drop i items)))
+
+  pub multiples_first : (items : List Item) → MultiplesSoFar items 0 []
+  multiples_first items = record { within = low (length items); is = all_left (multiples_in (map w items)) }
+    where
+      low : (n : ℕ) → 0 ≤ n
+      low n = omega arith
+
+  abbrev pair_of : Option Fraction → Option ℕ → Option (Fraction × ℕ)
+  pair_of a b = option_and_then (λ m. option_and_then (λ n. Some (m, n)) b) a
+
+  abbrev many_of : Option Fraction → Option ℕ → Option (List (Fraction × ℕ)) → Option (List (Fraction × ℕ))
+  many_of a b r = option_and_then (λ m. option_and_then (λ n. option_and_then (λ ms. Some ((m, n) ∷ ms)) r) b) a
+
+  many_some : (a : Option Fraction) (b : Option ℕ) (r : Option (List (Fraction × ℕ))) (p : Fraction × ℕ) → Some p ≡ pair_of a b → many_of a b r ≡ option_map (λ ms. p ∷ ms) r
+  many_some None b r p e = absurd (none p e)
+    where
+      none : (p : Fraction × ℕ) → Some p ≡ None → ⊥
+      none p e = cc
+  many_some (Some m) None r p e = absurd (none p e)
+    where
+      none : (p : Fraction × ℕ) → Some p ≡ None → ⊥
+      none p e = cc
+  many_some (Some m) (Some n) r p e = by r (same e)
+    where
+      same : Some p ≡ Some (m, n) → (m, n) ≡ p
+      same e = cc
+
+      by : (r : Option (List (Fraction × ℕ))) → (m, n) ≡ p → many_of (Some m) (Some n) r ≡ option_map (λ ms. p ∷ ms) r
+      by None f = refl
+      by (Some ms) f = λ i. Some (f i ∷ ms)
+
+  none_some : {X : Type 0} (x : X) → None ≡ Some x → ⊥
+  none_some x e = cc
+
+  many_none : (a : Option Fraction) (b : Option ℕ) (r : Option (List (Fraction × ℕ))) → None ≡ pair_of a b → many_of a b r ≡ None
+  many_none None b r e = refl
+  many_none (Some m) None r e = refl
+  many_none (Some m) (Some n) r e = absurd (none e)
+    where
+      none : None ≡ pair_of (Some m) (Some n) → ⊥
+      none e = none_some (m, n) e
+
+  one_multiple : (o : Option (List (Fraction × ℕ))) (ms : List (Fraction × ℕ)) (p : Fraction × ℕ) → option_map (λ more. ms ++ more) (option_map (λ ns. p ∷ ns) o) ≡ option_map (λ more. (ms ++ p ∷ []) ++ more) o
+  one_multiple None ms p = refl
+  one_multiple (Some ns) ms p = ap (λ (xs : List (Fraction × ℕ)). Some xs) (sym (append_assoc ms (p ∷ []) ns))
+
+  two_left : (items : List Item) (i : ℕ) (d e : Item) → i + 1 < length items → drop i items ≡ get_or items i d ∷ get_or items (i + 1) e ∷ drop (i + 2) items
+  two_left items i d e h =
+      drop_more items i d (omega (arith, h))
+      ∙ (ap (λ (l : List Item). get_or items i d ∷ l) (drop_more items (i + 1) e h) ∙ ap (λ (k : ℕ). get_or items i d ∷ get_or items (i + 1) e ∷ drop k items) two)
+    where
+      two : i + 1 + 1 ≡ i + 2
+      two = omega arith
+
+  pub multiples_more : (items : List Item) (i : ℕ) (ms : List (Fraction × ℕ)) (a b : Item) (p : Fraction × ℕ) → MultiplesSoFar items i ms → 1 < length items - i
+      → Some p ≡ pair_of (fraction_in (w (get_or items i a))) (fact_in (w (get_or items (i + 1) b))) → MultiplesSoFar items (i + 2) (ms ++ p ∷ [])
+  multiples_more items i ms a b p so_far h e = record {
+    within = omega (arith, h);
+    is =
+        so_far.is
+        ∙ (ap (λ (l : List Item). option_map (λ more. ms ++ more) (multiples_in (map w l))) (two_left items i a b (omega (arith, h)))
+        ∙ (ap (option_map (λ more. ms ++ more)) (many_some (fraction_in (w (get_or items i a))) (fact_in (w (get_or items (i + 1) b))) (multiples_in (map w (drop (i + 2) items))) p e)
+        ∙ one_multiple (multiples_in (map w (drop (i + 2) items))) ms p));
+  }
+
+  pub multiples_none : (items : List Item) (i : ℕ) (ms : List (Fraction × ℕ)) (a b : Item) → MultiplesSoFar items i ms → 1 < length items - i
+      → None ≡ pair_of (fraction_in (w (get_or items i a))) (fact_in (w (get_or items (i + 1) b))) → None ≡ multiples_in (map w items)
+  multiples_none items i ms a b so_far h e =
+      sym
+      (so_far.is
+      ∙ (ap (λ (l : List Item). option_map (λ more. ms ++ more) (multiples_in (map w l))) (two_left items i a b (omega (arith, h)))
+      ∙ ap (option_map (λ more. ms ++ more)) (many_none (fraction_in (w (get_or items i a))) (fact_in (w (get_or items (i + 1) b))) (multiples_in (map w (drop (i + 2) items))) e)))
+
+  pub multiples_end : (items : List Item) (i : ℕ) (ms : List (Fraction × ℕ)) → MultiplesSoFar items i ms → i ≡ length items → Some ms ≡ multiples_in (map w items)
+  multiples_end items i ms so_far h =
+      sym
+      (so_far.is
+      ∙ (ap (λ (l : List Item). option_map (λ more. ms ++ more) (multiples_in (map w l))) (drop_all i items (omega (arith, h))) ∙ ap (λ (xs : List (Fraction × ℕ)). Some xs) (append-nil ms)))
+
+  pub multiples_odd : (items : List Item) (i : ℕ) (ms : List (Fraction × ℕ)) → MultiplesSoFar items i ms → length items - i ≤ 1 → (i ≡ length items → ⊥) → None ≡ multiples_in (map w items)
+  multiples_odd items i ms so_far h k = sym (so_far.is ∙ ap (option_map (λ more. ms ++ more)) (one (drop i items) (size items i so_far.within h k)))
+    where
+      size : (items : List Item) (i : ℕ) → i ≤ length items → length items - i ≤ 1 → (i ≡ length items → ⊥) → length (drop i items) ≡ 1
+      size items i le h k = by (length-drop i items)
+        where
+          by : length (drop i items) ≡ length items - i → length (drop i items) ≡ 1
+          by e = omega (arith, e, le, h, k)
+
+      one : (xs : List Item) → length xs ≡ 1 → multiples_in (map w xs) ≡ None
+      one [] e = absurd (none 0 refl e)
+        where
+          none : (n : ℕ) → n ≡ 0 → n ≡ 1 → ⊥
+          none n z e = omega (arith, z, e)
+      one (x ∷ []) e = refl
+      one (x ∷ y ∷ xs) e = absurd (many (length xs) e)
+        where
+          many : (n : ℕ) → suc (suc n) ≡ 1 → ⊥
+          many n e = omega (arith, e)
+
+  -- ---- the first stroke
+
+  pub record NoneSoFar (items : List Item) (i : ℕ) : Type 0 where
+    pub front : in_front (map w items) ≡ take i (map w items) ++ in_front (map w (drop i items))
+    pub back : behind (map w items) ≡ behind (map w (drop i items))
+
+  pub none_first : (items : List Item) → NoneSoFar items 0
+  none_first items = record { front = refl; back = refl }
+
+  front_other : (t : Written) (ts : List Written) → is_stroke t ≡ false → in_front (t ∷ ts) ≡ t ∷ in_front ts
+  front_other t ts e = ap (λ (b : Bool). if b then [] else t ∷ in_front ts) e
+
+  back_other : (t : Written) (ts : List Written) → is_stroke t ≡ false → behind (t ∷ ts) ≡ behind ts
+  back_other t ts e = ap (λ (b : Bool). if b then ts else behind ts) e
+
+  map_more : (items : List Item) (i : ℕ) (d : Item) → i < length items → take (i + 1) (map w items) ≡ take i (map w items) ++ w (get_or items i d) ∷ []
+  map_more items i d h =
+      take-map w (i + 1) items
+      ∙ (ap (map w) (take_more items i d h)
+      ∙ (map-append w (take i items) (get_or items i d ∷ []) ∙ ap (λ (l : List Written). l ++ w (get_or items i d) ∷ []) (sym (take-map w i items))))
+
+  pub none_more : (items : List Item) (i : ℕ) (d : Item) → NoneSoFar items i → i < length items → is_stroke (w (get_or items i d)) ≡ false → NoneSoFar items (i + 1)
+  none_more items i d so_far h e = record {
+    front =
+        so_far.front
+        ∙ (ap (λ (l : List Item). take i (map w items) ++ in_front (map w l)) (drop_more items i d h)
+        ∙ (ap (λ (l : List Written). take i (map w items) ++ l) (front_other (w (get_or items i d)) (map w (drop (i + 1) items)) e)
+        ∙ (sym (append_assoc (take i (map w items)) (w (get_or items i d) ∷ []) (in_front (map w (drop (i + 1) items))))
+        ∙ ap (λ (l : List Written). l ++ in_front (map w (drop (i + 1) items))) (sym (map_more items i d h)))));
+    back = so_far.back ∙ (ap (λ (l : List Item). behind (map w l)) (drop_more items i d h) ∙ back_other (w (get_or items i d)) (map w (drop (i + 1) items)) e);
+  }
+
+  pub stroke_there : (items : List Item) (i : ℕ) (d : Item) → NoneSoFar items i → i < length items → is_stroke (w (get_or items i d)) ≡ true → StandInFront (map w items) i
+  stroke_there items i d so_far h e = record {
+    front =
+        so_far.front
+        ∙ (ap (λ (l : List Item). take i (map w items) ++ in_front (map w l)) (drop_more items i d h)
+        ∙ (ap (λ (b : Bool). take i (map w items) ++ (if b then [] else w (get_or items i d) ∷ in_front (map w (drop (i + 1) items)))) e ∙ append-nil (take i (map w items))));
+    back =
+        so_far.back
+        ∙ (ap (λ (l : List Item). behind (map w l)) (drop_more items i d h)
+        ∙ (ap (λ (b : Bool). if b then map w (drop (i + 1) items) else behind (map w (drop (i + 1) items))) e ∙ sym (drop-map w (i + 1) items)));
+  }
+
+  pub no_stroke : (items : List Item) (i : ℕ) → NoneSoFar items i → length items ≤ i → StandInFront (map w items) (length items)
+  no_stroke items i so_far h = record {
+    front =
+        so_far.front
+        ∙ (ap (λ (l : List Item). take i (map w items) ++ in_front (map w l)) (drop_all i items h)
+        ∙ (append-nil (take i (map w items)) ∙ (take_all i (map w items) (many i h) ∙ sym (take_all (length items) (map w items) (many (length items) (same (length items)))))));
+    back = so_far.back ∙ (ap (λ (l : List Item). behind (map w l)) (drop_all i items h) ∙ sym (drop_all (length items + 1) (map w items) (many (length items + 1) (more (length items)))));
+  }
+    where
+      size : length (map w items) ≡ length items
+      size = length-map items w
+
+      many : (k : ℕ) → length items ≤ k → length (map w items) ≤ k
+      many k h = omega (arith, h, size)
+
+      same : (n : ℕ) → n ≤ n
+      same n = omega arith
+
+      more : (n : ℕ) → n ≤ n + 1
+      more n = omega arith
+
+-- ---- things over terms
+
+-- a thing without terms
+pub says_plain : {A B : Type 0} (at : (Text → Written) → A → B) (terms : A → List Text) (fs : List Flat) (wanted : Option B) (o : Option A) → ((f : Text → Written) → option_map (at f) o ≡ wanted) → IfSome o (λ x. terms x ≡ [])
+    → Says at terms fs fs wanted o
+says_plain at terms fs wanted None e none = (sym (e (tree fs)), refl)
+says_plain at terms fs wanted (Some x) e none =
+    (sym (e (tree fs)), subst (λ (ts : List Text). Enters fs fs (map (tree fs) ts) ts) (sym none) (enters_none fs))
+
+pub form_or_operation : (ts : List Written) → (length ts ≡ 2 → ⊥) → limit_by limit_word.Number ts ≡ operation_in ts
+form_or_operation [] h = refl
+form_or_operation (o ∷ []) h = refl
+form_or_operation (o ∷ t ∷ []) h = absurd (h refl)
+form_or_operation (o ∷ t ∷ u ∷ []) h = refl
+form_or_operation (o ∷ t ∷ u ∷ v ∷ ts) h = refl
+
+pub linear_by : (r : Written) (ts : List Written) (at : ℕ) (first second : Option (List (Fraction × ℕ))) → StandInFront ts at → first ≡ multiples_in (take at ts) → second ≡ multiples_in (drop (at + 1) ts)
+    → linear_of r ts ≡ option_and_then (λ f. option_and_then (λ s. Some (step.Linear r f s)) second) first
+linear_by r ts at first second stand e f =
+    λ i. option_and_then (λ x. option_and_then (λ y. Some (step.Linear r x y)) ((ap multiples_in stand.back ∙ sym f) i)) ((ap multiples_in stand.front ∙ sym e) i)
+
+-- without multiples in front of the stroke
+pub linear_none : (r : Written) (ts : List Written) (at : ℕ) → StandInFront ts at → None ≡ multiples_in (take at ts) → linear_of r ts ≡ None
+linear_none r ts at stand e = λ i. option_and_then (λ x. option_and_then (λ y. Some (step.Linear r x y)) (multiples_in (behind ts))) ((ap multiples_in stand.front ∙ sym e) i)
+
+-- ---- the last item
+
+pub but_last_is : (w : Item → Written) (xs : List Item) (d : Item) → 1 ≤ length xs → but_last (map w xs) ≡ map w (take (length xs - 1) xs)
+but_last_is w [] d h = refl
+but_last_is w (x ∷ []) d h = refl
+but_last_is w (x ∷ y ∷ xs) d h =
+    ap (λ (l : List Written). w x ∷ l) (but_last_is w (y ∷ xs) d (low (length xs)))
+    ∙ ap (λ (n : ℕ). map w (take n (x ∷ y ∷ xs))) (one (length xs))
+  where
+    low : (n : ℕ) → 1 ≤ suc n
+    low n = omega arith
+
+    one : (n : ℕ) → suc (suc n - 1) ≡ suc (suc n) - 1
+    one n = omega arith
+
+pub last_text_is : (w : Item → Written) (xs : List Item) (d : Item) → 1 ≤ length xs → last_text (map w xs) ≡ text_of (w (get_or xs (length xs - 1) d))
+last_text_is w [] d h = absurd (none 0 refl h)
+  where
+    none : (n : ℕ) → n ≡ 0 → 1 ≤ n → ⊥
+    none n z h = omega (arith, z, h)
+last_text_is w (x ∷ []) d h = refl
+last_text_is w (x ∷ y ∷ xs) d h =
+    last_text_is w (y ∷ xs) d (low (length xs))
+    ∙ ap (λ (n : ℕ). text_of (w (get_or (x ∷ y ∷ xs) n d))) (one (length xs))
+  where
+    low : (n : ℕ) → 1 ≤ suc n
+    low n = omega arith
+
+    one : (n : ℕ) → suc (suc n - 1) ≡ suc (suc n) - 1
+    one n = omega arith
+
+-- the items from a place on
+pub behind_place : (w : Item → Written) (items : List Item) (at : ℕ) → map w (take (length items - at) (drop at items)) ≡ drop at (map w items)
+behind_place w items at = ap (map w) (take_rest items at) ∙ sym (drop-map w at items)
