@@ -113,11 +113,11 @@ enters_one fs gs t p ok e =
       trees = ap (λ (u : Written). u ∷ []) is.tree_is;
     }))
 
-places_in : (fs : List Flat) (ps qs : List Text) → AreIn fs ps → AreIn fs qs → AreIn fs (ps ++ qs)
+pub places_in : (fs : List Flat) (ps qs : List Text) → AreIn fs ps → AreIn fs qs → AreIn fs (ps ++ qs)
 places_in fs [] qs h k = k
 places_in fs (p ∷ ps) qs h k = (h.0, places_in fs ps qs h.1 k)
 
-trees_stay : (fs gs : List Flat) → Grown fs gs → (ps : List Text) → AreIn fs ps → map (tree gs) ps ≡ map (tree fs) ps
+pub trees_stay : (fs gs : List Flat) → Grown fs gs → (ps : List Text) → AreIn fs ps → map (tree gs) ps ≡ map (tree fs) ps
 trees_stay fs gs grown [] h = refl
 trees_stay fs gs grown (p ∷ ps) h = λ i. tree_stays fs gs grown p h.0 i ∷ trees_stay fs gs grown ps h.1 i
 

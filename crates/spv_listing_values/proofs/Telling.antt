@@ -1,15 +1,17 @@
 -- What the items of a line say, item by item.
-use Rattle.std.proofs.Common.{◌≡◌, ℕ, zero, suc, ◌+◌, ◌-◌, ◌<◌, ◌≤◌, Bool, true, false, if◌then◌else◌, Option, Some, None, List, [], ◌∷◌, ◌++◌, map, length, take, drop, get_or, option_map, option_and_then, IfSome, refl, sym, ap, subst, ◌∙◌, append_assoc, append-nil, arith}
+use Rattle.std.proofs.Common.{◌≡◌, ℕ, zero, suc, ◌+◌, ◌-◌, ◌<◌, ◌≤◌, Bool, true, false, if◌then◌else◌, Option, Some, None, List, [], ◌∷◌, ◌++◌, map, length, take, drop, get_or, option_map, option_and_then, IfSome, nat_eq, refl, sym, ap, subst, ◌∙◌, append_assoc, append-nil, arith}
+use Rattle.std.proofs.lemmas.Bool.{eqb-true, eq-eqb}
 use Rattle.std.proofs.lemmas.List.{drop_more, drop_all, take_more, take_all, map-append, length-map, take-map, drop-map, length-drop, take_rest}
 use Rattle.spv_whole.specs.Fraction.{Fraction}
 use Rattle.spv_listing_values.specs.declared.data.Step.TheVariants as step
 use Rattle.spv_listing_values.specs.declared.keywords.LimitWord.TheVariants as limit_word
+use Rattle.spv_listing_values.specs.declared.keywords.LineWord.TheVariants as line_word
 use Rattle.spv_listing_values.specs.declared.texts.Text.{Text}
 use Rattle.spv_listing_values.specs.declared.scanning.Item.{Item}
 use Rattle.spv_listing_values.specs.Written.{Written}
-use Rattle.spv_listing_values.specs.Reading.{text_of, fact_in, facts_in, fraction_in, multiples_in, is_stroke, in_front, behind, limit_by, linear_of, but_last, last_text}
+use Rattle.spv_listing_values.specs.Reading.{Reading, line_by, with_some, judged, with_instance, schema_of, text_of, fact_in, facts_in, fraction_in, multiples_in, is_stroke, in_front, behind, limit_by, linear_of, but_last, last_text}
 use Rattle.spv_listing_values.specs.Places.{Flat, tree}
-use Rattle.spv_listing_values.specs.Told.{Enters, Says, StandInFront, operation_in}
+use Rattle.spv_listing_values.specs.Told.{Enters, Says, StandInFront, operation_in, sides_in, two_items}
 use Rattle.spv_listing_values.proofs.Enters.{enters_none}
 
 -- the next item is the first of those that are left
@@ -236,22 +238,6 @@ says_plain at terms fs wanted None e none = (sym (e (tree fs)), refl)
 says_plain at terms fs wanted (Some x) e none =
     (sym (e (tree fs)), subst (λ (ts : List Text). Enters fs fs (map (tree fs) ts) ts) (sym none) (enters_none fs))
 
-pub form_or_operation : (ts : List Written) → (length ts ≡ 2 → ⊥) → limit_by limit_word.Number ts ≡ operation_in ts
-form_or_operation [] h = refl
-form_or_operation (o ∷ []) h = refl
-form_or_operation (o ∷ t ∷ []) h = absurd (h refl)
-form_or_operation (o ∷ t ∷ u ∷ []) h = refl
-form_or_operation (o ∷ t ∷ u ∷ v ∷ ts) h = refl
-
-pub linear_by : (r : Written) (ts : List Written) (at : ℕ) (first second : Option (List (Fraction × ℕ))) → StandInFront ts at → first ≡ multiples_in (take at ts) → second ≡ multiples_in (drop (at + 1) ts)
-    → linear_of r ts ≡ option_and_then (λ f. option_and_then (λ s. Some (step.Linear r f s)) second) first
-linear_by r ts at first second stand e f =
-    λ i. option_and_then (λ x. option_and_then (λ y. Some (step.Linear r x y)) ((ap multiples_in stand.back ∙ sym f) i)) ((ap multiples_in stand.front ∙ sym e) i)
-
--- without multiples in front of the stroke
-pub linear_none : (r : Written) (ts : List Written) (at : ℕ) → StandInFront ts at → None ≡ multiples_in (take at ts) → linear_of r ts ≡ None
-linear_none r ts at stand e = λ i. option_and_then (λ x. option_and_then (λ y. Some (step.Linear r x y)) (multiples_in (behind ts))) ((ap multiples_in stand.front ∙ sym e) i)
-
 -- ---- the last item
 
 pub but_last_is : (w : Item → Written) (xs : List Item) (d : Item) → 1 ≤ length xs → but_last (map w xs) ≡ map w (take (length xs - 1) xs)
@@ -282,6 +268,111 @@ last_text_is w (x ∷ y ∷ xs) d h =
 
     one : (n : ℕ) → suc (suc n - 1) ≡ suc (suc n) - 1
     one n = omega arith
+
+-- ---- items by how many there are
+
+none_two : (i j : Item) → None ≡ Some (i, j) → ⊥
+none_two i j e = cc
+
+pub two_there : (items : List Item) (i j : Item) → Some (i, j) ≡ two_items items → i ∷ j ∷ [] ≡ items
+two_there [] i j e = absurd (none e)
+  where
+    none : Some (i, j) ≡ None → ⊥
+    none e = cc
+two_there (x ∷ []) i j e = absurd (none e)
+  where
+    none : Some (i, j) ≡ None → ⊥
+    none e = cc
+two_there (x ∷ y ∷ []) i j e = same e
+  where
+    same : Some (i, j) ≡ Some (x, y) → i ∷ j ∷ [] ≡ x ∷ y ∷ []
+    same e = cc
+two_there (x ∷ y ∷ z ∷ xs) i j e = absurd (none e)
+  where
+    none : Some (i, j) ≡ None → ⊥
+    none e = cc
+
+pub form_or_operation : (w : Item → Written) (items : List Item) → None ≡ two_items items → limit_by limit_word.Number (map w items) ≡ operation_in (map w items)
+form_or_operation w [] h = refl
+form_or_operation w (x ∷ []) h = refl
+form_or_operation w (x ∷ y ∷ []) h = absurd (none_two x y h)
+form_or_operation w (x ∷ y ∷ z ∷ []) h = refl
+form_or_operation w (x ∷ y ∷ z ∷ u ∷ xs) h = refl
+
+pub no_sides : (w : Item → Written) (o : Written) (items : List Item) → None ≡ two_items items → None ≡ sides_in o (map w items)
+no_sides w o [] h = refl
+no_sides w o (x ∷ []) h = refl
+no_sides w o (x ∷ y ∷ []) h = absurd (none_two x y h)
+no_sides w o (x ∷ y ∷ z ∷ xs) h = refl
+
+pub no_row : (w : Item → Written) (items : List Item) (s : Reading) → None ≡ two_items items → line_by line_word.Value (map w items) s ≡ s
+no_row w [] s h = refl
+no_row w (x ∷ []) s h = refl
+no_row w (x ∷ y ∷ []) s h = absurd (none_two x y h)
+no_row w (x ∷ y ∷ z ∷ xs) s h = refl
+
+pub no_split : (w : Item → Written) (items : List Item) (s : Reading) → None ≡ two_items items → line_by line_word.Split (map w items) s ≡ s
+no_split w [] s h = refl
+no_split w (x ∷ []) s h = refl
+no_split w (x ∷ y ∷ []) s h = absurd (none_two x y h)
+no_split w (x ∷ y ∷ z ∷ xs) s h = refl
+
+pub one_item : (items : List Item) (d : Item) → length items ≡ 1 → get_or items 0 d ∷ [] ≡ items
+one_item [] d e = absurd (none 0 refl e)
+  where
+    none : (n : ℕ) → n ≡ 0 → n ≡ 1 → ⊥
+    none n z e = omega (arith, z, e)
+one_item (x ∷ []) d e = refl
+one_item (x ∷ y ∷ xs) d e = absurd (many (length xs) e)
+  where
+    many : (n : ℕ) → suc (suc n) ≡ 1 → ⊥
+    many n e = omega (arith, e)
+
+pub first_item : (items : List Item) (d : Item) → 1 ≤ length items → get_or items 0 d ∷ take (length items - 1) (drop 1 items) ≡ items
+first_item [] d h = absurd (none 0 refl h)
+  where
+    none : (n : ℕ) → n ≡ 0 → 1 ≤ n → ⊥
+    none n z h = omega (arith, z, h)
+first_item (x ∷ xs) d h = ap (λ (l : List Item). x ∷ l) (take_rest (x ∷ xs) 1)
+
+pub first_two : (items : List Item) (d e : Item) → 2 ≤ length items → get_or items 0 d ∷ get_or items 1 e ∷ take (length items - 2) (drop 2 items) ≡ items
+first_two [] d e h = absurd (none 0 refl h)
+  where
+    none : (n : ℕ) → n ≡ 0 → 2 ≤ n → ⊥
+    none n z h = omega (arith, z, h)
+first_two (x ∷ []) d e h = absurd (none 1 refl h)
+  where
+    none : (n : ℕ) → n ≡ 1 → 2 ≤ n → ⊥
+    none n z h = omega (arith, z, h)
+first_two (x ∷ y ∷ xs) d e h = ap (λ (l : List Item). x ∷ y ∷ l) (take_rest (x ∷ y ∷ xs) 2)
+
+pub no_items : (items : List Item) → nat_eq (length items) 0 ≡ true → [] ≡ items
+no_items [] h = refl
+no_items (x ∷ xs) h = absurd (none (length xs) (eqb-true (suc (length xs)) 0 h))
+  where
+    none : (n : ℕ) → suc n ≡ 0 → ⊥
+    none n e = omega (arith, e)
+
+pub instance_line : (w : Item → Written) (items : List Item) (d : Item) (rule : ℕ) (s : Reading) → 1 ≤ length items → Some rule ≡ fact_in (w (get_or items 0 d))
+    → judged (with_instance (record { rule = rule; values = map w (take (length items - 1) (drop 1 items)) })) s ≡ line_by line_word.Instance (map w items) s
+instance_line w items d rule s h e =
+    ap (λ (o : Option ℕ). with_some (λ i. judged (with_instance i)) (option_map (λ r. record { rule = r; values = map w (take (length items - 1) (drop 1 items)) }) o) s) e
+    ∙ ap (λ (l : List Item). line_by line_word.Instance (map w l) s) (first_item items d h)
+
+pub schema_four : (w : Item → Written) (kind : ℕ) (items : List Item) (d : Item) → kind ≡ 4 → 1 ≤ length items
+    → step.Schema kind (map w (take (length items - 1) items)) (Some (text_of (w (get_or items (length items - 1) d)))) ≡ schema_of kind (map w items)
+schema_four w kind items d e h =
+    (λ i. step.Schema kind (sym (but_last_is w items d h) i) (Some (sym (last_text_is w items d h) i)))
+    ∙ ap (λ (b : Bool). if b then step.Schema kind (but_last (map w items)) (Some (last_text (map w items))) else step.Schema kind (map w items) None) (sym (eq-eqb kind 4 e))
+
+pub linear_by : (r : Written) (ts : List Written) (at : ℕ) (first second : Option (List (Fraction × ℕ))) → StandInFront ts at → first ≡ multiples_in (take at ts) → second ≡ multiples_in (drop (at + 1) ts)
+    → linear_of r ts ≡ option_and_then (λ f. option_and_then (λ s. Some (step.Linear r f s)) second) first
+linear_by r ts at first second stand e f =
+    λ i. option_and_then (λ x. option_and_then (λ y. Some (step.Linear r x y)) ((ap multiples_in stand.back ∙ sym f) i)) ((ap multiples_in stand.front ∙ sym e) i)
+
+-- without multiples in front of the stroke
+pub linear_none : (r : Written) (ts : List Written) (at : ℕ) → StandInFront ts at → None ≡ multiples_in (take at ts) → linear_of r ts ≡ None
+linear_none r ts at stand e = λ i. option_and_then (λ x. option_and_then (λ y. Some (step.Linear r x y)) (multiples_in (behind ts))) ((ap multiples_in stand.front ∙ sym e) i)
 
 -- the items from a place on
 pub behind_place : (w : Item → Written) (items : List Item) (at : ℕ) → map w (take (length items - at) (drop at items)) ≡ drop at (map w items)

@@ -93,13 +93,20 @@ module _ (r n : Reader) where
       subst (λ (o : Option _). Reads n (with_some F o (reading_of r))) (sym e)
       (turned [] [] r.current (λ f s. s) turns (sym (append-nil (terms_of r.current))) turns.reading.begun (λ f. refl))
 
-  pub limit_turn : (wanted : Option (Limit Written)) (l : Limit Text) → takes_verdict r.current ≡ true → wanted ≡ Some (limit_at (tree (flats_at n.table)) l)
+  limit_by_turn : (wanted : Option (Limit Written)) (l : Limit Text) → takes_verdict r.current ≡ true → wanted ≡ Some (limit_at (tree (flats_at n.table)) l)
       → Turns r n (map (tree (flats_at n.table)) (limit_terms l)) (limit_terms l) (put_verdict (showing.Limit l) r.current)
       → Reads n (with_some (λ l. with_verdict (GaveUp l)) wanted (reading_of r))
-  limit_turn wanted l h e turns =
+  limit_by_turn wanted l h e turns =
       subst (λ (o : Option (Limit Written)). Reads n (with_some (λ l. with_verdict (GaveUp l)) o (reading_of r))) (sym e)
       (turned (map (tree (flats_at n.table)) (limit_terms l)) (limit_terms l) (put_verdict (showing.Limit l) r.current) (λ f. with_verdict (GaveUp (limit_at f l))) turns
       (verdict_gained (showing.Limit l) r.current h) (verdict_begun (showing.Limit l) r.current (done_of r) h) (λ f. verdict_state f (done_of r) (showing.Limit l) r.current h))
+
+  pub limit_turn : (wanted : Option (Limit Written)) (o : Option (Limit Text)) (l : Limit Text) → takes_verdict r.current ≡ true → o ≡ Some l → Says limit_at limit_terms (flats_at r.table) (flats_at n.table) wanted o
+      → IsReading r → IsReady n.table → n.read.items ≡ r.read.items → n.current ≡ put_verdict (showing.Limit l) r.current → Reads n (with_some (λ l. with_verdict (GaveUp l)) wanted (reading_of r))
+  limit_turn wanted o l h is says reading ready same now =
+      let told : (wanted ≡ Some (limit_at (tree (flats_at n.table)) l)) × Enters (flats_at r.table) (flats_at n.table) (map (tree (flats_at n.table)) (limit_terms l)) (limit_terms l) =
+      subst (λ (x : Option (Limit Text)). Says limit_at limit_terms (flats_at r.table) (flats_at n.table) wanted x) is says in
+      limit_by_turn wanted l h told.0 (record { reading = reading; ready = ready; enters = told.1; same = same; now = now })
 
   -- the verdict gets a part
   put_turn : (p : Showing → Bool) (g : Showing → Showing) (ws : List Written) (ts : List Text) (m : (Text → Written) → Verdict Written → Verdict Written) → takes p r.current ≡ true
@@ -125,12 +132,19 @@ module _ (r n : Reader) where
       subst (λ (v : Written). Reads n (judged (with_value (v, x)) (reading_of r))) (sym (entered_at_place (flats_at r.table) (flats_at n.table) w t turns.enters))
       (put_turn showing_takes_row (showing_row (t, x)) (w ∷ []) (t ∷ []) (λ f. with_value (f t, x)) h turns (row_terms (t, x)) (λ f. row_shown f (t, x)))
 
-  pub step_turn : (wanted : Option (Step Written)) (p : Step Text) → takes showing_takes_step r.current ≡ true → wanted ≡ Some (step_at (tree (flats_at n.table)) p)
+  step_by_turn : (wanted : Option (Step Written)) (p : Step Text) → takes showing_takes_step r.current ≡ true → wanted ≡ Some (step_at (tree (flats_at n.table)) p)
       → Turns r n (map (tree (flats_at n.table)) (step_terms p)) (step_terms p) (puts (showing_step p) r.current)
       → Reads n (with_some (λ p. judged (on_node (with_step p))) wanted (reading_of r))
-  step_turn wanted p h e turns =
+  step_by_turn wanted p h e turns =
       subst (λ (o : Option (Step Written)). Reads n (with_some (λ p. judged (on_node (with_step p))) o (reading_of r))) (sym e)
       (put_turn showing_takes_step (showing_step p) (map (tree (flats_at n.table)) (step_terms p)) (step_terms p) (λ f. on_node (with_step (step_at f p))) h turns (step_gained p) (λ f. step_shown f p))
+
+  pub step_turn : (wanted : Option (Step Written)) (o : Option (Step Text)) (p : Step Text) → takes showing_takes_step r.current ≡ true → o ≡ Some p → Says step_at step_terms (flats_at r.table) (flats_at n.table) wanted o
+      → IsReading r → IsReady n.table → n.read.items ≡ r.read.items → n.current ≡ puts (showing_step p) r.current → Reads n (with_some (λ p. judged (on_node (with_step p))) wanted (reading_of r))
+  step_turn wanted o p h is says reading ready same now =
+      let told : (wanted ≡ Some (step_at (tree (flats_at n.table)) p)) × Enters (flats_at r.table) (flats_at n.table) (map (tree (flats_at n.table)) (step_terms p)) (step_terms p) =
+      subst (λ (x : Option (Step Text)). Says step_at step_terms (flats_at r.table) (flats_at n.table) wanted x) is says in
+      step_by_turn wanted p h told.0 (record { reading = reading; ready = ready; enters = told.1; same = same; now = now })
 
   pub split_turn : (cases : ℕ) (w : Written) (t : Text) → takes showing_takes_step r.current ≡ true → Turns r n (w ∷ []) (t ∷ []) (puts (showing_split (record { cases = cases; atom = t })) r.current)
       → Reads n (judged (on_node (with_split cases w)) (reading_of r))

@@ -67,9 +67,14 @@ abbrev pub count_in : List Written → Option ℕ
 count_in (t ∷ []) = number_in (2 ^ 64) t
 count_in _ = None
 
+-- an operation, and its two fractions where they are there
+abbrev pub sides_in : Written → List Written → Option (Limit Written)
+sides_in o (left ∷ right ∷ []) = wide_of o left right
+sides_in o _ = None
+
 abbrev pub operation_in : List Written → Option (Limit Written)
-operation_in (o ∷ left ∷ right ∷ []) = wide_of o left right
-operation_in _ = None
+operation_in [] = None
+operation_in (o ∷ ts) = sides_in o ts
 
 abbrev pub one_fact : List Written → Option ℕ
 one_fact (t ∷ []) = fact_in t
@@ -78,3 +83,7 @@ one_fact _ = None
 abbrev pub two_facts : List Written → Option (ℕ × ℕ)
 two_facts (t ∷ u ∷ []) = option_and_then (λ i. option_and_then (λ j. Some (i, j)) (fact_in u)) (fact_in t)
 two_facts _ = None
+
+abbrev pub two_items : List Item → Option (Item × Item)
+two_items (i ∷ j ∷ []) = Some (i, j)
+two_items _ = None

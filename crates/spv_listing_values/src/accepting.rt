@@ -1,6 +1,6 @@
 //! Listings that are read back.
 
-ghost use Rattle.std.specs.Prelude.{◌≡◌, ◌<◌, ◌≤◌, ◌↔◌, ⊥, ℕ, List, All, Some, None, Ok, Err, IsTrue, IfOk, MatchResult, MatchOption, length, map, true, false};
+ghost use Rattle.std.specs.Prelude.{◌≡◌, ◌<◌, ◌≤◌, ◌↔◌, ℕ, List, All, Some, None, Ok, Err, IsTrue, IfOk, MatchResult, MatchOption, length, map, true, false};
 ghost use Rattle.std.specs.List.{list_all};
 ghost use Rattle.spv_logic.specs.names.Names.{IsFolded};
 ghost use Rattle.spv_listing_values.specs.declared.data.Claim.{Claim};

@@ -1,5 +1,6 @@
 //! Why bytes are no listing.
 
+ghost use Rattle.std.specs.Prelude.{◌≡◌};
 ghost use Rattle.spv_listing_values.specs.declared.fault.ListFault.TheVariants.{Memory};
 
 use std::alloc::AllocError;

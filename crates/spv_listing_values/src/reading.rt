@@ -313,18 +313,28 @@ impl Reader {
         Ok(())
     }
 
+    fn row_of(&mut self, looked: &Looked, item: Item, value: Item) -> Result<(), AllocError>
+        requires reading { IsReading self.old }
+        requires looked { IsLooked looked.now }
+        requires item { IsItemOf looked.now item }
+        requires value { IsItemOf looked.now value }
+        ensures { OnOk result (Reads self.new (spec.with_some (λ row. judged (with_value row)) (spec.row_of (term_in looked.now item) (term_in looked.now value)) (reading_of self.old))) }
+    {
+        match fraction(looked.word(value)) {
+            None => Ok(()),
+            Some(number) => self.put_row(looked, item, number),
+        }
+    }
+
     fn row(&mut self, looked: &Looked, items: &[Item]) -> Result<(), AllocError>
         requires reading { IsReading self.old }
         requires looked { IsLooked looked.now }
         requires items { AreItemsOf looked.now items.now }
         ensures { OnOk result (Reads self.new (line_by line_word.Value (terms_in looked.now items.now) (reading_of self.old))) }
     {
-        match items {
-            [t, value] => match fraction(looked.word(*value)) {
-                None => Ok(()),
-                Some(value) => self.put_row(looked, *t, value),
-            },
-            _ => Ok(()),
+        match looked.pair(items) {
+            None => Ok(()),
+            Some((item, value)) => self.row_of(looked, item, value),
         }
     }
 
@@ -361,18 +371,28 @@ impl Reader {
         Ok(())
     }
 
+    fn split_of(&mut self, looked: &Looked, cases: Item, atom: Item) -> Result<(), AllocError>
+        requires reading { IsReading self.old }
+        requires looked { IsLooked looked.now }
+        requires cases { IsItemOf looked.now cases }
+        requires atom { IsItemOf looked.now atom }
+        ensures { OnOk result (Reads self.new (spec.with_some (λ n. judged (on_node (with_split n (term_in looked.now atom)))) (spec.fact_in (term_in looked.now cases)) (reading_of self.old))) }
+    {
+        match looked.fact(cases) {
+            None => Ok(()),
+            Some(number) => self.put_split(looked, number, atom),
+        }
+    }
+
     fn split(&mut self, looked: &Looked, items: &[Item]) -> Result<(), AllocError>
         requires reading { IsReading self.old }
         requires looked { IsLooked looked.now }
         requires items { AreItemsOf looked.now items.now }
         ensures { OnOk result (Reads self.new (line_by line_word.Split (terms_in looked.now items.now) (reading_of self.old))) }
     {
-        match items {
-            [cases, atom] => match looked.fact(*cases) {
-                None => Ok(()),
-                Some(cases) => self.put_split(looked, cases, *atom),
-            },
-            _ => Ok(()),
+        match looked.pair(items) {
+            None => Ok(()),
+            Some((cases, atom)) => self.split_of(looked, cases, atom),
         }
     }
 

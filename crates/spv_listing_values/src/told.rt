@@ -1,6 +1,7 @@
 // What the items of a line say.
 
 ghost use Rattle.std.specs.Prelude.{◌≡◌, ◌≤◌, ◌+◌, ◌^◌, [], ◌∷◌, Some, IfSome, IfOk, OnOk, length, take, drop, option_map, option_and_then};
+ghost use Rattle.spv_listing_values.specs.declared.data.Limit.TheVariants as limit;
 ghost use Rattle.spv_listing_values.specs.declared.data.Step.TheVariants as step;
 ghost use Rattle.spv_listing_values.specs.declared.keywords.LimitWord.TheVariants as limit_word;
 ghost use Rattle.spv_listing_values.specs.declared.keywords.StepWord.TheVariants as step_word;
@@ -9,7 +10,7 @@ ghost use Rattle.spv_listing_values.specs.Reading as spec;
 ghost use Rattle.spv_listing_values.specs.Reading.{text_of};
 ghost use Rattle.spv_listing_values.specs.Mapped.{step_at, step_terms, limit_at, limit_terms};
 ghost use Rattle.spv_listing_values.specs.Interned.{flats_at};
-ghost use Rattle.spv_listing_values.specs.Told.{IsLooked, IsItemOf, AreItemsOf, term_in, terms_in, IsReady, Enters, Says, StandInFront, count_in, operation_in, one_fact, two_facts};
+ghost use Rattle.spv_listing_values.specs.Told.{IsLooked, IsItemOf, AreItemsOf, term_in, terms_in, IsReady, Enters, Says, StandInFront, two_items, count_in, sides_in, operation_in, one_fact, two_facts};
 
 use crate::data::{Header, Limit, Step};
 use crate::interning::Table;
@@ -36,6 +37,18 @@ impl<'a> Looked<'a> {
         ensures { result.now ≡ text_of (term_in self.now item) }
     {
         self.line.word(self.bytes, item)
+    }
+
+    // The two items that are there.
+    pub(crate) fn pair(&self, items: &[Item]) -> Option<(Item, Item)>
+        requires { AreItemsOf self.now items.now }
+        ensures pair { result ≡ two_items items.now }
+        ensures items { IfSome result (λ p. IsItemOf self.now p.0 × IsItemOf self.now p.1) }
+    {
+        match items {
+            [first, second] => Some((*first, *second)),
+            _ => None,
+        }
     }
 
     // Enters the term of an item.
@@ -225,6 +238,20 @@ impl<'a> Looked<'a> {
         }
     }
 
+    // An operation, and its two fractions where they are there.
+    fn sides(&self, op: Item, items: &[Item]) -> Option<Limit<Text>>
+        requires looked { IsLooked self.now }
+        requires op { IsItemOf self.now op }
+        requires items { AreItemsOf self.now items.now }
+        ensures limit { (f : Text → Written) → option_map (limit_at f) result ≡ sides_in (term_in self.now op) (terms_in self.now items.now) }
+        ensures no_terms { IfSome result (λ l. limit_terms l ≡ []) }
+    {
+        match self.pair(items) {
+            None => None,
+            Some((left, right)) => self.wide(op, left, right),
+        }
+    }
+
     // An operation that does not fit, where the items are one.
     fn operation(&self, items: &[Item]) -> Option<Limit<Text>>
         requires looked { IsLooked self.now }
@@ -233,9 +260,21 @@ impl<'a> Looked<'a> {
         ensures no_terms { IfSome result (λ l. limit_terms l ≡ []) }
     {
         match items {
-            [op, left, right] => self.wide(*op, *left, *right),
-            _ => None,
+            [] => None,
+            [op, rest @ ..] => self.sides(*op, rest),
         }
+    }
+
+    // A formula whose number does not fit.
+    fn form(&self, table: &mut Table, t: Item) -> Result<Option<Limit<Text>>, AllocError>
+        requires looked { IsLooked self.now }
+        requires item { IsItemOf self.now t }
+        requires ready { IsReady table.old }
+        ensures ready { OnOk result (IsReady table.new) }
+        ensures says { IfOk result (λ o. Says limit_at limit_terms (flats_at table.old) (flats_at table.new) (Some (limit.Form (term_in self.now t))) o) }
+    {
+        let t = self.enter(table, t)?;
+        Ok(Some(Limit::Form(t)))
     }
 
     // A number that does not fit: of a formula, or of an operation.
@@ -246,12 +285,9 @@ impl<'a> Looked<'a> {
         ensures ready { OnOk result (IsReady table.new) }
         ensures says { IfOk result (λ o. Says limit_at limit_terms (flats_at table.old) (flats_at table.new) (spec.limit_by limit_word.Number (terms_in self.now items.now)) o) }
     {
-        match items {
-            [_, t] => {
-                let t = self.enter(table, *t)?;
-                Ok(Some(Limit::Form(t)))
-            }
-            _ => Ok(self.operation(items)),
+        match self.pair(items) {
+            Some((_, t)) => self.form(table, t),
+            None => Ok(self.operation(items)),
         }
     }
 
