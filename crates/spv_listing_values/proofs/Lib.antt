@@ -32,3 +32,4 @@ pub mod Following
 pub mod Within
 pub mod LinesBehind
 pub mod Turns
+pub mod Accepts

@@ -271,26 +271,23 @@ last_text_is w (x ∷ y ∷ xs) d h =
 
 -- ---- items by how many there are
 
-none_two : (i j : Item) → None ≡ Some (i, j) → ⊥
-none_two i j e = cc
+never_some : {X : Type 0} (x : X) → None ≡ Some x → ⊥
+never_some x e = cc
+
+some_never : {X : Type 0} (x : X) → Some x ≡ None → ⊥
+some_never x e = cc
+
+some_same : {X : Type 0} (x y : X) → Some x ≡ Some y → x ≡ y
+some_same x y e = cc
+
+none_two : (i j : Item) → None ≡ two_items (i ∷ j ∷ []) → ⊥
+none_two i j e = never_some {X = Item × Item} (i, j) e
 
 pub two_there : (items : List Item) (i j : Item) → Some (i, j) ≡ two_items items → i ∷ j ∷ [] ≡ items
-two_there [] i j e = absurd (none e)
-  where
-    none : Some (i, j) ≡ None → ⊥
-    none e = cc
-two_there (x ∷ []) i j e = absurd (none e)
-  where
-    none : Some (i, j) ≡ None → ⊥
-    none e = cc
-two_there (x ∷ y ∷ []) i j e = same e
-  where
-    same : Some (i, j) ≡ Some (x, y) → i ∷ j ∷ [] ≡ x ∷ y ∷ []
-    same e = cc
-two_there (x ∷ y ∷ z ∷ xs) i j e = absurd (none e)
-  where
-    none : Some (i, j) ≡ None → ⊥
-    none e = cc
+two_there [] i j e = absurd (some_never {X = Item × Item} (i, j) e)
+two_there (x ∷ []) i j e = absurd (some_never {X = Item × Item} (i, j) e)
+two_there (x ∷ y ∷ []) i j e = λ k. (some_same {X = Item × Item} (i, j) (x, y) e k).0 ∷ (some_same {X = Item × Item} (i, j) (x, y) e k).1 ∷ []
+two_there (x ∷ y ∷ z ∷ xs) i j e = absurd (some_never {X = Item × Item} (i, j) e)
 
 pub form_or_operation : (w : Item → Written) (items : List Item) → None ≡ two_items items → limit_by limit_word.Number (map w items) ≡ operation_in (map w items)
 form_or_operation w [] h = refl

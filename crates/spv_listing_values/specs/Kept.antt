@@ -69,6 +69,10 @@ showing_takes_step (showing.Proof nodes last) = has_no_split last.split
 showing_takes_step (showing.Table branch instances rows) = false
 showing_takes_step (showing.Limit l) = false
 
+-- a table that is still empty
+abbrev pub no_table : Showing
+no_table = showing.Table [] [] []
+
 -- a node that is still without steps
 abbrev pub no_steps : ProofNode Text
 no_steps = record { steps = []; split = None }

@@ -1,6 +1,7 @@
 //! Listings that are read back.
 
-ghost use Rattle.std.specs.Prelude.{◌≡◌, ◌<◌, ◌≤◌, ◌↔◌, ℕ, List, All, Some, None, Ok, Err, IsTrue, IfOk, MatchResult, MatchOption, length, map, true, false};
+ghost use Rattle.std.specs.Prelude.{◌≡◌, ◌<◌, ◌≤◌, ◌↔◌, ℕ, List, All, Some, None, Ok, Err, IsTrue, IfOk, MatchResult, MatchOption, length, map, reverse, true, false, not};
+ghost use Rattle.std.specs.Char.{is_ascii_lowercase};
 ghost use Rattle.std.specs.List.{list_all};
 ghost use Rattle.spv_logic.specs.names.Names.{IsFolded};
 ghost use Rattle.spv_listing_values.specs.declared.data.Claim.{Claim};
@@ -45,9 +46,14 @@ fn line_of_difference(bytes: &[u8], other: &[u8]) -> u32
 
 // Whether no byte is one of the letters a to z, which no listing has.
 fn is_folded(bytes: &[u8]) -> bool
-    ensures { IsTrue result ↔ IsFolded bytes.now }
+    ensures { result ≡ list_all (λ b. not (is_ascii_lowercase b)) bytes.now }
 {
-    bytes.iter().all(|b| !b.is_ascii_lowercase())
+    for byte in bytes {
+        if byte.is_ascii_lowercase() {
+            return false;
+        }
+    }
+    true
 }
 
 // A condition as an entry, if it has the forms of a listing.
@@ -67,6 +73,14 @@ fn entry_of(read: Read) -> Result<Option<Entry>, AllocError>
     Ok(None)
 }
 
+fn reversed(entries: Vec<Entry>) -> Vec<Entry>
+    ensures { result.items ≡ reverse entries.items }
+{
+    let mut entries = entries;
+    entries.as_mut_slice().reverse();
+    entries
+}
+
 // Conditions as entries, if each has the forms of a listing.
 fn entries_of(alloc: Global, read: Vec<Read>) -> Result<Option<Vec<Entry>>, AllocError>
     requires { All (λ e. IsRead e.texts e.claim) read.items }
@@ -74,14 +88,15 @@ fn entries_of(alloc: Global, read: Vec<Read>) -> Result<Option<Vec<Entry>>, Allo
         (list_all is_claim (map (λ e. written_claim e.texts e.claim) read.items) ≡ false)
         (λ entries. (entries.items ≡ map (λ e. written_claim e.texts e.claim) read.items) × (list_all is_claim entries.items ≡ true))) }
 {
+    let mut read = read;
     let mut entries = Vec::with_capacity(alloc, read.len())?;
-    for one in read {
+    while let Some(one) = read.pop() {
         match entry_of(one)? {
             None => return Ok(None),
             Some(entry) => entries.push(entry)?,
         }
     }
-    Ok(Some(entries))
+    Ok(Some(reversed(entries)))
 }
 
 // The listing of conditions, if they have the forms of one.

@@ -193,6 +193,13 @@ impl Showing {
     }
 }
 
+// A table that is still empty.
+pub(crate) fn no_table(alloc: Global) -> Showing
+    ensures { result ≡ kept.no_table }
+{
+    Showing::Table(List::new(alloc), List::new(alloc), List::new(alloc))
+}
+
 // A node that is still without steps.
 fn no_steps(alloc: Global) -> ProofNode<Text>
     ensures { result ≡ kept.no_steps }

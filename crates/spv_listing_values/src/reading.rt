@@ -15,7 +15,7 @@ ghost use Rattle.spv_listing_values.specs.Told.{IsLooked, IsItemOf, AreItemsOf, 
 ghost use Rattle.spv_listing_values.specs.Kept.{shown, judged_claim};
 ghost use Rattle.spv_listing_values.specs.Followed.{IsRead, IsReading, reading_of, Reads, HasEnded};
 
-use crate::current::{Asked, Current, Judged, Showing};
+use crate::current::{Asked, Current, Judged, Showing, no_table};
 use crate::data::{Claim, Header, Instance, Split};
 use crate::interning::Table;
 use crate::keywords::{LineWord, line_word};
@@ -202,11 +202,7 @@ impl Reader {
         ensures { (l : Looked) → Reads self.new (line_by line_word.Unproved (terms_in l items.now) (reading_of self.old)) }
     {
         if items.is_empty() {
-            self.put_verdict(Showing::Table(
-                List::new(self.alloc),
-                List::new(self.alloc),
-                List::new(self.alloc),
-            ));
+            self.put_verdict(no_table(self.alloc));
         }
     }
 

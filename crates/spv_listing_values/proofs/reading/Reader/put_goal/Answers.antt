@@ -1,5 +1,5 @@
 use Rattle.std.proofs.Common.{◌∙◌, refl, sym}
-use Rattle.spv_listing_values.specs.Told.{term_in, terms_in}
+use Rattle.spv_listing_values.specs.Told.{term_in}
 use Rattle.spv_listing_values.proofs.Turns.{goal_stays, goal_turn}
 use Rattle.spv_listing_values.proofs.reading.Reader.put_goal.Goals as goal
 

@@ -1,5 +1,5 @@
 use Rattle.std.proofs.Common.{◌∙◌, refl, sym}
-use Rattle.spv_listing_values.specs.Told.{term_in, terms_in}
+use Rattle.spv_listing_values.specs.Told.{term_in}
 use Rattle.spv_listing_values.proofs.Turns.{row_stays, row_turn}
 use Rattle.spv_listing_values.proofs.reading.Reader.put_row.Goals as goal
 

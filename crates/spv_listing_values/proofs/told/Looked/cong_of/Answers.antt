@@ -1,6 +1,5 @@
-use Rattle.std.proofs.Common.{◌∙◌, sym, ap, Option, Some, List, ℕ, option_map}
+use Rattle.std.proofs.Common.{◌∙◌, sym, ap, Some, option_map}
 use Rattle.spv_listing_values.specs.declared.data.Step.TheVariants as step
-use Rattle.spv_listing_values.specs.Places.{tree}
 use Rattle.spv_listing_values.specs.Interned.{flats_at}
 use Rattle.spv_listing_values.specs.Told.{term_in}
 use Rattle.spv_listing_values.proofs.Enters.{two_entered}
