@@ -1,14 +1,17 @@
 -- What was read is accepted where it has the forms of a listing and prints as the same bytes.
-use Rattle.std.proofs.Common.{◌≡◌, ℕ, suc, ◌<◌, ◌≤◌, ◌^◌, Bool, true, false, ◌&&◌, if◌then◌else◌, Option, Some, None, List, [], ◌∷◌, ◌++◌, map, length, reverse, nat_lt, refl, sym, ap, subst, ◌∙◌, append_assoc, append-nil, arith}
+use Rattle.std.proofs.Common.{◌≡◌, ℕ, suc, ◌-◌, ◌<◌, ◌≤◌, ◌^◌, Bool, true, false, ◌&&◌, if◌then◌else◌, Option, Some, None, List, [], ◌∷◌, ◌++◌, map, length, take, reverse, nat_lt, not, Result, Ok, Err, IfOk, MatchResult, MatchOption, IsTrue, refl, sym, ap, subst, ◌∙◌, append_assoc, append-nil, arith}
 use Rattle.std.specs.List.{list_all}
+use Rattle.std.specs.Char.{is_ascii_lowercase}
 use Rattle.std.specs.Str.{bytes_eq}
-use Rattle.std.proofs.lemmas.Bool.{false≢true, lt-ltb, le-ltb}
+use Rattle.std.proofs.lemmas.Bool.{false≢true, lt-ltb, le-ltb, ltb-true, ltb-false}
 use Rattle.std.proofs.lemmas.List.{map-append, reverse-append}
 use Rattle.std.proofs.lemmas.List.Folds.{list_all-append}
 use Rattle.std.proofs.lemmas.Slice.Eq.{bytes_eq-Decides}
 use Rattle.spv_logic.specs.names.Names.{IsFolded}
 use Rattle.spv_listing_values.specs.declared.data.Claim.{Claim}
 use Rattle.spv_listing_values.specs.declared.reading.Read.{Read}
+use Rattle.spv_listing_values.specs.declared.fault.ListFault.{ListFault}
+use Rattle.spv_listing_values.specs.declared.fault.ListFault.TheVariants as fault
 use Rattle.spv_listing_values.specs.Written.{Written}
 use Rattle.spv_listing_values.specs.Page.{page}
 use Rattle.spv_listing_values.specs.Reading.{claims_in}
@@ -68,6 +71,17 @@ reverse_formed (c ∷ cs) h = by (reverse-append (c ∷ []) cs) (is_claim c) (li
 pub formed_end : (all waiting done : List (Claim Written)) → AreFormed all waiting done → waiting ≡ [] → (reverse done ≡ all) × (list_all is_claim (reverse done) ≡ true)
 formed_end all waiting done so_far e = (ap (λ (l : List (Claim Written)). l ++ reverse done) (sym e) ∙ so_far.is, reverse_formed done so_far.formed)
 
+-- the one that was taken away goes behind those that were found
+pub formed_pushed : (all waiting done new : List (Claim Written)) (c e : Claim Written) → AreFormed all (waiting ++ c ∷ []) done → (e ≡ c) × (is_claim c ≡ true) → new ≡ done ++ e ∷ [] → AreFormed all waiting new
+formed_pushed all waiting done new c e so_far is pushed =
+    subst (AreFormed all waiting) (ap (λ (x : Claim Written). done ++ x ∷ []) (sym is.0) ∙ sym pushed) (formed_more all waiting done c so_far is.1)
+
+-- nothing is left
+pub nothing_popped : (reads rest : List Read) (count : ℕ) → reads ≡ rest ++ [] → rest ≡ take (count - 1) reads → count ≡ 0 → reads ≡ []
+nothing_popped reads rest count e f g =
+    let none : count - 1 ≡ 0 = omega (arith, g) in
+    e ∙ (append-nil rest ∙ (f ∙ ap (λ (n : ℕ). take n reads) none))
+
 -- ---- how many conditions there are
 
 pub few_are_short : (n : ℕ) → n ≤ 4294967295 → is_short n ≡ true
@@ -121,3 +135,35 @@ not_both bytes cs none some = none_some (sym none ∙ some)
   where
     none_some : None ≡ Some cs → ⊥
     none_some e = cc
+
+pub unfolded_none : (bytes : List ℕ) → list_all (λ b. not (is_ascii_lowercase b)) bytes ≡ false → listing_in bytes ≡ None
+unfolded_none bytes h = by (listing_in bytes) refl
+  where
+    by : (o : Option (List (Claim Written))) → listing_in bytes ≡ o → listing_in bytes ≡ None
+    by None e = e
+    by (Some cs) e =
+        let only = listing_only bytes cs e in
+        absurd (false≢true (sym h ∙ listing_is_folded bytes cs only.0 only.1))
+
+-- ---- what is answered
+
+-- the conditions are those of the bytes, and their page is compared
+pub printed_same : (bytes printed : List ℕ) (cs : List (Claim Written)) (test : Bool) → cs ≡ claims_in bytes → is_listing cs ≡ true → printed ≡ page cs → test ≡ bytes_eq printed bytes → test ≡ true → listing_in bytes ≡ Some cs
+printed_same bytes printed cs test e h p t is = read_same bytes cs e h (ap (λ (x : List ℕ). bytes_eq x bytes) (sym p) ∙ (sym t ∙ is))
+
+pub printed_other : (bytes printed : List ℕ) (cs : List (Claim Written)) (test : Bool) → cs ≡ claims_in bytes → printed ≡ page cs → test ≡ bytes_eq printed bytes → test ≡ false → listing_in bytes ≡ None
+printed_other bytes printed cs test e p t is = read_other bytes cs e (ap (λ (x : List ℕ). bytes_eq x bytes) (sym p) ∙ (sym t ∙ is))
+
+pub accepted_exact : (bytes : List ℕ) (r : Result (List (Claim Written)) ListFault) → IfOk r (λ l. listing_in bytes ≡ Some l) → IfOk r (λ l. IsTrue (is_listing l) × (page l ≡ bytes))
+accepted_exact bytes (Ok l) h = listing_only bytes l h
+accepted_exact bytes (Err e) h = tt
+
+pub accepted_again : (bytes : List ℕ) (r : Result (List (Claim Written)) ListFault) → IfOk r (λ l. listing_in bytes ≡ Some l) → ((n : ℕ) → r ≡ Err (fault.Form n) → listing_in bytes ≡ None) → (r ≡ Err fault.TooLong → ⊥)
+    → (l : List (Claim Written)) → is_listing l ≡ true → page l ≡ bytes → MatchResult r (λ x. x ≡ l) (λ f. f ≡ fault.Memory)
+accepted_again bytes (Ok x) ok form few l h e = same (sym ok ∙ listing_found bytes l h e)
+  where
+    same : Some x ≡ Some l → x ≡ l
+    same e = cc
+accepted_again bytes (Err fault.TooLong) ok form few l h e = absurd (few refl)
+accepted_again bytes (Err (fault.Form n)) ok form few l h e = absurd (not_both bytes l (form n refl) (listing_found bytes l h e))
+accepted_again bytes (Err fault.Memory) ok form few l h e = refl

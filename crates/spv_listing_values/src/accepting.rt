@@ -8,6 +8,7 @@ ghost use Rattle.spv_listing_values.specs.declared.data.Claim.{Claim};
 ghost use Rattle.spv_listing_values.specs.declared.fault.ListFault.TheVariants.{TooLong, Form, Memory};
 ghost use Rattle.spv_listing_values.specs.Written.{Written};
 ghost use Rattle.spv_listing_values.specs.Page as spec;
+ghost use Rattle.spv_listing_values.specs.Reading.{claims_in};
 ghost use Rattle.spv_listing_values.specs.Forms.{is_claim, is_listing};
 ghost use Rattle.spv_listing_values.specs.Entries.{written_claim};
 ghost use Rattle.spv_listing_values.specs.Exact.{listing_in};
@@ -73,6 +74,7 @@ fn entry_of(read: Read) -> Result<Option<Entry>, AllocError>
     Ok(None)
 }
 
+// Entries, the last one first.
 fn reversed(entries: Vec<Entry>) -> Vec<Entry>
     ensures { result.items ≡ reverse entries.items }
 {
@@ -117,23 +119,48 @@ fn listing_of(alloc: Global, read: Vec<Read>) -> Result<Option<Listing>, AllocEr
     }
 }
 
+// A listing that was read from bytes, if it prints as these bytes.
+fn printed_again(alloc: Global, bytes: &[u8], listing: Listing) -> Result<Listing, ListFault>
+    requires short { length bytes.now ≤ 67108864 }
+    requires read { listing ≡ claims_in bytes.now }
+    requires formed { is_listing listing ≡ true }
+    ensures ok { IfOk result (λ l. listing_in bytes.now ≡ Some l) }
+    ensures form { (n : ℕ) → result ≡ Err (Form n) → listing_in bytes.now ≡ None }
+    ensures few { result ≡ Err TooLong → ⊥ }
+{
+    let printed = page(alloc, &listing)?;
+    if printed.as_slice() == bytes {
+        return Ok(listing);
+    }
+    Err(ListFault::Form(line_of_difference(bytes, printed.as_slice())))
+}
+
 // The listing of bytes without small letters.
 fn read_folded(alloc: Global, bytes: &[u8]) -> Result<Listing, ListFault>
     requires short { length bytes.now ≤ 67108864 }
     requires folded { IsFolded bytes.now }
     ensures ok { IfOk result (λ l. listing_in bytes.now ≡ Some l) }
     ensures form { (n : ℕ) → result ≡ Err (Form n) → listing_in bytes.now ≡ None }
-    ensures short { result ≡ Err TooLong → ⊥ }
+    ensures few { result ≡ Err TooLong → ⊥ }
 {
     let read = claims_in(alloc, bytes)?;
-    let Some(listing) = listing_of(alloc, read)? else {
-        return Err(ListFault::Form(1));
-    };
-    let printed = page(alloc, &listing)?;
-    if printed.as_slice() != bytes {
-        return Err(ListFault::Form(line_of_difference(bytes, printed.as_slice())));
+    match listing_of(alloc, read)? {
+        None => Err(ListFault::Form(1)),
+        Some(listing) => printed_again(alloc, bytes, listing),
     }
-    Ok(listing)
+}
+
+// The listing of bytes that are not too many.
+fn read_short(alloc: Global, bytes: &[u8]) -> Result<Listing, ListFault>
+    requires short { length bytes.now ≤ 67108864 }
+    ensures ok { IfOk result (λ l. listing_in bytes.now ≡ Some l) }
+    ensures form { (n : ℕ) → result ≡ Err (Form n) → listing_in bytes.now ≡ None }
+    ensures few { result ≡ Err TooLong → ⊥ }
+{
+    if !is_folded(bytes) {
+        return Err(ListFault::Form(1));
+    }
+    read_folded(alloc, bytes)
 }
 
 /// Reads a listing: from the bytes of its page the listing itself.
@@ -149,8 +176,5 @@ pub fn read_listing(alloc: Global, bytes: &[u8]) -> Result<Listing, ListFault>
     if bytes.len() > LONGEST_LISTING {
         return Err(ListFault::TooLong);
     }
-    if !is_folded(bytes) {
-        return Err(ListFault::Form(1));
-    }
-    read_folded(alloc, bytes)
+    read_short(alloc, bytes)
 }
