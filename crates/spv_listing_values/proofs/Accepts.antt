@@ -1,12 +1,11 @@
 -- What was read is accepted where it has the forms of a listing and prints as the same bytes.
-use Rattle.std.proofs.Common.{◌≡◌, ℕ, suc, ◌-◌, ◌<◌, ◌≤◌, ◌^◌, Bool, true, false, ◌&&◌, if◌then◌else◌, Option, Some, None, List, [], ◌∷◌, ◌++◌, map, length, take, reverse, nat_lt, not, Result, Ok, Err, IfOk, MatchResult, MatchOption, IsTrue, refl, sym, ap, subst, ◌∙◌, append_assoc, append-nil, arith}
+use Rattle.std.proofs.Common.{◌≡◌, ℕ, ◌-◌, Bool, true, false, ◌&&◌, if◌then◌else◌, Option, Some, None, List, [], ◌∷◌, ◌++◌, map, take, reverse, not, Result, Ok, Err, IfOk, MatchResult, IsTrue, refl, sym, ap, subst, ◌∙◌, append_assoc, append-nil, arith}
 use Rattle.std.specs.List.{list_all}
 use Rattle.std.specs.Char.{is_ascii_lowercase}
 use Rattle.std.specs.Str.{bytes_eq}
-use Rattle.std.proofs.lemmas.Bool.{false≢true, lt-ltb, le-ltb, ltb-true, ltb-false}
+use Rattle.std.proofs.lemmas.Bool.{false≢true}
 use Rattle.std.proofs.lemmas.List.{map-append, reverse-append}
 use Rattle.std.proofs.lemmas.List.Folds.{list_all-append}
-use Rattle.std.proofs.lemmas.Slice.Eq.{bytes_eq-Decides}
 use Rattle.spv_logic.specs.names.Names.{IsFolded}
 use Rattle.spv_listing_values.specs.declared.data.Claim.{Claim}
 use Rattle.spv_listing_values.specs.declared.reading.Read.{Read}
@@ -15,7 +14,7 @@ use Rattle.spv_listing_values.specs.declared.fault.ListFault.TheVariants as faul
 use Rattle.spv_listing_values.specs.Written.{Written}
 use Rattle.spv_listing_values.specs.Page.{page}
 use Rattle.spv_listing_values.specs.Reading.{claims_in}
-use Rattle.spv_listing_values.specs.Forms.{is_short, is_claim, is_listing}
+use Rattle.spv_listing_values.specs.Forms.{is_claim, is_listing}
 use Rattle.spv_listing_values.specs.Entries.{written_claim}
 use Rattle.spv_listing_values.specs.Exact.{printed_so, listing_in}
 use Rattle.spv_listing_values.proofs.Numerals.{both_true}
@@ -28,9 +27,6 @@ use Rattle.spv_listing_values.proofs.Folded.{page_folded}
 pub record AreFormed (all waiting : List (Claim Written)) (done : List (Claim Written)) : Type 0 where
   pub is : waiting ++ reverse done ≡ all
   pub formed : list_all is_claim done ≡ true
-
-pub formed_first : (all : List (Claim Written)) → AreFormed all all []
-formed_first all = record { is = append-nil all; formed = refl }
 
 pub formed_more : (all waiting done : List (Claim Written)) (c : Claim Written) → AreFormed all (waiting ++ c ∷ []) done → is_claim c ≡ true → AreFormed all waiting (done ++ c ∷ [])
 formed_more all waiting done c so_far h = record {
@@ -84,36 +80,11 @@ nothing_popped reads rest count e f g =
 
 -- ---- how many conditions there are
 
-pub few_are_short : (n : ℕ) → n ≤ 4294967295 → is_short n ≡ true
-few_are_short n h = lt-ltb n (2 ^ 32) less
-  where
-    less : n < 4294967296
-    less = omega (arith, h)
-
-pub many_are_not : (n : ℕ) → 4294967295 < n → is_short n ≡ false
-many_are_not n h = le-ltb n (2 ^ 32) least
-  where
-    least : 4294967296 ≤ n
-    least = omega (arith, h)
-
-pub listing_formed : (cs : List (Claim Written)) → length cs ≤ 4294967295 → list_all is_claim cs ≡ true → is_listing cs ≡ true
-listing_formed cs few h = both_true (is_short (length cs)) (list_all is_claim cs) (few_are_short (length cs) few) h
-
-pub listing_long : (cs : List (Claim Written)) → 4294967295 < length cs → is_listing cs ≡ false
-listing_long cs many = ap (λ (b : Bool). b && list_all is_claim cs) (many_are_not (length cs) many)
-
-pub listing_unformed : (cs : List (Claim Written)) → list_all is_claim cs ≡ false → is_listing cs ≡ false
-listing_unformed cs h = ap (λ (b : Bool). is_short (length cs) && b) h ∙ and_false (is_short (length cs))
-
 -- ---- the bytes
 
 pub read_none : (bytes : List ℕ) (cs : List (Claim Written)) → cs ≡ claims_in bytes → is_listing cs ≡ false → listing_in bytes ≡ None
 read_none bytes cs e h =
     ap (printed_so bytes) (sym e) ∙ ap (λ (b : Bool). if b && bytes_eq (page cs) bytes then Some cs else None) h
-
-different : (a b : List ℕ) (c : Bool) → bytes_eq a b ≡ c → (a ≡ b → ⊥) → c ≡ false
-different a b true e never = absurd (never ((bytes_eq-Decides a b).0 e))
-different a b false e never = refl
 
 pub read_other : (bytes : List ℕ) (cs : List (Claim Written)) → cs ≡ claims_in bytes → bytes_eq (page cs) bytes ≡ false → listing_in bytes ≡ None
 read_other bytes cs e h =

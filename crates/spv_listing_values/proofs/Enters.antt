@@ -1,5 +1,5 @@
 -- Terms that are entered one behind the other.
-use Rattle.std.proofs.Common.{◌≡◌, ℕ, zero, suc, ◌+◌, ◌<◌, ◌≤◌, Option, Some, None, List, [], ◌∷◌, ◌++◌, map, length, take, get_or, option_map, flat_map, refl, sym, ap, subst, ◌∙◌, append_assoc, append-nil, arith}
+use Rattle.std.proofs.Common.{◌≡◌, ℕ, ◌+◌, ◌<◌, Option, Some, None, List, [], ◌∷◌, ◌++◌, map, length, take, get_or, option_map, flat_map, refl, sym, ap, subst, ◌∙◌, append_assoc, append-nil}
 use Rattle.std.proofs.lemmas.List.{map-append, take_more}
 use Rattle.spv_whole.specs.Fraction.{Fraction}
 use Rattle.spv_listing_values.specs.declared.data.Step.{Step}
@@ -13,13 +13,13 @@ use Rattle.spv_listing_values.specs.declared.data.Verdict.{Verdict}
 use Rattle.spv_listing_values.specs.declared.data.Verdict.TheVariants.{Proved, Unproved, GaveUp}
 use Rattle.spv_listing_values.specs.declared.data.Claim.{Claim}
 use Rattle.spv_listing_values.specs.declared.texts.Text.{Text}
-use Rattle.spv_listing_values.specs.Written.{Head, Written, Writtens, written}
+use Rattle.spv_listing_values.specs.Written.{Written}
 use Rattle.spv_listing_values.specs.Mapped.{step_at, split_at, node_at, instance_at, limit_at, row_at, verdict_at, claim_at, step_terms, split_terms, node_terms, instance_terms, row_term, limit_terms, verdict_terms, claim_terms}
-use Rattle.spv_listing_values.specs.Places.{Flat, IsTable, tree, Entered, entered, all_entered, list_entered, flats_of}
+use Rattle.spv_listing_values.specs.Places.{Flat, IsTable, tree, Entered, entered, list_entered, flats_of}
 use Rattle.spv_listing_values.specs.Waiting.{AreIn}
 use Rattle.spv_listing_values.specs.Told.{Enters}
 use Rattle.spv_listing_values.proofs.Entering.{entering, entered_front}
-use Rattle.spv_listing_values.proofs.Grown.{Grown, grown_none, tree_stays, are_in_more, is_entered}
+use Rattle.spv_listing_values.proofs.Grown.{Grown, tree_stays, are_in_more, is_entered}
 
 -- ---- the terms of what is mapped are mapped
 

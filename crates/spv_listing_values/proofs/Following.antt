@@ -1,16 +1,13 @@
 -- A line more is followed: what stood there stays, and the new terms are entered behind those of the last condition so far.
-use Rattle.std.proofs.Common.{◌≡◌, ℕ, Bool, true, false, Option, Some, None, List, [], ◌∷◌, ◌++◌, All, map, refl, sym, ap, subst, ◌∙◌, append-nil, append_assoc}
+use Rattle.std.proofs.Common.{◌≡◌, List, [], ◌∷◌, ◌++◌, All, map, sym, ap, subst, ◌∙◌}
 use Rattle.std.proofs.lemmas.List.{map-append}
-use Rattle.std.proofs.lemmas.List.Elements.{All-from_recursion}
 use Rattle.spv_listing_values.specs.declared.data.Claim.{Claim}
 use Rattle.spv_listing_values.specs.declared.texts.Text.{Text}
-use Rattle.spv_listing_values.specs.declared.current.Current.{Current}
 use Rattle.spv_listing_values.specs.declared.reading.Read.{Read}
 use Rattle.spv_listing_values.specs.declared.reading.Reader.{Reader}
 use Rattle.spv_listing_values.specs.Written.{Written}
 use Rattle.spv_listing_values.specs.Reading.{Reading}
-use Rattle.spv_listing_values.specs.Mapped.{claim_terms}
-use Rattle.spv_listing_values.specs.Places.{Flat, IsTable, tree, flats_of}
+use Rattle.spv_listing_values.specs.Places.{Flat, tree, flats_of}
 use Rattle.spv_listing_values.specs.Waiting.{AreIn}
 use Rattle.spv_listing_values.specs.Entries.{written_claim}
 use Rattle.spv_listing_values.specs.Interned.{flats_at}
@@ -18,7 +15,7 @@ use Rattle.spv_listing_values.specs.Told.{IsReady, Enters}
 use Rattle.spv_listing_values.specs.Kept.{state, terms_of, HasBegun}
 use Rattle.spv_listing_values.specs.Followed.{IsRead, done_of, reading_of, IsReading, Reads}
 use Rattle.spv_listing_values.proofs.Grown.{Grown, tree_stays, are_in_more}
-use Rattle.spv_listing_values.proofs.Enters.{flats_more, enters_none, places_in, trees_stay}
+use Rattle.spv_listing_values.proofs.Enters.{flats_more, places_in, trees_stay}
 use Rattle.spv_listing_values.proofs.Keeps.{Agree, agree_state}
 
 agree_grown : (fs gs : List Flat) → Grown fs gs → (ts : List Text) → AreIn fs ts → Agree (tree gs) (tree fs) ts
@@ -58,13 +55,6 @@ follows r n ws ts op reading ready enters same gained begun moved = record {
     trees_are =
         ap (map (tree gs)) gained
         ∙ (map-append (tree gs) (terms_of r.current) ts ∙ (λ i. trees_stay fs gs grown (terms_of r.current) reading.in_range i ++ enters.trees i))
-
--- without a term
-pub follows_bare : (r n : Reader) (op : (Text → Written) → Reading → Reading) → IsReading r → IsReady n.table → flats_at n.table ≡ flats_at r.table → n.read.items ≡ r.read.items
-    → terms_of n.current ≡ terms_of r.current → HasBegun n.current (done_of r) → ((f : Text → Written) → state f (done_of r) n.current ≡ op f (state f (done_of r) r.current))
-    → Reads n (op (tree (flats_at n.table)) (reading_of r))
-follows_bare r n op reading ready flats same gained begun moved =
-    follows r n [] [] op reading ready (subst (λ (gs : List Flat). Enters (flats_at r.table) gs [] []) (sym flats) (enters_none (flats_at r.table))) same (gained ∙ sym (append-nil (terms_of r.current))) begun moved
 
 -- nothing is added
 pub passed : (r : Reader) (s : Reading) → IsReading r → s ≡ reading_of r → Reads r s

@@ -1,5 +1,5 @@
 -- The terms that each line adds to those of the last condition.
-use Rattle.std.proofs.Common.{◌≡◌, ℕ, Bool, true, false, Option, Some, None, List, [], ◌∷◌, ◌++◌, map, option_to_list, flat_map, refl, sym, ap, ◌∙◌, append_assoc, append-nil}
+use Rattle.std.proofs.Common.{◌≡◌, Bool, true, Option, Some, None, List, [], ◌∷◌, ◌++◌, map, option_to_list, flat_map, refl, sym, ap, ◌∙◌, append_assoc, append-nil}
 use Rattle.std.proofs.lemmas.List.{map-append}
 use Rattle.std.proofs.lemmas.Bool.{false≢true}
 use Rattle.spv_whole.specs.Fraction.{Fraction}
@@ -12,11 +12,10 @@ use Rattle.spv_listing_values.specs.declared.texts.Text.{Text}
 use Rattle.spv_listing_values.specs.declared.current.Asked as held
 use Rattle.spv_listing_values.specs.declared.current.Showing.{Showing}
 use Rattle.spv_listing_values.specs.declared.current.Showing.TheVariants as showing
-use Rattle.spv_listing_values.specs.declared.current.Judged.{Judged}
 use Rattle.spv_listing_values.specs.declared.current.Current.{Current}
 use Rattle.spv_listing_values.specs.declared.current.Current.TheVariants as current
 use Rattle.spv_listing_values.specs.Written.{Written}
-use Rattle.spv_listing_values.specs.Mapped.{step_terms, split_terms, node_terms, instance_terms, row_term, verdict_terms, claim_terms}
+use Rattle.spv_listing_values.specs.Mapped.{step_terms, split_terms, node_terms, instance_terms, row_term, verdict_terms}
 use Rattle.spv_listing_values.specs.Kept.{shown, showing_takes_branch, showing_branch, showing_takes_instance, showing_instance, showing_takes_row, showing_row, has_no_split, showing_takes_step, no_steps, showing_step, showing_split, showing_takes_case, showing_case, has_no_goal, takes_goal, put_given, put_goal, has_goal, takes_verdict, answered, put_verdict, takes, puts, terms_of, HasBegun}
 
 flat_append : {A B : Type 0} (p : A → List B) (xs ys : List A) → flat_map p (xs ++ ys) ≡ flat_map p xs ++ flat_map p ys

@@ -1,5 +1,5 @@
 -- What each line adds to what a reader keeps is what the definition says.
-use Rattle.std.proofs.Common.{◌≡◌, ℕ, zero, suc, ◌+◌, ◌<◌, ◌≤◌, Bool, true, false, Option, Some, None, List, [], ◌∷◌, ◌++◌, map, length, option_map, option_to_list, flat_map, refl, sym, ap, subst, ◌∙◌, append_assoc, append-nil, arith}
+use Rattle.std.proofs.Common.{◌≡◌, ℕ, Bool, true, false, Option, Some, None, List, [], ◌∷◌, ◌++◌, map, option_map, option_to_list, flat_map, refl, sym, ap, ◌∙◌, append-nil}
 use Rattle.std.proofs.lemmas.List.{map-append}
 use Rattle.std.specs.List.{AllByRecursion}
 use Rattle.std.proofs.lemmas.Bool.{false≢true}
@@ -19,14 +19,13 @@ use Rattle.spv_listing_values.specs.declared.texts.Text.{Text}
 use Rattle.spv_listing_values.specs.declared.current.Asked as held
 use Rattle.spv_listing_values.specs.declared.current.Showing.{Showing}
 use Rattle.spv_listing_values.specs.declared.current.Showing.TheVariants as showing
-use Rattle.spv_listing_values.specs.declared.current.Judged.{Judged}
 use Rattle.spv_listing_values.specs.declared.current.Current.{Current}
 use Rattle.spv_listing_values.specs.declared.current.Current.TheVariants as current
 use Rattle.spv_listing_values.specs.Written.{Written}
 use Rattle.spv_listing_values.specs.Mapped.{step_at, split_at, node_at, instance_at, limit_at, row_at, verdict_at, claim_at, step_terms, split_terms, node_terms, instance_terms, row_term, limit_terms, verdict_terms, claim_terms}
 use Rattle.spv_listing_values.specs.Reading as spec
 use Rattle.spv_listing_values.specs.Reading.{Asked, Reading, with_given, with_goal, asking, with_verdict, judged, with_branch, with_instance, with_value, on_last, on_node, with_step, with_split, with_case, rooted}
-use Rattle.spv_listing_values.specs.Kept.{shown, showing_takes_branch, showing_branch, showing_takes_instance, showing_instance, showing_takes_row, showing_row, has_no_split, showing_takes_step, no_steps, showing_step, showing_split, showing_takes_case, showing_case, judged_claim, asked_given, has_no_goal, takes_goal, put_given, put_goal, has_goal, takes_verdict, answered, put_verdict, takes, puts, asked_in, claims_of, state, terms_of, HasBegun}
+use Rattle.spv_listing_values.specs.Kept.{shown, showing_takes_branch, showing_branch, showing_takes_instance, showing_instance, showing_takes_row, showing_row, has_no_split, showing_takes_step, no_steps, showing_step, showing_split, showing_takes_case, showing_case, judged_claim, has_no_goal, takes_goal, put_given, put_goal, has_goal, takes_verdict, answered, put_verdict, takes, puts, state, terms_of, HasBegun}
 use Rattle.spv_listing_values.proofs.Claiming.{last_is}
 
 -- ---- two ways to read terms that agree on those that are named

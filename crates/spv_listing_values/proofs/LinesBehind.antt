@@ -1,9 +1,8 @@
 -- Lines that were read before stay in front of those that are read.
-use Rattle.std.proofs.Common.{◌≡◌, ℕ, Bool, true, false, if◌then◌else◌, Option, Some, None, List, [], ◌∷◌, ◌++◌, drop, length, refl, sym, ap, ◌∙◌, append_assoc, append-nil}
-use Rattle.spv_listing_values.specs.declared.data.Claim.{Claim}
-use Rattle.spv_listing_values.specs.Written.{Head, Written, written, word, Applied, no_written}
+use Rattle.std.proofs.Common.{◌≡◌, ℕ, Bool, true, false, if◌then◌else◌, None, List, [], ◌∷◌, ◌++◌, drop, refl, sym, ap, ◌∙◌, append_assoc}
+use Rattle.spv_listing_values.specs.Written.{Written, written, word, Applied, no_written}
 use Rattle.spv_listing_values.specs.Scanning.{Class, Plain, Blank, Opening, Closing, Ending, class_of, Wanted, AnItem, AHead, ANameOf, Group, Scan, between, with_item, with_group, with_word, settled, settle, takes_name, joined, closed, close, act, step, run, lines_in}
-use Rattle.spv_listing_values.specs.Reading.{Reading, with_line, with_lines, nothing, claims_in}
+use Rattle.spv_listing_values.specs.Reading.{Reading, with_line, with_lines, nothing}
 
 module _ (ls : List (List Written)) where
   abbrev behind : Scan → Scan
@@ -60,9 +59,6 @@ first_line items bytes rest e = ap (λ (s : Scan). s.lines) (e ∙ run_behind (i
 pub record IsLeft (bytes : List ℕ) (s : Reading) (at : ℕ) : Type 0 where
   pub is : with_lines s (run (between [] [] []) (drop at bytes)).lines ≡ with_lines nothing (lines_in bytes)
 
-pub left_first : (bytes : List ℕ) (s : Reading) → s ≡ nothing → IsLeft bytes s 0
-left_first bytes s e = record { is = ap (λ (r : Reading). with_lines r (lines_in bytes)) e }
-
 pub left_more : (bytes : List ℕ) (s t : Reading) (at next : ℕ) (items : List Written) → IsLeft bytes s at → run (between [] [] []) (drop at bytes) ≡ run (between [] [] (items ∷ [])) (drop next bytes)
     → t ≡ with_line s items → IsLeft bytes t next
 left_more bytes s t at next items left e now = record {
@@ -70,6 +66,3 @@ left_more bytes s t at next items left e now = record {
       ap (λ (r : Reading). with_lines r (lines_of (drop next bytes))) now
       ∙ (ap (with_lines s) (sym (first_line items (drop at bytes) (drop next bytes) e)) ∙ left.is);
 }
-
-pub left_none : (bytes : List ℕ) (s : Reading) (at : ℕ) → IsLeft bytes s at → (run (between [] [] []) (drop at bytes)).lines ≡ [] → s.claims ≡ claims_in bytes
-left_none bytes s at left e = ap (λ (r : Reading). r.claims) (ap (with_lines s) (sym e) ∙ left.is)

@@ -1,7 +1,7 @@
 -- What the items of a line say, item by item.
-use Rattle.std.proofs.Common.{◌≡◌, ℕ, zero, suc, ◌+◌, ◌-◌, ◌<◌, ◌≤◌, Bool, true, false, if◌then◌else◌, Option, Some, None, List, [], ◌∷◌, ◌++◌, map, length, take, drop, get_or, option_map, option_and_then, IfSome, nat_eq, refl, sym, ap, subst, ◌∙◌, append_assoc, append-nil, arith}
+use Rattle.std.proofs.Common.{◌≡◌, ℕ, suc, ◌+◌, ◌-◌, ◌<◌, ◌≤◌, Bool, true, false, if◌then◌else◌, Option, Some, None, List, [], ◌∷◌, ◌++◌, map, length, take, drop, get_or, option_map, option_and_then, IfSome, nat_eq, refl, sym, ap, subst, ◌∙◌, append_assoc, append-nil, arith}
 use Rattle.std.proofs.lemmas.Bool.{eqb-true, eq-eqb}
-use Rattle.std.proofs.lemmas.List.{drop_more, drop_all, take_more, take_all, map-append, length-map, take-map, drop-map, length-drop, take_rest}
+use Rattle.std.proofs.lemmas.List.{drop_more, take_more, map-append, take-map, drop-map, length-drop, take_rest}
 use Rattle.spv_whole.specs.Fraction.{Fraction}
 use Rattle.spv_listing_values.specs.declared.data.Step.TheVariants as step
 use Rattle.spv_listing_values.specs.declared.keywords.LimitWord.TheVariants as limit_word
@@ -9,14 +9,10 @@ use Rattle.spv_listing_values.specs.declared.keywords.LineWord.TheVariants as li
 use Rattle.spv_listing_values.specs.declared.texts.Text.{Text}
 use Rattle.spv_listing_values.specs.declared.scanning.Item.{Item}
 use Rattle.spv_listing_values.specs.Written.{Written}
-use Rattle.spv_listing_values.specs.Reading.{Reading, line_by, with_some, judged, with_instance, schema_of, text_of, fact_in, facts_in, fraction_in, multiples_in, is_stroke, in_front, behind, limit_by, linear_of, but_last, last_text}
+use Rattle.spv_listing_values.specs.Reading.{Reading, line_by, with_some, judged, with_instance, schema_of, text_of, fact_in, facts_in, fraction_in, multiples_in, is_stroke, in_front, behind, limit_by, but_last, last_text}
 use Rattle.spv_listing_values.specs.Places.{Flat, tree}
 use Rattle.spv_listing_values.specs.Told.{Enters, Says, StandInFront, operation_in, sides_in, two_items}
 use Rattle.spv_listing_values.proofs.Enters.{enters_none}
-
--- the next item is the first of those that are left
-pub next_item : {X : Type 0} (xs : List X) (i : ℕ) (x : X) → i < length xs → x ≡ get_or xs i x → drop i xs ≡ x ∷ drop (i + 1) xs
-next_item xs i x h is = drop_more xs i x h ∙ ap (λ y. y ∷ drop (i + 1) xs) (sym is)
 
 module _ (w : Item → Written) where
   -- ---- facts
@@ -28,49 +24,11 @@ module _ (w : Item → Written) where
   all_left None = refl
   all_left (Some xs) = refl
 
-  pub facts_first : (items : List Item) → FactsSoFar items 0 []
-  facts_first items = all_left (facts_in (map w items))
-
-  one_fact : (o : Option (List ℕ)) (facts : List ℕ) (n : ℕ) → option_map (λ more. facts ++ more) (option_and_then (λ ns. Some (n ∷ ns)) o) ≡ option_map (λ more. (facts ++ n ∷ []) ++ more) o
-  one_fact None facts n = refl
-  one_fact (Some ns) facts n = ap (λ (ms : List ℕ). Some ms) (sym (append_assoc facts (n ∷ []) ns))
-
-  facts_step : (x : Item) (items : List Item) → facts_in (map w (x ∷ items)) ≡ option_and_then (λ n. option_and_then (λ ns. Some (n ∷ ns)) (facts_in (map w items))) (fact_in (w x))
-  facts_step x items = refl
-
-  pub facts_more : (items : List Item) (i : ℕ) (facts : List ℕ) (x : Item) (n : ℕ) → FactsSoFar items i facts → i < length items → x ≡ get_or items i x → Some n ≡ fact_in (w x)
-      → FactsSoFar items (i + 1) (facts ++ n ∷ [])
-  facts_more items i facts x n so_far h is e =
-      so_far
-      ∙ (ap (λ (l : List Item). option_map (λ more. facts ++ more) (facts_in (map w l))) (next_item items i x h is)
-      ∙ (ap (λ (o : Option ℕ). option_map (λ more. facts ++ more) (option_and_then (λ n. option_and_then (λ ns. Some (n ∷ ns)) (facts_in (map w (drop (i + 1) items)))) o)) (sym e)
-      ∙ one_fact (facts_in (map w (drop (i + 1) items))) facts n))
-
-  pub facts_none : (items : List Item) (i : ℕ) (facts : List ℕ) (x : Item) → FactsSoFar items i facts → i < length items → x ≡ get_or items i x → None ≡ fact_in (w x)
-      → None ≡ facts_in (map w items)
-  facts_none items i facts x so_far h is e =
-      sym
-      (so_far
-      ∙ (ap (λ (l : List Item). option_map (λ more. facts ++ more) (facts_in (map w l))) (next_item items i x h is)
-      ∙ ap (λ (o : Option ℕ). option_map (λ more. facts ++ more) (option_and_then (λ n. option_and_then (λ ns. Some (n ∷ ns)) (facts_in (map w (drop (i + 1) items)))) o)) (sym e)))
-
-  pub facts_end : (items : List Item) (i : ℕ) (facts : List ℕ) → FactsSoFar items i facts → length items ≤ i → Some facts ≡ facts_in (map w items)
-  facts_end items i facts so_far h =
-      sym
-      (so_far
-      ∙ (ap (λ (l : List Item). option_map (λ more. facts ++ more) (facts_in (map w l))) (drop_all i items h) ∙ ap (λ (ns : List ℕ). Some ns) (append-nil facts)))
-
   -- ---- multiples
 
   pub record MultiplesSoFar (items : List Item) (i : ℕ) (ms : List (Fraction × ℕ)) : Type 0 where
     pub within : i ≤ length items
     pub is : multiples_in (map w items) ≡ option_map (λ more. ms ++ more) (multiples_in (map w (drop i items)))
-
-  pub multiples_first : (items : List Item) → MultiplesSoFar items 0 []
-  multiples_first items = record { within = low (length items); is = all_left (multiples_in (map w items)) }
-    where
-      low : (n : ℕ) → 0 ≤ n
-      low n = omega arith
 
   abbrev pair_of : Option Fraction → Option ℕ → Option (Fraction × ℕ)
   pair_of a b = option_and_then (λ m. option_and_then (λ n. Some (m, n)) b) a
@@ -138,12 +96,6 @@ module _ (w : Item → Written) where
       ∙ (ap (λ (l : List Item). option_map (λ more. ms ++ more) (multiples_in (map w l))) (two_left items i a b (omega (arith, h)))
       ∙ ap (option_map (λ more. ms ++ more)) (many_none (fraction_in (w (get_or items i a))) (fact_in (w (get_or items (i + 1) b))) (multiples_in (map w (drop (i + 2) items))) e)))
 
-  pub multiples_end : (items : List Item) (i : ℕ) (ms : List (Fraction × ℕ)) → MultiplesSoFar items i ms → i ≡ length items → Some ms ≡ multiples_in (map w items)
-  multiples_end items i ms so_far h =
-      sym
-      (so_far.is
-      ∙ (ap (λ (l : List Item). option_map (λ more. ms ++ more) (multiples_in (map w l))) (drop_all i items (omega (arith, h))) ∙ ap (λ (xs : List (Fraction × ℕ)). Some xs) (append-nil ms)))
-
   pub multiples_odd : (items : List Item) (i : ℕ) (ms : List (Fraction × ℕ)) → MultiplesSoFar items i ms → length items - i ≤ 1 → (i ≡ length items → ⊥) → None ≡ multiples_in (map w items)
   multiples_odd items i ms so_far h k = sym (so_far.is ∙ ap (option_map (λ more. ms ++ more)) (one (drop i items) (size items i so_far.within h k)))
     where
@@ -169,9 +121,6 @@ module _ (w : Item → Written) where
   pub record NoneSoFar (items : List Item) (i : ℕ) : Type 0 where
     pub front : in_front (map w items) ≡ take i (map w items) ++ in_front (map w (drop i items))
     pub back : behind (map w items) ≡ behind (map w (drop i items))
-
-  pub none_first : (items : List Item) → NoneSoFar items 0
-  none_first items = record { front = refl; back = refl }
 
   front_other : (t : Written) (ts : List Written) → is_stroke t ≡ false → in_front (t ∷ ts) ≡ t ∷ in_front ts
   front_other t ts e = ap (λ (b : Bool). if b then [] else t ∷ in_front ts) e
@@ -207,27 +156,6 @@ module _ (w : Item → Written) where
         ∙ (ap (λ (l : List Item). behind (map w l)) (drop_more items i d h)
         ∙ (ap (λ (b : Bool). if b then map w (drop (i + 1) items) else behind (map w (drop (i + 1) items))) e ∙ sym (drop-map w (i + 1) items)));
   }
-
-  pub no_stroke : (items : List Item) (i : ℕ) → NoneSoFar items i → length items ≤ i → StandInFront (map w items) (length items)
-  no_stroke items i so_far h = record {
-    front =
-        so_far.front
-        ∙ (ap (λ (l : List Item). take i (map w items) ++ in_front (map w l)) (drop_all i items h)
-        ∙ (append-nil (take i (map w items)) ∙ (take_all i (map w items) (many i h) ∙ sym (take_all (length items) (map w items) (many (length items) (same (length items)))))));
-    back = so_far.back ∙ (ap (λ (l : List Item). behind (map w l)) (drop_all i items h) ∙ sym (drop_all (length items + 1) (map w items) (many (length items + 1) (more (length items)))));
-  }
-    where
-      size : length (map w items) ≡ length items
-      size = length-map items w
-
-      many : (k : ℕ) → length items ≤ k → length (map w items) ≤ k
-      many k h = omega (arith, h, size)
-
-      same : (n : ℕ) → n ≤ n
-      same n = omega arith
-
-      more : (n : ℕ) → n ≤ n + 1
-      more n = omega arith
 
 -- ---- things over terms
 
@@ -361,15 +289,6 @@ pub schema_four : (w : Item → Written) (kind : ℕ) (items : List Item) (d : I
 schema_four w kind items d e h =
     (λ i. step.Schema kind (sym (but_last_is w items d h) i) (Some (sym (last_text_is w items d h) i)))
     ∙ ap (λ (b : Bool). if b then step.Schema kind (but_last (map w items)) (Some (last_text (map w items))) else step.Schema kind (map w items) None) (sym (eq-eqb kind 4 e))
-
-pub linear_by : (r : Written) (ts : List Written) (at : ℕ) (first second : Option (List (Fraction × ℕ))) → StandInFront ts at → first ≡ multiples_in (take at ts) → second ≡ multiples_in (drop (at + 1) ts)
-    → linear_of r ts ≡ option_and_then (λ f. option_and_then (λ s. Some (step.Linear r f s)) second) first
-linear_by r ts at first second stand e f =
-    λ i. option_and_then (λ x. option_and_then (λ y. Some (step.Linear r x y)) ((ap multiples_in stand.back ∙ sym f) i)) ((ap multiples_in stand.front ∙ sym e) i)
-
--- without multiples in front of the stroke
-pub linear_none : (r : Written) (ts : List Written) (at : ℕ) → StandInFront ts at → None ≡ multiples_in (take at ts) → linear_of r ts ≡ None
-linear_none r ts at stand e = λ i. option_and_then (λ x. option_and_then (λ y. Some (step.Linear r x y)) (multiples_in (behind ts))) ((ap multiples_in stand.front ∙ sym e) i)
 
 -- the items from a place on
 pub behind_place : (w : Item → Written) (items : List Item) (at : ℕ) → map w (take (length items - at) (drop at items)) ≡ drop at (map w items)

@@ -1,18 +1,14 @@
 -- One line more, kind by kind: what a reader holds then is what the definition reads.
-use Rattle.std.proofs.Common.{◌≡◌, ℕ, Bool, true, false, Option, Some, None, List, [], ◌∷◌, ◌++◌, All, map, refl, sym, ap, subst, ◌∙◌, append-nil}
+use Rattle.std.proofs.Common.{◌≡◌, ℕ, Bool, true, false, Option, Some, None, List, [], ◌∷◌, ◌++◌, All, map, refl, sym, ap, subst, ◌∙◌}
 use Rattle.std.proofs.lemmas.List.{map-append}
 use Rattle.std.proofs.lemmas.List.Elements.{All-append, All-from_recursion}
 use Rattle.spv_whole.specs.Fraction.{Fraction}
-use Rattle.spv_listing_values.specs.declared.data.Header.{Header}
 use Rattle.spv_listing_values.specs.declared.data.Step.{Step}
-use Rattle.spv_listing_values.specs.declared.data.Split.{Split}
 use Rattle.spv_listing_values.specs.declared.data.Instance.{Instance}
 use Rattle.spv_listing_values.specs.declared.data.Limit.{Limit}
 use Rattle.spv_listing_values.specs.declared.data.Verdict.{Verdict}
-use Rattle.spv_listing_values.specs.declared.data.Verdict.TheVariants.{Proved, Unproved, GaveUp}
-use Rattle.spv_listing_values.specs.declared.data.Claim.{Claim}
+use Rattle.spv_listing_values.specs.declared.data.Verdict.TheVariants.{GaveUp}
 use Rattle.spv_listing_values.specs.declared.texts.Text.{Text}
-use Rattle.spv_listing_values.specs.declared.current.Asked as held
 use Rattle.spv_listing_values.specs.declared.current.Showing.{Showing}
 use Rattle.spv_listing_values.specs.declared.current.Showing.TheVariants as showing
 use Rattle.spv_listing_values.specs.declared.current.Judged.{Judged}
@@ -21,8 +17,8 @@ use Rattle.spv_listing_values.specs.declared.current.Current.TheVariants as curr
 use Rattle.spv_listing_values.specs.declared.reading.Read.{Read}
 use Rattle.spv_listing_values.specs.declared.reading.Reader.{Reader}
 use Rattle.spv_listing_values.specs.Written.{Written}
-use Rattle.spv_listing_values.specs.Reading.{Reading, asking, with_given, with_goal, with_verdict, judged, with_branch, with_instance, with_value, on_node, with_step, with_split, with_case, with_some, with_header}
-use Rattle.spv_listing_values.specs.Mapped.{step_at, instance_at, limit_at, row_at, verdict_at, claim_at, step_terms, limit_terms, verdict_terms, claim_terms}
+use Rattle.spv_listing_values.specs.Reading.{Reading, asking, with_given, with_goal, with_verdict, judged, with_branch, with_instance, with_value, on_node, with_step, with_split, with_case, with_some}
+use Rattle.spv_listing_values.specs.Mapped.{step_at, instance_at, limit_at, verdict_at, step_terms, limit_terms, verdict_terms}
 use Rattle.spv_listing_values.specs.Places.{Flat, tree, flats_of}
 use Rattle.spv_listing_values.specs.Waiting.{AreIn}
 use Rattle.spv_listing_values.specs.Entries.{written_claim}
@@ -33,7 +29,7 @@ use Rattle.spv_listing_values.specs.Followed.{IsRead, done_of, reading_of, IsRea
 use Rattle.spv_listing_values.proofs.Enters.{enters_none, entered_at_place}
 use Rattle.spv_listing_values.proofs.Keeps.{Agree, agree_verdict, given_state, given_passed, goal_state, goal_passed, verdict_state, verdict_passed, puts_state, puts_passed, branch_shown, branch_passed, instance_shown, instance_passed, row_shown, row_passed, step_shown, step_passed, split_shown, split_passed, case_shown, case_passed}
 use Rattle.spv_listing_values.proofs.Gained.{given_terms, goal_terms, verdict_gained, puts_terms, branch_terms, instance_gained, row_terms, step_gained, split_gained, case_gained, given_begun, goal_begun, verdict_begun, puts_begun}
-use Rattle.spv_listing_values.proofs.Following.{follows, follows_bare, passed}
+use Rattle.spv_listing_values.proofs.Following.{follows, passed}
 use Rattle.spv_listing_values.proofs.Within.{claim_is_read}
 
 -- what a reader is after a step that changes its table and its last condition alone
@@ -55,9 +51,6 @@ turns_bare r n c reading ready flats same now = record {
 }
 
 module _ (r n : Reader) where
-  gs : List Flat
-  gs = flats_at n.table
-
   -- the last condition becomes another one
   turned : (ws : List Written) (ts : List Text) (c : Current) (op : (Text → Written) → Reading → Reading) → Turns r n ws ts c → terms_of c ≡ terms_of r.current ++ ts → HasBegun c (done_of r)
       → ((f : Text → Written) → state f (done_of r) c ≡ op f (state f (done_of r) r.current)) → Reads n (op (tree (flats_at n.table)) (reading_of r))
@@ -86,12 +79,6 @@ module _ (r n : Reader) where
       subst (λ (v : Verdict Written). Reads n (with_verdict v (reading_of r))) (agree_verdict (tree (flats_at n.table)) f (shown s) (no_terms_agree (tree (flats_at n.table)) f (verdict_terms (shown s)) none))
       (turned [] [] (put_verdict s r.current) (λ g. with_verdict (verdict_at g (shown s))) turns (verdict_gained s r.current h ∙ ap (λ (ts : List Text). terms_of r.current ++ ts) none)
       (verdict_begun s r.current (done_of r) h) (λ g. verdict_state g (done_of r) s r.current h))
-
-  -- nothing is said, and nothing was entered
-  pub none_turn : {X : Type 0} (F : X → Reading → Reading) (wanted : Option X) → wanted ≡ None → Turns r n [] [] r.current → Reads n (with_some F wanted (reading_of r))
-  none_turn F wanted e turns =
-      subst (λ (o : Option _). Reads n (with_some F o (reading_of r))) (sym e)
-      (turned [] [] r.current (λ f s. s) turns (sym (append-nil (terms_of r.current))) turns.reading.begun (λ f. refl))
 
   limit_by_turn : (wanted : Option (Limit Written)) (l : Limit Text) → takes_verdict r.current ≡ true → wanted ≡ Some (limit_at (tree (flats_at n.table)) l)
       → Turns r n (map (tree (flats_at n.table)) (limit_terms l)) (limit_terms l) (put_verdict (showing.Limit l) r.current)
@@ -159,17 +146,11 @@ module _ (r n : Reader) where
 -- ---- lines that stand out of order
 
 module _ (r : Reader) (reading : IsReading r) where
-  f : Text → Written
-  f = tree (flats_at r.table)
-
   pub given_stays : (w : Written) → takes_goal r.current ≡ false → Reads r (asking (with_given w) (reading_of r))
   given_stays w h = passed r (asking (with_given w) (reading_of r)) reading (given_passed (tree (flats_at r.table)) (done_of r) w r.current h)
 
   pub goal_stays : (w : Written) → takes_goal r.current ≡ false → Reads r (asking (with_goal w) (reading_of r))
   goal_stays w h = passed r (asking (with_goal w) (reading_of r)) reading (goal_passed (tree (flats_at r.table)) (done_of r) w r.current h)
-
-  pub verdict_stays : (v : Verdict Written) → takes_verdict r.current ≡ false → Reads r (with_verdict v (reading_of r))
-  verdict_stays v h = passed r (with_verdict v (reading_of r)) reading (verdict_passed (tree (flats_at r.table)) (done_of r) v r.current h)
 
   -- whatever is said
   some_stays : {X : Type 0} (F : X → Reading → Reading) (wanted : Option X) → ((x : X) → F x (reading_of r) ≡ reading_of r) → Reads r (with_some F wanted (reading_of r))
@@ -235,38 +216,3 @@ ended_judged r n j e reading is texts claim read ready empty = record {
 
     one : IsRead e.texts e.claim
     one = subst (λ (gs : List Flat). IsRead gs e.claim) (sym texts) (subst (IsRead (flats_at r.table)) (sym claim) is_claim)
-
-none_told : (f : Text → Written) (c : Current) → ((j : Judged) → c ≡ current.Judged j → ⊥) → claims_of f c ≡ []
-none_told f current.Nothing never = refl
-none_told f (current.Asked a) never = refl
-none_told f (current.Judged j) never = absurd (never j refl)
-
--- there is no condition, or one without a verdict
-pub ended_other : (r n : Reader) → IsReading r → ((j : Judged) → r.current ≡ current.Judged j → ⊥) → n.read.items ≡ r.read.items → IsReady n.table → flats_at n.table ≡ [] → HasEnded n (reading_of r).claims
-ended_other r n reading never read ready empty = record {
-  ready = ready;
-  empty = empty;
-  done =
-      ap (map (λ (x : Read). written_claim x.texts x.claim)) read
-      ∙ (sym (append-nil (done_of r)) ∙ ap (λ (cs : List (Claim Written)). done_of r ++ cs) (sym (none_told (tree (flats_at r.table)) r.current never)));
-  read = subst (λ (es : List Read). All (λ x. IsRead x.texts x.claim) es) (sym read) reading.read;
-}
-
--- the next condition begins
-pub begun_next : (m n : Reader) (s : Reading) (header : Header) → HasEnded m s.claims → n.table ≡ m.table → n.read.items ≡ m.read.items → n.current ≡ current.Asked (record { header = header; given = []; goal = None })
-    → Reads n (with_header header s)
-begun_next m n s header ended table read now = record {
-  reading = record {
-    ready = subst IsReady (sym table) ended.ready;
-    in_range = subst (λ (c : Current). AreIn (flats_at n.table) (terms_of c)) (sym now) tt;
-    terms =
-        ap flats_at table
-        ∙ (ended.empty ∙ ap (λ (c : Current). flats_of (map (tree (flats_at n.table)) (terms_of c))) (sym now));
-    begun = subst (λ (c : Current). HasBegun c (done_of n)) (sym now) tt;
-    read = subst (λ (es : List Read). All (λ x. IsRead x.texts x.claim) es) (sym read) ended.read;
-  };
-  is =
-      ap (state (tree (flats_at n.table)) (done_of n)) now
-      ∙ ap (λ (cs : List (Claim Written)). record { asked = Some (record { header = header; given = []; goal = None }); claims = cs })
-      (append-nil (done_of n) ∙ (ap (map (λ (x : Read). written_claim x.texts x.claim)) read ∙ ended.done));
-}

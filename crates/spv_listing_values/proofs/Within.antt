@@ -1,5 +1,5 @@
 -- Where the terms that a condition names are in range, each part of it has its terms in range.
-use Rattle.std.proofs.Common.{◌≡◌, ℕ, ◌<◌, Option, Some, None, List, [], ◌∷◌, ◌++◌, All, map, length, flat_map, sym, ap, ◌∙◌}
+use Rattle.std.proofs.Common.{◌≡◌, ◌<◌, List, [], ◌∷◌, ◌++◌, All, map, length, flat_map, sym, ap, ◌∙◌}
 use Rattle.std.specs.List.{AllByRecursion}
 use Rattle.std.proofs.lemmas.List.Elements.{All-from_recursion}
 use Rattle.spv_whole.specs.Fraction.{Fraction}
@@ -10,7 +10,7 @@ use Rattle.spv_listing_values.specs.declared.data.Verdict.{Verdict}
 use Rattle.spv_listing_values.specs.declared.data.Verdict.TheVariants.{Proved, Unproved, GaveUp}
 use Rattle.spv_listing_values.specs.declared.data.Claim.{Claim}
 use Rattle.spv_listing_values.specs.declared.texts.Text.{Text}
-use Rattle.spv_listing_values.specs.Mapped.{step_terms, split_terms, node_terms, instance_terms, row_term, limit_terms, verdict_terms, claim_terms}
+use Rattle.spv_listing_values.specs.Mapped.{step_terms, split_terms, node_terms, instance_terms, row_term, verdict_terms, claim_terms}
 use Rattle.spv_listing_values.specs.Places.{Flat, tree, flats_of}
 use Rattle.spv_listing_values.specs.Waiting.{AreIn, NodeIn, VerdictIn, ClaimIn}
 use Rattle.spv_listing_values.specs.Followed.{IsRead}

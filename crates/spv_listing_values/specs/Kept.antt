@@ -1,5 +1,5 @@
 -- What a reader keeps of the last condition, and what each line adds to it.
-use Rattle.std.specs.Prelude.{◌≡◌, ℕ, Bool, true, false, ◌&&◌, List, [], ◌∷◌, ◌++◌, All, map, Option, Some, None, option_map, option_to_list}
+use Rattle.std.specs.Prelude.{◌≡◌, Bool, true, false, List, [], ◌∷◌, ◌++◌, map, Option, Some, None, option_map, option_to_list}
 use Rattle.spv_whole.specs.Fraction.{Fraction}
 use Rattle.spv_listing_values.specs.declared.data.Step.{Step}
 use Rattle.spv_listing_values.specs.declared.data.Split.{Split}

@@ -1,5 +1,5 @@
 -- What is read of a line that is looked at: its items as terms, and a thing over terms whose terms are entered.
-use Rattle.std.specs.Prelude.{◌≡◌, ℕ, suc, ◌+◌, List, [], ◌∷◌, ◌++◌, All, length, map, take, drop, Option, Some, None, option_and_then, ◌^◌}
+use Rattle.std.specs.Prelude.{◌≡◌, ℕ, ◌+◌, List, [], ◌∷◌, ◌++◌, All, map, take, drop, Option, Some, None, option_and_then, ◌^◌}
 use Rattle.spv_logic.specs.names.Names.{IsFolded}
 use Rattle.spv_listing_values.specs.declared.data.Limit.{Limit}
 use Rattle.spv_listing_values.specs.declared.texts.Text.{Text}
@@ -11,7 +11,7 @@ use Rattle.spv_listing_values.specs.Reading.{number_in, fact_in, wide_of, in_fro
 use Rattle.spv_listing_values.specs.Places.{Flat, tree, list_entered}
 use Rattle.spv_listing_values.specs.Waiting.{AreIn}
 use Rattle.spv_listing_values.specs.Parts.{IsItem, IsLine, item_at, items_at}
-use Rattle.spv_listing_values.specs.Interned.{flats_at, IsSound}
+use Rattle.spv_listing_values.specs.Interned.{IsSound}
 
 -- ---- lines that are looked at
 

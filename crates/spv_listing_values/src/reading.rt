@@ -10,7 +10,6 @@ ghost use Rattle.spv_listing_values.specs.Reading as spec;
 ghost use Rattle.spv_listing_values.specs.Reading.{line_by, with_header, asking, with_given, with_goal, with_verdict, judged, with_branch, with_instance, with_value, on_node, with_split, with_case, with_line};
 ghost use Rattle.spv_listing_values.specs.Mapped.{verdict_at, verdict_terms};
 ghost use Rattle.spv_listing_values.specs.Entries.{written_claim};
-ghost use Rattle.spv_listing_values.specs.Parts.{IsLine, items_at};
 ghost use Rattle.spv_listing_values.specs.Told.{IsLooked, IsItemOf, AreItemsOf, term_in, terms_in};
 ghost use Rattle.spv_listing_values.specs.Kept.{shown, judged_claim};
 ghost use Rattle.spv_listing_values.specs.Followed.{IsRead, IsReading, reading_of, Reads, HasEnded};

@@ -1,4 +1,4 @@
-use Rattle.std.proofs.Common.{List, OnOk, subst, sym}
+use Rattle.std.proofs.Common.{List, OnOk, subst}
 use Rattle.spv_listing_values.specs.declared.scanning.Item.{Item}
 use Rattle.spv_listing_values.specs.declared.keywords.LineWord.TheVariants as line_word
 use Rattle.spv_listing_values.specs.Reading.{line_by}
