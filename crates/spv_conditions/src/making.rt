@@ -178,6 +178,33 @@ fn all_conditions(
     with_main(program, alloc, terms, supply, all)
 }
 
+// The conditions of a program whose variables have their sorts at hand, in an arena that is empty so far.
+fn conditions_in(
+    alloc: Global,
+    program: &IndexedProgram<'_>,
+    empty: Terms,
+) -> Result<ProgramConditions, GenFault>
+    requires typed { IsTrue (well_typed program.now) }
+    requires empty { empty ≡ making.empty_arena program.now }
+    ensures conditions { IfOk result (λ c. conditions_of c.terms c.list.items ≡ whole.conditions_of program.now) }
+    ensures in_range { IfOk result (λ c. AreIn c.terms c.list.items) }
+    ensures arena { IfOk result (λ c. Extends (making.empty_arena program.now) c.terms) }
+    ensures within { IfOk result (λ c. Walked (program_events program.now) (making.empty_arena program.now) c.terms) }
+    ensures limit { IfErr result (λ e. IsLimit e program.now) }
+{
+    let mut terms = empty;
+    let mut supply = Supply::new(alloc);
+    let made = all_conditions(program, alloc, &mut terms, &mut supply);
+    terms.law_arena();
+    match made {
+        Ok(made) => {
+            let list = made.conditions(alloc)?;
+            Ok(ProgramConditions { terms, list })
+        }
+        Err(fault) => Err(fault),
+    }
+}
+
 /// The conditions of a program: those of the definition, in its order. `Conditions`: a list of conditions on the way has more than
 /// 20000, or those of the routines so far have together. `Terms`: they need more than 200000 different terms. Where both hold, the
 /// one that comes first on the way is answered.
@@ -189,16 +216,7 @@ pub fn conditions(alloc: Global, program: &Program) -> Result<ProgramConditions,
     ensures within { IfOk result (λ c. Walked (program_events program.now) (making.empty_arena program.now) c.terms) }
     ensures limit { IfErr result (λ e. IsLimit e program.now) }
 {
-    let mut terms = empty_arena(alloc, program)?;
-    let mut supply = Supply::new(alloc);
+    let empty = empty_arena(alloc, program)?;
     let indexed = IndexedProgram::new(alloc, program)?;
-    let made = all_conditions(&indexed, alloc, &mut terms, &mut supply);
-    terms.law_arena();
-    match made {
-        Ok(made) => {
-            let list = made.conditions(alloc)?;
-            Ok(ProgramConditions { terms, list })
-        }
-        Err(fault) => Err(fault),
-    }
+    conditions_in(alloc, &indexed, empty)
 }

@@ -6,8 +6,8 @@ ghost use Rattle.spv_atoms.specs.Order.{passing};
 ghost use Rattle.spv_models.specs.leaf_models.Subterms.{is_listed};
 ghost use Rattle.spv_table.specs.Kept.{PairsIn};
 ghost use Rattle.spv_branch_theory.specs.model_construction.Numbers.{with_value_if};
-ghost use Rattle.spv_search.specs.Finding.{IsTableFor};
-ghost use Rattle.spv_fact_search.specs.Guessing.{term_of, IsTrialOf, IsUnprovedBy};
+ghost use Rattle.spv_search.specs.Finding.{IsTableFor, term_of};
+ghost use Rattle.spv_fact_search.specs.Guessing.{IsTrialOf, IsUnprovedBy};
 
 use crate::enlarging::{Enlarged, used_terms};
 use crate::guessing::Guess;
