@@ -2,7 +2,6 @@
 //! `flat`: The tokens of trees, for tests that compare them with what was read.
 //! `io_tests`: What no clause of `spv_io` says: an output that takes less than it is given, and a reader that breaks in the middle.
 //! `reasons_tests`: What no clause says of reasons: that they do not give up.
-//! `report_tests`: What no clause says of reports: what they hold, worked searches within limits, and what tables have to meet.
 //! `text_tests`: What no clause says of texts: what is read, typed and framed.
 #![tactic(auto)]
 
@@ -10,5 +9,4 @@ pub mod course_tests;
 pub mod flat;
 pub mod io_tests;
 pub mod reasons_tests;
-pub mod report_tests;
 pub mod text_tests;
