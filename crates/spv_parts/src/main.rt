@@ -14,6 +14,8 @@ mod laws;
 mod messages;
 mod names;
 mod outside;
+#[cfg(test)]
+mod report_tests;
 mod terms;
 mod tokens;
 

@@ -1,0 +1,14 @@
+use Rattle.std.proofs.Common.{◌∙◌, List, [], sym, subst}
+use Rattle.spv_listing_values.specs.declared.scanning.Item.{Item}
+use Rattle.spv_listing_values.specs.declared.keywords.LineWord.TheVariants as line_word
+use Rattle.spv_listing_values.specs.Written.{word}
+use Rattle.spv_listing_values.specs.Reading.{line_by}
+use Rattle.spv_listing_values.specs.Told.{terms_in}
+use Rattle.spv_listing_values.specs.Followed.{reading_of, Reads}
+use Rattle.spv_listing_values.proofs.Telling.{no_items}
+use Rattle.spv_listing_values.proofs.reading.Reader.proved.Goals as goal
+
+pub returns-then-is_empty : goal.returns-then-is_empty
+returns-then-is_empty c l =
+    subst (λ (is : List Item). Reads c.put_verdict.new.self (line_by line_word.Proved (terms_in l is) (reading_of c.args.self.now))) (no_items c.args.items.now (sym c.is_empty.ensures ∙ c.if-is_empty.true))
+    (c.put_verdict.ensures (λ t. word []))
