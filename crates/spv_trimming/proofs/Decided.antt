@@ -6,11 +6,11 @@ use Rattle.spv_term.proofs.ArenaLemmas.{AllBelow-Extends}
 use Rattle.spv_atoms.specs.declared.proofs.ProofNode.{ProofNode}
 use Rattle.spv_proof_rules.specs.Stand.{question, IsProof}
 use Rattle.spv_proof_rules.proofs.Staying.{below-Extends}
-use Rattle.spv_verdicts.specs.Verdicts.{Limits, IsRight}
+use Rattle.spv_verdicts.specs.Verdicts.{IsRight}
 use Rattle.spv_verdicts.specs.declared.answers.verdicts.Decided.{Decided}
 use Rattle.spv_verdicts.specs.declared.answers.verdicts.Verdict.{Verdict}
 use Rattle.spv_verdicts.specs.declared.answers.verdicts.Verdict.TheVariants as verdict
-use Rattle.spv_verdicts.specs.answers.Views.{IsDecided, VerdictIn, verdict_in}
+use Rattle.spv_verdicts.specs.answers.Views.{VerdictIn, verdict_in}
 use Rattle.spv_trimming.specs.Deciding.{WasDecided, StaysDecided}
 use Rattle.spv_trimming.proofs.Growing.{claim-Extends}
 

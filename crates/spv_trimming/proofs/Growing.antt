@@ -1,17 +1,16 @@
 -- A proof stays one where the arena grows.
 use Rattle.std.proofs.Common.{◌≡◌, ◌<◌, Bool, ◌&&◌, List, [], ◌∷◌, ◌++◌, length, Option, Some, None, IsTrue, nat_eq, refl, sym, ap, ◌∙◌, subst}
 use Rattle.spv_logic.specs.Terms.{Term}
-use Rattle.spv_logic.specs.Conditions.{Sequent}
 use Rattle.spv_term.specs.declared.nodes.Condition.{Condition}
-use Rattle.spv_term.specs.Arena.{AllBelow, Arena, Extends, sequent, tree}
-use Rattle.spv_term.proofs.ArenaLemmas.{tree-Extends, AllBelow-Extends, map_tree-Extends}
+use Rattle.spv_term.specs.Arena.{AllBelow, Arena, Extends, sequent}
+use Rattle.spv_term.proofs.ArenaLemmas.{tree-Extends, map_tree-Extends}
 use Rattle.spv_atoms.specs.declared.proofs.Step.{Step}
 use Rattle.spv_atoms.specs.declared.proofs.Split.{Split}
 use Rattle.spv_atoms.specs.declared.proofs.ProofNode.{ProofNode}
 use Rattle.spv_atoms.specs.Atoms.{is_atom}
 use Rattle.spv_proof_rules.specs.Evaluation.{sides}
-use Rattle.spv_proof_rules.specs.Effects.{Question, Effect, Adds, Ends, Fails}
-use Rattle.spv_proof_rules.specs.Accepted.{Path, Open, Closed, Broken, accepts, after_node, cases_by_sides, closed_if_last, closes, on_effect, on_opened, opened_if, walk}
+use Rattle.spv_proof_rules.specs.Effects.{Effect, Adds, Ends, Fails}
+use Rattle.spv_proof_rules.specs.Accepted.{Path, Open, Closed, Broken, after_node, cases_by_sides, closed_if_last, closes, on_effect, on_opened, opened_if, walk}
 use Rattle.spv_proof_rules.specs.Stand.{question, NodesIn, SplitIn, StepsIn, IsProof}
 use Rattle.spv_proof_rules.proofs.Staying.{below-Extends, StepIn-Extends, effect-Extends, number-Extends, truth-Extends}
 

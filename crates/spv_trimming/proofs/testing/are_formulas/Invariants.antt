@@ -1,4 +1,4 @@
-use Rattle.std.proofs.Common.{drop, length}
+use Rattle.std.proofs.Common.{drop}
 use Rattle.spv_proof_steps.specs.Candidates.{AllFormulas}
 use Rattle.spv_trimming.proofs.testing.are_formulas.Given as goal
 

@@ -1,4 +1,4 @@
-use Rattle.std.proofs.Common.{drop, length}
+use Rattle.std.proofs.Common.{drop}
 use Rattle.spv_proof_rules.specs.Stand.{StepsIn}
 use Rattle.spv_trimming.proofs.testing.are_steps_there.Given as goal
 
