@@ -1,6 +1,6 @@
 // Applications in annotations.
 
-ghost use Rattle.std.specs.Prelude.{◌≡◌, ◌∷◌, [], ◌++◌, IfOk, IfErr, OnOk, Ok, None};
+ghost use Rattle.std.specs.Prelude.{◌≡◌, IfOk, IfErr, Ok, None};
 ghost use Rattle.spv_typing.specs.FormulaWalk as spec;
 ghost use Rattle.spv_environments.specs.Answers.{Stops};
 ghost use Rattle.spv_environments.specs.Scopes.{scope_of};
@@ -17,7 +17,7 @@ use crate::settling::settled_formula;
 use crate::signatures::{arity, operator_of, signature_of};
 use crate::sorted::{Sorted, boxed};
 use spv_environments::{Function, Known, Scope, Signature};
-use spv_formula_typing::{Given, Operand};
+use spv_formula_typing::{Given, Operand, push};
 use spv_logic::Sort;
 use spv_logic::names::Symbol;
 use spv_program::BuiltIn;
@@ -25,13 +25,6 @@ use spv_program::typed::{Formula, FormulaForm};
 use spv_tree::syntax::Name;
 use spv_typing::TypeFault;
 use std::alloc::{AllocError, Global};
-
-pub(crate) fn push<T: Drop>(items: &mut Vec<T>, item: T) -> Result<(), AllocError>
-    ensures { OnOk result (items.new.items ≡ items.old.items ++ item ∷ []) }
-{
-    items.push(item)?;
-    Ok(())
-}
 
 // The arguments, each of the sort that is wanted of it.
 fn settled_all(

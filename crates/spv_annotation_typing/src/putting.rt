@@ -10,11 +10,10 @@ ghost use Rattle.spv_formula_typing.specs.Operands.{operand_of};
 ghost use Rattle.spv_formula_typing.specs.Arguments.{all_given, given_of};
 ghost use Rattle.spv_annotation_typing.specs.Applied.{field_in, put_given, put_parts, put_three, value_in};
 
-use crate::applying::push;
 use crate::settling::settled_formula;
 use crate::sorted::Sorted;
 use spv_environments::{Known, Scope};
-use spv_formula_typing::{Given, Operand};
+use spv_formula_typing::{Given, Operand, push};
 use spv_logic::Sort;
 use spv_program::BuiltIn;
 use spv_program::typed::{Formula, FormulaForm};

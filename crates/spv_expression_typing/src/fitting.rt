@@ -12,10 +12,10 @@ ghost use Rattle.spv_formula_typing.specs.Operands.{operand_of};
 ghost use Rattle.spv_formula_typing.specs.Arguments.{all_given, given_of};
 ghost use Rattle.spv_expression_typing.specs.Applied.{all_seen, call_with, fitted_of, fitted_one, fitted_place, seen};
 
-use crate::reached::{Reached, boxed, push};
+use crate::reached::{Reached, boxed};
 use crate::settling::settled_expression;
 use spv_environments::{Heading, Known};
-use spv_formula_typing::{Given, Operand};
+use spv_formula_typing::{Given, Operand, push};
 use spv_logic::TypeId;
 use spv_logic::names::Symbol;
 use spv_program::TypeForm;

@@ -1,10 +1,11 @@
 // What a name with selectors has come to.
 
-ghost use Rattle.std.specs.Prelude.{◌≡◌, ◌++◌, ◌∷◌, [], IfOk, OnOk, drop};
+ghost use Rattle.std.specs.Prelude.{◌≡◌, IfOk, drop};
 ghost use Rattle.spv_program.specs.typed.ExpressionViews.{expression_of};
 ghost use Rattle.spv_typing.specs.ExpressionWalk as spec;
 ghost use Rattle.spv_expression_typing.specs.Views.{base_of, cell_in, first_cell, link_of, links_of, place_of, value_of};
 
+use spv_formula_typing::push;
 use spv_logic::TypeId;
 use spv_logic::names::Symbol;
 use spv_program::typed::{Call, Designator, Expression, ExpressionForm, Selector, Through};
@@ -49,13 +50,6 @@ pub(crate) fn boxed(alloc: Global, expression: Expression) -> Result<Box<Express
     ensures { IfOk result (λ b. b.value ≡ expression) }
 {
     Ok(Box::new(alloc, expression)?)
-}
-
-pub(crate) fn push<T: Drop>(items: &mut Vec<T>, item: T) -> Result<(), AllocError>
-    ensures { OnOk result (items.new.items ≡ items.old.items ++ item ∷ []) }
-{
-    items.push(item)?;
-    Ok(())
 }
 
 #[tactic(auto, using(crate::proofs::Links::chained_are))]

@@ -8,4 +8,4 @@ mod walk;
 
 pub use forms::{Forms, Given, Operand, Way};
 pub use operators::settled;
-pub use walk::{arguments, formula, written};
+pub use walk::{arguments, formula, push, written};

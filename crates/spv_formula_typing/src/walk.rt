@@ -22,9 +22,22 @@ use spv_tree::syntax::{
 use spv_typing::TypeFault;
 use std::alloc::{AllocError, Global};
 
-fn push<T: Drop>(items: &mut Vec<T>, item: T) -> Result<(), AllocError>
+// The first item of a list, in room for one alone.
+fn push_first<T: Drop>(items: &mut Vec<T>, item: T) -> Result<(), AllocError>
     ensures { OnOk result (items.new.items ≡ items.old.items ++ item ∷ []) }
 {
+    items.reserve_exact(1)?;
+    items.push(item)?;
+    Ok(())
+}
+
+/// Puts an item at the end of a list. Most applications have one argument, so the first item takes room for one alone.
+pub fn push<T: Drop>(items: &mut Vec<T>, item: T) -> Result<(), AllocError>
+    ensures { OnOk result (items.new.items ≡ items.old.items ++ item ∷ []) }
+{
+    if items.is_empty() {
+        return push_first(items, item);
+    }
     items.push(item)?;
     Ok(())
 }
