@@ -28,6 +28,7 @@ use spv_search_terms::subterms::subterms;
 use spv_table::Table;
 use spv_term::{Condition, TermFault, TermId, Terms};
 use spv_trimming::testing::{are_there, proof_of};
+use spv_trimming::with_shorter_proof;
 use spv_verdicts::answers::{Decided, Limits, Verdict};
 use std::alloc::{AllocError, Global};
 
@@ -287,6 +288,23 @@ fn unproved(alloc: Global, stage: Stage, from: &Terms, table: &Table) -> Result<
     }
 }
 
+// What the search decides of the condition of a stage, with a short proof, so that less has to be tested of the condition itself.
+fn searched(
+    alloc: Global,
+    terms: &Terms,
+    condition: &Condition,
+    limits: &Limits,
+    focus: usize,
+) -> Result<Decided, AllocError>
+    requires given { AllBelow (length terms.now.nodes) condition.now.given }
+    requires goal { condition.now.goal.0 < length terms.now.nodes }
+    requires formulas { AreFormulas terms.now.shapes terms.now.decls (formulas_of (question terms.now condition.now).sequent) }
+    ensures decided { IfOk result (IsDecided terms.now condition.now limits.now) }
+{
+    let found = decide_near(alloc, terms, condition, limits, focus)?;
+    Ok(with_shorter_proof(alloc, found)?)
+}
+
 // What comes of a stage.
 fn try_stage(
     alloc: Global,
@@ -307,7 +325,7 @@ fn try_stage(
         terms: from,
         condition: _,
         verdict,
-    } = decide_near(alloc, &stage.terms, &stage.abstracted, &few, choice.first)?;
+    } = searched(alloc, &stage.terms, &stage.abstracted, &few, choice.first)?;
     match verdict {
         Verdict::Proved(proof) => proved(alloc, stage, &from, &proof),
         Verdict::Unproved(found) => unproved(alloc, stage, &from, &found.table),

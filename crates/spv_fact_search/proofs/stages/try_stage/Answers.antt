@@ -4,8 +4,8 @@ use Rattle.spv_fact_search.specs.Stages.{IsStageOf}
 use Rattle.spv_fact_search.proofs.Asked.{given-there, formulas-asked}
 use Rattle.spv_fact_search.proofs.stages.try_stage.Goals as goal
 
-pub decide_near-requires : goal.decide_near-requires
-decide_near-requires c =
+pub searched-requires : goal.searched-requires
+searched-requires c =
     let stage = c.in-Some.stage in
     let is = subst (λ (o : Option Stage). IfSome o (IsStageOf c.args.terms.now c.args.condition.now)) c.in-Some.is c.in_ok-stage.ensures in
     record {
