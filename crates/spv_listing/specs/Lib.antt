@@ -1,3 +1,4 @@
 pub mod printed
 pub mod verdict_pages
 pub mod Page
+pub mod Listings

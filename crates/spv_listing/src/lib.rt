@@ -1,6 +1,7 @@
 //! Listings: the page of a report.
 #![tactic(auto)]
 
+pub mod laws;
 mod lengths;
 mod listing;
 pub mod printed;
