@@ -1,6 +1,6 @@
 pub mod Kept
-pub mod SchemaMade
-pub mod NoRules
+pub mod Made
+pub mod UnderRules
 pub mod Staying
 pub mod Goings
 pub mod Stacks

@@ -1,5 +1,3 @@
-pub mod Turns
-pub mod Applying
 pub mod Sketched
 pub mod Looked
 pub mod Fields

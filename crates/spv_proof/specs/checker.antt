@@ -1,7 +1,9 @@
 pub mod Faults
 pub mod KeptFaults
 pub mod Ends
+pub mod Tasks
 pub mod Walks
 pub mod Stacks
 pub mod Shown
 pub mod Examples
+pub mod RuleExamples

@@ -1,4 +1,3 @@
-pub mod Pieces
 pub mod Facts
 pub mod Sketches
 pub mod Shapes

@@ -7,8 +7,9 @@ mod keeping;
 mod laws;
 mod linear;
 pub mod stops;
+mod tasks;
 mod walking;
 
-pub use checker::check;
-pub use laws::law_stops;
+pub use checker::{check, check_under};
+pub use laws::{law_cited_rules, law_stops};
 pub use stops::CheckStop;

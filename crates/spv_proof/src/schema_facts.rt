@@ -1,13 +1,11 @@
 //! Facts of schemas, made in an arena behind their subterms, and the list of those about used terms.
 
-mod building;
 mod divisions;
 mod facts;
 mod groups;
 mod kinds;
 mod listing;
 mod making;
-mod pieces;
 mod relations;
 mod shapes;
 mod sketches;

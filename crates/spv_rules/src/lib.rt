@@ -1,7 +1,7 @@
 //! Rules as a program has them: their variables, their triggers and their formulas, over terms.
 #![tactic(auto)]
 
-mod making;
+pub mod making;
 pub mod matching;
 mod rules;
 mod sorts;

@@ -6,4 +6,6 @@ mod instances;
 mod pieces;
 mod sketching;
 
+pub use building::build;
 pub use instances::instance;
+pub use pieces::Piece;

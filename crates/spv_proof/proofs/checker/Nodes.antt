@@ -6,21 +6,20 @@ use Rattle.std.proofs.lemmas.List.{at_drop_more}
 use Rattle.spv_logic.specs.declared.conditions.TermId.{TermId}
 use Rattle.spv_logic.specs.Terms.{Term}
 use Rattle.spv_logic.specs.Formulas as formulas
-use Rattle.spv_term.specs.declared.nodes.Condition.{Condition}
 use Rattle.spv_term.specs.Arena.{Arena, Extends, AllBelow, sequent, tree, trees_of}
 use Rattle.spv_term.proofs.ArenaLemmas.{Extends-refl, Extends-trans, tree-Extends, sort_at-Extends, map_tree-Extends}
 use Rattle.spv_atoms.specs.declared.proofs.Step.{Step}
 use Rattle.spv_atoms.specs.declared.proofs.Split.{Split}
 use Rattle.spv_atoms.specs.declared.proofs.ProofNode.{ProofNode}
 use Rattle.spv_atoms.specs.Atoms.{is_atom}
-use Rattle.spv_proof_rules.specs.Effects.{Question, Effect, is_truth, is_number}
+use Rattle.spv_proof_rules.specs.Effects.{Question}
 use Rattle.spv_proof_rules.specs.Effects as spec
 use Rattle.spv_proof_rules.specs.Evaluation.{sides}
 use Rattle.spv_proof_rules.specs.Accepted as accepted
 use Rattle.spv_proof_rules.specs.Stops.{all_kept, kept}
-use Rattle.spv_proof_rules.specs.Outcomes.{IsFirst, Outcome, comes, stops, then_outcome, on_trial, add_fact, made_by, steps_outcome, trial, branches_if, branches_after, node_outcome, on_branches, nodes_outcome}
+use Rattle.spv_proof_rules.specs.Outcomes.{IsFirst, Outcome, comes, then_outcome, on_trial, add_fact, made_by, steps_outcome, trial, branches_if, branches_after, node_outcome, on_branches, nodes_outcome}
 use Rattle.spv_proof_rules.specs.Outcomes as outcomes
-use Rattle.spv_proof_rules.specs.Stand.{question, StepsIn, SplitIn, NodesIn}
+use Rattle.spv_proof_rules.specs.Stand.{StepsIn, SplitIn, NodesIn}
 use Rattle.spv_proof_rules.proofs.Outcomes.{outcome-accepts}
 use Rattle.spv_proof_rules.proofs.Growing.{first-same, first-then, then-later, rest-first, nodes-first, branches-go}
 use Rattle.spv_proof_steps.specs.declared.facts.Fact.{Fact}
@@ -29,12 +28,14 @@ use Rattle.spv_proof_steps.specs.Steps.{fact_of, FactStands}
 use Rattle.spv_proof.specs.declared.checker.stops.CheckStop.{CheckStop}
 use Rattle.spv_proof.specs.declared.checker.stops.CheckStop.TheVariants.{Wide, Form, Size, Memory}
 use Rattle.spv_proof.specs.declared.checker.branches.Branch.{Branch}
+use Rattle.spv_proof.specs.declared.checker.tasks.Task.{Task}
 use Rattle.spv_proof.specs.declared.checker.walking.Path as walked
-use Rattle.spv_proof.specs.checker.Ends.{ConditionIn, EndsAs, comes_in}
+use Rattle.spv_proof.specs.checker.Ends.{EndsAs, comes_in}
+use Rattle.spv_proof.specs.checker.Tasks.{asks, TaskIn}
 use Rattle.spv_proof.specs.checker.Walks.{path_of, steps_in, Leads}
 use Rattle.spv_proof.specs.checker.Stacks.{BranchIn, OpensIn, branch_in, Begun, stacked, AllFrom, IsPending, Leaves, Checked}
 use Rattle.spv_proof_rules.proofs.Staying.{below-Extends, StepIn-Extends, truth-Extends, number-Extends}
-use Rattle.spv_proof.proofs.checker.Staying.{condition-Extends, made-Extends, sequent-Extends, trial-Extends}
+use Rattle.spv_proof.proofs.checker.Staying.{task-Extends, made-Extends, sequent-Extends, trial-Extends}
 use Rattle.spv_proof.proofs.checker.Goings.{ends-told, take-take, take-short}
 use Rattle.spv_proof.proofs.checker.Stacks.{AllBelow-take, stacked-last}
 
@@ -84,7 +85,7 @@ module _ {old new : Arena} (more : Extends old new) where
       let one : branch_in new after x ≡ branch_in old before x = (λ i. record { before = trees i; opens = opened-Extends x.opens h.1 i }) in
       λ i. stacked-Extends n before after bs b e h.3 i ++ one i ∷ []
 
-  module _ (c : Condition) (ci : ConditionIn old c) where
+  module _ (c : Task) (ci : TaskIn old c) where
     on_trial-same : (known : List Term) (t : outcomes.Trial) (f g : Term → Outcome accepted.Path) (last : accepted.Path) → ((x : Term) → f x ≡ g x) → on_trial known t f last ≡ on_trial known t g last
     on_trial-same known (outcomes.Does (spec.Adds x)) f g last e = e x
     on_trial-same known (outcomes.Does spec.Ends) f g last e = refl
@@ -101,29 +102,29 @@ module _ {old new : Arena} (more : Extends old new) where
 
     -- what comes once the terms of a step are made
     abbrev going_on : Arena → Step → List Step → List Term → List Term → Outcome accepted.Path
-    going_on a s steps facts known = on_trial known (trial a.most (question a c) known facts s) (λ x. add_fact a.most known x (λ m. steps_outcome a.most (question a c) m (facts ++ x ∷ []) steps)) (accepted.closed_if_last steps)
+    going_on a s steps facts known = on_trial known (trial a.most (asks a c) known facts s) (λ x. add_fact a.most known x (λ m. steps_outcome a.most (asks a c) m (facts ++ x ∷ []) steps)) (accepted.closed_if_last steps)
 
     -- steps come to the same
-    pub steps-Extends : (steps : List Step) (known facts : List Term) → StepsIn old steps → steps_outcome new.most (question new c) known facts steps ≡ steps_outcome old.most (question old c) known facts steps
+    pub steps-Extends : (steps : List Step) (known facts : List Term) → StepsIn old steps → steps_outcome new.most (asks new c) known facts steps ≡ steps_outcome old.most (asks old c) known facts steps
     steps-Extends [] known facts h = refl
     steps-Extends (s ∷ steps) start facts h =
         ap (λ r. outcomes.where_made r (going_on new s steps facts)) (λ i. all_kept (more.most i) start (made-Extends more c ci s h.0 i))
-        ∙ where_made-same (all_kept old.most start (made_by (question old c) s)) (going_on new s steps facts) (going_on old s steps facts) (λ known.
-        ap (λ t. on_trial known t (λ x. add_fact new.most known x (λ m. steps_outcome new.most (question new c) m (facts ++ x ∷ []) steps)) (accepted.closed_if_last steps)) (trial-Extends more c ci known facts s h.0)
-        ∙ on_trial-same known (trial old.most (question old c) known facts s) (λ x. add_fact new.most known x (λ m. steps_outcome new.most (question new c) m (facts ++ x ∷ []) steps))
-        (λ x. add_fact old.most known x (λ m. steps_outcome old.most (question old c) m (facts ++ x ∷ []) steps)) (accepted.closed_if_last steps)
-        (λ x. ap (λ n. add_fact n known x (λ m. steps_outcome new.most (question new c) m (facts ++ x ∷ []) steps)) more.most
-        ∙ on_kept-same known (kept old.most known x) (λ m. steps_outcome new.most (question new c) m (facts ++ x ∷ []) steps) (λ m. steps_outcome old.most (question old c) m (facts ++ x ∷ []) steps)
+        ∙ where_made-same (all_kept old.most start (made_by (asks old c) s)) (going_on new s steps facts) (going_on old s steps facts) (λ known.
+        ap (λ t. on_trial known t (λ x. add_fact new.most known x (λ m. steps_outcome new.most (asks new c) m (facts ++ x ∷ []) steps)) (accepted.closed_if_last steps)) (trial-Extends more c ci known facts s h.0)
+        ∙ on_trial-same known (trial old.most (asks old c) known facts s) (λ x. add_fact new.most known x (λ m. steps_outcome new.most (asks new c) m (facts ++ x ∷ []) steps))
+        (λ x. add_fact old.most known x (λ m. steps_outcome old.most (asks old c) m (facts ++ x ∷ []) steps)) (accepted.closed_if_last steps)
+        (λ x. ap (λ n. add_fact n known x (λ m. steps_outcome new.most (asks new c) m (facts ++ x ∷ []) steps)) more.most
+        ∙ on_kept-same known (kept old.most known x) (λ m. steps_outcome new.most (asks new c) m (facts ++ x ∷ []) steps) (λ m. steps_outcome old.most (asks old c) m (facts ++ x ∷ []) steps)
         (λ m. steps-Extends steps m (facts ++ x ∷ []) h.1)))
 
     -- the cases of an atom are the same
-    pub after-Extends : (p : accepted.Path) (o : Option Split) → SplitIn old o → branches_after (question new c) p o ≡ branches_after (question old c) p o
+    pub after-Extends : (p : accepted.Path) (o : Option Split) → SplitIn old o → branches_after (asks new c) p o ≡ branches_after (asks old c) p o
     after-Extends accepted.Closed None h = refl
     after-Extends accepted.Closed (Some s) h = refl
     after-Extends (accepted.Open facts) None h = refl
     after-Extends (accepted.Open facts) (Some s) h =
-        let n = number-Extends more (sequent new c) (sequent old c) (sequent-Extends more c ci) [] in
-        let b = truth-Extends more (sequent new c) (sequent old c) (sequent-Extends more c ci) [] in
+        let n = number-Extends more (sequent new c.condition.now) (sequent old c.condition.now) (sequent-Extends more c ci) [] in
+        let b = truth-Extends more (sequent new c.condition.now) (sequent old c.condition.now) (sequent-Extends more c ci) [] in
         let t = tree-Extends more s.atom h in
         (λ i. branches_if (is_atom (b i) (t i) && nat_eq (length s.parts) (length (accepted.cases_by_sides (n i) (sides (t i)) (t i)))) facts (accepted.cases_by_sides (n i) (sides (t i)) (t i)))
     after-Extends accepted.Broken o h = refl
@@ -137,16 +138,16 @@ module _ {old new : Arena} (more : Extends old new) where
 
     -- what follows the begin of a node
     abbrev rest_of : Arena → ProofNode → List Term → List Term → Outcome (Option (List outcomes.Branch))
-    rest_of a n start facts = then_outcome (steps_outcome a.most (question a c) start facts n.steps) (λ known p. comes known (branches_after (question a c) p n.split))
+    rest_of a n start facts = then_outcome (steps_outcome a.most (asks a c) start facts n.steps) (λ known p. comes known (branches_after (asks a c) p n.split))
 
     rest-Extends : (n : ProofNode) → StepsIn old n.steps → SplitIn old n.split → (start facts : List Term) → rest_of new n start facts ≡ rest_of old n start facts
     rest-Extends n steps split start facts =
-        ap (λ o. then_outcome o (λ known p. comes known (branches_after (question new c) p n.split))) (steps-Extends n.steps start facts steps)
-        ∙ then-same (steps_outcome old.most (question old c) start facts n.steps) (λ known p. comes known (branches_after (question new c) p n.split)) (λ known p. comes known (branches_after (question old c) p n.split))
+        ap (λ o. then_outcome o (λ known p. comes known (branches_after (asks new c) p n.split))) (steps-Extends n.steps start facts steps)
+        ∙ then-same (steps_outcome old.most (asks old c) start facts n.steps) (λ known p. comes known (branches_after (asks new c) p n.split)) (λ known p. comes known (branches_after (asks old c) p n.split))
         (λ known p. ap (comes known) (after-Extends p n.split split))
 
     -- a node comes to the same
-    pub node-Extends : (n : ProofNode) → StepsIn old n.steps → SplitIn old n.split → (known : List Term) (b : outcomes.Branch) → node_outcome new.most (question new c) known b n ≡ node_outcome old.most (question old c) known b n
+    pub node-Extends : (n : ProofNode) → StepsIn old n.steps → SplitIn old n.split → (known : List Term) (b : outcomes.Branch) → node_outcome new.most (asks new c) known b n ≡ node_outcome old.most (asks old c) known b n
     node-Extends n steps split known b =
         ap (λ m. then_outcome (outcomes.begin m known b) (rest_of new n)) more.most
         ∙ then-same (outcomes.begin old.most known b) (rest_of new n) (rest_of old n) (λ start facts. rest-Extends n steps split start facts)
@@ -163,38 +164,38 @@ ends-then a e o go h f = by e h
     by Size k = ends-told a Size (then_outcome o go) (ap (λ p. then_outcome p go) k.told) k.form (λ m. first-then (trees_of a.nodes) o.known (then_outcome o go).known k.kept f)
     by Memory k = ends-told a Memory (then_outcome o go) tt tt (λ m. first-then (trees_of a.nodes) o.known (then_outcome o go).known k.kept f)
 
-module _ {old mid new : Arena} (grown : Extends old mid) (more : Extends mid new) (c : Condition) (ci : ConditionIn old c) (before : List TermId) (waiting : List Branch) (b : Branch) (n : ProofNode)
+module _ {old mid new : Arena} (grown : Extends old mid) (more : Extends mid new) (c : Task) (ci : TaskIn old c) (before : List TermId) (waiting : List Branch) (b : Branch) (n : ProofNode)
     (steps : StepsIn old n.steps) (split : SplitIn old n.split) where
   abbrev node_in : Outcome (Option (List outcomes.Branch))
-  node_in = node_outcome old.most (question old c) (trees_of old.nodes) (branch_in old before b) n
+  node_in = node_outcome old.most (asks old c) (trees_of old.nodes) (branch_in old before b) n
 
   -- it ends where its path begins
   pub begin-ends : (a : Arena) (e : CheckStop) → EndsAs a e (outcomes.begin old.most (trees_of old.nodes) (branch_in old before b)) → EndsAs a e node_in
   begin-ends a e h =
       ends-then a e (outcomes.begin old.most (trees_of old.nodes) (branch_in old before b)) (rest_of grown c ci old n) h
-      (then-later old.most (question old c) (outcomes.begin old.most (trees_of old.nodes) (branch_in old before b)) (rest_of grown c ci old n) (λ start facts. rest-first old.most (question old c) n start facts))
+      (then-later old.most (asks old c) (outcomes.begin old.most (trees_of old.nodes) (branch_in old before b)) (rest_of grown c ci old n) (λ start facts. rest-first old.most (asks old c) n start facts))
 
   module _ (facts : List TermId) (begun : Begun old before b mid facts) where
     -- what the rest comes to
-    rest-is : node_in ≡ then_outcome (steps_in mid c facts n.steps) (λ known p. comes known (branches_after (question mid c) p n.split))
+    rest-is : node_in ≡ then_outcome (steps_in mid c facts n.steps) (λ known p. comes known (branches_after (asks mid c) p n.split))
     rest-is = ap (λ o. then_outcome o (rest_of grown c ci old n)) begun.outcome ∙ sym (rest-Extends grown c ci n steps split (trees_of mid.nodes) (map (tree mid) facts))
 
     -- it ends in a step
     pub walk-ends : (e : CheckStop) → EndsAs new e (steps_in mid c facts n.steps) → EndsAs new e node_in
     walk-ends e h =
         subst (EndsAs new e) (sym rest-is)
-        (ends-then new e (steps_in mid c facts n.steps) (λ known p. comes known (branches_after (question mid c) p n.split)) h
-        (then-later mid.most (question mid c) (steps_in mid c facts n.steps) (λ known p. comes known (branches_after (question mid c) p n.split)) (λ known p. first-same known)))
+        (ends-then new e (steps_in mid c facts n.steps) (λ known p. comes known (branches_after (asks mid c) p n.split)) h
+        (then-later mid.most (asks mid c) (steps_in mid c facts n.steps) (λ known p. comes known (branches_after (asks mid c) p n.split)) (λ known p. first-same known)))
 
     module _ (after : List TermId) (p : walked.Path) (leads : Leads mid c facts n.steps new after p) where
       abbrev left_by : Option (List outcomes.Branch)
-      left_by = branches_after (question new c) (path_of (map (tree new) after) p) n.split
+      left_by = branches_after (asks new c) (path_of (map (tree new) after) p) n.split
 
       node-is : node_in ≡ comes_in new left_by
       node-is =
           rest-is
-          ∙ (ap (λ o. then_outcome o (λ known r. comes known (branches_after (question mid c) r n.split))) leads.outcome
-          ∙ ap (comes (trees_of new.nodes)) (sym (after-Extends more c (condition-Extends grown c ci) (path_of (map (tree new) after) p) n.split (SplitIn-Extends grown n.split split))))
+          ∙ (ap (λ o. then_outcome o (λ known r. comes known (branches_after (asks mid c) r n.split))) leads.outcome
+          ∙ ap (comes (trees_of new.nodes)) (sym (after-Extends more c (task-Extends grown c ci) (path_of (map (tree new) after) p) n.split (SplitIn-Extends grown n.split split))))
 
       agrees : take b.mark after ≡ take b.mark before
       agrees = sym (take-take b.mark (length facts) after begun.longer) ∙ (ap (take b.mark) leads.before_is ∙ begun.before_is)
@@ -235,8 +236,8 @@ last-waits a n (x ∷ xs) b h =
 -- ---- how far the check of nodes has come
 
 -- there is no memory for the first path
-pub nothing-ends : (old : Arena) (c : Condition) (nodes : List ProofNode) → EndsAs old Memory (outcomes.outcome old.most (question old c) (trees_of old.nodes) nodes)
-nothing-ends old c nodes = ends-told old Memory (outcomes.outcome old.most (question old c) (trees_of old.nodes) nodes) tt tt (λ m. nodes-first old.most (question old c) nodes (trees_of old.nodes) (outcomes.root ∷ []))
+pub nothing-ends : (old : Arena) (c : Task) (nodes : List ProofNode) → EndsAs old Memory (outcomes.outcome old.most (asks old c) (trees_of old.nodes) nodes)
+nothing-ends old c nodes = ends-told old Memory (outcomes.outcome old.most (asks old c) (trees_of old.nodes) nodes) tt tt (λ m. nodes-first old.most (asks old c) nodes (trees_of old.nodes) (outcomes.root ∷ []))
 
 pub next-node : (nodes : List ProofNode) (i : ℕ) (n : ProofNode) → i < length nodes → n ≡ get_or nodes i n → drop i nodes ≡ n ∷ drop (i + 1) nodes
 next-node nodes i n h e = at_drop_more (λ (r : List ProofNode). r) nodes i n h ∙ ap (λ t. t ∷ drop (i + 1) nodes) (sym e)
@@ -247,38 +248,38 @@ drop_past [] (suc i) h = refl
 drop_past (n ∷ nodes) zero h = absurd (omega arith)
 drop_past (n ∷ nodes) (suc i) h = drop_past nodes i (omega arith)
 
-pub record Checking (old : Arena) (c : Condition) (nodes : List ProofNode) (now : Arena) (facts : List TermId) (pending : List Branch) (rest : List ProofNode) : Type 0 where
+pub record Checking (old : Arena) (c : Task) (nodes : List ProofNode) (now : Arena) (facts : List TermId) (pending : List Branch) (rest : List ProofNode) : Type 0 where
   pub grows : Extends old now
   pub facts_in : AllBelow (length now.nodes) facts
   pub pending_in : IsPending now (length facts) pending
   pub rest_in : NodesIn old rest
-  pub same : nodes_outcome old.most (question old c) (trees_of now.nodes) (stacked now facts pending) rest ≡ outcomes.outcome old.most (question old c) (trees_of old.nodes) nodes
+  pub same : nodes_outcome old.most (asks old c) (trees_of now.nodes) (stacked now facts pending) rest ≡ outcomes.outcome old.most (asks old c) (trees_of old.nodes) nodes
 
-pub checking-start : (old : Arena) (c : Condition) (nodes : List ProofNode) (b : Branch) (pending : List Branch) → pending ≡ b ∷ [] → b.mark ≡ 0 → b.opens ≡ None → NodesIn old nodes → Checking old c nodes old [] pending nodes
+pub checking-start : (old : Arena) (c : Task) (nodes : List ProofNode) (b : Branch) (pending : List Branch) → pending ≡ b ∷ [] → b.mark ≡ 0 → b.opens ≡ None → NodesIn old nodes → Checking old c nodes old [] pending nodes
 checking-start old c nodes b pending e m o h = record {
   grows = Extends-refl old;
   facts_in = tt;
   pending_in = subst (IsPending old 0) (sym e) (omega (arith, m), subst (OpensIn old) (sym o) tt, tt, tt);
   rest_in = h;
-  same = ap (λ bs. nodes_outcome old.most (question old c) (trees_of old.nodes) bs nodes) (ap (stacked old []) e ∙ (λ i. record { before = map (tree old) (take (m i) []); opens = option_map (fact_of old) (o i) } ∷ []));
+  same = ap (λ bs. nodes_outcome old.most (asks old c) (trees_of old.nodes) bs nodes) (ap (stacked old []) e ∙ (λ i. record { before = map (tree old) (take (m i) []); opens = option_map (fact_of old) (o i) } ∷ []));
 }
 
-module _ {old : Arena} {c : Condition} {nodes : List ProofNode} {now : Arena} {facts : List TermId} {pending : List Branch} {rest : List ProofNode} (g : Checking old c nodes now facts pending rest) (ci : ConditionIn old c) where
+module _ {old : Arena} {c : Task} {nodes : List ProofNode} {now : Arena} {facts : List TermId} {pending : List Branch} {rest : List ProofNode} (g : Checking old c nodes now facts pending rest) (ci : TaskIn old c) where
   abbrev expected : Outcome Bool
-  expected = outcomes.outcome old.most (question old c) (trees_of old.nodes) nodes
+  expected = outcomes.outcome old.most (asks old c) (trees_of old.nodes) nodes
 
   -- no node is left
   pub checking-end : rest ≡ [] → (b : Bool) → b ≡ nat_eq (length pending) 0 → expected ≡ comes_in now b
-  checking-end e b h = sym g.same ∙ (ap (nodes_outcome old.most (question old c) (trees_of now.nodes) (stacked now facts pending)) e ∙ (by pending ∙ ap (comes_in now) (sym h)))
+  checking-end e b h = sym g.same ∙ (ap (nodes_outcome old.most (asks old c) (trees_of now.nodes) (stacked now facts pending)) e ∙ (by pending ∙ ap (comes_in now) (sym h)))
     where
-      cons-after : (xs : List outcomes.Branch) (x : outcomes.Branch) → nodes_outcome old.most (question old c) (trees_of now.nodes) (xs ++ x ∷ []) [] ≡ comes_in now false
+      cons-after : (xs : List outcomes.Branch) (x : outcomes.Branch) → nodes_outcome old.most (asks old c) (trees_of now.nodes) (xs ++ x ∷ []) [] ≡ comes_in now false
       cons-after [] x = refl
       cons-after (y ∷ xs) x = refl
 
       none : (n : ℕ) → nat_eq (suc n) 0 ≡ false
       none n = grind (arith, nat_tests)
 
-      by : (bs : List Branch) → nodes_outcome old.most (question old c) (trees_of now.nodes) (stacked now facts bs) [] ≡ comes_in now (nat_eq (length bs) 0)
+      by : (bs : List Branch) → nodes_outcome old.most (asks old c) (trees_of now.nodes) (stacked now facts bs) [] ≡ comes_in now (nat_eq (length bs) 0)
       by [] = refl
       by (x ∷ bs) = cons-after (stacked now facts bs) (branch_in now facts x) ∙ ap (comes_in now) (sym (none (length bs)))
 
@@ -288,7 +289,7 @@ module _ {old : Arena} {c : Condition} {nodes : List ProofNode} {now : Arena} {f
 
     -- no path waits
     pub checking-none : pending ≡ [] → expected ≡ comes_in now false
-    checking-none e = sym g.same ∙ (λ i. nodes_outcome old.most (question old c) (trees_of now.nodes) (stacked now facts (e i)) (next i))
+    checking-none e = sym g.same ∙ (λ i. nodes_outcome old.most (asks old c) (trees_of now.nodes) (stacked now facts (e i)) (next i))
 
     pub checking-steps : StepsIn now n.steps
     checking-steps = StepsIn-Extends g.grows n.steps in_old.0
@@ -298,16 +299,16 @@ module _ {old : Arena} {c : Condition} {nodes : List ProofNode} {now : Arena} {f
 
     module _ (waiting : List Branch) (b : Branch) (popped : pending ≡ waiting ++ b ∷ []) where
       abbrev node_now : Outcome (Option (List outcomes.Branch))
-      node_now = node_outcome now.most (question now c) (trees_of now.nodes) (branch_in now facts b) n
+      node_now = node_outcome now.most (asks now c) (trees_of now.nodes) (branch_in now facts b) n
 
       abbrev go_on : List Term → Option (List outcomes.Branch) → Outcome Bool
-      go_on more left = on_branches more left (λ new. nodes_outcome old.most (question old c) more (new ++ stacked now facts waiting) others)
+      go_on more left = on_branches more left (λ new. nodes_outcome old.most (asks old c) more (new ++ stacked now facts waiting) others)
 
       node-decides : then_outcome node_now go_on ≡ expected
       node-decides =
           ap (λ o. then_outcome o go_on) (node-Extends g.grows c ci n in_old.0 in_old.1 (trees_of now.nodes) (branch_in now facts b))
-          ∙ (ap (λ bs. nodes_outcome old.most (question old c) (trees_of now.nodes) bs (n ∷ others)) (sym (ap (stacked now facts) popped ∙ stacked-last now facts waiting b))
-          ∙ (ap (nodes_outcome old.most (question old c) (trees_of now.nodes) (stacked now facts pending)) (sym next) ∙ g.same))
+          ∙ (ap (λ bs. nodes_outcome old.most (asks old c) (trees_of now.nodes) bs (n ∷ others)) (sym (ap (stacked now facts) popped ∙ stacked-last now facts waiting b))
+          ∙ (ap (nodes_outcome old.most (asks old c) (trees_of now.nodes) (stacked now facts pending)) (sym next) ∙ g.same))
 
       pub checking-waits : (b.mark ≤ length facts) × BranchIn now b × IsPending now b.mark waiting
       checking-waits = last-waits now (length facts) waiting b (subst (IsPending now (length facts)) popped g.pending_in)
@@ -316,7 +317,7 @@ module _ {old : Arena} {c : Condition} {nodes : List ProofNode} {now : Arena} {f
       checking-ends new e h =
           subst (EndsAs new e) node-decides
           (ends-then new e node_now go_on h
-          (then-later old.most (question old c) node_now go_on (λ more left. branches-go old.most (question old c) more left (λ new. nodes_outcome old.most (question old c) more (new ++ stacked now facts waiting) others) (λ new. nodes-first old.most (question old c) others more (new ++ stacked now facts waiting)))))
+          (then-later old.most (asks old c) node_now go_on (λ more left. branches-go old.most (asks old c) more left (λ new. nodes_outcome old.most (asks old c) more (new ++ stacked now facts waiting) others) (λ new. nodes-first old.most (asks old c) others more (new ++ stacked now facts waiting)))))
 
       module _ (new : Arena) (grows : Extends now new) (after : List TermId) (left : List Branch) where
         abbrev Done : Bool → Type 0
@@ -338,12 +339,12 @@ module _ {old : Arena} {c : Condition} {nodes : List ProofNode} {now : Arena} {f
               facts_in = k.in_range;
               pending_in = k.leaves.pending;
               rest_in = in_old.2;
-              same = ap (λ bs. nodes_outcome old.most (question old c) (trees_of new.nodes) bs others) (paths.2 ∙ ap (λ bs. paths.0 ++ bs) k.waits)
+              same = ap (λ bs. nodes_outcome old.most (asks old c) (trees_of new.nodes) bs others) (paths.2 ∙ ap (λ bs. paths.0 ++ bs) k.waits)
                   ∙ (ap (go_on (trees_of new.nodes)) (sym paths.1) ∙ node-leads true k);
             }
 
 -- an answer is whether the proof is accepted
-pub if_accepted : (a new : Arena) (c : Condition) (all nodes : List ProofNode) → all ≡ nodes → (r : Result Bool CheckStop)
-    → IfOk r (λ b. outcomes.outcome a.most (question a c) (trees_of a.nodes) all ≡ comes_in new b) → IfOk r (λ b. b ≡ accepted.accepts (question a c) nodes)
-if_accepted a new c all nodes e (Ok b) h = sym (outcome-accepts a.most (question a c) (trees_of a.nodes) nodes b (ap (λ o. o.ending) (ap (outcomes.outcome a.most (question a c) (trees_of a.nodes)) (sym e) ∙ h)))
-if_accepted a new c all nodes e (Err x) h = tt
+pub if_accepted : (a new : Arena) (q : Question) (all nodes : List ProofNode) → all ≡ nodes → (r : Result Bool CheckStop)
+    → IfOk r (λ b. outcomes.outcome a.most q (trees_of a.nodes) all ≡ comes_in new b) → IfOk r (λ b. b ≡ accepted.accepts q nodes)
+if_accepted a new q all nodes e (Ok b) h = sym (outcome-accepts a.most q (trees_of a.nodes) nodes b (ap (λ o. o.ending) (ap (outcomes.outcome a.most q (trees_of a.nodes)) (sym e) ∙ h)))
+if_accepted a new q all nodes e (Err x) h = tt

@@ -3,7 +3,7 @@ use Rattle.std.proofs.Common.{refl}
 use Rattle.spv_term.specs.Arena.{Arena, tree}
 use Rattle.spv_proof.specs.declared.schema_facts.facts.SchemaFact.{SchemaFact}
 use Rattle.spv_proof.specs.declared.schema_facts.facts.SchemaFact.TheVariants.{SamePlace, OtherPlace, MembersStay, MembersExtended, NilIsNoMember, PartIs, SamePart, NoAtom, PairOfParts, Dividend, RemainderAbove, RemainderBelow, QuotientIs, RemainderIs}
-use Rattle.spv_proof.specs.schema_facts.Pieces.{IsSketch}
+use Rattle.spv_rules.specs.making.Pieces.{IsSketch}
 use Rattle.spv_proof.specs.schema_facts.Facts.{said, FactIn}
 use Rattle.spv_proof.specs.schema_facts.Sketches.{sketch}
 

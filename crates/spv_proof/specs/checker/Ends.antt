@@ -7,8 +7,7 @@ use Rattle.spv_term.specs.declared.nodes.Condition.{Condition}
 use Rattle.spv_term.specs.Arena.{Arena, tree, trees_of}
 use Rattle.spv_atoms.specs.declared.proofs.Step.{Step}
 use Rattle.spv_atoms.specs.declared.proofs.Step.TheVariants as step
-use Rattle.spv_proof_rules.specs.Effects.{schema_stated}
-use Rattle.spv_proof_rules.specs.Stand.{question}
+use Rattle.spv_proof_rules.specs.Effects.{Question, schema_stated, rule_stated}
 use Rattle.spv_proof_rules.specs.Stops.{WideSum, WideForm, TooMany, Halt, terms_of}
 use Rattle.spv_proof_rules.specs.Outcomes.{IsFirst, Trial, Halts, Outcome, comes, stops}
 use Rattle.spv_proof_steps.specs.Candidates.{IsBool, AllFormulas}
@@ -52,10 +51,17 @@ IsMadeStop a (Form t) r = ⊥
 IsMadeStop a Size r = r ≡ Err (trees_of a.nodes)
 IsMadeStop a Memory r = IsFirst (trees_of a.nodes) (terms_of r)
 
--- a term is the fact of a schema that a step adds; none where it does not follow, and of another step nothing is said
-abbrev pub IsMade : Arena → Condition → Step → Option TermId → Type 0
-IsMade a c (step.Schema kind ts field) made = IfSome made (λ t. t.0 < length a.nodes) × (option_map (tree a) made ≡ schema_stated (question a c) kind ts field)
-IsMade a c _ made = Unit {0}
+-- what a step adds that need not stand in the arena: the fact of a schema, or an instance of a rule; none where it does not follow, and of
+-- another step nothing is said
+abbrev pub IsStated : Question → Step → Option Term → Type 0
+IsStated q (step.Schema number ts field) o = o ≡ schema_stated q number ts field
+IsStated q (step.Rule number ts) o = o ≡ rule_stated q number ts
+IsStated q _ o = Unit {0}
+
+-- a term of the arena is what such a step adds
+pub record IsMade (a : Arena) (q : Question) (s : Step) (made : Option TermId) : Type 0 where
+  pub there : IfSome made (λ t. t.0 < length a.nodes)
+  pub stated : IsStated q s (option_map (tree a) made)
 
 -- what comes, over the terms of an arena
 abbrev pub comes_in : {T : Type 0} → Arena → T → Outcome T

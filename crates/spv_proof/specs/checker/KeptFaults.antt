@@ -1,17 +1,10 @@
 -- Facts that are put into the arena.
 use Rattle.std.specs.Prelude.{◌≡◌, List, Option, None}
 use Rattle.spv_logic.specs.Terms.{Term}
-use Rattle.spv_term.specs.declared.nodes.TermFault.{TermFault}
-use Rattle.spv_term.specs.declared.nodes.TermFault.TheVariants as fault
 use Rattle.spv_proof.specs.declared.checker.stops.CheckStop.{CheckStop}
 use Rattle.spv_proof.specs.declared.checker.stops.CheckStop.TheVariants as stop
 
--- there are too many terms exactly where a term cannot be kept; of memory nothing is said
-abbrev pub IsKeptFault : TermFault → Option (List Term) → Type 0
-IsKeptFault fault.Size o = o ≡ None
-IsKeptFault fault.Memory o = Unit {0}
-
--- the same of a fact that could not be added
+-- there are too many terms exactly where a fact cannot be added; of memory nothing is said
 abbrev pub IsAddFault : CheckStop → Option (List Term) → Type 0
 IsAddFault (stop.Wide op x y) o = ⊥
 IsAddFault (stop.Form t) o = ⊥

@@ -2,18 +2,18 @@
 use Rattle.std.specs.Prelude.{◌≡◌, ◌≤◌, ℕ, Bool, true, false, List, [], ◌∷◌, ◌++◌, map, length, take, Option, Some, None}
 use Rattle.std.specs.Option.{option_map}
 use Rattle.spv_logic.specs.declared.conditions.TermId.{TermId}
-use Rattle.spv_term.specs.declared.nodes.Condition.{Condition}
 use Rattle.spv_term.specs.Arena.{Arena, AllBelow, tree, trees_of}
 use Rattle.spv_atoms.specs.declared.proofs.ProofNode.{ProofNode}
 use Rattle.spv_proof_rules.specs.Outcomes as outcomes
-use Rattle.spv_proof_rules.specs.Stand.{question}
 use Rattle.spv_proof_steps.specs.declared.facts.Fact.{Fact}
 use Rattle.spv_proof_steps.specs.declared.facts.Fact.TheVariants.{Known, Negation, Equation, Below}
 use Rattle.spv_proof_steps.specs.Steps.{fact_of, FactStands}
 use Rattle.spv_proof.specs.declared.checker.casing.Cases.{Cases}
 use Rattle.spv_proof.specs.declared.checker.casing.Cases.TheVariants.{Two, Three}
 use Rattle.spv_proof.specs.declared.checker.branches.Branch.{Branch}
+use Rattle.spv_proof.specs.declared.checker.tasks.Task.{Task}
 use Rattle.spv_proof.specs.checker.Ends.{comes_in}
+use Rattle.spv_proof.specs.checker.Tasks.{asks}
 
 -- ---- cases
 
@@ -79,10 +79,10 @@ pub record Leaves (a : Arena) (facts : List TermId) (waiting left : List Branch)
   pub pending : IsPending a (length facts) left
 
 -- a node is checked: what it comes to, and the paths that are left with the facts then
-pub record Checked (old : Arena) (c : Condition) (before : List TermId) (waiting : List Branch) (b : Branch) (n : ProofNode)
+pub record Checked (old : Arena) (k : Task) (before : List TermId) (waiting : List Branch) (b : Branch) (n : ProofNode)
     (new : Arena) (facts : List TermId) (left : List Branch) (closes : Bool) : Type 0 where
   pub opened : Option (List outcomes.Branch)
-  pub outcome : outcomes.node_outcome old.most (question old c) (trees_of old.nodes) (branch_in old before b) n ≡ comes_in new opened
+  pub outcome : outcomes.node_outcome old.most (asks old k) (trees_of old.nodes) (branch_in old before b) n ≡ comes_in new opened
   pub leaves : Leaves new facts waiting left closes opened
   pub waits : stacked new facts waiting ≡ stacked old before waiting
   pub in_range : AllBelow (length new.nodes) facts

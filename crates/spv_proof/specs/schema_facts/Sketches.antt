@@ -4,8 +4,8 @@ use Rattle.spv_logic.specs.declared.conditions.TermId.{TermId}
 use Rattle.spv_logic.specs.declared.types.TypeId.{TypeId}
 use Rattle.spv_logic.specs.declared.operators.Head.{Head}
 use Rattle.spv_logic.specs.declared.operators.Head.TheVariants.{Num, Add, Mul, Div, Mod, Eq, Le, Not, And, Or, Implies, PointerTo, Car, Cdr, Cons, Atom, Nil}
-use Rattle.spv_proof.specs.declared.schema_facts.pieces.Piece.{Piece}
-use Rattle.spv_proof.specs.declared.schema_facts.pieces.Piece.TheVariants.{Known, Over}
+use Rattle.spv_rules.specs.declared.making.pieces.Piece.{Piece}
+use Rattle.spv_rules.specs.declared.making.pieces.Piece.TheVariants.{Known, Over}
 use Rattle.spv_proof.specs.declared.schema_facts.facts.Change.{Change}
 use Rattle.spv_proof.specs.declared.schema_facts.facts.Division.{Division}
 use Rattle.spv_proof.specs.declared.schema_facts.facts.NumeralDivision.{NumeralDivision}

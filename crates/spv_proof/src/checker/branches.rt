@@ -2,9 +2,7 @@
 
 ghost use Rattle.std.specs.Prelude.{◌≡◌, ◌<◌, ◌≤◌, ◌++◌, [], ◌∷◌, length, Some, None, IfOk, OnOk, IfErr};
 ghost use Rattle.spv_term.specs.Arena.{Extends, AllBelow, tree, trees_of, IsArena};
-ghost use Rattle.spv_term.specs.declared.nodes.Condition.{Condition};
 ghost use Rattle.spv_proof_rules.specs.Outcomes as outcomes;
-ghost use Rattle.spv_proof_rules.specs.Stand.{question, SplitIn};
 ghost use Rattle.spv_proof_steps.specs.Candidates.{IsBool};
 ghost use Rattle.spv_proof.specs.checker.Ends.{EndsAs};
 ghost use Rattle.spv_proof.specs.checker.Stacks.{facts_in, pushed_cases, BranchIn, branch_in, Begun};

@@ -4,7 +4,8 @@ ghost use Rattle.std.specs.Prelude.{◌≡◌, ◌<◌, ◌++◌, [], ◌∷◌,
 ghost use Rattle.spv_term.specs.Arena.{Arena, Extends, AllBelow, tree, trees_of, IsArena};
 ghost use Rattle.spv_proof_rules.specs.Stops.{kept};
 ghost use Rattle.spv_proof_steps.specs.Steps.{fact_of, FactStands};
-ghost use Rattle.spv_proof.specs.checker.KeptFaults.{IsKeptFault, IsAddFault};
+ghost use Rattle.spv_rules.specs.making.KeptFaults.{IsKeptFault};
+ghost use Rattle.spv_proof.specs.checker.KeptFaults.{IsAddFault};
 
 use crate::checker::stops::CheckStop;
 use spv_proof_steps::Fact;

@@ -4,27 +4,29 @@ ghost use Rattle.std.specs.Prelude.{◌≡◌, ◌<◌, List, map, length, Ok, I
 ghost use Rattle.std.specs.Option.{option_map};
 ghost use Rattle.spv_logic.specs.Terms.{Term};
 ghost use Rattle.spv_atoms.specs.declared.proofs.Step.{Step};
-ghost use Rattle.spv_term.specs.declared.nodes.Condition.{Condition};
 ghost use Rattle.spv_term.specs.Arena.{Arena, Extends, AllBelow, tree, trees_of, IsArena};
-ghost use Rattle.spv_proof_rules.specs.Stand.{question, StepIn, StepsIn};
+ghost use Rattle.spv_proof_rules.specs.Stand.{StepIn, StepsIn};
 ghost use Rattle.spv_proof_rules.specs.Accepted.{closed_if_last};
 ghost use Rattle.spv_proof_rules.specs.Outcomes as outcomes;
 ghost use Rattle.spv_proof_rules.specs.Outcomes.{Does, made_by};
 ghost use Rattle.spv_proof_rules.specs.Effects.{adds_known};
 ghost use Rattle.spv_proof_rules.specs.Stops.{all_kept};
 ghost use Rattle.spv_proof_steps.specs.Steps.{effect_of, MayAdd};
-ghost use Rattle.spv_proof.specs.checker.Ends.{ConditionIn, IsMade, IsMadeStop, IsTrialStop, EndsAs};
+ghost use Rattle.spv_proof.specs.checker.Ends.{IsMade, IsMadeStop, IsTrialStop, EndsAs};
+ghost use Rattle.spv_proof.specs.checker.Tasks.{TaskIn, asks};
 ghost use Rattle.spv_proof.specs.checker.Walks.{no_steps, path_of, steps_in, Leads};
 
 use crate::checker::keeping::add;
 use crate::checker::linear::linear;
 use crate::checker::stops::CheckStop;
+use crate::checker::tasks::Task;
 use crate::schema_facts::{fact, kind_of};
 use spv_atoms::Step;
 use spv_proof_steps::{
     Effect, Fact, congruent, end_of, evaluated, exchanged, given_effect, joined,
 };
-use spv_term::{Condition, TermId, Terms};
+use spv_rules::instance;
+use spv_term::{TermId, Terms};
 use std::alloc::Global;
 
 /// Where the steps of a node lead.
@@ -38,13 +40,19 @@ pub enum Path {
     Broken,
 }
 
-// The fact of a schema that a step adds, which is made behind its subterms; no other step makes a term beforehand, since there are no rules.
-#[tactic(auto, using(crate::proofs::checker::NoRules::none_made))]
-fn made(alloc: Global, terms: &mut Terms, step: &Step) -> Result<Option<TermId>, CheckStop>
-    requires { StepIn terms.old step.now }
-    ensures fact { IfOk result (λ fact. (c : Condition) → IsMade terms.new c step.now fact) }
-    ensures all { OnOk result ((c : Condition) → all_kept terms.old.most (trees_of terms.old.nodes) (made_by (question terms.old c) step.now) ≡ Ok (trees_of terms.new.nodes)) }
-    ensures stop { IfErr result (λ e. (c : Condition) → IsMadeStop terms.new e (all_kept terms.old.most (trees_of terms.old.nodes) (made_by (question terms.old c) step.now))) }
+// What a step adds that need not stand in the arena, made behind its subterms: the fact of a schema, or an instance of a rule.
+#[tactic(auto, using(crate::proofs::checker::Made::none_made))]
+fn made(
+    alloc: Global,
+    terms: &mut Terms,
+    task: &Task<'_>,
+    step: &Step,
+) -> Result<Option<TermId>, CheckStop>
+    requires task { TaskIn terms.old task.now }
+    requires step { StepIn terms.old step.now }
+    ensures fact { IfOk result (IsMade terms.new (asks terms.new task.now) step.now) }
+    ensures all { OnOk result (all_kept terms.old.most (trees_of terms.old.nodes) (made_by (asks terms.old task.now) step.now) ≡ Ok (trees_of terms.new.nodes)) }
+    ensures stop { IfErr result (λ e. IsMadeStop terms.new e (all_kept terms.old.most (trees_of terms.old.nodes) (made_by (asks terms.old task.now) step.now))) }
     ensures grows { Extends terms.old terms.new }
 {
     match step {
@@ -52,34 +60,38 @@ fn made(alloc: Global, terms: &mut Terms, step: &Step) -> Result<Option<TermId>,
             Some(kind) => Ok(fact(alloc, terms, kind, ts.as_slice(), *field)?),
             None => Ok(None),
         },
+        Step::Rule(number, ts) => match task.rules {
+            Some(rules) => Ok(instance(alloc, terms, rules, *number, ts.as_slice())?),
+            None => Ok(None),
+        },
         _ => Ok(None),
     }
 }
 
-// What a step does after these facts, or why the check ends there. There are no rules here, so of a rule nothing follows.
-#[tactic(auto, using(crate::proofs::checker::NoRules::none_numbered))]
+// What a step does after these facts, or why the check ends there.
+#[tactic(auto, using(crate::proofs::checker::UnderRules::stated_under))]
 fn trial(
     alloc: Global,
     terms: &mut Terms,
-    condition: &Condition,
+    task: &Task<'_>,
     facts: &[TermId],
     step: &Step,
     made: Option<TermId>,
 ) -> Result<Effect, CheckStop>
-    requires condition { ConditionIn terms.old condition.now }
+    requires task { TaskIn terms.old task.now }
     requires facts { AllBelow (length terms.old.nodes) facts.now }
     requires step { StepIn terms.old step.now }
-    requires made { IsMade terms.old condition.now step.now made }
-    ensures value { IfOk result (λ e. outcomes.trial terms.old.most (question terms.old condition.now)
+    requires made { IsMade terms.old (asks terms.old task.now) step.now made }
+    ensures value { IfOk result (λ e. outcomes.trial terms.old.most (asks terms.old task.now)
         (trees_of terms.old.nodes) (map (tree terms.old) facts.now) step.now ≡ Does (effect_of terms.old e)) }
     ensures may { IfOk result (MayAdd terms.old) }
     ensures same { OnOk result (terms.new ≡ terms.old) }
     ensures stop { IfErr result (λ e. IsTrialStop terms.old terms.new e
-        (outcomes.trial terms.old.most (question terms.old condition.now) (trees_of terms.old.nodes) (map (tree terms.old) facts.now) step.now)) }
+        (outcomes.trial terms.old.most (asks terms.old task.now) (trees_of terms.old.nodes) (map (tree terms.old) facts.now) step.now)) }
     ensures grows { Extends terms.old terms.new }
 {
     match step {
-        Step::Given(number) => Ok(given_effect(terms, condition, *number)),
+        Step::Given(number) => Ok(given_effect(terms, task.condition, *number)),
         Step::Refl(t) => Ok(Effect::Adds(Fact::Equation(*t, *t))),
         Step::Symm(number) => Ok(exchanged(terms, facts, *number)),
         Step::Trans(first, second) => Ok(joined(terms, facts, *first, *second)),
@@ -103,7 +115,7 @@ fn trial(
         )?),
         Step::Contra(first, second) => Ok(end_of(terms, facts, *first, *second)),
         Step::Schema(_, _, _) => Ok(known(made)),
-        Step::Rule(_, _) => Ok(Effect::Fails),
+        Step::Rule(_, _) => Ok(known(made)),
     }
 }
 
@@ -129,20 +141,20 @@ fn ended(last: bool) -> Path
 pub(crate) fn walk(
     alloc: Global,
     terms: &mut Terms,
-    condition: &Condition,
+    task: &Task<'_>,
     facts: &mut Vec<TermId>,
     steps: &[Step],
 ) -> Result<Path, CheckStop>
-    requires condition { ConditionIn terms.old condition.now }
+    requires task { TaskIn terms.old task.now }
     requires facts { AllBelow (length terms.old.nodes) facts.old.items }
     requires steps { StepsIn terms.old steps.now }
-    ensures leads { IfOk result (Leads terms.old condition.now facts.old.items steps.now terms.new facts.new.items) }
-    ensures stop { IfErr result (λ e. EndsAs terms.new e (steps_in terms.old condition.now facts.old.items steps.now)) }
+    ensures leads { IfOk result (Leads terms.old task.now facts.old.items steps.now terms.new facts.new.items) }
+    ensures stop { IfErr result (λ e. EndsAs terms.new e (steps_in terms.old task.now facts.old.items steps.now)) }
     ensures grows { Extends terms.old terms.new }
 {
     for (place, step) in steps.iter().enumerate() {
-        let made = made(alloc, terms, step)?;
-        match trial(alloc, terms, condition, facts.as_slice(), step, made)? {
+        let made = made(alloc, terms, task, step)?;
+        match trial(alloc, terms, task, facts.as_slice(), step, made)? {
             Effect::Adds(fact) => add(terms, facts, fact)?,
             Effect::Ends => return Ok(ended(place + 1 == steps.len())),
             Effect::Fails => return Ok(Path::Broken),

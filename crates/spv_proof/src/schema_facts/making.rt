@@ -8,13 +8,13 @@ ghost use Rattle.spv_schemas.specs.Laws.{FactsAreFormulas, FactsAreWhereSortsFit
 ghost use Rattle.spv_term.specs.Arena.{AllBelow, Extends, tree, trees_of};
 ghost use Rattle.spv_proof_rules.specs.Stops.{all_kept, layers, layers_if};
 ghost use Rattle.spv_proof.specs.schema_facts.Facts.{said, FactIn};
-ghost use Rattle.spv_proof.specs.schema_facts.Pieces.{IsMadeFault};
+ghost use Rattle.spv_rules.specs.making.Pieces.{IsMadeFault};
 
-use crate::schema_facts::building::build;
 use crate::schema_facts::facts::SchemaFact;
 use crate::schema_facts::kinds::of_kind;
 use crate::schema_facts::sketches::sketch;
 use spv_logic::names::Symbol;
+use spv_rules::making::build;
 use spv_schemas::SchemaKind;
 use spv_schemas::laws::{law_schema, law_sorts_that_fit};
 use spv_term::{TermFault, TermId, Terms};

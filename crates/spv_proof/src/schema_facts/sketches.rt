@@ -4,9 +4,9 @@ ghost use Rattle.std.specs.Prelude.{◌≡◌, IfOk};
 ghost use Rattle.spv_proof.specs.schema_facts.Sketches as spec;
 
 use crate::schema_facts::facts::{Change, Division, NumeralDivision, SchemaFact};
-use crate::schema_facts::pieces::Piece;
-use crate::schema_facts::pieces::Piece::{Known, Over};
 use spv_logic::{Head, TypeId};
+use spv_rules::making::Piece;
+use spv_rules::making::Piece::{Known, Over};
 use spv_term::TermId;
 use std::alloc::{AllocError, Global};
 

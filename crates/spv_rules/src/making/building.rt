@@ -93,7 +93,7 @@ fn put(terms: &mut Terms, piece: Piece, stack: &mut Vec<TermId>) -> Result<(), T
 }
 
 /// The term whose pieces these are, made behind its subterms. `Size` comes at the first of these that is new and has no room.
-pub(crate) fn build(alloc: Global, terms: &mut Terms, pieces: &[Piece]) -> Result<TermId, TermFault>
+pub fn build(alloc: Global, terms: &mut Terms, pieces: &[Piece]) -> Result<TermId, TermFault>
     requires { HaveTerm terms.old pieces.now }
     ensures tree { IfOk result (λ u. (t : Term) → ArePieces terms.old pieces.now t → tree terms.new u ≡ t) }
     ensures in_range { IfOk result (λ u. u.0 < length terms.new.nodes) }

@@ -1,7 +1,8 @@
 use Rattle.std.proofs.Common.{◌∷◌, [], ap}
 use Rattle.spv_logic.specs.declared.operators.Head.TheVariants as head
 use Rattle.spv_proof_steps.specs.Steps.{fact_of}
-use Rattle.spv_proof.proofs.checker.Kept.{fact_known, negation_below, equation_below, below_below, at_most_below, kept_ok, kept_err}
+use Rattle.spv_rules.proofs.making.Kept.{kept_ok, kept_err}
+use Rattle.spv_proof.proofs.checker.Kept.{fact_known, negation_below, equation_below, below_below, at_most_below}
 use Rattle.spv_proof.proofs.checker.keeping.make.Goals as goal
 
 pub returns-in-Known-clause-kept : goal.returns-in-Known-clause-kept

@@ -4,8 +4,8 @@ use Rattle.spv_term.specs.Arena.{tree, trees_of}
 use Rattle.spv_proof_rules.specs.Stops.{all_kept, layers}
 use Rattle.spv_proof_rules.proofs.Growing.{all-kept-first}
 use Rattle.spv_proof.specs.schema_facts.Facts.{said}
-use Rattle.spv_proof.specs.schema_facts.Pieces.{IsMadeFault}
-use Rattle.spv_proof.proofs.schema_facts.Applying.{handed}
+use Rattle.spv_rules.specs.making.Pieces.{IsMadeFault}
+use Rattle.spv_rules.proofs.making.Applying.{handed}
 use Rattle.spv_proof.proofs.schema_facts.making.made.Goals as goal
 
 pub returns-in_err-pieces-clause-fault : goal.returns-in_err-pieces-clause-fault
