@@ -1,0 +1,167 @@
+-- What the recheck of a condition comes to, of which a listing was handed in.
+use Rattle.std.specs.Prelude.{◌≡◌, ℕ, Bool, true, false, ◌&&◌, List, [], ◌∷◌, map, length, Option, Some, None, nat_eq, nat_lt, if◌then◌else◌}
+use Rattle.std.specs.List.{list_all, flat_map, filter}
+use Rattle.std.specs.Option.{unwrap_or}
+use Rattle.std.specs.Str.{bytes_eq}
+use Rattle.spv_logic.specs.declared.names.names.Symbol.{Symbol}
+use Rattle.spv_logic.specs.declared.conditions.Kind.{Kind}
+use Rattle.spv_logic.specs.declared.conditions.Kind.TheVariants as kind
+use Rattle.spv_logic.specs.declared.types.Shape.{Shape}
+use Rattle.spv_logic.specs.declared.types.Decl.{Decl}
+use Rattle.spv_logic.specs.declared.operators.Head.{Head}
+use Rattle.spv_logic.specs.declared.operators.Head.TheVariants.{Var, ClassVar, Start, True}
+use Rattle.spv_logic.specs.Terms.{Term, term, no_terms, term_eq}
+use Rattle.spv_logic.specs.Conditions.{Sequent}
+use Rattle.spv_term.specs.declared.nodes.Condition.{Condition}
+use Rattle.spv_term.specs.Arena.{Arena, sequent, tree_in}
+use Rattle.spv_atoms.specs.declared.proofs.ProofNode as own
+use Rattle.spv_atoms.specs.Atoms.{with_terms}
+use Rattle.spv_proof_rules.specs.Rules.{Rule}
+use Rattle.spv_proof_rules.specs.Effects.{Question}
+use Rattle.spv_proof_rules.specs.Stops as stop
+use Rattle.spv_proof_rules.specs.Stops.{layers}
+use Rattle.spv_proof_rules.specs.Outcomes.{Ending, Comes, Stops, outcome}
+use Rattle.spv_search_terms.specs.condition_copy.Copies.{all_terms, IsSameClaim}
+use Rattle.spv_verdicts.specs.Verdicts.{Verdict, Proved, GaveUp, NotAccepted, WideForm, WideSum, TooManyTerms}
+use Rattle.spv_verdicts.specs.declared.answers.verdicts.Decided.{Decided}
+use Rattle.spv_verdicts.specs.answers.Views.{VerdictIn, verdict_in}
+use Rattle.spv_listing_values.specs.declared.data.Header.{Header}
+use Rattle.spv_listing_values.specs.declared.data.ProofNode.{ProofNode}
+use Rattle.spv_listing_values.specs.declared.data.Verdict as said
+use Rattle.spv_listing_values.specs.declared.data.Verdict.TheVariants as says
+use Rattle.spv_listing_values.specs.declared.data.Claim.{Claim}
+use Rattle.spv_listing_values.specs.Written.{Written}
+use Rattle.spv_listing_values.specs.Mapped.{node_at, claim_terms}
+use Rattle.spv_written_terms.specs.Standing.{Vocabulary, term_for, stands}
+use Rattle.spv_rechecking.specs.Listed.{listed_nodes}
+
+-- what a recheck is about beside the condition: the names and the first names of types by which terms are read, the rules, and how many
+-- terms there may be
+pub record Recheck : Type 0 where
+  pub names : List (List ℕ)
+  pub titles : List (Option Symbol)
+  pub rules : List Rule
+  pub most : ℕ
+
+-- ---- what words may name
+
+abbrev pub is_leaf : Head → Bool
+is_leaf (Var x s n) = true
+is_leaf (ClassVar t n) = true
+is_leaf (Start x s) = true
+is_leaf _ = false
+
+abbrev pub top : Term → Head
+top (term h ts) = h
+
+-- the variables, classes and start values of a condition, in the order of first appearance
+abbrev pub leaves : Sequent → List Head
+leaves c = filter is_leaf (map top (all_terms c))
+
+-- the words of a listing are read with the names of the program and the variables of the condition
+abbrev pub vocabulary : Recheck → List Shape → List Decl → Sequent → Vocabulary
+vocabulary r shapes decls c = record { names = r.names; titles = r.titles; leaves = leaves c; shapes = shapes; decls = decls }
+
+-- the term that a text stands for, which stands for one
+abbrev pub term_of : Vocabulary → Written → Term
+term_of v w = unwrap_or (term_for v w) (term True no_terms)
+
+-- ---- whether a listing speaks of the condition
+
+abbrev pub kind_eq : Kind → Kind → Bool
+kind_eq kind.Exit kind.Exit = true
+kind_eq kind.Assert kind.Assert = true
+kind_eq kind.Invariant kind.Invariant = true
+kind_eq kind.Preserved kind.Preserved = true
+kind_eq kind.Entry kind.Entry = true
+kind_eq _ _ = false
+
+abbrev pub header_eq : Header → Header → Bool
+header_eq h k = bytes_eq h.routine k.routine && (kind_eq h.kind k.kind && nat_eq h.line k.line)
+
+-- the nodes of the proof, of which there are none where there is no proof
+abbrev pub proof_of : said.Verdict Written → List (ProofNode Written)
+proof_of (says.Proved nodes) = nodes
+proof_of _ = []
+
+abbrev pub has_node : List (ProofNode Written) → Bool
+has_node [] = false
+has_node (n ∷ nodes) = true
+
+-- whether it has a proof of what has this header, and each of its texts stands for a term
+abbrev pub is_readable : Vocabulary → Header → Claim Written → Bool
+is_readable v header e = header_eq e.header header && (has_node (proof_of e.verdict) && list_all (stands v) (claim_terms e))
+
+abbrev pub terms_eq : List Term → List Term → Bool
+terms_eq [] [] = true
+terms_eq (t ∷ ts) (u ∷ us) = term_eq t u && terms_eq ts us
+terms_eq _ _ = false
+
+-- whether its hypotheses and its goal are those of the condition
+abbrev pub is_same : Vocabulary → Sequent → Claim Written → Bool
+is_same v c e = terms_eq (map (term_of v) e.given) c.given && term_eq (term_of v e.goal) c.goal
+
+-- ---- what is checked
+
+-- the terms that there are when the check begins: 0, 1, TRUE, FALSE, the condition's, and behind them those of the listing, each where it is new
+-- and behind its arguments
+abbrev pub known : Vocabulary → Sequent → Claim Written → List Term
+known v c e = with_terms (all_terms c) (flat_map layers (map (term_of v) (claim_terms e)))
+
+-- what a listing is read as
+pub data Reading : Type 0 where
+  -- no proof of the condition
+  Other : Reading
+  -- there would be too many terms
+  TooMany : Reading
+  -- these nodes, where there are these terms
+  Reads : List Term → List (ProofNode Term) → Reading
+
+abbrev pub nodes_of : Vocabulary → Claim Written → List (ProofNode Term)
+nodes_of v e = map (node_at (term_of v)) (proof_of e.verdict)
+
+abbrev pub reading_by : Bool → Bool → Bool → List Term → List (ProofNode Term) → Reading
+reading_by false many same terms nodes = Other
+reading_by true true same terms nodes = TooMany
+reading_by true false false terms nodes = Other
+reading_by true false true terms nodes = Reads terms nodes
+
+abbrev pub reading : Vocabulary → ℕ → Header → Sequent → Option (Claim Written) → Reading
+reading v most header c None = Other
+reading v most header c (Some e) = reading_by (is_readable v header e) (nat_lt most (length (known v c e))) (is_same v c e) (known v c e) (nodes_of v e)
+
+-- ---- what the check comes to
+
+-- the verdict of a check of these nodes
+abbrev pub verdict_by : ℕ → List own.ProofNode → Ending Bool → Verdict
+verdict_by most nodes (Comes true) = Proved nodes
+verdict_by most nodes (Comes false) = NotAccepted
+verdict_by most nodes (Stops (stop.WideSum op x y)) = GaveUp [] (WideSum nodes (record { op = op; left = x; right = y }))
+verdict_by most nodes (Stops (stop.WideForm t)) = GaveUp [] (WideForm t)
+verdict_by most nodes (Stops stop.TooMany) = GaveUp [] (TooManyTerms most)
+
+-- what is to be shown of the condition, over the terms that there are
+abbrev pub question_over : Recheck → List Shape → List Decl → Sequent → List Term → Question
+question_over r shapes decls c terms = record { shapes = shapes; decls = decls; at = tree_in terms; sequent = c; rules = r.rules }
+
+-- a verdict is what the check of a proof comes to that a listing says so
+pub record IsChecked (r : Recheck) (q : Question) (terms : List Term) (said : List (ProofNode Term)) (v : Verdict) : Type 0 where
+  pub nodes : List own.ProofNode
+  pub are : listed_nodes r.names q.at nodes ≡ said
+  pub verdict : v ≡ verdict_by r.most nodes (outcome r.most q terms nodes).ending
+
+abbrev pub IsVerdictOf : Recheck → List Shape → List Decl → Sequent → Reading → Verdict → Type 0
+IsVerdictOf r shapes decls c Other v = v ≡ NotAccepted
+IsVerdictOf r shapes decls c TooMany v = v ≡ GaveUp [] (TooManyTerms r.most)
+IsVerdictOf r shapes decls c (Reads terms said) v = IsChecked r (question_over r shapes decls c terms) terms said v
+
+-- what was found of a condition of an arena, of which a listing says this, where it says something: the condition claims the same in an
+-- arena of its own, and the verdict is what the recheck comes to
+pub record IsRechecked (r : Recheck) (header : Header) (a : Arena) (c : Condition) (entry : Option (Claim Written)) (d : Decided) : Type 0 where
+  pub claim : IsSameClaim a c d.terms d.condition
+  pub shapes : d.terms.shapes ≡ a.shapes
+  pub decls : d.terms.decls ≡ a.decls
+  pub terms_in : VerdictIn d.terms d.verdict
+  pub verdict :
+      IsVerdictOf r a.shapes a.decls (sequent a c) (reading (vocabulary r a.shapes a.decls (sequent a c)) r.most header (sequent a c) entry)
+      (verdict_in d.terms d.verdict)

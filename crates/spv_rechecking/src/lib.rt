@@ -1,0 +1,2 @@
+//! Proofs of conditions that a listing says, checked anew.
+#![tactic(auto)]

@@ -1,0 +1,2 @@
+//! Which terms written terms stand for.
+#![tactic(auto)]
