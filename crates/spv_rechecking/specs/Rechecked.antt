@@ -1,5 +1,5 @@
 -- What the recheck of a condition comes to, of which a listing was handed in.
-use Rattle.std.specs.Prelude.{◌≡◌, ℕ, Bool, true, false, ◌&&◌, List, [], ◌∷◌, map, length, Option, Some, None, nat_eq, nat_lt, if◌then◌else◌}
+use Rattle.std.specs.Prelude.{◌≡◌, ℕ, Bool, true, false, ◌&&◌, List, [], ◌∷◌, map, length, Option, Some, None, is_some, nat_eq, nat_lt, if◌then◌else◌}
 use Rattle.std.specs.List.{list_all, flat_map, filter}
 use Rattle.std.specs.Option.{unwrap_or}
 use Rattle.std.specs.Str.{bytes_eq}
@@ -9,8 +9,8 @@ use Rattle.spv_logic.specs.declared.conditions.Kind.TheVariants as kind
 use Rattle.spv_logic.specs.declared.types.Shape.{Shape}
 use Rattle.spv_logic.specs.declared.types.Decl.{Decl}
 use Rattle.spv_logic.specs.declared.operators.Head.{Head}
-use Rattle.spv_logic.specs.declared.operators.Head.TheVariants.{Var, ClassVar, Start, True}
-use Rattle.spv_logic.specs.Terms.{Term, term, no_terms, term_eq}
+use Rattle.spv_logic.specs.declared.operators.Head.TheVariants.{Eq, Le, True}
+use Rattle.spv_logic.specs.Terms.{Term, term, no_terms, terms, term_eq}
 use Rattle.spv_logic.specs.Conditions.{Sequent}
 use Rattle.spv_term.specs.declared.nodes.Condition.{Condition}
 use Rattle.spv_term.specs.Arena.{Arena, sequent, tree_in}
@@ -26,13 +26,15 @@ use Rattle.spv_verdicts.specs.Verdicts.{Verdict, Proved, GaveUp, NotAccepted, Wi
 use Rattle.spv_verdicts.specs.declared.answers.verdicts.Decided.{Decided}
 use Rattle.spv_verdicts.specs.answers.Views.{VerdictIn, verdict_in}
 use Rattle.spv_listing_values.specs.declared.data.Header.{Header}
+use Rattle.spv_listing_values.specs.declared.data.Step.{Step}
+use Rattle.spv_listing_values.specs.declared.data.Step.TheVariants as says
 use Rattle.spv_listing_values.specs.declared.data.ProofNode.{ProofNode}
 use Rattle.spv_listing_values.specs.declared.data.Verdict as said
-use Rattle.spv_listing_values.specs.declared.data.Verdict.TheVariants as says
+use Rattle.spv_listing_values.specs.declared.data.Verdict.TheVariants as verdict
 use Rattle.spv_listing_values.specs.declared.data.Claim.{Claim}
 use Rattle.spv_listing_values.specs.Written.{Written}
 use Rattle.spv_listing_values.specs.Mapped.{node_at, claim_terms}
-use Rattle.spv_written_terms.specs.Standing.{Vocabulary, term_for, stands}
+use Rattle.spv_written_terms.specs.Standing.{Vocabulary, is_leaf, top, symbol_for, term_for, stands}
 use Rattle.spv_rechecking.specs.Listed.{listed_nodes}
 
 -- what a recheck is about beside the condition: the names and the first names of types by which terms are read, the rules, and how many
@@ -45,22 +47,13 @@ pub record Recheck : Type 0 where
 
 -- ---- what words may name
 
-abbrev pub is_leaf : Head → Bool
-is_leaf (Var x s n) = true
-is_leaf (ClassVar t n) = true
-is_leaf (Start x s) = true
-is_leaf _ = false
-
-abbrev pub top : Term → Head
-top (term h ts) = h
-
 -- the variables, classes and start values of a condition, in the order of first appearance
 abbrev pub leaves : Sequent → List Head
 leaves c = filter is_leaf (map top (all_terms c))
 
 -- the words of a listing are read with the names of the program and the variables of the condition
 abbrev pub vocabulary : Recheck → List Shape → List Decl → Sequent → Vocabulary
-vocabulary r shapes decls c = record { names = r.names; titles = r.titles; leaves = leaves c; shapes = shapes; decls = decls }
+vocabulary r shapes decls c = record { words = record { names = r.names; titles = r.titles; leaves = leaves c }; shapes = shapes; decls = decls }
 
 -- the term that a text stands for, which stands for one
 abbrev pub term_of : Vocabulary → Written → Term
@@ -81,7 +74,7 @@ header_eq h k = bytes_eq h.routine k.routine && (kind_eq h.kind k.kind && nat_eq
 
 -- the nodes of the proof, of which there are none where there is no proof
 abbrev pub proof_of : said.Verdict Written → List (ProofNode Written)
-proof_of (says.Proved nodes) = nodes
+proof_of (verdict.Proved nodes) = nodes
 proof_of _ = []
 
 abbrev pub has_node : List (ProofNode Written) → Bool
@@ -100,6 +93,24 @@ terms_eq _ _ = false
 -- whether its hypotheses and its goal are those of the condition
 abbrev pub is_same : Vocabulary → Sequent → Claim Written → Bool
 is_same v c e = terms_eq (map (term_of v) e.given) c.given && term_eq (term_of v e.goal) c.goal
+
+-- whether a step is one over terms: what LINEAR shows is a relation, and the name of a field is one of the program
+abbrev pub is_relation : Term → Bool
+is_relation (term Eq (terms s (terms t no_terms))) = true
+is_relation (term Le (terms s (terms t no_terms))) = true
+is_relation _ = false
+
+abbrev pub is_known : List (List ℕ) → Option (List ℕ) → Bool
+is_known names None = true
+is_known names (Some name) = is_some (symbol_for names name)
+
+abbrev pub is_step : List (List ℕ) → Step Term → Bool
+is_step names (says.Linear r first second) = is_relation r
+is_step names (says.Schema k ts name) = is_known names name
+is_step names _ = true
+
+abbrev pub is_node : List (List ℕ) → ProofNode Term → Bool
+is_node names n = list_all (is_step names) n.steps
 
 -- ---- what is checked
 
@@ -121,14 +132,14 @@ abbrev pub nodes_of : Vocabulary → Claim Written → List (ProofNode Term)
 nodes_of v e = map (node_at (term_of v)) (proof_of e.verdict)
 
 abbrev pub reading_by : Bool → Bool → Bool → List Term → List (ProofNode Term) → Reading
-reading_by false many same terms nodes = Other
-reading_by true true same terms nodes = TooMany
+reading_by false many fits terms nodes = Other
+reading_by true true fits terms nodes = TooMany
 reading_by true false false terms nodes = Other
 reading_by true false true terms nodes = Reads terms nodes
 
 abbrev pub reading : Vocabulary → ℕ → Header → Sequent → Option (Claim Written) → Reading
 reading v most header c None = Other
-reading v most header c (Some e) = reading_by (is_readable v header e) (nat_lt most (length (known v c e))) (is_same v c e) (known v c e) (nodes_of v e)
+reading v most header c (Some e) = reading_by (is_readable v header e) (nat_lt most (length (known v c e))) (is_same v c e && list_all (is_node v.words.names) (nodes_of v e)) (known v c e) (nodes_of v e)
 
 -- ---- what the check comes to
 

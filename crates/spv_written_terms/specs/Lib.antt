@@ -1,2 +1,5 @@
 pub mod Printing
 pub mod Standing
+pub mod Leaves
+pub mod Words
+pub mod Read

@@ -54,11 +54,18 @@ operator_word head.Cons = codes "CONS"
 operator_word head.Atom = codes "ATOM"
 operator_word _ = []
 
+-- the word of a variable, a class or a start value; of other heads nothing
+abbrev pub leaf_text : List (List ℕ) → List (Option Symbol) → Head → List ℕ
+leaf_text names titles (head.Var x s n) = name_at names x ++ mark n
+leaf_text names titles (head.ClassVar t n) = 35 ∷ (title_at names titles t ++ mark n)
+leaf_text names titles (head.Start x s) = name_at names x
+leaf_text names titles _ = []
+
 -- a head as it is written
 abbrev pub head_of : List (List ℕ) → List (Option Symbol) → Head → text.Head
-head_of names titles (head.Var x s n) = Alone (name_at names x ++ mark n)
-head_of names titles (head.ClassVar t n) = Alone (35 ∷ (title_at names titles t ++ mark n))
-head_of names titles (head.Start x s) = Alone (name_at names x)
+head_of names titles (head.Var x s n) = Alone (leaf_text names titles (head.Var x s n))
+head_of names titles (head.ClassVar t n) = Alone (leaf_text names titles (head.ClassVar t n))
+head_of names titles (head.Start x s) = Alone (leaf_text names titles (head.Start x s))
 head_of names titles (head.Num z) = Alone (signed_decimal z)
 head_of names titles head.True = Alone (codes "TRUE")
 head_of names titles head.False = Alone (codes "FALSE")

@@ -1,31 +1,44 @@
 -- Which term a written term stands for.
-use Rattle.std.specs.Prelude.{ℕ, Bool, false, ◌&&◌, List, [], ◌∷◌, Option, Some, None, is_some, position, nat_eq, codes, if◌then◌else◌}
+use Rattle.std.specs.Prelude.{ℕ, Bool, true, false, ◌&&◌, List, [], ◌∷◌, Option, Some, None, is_some, map, slice_get, position, nat_eq, codes, if◌then◌else◌}
 use Rattle.std.specs.Fmt.{signed_decimal}
-use Rattle.std.specs.List.{find}
 use Rattle.std.specs.Map.{lookup}
 use Rattle.std.specs.Option.{option_map, option_and_then}
 use Rattle.std.specs.Str.{bytes_eq}
 use Rattle.spv_logic.specs.declared.names.names.Symbol.{Symbol}
 use Rattle.spv_logic.specs.declared.types.TypeId.{TypeId}
+use Rattle.spv_logic.specs.declared.types.Sort.{Sort}
 use Rattle.spv_logic.specs.declared.types.Shape.{Shape}
 use Rattle.spv_logic.specs.declared.types.Decl.{Decl}
 use Rattle.spv_logic.specs.declared.operators.Head.{Head}
 use Rattle.spv_logic.specs.declared.operators.Head.TheVariants as head
 use Rattle.spv_logic.specs.Terms.{Term, Terms, term, no_terms, terms, heads_pass}
-use Rattle.spv_logic.specs.Sorts.{term_sort, head_in_range, numeral_fits}
+use Rattle.spv_logic.specs.Sorts.{term_sort, result_sort, head_in_range, numeral_fits}
 use Rattle.spv_listing_values.specs.Written.{Alone, Applied, Written, Writtens, written, no_written, writtens}
 use Rattle.spv_listing_values.specs.Written as text
 use Rattle.spv_listing_values.specs.Reading.{whole_of}
-use Rattle.spv_written_terms.specs.Printing.{head_of}
+use Rattle.spv_written_terms.specs.Printing.{leaf_text}
 
--- what words may name: the table of names, the first name of each type that has one, the variables, classes and start values that may be
--- meant, in the order in which they are tried, and the program's types and symbols
-pub record Vocabulary : Type 0 where
+-- what words may name: the table of names, the first name of each type that has one, and the variables, classes and start values that may
+-- be meant, in the order in which they are tried
+pub record Words : Type 0 where
   pub names : List (List ℕ)
   pub titles : List (Option Symbol)
   pub leaves : List Head
+
+-- and the types and symbols of the program
+pub record Vocabulary : Type 0 where
+  pub words : Words
   pub shapes : List Shape
   pub decls : List Decl
+
+abbrev pub is_leaf : Head → Bool
+is_leaf (head.Var x s n) = true
+is_leaf (head.ClassVar t n) = true
+is_leaf (head.Start x s) = true
+is_leaf _ = false
+
+abbrev pub top : Term → Head
+top (term h ts) = h
 
 -- the first of two, where it is there, else the second
 abbrev pub either : Option Head → Option Head → Option Head
@@ -43,8 +56,11 @@ is_title x None = false
 is_title x (Some y) = nat_eq x.0 y.0
 
 -- the first type with this title
+abbrev pub type_of : List (Option Symbol) → Symbol → Option TypeId
+type_of titles x = option_map (λ k. record { 0 = k }) (position (is_title x) titles)
+
 abbrev pub type_for : List (List ℕ) → List (Option Symbol) → List ℕ → Option TypeId
-type_for names titles word = option_map (λ k. record { 0 = k }) (option_and_then (λ x. position (is_title x) titles) (symbol_for names word))
+type_for names titles word = option_and_then (type_of titles) (symbol_for names word)
 
 -- ---- words that stand alone
 
@@ -52,18 +68,14 @@ type_for names titles word = option_map (λ k. record { 0 = k }) (option_and_the
 abbrev pub numeral_for : List ℕ → Option Head
 numeral_for word = let z = whole_of word in if bytes_eq (signed_decimal z) word && numeral_fits (head.Num z) then Some (head.Num z) else None
 
-abbrev pub is_alone : List ℕ → text.Head → Bool
-is_alone word (Alone other) = bytes_eq word other
-is_alone word (Applied other name) = false
-
 -- the first variable, class or start value that is written so
-abbrev pub leaf_for : Vocabulary → List ℕ → Option Head
-leaf_for v word = find (λ h. is_alone word (head_of v.names v.titles h)) v.leaves
+abbrev pub leaf_for : Words → List ℕ → Option Head
+leaf_for v word = option_and_then (slice_get v.leaves) (position (bytes_eq word) (map (leaf_text v.names v.titles) v.leaves))
 
 abbrev pub constants : List (List ℕ × Head)
 constants = (codes "TRUE", head.True) ∷ (codes "FALSE", head.False) ∷ []
 
-abbrev pub alone_for : Vocabulary → List ℕ → Option Head
+abbrev pub alone_for : Words → List ℕ → Option Head
 alone_for v word = either (lookup (bytes_eq word) constants) (either (numeral_for word) (leaf_for v word))
 
 -- ---- words that are applied
@@ -76,21 +88,21 @@ operators =
     ∷ (codes "POINTERTO", head.PointerTo) ∷ (codes "CAR", head.Car) ∷ (codes "CDR", head.Cdr) ∷ (codes "CONS", head.Cons) ∷ (codes "ATOM", head.Atom) ∷ []
 
 -- an operator, or the symbol of this name
-abbrev pub applied_for : Vocabulary → List ℕ → Option Head
-applied_for v word = either (lookup (bytes_eq word) operators) (option_map head.App (symbol_for v.names word))
+abbrev pub applied_for : List (List ℕ) → List ℕ → Option Head
+applied_for names word = either (lookup (bytes_eq word) operators) (option_map head.App (symbol_for names word))
 
 -- an operator with the name of a field or of a type
-abbrev pub named_for : Vocabulary → List ℕ → List ℕ → Option Head
-named_for v word name =
-    if bytes_eq word (codes "FIELD") then option_map head.Field (symbol_for v.names name)
-    else if bytes_eq word (codes "PUT") then option_map head.Put (symbol_for v.names name)
-    else if bytes_eq word (codes "NIL") then option_map head.Nil (type_for v.names v.titles name) else None
+abbrev pub named_for : List (List ℕ) → List (Option Symbol) → List ℕ → List ℕ → Option Head
+named_for names titles word name =
+    if bytes_eq word (codes "FIELD") then option_map head.Field (symbol_for names name)
+    else if bytes_eq word (codes "PUT") then option_map head.Put (symbol_for names name)
+    else if bytes_eq word (codes "NIL") then option_map head.Nil (type_for names titles name) else None
 
 -- the head that is written so
-abbrev pub head_for : Vocabulary → text.Head → Option Head
+abbrev pub head_for : Words → text.Head → Option Head
 head_for v (Alone word) = alone_for v word
-head_for v (Applied word None) = applied_for v word
-head_for v (Applied word (Some name)) = named_for v word name
+head_for v (Applied word None) = applied_for v.names word
+head_for v (Applied word (Some name)) = named_for v.names v.titles word name
 
 -- ---- terms
 
@@ -106,20 +118,24 @@ in_front (Some t) (Some ts) = Some (terms t ts)
 
 abbrev mutual
   -- the heads that are written so over the arguments
-  pub heads_over : Vocabulary → Written → Option Term
+  pub heads_over : Words → Written → Option Term
   heads_over v (written h ts) = over (head_for v h) (all_heads_over v ts)
 
-  pub all_heads_over : Vocabulary → Writtens → Option Terms
+  pub all_heads_over : Words → Writtens → Option Terms
   all_heads_over v no_written = Some no_terms
   all_heads_over v (writtens t ts) = in_front (heads_over v t) (all_heads_over v ts)
 
 -- whether the types that a head names are there, and its number fits
-abbrev pub may_stand : Vocabulary → Head → Bool
-may_stand v h = head_in_range v.shapes h && numeral_fits h
+abbrev pub may_stand : List Shape → Head → Bool
+may_stand shapes h = head_in_range shapes h && numeral_fits h
+
+-- the sort of a head over arguments of these sorts, if it may stand there
+abbrev pub sort_over : List Shape → List Decl → Head → List Sort → Option Sort
+sort_over shapes decls h given = if may_stand shapes h then result_sort shapes decls h given else None
 
 -- whether sorts fit, types are there, and numbers fit
 abbrev pub is_term : Vocabulary → Term → Bool
-is_term v t = is_some (term_sort v.shapes v.decls t) && heads_pass (may_stand v) t
+is_term v t = is_some (term_sort v.shapes v.decls t) && heads_pass (may_stand v.shapes) t
 
 abbrev pub if_term : Vocabulary → Option Term → Option Term
 if_term v None = None
@@ -127,7 +143,7 @@ if_term v (Some t) = if is_term v t then Some t else None
 
 -- the term that a written term stands for
 abbrev pub term_for : Vocabulary → Written → Option Term
-term_for v w = if_term v (heads_over v w)
+term_for v w = if_term v (heads_over v.words w)
 
 -- whether it stands for one
 abbrev pub stands : Vocabulary → Written → Bool

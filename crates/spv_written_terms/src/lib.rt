@@ -1,2 +1,15 @@
 //! Which terms written terms stand for.
 #![tactic(auto)]
+
+mod heads;
+mod leaves;
+mod numerals;
+mod printing;
+mod reading;
+mod sorts;
+mod words;
+
+pub use heads::head_for;
+pub use leaves::{Leaves, leaves_of};
+pub use reading::heads_of;
+pub use sorts::result_sort;
