@@ -1,2 +1,5 @@
 pub mod Listed
 pub mod Rechecked
+pub mod Made
+pub mod Parts
+pub mod Converted

@@ -1,6 +1,6 @@
 // The heads that words name.
 
-ghost use Rattle.std.specs.Prelude.{◌≡◌, position, map};
+ghost use Rattle.std.specs.Prelude.{◌≡◌, ◌≤◌, ◌^◌, length, position, map};
 ghost use Rattle.std.specs.Map.{lookup};
 ghost use Rattle.std.specs.Str.{bytes_eq};
 ghost use Rattle.spv_listing_values.specs.Places.{head_seen};
@@ -89,10 +89,11 @@ fn is_title(name: Symbol, title: &Option<Symbol>) -> bool
 
 // The first type whose title is this symbol.
 fn type_of(titles: &[Option<Symbol>], name: Symbol) -> Option<TypeId>
+    requires { length titles.now ≤ 2 ^ 32 }
     ensures { result ≡ spec.type_of titles.now name }
 {
-    for (place, title) in titles.iter().enumerate() {
-        if is_title(name, title) {
+    for place in 0..titles.len() {
+        if is_title(name, &titles[place]) {
             return Some(TypeId(place as u32));
         }
     }
@@ -101,6 +102,7 @@ fn type_of(titles: &[Option<Symbol>], name: Symbol) -> Option<TypeId>
 
 // The first type with this title.
 fn type_for(names: &Names, titles: &[Option<Symbol>], word: &[u8]) -> Option<TypeId>
+    requires { length titles.now ≤ 2 ^ 32 }
     ensures { result ≡ spec.type_for names.now titles.now word.now }
 {
     match symbol_for(names, word) {
@@ -141,6 +143,7 @@ fn named_for(
     word: &[u8],
     name: &[u8],
 ) -> Option<Head>
+    requires { length titles.now ≤ 2 ^ 32 }
     ensures { result ≡ spec.named_for names.now titles.now word.now name.now }
 {
     if is_same(word, b"FIELD") {
@@ -171,7 +174,8 @@ pub fn head_for(
     leaves: &Leaves,
     head: HeadText,
 ) -> Option<Head>
-    requires { HaveLeaves names.now titles.now leaves.now }
+    requires leaves { HaveLeaves names.now titles.now leaves.now }
+    requires few { length titles.now ≤ 2 ^ 32 }
     ensures { result ≡ spec.head_for (words names.now titles.now leaves.now) (head_seen head.entry) }
 {
     match head {

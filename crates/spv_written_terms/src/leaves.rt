@@ -4,7 +4,7 @@ ghost use Rattle.std.specs.Prelude.{◌≡◌, ◌++◌, [], ◌∷◌, ◌<◌,
 ghost use Rattle.std.specs.List.{filter};
 ghost use Rattle.std.specs.Option.{option_and_then};
 ghost use Rattle.std.specs.Str.{bytes_eq};
-ghost use Rattle.spv_listing_values.specs.Interned.{found_by};
+ghost use Rattle.spv_listing_values.specs.Interned.{found_by, ArePlaces};
 ghost use Rattle.spv_written_terms.specs.Printing as printing;
 ghost use Rattle.spv_written_terms.specs.Standing as spec;
 ghost use Rattle.spv_written_terms.specs.Leaves.{HaveLeaves, if_leaf};
@@ -51,6 +51,17 @@ fn put(places: &mut Places, word: Vec<u8>, place: u32) -> Result<(), AllocError>
     Ok(())
 }
 
+// Gives a word the next place, where it has none.
+fn enter(places: &mut Places, word: Vec<u8>, place: u32) -> Result<(), AllocError>
+    ensures { OnOk result ((words : List (List ℕ)) → length words ≡ place → ArePlaces (λ k. k.items) places.old words
+        → ArePlaces (λ k. k.items) places.new (words ++ word.items ∷ [])) }
+{
+    match find(places, word.as_slice()) {
+        Some(_) => Ok(()),
+        None => put(places, word, place),
+    }
+}
+
 impl Leaves {
     // None.
     fn new(alloc: Global) -> Leaves
@@ -76,14 +87,13 @@ impl Leaves {
         ensures heads { OnOk result (self.new.heads.items ≡ self.old.heads.items ++ head ∷ []) }
         ensures have { OnOk result (HaveLeaves names.now titles.now self.new) }
     {
-        let _ = (names, titles);
+        let _ = names;
+        let _ = titles;
         let place = self.heads.len();
         if place >= 4294967296 {
             return Err(AllocError);
         }
-        if find(&self.places, word.as_slice()).is_none() {
-            put(&mut self.places, word, place as u32)?;
-        }
+        enter(&mut self.places, word, place as u32)?;
         self.heads.push(head)?;
         Ok(())
     }
@@ -113,7 +123,8 @@ impl Leaves {
         ensures { result ≡ option_and_then (slice_get self.now.heads.items)
             (position (bytes_eq word.now) (map (printing.leaf_text names.now titles.now) self.now.heads.items)) }
     {
-        let _ = (names, titles);
+        let _ = names;
+        let _ = titles;
         match find(&self.places, word) {
             Some(place) => self.heads.get(place as usize).copied(),
             None => None,

@@ -1,6 +1,6 @@
 // The heads of the terms that the texts of a listing stand for.
 
-ghost use Rattle.std.specs.Prelude.{◌≡◌, ◌∷◌, [], ◌++◌, ◌<◌, ℕ, Some, None, IfOk, IfSome, IfNone, MatchOption, OnOk, length, map, take};
+ghost use Rattle.std.specs.Prelude.{◌≡◌, ◌∷◌, [], ◌++◌, ◌<◌, ◌≤◌, ◌^◌, ℕ, Some, None, IfOk, IfSome, IfNone, MatchOption, OnOk, length, map, take};
 ghost use Rattle.std.specs.Option.{option_map};
 ghost use Rattle.spv_logic.specs.Sorts as sorts_spec;
 ghost use Rattle.spv_listing_values.specs.Places.{AreBefore, IsTable, flat_in, tree, trees};
@@ -59,6 +59,7 @@ fn read_one(
     given: &[Sort],
 ) -> Option<One>
     requires leaves { HaveLeaves names.now titles.now leaves.now }
+    requires few { length titles.now ≤ 2 ^ 32 }
     requires t { t.0 < length texts.now }
     ensures { IsOne shapes.now decls.now (spec.head_for (words names.now titles.now leaves.now) (flat_in texts.now t).head) given.now result }
 {
@@ -91,7 +92,8 @@ pub fn heads_of(
     decls: &[Decl],
     texts: &Texts,
 ) -> Result<Option<Vec<Head>>, AllocError>
-    requires { HaveLeaves names.now titles.now leaves.now }
+    requires leaves { HaveLeaves names.now titles.now leaves.now }
+    requires few { length titles.now ≤ 2 ^ 32 }
     ensures { IfOk result (λ heads. HeadsAre (vocabulary names.now titles.now leaves.now shapes.now decls.now) (trees texts.now) (option_map (λ l. l.items) heads)) }
 {
     texts.law_texts();
