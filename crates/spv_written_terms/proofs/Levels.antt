@@ -152,6 +152,11 @@ module _ (v : Vocabulary) (fs : List Flat) (ok : IsTable fs) (heads : List Head)
       let size = so_many_trees fs in
       sym (length-map sorts Some) ∙ (ap length (sym read.sorts_are) ∙ (length-map (take i (trees fs)) (sort_read v) ∙ length-take-le i (trees fs) (omega (arith, size, le))))
 
+  pub below_sorts : (t : Text) → t.0 ≡ i → t.0 < length fs → (slice : List Sort) → slice ≡ sorts → (args : List Text) → args ≡ (flat_in fs t).args → AreBefore (length slice) args
+  below_sorts t is here slice slice_is args args_is =
+      let size : length slice ≡ t.0 = ap length slice_is ∙ (so_many_sorts (omega (arith, is, here)) ∙ sym is) in
+      subst (λ n. AreBefore n args) (sym size) (subst (AreBefore t.0) (sym args_is) (table_before fs ok t here))
+
   known_below : i ≤ length fs → (k : ℕ) → k < i → sort_read v (get_or (trees fs) k (word [])) ≡ Some (get_or sorts k sort.Int)
   known_below le k lt =
       let size = so_many_trees fs in

@@ -101,9 +101,10 @@ pub fn heads_of(
     let mut sorts = Vec::new(alloc);
     for place in 0..texts.len() {
         let t = Text(place as u32);
-        let given = sorts_at(alloc, sorts.as_slice(), texts.args(t))?;
-        let one = read_one(names, titles, leaves, shapes, decls, texts, t, given.as_slice());
-        let Some(one) = one else {
+        let own = texts.args(t);
+        let given = sorts_at(alloc, sorts.as_slice(), own)?;
+        let read = read_one(names, titles, leaves, shapes, decls, texts, t, given.as_slice());
+        let Some(one) = read else {
             return Ok(None);
         };
         push(&mut heads, &mut sorts, one)?;
