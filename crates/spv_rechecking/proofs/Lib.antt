@@ -1,2 +1,4 @@
-pub mod Order
 pub mod Standing
+pub mod Order
+pub mod Agreeing
+pub mod Accepting

@@ -13,11 +13,12 @@ use Rattle.spv_logic.specs.declared.operators.Head.TheVariants.{Eq, Le, True}
 use Rattle.spv_logic.specs.Terms.{Term, term, no_terms, terms, term_eq}
 use Rattle.spv_logic.specs.Conditions.{Sequent}
 use Rattle.spv_term.specs.declared.nodes.Condition.{Condition}
-use Rattle.spv_term.specs.Arena.{Arena, sequent, tree_in}
+use Rattle.spv_term.specs.Arena.{Arena, Extends, sequent, tree, trees_of}
 use Rattle.spv_atoms.specs.declared.proofs.ProofNode as own
 use Rattle.spv_atoms.specs.Atoms.{with_terms}
 use Rattle.spv_proof_rules.specs.Rules.{Rule}
 use Rattle.spv_proof_rules.specs.Effects.{Question}
+use Rattle.spv_proof_rules.specs.Stand.{NodesIn}
 use Rattle.spv_proof_rules.specs.Stops as stop
 use Rattle.spv_proof_rules.specs.Stops.{layers}
 use Rattle.spv_proof_rules.specs.Outcomes.{Ending, Comes, Stops, outcome}
@@ -151,20 +152,24 @@ verdict_by most nodes (Stops (stop.WideSum op x y)) = GaveUp [] (WideSum nodes (
 verdict_by most nodes (Stops (stop.WideForm t)) = GaveUp [] (WideForm t)
 verdict_by most nodes (Stops stop.TooMany) = GaveUp [] (TooManyTerms most)
 
--- what is to be shown of the condition, over the terms that there are
-abbrev pub question_over : Recheck → List Shape → List Decl → Sequent → List Term → Question
-question_over r shapes decls c terms = record { shapes = shapes; decls = decls; at = tree_in terms; sequent = c; rules = r.rules }
+-- what is to be shown of a sequent over an arena
+abbrev pub question_over : List Rule → Arena → Sequent → Question
+question_over rules a c = record { shapes = a.shapes; decls = a.decls; at = tree a; sequent = c; rules = rules }
 
--- a verdict is what the check of a proof comes to that a listing says so
-pub record IsChecked (r : Recheck) (q : Question) (terms : List Term) (said : List (ProofNode Term)) (v : Verdict) : Type 0 where
+-- a verdict over an arena is what the check of a proof comes to that a listing says so, where there are these terms when it begins
+pub record IsChecked (r : Recheck) (c : Sequent) (terms : List Term) (said : List (ProofNode Term)) (last : Arena) (v : Verdict) : Type 0 where
+  pub first : Arena
+  pub terms_are : trees_of first.nodes ≡ terms
+  pub grows : Extends first last
   pub nodes : List own.ProofNode
-  pub are : listed_nodes r.names q.at nodes ≡ said
-  pub verdict : v ≡ verdict_by r.most nodes (outcome r.most q terms nodes).ending
+  pub nodes_in : NodesIn first nodes
+  pub nodes_are : listed_nodes r.names (tree first) nodes ≡ said
+  pub verdict : v ≡ verdict_by r.most nodes (outcome r.most (question_over r.rules first c) terms nodes).ending
 
-abbrev pub IsVerdictOf : Recheck → List Shape → List Decl → Sequent → Reading → Verdict → Type 0
-IsVerdictOf r shapes decls c Other v = v ≡ NotAccepted
-IsVerdictOf r shapes decls c TooMany v = v ≡ GaveUp [] (TooManyTerms r.most)
-IsVerdictOf r shapes decls c (Reads terms said) v = IsChecked r (question_over r shapes decls c terms) terms said v
+abbrev pub IsVerdictOf : Recheck → Sequent → Reading → Arena → Verdict → Type 0
+IsVerdictOf r c Other last v = v ≡ NotAccepted
+IsVerdictOf r c TooMany last v = v ≡ GaveUp [] (TooManyTerms r.most)
+IsVerdictOf r c (Reads terms said) last v = IsChecked r c terms said last v
 
 -- what was found of a condition of an arena, of which a listing says this, where it says something: the condition claims the same in an
 -- arena of its own, and the verdict is what the recheck comes to
@@ -174,5 +179,5 @@ pub record IsRechecked (r : Recheck) (header : Header) (a : Arena) (c : Conditio
   pub decls : d.terms.decls ≡ a.decls
   pub terms_in : VerdictIn d.terms d.verdict
   pub verdict :
-      IsVerdictOf r a.shapes a.decls (sequent a c) (reading (vocabulary r a.shapes a.decls (sequent a c)) r.most header (sequent a c) entry)
+      IsVerdictOf r (sequent a c) (reading (vocabulary r a.shapes a.decls (sequent a c)) r.most header (sequent a c) entry) d.terms
       (verdict_in d.terms d.verdict)
