@@ -2,3 +2,4 @@ pub mod Standing
 pub mod Order
 pub mod Agreeing
 pub mod Accepting
+pub mod MakeLemmas
