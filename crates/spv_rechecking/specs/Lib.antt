@@ -3,3 +3,4 @@ pub mod Rechecked
 pub mod Made
 pub mod Parts
 pub mod Converted
+pub mod Asked

@@ -74,17 +74,21 @@ abbrev pub header_eq : Header → Header → Bool
 header_eq h k = bytes_eq h.routine k.routine && (kind_eq h.kind k.kind && nat_eq h.line k.line)
 
 -- the nodes of the proof, of which there are none where there is no proof
-abbrev pub proof_of : said.Verdict Written → List (ProofNode Written)
+abbrev pub proof_of : {T : Type 0} → said.Verdict T → List (ProofNode T)
 proof_of (verdict.Proved nodes) = nodes
 proof_of _ = []
 
-abbrev pub has_node : List (ProofNode Written) → Bool
+abbrev pub has_node : {T : Type 0} → List (ProofNode T) → Bool
 has_node [] = false
 has_node (n ∷ nodes) = true
 
--- whether it has a proof of what has this header, and each of its texts stands for a term
+-- whether it has a proof of what has this header
+abbrev pub is_about : {T : Type 0} → Header → Claim T → Bool
+is_about header e = header_eq e.header header && has_node (proof_of e.verdict)
+
+-- and each of its texts stands for a term
 abbrev pub is_readable : Vocabulary → Header → Claim Written → Bool
-is_readable v header e = header_eq e.header header && (has_node (proof_of e.verdict) && list_all (stands v) (claim_terms e))
+is_readable v header e = is_about header e && list_all (stands v) (claim_terms e)
 
 abbrev pub terms_eq : List Term → List Term → Bool
 terms_eq [] [] = true

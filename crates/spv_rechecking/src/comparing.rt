@@ -2,14 +2,10 @@
 
 ghost use Rattle.std.specs.Prelude.{◌≡◌, ◌<◌, ◌&&◌, length, map};
 ghost use Rattle.spv_term.specs.Arena.{AllBelow, tree};
-ghost use Rattle.spv_term.specs.Arena.{IsArena};
 ghost use Rattle.spv_logic.specs.Terms.{term_eq};
-ghost use Rattle.spv_listing_values.specs.Places.{AreBefore};
 ghost use Rattle.spv_rechecking.specs.Rechecked as spec;
-ghost use Rattle.spv_rechecking.specs.Made.{image_at};
 
 use spv_listing_values::data::Header;
-use spv_listing_values::texts::Text;
 use spv_logic::Kind;
 use spv_term::{TermId, Terms};
 
@@ -26,13 +22,11 @@ fn same_kind(left: Kind, right: Kind) -> bool
     }
 }
 
-/// Whether two headers are the same.
-pub(crate) fn same_header(left: &Header, right: &Header) -> bool
-    ensures { result ≡ spec.header_eq left.now right.now }
+/// Whether a header is that of a routine, a kind and a line.
+pub(crate) fn same_header(header: &Header, routine: &[u8], kind: Kind, line: u32) -> bool
+    ensures { result ≡ spec.header_eq header.now (record { routine = routine.now; kind = kind; line = line }) }
 {
-    left.routine.as_slice() == right.routine.as_slice()
-        && same_kind(left.kind, right.kind)
-        && left.line == right.line
+    header.routine.as_slice() == routine && same_kind(header.kind, kind) && header.line == line
 }
 
 // Whether two terms of an arena are the same.

@@ -3,10 +3,8 @@
 
 mod comparing;
 mod converting;
-mod laws;
 mod making;
 mod parts;
 mod rechecking;
 
-pub use laws::law_accepted;
 pub use rechecking::recheck;

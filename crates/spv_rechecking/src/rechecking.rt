@@ -1,18 +1,24 @@
 // The recheck of a condition.
 
-ghost use Rattle.std.specs.Prelude.{◌≡◌, ◌<◌, ◌^◌, [], false, true, ℕ, List, Some, None, Option, IfOk, length, option_map};
-ghost use Rattle.spv_term.specs.Arena.{AllBelow, sequent, tree};
+ghost use Rattle.std.specs.Prelude.{◌≡◌, ◌<◌, ◌≤◌, ◌^◌, ◌&&◌, [], true, ℕ, Some, IfOk, OnOk, length, map, option_copied};
+ghost use Rattle.spv_logic.specs.Terms.{term_eq};
+ghost use Rattle.spv_term.specs.Arena.{AllBelow, Extends, sequent, tree};
 ghost use Rattle.spv_models.specs.leaf_models.Laws.{AreFormulas};
 ghost use Rattle.spv_models.specs.leaf_models.Tables.{formulas_of};
 ghost use Rattle.spv_proof_rules.specs.Stand.{question};
+ghost use Rattle.spv_verdicts.specs.Verdicts.{most_terms};
+ghost use Rattle.spv_search_terms.specs.condition_copy.Copies.{IsCopy};
+ghost use Rattle.spv_listing_values.specs.Entries.{IsEntry, written_claim};
+ghost use Rattle.spv_rechecking.specs.Rechecked as spec;
 ghost use Rattle.spv_rechecking.specs.Rechecked.{Recheck, IsRechecked};
-ghost use Rattle.spv_rechecking.specs.Asked.{recheck_of, IsDecidedAs, IsReadAs, IsOther};
+ghost use Rattle.spv_rechecking.specs.Made.{image_at, images_at};
+ghost use Rattle.spv_rechecking.specs.Asked.{IsAsked, IsFound};
 
 use crate::comparing::{same_claim, same_header};
 use crate::converting::nodes_of;
 use crate::making::{ids_at, make_all};
 use crate::parts::parts_of;
-use spv_atoms::{Proof, ProofNode};
+use spv_atoms::Proof;
 use spv_listing_values::Entry;
 use spv_listing_values::data::{self, Claim, Header};
 use spv_listing_values::texts::{Text, Texts};
@@ -20,22 +26,36 @@ use spv_logic::list::List;
 use spv_logic::names::{Names, Symbol};
 use spv_proof::checker::{CheckStop, check};
 use spv_search_terms::condition_copy::{Copied, copy_condition};
-use spv_term::{Condition, Head, TermFault, TermId, Terms};
+use spv_term::{Condition, Head, Kind, TermFault, TermId, Terms};
 use spv_verdicts::answers::{Decided, Limit, Verdict, Wide};
 use spv_written_terms::{Leaves, heads_of, leaves_of};
 use std::alloc::{AllocError, Global};
 
 // The nodes of the proof that a listing says, of which there are none where it says no proof.
-fn proof_in(verdict: &data::Verdict<Text>) -> &[data::ProofNode<Text>] {
+fn proof_in(verdict: &data::Verdict<Text>) -> &[data::ProofNode<Text>]
+    ensures { result.now ≡ spec.proof_of verdict.now }
+{
     match verdict {
         data::Verdict::Proved(nodes) => nodes.as_slice(),
         _ => &[],
     }
 }
 
+// Whether a listing has a proof.
+fn has_proof(verdict: &data::Verdict<Text>) -> bool
+    ensures { result ≡ spec.has_node (spec.proof_of verdict.now) }
+{
+    match proof_in(verdict) {
+        [] => false,
+        [_, ..] => true,
+    }
+}
+
 // Whether a listing has a proof of what has this header.
-fn is_about(header: &Header, claim: &Claim<Text>) -> bool {
-    same_header(&claim.header, header) && proof_in(&claim.verdict).len() > 0
+fn is_about(routine: &[u8], kind: Kind, line: u32, claim: &Claim<Text>) -> bool
+    ensures { result ≡ spec.is_about (record { routine = routine.now; kind = kind; line = line }) claim.now }
+{
+    same_header(&claim.header, routine, kind, line) && has_proof(&claim.verdict)
 }
 
 // That there would be more terms than so many.
@@ -44,7 +64,12 @@ fn too_many(alloc: Global, most: u32) -> Verdict {
 }
 
 // What a check comes to.
-fn verdict_of(alloc: Global, most: u32, proof: Proof, outcome: Result<bool, CheckStop>) -> Result<Verdict, AllocError> {
+fn verdict_of(
+    alloc: Global,
+    most: u32,
+    proof: Proof,
+    outcome: Result<bool, CheckStop>,
+) -> Result<Verdict, AllocError> {
     match outcome {
         Ok(true) => Ok(Verdict::Proved(proof)),
         Ok(false) => Ok(Verdict::NotAccepted),
@@ -52,7 +77,10 @@ fn verdict_of(alloc: Global, most: u32, proof: Proof, outcome: Result<bool, Chec
             List::new(alloc),
             Limit::Number(Wide::Sum(proof, op, left, right)),
         )),
-        Err(CheckStop::Form(t)) => Ok(Verdict::GaveUp(List::new(alloc), Limit::Number(Wide::Form(t)))),
+        Err(CheckStop::Form(t)) => Ok(Verdict::GaveUp(
+            List::new(alloc),
+            Limit::Number(Wide::Form(t)),
+        )),
         Err(CheckStop::Size) => Ok(too_many(alloc, most)),
         Err(CheckStop::Memory) => Err(AllocError),
     }
@@ -119,20 +147,26 @@ fn make_and_check(
     }
 }
 
-// The verdict of a recheck over an arena that has the condition, and may have more terms where `room` says so.
+// The verdict of a recheck over an arena that has the condition, and is to have no more terms where there is no room.
 fn recheck_in(
     alloc: Global,
     terms: &mut Terms,
     condition: &Condition,
     names: &Names,
     titles: &[Option<Symbol>],
-    header: &Header,
+    routine: &[u8],
     most: u32,
     room: bool,
     entry: &Entry,
-) -> Result<Verdict, AllocError> {
+) -> Result<Verdict, AllocError>
+    requires asked { IsAsked most room terms.old condition.now }
+    requires few { length titles.now ≤ 2 ^ 32 }
+    ensures found { IfOk result (IsFound (record { names = names.now; titles = titles.now; rules = []; most = most })
+        (record { routine = routine.now; kind = condition.now.origin.kind; line = condition.now.origin.line }) terms.old condition.now (Some entry.now) terms.new) }
+    ensures grows { OnOk result (Extends terms.old terms.new) }
+{
     let (texts, claim) = entry.parts();
-    if !is_about(header, claim) {
+    if !is_about(routine, condition.origin.kind, condition.origin.line, claim) {
         return Ok(Verdict::NotAccepted);
     }
     let leaves = leaves_of(alloc, names, titles, terms)?;
@@ -151,59 +185,117 @@ fn recheck_in(
     if !room {
         return Ok(too_many(alloc, most));
     }
-    make_and_check(alloc, terms, condition, names, titles, &leaves, texts, claim, heads.as_slice())
+    make_and_check(
+        alloc,
+        terms,
+        condition,
+        names,
+        titles,
+        &leaves,
+        texts,
+        claim,
+        heads.as_slice(),
+    )
 }
 
-// What was decided of a copied condition.
+// What was decided of a condition that was copied.
 fn decided(
     alloc: Global,
+    from: &Terms,
+    whole: &Condition,
     copied: Copied,
     names: &Names,
     titles: &[Option<Symbol>],
-    header: &Header,
+    routine: &[u8],
     most: u32,
     room: bool,
     entry: Option<&Entry>,
-) -> Result<Decided, AllocError> {
+) -> Result<Decided, AllocError>
+    requires copied { IsCopy from.now whole.now copied.terms.most copied }
+    requires asked { IsAsked most room copied.terms copied.condition }
+    requires few { length titles.now ≤ 2 ^ 32 }
+    ensures { IfOk result (IsRechecked (record { names = names.now; titles = titles.now; rules = []; most = most })
+        (record { routine = routine.now; kind = whole.now.origin.kind; line = whole.now.origin.line }) from.now whole.now (option_copied entry.entry)) }
+{
+    let _ = from;
+    let _ = whole;
     let Copied {
         mut terms,
         condition,
         base: _,
     } = copied;
-    let verdict = match entry {
-        Some(entry) => recheck_in(alloc, &mut terms, &condition, names, titles, header, most, room, entry)?,
-        None => Verdict::NotAccepted,
-    };
-    Ok(Decided {
-        terms,
-        condition,
-        verdict,
-    })
+    match entry {
+        Some(entry) => {
+            let verdict = recheck_in(
+                alloc, &mut terms, &condition, names, titles, routine, most, room, entry,
+            )?;
+            Ok(Decided {
+                terms,
+                condition,
+                verdict,
+            })
+        }
+        None => Ok(Decided {
+            terms,
+            condition,
+            verdict: Verdict::NotAccepted,
+        }),
+    }
 }
 
-/// Checks the proof of a condition that a listing says, where it says one. The answer has the condition in an arena of its own, of at most
-/// `most` terms, and what the check comes to.
-pub fn recheck(
+// The recheck of a condition, for at most so many terms.
+fn recheck_within(
     alloc: Global,
     terms: &Terms,
     condition: &Condition,
     names: &Names,
     titles: &[Option<Symbol>],
-    header: &Header,
+    routine: &[u8],
     most: u32,
     entry: Option<&Entry>,
 ) -> Result<Decided, AllocError>
     requires given { AllBelow (length terms.now.nodes) condition.now.given }
     requires goal { condition.now.goal.0 < length terms.now.nodes }
     requires formulas { AreFormulas terms.now.shapes terms.now.decls (formulas_of (question terms.now condition.now).sequent) }
-    ensures rechecked { IfOk result (IsRechecked (record { names = names.now; titles = titles.now; rules = []; most = most }) header.now terms.now condition.now (option_map (λ e. e.now) entry)) }
+    requires few { length titles.now ≤ 2 ^ 32 }
+    ensures { IfOk result (IsRechecked (record { names = names.now; titles = titles.now; rules = []; most = most })
+        (record { routine = routine.now; kind = condition.now.origin.kind; line = condition.now.origin.line }) terms.now condition.now (option_copied entry.entry)) }
 {
     match copy_condition(alloc, terms, condition, most) {
-        Ok(copied) => decided(alloc, copied, names, titles, header, most, true, entry),
+        Ok(copied) => decided(
+            alloc, terms, condition, copied, names, titles, routine, most, true, entry,
+        ),
         Err(TermFault::Size) => match copy_condition(alloc, terms, condition, u32::MAX) {
-            Ok(copied) => decided(alloc, copied, names, titles, header, most, false, entry),
+            Ok(copied) => decided(
+                alloc, terms, condition, copied, names, titles, routine, most, false, entry,
+            ),
             Err(_) => Err(AllocError),
         },
         Err(TermFault::Memory) => Err(AllocError),
     }
+}
+
+/// Checks the proof of a condition that a listing says, where it says one; the condition's routine is written so. The answer has the
+/// condition in an arena of its own, in which it claims the same, and what the check comes to.
+pub fn recheck(
+    alloc: Global,
+    terms: &Terms,
+    condition: &Condition,
+    names: &Names,
+    titles: &[Option<Symbol>],
+    routine: &[u8],
+    entry: Option<&Entry>,
+) -> Result<Decided, AllocError>
+    requires given { AllBelow (length terms.now.nodes) condition.now.given }
+    requires goal { condition.now.goal.0 < length terms.now.nodes }
+    requires formulas { AreFormulas terms.now.shapes terms.now.decls (formulas_of (question terms.now condition.now).sequent) }
+    ensures rechecked { IfOk result (IsRechecked (record { names = names.now; titles = titles.now; rules = []; most = most_terms })
+        (record { routine = routine.now; kind = condition.now.origin.kind; line = condition.now.origin.line }) terms.now condition.now (option_copied entry.entry)) }
+{
+    if titles.len() > 4294967296 {
+        return Err(AllocError);
+    }
+    recheck_within(
+        alloc, terms, condition, names, titles, routine, 1_000_000, entry,
+    )
 }
