@@ -82,6 +82,16 @@ fn push(heads: &mut Vec<Head>, sorts: &mut Vec<Sort>, one: One) -> Result<(), Al
     Ok(())
 }
 
+// The text at a place.
+fn text_at(place: usize) -> Result<Text, AllocError>
+    ensures { IfOk result (λ t. t.0 ≡ place) }
+{
+    if place >= 4294967296 {
+        return Err(AllocError);
+    }
+    Ok(Text(place as u32))
+}
+
 /// The heads of the terms that the texts of a listing stand for, one for each; none where one of them stands for no term.
 pub fn heads_of(
     alloc: Global,
@@ -100,7 +110,7 @@ pub fn heads_of(
     let mut heads = Vec::new(alloc);
     let mut sorts = Vec::new(alloc);
     for place in 0..texts.len() {
-        let t = Text(place as u32);
+        let t = text_at(place)?;
         let own = texts.args(t);
         let given = sorts_at(alloc, sorts.as_slice(), own)?;
         let read = read_one(names, titles, leaves, shapes, decls, texts, t, given.as_slice());

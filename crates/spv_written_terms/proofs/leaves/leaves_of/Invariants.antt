@@ -1,4 +1,4 @@
-use Rattle.std.proofs.Common.{◌≡◌, ◌×◌, take, map}
+use Rattle.std.proofs.Common.{◌≡◌, take, map}
 use Rattle.std.specs.List.{filter}
 use Rattle.spv_written_terms.specs.Standing.{is_leaf}
 use Rattle.spv_written_terms.specs.Leaves.{HaveLeaves}
