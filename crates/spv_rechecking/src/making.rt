@@ -1,6 +1,6 @@
 // The terms that texts stand for, made in an arena.
 
-ghost use Rattle.std.specs.Prelude.{◌≡◌, ◌<◌, ◌++◌, [], ◌∷◌, map, take, length, Err, IfOk, OnOk};
+ghost use Rattle.std.specs.Prelude.{◌≡◌, ◌<◌, ◌++◌, [], ◌∷◌, map, take, length, slice_get, Some, Err, IfOk, OnOk};
 ghost use Rattle.spv_term.specs.declared.nodes.TermFault.TheVariants.{Size};
 ghost use Rattle.spv_term.specs.Arena.{AllBelow, tree, Extends};
 ghost use Rattle.spv_search_terms.specs.subterms.Gaining.{Gains, Stops};
@@ -12,7 +12,7 @@ use spv_listing_values::texts::{Text, Texts};
 use spv_logic::names::{Names, Symbol};
 use spv_search_terms::subterms::made;
 use spv_term::{Head, TermFault, TermId, Terms};
-use spv_written_terms::Leaves;
+use spv_written_terms::{Leaves, text_at};
 use std::alloc::{AllocError, Global};
 
 /// The ids at these places.
@@ -25,6 +25,14 @@ pub(crate) fn ids_at(alloc: Global, images: &[TermId], places: &[Text]) -> Resul
         ids.push(images[place.0 as usize])?;
     }
     Ok(ids)
+}
+
+// The head at a place.
+fn head_at(heads: &[Head], t: Text) -> Head
+    requires { t.0 < length heads.now }
+    ensures { slice_get heads.now t.0 ≡ Some result }
+{
+    heads[t.0 as usize]
 }
 
 // Makes the term of a text whose arguments have theirs.
@@ -50,11 +58,15 @@ fn make_one(
     ensures grows { Extends terms.old terms.new }
     ensures size { result ≡ Err Size → Stops terms.old (term_of (vocabulary_in names.now titles.now leaves.now terms.old) (text_tree texts.now t) ∷ []) }
 {
-    let _ = (names, titles, leaves);
+    let _ = names;
+    let _ = titles;
+    let _ = leaves;
     terms.law_arena();
     texts.law_texts();
-    let args = ids_at(alloc, images, texts.args(t))?;
-    made(terms, heads[t.0 as usize], args.as_slice())
+    let own = texts.args(t);
+    let args = ids_at(alloc, images, own)?;
+    let head = head_at(heads, t);
+    made(terms, head, args.as_slice())
 }
 
 fn push(images: &mut Vec<TermId>, one: TermId) -> Result<(), AllocError>
@@ -82,6 +94,7 @@ pub(crate) fn make_all(
 {
     let mut images = Vec::new(alloc);
     for place in 0..texts.len() {
+        let t = text_at(place)?;
         let one = make_one(
             alloc,
             names,
@@ -90,7 +103,7 @@ pub(crate) fn make_all(
             texts,
             heads,
             images.as_slice(),
-            Text(place as u32),
+            t,
             terms,
         )?;
         push(&mut images, one)?;

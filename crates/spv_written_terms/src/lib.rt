@@ -9,7 +9,7 @@ mod reading;
 mod sorts;
 mod words;
 
-pub use heads::head_for;
+pub use heads::{head_for, symbol_for};
 pub use leaves::{Leaves, leaves_of};
-pub use reading::heads_of;
+pub use reading::{heads_of, text_at};
 pub use sorts::result_sort;

@@ -82,8 +82,8 @@ fn push(heads: &mut Vec<Head>, sorts: &mut Vec<Sort>, one: One) -> Result<(), Al
     Ok(())
 }
 
-// The text at a place.
-fn text_at(place: usize) -> Result<Text, AllocError>
+/// The text at a place. More than 4294967296 of them would take more memory than there is.
+pub fn text_at(place: usize) -> Result<Text, AllocError>
     ensures { IfOk result (λ t. t.0 ≡ place) }
 {
     if place >= 4294967296 {
