@@ -3,3 +3,5 @@ pub mod Order
 pub mod Agreeing
 pub mod Accepting
 pub mod MakeLemmas
+pub mod CompareLemmas
+pub mod ConvertLemmas
