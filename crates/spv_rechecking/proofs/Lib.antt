@@ -5,3 +5,4 @@ pub mod Accepting
 pub mod MakeLemmas
 pub mod CompareLemmas
 pub mod ConvertLemmas
+pub mod ReadLemmas
