@@ -6,3 +6,4 @@ pub mod MakeLemmas
 pub mod CompareLemmas
 pub mod ConvertLemmas
 pub mod ReadLemmas
+pub mod JudgeLemmas

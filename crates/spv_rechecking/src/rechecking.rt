@@ -2,17 +2,25 @@
 
 ghost use Rattle.std.specs.Prelude.{◌≡◌, ◌<◌, ◌≤◌, ◌^◌, ◌&&◌, [], true, ℕ, Some, IfOk, OnOk, length, map, option_copied};
 ghost use Rattle.spv_logic.specs.Terms.{term_eq};
-ghost use Rattle.spv_term.specs.Arena.{AllBelow, Extends, sequent, tree};
+ghost use Rattle.spv_term.specs.Arena.{AllBelow, Extends, sequent, tree, trees_of};
 ghost use Rattle.spv_models.specs.leaf_models.Laws.{AreFormulas};
 ghost use Rattle.spv_models.specs.leaf_models.Tables.{formulas_of};
 ghost use Rattle.spv_proof_rules.specs.Stand.{question};
 ghost use Rattle.spv_verdicts.specs.Verdicts.{most_terms};
-ghost use Rattle.spv_search_terms.specs.condition_copy.Copies.{IsCopy};
+ghost use Rattle.std.specs.List.{filter};
+ghost use Rattle.spv_proof.specs.checker.Ends.{ConditionIn};
+ghost use Rattle.spv_search_terms.specs.condition_copy.Copies.{IsCopy, all_terms};
+ghost use Rattle.spv_verdicts.specs.declared.answers.verdicts.Limit.TheVariants as limit;
+ghost use Rattle.spv_verdicts.specs.declared.answers.verdicts.Verdict.TheVariants as verdict;
+ghost use Rattle.spv_listing_values.specs.declared.data.Header.{Header};
+ghost use Rattle.spv_listing_values.specs.Places.{AreBefore, trees};
+ghost use Rattle.spv_written_terms.specs.Standing.{is_leaf};
 ghost use Rattle.spv_listing_values.specs.Entries.{IsEntry, written_claim};
 ghost use Rattle.spv_rechecking.specs.Rechecked as spec;
 ghost use Rattle.spv_rechecking.specs.Rechecked.{Recheck, IsRechecked};
-ghost use Rattle.spv_rechecking.specs.Made.{image_at, images_at};
-ghost use Rattle.spv_rechecking.specs.Asked.{IsAsked, IsFound};
+ghost use Rattle.spv_rechecking.specs.Made.{vocabulary_in, AreHeads, AreImages};
+ghost use Rattle.spv_rechecking.specs.Converted.{term_at};
+ghost use Rattle.spv_rechecking.specs.Asked.{verdict_after, IsJudged, IsAsked, IsFound};
 
 use crate::comparing::{same_claim, same_header};
 use crate::converting::nodes_of;
@@ -20,7 +28,7 @@ use crate::making::{ids_at, make_all};
 use crate::parts::parts_of;
 use spv_atoms::Proof;
 use spv_listing_values::Entry;
-use spv_listing_values::data::{self, Claim, Header};
+use spv_listing_values::data::{self, Claim};
 use spv_listing_values::texts::{Text, Texts};
 use spv_logic::list::List;
 use spv_logic::names::{Names, Symbol};
@@ -59,7 +67,9 @@ fn is_about(routine: &[u8], kind: Kind, line: u32, claim: &Claim<Text>) -> bool
 }
 
 // That there would be more terms than so many.
-fn too_many(alloc: Global, most: u32) -> Verdict {
+fn too_many(alloc: Global, most: u32) -> Verdict
+    ensures { result ≡ verdict.GaveUp [] (limit.Terms most) }
+{
     Verdict::GaveUp(List::new(alloc), Limit::Terms(u64::from(most)))
 }
 
@@ -69,7 +79,9 @@ fn verdict_of(
     most: u32,
     proof: Proof,
     outcome: Result<bool, CheckStop>,
-) -> Result<Verdict, AllocError> {
+) -> Result<Verdict, AllocError>
+    ensures { IfOk result (λ v. Some v ≡ verdict_after most proof outcome) }
+{
     match outcome {
         Ok(true) => Ok(Verdict::Proved(proof)),
         Ok(false) => Ok(Verdict::NotAccepted),
@@ -93,7 +105,15 @@ fn is_same(
     condition: &Condition,
     claim: &Claim<Text>,
     images: &[TermId],
-) -> Result<bool, AllocError> {
+) -> Result<bool, AllocError>
+    requires given { AllBelow (length terms.now.nodes) condition.now.given }
+    requires goal { condition.now.goal.0 < length terms.now.nodes }
+    requires images { AllBelow (length terms.now.nodes) images.now }
+    requires placed_given { AreBefore (length images.now) claim.now.given }
+    requires placed_goal { claim.now.goal.0 < length images.now }
+    ensures { IfOk result (λ b. b ≡ (spec.terms_eq (map (term_at terms.now images.now) claim.now.given) (map (tree terms.now) condition.now.given)
+        && term_eq (term_at terms.now images.now claim.now.goal) (tree terms.now condition.now.goal))) }
+{
     let given = ids_at(alloc, images, claim.given.as_slice())?;
     let goal = images[claim.goal.0 as usize];
     Ok(same_claim(
@@ -111,9 +131,22 @@ fn check_with(
     terms: &mut Terms,
     condition: &Condition,
     names: &Names,
+    titles: &[Option<Symbol>],
+    leaves: &Leaves,
+    texts: &Texts,
     claim: &Claim<Text>,
     images: &[TermId],
-) -> Result<Verdict, AllocError> {
+) -> Result<Verdict, AllocError>
+    requires condition { ConditionIn terms.old condition.now }
+    requires entry { IsEntry texts.now claim.now }
+    requires images { AreImages (vocabulary_in names.now titles.now leaves.now terms.old) terms.old (trees texts.now) images.now }
+    ensures judged { IfOk result (IsJudged (record { names = names.now; titles = titles.now; rules = []; most = terms.old.most })
+        (vocabulary_in names.now titles.now leaves.now terms.old) terms.old condition.now (written_claim texts.now claim.now) terms.new) }
+    ensures grows { OnOk result (Extends terms.old terms.new) }
+{
+    let _ = titles;
+    let _ = leaves;
+    let _ = texts;
     if !is_same(alloc, terms, condition, claim, images)? {
         return Ok(Verdict::NotAccepted);
     }
@@ -139,9 +172,29 @@ fn make_and_check(
     texts: &Texts,
     claim: &Claim<Text>,
     heads: &[Head],
-) -> Result<Verdict, AllocError> {
+) -> Result<Verdict, AllocError>
+    requires condition { ConditionIn terms.old condition.now }
+    requires terms { trees_of terms.old.nodes ≡ all_terms (sequent terms.old condition.now) }
+    requires entry { IsEntry texts.now claim.now }
+    requires proof { spec.has_node (spec.proof_of claim.now.verdict) ≡ true }
+    requires leaves { leaves.now.heads.items ≡ filter is_leaf (map (λ n. n.head) terms.old.nodes) }
+    requires heads { AreHeads (vocabulary_in names.now titles.now leaves.now terms.old) (trees texts.now) heads.now }
+    ensures found { IfOk result (λ v. (header : Header) → spec.header_eq claim.now.header header ≡ true
+        → IsFound (record { names = names.now; titles = titles.now; rules = []; most = terms.old.most }) header terms.old condition.now (Some (written_claim texts.now claim.now)) terms.new v) }
+    ensures grows { OnOk result (Extends terms.old terms.new) }
+{
     match make_all(alloc, names, titles, leaves, texts, heads, terms) {
-        Ok(images) => check_with(alloc, terms, condition, names, claim, images.as_slice()),
+        Ok(images) => check_with(
+            alloc,
+            terms,
+            condition,
+            names,
+            titles,
+            leaves,
+            texts,
+            claim,
+            images.as_slice(),
+        ),
         Err(TermFault::Size) => Ok(too_many(alloc, terms.most())),
         Err(TermFault::Memory) => Err(AllocError),
     }
