@@ -1,6 +1,7 @@
 -- The answer of the checker as a verdict, over plain variables.
 use Rattle.std.proofs.Common.{◌≡◌, ℕ, ◌<◌, Bool, true, false, ◌&&◌, Option, Some, None, Result, Ok, Err, List, [], ◌∷◌, map, length, IfOk, IfErr, refl, sym, ap, subst, ◌∙◌}
 use Rattle.std.specs.List.{list_all}
+use Rattle.spv_logic.specs.declared.names.names.Symbol.{Symbol}
 use Rattle.spv_logic.specs.declared.conditions.TermId.{TermId}
 use Rattle.spv_logic.specs.Terms.{Term}
 use Rattle.spv_logic.specs.Conditions.{Sequent}
@@ -16,6 +17,7 @@ use Rattle.spv_verdicts.specs.Verdicts as verdicts
 use Rattle.spv_verdicts.specs.declared.answers.verdicts.Verdict.{Verdict}
 use Rattle.spv_verdicts.specs.declared.answers.verdicts.Verdict.TheVariants as verdict
 use Rattle.spv_verdicts.specs.answers.Views.{VerdictIn, verdict_in}
+use Rattle.spv_listing_values.specs.declared.data.ProofNode as said_node
 use Rattle.spv_rechecking.specs.Rechecked.{Recheck, verdict_by, question_over, IsChecked}
 use Rattle.spv_rechecking.specs.Listed.{listed_nodes}
 use Rattle.spv_rechecking.specs.Asked.{verdict_after}
@@ -43,7 +45,7 @@ module _ (first last : Arena) (c : Condition) (nodes : List ProofNode) where
   by_answer (Err stop.Memory) v is came stops = absurd cc
 
 -- what the check of nodes comes to that a listing says so
-pub is_checked : (names : List (List ℕ)) (titles : List (Option _)) (first last : Arena) (c : Condition) (nodes : List ProofNode) (said : _) (v : Verdict) → Extends first last → NodesIn first nodes → listed_nodes names (tree first) nodes ≡ said
+pub is_checked : (names : List (List ℕ)) (titles : List (Option Symbol)) (first last : Arena) (c : Condition) (nodes : List ProofNode) (said : List (said_node.ProofNode Term)) (v : Verdict) → Extends first last → NodesIn first nodes → listed_nodes names (tree first) nodes ≡ said
     → verdict_in last v ≡ verdict_by first.most nodes (outcome first.most (question first c) (trees_of first.nodes) nodes).ending
     → IsChecked (record { names = names; titles = titles; rules = []; most = first.most }) (sequent first c) (trees_of first.nodes) said last (verdict_in last v)
 is_checked names titles first last c nodes said v grows inside are is = record {

@@ -11,7 +11,7 @@ ghost use Rattle.spv_rechecking.specs.Parts.{are_placed, counts, has_cases};
 ghost use Rattle.spv_rechecking.specs.Made.{images_at};
 ghost use Rattle.spv_rechecking.specs.Converted.{term_at, IsRelationOf, IsStepOf, IsSplitOf, AreStepsOf, AreNodesOf, StepPlaced, StepsPlaced, NodesPlaced};
 
-use crate::making::ids_at;
+use crate::making::{id_at, ids_at};
 use spv_atoms::{ProofNode, Relation, Split, Stated, Step};
 use spv_frac::Frac;
 use spv_listing_values::data;
@@ -114,14 +114,14 @@ fn step_of(
 {
     match step {
         data::Step::Given(number) => Ok(Some(Step::Given(*number))),
-        data::Step::Refl(t) => Ok(Some(Step::Refl(images[t.0 as usize]))),
+        data::Step::Refl(t) => Ok(Some(Step::Refl(id_at(images, *t)))),
         data::Step::Symm(fact) => Ok(Some(Step::Symm(*fact))),
         data::Step::Trans(first, second) => Ok(Some(Step::Trans(*first, *second))),
         data::Step::Cong(t, u, facts) => {
             let facts = numbers(alloc, facts)?;
-            Ok(Some(Step::Cong(images[t.0 as usize], images[u.0 as usize], facts)))
+            Ok(Some(Step::Cong(id_at(images, *t), id_at(images, *u), facts)))
         }
-        data::Step::Linear(t, first, second) => linear_of(alloc, terms, images[t.0 as usize], first, second),
+        data::Step::Linear(t, first, second) => linear_of(alloc, terms, id_at(images, *t), first, second),
         data::Step::Schema(kind, list, name) => {
             let ids = ids_at(alloc, images, list.as_slice())?;
             schema_of(alloc, terms, names, *kind, ids, name)
@@ -132,7 +132,7 @@ fn step_of(
         }
         data::Step::Eval(t, facts) => {
             let facts = numbers(alloc, facts)?;
-            Ok(Some(Step::Eval(Stated::Is(images[t.0 as usize], true), facts)))
+            Ok(Some(Step::Eval(Stated::Is(id_at(images, *t), true), facts)))
         }
         data::Step::Contra(first, second) => Ok(Some(Step::Contra(*first, *second))),
     }
@@ -168,7 +168,7 @@ fn split_of(images: &[TermId], split: &Option<data::Split<Text>>, parts: List<u3
     match split {
         None => None,
         Some(split) => Some(Split {
-            atom: images[split.atom.0 as usize],
+            atom: id_at(images, split.atom),
             parts,
         }),
     }

@@ -6,7 +6,7 @@ ghost use Rattle.spv_term.specs.Arena.{AllBelow, tree, Extends};
 ghost use Rattle.spv_search_terms.specs.subterms.Gaining.{Gains, Stops};
 ghost use Rattle.spv_listing_values.specs.Places.{AreBefore, IsTable, trees, tree as text_tree};
 ghost use Rattle.spv_rechecking.specs.Rechecked.{term_of};
-ghost use Rattle.spv_rechecking.specs.Made.{vocabulary_in, images_at, AreHeads, AreImages};
+ghost use Rattle.spv_rechecking.specs.Made.{vocabulary_in, image_at, images_at, AreHeads, AreImages};
 
 use spv_listing_values::texts::{Text, Texts};
 use spv_logic::names::{Names, Symbol};
@@ -15,6 +15,14 @@ use spv_term::{Head, TermFault, TermId, Terms};
 use spv_written_terms::{Leaves, text_at};
 use std::alloc::{AllocError, Global};
 
+/// The id at a place.
+pub(crate) fn id_at(images: &[TermId], place: Text) -> TermId
+    requires { place.0 < length images.now }
+    ensures { result ≡ image_at images.now place }
+{
+    images[place.0 as usize]
+}
+
 /// The ids at these places.
 pub(crate) fn ids_at(alloc: Global, images: &[TermId], places: &[Text]) -> Result<Vec<TermId>, AllocError>
     requires { AreBefore (length images.now) places.now }
@@ -22,7 +30,7 @@ pub(crate) fn ids_at(alloc: Global, images: &[TermId], places: &[Text]) -> Resul
 {
     let mut ids = Vec::new(alloc);
     for place in places {
-        ids.push(images[place.0 as usize])?;
+        ids.push(id_at(images, *place))?;
     }
     Ok(ids)
 }

@@ -24,7 +24,7 @@ ghost use Rattle.spv_rechecking.specs.Asked.{verdict_after, IsJudged, IsAsked, I
 
 use crate::comparing::{same_claim, same_header};
 use crate::converting::nodes_of;
-use crate::making::{ids_at, make_all};
+use crate::making::{id_at, ids_at, make_all};
 use crate::parts::parts_of;
 use spv_atoms::Proof;
 use spv_listing_values::Entry;
@@ -114,13 +114,15 @@ fn is_same(
     ensures { IfOk result (λ b. b ≡ (spec.terms_eq (map (term_at terms.now images.now) claim.now.given) (map (tree terms.now) condition.now.given)
         && term_eq (term_at terms.now images.now claim.now.goal) (tree terms.now condition.now.goal))) }
 {
-    let given = ids_at(alloc, images, claim.given.as_slice())?;
-    let goal = images[claim.goal.0 as usize];
+    let places = claim.given.as_slice();
+    let ids = ids_at(alloc, images, places)?;
+    let goal = id_at(images, claim.goal);
+    let own = condition.given.as_slice();
     Ok(same_claim(
         terms,
-        given.as_slice(),
+        ids.as_slice(),
         goal,
-        condition.given.as_slice(),
+        own,
         condition.goal,
     ))
 }
