@@ -1,6 +1,6 @@
 // A proof of a listing as one over an arena.
 
-ghost use Rattle.std.specs.Prelude.{◌≡◌, ◌<◌, ℕ, List, [], ◌∷◌, true, IfOk, IfSome, IsTrue, length, map, option_map};
+ghost use Rattle.std.specs.Prelude.{◌≡◌, ◌<◌, ◌++◌, ℕ, List, [], ◌∷◌, true, OnOk, IfOk, IfSome, IsTrue, length, map, option_map};
 ghost use Rattle.std.specs.List.{list_all};
 ghost use Rattle.spv_term.specs.Arena.{AllBelow, tree};
 ghost use Rattle.spv_atoms.specs.Shape.{is_tree};
@@ -138,6 +138,13 @@ fn step_of(
     }
 }
 
+fn push_step(list: &mut Vec<Step>, one: Step) -> Result<(), AllocError>
+    ensures { OnOk result (list.new.items ≡ list.old.items ++ one ∷ []) }
+{
+    list.push(one)?;
+    Ok(())
+}
+
 // Steps over the terms of an arena.
 fn steps_of(
     alloc: Global,
@@ -152,10 +159,11 @@ fn steps_of(
 {
     let mut list = Vec::new(alloc);
     for step in steps {
-        let Some(one) = step_of(alloc, terms, names, images, step)? else {
+        let made = step_of(alloc, terms, names, images, step)?;
+        let Some(one) = made else {
             return Ok(None);
         };
-        list.push(one)?;
+        push_step(&mut list, one)?;
     }
     Ok(Some(List::from_vec(list)))
 }
