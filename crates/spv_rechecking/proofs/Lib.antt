@@ -7,3 +7,4 @@ pub mod CompareLemmas
 pub mod ConvertLemmas
 pub mod ReadLemmas
 pub mod JudgeLemmas
+pub mod PartsLemmas
