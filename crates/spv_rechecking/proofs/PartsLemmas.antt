@@ -29,7 +29,7 @@ leaves_over : (k n count : ℕ) (cs : List ℕ) → are_trees n (k ∷ cs) ≡ t
 leaves_over k zero count cs h = absurd (false≢true h)
 leaves_over k (suc n) count cs h = record { others = n; is = refl; rest = h }
 
-module _ (nodes : List (ProofNode Text)) (tree : are_trees 1 (counts nodes) ≡ true) where
+module _ (nodes : List (ProofNode Text)) where
   abbrev from : ℕ → List ℕ
   from i = counts (drop i nodes)
 
@@ -65,22 +65,23 @@ module _ (nodes : List (ProofNode Text)) (tree : are_trees 1 (counts nodes) ≡ 
       no_trees zero h = refl
       no_trees (suc n) h = absurd (false≢true h)
 
-  module _ (roots : List ℕ) (parts : List (List ℕ)) (place : ℕ) (inv : ArePlacing roots parts place) (i : ℕ) (is : place ≡ i + 1) (d : ProofNode Text) where
+module _ (nodes : List (ProofNode Text)) (tree : are_trees 1 (counts nodes) ≡ true) where
+  module _ (roots : List ℕ) (parts : List (List ℕ)) (place : ℕ) (inv : ArePlacing nodes roots parts place) (i : ℕ) (is : place ≡ i + 1) (d : ProofNode Text) where
     lt : i < length nodes
     lt = let w = inv.within in omega (arith, w, is)
 
     abbrev k : ℕ
     k = cases_of (get_or nodes i d).split
 
-    from_is : from i ≡ k ∷ from place
-    from_is = ap counts (drop_more nodes i d lt) ∙ ap (λ j. k ∷ from j) (sym is)
+    from_is : from nodes i ≡ k ∷ from nodes place
+    from_is = ap counts (drop_more nodes i d lt) ∙ ap (λ j. k ∷ from nodes j) (sym is)
 
-    some : SomeTrees (k ∷ from place)
-    some = subst SomeTrees (sym (counts_drop i) ∙ from_is) (trees_left 1 (counts nodes) i tree)
+    some : SomeTrees (k ∷ from nodes place)
+    some = subst SomeTrees (sym (counts_drop nodes i) ∙ from_is) (trees_left 1 (counts nodes) i tree)
 
     pub enough : k ≤ length roots
     enough =
-        let l = leaves_over k some.n 0 (from place) some.are in
+        let l = leaves_over k some.n 0 (from nodes place) some.are in
         let size = inv.size (k + l.others) l.rest in
         omega (arith, size)
 
@@ -88,13 +89,13 @@ module _ (nodes : List (ProofNode Text)) (tree : are_trees 1 (counts nodes) ≡ 
       low : length roots - count ≤ length roots
       low = omega arith
 
-      pub one_more : ArePlacing more_roots more_parts i
+      pub one_more : ArePlacing nodes more_roots more_parts i
       one_more = record {
         placed =
             (λ j. are_placed i (roots_back j) (from_is j) (parts_back j))
-            ∙ both_true (nat_eq i i) (nat_eq k (length (reverse (drop (length roots - count) roots))) && are_placed (suc i) (reverse (drop (length roots - count) roots) ++ reverse (take (length roots - count) roots)) (from place) (reverse parts))
+            ∙ both_true (nat_eq i i) (nat_eq k (length (reverse (drop (length roots - count) roots))) && are_placed (suc i) (reverse (drop (length roots - count) roots) ++ reverse (take (length roots - count) roots)) (from nodes place) (reverse parts))
             (eq-eqb i i refl)
-            (both_true (nat_eq k (length (reverse (drop (length roots - count) roots)))) (are_placed (suc i) (reverse (drop (length roots - count) roots) ++ reverse (take (length roots - count) roots)) (from place) (reverse parts))
+            (both_true (nat_eq k (length (reverse (drop (length roots - count) roots)))) (are_placed (suc i) (reverse (drop (length roots - count) roots) ++ reverse (take (length roots - count) roots)) (from nodes place) (reverse parts))
             (eq-eqb k (length (reverse (drop (length roots - count) roots))) so_many) placed_behind);
         size = λ n h. size_more n (subst (λ cs. are_trees n cs ≡ true) from_is h);
         within = let w = inv.within in omega (arith, w, is);
@@ -121,9 +122,9 @@ module _ (nodes : List (ProofNode Text)) (tree : are_trees 1 (counts nodes) ≡ 
               let most = enough in
               omega (arith, both, whole, back, first, most, count_is)
 
-          placed_behind : are_placed (suc i) (reverse (drop (length roots - count) roots) ++ reverse (take (length roots - count) roots)) (from place) (reverse parts) ≡ true
+          placed_behind : are_placed (suc i) (reverse (drop (length roots - count) roots) ++ reverse (take (length roots - count) roots)) (from nodes place) (reverse parts) ≡ true
           placed_behind =
-              (λ j. are_placed (next j) (together j) (from place) (reverse parts)) ∙ inv.placed
+              (λ j. are_placed (next j) (together j) (from nodes place) (reverse parts)) ∙ inv.placed
             where
               next : suc i ≡ place
               next = omega (arith, is)
@@ -131,9 +132,9 @@ module _ (nodes : List (ProofNode Text)) (tree : are_trees 1 (counts nodes) ≡ 
               together : reverse (drop (length roots - count) roots) ++ reverse (take (length roots - count) roots) ≡ reverse roots
               together = sym (reverse-append (take (length roots - count) roots) (drop (length roots - count) roots)) ∙ ap reverse halves
 
-          size_more : (n : ℕ) → are_trees n (k ∷ from place) ≡ true → n ≡ length more_roots
+          size_more : (n : ℕ) → are_trees n (k ∷ from nodes place) ≡ true → n ≡ length more_roots
           size_more n h =
-              let l = leaves_over k n 0 (from place) h in
+              let l = leaves_over k n 0 (from nodes place) h in
               let size = inv.size (k + l.others) l.rest in
               let own_size : length more_roots ≡ length (take (length roots - count) roots) + 1 = ap length roots_are ∙ length-append (take (length roots - count) roots) (i ∷ []) in
               let first = taken in
@@ -141,7 +142,7 @@ module _ (nodes : List (ProofNode Text)) (tree : are_trees 1 (counts nodes) ≡ 
               omega (arith, size, own_size, first, n_is, count_is)
 
   -- at the end there is one root, the first node
-  pub all_placed : (roots : List ℕ) (parts : List (List ℕ)) → ArePlacing roots parts 0 → are_placed 0 (0 ∷ []) (counts nodes) (reverse parts) ≡ true
+  pub all_placed : (roots : List ℕ) (parts : List (List ℕ)) → ArePlacing nodes roots parts 0 → are_placed 0 (0 ∷ []) (counts nodes) (reverse parts) ≡ true
   all_placed roots parts inv = by roots (inv.size 1 tree) inv.placed
     where
       first_is : (r : ℕ) → are_placed 0 (r ∷ []) (counts nodes) (reverse parts) ≡ true → (cs : List ℕ) → cs ≡ counts nodes → (ps : List (List ℕ)) → ps ≡ reverse parts → are_placed 0 (r ∷ []) cs ps ≡ true → r ≡ 0

@@ -13,7 +13,7 @@ use Rattle.spv_listing_values.specs.declared.texts.Text.{Text}
 use Rattle.spv_listing_values.specs.declared.data.Step.{Step}
 use Rattle.spv_listing_values.specs.declared.data.Split.{Split}
 use Rattle.spv_listing_values.specs.declared.data.ProofNode.{ProofNode}
-use Rattle.spv_listing_values.specs.Mapped.{step_at, node_at, step_terms, split_terms, node_terms}
+use Rattle.spv_listing_values.specs.Mapped.{step_at, node_at, step_terms, split_terms}
 use Rattle.spv_listing_values.specs.Places.{AreBefore}
 use Rattle.spv_rechecking.specs.Rechecked.{is_relation, is_step, is_node}
 use Rattle.spv_rechecking.specs.Listed.{relation_at, listed_step, listed_node, listed_nodes}
@@ -50,9 +50,16 @@ abbrev pub StepsPlaced : ℕ → List (Step Text) → Type 0
 StepsPlaced count steps = AllByRecursion (StepPlaced count) steps
 
 abbrev pub NodesPlaced : ℕ → List (ProofNode Text) → Type 0
-NodesPlaced count nodes = AllByRecursion (λ n. AreBefore count (node_terms n)) nodes
+NodesPlaced count nodes = AllByRecursion (λ n. StepsPlaced count n.steps × AreBefore count (split_terms n.split)) nodes
 
 -- a split over the terms of an arena, with these places of its cases
 abbrev pub IsSplitOf : List TermId → Option (Split Text) → List ℕ → Option own_split.Split → Type 0
 IsSplitOf images None parts o = o ≡ None
 IsSplitOf images (Some s) parts o = o ≡ Some (record { atom = image_at images s.atom; parts = parts })
+
+-- a node over the terms of an arena, with these places of its cases; there is none where a step is none over terms
+abbrev pub IsNodeOf : List (List ℕ) → Arena → List TermId → ProofNode Text → List ℕ → Option own_node.ProofNode → Type 0
+IsNodeOf names a images n parts None = is_node names (node_at (term_at a images) n) ≡ false
+IsNodeOf names a images n parts (Some o) =
+    (map (listed_step names (tree a)) o.steps ≡ map (step_at (term_at a images)) n.steps) × IsSplitOf images n.split parts o.split
+    × StepsIn a o.steps × (is_node names (node_at (term_at a images) n) ≡ true)

@@ -9,7 +9,7 @@ ghost use Rattle.spv_listing_values.specs.declared.data.Step.TheVariants as says
 ghost use Rattle.spv_listing_values.specs.Places.{AreBefore};
 ghost use Rattle.spv_rechecking.specs.Parts.{are_placed, counts, has_cases};
 ghost use Rattle.spv_rechecking.specs.Made.{images_at};
-ghost use Rattle.spv_rechecking.specs.Converted.{term_at, IsRelationOf, IsStepOf, IsSplitOf, AreStepsOf, AreNodesOf, StepPlaced, StepsPlaced, NodesPlaced};
+ghost use Rattle.spv_rechecking.specs.Converted.{term_at, IsRelationOf, IsStepOf, IsSplitOf, AreStepsOf, AreNodesOf, IsNodeOf, StepPlaced, StepsPlaced, NodesPlaced};
 
 use crate::making::{id_at, ids_at};
 use spv_atoms::{ProofNode, Relation, Split, Stated, Step};
@@ -90,7 +90,8 @@ fn schema_of(
     requires { AllBelow (length terms.now.nodes) ids.items }
     ensures { IfOk result (λ s. IsStepOf names.now terms.now (says.Schema kind (map (tree terms.now) ids.items) name.now) s) }
 {
-    let _ = (alloc, terms);
+    let _ = alloc;
+    let _ = terms;
     match name {
         None => Ok(Some(Step::Schema(kind, List::from_vec(ids), None))),
         Some(name) => match symbol_for(names, name.as_slice()) {
@@ -182,6 +183,36 @@ fn split_of(images: &[TermId], split: &Option<data::Split<Text>>, parts: List<u3
     }
 }
 
+// A node over the terms of an arena, with these places of its cases.
+fn node_of(
+    alloc: Global,
+    terms: &Terms,
+    names: &Names,
+    images: &[TermId],
+    node: &data::ProofNode<Text>,
+    parts: &List<u32>,
+) -> Result<Option<ProofNode>, AllocError>
+    requires images { AllBelow (length terms.now.nodes) images.now }
+    requires steps { StepsPlaced (length images.now) node.now.steps }
+    requires split { AreBefore (length images.now) (split_terms node.now.split) }
+    ensures { IfOk result (λ n. IsNodeOf names.now terms.now images.now node.now parts.now n) }
+{
+    let made = steps_of(alloc, terms, names, images, node.steps.as_slice())?;
+    let Some(steps) = made else {
+        return Ok(None);
+    };
+    let own = numbers(alloc, parts)?;
+    let split = split_of(images, &node.split, own);
+    Ok(Some(ProofNode { steps, split }))
+}
+
+fn push_node(list: &mut Vec<ProofNode>, one: ProofNode) -> Result<(), AllocError>
+    ensures { OnOk result (list.new.items ≡ list.old.items ++ one ∷ []) }
+{
+    list.push(one)?;
+    Ok(())
+}
+
 /// The nodes of a proof over the terms of an arena, where each step is one over terms and each field a name of the program. A node is
 /// followed by its cases, whose places are these.
 pub(crate) fn nodes_of(
@@ -190,28 +221,22 @@ pub(crate) fn nodes_of(
     names: &Names,
     images: &[TermId],
     nodes: &[data::ProofNode<Text>],
-    parts: Vec<List<u32>>,
+    parts: &[List<u32>],
 ) -> Result<Option<Vec<ProofNode>>, AllocError>
     requires images { AllBelow (length terms.now.nodes) images.now }
     requires placed { NodesPlaced (length images.now) nodes.now }
     requires cases { list_all has_cases nodes.now ≡ true }
-    requires parts { are_placed 0 (0 ∷ []) (counts nodes.now) parts.items ≡ true }
-    ensures { IfOk result (λ list. AreNodesOf names.now terms.now (map (node_at (term_at terms.now images.now)) nodes.now) (option_map (λ l. l.items) list)) }
+    requires parts { are_placed 0 (0 ∷ []) (counts nodes.now) parts.now ≡ true }
+    ensures nodes { IfOk result (λ list. AreNodesOf names.now terms.now (map (node_at (term_at terms.now images.now)) nodes.now) (option_map (λ l. l.items) list)) }
     ensures tree { IfOk result (λ list. IfSome list (λ l. IsTrue (is_tree l.items))) }
 {
     let mut list = Vec::new(alloc);
-    let mut parts = parts.into_iter();
-    for node in nodes {
-        let Some(steps) = steps_of(alloc, terms, names, images, node.steps.as_slice())? else {
+    for place in 0..nodes.len() {
+        let made = node_of(alloc, terms, names, images, &nodes[place], &parts[place])?;
+        let Some(one) = made else {
             return Ok(None);
         };
-        let Some(own) = parts.next() else {
-            return Ok(None);
-        };
-        list.push(ProofNode {
-            steps,
-            split: split_of(images, &node.split, own),
-        })?;
+        push_node(&mut list, one)?;
     }
     Ok(Some(list))
 }

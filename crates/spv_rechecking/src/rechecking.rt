@@ -154,7 +154,8 @@ fn check_with(
     }
     let said = proof_in(&claim.verdict);
     let parts = parts_of(alloc, said)?;
-    let Some(nodes) = nodes_of(alloc, terms, names, images, said, parts)? else {
+    let made = nodes_of(alloc, terms, names, images, said, parts.as_slice())?;
+    let Some(nodes) = made else {
         return Ok(Verdict::NotAccepted);
     };
     let proof = Proof::new(nodes);
