@@ -8,3 +8,4 @@ pub mod ConvertLemmas
 pub mod ReadLemmas
 pub mod JudgeLemmas
 pub mod PartsLemmas
+pub mod FoundLemmas
