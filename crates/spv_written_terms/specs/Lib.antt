@@ -3,3 +3,4 @@ pub mod Standing
 pub mod Leaves
 pub mod Words
 pub mod Read
+pub mod Worked
