@@ -5,6 +5,9 @@ use Rattle.spv_written_terms.specs.Leaves.{if_leaf}
 use Rattle.spv_written_terms.proofs.Lists.{filter-more}
 use Rattle.spv_written_terms.proofs.leaves.leaves_of.Goals as goal
 
+pub loop-place-init : goal.loop-place-init
+loop-place-init c = record { heads = c.new-leaves.ensures.heads; have = c.new-leaves.ensures.have c.args.names.now c.args.titles.now }
+
 pub loop-place-preserved : goal.loop-place-preserved
 loop-place-preserved c =
     let node = c.node.result.now in
