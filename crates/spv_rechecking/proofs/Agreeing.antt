@@ -8,6 +8,7 @@ use Rattle.spv_logic.specs.declared.types.Decl.{Decl}
 use Rattle.spv_logic.specs.Terms.{Term}
 use Rattle.spv_logic.specs.Formulas.{negation, equation}
 use Rattle.spv_logic.specs.Conditions.{Sequent}
+use Rattle.spv_schemas.specs.declared.kinds.SchemaKind.{SchemaKind}
 use Rattle.spv_schemas.specs.Kinds.{kind_of_number}
 use Rattle.spv_term.specs.Arena.{Arena, AllBelow}
 use Rattle.spv_atoms.specs.declared.proofs.Relation.{Relation}
@@ -72,7 +73,7 @@ module _ (shapes : List Shape) (decls : List Decl) (c : Sequent) (rules : List R
   effect_same facts (step.Linear r first second) h = linear_same facts r first second h
   effect_same facts (step.Schema kind ts field) h = ap (λ (us : List Term). adds_known (fact_of_kind (over at) (kind_of_number kind) us field)) (all_same ts h) ∙ kind_same (kind_of_number kind)
     where
-      kind_same : (k : _) → adds_known (fact_of_kind (over at) k (map other ts) field) ≡ adds_known (fact_of_kind (over other) k (map other ts) field)
+      kind_same : (k : Option SchemaKind) → adds_known (fact_of_kind (over at) k (map other ts) field) ≡ adds_known (fact_of_kind (over other) k (map other ts) field)
       kind_same None = refl
       kind_same (Some k) = refl
   effect_same facts (step.Rule r ts) h = ap (λ (us : List Term). adds_known (instance_of shapes decls (numbered_rule rules r) us)) (all_same ts h)

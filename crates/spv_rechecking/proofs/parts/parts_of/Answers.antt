@@ -1,0 +1,5 @@
+use Rattle.spv_rechecking.proofs.PartsLemmas.{begins}
+use Rattle.spv_rechecking.proofs.parts.parts_of.Goals as goal
+
+pub loop-place-init : goal.loop-place-init
+loop-place-init c = begins c.args.nodes.now
