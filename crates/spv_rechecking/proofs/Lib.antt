@@ -9,3 +9,4 @@ pub mod ReadLemmas
 pub mod JudgeLemmas
 pub mod PartsLemmas
 pub mod FoundLemmas
+pub mod NodeLemmas
