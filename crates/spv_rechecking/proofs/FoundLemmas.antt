@@ -28,9 +28,9 @@ module _ (r : Recheck) (header : Header) (a last : Arena) (c : Condition) (entry
 
   pub found_many : read ≡ TooMany → (v : Verdict) → v ≡ verdict.GaveUp [] (limit.Terms r.most) → IsFound r header a c entry last v
   found_many h v is = subst (IsFound r header a c entry last) (sym is) (record {
-      terms_in = (tt, tt);
-      right = subst (λ (x : Reading). IsVerdictOf r (sequent a c) x last (verdicts.GaveUp [] (verdicts.TooManyTerms r.most))) (sym h) refl;
-    })
+    terms_in = (tt, tt);
+    right = subst (λ (x : Reading). IsVerdictOf r (sequent a c) x last (verdicts.GaveUp [] (verdicts.TooManyTerms r.most))) (sym h) refl;
+  })
 
 module _ (r : Recheck) (header : Header) (a b last : Arena) (c : Condition) (same : sequent b c ≡ sequent a c) (e : Claim Written) (found : Verdict) where
   abbrev v : Vocabulary

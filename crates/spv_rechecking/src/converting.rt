@@ -122,7 +122,13 @@ fn step_of(
             let facts = numbers(alloc, facts)?;
             Ok(Some(Step::Cong(id_at(images, *t), id_at(images, *u), facts)))
         }
-        data::Step::Linear(t, first, second) => linear_of(alloc, terms, id_at(images, *t), first, second),
+        data::Step::Linear(t, first, second) => linear_of(
+            alloc,
+            terms,
+            id_at(images, *t),
+            first,
+            second,
+        ),
         data::Step::Schema(kind, list, name) => {
             let ids = ids_at(alloc, images, list.as_slice())?;
             schema_of(alloc, terms, names, *kind, ids, name)

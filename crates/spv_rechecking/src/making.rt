@@ -24,7 +24,11 @@ pub(crate) fn id_at(images: &[TermId], place: Text) -> TermId
 }
 
 /// The ids at these places.
-pub(crate) fn ids_at(alloc: Global, images: &[TermId], places: &[Text]) -> Result<Vec<TermId>, AllocError>
+pub(crate) fn ids_at(
+    alloc: Global,
+    images: &[TermId],
+    places: &[Text],
+) -> Result<Vec<TermId>, AllocError>
     requires { AreBefore (length images.now) places.now }
     ensures { IfOk result (λ ids. ids.items ≡ images_at images.now places.now) }
 {

@@ -51,7 +51,10 @@ fn push_parts(
 }
 
 /// For each node of a tree the places of its cases, where each node is followed by its cases.
-pub(crate) fn parts_of(alloc: Global, nodes: &[ProofNode<Text>]) -> Result<Vec<List<u32>>, AllocError>
+pub(crate) fn parts_of(
+    alloc: Global,
+    nodes: &[ProofNode<Text>],
+) -> Result<Vec<List<u32>>, AllocError>
     requires tree { are_trees 1 (counts nodes.now) ≡ true }
     requires few { length nodes.now < 2 ^ 32 }
     ensures { IfOk result (λ parts. are_placed 0 (0 ∷ []) (counts nodes.now) parts.items ≡ true) }

@@ -118,13 +118,7 @@ fn is_same(
     let ids = ids_at(alloc, images, places)?;
     let goal = id_at(images, claim.goal);
     let own = condition.given.as_slice();
-    Ok(same_claim(
-        terms,
-        ids.as_slice(),
-        goal,
-        own,
-        condition.goal,
-    ))
+    Ok(same_claim(terms, ids.as_slice(), goal, own, condition.goal))
 }
 
 // The verdict of a recheck, where the texts of the listing have these ids.

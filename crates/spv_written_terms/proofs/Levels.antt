@@ -107,11 +107,11 @@ module _ (v : Vocabulary) (ws : List Written) (sorts : List Sort) (i : ℕ) (kno
         where
           by : (b : Bool) → may_stand v.shapes k ≡ b → (if b then result_sort v.shapes v.decls k (sorts_of sorts args) else None) ≡ Some s → head_read v own ≡ Some k
           by true g m = ap (option_map top) (stands_for v own s (record {
-                  t = mine;
-                  heads = given_heads k e;
-                  sort = sort_is ∙ m;
-                  pass = both_true (may_stand v.shapes k) (all_heads_pass (may_stand v.shapes) (args_read args before).us) g (args_read args before).pass;
-                }))
+            t = mine;
+            heads = given_heads k e;
+            sort = sort_is ∙ m;
+            pass = both_true (may_stand v.shapes k) (all_heads_pass (may_stand v.shapes) (args_read args before).us) g (args_read args before).pass;
+          }))
           by false g m = absurd cc
 
       pub one_fails : sort_over v.shapes v.decls k (sorts_of sorts args) ≡ None → stands v own ≡ false

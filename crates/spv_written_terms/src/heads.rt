@@ -112,12 +112,7 @@ fn type_for(names: &Names, titles: &[Option<Symbol>], word: &[u8]) -> Option<Typ
 }
 
 // What stands alone as this word.
-fn alone_for(
-    names: &Names,
-    titles: &[Option<Symbol>],
-    leaves: &Leaves,
-    word: &[u8],
-) -> Option<Head>
+fn alone_for(names: &Names, titles: &[Option<Symbol>], leaves: &Leaves, word: &[u8]) -> Option<Head>
     requires { HaveLeaves names.now titles.now leaves.now }
     ensures { result ≡ spec.alone_for (words names.now titles.now leaves.now) word.now }
 {
@@ -137,12 +132,7 @@ fn applied_for(names: &Names, word: &[u8]) -> Option<Head>
 }
 
 // An operator with the name of a field or of a type.
-fn named_for(
-    names: &Names,
-    titles: &[Option<Symbol>],
-    word: &[u8],
-    name: &[u8],
-) -> Option<Head>
+fn named_for(names: &Names, titles: &[Option<Symbol>], word: &[u8], name: &[u8]) -> Option<Head>
     requires { length titles.now ≤ 2 ^ 32 }
     ensures { result ≡ spec.named_for names.now titles.now word.now name.now }
 {

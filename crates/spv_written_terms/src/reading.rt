@@ -113,7 +113,16 @@ pub fn heads_of(
         let t = text_at(place)?;
         let own = texts.args(t);
         let given = sorts_at(alloc, sorts.as_slice(), own)?;
-        let read = read_one(names, titles, leaves, shapes, decls, texts, t, given.as_slice());
+        let read = read_one(
+            names,
+            titles,
+            leaves,
+            shapes,
+            decls,
+            texts,
+            t,
+            given.as_slice(),
+        );
         let Some(one) = read else {
             return Ok(None);
         };

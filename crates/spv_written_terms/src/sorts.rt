@@ -204,7 +204,11 @@ fn class_change(shapes: &[Shape], class: Sort, given: &[Sort]) -> Option<Sort>
     ensures { result ≡ spec.class_change shapes.now class given.now }
 {
     match class {
-        Sort::Class(t) => takes(&[class, Sort::Ptr(t), sort_of_type(shapes, t)], given, class),
+        Sort::Class(t) => takes(
+            &[class, Sort::Ptr(t), sort_of_type(shapes, t)],
+            given,
+            class,
+        ),
         _ => None,
     }
 }
