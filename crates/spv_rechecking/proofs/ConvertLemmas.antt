@@ -69,8 +69,8 @@ module _ (names : List (List ℕ)) (a : Arena) (images : List TermId) (steps : L
     pub pass : list_all (is_step names) (map said (take i steps)) ≡ true
     pub placed : StepsPlaced (length images) (drop i steps)
 
-  pub no_steps : StepsPlaced (length images) steps → AreSteps [] 0
-  no_steps h = record { listed = refl; inside = tt; pass = refl; placed = h }
+  pub no_steps : StepsPlaced (length images) steps → (list : List own.Step) → list ≡ [] → AreSteps list 0
+  no_steps h list e = subst (λ l. AreSteps l 0) (sym e) (record { listed = refl; inside = tt; pass = refl; placed = h })
 
   inside_more : (list : List own.Step) (one : own.Step) → StepsIn a list → StepIn a one → StepsIn a (list ++ one ∷ [])
   inside_more [] one h k = (k, tt)
@@ -107,9 +107,9 @@ module _ (names : List (List ℕ)) (a : Arena) (images : List TermId) (steps : L
 
     pub more_steps : (o : Option own.Step) → IsStepOf names a (said (get_or steps i d)) o → (x : own.Step) → o ≡ Some x → (more : List own.Step) → more ≡ list ++ x ∷ [] → AreSteps more (i + 1)
     more_steps None h x e more add = absurd cc
-    more_steps (Some s) h x e more add = one_step s x h cc more add
+    more_steps (Some s) h x e more add = let same : s ≡ x = cc in one_step s x h same more add
 
-  pub all_steps : (list : List own.Step) (i : ℕ) → AreSteps list i → length steps ≤ i → AreStepsOf names a (map said steps) (Some list)
-  all_steps list i inv past =
+  pub all_steps : (list : List own.Step) (i : ℕ) → AreSteps list i → length steps ≤ i → (made : List own.Step) → made ≡ list → AreStepsOf names a (map said steps) (Some made)
+  all_steps list i inv past made e =
       let whole : take i steps ≡ steps = take_all i steps past in
-      (inv.listed ∙ ap (map said) whole, inv.inside, ap (λ ss. list_all (is_step names) (map said ss)) (sym whole) ∙ inv.pass)
+      subst (λ l. AreStepsOf names a (map said steps) (Some l)) (sym e) (inv.listed ∙ ap (map said) whole, inv.inside, ap (λ ss. list_all (is_step names) (map said ss)) (sym whole) ∙ inv.pass)

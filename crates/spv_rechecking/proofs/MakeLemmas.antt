@@ -51,7 +51,7 @@ module _ (names : List (List ℕ)) (titles : List (Option Symbol)) (l : Leaves) 
     head_there = let size = so_many_heads in omega (arith, here, size)
 
     -- the ids of arguments
-    no_id : TermId
+    abbrev no_id : TermId
     no_id = record { 0 = 0 }
 
     image_inside : (p : Text) → p.0 < length images → (image_at images p).0 < length a.nodes
@@ -162,8 +162,8 @@ module _ (names : List (List ℕ)) (titles : List (Option Symbol)) (l : Leaves) 
   pub same_words : (now : Arena) → Extends start now → vocabulary_in names titles l now ≡ vs
   same_words now grows = λ i. vocabulary_in names titles l (record { nodes = now.nodes; most = now.most; shapes = grows.shapes i; decls = grows.decls i })
 
-  pub begins : IsMaking start [] 0
-  begins = record { remains = Remains-all start all; trees_are = refl; inside = tt; within = omega arith; grows = Extends-refl start }
+  pub begins : (images : List TermId) → images ≡ [] → IsMaking start images 0
+  begins images e = subst (λ us. IsMaking start us 0) (sym e) (record { remains = Remains-all start all; trees_are = refl; inside = tt; within = omega arith; grows = Extends-refl start })
 
   module _ (now : Arena) (images : List TermId) (i : ℕ) (m : IsMaking now images i) where
     pub so_many : length images ≡ i

@@ -54,8 +54,8 @@ module _ (nodes : List (ProofNode Text)) where
       by [] = refl
       by (n ∷ ns) = by ns
 
-  pub begins : ArePlacing [] [] (length nodes)
-  begins = record {
+  begins_empty : ArePlacing [] [] (length nodes)
+  begins_empty = record {
     placed = ap (λ ns. are_placed (length nodes) [] (counts ns) []) none_past;
     size = λ n h. no_trees n (subst (λ ns. are_trees n (counts ns) ≡ true) none_past h);
     within = omega arith;
@@ -64,6 +64,9 @@ module _ (nodes : List (ProofNode Text)) where
       no_trees : (n : ℕ) → are_trees n [] ≡ true → n ≡ 0
       no_trees zero h = refl
       no_trees (suc n) h = absurd (false≢true h)
+
+  pub begins : (roots : List ℕ) (parts : List (List ℕ)) → roots ≡ [] → parts ≡ [] → ArePlacing roots parts (length nodes)
+  begins roots parts e f = subst (λ rs. ArePlacing rs parts (length nodes)) (sym e) (subst (λ ps. ArePlacing [] ps (length nodes)) (sym f) begins_empty)
 
 module _ (nodes : List (ProofNode Text)) (tree : are_trees 1 (counts nodes) ≡ true) where
   module _ (roots : List ℕ) (parts : List (List ℕ)) (place : ℕ) (inv : ArePlacing nodes roots parts place) (i : ℕ) (is : place ≡ i + 1) (d : ProofNode Text) where

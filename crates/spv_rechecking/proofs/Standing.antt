@@ -16,7 +16,7 @@ use Rattle.spv_listing_values.specs.Written.{Written, Writtens, written, no_writ
 use Rattle.spv_listing_values.specs.Places.{Flat, no_flat, flat_in, IsTable, args_at, tree_of, trees_behind, trees, tree, flat_eq, with_flat, place_of, Entered, entered, all_entered, list_entered, flats_of}
 use Rattle.spv_listing_values.specs.Waiting.{AreIn}
 use Rattle.spv_listing_values.proofs.Entering.{entering}
-use Rattle.spv_listing_values.proofs.Grown.{Grown, IsEntered, AreEntered, is_entered, placed, grown_none, grown_twice, in_more, tree_stays, trees_append, length_trees}
+use Rattle.spv_listing_values.proofs.Grown.{Grown, IsEntered, AreEntered, is_entered, placed, grown_none, grown_twice, in_more, tree_stays, length_trees}
 use Rattle.spv_listing_values.proofs.Numerals.{both_true}
 use Rattle.spv_written_terms.specs.Standing.{Vocabulary, top, head_for, over, in_front, heads_over, all_heads_over, may_stand, is_term, if_term, term_for, stands}
 use Rattle.spv_written_terms.specs.Read.{head_read}
@@ -183,6 +183,10 @@ module _ (v : Vocabulary) where
 
   abbrev pub AllStand : List Flat → Type 0
   AllStand fs = list_all (stands v) (trees fs) ≡ true
+
+  trees_append : (fs gs : List Flat) (before : List Written) → trees_behind before (fs ++ gs) ≡ trees_behind (trees_behind before fs) gs
+  trees_append [] gs before = refl
+  trees_append (f ∷ fs) gs before = trees_append fs gs (before ++ tree_of before f ∷ [])
 
   pub trees_push : (fs : List Flat) (f : Flat) → trees (fs ++ f ∷ []) ≡ trees fs ++ tree_of (trees fs) f ∷ []
   trees_push fs f = trees_append fs (f ∷ []) []

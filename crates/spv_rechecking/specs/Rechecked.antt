@@ -137,10 +137,10 @@ abbrev pub nodes_of : Vocabulary → Claim Written → List (ProofNode Term)
 nodes_of v e = map (node_at (term_of v)) (proof_of e.verdict)
 
 abbrev pub reading_by : Bool → Bool → Bool → List Term → List (ProofNode Term) → Reading
-reading_by false many fits terms nodes = Other
-reading_by true true fits terms nodes = TooMany
-reading_by true false false terms nodes = Other
-reading_by true false true terms nodes = Reads terms nodes
+reading_by false many fits there nodes = Other
+reading_by true true fits there nodes = TooMany
+reading_by true false false there nodes = Other
+reading_by true false true there nodes = Reads there nodes
 
 abbrev pub reading : Vocabulary → ℕ → Header → Sequent → Option (Claim Written) → Reading
 reading v most header c None = Other
@@ -161,19 +161,19 @@ abbrev pub question_over : List Rule → Arena → Sequent → Question
 question_over rules a c = record { shapes = a.shapes; decls = a.decls; at = tree a; sequent = c; rules = rules }
 
 -- a verdict over an arena is what the check of a proof comes to that a listing says so, where there are these terms when it begins
-pub record IsChecked (r : Recheck) (c : Sequent) (terms : List Term) (said : List (ProofNode Term)) (last : Arena) (v : Verdict) : Type 0 where
+pub record IsChecked (r : Recheck) (c : Sequent) (there : List Term) (said : List (ProofNode Term)) (last : Arena) (v : Verdict) : Type 0 where
   pub first : Arena
-  pub terms_are : trees_of first.nodes ≡ terms
+  pub terms_are : trees_of first.nodes ≡ there
   pub grows : Extends first last
   pub nodes : List own.ProofNode
   pub nodes_in : NodesIn first nodes
   pub nodes_are : listed_nodes r.names (tree first) nodes ≡ said
-  pub verdict : v ≡ verdict_by r.most nodes (outcome r.most (question_over r.rules first c) terms nodes).ending
+  pub verdict : v ≡ verdict_by r.most nodes (outcome r.most (question_over r.rules first c) there nodes).ending
 
 abbrev pub IsVerdictOf : Recheck → Sequent → Reading → Arena → Verdict → Type 0
 IsVerdictOf r c Other last v = v ≡ NotAccepted
 IsVerdictOf r c TooMany last v = v ≡ GaveUp [] (TooManyTerms r.most)
-IsVerdictOf r c (Reads terms said) last v = IsChecked r c terms said last v
+IsVerdictOf r c (Reads there said) last v = IsChecked r c there said last v
 
 -- what was found of a condition of an arena, of which a listing says this, where it says something: the condition claims the same in an
 -- arena of its own, and the verdict is what the recheck comes to

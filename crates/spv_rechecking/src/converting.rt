@@ -165,8 +165,8 @@ fn steps_of(
     ensures { IfOk result (λ s. AreStepsOf names.now terms.now (map (step_at (term_at terms.now images.now)) steps.now) s) }
 {
     let mut list = Vec::new(alloc);
-    for step in steps {
-        let made = step_of(alloc, terms, names, images, step)?;
+    for place in 0..steps.len() {
+        let made = step_of(alloc, terms, names, images, &steps[place])?;
         let Some(one) = made else {
             return Ok(None);
         };

@@ -1,6 +1,6 @@
 // The recheck of a condition.
 
-ghost use Rattle.std.specs.Prelude.{◌≡◌, ◌<◌, ◌≤◌, ◌^◌, ◌&&◌, [], true, ℕ, Some, IfOk, OnOk, length, map, option_copied};
+ghost use Rattle.std.specs.Prelude.{◌≡◌, ◌<◌, ◌≤◌, ◌^◌, ◌&&◌, [], true, ℕ, Some, Err, IfOk, OnOk, length, map, option_copied};
 ghost use Rattle.spv_logic.specs.Terms.{term_eq};
 ghost use Rattle.spv_term.specs.Arena.{AllBelow, Extends, sequent, tree, trees_of};
 ghost use Rattle.spv_models.specs.leaf_models.Laws.{AreFormulas};
@@ -73,6 +73,29 @@ fn too_many(alloc: Global, most: u32) -> Verdict
     Verdict::GaveUp(List::new(alloc), Limit::Terms(u64::from(most)))
 }
 
+// What a check comes to that was stopped.
+fn stopped(
+    alloc: Global,
+    most: u32,
+    proof: Proof,
+    stop: &CheckStop,
+) -> Result<Verdict, AllocError>
+    ensures { IfOk result (λ v. Some v ≡ verdict_after most proof (Err stop.now)) }
+{
+    match stop {
+        CheckStop::Wide(op, left, right) => Ok(Verdict::GaveUp(
+            List::new(alloc),
+            Limit::Number(Wide::Sum(proof, *op, *left, *right)),
+        )),
+        CheckStop::Form(t) => Ok(Verdict::GaveUp(
+            List::new(alloc),
+            Limit::Number(Wide::Form(*t)),
+        )),
+        CheckStop::Size => Ok(too_many(alloc, most)),
+        CheckStop::Memory => Err(AllocError),
+    }
+}
+
 // What a check comes to.
 fn verdict_of(
     alloc: Global,
@@ -85,16 +108,7 @@ fn verdict_of(
     match outcome {
         Ok(true) => Ok(Verdict::Proved(proof)),
         Ok(false) => Ok(Verdict::NotAccepted),
-        Err(CheckStop::Wide(op, left, right)) => Ok(Verdict::GaveUp(
-            List::new(alloc),
-            Limit::Number(Wide::Sum(proof, op, left, right)),
-        )),
-        Err(CheckStop::Form(t)) => Ok(Verdict::GaveUp(
-            List::new(alloc),
-            Limit::Number(Wide::Form(t)),
-        )),
-        Err(CheckStop::Size) => Ok(too_many(alloc, most)),
-        Err(CheckStop::Memory) => Err(AllocError),
+        Err(stop) => stopped(alloc, most, proof, &stop),
     }
 }
 

@@ -2,20 +2,20 @@ use Rattle.std.proofs.Common.{arith}
 use Rattle.spv_rechecking.proofs.ConvertLemmas.{no_steps, step_placed, step_fails, more_steps, all_steps}
 use Rattle.spv_rechecking.proofs.converting.steps_of.Goals as goal
 
-pub loop-step-init : goal.loop-step-init
-loop-step-init c = no_steps c.args.names.now c.args.terms.now c.args.images.now c.args.steps.now c.requires.placed
+pub loop-place-init : goal.loop-place-init
+loop-place-init c = no_steps c.args.names.now c.args.terms.now c.args.images.now c.args.steps.now c.requires.placed c.new-list.result.items c.new-list.ensures.items
 
 pub step_of-requires-clause-placed : goal.step_of-requires-clause-placed
-step_of-requires-clause-placed c = step_placed c.args.names.now c.args.terms.now c.args.images.now c.args.steps.now c.loop-step.list.items c.loop-step.step-index c.loop-step.invariant _ c.loop-step-test.true
+step_of-requires-clause-placed c = step_placed c.args.names.now c.args.terms.now c.args.images.now c.args.steps.now c.loop-place.list.items c.loop-place.place c.loop-place.invariant _ c.loop-place-test.true
 
 pub returns-in_default : goal.returns-in_default
 returns-in_default c =
-    step_fails c.args.names.now c.args.terms.now c.args.images.now c.args.steps.now c.loop-step.list.items c.loop-step.step-index c.loop-step.invariant _ c.loop-step-test.true c.in_ok-made.made c.in_ok-made.ensures c.in_default.is
+    step_fails c.args.names.now c.args.terms.now c.args.images.now c.args.steps.now c.loop-place.list.items c.loop-place.place c.loop-place.invariant _ c.loop-place-test.true c.in_ok-made.made c.in_ok-made.ensures c.in_default.is
 
-pub loop-step-preserved : goal.loop-step-preserved
-loop-step-preserved c =
-    more_steps c.args.names.now c.args.terms.now c.args.images.now c.args.steps.now c.loop-step.list.items c.loop-step.step-index c.loop-step.invariant _ c.loop-step-test.true c.in_ok-made.made c.in_ok-made.ensures c.in-Some.one
+pub loop-place-preserved : goal.loop-place-preserved
+loop-place-preserved c =
+    more_steps c.args.names.now c.args.terms.now c.args.images.now c.args.steps.now c.loop-place.list.items c.loop-place.place c.loop-place.invariant _ c.loop-place-test.true c.in_ok-made.made c.in_ok-made.ensures c.in-Some.one
     c.in-Some.is c.push_step.new.list.items c.in_ok-push_step.ensures
 
 pub returns : goal.returns
-returns c = all_steps c.args.names.now c.args.terms.now c.args.images.now c.args.steps.now c.loop-step.list.items c.loop-step.step-index c.loop-step.invariant (omega (arith, c.loop-step-test.false))
+returns c = all_steps c.args.names.now c.args.terms.now c.args.images.now c.args.steps.now c.loop-place.list.items c.loop-place.place c.loop-place.invariant (omega (arith, c.loop-place-test.false)) c.from_vec.result c.from_vec.ensures

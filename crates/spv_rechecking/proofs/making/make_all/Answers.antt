@@ -8,7 +8,7 @@ use Rattle.spv_rechecking.proofs.MakeLemmas.{begins, heads_now, count_now, image
 use Rattle.spv_rechecking.proofs.making.make_all.Goals as goal
 
 pub loop-place-init : goal.loop-place-init
-loop-place-init c = begins c.args.names.now c.args.titles.now c.args.leaves.now c.args.terms.now (trees c.args.texts.now)
+loop-place-init c = begins c.args.names.now c.args.titles.now c.args.leaves.now c.args.terms.now (trees c.args.texts.now) c.new-images.result.items c.new-images.ensures.items
 
 pub make_one-requires-clause-heads : goal.make_one-requires-clause-heads
 make_one-requires-clause-heads c = heads_now c.args.names.now c.args.titles.now c.args.leaves.now c.args.terms.now (trees c.args.texts.now) c.loop-place.terms c.loop-place.images.items c.loop-place.place c.loop-place.invariant c.args.heads.now c.requires

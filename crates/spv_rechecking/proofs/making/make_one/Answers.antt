@@ -8,8 +8,8 @@ pub ids_at-requires : goal.ids_at-requires
 ids_at-requires c =
     args_placed c.args.names.now c.args.titles.now c.args.leaves.now c.args.terms.now c.law_arena.ensures c.args.texts.now c.law_texts.ensures c.args.heads.now c.requires.heads c.args.t c.requires.t c.args.images.now c.requires.count c.requires.images c.requires.in_range c.args-own.result.now c.args-own.ensures
 
-pub head_at-requires : goal.head_at-requires
-head_at-requires c =
+pub head_at-head-requires : goal.head_at-head-requires
+head_at-head-requires c =
     head_there c.args.names.now c.args.titles.now c.args.leaves.now c.args.terms.now c.law_arena.ensures c.args.texts.now c.law_texts.ensures c.args.heads.now c.requires.heads c.args.t c.requires.t c.args.images.now c.requires.count c.requires.images c.requires.in_range
 
 pub made-requires-clause-args : goal.made-requires-clause-args
