@@ -1,5 +1,5 @@
 -- Steps and nodes over an arena, and what a listing says of them, over plain variables.
-use Rattle.std.proofs.Common.{◌≡◌, ℕ, zero, suc, ◌+◌, ◌<◌, ◌≤◌, Bool, true, false, ◌&&◌, Option, Some, None, List, [], ◌∷◌, ◌++◌, map, take, drop, length, get_or, slice_get, refl, sym, ap, subst, ◌∙◌, arith}
+use Rattle.std.proofs.Common.{◌≡◌, ℕ, zero, suc, ◌+◌, ◌<◌, ◌≤◌, Bool, true, false, ◌&&◌, Option, Some, None, Result, Ok, Err, IfOk, List, [], ◌∷◌, ◌++◌, map, take, drop, length, get_or, slice_get, refl, sym, ap, subst, ◌∙◌, arith}
 use Rattle.std.specs.List.{list_all}
 use Rattle.std.proofs.lemmas.List.{map-append, take_more, take_all, drop_more}
 use Rattle.std.proofs.lemmas.List.Folds.{list_all-append}
@@ -20,12 +20,16 @@ use Rattle.spv_listing_values.specs.declared.data.Step as says
 use Rattle.spv_listing_values.specs.Mapped.{step_at}
 use Rattle.spv_listing_values.proofs.Numerals.{both_true}
 use Rattle.spv_atoms.specs.declared.proofs.Step as own
+use Rattle.spv_atoms.specs.declared.proofs.Step.TheVariants as own_step
+use Rattle.spv_atoms.specs.declared.proofs.Stated.TheVariants.{Is}
+use Rattle.spv_listing_values.specs.declared.data.Step.TheVariants as step
+use Rattle.spv_whole.specs.Fraction.{Fraction}
 use Rattle.spv_proof_rules.specs.Stand.{StepIn, StepsIn}
 use Rattle.spv_logic.proofs.list.Tests.{and_false}
 use Rattle.spv_rechecking.specs.Rechecked.{is_relation, is_step}
 use Rattle.spv_rechecking.specs.Listed.{listed_step}
 use Rattle.spv_rechecking.specs.Made.{image_at, images_at}
-use Rattle.spv_rechecking.specs.Converted.{term_at, IsRelationOf, IsStepOf, AreStepsOf, StepPlaced, StepsPlaced}
+use Rattle.spv_rechecking.specs.Converted.{relation_over, term_at, IsRelationOf, IsStepOf, AreStepsOf, StepPlaced, StepsPlaced}
 
 module _ (a : Arena) (images : List TermId) (inside : AllBelow (length a.nodes) images) where
   pub image_inside : (t : Text) → t.0 < length images → (image_at images t).0 < length a.nodes
@@ -55,6 +59,88 @@ module _ (a : Arena) (ok : IsArena a) (t : TermId) (n : Node) (at : slice_get a.
   is_at_most e =
       let whole : tree a t ≡ term Le (terms (tree a s) (terms (tree a u) no_terms)) = two_args ∙ ap (λ h. term h (terms (tree a s) (terms (tree a u) no_terms))) e in
       (sym whole, (both_in.0, both_in.1.0), ap is_relation whole)
+
+two_items : (xs : List TermId) (d e : TermId) → length xs ≡ 2 → xs ≡ get_or xs 0 d ∷ get_or xs 1 e ∷ []
+two_items [] d e h = absurd (omega (arith, h))
+two_items (x ∷ []) d e h = absurd (omega (arith, h))
+two_items (x ∷ y ∷ []) d e h = refl
+two_items (x ∷ y ∷ z ∷ xs) d e h = absurd (omega (arith, h))
+
+module _ (a : Arena) (ok : IsArena a) (t : TermId) (n : Node) (at : slice_get a.nodes t.0 ≡ Some n) (slice : List TermId) (slice_is : slice ≡ n.args) where
+  pub found_relation : (d e : TermId) → length slice ≡ 2 → (o : Option Relation) → o ≡ relation_over n.head (get_or slice 0 d) (get_or slice 1 e) → IsRelationOf a (tree a t) o
+  found_relation d e two o is = subst (IsRelationOf a (tree a t)) (sym is) (by n.head refl)
+    where
+      own : n.args ≡ get_or slice 0 d ∷ get_or slice 1 e ∷ []
+      own = sym slice_is ∙ two_items slice d e two
+
+      by : (h : Head) → n.head ≡ h → IsRelationOf a (tree a t) (relation_over h (get_or slice 0 d) (get_or slice 1 e))
+      by Eq f = is_equal a ok t n at (get_or slice 0 d) (get_or slice 1 e) own f
+      by Le f = is_at_most a ok t n at (get_or slice 0 d) (get_or slice 1 e) own f
+      by h f =
+          ap is_relation
+          (two_args a ok t n at (get_or slice 0 d) (get_or slice 1 e) own ∙ ap (λ g. term g (terms (tree a (get_or slice 0 d)) (terms (tree a (get_or slice 1 e)) no_terms))) f)
+
+  no_two : (h : Head) (ts : List TermId) → (length ts ≡ 2 → ⊥) → is_relation (term h (trees a ts)) ≡ false
+  no_two Eq [] f = refl
+  no_two Eq (x ∷ []) f = refl
+  no_two Eq (x ∷ y ∷ []) f = absurd (f refl)
+  no_two Eq (x ∷ y ∷ z ∷ ts) f = refl
+  no_two Le [] f = refl
+  no_two Le (x ∷ []) f = refl
+  no_two Le (x ∷ y ∷ []) f = absurd (f refl)
+  no_two Le (x ∷ y ∷ z ∷ ts) f = refl
+  no_two h ts f = refl
+
+  pub no_relation : (length slice ≡ 2 → ⊥) → is_relation (tree a t) ≡ false
+  no_relation f = ap is_relation (tree-node a ok t n at) ∙ no_two n.head n.args (λ e. f (ap length slice_is ∙ e))
+
+-- ---- single steps
+
+module _ (names : List (List ℕ)) (a : Arena) (images : List TermId) (inside : AllBelow (length a.nodes) images) (s : says.Step Text) (placed : StepPlaced (length images) s) where
+  abbrev goal_of : Option own.Step → Type 0
+  goal_of o = IsStepOf names a (step_at (term_at a images) s) o
+
+  low_of : (x : says.Step Text) → s ≡ x → StepPlaced (length images) x
+  low_of x is = subst (StepPlaced (length images)) is placed
+
+  -- the id of a term that a step names
+  one_inside : (t : Text) → t.0 < length images → (id : TermId) → id ≡ image_at images t → id.0 < length a.nodes
+  one_inside t low id is = subst (λ (u : TermId). u.0 < length a.nodes) (sym is) (image_inside a images inside t low)
+
+  pub refl_step : (t : Text) → s ≡ step.Refl t → (id : TermId) → id ≡ image_at images t → goal_of (Some (own_step.Refl id))
+  refl_step t is id id_is =
+      subst (λ x. IsStepOf names a (step_at (term_at a images) x) (Some (own_step.Refl id))) (sym is)
+      (ap (λ u. step.Refl (tree a u)) id_is, one_inside t (low_of (step.Refl t) is).0 id id_is, refl)
+
+  pub cong_step : (t u : Text) (facts : List ℕ) → s ≡ step.Cong t u facts → (id jd : TermId) → id ≡ image_at images t → jd ≡ image_at images u → (copy : List ℕ) → copy ≡ facts → goal_of (Some (own_step.Cong id jd copy))
+  cong_step t u facts is id jd id_is jd_is copy copy_is =
+      subst (λ x. IsStepOf names a (step_at (term_at a images) x) (Some (own_step.Cong id jd copy))) (sym is)
+      ((λ i. step.Cong (tree a (id_is i)) (tree a (jd_is i)) (copy_is i)),
+      (one_inside t (low_of (step.Cong t u facts) is).0 id id_is, one_inside u (low_of (step.Cong t u facts) is).1.0 jd jd_is), refl)
+
+  pub linear_inside : (t : Text) (first second : List (Fraction × ℕ)) → s ≡ step.Linear t first second → (id : TermId) → id ≡ image_at images t → id.0 < length a.nodes
+  linear_inside t first second is id id_is = one_inside t (low_of (step.Linear t first second) is).0 id id_is
+
+  pub schema_inside : (k : ℕ) (ts : List Text) (name : Option (List ℕ)) → s ≡ step.Schema k ts name → (ids : List TermId) → ids ≡ images_at images ts → AllBelow (length a.nodes) ids
+  schema_inside k ts name is ids ids_are = subst (AllBelow (length a.nodes)) (sym ids_are) (images_inside a images inside ts (low_of (step.Schema k ts name) is))
+
+  pub rule_step : (k : ℕ) (ts : List Text) → s ≡ step.Rule k ts → (ids : List TermId) → ids ≡ images_at images ts → goal_of (Some (own_step.Rule k ids))
+  rule_step k ts is ids ids_are =
+      subst (λ x. IsStepOf names a (step_at (term_at a images) x) (Some (own_step.Rule k ids))) (sym is)
+      (ap (λ us. step.Rule k us) (ap (map (tree a)) ids_are ∙ images_terms a images inside ts),
+      subst (AllBelow (length a.nodes)) (sym ids_are) (images_inside a images inside ts (low_of (step.Rule k ts) is)), refl)
+
+  pub eval_step : (t : Text) (facts : List ℕ) → s ≡ step.Eval t facts → (id : TermId) → id ≡ image_at images t → (copy : List ℕ) → copy ≡ facts → goal_of (Some (own_step.Eval (Is id true) copy))
+  eval_step t facts is id id_is copy copy_is =
+      subst (λ x. IsStepOf names a (step_at (term_at a images) x) (Some (own_step.Eval (Is id true) copy))) (sym is)
+      ((λ i. step.Eval (tree a (id_is i)) (copy_is i)), one_inside t (low_of (step.Eval t facts) is).0 id id_is, refl)
+
+  pub schema_step : {E : Type 0} (k : ℕ) (ts : List Text) (name : Option (List ℕ)) → s ≡ step.Schema k ts name → (ids : List TermId) → ids ≡ images_at images ts
+      → (r : Result (Option own.Step) E) → IfOk r (λ o. IsStepOf names a (step.Schema k (map (tree a) ids) name) o) → IfOk r goal_of
+  schema_step k ts name is ids ids_are (Ok o) h =
+      subst (λ x. IsStepOf names a (step_at (term_at a images) x) o) (sym is)
+      (subst (λ us. IsStepOf names a (step.Schema k us name) o) (ap (map (tree a)) ids_are ∙ images_terms a images inside ts) h)
+  schema_step k ts name is ids ids_are (Err e) h = tt
 
 -- ---- steps in a row
 

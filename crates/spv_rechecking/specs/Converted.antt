@@ -2,9 +2,12 @@
 use Rattle.std.specs.Prelude.{◌≡◌, ◌<◌, ℕ, Bool, true, false, List, [], ◌∷◌, map, length, Option, Some, None, IsTrue}
 use Rattle.std.specs.List.{list_all, AllByRecursion}
 use Rattle.spv_logic.specs.declared.conditions.TermId.{TermId}
+use Rattle.spv_logic.specs.declared.operators.Head.{Head}
+use Rattle.spv_logic.specs.declared.operators.Head.TheVariants.{Eq, Le}
 use Rattle.spv_logic.specs.Terms.{Term}
 use Rattle.spv_term.specs.Arena.{Arena, tree}
 use Rattle.spv_atoms.specs.declared.proofs.Relation.{Relation}
+use Rattle.spv_atoms.specs.declared.proofs.Relation.TheVariants.{AtMost, Equal}
 use Rattle.spv_atoms.specs.declared.proofs.Step as own
 use Rattle.spv_atoms.specs.declared.proofs.Split as own_split
 use Rattle.spv_atoms.specs.declared.proofs.ProofNode as own_node
@@ -22,6 +25,12 @@ use Rattle.spv_rechecking.specs.Made.{image_at}
 -- what stands at the place of a text
 abbrev pub term_at : Arena → List TermId → Text → Term
 term_at a images t = tree a (image_at images t)
+
+-- the relation that a head makes of two terms
+abbrev pub relation_over : Head → TermId → TermId → Option Relation
+relation_over Eq s t = Some (Equal s t)
+relation_over Le s t = Some (AtMost s t)
+relation_over _ s t = None
 
 -- a relation of two terms of the arena is this term; there is none where the term is no relation
 abbrev pub IsRelationOf : Arena → Term → Option Relation → Type 0

@@ -9,7 +9,7 @@ ghost use Rattle.spv_listing_values.specs.declared.data.Step.TheVariants as says
 ghost use Rattle.spv_listing_values.specs.Places.{AreBefore};
 ghost use Rattle.spv_rechecking.specs.Parts.{are_placed, counts, has_cases};
 ghost use Rattle.spv_rechecking.specs.Made.{images_at};
-ghost use Rattle.spv_rechecking.specs.Converted.{term_at, IsRelationOf, IsStepOf, IsSplitOf, AreStepsOf, AreNodesOf, IsNodeOf, StepPlaced, StepsPlaced, NodesPlaced};
+ghost use Rattle.spv_rechecking.specs.Converted.{relation_over, term_at, IsRelationOf, IsStepOf, IsSplitOf, AreStepsOf, AreNodesOf, IsNodeOf, StepPlaced, StepsPlaced, NodesPlaced};
 
 use crate::making::{id_at, ids_at};
 use spv_atoms::{ProofNode, Relation, Split, Stated, Step};
@@ -22,6 +22,17 @@ use spv_term::{Head, TermId, Terms};
 use spv_written_terms::symbol_for;
 use std::alloc::{AllocError, Global};
 
+// The relation that a head makes of two terms.
+fn relation_over(head: Head, left: TermId, right: TermId) -> Option<Relation>
+    ensures { result ≡ relation_over head left right }
+{
+    match head {
+        Head::Eq => Some(Relation::Equal(left, right)),
+        Head::Le => Some(Relation::AtMost(left, right)),
+        _ => None,
+    }
+}
+
 // The relation that a term is.
 fn relation_of(terms: &Terms, t: TermId) -> Option<Relation>
     requires { t.0 < length terms.now.nodes }
@@ -29,14 +40,11 @@ fn relation_of(terms: &Terms, t: TermId) -> Option<Relation>
 {
     terms.law_arena();
     let node = terms.node(t);
-    match node.args.as_slice() {
-        [left, right] => match node.head {
-            Head::Eq => Some(Relation::Equal(*left, *right)),
-            Head::Le => Some(Relation::AtMost(*left, *right)),
-            _ => None,
-        },
-        _ => None,
+    let args = node.args.as_slice();
+    if args.len() != 2 {
+        return None;
     }
+    relation_over(node.head, args[0], args[1])
 }
 
 // The same numbers once more.
