@@ -1,9 +1,14 @@
 -- Steps and nodes over an arena, and what a listing says of them, over plain variables.
-use Rattle.std.proofs.Common.{◌≡◌, ℕ, zero, suc, ◌+◌, ◌<◌, ◌≤◌, Bool, true, false, ◌&&◌, Option, Some, None, Result, Ok, Err, IfOk, List, [], ◌∷◌, ◌++◌, map, take, drop, length, get_or, slice_get, refl, sym, ap, subst, ◌∙◌, arith}
+use Rattle.std.proofs.Common.{◌≡◌, ℕ, zero, suc, ◌+◌, ◌<◌, ◌≤◌, Bool, true, false, ◌&&◌, Option, Some, None, Result, Ok, Err, IfOk, is_some, position, List, [], ◌∷◌, ◌++◌, map, take, drop, length, get_or, slice_get, refl, sym, ap, subst, ◌∙◌, arith}
 use Rattle.std.specs.List.{list_all}
+use Rattle.std.specs.Option.{option_map}
+use Rattle.std.specs.Str.{bytes_eq}
+use Rattle.std.proofs.lemmas.List.Quantifiers.{position-Some}
+use Rattle.std.proofs.lemmas.Slice.Eq.{bytes_eq-Decides}
 use Rattle.std.proofs.lemmas.List.{map-append, take_more, take_all, drop_more}
 use Rattle.std.proofs.lemmas.List.Folds.{list_all-append}
 use Rattle.std.proofs.lemmas.Option.{slice_get-get_or}
+use Rattle.spv_logic.specs.declared.names.names.Symbol.{Symbol}
 use Rattle.spv_logic.specs.declared.conditions.TermId.{TermId}
 use Rattle.spv_logic.specs.declared.operators.Head.{Head}
 use Rattle.spv_logic.specs.declared.operators.Head.TheVariants.{Eq, Le}
@@ -15,7 +20,8 @@ use Rattle.spv_term.proofs.TreeLemmas.{AllBelow-at}
 use Rattle.spv_atoms.specs.declared.proofs.Relation.{Relation}
 use Rattle.spv_atoms.specs.declared.proofs.Relation.TheVariants.{AtMost, Equal}
 use Rattle.spv_listing_values.specs.declared.texts.Text.{Text}
-use Rattle.spv_listing_values.specs.Places.{AreBefore}
+use Rattle.spv_listing_values.specs.Places.{AreBefore, name_at}
+use Rattle.spv_written_terms.specs.Standing.{symbol_for}
 use Rattle.spv_listing_values.specs.declared.data.Step as says
 use Rattle.spv_listing_values.specs.Mapped.{step_at}
 use Rattle.spv_listing_values.proofs.Numerals.{both_true}
@@ -26,7 +32,7 @@ use Rattle.spv_listing_values.specs.declared.data.Step.TheVariants as step
 use Rattle.spv_whole.specs.Fraction.{Fraction}
 use Rattle.spv_proof_rules.specs.Stand.{StepIn, StepsIn}
 use Rattle.spv_logic.proofs.list.Tests.{and_false}
-use Rattle.spv_rechecking.specs.Rechecked.{is_relation, is_step}
+use Rattle.spv_rechecking.specs.Rechecked.{is_relation, is_known, is_step}
 use Rattle.spv_rechecking.specs.Listed.{listed_step}
 use Rattle.spv_rechecking.specs.Made.{image_at, images_at}
 use Rattle.spv_rechecking.specs.Converted.{relation_over, term_at, IsRelationOf, IsStepOf, AreStepsOf, StepPlaced, StepsPlaced}
@@ -93,6 +99,28 @@ module _ (a : Arena) (ok : IsArena a) (t : TermId) (n : Node) (at : slice_get a.
 
   pub no_relation : (length slice ≡ 2 → ⊥) → is_relation (tree a t) ≡ false
   no_relation f = ap is_relation (tree-node a ok t n at) ∙ no_two n.head n.args (λ e. f (ap length slice_is ∙ e))
+
+-- ---- names
+
+pub symbol_names : (names : List (List ℕ)) (word : List ℕ) (x : Symbol) → Some x ≡ symbol_for names word → name_at names x ≡ word
+symbol_names names word x h = by (position (bytes_eq word) names) refl h
+  where
+    same_symbol : (y z : Symbol) → Some y ≡ Some z → y ≡ z
+    same_symbol y z e = cc
+
+    by : (o : Option ℕ) → position (bytes_eq word) names ≡ o → Some x ≡ option_map (λ k. record { 0 = k }) o → name_at names x ≡ word
+    by None e k = absurd cc
+    by (Some i) e k =
+        let at = position-Some (bytes_eq word) names i [] e in
+        ap (name_at names) (same_symbol x (record { 0 = i }) k) ∙ sym ((bytes_eq-Decides word (get_or names i [])).0 at.1)
+
+pub schema_known : (names : List (List ℕ)) (a : Arena) (kind : ℕ) (ids : List TermId) → AllBelow (length a.nodes) ids → (made : List TermId) → made ≡ ids → (name : Option (List ℕ)) (word : List ℕ) → name ≡ Some word → (field : Symbol) → Some field ≡ symbol_for names word
+    → IsStepOf names a (step.Schema kind (map (tree a) ids) name) (Some (own_step.Schema kind made (Some field)))
+schema_known names a kind ids inside made made_is name word name_is field field_is = (
+  (λ i. step.Schema kind (map (tree a) (made_is i)) ((ap (λ (w : List ℕ). Some w) (symbol_names names word field field_is) ∙ sym name_is) i)),
+  subst (AllBelow (length a.nodes)) (sym made_is) inside,
+  ap (is_known names) name_is ∙ ap is_some (sym field_is),
+)
 
 -- ---- single steps
 
