@@ -27,6 +27,20 @@ use Rattle.spv_rechecking.specs.Parts.{cases_of, counts, are_placed, has_cases}
 use Rattle.spv_rechecking.specs.Converted.{term_at, IsSplitOf, IsNodeOf, AreNodesOf, StepsPlaced, NodesPlaced}
 use Rattle.spv_rechecking.proofs.ConvertLemmas.{image_inside}
 
+-- ---- each node has the places of its cases
+
+pub placed_length : (place : ℕ) (wanted : List ℕ) (ns : List (ProofNode Text)) (ps : List (List ℕ)) → are_placed place wanted (counts ns) ps ≡ true → length ps ≡ length ns
+placed_length place [] [] [] h = refl
+placed_length place (w ∷ wanted) [] [] h = refl
+placed_length place [] [] (p ∷ ps) h = absurd (false≢true h)
+placed_length place (w ∷ wanted) [] (p ∷ ps) h = absurd (false≢true h)
+placed_length place [] (n ∷ ns) [] h = absurd (false≢true h)
+placed_length place (w ∷ wanted) (n ∷ ns) [] h = absurd (false≢true h)
+placed_length place [] (n ∷ ns) (p ∷ ps) h = absurd (false≢true h)
+placed_length place (w ∷ wanted) (n ∷ ns) (p ∷ ps) h =
+    let rest = right_true (nat_eq w place) (nat_eq (cases_of n.split) (length p) && are_placed (suc place) (p ++ wanted) (counts ns) ps) h in
+    ap suc (placed_length (suc place) (p ++ wanted) ns ps (right_true (nat_eq (cases_of n.split) (length p)) (are_placed (suc place) (p ++ wanted) (counts ns) ps) rest))
+
 -- ---- the places of cases make a tree
 
 -- nodes over an arena have these places of cases
