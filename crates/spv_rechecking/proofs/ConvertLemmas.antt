@@ -142,9 +142,11 @@ module _ (names : List (List ℕ)) (a : Arena) (images : List TermId) (inside : 
 
   pub cong_step : (t u : Text) (facts : List ℕ) → s ≡ step.Cong t u facts → (id jd : TermId) → id ≡ image_at images t → jd ≡ image_at images u → (copy : List ℕ) → copy ≡ facts → goal_of (Some (own_step.Cong id jd copy))
   cong_step t u facts is id jd id_is jd_is copy copy_is =
-      subst (λ x. IsStepOf names a (step_at (term_at a images) x) (Some (own_step.Cong id jd copy))) (sym is)
-      ((λ i. step.Cong (tree a (id_is i)) (tree a (jd_is i)) (copy_is i)),
-      (one_inside t (low_of (step.Cong t u facts) is).0 id id_is, one_inside u (low_of (step.Cong t u facts) is).1.0 jd jd_is), refl)
+      subst (λ x. IsStepOf names a (step_at (term_at a images) x) (Some (own_step.Cong id jd copy))) (sym is) (
+        (λ i. step.Cong (tree a (id_is i)) (tree a (jd_is i)) (copy_is i)),
+        (one_inside t (low_of (step.Cong t u facts) is).0 id id_is, one_inside u (low_of (step.Cong t u facts) is).1.0 jd jd_is),
+        refl,
+      )
 
   pub linear_inside : (t : Text) (first second : List (Fraction × ℕ)) → s ≡ step.Linear t first second → (id : TermId) → id ≡ image_at images t → id.0 < length a.nodes
   linear_inside t first second is id id_is = one_inside t (low_of (step.Linear t first second) is).0 id id_is
@@ -154,9 +156,11 @@ module _ (names : List (List ℕ)) (a : Arena) (images : List TermId) (inside : 
 
   pub rule_step : (k : ℕ) (ts : List Text) → s ≡ step.Rule k ts → (ids : List TermId) → ids ≡ images_at images ts → goal_of (Some (own_step.Rule k ids))
   rule_step k ts is ids ids_are =
-      subst (λ x. IsStepOf names a (step_at (term_at a images) x) (Some (own_step.Rule k ids))) (sym is)
-      (ap (λ us. step.Rule k us) (ap (map (tree a)) ids_are ∙ images_terms a images inside ts),
-      subst (AllBelow (length a.nodes)) (sym ids_are) (images_inside a images inside ts (low_of (step.Rule k ts) is)), refl)
+      subst (λ x. IsStepOf names a (step_at (term_at a images) x) (Some (own_step.Rule k ids))) (sym is) (
+        ap (λ us. step.Rule k us) (ap (map (tree a)) ids_are ∙ images_terms a images inside ts),
+        subst (AllBelow (length a.nodes)) (sym ids_are) (images_inside a images inside ts (low_of (step.Rule k ts) is)),
+        refl,
+      )
 
   pub eval_step : (t : Text) (facts : List ℕ) → s ≡ step.Eval t facts → (id : TermId) → id ≡ image_at images t → (copy : List ℕ) → copy ≡ facts → goal_of (Some (own_step.Eval (Is id true) copy))
   eval_step t facts is id id_is copy copy_is =

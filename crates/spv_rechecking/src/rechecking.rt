@@ -74,12 +74,7 @@ fn too_many(alloc: Global, most: u32) -> Verdict
 }
 
 // What a check comes to that was stopped.
-fn stopped(
-    alloc: Global,
-    most: u32,
-    proof: Proof,
-    stop: &CheckStop,
-) -> Result<Verdict, AllocError>
+fn stopped(alloc: Global, most: u32, proof: Proof, stop: &CheckStop) -> Result<Verdict, AllocError>
     ensures { IfOk result (λ v. Some v ≡ verdict_after most proof (Err stop.now)) }
 {
     match stop {
@@ -87,10 +82,7 @@ fn stopped(
             List::new(alloc),
             Limit::Number(Wide::Sum(proof, *op, *left, *right)),
         )),
-        CheckStop::Form(t) => Ok(Verdict::GaveUp(
-            List::new(alloc),
-            Limit::Number(Wide::Form(*t)),
-        )),
+        CheckStop::Form(t) => Ok(Verdict::GaveUp(List::new(alloc), Limit::Number(Wide::Form(*t)))),
         CheckStop::Size => Ok(too_many(alloc, most)),
         CheckStop::Memory => Err(AllocError),
     }
