@@ -10,3 +10,4 @@ pub mod JudgeLemmas
 pub mod PartsLemmas
 pub mod FoundLemmas
 pub mod NodeLemmas
+pub mod InLemmas
