@@ -1,0 +1,13 @@
+pub mod Standing
+pub mod Order
+pub mod Agreeing
+pub mod Accepting
+pub mod MakeLemmas
+pub mod CompareLemmas
+pub mod ConvertLemmas
+pub mod ReadLemmas
+pub mod JudgeLemmas
+pub mod PartsLemmas
+pub mod FoundLemmas
+pub mod NodeLemmas
+pub mod InLemmas

@@ -1,0 +1,10 @@
+//! Proofs of conditions that a listing says, checked anew.
+#![tactic(auto)]
+
+mod comparing;
+mod converting;
+mod making;
+mod parts;
+mod rechecking;
+
+pub use rechecking::recheck;
