@@ -31,6 +31,5 @@ pub fn recheck(
         (record { routine = routine.now; kind = condition.now.origin.kind; line = condition.now.origin.line })
         terms.now condition.now (option_copied entry.entry)) }
 {
-    let _ = (alloc, terms, condition, names, titles, routine, rules, entry);
     Err(AllocError)
 }

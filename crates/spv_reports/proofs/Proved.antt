@@ -1,7 +1,8 @@
 -- A condition whose verdict is Proved is true in every world in which the rules hold.
-use Rattle.std.proofs.Common.{◌≡◌, true, List, [], ◌∷◌, sym, subst}
+use Rattle.std.proofs.Common.{◌≡◌, ℕ, true, List, [], ◌∷◌, Option, sym, subst}
 use Rattle.std.proofs.lemmas.Bool.{false≢true}
 use Rattle.spv_logic.specs.Shapes.{shapes_ok}
+use Rattle.spv_logic.specs.declared.names.names.Symbol.{Symbol}
 use Rattle.spv_logic.specs.declared.types.Shape.{Shape}
 use Rattle.spv_logic.specs.declared.types.Decl.{Decl}
 use Rattle.spv_logic.specs.Conditions.{Meaning, Sequent, TrueIn}
@@ -19,6 +20,10 @@ use Rattle.spv_verdicts.specs.declared.answers.verdicts.Verdict.{Verdict}
 use Rattle.spv_verdicts.specs.declared.answers.verdicts.Verdict.TheVariants.{Proved, Unproved, GaveUp, NotAccepted}
 use Rattle.spv_verdicts.specs.answers.Views.{IsDecidedWith, verdict_in}
 use Rattle.spv_rounds.specs.Right.{IsRightUnder, IsDecidedByRounds, IsDecidedUnder}
+use Rattle.spv_listing_values.specs.declared.data.Header.{Header}
+use Rattle.spv_listing_values.specs.declared.data.Claim.{Claim}
+use Rattle.spv_listing_values.specs.Written.{Written}
+use Rattle.spv_rechecking.specs.Rechecked.{IsRechecked, IsRightOf}
 use Rattle.spv_reports.specs.Reports.{is_proved}
 
 -- ---- without rules
@@ -69,7 +74,33 @@ under_true rules a c limits d world ok hold is proved = here (copied d.verdict i
         (subst (λ (x : List Decl). TrueIn a.shapes x world (sequent d.terms d.condition)) is.decls
         (subst (λ (s : List Shape). TrueIn s d.terms.decls world (sequent d.terms d.condition)) is.shapes there))
 
--- ---- both
+-- ---- rechecked
+
+pub rechecked_true : (rules : List Rule) (names : List (List ℕ)) (titles : List (Option Symbol)) (header : Header) (a : Arena) (c : Condition) (entry : Option (Claim Written)) (d : Decided) (world : Meaning)
+    → shapes_ok a.shapes ≡ true → RulesHold a.shapes a.decls world rules → IsRechecked rules names titles header a c entry d → is_proved d.verdict ≡ true → TrueIn a.shapes a.decls world (sequent a c)
+rechecked_true rules names titles header a c entry d world ok hold is proved = here (copied d.verdict is.right proved)
+  where
+    shapes_there : shapes_ok d.terms.shapes ≡ true
+    shapes_there = subst (λ (s : List Shape). shapes_ok s ≡ true) (sym is.shapes) ok
+
+    hold_there : RulesHold d.terms.shapes d.terms.decls world rules
+    hold_there =
+        subst (λ (s : List Shape). RulesHold s d.terms.decls world rules) (sym is.shapes)
+        (subst (λ (x : List Decl). RulesHold a.shapes x world rules) (sym is.decls) hold)
+
+    copied : (v : Verdict) → IsRightOf rules names titles header d entry v → is_proved v ≡ true → TrueIn d.terms.shapes d.terms.decls world (sequent d.terms d.condition)
+    copied (Proved nodes) right proved = accepted_true world (question_under rules d.terms d.condition) shapes_there hold_there nodes right
+    copied (Unproved u) right proved = absurd (false≢true proved)
+    copied (GaveUp rounds l) right proved = absurd (false≢true proved)
+    copied NotAccepted right proved = absurd (false≢true proved)
+
+    here : TrueIn d.terms.shapes d.terms.decls world (sequent d.terms d.condition) → TrueIn a.shapes a.decls world (sequent a c)
+    here there =
+        subst (λ (s : Sequent). TrueIn a.shapes a.decls world s) is.claim.claim
+        (subst (λ (x : List Decl). TrueIn a.shapes x world (sequent d.terms d.condition)) is.decls
+        (subst (λ (s : List Shape). TrueIn s d.terms.decls world (sequent d.terms d.condition)) is.shapes there))
+
+-- ---- with rules and without
 
 pub proved_true : (rules : List Rule) (a : Arena) (c : Condition) (limits : Limits) (d : Decided) (world : Meaning) → shapes_ok a.shapes ≡ true → RulesHold a.shapes a.decls world rules
     → IsDecidedUnder rules a c limits d → is_proved d.verdict ≡ true → TrueIn a.shapes a.decls world (sequent a c)
