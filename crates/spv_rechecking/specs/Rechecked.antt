@@ -1,5 +1,5 @@
 -- When a verdict of a recheck is right. (A stub: what the program says of it.)
-use Rattle.std.specs.Prelude.{◌≡◌, ⊤, ℕ, true, List, [], Option, Some}
+use Rattle.std.specs.Prelude.{◌≡◌, ⊤, ℕ, true, List, [], Option}
 use Rattle.spv_logic.specs.declared.names.names.Symbol.{Symbol}
 use Rattle.spv_term.specs.declared.nodes.Condition.{Condition}
 use Rattle.spv_term.specs.Arena.{Arena}
@@ -17,17 +17,25 @@ use Rattle.spv_listing_values.specs.declared.data.Header.{Header}
 use Rattle.spv_listing_values.specs.declared.data.Claim.{Claim}
 use Rattle.spv_listing_values.specs.Written.{Written}
 
-abbrev pub IsRightOf : List Rule → List (List ℕ) → List (Option Symbol) → Header → Decided → Option (Claim Written) → Verdict → Type 0
-IsRightOf rules names titles header d entry (Proved nodes) = accepts (question_under rules d.terms d.condition) nodes ≡ true
-IsRightOf rules names titles header d entry (GaveUp [] (Number (Form t))) = ⊤
-IsRightOf rules names titles header d entry (GaveUp [] (Number (Sum nodes op x y))) = ⊤
-IsRightOf rules names titles header d entry (GaveUp [] (Terms most)) = ⊤
-IsRightOf rules names titles header d entry NotAccepted = ⊤
-IsRightOf rules names titles header d entry _ = ⊥
+-- what a recheck is about beside the condition: the names and the first names of types by which terms are read, the rules, and how many
+-- terms there may be
+pub record Recheck : Type 0 where
+  pub names : List (List ℕ)
+  pub titles : List (Option Symbol)
+  pub rules : List Rule
+  pub most : ℕ
 
-pub record IsRechecked (rules : List Rule) (names : List (List ℕ)) (titles : List (Option Symbol)) (header : Header) (a : Arena) (c : Condition) (entry : Option (Claim Written)) (d : Decided) : Type 0 where
+abbrev pub IsRightOf : Recheck → Header → Decided → Option (Claim Written) → Verdict → Type 0
+IsRightOf r header d entry (Proved nodes) = accepts (question_under r.rules d.terms d.condition) nodes ≡ true
+IsRightOf r header d entry (GaveUp [] (Number (Form t))) = ⊤
+IsRightOf r header d entry (GaveUp [] (Number (Sum nodes op x y))) = ⊤
+IsRightOf r header d entry (GaveUp [] (Terms most)) = ⊤
+IsRightOf r header d entry NotAccepted = ⊤
+IsRightOf r header d entry _ = ⊥
+
+pub record IsRechecked (r : Recheck) (header : Header) (a : Arena) (c : Condition) (entry : Option (Claim Written)) (d : Decided) : Type 0 where
   pub claim : IsSameClaim a c d.terms d.condition
   pub shapes : d.terms.shapes ≡ a.shapes
   pub decls : d.terms.decls ≡ a.decls
   pub terms_in : VerdictIn d.terms d.verdict
-  pub right : IsRightOf rules names titles header d entry d.verdict
+  pub verdict : IsRightOf r header d entry d.verdict

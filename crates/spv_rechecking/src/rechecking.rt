@@ -3,6 +3,7 @@
 ghost use Rattle.std.specs.Prelude.{◌≡◌, ◌<◌, length, option_copied, IfOk};
 ghost use Rattle.spv_term.specs.Arena.{AllBelow};
 ghost use Rattle.spv_rules.specs.RuleSets.{rules_in};
+ghost use Rattle.spv_verdicts.specs.Verdicts.{most_terms};
 ghost use Rattle.spv_rechecking.specs.Rechecked.{IsRechecked};
 
 use spv_listing_values::Entry;
@@ -27,7 +28,7 @@ pub fn recheck(
     requires goal { condition.now.goal.0 < length terms.now.nodes }
     requires shapes { rules.now.arena.shapes ≡ terms.now.shapes }
     requires decls { rules.now.arena.decls ≡ terms.now.decls }
-    ensures { IfOk result (IsRechecked (rules_in rules.now) names.now titles.now
+    ensures { IfOk result (IsRechecked (record { names = names.now; titles = titles.now; rules = rules_in rules.now; most = most_terms })
         (record { routine = routine.now; kind = condition.now.origin.kind; line = condition.now.origin.line })
         terms.now condition.now (option_copied entry.entry)) }
 {

@@ -27,7 +27,7 @@ use Rattle.spv_reports.specs.declared.report.ProgramNames.{ProgramNames}
 use Rattle.spv_reports.specs.declared.mode.Mode.{Mode}
 use Rattle.spv_reports.specs.declared.mode.Mode.TheVariants.{Verify, Simplify, Check, Conditions, Drill}
 use Rattle.spv_reports.specs.Headings.{header_of}
-use Rattle.spv_reports.specs.Reports.{Findings, IsReport, IsReportOn, AreVerdicts, AreRechecked, AreVerdictsIn, entries_of, has_verdicts, is_proved, all_proved, ProvedIsCorrectIn}
+use Rattle.spv_reports.specs.Reports.{Findings, IsReport, IsReportOn, AreVerdicts, AreRechecked, AreVerdictsIn, entries_of, has_verdicts, recheck_of, is_proved, all_proved, ProvedIsCorrectIn}
 use Rattle.spv_reports.proofs.Proved.{proved_true, rechecked_true}
 
 -- proved conditions are true in every world in which the rules hold
@@ -48,7 +48,7 @@ all_accepted rules named a world ok hold entries [] [] right proved = tt
 all_accepted rules named a world ok hold entries [] (d ∷ ds) right proved = absurd right
 all_accepted rules named a world ok hold entries (c ∷ cs) [] right proved = absurd right
 all_accepted rules named a world ok hold entries (c ∷ cs) (d ∷ ds) right proved = (
-  rechecked_true rules named.names named.titles (header_of named c.origin) a c (slice_get entries 0) d world ok hold right.0 (left_true _ _ proved),
+  rechecked_true (recheck_of rules named) (header_of named c.origin) a c (slice_get entries 0) d world ok hold right.0 (left_true _ _ proved),
   all_accepted rules named a world ok hold (drop 1 entries) cs ds right.1 (right_true (is_proved d.verdict) _ proved),
 )
 

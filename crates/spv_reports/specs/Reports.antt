@@ -21,7 +21,7 @@ use Rattle.spv_rules.specs.RuleSets.{RuleSet, rules_in}
 use Rattle.spv_rounds.specs.Right.{IsDecidedUnder}
 use Rattle.spv_listing_values.specs.declared.data.Claim.{Claim}
 use Rattle.spv_listing_values.specs.Written.{Written}
-use Rattle.spv_rechecking.specs.Rechecked.{IsRechecked}
+use Rattle.spv_rechecking.specs.Rechecked.{Recheck, IsRechecked}
 use Rattle.spv_reports.specs.declared.report.ProgramNames.{ProgramNames}
 use Rattle.spv_reports.specs.declared.mode.Mode.{Mode}
 use Rattle.spv_reports.specs.declared.mode.Mode.TheVariants.{Verify, Simplify, Check, Conditions, Drill}
@@ -66,12 +66,16 @@ AreVerdicts rules a limits [] [] = Unit {0}
 AreVerdicts rules a limits (c ∷ cs) (d ∷ ds) = IsDecidedUnder rules a c limits d × AreVerdicts rules a limits cs ds
 AreVerdicts rules a limits _ _ = ⊥
 
+-- by which names, under which rules and over how many terms a proof that a listing has is checked
+abbrev pub recheck_of : List Rule → ProgramNames → Recheck
+recheck_of rules named = record { names = named.names; titles = named.titles; rules = rules; most = most_terms }
+
 -- under these rules what the checker says of each condition and of what the entry of its number says of it, where there is such an entry, and in
 -- that order
 abbrev pub AreRechecked : List Rule → ProgramNames → Arena → List (Claim Written) → List Condition → List Decided → Type 0
 AreRechecked rules named a entries [] [] = Unit {0}
 AreRechecked rules named a entries (c ∷ cs) (d ∷ ds) =
-    IsRechecked rules named.names named.titles (header_of named c.origin) a c (slice_get entries 0) d × AreRechecked rules named a (drop 1 entries) cs ds
+    IsRechecked (recheck_of rules named) (header_of named c.origin) a c (slice_get entries 0) d × AreRechecked rules named a (drop 1 entries) cs ds
 AreRechecked rules named a entries _ _ = ⊥
 
 -- what a listing says of each condition; nothing where there is no listing
