@@ -4,10 +4,13 @@ ghost use Rattle.std.specs.Prelude.{◌≡◌, IfOk};
 ghost use Rattle.spv_assign.specs.Conditions.{AreIn};
 ghost use Rattle.spv_rules.specs.RuleSets.{rules_in};
 ghost use Rattle.spv_verify.specs.reporting.Parts.{AreFormulasIn};
-ghost use Rattle.spv_reports.specs.Reports.{AreVerdicts, AreVerdictsIn};
+ghost use Rattle.spv_reports.specs.Reports as reports;
+ghost use Rattle.spv_reports.specs.Reports.{AreRechecked, AreVerdicts, AreVerdictsIn};
 
 use crate::reporting::rounds::decide_under;
-use spv_reports::Mode;
+use spv_listing_values::{Entry, Listing};
+use spv_rechecking::recheck;
+use spv_reports::{Mode, ProgramNames, routine_name};
 use spv_rules::Rules;
 use spv_term::{Condition, Terms};
 use spv_verdicts::answers::{Decided, Limits};
@@ -34,10 +37,54 @@ fn decide_all(
     Ok(verdicts)
 }
 
-/// The verdicts on conditions under rules that a report of this mode has.
+// What a listing says of each condition; nothing where there is no listing.
+fn entries_of(listing: &Option<Listing>) -> &[Entry]
+    ensures { result.now ≡ reports.entries_of listing.now }
+{
+    match listing {
+        Some(listing) => listing.entries(),
+        None => &[],
+    }
+}
+
+// What the checker says of each condition under rules and of what the entry of its number says of it, in their order.
+fn recheck_all(
+    alloc: Global,
+    named: &ProgramNames,
+    terms: &Terms,
+    conditions: &[Condition],
+    rules: &Rules,
+    entries: &[Entry],
+) -> Result<Vec<Decided>, AllocError>
+    requires in_range { AreIn terms.now conditions.now }
+    requires shapes { rules.now.arena.shapes ≡ terms.now.shapes }
+    requires decls { rules.now.arena.decls ≡ terms.now.decls }
+    ensures { IfOk result (λ v. AreRechecked (rules_in rules.now) named.now terms.now entries.now conditions.now v.items) }
+{
+    let mut verdicts = Vec::new(alloc);
+    for place in 0..conditions.len() {
+        let condition = &conditions[place];
+        let decided = recheck(
+            alloc,
+            terms,
+            condition,
+            &named.names,
+            named.titles.as_slice(),
+            routine_name(named, condition.origin.routine),
+            rules,
+            entries.get(place),
+        )?;
+        verdicts.push(decided)?;
+    }
+    Ok(verdicts)
+}
+
+/// The verdicts on conditions under rules that a report of this mode has, in the mode `Check` for this listing.
 pub(crate) fn decided(
     alloc: Global,
     mode: &Mode,
+    listing: &Option<Listing>,
+    named: &ProgramNames,
     terms: &Terms,
     conditions: &[Condition],
     rules: &Rules,
@@ -46,12 +93,13 @@ pub(crate) fn decided(
     requires formulas { AreFormulasIn terms.now conditions.now }
     requires shapes { rules.now.arena.shapes ≡ terms.now.shapes }
     requires decls { rules.now.arena.decls ≡ terms.now.decls }
-    ensures { IfOk result (λ v. AreVerdictsIn mode.now (rules_in rules.now) terms.now conditions.now v.items) }
+    ensures { IfOk result (λ v. AreVerdictsIn mode.now listing.now (rules_in rules.now) named.now terms.now conditions.now v.items) }
 {
     match mode {
         Mode::Verify(limits) | Mode::Simplify(limits) | Mode::Drill(_, limits) => {
             decide_all(alloc, terms, conditions, rules, limits)
         }
+        Mode::Check => recheck_all(alloc, named, terms, conditions, rules, entries_of(listing)),
         Mode::Conditions => Ok(Vec::new(alloc)),
     }
 }
