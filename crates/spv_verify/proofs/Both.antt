@@ -31,7 +31,7 @@ use Rattle.spv_verify.specs.declared.refused.fault.Which.TheVariants as which
 use Rattle.spv_verify.specs.refused.Told.{text_refusal, listing_refusal, limit_refusal}
 use Rattle.spv_listing_values.specs.declared.data.Claim.{Claim}
 use Rattle.spv_listing_values.specs.declared.fault.ListFault.{ListFault}
-use Rattle.spv_listing_values.specs.declared.fault.ListFault.TheVariants as list
+use Rattle.spv_listing_values.specs.declared.fault.ListFault.TheVariants as no_listing
 use Rattle.spv_listing_values.specs.Written.{Written}
 use Rattle.spv_listing_values.specs.Forms.{is_listing}
 use Rattle.spv_listing_values.specs.Page.{page}
@@ -89,9 +89,9 @@ is_one_list one names p (Some text) first second h k = one_file_list one names p
 
 -- bytes that are a listing have no fault
 bytes_not_refused : (bytes : List ℕ) (entries : List (Claim Written)) (r : Refusal) → IsListingOf bytes entries → (fault : ListFault) → IsListFault bytes fault → listing_refusal fault ≡ Some r → ⊥
-bytes_not_refused bytes entries r is list.TooLong long told = let short : length bytes ≤ 67108864 = is.short in omega (arith, short, long)
-bytes_not_refused bytes entries r is (list.Form line) (short, none) told = none entries is.formed is.printed
-bytes_not_refused bytes entries r is list.Memory stops told = none-some _ told
+bytes_not_refused bytes entries r is no_listing.TooLong long told = let short : length bytes ≤ 67108864 = is.short in omega (arith, short, long)
+bytes_not_refused bytes entries r is (no_listing.Form line) (short, none) told = none entries is.formed is.printed
+bytes_not_refused bytes entries r is no_listing.Memory stops told = none-some _ told
 
 listing_not_refused : (listing : Option (List ℕ)) (entries : Option (List (Claim Written))) (r : Refusal) → IsListed listing entries → IsListingRefusal listing r → ⊥
 listing_not_refused None entries r is refused = refused

@@ -20,7 +20,7 @@ use Rattle.spv_verify.specs.declared.refused.refusal.Refusal.TheVariants.{Byte, 
 use Rattle.spv_rule_files.specs.declared.faults.RuleFault.{RuleFault}
 use Rattle.spv_rule_files.specs.declared.faults.RuleFault.TheVariants as rules
 use Rattle.spv_listing_values.specs.declared.fault.ListFault.{ListFault}
-use Rattle.spv_listing_values.specs.declared.fault.ListFault.TheVariants as list
+use Rattle.spv_listing_values.specs.declared.fault.ListFault.TheVariants as no_listing
 use Rattle.spv_verify.specs.declared.refused.fault.Which.{Which}
 use Rattle.spv_verify.specs.declared.refused.fault.TextFault.{TextFault}
 use Rattle.spv_verify.specs.declared.refused.fault.TextFault.TheVariants.{Refused, Memory}
@@ -73,9 +73,9 @@ rule_refusal names rules.Memory = None
 
 -- of bytes that are no listing
 abbrev pub listing_refusal : ListFault → Option Refusal
-listing_refusal list.TooLong = Some (Length 1 [])
-listing_refusal (list.Form line) = Some (Listing line [])
-listing_refusal list.Memory = None
+listing_refusal no_listing.TooLong = Some (Length 1 [])
+listing_refusal (no_listing.Form line) = Some (Listing line [])
+listing_refusal no_listing.Memory = None
 
 -- of a program whose conditions meet a limit
 abbrev pub limit_refusal : GenFault → Option Refusal
