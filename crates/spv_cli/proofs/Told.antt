@@ -1,7 +1,7 @@
 -- Texts that are read up to one byte above the longest limit, and a report of them with proofs or without.
 use Rattle.std.proofs.Common.{◌≡◌, ◌∙◌, inl, inr, ℕ, zero, suc, Bool, List, [], ◌∷◌, ◌++◌, length, map, take, Option, Some, None, IfSome, IsSomeAnd, Result, Ok, Err, IfOk, Vec, Global, Bor, refl, sym, ap, subst}
 use Rattle.std.specs.Prelude.{option_and_then, option_map, slice_get}
-use Rattle.std.proofs.lemmas.Option.{none-some, some-injective}
+use Rattle.std.proofs.lemmas.Option.{none-some, same_Some}
 use Rattle.std.specs.declared.alloc.AllocError.{AllocError}
 use Rattle.std.proofs.lemmas.List.{append-nil, append_assoc, length-map}
 use Rattle.spv_reports.specs.Reports.{Findings, IsReport}
@@ -132,7 +132,7 @@ module _ (m : Mode) (texts : List (List ℕ)) where
       by_texts : (l : List (List ℕ)) → slice_get l 0 ≡ Some text → slice_get l 1 ≡ Some bytes → sources_in mode.Check l ≡ Some (record { text = text; rules = slice_get l 2; listing = Some bytes })
       by_texts [] f s = absurd (none-some _ f)
       by_texts (t ∷ []) f s = absurd (none-some _ s)
-      by_texts (t ∷ b ∷ l) f s = (λ i. Some (record { text = some-injective f i; rules = slice_get l 0; listing = s i }))
+      by_texts (t ∷ b ∷ l) f s = (λ i. Some (record { text = same_Some t text f i; rules = slice_get l 0; listing = s i }))
 
   -- without a listing
   by_first : (text : List ℕ) (k : Mode) → ((t : List ℕ) (l : List (List ℕ)) → sources_in k (t ∷ l) ≡ Some (ruled_by t (slice_get l 0))) → m ≡ k → slice_get texts 0 ≡ Some text
@@ -141,7 +141,7 @@ module _ (m : Mode) (texts : List (List ℕ)) where
     where
       by_texts : (l : List (List ℕ)) → slice_get l 0 ≡ Some text → sources_in k l ≡ Some (ruled_by text (slice_get l 1))
       by_texts [] f = absurd (none-some _ f)
-      by_texts (t ∷ l) f = plain t l ∙ ap (λ (x : List ℕ). Some (ruled_by x (slice_get l 0))) (some-injective f)
+      by_texts (t ∷ l) f = plain t l ∙ ap (λ (x : List ℕ). Some (ruled_by x (slice_get l 0))) (same_Some t text f)
 
   pub verified_source : (limits : Limits) (text : List ℕ) → m ≡ mode.Verify limits → slice_get texts 0 ≡ Some text → sources_in m texts ≡ Some (ruled_by text (slice_get texts 1))
   verified_source limits text is first = by_first text (mode.Verify limits) (λ t l. refl) is first
