@@ -4,7 +4,19 @@ ghost use Rattle.std.specs.Prelude.{◌≡◌};
 ghost use Rattle.spv_reports.specs.Headings as spec;
 
 use crate::report::ProgramNames;
+use spv_logic::names::{Names, Symbol};
 use spv_term::RoutineId;
+
+// The text of a name; nothing where the table does not have it.
+fn name_text(names: &Names, x: Symbol) -> &[u8]
+    ensures { result.now ≡ spec.name_text names.now x }
+{
+    if (x.0 as usize) < names.len() {
+        names.text(x)
+    } else {
+        b""
+    }
+}
 
 /// The name of the routine that a condition is of, and for the main block a word of its own.
 pub fn routine_name(named: &ProgramNames, routine: Option<RoutineId>) -> &[u8]
@@ -14,7 +26,7 @@ pub fn routine_name(named: &ProgramNames, routine: Option<RoutineId>) -> &[u8]
         return b"MAIN";
     };
     match named.routines.as_slice().get(id.0 as usize) {
-        Some(name) if (name.0 as usize) < named.names.len() => named.names.text(*name),
-        _ => b"",
+        Some(name) => name_text(&named.names, *name),
+        None => b"",
     }
 }
