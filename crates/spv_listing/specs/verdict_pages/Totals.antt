@@ -34,10 +34,13 @@ is_not_accepted d = refuses d.verdict
 abbrev pub is_given_up : Decided → Bool
 is_given_up d = gives_up d.verdict
 
+-- a number, and behind it what it counts
+abbrev pub counted : ℕ → List ℕ → List ℕ
+counted number word = codes " " ++ decimal number ++ codes " " ++ word
+
 -- the line of these counts, where this is the word for a verdict that fails
 abbrev pub counts_line : List ℕ → ℕ → ℕ → ℕ → List ℕ
-counts_line word proved failed given_up =
-    line (codes "TOTAL " ++ decimal proved ++ codes " PROVED " ++ decimal failed ++ codes " " ++ word ++ codes " " ++ decimal given_up ++ codes " GAVE UP")
+counts_line word proved failed given_up = line (codes "TOTAL" ++ counted proved (codes "PROVED") ++ counted failed word ++ counted given_up (codes "GAVE UP"))
 
 -- this word where some verdict fails, else given up where some verdict is, else proved
 abbrev pub result_text : List ℕ → ℕ → ℕ → List ℕ

@@ -4,7 +4,7 @@ ghost use Rattle.std.specs.Prelude.{◌≡◌, ◌++◌, OnOk};
 ghost use Rattle.std.specs.List.{count_by};
 ghost use Rattle.spv_listing.specs.printed.Printed.{line};
 ghost use Rattle.spv_listing.specs.verdict_pages.Totals as spec;
-ghost use Rattle.spv_listing.specs.verdict_pages.Totals.{counts_line, result_text, last_lines, total_lines, checked_total_lines};
+ghost use Rattle.spv_listing.specs.verdict_pages.Totals.{counted, counts_line, result_text, last_lines, total_lines, checked_total_lines};
 
 use crate::printed::push_decimal;
 use crate::verdict_pages::tallies::one_if;
@@ -83,6 +83,17 @@ fn count_given_up(verdicts: &[Decided]) -> usize
     number
 }
 
+// A number, and behind it what it counts.
+fn push_counted(out: &mut Vec<u8>, number: u64, word: &[u8]) -> Result<(), AllocError>
+    ensures { OnOk result (out.new.items ≡ out.old.items ++ counted number word.now) }
+{
+    out.extend_from_slice(b" ")?;
+    push_decimal(out, number)?;
+    out.extend_from_slice(b" ")?;
+    out.extend_from_slice(word)?;
+    Ok(())
+}
+
 // The line of these counts, where this is the word for a verdict that fails.
 fn push_counts(
     out: &mut Vec<u8>,
@@ -93,15 +104,11 @@ fn push_counts(
 ) -> Result<(), AllocError>
     ensures { OnOk result (out.new.items ≡ out.old.items ++ counts_line word.now proved failed given_up) }
 {
-    out.extend_from_slice(b"TOTAL ")?;
-    push_decimal(out, proved)?;
-    out.extend_from_slice(b" PROVED ")?;
-    push_decimal(out, failed)?;
-    out.extend_from_slice(b" ")?;
-    out.extend_from_slice(word)?;
-    out.extend_from_slice(b" ")?;
-    push_decimal(out, given_up)?;
-    out.extend_from_slice(b" GAVE UP\n")?;
+    out.extend_from_slice(b"TOTAL")?;
+    push_counted(out, proved, b"PROVED")?;
+    push_counted(out, failed, word)?;
+    push_counted(out, given_up, b"GAVE UP")?;
+    out.push(b'\n')?;
     Ok(())
 }
 

@@ -1,11 +1,13 @@
 // What is decided of a program's conditions.
 
-ghost use Rattle.std.specs.Prelude.{◌≡◌, IfOk};
-ghost use Rattle.spv_assign.specs.Conditions.{AreIn};
+ghost use Rattle.std.specs.Prelude.{◌≡◌, option_copied, IfOk};
+ghost use Rattle.spv_assign.specs.Conditions.{AreIn, IsIn};
 ghost use Rattle.spv_rules.specs.RuleSets.{rules_in};
 ghost use Rattle.spv_verify.specs.reporting.Parts.{AreFormulasIn};
+ghost use Rattle.spv_rechecking.specs.Rechecked.{IsRechecked};
+ghost use Rattle.spv_reports.specs.Headings.{header_of};
 ghost use Rattle.spv_reports.specs.Reports as reports;
-ghost use Rattle.spv_reports.specs.Reports.{AreRechecked, AreVerdicts, AreVerdictsIn};
+ghost use Rattle.spv_reports.specs.Reports.{AreRechecked, AreVerdicts, AreVerdictsIn, recheck_of};
 
 use crate::reporting::rounds::decide_under;
 use spv_listing_values::{Entry, Listing};
@@ -47,6 +49,32 @@ fn entries_of(listing: &Option<Listing>) -> &[Entry]
     }
 }
 
+// What the checker says of a condition under rules and of what a listing says of it, where it says something.
+fn recheck_one(
+    alloc: Global,
+    named: &ProgramNames,
+    terms: &Terms,
+    condition: &Condition,
+    rules: &Rules,
+    entry: Option<&Entry>,
+) -> Result<Decided, AllocError>
+    requires in_range { IsIn terms.now condition.now }
+    requires shapes { rules.now.arena.shapes ≡ terms.now.shapes }
+    requires decls { rules.now.arena.decls ≡ terms.now.decls }
+    ensures { IfOk result (IsRechecked (recheck_of (rules_in rules.now) named.now) (header_of named.now condition.now.origin) terms.now condition.now (option_copied entry.entry)) }
+{
+    recheck(
+        alloc,
+        terms,
+        condition,
+        &named.names,
+        named.titles.as_slice(),
+        routine_name(named, condition.origin.routine),
+        rules,
+        entry,
+    )
+}
+
 // What the checker says of each condition under rules and of what the entry of its number says of it, in their order.
 fn recheck_all(
     alloc: Global,
@@ -63,18 +91,14 @@ fn recheck_all(
 {
     let mut verdicts = Vec::new(alloc);
     for place in 0..conditions.len() {
-        let condition = &conditions[place];
-        let decided = recheck(
+        verdicts.push(recheck_one(
             alloc,
+            named,
             terms,
-            condition,
-            &named.names,
-            named.titles.as_slice(),
-            routine_name(named, condition.origin.routine),
+            &conditions[place],
             rules,
             entries.get(place),
-        )?;
-        verdicts.push(decided)?;
+        )?)?;
     }
     Ok(verdicts)
 }

@@ -1,6 +1,5 @@
 use Rattle.std.proofs.Common.{◌≡◌, ◌++◌, ◌<◌, ◌+◌, ℕ, List, length, get_or, rules, suc, take, sym, ap, ◌∙◌, subst, arith}
 use Rattle.spv_logic.specs.declared.conditions.Origin.{Origin}
-use Rattle.spv_term.specs.declared.nodes.Condition.{Condition}
 use Rattle.spv_verdicts.specs.declared.answers.verdicts.Decided.{Decided}
 use Rattle.spv_verdicts.specs.answers.Views.{VerdictIn}
 use Rattle.spv_listing.specs.Page.{checked_line, checked_lines}
@@ -32,9 +31,9 @@ loop-place-preserved c =
     let verdict = c.index-verdicts-place.result in
     let next : suc k ≡ k + 1 = grind (arith) in
     let more = checked_more named 1 cs vs k condition verdict c.requires c.loop-place-test.true in
-    let all = then_added c.args.out.now.items c.loop-place.out.items c.push_checked_line.new.out.items (checked_lines named 1 (take k cs) (take k vs)) (checked_line named (k + 1) condition.origin verdict) c.loop-place.invariant c.in_ok-push_checked_line.ensures in
+    let all = then_added c.args.out.now.items c.loop-place.out.items c.push_checked_line.new.out.items (checked_lines named 1 (take k cs) (take k vs)) (checked_line named (k + 1) (get_or cs k condition).origin verdict) c.loop-place.invariant c.in_ok-push_checked_line.ensures in
     let lines : Origin → Decided → List ℕ = λ o w. checked_line named (k + 1) o w in
-    let same = ap (λ (d : Condition). lines d.origin verdict) c.index-conditions-place.is ∙ ap (lines (get_or cs k condition).origin) c.index-verdicts-place.is in
+    let same = ap (lines (get_or cs k condition).origin) c.index-verdicts-place.is in
     all
     ∙ ap (λ l. c.args.out.now.items ++ (checked_lines named 1 (take k cs) (take k vs) ++ l)) same
     ∙ ap (λ l. c.args.out.now.items ++ l) (sym more)
