@@ -1,6 +1,6 @@
 // What is decided of a program's conditions.
 
-ghost use Rattle.std.specs.Prelude.{◌≡◌, option_copied, IfOk};
+ghost use Rattle.std.specs.Prelude.{◌≡◌, option_copied, slice_get, IfOk};
 ghost use Rattle.spv_assign.specs.Conditions.{AreIn, IsIn};
 ghost use Rattle.spv_rules.specs.RuleSets.{rules_in};
 ghost use Rattle.spv_verify.specs.reporting.Parts.{AreFormulasIn};
@@ -46,6 +46,16 @@ fn entries_of(listing: &Option<Listing>) -> &[Entry]
     match listing {
         Some(listing) => listing.entries(),
         None => &[],
+    }
+}
+
+// What a listing says of the condition at this place, where it says something.
+fn entry_at(entries: &[Entry], place: usize) -> Option<&Entry>
+    ensures { option_copied result ≡ slice_get entries.now place }
+{
+    match entries.get(place) {
+        Some(entry) => Some(entry),
+        None => None,
     }
 }
 
@@ -97,7 +107,7 @@ fn recheck_all(
             terms,
             &conditions[place],
             rules,
-            entries.get(place),
+            entry_at(entries, place),
         )?)?;
     }
     Ok(verdicts)

@@ -23,7 +23,7 @@ loop-place-preserved c =
     let k = c.loop-place.place in
     let condition = c.index-conditions-place.result in
     let verdict = c.in_ok-recheck_one.field-0 in
-    let checked = subst (λ (o : Option (Claim Written)). IsRechecked (recheck_of rules named) (header_of named condition.origin) a condition o verdict) c.get.ensures.value c.in_ok-recheck_one.ensures in
+    let checked = subst (λ (o : Option (Claim Written)). IsRechecked (recheck_of rules named) (header_of named condition.origin) a condition o verdict) c.entry_at.ensures c.in_ok-recheck_one.ensures in
     let more = rechecked_more rules named a entries cs k c.loop-place.verdicts.items condition verdict c.loop-place-test.true c.index-conditions-place.is c.loop-place.invariant checked in
     let next : suc k ≡ k + 1 = grind (arith) in
     subst (λ n. AreRechecked rules named a entries (take n cs) c.push.new.self.items) next
