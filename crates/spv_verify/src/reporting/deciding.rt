@@ -2,6 +2,9 @@
 
 ghost use Rattle.std.specs.Prelude.{◌≡◌, option_copied, slice_get, IfOk};
 ghost use Rattle.spv_assign.specs.Conditions.{AreIn, IsIn};
+ghost use Rattle.spv_proof_rules.specs.Stand.{question};
+ghost use Rattle.spv_models.specs.leaf_models.Laws.{AreFormulas};
+ghost use Rattle.spv_models.specs.leaf_models.Tables.{formulas_of};
 ghost use Rattle.spv_rules.specs.RuleSets.{rules_in};
 ghost use Rattle.spv_verify.specs.reporting.Parts.{AreFormulasIn};
 ghost use Rattle.spv_rechecking.specs.Rechecked.{IsRechecked};
@@ -69,6 +72,7 @@ fn recheck_one(
     entry: Option<&Entry>,
 ) -> Result<Decided, AllocError>
     requires in_range { IsIn terms.now condition.now }
+    requires formulas { AreFormulas terms.now.shapes terms.now.decls (formulas_of (question terms.now condition.now).sequent) }
     requires shapes { rules.now.arena.shapes ≡ terms.now.shapes }
     requires decls { rules.now.arena.decls ≡ terms.now.decls }
     ensures { IfOk result (IsRechecked (recheck_of (rules_in rules.now) named.now) (header_of named.now condition.now.origin) terms.now condition.now (option_copied entry.entry)) }
@@ -95,6 +99,7 @@ fn recheck_all(
     entries: &[Entry],
 ) -> Result<Vec<Decided>, AllocError>
     requires in_range { AreIn terms.now conditions.now }
+    requires formulas { AreFormulasIn terms.now conditions.now }
     requires shapes { rules.now.arena.shapes ≡ terms.now.shapes }
     requires decls { rules.now.arena.decls ≡ terms.now.decls }
     ensures { IfOk result (λ v. AreRechecked (rules_in rules.now) named.now terms.now entries.now conditions.now v.items) }
